@@ -1,0 +1,6 @@
+pub mod Runs
+pub mod Newlines
+pub mod Comments
+pub mod Bounds
+pub mod Ends
+pub mod Found

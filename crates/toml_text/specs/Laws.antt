@@ -1,0 +1,25 @@
+-- Laws: the plain functions of `Runs` find the pieces of the forms of `Forms`, and no others.
+use Rattle.std.specs.Prelude.{◌≡◌, ◌≤◌, ℕ, Bool, false, List, ◌++◌, length, take, ◌⊎◌}
+use Rattle.toml_text.specs.Bytes.{is_comment}
+use Rattle.toml_text.specs.Forms.{Each, IsNewline, IsComment}
+use Rattle.toml_text.specs.Runs.{run_len, begins, newline_len, comment_len}
+
+-- what is found is a piece of the form at the front
+abbrev pub RunIsPiece : Type 0
+RunIsPiece = (p : ℕ → Bool) (bs : List ℕ) → (run_len p bs ≤ length bs) × Each p (take (run_len p bs) bs)
+
+abbrev pub NewlineIsPiece : Type 0
+NewlineIsPiece = (bs : List ℕ) → (newline_len bs ≤ length bs) × ((newline_len bs ≡ 0) ⊎ IsNewline (take (newline_len bs) bs))
+
+abbrev pub CommentIsPiece : Type 0
+CommentIsPiece = (bs : List ℕ) → (comment_len bs ≤ length bs) × ((comment_len bs ≡ 0) ⊎ IsComment (take (comment_len bs) bs))
+
+-- a piece of the form is found, where what follows does not go on with it
+abbrev pub RunIsFound : Type 0
+RunIsFound = (p : ℕ → Bool) (piece rest : List ℕ) → Each p piece → begins p rest ≡ false → run_len p (piece ++ rest) ≡ length piece
+
+abbrev pub NewlineIsFound : Type 0
+NewlineIsFound = (piece rest : List ℕ) → IsNewline piece → newline_len (piece ++ rest) ≡ length piece
+
+abbrev pub CommentIsFound : Type 0
+CommentIsFound = (piece rest : List ℕ) → IsComment piece → begins is_comment rest ≡ false → comment_len (piece ++ rest) ≡ length piece

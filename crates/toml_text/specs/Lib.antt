@@ -1,0 +1,7 @@
+pub mod Bytes
+pub mod Forms
+pub mod Limit
+pub mod Longest
+pub mod Runs
+pub mod Source
+pub mod Laws

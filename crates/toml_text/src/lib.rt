@@ -1,0 +1,16 @@
+//! The text of a document: its bytes as UTF-8 of bounded length, its parts by byte offsets, and the
+//! whitespace, newlines and comments in it.
+#![tactic(auto)]
+
+mod fault;
+pub mod laws;
+mod scan;
+mod source;
+mod span;
+
+pub use fault::TextFault;
+pub use source::{MAX_LEN, Source};
+pub use span::Span;
+
+#[cfg(test)]
+mod tests;

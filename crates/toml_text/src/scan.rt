@@ -1,0 +1,64 @@
+//! How long a run of one class is at the front of some bytes.
+ghost use Rattle.std.specs.Prelude.{◌≡◌, ◌≤◌, length};
+ghost use Rattle.toml_text.specs.Bytes.{is_ws, is_comment};
+ghost use Rattle.toml_text.specs.Runs.{run_len, newline_len, comment_len};
+
+use memchr::memchr;
+
+/// How many tabs and spaces the bytes begin with.
+pub fn ws_len(bytes: &[u8]) -> usize
+    ensures { result ≡ run_len is_ws bytes.now }
+{
+    for (i, byte) in bytes.iter().enumerate() {
+        if *byte != b' ' && *byte != b'\t' {
+            return i;
+        }
+    }
+    bytes.len()
+}
+
+/// The length of the newline at the front, or 0.
+pub fn newline_len(bytes: &[u8]) -> usize
+    ensures { result ≡ newline_len bytes.now }
+{
+    match bytes {
+        [b'\n', ..] => 1,
+        [b'\r', b'\n', ..] => 2,
+        _ => 0,
+    }
+}
+
+/// The length of the comment at the front, or 0.
+pub fn comment_len(bytes: &[u8]) -> usize
+    ensures { result ≡ comment_len bytes.now }
+{
+    match bytes {
+        [b'#', rest @ ..] => 1 + text_len(rest),
+        _ => 0,
+    }
+}
+
+/// How many bytes at the front may stand in a comment. It ends before the first LF, so the search for
+/// that byte bounds the slower walk.
+fn text_len(bytes: &[u8]) -> usize
+    ensures run { result ≡ run_len is_comment bytes.now }
+    ensures within { result ≤ length bytes.now }
+{
+    match memchr(b'\n', bytes) {
+        Some(end) => printable_len(&bytes[..end]),
+        None => printable_len(bytes),
+    }
+}
+
+/// How many bytes at the front are a tab, printable ASCII or past ASCII.
+fn printable_len(bytes: &[u8]) -> usize
+    ensures run { result ≡ run_len is_comment bytes.now }
+    ensures within { result ≤ length bytes.now }
+{
+    for (i, byte) in bytes.iter().enumerate() {
+        if *byte != b'\t' && (*byte < 0x20 || *byte == 0x7F) {
+            return i;
+        }
+    }
+    bytes.len()
+}
