@@ -1,6 +1,6 @@
 ghost use Rattle.std.specs.Prelude.{◌≡◌, ◌≤◌, ◌<◌, ◌↔◌, ◌+◌, length, drop, slice_range, IsTrue, IfSome};
-ghost use Rattle.std.specs.Str.{IsCharBoundary, IsUtf8};
-ghost use Rattle.toml_text.specs.Limit.{IsText, max_len};
+ghost use Rattle.std.specs.Str.{IsCharBoundary};
+ghost use Rattle.toml_text.specs.Limit.{IsText};
 
 use crate::fault::TextFault;
 use crate::scan::{comment_len, newline_len, ws_len};
@@ -13,7 +13,7 @@ pub const MAX_LEN: usize = 16_777_216;
 #[derive(Clone, Copy)]
 pub struct Source<'t> {
     text: &'t str,
-    ghost is_text: { IsText text.now },
+    pub ghost is_text: { IsText text.now },
 }
 
 impl<'t> Source<'t> {
@@ -42,9 +42,7 @@ impl<'t> Source<'t> {
 
     /// The number of its bytes.
     pub fn len(self) -> usize
-        ensures count { result ≡ length (text_of self.entry) }
-        ensures limit { result ≤ max_len }
-        ensures utf8 { IsUtf8 (text_of self.entry) }
+        ensures { result ≡ length (text_of self.entry) }
     {
         self.text.len()
     }

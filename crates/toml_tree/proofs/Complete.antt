@@ -1,0 +1,281 @@
+-- What is in the forms and followed by what may follow it, the plain reader reads.
+use Rattle.std.proofs.Common.{◌≡◌, ℕ, zero, suc, ◌+◌, ◌<◌, ◌≤◌, Bool, true, false, ◌||◌, eqb, eq-eqb, ◌==◌, length-append, List, [], ◌∷◌, ◌++◌, length, Option, Some, None, sym, refl, ap, ◌∙◌, subst, arith, ⊎_elim, ◌⊎◌, inl, inr}
+use Rattle.std.proofs.lemmas.Bool.{eqb-true, ne_eqb, cond-true, cond-false}
+use Rattle.std.proofs.lemmas.Bool.Decides.{nat_tests}
+use Rattle.toml_text.specs.Bytes.{is_ws, is_comment, is_bare}
+use Rattle.toml_text.specs.Forms.{Each, IsWs, IsNewline, IsComment}
+use Rattle.toml_text.specs.Runs.{run_len, begins, is_byte, newline_len, comment_len}
+use Rattle.toml_text.proofs.Found.{run_found, newline_found, comment_found}
+use Rattle.toml_tree.specs.IntegerRuns.{is_value_byte}
+use Rattle.toml_tree.specs.Tree.{Piece, Blank, Key, Assign, Value, Scalar, KeyVal, Expr, BlankLine, KeyValLine, Line}
+use Rattle.toml_tree.specs.Spells.{Part, piece, symbol, part_text, joined, EachIs, all_parts, comment_parts, blank_parts, key_parts, assign_parts, value_parts, keyval_parts, expr_parts, line_parts, lines_parts, IsBareKey, IsCommentOrNone, IsBlank, IsKey, IsAssign, IsValue, IsKeyVal, IsExpr, AreLines}
+use Rattle.toml_tree.specs.Reading.{Cursor, here, ahead, many, all_of, run_at, comment_at, blank_at, key_at, equals_at, assign_at, scalar_at, keyval_at, expr_at, line_step, lines_at}
+use Rattle.toml_tree.specs.declared.step.Step.{Step}
+use Rattle.toml_tree.specs.declared.step.Step.TheVariants.{Next, Done}
+use Rattle.toml_tree.specs.declared.tree.ScalarKind.TheVariants.{Integer}
+use Rattle.toml_tree.proofs.Integers.{integer_complete, decimal_run, decimal_some}
+use Rattle.toml_tree.proofs.Spans.{Behind, Spans, spans_split, spans_joined, behind_ahead, behind_take}
+use Rattle.toml_tree.proofs.Sound.{all_parts_push, IsEndedLine}
+
+-- the first byte
+begins_other : (p q : ℕ → Bool) (bs : List ℕ) → ((b : ℕ) → p b ≡ true → q b ≡ false) → begins p bs ≡ true → begins q bs ≡ false
+begins_other p q [] h e = refl
+begins_other p q (b ∷ bs) h e = h b e
+
+-- a piece, where its length is known
+piece_here : (t : Piece) (c d : Cursor) (n : ℕ) → Spans (piece t ∷ []) c d → n ≡ length t.text → (here n c ≡ t) × (ahead n c ≡ d)
+piece_here t c d n s e =
+    let b : Behind t.text c d = subst (λ x. Behind t.text c x) s.3 s.2 in
+    (rw e (λ i. record { start = sym s.1 i; text = behind_take t.text c d b i }), rw e (sym (behind_ahead t.text c d b)))
+
+behind_of : (p : Part) (c d : Cursor) → Spans (p ∷ []) c d → Behind (part_text p) c d
+behind_of p c d s = subst (λ x. Behind (part_text p) c x) s.3 s.2
+
+-- what stands in front
+rest_of : (p : Part) (c d : Cursor) → Spans (p ∷ []) c d → c.rest ≡ part_text p ++ d.rest
+rest_of p c d s = (behind_of p c d s).rest
+
+-- a symbol
+symbol_begins : (b : ℕ) (c d : Cursor) → Spans (symbol (b ∷ []) ∷ []) c d → (c.rest ≡ b ∷ d.rest) × (ahead 1 c ≡ d)
+symbol_begins b c d s = let k = behind_of (symbol (b ∷ [])) c d s in (k.rest, sym (behind_ahead (b ∷ []) c d k))
+
+-- runs
+run_complete : (p : ℕ → Bool) (t : Piece) (c d : Cursor) → Each p t.text → Spans (piece t ∷ []) c d → begins p d.rest ≡ false → run_at p c ≡ (t, d)
+unfolding run_at
+run_complete p t c d h s e =
+    let k = piece_here t c d (run_len p c.rest) s (ap (run_len p) (rest_of (piece t) c d s) ∙ run_found p t.text d.rest h e) in
+    λ i. (k.0 i, k.1 i)
+
+each_first : (p q : ℕ → Bool) (xs ys : List ℕ) → Each p xs → ((b : ℕ) → p b ≡ true → q b ≡ false) → begins q ys ≡ false → begins q (xs ++ ys) ≡ false
+each_first p q [] ys h k e = e
+each_first p q (x ∷ xs) ys h k e = k x h.0
+
+positive : (n : ℕ) → 0 < n → eqb n 0 ≡ false
+positive n h = ne_eqb n 0 (λ e. omega arith)
+
+-- a comment or none, and what may follow it
+abbrev StopsComment : Option Piece → List ℕ → Type 0
+StopsComment None bs = begins (is_byte 0x23) bs ≡ false
+StopsComment (Some p) bs = begins is_comment bs ≡ false
+
+comment_absent : (bs : List ℕ) → begins (is_byte 0x23) bs ≡ false → comment_len bs ≡ 0
+comment_absent [] e = refl
+comment_absent (b ∷ bs) e = cond-false _ _ _ e
+
+comment_begins : (bs ys : List ℕ) → IsComment bs → (begins (is_byte 0x23) (bs ++ ys) ≡ true) × (0 < length bs)
+comment_begins [] ys h = absurd h
+comment_begins (b ∷ bs) ys h = (eq-eqb b 0x23 h.0, omega arith)
+
+comment_complete : (o : Option Piece) (c d : Cursor) → IsCommentOrNone o → Spans (comment_parts o) c d → StopsComment o d.rest → comment_at c ≡ (o, d)
+unfolding comment_at
+comment_complete None c d h s e =
+    let none : comment_len c.rest ≡ 0 = comment_absent c.rest (ap (λ x. begins (is_byte 0x23) x.rest) s ∙ e) in
+    cond-true _ _ _ (ap (λ n. eqb n 0) none) ∙ (λ i. (None, s i))
+comment_complete (Some p) c d h s e =
+    let found : comment_len c.rest ≡ length p.text = ap comment_len (rest_of (piece p) c d s) ∙ comment_found p.text d.rest h e in
+    let k = piece_here p c d (comment_len c.rest) s found in
+    cond-false _ _ _ (positive (comment_len c.rest) (omega (arith, found, comment_begins p.text [] h))) ∙ (λ i. (Some (k.0 i), k.1 i))
+
+-- what stands in front of a comment or none
+comment_first : (q : ℕ → Bool) (o : Option Piece) (c d : Cursor) → q 0x23 ≡ false → IsCommentOrNone o → Spans (comment_parts o) c d → begins q d.rest ≡ false → begins q c.rest ≡ false
+comment_first q None c d hash h s e = subst (λ x. begins q x.rest ≡ false) (sym s) e
+comment_first q (Some p) c d hash h s e = begins_other (is_byte 0x23) q c.rest (λ b e. rw (eqb-true b 0x23 e) hash) (ap (begins (is_byte 0x23)) (rest_of (piece p) c d s) ∙ (comment_begins p.text d.rest h).0)
+
+blank_complete : (b : Blank) (c d : Cursor) → IsBlank b → Spans (blank_parts b) c d → begins is_ws d.rest ≡ false → StopsComment b.comment d.rest → blank_at c ≡ (b, d)
+unfolding blank_at
+blank_complete b c d h s ws e =
+    let k = spans_split (piece b.ws ∷ []) (comment_parts b.comment) c d s in
+    let r = run_complete is_ws b.ws c k.0 h.0 k.1 (comment_first is_ws b.comment k.0 d refl h.1 k.2 ws) in
+    let m = comment_complete b.comment k.0 d h.1 k.2 e in
+    rw r (λ i. (record { ws = b.ws; comment = (m i).0 }, (m i).1))
+
+blank_first : (q : ℕ → Bool) (b : Blank) (c d : Cursor) → ((x : ℕ) → is_ws x ≡ true → q x ≡ false) → q 0x23 ≡ false → IsBlank b → Spans (blank_parts b) c d → begins q d.rest ≡ false → begins q c.rest ≡ false
+blank_first q b c d ws hash h s e =
+    let k = spans_split (piece b.ws ∷ []) (comment_parts b.comment) c d s in
+    ap (begins q) (rest_of (piece b.ws) c k.0 k.1) ∙ each_first is_ws q b.ws.text k.0.rest h.0 ws (comment_first q b.comment k.0 d hash h.1 k.2 e)
+
+-- newlines
+abbrev is_newline_byte : ℕ → Bool
+is_newline_byte b = b == 0x0A || b == 0x0D
+
+newline_front : (t : Piece) (c d : Cursor) → IsNewline t.text → Spans (piece t ∷ []) c d → (newline_len c.rest ≡ length t.text) × (0 < length t.text) × (begins is_newline_byte c.rest ≡ true)
+newline_front t c d h s =
+    let found : newline_len c.rest ≡ length t.text = ap newline_len (rest_of (piece t) c d s) ∙ newline_found t.text d.rest h in
+    ⊎_elim
+    (λ (e : t.text ≡ 0x0A ∷ []). (found, omega (arith, ap length e), ap (begins is_newline_byte) (rest_of (piece t) c d s ∙ ap (λ l. l ++ d.rest) e)))
+    (λ (e : t.text ≡ 0x0D ∷ 0x0A ∷ []). (found, omega (arith, ap length e), ap (begins is_newline_byte) (rest_of (piece t) c d s ∙ ap (λ l. l ++ d.rest) e)))
+    h
+
+-- loops
+module _ {A B : Type 0} (P : A → Type 0) (f : A → List Part) (step : Cursor → Option (Step A B × Cursor)) (next : (a : A) (c d : Cursor) → P a → Spans (f a) c d → step c ≡ Some (Next a, d)) where
+  pub many_complete : (xs : List A) (b : B) (c m d : Cursor) (fuel : ℕ) → EachIs P xs → Spans (all_parts f xs) c m → step m ≡ Some (Done b, d) → length xs < fuel → many step fuel c ≡ Some (xs, b, d)
+  many_complete xs b c m d zero h s e l = absurd (omega arith)
+  many_complete [] b c m d (suc fuel) h s e l = rw (ap step s ∙ e) refl
+  many_complete (a ∷ xs) b c m d (suc fuel) h s e l =
+      let k = spans_split (f a) (all_parts f xs) c m s in
+      rw (next a c k.0 h.0 k.1, many_complete xs b k.0 m d fuel h.1 k.2 e (omega arith)) refl
+
+spans_length : (ps : List Part) (c d : Cursor) → Spans ps c d → length c.rest ≡ length (joined ps) + length d.rest
+spans_length ps c d s = ap length (spans_joined ps c d s).rest ∙ length-append (joined ps) d.rest
+
+module _ {A : Type 0} (P : A → Type 0) (f : A → List Part) (grows : (a : A) (c d : Cursor) → P a → Spans (f a) c d → length d.rest < length c.rest) where
+  pub as_long : (xs : List A) (c d : Cursor) → EachIs P xs → Spans (all_parts f xs) c d → length xs + length d.rest ≤ length c.rest
+  as_long [] c d h s = omega (arith, ap (λ x. length x.rest) s)
+  as_long (a ∷ xs) c d h s =
+      let k = spans_split (f a) (all_parts f xs) c d s in
+      omega (arith, as_long xs k.0 d h.1 k.2, grows a c k.0 h.0 k.1)
+
+-- values
+value_first : (v : Value) (c d : Cursor) → IsValue v → Spans (value_parts v) c d → begins is_value_byte c.rest ≡ true
+value_first (Scalar Integer p) c d h s = ap (begins is_value_byte) (rest_of (piece p) c d s) ∙ decimal_some p.text d.rest h.0
+
+value_complete : (v : Value) (c d : Cursor) → IsValue v → Spans (value_parts v) c d → begins is_value_byte d.rest ≡ false → scalar_at c ≡ Some (v, d)
+unfolding scalar_at
+value_complete (Scalar Integer p) c d h s e = rw (run_complete is_value_byte p c d (decimal_run p.text h.0) s e) (cond-true _ _ _ (integer_complete p.text h))
+
+-- keys and pairs
+bare_each : (bs : List ℕ) → IsBareKey bs → Each is_bare bs
+bare_each [] h = absurd h
+bare_each (b ∷ bs) h = h
+
+bare_first : (bs ys : List ℕ) → IsBareKey bs → begins is_bare (bs ++ ys) ≡ true
+bare_first [] ys h = absurd h
+bare_first (b ∷ bs) ys h = h.0
+
+key_first : (k : Key) (c d : Cursor) → IsKey k → Spans (key_parts k) c d → begins is_bare c.rest ≡ true
+key_first k c d h s = ap (begins is_bare) (rest_of (piece k.first) c d s) ∙ bare_first k.first.text d.rest h
+
+key_complete : (k : Key) (c d : Cursor) → IsKey k → Spans (key_parts k) c d → begins is_bare d.rest ≡ false → key_at c ≡ Some (k, d)
+unfolding key_at
+key_complete k c d h s e = rw (run_complete is_bare k.first c d (bare_each k.first.text h) s e) (cond-true _ _ _ (key_first k c d h s))
+
+equals_complete : (b a : Piece) (c d : Cursor) → IsWs b.text → IsWs a.text → Spans (piece b ∷ symbol (0x3D ∷ []) ∷ piece a ∷ []) c d → begins is_ws d.rest ≡ false → equals_at c ≡ Some ((b, a), d)
+unfolding equals_at
+equals_complete b a c d hb ha s e =
+    let i = spans_split (piece b ∷ []) (symbol (0x3D ∷ []) ∷ piece a ∷ []) c d s in
+    let j = spans_split (symbol (0x3D ∷ []) ∷ []) (piece a ∷ []) i.0 d i.2 in
+    let at_symbol = symbol_begins 0x3D i.0 j.0 j.1 in
+    let r1 = run_complete is_ws b c i.0 hb i.1 (ap (begins is_ws) at_symbol.0) in
+    let r2 = run_complete is_ws a j.0 d ha j.2 e in
+    rw r1 (cond-true _ _ _ (ap (begins (is_byte 0x3D)) at_symbol.0) ∙ rw at_symbol.1 (rw r2 refl))
+
+equals_first : (q : ℕ → Bool) (b a : Piece) (c d : Cursor) → ((x : ℕ) → is_ws x ≡ true → q x ≡ false) → q 0x3D ≡ false → IsWs b.text → Spans (piece b ∷ symbol (0x3D ∷ []) ∷ piece a ∷ []) c d → begins q c.rest ≡ false
+equals_first q b a c d ws equals h s =
+    let i = spans_split (piece b ∷ []) (symbol (0x3D ∷ []) ∷ piece a ∷ []) c d s in
+    let j = spans_split (symbol (0x3D ∷ []) ∷ []) (piece a ∷ []) i.0 d i.2 in
+    ap (begins q) (rest_of (piece b) c i.0 i.1) ∙ each_first is_ws q b.text i.0.rest h ws (ap (begins q) (symbol_begins 0x3D i.0 j.0 j.1).0 ∙ equals)
+
+ws_not_bare : (x : ℕ) → is_ws x ≡ true → is_bare x ≡ false
+ws_not_bare x h = grind (arith, nat_tests)
+
+bare_not_ws : (x : ℕ) → is_bare x ≡ true → is_ws x ≡ false
+bare_not_ws x h = grind (arith, nat_tests)
+
+value_not_ws : (x : ℕ) → is_value_byte x ≡ true → is_ws x ≡ false
+value_not_ws x h = grind (arith, nat_tests)
+
+assign_complete : (a : Assign) (c d : Cursor) → IsAssign a → Spans (assign_parts a) c d → begins is_ws d.rest ≡ false → assign_at c ≡ Some (a, d)
+unfolding assign_at
+assign_complete a c d h s e =
+    let i = spans_split (key_parts a.key) (piece a.before_equals ∷ symbol (0x3D ∷ []) ∷ piece a.after_equals ∷ []) c d s in
+    let r1 = key_complete a.key c i.0 h.0 i.1 (equals_first is_bare a.before_equals a.after_equals i.0 d ws_not_bare refl h.1 i.2) in
+    let r2 = equals_complete a.before_equals a.after_equals i.0 d h.1 h.2 i.2 e in
+    rw r1 (rw r2 refl)
+
+keyval_complete : (k : KeyVal) (c d : Cursor) → IsKeyVal k → Spans (keyval_parts k) c d → begins is_value_byte d.rest ≡ false → keyval_at c ≡ Some (k, d)
+unfolding keyval_at
+keyval_complete k c d h s e =
+    let i = spans_split (assign_parts k.assign) (value_parts k.value) c d s in
+    let r1 = assign_complete k.assign c i.0 h.0 i.1 (begins_other is_value_byte is_ws i.0.rest value_not_ws (value_first k.value i.0 d h.1 i.2)) in
+    let r2 = value_complete k.value i.0 d h.1 i.2 e in
+    rw r1 (rw r2 refl)
+
+keyval_first : (k : KeyVal) (c d : Cursor) → IsKeyVal k → Spans (keyval_parts k) c d → begins is_bare c.rest ≡ true
+keyval_first k c d h s =
+    let i = spans_split (assign_parts k.assign) (value_parts k.value) c d s in
+    let j = spans_split (key_parts k.assign.key) (piece k.assign.before_equals ∷ symbol (0x3D ∷ []) ∷ piece k.assign.after_equals ∷ []) c i.0 i.1 in
+    key_first k.assign.key c j.0 h.0.0 j.1
+
+-- lines
+-- what may follow a line: a newline, or nothing
+abbrev StopsLine : List ℕ → Type 0
+StopsLine bs = (bs ≡ []) ⊎ (begins is_newline_byte bs ≡ true)
+
+line_stop : (q : ℕ → Bool) (bs : List ℕ) → ((b : ℕ) → is_newline_byte b ≡ true → q b ≡ false) → StopsLine bs → begins q bs ≡ false
+line_stop q bs h (inl e) = ap (begins q) e
+line_stop q bs h (inr e) = begins_other is_newline_byte q bs h e
+
+line_stops_comment : (o : Option Piece) (bs : List ℕ) → StopsLine bs → StopsComment o bs
+line_stops_comment None bs e = line_stop (is_byte 0x23) bs (λ b h. grind (arith, nat_tests)) e
+line_stops_comment (Some p) bs e = line_stop is_comment bs (λ b h. grind (arith, nat_tests)) e
+
+newline_not_ws : (x : ℕ) → is_newline_byte x ≡ true → is_ws x ≡ false
+newline_not_ws x h = grind (arith, nat_tests)
+
+newline_not_bare : (x : ℕ) → is_newline_byte x ≡ true → is_bare x ≡ false
+newline_not_bare x h = grind (arith, nat_tests)
+
+newline_not_value : (x : ℕ) → is_newline_byte x ≡ true → is_value_byte x ≡ false
+newline_not_value x h = grind (arith, nat_tests)
+
+ws_not_value : (x : ℕ) → is_ws x ≡ true → is_value_byte x ≡ false
+ws_not_value x h = grind (arith, nat_tests)
+
+expr_complete : (x : Expr) (c d : Cursor) → IsExpr x → Spans (expr_parts x) c d → StopsLine d.rest → expr_at c ≡ Some (x, d)
+unfolding expr_at
+expr_complete (BlankLine b) c d h s e =
+    let i = spans_split (piece b.ws ∷ []) (comment_parts b.comment) c d s in
+    let r = run_complete is_ws b.ws c i.0 h.0 i.1 (comment_first is_ws b.comment i.0 d refl h.1 i.2 (line_stop is_ws d.rest newline_not_ws e)) in
+    let no_key = comment_first is_bare b.comment i.0 d refl h.1 i.2 (line_stop is_bare d.rest newline_not_bare e) in
+    rw r (cond-false _ _ _ no_key ∙ rw (comment_complete b.comment i.0 d h.1 i.2 (line_stops_comment b.comment d.rest e)) refl)
+expr_complete (KeyValLine ws k b) c d h s e =
+    let i = spans_split (piece ws ∷ []) (keyval_parts k ++ blank_parts b) c d s in
+    let j = spans_split (keyval_parts k) (blank_parts b) i.0 d i.2 in
+    let at_key : begins is_bare i.0.rest ≡ true = keyval_first k i.0 j.0 h.1 j.1 in
+    let r1 = run_complete is_ws ws c i.0 h.0 i.1 (begins_other is_bare is_ws i.0.rest bare_not_ws at_key) in
+    let stop : begins is_value_byte j.0.rest ≡ false = blank_first is_value_byte b j.0 d ws_not_value refl h.2 j.2 (line_stop is_value_byte d.rest newline_not_value e) in
+    let r2 = keyval_complete k i.0 j.0 h.1 j.1 stop in
+    let r3 = blank_complete b j.0 d h.2 j.2 (line_stop is_ws d.rest newline_not_ws e) (line_stops_comment b.comment d.rest e) in
+    rw r1 (cond-true _ _ _ at_key ∙ rw r2 (rw r3 refl))
+
+line_next : (l : Line) (c d : Cursor) → IsEndedLine l → Spans (line_parts l) c d → line_step c ≡ Some (Next l, d)
+unfolding line_step
+line_next l c d h s =
+    let i = spans_split (expr_parts l.expr) (piece l.newline ∷ []) c d s in
+    let n = newline_front l.newline i.0 d h.1 i.2 in
+    let r = expr_complete l.expr c i.0 h.0 i.1 (inr n.2) in
+    let q = piece_here l.newline i.0 d (newline_len i.0.rest) i.2 n.0 in
+    rw r (cond-false _ _ _ (positive (newline_len i.0.rest) (omega (arith, n.0, n.1))) ∙ (λ t. Some (Next (record { expr = l.expr; newline = q.0 t }), q.1 t)))
+
+line_last : (l : Line) (c d : Cursor) → IsExpr l.expr → l.newline.text ≡ [] → Spans (line_parts l) c d → d.rest ≡ [] → line_step c ≡ Some (Done l, d)
+unfolding line_step
+line_last l c d h empty s e =
+    let i = spans_split (expr_parts l.expr) (piece l.newline ∷ []) c d s in
+    let none : i.0.rest ≡ [] = rest_of (piece l.newline) i.0 d i.2 ∙ (λ t. empty t ++ e t) in
+    let r = expr_complete l.expr c i.0 h i.1 (inl none) in
+    let zero_len : newline_len i.0.rest ≡ 0 = ap newline_len none in
+    let q = piece_here l.newline i.0 d (newline_len i.0.rest) i.2 (zero_len ∙ sym (ap length empty)) in
+    rw r (cond-true _ _ _ (ap (λ n. eqb n 0) zero_len) ∙ cond-true _ _ _ (ap (λ l. eqb (length l) 0) none) ∙ (λ t. Some (Done (record { expr = l.expr; newline = q.0 t }), q.1 t)))
+
+line_grows : (l : Line) (c d : Cursor) → IsEndedLine l → Spans (line_parts l) c d → length d.rest < length c.rest
+line_grows l c d h s =
+    let i = spans_split (expr_parts l.expr) (piece l.newline ∷ []) c d s in
+    let n = newline_front l.newline i.0 d h.1 i.2 in
+    omega (arith, spans_length (expr_parts l.expr) c i.0 i.1, ap length (rest_of (piece l.newline) i.0 d i.2), length-append l.newline.text d.rest, n.1)
+
+-- the lines that a newline ends, and the last
+abbrev Unended : List Line → Type 0
+Unended ls = (front : List Line) × (l : Line) × (ls ≡ front ++ l ∷ []) × EachIs IsEndedLine front × IsExpr l.expr × (l.newline.text ≡ [])
+
+unended : (ls : List Line) → AreLines ls → Unended ls
+unended [] h = absurd h
+unended (l ∷ []) h = ([], l, refl, tt, h.0, h.1)
+unended (l ∷ m ∷ ls) h = let k = unended (m ∷ ls) h.2 in (l ∷ k.0, k.1, ap (λ x. l ∷ x) k.2, ((h.0, h.1), k.3), k.4, k.5)
+
+pub lines_complete : (ls : List Line) (c d : Cursor) → AreLines ls → Spans (lines_parts ls) c d → d.rest ≡ [] → lines_at c ≡ Some (ls, d)
+unfolding lines_at
+lines_complete ls c d h s e =
+    let k = unended ls h in
+    let i = spans_split (all_parts line_parts k.0) (line_parts k.1) c d (subst (λ ps. Spans ps c d) (ap lines_parts k.2 ∙ all_parts_push line_parts k.0 k.1) s) in
+    let all : all_of line_step c ≡ Some (k.0, k.1, d) = many_complete IsEndedLine line_parts line_step line_next k.0 k.1 c i.0 d (length c.rest + 1) k.3 i.1 (line_last k.1 i.0 d k.4 k.5 i.2 e) (omega (arith, as_long IsEndedLine line_parts line_grows k.0 c i.0 k.3 i.1)) in
+    rw all (ap (λ x. Some (x, d)) (sym k.2))

@@ -1,0 +1,11 @@
+pub mod Numbers
+pub mod Integers
+pub mod Many
+pub mod Spans
+pub mod Sound
+pub mod Complete
+pub mod Exact
+pub mod Cuts
+pub mod Pieces
+pub mod Formed
+pub mod Texts

@@ -1,0 +1,199 @@
+-- What the plain reader reads is in the forms, and stands where it was read.
+use Rattle.std.proofs.Common.{◌≡◌, ℕ, zero, suc, ◌+◌, ◌≤◌, Bool, true, false, cond, eqb, List, [], ◌∷◌, ◌++◌, length, take, drop, Option, Some, None, sym, refl, ap, ◌∙◌, subst, arith, add-one, append_assoc, ⊎_elim}
+use Rattle.std.specs.Prelude.{IfSome}
+use Rattle.std.proofs.lemmas.Bool.{false≢true, eqb-true, eqb-false}
+use Rattle.std.proofs.lemmas.List.{take-append-drop, length-take-le}
+use Rattle.toml_text.specs.Bytes.{is_ws, is_bare}
+use Rattle.toml_text.specs.Forms.{Each, IsWs, IsNewline, IsComment}
+use Rattle.toml_text.specs.Runs.{run_len, begins, is_byte, newline_len, comment_len}
+use Rattle.toml_text.proofs.Found.{run_piece, newlines_piece, comments_piece}
+use Rattle.toml_tree.specs.IntegerRuns.{is_value_byte, is_integer}
+use Rattle.toml_tree.specs.Tree.{Piece, Line}
+use Rattle.toml_tree.specs.Spells.{Part, piece, symbol, EachIs, all_parts, comment_parts, blank_parts, key_parts, assign_parts, value_parts, keyval_parts, expr_parts, lines_parts, IsBareKey, IsCommentOrNone, IsBlank, IsKey, IsAssign, IsValue, IsKeyVal, IsExpr, AreLines, line_parts}
+use Rattle.toml_tree.specs.Reading.{Cursor, ◌>>=◌, here, ahead, many, all_of, run_at, comment_at, blank_at, key_at, equals_at, assign_at, scalar_at, keyval_at, expr_at, line_step, lines_at}
+use Rattle.toml_tree.specs.declared.step.Step.{Step}
+use Rattle.toml_tree.specs.declared.step.Step.TheVariants.{Next, Done}
+use Rattle.toml_tree.proofs.Integers.{integer_sound}
+use Rattle.toml_tree.proofs.Spans.{Behind, Spans, spans_append}
+
+-- combinators
+pub sound_bind : {A B : Type 0} (o : Option A) (f : A → Option B) (R : A → Type 0) (S : B → Type 0) → IfSome o R → ((a : A) → R a → IfSome (f a) S) → IfSome (o >>= f) S
+sound_bind None f R S h k = tt
+sound_bind (Some a) f R S h k = k a h
+
+pub sound_cond : {A : Type 0} (b : Bool) (x y : Option A) (R : A → Type 0) → (b ≡ true → IfSome x R) → (b ≡ false → IfSome y R) → IfSome (cond b x y) R
+sound_cond true x y R h k = h refl
+sound_cond false x y R h k = k refl
+
+-- pieces
+pub begins_some : (x : ℕ) (bs : List ℕ) → begins (is_byte x) bs ≡ true → (r : List ℕ) × (bs ≡ x ∷ r)
+begins_some x [] h = absurd (false≢true h)
+begins_some x (b ∷ bs) h = (bs, rw (eqb-true b x h) refl)
+
+pub behind_front : (n : ℕ) (c : Cursor) → n ≤ length c.rest → Behind (take n c.rest) c (ahead n c)
+behind_front n c h = record { rest = sym (take-append-drop n c.rest); at = omega (arith, length-take-le n c.rest h) }
+
+pub spans_here : (n : ℕ) (c : Cursor) → n ≤ length c.rest → Spans (piece (here n c) ∷ []) c (ahead n c)
+spans_here n c h = (ahead n c, refl, behind_front n c h, refl)
+
+pub spans_symbol : (b : ℕ) (c : Cursor) → begins (is_byte b) c.rest ≡ true → Spans (symbol (b ∷ []) ∷ []) c (ahead 1 c)
+spans_symbol b c e =
+    let k = begins_some b c.rest e in
+    let front : take 1 c.rest ≡ b ∷ [] = rw k.1 refl in
+    let r = behind_front 1 c (omega (arith, ap length k.1)) in
+    (ahead 1 c, tt, subst (λ l. Behind l c (ahead 1 c)) front r, refl)
+
+pub run_sound : (p : ℕ → Bool) (c : Cursor) → Each p (run_at p c).0.text × Spans (piece (run_at p c).0 ∷ []) c (run_at p c).1
+unfolding run_at
+run_sound p c = let k = run_piece p c.rest in (k.1, spans_here (run_len p c.rest) c k.0)
+
+-- a comment or none stands between two places
+abbrev pub IsCommentAt : Cursor → Option Piece × Cursor → Type 0
+IsCommentAt c r = IsCommentOrNone r.0 × Spans (comment_parts r.0) c r.1
+
+pub comment_sound : (c : Cursor) → IsCommentAt c (comment_at c)
+unfolding comment_at
+comment_sound c =
+    let n = comment_len c.rest in
+    let k = comments_piece c.rest in
+    elim (eqb n 0) as (λ t. eqb n 0 ≡ t → IsCommentAt c (cond t (None, c) (Some (here n c), ahead n c))) [
+      | true ↦ λ e. (tt, refl)
+      | false ↦ λ e. (⊎_elim (λ (z : n ≡ 0). absurd (eqb-false n 0 e z)) (λ (h : IsComment (take n c.rest)). h) k.1, spans_here n c k.0)
+    ] refl
+
+pub blank_sound : (c : Cursor) → IsBlank (blank_at c).0 × Spans (blank_parts (blank_at c).0) c (blank_at c).1
+unfolding blank_at
+blank_sound c =
+    let w = run_sound is_ws c in
+    let m = (run_at is_ws c).1 in
+    let k = comment_sound m in
+    ((w.0, k.0), spans_append (piece (run_at is_ws c).0 ∷ []) (comment_parts (comment_at m).0) c m (comment_at m).1 w.1 k.1)
+
+-- loops
+-- what a step of a loop has read
+abbrev pub StepIs : {A B : Type 0} → (A → Type 0) → (A → List Part) → (B → Cursor → Type 0) → (B → List Part) → Cursor → Step A B × Cursor → Type 0
+StepIs P f Q g c r = elim r.0 [ Next a ↦ P a × Spans (f a) c r.1 | Done b ↦ Q b r.1 × Spans (g b) c r.1 ]
+
+module _ {A B : Type 0} (P : A → Type 0) (f : A → List Part) (Q : B → Cursor → Type 0) (g : B → List Part) (step : Cursor → Option (Step A B × Cursor)) (sound : (c : Cursor) → IfSome (step c) (StepIs P f Q g c)) where
+  abbrev pub ManyIs : Cursor → List A × B × Cursor → Type 0
+  ManyIs c r = EachIs P r.0 × Q r.1 r.2 × Spans (all_parts f r.0 ++ g r.1) c r.2
+
+  abbrev more : ℕ → Step A B → Cursor → Option (List A × B × Cursor)
+  more fuel s m = elim s [
+    | Next a ↦ many step fuel m >>= λ r. Some (a ∷ r.0, r.1, r.2)
+    | Done b ↦ Some ([], b, m)
+  ]
+
+  pub many_sound : (fuel : ℕ) (c : Cursor) → IfSome (many step fuel c) (ManyIs c)
+  many_sound zero c = tt
+  many_sound (suc fuel) c = sound_bind (step c) _ (StepIs P f Q g c) (ManyIs c) (sound c) (λ r. after (λ m. many_sound fuel m) c r.0 r.1)
+    where
+      after : ((m : Cursor) → IfSome (many step fuel m) (ManyIs m)) → (c : Cursor) (s : Step A B) (m : Cursor) → StepIs P f Q g c (s, m) → IfSome (more fuel s m) (ManyIs c)
+      after again c (Next a) m h = sound_bind (many step fuel m) _ (ManyIs m) (ManyIs c) (again m) (λ r k. ((h.0, k.0), k.1, rw append_assoc (spans_append (f a) (all_parts f r.0 ++ g r.1) c m r.2 h.1 k.2)))
+      after again c (Done b) m h = (tt, h.0, h.1)
+
+-- values
+pub scalar_sound : (c : Cursor) → IfSome (scalar_at c) (λ r. IsValue r.0 × Spans (value_parts r.0) c r.1)
+unfolding scalar_at
+scalar_sound c = sound_cond (is_integer (run_at is_value_byte c).0.text) _ _ _ (λ e. (integer_sound _ e, (run_sound is_value_byte c).1)) (λ e. tt)
+
+-- keys and pairs
+bare_form : (bs : List ℕ) → begins is_bare bs ≡ true → Each is_bare (take (run_len is_bare bs) bs) → IsBareKey (take (run_len is_bare bs) bs)
+bare_form [] h k = absurd (false≢true h)
+bare_form (b ∷ bs) h k = rw (h, add-one) (h, (run_piece is_bare bs).1)
+
+key_sound : (c : Cursor) → IfSome (key_at c) (λ r. IsKey r.0 × Spans (key_parts r.0) c r.1)
+unfolding key_at run_at
+key_sound c =
+    let k = run_sound is_bare c in
+    sound_cond (begins is_bare c.rest) _ _ _ (λ e. (bare_form c.rest e k.0, k.1)) (λ e. tt)
+
+equals_sound : (c : Cursor) → IfSome (equals_at c) (λ r. IsWs r.0.0.text × IsWs r.0.1.text × Spans (piece r.0.0 ∷ symbol (0x3D ∷ []) ∷ piece r.0.1 ∷ []) c r.1)
+unfolding equals_at
+equals_sound c =
+    let b = run_sound is_ws c in
+    let m = (run_at is_ws c).1 in
+    let a = run_sound is_ws (ahead 1 m) in
+    sound_cond (begins (is_byte 0x3D) m.rest) _ _ _
+    (λ e. (b.0, a.0, spans_append (piece (run_at is_ws c).0 ∷ []) (symbol (0x3D ∷ []) ∷ piece (run_at is_ws (ahead 1 m)).0 ∷ []) c m _ b.1 (spans_append (symbol (0x3D ∷ []) ∷ []) (piece (run_at is_ws (ahead 1 m)).0 ∷ []) m (ahead 1 m) _ (spans_symbol 0x3D m e) a.1)))
+    (λ _. tt)
+
+assign_sound : (c : Cursor) → IfSome (assign_at c) (λ r. IsAssign r.0 × Spans (assign_parts r.0) c r.1)
+unfolding assign_at
+assign_sound c = sound_bind (key_at c) _ _ _ (key_sound c) (λ k ks. sound_bind (equals_at k.1) _ _ _ (equals_sound k.1) (λ e es. (
+  (ks.0, es.0, es.1),
+  spans_append (key_parts k.0) (piece e.0.0 ∷ symbol (0x3D ∷ []) ∷ piece e.0.1 ∷ []) c k.1 e.1 ks.1 es.2,
+)))
+
+keyval_sound : (c : Cursor) → IfSome (keyval_at c) (λ r. IsKeyVal r.0 × Spans (keyval_parts r.0) c r.1)
+unfolding keyval_at
+keyval_sound c = sound_bind (assign_at c) _ _ _ (assign_sound c) (λ a assigned. sound_bind (scalar_at a.1) _ _ _ (scalar_sound a.1) (λ v vs. (
+  (assigned.0, vs.0),
+  spans_append (assign_parts a.0) (value_parts v.0) c a.1 v.1 assigned.1 vs.1,
+)))
+
+-- lines
+pub expr_sound : (c : Cursor) → IfSome (expr_at c) (λ r. IsExpr r.0 × Spans (expr_parts r.0) c r.1)
+unfolding expr_at
+expr_sound c =
+    let w = run_sound is_ws c in
+    let m = (run_at is_ws c).1 in
+    sound_cond (begins is_bare m.rest) _ _ _
+    (λ e. sound_bind (keyval_at m) _ _ _ (keyval_sound m) (λ k ks.
+    let b = blank_sound k.1 in
+    ((w.0, ks.0, b.0), spans_append (piece (run_at is_ws c).0 ∷ []) (keyval_parts k.0 ++ blank_parts (blank_at k.1).0) c m (blank_at k.1).1 w.1 (spans_append (keyval_parts k.0) (blank_parts (blank_at k.1).0) m k.1 (blank_at k.1).1 ks.1 b.1))))
+    (λ _.
+    let r = comment_sound m in
+    ((w.0, r.0), spans_append (piece (run_at is_ws c).0 ∷ []) (comment_parts (comment_at m).0) c m (comment_at m).1 w.1 r.1))
+
+abbrev pub IsEndedLine : Line → Type 0
+IsEndedLine l = IsExpr l.expr × IsNewline l.newline.text
+
+abbrev pub IsLastLine : Line → Cursor → Type 0
+IsLastLine l d = IsExpr l.expr × (l.newline.text ≡ []) × (d.rest ≡ [])
+
+empty_is : (xs : List ℕ) → length xs ≡ 0 → xs ≡ []
+empty_is [] h = refl
+empty_is (x ∷ xs) h = absurd (omega arith)
+
+pub newline_form : (bs : List ℕ) → (newline_len bs ≡ 0 → ⊥) → IsNewline (take (newline_len bs) bs)
+newline_form bs h = ⊎_elim (λ (z : newline_len bs ≡ 0). absurd (h z)) (λ (k : IsNewline (take (newline_len bs) bs)). k) (newlines_piece bs).1
+
+line_step_sound : (c : Cursor) → IfSome (line_step c) (StepIs IsEndedLine line_parts IsLastLine line_parts c)
+unfolding line_step
+line_step_sound c = sound_bind (expr_at c) _ _ _ (expr_sound c) (λ e es.
+    let n = newline_len e.1.rest in
+    let parts = spans_append (expr_parts e.0) (piece (here n e.1) ∷ []) c e.1 (ahead n e.1) es.1 (spans_here n e.1 (newlines_piece e.1.rest).0) in
+    sound_cond (eqb n 0) _ _ _
+    (λ z. sound_cond (eqb (length e.1.rest) 0) _ _ _
+    (λ y.
+    let none : e.1.rest ≡ [] = empty_is _ (eqb-true _ _ y) in
+    ((es.0, ap (take n) none ∙ take-nil n, ap (drop n) none ∙ drop-nil n), parts))
+    (λ _. tt))
+    (λ z. ((es.0, newline_form e.1.rest (eqb-false n 0 z)), parts)))
+  where
+    take-nil : (n : ℕ) → ◌≡◌ {A = List ℕ} (take n []) []
+    take-nil zero = refl
+    take-nil (suc n) = refl
+
+    drop-nil : (n : ℕ) → ◌≡◌ {A = List ℕ} (drop n []) []
+    drop-nil zero = refl
+    drop-nil (suc n) = refl
+
+ended_lines : (ls : List Line) (l : Line) (d : Cursor) → EachIs IsEndedLine ls → IsLastLine l d → AreLines (ls ++ l ∷ [])
+ended_lines [] l d h k = (k.0, k.1)
+ended_lines (m ∷ []) l d h k = (h.0.0, h.0.1, (k.0, k.1))
+ended_lines (m ∷ o ∷ ls) l d h k = (h.0.0, h.0.1, ended_lines (o ∷ ls) l d h.1 k)
+
+pub all_parts_push : {A : Type 0} (f : A → List Part) (xs : List A) (x : A) → all_parts f (xs ++ x ∷ []) ≡ all_parts f xs ++ f x
+all_parts_push f [] x = parts-nil (f x)
+  where
+    parts-nil : (ps : List Part) → ps ++ [] ≡ ps
+    parts-nil [] = refl
+    parts-nil (p ∷ ps) = ap (λ l. p ∷ l) (parts-nil ps)
+all_parts_push f (y ∷ xs) x = ap (λ l. f y ++ l) (all_parts_push f xs x) ∙ sym (append_assoc (f y) (all_parts f xs) (f x))
+
+pub lines_sound : (c : Cursor) → IfSome (lines_at c) (λ r. AreLines r.0 × Spans (lines_parts r.0) c r.1 × (r.1.rest ≡ []))
+unfolding lines_at
+lines_sound c = sound_bind (all_of line_step c) _ _ _ (many_sound IsEndedLine line_parts IsLastLine line_parts line_step line_step_sound (length c.rest + 1) c) (λ r k.
+    (ended_lines r.0 r.1 r.2 k.0 k.1, subst (λ l. Spans l c r.2) (sym (all_parts_push line_parts r.0 r.1)) k.2, k.1.2))

@@ -1,0 +1,11 @@
+pub mod Integers
+pub mod IntegerRuns
+pub mod Tree
+pub mod Spells
+pub mod Reading
+pub mod Stands
+pub mod Bounded
+pub mod View
+pub mod Lines
+pub mod Document
+pub mod Reads

@@ -1,0 +1,97 @@
+-- The plain reader: total functions on lists that compute the tree of a text, beside the relation of `Spells`.
+use Rattle.std.specs.Prelude.{ℕ, zero, suc, ◌+◌, Bool, List, [], ◌∷◌, ◌++◌, length, take, drop, Option, Some, None, option_and_then, if◌then◌else◌, ◌==◌}
+use Rattle.toml_text.specs.Bytes.{is_ws, is_bare}
+use Rattle.toml_text.specs.Runs.{run_len, begins, is_byte, newline_len, comment_len}
+use Rattle.toml_tree.specs.IntegerRuns.{is_value_byte, is_integer}
+use Rattle.toml_tree.specs.Spells.{mark_of}
+use Rattle.toml_tree.specs.Tree.{Piece, Blank, Key, Assign, Value, Scalar, KeyVal, Expr, BlankLine, KeyValLine, Line, Doc}
+use Rattle.toml_tree.specs.declared.tree.ScalarKind.TheVariants.{Integer}
+use Rattle.toml_tree.specs.declared.step.Step.{Step}
+use Rattle.toml_tree.specs.declared.step.Step.TheVariants.{Next, Done}
+
+infixl 10 ◌>>=◌
+abbrev pub ◌>>=◌ : {A B : Type 0} → Option A → (A → Option B) → Option B
+o >>= f = option_and_then f o
+
+-- a place in a text, and the bytes from there on
+pub record Cursor : Type 0 where
+  pub at : ℕ
+  pub rest : List ℕ
+
+-- the piece of so many bytes at a place
+abbrev pub here : ℕ → Cursor → Piece
+here n c = record { start = c.at; text = take n c.rest }
+
+abbrev pub ahead : ℕ → Cursor → Cursor
+ahead n c = record { at = c.at + n; rest = drop n c.rest }
+
+-- Reads until a step is the last; the fuel bounds the steps.
+abbrev pub many : {A B : Type 0} → (Cursor → Option (Step A B × Cursor)) → ℕ → Cursor → Option (List A × B × Cursor)
+many step zero c = None
+many step (suc fuel) c = step c >>= λ r. elim r.0 [
+  | Next a ↦ many step fuel r.1 >>= λ s. Some (a ∷ s.0, s.1, s.2)
+  | Done b ↦ Some ([], b, r.1)
+]
+
+-- a step takes a byte or more, so there are at most as many as bytes, and the last
+abbrev pub all_of : {A B : Type 0} → (Cursor → Option (Step A B × Cursor)) → Cursor → Option (List A × B × Cursor)
+all_of step c = many step (length c.rest + 1) c
+
+-- the longest run of bytes that pass the test
+unfoldable pub run_at : (ℕ → Bool) → Cursor → Piece × Cursor
+run_at p c = (here (run_len p c.rest) c, ahead (run_len p c.rest) c)
+
+-- a comment or none
+unfoldable pub comment_at : Cursor → Option Piece × Cursor
+comment_at c = let n = comment_len c.rest in if n == 0 then (None, c) else (Some (here n c), ahead n c)
+
+unfoldable pub blank_at : Cursor → Blank × Cursor
+blank_at c = let w = run_at is_ws c in let m = comment_at w.1 in (record { ws = w.0; comment = m.0 }, m.1)
+
+unfoldable pub scalar_at : Cursor → Option (Value × Cursor)
+scalar_at c = let r = run_at is_value_byte c in if is_integer r.0.text then Some (Scalar Integer r.0, r.1) else None
+
+unfoldable pub key_at : Cursor → Option (Key × Cursor)
+key_at c = let k = run_at is_bare c in if begins is_bare c.rest then Some (record { first = k.0 }, k.1) else None
+
+-- `=` between whitespace
+unfoldable pub equals_at : Cursor → Option ((Piece × Piece) × Cursor)
+equals_at c =
+    let b = run_at is_ws c in
+    if begins (is_byte 0x3D) b.1.rest then (let a = run_at is_ws (ahead 1 b.1) in Some ((b.0, a.0), a.1)) else None
+
+unfoldable pub assign_at : Cursor → Option (Assign × Cursor)
+assign_at c =
+    key_at c >>= λ k.
+    equals_at k.1 >>= λ e.
+    Some (record { key = k.0; before_equals = e.0.0; after_equals = e.0.1 }, e.1)
+
+unfoldable pub keyval_at : Cursor → Option (KeyVal × Cursor)
+keyval_at c =
+    assign_at c >>= λ a.
+    scalar_at a.1 >>= λ v.
+    Some (record { assign = a.0; value = v.0 }, v.1)
+
+unfoldable pub expr_at : Cursor → Option (Expr × Cursor)
+expr_at c =
+    let w = run_at is_ws c in
+    if begins is_bare w.1.rest
+    then (keyval_at w.1 >>= λ k. let b = blank_at k.1 in Some (KeyValLine w.0 k.0 b.0, b.1))
+    else (let m = comment_at w.1 in Some (BlankLine (record { ws = w.0; comment = m.0 }), m.1))
+
+unfoldable pub line_step : Cursor → Option (Step Line Line × Cursor)
+line_step c =
+    expr_at c >>= λ e.
+    let n = newline_len e.1.rest in
+    let line : Line = record { expr = e.0; newline = here n e.1 } in
+    if n == 0 then (if length e.1.rest == 0 then Some (Done line, ahead n e.1) else None)
+    else Some (Next line, ahead n e.1)
+
+unfoldable pub lines_at : Cursor → Option (List Line × Cursor)
+lines_at c = all_of line_step c >>= λ r. Some (r.0 ++ r.1 ∷ [], r.2)
+
+unfoldable pub document_at : List ℕ → Option Doc
+document_at text =
+    let n = length (mark_of text) in
+    let start : Cursor = record { at = 0; rest = text } in
+    lines_at (ahead n start) >>= λ r. Some (record { mark = here n start; lines = r.0 })

@@ -1,0 +1,47 @@
+ghost use Rattle.std.specs.Prelude.{◌≡◌, IfOk, IfErr, length};
+ghost use Rattle.toml_text.specs.Source.{text_of};
+ghost use Rattle.toml_tree.specs.Document.{document, Refuses};
+ghost use Rattle.toml_tree.specs.Reading.{here, ahead};
+ghost use Rattle.toml_tree.specs.Reads.{cursor, Onward};
+ghost use Rattle.toml_tree.specs.Spells.{Spells, mark_of};
+ghost use Rattle.toml_tree.specs.View.{piece};
+
+use crate::document::Doc;
+use crate::fault::SyntaxFault;
+use crate::piece::Piece;
+use crate::reader::Reader;
+use std::alloc::Global;
+use toml_text::Source;
+
+/// The tree of the text: one exactly where some tree spells the text behind the optional mark U+FEFF.
+pub fn parse<'t>(alloc: Global, source: Source<'t>) -> Result<Doc<'t>, SyntaxFault>
+    ensures spelled { IfOk result (λ doc. Spells (document doc) (text_of source.entry)) }
+    ensures refused { IfErr result (Refuses (text_of source.entry)) }
+{
+    let mut reader = Reader { source, at: 0 };
+    let mark = reader.mark();
+    let lines = reader.lines(alloc)?;
+    Ok(Doc { mark, lines })
+}
+
+/// The length of the mark U+FEFF at the front, or 0.
+fn mark_len(bytes: &[u8]) -> usize
+    ensures { result ≡ length (mark_of bytes.now) }
+{
+    match bytes {
+        [0xEF, 0xBB, 0xBF, ..] => 3,
+        _ => 0,
+    }
+}
+
+impl<'t> Reader<'t> {
+    /// The mark U+FEFF if it stands here, or an empty piece.
+    fn mark(&mut self) -> Piece<'t>
+        ensures piece { piece result ≡ here (length (mark_of (cursor self.old).rest)) (cursor self.old) }
+        ensures after { cursor self.new ≡ ahead (length (mark_of (cursor self.old).rest)) (cursor self.old) }
+        ensures onward { Onward (cursor self.old) (cursor self.new) }
+    {
+        let len = mark_len(self.rest());
+        self.take_to(self.at + len)
+    }
+}

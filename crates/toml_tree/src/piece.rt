@@ -1,0 +1,32 @@
+ghost use Rattle.std.specs.Prelude.{◌≡◌, ◌+◌, length};
+ghost use Rattle.toml_tree.specs.Bounded.{Fits};
+
+use toml_text::Span;
+
+/// A slice of the text; `start` is the place of its first byte there.
+#[derive(Clone, Copy)]
+pub struct Piece<'t> {
+    pub text: &'t str,
+    pub start: usize,
+    ghost fits: { Fits start text.now },
+}
+
+/// Whitespace, and a comment if one follows.
+#[derive(Clone, Copy)]
+pub struct Blank<'t> {
+    pub ws: Piece<'t>,
+    pub comment: Option<Piece<'t>>,
+}
+
+impl Piece<'_> {
+    /// Where it stands in the text.
+    pub fn span(self) -> Span
+        ensures start { result.start ≡ self.entry.start }
+        ensures end { result.end ≡ self.entry.start + length self.entry.text.now }
+    {
+        Span {
+            start: self.start,
+            end: self.start + self.text.len(),
+        }
+    }
+}

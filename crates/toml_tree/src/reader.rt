@@ -1,0 +1,12 @@
+ghost use Rattle.std.specs.Str.{IsCharBoundary};
+ghost use Rattle.toml_text.specs.Source.{text_of};
+
+use toml_text::Source;
+
+/// Reads a text from its front; `at` is the place of the next byte.
+#[derive(Clone, Copy)]
+pub struct Reader<'t> {
+    pub source: Source<'t>,
+    pub at: usize,
+    ghost bound: { IsCharBoundary (text_of source) at },
+}

@@ -1,0 +1,91 @@
+//! The text of a tree: its parts in order.
+ghost use Rattle.std.specs.Prelude.{◌≡◌, ◌++◌, OnOk, string_bytes};
+ghost use Rattle.toml_tree.specs.Lines.{line};
+ghost use Rattle.toml_tree.specs.Spells.{joined, blank_parts, assign_parts, value_parts, keyval_parts, expr_parts, line_parts};
+ghost use Rattle.toml_tree.specs.View.{blank, assign, value, keyval, expr};
+
+use crate::document::Doc;
+use crate::line::Line;
+use crate::piece::Blank;
+use crate::tree::{Assign, Expr, KeyVal, Value};
+use std::alloc::{AllocError, Global};
+
+fn push_blank(out: &mut String, b: &Blank<'_>) -> Result<(), AllocError>
+    ensures { OnOk result (string_bytes out.new ≡ string_bytes out.old ++ joined (blank_parts (blank b.now))) }
+{
+    out.push_str(b.ws.text)?;
+    if let Some(comment) = b.comment {
+        out.push_str(comment.text)?;
+    }
+    Ok(())
+}
+
+fn push_assign(out: &mut String, a: &Assign<'_>) -> Result<(), AllocError>
+    ensures { OnOk result (string_bytes out.new ≡ string_bytes out.old ++ joined (assign_parts (assign a.now))) }
+{
+    out.push_str(a.key.first.text)?;
+    out.push_str(a.before_equals.text)?;
+    out.push_str("=")?;
+    out.push_str(a.after_equals.text)?;
+    Ok(())
+}
+
+fn push_value(out: &mut String, v: &Value<'_>) -> Result<(), AllocError>
+    ensures { OnOk result (string_bytes out.new ≡ string_bytes out.old ++ joined (value_parts (value v.now))) }
+{
+    match v {
+        Value::Scalar(_, scalar) => {
+            out.push_str(scalar.text)?;
+            Ok(())
+        }
+    }
+}
+
+fn push_keyval(out: &mut String, k: &KeyVal<'_>) -> Result<(), AllocError>
+    ensures { OnOk result (string_bytes out.new ≡ string_bytes out.old ++ joined (keyval_parts (keyval k.now))) }
+{
+    push_assign(out, &k.assign)?;
+    push_value(out, &k.value)?;
+    Ok(())
+}
+
+fn push_expr(out: &mut String, e: &Expr<'_>) -> Result<(), AllocError>
+    ensures { OnOk result (string_bytes out.new ≡ string_bytes out.old ++ joined (expr_parts (expr e.now))) }
+{
+    match e {
+        Expr::Blank(b) => push_blank(out, b),
+        Expr::KeyVal { ws, pair, tail } => {
+            out.push_str(ws.text)?;
+            push_keyval(out, pair)?;
+            push_blank(out, tail)?;
+            Ok(())
+        }
+    }
+}
+
+fn push_line(out: &mut String, l: &Line<'_>) -> Result<(), AllocError>
+    ensures { OnOk result (string_bytes out.new ≡ string_bytes out.old ++ joined (line_parts (line l.now))) }
+{
+    push_expr(out, &l.expr)?;
+    out.push_str(l.newline.text)?;
+    Ok(())
+}
+
+impl Doc<'_> {
+    ghost use Rattle.std.specs.Prelude.{ℕ, List, IfOk};
+    ghost use Rattle.toml_tree.specs.Document.{document};
+    ghost use Rattle.toml_tree.specs.Spells.{doc_parts, Spells};
+
+    /// The text of the tree: of a parsed document the text that was read.
+    pub fn text(&self, alloc: Global) -> Result<String, AllocError>
+        ensures parts { IfOk result (λ out. string_bytes out ≡ joined (doc_parts (document self.now))) }
+        ensures read { IfOk result (λ out. (text : List ℕ) → Spells (document self.now) text → string_bytes out ≡ text) }
+    {
+        let mut out = String::new(alloc);
+        out.push_str(self.mark.text)?;
+        for l in &self.lines {
+            push_line(&mut out, l)?;
+        }
+        Ok(out)
+    }
+}
