@@ -1,10 +1,9 @@
 -- The plain functions find the pieces of the forms.
-use Rattle.std.proofs.Common.{◌≡◌, ℕ, zero, ◌+◌, ◌<◌, ◌≤◌, Bool, false, List, [], ◌∷◌, ◌++◌, length, ◌⊎◌, refl, sym, ap, ◌∙◌, arith, inl, inr, ⊎_elim, eq-eqb}
+use Rattle.std.proofs.Common.{◌≡◌, ℕ, zero, ◌<◌, [], ◌∷◌, ◌++◌, length, ◌⊎◌, refl, sym, ap, ◌∙◌, arith, inl, inr, ⊎_elim, eq-eqb}
 use Rattle.std.proofs.lemmas.Bool.{cond-true, cond-false}
 use Rattle.toml_text.specs.Bytes.{is_comment}
-use Rattle.toml_text.specs.Forms.{Each, IsNewline, IsComment}
 use Rattle.toml_text.specs.Laws.{RunIsPiece, RunIsFound, NewlineIsPiece, NewlineIsFound, CommentIsPiece, CommentIsFound}
-use Rattle.toml_text.specs.Runs.{run_len, begins, newline_len, comment_len}
+use Rattle.toml_text.specs.Runs.{newline_len, comment_len}
 use Rattle.toml_text.proofs.Runs.{run_len-le, run_each}
 use Rattle.toml_text.proofs.Newlines.{newline_len-le, newline_piece}
 use Rattle.toml_text.proofs.Comments.{comment_len-le, comment_piece}

@@ -5,19 +5,16 @@ ghost use Rattle.toml_text.specs.Laws.{RunIsPiece, RunIsFound, NewlineIsPiece, N
 pub fn runs()
     ensures piece { RunIsPiece }
     ensures found { RunIsFound }
-{
-}
+{}
 
 /// A newline has one length.
 pub fn newlines()
     ensures piece { NewlineIsPiece }
     ensures found { NewlineIsFound }
-{
-}
+{}
 
 /// A comment is the longest at its place.
 pub fn comments()
     ensures piece { CommentIsPiece }
     ensures found { CommentIsFound }
-{
-}
+{}

@@ -1,0 +1,80 @@
+#!/usr/bin/env python3
+"""Times `tomled check` on large texts, beside `wc -l` and `cat` of the same file.
+
+  bench/check.py --binary crates/tomled/out/tomled
+
+For each text it prints the best of some runs: seconds, megabytes a second, the ratio to `wc -l` and to
+`cat`, and the peak memory as a multiple of the text. No test rests on these numbers.
+"""
+import argparse
+import os
+import subprocess
+import sys
+import tempfile
+import time
+
+LIMIT = 16 * 1024 * 1024
+
+
+def filled(line):
+    """As many whole lines as a text may have."""
+    return line * (LIMIT // len(line))
+
+
+def numbered(front, behind):
+    """Lines with a name of their own, as many as a text may have."""
+    out, size, number = [], 0, 0
+    while True:
+        line = b'%s%d%s' % (front, number, behind)
+        if size + len(line) > LIMIT:
+            return b''.join(out)
+        out.append(line)
+        size += len(line)
+        number += 1
+
+
+TEXTS = {
+    'comment lines': lambda: filled(b'# a comment of a usual length, with a few words in it\n'),
+    'spaces': lambda: b' ' * LIMIT,
+    'empty lines': lambda: filled(b'\n'),
+}
+
+
+def seconds(words):
+    start = time.perf_counter()
+    done = subprocess.run(words, stdout=subprocess.DEVNULL, stderr=subprocess.PIPE, check=False)
+    took = time.perf_counter() - start
+    if done.returncode != 0:
+        sys.exit('%s failed: %s' % (' '.join(words), done.stderr.decode()))
+    return took
+
+
+def peak(words):
+    """The peak memory of a run in bytes."""
+    child = subprocess.Popen(words, stdout=subprocess.DEVNULL)
+    _, _, usage = os.wait4(child.pid, 0)
+    child.returncode = 0
+    return usage.ru_maxrss * 1024
+
+
+def main():
+    words = argparse.ArgumentParser(description=__doc__, formatter_class=argparse.RawDescriptionHelpFormatter)
+    words.add_argument('--binary', required=True)
+    words.add_argument('--runs', type=int, default=5)
+    given = words.parse_args()
+    binary = os.path.abspath(given.binary)
+    with tempfile.TemporaryDirectory() as folder:
+        path = os.path.join(folder, 'text.toml')
+        for name, text in TEXTS.items():
+            with open(path, 'wb') as out:
+                out.write(text())
+            size = os.path.getsize(path)
+            check, lines, cat = (min(seconds(run + [path]) for _ in range(given.runs))
+                                 for run in ([binary, 'check'], ['wc', '-l'], ['cat']))
+            memory = peak([binary, 'check', path])
+            print('%-14s %.3f s  %4.0f MB/s  %.1f of wc -l  %.1f of cat  %.1f of the text in memory'
+                  % (name, check, size / check / 1e6, check / lines, check / cat, memory / size))
+
+
+if __name__ == '__main__':
+    main()

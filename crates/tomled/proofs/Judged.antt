@@ -1,0 +1,46 @@
+-- Why bytes that were refused are no document, and bytes that were not are one.
+use Rattle.std.proofs.Common.{◌≡◌, ◌≤◌, ℕ, ◌+◌, List, length, Option, sym, subst, arith, inl, inr}
+use Rattle.std.specs.Prelude.{IfSome}
+use Rattle.std.specs.Str.{IsValidUpTo}
+use Rattle.std.proofs.lemmas.Str.{IsUtf8-from_is_utf8}
+use Rattle.toml_text.specs.Limit.{IsText, max_len}
+use Rattle.toml_text.specs.Source.{IsFaultOf}
+use Rattle.toml_text.specs.declared.fault.TextFault.{TextFault}
+use Rattle.toml_text.specs.declared.fault.TextFault.TheVariants.{NotUtf8, TooLong}
+use Rattle.toml_tree.specs.Document as trees
+use Rattle.toml_tree.specs.Spells.{Spells, SpelledByNone}
+use Rattle.toml_tree.specs.Tree.{Doc}
+use Rattle.toml_tree.specs.declared.fault.SyntaxFault.{SyntaxFault}
+use Rattle.toml_tree.proofs.Exact.{one_tree}
+use Rattle.tomled.specs.Check.{IsTextRefusal, IsSyntaxRefusal}
+use Rattle.tomled.specs.Documents.{IsDocument}
+use Rattle.tomled.specs.Keys.{keys_of, RepeatsKey, IsFirstRepeat}
+use Rattle.tomled.specs.Refusals.{IsRefusalOf}
+use Rattle.tomled.specs.declared.refusal.Refusal.{Refusal}
+
+abbrev pub IsRefused : List ℕ → Refusal → Type 0
+IsRefused bytes r = (¬ IsDocument bytes) × IsRefusalOf bytes r
+
+pub no_text : (bytes : List ℕ) (fault : TextFault) (r : Refusal) → IsFaultOf bytes fault → IsTextRefusal fault r → IsRefused bytes r
+no_text bytes (NotUtf8 at) r h k = (
+  (λ document. h.0 (IsUtf8-from_is_utf8 bytes document.0.utf8)),
+  inl (k.0, h.0, subst (λ (at : ℕ). IsValidUpTo bytes at) (sym k.1) h.1),
+)
+no_text bytes TooLong r h k = (
+  (λ document. let fits : length bytes ≤ max_len = document.0.fits in absurd (omega (arith, h.1))),
+  inr (inl (k.0, k.1, h.0, h.1)),
+)
+
+pub no_tree : (bytes : List ℕ) (fault : SyntaxFault) (r : Refusal) → IsText bytes → trees.Refuses bytes fault → IsSyntaxRefusal fault r → IsRefused bytes r
+no_tree bytes fault r text h k =
+    let R : ℕ → Type 0 = λ at. (at ≤ length bytes) × SpelledByNone bytes in
+    let told : R r.place = subst (λ (o : Option ℕ). IfSome o R) k.1 h in
+    ((λ document. told.1 document.1 document.2), inr (inr (inl (k.0, told.0, text, told.1))))
+
+pub no_rules : (bytes : List ℕ) (d : Doc) (line : ℕ) (r : Refusal) → IsText bytes → Spells d bytes → IsFirstRepeat (keys_of d) line → r.code ≡ 201 → r.place ≡ line + 1 → IsRefused bytes r
+no_rules bytes d line r text spelled repeat code place = (
+  (λ document.
+      let same : d ≡ document.1 = one_tree d document.1 bytes spelled document.2 in
+      document.3 line (subst (λ (e : Doc). RepeatsKey (keys_of e) line) same repeat.repeats)),
+  inr (inr (inr (code, text, d, line, place, spelled, repeat))),
+)

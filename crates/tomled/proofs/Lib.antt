@@ -1,0 +1,3 @@
+pub mod Appended
+pub mod KeyLists
+pub mod Judged

@@ -1,0 +1,27 @@
+-- The definition of the command line: the subcommands and their arguments.
+use Rattle.std.specs.Prelude.{◌≡◌, codes, true, false}
+use Rattle.clap.specs.Words.{App, Rule, Text, app_of, new_app, new_rule, with_rule, with_subcommand}
+use Rattle.clap.specs.Simple.{on_top}
+use Rattle.clap.specs.declared.builder.command.Command.{Command}
+use Rattle.clap.specs.declared.builder.command.Command.TheViews.{out-Command}
+
+-- an argument that has to be given
+abbrev pub required_argument : Text → Rule
+required_argument name = record (new_rule name) { required = true }
+
+-- `check FILE`
+abbrev pub check : App
+check = with_rule (new_app (codes "check")) (required_argument (codes "FILE"))
+
+-- `tomled` before its subcommands are added: it wants one
+abbrev pub root : App
+root = on_top (λ shape. record shape { subcommand_required = true }) (new_app (codes "tomled"))
+
+-- the whole command line
+unfoldable pub tool : App
+tool = with_subcommand root check.top
+
+-- a parse reads this definition of the command, which has no global argument
+pub record IsDefined (app : App) (command : Command) : Type 0 where
+  pub shape : app_of command ≡ app
+  pub local : (out-Command command).has_globals ≡ false

@@ -1,0 +1,43 @@
+-- What the words of the command line ask, by clap's reading of the definition `tool`.
+use Rattle.std.specs.Prelude.{◌≡◌, List, [], codes, true, if◌then◌else◌, Option, Some, None}
+use Rattle.std.specs.Prelude.{option_map, option_and_then}
+use Rattle.std.specs.Str.{bytes_eq}
+use Rattle.clap.specs.Words.{Row, Text, fault_of, first_of, kind_of, subcommand_of, takes, HasKind}
+use Rattle.clap.specs.declared.error.kind.ErrorKind.TheVariants.{OutOfMemory}
+use Rattle.tomled.specs.CommandLine.{tool}
+use Rattle.tomled.specs.declared.words.Request.{Request}
+use Rattle.tomled.specs.declared.words.Request.TheVariants.{Check}
+use Rattle.tomled.specs.declared.words.WordsFault.{WordsFault}
+use Rattle.tomled.specs.declared.words.WordsFault.TheVariants.{Parser, Missing}
+
+-- a request, with texts in place of references to them
+pub data Asked : Type 0 where
+  check : (file : Text) → Asked
+
+-- what a request asks
+abbrev pub asked_by : Request → Asked
+asked_by (Check file) = check file.now
+
+-- what `check` asks with these values: each path is the first value of its argument
+abbrev pub check_of : List Row → Option Asked
+check_of rows = option_map check (first_of (codes "FILE") rows)
+
+-- what a subcommand asks by its name and its values, or nothing where a path has no value
+abbrev pub asked_of : Text × List Row → Option Asked
+asked_of met = if bytes_eq met.0 (codes "check") then check_of met.1 else None
+
+-- what the subcommand asks that the definition gives for the words
+abbrev pub asked_in : List Text → Option Asked
+asked_in words = option_and_then asked_of (subcommand_of tool words)
+
+-- the definition finds no fault in the words, and they ask this request
+abbrev pub IsRequestIn : List Text → Request → Type 0
+IsRequestIn words request = (fault_of tool words ≡ []) × (asked_in words ≡ Some (asked_by request))
+
+-- the parser's error has a kind that the definition gives for the words, or is want of memory, and
+-- only that where it takes them; `Missing` is of words in which it finds no fault and which ask
+-- nothing
+abbrev pub IsFaultIn : List Text → WordsFault → Type 0
+IsFaultIn words (Parser error) = HasKind (fault_of tool words) error
+    × (takes tool words ≡ true → kind_of error ≡ OutOfMemory)
+IsFaultIn words Missing = (fault_of tool words ≡ []) × (asked_in words ≡ None)

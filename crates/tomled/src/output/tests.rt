@@ -1,0 +1,81 @@
+use super::{Counting, EmitFault, emit};
+use std::alloc::Global;
+use std::io;
+use std::io::Write;
+use std::test::Fail;
+
+/// Keeps at most `most` bytes of each write, and fails at the write of this number.
+#[derive(Drop)]
+struct Keeper {
+    bytes: Vec<u8>,
+    most: usize,
+    failing: usize,
+    writes: usize,
+}
+
+impl Keeper {
+    fn new(alloc: Global, most: usize, failing: usize) -> Keeper {
+        Keeper {
+            bytes: Vec::new(alloc),
+            most,
+            failing,
+            writes: 0,
+        }
+    }
+}
+
+impl Write for Keeper {
+    ghost use Rattle.std.specs.Prelude.{Some};
+
+    ghost contents = { λ k. Some k.bytes.items };
+
+    fn write(&mut self, bytes: &[u8]) -> io::Result<usize> {
+        self.writes = self.writes.saturating_add(1);
+        if self.writes == self.failing {
+            return Err(io::Error::from(io::ErrorKind::Other));
+        }
+        let taken = bytes.len().min(self.most);
+        self.bytes.extend_from_slice(&bytes[..taken])?;
+        Ok(taken)
+    }
+
+    fn flush(&mut self) -> io::Result<()> {
+        Ok(())
+    }
+}
+
+#[test]
+fn emits(rt: HostRuntime) -> Result<(), Fail> {
+    let fault = |written| Err(EmitFault { written });
+    // At most so many bytes a write, the write that fails, and then: the answer, the bytes that
+    // were accepted, the count of failed writes and the number of writes.
+    let cases = [
+        (1, 0, Ok(()), "abc", 0, 3),
+        (9, 0, Ok(()), "abc", 0, 1),
+        (1, 1, fault(0), "", 1, 1),
+        (1, 3, fault(2), "ab", 1, 3),
+        (0, 0, fault(0), "", 1, 1),
+    ];
+    for (most, failing, answer, accepted, failed, writes) in cases {
+        let mut keeper = Keeper::new(rt.alloc(), most, failing);
+        let mut counting = Counting::new(&mut keeper);
+        assert_eq!(rt; emit(&mut counting, b"abc"), answer, "{most} {failing}");
+        assert_eq!(rt; counting.failed(), failed, "{most} {failing}");
+        assert_eq!(rt;
+            keeper.bytes.as_slice(),
+            accepted.as_bytes(),
+            "{most} {failing}"
+        );
+        assert_eq!(rt; keeper.writes, writes, "{most} {failing}");
+    }
+    Ok(())
+}
+
+#[test]
+fn emits_nothing(rt: HostRuntime) {
+    let mut keeper = Keeper::new(rt.alloc(), 0, 1);
+    let mut counting = Counting::new(&mut keeper);
+    assert_eq!(rt; emit(&mut counting, b""), Ok(()));
+    assert_eq!(rt; counting.failed(), 0);
+    assert_eq!(rt; keeper.writes, 0);
+}

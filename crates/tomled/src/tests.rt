@@ -1,0 +1,106 @@
+//! The worked rows: what `check` prints for a text.
+
+use crate::check::run_check;
+use crate::outcome::Outcome;
+use crate::refusal::Refusal;
+use std::alloc::{AllocError, Global};
+use std::process::Abort;
+use std::test::Fail;
+
+fn assert_outcome(rt: &impl Abort, got: &Outcome, status: u8, out: &str, err: &str) {
+    assert_eq!(rt; got.status, status);
+    assert_eq!(rt; got.out.as_slice(), out.as_bytes());
+    assert_eq!(rt; got.err.as_slice(), err.as_bytes());
+    assert!(rt; got.files.is_empty());
+}
+
+/// Each text is a document.
+fn assert_ok(rt: &impl Abort, alloc: Global, texts: &[&[u8]]) -> Result<(), AllocError> {
+    for text in texts {
+        assert_outcome(rt, &run_check(alloc, text)?, 0, "ok\n", "");
+    }
+    Ok(())
+}
+
+/// Each text is refused with its code and place.
+fn assert_refused(
+    rt: &impl Abort,
+    alloc: Global,
+    rows: &[(&[u8], u16, usize)],
+) -> Result<(), AllocError> {
+    for (text, code, place) in rows {
+        let line = format!(in alloc; "refused {code} {place}\n")?;
+        assert_outcome(rt, &run_check(alloc, text)?, 1, "", line.as_str());
+    }
+    Ok(())
+}
+
+#[test]
+fn documents(rt: HostRuntime) -> Result<(), Fail> {
+    let rows: [&[u8]; 8] = [
+        b"",
+        b"a = 1\n# x\n  \nb-_9 = +1_000 # y",
+        b"a = 9223372036854775807",
+        b"a = -9223372036854775808",
+        b"\xEF\xBB\xBFa = 1",
+        b"# \xC2\x85",
+        b"a = 1\r\nb = -0\r\n",
+        b"1 = 1\n01 = 1\n-_ = 1",
+    ];
+    assert_ok(&rt, rt.alloc(), &rows)?;
+    Ok(())
+}
+
+#[test]
+fn refusals(rt: HostRuntime) -> Result<(), Fail> {
+    let rows: [(&[u8], u16, usize); 24] = [
+        (b"a = \"\xFF\"", 101, 5),
+        (b"#\xC3", 101, 1),
+        (b"# a\x00", 103, 3),
+        (b"# a\x7F", 103, 3),
+        (b"a = 1\rb = 2", 103, 5),
+        (b"= 1", 104, 0),
+        (b"a = 1 b", 104, 6),
+        (b"a", 104, 1),
+        (b"a =", 104, 3),
+        (b"a =\n1", 104, 3),
+        (b"a = True", 104, 4),
+        (b"a = \xC2\x85", 104, 4),
+        (b"a = 1\na = 2\n?", 104, 12),
+        (b"\xEF\xBB\xBF\xEF\xBB\xBFa = 1", 104, 3),
+        (b"a = 01", 106, 4),
+        (b"a = 1__0", 106, 4),
+        (b"a = 1_", 106, 4),
+        (b"a = +", 106, 4),
+        (b"a = 0xF", 106, 4),
+        (b"a = 9223372036854775808", 107, 4),
+        (b"a = -9223372036854775809", 107, 4),
+        (b"a = 1\na = 2", 201, 2),
+        (b"a = 1\n\nb = 2\n# c\na = 3\nb = 4", 201, 5),
+        (b"b = 1\na = 1\nc = 1\na = 2\nb = 2", 201, 4),
+    ];
+    assert_refused(&rt, rt.alloc(), &rows)?;
+    Ok(())
+}
+
+#[test]
+fn the_limit(rt: HostRuntime) -> Result<(), Fail> {
+    let mut text = vec![in rt.alloc(); b' '; 16_777_217]?;
+    assert_refused(&rt, rt.alloc(), &[(text.as_slice(), 102, 16_777_216)])?;
+    let _ = text.pop();
+    assert_ok(&rt, rt.alloc(), &[text.as_slice()])?;
+    Ok(())
+}
+
+#[test]
+fn refusal_lines(rt: HostRuntime) -> Result<(), Fail> {
+    let refusal = Refusal {
+        code: 102,
+        place: 16_777_216,
+    };
+    assert_eq!(rt;
+        refusal.line(rt.alloc())?.as_str(),
+        "refused 102 16777216\n"
+    );
+    Ok(())
+}

@@ -1,0 +1,111 @@
+//! The words of the command line.
+ghost use Rattle.std.specs.Prelude.{◌≡◌, IfErr, IfOk, false, option_and_then, option_map, true};
+ghost use Rattle.clap.specs.Walk.{texts};
+ghost use Rattle.clap.specs.Words.{FailsBy, fault_of, first_of, found_of, kind_of, rows_of, rule_of};
+ghost use Rattle.clap.specs.Words.{subcommand_of, subcommand_rows_of, takes};
+ghost use Rattle.tomled.specs.CommandLine.{IsDefined, check, required_argument, tool};
+ghost use Rattle.tomled.specs.Request.{IsFaultIn, IsRequestIn, asked_by, asked_of, check_of};
+
+#[cfg(test)]
+mod tests;
+
+use clap::error::ErrorKind;
+use clap::{Arg, ArgMatches, Command};
+use std::alloc::{AllocError, Global};
+
+/// What the words ask for.
+#[derive(Debug, Drop, PartialEq, Eq)]
+pub enum Request<'a> {
+    /// Whether the file is a TOML document.
+    Check { file: &'a str },
+}
+
+/// Why words make no request.
+#[derive(Debug, Drop)]
+pub enum WordsFault {
+    /// What the parser answers to the words: a mistake in them, the text for who asks for help, or
+    /// want of memory.
+    Parser(clap::Error),
+    /// The parser took the words, and gave no subcommand or no path.
+    Missing,
+}
+
+/// The request of the program's words, its own name first.
+pub fn read_words<'a>(alloc: Global, words: &'a [&'a str]) -> Result<Request<'a>, WordsFault>
+    ensures ok { IfOk result (IsRequestIn (texts words.entry.now)) }
+    ensures err { IfErr result (IsFaultIn (texts words.entry.now)) }
+{
+    match parse(alloc, words) {
+        Err(error) => Err(WordsFault::Parser(error)),
+        Ok(matches) => match requested(&matches) {
+            Some(request) => Ok(request),
+            None => Err(WordsFault::Missing),
+        },
+    }
+}
+
+fn parse<'a>(alloc: Global, words: &'a [&'a str]) -> Result<ArgMatches<'a>, clap::Error>
+    ensures ok { IfOk result (λ matches.
+        subcommand_rows_of matches ≡ subcommand_of tool (texts words.entry.now)) }
+    ensures kinds { FailsBy (fault_of tool (texts words.entry.now)) result }
+    ensures err { IfErr result (λ error. takes tool (texts words.entry.now) ≡ true
+        → kind_of error ≡ ErrorKind.OutOfMemory) }
+{
+    let command = command(alloc)?;
+    command.try_get_matches_from(words)
+}
+
+#[tactic(auto, unfolding(crate::specs::CommandLine::tool))]
+fn command<'a>(alloc: Global) -> Result<Command<'a>, AllocError>
+    ensures { IfOk result (IsDefined tool) }
+{
+    let check = check_command(alloc)?;
+    Command::new(alloc, "tomled")
+        .bin_name("tomled")?
+        .about("Reads and edits TOML documents, and keeps their layout")
+        .subcommand_required(true)
+        .subcommand(check)
+}
+
+fn check_command<'a>(alloc: Global) -> Result<Command<'a>, AllocError>
+    ensures { IfOk result (IsDefined check) }
+{
+    let file = path(alloc, "FILE", "The document");
+    Command::new(alloc, "check")
+        .about("Says whether a file is a TOML document")
+        .arg(file)
+}
+
+fn path<'a>(alloc: Global, name: &'a str, help: &'a str) -> Arg<'a>
+    ensures rule { rule_of result ≡ required_argument name.entry.now }
+    ensures local { result.global ≡ false }
+    ensures help { result.help ≡ Some help.entry }
+{
+    Arg::new(alloc, name).required(true).help(help)
+}
+
+/// The request of the subcommand that was met, if it has its paths.
+fn requested<'a>(matches: &ArgMatches<'a>) -> Option<Request<'a>>
+    ensures { option_map asked_by result
+        ≡ option_and_then asked_of (subcommand_rows_of matches.now) }
+{
+    let (name, found) = matches.subcommand()?;
+    match name {
+        "check" => check_request(found),
+        _ => None,
+    }
+}
+
+fn check_request<'a>(found: &ArgMatches<'a>) -> Option<Request<'a>>
+    ensures { option_map asked_by result ≡ check_of (rows_of (found_of found.now)) }
+{
+    let file = first_value(found, "FILE")?;
+    Some(Request::Check { file })
+}
+
+fn first_value<'a>(found: &ArgMatches<'a>, argument: &str) -> Option<&'a str>
+    ensures { option_map (λ value. value.now) result
+        ≡ first_of argument.now (rows_of (found_of found.now)) }
+{
+    found.get_str(argument)
+}

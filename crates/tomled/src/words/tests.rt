@@ -1,0 +1,45 @@
+use super::{Request, WordsFault, read_words};
+use clap::error::ErrorKind;
+
+#[test]
+fn check_has_its_path(rt: HostRuntime) {
+    let request = read_words(rt.alloc(), ["tomled", "check", "a.toml"].as_slice());
+    assert!(rt; matches!(&request, Ok(Request::Check { file: "a.toml" })));
+}
+
+#[test]
+fn help_is_shown(rt: HostRuntime) {
+    for words in [
+        ["tomled", "--help"].as_slice(),
+        ["tomled", "check", "--help"].as_slice(),
+        ["tomled", "help"].as_slice(),
+    ] {
+        let result = read_words(rt.alloc(), words);
+        let is_help = match &result {
+            Err(WordsFault::Parser(error)) => {
+                error.kind() == ErrorKind::DisplayHelp
+                    && error.exit_code() == 0
+                    && !error.use_stderr()
+            }
+            _ => false,
+        };
+        assert!(rt; is_help, "{words:?}: {result:?}");
+    }
+}
+
+#[test]
+fn mistakes_are_refused(rt: HostRuntime) {
+    for words in [
+        ["tomled"].as_slice(),
+        ["tomled", "show", "a.toml"].as_slice(),
+        ["tomled", "check"].as_slice(),
+        ["tomled", "check", "a.toml", "b.toml"].as_slice(),
+    ] {
+        let result = read_words(rt.alloc(), words);
+        let is_mistake = match &result {
+            Err(WordsFault::Parser(error)) => error.exit_code() == 2 && error.use_stderr(),
+            _ => false,
+        };
+        assert!(rt; is_mistake, "{words:?}: {result:?}");
+    }
+}

@@ -1,0 +1,45 @@
+#!/usr/bin/env bash
+# What no proof says of the built program: bad words, files that can't be read, and help.
+#   tests/program.sh crates/tomled/out/tomled
+set -u
+program=$(realpath "$1")
+folder=$(mktemp -d)
+trap 'rm -rf "$folder"' EXIT
+cd "$folder"
+failed=0
+
+# run STATUS OUT ERR WORDS..: OUT and ERR are what each output begins with, `-` for nothing on it
+run() {
+  local status=$1 out=$2 err=$3
+  shift 3
+  "$program" "$@" >out 2>err
+  local got=$?
+  if [ "$got" -ne "$status" ] || ! begins out "$out" || ! begins err "$err"; then
+    printf 'FAILED tomled %s: status %s\n' "$*" "$got"
+    failed=1
+  fi
+}
+
+begins() {
+  if [ "$2" = - ]; then
+    [ ! -s "$1" ]
+  else
+    head -n 1 "$1" | grep -qF -- "$2"
+  fi
+}
+
+printf 'a = 1\n' >good.toml
+printf 'a = 1\na = 2\n' >twice.toml
+run 0 ok - check good.toml
+run 1 - 'refused 201 2' check twice.toml
+run 2 - 'error:'
+run 2 - 'error:' check
+run 2 - 'error:' check good.toml twice.toml
+run 2 - 'error:' unknown good.toml
+run 2 - 'error:' check --unknown good.toml
+run 3 - 'file fault' check missing.toml
+run 3 - 'file fault' check .
+run 0 'Reads and edits TOML documents' - --help
+run 0 'Says whether a file is a TOML document' - check --help
+[ "$failed" -eq 0 ] && echo 'all passed'
+exit "$failed"
