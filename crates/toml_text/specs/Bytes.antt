@@ -29,7 +29,3 @@ is_letter b = is_between 0x41 0x5A b || is_between 0x61 0x7A b
 -- what an `unquoted-key` is made of: A-Z, a-z, 0-9, `-`, `_`
 abbrev pub is_bare : ℕ → Bool
 is_bare b = is_letter b || is_digit b || b == 0x2D || b == 0x5F
-
--- a control character as TOML lists them: U+0000 to U+001F and U+007F, and not U+0080 to U+009F
-abbrev pub is_control : ℕ → Bool
-is_control b = is_between 0x00 0x1F b || b == 0x7F

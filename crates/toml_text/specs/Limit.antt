@@ -6,7 +6,7 @@ use Rattle.std.specs.Str.{is_utf8}
 abbrev pub max_len : ℕ
 max_len = 16_777_216
 
--- UTF-8 of at most that many bytes
+-- TOML v1.0.0, Spec: a file is UTF-8; the limit is this profile's
 pub record IsText (bytes : List ℕ) : Type 0 where
   pub utf8 : is_utf8 bytes ≡ true
   pub fits : length bytes ≤ max_len

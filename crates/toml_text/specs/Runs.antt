@@ -25,6 +25,6 @@ abbrev pub comment_len : List ℕ → ℕ
 comment_len [] = 0
 comment_len (b ∷ bs) = if b == 0x23 then run_len is_comment bs + 1 else 0
 
--- a piece of so many bytes that begins at a place ends there; one of no byte is none
+-- the answer of a scan that found `len` bytes at `at`: none for 0, else `at + len`
 abbrev pub EndsAfter : ℕ → ℕ → Option ℕ → Type 0
 EndsAfter at len answer = MatchOption answer (len ≡ 0) (λ end. (0 < len) × (end ≡ at + len))

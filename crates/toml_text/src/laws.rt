@@ -1,19 +1,19 @@
 //! Laws over the definitions: each function's contract is one or two, and nothing is run.
 ghost use Rattle.toml_text.specs.Laws.{RunIsPiece, RunIsFound, NewlineIsPiece, NewlineIsFound, CommentIsPiece, CommentIsFound};
 
-/// A run of bytes that pass a test is the longest at its place.
+/// `run_len` finds the longest run of bytes that pass a test at the front.
 pub fn runs()
     ensures piece { RunIsPiece }
     ensures found { RunIsFound }
 {}
 
-/// A newline has one length.
+/// `newline_len` finds the newline at the front, and 0 only where none stands.
 pub fn newlines()
     ensures piece { NewlineIsPiece }
     ensures found { NewlineIsFound }
 {}
 
-/// A comment is the longest at its place.
+/// `comment_len` finds the longest comment at the front, and 0 only where none stands.
 pub fn comments()
     ensures piece { CommentIsPiece }
     ensures found { CommentIsFound }

@@ -1,4 +1,4 @@
-//! How long a run of one class is at the front of some bytes.
+//! How long the whitespace, newline or comment at the front is.
 ghost use Rattle.std.specs.Prelude.{◌≡◌, ◌≤◌, length};
 ghost use Rattle.toml_text.specs.Bytes.{is_ws, is_comment};
 ghost use Rattle.toml_text.specs.Runs.{run_len, newline_len, comment_len};
@@ -38,8 +38,8 @@ pub fn comment_len(bytes: &[u8]) -> usize
     }
 }
 
-/// How many bytes at the front may stand in a comment. It ends before the first LF, so the search for
-/// that byte bounds the slower walk.
+/// How many bytes at the front may stand in a comment. A comment has no LF, so the fast search for one
+/// bounds the walk byte by byte.
 fn text_len(bytes: &[u8]) -> usize
     ensures run { result ≡ run_len is_comment bytes.now }
     ensures within { result ≤ length bytes.now }

@@ -13,6 +13,7 @@ pub const MAX_LEN: usize = 16_777_216;
 #[derive(Clone, Copy)]
 pub struct Source<'t> {
     text: &'t str,
+    // UTF-8 within the limit
     pub ghost is_text: { IsText text.now },
 }
 

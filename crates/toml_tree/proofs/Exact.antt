@@ -1,11 +1,11 @@
 -- The plain reader reads a text exactly where a tree spells it, and reads that tree.
 use Rattle.std.proofs.Common.{◌≡◌, ℕ, ◌+◌, ◌≤◌, List, [], ◌∷◌, ◌++◌, length, take, drop, Option, Some, None, sym, refl, ap, ◌∙◌, subst, arith}
 use Rattle.std.specs.Prelude.{IfSome, true, false, ◌==◌, ◌&&◌, if◌then◌else◌}
-use Rattle.std.proofs.lemmas.Option.{none-some, some_pair_parts}
+use Rattle.std.proofs.lemmas.Option.{none-some, some_pair_parts, same_Some, option_and_then_some}
 use Rattle.toml_tree.specs.Tree.{Piece, Line}
 use Rattle.toml_tree.specs.Spells.{joined, lines_parts, AreLines, SpellLines, Spells, SpelledByNone, OneTree, mark_of}
-use Rattle.toml_tree.specs.Reading.{Cursor, here, ahead, lines_at}
-use Rattle.toml_tree.specs.Document.{Refuses, place_of}
+use Rattle.toml_tree.specs.Reading.{Cursor, here, ahead, lines_at, document_at}
+use Rattle.toml_tree.specs.Document.{Refuses, place_of, ReaderIsSound, ReaderIsComplete}
 use Rattle.toml_tree.specs.Reads.{Fails, end}
 use Rattle.toml_tree.specs.declared.fault.SyntaxFault.{SyntaxFault}
 use Rattle.toml_tree.proofs.Spans.{Spans, spans_joined, spans_placed, spans_from}
@@ -71,3 +71,15 @@ refuses text fault c total behind fails = refused (place_of fault) fails
     refused : (place : Option ℕ) → IfSome place (λ at. (at ≤ end c) × (lines_at c ≡ None)) → IfSome place (λ at. (at ≤ length text) × SpelledByNone text)
     refused None h = tt
     refused (Some at) h = (omega arith, none text (ap lines_at (sym (behind ∙ mark_ahead text)) ∙ h.1))
+
+pub reader_sound : ReaderIsSound
+unfolding document_at
+reader_sound text d e =
+    let first = ahead (length (mark_of text)) (start text) in
+    option_and_then_some _ (lines_at first) d e (λ r read is. subst (λ x. Spells x text) (same_Some _ _ is) (found text (here (length (mark_of text)) (start text)) r.0 first r.1 refl refl read))
+
+pub reader_complete : ReaderIsComplete
+unfolding document_at
+reader_complete text d h =
+    let mark : here (length (mark_of text)) (start text) ≡ d.mark = (λ i. record { start = 0; text = mark_front text i }) ∙ sym h.mark in
+    rw (ap lines_at (mark_ahead text) ∙ lines_read d.lines (behind_mark text) h.lines) (λ i. Some (record { mark = mark i; lines = d.lines }))

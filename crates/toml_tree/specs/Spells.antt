@@ -93,7 +93,7 @@ IsKey k = IsBareKey k.first.text
 abbrev pub IsAssign : Assign → Type 0
 IsAssign a = IsKey a.key × IsWs a.before_equals.text × IsWs a.after_equals.text
 
--- the tokens of a kind
+-- `val`: the tokens of a kind
 abbrev pub IsToken : ScalarKind → List ℕ → Type 0
 IsToken Integer bs = IsInteger bs
 
@@ -122,12 +122,12 @@ pub record SpellLines (ls : List Line) (at : ℕ) (text : List ℕ) : Type 0 whe
   pub text_is : joined (lines_parts ls) ≡ text
   pub placed : Placed at (lines_parts ls)
 
--- the mark U+FEFF at the front of a text, or nothing
+-- the mark U+FEFF at the front of a text, or nothing: this profile lets it stand once
 abbrev pub mark_of : List ℕ → List ℕ
 mark_of (a ∷ b ∷ c ∷ bs) = if a == 0xEF && b == 0xBB && c == 0xBF then a ∷ b ∷ c ∷ [] else []
 mark_of _ = []
 
--- the tree spells the text: the mark where there is one, and the lines
+-- `toml`: the tree spells the text, the mark where there is one, and the lines
 pub record Spells (d : Doc) (text : List ℕ) : Type 0 where
   pub mark : d.mark ≡ record { start = 0; text = mark_of text }
   pub lines : SpellLines d.lines (length (mark_of text)) (drop (length (mark_of text)) text)

@@ -1,4 +1,4 @@
-//! How long a run of one class is at the front of some bytes.
+//! Runs of the bytes of bare keys and of values.
 ghost use Rattle.std.specs.Prelude.{◌≡◌};
 ghost use Rattle.toml_text.specs.Bytes.{is_bare, is_digit, is_letter};
 ghost use Rattle.toml_text.specs.Runs.{run_len, begins};
@@ -32,7 +32,7 @@ pub fn bare_len(bytes: &[u8]) -> usize
     bytes.len()
 }
 
-/// How many bytes at the front such a value may have.
+/// How many bytes at the front a value that is no string, array or inline table may have.
 pub fn value_len(bytes: &[u8]) -> usize
     ensures { result ≡ run_len is_value_byte bytes.now }
 {

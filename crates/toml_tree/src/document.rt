@@ -10,6 +10,7 @@ use crate::piece::Piece;
 pub struct Doc<'t> {
     pub(crate) mark: Piece<'t>,
     pub(crate) lines: Vec<Line<'t>>,
+    // they are the tree of some text; `∥ ∥₁` says that one exists and not which
     pub ghost spelled: { ∥ SpellSome mark lines ∥₁ },
 }
 

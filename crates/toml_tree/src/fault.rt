@@ -10,7 +10,7 @@ pub enum SyntaxFault {
     BadCharacter { at: usize },
     /// Something else stands where the reader can't go on, or the text ends there.
     Expected { at: usize },
-    /// What begins as a number does is none.
+    /// A value that begins with a digit or a sign is no number.
     BadNumber { at: usize },
     /// An integer lies outside -2^63 to 2^63 - 1.
     IntegerRange { at: usize },

@@ -10,6 +10,7 @@ use crate::tree::Expr;
 pub struct Line<'t> {
     pub(crate) expr: Expr<'t>,
     pub(crate) newline: Piece<'t>,
+    // each piece is in its form; `∥ ∥₁` says so and forgets how it is proved
     pub ghost form: { ∥ IsLine expr newline ∥₁ },
 }
 

@@ -8,6 +8,7 @@ use toml_text::Span;
 pub struct Piece<'t> {
     pub text: &'t str,
     pub start: usize,
+    // it ends within the limit of a text, so its end can't overflow
     ghost fits: { Fits start text.now },
 }
 

@@ -8,5 +8,6 @@ use toml_text::Source;
 pub struct Reader<'t> {
     pub source: Source<'t>,
     pub at: usize,
+    // a character begins there, or the text ends
     ghost bound: { IsCharBoundary (text_of source) at },
 }

@@ -75,7 +75,7 @@ impl<'t> Reader<'t> {
         }
     }
 
-    /// The refusal of what stands here, where nothing that may stand here does.
+    /// The refusal for what stands here: `BadCharacter` for a control character, else `Expected`.
     fn refuse(&self) -> SyntaxFault
         ensures { IsRefusal self.now.at result }
     {
@@ -202,7 +202,7 @@ impl<'t> Reader<'t> {
         })
     }
 
-    /// A scalar, so far an integer. A run that is none is `BadNumber` where it begins as a number does.
+    /// A scalar, so far an integer. A run that is none is `BadNumber` where it begins with a digit or a sign.
     #[tactic(auto, unfolding(crate::specs::Reading::scalar_at))]
     fn scalar(&mut self) -> Result<Value<'t>, SyntaxFault>
         ensures { Reads value (cursor self.old) (cursor self.new) result (scalar_at (cursor self.old)) }

@@ -7,13 +7,13 @@ pub enum ScalarKind {
 }
 
 /// A key (TOML v1.0.0, Keys) by its parts.
-#[derive(Clone, Copy)]
+#[derive(Drop)]
 pub struct Key<'t> {
     pub first: Piece<'t>,
 }
 
 /// A key, and `=` between whitespace.
-#[derive(Clone, Copy)]
+#[derive(Drop)]
 pub struct Assign<'t> {
     pub key: Key<'t>,
     pub before_equals: Piece<'t>,
