@@ -2,18 +2,20 @@
 use Rattle.std.proofs.Common.{◌≡◌, ℕ, zero, suc, ◌+◌, ◌<◌, ◌≤◌, Bool, true, false, ◌||◌, eqb, eq-eqb, ◌==◌, length-append, List, [], ◌∷◌, ◌++◌, length, Option, Some, None, sym, refl, ap, ◌∙◌, subst, arith, ⊎_elim, ◌⊎◌, inl, inr}
 use Rattle.std.proofs.lemmas.Bool.{eqb-true, ne_eqb, cond-true, cond-false}
 use Rattle.std.proofs.lemmas.Bool.Decides.{nat_tests}
-use Rattle.toml_text.specs.Bytes.{is_ws, is_comment, is_bare}
+use Rattle.toml_text.specs.Bytes.{is_ws, is_comment}
 use Rattle.toml_text.specs.Forms.{Each, IsWs, IsNewline, IsComment}
 use Rattle.toml_text.specs.Runs.{run_len, begins, is_byte, newline_len, comment_len}
 use Rattle.toml_text.proofs.Found.{run_found, newline_found, comment_found}
-use Rattle.toml_tree.specs.IntegerRuns.{is_value_byte}
-use Rattle.toml_tree.specs.Tree.{Piece, Blank, Key, Assign, Value, Scalar, KeyVal, Expr, BlankLine, KeyValLine, Line}
-use Rattle.toml_tree.specs.Spells.{Part, piece, symbol, part_text, joined, EachIs, all_parts, comment_parts, blank_parts, key_parts, assign_parts, value_parts, keyval_parts, expr_parts, line_parts, lines_parts, IsBareKey, IsCommentOrNone, IsBlank, IsKey, IsAssign, IsValue, IsKeyVal, IsExpr, AreLines}
-use Rattle.toml_tree.specs.Reading.{Cursor, here, ahead, many, all_of, run_at, comment_at, blank_at, key_at, equals_at, assign_at, scalar_at, keyval_at, expr_at, line_step, lines_at}
+use Rattle.toml_scalar.specs.Names.{IsKeyPart}
+use Rattle.toml_scalar.specs.Scanning.{scan_at, key_part_len, is_key_start}
+use Rattle.toml_scalar.specs.Tokens.{Closes}
+use Rattle.toml_scalar.proofs.Scanned.{scan_complete, token_first}
+use Rattle.toml_scalar.proofs.Keys.{part_complete, part_first}
+use Rattle.toml_tree.specs.Tree.{Piece, Blank, Dotted, Key, Assign, Value, Scalar, KeyVal, Expr, BlankLine, KeyValLine, Line}
+use Rattle.toml_tree.specs.Spells.{Part, piece, symbol, part_text, joined, EachIs, all_parts, comment_parts, blank_parts, dotted_parts, key_parts, assign_parts, value_parts, keyval_parts, expr_parts, line_parts, lines_parts, IsCommentOrNone, IsBlank, IsDotted, IsKey, IsAssign, IsValue, IsKeyVal, IsExpr, AreLines}
+use Rattle.toml_tree.specs.Reading.{Cursor, here, ahead, many, all_of, run_at, comment_at, blank_at, part_at, dotted_step, dotted_at, key_at, equals_at, assign_at, scalar_at, keyval_at, expr_at, line_step, lines_at}
 use Rattle.toml_tree.specs.declared.step.Step.{Step}
 use Rattle.toml_tree.specs.declared.step.Step.TheVariants.{Next, Done}
-use Rattle.toml_tree.specs.declared.tree.ScalarKind.TheVariants.{Integer}
-use Rattle.toml_tree.proofs.Integers.{integer_complete, decimal_run, decimal_some}
 use Rattle.toml_tree.proofs.Spans.{Behind, Spans, spans_split, spans_joined, behind_ahead, behind_take}
 use Rattle.toml_tree.proofs.Sound.{all_parts_push, IsEndedLine}
 
@@ -126,28 +128,94 @@ module _ {A : Type 0} (P : A → Type 0) (f : A → List Part) (grows : (a : A) 
       omega (arith, as_long xs k.0 d h.1 k.2, grows a c k.0 h.0 k.1)
 
 -- values
-value_first : (v : Value) (c d : Cursor) → IsValue v → Spans (value_parts v) c d → begins is_value_byte c.rest ≡ true
-value_first (Scalar Integer p) c d h s = ap (begins is_value_byte) (rest_of (piece p) c d s) ∙ decimal_some p.text d.rest h.0
+value_first : (v : Value) (c d : Cursor) → IsValue v → Spans (value_parts v) c d → begins is_ws c.rest ≡ false
+value_first (Scalar k p) c d h s = ap (begins is_ws) (rest_of (piece p) c d s) ∙ token_first k p.text d.rest h
 
-value_complete : (v : Value) (c d : Cursor) → IsValue v → Spans (value_parts v) c d → begins is_value_byte d.rest ≡ false → scalar_at c ≡ Some (v, d)
+value_complete : (v : Value) (c d : Cursor) → IsValue v → Spans (value_parts v) c d → Closes d.rest → scalar_at c ≡ Some (v, d)
 unfolding scalar_at
-value_complete (Scalar Integer p) c d h s e = rw (run_complete is_value_byte p c d (decimal_run p.text h.0) s e) (cond-true _ _ _ (integer_complete p.text h))
+value_complete (Scalar k p) c d h s closes =
+    let found : scan_at c.rest ≡ Some (length p.text, k) = ap scan_at (rest_of (piece p) c d s) ∙ scan_complete k p.text d.rest h closes in
+    let q = piece_here p c d (length p.text) s refl in
+    rw found (λ i. Some (Scalar k (q.0 i), q.1 i))
 
 -- keys and pairs
-bare_each : (bs : List ℕ) → IsBareKey bs → Each is_bare bs
-bare_each [] h = absurd h
-bare_each (b ∷ bs) h = h
+part_complete_at : (p : Piece) (c d : Cursor) → IsKeyPart p.text → Spans (piece p ∷ []) c d → begins is_key_start d.rest ≡ false → part_at c ≡ Some (p, d)
+unfolding part_at
+part_complete_at p c d h s e =
+    let found : key_part_len c.rest ≡ Some (length p.text) = ap key_part_len (rest_of (piece p) c d s) ∙ part_complete p.text d.rest h e in
+    let q = piece_here p c d (length p.text) s refl in
+    rw found (λ i. Some (q.0 i, q.1 i))
 
-bare_first : (bs ys : List ℕ) → IsBareKey bs → begins is_bare (bs ++ ys) ≡ true
-bare_first [] ys h = absurd h
-bare_first (b ∷ bs) ys h = h.0
+part_first_at : (p : Piece) (c d : Cursor) → IsKeyPart p.text → Spans (piece p ∷ []) c d → begins is_key_start c.rest ≡ true
+part_first_at p c d h s = ap (begins is_key_start) (rest_of (piece p) c d s) ∙ part_first p.text d.rest h
 
-key_first : (k : Key) (c d : Cursor) → IsKey k → Spans (key_parts k) c d → begins is_bare c.rest ≡ true
-key_first k c d h s = ap (begins is_bare) (rest_of (piece k.first) c d s) ∙ bare_first k.first.text d.rest h
+start_not_ws : (x : ℕ) → is_key_start x ≡ true → is_ws x ≡ false
+start_not_ws x h = grind (arith, nat_tests)
 
-key_complete : (k : Key) (c d : Cursor) → IsKey k → Spans (key_parts k) c d → begins is_bare d.rest ≡ false → key_at c ≡ Some (k, d)
-unfolding key_at
-key_complete k c d h s e = rw (run_complete is_bare k.first c d (bare_each k.first.text h) s e) (cond-true _ _ _ (key_first k c d h s))
+ws_not_start : (x : ℕ) → is_ws x ≡ true → is_key_start x ≡ false
+ws_not_start x h = grind (arith, nat_tests)
+
+-- what stands in front of whitespace and a symbol
+before_symbol : (q : ℕ → Bool) (b : ℕ) (w : Piece) (ps : List Part) (c d : Cursor) → ((x : ℕ) → is_ws x ≡ true → q x ≡ false) → q b ≡ false → IsWs w.text → Spans (piece w ∷ symbol (b ∷ []) ∷ ps) c d → begins q c.rest ≡ false
+before_symbol q b w ps c d apart other h s =
+    let i = spans_split (piece w ∷ []) (symbol (b ∷ []) ∷ ps) c d s in
+    let j = spans_split (symbol (b ∷ []) ∷ []) ps i.0 d i.2 in
+    ap (begins q) (rest_of (piece w) c i.0 i.1) ∙ each_first is_ws q w.text i.0.rest h apart (ap (begins q) (symbol_begins b i.0 j.0 j.1).0 ∙ other)
+
+-- what stands in front of the parts of a key behind its first
+dotted_first : (q : ℕ → Bool) (ds : List Dotted) (c d : Cursor) → ((x : ℕ) → is_ws x ≡ true → q x ≡ false) → q 0x2E ≡ false → EachIs IsDotted ds → Spans (all_parts dotted_parts ds) c d → begins q d.rest ≡ false → begins q c.rest ≡ false
+dotted_first q [] c d apart dot h s e = subst (λ x. begins q x.rest ≡ false) (sym s) e
+dotted_first q (x ∷ xs) c d apart dot h s e =
+    let i = spans_split (dotted_parts x) (all_parts dotted_parts xs) c d s in
+    before_symbol q 0x2E x.before_dot (piece x.after_dot ∷ piece x.part ∷ []) c i.0 apart dot h.0.0 i.1
+
+-- behind the key comes no dot, with or without whitespace before it
+abbrev EndsKey : Cursor → Type 0
+EndsKey d = (begins is_key_start d.rest ≡ false) × (begins (is_byte 0x2E) (run_at is_ws d).1.rest ≡ false)
+
+dotted_next : (x : Dotted) (c d : Cursor) → IsDotted x → Spans (dotted_parts x) c d → begins is_key_start d.rest ≡ false → dotted_step c ≡ Some (Next x, d)
+unfolding dotted_step
+dotted_next x c d h s e =
+    let i = spans_split (piece x.before_dot ∷ []) (symbol (0x2E ∷ []) ∷ piece x.after_dot ∷ piece x.part ∷ []) c d s in
+    let j = spans_split (symbol (0x2E ∷ []) ∷ []) (piece x.after_dot ∷ piece x.part ∷ []) i.0 d i.2 in
+    let k = spans_split (piece x.after_dot ∷ []) (piece x.part ∷ []) j.0 d j.2 in
+    let at_dot = symbol_begins 0x2E i.0 j.0 j.1 in
+    let r1 = run_complete is_ws x.before_dot c i.0 h.0 i.1 (ap (begins is_ws) at_dot.0) in
+    let r2 = run_complete is_ws x.after_dot j.0 k.0 h.1 k.1 (begins_other is_key_start is_ws k.0.rest start_not_ws (part_first_at x.part k.0 d h.2 k.2)) in
+    let r3 = part_complete_at x.part k.0 d h.2 k.2 e in
+    rw r1 (cond-true _ _ _ (ap (begins (is_byte 0x2E)) at_dot.0) ∙ rw at_dot.1 (rw r2 (rw r3 refl)))
+
+dotted_done : (d : Cursor) → EndsKey d → dotted_step d ≡ Some (Done tt, d)
+unfolding dotted_step
+dotted_done d e = cond-false _ _ _ e.1
+
+dotted_grows : (x : Dotted) (c d : Cursor) → IsDotted x → Spans (dotted_parts x) c d → length d.rest < length c.rest
+dotted_grows x c d h s =
+    let i = spans_split (piece x.before_dot ∷ []) (symbol (0x2E ∷ []) ∷ piece x.after_dot ∷ piece x.part ∷ []) c d s in
+    let j = spans_split (symbol (0x2E ∷ []) ∷ []) (piece x.after_dot ∷ piece x.part ∷ []) i.0 d i.2 in
+    omega (arith, spans_length (piece x.before_dot ∷ []) c i.0 i.1, spans_length (symbol (0x2E ∷ []) ∷ []) i.0 j.0 j.1, spans_length (piece x.after_dot ∷ piece x.part ∷ []) j.0 d j.2)
+
+-- each part is followed by the next one's whitespace and dot, or by what ends the key
+dotted_many : (xs : List Dotted) (c d : Cursor) (fuel : ℕ) → EachIs IsDotted xs → Spans (all_parts dotted_parts xs) c d → EndsKey d → length xs < fuel → many dotted_step fuel c ≡ Some (xs, tt, d)
+dotted_many xs c d zero h s e l = absurd (omega arith)
+dotted_many [] c d (suc fuel) h s e l = rw (ap dotted_step s ∙ dotted_done d e) refl
+dotted_many (x ∷ xs) c d (suc fuel) h s e l =
+    let k = spans_split (dotted_parts x) (all_parts dotted_parts xs) c d s in
+    let behind = dotted_first is_key_start xs k.0 d ws_not_start refl h.1 k.2 e.0 in
+    rw (dotted_next x c k.0 h.0 k.1 behind, dotted_many xs k.0 d fuel h.1 k.2 e (omega arith)) refl
+
+key_complete : (k : Key) (c d : Cursor) → IsKey k → Spans (key_parts k) c d → EndsKey d → key_at c ≡ Some (k, d)
+unfolding key_at dotted_at
+key_complete k c d h s e =
+    let i = spans_split (piece k.first ∷ []) (all_parts dotted_parts k.rest) c d s in
+    let r1 = part_complete_at k.first c i.0 h.0 i.1 (dotted_first is_key_start k.rest i.0 d ws_not_start refl h.1 i.2 e.0) in
+    let r2 = dotted_many k.rest i.0 d (length i.0.rest + 1) h.1 i.2 e (omega (arith, as_long IsDotted dotted_parts dotted_grows k.rest i.0 d h.1 i.2)) in
+    rw r1 (rw r2 refl)
+
+key_first : (k : Key) (c d : Cursor) → IsKey k → Spans (key_parts k) c d → begins is_key_start c.rest ≡ true
+key_first k c d h s =
+    let i = spans_split (piece k.first ∷ []) (all_parts dotted_parts k.rest) c d s in
+    part_first_at k.first c i.0 h.0 i.1
 
 equals_complete : (b a : Piece) (c d : Cursor) → IsWs b.text → IsWs a.text → Spans (piece b ∷ symbol (0x3D ∷ []) ∷ piece a ∷ []) c d → begins is_ws d.rest ≡ false → equals_at c ≡ Some ((b, a), d)
 unfolding equals_at
@@ -159,38 +227,35 @@ equals_complete b a c d hb ha s e =
     let r2 = run_complete is_ws a j.0 d ha j.2 e in
     rw r1 (cond-true _ _ _ (ap (begins (is_byte 0x3D)) at_symbol.0) ∙ rw at_symbol.1 (rw r2 refl))
 
-equals_first : (q : ℕ → Bool) (b a : Piece) (c d : Cursor) → ((x : ℕ) → is_ws x ≡ true → q x ≡ false) → q 0x3D ≡ false → IsWs b.text → Spans (piece b ∷ symbol (0x3D ∷ []) ∷ piece a ∷ []) c d → begins q c.rest ≡ false
-equals_first q b a c d ws equals h s =
+-- whitespace and `=` end a key
+equals_ends : (b a : Piece) (c d : Cursor) → IsWs b.text → Spans (piece b ∷ symbol (0x3D ∷ []) ∷ piece a ∷ []) c d → EndsKey c
+equals_ends b a c d h s =
     let i = spans_split (piece b ∷ []) (symbol (0x3D ∷ []) ∷ piece a ∷ []) c d s in
     let j = spans_split (symbol (0x3D ∷ []) ∷ []) (piece a ∷ []) i.0 d i.2 in
-    ap (begins q) (rest_of (piece b) c i.0 i.1) ∙ each_first is_ws q b.text i.0.rest h ws (ap (begins q) (symbol_begins 0x3D i.0 j.0 j.1).0 ∙ equals)
-
-ws_not_bare : (x : ℕ) → is_ws x ≡ true → is_bare x ≡ false
-ws_not_bare x h = grind (arith, nat_tests)
-
-bare_not_ws : (x : ℕ) → is_bare x ≡ true → is_ws x ≡ false
-bare_not_ws x h = grind (arith, nat_tests)
-
-value_not_ws : (x : ℕ) → is_value_byte x ≡ true → is_ws x ≡ false
-value_not_ws x h = grind (arith, nat_tests)
+    let at_equals = symbol_begins 0x3D i.0 j.0 j.1 in
+    let r = run_complete is_ws b c i.0 h i.1 (ap (begins is_ws) at_equals.0) in
+    (
+      before_symbol is_key_start 0x3D b (piece a ∷ []) c d ws_not_start refl h s,
+      ap (λ x. begins (is_byte 0x2E) x.1.rest) r ∙ ap (begins (is_byte 0x2E)) at_equals.0,
+    )
 
 assign_complete : (a : Assign) (c d : Cursor) → IsAssign a → Spans (assign_parts a) c d → begins is_ws d.rest ≡ false → assign_at c ≡ Some (a, d)
 unfolding assign_at
 assign_complete a c d h s e =
     let i = spans_split (key_parts a.key) (piece a.before_equals ∷ symbol (0x3D ∷ []) ∷ piece a.after_equals ∷ []) c d s in
-    let r1 = key_complete a.key c i.0 h.0 i.1 (equals_first is_bare a.before_equals a.after_equals i.0 d ws_not_bare refl h.1 i.2) in
+    let r1 = key_complete a.key c i.0 h.0 i.1 (equals_ends a.before_equals a.after_equals i.0 d h.1 i.2) in
     let r2 = equals_complete a.before_equals a.after_equals i.0 d h.1 h.2 i.2 e in
     rw r1 (rw r2 refl)
 
-keyval_complete : (k : KeyVal) (c d : Cursor) → IsKeyVal k → Spans (keyval_parts k) c d → begins is_value_byte d.rest ≡ false → keyval_at c ≡ Some (k, d)
+keyval_complete : (k : KeyVal) (c d : Cursor) → IsKeyVal k → Spans (keyval_parts k) c d → Closes d.rest → keyval_at c ≡ Some (k, d)
 unfolding keyval_at
 keyval_complete k c d h s e =
     let i = spans_split (assign_parts k.assign) (value_parts k.value) c d s in
-    let r1 = assign_complete k.assign c i.0 h.0 i.1 (begins_other is_value_byte is_ws i.0.rest value_not_ws (value_first k.value i.0 d h.1 i.2)) in
+    let r1 = assign_complete k.assign c i.0 h.0 i.1 (value_first k.value i.0 d h.1 i.2) in
     let r2 = value_complete k.value i.0 d h.1 i.2 e in
     rw r1 (rw r2 refl)
 
-keyval_first : (k : KeyVal) (c d : Cursor) → IsKeyVal k → Spans (keyval_parts k) c d → begins is_bare c.rest ≡ true
+keyval_first : (k : KeyVal) (c d : Cursor) → IsKeyVal k → Spans (keyval_parts k) c d → begins is_key_start c.rest ≡ true
 keyval_first k c d h s =
     let i = spans_split (assign_parts k.assign) (value_parts k.value) c d s in
     let j = spans_split (key_parts k.assign.key) (piece k.assign.before_equals ∷ symbol (0x3D ∷ []) ∷ piece k.assign.after_equals ∷ []) c i.0 i.1 in
@@ -199,11 +264,11 @@ keyval_first k c d h s =
 -- lines
 -- what may follow a line: a newline, or nothing
 abbrev StopsLine : List ℕ → Type 0
-StopsLine bs = (bs ≡ []) ⊎ (begins is_newline_byte bs ≡ true)
+StopsLine bs = (bs ≡ []) ⊎ ((begins is_newline_byte bs ≡ true) × Closes bs)
 
 line_stop : (q : ℕ → Bool) (bs : List ℕ) → ((b : ℕ) → is_newline_byte b ≡ true → q b ≡ false) → StopsLine bs → begins q bs ≡ false
 line_stop q bs h (inl e) = ap (begins q) e
-line_stop q bs h (inr e) = begins_other is_newline_byte q bs h e
+line_stop q bs h (inr e) = begins_other is_newline_byte q bs h e.0
 
 line_stops_comment : (o : Option Piece) (bs : List ℕ) → StopsLine bs → StopsComment o bs
 line_stops_comment None bs e = line_stop (is_byte 0x23) bs (λ b h. grind (arith, nat_tests)) e
@@ -212,38 +277,56 @@ line_stops_comment (Some p) bs e = line_stop is_comment bs (λ b h. grind (arith
 newline_not_ws : (x : ℕ) → is_newline_byte x ≡ true → is_ws x ≡ false
 newline_not_ws x h = grind (arith, nat_tests)
 
-newline_not_bare : (x : ℕ) → is_newline_byte x ≡ true → is_bare x ≡ false
-newline_not_bare x h = grind (arith, nat_tests)
+newline_not_start : (x : ℕ) → is_newline_byte x ≡ true → is_key_start x ≡ false
+newline_not_start x h = grind (arith, nat_tests)
 
-newline_not_value : (x : ℕ) → is_newline_byte x ≡ true → is_value_byte x ≡ false
-newline_not_value x h = grind (arith, nat_tests)
+-- whitespace before what closes
+ws_closes : (ws rest : List ℕ) → IsWs ws → Closes rest → Closes (ws ++ rest)
+ws_closes [] rest h closes = closes
+ws_closes (b ∷ ws) rest h closes = inl (h.0, ws_closes ws rest h.1 closes)
 
-ws_not_value : (x : ℕ) → is_ws x ≡ true → is_value_byte x ≡ false
-ws_not_value x h = grind (arith, nat_tests)
+-- a comment or none before the end of a line closes
+comment_closes : (o : Option Piece) (c d : Cursor) → IsCommentOrNone o → Spans (comment_parts o) c d → StopsLine d.rest → Closes c.rest
+comment_closes None c d h s e = subst (λ x. Closes x.rest) (sym s) (⊎_elim (λ (none : d.rest ≡ []). subst Closes (sym none) tt) (λ (k : (begins is_newline_byte d.rest ≡ true) × Closes d.rest). k.1) e)
+comment_closes (Some p) c d h s e = subst Closes (sym (rest_of (piece p) c d s)) (closes p.text h)
+  where
+    closes : (bs : List ℕ) → IsComment bs → Closes (bs ++ d.rest)
+    closes [] h = absurd h
+    closes (b ∷ bs) h = inr (inr (inr (inl h.0)))
+
+blank_closes : (b : Blank) (c d : Cursor) → IsBlank b → Spans (blank_parts b) c d → StopsLine d.rest → Closes c.rest
+blank_closes b c d h s e =
+    let k = spans_split (piece b.ws ∷ []) (comment_parts b.comment) c d s in
+    subst Closes (sym (rest_of (piece b.ws) c k.0 k.1)) (ws_closes b.ws.text k.0.rest h.0 (comment_closes b.comment k.0 d h.1 k.2 e))
 
 expr_complete : (x : Expr) (c d : Cursor) → IsExpr x → Spans (expr_parts x) c d → StopsLine d.rest → expr_at c ≡ Some (x, d)
 unfolding expr_at
 expr_complete (BlankLine b) c d h s e =
     let i = spans_split (piece b.ws ∷ []) (comment_parts b.comment) c d s in
     let r = run_complete is_ws b.ws c i.0 h.0 i.1 (comment_first is_ws b.comment i.0 d refl h.1 i.2 (line_stop is_ws d.rest newline_not_ws e)) in
-    let no_key = comment_first is_bare b.comment i.0 d refl h.1 i.2 (line_stop is_bare d.rest newline_not_bare e) in
+    let no_key = comment_first is_key_start b.comment i.0 d refl h.1 i.2 (line_stop is_key_start d.rest newline_not_start e) in
     rw r (cond-false _ _ _ no_key ∙ rw (comment_complete b.comment i.0 d h.1 i.2 (line_stops_comment b.comment d.rest e)) refl)
 expr_complete (KeyValLine ws k b) c d h s e =
     let i = spans_split (piece ws ∷ []) (keyval_parts k ++ blank_parts b) c d s in
     let j = spans_split (keyval_parts k) (blank_parts b) i.0 d i.2 in
-    let at_key : begins is_bare i.0.rest ≡ true = keyval_first k i.0 j.0 h.1 j.1 in
-    let r1 = run_complete is_ws ws c i.0 h.0 i.1 (begins_other is_bare is_ws i.0.rest bare_not_ws at_key) in
-    let stop : begins is_value_byte j.0.rest ≡ false = blank_first is_value_byte b j.0 d ws_not_value refl h.2 j.2 (line_stop is_value_byte d.rest newline_not_value e) in
-    let r2 = keyval_complete k i.0 j.0 h.1 j.1 stop in
+    let at_key : begins is_key_start i.0.rest ≡ true = keyval_first k i.0 j.0 h.1 j.1 in
+    let r1 = run_complete is_ws ws c i.0 h.0 i.1 (begins_other is_key_start is_ws i.0.rest start_not_ws at_key) in
+    let r2 = keyval_complete k i.0 j.0 h.1 j.1 (blank_closes b j.0 d h.2 j.2 e) in
     let r3 = blank_complete b j.0 d h.2 j.2 (line_stop is_ws d.rest newline_not_ws e) (line_stops_comment b.comment d.rest e) in
     rw r1 (cond-true _ _ _ at_key ∙ rw r2 (rw r3 refl))
+
+newline_closes : (t : Piece) (c d : Cursor) → IsNewline t.text → Spans (piece t ∷ []) c d → Closes c.rest
+newline_closes t c d h s = ⊎_elim
+    (λ (e : t.text ≡ 0x0A ∷ []). subst Closes (sym (rest_of (piece t) c d s ∙ ap (λ l. l ++ d.rest) e)) (inr (inl refl)))
+    (λ (e : t.text ≡ 0x0D ∷ 0x0A ∷ []). subst Closes (sym (rest_of (piece t) c d s ∙ ap (λ l. l ++ d.rest) e)) (inr (inr (inl (refl, (d.rest, refl))))))
+    h
 
 line_next : (l : Line) (c d : Cursor) → IsEndedLine l → Spans (line_parts l) c d → line_step c ≡ Some (Next l, d)
 unfolding line_step
 line_next l c d h s =
     let i = spans_split (expr_parts l.expr) (piece l.newline ∷ []) c d s in
     let n = newline_front l.newline i.0 d h.1 i.2 in
-    let r = expr_complete l.expr c i.0 h.0 i.1 (inr n.2) in
+    let r = expr_complete l.expr c i.0 h.0 i.1 (inr (n.2, newline_closes l.newline i.0 d h.1 i.2)) in
     let q = piece_here l.newline i.0 d (newline_len i.0.rest) i.2 n.0 in
     rw r (cond-false _ _ _ (positive (newline_len i.0.rest) (omega (arith, n.0, n.1))) ∙ (λ t. Some (Next (record { expr = l.expr; newline = q.0 t }), q.1 t)))
 

@@ -6,33 +6,10 @@ use Rattle.std.proofs.lemmas.Bool.{and_parts, eqb-true}
 use Rattle.std.proofs.lemmas.Bool.Decides.{nat_tests}
 use Rattle.std.proofs.lemmas.Str.{IsCharBoundary-start, IsCharBoundary-from_rest, IsCharBoundary-past_char, IsUtf8-drop, IsUtf8-from_is_utf8}
 use Rattle.std.proofs.iter.AsciiBoundary.{after_IsAscii}
-use Rattle.toml_text.specs.Bytes.{is_bare}
-use Rattle.toml_text.specs.Forms.{Each}
 use Rattle.toml_text.specs.Limit.{IsText}
 use Rattle.toml_text.specs.Runs.{run_len, begins, is_byte}
-use Rattle.toml_text.proofs.Found.{run_piece}
-use Rattle.toml_tree.specs.IntegerRuns.{is_value_byte}
 use Rattle.toml_tree.specs.Spells.{mark_of}
 use Rattle.toml_tree.proofs.Sound.{begins_some}
-
-each_at : (p : ℕ → Bool) (bs : List ℕ) (i : ℕ) → Each p bs → i < length bs → p (get_or bs i 0) ≡ true
-each_at p [] i h l = absurd (omega arith)
-each_at p (b ∷ bs) zero h l = h.0
-each_at p (b ∷ bs) (suc i) h l = each_at p bs i h.1 (omega arith)
-
-run_last : (p : ℕ → Bool) → ((b : ℕ) → p b ≡ true → b < 128) → (bs : List ℕ) → 0 < run_len p bs → get_or bs (run_len p bs - 1) 0 < 128
-run_last p ascii bs some =
-    let n = run_len p bs in
-    let k = run_piece p bs in
-    let here : get_or (take n bs) (n - 1) 0 ≡ get_or bs (n - 1) 0 = get_or-take n bs (n - 1) 0 (omega arith) in
-    let inside : n - 1 < length (take n bs) = omega (arith, k.0, length-take n bs) in
-    ascii (get_or bs (n - 1) 0) (ap p (sym here) ∙ each_at p (take n bs) (n - 1) k.1 inside)
-
-bare_ascii : (b : ℕ) → is_bare b ≡ true → b < 128
-bare_ascii b h = grind (arith, nat_tests)
-
-value_ascii : (b : ℕ) → is_value_byte b ≡ true → b < 128
-value_ascii b h = grind (arith, nat_tests)
 
 encoded : (rest : List ℕ) → 0xEF ∷ 0xBB ∷ 0xBF ∷ rest ≡ encode_utf8 0xFEFF ++ rest
 unfolding encode_utf8
@@ -54,15 +31,6 @@ mark_cut (a ∷ b ∷ c ∷ bs) u = elim (a == 0xEF && b == 0xBB && c == 0xBF) a
 module _ (text : List ℕ) (at : ℕ) (is_text : IsText text) (bound : IsCharBoundary text at) where
   utf8 : IsUtf8 (drop at text)
   utf8 = IsUtf8-drop text at (IsUtf8-from_is_utf8 text is_text.utf8) bound
-
-  behind_run : (p : ℕ → Bool) → ((b : ℕ) → p b ≡ true → b < 128) → IsCharBoundary text (at + run_len p (drop at text))
-  behind_run p ascii = IsCharBoundary-from_rest text at _ bound.0 (after_IsAscii (drop at text) _ utf8 (run_piece p (drop at text)).0 (run_last p ascii (drop at text)))
-
-  pub behind_bare : IsCharBoundary text (at + run_len is_bare (drop at text))
-  behind_bare = behind_run is_bare bare_ascii
-
-  pub behind_value : IsCharBoundary text (at + run_len is_value_byte (drop at text))
-  behind_value = behind_run is_value_byte value_ascii
 
   pub behind_byte : (x : ℕ) → x < 128 → begins (is_byte x) (drop at text) ≡ true → IsCharBoundary text (at + 1)
   behind_byte x ascii here =

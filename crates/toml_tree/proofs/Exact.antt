@@ -5,9 +5,10 @@ use Rattle.std.proofs.lemmas.Option.{none-some, some_pair_parts, same_Some, opti
 use Rattle.toml_tree.specs.Tree.{Piece, Line}
 use Rattle.toml_tree.specs.Spells.{joined, lines_parts, AreLines, SpellLines, Spells, SpelledByNone, OneTree, mark_of}
 use Rattle.toml_tree.specs.Reading.{Cursor, here, ahead, lines_at, document_at}
-use Rattle.toml_tree.specs.Document.{Refuses, place_of, ReaderIsSound, ReaderIsComplete}
+use Rattle.toml_scalar.specs.Faults.{place_of}
+use Rattle.toml_tree.specs.Document.{Refuses, ReaderIsSound, ReaderIsComplete}
 use Rattle.toml_tree.specs.Reads.{Fails, end}
-use Rattle.toml_tree.specs.declared.fault.SyntaxFault.{SyntaxFault}
+use Rattle.toml_scalar.specs.declared.fault.SyntaxFault.{SyntaxFault}
 use Rattle.toml_tree.proofs.Spans.{Spans, spans_joined, spans_placed, spans_from}
 use Rattle.toml_tree.proofs.Sound.{lines_sound}
 use Rattle.toml_tree.proofs.Complete.{lines_complete}

@@ -1,5 +1,3 @@
-pub mod Numbers
-pub mod Integers
 pub mod Many
 pub mod Spans
 pub mod Sound
@@ -9,3 +7,4 @@ pub mod Cuts
 pub mod Pieces
 pub mod Formed
 pub mod Texts
+pub mod Taken

@@ -2,9 +2,9 @@
 use Rattle.std.proofs.Common.{◌≡◌, ℕ, zero, suc, ◌+◌, ◌<◌, ◌≤◌, List, [], ◌∷◌, ◌++◌, length, Option, Some, None, map, sym, refl, ap, ◌∙◌, subst, arith, append_assoc}
 use Rattle.std.specs.Prelude.{IfSome}
 use Rattle.toml_tree.specs.Reading.{Cursor, many, all_of, ◌>>=◌}
-use Rattle.toml_tree.specs.Document.{place_of}
+use Rattle.toml_scalar.specs.Faults.{place_of}
 use Rattle.toml_tree.specs.Reads.{end, Onward, Moves, Fails, step}
-use Rattle.toml_tree.specs.declared.fault.SyntaxFault.{SyntaxFault}
+use Rattle.toml_scalar.specs.declared.fault.SyntaxFault.{SyntaxFault}
 use Rattle.toml_tree.specs.declared.step.Step.{Step}
 use Rattle.toml_tree.specs.declared.step.Step.TheVariants.{Next, Done}
 

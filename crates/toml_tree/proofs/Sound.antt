@@ -1,19 +1,23 @@
 -- What the plain reader reads is in the forms, and stands where it was read.
-use Rattle.std.proofs.Common.{◌≡◌, ℕ, zero, suc, ◌+◌, ◌≤◌, Bool, true, false, cond, eqb, List, [], ◌∷◌, ◌++◌, length, take, drop, Option, Some, None, sym, refl, ap, ◌∙◌, subst, arith, add-one, append_assoc, ⊎_elim}
+use Rattle.std.proofs.Common.{◌≡◌, ℕ, zero, suc, ◌+◌, ◌<◌, ◌≤◌, Bool, true, false, cond, eqb, List, [], ◌∷◌, ◌++◌, length, take, drop, Option, Some, None, sym, refl, ap, ◌∙◌, subst, arith, add-one, append_assoc, ⊎_elim}
 use Rattle.std.specs.Prelude.{IfSome}
 use Rattle.std.proofs.lemmas.Bool.{false≢true, eqb-true, eqb-false}
-use Rattle.std.proofs.lemmas.List.{take-append-drop, length-take-le}
+use Rattle.std.proofs.lemmas.List.{append-nil, take-append-drop, length-take-le}
 use Rattle.toml_text.specs.Bytes.{is_ws, is_bare}
 use Rattle.toml_text.specs.Forms.{Each, IsWs, IsNewline, IsComment}
 use Rattle.toml_text.specs.Runs.{run_len, begins, is_byte, newline_len, comment_len}
 use Rattle.toml_text.proofs.Found.{run_piece, newlines_piece, comments_piece}
-use Rattle.toml_tree.specs.IntegerRuns.{is_value_byte, is_integer}
+use Rattle.toml_scalar.specs.Names.{IsKeyPart}
+use Rattle.toml_scalar.specs.Scanning.{scan_at, key_part_len, is_key_start}
+use Rattle.toml_scalar.specs.Tokens.{IsToken}
+use Rattle.toml_scalar.specs.declared.kind.ScalarKind.{ScalarKind}
+use Rattle.toml_scalar.proofs.ScanSound.{scan_sound}
+use Rattle.toml_scalar.proofs.Keys.{part_sound}
 use Rattle.toml_tree.specs.Tree.{Piece, Line}
-use Rattle.toml_tree.specs.Spells.{Part, piece, symbol, EachIs, all_parts, comment_parts, blank_parts, key_parts, assign_parts, value_parts, keyval_parts, expr_parts, lines_parts, IsBareKey, IsCommentOrNone, IsBlank, IsKey, IsAssign, IsValue, IsKeyVal, IsExpr, AreLines, line_parts}
-use Rattle.toml_tree.specs.Reading.{Cursor, ◌>>=◌, here, ahead, many, all_of, run_at, comment_at, blank_at, key_at, equals_at, assign_at, scalar_at, keyval_at, expr_at, line_step, lines_at}
+use Rattle.toml_tree.specs.Spells.{Part, piece, symbol, EachIs, all_parts, comment_parts, blank_parts, dotted_parts, key_parts, assign_parts, value_parts, keyval_parts, expr_parts, lines_parts, IsCommentOrNone, IsBlank, IsDotted, IsKey, IsAssign, IsValue, IsKeyVal, IsExpr, AreLines, line_parts}
+use Rattle.toml_tree.specs.Reading.{Cursor, ◌>>=◌, here, ahead, many, all_of, run_at, comment_at, blank_at, part_at, dotted_step, dotted_at, key_at, equals_at, assign_at, scalar_at, keyval_at, expr_at, line_step, lines_at}
 use Rattle.toml_tree.specs.declared.step.Step.{Step}
 use Rattle.toml_tree.specs.declared.step.Step.TheVariants.{Next, Done}
-use Rattle.toml_tree.proofs.Integers.{integer_sound}
 use Rattle.toml_tree.proofs.Spans.{Behind, Spans, spans_append}
 
 -- combinators
@@ -92,21 +96,53 @@ module _ {A B : Type 0} (P : A → Type 0) (f : A → List Part) (Q : B → Curs
       after again c (Next a) m h = sound_bind (many step fuel m) _ (ManyIs m) (ManyIs c) (again m) (λ r k. ((h.0, k.0), k.1, rw append_assoc (spans_append (f a) (all_parts f r.0 ++ g r.1) c m r.2 h.1 k.2)))
       after again c (Done b) m h = (tt, h.0, h.1)
 
+-- an option, by what it is
+if_some : {A : Type 0} (o : Option A) (R : A → Type 0) → ((a : A) → o ≡ Some a → R a) → IfSome o R
+if_some None R h = tt
+if_some (Some a) R h = h a refl
+
 -- values
 pub scalar_sound : (c : Cursor) → IfSome (scalar_at c) (λ r. IsValue r.0 × Spans (value_parts r.0) c r.1)
 unfolding scalar_at
-scalar_sound c = sound_cond (is_integer (run_at is_value_byte c).0.text) _ _ _ (λ e. (integer_sound _ e, (run_sound is_value_byte c).1)) (λ e. tt)
+scalar_sound c = sound_bind (scan_at c.rest) _ (λ r. (r.0 ≤ length c.rest) × IsToken r.1 (take r.0 c.rest)) _ (if_some (scan_at c.rest) _ (λ r h. scan_sound c.rest r.0 r.1 h)) (λ r h. (h.1, spans_here r.0 c h.0))
 
 -- keys and pairs
-bare_form : (bs : List ℕ) → begins is_bare bs ≡ true → Each is_bare (take (run_len is_bare bs) bs) → IsBareKey (take (run_len is_bare bs) bs)
-bare_form [] h k = absurd (false≢true h)
-bare_form (b ∷ bs) h k = rw (h, add-one) (h, (run_piece is_bare bs).1)
+part_sound_at : (c : Cursor) → IfSome (part_at c) (λ r. IsKeyPart r.0.text × Spans (piece r.0 ∷ []) c r.1)
+unfolding part_at
+part_sound_at c = sound_bind (key_part_len c.rest) _ (λ n. (n ≤ length c.rest) × (0 < n) × IsKeyPart (take n c.rest)) _ (if_some (key_part_len c.rest) _ (λ n h. part_sound c.rest n h)) (λ n h. (h.2, spans_here n c h.0))
+
+abbrev pub EndsKey : Unit {0} → Cursor → Type 0
+EndsKey u c = Unit {0}
+
+abbrev pub no_parts : Unit {0} → List Part
+no_parts u = []
+
+dotted_step_sound : (c : Cursor) → IfSome (dotted_step c) (StepIs IsDotted dotted_parts EndsKey no_parts c)
+unfolding dotted_step
+dotted_step_sound c =
+    let b = run_sound is_ws c in
+    let m = (run_at is_ws c).1 in
+    let a = run_sound is_ws (ahead 1 m) in
+    let n = (run_at is_ws (ahead 1 m)).1 in
+    sound_cond (begins (is_byte 0x2E) m.rest) _ _ _
+    (λ e. sound_bind (part_at n) _ _ _ (part_sound_at n) (λ p ps. (
+      (b.0, a.0, ps.0),
+      spans_append (piece (run_at is_ws c).0 ∷ []) (symbol (0x2E ∷ []) ∷ piece (run_at is_ws (ahead 1 m)).0 ∷ piece p.0 ∷ []) c m p.1 b.1
+          (spans_append (symbol (0x2E ∷ []) ∷ []) (piece (run_at is_ws (ahead 1 m)).0 ∷ piece p.0 ∷ []) m (ahead 1 m) p.1 (spans_symbol 0x2E m e)
+          (spans_append (piece (run_at is_ws (ahead 1 m)).0 ∷ []) (piece p.0 ∷ []) (ahead 1 m) n p.1 a.1 ps.1)),
+    )))
+    (λ _. (tt, refl))
+
+dotted_sound : (c : Cursor) → IfSome (dotted_at c) (λ r. EachIs IsDotted r.0 × Spans (all_parts dotted_parts r.0) c r.1)
+unfolding dotted_at
+dotted_sound c = sound_bind (all_of dotted_step c) _ _ _ (many_sound IsDotted dotted_parts EndsKey no_parts dotted_step dotted_step_sound (length c.rest + 1) c) (λ r k. (k.0, subst (λ ps. Spans ps c r.2) (append-nil (all_parts dotted_parts r.0)) k.2))
 
 key_sound : (c : Cursor) → IfSome (key_at c) (λ r. IsKey r.0 × Spans (key_parts r.0) c r.1)
-unfolding key_at run_at
-key_sound c =
-    let k = run_sound is_bare c in
-    sound_cond (begins is_bare c.rest) _ _ _ (λ e. (bare_form c.rest e k.0, k.1)) (λ e. tt)
+unfolding key_at
+key_sound c = sound_bind (part_at c) _ _ _ (part_sound_at c) (λ p ps. sound_bind (dotted_at p.1) _ _ _ (dotted_sound p.1) (λ r rs. (
+      (ps.0, rs.0),
+      spans_append (piece p.0 ∷ []) (all_parts dotted_parts r.0) c p.1 r.1 ps.1 rs.1,
+    )))
 
 equals_sound : (c : Cursor) → IfSome (equals_at c) (λ r. IsWs r.0.0.text × IsWs r.0.1.text × Spans (piece r.0.0 ∷ symbol (0x3D ∷ []) ∷ piece r.0.1 ∷ []) c r.1)
 unfolding equals_at
@@ -138,7 +174,7 @@ unfolding expr_at
 expr_sound c =
     let w = run_sound is_ws c in
     let m = (run_at is_ws c).1 in
-    sound_cond (begins is_bare m.rest) _ _ _
+    sound_cond (begins is_key_start m.rest) _ _ _
     (λ e. sound_bind (keyval_at m) _ _ _ (keyval_sound m) (λ k ks.
     let b = blank_sound k.1 in
     ((w.0, ks.0, b.0), spans_append (piece (run_at is_ws c).0 ∷ []) (keyval_parts k.0 ++ blank_parts (blank_at k.1).0) c m (blank_at k.1).1 w.1 (spans_append (keyval_parts k.0) (blank_parts (blank_at k.1).0) m k.1 (blank_at k.1).1 ks.1 b.1))))

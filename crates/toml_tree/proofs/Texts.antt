@@ -10,6 +10,10 @@ pub joined_append : (ps qs : List Part) → joined (ps ++ qs) ≡ joined ps ++ j
 joined_append [] qs = refl
 joined_append (p ∷ ps) qs = ap (λ l. part_text p ++ l) (joined_append ps qs) ∙ sym (append_assoc (part_text p) (joined ps) (joined qs))
 
+-- some parts were written, and then others
+pub written_both : (out : List ℕ) (ps qs : List Part) (mid new : List ℕ) → mid ≡ out ++ joined ps → new ≡ mid ++ joined qs → new ≡ out ++ joined (ps ++ qs)
+written_both out ps qs mid new first then_is = then_is ∙ ap (λ l. l ++ joined qs) first ∙ append_assoc out (joined ps) (joined qs) ∙ ap (λ l. out ++ l) (sym (joined_append ps qs))
+
 drop-nil : {X : Type 0} (i : ℕ) → ◌≡◌ {A = List X} (drop i []) []
 drop-nil zero = refl
 drop-nil (suc i) = refl

@@ -1,8 +1,8 @@
 -- The tree of a parsed document, and why a text is refused.
-use Rattle.std.specs.Prelude.{◌≡◌, ◌≤◌, ℕ, List, length, map, Option, Some, None, IfSome}
+use Rattle.std.specs.Prelude.{◌≡◌, ◌≤◌, ℕ, List, length, map, Some, IfSome}
 use Rattle.toml_tree.specs.declared.document.Doc.{Doc}
-use Rattle.toml_tree.specs.declared.fault.SyntaxFault.{SyntaxFault}
-use Rattle.toml_tree.specs.declared.fault.SyntaxFault.TheVariants as faults
+use Rattle.toml_scalar.specs.Faults.{place_of}
+use Rattle.toml_scalar.specs.declared.fault.SyntaxFault.{SyntaxFault}
 use Rattle.toml_tree.specs.Lines.{line}
 use Rattle.toml_tree.specs.Spells.{Spells, SpelledByNone}
 use Rattle.toml_tree.specs.Reading.{document_at}
@@ -11,14 +11,6 @@ use Rattle.toml_tree.specs.View.{piece}
 
 abbrev pub document : Doc → tree.Doc
 document d = record { mark = piece d.mark; lines = map line d.lines.items }
-
--- the place of a refusal; want of memory has none
-abbrev pub place_of : SyntaxFault → Option ℕ
-place_of (faults.BadCharacter at) = Some at
-place_of (faults.Expected at) = Some at
-place_of (faults.BadNumber at) = Some at
-place_of (faults.IntegerRange at) = Some at
-place_of faults.NoMemory = None
 
 -- a refusal says that no tree spells the text, and its place is in the text or at its end
 abbrev pub Refuses : List ℕ → SyntaxFault → Type 0

@@ -1,5 +1,3 @@
-pub mod Integers
-pub mod IntegerRuns
 pub mod Tree
 pub mod Spells
 pub mod Reading

@@ -1,11 +1,10 @@
 -- The plain reader: total functions on lists that compute the tree of a text, beside the relation of `Spells`.
 use Rattle.std.specs.Prelude.{ℕ, zero, suc, ◌+◌, Bool, List, [], ◌∷◌, ◌++◌, length, take, drop, Option, Some, None, option_and_then, if◌then◌else◌, ◌==◌}
-use Rattle.toml_text.specs.Bytes.{is_ws, is_bare}
+use Rattle.toml_text.specs.Bytes.{is_ws}
 use Rattle.toml_text.specs.Runs.{run_len, begins, is_byte, newline_len, comment_len}
-use Rattle.toml_tree.specs.IntegerRuns.{is_value_byte, is_integer}
+use Rattle.toml_scalar.specs.Scanning.{scan_at, key_part_len, is_key_start}
 use Rattle.toml_tree.specs.Spells.{mark_of}
-use Rattle.toml_tree.specs.Tree.{Piece, Blank, Key, Assign, Value, Scalar, KeyVal, Expr, BlankLine, KeyValLine, Line, Doc}
-use Rattle.toml_tree.specs.declared.tree.ScalarKind.TheVariants.{Integer}
+use Rattle.toml_tree.specs.Tree.{Piece, Blank, Dotted, Key, Assign, Value, Scalar, KeyVal, Expr, BlankLine, KeyValLine, Line, Doc}
 use Rattle.toml_tree.specs.declared.step.Step.{Step}
 use Rattle.toml_tree.specs.declared.step.Step.TheVariants.{Next, Done}
 
@@ -49,10 +48,24 @@ unfoldable pub blank_at : Cursor → Blank × Cursor
 blank_at c = let w = run_at is_ws c in let m = comment_at w.1 in (record { ws = w.0; comment = m.0 }, m.1)
 
 unfoldable pub scalar_at : Cursor → Option (Value × Cursor)
-scalar_at c = let r = run_at is_value_byte c in if is_integer r.0.text then Some (Scalar Integer r.0, r.1) else None
+scalar_at c = scan_at c.rest >>= λ r. Some (Scalar r.1 (here r.0 c), ahead r.0 c)
+
+unfoldable pub part_at : Cursor → Option (Piece × Cursor)
+part_at c = key_part_len c.rest >>= λ n. Some (here n c, ahead n c)
+
+-- a dot and the part behind it; where no dot comes, the whitespace is no part of the key
+unfoldable pub dotted_step : Cursor → Option (Step Dotted (Unit {0}) × Cursor)
+dotted_step c =
+    let b = run_at is_ws c in
+    if begins (is_byte 0x2E) b.1.rest
+    then (let a = run_at is_ws (ahead 1 b.1) in part_at a.1 >>= λ p. Some (Next (record { before_dot = b.0; after_dot = a.0; part = p.0 }), p.1))
+    else Some (Done tt, c)
+
+unfoldable pub dotted_at : Cursor → Option (List Dotted × Cursor)
+dotted_at c = all_of dotted_step c >>= λ r. Some (r.0, r.2)
 
 unfoldable pub key_at : Cursor → Option (Key × Cursor)
-key_at c = let k = run_at is_bare c in if begins is_bare c.rest then Some (record { first = k.0 }, k.1) else None
+key_at c = part_at c >>= λ p. dotted_at p.1 >>= λ r. Some (record { first = p.0; rest = r.0 }, r.1)
 
 -- `=` between whitespace
 unfoldable pub equals_at : Cursor → Option ((Piece × Piece) × Cursor)
@@ -75,7 +88,7 @@ keyval_at c =
 unfoldable pub expr_at : Cursor → Option (Expr × Cursor)
 expr_at c =
     let w = run_at is_ws c in
-    if begins is_bare w.1.rest
+    if begins is_key_start w.1.rest
     then (keyval_at w.1 >>= λ k. let b = blank_at k.1 in Some (KeyValLine w.0 k.0 b.0, b.1))
     else (let m = comment_at w.1 in Some (BlankLine (record { ws = w.0; comment = m.0 }), m.1))
 

@@ -1,12 +1,11 @@
 -- What a reader of the code answers, against the plain reader.
-use Rattle.std.specs.Prelude.{◌≡◌, ◌≤◌, ◌<◌, ◌⊎◌, ℕ, ◌+◌, length, drop, Option, Some, None, Result, Ok, Err, IfSome}
+use Rattle.std.specs.Prelude.{◌≡◌, ◌≤◌, ◌<◌, ℕ, ◌+◌, length, drop, Option, Some, None, Result, Ok, Err, IfSome}
 use Rattle.toml_text.specs.Source.{text_of}
-use Rattle.toml_tree.specs.declared.fault.SyntaxFault.{SyntaxFault}
-use Rattle.toml_tree.specs.declared.fault.SyntaxFault.TheVariants as faults
+use Rattle.toml_scalar.specs.Faults.{place_of}
+use Rattle.toml_scalar.specs.declared.fault.SyntaxFault.{SyntaxFault}
 use Rattle.toml_tree.specs.declared.reader.Reader.{Reader}
 use Rattle.toml_tree.specs.declared.step.Step.{Step}
 use Rattle.toml_tree.specs.declared.step.Step.TheVariants.{Next, Done}
-use Rattle.toml_tree.specs.Document.{place_of}
 use Rattle.toml_tree.specs.Reading.{Cursor}
 
 -- where a reader stands
@@ -30,10 +29,6 @@ Moves old new (Done b) = Unit {0}
 abbrev pub step : {A B X Y : Type 0} → (A → X) → (B → Y) → Step A B → Step X Y
 step f g (Next a) = Next (f a)
 step f g (Done b) = Done (g b)
-
--- a refusal of what stands at a place
-abbrev pub IsRefusal : ℕ → SyntaxFault → Type 0
-IsRefusal at e = (e ≡ faults.BadCharacter at) ⊎ (e ≡ faults.Expected at)
 
 -- a refusal says that there is nothing to read, and its place is no further than the end
 abbrev pub Fails : {Y : Type 0} → ℕ → SyntaxFault → Option Y → Type 0

@@ -1,11 +1,9 @@
 -- Which text a tree spells: its parts, joined in order, are the text; each piece is in its form and has its place.
 use Rattle.std.specs.Prelude.{◌≡◌, ℕ, ◌+◌, List, [], ◌∷◌, ◌++◌, length, drop, ◌&&◌, ◌==◌, if◌then◌else◌, Option, Some, None}
-use Rattle.toml_text.specs.Bytes.{is_bare}
-use Rattle.toml_text.specs.Forms.{Each, IsWs, IsNewline, IsComment}
-use Rattle.toml_tree.specs.declared.tree.ScalarKind.{ScalarKind}
-use Rattle.toml_tree.specs.declared.tree.ScalarKind.TheVariants.{Integer}
-use Rattle.toml_tree.specs.Integers.{IsInteger}
-use Rattle.toml_tree.specs.Tree.{Piece, Blank, Key, Assign, Value, Scalar, KeyVal, Expr, BlankLine, KeyValLine, Line, Doc}
+use Rattle.toml_text.specs.Forms.{IsWs, IsNewline, IsComment}
+use Rattle.toml_scalar.specs.Names.{IsKeyPart}
+use Rattle.toml_scalar.specs.Tokens.{IsToken}
+use Rattle.toml_tree.specs.Tree.{Piece, Blank, Dotted, Key, Assign, Value, Scalar, KeyVal, Expr, BlankLine, KeyValLine, Line, Doc}
 
 -- A tree is read off as its parts in text order: pieces, and the symbols between them.
 pub data Part : Type 0 where
@@ -46,12 +44,19 @@ comment_parts (Some p) = piece p ∷ []
 abbrev pub blank_parts : Blank → List Part
 blank_parts b = piece b.ws ∷ comment_parts b.comment
 
-abbrev pub key_parts : Key → List Part
-key_parts k = piece k.first ∷ []
+-- the symbol is `.`
+abbrev pub dotted_parts : Dotted → List Part
+dotted_parts d = piece d.before_dot ∷ symbol (0x2E ∷ []) ∷ piece d.after_dot ∷ piece d.part ∷ []
 
--- the symbol is `=`
+abbrev pub key_parts : Key → List Part
+key_parts k = piece k.first ∷ all_parts dotted_parts k.rest
+
+-- `=` between whitespace
+abbrev pub equals_parts : Piece → Piece → List Part
+equals_parts before after = piece before ∷ symbol (0x3D ∷ []) ∷ piece after ∷ []
+
 abbrev pub assign_parts : Assign → List Part
-assign_parts a = key_parts a.key ++ (piece a.before_equals ∷ symbol (0x3D ∷ []) ∷ piece a.after_equals ∷ [])
+assign_parts a = key_parts a.key ++ equals_parts a.before_equals a.after_equals
 
 abbrev pub value_parts : Value → List Part
 value_parts (Scalar kind p) = piece p ∷ []
@@ -80,24 +85,19 @@ IsCommentOrNone (Some p) = IsComment p.text
 abbrev pub IsBlank : Blank → Type 0
 IsBlank b = IsWs b.ws.text × IsCommentOrNone b.comment
 
--- TOML v1.0.0, Keys; `unquoted-key`: one or more of A-Z, a-z, 0-9, `-`, `_`
-abbrev pub IsBareKey : List ℕ → Type 0
-IsBareKey [] = ⊥
-IsBareKey (b ∷ bs) = Each is_bare (b ∷ bs)
+-- `dot-sep` and a `simple-key`
+abbrev pub IsDotted : Dotted → Type 0
+IsDotted d = IsWs d.before_dot.text × IsWs d.after_dot.text × IsKeyPart d.part.text
 
--- TOML v1.0.0, Keys; `key`, so far of one bare part
+-- TOML v1.0.0, Keys; `key`: parts joined by dots
 abbrev pub IsKey : Key → Type 0
-IsKey k = IsBareKey k.first.text
+IsKey k = IsKeyPart k.first.text × EachIs IsDotted k.rest
 
 -- TOML v1.0.0, Key/Value Pair; `key keyval-sep`
 abbrev pub IsAssign : Assign → Type 0
 IsAssign a = IsKey a.key × IsWs a.before_equals.text × IsWs a.after_equals.text
 
--- `val`: the tokens of a kind
-abbrev pub IsToken : ScalarKind → List ℕ → Type 0
-IsToken Integer bs = IsInteger bs
-
--- `val`, so far an integer
+-- `val`, so far a scalar
 abbrev pub IsValue : Value → Type 0
 IsValue (Scalar kind p) = IsToken kind p.text
 

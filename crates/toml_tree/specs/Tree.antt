@@ -1,6 +1,6 @@
 -- The tree of a text: its pieces, each with its bytes and the place of its first byte, without where it lies in memory.
 use Rattle.std.specs.Prelude.{ℕ, List, Option}
-use Rattle.toml_tree.specs.declared.tree.ScalarKind.{ScalarKind}
+use Rattle.toml_scalar.specs.declared.kind.ScalarKind.{ScalarKind}
 
 pub record Piece : Type 0 where
   pub start : ℕ
@@ -11,9 +11,16 @@ pub record Blank : Type 0 where
   pub ws : Piece
   pub comment : Option Piece
 
+-- `.` between whitespace, and the key part behind it
+pub record Dotted : Type 0 where
+  pub before_dot : Piece
+  pub after_dot : Piece
+  pub part : Piece
+
 -- a key by its parts
 pub record Key : Type 0 where
   pub first : Piece
+  pub rest : List Dotted
 
 -- a key, and `=` between whitespace
 pub record Assign : Type 0 where

@@ -1,9 +1,10 @@
 -- What the code's tree is as a tree of the definitions: all but where it lies in memory.
-use Rattle.std.specs.Prelude.{◌≡◌, ◌⊎◌, [], option_map}
+use Rattle.std.specs.Prelude.{◌≡◌, ◌⊎◌, [], map, option_map}
 use Rattle.toml_text.specs.Forms.{IsNewline}
 use Rattle.toml_tree.specs.Spells.{IsExpr}
 use Rattle.toml_tree.specs.declared.piece.Piece.{Piece}
 use Rattle.toml_tree.specs.declared.piece.Blank.{Blank}
+use Rattle.toml_tree.specs.declared.tree.Dotted.{Dotted}
 use Rattle.toml_tree.specs.declared.tree.Key.{Key}
 use Rattle.toml_tree.specs.declared.tree.Assign.{Assign}
 use Rattle.toml_tree.specs.declared.tree.Value.{Value}
@@ -19,8 +20,11 @@ piece p = record { start = p.start; text = p.text.now }
 abbrev pub blank : Blank → tree.Blank
 blank b = record { ws = piece b.ws; comment = option_map piece b.comment }
 
+abbrev pub dotted : Dotted → tree.Dotted
+dotted d = record { before_dot = piece d.before_dot; after_dot = piece d.after_dot; part = piece d.part }
+
 abbrev pub key : Key → tree.Key
-key k = record { first = piece k.first }
+key k = record { first = piece k.first; rest = map dotted k.rest.items }
 
 abbrev pub assign : Assign → tree.Assign
 assign a = record { key = key a.key; before_equals = piece a.before_equals; after_equals = piece a.after_equals }

@@ -1,12 +1,11 @@
 //! The lossless tree of a TOML text: each piece of it is a slice of the text.
 #![tactic(auto)]
 
-mod class;
 mod document;
-mod fault;
-mod integer;
+mod keys;
 pub mod laws;
 mod line;
+mod lines;
 mod parsing;
 mod piece;
 mod reader;
@@ -16,11 +15,11 @@ mod text;
 mod tree;
 
 pub use document::Doc;
-pub use fault::SyntaxFault;
 pub use line::Line;
 pub use parsing::parse;
 pub use piece::{Blank, Piece};
-pub use tree::{Assign, Expr, Key, KeyVal, ScalarKind, Value};
+pub use toml_scalar::{MomentKind, ScalarKind, SyntaxFault};
+pub use tree::{Assign, Dotted, Expr, Key, KeyVal, Value};
 
 #[cfg(test)]
 mod tests;

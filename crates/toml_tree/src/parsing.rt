@@ -7,10 +7,10 @@ ghost use Rattle.toml_tree.specs.Spells.{Spells, mark_of};
 ghost use Rattle.toml_tree.specs.View.{piece};
 
 use crate::document::Doc;
-use crate::fault::SyntaxFault;
 use crate::piece::Piece;
 use crate::reader::Reader;
 use std::alloc::Global;
+use toml_scalar::SyntaxFault;
 use toml_text::Source;
 
 /// The tree of the text: one exactly where some tree spells the text behind the optional mark U+FEFF.

@@ -1,13 +1,13 @@
 //! The text of a tree: its parts in order.
 ghost use Rattle.std.specs.Prelude.{◌≡◌, ◌++◌, OnOk, string_bytes};
 ghost use Rattle.toml_tree.specs.Lines.{line};
-ghost use Rattle.toml_tree.specs.Spells.{joined, blank_parts, assign_parts, value_parts, keyval_parts, expr_parts, line_parts};
-ghost use Rattle.toml_tree.specs.View.{blank, assign, value, keyval, expr};
+ghost use Rattle.toml_tree.specs.Spells.{joined, blank_parts, dotted_parts, key_parts, equals_parts, assign_parts, value_parts, keyval_parts, expr_parts, line_parts};
+ghost use Rattle.toml_tree.specs.View.{piece, blank, dotted, key, assign, value, keyval, expr};
 
 use crate::document::Doc;
 use crate::line::Line;
 use crate::piece::Blank;
-use crate::tree::{Assign, Expr, KeyVal, Value};
+use crate::tree::{Assign, Dotted, Expr, Key, KeyVal, Value};
 use std::alloc::{AllocError, Global};
 
 fn push_blank(out: &mut String, b: &Blank<'_>) -> Result<(), AllocError>
@@ -20,13 +20,40 @@ fn push_blank(out: &mut String, b: &Blank<'_>) -> Result<(), AllocError>
     Ok(())
 }
 
-fn push_assign(out: &mut String, a: &Assign<'_>) -> Result<(), AllocError>
-    ensures { OnOk result (string_bytes out.new ≡ string_bytes out.old ++ joined (assign_parts (assign a.now))) }
+fn push_dotted(out: &mut String, d: &Dotted<'_>) -> Result<(), AllocError>
+    ensures { OnOk result (string_bytes out.new ≡ string_bytes out.old ++ joined (dotted_parts (dotted d.now))) }
 {
-    out.push_str(a.key.first.text)?;
+    out.push_str(d.before_dot.text)?;
+    out.push_str(".")?;
+    out.push_str(d.after_dot.text)?;
+    out.push_str(d.part.text)?;
+    Ok(())
+}
+
+fn push_key(out: &mut String, k: &Key<'_>) -> Result<(), AllocError>
+    ensures { OnOk result (string_bytes out.new ≡ string_bytes out.old ++ joined (key_parts (key k.now))) }
+{
+    out.push_str(k.first.text)?;
+    for d in &k.rest {
+        push_dotted(out, d)?;
+    }
+    Ok(())
+}
+
+fn push_equals(out: &mut String, a: &Assign<'_>) -> Result<(), AllocError>
+    ensures { OnOk result (string_bytes out.new ≡ string_bytes out.old ++ joined (equals_parts (piece a.now.before_equals) (piece a.now.after_equals))) }
+{
     out.push_str(a.before_equals.text)?;
     out.push_str("=")?;
     out.push_str(a.after_equals.text)?;
+    Ok(())
+}
+
+fn push_assign(out: &mut String, a: &Assign<'_>) -> Result<(), AllocError>
+    ensures { OnOk result (string_bytes out.new ≡ string_bytes out.old ++ joined (assign_parts (assign a.now))) }
+{
+    push_key(out, &a.key)?;
+    push_equals(out, a)?;
     Ok(())
 }
 

@@ -1,15 +1,19 @@
 use crate::piece::{Blank, Piece};
+use toml_scalar::ScalarKind;
 
-/// The kind of a scalar's token.
-#[derive(Clone, Copy, Debug, PartialEq, Eq)]
-pub enum ScalarKind {
-    Integer,
+/// `.` between whitespace, and the key part behind it.
+#[derive(Clone, Copy)]
+pub struct Dotted<'t> {
+    pub before_dot: Piece<'t>,
+    pub after_dot: Piece<'t>,
+    pub part: Piece<'t>,
 }
 
 /// A key (TOML v1.0.0, Keys) by its parts.
 #[derive(Drop)]
 pub struct Key<'t> {
     pub first: Piece<'t>,
+    pub rest: Vec<Dotted<'t>>,
 }
 
 /// A key, and `=` between whitespace.

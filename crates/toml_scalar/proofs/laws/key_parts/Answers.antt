@@ -1,0 +1,8 @@
+use Rattle.toml_scalar.proofs.Keys.{part_sound, part_complete}
+use Rattle.toml_scalar.proofs.laws.key_parts.Goals as goal
+
+pub returns-clause-sound : goal.returns-clause-sound
+returns-clause-sound c = part_sound
+
+pub returns-clause-found : goal.returns-clause-found
+returns-clause-found c = part_complete

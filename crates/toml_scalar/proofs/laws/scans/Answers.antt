@@ -1,0 +1,16 @@
+use Rattle.toml_scalar.proofs.Scanned.{scan_complete}
+use Rattle.toml_scalar.proofs.ScanSound.{scan_sound, scan_longest}
+use Rattle.toml_scalar.proofs.OneKind.{one_kind}
+use Rattle.toml_scalar.proofs.laws.scans.Goals as goal
+
+pub returns-clause-sound : goal.returns-clause-sound
+returns-clause-sound c = scan_sound
+
+pub returns-clause-found : goal.returns-clause-found
+returns-clause-found c = scan_complete
+
+pub returns-clause-longest : goal.returns-clause-longest
+returns-clause-longest c token rest n found kind is = scan_longest found token rest n is kind
+
+pub returns-clause-one_kind : goal.returns-clause-one_kind
+returns-clause-one_kind c = one_kind

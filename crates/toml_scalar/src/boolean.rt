@@ -1,0 +1,40 @@
+//! Whether a run of bytes is a boolean, and its value.
+ghost use Rattle.std.specs.Prelude.{◌≡◌, SomeIff};
+ghost use Rattle.toml_scalar.specs.Booleans.{IsBool, is_bool, bool_value};
+
+/// `boolean = true / false`
+pub fn is_bool(run: &[u8]) -> bool
+    ensures { result ≡ is_bool run.now }
+{
+    matches!(run, b"true" | b"false")
+}
+
+/// The value of a boolean, and `None` for any other run.
+pub fn read_bool(run: &[u8]) -> Option<bool>
+    ensures { SomeIff result (IsBool run.now) (bool_value run.now) }
+{
+    match run {
+        b"true" => Some(true),
+        b"false" => Some(false),
+        _ => None,
+    }
+}
+
+#[cfg(test)]
+mod tests {
+    use super::*;
+
+    #[test]
+    fn booleans(rt: HostRuntime) {
+        for (run, value) in [
+            ("true", Some(true)),
+            ("false", Some(false)),
+            ("True", None),
+            ("truee", None),
+            ("", None),
+        ] {
+            assert!(rt; is_bool(run.as_bytes()) == value.is_some(), "{run}");
+            assert!(rt; read_bool(run.as_bytes()) == value, "{run}");
+        }
+    }
+}

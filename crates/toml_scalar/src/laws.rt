@@ -1,0 +1,71 @@
+//! Laws over the definitions: each function's contract is a few, and nothing is run.
+ghost use Rattle.toml_scalar.specs.MomentLaws.{MomentIsForm, FormIsMoment, OneMomentKind, MomentBegins, MomentIsRun, SpaceIsApart, DateText, TimeText, LocalText, OffsetText};
+ghost use Rattle.toml_scalar.specs.NumberLaws.{IntegerIsForm, FormIsInteger, FloatIsForm, FormIsFloat, BoolIsForm, FormIsBool};
+ghost use Rattle.toml_scalar.specs.ScanLaws.{ScanIsSound, ScanIsFound, ScanIsLongest, OneKind, PartIsSound, PartIsFound};
+ghost use Rattle.toml_scalar.specs.Spelling.{OneName, SpelledNames};
+ghost use Rattle.toml_scalar.specs.ValueLaws.{ScalarIsFound, ScalarIsMeant, OneScalarValue, NameIsFound, NameIsMeant};
+
+/// Which runs are integers, floats and booleans.
+pub fn numbers()
+    ensures integer { IntegerIsForm }
+    ensures integer_found { FormIsInteger }
+    ensures float { FloatIsForm }
+    ensures float_found { FormIsFloat }
+    ensures boolean { BoolIsForm }
+    ensures boolean_found { FormIsBool }
+{}
+
+/// Which runs are dates and times, and of which kind.
+pub fn moment_kinds()
+    ensures form { MomentIsForm }
+    ensures found { FormIsMoment }
+    ensures one { OneMomentKind }
+{}
+
+/// What dates and times begin with, and where a space stands in one.
+pub fn moment_runs()
+    ensures first { MomentBegins }
+    ensures run { MomentIsRun }
+    ensures apart { SpaceIsApart }
+{}
+
+/// What the datum of a date or a time has.
+pub fn moment_texts()
+    ensures date { DateText }
+    ensures time { TimeText }
+    ensures local { LocalText }
+    ensures offset { OffsetText }
+{}
+
+/// Where scalars end: a token that something follows which closes is the longest there, and of one kind.
+pub fn scans()
+    ensures sound { ScanIsSound }
+    ensures found { ScanIsFound }
+    ensures longest { ScanIsLongest }
+    ensures one_kind { OneKind }
+{}
+
+/// Where key parts end.
+pub fn key_parts()
+    ensures sound { PartIsSound }
+    ensures found { PartIsFound }
+{}
+
+/// What tokens mean.
+pub fn values()
+    ensures found { ScalarIsFound }
+    ensures meant { ScalarIsMeant }
+    ensures one { OneScalarValue }
+{}
+
+/// A key part has one name.
+pub fn names()
+    ensures found { NameIsFound }
+    ensures meant { NameIsMeant }
+    ensures one { OneName }
+{}
+
+/// The spelling of a name names it.
+pub fn spelled_names()
+    ensures { SpelledNames }
+{}

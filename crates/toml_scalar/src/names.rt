@@ -1,0 +1,77 @@
+//! The names of key parts.
+ghost use Rattle.std.specs.Prelude.{◌≡◌, option_map, IfOk, string_bytes};
+ghost use Rattle.toml_text.specs.Source.{text_of, IsHeld};
+ghost use Rattle.toml_scalar.specs.Faults.{key_fault};
+ghost use Rattle.toml_scalar.specs.Reads.{ReadsKey};
+ghost use Rattle.toml_scalar.specs.StringRuns.{string_value};
+ghost use Rattle.toml_scalar.specs.Values.{name_of, quoted_name};
+
+use crate::class::{bare_len, is_bare};
+use crate::fault::SyntaxFault;
+use crate::strings::{StringKind, kind_at, string_len, string_value};
+use std::alloc::{AllocError, Global};
+use toml_text::{Source, Span};
+
+/// The name of the key part that the span holds.
+///
+/// A text that is no key part is refused at the span's start.
+pub fn read_key(alloc: Global, source: Source<'_>, span: Span) -> Result<String, SyntaxFault>
+    requires { IsHeld (text_of source) span }
+    ensures { ReadsKey (text_of source.entry) span result }
+{
+    let part = source.slice(span);
+    match name_of(alloc, part)? {
+        Some(name) => Ok(name),
+        None => Err(key_fault(part.as_bytes(), span.start)),
+    }
+}
+
+/// The name of a text, if it is a key part: a bare key names itself, a one-line string its value.
+///
+/// `simple-key = quoted-key / unquoted-key`
+#[tactic(auto, unfolding(crate::specs::Values::name_of))]
+pub fn name_of(alloc: Global, part: &str) -> Result<Option<String>, AllocError>
+    ensures { IfOk result (λ name. option_map string_bytes name ≡ name_of part.now) }
+{
+    match part.as_bytes() {
+        [first, ..] if is_bare(*first) => {
+            if bare_len(part.as_bytes()) != part.len() {
+                return Ok(None);
+            }
+            Ok(Some(String::from_str(alloc, part)?))
+        }
+        _ => quoted_name(alloc, part),
+    }
+}
+
+/// `quoted-key = basic-string / literal-string`
+fn quoted_name(alloc: Global, part: &str) -> Result<Option<String>, AllocError>
+    ensures { IfOk result (λ name. option_map string_bytes name ≡ quoted_name part.now) }
+{
+    match kind_at(part.as_bytes()) {
+        Some(StringKind::Basic | StringKind::Literal) => whole_value(alloc, part),
+        _ => Ok(None),
+    }
+}
+
+/// The value of a text, if it is a string.
+#[tactic(auto, using(crate::proofs::Wholes::not_whole, crate::proofs::Wholes::no_string))]
+pub fn whole_value(alloc: Global, text: &str) -> Result<Option<String>, AllocError>
+    ensures { IfOk result (λ value. option_map string_bytes value ≡ string_value text.now) }
+{
+    match string_len(text.as_bytes()) {
+        Some(len) if len == text.len() => Ok(Some(string_value(alloc, text)?)),
+        _ => Ok(None),
+    }
+}
+
+/// The fault of a text that is no key part.
+#[tactic(auto, unfolding(crate::specs::Faults::key_fault))]
+fn key_fault(part: &[u8], at: usize) -> SyntaxFault
+    ensures { result ≡ key_fault part.now at }
+{
+    match part {
+        [b'"' | b'\'', ..] => SyntaxFault::BadString { at },
+        _ => SyntaxFault::of_byte(part, at),
+    }
+}

@@ -1,0 +1,119 @@
+//! The value of a scalar's token, and the name of a key part.
+ghost use Rattle.std.specs.Prelude.{◌≡◌, ◌==◌, option_map, Some, None};
+ghost use Rattle.std.specs.String.{string_bytes};
+ghost use Rattle.toml_text.specs.Source.{text_of, IsHeld};
+ghost use Rattle.toml_scalar.specs.Faults.{value_fault};
+ghost use Rattle.toml_scalar.specs.Values.{scalar_of, scalar_value, moment_number};
+ghost use Rattle.toml_scalar.specs.Reads.{ReadsScalar, Reads};
+ghost use Rattle.toml_scalar.specs.declared.kind.ScalarKind.TheVariants as kinds;
+
+use crate::boolean::read_bool;
+use crate::fault::SyntaxFault;
+use crate::float::{float_text, is_float};
+use crate::integer::{is_integer_form, read_integer};
+use crate::kind::{MomentKind, ScalarKind};
+use crate::moment::{moment_kind, moment_text};
+use crate::names::whole_value;
+use crate::scalar::{FloatText, Moment, Scalar};
+use std::alloc::{AllocError, Global};
+use toml_text::{Source, Span};
+
+/// The value of the scalar of a kind that the span holds.
+///
+/// A text that is no token of the kind is refused at the span's start.
+pub fn read_scalar(
+    alloc: Global,
+    source: Source<'_>,
+    span: Span,
+    kind: ScalarKind,
+) -> Result<Scalar, SyntaxFault>
+    requires { IsHeld (text_of source) span }
+    ensures { ReadsScalar (text_of source.entry) span kind result }
+{
+    let run = source.slice(span);
+    match read_kind(alloc, run, kind)? {
+        Some(scalar) => Ok(scalar),
+        None => Err(value_fault(kind, run.as_bytes(), span.start)),
+    }
+}
+
+/// The value of a text, if it is a token of the kind.
+fn read_kind(alloc: Global, run: &str, kind: ScalarKind) -> Result<Option<Scalar>, AllocError>
+    ensures { Reads (scalar_of kind run.now) result }
+{
+    match kind {
+        ScalarKind::Text => read_text(alloc, run),
+        ScalarKind::Integer => Ok(read_number(run.as_bytes())),
+        ScalarKind::Float => read_float(alloc, run),
+        ScalarKind::Bool => Ok(read_truth(run.as_bytes())),
+        ScalarKind::Moment(kind) => read_moment(alloc, run, kind),
+    }
+}
+
+#[tactic(auto, unfolding(crate::specs::Values::scalar_of))]
+fn read_text(alloc: Global, run: &str) -> Result<Option<Scalar>, AllocError>
+    ensures { Reads (scalar_of kinds.Text run.now) result }
+{
+    Ok(whole_value(alloc, run)?.map(Scalar::Text))
+}
+
+#[tactic(auto, using(crate::proofs::Integers::fits_sound, crate::proofs::Integers::fits_complete), unfolding(crate::specs::Values::scalar_of))]
+fn read_number(run: &[u8]) -> Option<Scalar>
+    ensures { option_map scalar_value result ≡ scalar_of kinds.Integer run.now }
+{
+    if !is_integer_form(run) {
+        return None;
+    }
+    Some(Scalar::Integer(read_integer(run)?))
+}
+
+#[tactic(auto, unfolding(crate::specs::Values::scalar_of))]
+fn read_float(alloc: Global, run: &str) -> Result<Option<Scalar>, AllocError>
+    ensures { Reads (scalar_of kinds.Float run.now) result }
+{
+    if !is_float(run.as_bytes()) {
+        return Ok(None);
+    }
+    let text = float_text(alloc, run)?;
+    Ok(Some(Scalar::Float(FloatText { text })))
+}
+
+#[tactic(auto, unfolding(crate::specs::Values::scalar_of))]
+fn read_truth(run: &[u8]) -> Option<Scalar>
+    ensures { option_map scalar_value result ≡ scalar_of kinds.Bool run.now }
+{
+    Some(Scalar::Bool(read_bool(run)?))
+}
+
+#[tactic(auto, unfolding(crate::specs::Values::scalar_of))]
+fn read_moment(alloc: Global, run: &str, kind: MomentKind) -> Result<Option<Scalar>, AllocError>
+    ensures { Reads (scalar_of (kinds.Moment kind) run.now) result }
+{
+    match moment_kind(run.as_bytes()) {
+        Some(found) if is_kind(found, kind) => {
+            let text = moment_text(alloc, run)?;
+            Ok(Some(Scalar::Moment(Moment { kind, text })))
+        }
+        _ => Ok(None),
+    }
+}
+
+/// Whether two kinds are one.
+fn is_kind(found: MomentKind, kind: MomentKind) -> bool
+    ensures { result ≡ (moment_number found == moment_number kind) }
+{
+    found == kind
+}
+
+/// The fault of a text that is no token of a kind.
+fn value_fault(kind: ScalarKind, run: &[u8], at: usize) -> SyntaxFault
+    ensures { result ≡ value_fault kind run.now at }
+{
+    match kind {
+        ScalarKind::Text => SyntaxFault::BadString { at },
+        ScalarKind::Integer if is_integer_form(run) => SyntaxFault::IntegerRange { at },
+        ScalarKind::Integer | ScalarKind::Float => SyntaxFault::BadNumber { at },
+        ScalarKind::Bool => SyntaxFault::Expected { at },
+        ScalarKind::Moment(_) => SyntaxFault::BadDate { at },
+    }
+}
