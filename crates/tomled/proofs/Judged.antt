@@ -7,15 +7,16 @@ use Rattle.toml_text.specs.Limit.{IsText, max_len}
 use Rattle.toml_text.specs.Source.{IsFaultOf}
 use Rattle.toml_text.specs.declared.fault.TextFault.{TextFault}
 use Rattle.toml_text.specs.declared.fault.TextFault.TheVariants.{NotUtf8, TooLong}
+use Rattle.toml_scalar.specs.declared.fault.SyntaxFault.{SyntaxFault}
+use Rattle.toml_scalar.specs.declared.fault.SyntaxFault.TheVariants as faults
 use Rattle.toml_tree.specs.Document as trees
 use Rattle.toml_tree.specs.Spells.{Spells, SpelledByNone}
 use Rattle.toml_tree.specs.Tree.{Doc}
-use Rattle.toml_tree.specs.declared.fault.SyntaxFault.{SyntaxFault}
 use Rattle.toml_tree.proofs.Exact.{one_tree}
-use Rattle.tomled.specs.Check.{IsTextRefusal, IsSyntaxRefusal}
+use Rattle.tomled.specs.Check.{IsTextRefusal, IsSyntaxRefusal, code_of}
 use Rattle.tomled.specs.Documents.{IsDocument}
-use Rattle.tomled.specs.Keys.{keys_of, RepeatsKey, IsFirstRepeat}
-use Rattle.tomled.specs.Refusals.{IsRefusalOf}
+use Rattle.tomled.specs.Keys.{keys_of, BreaksRule, IsFirstBreak}
+use Rattle.tomled.specs.Refusals.{IsRefusalOf, IsSyntaxCode}
 use Rattle.tomled.specs.declared.refusal.Refusal.{Refusal}
 
 abbrev pub IsRefused : List ℕ → Refusal → Type 0
@@ -31,16 +32,27 @@ no_text bytes TooLong r h k = (
   inr (inl (k.0, k.1, h.0, h.1)),
 )
 
+coded : (fault : SyntaxFault) → IfSome (code_of fault) IsSyntaxCode
+coded (faults.BadCharacter at) = (omega arith, omega arith)
+coded (faults.Expected at) = (omega arith, omega arith)
+coded (faults.BadString at) = (omega arith, omega arith)
+coded (faults.BadNumber at) = (omega arith, omega arith)
+coded (faults.IntegerRange at) = (omega arith, omega arith)
+coded (faults.BadDate at) = (omega arith, omega arith)
+coded (faults.TooDeep at) = (omega arith, omega arith)
+coded faults.NoMemory = tt
+
 pub no_tree : (bytes : List ℕ) (fault : SyntaxFault) (r : Refusal) → IsText bytes → trees.Refuses bytes fault → IsSyntaxRefusal fault r → IsRefused bytes r
 no_tree bytes fault r text h k =
     let R : ℕ → Type 0 = λ at. (at ≤ length bytes) × SpelledByNone bytes in
     let told : R r.place = subst (λ (o : Option ℕ). IfSome o R) k.1 h in
-    ((λ document. told.1 document.1 document.2), inr (inr (inl (k.0, told.0, text, told.1))))
+    let code : IsSyntaxCode r.code = subst (λ (o : Option ℕ). IfSome o IsSyntaxCode) k.0 (coded fault) in
+    ((λ document. told.1 document.1 document.2), inr (inr (inl (code, told.0, text, told.1))))
 
-pub no_rules : (bytes : List ℕ) (d : Doc) (line : ℕ) (r : Refusal) → IsText bytes → Spells d bytes → IsFirstRepeat (keys_of d) line → r.code ≡ 201 → r.place ≡ line + 1 → IsRefused bytes r
-no_rules bytes d line r text spelled repeat code place = (
+pub no_rules : (bytes : List ℕ) (d : Doc) (line : ℕ) (r : Refusal) → IsText bytes → Spells d bytes → IsFirstBreak (keys_of d) line → r.code ≡ 201 → r.place ≡ line + 1 → IsRefused bytes r
+no_rules bytes d line r text spelled broken code place = (
   (λ document.
       let same : d ≡ document.1 = one_tree d document.1 bytes spelled document.2 in
-      document.3 line (subst (λ (e : Doc). RepeatsKey (keys_of e) line) same repeat.repeats)),
-  inr (inr (inr (code, text, d, line, place, spelled, repeat))),
+      document.3 line (subst (λ (e : Doc). BreaksRule (keys_of e) line) same broken.breaks)),
+  inr (inr (inr (code, text, d, line, place, spelled, broken))),
 )

@@ -1,63 +1,66 @@
 -- Keys by their lines.
-use Rattle.std.proofs.Common.{◌≡◌, Bool, true, false, ℕ, zero, suc, ◌<◌, ◌≤◌, List, [], ◌∷◌, length, get_or, take, drop, map, Option, Some, None, option_map, Bor, refl, sym, ap, ◌∙◌, arith, length-take}
+use Rattle.std.proofs.Common.{◌≡◌, ℕ, zero, suc, ◌<◌, ◌≤◌, List, [], ◌∷◌, length, get_or, take, drop, map, Option, Some, None, Vec, String, refl, sym, ap, ◌∙◌, subst, arith, length-take}
 use Rattle.std.proofs.lemmas.Option.{none-some}
-use Rattle.tomled.specs.Keys.{key_at, texts, HasKey, RepeatsKey, AreDistinct}
+use Rattle.std.specs.declared.alloc.Global.{Global}
+use Rattle.tomled.specs.Keys.{Key, key_at, line_names, names, KeysClash, HasClash, BreaksRule, KeepRule}
 
-abbrev pub text : Option (Bor (List ℕ)) → Option (List ℕ)
-text = option_map (λ k. k.now)
+abbrev pub Line : Type 0
+Line = Option (Vec (String Global) Global)
 
-pub key_at-get : (keys : List (Option (Bor (List ℕ)))) (i : ℕ) (d : Option (Bor (List ℕ))) → i < length keys → key_at (texts keys) i ≡ text (get_or keys i d)
+key_at-get : (keys : List Line) (i : ℕ) (d : Line) → i < length keys → key_at (names keys) i ≡ line_names (get_or keys i d)
 key_at-get [] i d l = absurd (omega arith)
 key_at-get (k ∷ ks) zero d l = refl
 key_at-get (k ∷ ks) (suc i) d l = key_at-get ks i d (omega arith)
 
-key_at-past : (keys : List (Option (List ℕ))) (i : ℕ) → length keys ≤ i → key_at keys i ≡ None
-key_at-past [] i l = refl
-key_at-past (k ∷ ks) zero l = absurd (omega arith)
-key_at-past (k ∷ ks) (suc i) l = key_at-past ks i (omega arith)
+-- the key at a line that was read
+pub key_at-item : (keys : List Line) (i : ℕ) (item : Line) → i < length keys → item ≡ get_or keys i item → key_at (names keys) i ≡ line_names item
+key_at-item keys i item l e = key_at-get keys i item l ∙ ap line_names (sym e)
 
-pub length-texts : (keys : List (Option (Bor (List ℕ)))) → length (texts keys) ≡ length keys
-length-texts [] = refl
-length-texts (k ∷ ks) = ap suc (length-texts ks)
+pub length-names : (keys : List Line) → length (names keys) ≡ length keys
+length-names [] = refl
+length-names (k ∷ ks) = ap suc (length-names ks)
 
-key_at-take : (keys : List (Option (Bor (List ℕ)))) (i j : ℕ) → j < i → key_at (texts (take i keys)) j ≡ key_at (texts keys) j
+key_at-take : (keys : List Line) (i j : ℕ) → j < i → key_at (names (take i keys)) j ≡ key_at (names keys) j
 key_at-take keys zero j l = absurd (omega arith)
 key_at-take [] (suc i) j l = refl
 key_at-take (k ∷ ks) (suc i) zero l = refl
 key_at-take (k ∷ ks) (suc i) (suc j) l = key_at-take ks i j (omega arith)
 
--- a line below the length has a key that it was found to have
-pub key_within : (keys : List (Option (List ℕ))) (i : ℕ) (key : List ℕ) → key_at keys i ≡ Some key → i < length keys
+-- a line that has a key is below the length
+key_within : (keys : List (Option Key)) (i : ℕ) (key : Key) → key_at keys i ≡ Some key → i < length keys
 key_within [] i key e = absurd (none-some key e)
 key_within (k ∷ ks) zero key e = omega arith
 key_within (k ∷ ks) (suc i) key e = let below = key_within ks i key e in omega arith
 
-module _ (keys : List (Option (Bor (List ℕ)))) (i : ℕ) (key : List ℕ) (within : i ≤ length keys) (here : key_at (texts keys) i ≡ Some key) where
-  front_len : length (texts (take i keys)) ≡ i
-  front_len = length-texts (take i keys) ∙ (let e : length (take i keys) ≡ i = omega (arith, length-take i keys) in e)
+some-same : (a b : Key) → Some a ≡ Some b → a ≡ b
+some-same a b e = ap (λ o. elim o [ Some k ↦ k | None ↦ a ]) e
 
-  -- an earlier line has the key of line `i`
-  pub repeats : HasKey (texts (take i keys)) key → RepeatsKey (texts keys) i
-  repeats h =
-      let below : h.0 < i = omega (arith, h.1, front_len) in
-      (h.0, key, below, record { one = sym (key_at-take keys i h.0 below) ∙ h.2; other = here })
+module _ (keys : List Line) (i : ℕ) (key : Key) (within : i ≤ length keys) (here : key_at (names keys) i ≡ Some key) where
+  front_len : length (names (take i keys)) ≡ i
+  front_len = length-names (take i keys) ∙ (let e : length (take i keys) ≡ i = omega (arith, length-take i keys) in e)
 
-  -- no earlier line has it
-  pub repeats_not : ¬ HasKey (texts (take i keys)) key → ¬ RepeatsKey (texts keys) i
-  repeats_not none r =
-      let same : Some r.1 ≡ Some key = sym r.3.other ∙ here in
-      none (r.0, omega (arith, r.2, front_len), key_at-take keys i r.0 r.2 ∙ r.3.one ∙ same)
+  -- an earlier line's key clashes with that of line `i`
+  pub breaks : HasClash (names (take i keys)) key → BreaksRule (names keys) i
+  breaks h =
+      let below : h.0 < i = omega (arith, h.2, front_len) in
+      (h.0, below, record { one = h.1; other = key; at_one = sym (key_at-take keys i h.0 below) ∙ h.3; at_other = here; clash = h.4 })
 
--- a line with no key repeats none
-pub repeats_none : (keys : List (Option (List ℕ))) (i : ℕ) → key_at keys i ≡ None → ¬ RepeatsKey keys i
-repeats_none keys i none r = none-some r.1 (sym none ∙ r.3.other)
+  -- a break at line `i` is such a clash
+  pub broken : BreaksRule (names keys) i → HasClash (names (take i keys)) key
+  broken b = (
+    b.0,
+    b.2.one,
+    omega (arith, b.1, front_len),
+    key_at-take keys i b.0 b.1 ∙ b.2.at_one,
+    subst (λ (k : Key). KeysClash b.2.one k) (some-same b.2.other key (sym b.2.at_other ∙ here)) b.2.clash,
+  )
 
-pub distinct : (keys : List (Option (List ℕ))) (n : ℕ) → length keys ≤ n → ((j : ℕ) → j < n → ¬ RepeatsKey keys j) → AreDistinct keys
-distinct keys n all below j r = below j (omega (arith, key_within keys j r.1 r.3.other)) r
+-- a line with no key breaks nothing
+pub breaks_none : (keys : List (Option Key)) (i : ℕ) → key_at keys i ≡ None → ¬ BreaksRule keys i
+breaks_none keys i none b = none-some b.2.other (sym none ∙ b.2.at_other)
 
-pub when_true : (b : Bool) → (b ≡ false → ⊥) → b ≡ true
-when_true true h = refl
-when_true false h = absurd (h refl)
+pub kept : (keys : List (Option Key)) (n : ℕ) → length keys ≤ n → ((j : ℕ) → j < n → ¬ BreaksRule keys j) → KeepRule keys
+kept keys n all below j b = below j (omega (arith, key_within keys j b.2.other b.2.at_other)) b
 
 drop-nil : {X : Type 0} (i : ℕ) → ◌≡◌ {A = List X} (drop i []) []
 drop-nil zero = refl

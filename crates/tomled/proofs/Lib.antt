@@ -1,3 +1,4 @@
 pub mod Appended
+pub mod Beginnings
 pub mod KeyLists
 pub mod Judged

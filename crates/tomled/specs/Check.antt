@@ -1,11 +1,11 @@
 -- What `check` answers.
-use Rattle.std.specs.Prelude.{◌≡◌, ◌⊎◌, ℕ, List, [], codes, Option, Some, MatchOption}
+use Rattle.std.specs.Prelude.{◌≡◌, ◌⊎◌, ℕ, List, [], codes, Option, Some, None, MatchOption}
 use Rattle.toml_text.specs.Limit.{max_len}
 use Rattle.toml_text.specs.declared.fault.TextFault.{TextFault}
 use Rattle.toml_text.specs.declared.fault.TextFault.TheVariants.{NotUtf8, TooLong}
-use Rattle.toml_tree.specs.Document.{place_of}
-use Rattle.toml_tree.specs.declared.fault.SyntaxFault.{SyntaxFault}
-use Rattle.tomled.specs.Refusals.{IsSyntaxCode}
+use Rattle.toml_scalar.specs.Faults.{place_of}
+use Rattle.toml_scalar.specs.declared.fault.SyntaxFault.{SyntaxFault}
+use Rattle.toml_scalar.specs.declared.fault.SyntaxFault.TheVariants as faults
 use Rattle.tomled.specs.Documents.{IsDocument}
 use Rattle.tomled.specs.Refusals.{IsRefusalOf, refusal_line}
 use Rattle.tomled.specs.declared.outcome.Outcome.{Outcome}
@@ -42,6 +42,17 @@ abbrev pub IsTextRefusal : TextFault → Refusal → Type 0
 IsTextRefusal (NotUtf8 at) r = (r.code ≡ 101) × (r.place ≡ at)
 IsTextRefusal TooLong r = (r.code ≡ 102) × (r.place ≡ max_len)
 
+-- the code of a fault of the syntax; want of memory has none
+abbrev pub code_of : SyntaxFault → Option ℕ
+code_of (faults.BadCharacter at) = Some 103
+code_of (faults.Expected at) = Some 104
+code_of (faults.BadString at) = Some 105
+code_of (faults.BadNumber at) = Some 106
+code_of (faults.IntegerRange at) = Some 107
+code_of (faults.BadDate at) = Some 108
+code_of (faults.TooDeep at) = Some 109
+code_of faults.NoMemory = None
+
 -- the refusal that stands for a fault of the syntax
 abbrev pub IsSyntaxRefusal : SyntaxFault → Refusal → Type 0
-IsSyntaxRefusal fault r = IsSyntaxCode r.code × (place_of fault ≡ Some r.place)
+IsSyntaxRefusal fault r = (code_of fault ≡ Some r.code) × (place_of fault ≡ Some r.place)

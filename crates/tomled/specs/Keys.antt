@@ -1,45 +1,104 @@
--- Which lines of a document have one key. This is the whole table rule while keys are single bare parts.
-use Rattle.std.specs.Prelude.{◌≡◌, ◌<◌, ℕ, zero, suc, List, [], ◌∷◌, map, length, Option, Some, None, option_map}
-use Rattle.std.specs.Borrow.{Bor}
-use Rattle.toml_tree.specs.Tree.{Expr, BlankLine, KeyValLine, Doc}
+-- The names of a document's keys, what the keys make, and which lines may stand together. This is the whole
+-- table rule while there are no headers and no inline tables.
+use Rattle.std.specs.Prelude.{◌≡◌, ◌<◌, ℕ, zero, suc, List, [], ◌∷◌, ◌++◌, map, length, Option, Some, None, option_map, Vec, String, string_bytes}
+use Rattle.std.specs.declared.alloc.Global.{Global}
+use Rattle.toml_scalar.specs.Values.{name_of}
+use Rattle.toml_tree.specs.Tree.{Piece, Expr, BlankLine, KeyValLine, Doc}
+use Rattle.toml_tree.specs.Tree as tree
+
+-- a key, as its names, each as its bytes
+abbrev pub Key : Type 0
+Key = List (List ℕ)
+
+-- a name, or no bytes where there is none
+abbrev pub name_or_empty : Option (List ℕ) → List ℕ
+name_or_empty None = []
+name_or_empty (Some name) = name
+
+-- the name of a key part; each part of a tree's key has one
+abbrev pub part_name : Piece → List ℕ
+part_name p = name_or_empty (name_of p.text)
+
+-- the names of a key's parts
+abbrev pub key_names_of : tree.Key → Key
+key_names_of k = part_name k.first ∷ map (λ d. part_name d.part) k.rest
 
 -- the key of a line, if it has one
-abbrev pub key_of : Expr → Option (List ℕ)
+abbrev pub key_of : Expr → Option Key
 key_of (BlankLine b) = None
-key_of (KeyValLine ws pair tail) = Some pair.assign.key.first.text
+key_of (KeyValLine ws pair tail) = Some (key_names_of pair.assign.key)
 
 -- the key of each line
-abbrev pub keys_of : Doc → List (Option (List ℕ))
+abbrev pub keys_of : Doc → List (Option Key)
 keys_of d = map (λ l. key_of l.expr) d.lines
 
--- the key at a line, counted from 0
-abbrev pub key_at : List (Option (List ℕ)) → ℕ → Option (List ℕ)
+-- what a key makes at an address: a table, or the line's value
+pub data Role : Type 0 where
+  Table : Role
+  Value : Role
+
+-- a key makes a table at each proper front of it, from the root's empty one on, and the value at the whole
+abbrev pub Mentions : Role → Key → Key → Type 0
+Mentions Table key address = (name : List ℕ) × (rest : Key) × (key ≡ address ++ (name ∷ rest))
+Mentions Value key address = key ≡ address
+
+-- tables made by dotted keys may be named again, since each line adds to them; a value stands alone
+abbrev pub MayShare : Role → Role → Type 0
+MayShare Table Table = Unit {0}
+MayShare Table Value = ⊥
+MayShare Value other = ⊥
+
+-- two keys mention one address, and not both as a table
+pub record KeysClash (one other : Key) : Type 0 where
+  pub address : Key
+  pub one_role : Role
+  pub other_role : Role
+  pub one_mentions : Mentions one_role one address
+  pub other_mentions : Mentions other_role other address
+  pub apart : ¬ MayShare one_role other_role
+
+-- the key at a line, counted from 0, if it has one
+abbrev pub key_at : List (Option Key) → ℕ → Option Key
 key_at [] i = None
 key_at (k ∷ ks) zero = k
 key_at (k ∷ ks) (suc i) = key_at ks i
 
--- both lines have this key
-pub record HaveKey (keys : List (Option (List ℕ))) (i j : ℕ) (key : List ℕ) : Type 0 where
-  pub one : key_at keys i ≡ Some key
-  pub other : key_at keys j ≡ Some key
+-- the keys of two lines clash
+pub record Clash (keys : List (Option Key)) (i j : ℕ) : Type 0 where
+  pub one : Key
+  pub other : Key
+  pub at_one : key_at keys i ≡ Some one
+  pub at_other : key_at keys j ≡ Some other
+  pub clash : KeysClash one other
 
--- a line has the key of an earlier one
-abbrev pub RepeatsKey : List (Option (List ℕ)) → ℕ → Type 0
-RepeatsKey keys j = (i : ℕ) × (key : List ℕ) × (i < j) × HaveKey keys i j key
+-- a line's key clashes with that of an earlier one
+abbrev pub BreaksRule : List (Option Key) → ℕ → Type 0
+BreaksRule keys j = (i : ℕ) × (i < j) × Clash keys i j
 
--- TOML v1.0.0, Key/Value Pair: defining a key twice is invalid
-abbrev pub AreDistinct : List (Option (List ℕ)) → Type 0
-AreDistinct keys = (j : ℕ) → ¬ RepeatsKey keys j
+-- no two lines mention one address unless both as a table. So no key is a beginning of another, or the same
+abbrev pub KeepRule : List (Option Key) → Type 0
+KeepRule keys = (j : ℕ) → ¬ BreaksRule keys j
 
--- the first line that has the key of an earlier one
-pub record IsFirstRepeat (keys : List (Option (List ℕ))) (j : ℕ) : Type 0 where
-  pub repeats : RepeatsKey keys j
-  pub first : (earlier : ℕ) → earlier < j → ¬ RepeatsKey keys earlier
+-- the first line that breaks the rule with an earlier one
+pub record IsFirstBreak (keys : List (Option Key)) (j : ℕ) : Type 0 where
+  pub breaks : BreaksRule keys j
+  pub first : (earlier : ℕ) → earlier < j → ¬ BreaksRule keys earlier
 
--- some line has the key
-abbrev pub HasKey : List (Option (List ℕ)) → List ℕ → Type 0
-HasKey keys key = (i : ℕ) × (i < length keys) × (key_at keys i ≡ Some key)
+-- the second key begins with the first. Two keys clash exactly where one is a beginning of the other, which
+-- is what the code tests
+abbrev pub IsBeginning : Key → Key → Type 0
+IsBeginning a b = (rest : Key) × (b ≡ a ++ rest)
 
--- keys as the code keeps them: without where they lie in memory
-abbrev pub texts : List (Option (Bor (List ℕ))) → List (Option (List ℕ))
-texts = map (option_map (λ k. k.now))
+-- some line's key clashes with this one
+abbrev pub HasClash : List (Option Key) → Key → Type 0
+HasClash keys key = (i : ℕ) × (other : Key) × (i < length keys) × (key_at keys i ≡ Some other) × KeysClash other key
+
+-- keys as the code keeps them
+abbrev pub key_names : List (String Global) → Key
+key_names key = map string_bytes key
+
+abbrev pub line_names : Option (Vec (String Global) Global) → Option Key
+line_names = option_map (λ key. key_names key.items)
+
+abbrev pub names : List (Option (Vec (String Global) Global)) → List (Option Key)
+names = map line_names

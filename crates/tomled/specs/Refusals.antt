@@ -5,7 +5,7 @@ use Rattle.std.specs.Str.{IsUtf8, IsValidUpTo}
 use Rattle.toml_text.specs.Limit.{IsText, max_len}
 use Rattle.toml_tree.specs.Spells.{Spells, SpelledByNone}
 use Rattle.toml_tree.specs.Tree.{Doc}
-use Rattle.tomled.specs.Keys.{keys_of, IsFirstRepeat}
+use Rattle.tomled.specs.Keys.{keys_of, IsFirstBreak}
 use Rattle.tomled.specs.declared.refusal.Refusal.{Refusal}
 
 -- `refused CODE PLACE` and LF
@@ -20,16 +20,16 @@ IsNoUtf8 bytes r = (r.code ≡ 101) × (¬ IsUtf8 bytes) × IsValidUpTo bytes r.
 abbrev pub IsTooLong : List ℕ → Refusal → Type 0
 IsTooLong bytes r = (r.code ≡ 102) × (r.place ≡ max_len) × IsUtf8 bytes × (max_len < length bytes)
 
--- 103, 104, 106, 107: no tree spells the bytes; the place is one of theirs or their end
+-- 103 to 109: no tree spells the bytes; the place is one of theirs or their end
 abbrev pub IsSyntaxCode : ℕ → Type 0
-IsSyntaxCode code = (code ≡ 103) ⊎ ((code ≡ 104) ⊎ ((code ≡ 106) ⊎ (code ≡ 107)))
+IsSyntaxCode code = (103 ≤ code) × (code ≤ 109)
 
 abbrev pub IsNotSpelled : List ℕ → Refusal → Type 0
 IsNotSpelled bytes r = IsSyntaxCode r.code × (r.place ≤ length bytes) × IsText bytes × SpelledByNone bytes
 
--- 201: the first line that has the key of an earlier one; the place is its number, from 1
+-- 201: the first line that breaks the table rule with an earlier one; the place is its number, from 1
 abbrev pub IsRedefined : List ℕ → Refusal → Type 0
-IsRedefined bytes r = (r.code ≡ 201) × IsText bytes × (d : Doc) × (line : ℕ) × (r.place ≡ line + 1) × Spells d bytes × IsFirstRepeat (keys_of d) line
+IsRedefined bytes r = (r.code ≡ 201) × IsText bytes × (d : Doc) × (line : ℕ) × (r.place ≡ line + 1) × Spells d bytes × IsFirstBreak (keys_of d) line
 
 abbrev pub IsRefusalOf : List ℕ → Refusal → Type 0
 IsRefusalOf bytes r = IsNoUtf8 bytes r ⊎ (IsTooLong bytes r ⊎ (IsNotSpelled bytes r ⊎ IsRedefined bytes r))

@@ -2,7 +2,7 @@
 ghost use Rattle.std.specs.Prelude.{◌≡◌, ◌+◌, ◌<◌, IfOk, IfErr, MatchResult};
 ghost use Rattle.tomled.specs.Check.{Checks, Tells, Prints, Judges, IsSyntaxRefusal, IsTextRefusal};
 
-use crate::keys::{first_repeat, keys_of};
+use crate::keys::{first_break, keys_of};
 use crate::outcome::Outcome;
 use crate::refusal::Refusal;
 use std::alloc::{AllocError, Global};
@@ -32,7 +32,7 @@ fn refusal_of(alloc: Global, file: &[u8]) -> Result<Option<Refusal>, AllocError>
         Err(fault) => return Ok(Some(syntax_refusal(fault)?)),
     };
     let keys = keys_of(alloc, &doc)?;
-    match first_repeat(&keys) {
+    match first_break(&keys) {
         None => Ok(None),
         Some(line) => Ok(Some(Refusal {
             code: 201,
@@ -63,8 +63,11 @@ fn syntax_refusal(fault: SyntaxFault) -> Result<Refusal, AllocError>
     let (code, place) = match fault {
         SyntaxFault::BadCharacter { at } => (103, at),
         SyntaxFault::Expected { at } => (104, at),
+        SyntaxFault::BadString { at } => (105, at),
         SyntaxFault::BadNumber { at } => (106, at),
         SyntaxFault::IntegerRange { at } => (107, at),
+        SyntaxFault::BadDate { at } => (108, at),
+        SyntaxFault::TooDeep { at } => (109, at),
         SyntaxFault::NoMemory => return Err(AllocError),
     };
     Ok(Refusal { code, place })

@@ -1,73 +1,113 @@
-//! The interim table rule: no two lines have one key.
-ghost use Rattle.std.specs.Prelude.{◌≡◌, ℕ, ◌<◌, List, map, length, option_map, IsTrue, ◌↔◌, IfOk, MatchOption, IfSome, Some};
+//! The interim table rule: no line's key is a beginning of another's.
+//! A key makes a table of each of its proper fronts, and lines may share those, but not a value.
+ghost use Rattle.std.specs.Prelude.{◌≡◌, ℕ, ◌<◌, List, map, length, string_bytes, IsTrue, ◌↔◌, IfOk, MatchOption, IfSome, Some};
+ghost use Rattle.toml_scalar.specs.Values.{name_of};
 ghost use Rattle.toml_tree.specs.Document.{document};
 ghost use Rattle.toml_tree.specs.Lines.{line as line_of};
-ghost use Rattle.tomled.specs.Keys.{key_of, keys_of, texts, HasKey, RepeatsKey, AreDistinct, IsFirstRepeat};
+ghost use Rattle.toml_tree.specs.View.{key as tree_key};
+ghost use Rattle.tomled.specs.Keys.{Key as KeyNames, name_or_empty, key_names_of, key_of, keys_of, key_names, line_names, names, IsBeginning, KeysClash, HasClash, BreaksRule, KeepRule, IsFirstBreak};
 
 use std::alloc::{AllocError, Global};
-use toml_tree::{Doc, Expr, Line};
+use toml_scalar::name_of;
+use toml_tree::{Doc, Expr, Key, Line};
 
-/// The key of a line, if it has one.
-fn key_of<'t>(line: &Line<'t>) -> Option<&'t str>
-    ensures { option_map (λ k. k.now) result ≡ key_of (line_of line.now).expr }
+/// The name of a key part, and an empty one for a text that is none.
+fn part_name(alloc: Global, part: &str) -> Result<String, AllocError>
+    ensures { IfOk result (λ name. string_bytes name ≡ name_or_empty (name_of part.now)) }
 {
-    match line.expr() {
-        Expr::Blank(_) => None,
-        Expr::KeyVal { pair, .. } => Some(pair.assign.key.first.text),
+    match name_of(alloc, part)? {
+        Some(name) => Ok(name),
+        None => Ok(String::new(alloc)),
     }
 }
 
-/// The key of each line.
-pub fn keys_of<'t>(alloc: Global, doc: &Doc<'t>) -> Result<Vec<Option<&'t str>>, AllocError>
-    ensures { IfOk result (λ keys. texts keys.items ≡ keys_of (document doc.now)) }
+/// The names of a key's parts.
+fn names_of<'t>(alloc: Global, key: &Key<'t>) -> Result<Vec<String>, AllocError>
+    ensures { IfOk result (λ parts. key_names parts.items ≡ key_names_of (tree_key key.now)) }
+{
+    let mut parts = Vec::new(alloc);
+    parts.push(part_name(alloc, key.first.text)?)?;
+    for dotted in &key.rest {
+        parts.push(part_name(alloc, dotted.part.text)?)?;
+    }
+    Ok(parts)
+}
+
+/// The names of a line's key, if it has one.
+fn key_of<'t>(alloc: Global, line: &Line<'t>) -> Result<Option<Vec<String>>, AllocError>
+    ensures { IfOk result (λ key. line_names key ≡ key_of (line_of line.now).expr) }
+{
+    match line.expr() {
+        Expr::Blank(_) => Ok(None),
+        Expr::KeyVal { pair, .. } => Ok(Some(names_of(alloc, &pair.assign.key)?)),
+    }
+}
+
+/// The names of each line's key.
+pub fn keys_of<'t>(alloc: Global, doc: &Doc<'t>) -> Result<Vec<Option<Vec<String>>>, AllocError>
+    ensures { IfOk result (λ keys. names keys.items ≡ keys_of (document doc.now)) }
 {
     let mut keys = Vec::new(alloc);
     for line in doc.lines() {
-        keys.push(key_of(line))?;
+        keys.push(key_of(alloc, line)?)?;
     }
     Ok(keys)
 }
 
-/// Whether it is the key of a line that has one.
-fn is_key(line: Option<&str>, key: &str) -> bool
-    ensures { IsTrue result ↔ (option_map (λ k. k.now) line.entry ≡ Some key.now) }
+/// Whether the second key begins with the first.
+fn is_beginning(front: &[String], key: &[String]) -> bool
+    ensures { IsTrue result ↔ IsBeginning (key_names front.now) (key_names key.now) }
+{
+    key.starts_with(front)
+}
+
+/// Whether the keys mention one address, where not both make a table of it.
+fn clash(one: &[String], other: &[String]) -> bool
+    ensures { IsTrue result ↔ KeysClash (key_names one.now) (key_names other.now) }
+{
+    is_beginning(one, other) || is_beginning(other, one)
+}
+
+/// Whether the line has a key that clashes with this one.
+fn line_clashes(line: &Option<Vec<String>>, key: &[String]) -> bool
+    ensures { IsTrue result ↔ ((other : KeyNames) × (line_names line.now ≡ Some other) × KeysClash other (key_names key.now)) }
 {
     match line {
-        Some(other) => other == key,
+        Some(other) => clash(other, key),
         None => false,
     }
 }
 
-/// Whether one of the lines has the key.
-fn has_key(keys: &[Option<&str>], key: &str) -> bool
-    ensures { IsTrue result ↔ HasKey (texts keys.now) key.now }
+/// Whether one of the lines has a key that clashes with this one.
+fn has_clash(keys: &[Option<Vec<String>>], key: &[String]) -> bool
+    ensures { IsTrue result ↔ HasClash (names keys.now) (key_names key.now) }
 {
     for line in keys {
-        if is_key(*line, key) {
+        if line_clashes(line, key) {
             return true;
         }
     }
     false
 }
 
-/// Whether the line has the key of an earlier one.
-fn repeats(keys: &[Option<&str>], line: usize) -> bool
+/// Whether the line breaks the rule with an earlier one.
+fn breaks(keys: &[Option<Vec<String>>], line: usize) -> bool
     requires { line < length keys.now }
-    ensures { IsTrue result ↔ RepeatsKey (texts keys.now) line }
+    ensures { IsTrue result ↔ BreaksRule (names keys.now) line }
 {
-    match keys[line] {
-        Some(key) => has_key(&keys[..line], key),
+    match &keys[line] {
+        Some(key) => has_clash(&keys[..line], key),
         None => false,
     }
 }
 
-/// The first line, from 0, that has the key of an earlier one.
-pub fn first_repeat(keys: &[Option<&str>]) -> Option<usize>
-    ensures first { MatchOption result (AreDistinct (texts keys.now)) (IsFirstRepeat (texts keys.now)) }
+/// The first line, from 0, that breaks the rule with an earlier one.
+pub fn first_break(keys: &[Option<Vec<String>>]) -> Option<usize>
+    ensures first { MatchOption result (KeepRule (names keys.now)) (IsFirstBreak (names keys.now)) }
     ensures within { IfSome result (λ line. line < length keys.now) }
 {
     for line in 0..keys.len() {
-        if repeats(keys, line) {
+        if breaks(keys, line) {
             return Some(line);
         }
     }

@@ -2,14 +2,14 @@ use Rattle.std.proofs.Common.{◌++◌, map, sym, ap, ◌∙◌, arith}
 use Rattle.std.proofs.lemmas.List.{append-nil}
 use Rattle.toml_tree.specs.Lines.{line}
 use Rattle.toml_tree.specs.Tree as tree
-use Rattle.tomled.specs.Keys.{key_of, texts}
+use Rattle.tomled.specs.Keys.{key_of, names}
 use Rattle.tomled.proofs.KeyLists.{drop_all, map-map}
 use Rattle.tomled.proofs.keys.keys_of.Goals as goal
 
 pub returns : goal.returns
 returns c =
     let lines = c.lines-line-items.result.now in
-    let keys = texts c.loop-line.keys.items in
+    let keys = names c.loop-line.keys.items in
     sym (append-nil keys)
     ∙ ap (λ rest. keys ++ map (λ x. key_of (line x).expr) rest) (sym (drop_all lines c.loop-line.line-index (omega arith)))
     ∙ c.loop-line.invariant
