@@ -3,6 +3,9 @@
 
   bench/check.py --binary crates/tomled/out/tomled
 
+The last texts are pairs of one kind of value, `a<n> = VALUE`. Their last line is a mistake, so that the time is
+that of reading: the rule on keys, which compares them pair by pair for now, is not reached.
+
 For each text it prints the best of some runs: seconds, megabytes a second, the ratio to `wc -l` and to
 `cat`, and the peak memory as a multiple of the text. No test rests on these numbers.
 """
@@ -22,11 +25,11 @@ def filled(line):
 
 
 def numbered(front, behind):
-    """Lines with a name of their own, as many as a text may have."""
+    """Lines with a name of their own, as many as a text may have beside one more byte."""
     out, size, number = [], 0, 0
     while True:
         line = b'%s%d%s' % (front, number, behind)
-        if size + len(line) > LIMIT:
+        if size + len(line) >= LIMIT:
             return b''.join(out)
         out.append(line)
         size += len(line)
@@ -37,6 +40,10 @@ TEXTS = {
     'comment lines': lambda: filled(b'# a comment of a usual length, with a few words in it\n'),
     'spaces': lambda: b' ' * LIMIT,
     'empty lines': lambda: filled(b'\n'),
+    'strings': lambda: numbered(b'a', b' = "a string of a usual length, and \\t"\n') + b'?',
+    'integers': lambda: numbered(b'a', b' = 1_000_000\n') + b'?',
+    'floats': lambda: numbered(b'a', b' = -6.626e-34\n') + b'?',
+    'dates': lambda: numbered(b'a', b' = 1979-05-27T07:32:00.999-07:00\n') + b'?',
 }
 
 
@@ -44,7 +51,7 @@ def seconds(words):
     start = time.perf_counter()
     done = subprocess.run(words, stdout=subprocess.DEVNULL, stderr=subprocess.PIPE, check=False)
     took = time.perf_counter() - start
-    if done.returncode != 0:
+    if done.returncode != 0 and not done.stderr.startswith(b'refused 104 '):
         sys.exit('%s failed: %s' % (' '.join(words), done.stderr.decode()))
     return took
 

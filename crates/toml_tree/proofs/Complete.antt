@@ -233,8 +233,7 @@ equals_ends b a c d h s =
     let i = spans_split (piece b ∷ []) (symbol (0x3D ∷ []) ∷ piece a ∷ []) c d s in
     let j = spans_split (symbol (0x3D ∷ []) ∷ []) (piece a ∷ []) i.0 d i.2 in
     let at_equals = symbol_begins 0x3D i.0 j.0 j.1 in
-    let r = run_complete is_ws b c i.0 h i.1 (ap (begins is_ws) at_equals.0) in
-    (
+    let r = run_complete is_ws b c i.0 h i.1 (ap (begins is_ws) at_equals.0) in (
       before_symbol is_key_start 0x3D b (piece a ∷ []) c d ws_not_start refl h s,
       ap (λ x. begins (is_byte 0x2E) x.1.rest) r ∙ ap (begins (is_byte 0x2E)) at_equals.0,
     )

@@ -140,9 +140,9 @@ dotted_sound c = sound_bind (all_of dotted_step c) _ _ _ (many_sound IsDotted do
 key_sound : (c : Cursor) → IfSome (key_at c) (λ r. IsKey r.0 × Spans (key_parts r.0) c r.1)
 unfolding key_at
 key_sound c = sound_bind (part_at c) _ _ _ (part_sound_at c) (λ p ps. sound_bind (dotted_at p.1) _ _ _ (dotted_sound p.1) (λ r rs. (
-      (ps.0, rs.0),
-      spans_append (piece p.0 ∷ []) (all_parts dotted_parts r.0) c p.1 r.1 ps.1 rs.1,
-    )))
+  (ps.0, rs.0),
+  spans_append (piece p.0 ∷ []) (all_parts dotted_parts r.0) c p.1 r.1 ps.1 rs.1,
+)))
 
 equals_sound : (c : Cursor) → IfSome (equals_at c) (λ r. IsWs r.0.0.text × IsWs r.0.1.text × Spans (piece r.0.0 ∷ symbol (0x3D ∷ []) ∷ piece r.0.1 ∷ []) c r.1)
 unfolding equals_at
