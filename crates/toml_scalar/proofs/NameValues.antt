@@ -12,7 +12,7 @@ use Rattle.toml_scalar.specs.Names.{IsBareKey}
 use Rattle.toml_scalar.specs.Strings.{StringPiece, MeansString}
 use Rattle.toml_scalar.specs.StringRuns.{StringToken, string_at, kind_at, token_of, marks_len, string_value, is_multi_line, pieces_from, step_of, first_len}
 use Rattle.toml_scalar.specs.Values.{name_of, quoted_name, is_one_line, given}
-use Rattle.toml_scalar.specs.ValueLaws.{NameIsFound, NameIsMeant}
+use Rattle.toml_scalar.specs.ValueLaws.{NameIsFound, NameIsMeant, NameIsTotal}
 use Rattle.toml_scalar.specs.declared.strings.kind.StringKind.{StringKind}
 use Rattle.toml_scalar.specs.declared.strings.kind.StringKind.TheVariants.{Basic, MultiLineBasic, Literal, MultiLineLiteral}
 use Rattle.toml_scalar.proofs.Digits.{either}
@@ -74,3 +74,6 @@ name_found part name (inl bare) =
     cond-true _ _ _ run.0 ∙ given_true _ part (eq-eqb _ _ run.1) ∙ ap Some (sym bare.1)
 name_found part name (inr (inl m)) = cond-false _ _ _ (begins_basic part (string_begins Basic part (name, m))) ∙ quoted Basic part name m refl
 name_found part name (inr (inr m)) = cond-false _ _ _ (begins_literal part (string_begins Literal part (name, m))) ∙ quoted Literal part name m refl
+
+pub name_total : NameIsTotal
+name_total part is = (is.0, name_found part is.0 is.1)

@@ -1,6 +1,6 @@
 -- Laws: the plain functions of `Values` answer what the relations say, and no more.
 use Rattle.std.specs.Prelude.{◌≡◌, ℕ, List, Some}
-use Rattle.toml_scalar.specs.Names.{IsName}
+use Rattle.toml_scalar.specs.Names.{IsName, IsKeyPart}
 use Rattle.toml_scalar.specs.Values.{ScalarValue, Means, scalar_of, name_of}
 use Rattle.toml_scalar.specs.declared.kind.ScalarKind.{ScalarKind}
 
@@ -21,3 +21,7 @@ NameIsFound = (part name : List ℕ) → IsName part name → name_of part ≡ S
 
 abbrev pub NameIsMeant : Type 0
 NameIsMeant = (part name : List ℕ) → name_of part ≡ Some name → IsName part name
+
+-- a key part has a name that is computed
+abbrev pub NameIsTotal : Type 0
+NameIsTotal = (part : List ℕ) → IsKeyPart part → (name : List ℕ) × (name_of part ≡ Some name)

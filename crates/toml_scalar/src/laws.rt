@@ -3,7 +3,7 @@ ghost use Rattle.toml_scalar.specs.MomentLaws.{MomentIsForm, FormIsMoment, OneMo
 ghost use Rattle.toml_scalar.specs.NumberLaws.{IntegerIsForm, FormIsInteger, FloatIsForm, FormIsFloat, BoolIsForm, FormIsBool};
 ghost use Rattle.toml_scalar.specs.ScanLaws.{ScanIsSound, ScanIsFound, ScanIsLongest, OneKind, PartIsSound, PartIsFound};
 ghost use Rattle.toml_scalar.specs.Spelling.{OneName, SpelledNames};
-ghost use Rattle.toml_scalar.specs.ValueLaws.{ScalarIsFound, ScalarIsMeant, OneScalarValue, NameIsFound, NameIsMeant};
+ghost use Rattle.toml_scalar.specs.ValueLaws.{ScalarIsFound, ScalarIsMeant, OneScalarValue, NameIsFound, NameIsMeant, NameIsTotal};
 
 /// Which runs are integers, floats and booleans.
 pub fn numbers()
@@ -62,6 +62,7 @@ pub fn values()
 pub fn names()
     ensures found { NameIsFound }
     ensures meant { NameIsMeant }
+    ensures total { NameIsTotal }
     ensures one { OneName }
 {}
 

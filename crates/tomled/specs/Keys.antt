@@ -15,7 +15,7 @@ abbrev pub name_or_empty : Option (List ℕ) → List ℕ
 name_or_empty None = []
 name_or_empty (Some name) = name
 
--- the name of a key part; each part of a tree's key has one
+-- the name of a key part; each part of a tree's key has one (the law `NameIsTotal` of key parts)
 abbrev pub part_name : Piece → List ℕ
 part_name p = name_or_empty (name_of p.text)
 
