@@ -11,7 +11,7 @@ use Rattle.toml_scalar.specs.Moments.{moment_text}
 use Rattle.toml_scalar.specs.MomentRuns.{moment_kind}
 use Rattle.toml_scalar.specs.StringRuns.{string_value}
 use Rattle.toml_scalar.specs.Values.{ScalarValue, Text, Integer, Float, Boolean, Moment, Means, given, moment_number, is_moment_kind, scalar_of}
-use Rattle.toml_scalar.specs.ValueLaws.{ScalarIsFound, ScalarIsMeant, OneScalarValue}
+use Rattle.toml_scalar.specs.ValueLaws.{TokenHasValue, ValueIsOfToken, ScalarIsFound, ScalarIsMeant, OneScalarValue}
 use Rattle.toml_scalar.specs.declared.kind.MomentKind.{MomentKind}
 use Rattle.toml_scalar.specs.declared.kind.MomentKind.TheVariants as moments
 use Rattle.toml_scalar.specs.declared.kind.ScalarKind.TheVariants as kinds
@@ -71,3 +71,19 @@ scalar_found (kinds.Moment kind) bs v (form, is) =
 
 pub one_scalar_value : OneScalarValue
 one_scalar_value kind bs v w means_v means_w = same_Some v w (sym (scalar_found kind bs v means_v) ∙ scalar_found kind bs w means_w)
+
+pub token_has_value : TokenHasValue
+token_has_value kinds.Text bs (kind, string) = (Text string.0, (string.0, refl, (kind, string.1)))
+token_has_value kinds.Integer bs is = (Integer (integer_value bs), (is, refl))
+token_has_value kinds.Float bs is = (Float (float_text bs), (is, refl))
+token_has_value kinds.Bool bs (inl is) = (Boolean true, inl (is, refl))
+token_has_value kinds.Bool bs (inr is) = (Boolean false, inr (is, refl))
+token_has_value (kinds.Moment kind) bs is = (Moment kind (moment_text bs), (is, refl))
+
+pub value_is_of_token : ValueIsOfToken
+value_is_of_token kinds.Text bs v (text, is, string) = (string.0, (text, string.1))
+value_is_of_token kinds.Integer bs v (is, value) = is
+value_is_of_token kinds.Float bs v (is, value) = is
+value_is_of_token kinds.Bool bs v (inl h) = inl h.0
+value_is_of_token kinds.Bool bs v (inr h) = inr h.0
+value_is_of_token (kinds.Moment kind) bs v (is, value) = is

@@ -17,13 +17,14 @@ StringIsFound = (kind : StringKind) (text rest : List ℕ) → IsString kind tex
 abbrev pub StringIsLongest : Type 0
 StringIsLongest = (kind : StringKind) (text rest : List ℕ) (n : ℕ) → IsString kind text → string_len (text ++ rest) ≡ Some n → length text ≤ n
 
--- a text is a string of one kind and one value
+-- a string's value is the one that is computed
 abbrev pub StringHasValue : Type 0
 StringHasValue = (kind : StringKind) (text value : List ℕ) → MeansString kind text value → string_value text ≡ Some value
 
 abbrev pub ValueIsMeant : Type 0
 ValueIsMeant = (text value : List ℕ) → string_value text ≡ Some value → (kind : StringKind) × MeansString kind text value
 
+-- a text is a string of at most one kind and one value
 abbrev pub OneStringKind : Type 0
 OneStringKind = (j k : StringKind) (text : List ℕ) → IsString j text → IsString k text → j ≡ k
 

@@ -1,8 +1,16 @@
 -- Laws: the plain functions of `Values` answer what the relations say, and no more.
 use Rattle.std.specs.Prelude.{◌≡◌, ℕ, List, Some}
 use Rattle.toml_scalar.specs.Names.{IsName, IsKeyPart}
+use Rattle.toml_scalar.specs.Tokens.{IsToken}
 use Rattle.toml_scalar.specs.Values.{ScalarValue, Means, scalar_of, name_of}
 use Rattle.toml_scalar.specs.declared.kind.ScalarKind.{ScalarKind}
+
+-- just the tokens of a kind have a value
+abbrev pub TokenHasValue : Type 0
+TokenHasValue = (kind : ScalarKind) (bs : List ℕ) → IsToken kind bs → (v : ScalarValue) × Means kind bs v
+
+abbrev pub ValueIsOfToken : Type 0
+ValueIsOfToken = (kind : ScalarKind) (bs : List ℕ) (v : ScalarValue) → Means kind bs v → IsToken kind bs
 
 -- a token's value is the one that is computed
 abbrev pub ScalarIsFound : Type 0

@@ -4,7 +4,7 @@ ghost use Rattle.toml_scalar.specs.declared.fault.SyntaxFault.TheVariants.{NoMem
 
 use std::alloc::{AllocError, AllocFailed};
 
-/// Why a text is refused. A place `at` is a byte offset from 0, the mark counted, and at most the text's length.
+/// Why a text is refused. A place `at` is a byte offset from 0, U+FEFF counted, and at most the text's length.
 #[derive(Clone, Copy, Debug, Drop, PartialEq, Eq)]
 pub enum SyntaxFault {
     /// A control character stands where the reader can't go on.

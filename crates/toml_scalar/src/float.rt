@@ -73,7 +73,7 @@ fn is_behind_point(bytes: &[u8]) -> bool
     are_digits(10, digits) && (exponent.is_empty() || is_exponent(exponent))
 }
 
-/// `exp = "e" float-exp-part`
+/// `exp = "e" float-exp-part`; the rules' letters stand for both cases.
 fn is_exponent(bytes: &[u8]) -> bool
     ensures { result ≡ is_exponent bytes.now }
 {

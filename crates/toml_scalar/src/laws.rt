@@ -1,12 +1,16 @@
 //! Laws over the definitions: each function's contract is a few, and nothing is run.
 ghost use Rattle.toml_scalar.specs.MomentLaws.{MomentIsForm, FormIsMoment, OneMomentKind, MomentBegins, MomentIsRun, SpaceIsApart, DateText, TimeText, LocalText, OffsetText};
-ghost use Rattle.toml_scalar.specs.NumberLaws.{IntegerIsForm, FormIsInteger, FloatIsForm, FormIsFloat, BoolIsForm, FormIsBool};
+ghost use Rattle.toml_scalar.specs.NumberLaws.{IntegerFormIsForm, FormIsIntegerForm, FittingFits, FitsIsFitting, IntegerIsForm, FormIsInteger, FloatIsForm, FormIsFloat, BoolIsForm, FormIsBool};
 ghost use Rattle.toml_scalar.specs.ScanLaws.{ScanIsSound, ScanIsFound, ScanIsLongest, OneKind, PartIsSound, PartIsFound};
 ghost use Rattle.toml_scalar.specs.Spelling.{OneName, SpelledNames};
-ghost use Rattle.toml_scalar.specs.ValueLaws.{ScalarIsFound, ScalarIsMeant, OneScalarValue, NameIsFound, NameIsMeant, NameIsTotal};
+ghost use Rattle.toml_scalar.specs.ValueLaws.{TokenHasValue, ValueIsOfToken, ScalarIsFound, ScalarIsMeant, OneScalarValue, NameIsFound, NameIsMeant, NameIsTotal};
 
-/// Which runs are integers, floats and booleans.
+/// Which runs are integers (of the form, and in range), floats and booleans.
 pub fn numbers()
+    ensures form { IntegerFormIsForm }
+    ensures form_found { FormIsIntegerForm }
+    ensures range { FittingFits }
+    ensures range_found { FitsIsFitting }
     ensures integer { IntegerIsForm }
     ensures integer_found { FormIsInteger }
     ensures float { FloatIsForm }
@@ -53,12 +57,14 @@ pub fn key_parts()
 
 /// What tokens mean.
 pub fn values()
+    ensures total { TokenHasValue }
+    ensures token { ValueIsOfToken }
     ensures found { ScalarIsFound }
     ensures meant { ScalarIsMeant }
     ensures one { OneScalarValue }
 {}
 
-/// A key part has one name.
+/// A key part has one name, the one that is computed, and what has a name that is computed is a key part.
 pub fn names()
     ensures found { NameIsFound }
     ensures meant { NameIsMeant }

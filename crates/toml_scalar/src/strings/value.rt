@@ -35,6 +35,7 @@ fn push_escape(value: &mut String, bytes: &[u8]) -> Result<usize, AllocError>
     if dropped > 0 {
         return Ok(dropped);
     }
+    // Behind a `\` in a string stands an escape or a dropped stretch: this is never reached there.
     let Some(escaped) = escape(bytes) else {
         return Ok(0);
     };
@@ -83,6 +84,7 @@ pub fn string_value(alloc: Global, text: &str) -> Result<String, AllocError>
     requires { string_len text.now ≡ Some (length text.now) }
     ensures { IfOk result (λ value. string_value text.now ≡ Some (string_bytes value)) }
 {
+    // A whole string has a kind: this is never reached.
     let Some(kind) = kind_at(text.as_bytes()) else {
         return Ok(String::new(alloc));
     };
