@@ -1,13 +1,12 @@
 -- Where a text may be cut: behind a run of ASCII bytes, behind one ASCII byte, behind the mark.
-use Rattle.std.proofs.Common.{◌≡◌, ℕ, zero, suc, ◌+◌, ◌-◌, ◌<◌, Bool, true, false, ◌&&◌, List, [], ◌∷◌, ◌++◌, length, get_or, take, drop, IsUtf8, IsCharBoundary, sym, refl, ap, ◌∙◌, arith, get_or-take, length-take}
+use Rattle.std.proofs.Common.{◌≡◌, ℕ, ◌+◌, ◌<◌, true, false, ◌&&◌, List, [], ◌∷◌, ◌++◌, length, drop, IsUtf8, IsCharBoundary, refl, ap, ◌∙◌, arith}
 use Rattle.std.specs.Prelude.{◌==◌, if◌then◌else◌}
 use Rattle.std.specs.Char.{encode_utf8}
 use Rattle.std.proofs.lemmas.Bool.{and_parts, eqb-true}
-use Rattle.std.proofs.lemmas.Bool.Decides.{nat_tests}
 use Rattle.std.proofs.lemmas.Str.{IsCharBoundary-start, IsCharBoundary-from_rest, IsCharBoundary-past_char, IsUtf8-drop, IsUtf8-from_is_utf8}
 use Rattle.std.proofs.iter.AsciiBoundary.{after_IsAscii}
 use Rattle.toml_text.specs.Limit.{IsText}
-use Rattle.toml_text.specs.Runs.{run_len, begins, is_byte}
+use Rattle.toml_text.specs.Runs.{begins, is_byte}
 use Rattle.toml_tree.specs.Spells.{mark_of}
 use Rattle.toml_tree.proofs.Sound.{begins_some}
 

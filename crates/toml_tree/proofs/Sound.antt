@@ -1,16 +1,15 @@
 -- What the plain reader reads is in the forms, and stands where it was read.
-use Rattle.std.proofs.Common.{◌≡◌, ℕ, zero, suc, ◌+◌, ◌<◌, ◌≤◌, Bool, true, false, cond, eqb, List, [], ◌∷◌, ◌++◌, length, take, drop, Option, Some, None, sym, refl, ap, ◌∙◌, subst, arith, add-one, append_assoc, ⊎_elim}
+use Rattle.std.proofs.Common.{◌≡◌, ℕ, zero, suc, ◌+◌, ◌<◌, ◌≤◌, Bool, true, false, cond, eqb, List, [], ◌∷◌, ◌++◌, length, take, drop, Option, Some, None, sym, refl, ap, ◌∙◌, subst, arith, append_assoc, ⊎_elim}
 use Rattle.std.specs.Prelude.{IfSome}
 use Rattle.std.proofs.lemmas.Bool.{false≢true, eqb-true, eqb-false}
 use Rattle.std.proofs.lemmas.List.{append-nil, take-append-drop, length-take-le}
-use Rattle.toml_text.specs.Bytes.{is_ws, is_bare}
+use Rattle.toml_text.specs.Bytes.{is_ws}
 use Rattle.toml_text.specs.Forms.{Each, IsWs, IsNewline, IsComment}
 use Rattle.toml_text.specs.Runs.{run_len, begins, is_byte, newline_len, comment_len}
 use Rattle.toml_text.proofs.Found.{run_piece, newlines_piece, comments_piece}
 use Rattle.toml_scalar.specs.Names.{IsKeyPart}
 use Rattle.toml_scalar.specs.Scanning.{scan_at, key_part_len, is_key_start}
 use Rattle.toml_scalar.specs.Tokens.{IsToken}
-use Rattle.toml_scalar.specs.declared.kind.ScalarKind.{ScalarKind}
 use Rattle.toml_scalar.proofs.ScanSound.{scan_sound}
 use Rattle.toml_scalar.proofs.Keys.{part_sound}
 use Rattle.toml_tree.specs.Tree.{Piece, Line}

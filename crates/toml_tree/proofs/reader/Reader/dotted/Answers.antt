@@ -1,8 +1,7 @@
-use Rattle.std.proofs.Common.{Some, map, refl}
+use Rattle.std.proofs.Common.{refl}
 use Rattle.std.proofs.lemmas.Result.{err_from_is_err_and}
 use Rattle.toml_tree.specs.View.{dotted}
 use Rattle.toml_tree.specs.Reading.{dotted_at, dotted_step}
-use Rattle.toml_tree.specs.Reads.{cursor}
 use Rattle.toml_tree.proofs.Many.{loop_pushed, loop_ended, loop_failed}
 use Rattle.toml_tree.proofs.reader.Reader.dotted.Goals as goal
 
