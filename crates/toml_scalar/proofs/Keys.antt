@@ -21,7 +21,7 @@ use Rattle.toml_scalar.proofs.ScanSound.{option_map_some}
 use Rattle.toml_scalar.proofs.StringTokens.{TokenIs, token, token_sound, token_found}
 
 -- the marks that close a string
-abbrev closing : StringKind → List ℕ
+abbrev pub closing : StringKind → List ℕ
 closing kind = replicate (marks_len kind) (mark_of kind)
 
 -- what a one-line string at the front is
@@ -88,11 +88,11 @@ part_sound bs n h = ⊎_elim
     (either (begins is_bare bs) _ _ _ h)
 
 -- found again, where neither a bare key's byte nor a mark follows
-each_bare : (bs : List ℕ) → IsBareKey bs → Each is_bare bs
+pub each_bare : (bs : List ℕ) → IsBareKey bs → Each is_bare bs
 each_bare [] h = absurd h
 each_bare (b ∷ bs) h = h
 
-bare_begins : (bs rest : List ℕ) → IsBareKey bs → begins is_bare (bs ++ rest) ≡ true
+pub bare_begins : (bs rest : List ℕ) → IsBareKey bs → begins is_bare (bs ++ rest) ≡ true
 bare_begins [] rest h = absurd h
 bare_begins (b ∷ bs) rest h = h.0
 

@@ -33,3 +33,4 @@ pub mod OneNames
 pub mod ScalarValues
 pub mod NameValues
 pub mod OneKind
+pub mod LongestPart

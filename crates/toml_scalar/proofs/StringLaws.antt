@@ -47,7 +47,7 @@ string_found kind text rest is stop =
 pieces_longer : (ps qs : List StringPiece) → length (pieces_text ps) ≤ length (pieces_text (ps ++ qs))
 pieces_longer ps qs = omega (arith, ap length (pieces_text-append ps qs), length-append (pieces_text ps) (pieces_text qs))
 
-text_longer : (kind : StringKind) (first : List ℕ) (ps qs : List StringPiece) → length (string_text kind first ps) ≤ length (string_text kind first (ps ++ qs))
+pub text_longer : (kind : StringKind) (first : List ℕ) (ps qs : List StringPiece) → length (string_text kind first ps) ≤ length (string_text kind first (ps ++ qs))
 text_longer Basic first ps qs = omega (arith, pieces_longer ps qs, length-append (pieces_text ps) (0x22 ∷ []), length-append (pieces_text (ps ++ qs)) (0x22 ∷ []))
 text_longer Literal first ps qs = omega (arith, pieces_longer ps qs, length-append (pieces_text ps) (0x27 ∷ []), length-append (pieces_text (ps ++ qs)) (0x27 ∷ []))
 text_longer MultiLineBasic first ps qs = omega (arith, pieces_longer ps qs, length-append (pieces_text ps) (three 0x22), length-append (pieces_text (ps ++ qs)) (three 0x22), length-append first (pieces_text ps ++ three 0x22), length-append first (pieces_text (ps ++ qs) ++ three 0x22))

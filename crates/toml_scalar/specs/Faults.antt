@@ -1,6 +1,6 @@
 -- The place of a fault, and the fault of what stands at a place.
-use Rattle.std.specs.Prelude.{◌≡◌, ℕ, Bool, false, not, ◌&&◌, ◌||◌, ◌==◌, nat_lt, if◌then◌else◌, List, [], ◌∷◌, take, Option, Some, None}
-use Rattle.toml_text.specs.Bytes.{is_digit}
+use Rattle.std.specs.Prelude.{◌≡◌, ℕ, Bool, false, not, ◌&&◌, ◌||◌, ◌==◌, if◌then◌else◌, List, [], ◌∷◌, take, Option, Some, None}
+use Rattle.toml_text.specs.Bytes.{is_digit, is_control}
 use Rattle.toml_text.specs.Runs.{begins, is_byte}
 use Rattle.toml_scalar.specs.IntegerRuns.{is_sign, is_integer_form}
 use Rattle.toml_scalar.specs.Scanning.{is_mark, value_len}
@@ -27,7 +27,7 @@ IsAt at fault = place_of fault ≡ Some at
 -- a control character, but for a tab and a newline
 abbrev pub begins_control : List ℕ → Bool
 begins_control [] = false
-begins_control (b ∷ bs) = (nat_lt b 0x20 || b == 0x7F) && not (b == 0x09 || b == 0x0A || (b == 0x0D && begins (is_byte 0x0A) bs))
+begins_control (b ∷ bs) = is_control b && not (b == 0x09 || b == 0x0A || (b == 0x0D && begins (is_byte 0x0A) bs))
 
 -- where the reader can't go on: a control character, or something else
 abbrev pub byte_fault : List ℕ → ℕ → SyntaxFault

@@ -29,3 +29,7 @@ PartIsSound = (bs : List ℕ) (n : ℕ) → key_part_len bs ≡ Some n → (n �
 -- a key part is found, where no byte follows that a key part begins with
 abbrev pub PartIsFound : Type 0
 PartIsFound = (part rest : List ℕ) → IsKeyPart part → begins is_key_start rest ≡ false → key_part_len (part ++ rest) ≡ Some (length part)
+
+-- whatever follows a key part, it is found, or a longer one
+abbrev pub PartIsLongest : Type 0
+PartIsLongest = (part rest : List ℕ) → IsKeyPart part → (n : ℕ) × (key_part_len (part ++ rest) ≡ Some n) × (length part ≤ n)

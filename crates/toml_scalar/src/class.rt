@@ -32,8 +32,8 @@ pub fn bare_len(bytes: &[u8]) -> usize
     bytes.len()
 }
 
-/// How many bytes at the front such a value may have.
-pub fn run_len(bytes: &[u8]) -> usize
+/// How many bytes at the front a value that is no string, array or inline table may have.
+pub fn value_run_len(bytes: &[u8]) -> usize
     ensures run { result ≡ run_len is_value_byte bytes.now }
     ensures within { result ≤ length bytes.now }
 {

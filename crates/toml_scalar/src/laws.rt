@@ -1,7 +1,7 @@
 //! Laws over the definitions: each function's contract is a few, and nothing is run.
 ghost use Rattle.toml_scalar.specs.MomentLaws.{MomentIsForm, FormIsMoment, OneMomentKind, MomentBegins, MomentIsRun, SpaceIsApart, DateText, TimeText, LocalText, OffsetText};
 ghost use Rattle.toml_scalar.specs.NumberLaws.{IntegerFormIsForm, FormIsIntegerForm, FittingFits, FitsIsFitting, IntegerIsForm, FormIsInteger, FloatIsForm, FormIsFloat, BoolIsForm, FormIsBool};
-ghost use Rattle.toml_scalar.specs.ScanLaws.{ScanIsSound, ScanIsFound, ScanIsLongest, OneKind, PartIsSound, PartIsFound};
+ghost use Rattle.toml_scalar.specs.ScanLaws.{ScanIsSound, ScanIsFound, ScanIsLongest, OneKind, PartIsSound, PartIsFound, PartIsLongest};
 ghost use Rattle.toml_scalar.specs.Spelling.{OneName, SpelledNames};
 ghost use Rattle.toml_scalar.specs.ValueLaws.{TokenHasValue, ValueIsOfToken, ScalarIsFound, ScalarIsMeant, OneScalarValue, NameIsFound, NameIsMeant, NameIsTotal};
 
@@ -53,6 +53,7 @@ pub fn scans()
 pub fn key_parts()
     ensures sound { PartIsSound }
     ensures found { PartIsFound }
+    ensures longest { PartIsLongest }
 {}
 
 /// What tokens mean.

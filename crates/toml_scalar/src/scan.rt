@@ -10,7 +10,7 @@ ghost use Rattle.toml_scalar.specs.Scans.{ScansScalar, ScansKey, Finds, IsSpan};
 ghost use Rattle.toml_scalar.specs.declared.strings.kind.StringKind.TheVariants.{Basic, Literal};
 
 use crate::boolean::is_bool;
-use crate::class::{bare_len, is_bare, run_len};
+use crate::class::{bare_len, is_bare, value_run_len};
 use crate::fault::SyntaxFault;
 use crate::float::is_float;
 use crate::integer::{fits_integer, is_integer_form};
@@ -113,9 +113,9 @@ fn value_len(rest: &[u8]) -> usize
     ensures run { result ≡ value_len rest.now }
     ensures within { result ≤ length rest.now }
 {
-    let len = run_len(rest);
+    let len = value_run_len(rest);
     if is_date_shape(&rest[..len]) && goes_on(&rest[len..]) {
-        return len + 1 + run_len(&rest[len + 1..]);
+        return len + 1 + value_run_len(&rest[len + 1..]);
     }
     len
 }

@@ -1,4 +1,5 @@
 use Rattle.toml_scalar.proofs.Keys.{part_sound, part_complete}
+use Rattle.toml_scalar.proofs.LongestPart.{part_longest}
 use Rattle.toml_scalar.proofs.laws.key_parts.Goals as goal
 
 pub returns-clause-sound : goal.returns-clause-sound
@@ -6,3 +7,6 @@ returns-clause-sound c = part_sound
 
 pub returns-clause-found : goal.returns-clause-found
 returns-clause-found c = part_complete
+
+pub returns-clause-longest : goal.returns-clause-longest
+returns-clause-longest c = part_longest
