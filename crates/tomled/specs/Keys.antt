@@ -1,5 +1,5 @@
--- The names of a document's keys, what the keys make, and which lines may stand together. This is the whole
--- table rule while there are no headers and no inline tables.
+-- The names of a document's keys, what the keys make, and which lines may stand together. This is the
+-- table rule for now: key/value pairs at line level, before the first header.
 use Rattle.std.specs.Prelude.{◌≡◌, ◌<◌, ℕ, zero, suc, List, [], ◌∷◌, ◌++◌, map, length, Option, Some, None, option_map, Vec, String, string_bytes}
 use Rattle.std.specs.declared.alloc.Global.{Global}
 use Rattle.toml_scalar.specs.Values.{name_of}
@@ -37,7 +37,8 @@ pub data Role : Type 0 where
   Table : Role
   Value : Role
 
--- a key makes a table at each proper front of it, from the root's empty one on, and the value at the whole
+-- A key makes a table at each proper front of it, and the value at the whole. The empty front, the root, is among
+-- them, so that the code's test is exact on all lists; it changes nothing, since no line's key is empty.
 abbrev pub Mentions : Role → Key → Key → Type 0
 Mentions Table key address = (name : List ℕ) × (rest : Key) × (key ≡ address ++ (name ∷ rest))
 Mentions Value key address = key ≡ address
@@ -75,7 +76,7 @@ pub record Clash (keys : List (Option Key)) (i j : ℕ) : Type 0 where
 abbrev pub BreaksRule : List (Option Key) → ℕ → Type 0
 BreaksRule keys j = (i : ℕ) × (i < j) × Clash keys i j
 
--- no two lines mention one address unless both as a table. So no key is a beginning of another, or the same
+-- no two lines mention one address unless both as a table. So no key equals another or is its beginning
 abbrev pub KeepRule : List (Option Key) → Type 0
 KeepRule keys = (j : ℕ) → ¬ BreaksRule keys j
 

@@ -5,6 +5,7 @@ ghost use Rattle.tomled.specs.Refusals.{refusal_line};
 use std::alloc::{AllocError, Global};
 
 /// Why a text is refused: a code, and a place that is a byte from 0, or a line's or an edit's number.
+/// A value over several lines of the file counts as one line.
 #[derive(Clone, Copy, Debug, PartialEq, Eq)]
 pub struct Refusal {
     pub code: u16,

@@ -71,7 +71,7 @@ fn refusals(rt: HostRuntime) -> Result<(), Fail> {
         (b"a = +", 106, 4),
         (b"a = 9223372036854775808", 107, 4),
         (b"a = -9223372036854775809", 107, 4),
-        (b"a = 1\na = 2", 201, 2),
+        (b"a = 1\na = 2\n", 201, 2),
         (b"a = 1\n\nb = 2\n# c\na = 3\nb = 4", 201, 5),
         (b"b = 1\na = 1\nc = 1\na = 2\nb = 2", 201, 4),
     ];
@@ -81,14 +81,20 @@ fn refusals(rt: HostRuntime) -> Result<(), Fail> {
 
 #[test]
 fn dotted_and_quoted_keys(rt: HostRuntime) -> Result<(), Fail> {
-    let rows: [&[u8]; 2] = [b"a . \"b.c\" = 1\n\"\" = \"\"", b"a.b = 1\na.c = 2"];
+    let rows: [&[u8]; 3] = [
+        b"a . \"b.c\" = 1\n\"\" = \"\"",
+        b"a.b = 1\na.c = 2",
+        b"a.b = 1\n\"a.b\" = 2",
+    ];
     assert_ok(&rt, rt.alloc(), &rows)?;
     Ok(())
 }
 
 #[test]
 fn keys_that_clash(rt: HostRuntime) -> Result<(), Fail> {
-    let rows: [(&[u8], u16, usize); 3] = [
+    let rows: [(&[u8], u16, usize); 5] = [
+        (b"a.b.c = 1\na.b = 2", 201, 2),
+        (b"a = \"\"\"\n\"\"\"\na = 1", 201, 2),
         (b"\"a\" = 'x'\na = 1\n", 201, 2),
         (b"a.b = 1\na = 2", 201, 2),
         (b"a = 1\na.b = 2", 201, 2),
