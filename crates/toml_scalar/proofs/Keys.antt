@@ -11,6 +11,7 @@ use Rattle.toml_text.specs.Forms.{Each}
 use Rattle.toml_text.specs.Runs.{run_len, begins, is_byte}
 use Rattle.toml_text.proofs.Found.{run_piece, run_found}
 use Rattle.toml_scalar.specs.Names.{IsBareKey, IsKeyPart}
+use Rattle.toml_scalar.specs.ScanLaws.{PartBegins}
 use Rattle.toml_scalar.specs.Scanning.{key_part_len, one_line_len, is_key_start}
 use Rattle.toml_scalar.specs.Strings.{StringPiece, IsContent, MeansString, mark_of, pieces_text, string_text}
 use Rattle.toml_scalar.specs.declared.strings.kind.StringKind.{StringKind}
@@ -140,7 +141,7 @@ part_complete part rest (name, inr (inr (first, ps, content, is, value))) stop =
 bare_start : (b : ℕ) → is_bare b ≡ true → is_key_start b ≡ true
 bare_start b h = grind (arith, nat_tests)
 
-pub part_first : (part rest : List ℕ) → IsKeyPart part → begins is_key_start (part ++ rest) ≡ true
+pub part_first : PartBegins
 part_first [] rest (name, inl bare) = absurd bare.0
 part_first (b ∷ part) rest (name, inl bare) = bare_start b bare.0.0
 part_first part rest (name, inr (inl (first, ps, content, is, value))) = ap (λ p. begins is_key_start (p ++ rest)) is

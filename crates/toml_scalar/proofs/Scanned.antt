@@ -14,7 +14,8 @@ use Rattle.toml_scalar.specs.IntegerRuns.{is_integer, is_integer_form}
 use Rattle.toml_scalar.specs.Moments.{IsMoment}
 use Rattle.toml_scalar.specs.MomentRuns.{is_date_shape, moment_kind}
 use Rattle.toml_scalar.specs.MomentLaws.{BeginsYear, BeginsHour, IsSpaced}
-use Rattle.toml_scalar.specs.Scanning.{is_mark, goes_on, value_len, kind_of, scan_at}
+use Rattle.toml_scalar.specs.Scanning.{is_mark, goes_on, value_len, kind_of, scan_at, is_scalar_start}
+use Rattle.toml_scalar.specs.ScanLaws.{TokenBegins}
 use Rattle.toml_scalar.specs.Strings.{IsString, mark_of}
 use Rattle.toml_scalar.specs.declared.strings.kind.StringKind.{StringKind}
 use Rattle.toml_scalar.specs.declared.strings.kind.StringKind.TheVariants.{Basic, MultiLineBasic, Literal, MultiLineLiteral}
@@ -204,9 +205,6 @@ pub begins_more : (p q : ℕ → Bool) (bs : List ℕ) → ((b : ℕ) → p b �
 begins_more p q [] h e = absurd (false≢true e)
 begins_more p q (b ∷ bs) h e = h b e
 
-mark_no_ws : (b : ℕ) → is_mark b ≡ true → is_ws b ≡ false
-mark_no_ws b h = grind (arith, nat_tests)
-
 -- what a token begins with
 pub token_starts : (k : ScalarKind) (t rest : List ℕ) → IsToken k t → (begins is_mark (t ++ rest) ≡ true) ⊎ (begins is_value_byte (t ++ rest) ≡ true)
 token_starts kinds.Text t rest h = inl (begins_more (is_byte (mark_of h.0)) is_mark (t ++ rest) (mark_is h.0) (string_first h.0 t rest h.1))
@@ -215,8 +213,14 @@ token_starts kinds.Float t rest h = inr (float_some t rest h)
 token_starts kinds.Bool t rest h = inr (bool_some t rest h)
 token_starts (kinds.Moment k) t rest h = inr (moment_some t rest k h)
 
-pub token_first : (k : ScalarKind) (t rest : List ℕ) → IsToken k t → begins is_ws (t ++ rest) ≡ false
-token_first k t rest h = ⊎_elim (λ e. begins_other is_mark is_ws (t ++ rest) mark_no_ws e) (λ e. begins_other is_value_byte is_ws (t ++ rest) value_no_ws e) (token_starts k t rest h)
+mark_starts : (b : ℕ) → is_mark b ≡ true → is_scalar_start b ≡ true
+mark_starts b h = grind (arith, nat_tests)
+
+value_starts : (b : ℕ) → is_value_byte b ≡ true → is_scalar_start b ≡ true
+value_starts b h = grind (arith, nat_tests)
+
+pub token_first : TokenBegins
+token_first k t rest h = ⊎_elim (λ e. begins_more is_mark is_scalar_start (t ++ rest) mark_starts e) (λ e. begins_more is_value_byte is_scalar_start (t ++ rest) value_starts e) (token_starts k t rest h)
 
 -- a run that is a token of a kind
 run_complete : (t r : List ℕ) (k : ScalarKind) → begins is_value_byte (t ++ r) ≡ true → value_len (t ++ r) ≡ length t → kind_of t ≡ Some k → scan_at (t ++ r) ≡ Some (length t, k)

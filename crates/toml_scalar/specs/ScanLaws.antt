@@ -1,8 +1,8 @@
 -- Laws: the plain scan finds the tokens and the key parts, and nothing else.
-use Rattle.std.specs.Prelude.{◌≡◌, ◌≤◌, ◌<◌, ℕ, false, List, ◌++◌, length, take, Some}
+use Rattle.std.specs.Prelude.{◌≡◌, ◌≤◌, ◌<◌, ℕ, true, false, List, ◌++◌, length, take, Some}
 use Rattle.toml_text.specs.Runs.{begins}
 use Rattle.toml_scalar.specs.Names.{IsKeyPart}
-use Rattle.toml_scalar.specs.Scanning.{scan_at, key_part_len, is_key_start}
+use Rattle.toml_scalar.specs.Scanning.{scan_at, key_part_len, is_key_start, is_scalar_start}
 use Rattle.toml_scalar.specs.Tokens.{IsToken, Closes}
 use Rattle.toml_scalar.specs.declared.kind.ScalarKind.{ScalarKind}
 
@@ -33,3 +33,11 @@ PartIsFound = (part rest : List ℕ) → IsKeyPart part → begins is_key_start 
 -- whatever follows a key part, it is found, or a longer one
 abbrev pub PartIsLongest : Type 0
 PartIsLongest = (part rest : List ℕ) → IsKeyPart part → (n : ℕ) × (key_part_len (part ++ rest) ≡ Some n) × (length part ≤ n)
+
+-- what a token begins with
+abbrev pub TokenBegins : Type 0
+TokenBegins = (kind : ScalarKind) (token rest : List ℕ) → IsToken kind token → begins is_scalar_start (token ++ rest) ≡ true
+
+-- what a key part begins with
+abbrev pub PartBegins : Type 0
+PartBegins = (part rest : List ℕ) → IsKeyPart part → begins is_key_start (part ++ rest) ≡ true

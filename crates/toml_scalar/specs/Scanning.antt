@@ -17,6 +17,10 @@ use Rattle.toml_scalar.specs.declared.kind.ScalarKind.TheVariants as kinds
 abbrev pub is_mark : ℕ → Bool
 is_mark b = b == 0x22 || b == 0x27
 
+-- the first byte of a scalar: a mark, or a byte of a run
+abbrev pub is_scalar_start : ℕ → Bool
+is_scalar_start b = is_mark b || is_value_byte b
+
 -- one space and a digit
 abbrev pub goes_on : List ℕ → Bool
 goes_on [] = false

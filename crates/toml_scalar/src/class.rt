@@ -14,7 +14,7 @@ pub fn is_bare(byte: u8) -> bool
 
 /// Whether a value that is no string, array or inline table may have the byte.
 #[inline]
-fn is_value_byte(byte: u8) -> bool
+pub fn is_value_byte(byte: u8) -> bool
     ensures { result ≡ is_value_byte byte }
 {
     matches!(byte, b'A'..=b'Z' | b'a'..=b'z' | b'0'..=b'9' | b'+' | b'-' | b'.' | b'_' | b':')

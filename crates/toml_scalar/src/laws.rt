@@ -1,7 +1,7 @@
 //! Laws over the definitions: each function's contract is a few, and nothing is run.
 ghost use Rattle.toml_scalar.specs.MomentLaws.{MomentIsForm, FormIsMoment, OneMomentKind, MomentBegins, MomentIsRun, SpaceIsApart, DateText, TimeText, LocalText, OffsetText};
 ghost use Rattle.toml_scalar.specs.NumberLaws.{IntegerFormIsForm, FormIsIntegerForm, FittingFits, FitsIsFitting, IntegerIsForm, FormIsInteger, FloatIsForm, FormIsFloat, BoolIsForm, FormIsBool};
-ghost use Rattle.toml_scalar.specs.ScanLaws.{ScanIsSound, ScanIsFound, ScanIsLongest, OneKind, PartIsSound, PartIsFound, PartIsLongest};
+ghost use Rattle.toml_scalar.specs.ScanLaws.{ScanIsSound, ScanIsFound, ScanIsLongest, OneKind, TokenBegins, PartIsSound, PartIsFound, PartIsLongest, PartBegins};
 ghost use Rattle.toml_scalar.specs.Spelling.{OneName, SpelledNames};
 ghost use Rattle.toml_scalar.specs.ValueLaws.{TokenHasValue, ValueIsOfToken, ScalarIsFound, ScalarIsMeant, OneScalarValue, NameIsFound, NameIsMeant, NameIsTotal};
 
@@ -47,6 +47,7 @@ pub fn scans()
     ensures found { ScanIsFound }
     ensures longest { ScanIsLongest }
     ensures one_kind { OneKind }
+    ensures first { TokenBegins }
 {}
 
 /// Where key parts end.
@@ -54,6 +55,7 @@ pub fn key_parts()
     ensures sound { PartIsSound }
     ensures found { PartIsFound }
     ensures longest { PartIsLongest }
+    ensures first { PartBegins }
 {}
 
 /// What tokens mean.

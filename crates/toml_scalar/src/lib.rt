@@ -22,7 +22,7 @@ pub use kind::{MomentKind, ScalarKind};
 pub use names::{name_of, read_key};
 pub use read::read_scalar;
 pub use scalar::{FloatText, Moment, Scalar, is_same};
-pub use scan::{begins_key, scan_key, scan_scalar};
+pub use scan::{begins_key, begins_scalar, scan_key, scan_scalar};
 pub use spelling::spell_key;
 
 #[cfg(test)]

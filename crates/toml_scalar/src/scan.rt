@@ -3,14 +3,14 @@ ghost use Rattle.std.specs.Prelude.{◌≡◌, ◌⊎◌, ◌+◌, ◌≤◌, dr
 ghost use Rattle.std.specs.Str.{IsCharBoundary};
 ghost use Rattle.toml_text.specs.Source.{text_of};
 ghost use Rattle.toml_text.specs.Runs.{begins};
-ghost use Rattle.toml_scalar.specs.Scanning.{scan_at, key_part_len, is_key_start, value_len, goes_on, kind_of};
+ghost use Rattle.toml_scalar.specs.Scanning.{scan_at, key_part_len, is_key_start, is_scalar_start, value_len, goes_on, kind_of};
 ghost use Rattle.toml_scalar.specs.StringRuns.{token_of, token_len};
 ghost use Rattle.toml_scalar.specs.Faults.{begins_moment, is_number_start, run_fault, scalar_fault, key_fault};
 ghost use Rattle.toml_scalar.specs.Scans.{ScansScalar, ScansKey, Finds, IsSpan};
 ghost use Rattle.toml_scalar.specs.declared.strings.kind.StringKind.TheVariants.{Basic, Literal};
 
 use crate::boolean::is_bool;
-use crate::class::{bare_len, is_bare, value_run_len};
+use crate::class::{bare_len, is_bare, is_value_byte, value_run_len};
 use crate::fault::SyntaxFault;
 use crate::float::is_float;
 use crate::integer::{fits_integer, is_integer_form};
@@ -166,6 +166,18 @@ fn begins_moment(run: &[u8]) -> bool
         [b'0'..=b'9', b'0'..=b'9', b':', ..] => true,
         [b'0'..=b'9', b'0'..=b'9', b'0'..=b'9', b'0'..=b'9', b'-', ..] => true,
         _ => false,
+    }
+}
+
+/// Whether a scalar may begin with the first byte: a string's mark, or a byte of a number, a boolean, a date
+/// or a time.
+pub fn begins_scalar(rest: &[u8]) -> bool
+    ensures { result ≡ begins is_scalar_start rest.now }
+{
+    match rest {
+        [b'"' | b'\'', ..] => true,
+        [first, ..] => is_value_byte(*first),
+        [] => false,
     }
 }
 

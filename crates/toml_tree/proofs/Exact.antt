@@ -3,10 +3,12 @@ use Rattle.std.proofs.Common.{◌≡◌, ℕ, ◌+◌, ◌≤◌, List, [], ◌�
 use Rattle.std.specs.Prelude.{IfSome, true, false, ◌==◌, ◌&&◌, if◌then◌else◌}
 use Rattle.std.proofs.lemmas.Option.{none-some, some_pair_parts, same_Some, option_and_then_some}
 use Rattle.toml_tree.specs.Tree.{Piece, Line}
-use Rattle.toml_tree.specs.Spells.{joined, lines_parts, AreLines, SpellLines, Spells, SpelledByNone, OneTree, mark_of}
-use Rattle.toml_tree.specs.Reading.{Cursor, here, ahead, lines_at, document_at}
+use Rattle.toml_tree.specs.Spells.{joined, lines_parts, AreLines, SpellLines, Spells, SpelledByNone, mark_of}
+use Rattle.toml_tree.specs.Reading.{Cursor, here, ahead}
+use Rattle.toml_tree.specs.ReadingLines.{lines_at, document_at}
 use Rattle.toml_scalar.specs.Faults.{place_of}
-use Rattle.toml_tree.specs.Document.{Refuses, ReaderIsSound, ReaderIsComplete}
+use Rattle.toml_tree.specs.Document.{Refuses}
+use Rattle.toml_tree.specs.Laws.{OneTree, ReaderIsSound, ReaderIsComplete}
 use Rattle.toml_tree.specs.Reads.{Fails, end}
 use Rattle.toml_scalar.specs.declared.fault.SyntaxFault.{SyntaxFault}
 use Rattle.toml_tree.proofs.Spans.{Spans, spans_joined, spans_placed, spans_from}

@@ -6,7 +6,8 @@ use Rattle.toml_text.specs.Runs.{newline_len}
 use Rattle.toml_text.proofs.Found.{newlines_piece}
 use Rattle.toml_tree.specs.declared.piece.Piece.{Piece}
 use Rattle.toml_tree.specs.declared.tree.Expr.{Expr}
-use Rattle.toml_tree.specs.Reading.{Cursor, here, expr_at}
+use Rattle.toml_tree.specs.Reading.{Cursor, here}
+use Rattle.toml_tree.specs.ReadingLines.{expr_at}
 use Rattle.toml_tree.specs.Spells.{IsExpr, expr_parts}
 use Rattle.toml_tree.specs.Tree as tree
 use Rattle.toml_tree.specs.View.{piece, expr, IsLine}

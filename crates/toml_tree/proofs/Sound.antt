@@ -14,7 +14,9 @@ use Rattle.toml_scalar.proofs.ScanSound.{scan_sound}
 use Rattle.toml_scalar.proofs.Keys.{part_sound}
 use Rattle.toml_tree.specs.Tree.{Piece, Line}
 use Rattle.toml_tree.specs.Spells.{Part, piece, symbol, EachIs, all_parts, comment_parts, blank_parts, dotted_parts, key_parts, assign_parts, value_parts, keyval_parts, expr_parts, lines_parts, IsCommentOrNone, IsBlank, IsDotted, IsKey, IsAssign, IsValue, IsKeyVal, IsExpr, AreLines, line_parts}
-use Rattle.toml_tree.specs.Reading.{Cursor, ◌>>=◌, here, ahead, many, all_of, run_at, comment_at, blank_at, part_at, dotted_step, dotted_at, key_at, equals_at, assign_at, scalar_at, keyval_at, expr_at, line_step, lines_at}
+use Rattle.toml_tree.specs.Reading.{Cursor, ◌>>=◌, here, ahead, many, all_of, run_at, comment_at, blank_at, part_at, dotted_step, dotted_at, key_at, equals_at, assign_at}
+use Rattle.toml_tree.specs.ReadingValues.{scalar_at, keyval_at}
+use Rattle.toml_tree.specs.ReadingLines.{expr_at, line_step, lines_at}
 use Rattle.toml_tree.specs.declared.step.Step.{Step}
 use Rattle.toml_tree.specs.declared.step.Step.TheVariants.{Next, Done}
 use Rattle.toml_tree.proofs.Spans.{Behind, Spans, spans_append}

@@ -5,7 +5,8 @@ use Rattle.toml_scalar.specs.Scanning.{scan_at, key_part_len}
 use Rattle.toml_scalar.specs.declared.fault.SyntaxFault.{SyntaxFault}
 use Rattle.toml_scalar.specs.declared.kind.ScalarKind.{ScalarKind}
 use Rattle.toml_tree.specs.Tree.{Piece, Scalar}
-use Rattle.toml_tree.specs.Reading.{Cursor, here, ahead, part_at, scalar_at}
+use Rattle.toml_tree.specs.Reading.{Cursor, here, ahead, part_at}
+use Rattle.toml_tree.specs.ReadingValues.{scalar_at}
 use Rattle.toml_tree.specs.Reads.{end, Fails}
 
 module _ (c : Cursor) (n last : ℕ) (is : last ≡ c.at + n) (p : Piece) (d : Cursor) (piece_is : p ≡ here (last - c.at) c) (behind : d ≡ ahead (last - c.at) c) where

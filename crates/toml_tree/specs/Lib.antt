@@ -1,9 +1,12 @@
 pub mod Tree
 pub mod Spells
 pub mod Reading
+pub mod ReadingValues
+pub mod ReadingLines
 pub mod Stands
 pub mod Bounded
 pub mod View
 pub mod Lines
 pub mod Document
+pub mod Laws
 pub mod Reads

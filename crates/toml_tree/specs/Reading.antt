@@ -1,10 +1,10 @@
--- The plain reader: total functions on lists that compute the tree of a text, beside the relation of `Spells`.
-use Rattle.std.specs.Prelude.{ℕ, zero, suc, ◌+◌, Bool, List, [], ◌∷◌, ◌++◌, length, take, drop, Option, Some, None, option_and_then, if◌then◌else◌, ◌==◌}
+-- The plain reader: total functions on lists that compute the tree of a text, beside the relation of `Spells`. Here its
+-- cursor, its loop, and what it reads of pieces and keys.
+use Rattle.std.specs.Prelude.{ℕ, zero, suc, ◌+◌, ◌-◌, Bool, List, [], ◌∷◌, length, take, drop, Option, Some, None, option_and_then, if◌then◌else◌, ◌==◌}
 use Rattle.toml_text.specs.Bytes.{is_ws}
-use Rattle.toml_text.specs.Runs.{run_len, begins, is_byte, newline_len, comment_len}
-use Rattle.toml_scalar.specs.Scanning.{scan_at, key_part_len, is_key_start}
-use Rattle.toml_tree.specs.Spells.{mark_of}
-use Rattle.toml_tree.specs.Tree.{Piece, Blank, Dotted, Key, Assign, Value, Scalar, KeyVal, Expr, BlankLine, KeyValLine, Line, Doc}
+use Rattle.toml_text.specs.Runs.{run_len, begins, is_byte, comment_len}
+use Rattle.toml_scalar.specs.Scanning.{key_part_len}
+use Rattle.toml_tree.specs.Tree.{Piece, Blank, Dotted, Key, Assign}
 use Rattle.toml_tree.specs.declared.step.Step.{Step}
 use Rattle.toml_tree.specs.declared.step.Step.TheVariants.{Next, Done}
 
@@ -23,6 +23,10 @@ here n c = record { start = c.at; text = take n c.rest }
 
 abbrev pub ahead : ℕ → Cursor → Cursor
 ahead n c = record { at = c.at + n; rest = drop n c.rest }
+
+-- the piece from a place up to a later one
+abbrev pub up_to : Cursor → Cursor → Piece
+up_to last c = here (last.at - c.at) c
 
 -- Reads until a step is the last; the fuel bounds the steps.
 abbrev pub many : {A B : Type 0} → (Cursor → Option (Step A B × Cursor)) → ℕ → Cursor → Option (List A × B × Cursor)
@@ -46,9 +50,6 @@ comment_at c = let n = comment_len c.rest in if n == 0 then (None, c) else (Some
 
 unfoldable pub blank_at : Cursor → Blank × Cursor
 blank_at c = let w = run_at is_ws c in let m = comment_at w.1 in (record { ws = w.0; comment = m.0 }, m.1)
-
-unfoldable pub scalar_at : Cursor → Option (Value × Cursor)
-scalar_at c = scan_at c.rest >>= λ r. Some (Scalar r.1 (here r.0 c), ahead r.0 c)
 
 unfoldable pub part_at : Cursor → Option (Piece × Cursor)
 part_at c = key_part_len c.rest >>= λ n. Some (here n c, ahead n c)
@@ -78,33 +79,3 @@ assign_at c =
     key_at c >>= λ k.
     equals_at k.1 >>= λ e.
     Some (record { key = k.0; before_equals = e.0.0; after_equals = e.0.1 }, e.1)
-
-unfoldable pub keyval_at : Cursor → Option (KeyVal × Cursor)
-keyval_at c =
-    assign_at c >>= λ a.
-    scalar_at a.1 >>= λ v.
-    Some (record { assign = a.0; value = v.0 }, v.1)
-
-unfoldable pub expr_at : Cursor → Option (Expr × Cursor)
-expr_at c =
-    let w = run_at is_ws c in
-    if begins is_key_start w.1.rest
-    then (keyval_at w.1 >>= λ k. let b = blank_at k.1 in Some (KeyValLine w.0 k.0 b.0, b.1))
-    else (let m = comment_at w.1 in Some (BlankLine (record { ws = w.0; comment = m.0 }), m.1))
-
-unfoldable pub line_step : Cursor → Option (Step Line Line × Cursor)
-line_step c =
-    expr_at c >>= λ e.
-    let n = newline_len e.1.rest in
-    let line : Line = record { expr = e.0; newline = here n e.1 } in
-    if n == 0 then (if length e.1.rest == 0 then Some (Done line, ahead n e.1) else None)
-    else Some (Next line, ahead n e.1)
-
-unfoldable pub lines_at : Cursor → Option (List Line × Cursor)
-lines_at c = all_of line_step c >>= λ r. Some (r.0 ++ r.1 ∷ [], r.2)
-
-unfoldable pub document_at : List ℕ → Option Doc
-document_at text =
-    let n = length (mark_of text) in
-    let start : Cursor = record { at = 0; rest = text } in
-    lines_at (ahead n start) >>= λ r. Some (record { mark = here n start; lines = r.0 })

@@ -28,17 +28,52 @@ pub record Assign : Type 0 where
   pub before_equals : Piece
   pub after_equals : Piece
 
-pub data Value : Type 0 where
-  Scalar : ScalarKind → Piece → Value
+-- a line inside an array
+pub record GapLine : Type 0 where
+  pub blank : Blank
+  pub newline : Piece
+
+-- what may stand before and behind a value of an array
+pub record Gap : Type 0 where
+  pub lines : List GapLine
+  pub ws : Piece
+
+-- A value. An array and an inline table have their own piece, from bracket to bracket.
+mutual
+  pub data Value : Type 0 where
+    Scalar : ScalarKind → Piece → Value
+    Array : Piece → Items → Value
+    -- an inline table with no pair, and the whitespace in it
+    Empty : Piece → Piece → Value
+    Inline : Piece → Pairs → Value
+
+  -- what stands behind `[`, or behind a comma
+  pub data Items : Type 0 where
+    Close : Gap → Items
+    Last : Gap → Value → Gap → Items
+    More : Gap → Value → Gap → Items → Items
+
+  -- what stands behind `{`, or behind a comma
+  pub data Pairs : Type 0 where
+    LastPair : Piece → Assign → Value → Piece → Pairs
+    MorePairs : Piece → Assign → Value → Piece → Pairs → Pairs
 
 pub record KeyVal : Type 0 where
   pub assign : Assign
   pub value : Value
 
--- the expression of a line
+-- a header between its brackets
+pub record Header : Type 0 where
+  pub before : Piece
+  pub key : Key
+  pub after : Piece
+
+-- the expression of a line: blank, a pair, `[..]` or `[[..]]`
 pub data Expr : Type 0 where
   BlankLine : Blank → Expr
   KeyValLine : Piece → KeyVal → Blank → Expr
+  TableLine : Piece → Header → Blank → Expr
+  ArrayTableLine : Piece → Header → Blank → Expr
 
 -- an expression and the newline that ends it, which is empty at the last line
 pub record Line : Type 0 where

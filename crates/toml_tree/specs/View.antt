@@ -1,5 +1,5 @@
 -- What the code's tree is as a tree of the definitions: all but where it lies in memory.
-use Rattle.std.specs.Prelude.{◌≡◌, ◌⊎◌, [], map, option_map}
+use Rattle.std.specs.Prelude.{◌≡◌, ◌⊎◌, List, [], ◌∷◌, map, Option, Some, None, option_map}
 use Rattle.toml_text.specs.Forms.{IsNewline}
 use Rattle.toml_tree.specs.Spells.{IsExpr}
 use Rattle.toml_tree.specs.declared.piece.Piece.{Piece}
@@ -7,9 +7,19 @@ use Rattle.toml_tree.specs.declared.piece.Blank.{Blank}
 use Rattle.toml_tree.specs.declared.tree.Dotted.{Dotted}
 use Rattle.toml_tree.specs.declared.tree.Key.{Key}
 use Rattle.toml_tree.specs.declared.tree.Assign.{Assign}
+use Rattle.toml_tree.specs.declared.piece.GapLine.{GapLine}
+use Rattle.toml_tree.specs.declared.piece.Gap.{Gap}
 use Rattle.toml_tree.specs.declared.tree.Value.{Value}
-use Rattle.toml_tree.specs.declared.tree.Value.TheVariants as values
+use Rattle.toml_tree.specs.declared.tree.Value.TheOpen as layer
+use Rattle.toml_tree.specs.declared.tree.Value.TheOpen.{Value-F, Array-F, Item-F, InlineTable-F, Pair-F, KeyVal-F}
+use Rattle.toml_tree.specs.declared.tree.Value.TheFolds.{fold-Value, fold-Item, fold-Pair, fold-KeyVal}
+use Rattle.toml_tree.specs.declared.tree.Item.{Item}
+use Rattle.toml_tree.specs.declared.tree.Pair.{Pair}
 use Rattle.toml_tree.specs.declared.tree.KeyVal.{KeyVal}
+use Rattle.toml_tree.specs.declared.tree.Header.{Header}
+use Rattle.toml_tree.specs.declared.step.ArrayEnd.{ArrayEnd}
+use Rattle.toml_tree.specs.declared.step.ArrayEnd.TheVariants as ends
+use Rattle.toml_tree.specs.ReadingValues.{Element, Member, before_end, inline}
 use Rattle.toml_tree.specs.declared.tree.Expr.{Expr}
 use Rattle.toml_tree.specs.declared.tree.Expr.TheVariants as exprs
 use Rattle.toml_tree.specs.Tree as tree
@@ -29,15 +39,69 @@ key k = record { first = piece k.first; rest = map dotted k.rest.items }
 abbrev pub assign : Assign → tree.Assign
 assign a = record { key = key a.key; before_equals = piece a.before_equals; after_equals = piece a.after_equals }
 
+abbrev pub gap_line : GapLine → tree.GapLine
+gap_line l = record { blank = blank l.blank; newline = piece l.newline }
+
+abbrev pub gap : Gap → tree.Gap
+gap g = record { lines = map gap_line g.lines.items; ws = piece g.ws }
+
+-- the items of an array with no comma behind the last
+abbrev pub last_ends : List Element → tree.Items
+last_ends [] = tree.Close (record { lines = []; ws = record { start = 0; text = [] } })
+last_ends (e ∷ []) = tree.Last e.before e.value e.after
+last_ends (e ∷ f ∷ es) = tree.More e.before e.value e.after (last_ends (f ∷ es))
+
+-- the items of an array: the gap behind a last comma, or of an array of no item, is its end
+abbrev pub items : List Element → Option Gap → tree.Items
+items es (Some g) = before_end es (tree.Close (gap g))
+items es None = last_ends es
+
+-- one level of a value, the levels below it being trees already
+abbrev pub array_step : Array-F tree.Value tree.Value tree.Value Element tree.KeyVal Member → tree.Value
+array_step a = tree.Array (piece a.whole) (items a.items.items a.end)
+
+abbrev pub item_step : Item-F tree.Value tree.Value tree.Value Element tree.KeyVal Member → Element
+item_step i = record { before = gap i.before; value = i.value; after = gap i.after }
+
+abbrev pub inline_step : InlineTable-F tree.Value tree.Value tree.Value Element tree.KeyVal Member → tree.Value
+inline_step t = inline (piece t.whole) t.pairs.items (option_map piece t.ws)
+
+abbrev pub pair_step : Pair-F tree.Value tree.Value tree.Value Element tree.KeyVal Member → Member
+pair_step p = record { before = piece p.before; pair = p.keyval; after = piece p.after }
+
+abbrev pub keyval_step : KeyVal-F tree.Value tree.Value tree.Value Element tree.KeyVal Member → tree.KeyVal
+keyval_step k = record { assign = assign k.assign; value = k.value }
+
+abbrev pub value_step : Value-F tree.Value tree.Value tree.Value Element tree.KeyVal Member → tree.Value
+value_step (layer.Scalar kind p) = tree.Scalar kind (piece p)
+value_step (layer.Array a) = a.value
+value_step (layer.Inline t) = t.value
+
 abbrev pub value : Value → tree.Value
-value (values.Scalar kind p) = tree.Scalar kind (piece p)
+value = fold-Value tree.Value tree.Value tree.Value Element tree.KeyVal Member value_step array_step inline_step item_step keyval_step pair_step
+
+abbrev pub item : Item → Element
+item = fold-Item tree.Value tree.Value tree.Value Element tree.KeyVal Member value_step array_step inline_step item_step keyval_step pair_step
+
+abbrev pub pair : Pair → Member
+pair = fold-Pair tree.Value tree.Value tree.Value Element tree.KeyVal Member value_step array_step inline_step item_step keyval_step pair_step
 
 abbrev pub keyval : KeyVal → tree.KeyVal
-keyval k = record { assign = assign k.assign; value = value k.value }
+keyval = fold-KeyVal tree.Value tree.Value tree.Value Element tree.KeyVal Member value_step array_step inline_step item_step keyval_step pair_step
+
+-- what ends the items of an array: a gap, or an element that no comma follows
+abbrev pub array_end : ArrayEnd → tree.Items
+array_end (ends.Gap g) = tree.Close (gap g)
+array_end (ends.Item i) = last_ends (item i ∷ [])
+
+abbrev pub header : Header → tree.Header
+header h = record { before = piece h.before; key = key h.key; after = piece h.after }
 
 abbrev pub expr : Expr → tree.Expr
 expr (exprs.Blank b) = tree.BlankLine (blank b)
 expr (exprs.KeyVal ws pair tail) = tree.KeyValLine (piece ws) (keyval pair) (blank tail)
+expr (exprs.Std ws h tail) = tree.TableLine (piece ws) (header h) (blank tail)
+expr (exprs.Array ws h tail) = tree.ArrayTableLine (piece ws) (header h) (blank tail)
 
 -- an expression in its form, and a newline or, at the last line, none
 abbrev pub IsLine : Expr → Piece → Type 0

@@ -66,7 +66,7 @@ impl<'t> Reader<'t> {
 
     /// `key`
     #[tactic(auto, unfolding(crate::specs::Reading::key_at))]
-    fn key(&mut self, alloc: Global) -> Result<Key<'t>, SyntaxFault>
+    pub fn key(&mut self, alloc: Global) -> Result<Key<'t>, SyntaxFault>
         ensures { Reads key (cursor self.old) (cursor self.new) result (key_at (cursor self.old)) }
     {
         let first = self.part()?;

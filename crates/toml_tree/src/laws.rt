@@ -1,10 +1,16 @@
-//! Laws over the definitions: each function's contract is one, and nothing is run.
-ghost use Rattle.toml_tree.specs.Document.{ReaderIsSound, ReaderIsComplete};
-ghost use Rattle.toml_tree.specs.Spells.{OneTree};
+//! Laws over the definitions: each function's contract is one or a few, and nothing is run.
+ghost use Rattle.toml_tree.specs.Laws.{OneTree, OneValue, OneKeyVal, OneExpr, ReaderIsSound, ReaderIsComplete};
 
 /// A text has at most one tree.
 pub fn one_tree()
     ensures { OneTree }
+{}
+
+/// A text is at most one value, at most one key/value pair, and at most one expression.
+pub fn one_part()
+    ensures value { OneValue }
+    ensures keyval { OneKeyVal }
+    ensures expr { OneExpr }
 {}
 
 /// The plain reader reads a tree exactly where one spells the text, and reads that tree.

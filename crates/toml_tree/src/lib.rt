@@ -2,6 +2,8 @@
 #![tactic(auto)]
 
 mod document;
+mod gaps;
+mod headers;
 mod keys;
 pub mod laws;
 mod line;
@@ -13,13 +15,14 @@ mod reading;
 mod step;
 mod text;
 mod tree;
+mod values;
 
 pub use document::Doc;
 pub use line::Line;
-pub use parsing::parse;
-pub use piece::{Blank, Piece};
+pub use parsing::{parse, parse_value};
+pub use piece::{Blank, Gap, GapLine, Piece};
 pub use toml_scalar::{MomentKind, ScalarKind, SyntaxFault};
-pub use tree::{Assign, Dotted, Expr, Key, KeyVal, Value};
+pub use tree::{Array, Assign, Dotted, Expr, Header, InlineTable, Item, Key, KeyVal, Pair, Value};
 
 #[cfg(test)]
 mod tests;

@@ -1,54 +1,48 @@
 //! Lines: key/value pairs, expressions, and the newlines between them.
 ghost use Rattle.std.specs.Prelude.{map, IfOk};
 ghost use Rattle.toml_tree.specs.Lines.{line};
-ghost use Rattle.toml_tree.specs.Reading.{scalar_at, keyval_at, expr_at, line_step, lines_at};
+ghost use Rattle.toml_tree.specs.ReadingLines.{keyval_line_at, expr_at, line_step, lines_at};
 ghost use Rattle.toml_tree.specs.Reads.{cursor, Moves, Reads, step};
-ghost use Rattle.toml_tree.specs.View.{value, keyval, expr};
+ghost use Rattle.toml_tree.specs.View.{piece, expr};
 
 use crate::line::Line;
-use crate::piece::Blank;
+use crate::piece::{Blank, Piece};
 use crate::reader::Reader;
 use crate::step::Step;
-use crate::tree::{Expr, KeyVal, Value};
+use crate::tree::Expr;
+use crate::values::MAX_DEPTH;
 use std::alloc::Global;
-use toml_scalar::{SyntaxFault, scan_scalar};
+use toml_scalar::SyntaxFault;
 
 impl<'t> Reader<'t> {
-    /// A scalar.
-    fn scalar(&mut self) -> Result<Value<'t>, SyntaxFault>
-        ensures { Reads value (cursor self.old) (cursor self.new) result (scalar_at (cursor self.old)) }
+    /// `keyval ws [ comment ]`, behind whitespace
+    #[tactic(auto, unfolding(crate::specs::ReadingLines::keyval_line_at))]
+    fn keyval_line(&mut self, alloc: Global, ws: Piece<'t>) -> Result<Expr<'t>, SyntaxFault>
+        ensures { Reads expr (cursor self.old) (cursor self.new) result (keyval_line_at (piece ws.entry) (cursor self.old)) }
     {
-        let (span, kind) = scan_scalar(self.source, self.at)?;
-        Ok(Value::Scalar(kind, self.take_to(span.end)))
-    }
-
-    /// `keyval`
-    #[tactic(auto, unfolding(crate::specs::Reading::keyval_at))]
-    fn keyval(&mut self, alloc: Global) -> Result<KeyVal<'t>, SyntaxFault>
-        ensures { Reads keyval (cursor self.old) (cursor self.new) result (keyval_at (cursor self.old)) }
-    {
-        let assign = self.assign(alloc)?;
-        let value = self.scalar()?;
-        Ok(KeyVal { assign, value })
-    }
-
-    /// `expression`
-    #[tactic(auto, unfolding(crate::specs::Reading::expr_at))]
-    fn expr(&mut self, alloc: Global) -> Result<Expr<'t>, SyntaxFault>
-        ensures { Reads expr (cursor self.old) (cursor self.new) result (expr_at (cursor self.old)) }
-    {
-        let ws = self.ws();
-        if !self.is_at_key() {
-            let comment = self.comment();
-            return Ok(Expr::Blank(Blank { ws, comment }));
-        }
-        let pair = self.keyval(alloc)?;
+        let pair = self.keyval(alloc, MAX_DEPTH)?;
         let tail = self.blank();
         Ok(Expr::KeyVal { ws, pair, tail })
     }
 
+    /// `expression`
+    #[tactic(auto, unfolding(crate::specs::ReadingLines::expr_at))]
+    fn expr(&mut self, alloc: Global) -> Result<Expr<'t>, SyntaxFault>
+        ensures { Reads expr (cursor self.old) (cursor self.new) result (expr_at (cursor self.old)) }
+    {
+        let ws = self.ws();
+        if self.is_at_key() {
+            return self.keyval_line(alloc, ws);
+        }
+        if self.begins(b'[') {
+            return self.header_line(alloc, ws);
+        }
+        let comment = self.comment();
+        Ok(Expr::Blank(Blank { ws, comment }))
+    }
+
     /// An expression and the newline behind it, or the last expression.
-    #[tactic(auto, unfolding(crate::specs::Reading::line_step))]
+    #[tactic(auto, unfolding(crate::specs::ReadingLines::line_step))]
     fn line_step(&mut self, alloc: Global) -> Result<Step<Line<'t>, Line<'t>>, SyntaxFault>
         ensures reads { Reads (step line line) (cursor self.old) (cursor self.new) result (line_step (cursor self.old)) }
         ensures moves { IfOk result (Moves (cursor self.old) (cursor self.new)) }

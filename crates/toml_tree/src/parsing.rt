@@ -1,14 +1,16 @@
 ghost use Rattle.std.specs.Prelude.{◌≡◌, IfOk, IfErr, length};
 ghost use Rattle.toml_text.specs.Source.{text_of};
-ghost use Rattle.toml_tree.specs.Document.{document, Refuses};
+ghost use Rattle.toml_tree.specs.Document.{document, Refuses, RefusesValue};
 ghost use Rattle.toml_tree.specs.Reading.{here, ahead};
 ghost use Rattle.toml_tree.specs.Reads.{cursor, Onward};
-ghost use Rattle.toml_tree.specs.Spells.{Spells, mark_of};
-ghost use Rattle.toml_tree.specs.View.{piece};
+ghost use Rattle.toml_tree.specs.Spells.{Spells, SpellsValue, mark_of};
+ghost use Rattle.toml_tree.specs.View.{piece, value};
 
 use crate::document::Doc;
 use crate::piece::Piece;
 use crate::reader::Reader;
+use crate::tree::Value;
+use crate::values::MAX_DEPTH;
 use std::alloc::Global;
 use toml_scalar::SyntaxFault;
 use toml_text::Source;
@@ -22,6 +24,20 @@ pub fn parse<'t>(alloc: Global, source: Source<'t>) -> Result<Doc<'t>, SyntaxFau
     let mark = reader.mark();
     let lines = reader.lines(alloc)?;
     Ok(Doc { mark, lines })
+}
+
+/// The tree of a text that is one value and nothing else: one exactly where the text is a value that nests at most
+/// 100 deep. The mark U+FEFF is no part of a value.
+pub fn parse_value<'t>(alloc: Global, source: Source<'t>) -> Result<Value<'t>, SyntaxFault>
+    ensures spelled { IfOk result (λ v. SpellsValue (value v) 0 (text_of source.entry)) }
+    ensures refused { IfErr result (RefusesValue (text_of source.entry)) }
+{
+    let mut reader = Reader { source, at: 0 };
+    let value = reader.value(alloc, MAX_DEPTH)?;
+    if !reader.rest().is_empty() {
+        return Err(reader.refuse());
+    }
+    Ok(value)
 }
 
 /// The length of the mark U+FEFF at the front, or 0.

@@ -19,6 +19,22 @@ pub struct Blank<'t> {
     pub comment: Option<Piece<'t>>,
 }
 
+/// A line inside an array: whitespace, a comment or none, and a newline.
+#[derive(Clone, Copy)]
+pub struct GapLine<'t> {
+    pub blank: Blank<'t>,
+    pub newline: Piece<'t>,
+}
+
+/// What may stand before and behind a value of an array (TOML v1.0.0, Array; `ws-comment-newline`): whitespace,
+/// newlines, and comments that a newline follows.
+#[derive(Drop)]
+pub struct Gap<'t> {
+    pub lines: Vec<GapLine<'t>>,
+    /// Behind the last newline.
+    pub ws: Piece<'t>,
+}
+
 impl Piece<'_> {
     /// Where it stands in the text.
     pub fn span(self) -> Span

@@ -1,13 +1,13 @@
 //! The text of a tree: its parts in order.
 ghost use Rattle.std.specs.Prelude.{◌≡◌, ◌++◌, OnOk, string_bytes};
 ghost use Rattle.toml_tree.specs.Lines.{line};
-ghost use Rattle.toml_tree.specs.Spells.{joined, blank_parts, dotted_parts, key_parts, equals_parts, assign_parts, value_parts, keyval_parts, expr_parts, line_parts};
-ghost use Rattle.toml_tree.specs.View.{piece, blank, dotted, key, assign, value, keyval, expr};
+ghost use Rattle.toml_tree.specs.Spells.{joined, blank_parts, dotted_parts, key_parts, equals_parts, assign_parts, value_parts, keyval_parts, header_parts, array_header_parts, expr_parts, line_parts, IsValue, IsKeyVal, IsExpr};
+ghost use Rattle.toml_tree.specs.View.{piece, blank, dotted, key, assign, value, keyval, header, expr};
 
 use crate::document::Doc;
 use crate::line::Line;
 use crate::piece::Blank;
-use crate::tree::{Assign, Dotted, Expr, Key, KeyVal, Value};
+use crate::tree::{Assign, Dotted, Expr, Header, Key, KeyVal, Value};
 use std::alloc::{AllocError, Global};
 
 fn push_blank(out: &mut String, b: &Blank<'_>) -> Result<(), AllocError>
@@ -57,18 +57,22 @@ fn push_assign(out: &mut String, a: &Assign<'_>) -> Result<(), AllocError>
     Ok(())
 }
 
+/// An array's and an inline table's text is that of its piece.
 fn push_value(out: &mut String, v: &Value<'_>) -> Result<(), AllocError>
+    requires { ∥ IsValue (value v.now) ∥₁ }
     ensures { OnOk result (string_bytes out.new ≡ string_bytes out.old ++ joined (value_parts (value v.now))) }
 {
-    match v {
-        Value::Scalar(_, scalar) => {
-            out.push_str(scalar.text)?;
-            Ok(())
-        }
-    }
+    let piece = match v {
+        Value::Scalar(_, scalar) => *scalar,
+        Value::Array(array) => array.whole,
+        Value::Inline(table) => table.whole,
+    };
+    out.push_str(piece.text)?;
+    Ok(())
 }
 
 fn push_keyval(out: &mut String, k: &KeyVal<'_>) -> Result<(), AllocError>
+    requires { ∥ IsKeyVal (keyval k.now) ∥₁ }
     ensures { OnOk result (string_bytes out.new ≡ string_bytes out.old ++ joined (keyval_parts (keyval k.now))) }
 {
     push_assign(out, &k.assign)?;
@@ -76,7 +80,28 @@ fn push_keyval(out: &mut String, k: &KeyVal<'_>) -> Result<(), AllocError>
     Ok(())
 }
 
+fn push_header(out: &mut String, h: &Header<'_>) -> Result<(), AllocError>
+    ensures { OnOk result (string_bytes out.new ≡ string_bytes out.old ++ joined (header_parts (header h.now))) }
+{
+    out.push_str("[")?;
+    out.push_str(h.before.text)?;
+    push_key(out, &h.key)?;
+    out.push_str(h.after.text)?;
+    out.push_str("]")?;
+    Ok(())
+}
+
+fn push_array_header(out: &mut String, h: &Header<'_>) -> Result<(), AllocError>
+    ensures { OnOk result (string_bytes out.new ≡ string_bytes out.old ++ joined (array_header_parts (header h.now))) }
+{
+    out.push_str("[")?;
+    push_header(out, h)?;
+    out.push_str("]")?;
+    Ok(())
+}
+
 fn push_expr(out: &mut String, e: &Expr<'_>) -> Result<(), AllocError>
+    requires { ∥ IsExpr (expr e.now) ∥₁ }
     ensures { OnOk result (string_bytes out.new ≡ string_bytes out.old ++ joined (expr_parts (expr e.now))) }
 {
     match e {
@@ -84,6 +109,18 @@ fn push_expr(out: &mut String, e: &Expr<'_>) -> Result<(), AllocError>
         Expr::KeyVal { ws, pair, tail } => {
             out.push_str(ws.text)?;
             push_keyval(out, pair)?;
+            push_blank(out, tail)?;
+            Ok(())
+        }
+        Expr::Std { ws, header, tail } => {
+            out.push_str(ws.text)?;
+            push_header(out, header)?;
+            push_blank(out, tail)?;
+            Ok(())
+        }
+        Expr::Array { ws, header, tail } => {
+            out.push_str(ws.text)?;
+            push_array_header(out, header)?;
             push_blank(out, tail)?;
             Ok(())
         }

@@ -1,4 +1,4 @@
-use Rattle.toml_scalar.proofs.Scanned.{scan_complete}
+use Rattle.toml_scalar.proofs.Scanned.{scan_complete, token_first}
 use Rattle.toml_scalar.proofs.ScanSound.{scan_sound, scan_longest}
 use Rattle.toml_scalar.proofs.OneKind.{one_kind}
 use Rattle.toml_scalar.proofs.laws.scans.Goals as goal
@@ -14,3 +14,6 @@ returns-clause-longest c token rest n found kind is = scan_longest found token r
 
 pub returns-clause-one_kind : goal.returns-clause-one_kind
 returns-clause-one_kind c = one_kind
+
+pub returns-clause-first : goal.returns-clause-first
+returns-clause-first c = token_first

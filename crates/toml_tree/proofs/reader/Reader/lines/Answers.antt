@@ -1,7 +1,7 @@
 use Rattle.std.proofs.Common.{Some, map, sym, ap, refl, ◌∙◌}
 use Rattle.std.proofs.lemmas.Result.{err_from_is_err_and}
 use Rattle.toml_tree.specs.Lines.{line}
-use Rattle.toml_tree.specs.Reading.{lines_at, line_step}
+use Rattle.toml_tree.specs.ReadingLines.{lines_at, line_step}
 use Rattle.toml_tree.specs.Reads.{cursor}
 use Rattle.toml_tree.proofs.Many.{loop_pushed, loop_ended, loop_failed, map_push}
 use Rattle.toml_tree.proofs.reader.Reader.lines.Goals as goal

@@ -1,6 +1,6 @@
 use Rattle.std.proofs.Common.{length, map}
 use Rattle.toml_tree.specs.Lines.{line}
-use Rattle.toml_tree.specs.Reading.{line_step}
+use Rattle.toml_tree.specs.ReadingLines.{line_step}
 use Rattle.toml_tree.specs.Reads.{cursor}
 use Rattle.toml_tree.proofs.Many.{Loop}
 use Rattle.toml_tree.proofs.reader.Reader.lines.Given as goal

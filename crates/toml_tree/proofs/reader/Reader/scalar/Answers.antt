@@ -2,7 +2,7 @@ use Rattle.std.proofs.Common.{◌∙◌, ap}
 use Rattle.std.proofs.lemmas.Result.{err_from_is_err_and}
 use Rattle.toml_scalar.specs.Faults.{place_of}
 use Rattle.toml_scalar.proofs.FaultPlaces.{scalar_fault_at}
-use Rattle.toml_tree.specs.Reading.{scalar_at}
+use Rattle.toml_tree.specs.ReadingValues.{scalar_at}
 use Rattle.toml_tree.specs.Reads.{cursor}
 use Rattle.toml_tree.proofs.Taken.{scalar_taken, no_scalar, fails_here}
 use Rattle.toml_tree.proofs.reader.Reader.scalar.Goals as goal
