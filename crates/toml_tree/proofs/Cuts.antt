@@ -3,7 +3,7 @@ use Rattle.std.proofs.Common.{◌≡◌, ℕ, ◌+◌, ◌<◌, true, false, ◌
 use Rattle.std.specs.Prelude.{◌==◌, if◌then◌else◌}
 use Rattle.std.specs.Char.{encode_utf8}
 use Rattle.std.proofs.lemmas.Bool.{and_parts, eqb-true}
-use Rattle.std.proofs.lemmas.Str.{IsCharBoundary-start, IsCharBoundary-from_rest, IsCharBoundary-past_char, IsUtf8-drop, IsUtf8-from_is_utf8}
+use Rattle.std.proofs.lemmas.Str.{IsCharBoundary-start, IsCharBoundary-at_seam, IsCharBoundary-from_rest, IsCharBoundary-past_char, IsUtf8-drop, IsUtf8-from_is_utf8}
 use Rattle.std.proofs.iter.AsciiBoundary.{after_IsAscii}
 use Rattle.toml_text.specs.Limit.{IsText}
 use Rattle.toml_text.specs.Runs.{begins, is_byte}
@@ -38,3 +38,9 @@ module _ (text : List ℕ) (at : ℕ) (is_text : IsText text) (bound : IsCharBou
 
   pub behind_mark : IsCharBoundary text (at + length (mark_of (drop at text)))
   behind_mark = IsCharBoundary-from_rest text at _ bound.0 (mark_cut (drop at text) utf8)
+
+  -- a place that a reader of some text has reached, over these bytes
+  pub behind_bytes : (other : List ℕ) (last : ℕ) (bytes : List ℕ) → IsText other → IsCharBoundary other last → drop at text ≡ bytes ++ drop last other → IsCharBoundary text (at + length bytes)
+  behind_bytes other last bytes other_text other_bound is =
+      IsCharBoundary-from_rest text at (length bytes) bound.0
+      (IsCharBoundary-at_seam (drop at text) bytes (drop last other) is (IsUtf8-drop other last (IsUtf8-from_is_utf8 other other_text.utf8) other_bound))

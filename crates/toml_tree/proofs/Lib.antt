@@ -8,3 +8,8 @@ pub mod Pieces
 pub mod Formed
 pub mod Texts
 pub mod Taken
+pub mod Ends
+pub mod Views
+pub mod SoundValues
+pub mod SoundLines
+pub mod Aheads

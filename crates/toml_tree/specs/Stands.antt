@@ -12,3 +12,7 @@ pub record Behind (bytes : List ℕ) (c d : Cursor) : Type 0 where
 abbrev pub Spans : List Part → Cursor → Cursor → Type 0
 Spans [] c d = c ≡ d
 Spans (p ∷ ps) c d = (m : Cursor) × StartsAt p c.at × Behind (part_text p) c m × Spans ps m d
+
+-- d stands behind c in one text, or where c does
+abbrev pub IsAhead : Cursor → Cursor → Type 0
+IsAhead c d = (bytes : List ℕ) × Behind bytes c d

@@ -52,13 +52,13 @@ last_ends (e ∷ []) = tree.Last e.before e.value e.after
 last_ends (e ∷ f ∷ es) = tree.More e.before e.value e.after (last_ends (f ∷ es))
 
 -- the items of an array: the gap behind a last comma, or of an array of no item, is its end
-abbrev pub items : List Element → Option Gap → tree.Items
-items es (Some g) = before_end es (tree.Close (gap g))
-items es None = last_ends es
+abbrev pub array_items : List Element → Option Gap → tree.Items
+array_items es (Some g) = before_end es (tree.Close (gap g))
+array_items es None = last_ends es
 
 -- one level of a value, the levels below it being trees already
 abbrev pub array_step : Array-F tree.Value tree.Value tree.Value Element tree.KeyVal Member → tree.Value
-array_step a = tree.Array (piece a.whole) (items a.items.items a.end)
+array_step a = tree.Array (piece a.whole) (array_items a.items.items a.end)
 
 abbrev pub item_step : Item-F tree.Value tree.Value tree.Value Element tree.KeyVal Member → Element
 item_step i = record { before = gap i.before; value = i.value; after = gap i.after }
@@ -80,11 +80,11 @@ value_step (layer.Inline t) = t.value
 abbrev pub value : Value → tree.Value
 value = fold-Value tree.Value tree.Value tree.Value Element tree.KeyVal Member value_step array_step inline_step item_step keyval_step pair_step
 
-abbrev pub item : Item → Element
-item = fold-Item tree.Value tree.Value tree.Value Element tree.KeyVal Member value_step array_step inline_step item_step keyval_step pair_step
+abbrev pub element : Item → Element
+element = fold-Item tree.Value tree.Value tree.Value Element tree.KeyVal Member value_step array_step inline_step item_step keyval_step pair_step
 
-abbrev pub pair : Pair → Member
-pair = fold-Pair tree.Value tree.Value tree.Value Element tree.KeyVal Member value_step array_step inline_step item_step keyval_step pair_step
+abbrev pub member : Pair → Member
+member = fold-Pair tree.Value tree.Value tree.Value Element tree.KeyVal Member value_step array_step inline_step item_step keyval_step pair_step
 
 abbrev pub keyval : KeyVal → tree.KeyVal
 keyval = fold-KeyVal tree.Value tree.Value tree.Value Element tree.KeyVal Member value_step array_step inline_step item_step keyval_step pair_step
@@ -92,7 +92,7 @@ keyval = fold-KeyVal tree.Value tree.Value tree.Value Element tree.KeyVal Member
 -- what ends the items of an array: a gap, or an element that no comma follows
 abbrev pub array_end : ArrayEnd → tree.Items
 array_end (ends.Gap g) = tree.Close (gap g)
-array_end (ends.Item i) = last_ends (item i ∷ [])
+array_end (ends.Item i) = last_ends (element i ∷ [])
 
 abbrev pub header : Header → tree.Header
 header h = record { before = piece h.before; key = key h.key; after = piece h.after }

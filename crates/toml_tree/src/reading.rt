@@ -5,8 +5,9 @@ ghost use Rattle.toml_scalar.specs.Faults.{IsAt};
 ghost use Rattle.toml_text.specs.Bytes.{is_ws};
 ghost use Rattle.toml_text.specs.Runs.{begins, is_byte, newline_len};
 ghost use Rattle.toml_text.specs.Source.{text_of};
-ghost use Rattle.toml_tree.specs.Reading.{here, ahead, run_at, comment_at, blank_at};
+ghost use Rattle.toml_tree.specs.Reading.{here, ahead, up_to, run_at, comment_at, blank_at};
 ghost use Rattle.toml_tree.specs.Reads.{cursor, Onward};
+ghost use Rattle.toml_tree.specs.Stands.{IsAhead};
 ghost use Rattle.toml_tree.specs.View.{piece, blank};
 
 use crate::piece::{Blank, Piece};
@@ -40,6 +41,14 @@ impl<'t> Reader<'t> {
         let text = self.source.slice(Span { start, end });
         self.at = end;
         Piece { text, start }
+    }
+
+    /// The piece from here up to where the other reader stands.
+    pub fn up_to(mut self, last: &Reader<'t>) -> Piece<'t>
+        requires { IsAhead (cursor self) (cursor last.now) }
+        ensures { piece result ≡ up_to (cursor last.now) (cursor self.entry) }
+    {
+        self.take_to(last.at)
     }
 
     /// Whether this byte stands here.

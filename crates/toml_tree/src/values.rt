@@ -1,10 +1,9 @@
 //! Values: scalars, arrays and inline tables, each nesting at most so deep.
 ghost use Rattle.std.specs.Prelude.{◌≡◌, map, IfOk, option_map};
 ghost use Rattle.toml_scalar.specs.Faults.{IsAt};
-ghost use Rattle.toml_tree.specs.Reading.{◌>>=◌};
 ghost use Rattle.toml_tree.specs.ReadingValues.{scalar_at, item_step, after_element, items_at, array_at, keyval_at, pair_step, after_member, pairs_at, closed_at, inline_at, value_at, before_end};
 ghost use Rattle.toml_tree.specs.Reads.{cursor, Moves, Onward, Reads, step};
-ghost use Rattle.toml_tree.specs.View.{piece, value, item, items, array_end, keyval, pair};
+ghost use Rattle.toml_tree.specs.View.{piece, value, element, array_items, array_end, keyval, member};
 
 use crate::piece::{Gap, Piece};
 use crate::reader::Reader;
@@ -21,17 +20,19 @@ fn ended<'t>(
     mut items: Vec<Item<'t>>,
     end: ArrayEnd<'t>,
 ) -> Result<(Vec<Item<'t>>, Option<Gap<'t>>), AllocError>
-    ensures { IfOk result (λ r. items (map item r.0.items) r.1 ≡ before_end (map item items.entry.items) (array_end end.entry)) }
+    ensures { IfOk result (λ r. array_items (map element r.0.items) r.1 ≡ before_end (map element items.entry.items) (array_end end.entry)) }
 {
-    let end = match end {
-        ArrayEnd::Gap(gap) => Some(gap),
+    match end {
+        ArrayEnd::Gap(gap) => {
+            items.shrink_to_fit();
+            Ok((items, Some(gap)))
+        }
         ArrayEnd::Item(item) => {
             items.push(item)?;
-            None
+            items.shrink_to_fit();
+            Ok((items, None))
         }
-    };
-    items.shrink_to_fit();
-    Ok((items, end))
+    }
 }
 
 impl<'t> Reader<'t> {
@@ -76,12 +77,12 @@ impl<'t> Reader<'t> {
     fn array(&mut self, alloc: Global, deep: usize) -> Result<Value<'t>, SyntaxFault>
         ensures { Reads value (cursor self.old) (cursor self.new) result (array_at (value_at deep) (cursor self.old)) }
     {
-        let mut start = *self;
+        let start = *self;
         if !self.eat(b'[') {
             return Err(self.refuse());
         }
         let (items, end) = self.items(alloc, deep)?;
-        let whole = start.take_to(self.at);
+        let whole = start.up_to(self);
         let array = Array { whole, items, end };
         Ok(Value::Array(Box::new(alloc, array)?))
     }
@@ -93,7 +94,7 @@ impl<'t> Reader<'t> {
         alloc: Global,
         deep: usize,
     ) -> Result<(Vec<Item<'t>>, Option<Gap<'t>>), SyntaxFault>
-        ensures { Reads (λ r. items (map item r.0.items) r.1) (cursor self.old) (cursor self.new) result (items_at (value_at deep) (cursor self.old)) }
+        ensures { Reads (λ r. array_items (map element r.0.items) r.1) (cursor self.old) (cursor self.new) result (items_at (value_at deep) (cursor self.old)) }
     {
         let mut items = Vec::new(alloc);
         loop {
@@ -112,7 +113,7 @@ impl<'t> Reader<'t> {
         alloc: Global,
         deep: usize,
     ) -> Result<Step<Item<'t>, ArrayEnd<'t>>, SyntaxFault>
-        ensures reads { Reads (step item array_end) (cursor self.old) (cursor self.new) result (item_step (value_at deep) (cursor self.old)) }
+        ensures reads { Reads (step element array_end) (cursor self.old) (cursor self.new) result (item_step (value_at deep) (cursor self.old)) }
         ensures moves { IfOk result (Moves (cursor self.old) (cursor self.new)) }
     {
         let before = self.gap(alloc)?;
@@ -131,7 +132,7 @@ impl<'t> Reader<'t> {
     /// The comma behind an item, or the end of its array.
     #[tactic(auto, unfolding(crate::specs::ReadingValues::after_element))]
     fn after_item(&mut self, item: Item<'t>) -> Result<Step<Item<'t>, ArrayEnd<'t>>, SyntaxFault>
-        ensures reads { Reads (step item array_end) (cursor self.old) (cursor self.new) result (after_element (item item.entry) (cursor self.old)) }
+        ensures reads { Reads (step element array_end) (cursor self.old) (cursor self.new) result (after_element (element item.entry) (cursor self.old)) }
         ensures moves { IfOk result (Moves (cursor self.old) (cursor self.new)) }
     {
         if self.eat(b',') {
@@ -149,7 +150,7 @@ impl<'t> Reader<'t> {
     fn inline_table(&mut self, alloc: Global, deep: usize) -> Result<Value<'t>, SyntaxFault>
         ensures { Reads value (cursor self.old) (cursor self.new) result (inline_at (value_at deep) (cursor self.old)) }
     {
-        let mut start = *self;
+        let start = *self;
         if !self.eat(b'{') {
             return Err(self.refuse());
         }
@@ -158,7 +159,7 @@ impl<'t> Reader<'t> {
             Some(_) => Vec::new(alloc),
             None => self.pairs(alloc, deep)?,
         };
-        let whole = start.take_to(self.at);
+        let whole = start.up_to(self);
         let table = InlineTable { whole, pairs, ws };
         Ok(Value::Inline(Box::new(alloc, table)?))
     }
@@ -182,7 +183,7 @@ impl<'t> Reader<'t> {
     /// `inline-table-keyvals ws %x7D`
     #[cycle(value)]
     fn pairs(&mut self, alloc: Global, deep: usize) -> Result<Vec<Pair<'t>>, SyntaxFault>
-        ensures { Reads (λ v. map pair v.items) (cursor self.old) (cursor self.new) result (pairs_at (value_at deep) (cursor self.old)) }
+        ensures { Reads (λ v. map member v.items) (cursor self.old) (cursor self.new) result (pairs_at (value_at deep) (cursor self.old)) }
     {
         let mut pairs = Vec::new(alloc);
         loop {
@@ -205,7 +206,7 @@ impl<'t> Reader<'t> {
         alloc: Global,
         deep: usize,
     ) -> Result<Step<Pair<'t>, Pair<'t>>, SyntaxFault>
-        ensures reads { Reads (step pair pair) (cursor self.old) (cursor self.new) result (pair_step (value_at deep) (cursor self.old)) }
+        ensures reads { Reads (step member member) (cursor self.old) (cursor self.new) result (pair_step (value_at deep) (cursor self.old)) }
         ensures moves { IfOk result (Moves (cursor self.old) (cursor self.new)) }
     {
         let before = self.ws();
@@ -221,7 +222,7 @@ impl<'t> Reader<'t> {
     /// The comma behind a pair, or the end of its inline table.
     #[tactic(auto, unfolding(crate::specs::ReadingValues::after_member))]
     fn after_pair(&mut self, pair: Pair<'t>) -> Result<Step<Pair<'t>, Pair<'t>>, SyntaxFault>
-        ensures reads { Reads (step pair pair) (cursor self.old) (cursor self.new) result (after_member (pair pair.entry) (cursor self.old)) }
+        ensures reads { Reads (step member member) (cursor self.old) (cursor self.new) result (after_member (member pair.entry) (cursor self.old)) }
         ensures moves { IfOk result (Moves (cursor self.old) (cursor self.new)) }
     {
         if self.eat(b',') {

@@ -1,9 +1,10 @@
-use Rattle.std.proofs.Common.{◌∙◌, ap}
+use Rattle.std.proofs.Common.{Some, ◌∙◌, ap, sym}
 use Rattle.std.proofs.lemmas.Result.{err_from_is_err_and}
 use Rattle.toml_scalar.specs.Faults.{place_of}
 use Rattle.toml_scalar.proofs.FaultPlaces.{scalar_fault_at}
 use Rattle.toml_tree.specs.ReadingValues.{scalar_at}
 use Rattle.toml_tree.specs.Reads.{cursor}
+use Rattle.toml_tree.proofs.Views.{value_scalar}
 use Rattle.toml_tree.proofs.Taken.{scalar_taken, no_scalar, fails_here}
 use Rattle.toml_tree.proofs.reader.Reader.scalar.Goals as goal
 
@@ -17,4 +18,5 @@ returns-in_err-span c =
 pub returns : goal.returns
 returns c =
     let k = c.in_ok-span.ensures in
-    (scalar_taken (cursor c.args.self.now) k.0 c.in_ok-span.span.end k.2.end _ _ c.take_to.ensures.piece c.take_to.ensures.after _ k.1, c.take_to.ensures.onward)
+    (scalar_taken (cursor c.args.self.now) k.0 c.in_ok-span.span.end k.2.end _ _ c.take_to.ensures.piece c.take_to.ensures.after _ k.1
+     ∙ ap (λ v. Some (v, cursor c.take_to.new.self)) (sym (value_scalar c.in_ok-span.kind c.take_to.result)), c.take_to.ensures.onward)
