@@ -11,7 +11,7 @@ use Rattle.toml_tree.specs.ReadingLines.{expr_at}
 use Rattle.toml_tree.specs.Spells.{IsExpr, expr_parts}
 use Rattle.toml_tree.specs.Tree as tree
 use Rattle.toml_tree.specs.View.{piece, expr, IsLine}
-use Rattle.toml_tree.proofs.Sound.{expr_sound}
+use Rattle.toml_tree.proofs.SoundLines.{expr_sound}
 use Rattle.toml_tree.proofs.Spans.{Spans}
 
 pub line_formed : (e : Expr) (n : Piece) (c d : Cursor) → expr_at c ≡ Some (expr e, d) → piece n ≡ here (newline_len d.rest) d → ∥ IsLine e n ∥₁

@@ -1,5 +1,5 @@
--- What the plain reader reads is in the forms, and stands where it was read.
-use Rattle.std.proofs.Common.{◌≡◌, ℕ, zero, suc, ◌+◌, ◌<◌, ◌≤◌, Bool, true, false, cond, eqb, List, [], ◌∷◌, ◌++◌, length, take, drop, Option, Some, None, sym, refl, ap, ◌∙◌, subst, arith, append_assoc, ⊎_elim}
+-- What the plain reader reads is in the forms, and stands where it was read: here pieces, loops and keys.
+use Rattle.std.proofs.Common.{◌≡◌, ℕ, zero, suc, ◌+◌, ◌<◌, ◌≤◌, Bool, true, false, cond, eqb, List, [], ◌∷◌, ◌++◌, length, take, Option, Some, None, sym, refl, ap, ◌∙◌, subst, arith, append_assoc, ⊎_elim}
 use Rattle.std.specs.Prelude.{IfSome}
 use Rattle.std.proofs.lemmas.Bool.{false≢true, eqb-true, eqb-false}
 use Rattle.std.proofs.lemmas.List.{append-nil, take-append-drop, length-take-le}
@@ -8,15 +8,11 @@ use Rattle.toml_text.specs.Forms.{Each, IsWs, IsNewline, IsComment}
 use Rattle.toml_text.specs.Runs.{run_len, begins, is_byte, newline_len, comment_len}
 use Rattle.toml_text.proofs.Found.{run_piece, newlines_piece, comments_piece}
 use Rattle.toml_scalar.specs.Names.{IsKeyPart}
-use Rattle.toml_scalar.specs.Scanning.{scan_at, key_part_len, is_key_start}
-use Rattle.toml_scalar.specs.Tokens.{IsToken}
-use Rattle.toml_scalar.proofs.ScanSound.{scan_sound}
+use Rattle.toml_scalar.specs.Scanning.{key_part_len}
 use Rattle.toml_scalar.proofs.Keys.{part_sound}
-use Rattle.toml_tree.specs.Tree.{Piece, Line}
-use Rattle.toml_tree.specs.Spells.{Part, piece, symbol, EachIs, all_parts, comment_parts, blank_parts, dotted_parts, key_parts, assign_parts, value_parts, keyval_parts, expr_parts, lines_parts, IsCommentOrNone, IsBlank, IsDotted, IsKey, IsAssign, IsValue, IsKeyVal, IsExpr, AreLines, line_parts}
+use Rattle.toml_tree.specs.Tree.{Piece}
+use Rattle.toml_tree.specs.Spells.{Part, piece, symbol, EachIs, all_parts, comment_parts, blank_parts, dotted_parts, key_parts, equals_parts, assign_parts, IsCommentOrNone, IsBlank, IsDotted, IsKey, IsAssign}
 use Rattle.toml_tree.specs.Reading.{Cursor, ◌>>=◌, here, ahead, many, all_of, run_at, comment_at, blank_at, part_at, dotted_step, dotted_at, key_at, equals_at, assign_at}
-use Rattle.toml_tree.specs.ReadingValues.{scalar_at, keyval_at}
-use Rattle.toml_tree.specs.ReadingLines.{expr_at, line_step, lines_at}
 use Rattle.toml_tree.specs.declared.step.Step.{Step}
 use Rattle.toml_tree.specs.declared.step.Step.TheVariants.{Next, Done}
 use Rattle.toml_tree.proofs.Spans.{Behind, Spans, spans_append}
@@ -25,6 +21,10 @@ use Rattle.toml_tree.proofs.Spans.{Behind, Spans, spans_append}
 pub sound_bind : {A B : Type 0} (o : Option A) (f : A → Option B) (R : A → Type 0) (S : B → Type 0) → IfSome o R → ((a : A) → R a → IfSome (f a) S) → IfSome (o >>= f) S
 sound_bind None f R S h k = tt
 sound_bind (Some a) f R S h k = k a h
+
+pub sound_map : {A : Type 0} (o : Option A) (R S : A → Type 0) → IfSome o R → ((a : A) → R a → S a) → IfSome o S
+sound_map None R S h k = tt
+sound_map (Some a) R S h k = k a h
 
 pub sound_cond : {A : Type 0} (b : Bool) (x y : Option A) (R : A → Type 0) → (b ≡ true → IfSome x R) → (b ≡ false → IfSome y R) → IfSome (cond b x y) R
 sound_cond true x y R h k = h refl
@@ -52,6 +52,17 @@ pub run_sound : (p : ℕ → Bool) (c : Cursor) → Each p (run_at p c).0.text �
 unfolding run_at
 run_sound p c = let k = run_piece p c.rest in (k.1, spans_here (run_len p c.rest) c k.0)
 
+pub newline_form : (bs : List ℕ) → (newline_len bs ≡ 0 → ⊥) → IsNewline (take (newline_len bs) bs)
+newline_form bs h = ⊎_elim (λ (z : newline_len bs ≡ 0). absurd (h z)) (λ (k : IsNewline (take (newline_len bs) bs)). k) (newlines_piece bs).1
+
+-- a run, and what stands behind it
+pub run_then : (p : ℕ → Bool) (ps : List Part) (c d : Cursor) → Spans ps (run_at p c).1 d → Spans (piece (run_at p c).0 ∷ ps) c d
+run_then p ps c d h = spans_append (piece (run_at p c).0 ∷ []) ps c (run_at p c).1 d (run_sound p c).1 h
+
+-- a symbol, and what stands behind it
+pub symbol_then : (b : ℕ) (ps : List Part) (c d : Cursor) → begins (is_byte b) c.rest ≡ true → Spans ps (ahead 1 c) d → Spans (symbol (b ∷ []) ∷ ps) c d
+symbol_then b ps c d e h = spans_append (symbol (b ∷ []) ∷ []) ps c (ahead 1 c) d (spans_symbol b c e) h
+
 -- a comment or none stands between two places
 abbrev pub IsCommentAt : Cursor → Option Piece × Cursor → Type 0
 IsCommentAt c r = IsCommentOrNone r.0 × Spans (comment_parts r.0) c r.1
@@ -69,10 +80,9 @@ comment_sound c =
 pub blank_sound : (c : Cursor) → IsBlank (blank_at c).0 × Spans (blank_parts (blank_at c).0) c (blank_at c).1
 unfolding blank_at
 blank_sound c =
-    let w = run_sound is_ws c in
     let m = (run_at is_ws c).1 in
     let k = comment_sound m in
-    ((w.0, k.0), spans_append (piece (run_at is_ws c).0 ∷ []) (comment_parts (comment_at m).0) c m (comment_at m).1 w.1 k.1)
+    (((run_sound is_ws c).0, k.0), run_then is_ws (comment_parts (comment_at m).0) c (comment_at m).1 k.1)
 
 -- loops
 -- what a step of a loop has read
@@ -98,16 +108,15 @@ module _ {A B : Type 0} (P : A → Type 0) (f : A → List Part) (Q : B → Curs
       after again c (Done b) m h = (tt, h.0, h.1)
 
 -- an option, by what it is
-if_some : {A : Type 0} (o : Option A) (R : A → Type 0) → ((a : A) → o ≡ Some a → R a) → IfSome o R
+pub if_some : {A : Type 0} (o : Option A) (R : A → Type 0) → ((a : A) → o ≡ Some a → R a) → IfSome o R
 if_some None R h = tt
 if_some (Some a) R h = h a refl
 
--- values
-pub scalar_sound : (c : Cursor) → IfSome (scalar_at c) (λ r. IsValue r.0 × Spans (value_parts r.0) c r.1)
-unfolding scalar_at
-scalar_sound c = sound_bind (scan_at c.rest) _ (λ r. (r.0 ≤ length c.rest) × IsToken r.1 (take r.0 c.rest)) _ (if_some (scan_at c.rest) _ (λ r h. scan_sound c.rest r.0 r.1 h)) (λ r h. (h.1, spans_here r.0 c h.0))
+pub all_parts_push : {A : Type 0} (f : A → List Part) (xs : List A) (x : A) → all_parts f (xs ++ x ∷ []) ≡ all_parts f xs ++ f x
+all_parts_push f [] x = append-nil (f x)
+all_parts_push f (y ∷ xs) x = ap (λ l. f y ++ l) (all_parts_push f xs x) ∙ sym (append_assoc (f y) (all_parts f xs) (f x))
 
--- keys and pairs
+-- keys
 part_sound_at : (c : Cursor) → IfSome (part_at c) (λ r. IsKeyPart r.0.text × Spans (piece r.0 ∷ []) c r.1)
 unfolding part_at
 part_sound_at c = sound_bind (key_part_len c.rest) _ (λ n. (n ≤ length c.rest) × (0 < n) × IsKeyPart (take n c.rest)) _ (if_some (key_part_len c.rest) _ (λ n h. part_sound c.rest n h)) (λ n h. (h.2, spans_here n c h.0))
@@ -121,16 +130,15 @@ no_parts u = []
 dotted_step_sound : (c : Cursor) → IfSome (dotted_step c) (StepIs IsDotted dotted_parts EndsKey no_parts c)
 unfolding dotted_step
 dotted_step_sound c =
-    let b = run_sound is_ws c in
     let m = (run_at is_ws c).1 in
-    let a = run_sound is_ws (ahead 1 m) in
+    let a = (run_at is_ws (ahead 1 m)).0 in
     let n = (run_at is_ws (ahead 1 m)).1 in
     sound_cond (begins (is_byte 0x2E) m.rest) _ _ _
     (λ e. sound_bind (part_at n) _ _ _ (part_sound_at n) (λ p ps. (
-      (b.0, a.0, ps.0),
-      spans_append (piece (run_at is_ws c).0 ∷ []) (symbol (0x2E ∷ []) ∷ piece (run_at is_ws (ahead 1 m)).0 ∷ piece p.0 ∷ []) c m p.1 b.1
-          (spans_append (symbol (0x2E ∷ []) ∷ []) (piece (run_at is_ws (ahead 1 m)).0 ∷ piece p.0 ∷ []) m (ahead 1 m) p.1 (spans_symbol 0x2E m e)
-          (spans_append (piece (run_at is_ws (ahead 1 m)).0 ∷ []) (piece p.0 ∷ []) (ahead 1 m) n p.1 a.1 ps.1)),
+      ((run_sound is_ws c).0, (run_sound is_ws (ahead 1 m)).0, ps.0),
+      run_then is_ws (symbol (0x2E ∷ []) ∷ piece a ∷ piece p.0 ∷ []) c p.1
+          (symbol_then 0x2E (piece a ∷ piece p.0 ∷ []) m p.1 e
+          (run_then is_ws (piece p.0 ∷ []) (ahead 1 m) p.1 ps.1)),
     )))
     (λ _. (tt, refl))
 
@@ -138,99 +146,27 @@ dotted_sound : (c : Cursor) → IfSome (dotted_at c) (λ r. EachIs IsDotted r.0 
 unfolding dotted_at
 dotted_sound c = sound_bind (all_of dotted_step c) _ _ _ (many_sound IsDotted dotted_parts EndsKey no_parts dotted_step dotted_step_sound (length c.rest + 1) c) (λ r k. (k.0, subst (λ ps. Spans ps c r.2) (append-nil (all_parts dotted_parts r.0)) k.2))
 
-key_sound : (c : Cursor) → IfSome (key_at c) (λ r. IsKey r.0 × Spans (key_parts r.0) c r.1)
+pub key_sound : (c : Cursor) → IfSome (key_at c) (λ r. IsKey r.0 × Spans (key_parts r.0) c r.1)
 unfolding key_at
 key_sound c = sound_bind (part_at c) _ _ _ (part_sound_at c) (λ p ps. sound_bind (dotted_at p.1) _ _ _ (dotted_sound p.1) (λ r rs. (
   (ps.0, rs.0),
   spans_append (piece p.0 ∷ []) (all_parts dotted_parts r.0) c p.1 r.1 ps.1 rs.1,
 )))
 
-equals_sound : (c : Cursor) → IfSome (equals_at c) (λ r. IsWs r.0.0.text × IsWs r.0.1.text × Spans (piece r.0.0 ∷ symbol (0x3D ∷ []) ∷ piece r.0.1 ∷ []) c r.1)
+equals_sound : (c : Cursor) → IfSome (equals_at c) (λ r. IsWs r.0.0.text × IsWs r.0.1.text × Spans (equals_parts r.0.0 r.0.1) c r.1)
 unfolding equals_at
 equals_sound c =
-    let b = run_sound is_ws c in
     let m = (run_at is_ws c).1 in
     let a = run_sound is_ws (ahead 1 m) in
+    let after = (run_at is_ws (ahead 1 m)).0 in
+    let d = (run_at is_ws (ahead 1 m)).1 in
     sound_cond (begins (is_byte 0x3D) m.rest) _ _ _
-    (λ e. (b.0, a.0, spans_append (piece (run_at is_ws c).0 ∷ []) (symbol (0x3D ∷ []) ∷ piece (run_at is_ws (ahead 1 m)).0 ∷ []) c m _ b.1 (spans_append (symbol (0x3D ∷ []) ∷ []) (piece (run_at is_ws (ahead 1 m)).0 ∷ []) m (ahead 1 m) _ (spans_symbol 0x3D m e) a.1)))
+    (λ e. ((run_sound is_ws c).0, a.0, run_then is_ws (symbol (0x3D ∷ []) ∷ piece after ∷ []) c d (symbol_then 0x3D (piece after ∷ []) m d e a.1)))
     (λ _. tt)
 
-assign_sound : (c : Cursor) → IfSome (assign_at c) (λ r. IsAssign r.0 × Spans (assign_parts r.0) c r.1)
+pub assign_sound : (c : Cursor) → IfSome (assign_at c) (λ r. IsAssign r.0 × Spans (assign_parts r.0) c r.1)
 unfolding assign_at
 assign_sound c = sound_bind (key_at c) _ _ _ (key_sound c) (λ k ks. sound_bind (equals_at k.1) _ _ _ (equals_sound k.1) (λ e es. (
   (ks.0, es.0, es.1),
-  spans_append (key_parts k.0) (piece e.0.0 ∷ symbol (0x3D ∷ []) ∷ piece e.0.1 ∷ []) c k.1 e.1 ks.1 es.2,
+  spans_append (key_parts k.0) (equals_parts e.0.0 e.0.1) c k.1 e.1 ks.1 es.2,
 )))
-
-keyval_sound : (c : Cursor) → IfSome (keyval_at c) (λ r. IsKeyVal r.0 × Spans (keyval_parts r.0) c r.1)
-unfolding keyval_at
-keyval_sound c = sound_bind (assign_at c) _ _ _ (assign_sound c) (λ a assigned. sound_bind (scalar_at a.1) _ _ _ (scalar_sound a.1) (λ v vs. (
-  (assigned.0, vs.0),
-  spans_append (assign_parts a.0) (value_parts v.0) c a.1 v.1 assigned.1 vs.1,
-)))
-
--- lines
-pub expr_sound : (c : Cursor) → IfSome (expr_at c) (λ r. IsExpr r.0 × Spans (expr_parts r.0) c r.1)
-unfolding expr_at
-expr_sound c =
-    let w = run_sound is_ws c in
-    let m = (run_at is_ws c).1 in
-    sound_cond (begins is_key_start m.rest) _ _ _
-    (λ e. sound_bind (keyval_at m) _ _ _ (keyval_sound m) (λ k ks.
-    let b = blank_sound k.1 in
-    ((w.0, ks.0, b.0), spans_append (piece (run_at is_ws c).0 ∷ []) (keyval_parts k.0 ++ blank_parts (blank_at k.1).0) c m (blank_at k.1).1 w.1 (spans_append (keyval_parts k.0) (blank_parts (blank_at k.1).0) m k.1 (blank_at k.1).1 ks.1 b.1))))
-    (λ _.
-    let r = comment_sound m in
-    ((w.0, r.0), spans_append (piece (run_at is_ws c).0 ∷ []) (comment_parts (comment_at m).0) c m (comment_at m).1 w.1 r.1))
-
-abbrev pub IsEndedLine : Line → Type 0
-IsEndedLine l = IsExpr l.expr × IsNewline l.newline.text
-
-abbrev pub IsLastLine : Line → Cursor → Type 0
-IsLastLine l d = IsExpr l.expr × (l.newline.text ≡ []) × (d.rest ≡ [])
-
-empty_is : (xs : List ℕ) → length xs ≡ 0 → xs ≡ []
-empty_is [] h = refl
-empty_is (x ∷ xs) h = absurd (omega arith)
-
-pub newline_form : (bs : List ℕ) → (newline_len bs ≡ 0 → ⊥) → IsNewline (take (newline_len bs) bs)
-newline_form bs h = ⊎_elim (λ (z : newline_len bs ≡ 0). absurd (h z)) (λ (k : IsNewline (take (newline_len bs) bs)). k) (newlines_piece bs).1
-
-line_step_sound : (c : Cursor) → IfSome (line_step c) (StepIs IsEndedLine line_parts IsLastLine line_parts c)
-unfolding line_step
-line_step_sound c = sound_bind (expr_at c) _ _ _ (expr_sound c) (λ e es.
-    let n = newline_len e.1.rest in
-    let parts = spans_append (expr_parts e.0) (piece (here n e.1) ∷ []) c e.1 (ahead n e.1) es.1 (spans_here n e.1 (newlines_piece e.1.rest).0) in
-    sound_cond (eqb n 0) _ _ _
-    (λ z. sound_cond (eqb (length e.1.rest) 0) _ _ _
-    (λ y.
-    let none : e.1.rest ≡ [] = empty_is _ (eqb-true _ _ y) in
-    ((es.0, ap (take n) none ∙ take-nil n, ap (drop n) none ∙ drop-nil n), parts))
-    (λ _. tt))
-    (λ z. ((es.0, newline_form e.1.rest (eqb-false n 0 z)), parts)))
-  where
-    take-nil : (n : ℕ) → ◌≡◌ {A = List ℕ} (take n []) []
-    take-nil zero = refl
-    take-nil (suc n) = refl
-
-    drop-nil : (n : ℕ) → ◌≡◌ {A = List ℕ} (drop n []) []
-    drop-nil zero = refl
-    drop-nil (suc n) = refl
-
-ended_lines : (ls : List Line) (l : Line) (d : Cursor) → EachIs IsEndedLine ls → IsLastLine l d → AreLines (ls ++ l ∷ [])
-ended_lines [] l d h k = (k.0, k.1)
-ended_lines (m ∷ []) l d h k = (h.0.0, h.0.1, (k.0, k.1))
-ended_lines (m ∷ o ∷ ls) l d h k = (h.0.0, h.0.1, ended_lines (o ∷ ls) l d h.1 k)
-
-pub all_parts_push : {A : Type 0} (f : A → List Part) (xs : List A) (x : A) → all_parts f (xs ++ x ∷ []) ≡ all_parts f xs ++ f x
-all_parts_push f [] x = parts-nil (f x)
-  where
-    parts-nil : (ps : List Part) → ps ++ [] ≡ ps
-    parts-nil [] = refl
-    parts-nil (p ∷ ps) = ap (λ l. p ∷ l) (parts-nil ps)
-all_parts_push f (y ∷ xs) x = ap (λ l. f y ++ l) (all_parts_push f xs x) ∙ sym (append_assoc (f y) (all_parts f xs) (f x))
-
-pub lines_sound : (c : Cursor) → IfSome (lines_at c) (λ r. AreLines r.0 × Spans (lines_parts r.0) c r.1 × (r.1.rest ≡ []))
-unfolding lines_at
-lines_sound c = sound_bind (all_of line_step c) _ _ _ (many_sound IsEndedLine line_parts IsLastLine line_parts line_step line_step_sound (length c.rest + 1) c) (λ r k.
-    (ended_lines r.0 r.1 r.2 k.0 k.1, subst (λ l. Spans l c r.2) (sym (all_parts_push line_parts r.0 r.1)) k.2, k.1.2))
