@@ -19,7 +19,8 @@ use Rattle.toml_tree.specs.ReadingLines.{expr_at, line_step, lines_at}
 use Rattle.toml_tree.specs.declared.step.Step.{Step}
 use Rattle.toml_tree.specs.declared.step.Step.TheVariants.{Next, Done}
 use Rattle.toml_tree.proofs.Spans.{Behind, Spans, spans_split, spans_joined, behind_ahead, behind_take}
-use Rattle.toml_tree.proofs.Sound.{all_parts_push, IsEndedLine}
+use Rattle.toml_tree.proofs.Sound.{all_parts_push}
+use Rattle.toml_tree.proofs.SoundLines.{IsEndedLine}
 
 -- the first byte
 begins_other : (p q : ℕ → Bool) (bs : List ℕ) → ((b : ℕ) → p b ≡ true → q b ≡ false) → begins p bs ≡ true → begins q bs ≡ false

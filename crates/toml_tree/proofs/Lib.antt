@@ -1,8 +1,11 @@
 pub mod Many
 pub mod Spans
 pub mod Sound
+pub mod SoundValues
+pub mod SoundLines
 pub mod Complete
 pub mod Exact
+pub mod ExactValues
 pub mod Cuts
 pub mod Pieces
 pub mod Formed
