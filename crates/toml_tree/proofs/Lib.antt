@@ -2,9 +2,11 @@ pub mod Many
 pub mod Spans
 pub mod Sound
 pub mod Complete
+pub mod Marks
 pub mod Exact
 pub mod Cuts
 pub mod Pieces
 pub mod Formed
+pub mod Views
 pub mod Texts
 pub mod Taken
