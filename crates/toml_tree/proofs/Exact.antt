@@ -1,6 +1,6 @@
 -- The plain reader reads a text exactly where a tree spells it, and reads that tree.
-use Rattle.std.proofs.Common.{◌≡◌, ℕ, ◌+◌, ◌≤◌, List, [], ◌∷◌, ◌++◌, length, take, drop, Option, Some, None, sym, refl, ap, ◌∙◌, subst, arith}
-use Rattle.std.specs.Prelude.{IfSome, true, false, ◌==◌, ◌&&◌, if◌then◌else◌}
+use Rattle.std.proofs.Common.{◌≡◌, ℕ, ◌+◌, ◌≤◌, List, [], ◌++◌, length, drop, Option, Some, None, sym, refl, ap, ◌∙◌, subst, arith}
+use Rattle.std.specs.Prelude.{IfSome}
 use Rattle.std.proofs.lemmas.Option.{none-some, some_pair_parts, same_Some, option_and_then_some}
 use Rattle.toml_tree.specs.Tree.{Piece, Line}
 use Rattle.toml_tree.specs.Spells.{joined, lines_parts, AreLines, SpellLines, Spells, SpelledByNone, mark_of}
@@ -15,6 +15,7 @@ use Rattle.toml_tree.proofs.Spans.{Spans, spans_joined, spans_placed, spans_from
 use Rattle.toml_tree.proofs.SoundLines.{lines_sound}
 use Rattle.toml_tree.proofs.Complete.{lines_complete}
 use Rattle.toml_tree.proofs.Many.{append-nil}
+use Rattle.toml_tree.proofs.Marks.{mark_front}
 
 -- what is read from a place is spelled from there on
 pub lines_found : (ls : List Line) (c d : Cursor) → lines_at c ≡ Some (ls, d) → SpellLines ls c.at c.rest
@@ -38,12 +39,6 @@ lines_read ls c h =
 -- where the lines of a text begin
 abbrev pub behind_mark : List ℕ → Cursor
 behind_mark text = record { at = length (mark_of text); rest = drop (length (mark_of text)) text }
-
-pub mark_front : (text : List ℕ) → take (length (mark_of text)) text ≡ mark_of text
-mark_front [] = refl
-mark_front (a ∷ []) = refl
-mark_front (a ∷ b ∷ []) = refl
-mark_front (a ∷ b ∷ c ∷ bs) = elim (a == 0xEF && b == 0xBB && c == 0xBF) as (λ t. take (length (if t then a ∷ b ∷ c ∷ [] else [])) (a ∷ b ∷ c ∷ bs) ≡ (if t then a ∷ b ∷ c ∷ [] else [])) [ true ↦ refl | false ↦ refl ]
 
 pub none : (text : List ℕ) → lines_at (behind_mark text) ≡ None → SpelledByNone text
 none text e d h = none-some _ (sym e ∙ lines_read d.lines (behind_mark text) h.lines)

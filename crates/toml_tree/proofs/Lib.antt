@@ -8,11 +8,10 @@ pub mod Exact
 pub mod ExactValues
 pub mod Cuts
 pub mod Pieces
+pub mod Aheads
 pub mod Formed
+pub mod Views
+pub mod Ends
+pub mod Marks
 pub mod Texts
 pub mod Taken
-pub mod Ends
-pub mod Views
-pub mod SoundValues
-pub mod SoundLines
-pub mod Aheads

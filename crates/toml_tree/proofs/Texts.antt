@@ -1,14 +1,19 @@
--- Writing the parts of a list one element at a time.
-use Rattle.std.proofs.Common.{◌≡◌, ℕ, zero, suc, ◌+◌, ◌<◌, ◌≤◌, List, [], ◌∷◌, ◌++◌, length, get_or, map, take, drop, sym, ap, ◌∙◌, arith, append_assoc, add-one, drop-cons, refl}
+-- Writing the parts of a tree one after the other.
+use Rattle.std.proofs.Common.{◌≡◌, ℕ, zero, suc, ◌+◌, ◌<◌, ◌≤◌, List, [], ◌∷◌, ◌++◌, length, get_or, map, take, drop, sym, ap, ◌∙◌, arith, append_assoc, add-one, drop-cons, refl, Option, Some, None}
 use Rattle.std.proofs.lemmas.List.{take-append-drop}
-use Rattle.toml_tree.specs.Spells.{Part, part_text, joined, all_parts, mark_of, Spells, doc_parts}
-use Rattle.toml_tree.specs.Tree.{Doc}
-use Rattle.toml_tree.proofs.Exact.{mark_front}
+use Rattle.toml_tree.specs.ReadingValues.{Member, inline}
+use Rattle.toml_tree.specs.Spells.{Part, part_text, joined, all_parts, value_parts, IsValue, mark_of, Spells, doc_parts}
+use Rattle.toml_tree.specs.Tree.{Piece, Value, Scalar, Array, Empty, Inline, Doc}
+use Rattle.toml_tree.proofs.Marks.{mark_front}
 use Rattle.toml_tree.proofs.Many.{append-nil}
 
 pub joined_append : (ps qs : List Part) → joined (ps ++ qs) ≡ joined ps ++ joined qs
 joined_append [] qs = refl
 joined_append (p ∷ ps) qs = ap (λ l. part_text p ++ l) (joined_append ps qs) ∙ sym (append_assoc (part_text p) (joined ps) (joined qs))
+
+-- a part was written, and then others
+pub written_then : (out : List ℕ) (p : Part) (ps : List Part) (mid new : List ℕ) → mid ≡ out ++ part_text p → new ≡ mid ++ joined ps → new ≡ out ++ joined (p ∷ ps)
+written_then out p ps mid new first then_is = then_is ∙ ap (λ l. l ++ joined ps) first ∙ append_assoc out (part_text p) (joined ps)
 
 -- some parts were written, and then others
 pub written_both : (out : List ℕ) (ps qs : List Part) (mid new : List ℕ) → mid ≡ out ++ joined ps → new ≡ mid ++ joined qs → new ≡ out ++ joined (ps ++ qs)
@@ -34,6 +39,25 @@ module _ {X A : Type 0} (g : X → A) (f : A → List Part) where
   -- all were written
   pub text_all : (xs : List X) (i : ℕ) (out all : List ℕ) → length xs ≤ i → out ++ joined (all_parts f (map g (drop i xs))) ≡ all → out ≡ all
   text_all xs i out all le before = sym (append-nil out) ∙ ap (λ l. out ++ joined (all_parts f (map g l))) (sym (drop_past xs i le)) ∙ before
+
+-- the piece that a value is written by
+abbrev pub piece_of : Value → Piece
+piece_of (Scalar kind p) = p
+piece_of (Array whole items) = whole
+piece_of (Empty whole ws) = whole
+piece_of (Inline whole pairs) = whole
+
+pub piece_of_inline : (whole : Piece) (ms : List Member) (ws : Option Piece) → piece_of (inline whole ms ws) ≡ whole
+piece_of_inline whole [] None = refl
+piece_of_inline whole [] (Some ws) = refl
+piece_of_inline whole (m ∷ ms) ws = refl
+
+-- a value's piece has the text of its parts
+pub text_of_value : (v : Value) → IsValue v → (piece_of v).text ≡ joined (value_parts v)
+text_of_value (Scalar kind p) h = sym (append-nil p.text)
+text_of_value (Array whole items) h = h.0
+text_of_value (Empty whole ws) h = h.0
+text_of_value (Inline whole pairs) h = h.0
 
 -- the parts of a tree that spells a text are the text
 pub text_read : (d : Doc) (text : List ℕ) → Spells d text → joined (doc_parts d) ≡ text

@@ -4,18 +4,16 @@ use Rattle.std.specs.Prelude.{option_map}
 use Rattle.toml_scalar.specs.declared.kind.ScalarKind.{ScalarKind}
 use Rattle.toml_tree.specs.Tree as tree
 use Rattle.toml_tree.specs.ReadingValues.{Element, Member, inline}
-use Rattle.toml_tree.specs.View.{piece, gap, assign, value, element, member, keyval, array_items, value_step, array_step, inline_step, item_step, keyval_step, pair_step}
+use Rattle.toml_tree.specs.View.{piece, assign, value, element, member, keyval, array_items, value_step, array_step, inline_step, item_step, keyval_step, pair_step}
 use Rattle.toml_tree.specs.declared.piece.Piece.{Piece}
 use Rattle.toml_tree.specs.declared.tree.Array.{Array}
 use Rattle.toml_tree.specs.declared.tree.InlineTable.{InlineTable}
-use Rattle.toml_tree.specs.declared.tree.Item.{Item}
-use Rattle.toml_tree.specs.declared.tree.Pair.{Pair}
 use Rattle.toml_tree.specs.declared.tree.KeyVal.{KeyVal}
 use Rattle.toml_tree.specs.declared.tree.Value.TheOpen as layer
 use Rattle.toml_tree.specs.declared.tree.Value.TheVariants as made
 use Rattle.toml_tree.specs.declared.tree.Value.TheVariants.{rolls-Scalar, rolls-Array, rolls-Inline}
-use Rattle.toml_tree.specs.declared.tree.Value.TheViews.{out-Array, out-InlineTable, out-Item, out-Pair, out-KeyVal}
-use Rattle.toml_tree.specs.declared.tree.Value.TheFolds.{fold-roll-Value, fold_out-Array, fold_out-InlineTable, fold_out-Item, fold_out-Pair, fold_out-KeyVal}
+use Rattle.toml_tree.specs.declared.tree.Value.TheViews.{out-Array, out-InlineTable, out-KeyVal}
+use Rattle.toml_tree.specs.declared.tree.Value.TheFolds.{fold-roll-Value, fold_out-Array, fold_out-InlineTable, fold_out-KeyVal}
 
 pub value_scalar : (kind : ScalarKind) (p : Piece) → value (made.Scalar kind p) ≡ tree.Scalar kind (piece p)
 value_scalar kind p =
@@ -33,12 +31,6 @@ value_inline b =
     ap value (sym (rolls-Inline b))
     ∙ fold-roll-Value tree.Value tree.Value tree.Value Element tree.KeyVal Member value_step array_step inline_step item_step keyval_step pair_step (layer.Inline b)
     ∙ fold_out-InlineTable tree.Value tree.Value tree.Value Element tree.KeyVal Member value_step array_step inline_step item_step keyval_step pair_step b.value
-
-pub element_is : (i : Item) → element i ≡ record { before = gap (out-Item i).before; value = value (out-Item i).value; after = gap (out-Item i).after }
-element_is = fold_out-Item tree.Value tree.Value tree.Value Element tree.KeyVal Member value_step array_step inline_step item_step keyval_step pair_step
-
-pub member_is : (p : Pair) → member p ≡ record { before = piece (out-Pair p).before; pair = keyval (out-Pair p).keyval; after = piece (out-Pair p).after }
-member_is = fold_out-Pair tree.Value tree.Value tree.Value Element tree.KeyVal Member value_step array_step inline_step item_step keyval_step pair_step
 
 pub keyval_is : (k : KeyVal) → keyval k ≡ record { assign = assign (out-KeyVal k).assign; value = value (out-KeyVal k).value }
 keyval_is = fold_out-KeyVal tree.Value tree.Value tree.Value Element tree.KeyVal Member value_step array_step inline_step item_step keyval_step pair_step

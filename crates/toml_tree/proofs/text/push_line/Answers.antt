@@ -1,10 +1,14 @@
 use Rattle.std.proofs.Common.{◌++◌, [], ◌∷◌, string_bytes, ap, sym, ◌∙◌}
+use Rattle.std.proofs.Math.Logic.{∥∥₁_map}
 use Rattle.toml_tree.specs.Spells.{expr_parts}
 use Rattle.toml_tree.specs.Spells as parts
 use Rattle.toml_tree.specs.View.{piece, expr}
 use Rattle.toml_tree.proofs.Many.{append-nil}
 use Rattle.toml_tree.proofs.Texts.{written_both}
 use Rattle.toml_tree.proofs.text.push_line.Goals as goal
+
+pub push_expr-requires : goal.push_expr-requires
+push_expr-requires c = ∥∥₁_map c.args.l.now.form (λ form. form.0)
 
 pub returns : goal.returns
 returns c =
