@@ -2,7 +2,10 @@ pub mod Many
 pub mod Spans
 pub mod Sound
 pub mod Complete
+pub mod CompleteValues
+pub mod CompleteLines
 pub mod Exact
+pub mod ExactValues
 pub mod Cuts
 pub mod Pieces
 pub mod Formed
