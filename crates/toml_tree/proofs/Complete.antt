@@ -1,4 +1,4 @@
--- What is in the forms and followed by what may follow it, the plain reader reads.
+-- What is in the forms and followed by what may follow it, the plain reader reads: pieces, what closes, loops and keys.
 use Rattle.std.proofs.Common.{◌≡◌, ℕ, zero, suc, ◌+◌, ◌<◌, ◌≤◌, Bool, true, false, ◌||◌, eqb, eq-eqb, ◌==◌, length-append, List, [], ◌∷◌, ◌++◌, length, Option, Some, None, sym, refl, ap, ◌∙◌, subst, arith, ⊎_elim, ◌⊎◌, inl, inr}
 use Rattle.std.proofs.lemmas.Bool.{eqb-true, ne_eqb, cond-true, cond-false}
 use Rattle.std.proofs.lemmas.Bool.Decides.{nat_tests}
@@ -7,28 +7,19 @@ use Rattle.toml_text.specs.Forms.{Each, IsWs, IsNewline, IsComment}
 use Rattle.toml_text.specs.Runs.{run_len, begins, is_byte, newline_len, comment_len}
 use Rattle.toml_text.proofs.Found.{run_found, newline_found, comment_found}
 use Rattle.toml_scalar.specs.Names.{IsKeyPart}
-use Rattle.toml_scalar.specs.Scanning.{scan_at, key_part_len, is_key_start}
+use Rattle.toml_scalar.specs.Scanning.{key_part_len, is_key_start}
 use Rattle.toml_scalar.specs.Tokens.{Closes}
-use Rattle.toml_scalar.proofs.Scanned.{scan_complete, token_first}
+use Rattle.toml_scalar.proofs.Scanned.{begins_other}
 use Rattle.toml_scalar.proofs.Keys.{part_complete, part_first}
-use Rattle.toml_tree.specs.Tree.{Piece, Blank, Dotted, Key, Assign, Value, Scalar, KeyVal, Expr, BlankLine, KeyValLine, Line}
-use Rattle.toml_tree.specs.Spells.{Part, piece, symbol, part_text, joined, EachIs, all_parts, comment_parts, blank_parts, dotted_parts, key_parts, assign_parts, value_parts, keyval_parts, expr_parts, line_parts, lines_parts, IsCommentOrNone, IsBlank, IsDotted, IsKey, IsAssign, IsValue, IsKeyVal, IsExpr, AreLines}
-use Rattle.toml_tree.specs.Reading.{Cursor, here, ahead, many, all_of, run_at, comment_at, blank_at, part_at, dotted_step, dotted_at, key_at, equals_at, assign_at}
-use Rattle.toml_tree.specs.ReadingValues.{scalar_at, keyval_at}
-use Rattle.toml_tree.specs.ReadingLines.{expr_at, line_step, lines_at}
+use Rattle.toml_tree.specs.Tree.{Piece, Blank, Dotted, Key, Assign}
+use Rattle.toml_tree.specs.Spells.{Part, piece, symbol, part_text, joined, EachIs, all_parts, comment_parts, blank_parts, dotted_parts, key_parts, equals_parts, assign_parts, IsCommentOrNone, IsBlank, IsDotted, IsKey, IsAssign}
+use Rattle.toml_tree.specs.Reading.{Cursor, here, ahead, many, run_at, comment_at, blank_at, part_at, dotted_step, dotted_at, key_at, equals_at, assign_at}
 use Rattle.toml_tree.specs.declared.step.Step.{Step}
 use Rattle.toml_tree.specs.declared.step.Step.TheVariants.{Next, Done}
 use Rattle.toml_tree.proofs.Spans.{Behind, Spans, spans_split, spans_joined, behind_ahead, behind_take}
-use Rattle.toml_tree.proofs.Sound.{all_parts_push}
-use Rattle.toml_tree.proofs.SoundLines.{IsEndedLine}
-
--- the first byte
-begins_other : (p q : ℕ → Bool) (bs : List ℕ) → ((b : ℕ) → p b ≡ true → q b ≡ false) → begins p bs ≡ true → begins q bs ≡ false
-begins_other p q [] h e = refl
-begins_other p q (b ∷ bs) h e = h b e
 
 -- a piece, where its length is known
-piece_here : (t : Piece) (c d : Cursor) (n : ℕ) → Spans (piece t ∷ []) c d → n ≡ length t.text → (here n c ≡ t) × (ahead n c ≡ d)
+pub piece_here : (t : Piece) (c d : Cursor) (n : ℕ) → Spans (piece t ∷ []) c d → n ≡ length t.text → (here n c ≡ t) × (ahead n c ≡ d)
 piece_here t c d n s e =
     let b : Behind t.text c d = subst (λ x. Behind t.text c x) s.3 s.2 in
     (rw e (λ i. record { start = sym s.1 i; text = behind_take t.text c d b i }), rw e (sym (behind_ahead t.text c d b)))
@@ -37,29 +28,37 @@ behind_of : (p : Part) (c d : Cursor) → Spans (p ∷ []) c d → Behind (part_
 behind_of p c d s = subst (λ x. Behind (part_text p) c x) s.3 s.2
 
 -- what stands in front
-rest_of : (p : Part) (c d : Cursor) → Spans (p ∷ []) c d → c.rest ≡ part_text p ++ d.rest
+pub rest_of : (p : Part) (c d : Cursor) → Spans (p ∷ []) c d → c.rest ≡ part_text p ++ d.rest
 rest_of p c d s = (behind_of p c d s).rest
 
--- a symbol
-symbol_begins : (b : ℕ) (c d : Cursor) → Spans (symbol (b ∷ []) ∷ []) c d → (c.rest ≡ b ∷ d.rest) × (ahead 1 c ≡ d)
+-- a symbol at the end
+pub symbol_begins : (b : ℕ) (c d : Cursor) → Spans (symbol (b ∷ []) ∷ []) c d → (c.rest ≡ b ∷ d.rest) × (ahead 1 c ≡ d)
 symbol_begins b c d s = let k = behind_of (symbol (b ∷ [])) c d s in (k.rest, sym (behind_ahead (b ∷ []) c d k))
 
+-- a symbol, and the parts behind it
+pub symbol_ahead : (b : ℕ) (ps : List Part) (c d : Cursor) → Spans (symbol (b ∷ []) ∷ ps) c d → (m : Cursor) × (c.rest ≡ b ∷ m.rest) × (ahead 1 c ≡ m) × Spans ps m d
+symbol_ahead b ps c d s = (s.0, s.2.rest, sym (behind_ahead (b ∷ []) c s.0 s.2), s.3)
+
+-- how long the parts are
+pub spans_length : (ps : List Part) (c d : Cursor) → Spans ps c d → length c.rest ≡ length (joined ps) + length d.rest
+spans_length ps c d s = ap length (spans_joined ps c d s).rest ∙ length-append (joined ps) d.rest
+
 -- runs
-run_complete : (p : ℕ → Bool) (t : Piece) (c d : Cursor) → Each p t.text → Spans (piece t ∷ []) c d → begins p d.rest ≡ false → run_at p c ≡ (t, d)
+pub run_complete : (p : ℕ → Bool) (t : Piece) (c d : Cursor) → Each p t.text → Spans (piece t ∷ []) c d → begins p d.rest ≡ false → run_at p c ≡ (t, d)
 unfolding run_at
 run_complete p t c d h s e =
     let k = piece_here t c d (run_len p c.rest) s (ap (run_len p) (rest_of (piece t) c d s) ∙ run_found p t.text d.rest h e) in
     λ i. (k.0 i, k.1 i)
 
-each_first : (p q : ℕ → Bool) (xs ys : List ℕ) → Each p xs → ((b : ℕ) → p b ≡ true → q b ≡ false) → begins q ys ≡ false → begins q (xs ++ ys) ≡ false
+pub each_first : (p q : ℕ → Bool) (xs ys : List ℕ) → Each p xs → ((b : ℕ) → p b ≡ true → q b ≡ false) → begins q ys ≡ false → begins q (xs ++ ys) ≡ false
 each_first p q [] ys h k e = e
 each_first p q (x ∷ xs) ys h k e = k x h.0
 
-positive : (n : ℕ) → 0 < n → eqb n 0 ≡ false
+pub positive : (n : ℕ) → 0 < n → eqb n 0 ≡ false
 positive n h = ne_eqb n 0 (λ e. omega arith)
 
 -- a comment or none, and what may follow it
-abbrev StopsComment : Option Piece → List ℕ → Type 0
+abbrev pub StopsComment : Option Piece → List ℕ → Type 0
 StopsComment None bs = begins (is_byte 0x23) bs ≡ false
 StopsComment (Some p) bs = begins is_comment bs ≡ false
 
@@ -71,7 +70,7 @@ comment_begins : (bs ys : List ℕ) → IsComment bs → (begins (is_byte 0x23) 
 comment_begins [] ys h = absurd h
 comment_begins (b ∷ bs) ys h = (eq-eqb b 0x23 h.0, omega arith)
 
-comment_complete : (o : Option Piece) (c d : Cursor) → IsCommentOrNone o → Spans (comment_parts o) c d → StopsComment o d.rest → comment_at c ≡ (o, d)
+pub comment_complete : (o : Option Piece) (c d : Cursor) → IsCommentOrNone o → Spans (comment_parts o) c d → StopsComment o d.rest → comment_at c ≡ (o, d)
 unfolding comment_at
 comment_complete None c d h s e =
     let none : comment_len c.rest ≡ 0 = comment_absent c.rest (ap (λ x. begins (is_byte 0x23) x.rest) s ∙ e) in
@@ -82,11 +81,11 @@ comment_complete (Some p) c d h s e =
     cond-false _ _ _ (positive (comment_len c.rest) (omega (arith, found, comment_begins p.text [] h))) ∙ (λ i. (Some (k.0 i), k.1 i))
 
 -- what stands in front of a comment or none
-comment_first : (q : ℕ → Bool) (o : Option Piece) (c d : Cursor) → q 0x23 ≡ false → IsCommentOrNone o → Spans (comment_parts o) c d → begins q d.rest ≡ false → begins q c.rest ≡ false
+pub comment_first : (q : ℕ → Bool) (o : Option Piece) (c d : Cursor) → q 0x23 ≡ false → IsCommentOrNone o → Spans (comment_parts o) c d → begins q d.rest ≡ false → begins q c.rest ≡ false
 comment_first q None c d hash h s e = subst (λ x. begins q x.rest ≡ false) (sym s) e
 comment_first q (Some p) c d hash h s e = begins_other (is_byte 0x23) q c.rest (λ b e. rw (eqb-true b 0x23 e) hash) (ap (begins (is_byte 0x23)) (rest_of (piece p) c d s) ∙ (comment_begins p.text d.rest h).0)
 
-blank_complete : (b : Blank) (c d : Cursor) → IsBlank b → Spans (blank_parts b) c d → begins is_ws d.rest ≡ false → StopsComment b.comment d.rest → blank_at c ≡ (b, d)
+pub blank_complete : (b : Blank) (c d : Cursor) → IsBlank b → Spans (blank_parts b) c d → begins is_ws d.rest ≡ false → StopsComment b.comment d.rest → blank_at c ≡ (b, d)
 unfolding blank_at
 blank_complete b c d h s ws e =
     let k = spans_split (piece b.ws ∷ []) (comment_parts b.comment) c d s in
@@ -94,22 +93,108 @@ blank_complete b c d h s ws e =
     let m = comment_complete b.comment k.0 d h.1 k.2 e in
     rw r (λ i. (record { ws = b.ws; comment = (m i).0 }, (m i).1))
 
-blank_first : (q : ℕ → Bool) (b : Blank) (c d : Cursor) → ((x : ℕ) → is_ws x ≡ true → q x ≡ false) → q 0x23 ≡ false → IsBlank b → Spans (blank_parts b) c d → begins q d.rest ≡ false → begins q c.rest ≡ false
+pub blank_first : (q : ℕ → Bool) (b : Blank) (c d : Cursor) → ((x : ℕ) → is_ws x ≡ true → q x ≡ false) → q 0x23 ≡ false → IsBlank b → Spans (blank_parts b) c d → begins q d.rest ≡ false → begins q c.rest ≡ false
 blank_first q b c d ws hash h s e =
     let k = spans_split (piece b.ws ∷ []) (comment_parts b.comment) c d s in
     ap (begins q) (rest_of (piece b.ws) c k.0 k.1) ∙ each_first is_ws q b.ws.text k.0.rest h.0 ws (comment_first q b.comment k.0 d hash h.1 k.2 e)
 
 -- newlines
-abbrev is_newline_byte : ℕ → Bool
+abbrev pub is_newline_byte : ℕ → Bool
 is_newline_byte b = b == 0x0A || b == 0x0D
 
-newline_front : (t : Piece) (c d : Cursor) → IsNewline t.text → Spans (piece t ∷ []) c d → (newline_len c.rest ≡ length t.text) × (0 < length t.text) × (begins is_newline_byte c.rest ≡ true)
+pub newline_front : (t : Piece) (c d : Cursor) → IsNewline t.text → Spans (piece t ∷ []) c d → (newline_len c.rest ≡ length t.text) × (0 < length t.text) × (begins is_newline_byte c.rest ≡ true)
 newline_front t c d h s =
     let found : newline_len c.rest ≡ length t.text = ap newline_len (rest_of (piece t) c d s) ∙ newline_found t.text d.rest h in
     ⊎_elim
     (λ (e : t.text ≡ 0x0A ∷ []). (found, omega (arith, ap length e), ap (begins is_newline_byte) (rest_of (piece t) c d s ∙ ap (λ l. l ++ d.rest) e)))
     (λ (e : t.text ≡ 0x0D ∷ 0x0A ∷ []). (found, omega (arith, ap length e), ap (begins is_newline_byte) (rest_of (piece t) c d s ∙ ap (λ l. l ++ d.rest) e)))
     h
+
+-- what may follow a line: a newline, or nothing
+abbrev pub StopsLine : List ℕ → Type 0
+StopsLine bs = (bs ≡ []) ⊎ ((begins is_newline_byte bs ≡ true) × Closes bs)
+
+pub line_stop : (q : ℕ → Bool) (bs : List ℕ) → ((b : ℕ) → is_newline_byte b ≡ true → q b ≡ false) → StopsLine bs → begins q bs ≡ false
+line_stop q bs h (inl e) = ap (begins q) e
+line_stop q bs h (inr e) = begins_other is_newline_byte q bs h e.0
+
+pub line_stops_comment : (o : Option Piece) (bs : List ℕ) → StopsLine bs → StopsComment o bs
+line_stops_comment None bs e = line_stop (is_byte 0x23) bs (λ b h. grind (arith, nat_tests)) e
+line_stops_comment (Some p) bs e = line_stop is_comment bs (λ b h. grind (arith, nat_tests)) e
+
+pub newline_not_ws : (x : ℕ) → is_newline_byte x ≡ true → is_ws x ≡ false
+newline_not_ws x h = grind (arith, nat_tests)
+
+pub newline_not_start : (x : ℕ) → is_newline_byte x ≡ true → is_key_start x ≡ false
+newline_not_start x h = grind (arith, nat_tests)
+
+pub blank_ends : (b : Blank) (c d : Cursor) → IsBlank b → Spans (blank_parts b) c d → StopsLine d.rest → blank_at c ≡ (b, d)
+blank_ends b c d h s e = blank_complete b c d h s (line_stop is_ws d.rest newline_not_ws e) (line_stops_comment b.comment d.rest e)
+
+-- whitespace before what closes
+pub ws_closes : (ws rest : List ℕ) → IsWs ws → Closes rest → Closes (ws ++ rest)
+ws_closes [] rest h closes = closes
+ws_closes (b ∷ ws) rest h closes = inl (h.0, ws_closes ws rest h.1 closes)
+
+-- a comment or none before the end of a line closes
+comment_closes : (o : Option Piece) (c d : Cursor) → IsCommentOrNone o → Spans (comment_parts o) c d → StopsLine d.rest → Closes c.rest
+comment_closes None c d h s e = subst (λ x. Closes x.rest) (sym s) (⊎_elim (λ (none : d.rest ≡ []). subst Closes (sym none) tt) (λ (k : (begins is_newline_byte d.rest ≡ true) × Closes d.rest). k.1) e)
+comment_closes (Some p) c d h s e = subst Closes (sym (rest_of (piece p) c d s)) (closes p.text h)
+  where
+    closes : (bs : List ℕ) → IsComment bs → Closes (bs ++ d.rest)
+    closes [] h = absurd h
+    closes (b ∷ bs) h = inr (inr (inr (inl h.0)))
+
+pub blank_closes : (b : Blank) (c d : Cursor) → IsBlank b → Spans (blank_parts b) c d → StopsLine d.rest → Closes c.rest
+blank_closes b c d h s e =
+    let k = spans_split (piece b.ws ∷ []) (comment_parts b.comment) c d s in
+    subst Closes (sym (rest_of (piece b.ws) c k.0 k.1)) (ws_closes b.ws.text k.0.rest h.0 (comment_closes b.comment k.0 d h.1 k.2 e))
+
+newline_closes : (t : Piece) (c d : Cursor) → IsNewline t.text → Spans (piece t ∷ []) c d → Closes c.rest
+newline_closes t c d h s = ⊎_elim
+    (λ (e : t.text ≡ 0x0A ∷ []). subst Closes (sym (rest_of (piece t) c d s ∙ ap (λ l. l ++ d.rest) e)) (inr (inl refl)))
+    (λ (e : t.text ≡ 0x0D ∷ 0x0A ∷ []). subst Closes (sym (rest_of (piece t) c d s ∙ ap (λ l. l ++ d.rest) e)) (inr (inr (inl (refl, (d.rest, refl))))))
+    h
+
+pub newline_stops : (t : Piece) (c d : Cursor) → IsNewline t.text → Spans (piece t ∷ []) c d → StopsLine c.rest
+newline_stops t c d h s = inr ((newline_front t c d h s).2, newline_closes t c d h s)
+
+-- whitespace and symbols
+-- what a symbol follows: what is read up to there, and the parts behind it
+pub record UpTo (b : ℕ) (ps : List Part) (Read : Cursor → Type 0) (c d : Cursor) : Type 0 where
+  pub before : Cursor
+  pub behind : Cursor
+  pub read : Read before
+  pub first : before.rest ≡ b ∷ behind.rest
+  pub step : ahead 1 before ≡ behind
+  pub rest : Spans ps behind d
+  pub shorter : length behind.rest < length c.rest
+
+pub ws_symbol : (b : ℕ) (w : Piece) (ps : List Part) (c d : Cursor) → is_ws b ≡ false → IsWs w.text → Spans (piece w ∷ symbol (b ∷ []) ∷ ps) c d → UpTo b ps (λ m. run_at is_ws c ≡ (w, m)) c d
+ws_symbol b w ps c d other h s =
+    let i = spans_split (piece w ∷ []) (symbol (b ∷ []) ∷ ps) c d s in
+    let j = symbol_ahead b ps i.0 d i.2 in
+    record {
+      before = i.0;
+      behind = j.0;
+      read = run_complete is_ws w c i.0 h i.1 (ap (begins is_ws) j.1 ∙ other);
+      first = j.1;
+      step = j.2;
+      rest = j.3;
+      shorter = omega (arith, spans_length (piece w ∷ []) c i.0 i.1, ap length j.1);
+    }
+
+pub symbol_closes : (b : ℕ) (w : Piece) (ps : List Part) (c d : Cursor) → ((rest : List ℕ) → Closes (b ∷ rest)) → IsWs w.text → Spans (piece w ∷ symbol (b ∷ []) ∷ ps) c d → Closes c.rest
+symbol_closes b w ps c d closes h s =
+    let i = spans_split (piece w ∷ []) (symbol (b ∷ []) ∷ ps) c d s in
+    let j = symbol_ahead b ps i.0 d i.2 in
+    subst Closes (sym (rest_of (piece w) c i.0 i.1)) (ws_closes w.text i.0.rest h (subst Closes (sym j.1) (closes j.0.rest)))
+
+-- what stands in front of whitespace and a symbol
+pub before_symbol : (q : ℕ → Bool) (b : ℕ) (w : Piece) (ps : List Part) (c d : Cursor) → ((x : ℕ) → is_ws x ≡ true → q x ≡ false) → q b ≡ false → IsWs w.text → Spans (piece w ∷ symbol (b ∷ []) ∷ ps) c d → begins q c.rest ≡ false
+before_symbol q b w ps c d apart other h s =
+    let i = spans_split (piece w ∷ []) (symbol (b ∷ []) ∷ ps) c d s in
+    ap (begins q) (rest_of (piece w) c i.0 i.1) ∙ each_first is_ws q w.text i.0.rest h apart (ap (begins q) (symbol_ahead b ps i.0 d i.2).1 ∙ other)
 
 -- loops
 module _ {A B : Type 0} (P : A → Type 0) (f : A → List Part) (step : Cursor → Option (Step A B × Cursor)) (next : (a : A) (c d : Cursor) → P a → Spans (f a) c d → step c ≡ Some (Next a, d)) where
@@ -120,9 +205,6 @@ module _ {A B : Type 0} (P : A → Type 0) (f : A → List Part) (step : Cursor 
       let k = spans_split (f a) (all_parts f xs) c m s in
       rw (next a c k.0 h.0 k.1, many_complete xs b k.0 m d fuel h.1 k.2 e (omega arith)) refl
 
-spans_length : (ps : List Part) (c d : Cursor) → Spans ps c d → length c.rest ≡ length (joined ps) + length d.rest
-spans_length ps c d s = ap length (spans_joined ps c d s).rest ∙ length-append (joined ps) d.rest
-
 module _ {A : Type 0} (P : A → Type 0) (f : A → List Part) (grows : (a : A) (c d : Cursor) → P a → Spans (f a) c d → length d.rest < length c.rest) where
   pub as_long : (xs : List A) (c d : Cursor) → EachIs P xs → Spans (all_parts f xs) c d → length xs + length d.rest ≤ length c.rest
   as_long [] c d h s = omega (arith, ap (λ x. length x.rest) s)
@@ -130,18 +212,7 @@ module _ {A : Type 0} (P : A → Type 0) (f : A → List Part) (grows : (a : A) 
       let k = spans_split (f a) (all_parts f xs) c d s in
       omega (arith, as_long xs k.0 d h.1 k.2, grows a c k.0 h.0 k.1)
 
--- values
-value_first : (v : Value) (c d : Cursor) → IsValue v → Spans (value_parts v) c d → begins is_ws c.rest ≡ false
-value_first (Scalar k p) c d h s = ap (begins is_ws) (rest_of (piece p) c d s) ∙ token_first k p.text d.rest h
-
-value_complete : (v : Value) (c d : Cursor) → IsValue v → Spans (value_parts v) c d → Closes d.rest → scalar_at c ≡ Some (v, d)
-unfolding scalar_at
-value_complete (Scalar k p) c d h s closes =
-    let found : scan_at c.rest ≡ Some (length p.text, k) = ap scan_at (rest_of (piece p) c d s) ∙ scan_complete k p.text d.rest h closes in
-    let q = piece_here p c d (length p.text) s refl in
-    rw found (λ i. Some (Scalar k (q.0 i), q.1 i))
-
--- keys and pairs
+-- keys
 part_complete_at : (p : Piece) (c d : Cursor) → IsKeyPart p.text → Spans (piece p ∷ []) c d → begins is_key_start d.rest ≡ false → part_at c ≡ Some (p, d)
 unfolding part_at
 part_complete_at p c d h s e =
@@ -152,18 +223,11 @@ part_complete_at p c d h s e =
 part_first_at : (p : Piece) (c d : Cursor) → IsKeyPart p.text → Spans (piece p ∷ []) c d → begins is_key_start c.rest ≡ true
 part_first_at p c d h s = ap (begins is_key_start) (rest_of (piece p) c d s) ∙ part_first p.text d.rest h
 
-start_not_ws : (x : ℕ) → is_key_start x ≡ true → is_ws x ≡ false
+pub start_not_ws : (x : ℕ) → is_key_start x ≡ true → is_ws x ≡ false
 start_not_ws x h = grind (arith, nat_tests)
 
-ws_not_start : (x : ℕ) → is_ws x ≡ true → is_key_start x ≡ false
+pub ws_not_start : (x : ℕ) → is_ws x ≡ true → is_key_start x ≡ false
 ws_not_start x h = grind (arith, nat_tests)
-
--- what stands in front of whitespace and a symbol
-before_symbol : (q : ℕ → Bool) (b : ℕ) (w : Piece) (ps : List Part) (c d : Cursor) → ((x : ℕ) → is_ws x ≡ true → q x ≡ false) → q b ≡ false → IsWs w.text → Spans (piece w ∷ symbol (b ∷ []) ∷ ps) c d → begins q c.rest ≡ false
-before_symbol q b w ps c d apart other h s =
-    let i = spans_split (piece w ∷ []) (symbol (b ∷ []) ∷ ps) c d s in
-    let j = spans_split (symbol (b ∷ []) ∷ []) ps i.0 d i.2 in
-    ap (begins q) (rest_of (piece w) c i.0 i.1) ∙ each_first is_ws q w.text i.0.rest h apart (ap (begins q) (symbol_begins b i.0 j.0 j.1).0 ∙ other)
 
 -- what stands in front of the parts of a key behind its first
 dotted_first : (q : ℕ → Bool) (ds : List Dotted) (c d : Cursor) → ((x : ℕ) → is_ws x ≡ true → q x ≡ false) → q 0x2E ≡ false → EachIs IsDotted ds → Spans (all_parts dotted_parts ds) c d → begins q d.rest ≡ false → begins q c.rest ≡ false
@@ -179,14 +243,11 @@ EndsKey d = (begins is_key_start d.rest ≡ false) × (begins (is_byte 0x2E) (ru
 dotted_next : (x : Dotted) (c d : Cursor) → IsDotted x → Spans (dotted_parts x) c d → begins is_key_start d.rest ≡ false → dotted_step c ≡ Some (Next x, d)
 unfolding dotted_step
 dotted_next x c d h s e =
-    let i = spans_split (piece x.before_dot ∷ []) (symbol (0x2E ∷ []) ∷ piece x.after_dot ∷ piece x.part ∷ []) c d s in
-    let j = spans_split (symbol (0x2E ∷ []) ∷ []) (piece x.after_dot ∷ piece x.part ∷ []) i.0 d i.2 in
-    let k = spans_split (piece x.after_dot ∷ []) (piece x.part ∷ []) j.0 d j.2 in
-    let at_dot = symbol_begins 0x2E i.0 j.0 j.1 in
-    let r1 = run_complete is_ws x.before_dot c i.0 h.0 i.1 (ap (begins is_ws) at_dot.0) in
-    let r2 = run_complete is_ws x.after_dot j.0 k.0 h.1 k.1 (begins_other is_key_start is_ws k.0.rest start_not_ws (part_first_at x.part k.0 d h.2 k.2)) in
-    let r3 = part_complete_at x.part k.0 d h.2 k.2 e in
-    rw r1 (cond-true _ _ _ (ap (begins (is_byte 0x2E)) at_dot.0) ∙ rw at_dot.1 (rw r2 (rw r3 refl)))
+    let dot = ws_symbol 0x2E x.before_dot (piece x.after_dot ∷ piece x.part ∷ []) c d refl h.0 s in
+    let k = spans_split (piece x.after_dot ∷ []) (piece x.part ∷ []) dot.behind d dot.rest in
+    let after = run_complete is_ws x.after_dot dot.behind k.0 h.1 k.1 (begins_other is_key_start is_ws k.0.rest start_not_ws (part_first_at x.part k.0 d h.2 k.2)) in
+    let part = part_complete_at x.part k.0 d h.2 k.2 e in
+    rw dot.read (cond-true _ _ _ (ap (begins (is_byte 0x2E)) dot.first) ∙ rw dot.step (rw after (rw part refl)))
 
 dotted_done : (d : Cursor) → EndsKey d → dotted_step d ≡ Some (Done tt, d)
 unfolding dotted_step
@@ -194,9 +255,8 @@ dotted_done d e = cond-false _ _ _ e.1
 
 dotted_grows : (x : Dotted) (c d : Cursor) → IsDotted x → Spans (dotted_parts x) c d → length d.rest < length c.rest
 dotted_grows x c d h s =
-    let i = spans_split (piece x.before_dot ∷ []) (symbol (0x2E ∷ []) ∷ piece x.after_dot ∷ piece x.part ∷ []) c d s in
-    let j = spans_split (symbol (0x2E ∷ []) ∷ []) (piece x.after_dot ∷ piece x.part ∷ []) i.0 d i.2 in
-    omega (arith, spans_length (piece x.before_dot ∷ []) c i.0 i.1, spans_length (symbol (0x2E ∷ []) ∷ []) i.0 j.0 j.1, spans_length (piece x.after_dot ∷ piece x.part ∷ []) j.0 d j.2)
+    let dot = ws_symbol 0x2E x.before_dot (piece x.after_dot ∷ piece x.part ∷ []) c d refl h.0 s in
+    omega (arith, dot.shorter, spans_length (piece x.after_dot ∷ piece x.part ∷ []) dot.behind d dot.rest)
 
 -- each part is followed by the next one's whitespace and dot, or by what ends the key
 dotted_many : (xs : List Dotted) (c d : Cursor) (fuel : ℕ) → EachIs IsDotted xs → Spans (all_parts dotted_parts xs) c d → EndsKey d → length xs < fuel → many dotted_step fuel c ≡ Some (xs, tt, d)
@@ -207,7 +267,7 @@ dotted_many (x ∷ xs) c d (suc fuel) h s e l =
     let behind = dotted_first is_key_start xs k.0 d ws_not_start refl h.1 k.2 e.0 in
     rw (dotted_next x c k.0 h.0 k.1 behind, dotted_many xs k.0 d fuel h.1 k.2 e (omega arith)) refl
 
-key_complete : (k : Key) (c d : Cursor) → IsKey k → Spans (key_parts k) c d → EndsKey d → key_at c ≡ Some (k, d)
+pub key_complete : (k : Key) (c d : Cursor) → IsKey k → Spans (key_parts k) c d → EndsKey d → key_at c ≡ Some (k, d)
 unfolding key_at dotted_at
 key_complete k c d h s e =
     let i = spans_split (piece k.first ∷ []) (all_parts dotted_parts k.rest) c d s in
@@ -215,7 +275,7 @@ key_complete k c d h s e =
     let r2 = dotted_many k.rest i.0 d (length i.0.rest + 1) h.1 i.2 e (omega (arith, as_long IsDotted dotted_parts dotted_grows k.rest i.0 d h.1 i.2)) in
     rw r1 (rw r2 refl)
 
-key_first : (k : Key) (c d : Cursor) → IsKey k → Spans (key_parts k) c d → begins is_key_start c.rest ≡ true
+pub key_first : (k : Key) (c d : Cursor) → IsKey k → Spans (key_parts k) c d → begins is_key_start c.rest ≡ true
 key_first k c d h s =
     let i = spans_split (piece k.first ∷ []) (all_parts dotted_parts k.rest) c d s in
     part_first_at k.first c i.0 h.0 i.1
@@ -223,144 +283,25 @@ key_first k c d h s =
 equals_complete : (b a : Piece) (c d : Cursor) → IsWs b.text → IsWs a.text → Spans (piece b ∷ symbol (0x3D ∷ []) ∷ piece a ∷ []) c d → begins is_ws d.rest ≡ false → equals_at c ≡ Some ((b, a), d)
 unfolding equals_at
 equals_complete b a c d hb ha s e =
-    let i = spans_split (piece b ∷ []) (symbol (0x3D ∷ []) ∷ piece a ∷ []) c d s in
-    let j = spans_split (symbol (0x3D ∷ []) ∷ []) (piece a ∷ []) i.0 d i.2 in
-    let at_symbol = symbol_begins 0x3D i.0 j.0 j.1 in
-    let r1 = run_complete is_ws b c i.0 hb i.1 (ap (begins is_ws) at_symbol.0) in
-    let r2 = run_complete is_ws a j.0 d ha j.2 e in
-    rw r1 (cond-true _ _ _ (ap (begins (is_byte 0x3D)) at_symbol.0) ∙ rw at_symbol.1 (rw r2 refl))
+    let equals = ws_symbol 0x3D b (piece a ∷ []) c d refl hb s in
+    let after = run_complete is_ws a equals.behind d ha equals.rest e in
+    rw equals.read (cond-true _ _ _ (ap (begins (is_byte 0x3D)) equals.first) ∙ rw equals.step (rw after refl))
 
--- whitespace and `=` end a key
-equals_ends : (b a : Piece) (c d : Cursor) → IsWs b.text → Spans (piece b ∷ symbol (0x3D ∷ []) ∷ piece a ∷ []) c d → EndsKey c
-equals_ends b a c d h s =
-    let i = spans_split (piece b ∷ []) (symbol (0x3D ∷ []) ∷ piece a ∷ []) c d s in
-    let j = spans_split (symbol (0x3D ∷ []) ∷ []) (piece a ∷ []) i.0 d i.2 in
-    let at_equals = symbol_begins 0x3D i.0 j.0 j.1 in
-    let r = run_complete is_ws b c i.0 h i.1 (ap (begins is_ws) at_equals.0) in (
-      before_symbol is_key_start 0x3D b (piece a ∷ []) c d ws_not_start refl h s,
-      ap (λ x. begins (is_byte 0x2E) x.1.rest) r ∙ ap (begins (is_byte 0x2E)) at_equals.0,
-    )
+-- whitespace and a symbol end a key
+pub symbol_ends : (b : ℕ) (w : Piece) (ps : List Part) (c d : Cursor) → is_ws b ≡ false → is_key_start b ≡ false → is_byte 0x2E b ≡ false → IsWs w.text → Spans (piece w ∷ symbol (b ∷ []) ∷ ps) c d → EndsKey c
+symbol_ends b w ps c d no_ws no_start no_dot h s =
+    let k = ws_symbol b w ps c d no_ws h s in
+    (before_symbol is_key_start b w ps c d ws_not_start no_start h s, ap (λ x. begins (is_byte 0x2E) x.1.rest) k.read ∙ ap (begins (is_byte 0x2E)) k.first ∙ no_dot)
 
-assign_complete : (a : Assign) (c d : Cursor) → IsAssign a → Spans (assign_parts a) c d → begins is_ws d.rest ≡ false → assign_at c ≡ Some (a, d)
+pub assign_complete : (a : Assign) (c d : Cursor) → IsAssign a → Spans (assign_parts a) c d → begins is_ws d.rest ≡ false → assign_at c ≡ Some (a, d)
 unfolding assign_at
 assign_complete a c d h s e =
-    let i = spans_split (key_parts a.key) (piece a.before_equals ∷ symbol (0x3D ∷ []) ∷ piece a.after_equals ∷ []) c d s in
-    let r1 = key_complete a.key c i.0 h.0 i.1 (equals_ends a.before_equals a.after_equals i.0 d h.1 i.2) in
+    let i = spans_split (key_parts a.key) (equals_parts a.before_equals a.after_equals) c d s in
+    let r1 = key_complete a.key c i.0 h.0 i.1 (symbol_ends 0x3D a.before_equals (piece a.after_equals ∷ []) i.0 d refl refl refl h.1 i.2) in
     let r2 = equals_complete a.before_equals a.after_equals i.0 d h.1 h.2 i.2 e in
     rw r1 (rw r2 refl)
 
-keyval_complete : (k : KeyVal) (c d : Cursor) → IsKeyVal k → Spans (keyval_parts k) c d → Closes d.rest → keyval_at c ≡ Some (k, d)
-unfolding keyval_at
-keyval_complete k c d h s e =
-    let i = spans_split (assign_parts k.assign) (value_parts k.value) c d s in
-    let r1 = assign_complete k.assign c i.0 h.0 i.1 (value_first k.value i.0 d h.1 i.2) in
-    let r2 = value_complete k.value i.0 d h.1 i.2 e in
-    rw r1 (rw r2 refl)
-
-keyval_first : (k : KeyVal) (c d : Cursor) → IsKeyVal k → Spans (keyval_parts k) c d → begins is_key_start c.rest ≡ true
-keyval_first k c d h s =
-    let i = spans_split (assign_parts k.assign) (value_parts k.value) c d s in
-    let j = spans_split (key_parts k.assign.key) (piece k.assign.before_equals ∷ symbol (0x3D ∷ []) ∷ piece k.assign.after_equals ∷ []) c i.0 i.1 in
-    key_first k.assign.key c j.0 h.0.0 j.1
-
--- lines
--- what may follow a line: a newline, or nothing
-abbrev StopsLine : List ℕ → Type 0
-StopsLine bs = (bs ≡ []) ⊎ ((begins is_newline_byte bs ≡ true) × Closes bs)
-
-line_stop : (q : ℕ → Bool) (bs : List ℕ) → ((b : ℕ) → is_newline_byte b ≡ true → q b ≡ false) → StopsLine bs → begins q bs ≡ false
-line_stop q bs h (inl e) = ap (begins q) e
-line_stop q bs h (inr e) = begins_other is_newline_byte q bs h e.0
-
-line_stops_comment : (o : Option Piece) (bs : List ℕ) → StopsLine bs → StopsComment o bs
-line_stops_comment None bs e = line_stop (is_byte 0x23) bs (λ b h. grind (arith, nat_tests)) e
-line_stops_comment (Some p) bs e = line_stop is_comment bs (λ b h. grind (arith, nat_tests)) e
-
-newline_not_ws : (x : ℕ) → is_newline_byte x ≡ true → is_ws x ≡ false
-newline_not_ws x h = grind (arith, nat_tests)
-
-newline_not_start : (x : ℕ) → is_newline_byte x ≡ true → is_key_start x ≡ false
-newline_not_start x h = grind (arith, nat_tests)
-
--- whitespace before what closes
-ws_closes : (ws rest : List ℕ) → IsWs ws → Closes rest → Closes (ws ++ rest)
-ws_closes [] rest h closes = closes
-ws_closes (b ∷ ws) rest h closes = inl (h.0, ws_closes ws rest h.1 closes)
-
--- a comment or none before the end of a line closes
-comment_closes : (o : Option Piece) (c d : Cursor) → IsCommentOrNone o → Spans (comment_parts o) c d → StopsLine d.rest → Closes c.rest
-comment_closes None c d h s e = subst (λ x. Closes x.rest) (sym s) (⊎_elim (λ (none : d.rest ≡ []). subst Closes (sym none) tt) (λ (k : (begins is_newline_byte d.rest ≡ true) × Closes d.rest). k.1) e)
-comment_closes (Some p) c d h s e = subst Closes (sym (rest_of (piece p) c d s)) (closes p.text h)
-  where
-    closes : (bs : List ℕ) → IsComment bs → Closes (bs ++ d.rest)
-    closes [] h = absurd h
-    closes (b ∷ bs) h = inr (inr (inr (inl h.0)))
-
-blank_closes : (b : Blank) (c d : Cursor) → IsBlank b → Spans (blank_parts b) c d → StopsLine d.rest → Closes c.rest
-blank_closes b c d h s e =
-    let k = spans_split (piece b.ws ∷ []) (comment_parts b.comment) c d s in
-    subst Closes (sym (rest_of (piece b.ws) c k.0 k.1)) (ws_closes b.ws.text k.0.rest h.0 (comment_closes b.comment k.0 d h.1 k.2 e))
-
-expr_complete : (x : Expr) (c d : Cursor) → IsExpr x → Spans (expr_parts x) c d → StopsLine d.rest → expr_at c ≡ Some (x, d)
-unfolding expr_at
-expr_complete (BlankLine b) c d h s e =
-    let i = spans_split (piece b.ws ∷ []) (comment_parts b.comment) c d s in
-    let r = run_complete is_ws b.ws c i.0 h.0 i.1 (comment_first is_ws b.comment i.0 d refl h.1 i.2 (line_stop is_ws d.rest newline_not_ws e)) in
-    let no_key = comment_first is_key_start b.comment i.0 d refl h.1 i.2 (line_stop is_key_start d.rest newline_not_start e) in
-    rw r (cond-false _ _ _ no_key ∙ rw (comment_complete b.comment i.0 d h.1 i.2 (line_stops_comment b.comment d.rest e)) refl)
-expr_complete (KeyValLine ws k b) c d h s e =
-    let i = spans_split (piece ws ∷ []) (keyval_parts k ++ blank_parts b) c d s in
-    let j = spans_split (keyval_parts k) (blank_parts b) i.0 d i.2 in
-    let at_key : begins is_key_start i.0.rest ≡ true = keyval_first k i.0 j.0 h.1 j.1 in
-    let r1 = run_complete is_ws ws c i.0 h.0 i.1 (begins_other is_key_start is_ws i.0.rest start_not_ws at_key) in
-    let r2 = keyval_complete k i.0 j.0 h.1 j.1 (blank_closes b j.0 d h.2 j.2 e) in
-    let r3 = blank_complete b j.0 d h.2 j.2 (line_stop is_ws d.rest newline_not_ws e) (line_stops_comment b.comment d.rest e) in
-    rw r1 (cond-true _ _ _ at_key ∙ rw r2 (rw r3 refl))
-
-newline_closes : (t : Piece) (c d : Cursor) → IsNewline t.text → Spans (piece t ∷ []) c d → Closes c.rest
-newline_closes t c d h s = ⊎_elim
-    (λ (e : t.text ≡ 0x0A ∷ []). subst Closes (sym (rest_of (piece t) c d s ∙ ap (λ l. l ++ d.rest) e)) (inr (inl refl)))
-    (λ (e : t.text ≡ 0x0D ∷ 0x0A ∷ []). subst Closes (sym (rest_of (piece t) c d s ∙ ap (λ l. l ++ d.rest) e)) (inr (inr (inl (refl, (d.rest, refl))))))
-    h
-
-line_next : (l : Line) (c d : Cursor) → IsEndedLine l → Spans (line_parts l) c d → line_step c ≡ Some (Next l, d)
-unfolding line_step
-line_next l c d h s =
-    let i = spans_split (expr_parts l.expr) (piece l.newline ∷ []) c d s in
-    let n = newline_front l.newline i.0 d h.1 i.2 in
-    let r = expr_complete l.expr c i.0 h.0 i.1 (inr (n.2, newline_closes l.newline i.0 d h.1 i.2)) in
-    let q = piece_here l.newline i.0 d (newline_len i.0.rest) i.2 n.0 in
-    rw r (cond-false _ _ _ (positive (newline_len i.0.rest) (omega (arith, n.0, n.1))) ∙ (λ t. Some (Next (record { expr = l.expr; newline = q.0 t }), q.1 t)))
-
-line_last : (l : Line) (c d : Cursor) → IsExpr l.expr → l.newline.text ≡ [] → Spans (line_parts l) c d → d.rest ≡ [] → line_step c ≡ Some (Done l, d)
-unfolding line_step
-line_last l c d h empty s e =
-    let i = spans_split (expr_parts l.expr) (piece l.newline ∷ []) c d s in
-    let none : i.0.rest ≡ [] = rest_of (piece l.newline) i.0 d i.2 ∙ (λ t. empty t ++ e t) in
-    let r = expr_complete l.expr c i.0 h i.1 (inl none) in
-    let zero_len : newline_len i.0.rest ≡ 0 = ap newline_len none in
-    let q = piece_here l.newline i.0 d (newline_len i.0.rest) i.2 (zero_len ∙ sym (ap length empty)) in
-    rw r (cond-true _ _ _ (ap (λ n. eqb n 0) zero_len) ∙ cond-true _ _ _ (ap (λ l. eqb (length l) 0) none) ∙ (λ t. Some (Done (record { expr = l.expr; newline = q.0 t }), q.1 t)))
-
-line_grows : (l : Line) (c d : Cursor) → IsEndedLine l → Spans (line_parts l) c d → length d.rest < length c.rest
-line_grows l c d h s =
-    let i = spans_split (expr_parts l.expr) (piece l.newline ∷ []) c d s in
-    let n = newline_front l.newline i.0 d h.1 i.2 in
-    omega (arith, spans_length (expr_parts l.expr) c i.0 i.1, ap length (rest_of (piece l.newline) i.0 d i.2), length-append l.newline.text d.rest, n.1)
-
--- the lines that a newline ends, and the last
-abbrev Unended : List Line → Type 0
-Unended ls = (front : List Line) × (l : Line) × (ls ≡ front ++ l ∷ []) × EachIs IsEndedLine front × IsExpr l.expr × (l.newline.text ≡ [])
-
-unended : (ls : List Line) → AreLines ls → Unended ls
-unended [] h = absurd h
-unended (l ∷ []) h = ([], l, refl, tt, h.0, h.1)
-unended (l ∷ m ∷ ls) h = let k = unended (m ∷ ls) h.2 in (l ∷ k.0, k.1, ap (λ x. l ∷ x) k.2, ((h.0, h.1), k.3), k.4, k.5)
-
-pub lines_complete : (ls : List Line) (c d : Cursor) → AreLines ls → Spans (lines_parts ls) c d → d.rest ≡ [] → lines_at c ≡ Some (ls, d)
-unfolding lines_at
-lines_complete ls c d h s e =
-    let k = unended ls h in
-    let i = spans_split (all_parts line_parts k.0) (line_parts k.1) c d (subst (λ ps. Spans ps c d) (ap lines_parts k.2 ∙ all_parts_push line_parts k.0 k.1) s) in
-    let all : all_of line_step c ≡ Some (k.0, k.1, d) = many_complete IsEndedLine line_parts line_step line_next k.0 k.1 c i.0 d (length c.rest + 1) k.3 i.1 (line_last k.1 i.0 d k.4 k.5 i.2 e) (omega (arith, as_long IsEndedLine line_parts line_grows k.0 c i.0 k.3 i.1)) in
-    rw all (ap (λ x. Some (x, d)) (sym k.2))
+pub assign_first : (a : Assign) (c d : Cursor) → IsAssign a → Spans (assign_parts a) c d → begins is_key_start c.rest ≡ true
+assign_first a c d h s =
+    let i = spans_split (key_parts a.key) (equals_parts a.before_equals a.after_equals) c d s in
+    key_first a.key c i.0 h.0 i.1

@@ -13,7 +13,7 @@ use Rattle.toml_tree.specs.Reads.{Fails, end}
 use Rattle.toml_scalar.specs.declared.fault.SyntaxFault.{SyntaxFault}
 use Rattle.toml_tree.proofs.Spans.{Spans, spans_joined, spans_placed, spans_from}
 use Rattle.toml_tree.proofs.SoundLines.{lines_sound}
-use Rattle.toml_tree.proofs.Complete.{lines_complete}
+use Rattle.toml_tree.proofs.CompleteLines.{lines_complete}
 use Rattle.toml_tree.proofs.Many.{append-nil}
 use Rattle.toml_tree.proofs.Marks.{mark_front}
 

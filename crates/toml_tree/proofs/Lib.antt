@@ -4,6 +4,9 @@ pub mod Sound
 pub mod SoundValues
 pub mod SoundLines
 pub mod Complete
+pub mod CompleteValues
+pub mod CompleteLines
+pub mod Marks
 pub mod Exact
 pub mod ExactValues
 pub mod Cuts
@@ -12,6 +15,5 @@ pub mod Aheads
 pub mod Formed
 pub mod Views
 pub mod Ends
-pub mod Marks
 pub mod Texts
 pub mod Taken

@@ -4,7 +4,7 @@ use Rattle.toml_tree.specs.ReadingValues.{items_at, item_step, pairs_at, pair_st
 use Rattle.toml_tree.specs.Reads.{cursor}
 use Rattle.toml_tree.specs.View.{element, array_end, member}
 use Rattle.toml_tree.proofs.Many.{loop_pushed, loop_ended, loop_failed, map_push}
-use Rattle.std.proofs.lemmas.Bool.{cond-true, not-false}
+use Rattle.std.proofs.lemmas.Bool.{cond-true}
 use Rattle.toml_tree.proofs.Aheads.{array_ahead, closed_ahead, pairs_ahead}
 use Rattle.toml_tree.proofs.reader.Reader.+value.Goals.{inline_table-in-Some, inline_table-in-None+in_ok-pairs-in-None}
 use Rattle.toml_tree.proofs.reader.Reader.+value.Goals as goal
@@ -41,14 +41,14 @@ pairs-returns-in-Done t c =
 
 pub array-up_to-whole-requires : goal.array-up_to-whole-requires
 array-up_to-whole-requires t c =
-    let opened = sym c.eat.ensures.value ∙ not-false _ c.if-not-eat.false in
+    let opened = sym c.eat.ensures.value ∙ c.if-not-eat.false in
     array_ahead c.args.deep (cursor c.args.self.now) (cursor c.eat.new.self) (cursor c.items.new.self) _ opened (c.eat.ensures.after ∙ cond-true _ _ _ opened) c.in_ok-items.ensures.0
 
 pub inline_table-up_to-whole-requires : goal.inline_table-up_to-whole-requires
 inline_table-up_to-whole-requires t c =
     let here = cursor c.args.self.now in
     let inside = cursor c.eat.new.self in
-    let opened = sym c.eat.ensures.value ∙ not-false _ c.if-not-eat.false in
+    let opened = sym c.eat.ensures.value ∙ c.if-not-eat.false in
     let behind = c.eat.ensures.after ∙ cond-true _ _ _ opened in
     elim c.match-ws.branch [
       | inline_table-in-Some w ↦ closed_ahead c.args.deep here inside (cursor c.match-ws.self) _ opened behind ? ?
