@@ -15,7 +15,6 @@ use Rattle.toml_tree.specs.ReadingLines.{expr_at}
 use Rattle.toml_tree.proofs.Spans.{Spans, spans_from, spans_joined, spans_placed}
 use Rattle.toml_tree.proofs.CompleteValues.{value_complete, keyval_complete}
 use Rattle.toml_tree.proofs.CompleteLines.{expr_complete}
-use Rattle.toml_tree.proofs.Many.{append-nil}
 use Rattle.std.proofs.lemmas.List.{append-nil}
 use Rattle.toml_tree.proofs.SoundValues.{ValueIs, value_sound}
 

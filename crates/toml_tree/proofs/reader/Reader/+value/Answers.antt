@@ -1,8 +1,8 @@
-use Rattle.std.proofs.Common.{Some, map, sym, refl, ap, ◌∙◌}
+use Rattle.std.proofs.Common.{Some, option_map, map, sym, refl, ap, ◌∙◌}
 use Rattle.std.proofs.lemmas.Result.{err_from_is_err_and}
 use Rattle.toml_tree.specs.ReadingValues.{items_at, item_step, pairs_at, pair_step, value_at}
 use Rattle.toml_tree.specs.Reads.{cursor}
-use Rattle.toml_tree.specs.View.{element, array_end, member}
+use Rattle.toml_tree.specs.View.{piece, element, array_end, member}
 use Rattle.toml_tree.proofs.Many.{loop_pushed, loop_ended, loop_failed, map_push}
 use Rattle.std.proofs.lemmas.Bool.{cond-true}
 use Rattle.toml_tree.proofs.Aheads.{array_ahead, closed_ahead, pairs_ahead}
@@ -50,7 +50,11 @@ inline_table-up_to-whole-requires t c =
     let inside = cursor c.eat.new.self in
     let opened = sym c.eat.ensures.value ∙ c.if-not-eat.false in
     let behind = c.eat.ensures.after ∙ cond-true _ _ _ opened in
+    let closed = sym c.closed-ws.ensures.piece in
     elim c.match-ws.branch [
-      | inline_table-in-Some w ↦ closed_ahead c.args.deep here inside (cursor c.match-ws.self) _ opened behind ? ?
-      | inline_table-in-None+in_ok-pairs-in-None w ↦ ?
+      | inline_table-in-Some w ↦
+          closed_ahead c.args.deep here inside (cursor c.match-ws.self) _ opened behind (closed ∙ ap (option_map piece) w.in-Some.is) (ap cursor w.self-is ∙ c.closed-ws.ensures.after)
+      | inline_table-in-None+in_ok-pairs-in-None w ↦
+          pairs_ahead c.args.deep here inside (cursor c.closed-ws.new.self) (cursor c.match-ws.self) _ opened behind (closed ∙ ap (option_map piece) w.in-None.is) c.closed-ws.ensures.after
+          (w.in_ok-pairs-in-None.ensures.0 ∙ ap (λ r. Some (map member w.in_ok-pairs-in-None.pairs.items, cursor r)) (sym w.self-is))
     ]
