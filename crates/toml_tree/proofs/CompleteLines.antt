@@ -14,6 +14,7 @@ use Rattle.toml_tree.specs.ReadingLines.{named_at, header_at, array_header_at, h
 use Rattle.toml_tree.specs.declared.step.Step.TheVariants.{Next, Done}
 use Rattle.toml_tree.proofs.Spans.{Spans, spans_split}
 use Rattle.toml_tree.proofs.Sound.{all_parts_push}
+use Rattle.toml_tree.proofs.SoundLines.{IsEndedLine}
 use Rattle.toml_tree.proofs.Complete.{piece_here, rest_of, symbol_begins, symbol_ahead, spans_length, run_complete, each_first, positive, comment_complete, comment_first, is_newline_byte, newline_front, newline_stops, StopsLine, line_stop, line_stops_comment, newline_not_ws, newline_not_start, blank_ends, blank_closes, ws_symbol, many_complete, as_long, start_not_ws, key_complete, key_first, symbol_ends}
 use Rattle.toml_tree.proofs.CompleteValues.{keyval_complete, keyval_first}
 
