@@ -3,8 +3,8 @@
 
   bench/check.py --binary crates/tomled/out/tomled
 
-The last texts are pairs of one kind of value, `a<n> = VALUE`. Their last line is a mistake, so that the time is
-that of reading: the rule on keys, which compares them pair by pair for now, is not reached.
+Texts of many pairs end in a mistake, so that the time is that of reading: the rule on keys, which compares them
+pair by pair for now, is not reached.
 
 For each text it prints the best of some runs: seconds, megabytes a second, the ratio to `wc -l` and to
 `cat`, and the peak memory as a multiple of the text. No test rests on these numbers.
@@ -36,6 +36,19 @@ def numbered(front, behind):
         number += 1
 
 
+def array(item):
+    """One array of a million items, or of as many as a text may have."""
+    out, size, number = [b'a = [\n'], 8, 0
+    while number < 1_000_000:
+        text = item % (10_000_000_000_000 + number)
+        if size + len(text) >= LIMIT:
+            break
+        out.append(text)
+        size += len(text)
+        number += 1
+    return b''.join(out) + b']\n'
+
+
 TEXTS = {
     'comment lines': lambda: filled(b'# a comment of a usual length, with a few words in it\n'),
     'spaces': lambda: b' ' * LIMIT,
@@ -44,6 +57,14 @@ TEXTS = {
     'integers': lambda: numbered(b'a', b' = 1_000_000\n') + b'?',
     'floats': lambda: numbered(b'a', b' = -6.626e-34\n') + b'?',
     'dates': lambda: numbered(b'a', b' = 1979-05-27T07:32:00.999-07:00\n') + b'?',
+    'escapes': lambda: numbered(b'a', b' = "\\t\\u00e9\\n\\"\\U0001f600\\\\\\u20ac\\b\\f\\r"\n') + b'?',
+    'array': lambda: array(b'%d, '),
+    'array, comments': lambda: array(b'  %d, # a comment of a usual length\n'),
+    'inline tables': lambda: numbered(b'point', b' = { name = "a point", x = -1_000.25, y = 0.125 }\n') + b'?',
+    'headers': lambda: numbered(b'[servers.region.host', b']\n'),
+    'array headers': lambda: filled(b'[[products.variants]]\n'),
+    'dotted key': lambda: b'a' + b'.a' * (LIMIT // 2 - 4) + b' = 1',
+    'brackets': lambda: b'a = ' + b'[' * (LIMIT - 4),
 }
 
 
@@ -51,7 +72,7 @@ def seconds(words):
     start = time.perf_counter()
     done = subprocess.run(words, stdout=subprocess.DEVNULL, stderr=subprocess.PIPE, check=False)
     took = time.perf_counter() - start
-    if done.returncode != 0 and not done.stderr.startswith(b'refused 104 '):
+    if done.returncode != 0 and not done.stderr.startswith((b'refused 104 ', b'refused 109 ')):
         sys.exit('%s failed: %s' % (' '.join(words), done.stderr.decode()))
     return took
 
@@ -79,7 +100,7 @@ def main():
             check, lines, cat = (min(seconds(run + [path]) for _ in range(given.runs))
                                  for run in ([binary, 'check'], ['wc', '-l'], ['cat']))
             memory = peak([binary, 'check', path])
-            print('%-14s %.3f s  %4.0f MB/s  %.1f of wc -l  %.1f of cat  %.1f of the text in memory'
+            print('%-16s %.3f s  %4.0f MB/s  %.1f of wc -l  %.1f of cat  %.1f of the text in memory'
                   % (name, check, size / check / 1e6, check / lines, check / cat, memory / size))
 
 

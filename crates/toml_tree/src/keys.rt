@@ -59,7 +59,10 @@ impl<'t> Reader<'t> {
         loop {
             match self.dotted_step()? {
                 Step::Next(part) => parts.push(part)?,
-                Step::Done(()) => return Ok(parts),
+                Step::Done(()) => {
+                    parts.shrink_to_fit();
+                    return Ok(parts);
+                }
             }
         }
     }

@@ -1,4 +1,4 @@
-use crate::{Expr, MomentKind, Piece, ScalarKind, SyntaxFault, Value, parse};
+use crate::{Expr, MomentKind, Piece, ScalarKind, SyntaxFault, Value, parse, parse_value};
 use std::alloc::Global;
 use std::process::Abort;
 use std::test::Fail;
@@ -28,6 +28,12 @@ fn the_text_comes_back(rt: HostRuntime) -> Result<(), Fail> {
         "x = 1979-05-27 07:32:00Z # c",
         "# \u{80}\u{9f}",
         "a = \"\\U0010FFFF\"",
+        "a = [ # c\n 1 # d\n , 2, ]\r\n",
+        "a = [\r\n\t[], [ ]\r\n,\r\n# c\r\n]",
+        "a = [[1, [2,],], {}, { }]",
+        "a = {x = 1 , y.z = [ {w = {}} ]}# c",
+        "[ a . \"b\" ] # c\n\t[[a]]\n",
+        "\u{feff}[a]\r\n[[ a . b ]]",
     ] {
         let source = Source::new(text.as_bytes()).map_err(|_| "no text")?;
         let again = parse(rt.alloc(), source)?.text(rt.alloc())?;
@@ -58,6 +64,7 @@ fn pieces_have_their_places(rt: HostRuntime) -> Result<(), Fail> {
             assert_piece(&rt, pair.assign.before_equals, " ", 10);
             assert_piece(&rt, pair.assign.after_equals, "", 12);
         }
+        _ => assert!(rt; false),
     }
     Ok(())
 }
@@ -91,10 +98,11 @@ fn values_have_their_kinds(rt: HostRuntime) -> Result<(), Fail> {
         let doc = parse(rt.alloc(), source)?;
         for line in doc.lines() {
             match line.expr() {
-                Expr::Blank(_) => assert!(rt; false),
                 Expr::KeyVal { pair, .. } => match &pair.value {
                     Value::Scalar(kind, _) => assert_eq!(rt; *kind, wanted),
+                    _ => assert!(rt; false),
                 },
+                _ => assert!(rt; false),
             }
         }
     }
@@ -134,7 +142,140 @@ fn refusals_have_their_places(rt: HostRuntime) {
             SyntaxFault::IntegerRange { at: 4 },
         ),
         ("a = 1979-13-01", SyntaxFault::BadDate { at: 4 }),
+        ("a = [1,,2]", SyntaxFault::Expected { at: 7 }),
+        ("a = [,]", SyntaxFault::Expected { at: 5 }),
+        ("a = [1 2]", SyntaxFault::Expected { at: 7 }),
+        ("a = [1 # c", SyntaxFault::Expected { at: 10 }),
+        ("a = [1\r]", SyntaxFault::BadCharacter { at: 6 }),
+        ("a = [", SyntaxFault::Expected { at: 5 }),
+        ("a = {x = 1,}", SyntaxFault::Expected { at: 11 }),
+        ("a = {,}", SyntaxFault::Expected { at: 5 }),
+        ("a = {x = 1\n}", SyntaxFault::Expected { at: 10 }),
+        ("a = {\n}", SyntaxFault::Expected { at: 5 }),
+        ("a = {x = 1 # c\n}", SyntaxFault::Expected { at: 11 }),
+        ("a = {x = 1 y = 2}", SyntaxFault::Expected { at: 11 }),
+        ("a = [1979-05-27 1]", SyntaxFault::BadDate { at: 5 }),
+        ("[a] b = 1", SyntaxFault::Expected { at: 4 }),
+        ("[]", SyntaxFault::Expected { at: 1 }),
+        ("[[]]", SyntaxFault::Expected { at: 2 }),
+        ("[ [a]]", SyntaxFault::Expected { at: 2 }),
+        ("[[a] ]", SyntaxFault::Expected { at: 4 }),
+        ("[[a]", SyntaxFault::Expected { at: 4 }),
+        ("[a\n]", SyntaxFault::Expected { at: 2 }),
+        ("[a.]", SyntaxFault::Expected { at: 3 }),
+        ("a = 1 [b]", SyntaxFault::Expected { at: 6 }),
     ] {
         assert_eq!(rt; fault(rt.alloc(), text), Some(wanted));
     }
+}
+
+#[test]
+fn arrays_and_inline_tables_have_their_pieces(rt: HostRuntime) -> Result<(), Fail> {
+    let text = "a = [ 1 , # c\n { b.c =2}, ]";
+    let source = Source::new(text.as_bytes()).map_err(|_| "no text")?;
+    let doc = parse(rt.alloc(), source)?;
+    let Expr::KeyVal { pair, .. } = doc.lines()[0].expr() else {
+        return Err(Fail::from("no pair"));
+    };
+    let Value::Array(array) = &pair.value else {
+        return Err(Fail::from("no array"));
+    };
+    assert_piece(&rt, array.whole, "[ 1 , # c\n { b.c =2}, ]", 4);
+    assert_eq!(rt; array.items.len(), 2);
+    assert_piece(&rt, array.items[0].before.ws, " ", 5);
+    assert_piece(&rt, array.items[0].after.ws, " ", 7);
+    let before = &array.items[1].before;
+    assert_piece(&rt, before.lines[0].blank.ws, " ", 9);
+    let comment = before.lines[0].blank.comment.ok_or("no comment")?;
+    assert_piece(&rt, comment, "# c", 10);
+    assert_piece(&rt, before.lines[0].newline, "\n", 13);
+    assert_piece(&rt, before.ws, " ", 14);
+    let end = array.end.as_ref().ok_or("no end")?;
+    assert_piece(&rt, end.ws, " ", 25);
+    let Value::Inline(table) = &array.items[1].value else {
+        return Err(Fail::from("no inline table"));
+    };
+    assert_piece(&rt, table.whole, "{ b.c =2}", 15);
+    assert!(rt; table.ws.is_none());
+    assert_eq!(rt; table.pairs.len(), 1);
+    assert_piece(&rt, table.pairs[0].before, " ", 16);
+    assert_piece(&rt, table.pairs[0].after, "", 23);
+    let assign = &table.pairs[0].keyval.assign;
+    assert_piece(&rt, assign.key.rest[0].part, "c", 19);
+    assert_piece(&rt, assign.before_equals, " ", 20);
+    Ok(())
+}
+
+#[test]
+fn headers_have_their_pieces(rt: HostRuntime) -> Result<(), Fail> {
+    let text = " [ a.b ] # c\n[[d]]";
+    let source = Source::new(text.as_bytes()).map_err(|_| "no text")?;
+    let doc = parse(rt.alloc(), source)?;
+    let Expr::Std { ws, header, tail } = doc.lines()[0].expr() else {
+        return Err(Fail::from("no header"));
+    };
+    assert_piece(&rt, *ws, " ", 0);
+    assert_piece(&rt, header.before, " ", 2);
+    assert_piece(&rt, header.key.first, "a", 3);
+    assert_piece(&rt, header.key.rest[0].part, "b", 5);
+    assert_piece(&rt, header.after, " ", 6);
+    assert_piece(&rt, tail.comment.ok_or("no comment")?, "# c", 9);
+    let Expr::Array { header, .. } = doc.lines()[1].expr() else {
+        return Err(Fail::from("no header of an array of tables"));
+    };
+    assert_piece(&rt, header.before, "", 15);
+    assert_piece(&rt, header.key.first, "d", 15);
+    Ok(())
+}
+
+/// `a = `, so many opening brackets, the inside, and as many closing ones.
+fn nested(alloc: Global, depth: usize, inside: &str) -> Result<String, Fail> {
+    let mut text = String::from_str(alloc, "a = ")?;
+    for _ in 0..depth {
+        text.push_str("[")?;
+    }
+    text.push_str(inside)?;
+    for _ in 0..depth {
+        text.push_str("]")?;
+    }
+    Ok(text)
+}
+
+#[test]
+fn values_nest_a_hundred_deep(rt: HostRuntime) -> Result<(), Fail> {
+    for (depth, inside, wanted) in [
+        (100, "", None),
+        (99, "1", None),
+        (99, "{}", None),
+        (101, "", Some(SyntaxFault::TooDeep { at: 104 })),
+        (100, "1", Some(SyntaxFault::TooDeep { at: 104 })),
+        (100, "\"", Some(SyntaxFault::TooDeep { at: 104 })),
+        (100, "{", Some(SyntaxFault::TooDeep { at: 104 })),
+        (100, "?", Some(SyntaxFault::Expected { at: 104 })),
+        (100, "\u{1}", Some(SyntaxFault::BadCharacter { at: 104 })),
+    ] {
+        let text = nested(rt.alloc(), depth, inside)?;
+        assert_eq!(rt; fault(rt.alloc(), text.as_str()), wanted);
+    }
+    Ok(())
+}
+
+#[test]
+fn a_value_stands_alone(rt: HostRuntime) -> Result<(), Fail> {
+    for (text, wanted) in [
+        ("[1]", None),
+        ("\"x\"", None),
+        ("{a = [\n]}", None),
+        ("1 ", Some(SyntaxFault::Expected { at: 1 })),
+        (" 1", Some(SyntaxFault::Expected { at: 0 })),
+        ("", Some(SyntaxFault::Expected { at: 0 })),
+        ("[1]\n", Some(SyntaxFault::Expected { at: 3 })),
+        ("\u{feff}1", Some(SyntaxFault::Expected { at: 0 })),
+        ("1\u{1}", Some(SyntaxFault::BadCharacter { at: 1 })),
+        ("a", Some(SyntaxFault::Expected { at: 0 })),
+    ] {
+        let source = Source::new(text.as_bytes()).map_err(|_| "no text")?;
+        assert_eq!(rt; parse_value(rt.alloc(), source).err(), wanted);
+    }
+    Ok(())
 }

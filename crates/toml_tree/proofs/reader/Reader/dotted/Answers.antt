@@ -1,5 +1,6 @@
-use Rattle.std.proofs.Common.{refl}
+use Rattle.std.proofs.Common.{Some, map, refl, ap, sym}
 use Rattle.std.proofs.lemmas.Result.{err_from_is_err_and}
+use Rattle.toml_tree.specs.Reads.{cursor}
 use Rattle.toml_tree.specs.View.{dotted}
 use Rattle.toml_tree.specs.Reading.{dotted_at, dotted_step}
 use Rattle.toml_tree.proofs.Many.{loop_pushed, loop_ended, loop_failed}
@@ -18,4 +19,4 @@ pub returns-in-Done : goal.returns-in-Done
 unfolding dotted_at
 returns-in-Done c =
     let all = loop_ended dotted (λ u. u) dotted_step _ _ _ _ _ _ c.loop-parts.invariant c.in_ok-part.ensures.reads c.in-Done.is in
-    (rw all.0 refl, all.1)
+    (rw all.0 (ap (λ l. Some (map dotted l, cursor c.dotted_step.new.self)) (sym c.shrink_to_fit.ensures.items)), all.1)
