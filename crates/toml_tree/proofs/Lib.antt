@@ -17,3 +17,4 @@ pub mod Views
 pub mod Ends
 pub mod Texts
 pub mod Taken
+pub mod Depths

@@ -1,8 +1,8 @@
 -- Laws: what the definitions of the tree give those who build on them.
-use Rattle.std.specs.Prelude.{◌≡◌, ℕ, List, Some}
+use Rattle.std.specs.Prelude.{◌≡◌, ◌⊎◌, ◌≤◌, ℕ, zero, suc, List, Some}
 use Rattle.toml_tree.specs.ReadingLines.{document_at}
-use Rattle.toml_tree.specs.Spells.{Spells, SpellsValue, SpellsKeyVal, SpellsExpr}
-use Rattle.toml_tree.specs.Tree.{Value, KeyVal, Expr, Doc}
+use Rattle.toml_tree.specs.Spells.{depth, Spells, SpellsValue, SpellsKeyVal, SpellsExpr}
+use Rattle.toml_tree.specs.Tree.{Value, Scalar, Array, Empty, Inline, Items, Close, Last, More, Pairs, LastPair, MorePairs, KeyVal, Expr, Doc}
 
 -- a text has at most one tree
 abbrev pub OneTree : Type 0
@@ -26,3 +26,29 @@ ReaderIsSound = (text : List ℕ) (d : Doc) → document_at text ≡ Some d → 
 
 abbrev pub ReaderIsComplete : Type 0
 ReaderIsComplete = (text : List ℕ) (d : Doc) → Spells d text → document_at text ≡ Some d
+
+-- a value stands in another: in an array, or as the value of a pair of an inline table
+abbrev pub IsItemOf : Value → Items → Type 0
+IsItemOf v (Close g) = ⊥
+IsItemOf v (Last g w h) = v ≡ w
+IsItemOf v (More g w h is) = (v ≡ w) ⊎ IsItemOf v is
+
+abbrev pub IsPairOf : Value → Pairs → Type 0
+IsPairOf v (LastPair ws a w after) = v ≡ w
+IsPairOf v (MorePairs ws a w after ps) = (v ≡ w) ⊎ IsPairOf v ps
+
+abbrev pub IsIn : Value → Value → Type 0
+IsIn v (Scalar kind p) = ⊥
+IsIn v (Array whole is) = IsItemOf v is
+IsIn v (Empty whole ws) = ⊥
+IsIn v (Inline whole ps) = IsPairOf v ps
+
+-- values stand in one another, so many deep, this one being the outermost
+abbrev pub Nests : ℕ → Value → Type 0
+Nests zero v = Unit {0}
+Nests (suc zero) v = Unit {0}
+Nests (suc (suc n)) v = (w : Value) × IsIn w v × Nests (suc n) w
+
+-- the depth of a value is how deep values nest in it
+abbrev pub DepthIsNesting : Type 0
+DepthIsNesting = (v : Value) (n : ℕ) → (Nests n v → n ≤ depth v) × (n ≤ depth v → Nests n v)

@@ -1,5 +1,5 @@
 //! Laws over the definitions: each function's contract is one or a few, and nothing is run.
-ghost use Rattle.toml_tree.specs.Laws.{OneTree, OneValue, OneKeyVal, OneExpr, ReaderIsSound, ReaderIsComplete};
+ghost use Rattle.toml_tree.specs.Laws.{OneTree, OneValue, OneKeyVal, OneExpr, DepthIsNesting, ReaderIsSound, ReaderIsComplete};
 
 /// A text has at most one tree.
 pub fn one_tree()
@@ -11,6 +11,11 @@ pub fn one_part()
     ensures value { OneValue }
     ensures keyval { OneKeyVal }
     ensures expr { OneExpr }
+{}
+
+/// The depth of a value is how deep values nest in it.
+pub fn depths()
+    ensures { DepthIsNesting }
 {}
 
 /// The plain reader reads a tree exactly where one spells the text, and reads that tree.
