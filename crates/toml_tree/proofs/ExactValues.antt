@@ -18,7 +18,6 @@ use Rattle.toml_tree.proofs.CompleteLines.{expr_complete}
 use Rattle.std.proofs.lemmas.List.{append-nil}
 use Rattle.toml_tree.proofs.SoundValues.{ValueIs, value_sound}
 
-
 -- where a text begins and where it ends
 abbrev front : ℕ → List ℕ → Cursor
 front at text = record { at = at; rest = text }

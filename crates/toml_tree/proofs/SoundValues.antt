@@ -174,8 +174,8 @@ module _ (n : ℕ) (value : (c : Cursor) → IfSome (value_at n c) (ValueIs n c)
       after_element_sound (record { before = g.0; value = v.0; after = h.0 }) c h.1 (gs.0, vs.0, vs.1, hs.0) (λ b is.
       let mark : List Part = symbol (b ∷ []) ∷ [] in
       spans_append (gap_parts g.0) (value_parts v.0 ++ (gap_parts h.0 ++ mark)) c g.1 (ahead 1 h.1) gs.1
-          (spans_append (value_parts v.0) (gap_parts h.0 ++ mark) g.1 v.1 (ahead 1 h.1) vs.2
-          (spans_append (gap_parts h.0) mark v.1 h.1 (ahead 1 h.1) hs.1 (spans_symbol b h.1 is))))))))
+      (spans_append (value_parts v.0) (gap_parts h.0 ++ mark) g.1 v.1 (ahead 1 h.1) vs.2
+      (spans_append (gap_parts h.0) mark v.1 h.1 (ahead 1 h.1) hs.1 (spans_symbol b h.1 is))))))))
 
   items_sound : (c : Cursor) → IfSome (items_at (value_at n) c) (λ r. AreItems r.0 × (items_depth r.0 ≤ n) × Spans (items_parts r.0) c r.1)
   unfolding items_at
@@ -219,9 +219,9 @@ module _ (n : ℕ) (value : (c : Cursor) → IfSome (value_at n c) (ValueIs n c)
       after_member_sound m c a.1 ((run_sound is_ws c).0, ks.0, ks.1, ks.2, (run_sound is_ws k.1).0) (λ x is.
       let mark : List Part = symbol (x ∷ []) ∷ [] in
       run_then is_ws (assign_parts k.0.assign ++ (value_parts k.0.value ++ (piece a.0 ∷ mark))) c (ahead 1 a.1)
-          (subst (λ ps. Spans ps b (ahead 1 a.1)) (append_assoc (assign_parts k.0.assign) (value_parts k.0.value) (piece a.0 ∷ mark))
-          (spans_append (keyval_parts k.0) (piece a.0 ∷ mark) b k.1 (ahead 1 a.1) ks.3
-          (run_then is_ws mark k.1 (ahead 1 a.1) (spans_symbol x a.1 is))))))
+      (subst (λ ps. Spans ps b (ahead 1 a.1)) (append_assoc (assign_parts k.0.assign) (value_parts k.0.value) (piece a.0 ∷ mark))
+      (spans_append (keyval_parts k.0) (piece a.0 ∷ mark) b k.1 (ahead 1 a.1) ks.3
+      (run_then is_ws mark k.1 (ahead 1 a.1) (spans_symbol x a.1 is))))))
 
   pairs_sound : (c : Cursor) → IfSome (pairs_at (value_at n) c) (AreMembers n c)
   unfolding pairs_at

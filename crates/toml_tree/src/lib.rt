@@ -25,4 +25,6 @@ pub use toml_scalar::{MomentKind, ScalarKind, SyntaxFault};
 pub use tree::{Array, Assign, Dotted, Expr, Header, InlineTable, Item, Key, KeyVal, Pair, Value};
 
 #[cfg(test)]
+mod examples;
+#[cfg(test)]
 mod tests;

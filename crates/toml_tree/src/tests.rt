@@ -1,4 +1,6 @@
-use crate::{Expr, MomentKind, Piece, ScalarKind, SyntaxFault, Value, parse, parse_value};
+use crate::{
+    Expr, MomentKind, Piece, ScalarKind, SyntaxFault, Value, examples, parse, parse_value,
+};
 use std::alloc::Global;
 use std::process::Abort;
 use std::test::Fail;
@@ -38,6 +40,17 @@ fn the_text_comes_back(rt: HostRuntime) -> Result<(), Fail> {
         let source = Source::new(text.as_bytes()).map_err(|_| "no text")?;
         let again = parse(rt.alloc(), source)?.text(rt.alloc())?;
         assert_eq!(rt; again.as_str(), text);
+    }
+    Ok(())
+}
+
+#[test]
+fn documents_come_back(rt: HostRuntime) -> Result<(), Fail> {
+    for (text, lines) in examples::ALL {
+        let source = Source::new(text.as_bytes()).map_err(|_| "no text")?;
+        let doc = parse(rt.alloc(), source)?;
+        assert_eq!(rt; doc.lines().len(), lines);
+        assert_eq!(rt; doc.text(rt.alloc())?.as_str(), text);
     }
     Ok(())
 }

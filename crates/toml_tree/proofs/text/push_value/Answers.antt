@@ -12,11 +12,11 @@ use Rattle.toml_tree.proofs.text.push_value.Goals.{in-Scalar, in-Array, in-Inlin
 pushed : (c : goal.In_ok-push_str) → piece c.match-v.piece ≡ piece_of (value c.args.v.now)
 pushed c =
     elim c.match-v.branch [
-      in-Scalar w ↦ ap piece w.piece-is ∙ sym (ap piece_of (ap value w.in-Scalar.is ∙ value_scalar w.in-Scalar.field-0 w.in-Scalar.scalar))
-    | in-Array w ↦
+      | in-Scalar w ↦ ap piece w.piece-is ∙ sym (ap piece_of (ap value w.in-Scalar.is ∙ value_scalar w.in-Scalar.field-0 w.in-Scalar.scalar))
+      | in-Array w ↦
           ap piece (w.piece-is ∙ ap (λ a. (out-Array a).whole) w.deref.ensures)
           ∙ sym (ap piece_of (ap value w.in-Array.is ∙ value_array w.in-Array.array))
-    | in-Inline w ↦
+      | in-Inline w ↦
           ap piece (w.piece-is ∙ ap (λ t. (out-InlineTable t).whole) w.deref-in-Inline.ensures)
           ∙ sym (ap piece_of (ap value w.in-Inline.is ∙ value_inline w.in-Inline.table) ∙ piece_of_inline _ _ _)
     ]

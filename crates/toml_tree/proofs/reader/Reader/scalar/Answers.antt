@@ -17,6 +17,8 @@ returns-in_err-span c =
 
 pub returns : goal.returns
 returns c =
-    let k = c.in_ok-span.ensures in
-    (scalar_taken (cursor c.args.self.now) k.0 c.in_ok-span.span.end k.2.end _ _ c.take_to.ensures.piece c.take_to.ensures.after _ k.1
-     ∙ ap (λ v. Some (v, cursor c.take_to.new.self)) (sym (value_scalar c.in_ok-span.kind c.take_to.result)), c.take_to.ensures.onward)
+    let k = c.in_ok-span.ensures in (
+      scalar_taken (cursor c.args.self.now) k.0 c.in_ok-span.span.end k.2.end _ _ c.take_to.ensures.piece c.take_to.ensures.after _ k.1
+          ∙ ap (λ v. Some (v, cursor c.take_to.new.self)) (sym (value_scalar c.in_ok-span.kind c.take_to.result)),
+      c.take_to.ensures.onward,
+    )
