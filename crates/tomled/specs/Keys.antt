@@ -1,9 +1,10 @@
 -- The names of a document's keys, what the keys make, and which lines may stand together. This is the
--- table rule for now: key/value pairs at line level, before the first header.
+-- table rule for now: key/value pairs at line level, before the first header. No key behind a header or in
+-- an inline table is judged yet, nor are headers themselves.
 use Rattle.std.specs.Prelude.{◌≡◌, ◌<◌, ℕ, zero, suc, List, [], ◌∷◌, ◌++◌, map, length, Option, Some, None, option_map, Vec, String, string_bytes}
 use Rattle.std.specs.declared.alloc.Global.{Global}
 use Rattle.toml_scalar.specs.Values.{name_of}
-use Rattle.toml_tree.specs.Tree.{Piece, Expr, BlankLine, KeyValLine, Doc}
+use Rattle.toml_tree.specs.Tree.{Piece, Expr, BlankLine, KeyValLine, TableLine, ArrayTableLine, Line, Doc}
 use Rattle.toml_tree.specs.Tree as tree
 
 -- a key, as its names, each as its bytes
@@ -23,14 +24,20 @@ part_name p = name_or_empty (name_of p.text)
 abbrev pub key_names_of : tree.Key → Key
 key_names_of k = part_name k.first ∷ map (λ d. part_name d.part) k.rest
 
--- the key of a line, if it has one
-abbrev pub key_of : Expr → Option Key
-key_of (BlankLine b) = None
-key_of (KeyValLine ws pair tail) = Some (key_names_of pair.assign.key)
+-- the keys from a line on, by those of the lines behind it: a blank line has none, and a header ends them
+abbrev pub keys_with : Expr → List (Option Key) → List (Option Key)
+keys_with (BlankLine b) behind = None ∷ behind
+keys_with (KeyValLine ws pair tail) behind = Some (key_names_of pair.assign.key) ∷ behind
+keys_with (TableLine ws header tail) behind = []
+keys_with (ArrayTableLine ws header tail) behind = []
 
--- the key of each line
+-- the key of each line before the first header
+abbrev pub front_keys : List Line → List (Option Key)
+front_keys [] = []
+front_keys (l ∷ ls) = keys_with l.expr (front_keys ls)
+
 abbrev pub keys_of : Doc → List (Option Key)
-keys_of d = map (λ l. key_of l.expr) d.lines
+keys_of d = front_keys d.lines
 
 -- what a key makes at an address: a table, or the line's value
 pub data Role : Type 0 where

@@ -27,7 +27,8 @@ IsSyntaxCode code = (103 ≤ code) × (code ≤ 109)
 abbrev pub IsNotSpelled : List ℕ → Refusal → Type 0
 IsNotSpelled bytes r = IsSyntaxCode r.code × (r.place ≤ length bytes) × IsText bytes × SpelledByNone bytes
 
--- 201: the first line that breaks the table rule with an earlier one; the place is its number, from 1, lines counted as the tree has them
+-- 201: the first line, of those before the first header, that breaks the table rule with an earlier one; the place
+-- is its number, from 1, lines counted as the tree has them
 abbrev pub IsRedefined : List ℕ → Refusal → Type 0
 IsRedefined bytes r = (r.code ≡ 201) × IsText bytes × (d : Doc) × (line : ℕ) × (r.place ≡ line + 1) × Spells d bytes × IsFirstBreak (keys_of d) line
 

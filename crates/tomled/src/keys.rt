@@ -1,15 +1,15 @@
-//! The interim table rule: no line's key is a beginning of another's.
+//! The interim table rule: of the lines before the first header, no line's key is a beginning of another's.
+//! Headers, the lines behind the first, and keys in inline tables are not judged yet.
 //! A key makes a table of each of its proper fronts, and lines may share those, but not a value.
 ghost use Rattle.std.specs.Prelude.{◌≡◌, ℕ, ◌<◌, List, map, length, string_bytes, IsTrue, ◌↔◌, IfOk, MatchOption, IfSome, Some};
 ghost use Rattle.toml_scalar.specs.Values.{name_of};
 ghost use Rattle.toml_tree.specs.Document.{document};
-ghost use Rattle.toml_tree.specs.Lines.{line as line_of};
 ghost use Rattle.toml_tree.specs.View.{key as tree_key};
-ghost use Rattle.tomled.specs.Keys.{Key as KeyNames, name_or_empty, key_names_of, key_of, keys_of, key_names, line_names, names, IsBeginning, KeysClash, HasClash, BreaksRule, KeepRule, IsFirstBreak};
+ghost use Rattle.tomled.specs.Keys.{Key as KeyNames, name_or_empty, key_names_of, keys_of, key_names, line_names, names, IsBeginning, KeysClash, HasClash, BreaksRule, KeepRule, IsFirstBreak};
 
 use std::alloc::{AllocError, Global};
 use toml_scalar::name_of;
-use toml_tree::{Doc, Expr, Key, Line};
+use toml_tree::{Doc, Expr, Key};
 
 /// The name of a key part, and an empty one for a text that is none.
 fn part_name(alloc: Global, part: &str) -> Result<String, AllocError>
@@ -33,23 +33,17 @@ fn names_of<'t>(alloc: Global, key: &Key<'t>) -> Result<Vec<String>, AllocError>
     Ok(parts)
 }
 
-/// The names of a line's key, if it has one.
-fn key_of<'t>(alloc: Global, line: &Line<'t>) -> Result<Option<Vec<String>>, AllocError>
-    ensures { IfOk result (λ key. line_names key ≡ key_of (line_of line.now).expr) }
-{
-    match line.expr() {
-        Expr::Blank(_) => Ok(None),
-        Expr::KeyVal { pair, .. } => Ok(Some(names_of(alloc, &pair.assign.key)?)),
-    }
-}
-
-/// The names of each line's key.
+/// The names of each line's key, of the lines before the first header.
 pub fn keys_of<'t>(alloc: Global, doc: &Doc<'t>) -> Result<Vec<Option<Vec<String>>>, AllocError>
     ensures { IfOk result (λ keys. names keys.items ≡ keys_of (document doc.now)) }
 {
     let mut keys = Vec::new(alloc);
     for line in doc.lines() {
-        keys.push(key_of(alloc, line)?)?;
+        match line.expr() {
+            Expr::Blank(_) => keys.push(None)?,
+            Expr::KeyVal { pair, .. } => keys.push(Some(names_of(alloc, &pair.assign.key)?))?,
+            Expr::Std { .. } | Expr::Array { .. } => break,
+        }
     }
     Ok(keys)
 }

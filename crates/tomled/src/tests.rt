@@ -37,7 +37,7 @@ fn assert_refused(
 
 #[test]
 fn documents(rt: HostRuntime) -> Result<(), Fail> {
-    let rows: [&[u8]; 8] = [
+    let rows: [&[u8]; 10] = [
         b"",
         b"a = 1\n# x\n  \nb-_9 = +1_000 # y",
         b"a = 9223372036854775807",
@@ -46,6 +46,8 @@ fn documents(rt: HostRuntime) -> Result<(), Fail> {
         b"# \xC2\x85",
         b"a = 1\r\nb = -0\r\n",
         b"1 = 1\n01 = 1\n-_ = 1",
+        b"a = [ # c\n 1 # d\n , 2, ]",
+        b"[ a . \"b\" ]",
     ];
     assert_ok(&rt, rt.alloc(), &rows)?;
     Ok(())
@@ -53,7 +55,7 @@ fn documents(rt: HostRuntime) -> Result<(), Fail> {
 
 #[test]
 fn refusals(rt: HostRuntime) -> Result<(), Fail> {
-    let rows: [(&[u8], u16, usize); 20] = [
+    let rows: [(&[u8], u16, usize); 26] = [
         (b"a = \"\xFF\"", 101, 5),
         (b"#\xC3", 101, 1),
         (b"# a\x00", 103, 3),
@@ -67,6 +69,12 @@ fn refusals(rt: HostRuntime) -> Result<(), Fail> {
         (b"a = \xC2\x85", 104, 4),
         (b"a = 1\na = 2\n?", 104, 12),
         (b"\xEF\xBB\xBF\xEF\xBB\xBFa = 1", 104, 3),
+        (b"[a", 104, 2),
+        (b"[]", 104, 1),
+        (b"[a] b = 1", 104, 4),
+        (b"[ [a]]", 104, 2),
+        (b"[[a] ]", 104, 4),
+        (b"\"a", 105, 0),
         (b"a = 01", 106, 4),
         (b"a = +", 106, 4),
         (b"a = 9223372036854775808", 107, 4),
@@ -92,14 +100,24 @@ fn dotted_and_quoted_keys(rt: HostRuntime) -> Result<(), Fail> {
 
 #[test]
 fn keys_that_clash(rt: HostRuntime) -> Result<(), Fail> {
-    let rows: [(&[u8], u16, usize); 5] = [
+    let rows: [(&[u8], u16, usize); 7] = [
         (b"a.b.c = 1\na.b = 2", 201, 2),
         (b"a = \"\"\"\n\"\"\"\na = 1", 201, 2),
         (b"\"a\" = 'x'\na = 1\n", 201, 2),
         (b"a.b = 1\na = 2", 201, 2),
         (b"a = 1\na.b = 2", 201, 2),
+        (b"a = [\n1]\na = 1", 201, 2),
+        (b"a = 1\na = 2\n[t]\n", 201, 2),
     ];
     assert_refused(&rt, rt.alloc(), &rows)?;
+    Ok(())
+}
+
+/// For now: the rules behind headers are not judged yet.
+#[test]
+fn keys_behind_a_header(rt: HostRuntime) -> Result<(), Fail> {
+    let rows: [&[u8]; 2] = [b"a = 1\n[t]\na = 1\n", b"[t]\na = 1\na = 2\n"];
+    assert_ok(&rt, rt.alloc(), &rows)?;
     Ok(())
 }
 
@@ -124,7 +142,7 @@ fn scalars(rt: HostRuntime) -> Result<(), Fail> {
 
 #[test]
 fn bad_scalars(rt: HostRuntime) -> Result<(), Fail> {
-    let rows: [(&[u8], u16, usize); 23] = [
+    let rows: [(&[u8], u16, usize); 27] = [
         (b"a = 1979-05-27 x", 104, 15),
         (b"a = 1900-02-29", 108, 4),
         (b"a = 2021-02-29", 108, 4),
@@ -146,10 +164,65 @@ fn bad_scalars(rt: HostRuntime) -> Result<(), Fail> {
         (b"a = 1_", 106, 4),
         (b"a = 5.", 106, 4),
         (b"a = 0xZ", 106, 4),
+        (b"a = '''x", 105, 4),
+        (b"a = 0x", 106, 4),
+        (b"a = 1979-05", 108, 4),
+        (b"a = tru", 104, 4),
         (b"a = .5", 104, 4),
         (b"a = True", 104, 4),
     ];
     assert_refused(&rt, rt.alloc(), &rows)?;
+    Ok(())
+}
+
+#[test]
+fn bad_arrays_and_inline_tables(rt: HostRuntime) -> Result<(), Fail> {
+    let rows: [(&[u8], u16, usize); 9] = [
+        (b"a = [1", 104, 6),
+        (b"a = [1,,2]", 104, 7),
+        (b"a = [,]", 104, 5),
+        (b"a = [1979-05-27 x]", 104, 16),
+        (b"a = [1979-05-27  1]", 104, 17),
+        (b"a = {", 104, 5),
+        (b"a = {x = 1\n}", 104, 10),
+        (b"a = {x = 1,}", 104, 11),
+        (b"a = [1979-05-27 1]", 108, 5),
+    ];
+    assert_refused(&rt, rt.alloc(), &rows)?;
+    Ok(())
+}
+
+/// Each part as often as its count says.
+fn repeated(alloc: Global, parts: &[(&[u8], usize)]) -> Result<Vec<u8>, AllocError> {
+    let mut text = Vec::new(alloc);
+    for (part, count) in parts {
+        for _ in 0..*count {
+            text.extend_from_slice(part)?;
+        }
+    }
+    Ok(text)
+}
+
+#[test]
+fn depth(rt: HostRuntime) -> Result<(), Fail> {
+    let deepest = repeated(rt.alloc(), &[(b"a = ", 1), (b"[", 100), (b"]", 100)])?;
+    assert_ok(&rt, rt.alloc(), &[deepest.as_slice()])?;
+    let rows: [(&[(&[u8], usize)], u16, usize); 6] = [
+        (&[(b"a = ", 1), (b"[", 101), (b"]", 101)], 109, 104),
+        (
+            &[(b"a = ", 1), (b"[", 100), (b"1", 1), (b"]", 100)],
+            109,
+            104,
+        ),
+        (&[(b"a = ", 1), (b"[", 100), (b"\"", 1)], 109, 104),
+        (&[(b"a = ", 1), (b"[", 100), (b"?", 1)], 104, 104),
+        (&[(b"a = ", 1), (b"[", 1_000_000)], 109, 104),
+        (&[(b"a = ", 1), (b"{b = ", 101)], 109, 504),
+    ];
+    for (parts, code, place) in rows {
+        let text = repeated(rt.alloc(), parts)?;
+        assert_refused(&rt, rt.alloc(), &[(text.as_slice(), code, place)])?;
+    }
     Ok(())
 }
 
