@@ -1,0 +1,29 @@
+-- Addresses: lists of steps, a step a name, as its bytes, or an index.
+use Rattle.std.specs.Prelude.{ℕ, Bool, false, ◌==◌, List, [], ◌∷◌, ◌++◌, map}
+use Rattle.std.specs.Cmp.Lexicographic.{pointwise}
+use Rattle.std.specs.Str.{bytes_eq}
+use Rattle.toml_names.specs.declared.address.Step.{Step}
+use Rattle.toml_names.specs.declared.address.Step.TheVariants.{Name, Index}
+
+abbrev pub Address : Type 0
+Address = List Step
+
+abbrev pub same_step : Step → Step → Bool
+same_step (Name m) (Name n) = bytes_eq m n
+same_step (Index i) (Index j) = i == j
+same_step _ _ = false
+
+abbrev pub same_address : Address → Address → Bool
+same_address = pointwise same_step
+
+-- the address of a name in the table at the address
+abbrev pub child : Address → List ℕ → Address
+child at n = at ++ Name n ∷ []
+
+-- the address of an element of the array at the address
+abbrev pub element : Address → ℕ → Address
+element at i = at ++ Index i ∷ []
+
+-- the address that a whole key reaches from the table at the address
+abbrev pub below : Address → List (List ℕ) → Address
+below at key = at ++ map Name key

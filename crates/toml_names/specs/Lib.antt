@@ -1,0 +1,6 @@
+pub mod Addresses
+pub mod Keys
+pub mod Mentions
+pub mod Rules
+pub mod View
+pub mod Names

@@ -1,0 +1,8 @@
+//! Laws over the definitions.
+ghost use Rattle.toml_names.specs.Rules.{NoMisfit, MisfitIsFirst};
+
+/// Mentions keep the table rules exactly where no misfit is found among them, and what is found is the first offence.
+pub fn rules()
+    ensures none { NoMisfit }
+    ensures first { MisfitIsFirst }
+{}

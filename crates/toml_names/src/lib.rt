@@ -1,0 +1,17 @@
+//! The names of a document: what its lines mention, and the table rules that the mentions keep.
+#![tactic(auto)]
+
+mod address;
+mod fault;
+pub mod laws;
+mod name;
+mod named;
+mod naming;
+mod names;
+mod rules;
+
+pub use address::{Address, Step};
+pub use fault::NameFault;
+pub use name::Name;
+pub use named::Role;
+pub use names::Names;
