@@ -1,5 +1,5 @@
 -- A key part at the front is found whatever follows it: it, or a longer one.
-use Rattle.std.proofs.Common.{◌≡◌, ℕ, ◌+◌, ◌≤◌, true, List, [], ◌∷◌, ◌++◌, length, drop, replicate, Option, Some, option_map, inl, inr, sym, ap, ◌∙◌, arith, append_assoc}
+use Rattle.std.proofs.Common.{◌≡◌, ℕ, ◌≤◌, List, [], ◌∷◌, ◌++◌, length, drop, replicate, Some, option_map, inl, inr, sym, ap, ◌∙◌, arith, append_assoc}
 use Rattle.std.proofs.lemmas.Bool.{cond-true}
 use Rattle.toml_text.specs.Bytes.{is_bare}
 use Rattle.toml_text.specs.Runs.{run_len}
