@@ -13,8 +13,8 @@ use crate::float::{float_text, is_float};
 use crate::integer::{is_integer_form, read_integer};
 use crate::kind::{MomentKind, ScalarKind};
 use crate::moment::{moment_kind, moment_text};
-use crate::names::whole_value;
 use crate::scalar::{FloatText, Moment, Scalar};
+use crate::strings::read_string;
 use std::alloc::{AllocError, Global};
 use toml_text::{Source, Span};
 
@@ -54,7 +54,7 @@ fn read_kind(alloc: Global, run: &str, kind: ScalarKind) -> Result<Option<Scalar
 fn read_text(alloc: Global, run: &str) -> Result<Option<Scalar>, AllocError>
     ensures { Reads (scalar_of kinds.Text run.now) result }
 {
-    Ok(whole_value(alloc, run)?.map(Scalar::Text))
+    Ok(read_string(alloc, run)?.map(Scalar::Text))
 }
 
 #[tactic(auto, using(crate::proofs::Integers::fits_sound, crate::proofs::Integers::fits_complete), unfolding(crate::specs::Values::scalar_of))]
