@@ -1,6 +1,5 @@
 //! The value of a scalar's token.
-ghost use Rattle.std.specs.Prelude.{◌≡◌, ◌==◌, option_map, Some, None, IfErr};
-ghost use Rattle.std.specs.String.{string_bytes};
+ghost use Rattle.std.specs.Prelude.{◌≡◌, ◌==◌, option_map, IfErr};
 ghost use Rattle.toml_text.specs.Source.{text_of, IsHeld};
 ghost use Rattle.toml_scalar.specs.Faults.{value_fault};
 ghost use Rattle.toml_scalar.specs.Values.{scalar_of, scalar_value, moment_number};

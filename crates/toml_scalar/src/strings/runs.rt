@@ -1,5 +1,5 @@
 //! How long a run of one class is at the front of some bytes.
-ghost use Rattle.std.specs.Prelude.{◌≡◌, ◌≤◌, length, drop};
+ghost use Rattle.std.specs.Prelude.{◌≡◌, ◌≤◌, length};
 ghost use Rattle.toml_text.specs.Bytes.{is_basic, is_literal};
 ghost use Rattle.toml_text.specs.Runs.{run_len, is_byte};
 ghost use Rattle.toml_scalar.specs.StringRuns.{spaces_len, dropped_len};
