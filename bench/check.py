@@ -36,11 +36,12 @@ def numbered(front, behind):
         number += 1
 
 
-def array(item):
-    """One array of a million items, or of as many as a text may have."""
+def array(item, first=10_000_000_000_000):
+    """One array of a million items, or of as many as a text may have; the integers have 14 digits, else those of
+    their number."""
     out, size, number = [b'a = [\n'], 8, 0
     while number < 1_000_000:
-        text = item % (10_000_000_000_000 + number)
+        text = item % (first + number)
         if size + len(text) >= LIMIT:
             break
         out.append(text)
@@ -59,6 +60,7 @@ TEXTS = {
     'dates': lambda: numbered(b'a', b' = 1979-05-27T07:32:00.999-07:00\n') + b'?',
     'escapes': lambda: numbered(b'a', b' = "\\t\\u00e9\\n\\"\\U0001f600\\\\\\u20ac\\b\\f\\r"\n') + b'?',
     'array': lambda: array(b'%d, '),
+    'array, short': lambda: array(b'%d, ', 0),
     'array, comments': lambda: array(b'  %d, # a comment of a usual length\n'),
     'inline tables': lambda: numbered(b'point', b' = { name = "a point", x = -1_000.25, y = 0.125 }\n') + b'?',
     'headers': lambda: numbered(b'[servers.region.host', b']\n'),
@@ -81,9 +83,13 @@ def write(path, text):
     """Writes the text in a process of its own: a child's peak memory begins with what its parent holds."""
     child = os.fork()
     if child == 0:
-        with open(path, 'wb') as out:
-            out.write(text())
-        os._exit(0)
+        status = 1
+        try:
+            with open(path, 'wb') as out:
+                out.write(text())
+            status = 0
+        finally:
+            os._exit(status)
     if os.waitpid(child, 0)[1] != 0:
         sys.exit('no text was written')
 

@@ -3,8 +3,10 @@ use Rattle.std.proofs.Common.{ℕ, Bool, true, false, cond, ◌==◌, not, List,
 use Rattle.toml_text.specs.Runs.{begins}
 use Rattle.toml_scalar.specs.IntegerRuns.{is_integer_form}
 use Rattle.toml_scalar.specs.Scanning.{is_mark, value_len}
-use Rattle.toml_scalar.specs.Faults.{IsAt, begins_control, byte_fault, begins_moment, is_number_start, run_fault, scalar_fault, key_fault}
+use Rattle.toml_scalar.specs.Faults.{IsAt, begins_control, byte_fault, begins_moment, is_number_start, run_fault, scalar_fault, key_fault, value_fault}
 use Rattle.toml_scalar.specs.declared.fault.SyntaxFault.{SyntaxFault}
+use Rattle.toml_scalar.specs.declared.kind.ScalarKind.{ScalarKind}
+use Rattle.toml_scalar.specs.declared.kind.ScalarKind.TheVariants as kinds
 
 either_at : (at : ℕ) (test : Bool) (e f : SyntaxFault) → IsAt at e → IsAt at f → IsAt at (cond test e f)
 either_at at true e f he hf = he
@@ -23,3 +25,10 @@ scalar_fault_at bs at = either_at at (begins is_mark bs) _ _ refl (either_at at 
 pub key_fault_at : (bs : List ℕ) (at : ℕ) → IsAt at (key_fault bs at)
 unfolding key_fault
 key_fault_at bs at = either_at at (begins is_mark bs) _ _ refl (byte_fault_at bs at)
+
+pub value_fault_at : (kind : ScalarKind) (bs : List ℕ) (at : ℕ) → IsAt at (value_fault kind bs at)
+value_fault_at kinds.Text bs at = refl
+value_fault_at kinds.Integer bs at = either_at at (is_integer_form bs) _ _ refl refl
+value_fault_at kinds.Float bs at = refl
+value_fault_at kinds.Bool bs at = refl
+value_fault_at (kinds.Moment kind) bs at = refl

@@ -13,7 +13,7 @@ use Rattle.toml_text.proofs.Found.{run_piece, run_found}
 use Rattle.toml_scalar.specs.Names.{IsBareKey, IsKeyPart}
 use Rattle.toml_scalar.specs.ScanLaws.{PartBegins}
 use Rattle.toml_scalar.specs.Scanning.{key_part_len, one_line_len, is_key_start}
-use Rattle.toml_scalar.specs.Strings.{StringPiece, IsContent, MeansString, mark_of, pieces_text, string_text}
+use Rattle.toml_scalar.specs.Strings.{StringPiece, IsContent, MeansString, quote_of, pieces_text, string_text}
 use Rattle.toml_scalar.specs.declared.strings.kind.StringKind.{StringKind}
 use Rattle.toml_scalar.specs.declared.strings.kind.StringKind.TheVariants.{Basic, Literal}
 use Rattle.toml_scalar.specs.StringRuns.{StringToken, token_of, token_len, marks_len, step_of, first_len, pieces_from}
@@ -23,7 +23,7 @@ use Rattle.toml_scalar.proofs.StringTokens.{TokenIs, token, token_sound, token_f
 
 -- the marks that close a string
 abbrev pub closing : StringKind → List ℕ
-closing kind = replicate (marks_len kind) (mark_of kind)
+closing kind = replicate (marks_len kind) (quote_of kind)
 
 -- what a one-line string at the front is
 record OneLine (kind : StringKind) (bs : List ℕ) (n : ℕ) : Type 0 where
@@ -34,13 +34,13 @@ record OneLine (kind : StringKind) (bs : List ℕ) (n : ℕ) : Type 0 where
   means : MeansString kind text name
   len : length text ≡ n
 
-one_line : (kind : StringKind) (rest : List ℕ) (n : ℕ) → option_map token_len (token_of kind rest) ≡ Some n → OneLine kind (replicate (marks_len kind) (mark_of kind) ++ rest) n
+one_line : (kind : StringKind) (rest : List ℕ) (n : ℕ) → option_map token_len (token_of kind rest) ≡ Some n → OneLine kind (replicate (marks_len kind) (quote_of kind) ++ rest) n
 one_line kind rest n h =
     let s = option_map_some token_len (token_of kind rest) n h in
     let m = first_len kind rest in
     let ps = option_map_some (λ (qs : List StringPiece). record { kind = kind; first = take m rest; pieces = qs }) (pieces_from (step_of kind) 0 (drop m rest)) s.0 s.1 in
-    let found : TokenIs (replicate (marks_len kind) (mark_of kind) ++ rest) (record { kind = kind; first = take m rest; pieces = ps.0 }) =
-    subst (λ (o : Option StringToken). IfSome o (TokenIs (replicate (marks_len kind) (mark_of kind) ++ rest))) (s.1 ∙ ap Some (sym ps.2)) (token_sound kind rest) in
+    let found : TokenIs (replicate (marks_len kind) (quote_of kind) ++ rest) (record { kind = kind; first = take m rest; pieces = ps.0 }) =
+    subst (λ (o : Option StringToken). IfSome o (TokenIs (replicate (marks_len kind) (quote_of kind) ++ rest))) (s.1 ∙ ap Some (sym ps.2)) (token_sound kind rest) in
     record {
       text = string_text kind (take m rest) ps.0;
       rest = found.1.0;
@@ -114,7 +114,7 @@ token_len-zero : (kind : StringKind) (first : List ℕ) (ps : List StringPiece) 
 token_len-zero kind first ps = ap (λ qs. length (string_text kind first qs)) (append-nil ps)
 
 -- a one-line string is found behind its mark
-line_found : (kind : StringKind) (first : List ℕ) (ps : List StringPiece) (rest : List ℕ) → IsContent kind first ps → begins (is_byte (mark_of kind)) rest ≡ false → option_map token_len (token_of kind (first ++ (pieces_text ps ++ (closing kind ++ rest)))) ≡ Some (length (string_text kind first ps))
+line_found : (kind : StringKind) (first : List ℕ) (ps : List StringPiece) (rest : List ℕ) → IsContent kind first ps → begins (is_byte (quote_of kind)) rest ≡ false → option_map token_len (token_of kind (first ++ (pieces_text ps ++ (closing kind ++ rest)))) ≡ Some (length (string_text kind first ps))
 line_found kind first ps rest content stop =
     let read = token_found kind first ps rest content in
     ap (option_map token_len) read.1 ∙ ap (λ e. Some (token_len (token kind first ps e))) (read.2 stop) ∙ ap Some (token_len-zero kind first ps)

@@ -1,11 +1,11 @@
 -- A key part at the front is found whatever follows it: it, or a longer one.
-use Rattle.std.proofs.Common.{◌≡◌, ℕ, ◌+◌, ◌≤◌, true, List, [], ◌∷◌, ◌++◌, length, drop, replicate, Option, Some, option_map, inl, inr, sym, ap, ◌∙◌, arith, append_assoc}
+use Rattle.std.proofs.Common.{◌≡◌, ℕ, ◌≤◌, List, [], ◌∷◌, ◌++◌, length, drop, replicate, Some, option_map, inl, inr, sym, ap, ◌∙◌, arith, append_assoc}
 use Rattle.std.proofs.lemmas.Bool.{cond-true}
 use Rattle.toml_text.specs.Bytes.{is_bare}
 use Rattle.toml_text.specs.Runs.{run_len}
 use Rattle.toml_scalar.specs.ScanLaws.{PartIsLongest}
 use Rattle.toml_scalar.specs.Scanning.{key_part_len}
-use Rattle.toml_scalar.specs.Strings.{StringPiece, Plain, IsContent, mark_of, pieces_text, string_text}
+use Rattle.toml_scalar.specs.Strings.{StringPiece, Plain, IsContent, quote_of, pieces_text, string_text}
 use Rattle.toml_scalar.specs.StringRuns.{token_of, token_len}
 use Rattle.toml_scalar.specs.declared.strings.kind.StringKind.{StringKind}
 use Rattle.toml_scalar.specs.declared.strings.kind.StringKind.TheVariants.{Basic, Literal}
@@ -22,7 +22,7 @@ module _ (kind : StringKind) (first : List ℕ) (ps : List StringPiece) (rest : 
   line_read = ap (option_map token_len) (token_found kind first ps rest content).1
 
   line_longer : length (string_text kind first ps) ≤ found
-  line_longer = text_longer kind first ps (replicate (token_found kind first ps rest content).0 (Plain (mark_of kind)))
+  line_longer = text_longer kind first ps (replicate (token_found kind first ps rest content).0 (Plain (quote_of kind)))
 
 pub part_longest : PartIsLongest
 unfolding key_part_len

@@ -16,7 +16,7 @@ use Rattle.toml_scalar.specs.MomentRuns.{is_date_shape, moment_kind}
 use Rattle.toml_scalar.specs.MomentLaws.{BeginsYear, BeginsHour, IsSpaced}
 use Rattle.toml_scalar.specs.Scanning.{is_mark, goes_on, value_len, kind_of, scan_at, is_scalar_start}
 use Rattle.toml_scalar.specs.ScanLaws.{TokenBegins}
-use Rattle.toml_scalar.specs.Strings.{IsString, mark_of}
+use Rattle.toml_scalar.specs.Strings.{IsString, quote_of}
 use Rattle.toml_scalar.specs.declared.strings.kind.StringKind.{StringKind}
 use Rattle.toml_scalar.specs.declared.strings.kind.StringKind.TheVariants.{Basic, MultiLineBasic, Literal, MultiLineLiteral}
 use Rattle.toml_scalar.specs.Tokens.{IsToken, Closes}
@@ -53,7 +53,7 @@ closer_no_value b h = grind (arith, nat_tests)
 closer_no_digit : (b : ℕ) → is_closer b ≡ true → is_digit b ≡ false
 closer_no_digit b h = grind (arith, nat_tests)
 
-closer_no_mark : (k : StringKind) (b : ℕ) → is_closer b ≡ true → is_byte (mark_of k) b ≡ false
+closer_no_mark : (k : StringKind) (b : ℕ) → is_closer b ≡ true → is_byte (quote_of k) b ≡ false
 closer_no_mark Basic b h = grind (arith, nat_tests)
 closer_no_mark MultiLineBasic b h = grind (arith, nat_tests)
 closer_no_mark Literal b h = grind (arith, nat_tests)
@@ -180,14 +180,14 @@ moment_some bs rest k h = first (moment_first bs k h)
     first (inl (b1, b2, b3, b4, r, is, h1, h2, h3, h4)) = ap (λ x. begins is_value_byte (x ++ rest)) is ∙ digit_value b1 h1
     first (inr (b1, b2, r, is, h1, h2)) = ap (λ x. begins is_value_byte (x ++ rest)) is ∙ digit_value b1 h1
 
-pub string_first : (k : StringKind) (t rest : List ℕ) → IsString k t → begins (is_byte (mark_of k)) (t ++ rest) ≡ true
+pub string_first : (k : StringKind) (t rest : List ℕ) → IsString k t → begins (is_byte (quote_of k)) (t ++ rest) ≡ true
 string_first k t rest h = first t (string_begins k t h)
   where
-    first : (t : List ℕ) → begins (is_byte (mark_of k)) t ≡ true → begins (is_byte (mark_of k)) (t ++ rest) ≡ true
+    first : (t : List ℕ) → begins (is_byte (quote_of k)) t ≡ true → begins (is_byte (quote_of k)) (t ++ rest) ≡ true
     first [] e = absurd (false≢true e)
     first (b ∷ bs) e = e
 
-pub mark_is : (k : StringKind) (b : ℕ) → is_byte (mark_of k) b ≡ true → is_mark b ≡ true
+pub mark_is : (k : StringKind) (b : ℕ) → is_byte (quote_of k) b ≡ true → is_mark b ≡ true
 mark_is Basic b h = rw h refl
 mark_is MultiLineBasic b h = rw h refl
 mark_is Literal b h = no_matter (eqb b 0x22) (eqb b 0x27) h
@@ -207,7 +207,7 @@ begins_more p q (b ∷ bs) h e = h b e
 
 -- what a token begins with
 pub token_starts : (k : ScalarKind) (t rest : List ℕ) → IsToken k t → (begins is_mark (t ++ rest) ≡ true) ⊎ (begins is_value_byte (t ++ rest) ≡ true)
-token_starts kinds.Text t rest h = inl (begins_more (is_byte (mark_of h.0)) is_mark (t ++ rest) (mark_is h.0) (string_first h.0 t rest h.1))
+token_starts kinds.Text t rest h = inl (begins_more (is_byte (quote_of h.0)) is_mark (t ++ rest) (mark_is h.0) (string_first h.0 t rest h.1))
 token_starts kinds.Integer t rest h = inr (integer_some t rest h)
 token_starts kinds.Float t rest h = inr (float_some t rest h)
 token_starts kinds.Bool t rest h = inr (bool_some t rest h)
@@ -234,8 +234,8 @@ run_complete t r k first len kind =
 text_complete : (k : StringKind) (t r : List ℕ) → IsString k t → Closes r → scan_at (t ++ r) ≡ Some (length t, kinds.Text)
 unfolding scan_at
 text_complete k t r h closes =
-    cond-true _ _ _ (begins_more (is_byte (mark_of k)) is_mark (t ++ r) (mark_is k) (string_first k t r h))
-    ∙ ap (option_map (λ (n : ℕ). (n, kinds.Text))) (string_found k t r h (closes_stops (is_byte (mark_of k)) r (closer_no_mark k) closes))
+    cond-true _ _ _ (begins_more (is_byte (quote_of k)) is_mark (t ++ r) (mark_is k) (string_first k t r h))
+    ∙ ap (option_map (λ (n : ℕ). (n, kinds.Text))) (string_found k t r h (closes_stops (is_byte (quote_of k)) r (closer_no_mark k) closes))
 
 -- a token that something closes is found, with its kind
 pub scan_complete : (k : ScalarKind) (t r : List ℕ) → IsToken k t → Closes r → scan_at (t ++ r) ≡ Some (length t, k)

@@ -8,7 +8,7 @@ use Rattle.toml_text.specs.Bytes.{is_basic, is_literal}
 use Rattle.toml_text.specs.Runs.{run_len, begins, is_byte, newline_len}
 use Rattle.toml_text.proofs.Runs.{run_len-le}
 use Rattle.toml_text.proofs.Newlines.{newline_len-le}
-use Rattle.toml_scalar.specs.Strings.{StringPiece, Plain, Newline, piece_text, pieces_text, mark_of, IsBasicPiece, IsMultiLineBasicPiece, IsLiteralPiece, IsMultiLineLiteralPiece}
+use Rattle.toml_scalar.specs.Strings.{StringPiece, Plain, Newline, piece_text, pieces_text, quote_of, IsBasicPiece, IsMultiLineBasicPiece, IsLiteralPiece, IsMultiLineLiteralPiece}
 use Rattle.toml_scalar.specs.StringRuns.{Next, Last, next_one, one_step, marks_step, three_step, pieces_from, step_of, marks_len, is_multi_line, body_len, escape_at, multi_line_escape_at, newline_at, basic_at, literal_at, multi_line_basic_at, multi_line_literal_at}
 use Rattle.toml_scalar.specs.StringScan.{behind_len, longer_by, Advances}
 use Rattle.toml_scalar.specs.declared.strings.advance.Advance.{Advance}
@@ -65,7 +65,7 @@ piece_of MultiLineBasic = multi_line_basic_at
 piece_of Literal = literal_at
 piece_of MultiLineLiteral = multi_line_literal_at
 
-step_piece : (kind : StringKind) (bs : List ℕ) → begins (is_byte (mark_of kind)) bs ≡ false → step_of kind bs ≡ next_one (piece_of kind bs)
+step_piece : (kind : StringKind) (bs : List ℕ) → begins (is_byte (quote_of kind)) bs ≡ false → step_of kind bs ≡ next_one (piece_of kind bs)
 unfolding one_step three_step
 step_piece Basic bs e = cond-false _ _ _ e
 step_piece MultiLineBasic bs e = cond-false _ _ _ e
@@ -85,7 +85,7 @@ basic_no_mark b h = grind (arith, nat_tests)
 literal_no_mark : (b : ℕ) → is_literal b ≡ true → eqb b 0x27 ≡ false
 literal_no_mark b h = grind (arith, nat_tests)
 
-plain_no_mark : (kind : StringKind) (b : ℕ) → is_plain kind b ≡ true → eqb b (mark_of kind) ≡ false
+plain_no_mark : (kind : StringKind) (b : ℕ) → is_plain kind b ≡ true → eqb b (quote_of kind) ≡ false
 plain_no_mark Basic b h = basic_no_mark b h
 plain_no_mark MultiLineBasic b h = basic_no_mark b h
 plain_no_mark Literal b h = literal_no_mark b h
@@ -127,24 +127,24 @@ IsPieceOf MultiLineBasic = IsMultiLineBasicPiece
 IsPieceOf Literal = IsLiteralPiece
 IsPieceOf MultiLineLiteral = IsMultiLineLiteralPiece
 
-piece_sound : (kind : StringKind) (bs : List ℕ) → begins (is_byte (mark_of kind)) bs ≡ false → IfSome (piece_of kind bs) (PieceIs (IsPieceOf kind) (mark_of kind) bs)
+piece_sound : (kind : StringKind) (bs : List ℕ) → begins (is_byte (quote_of kind)) bs ≡ false → IfSome (piece_of kind bs) (PieceIs (IsPieceOf kind) (quote_of kind) bs)
 piece_sound Basic bs e = basic_sound bs e
 piece_sound MultiLineBasic bs e = multi_line_basic_sound bs e
 piece_sound Literal bs e = literal_sound bs e
 piece_sound MultiLineLiteral bs e = multi_line_literal_sound bs e
 
-piece_is : (kind : StringKind) (bs : List ℕ) (q : StringPiece) → begins (is_byte (mark_of kind)) bs ≡ false → piece_of kind bs ≡ Some q → PieceIs (IsPieceOf kind) (mark_of kind) bs q
-piece_is kind bs q other e = subst (λ o. IfSome o (PieceIs (IsPieceOf kind) (mark_of kind) bs)) e (piece_sound kind bs other)
+piece_is : (kind : StringKind) (bs : List ℕ) (q : StringPiece) → begins (is_byte (quote_of kind)) bs ≡ false → piece_of kind bs ≡ Some q → PieceIs (IsPieceOf kind) (quote_of kind) bs q
+piece_is kind bs q other e = subst (λ o. IfSome o (PieceIs (IsPieceOf kind) (quote_of kind) bs)) e (piece_sound kind bs other)
 
-piece_advances : (kind : StringKind) (bs : List ℕ) (q : StringPiece) (n : ℕ) → begins (is_byte (mark_of kind)) bs ≡ false → piece_of kind bs ≡ Some q → length (piece_text q) ≡ n → Advances kind bs (Some (More n))
-piece_advances kind bs q n other e count = body_piece kind (IsPieceOf kind) (mark_of kind) q bs n (step_piece kind bs other ∙ ap next_one e) (piece_is kind bs q other e) count
+piece_advances : (kind : StringKind) (bs : List ℕ) (q : StringPiece) (n : ℕ) → begins (is_byte (quote_of kind)) bs ≡ false → piece_of kind bs ≡ Some q → length (piece_text q) ≡ n → Advances kind bs (Some (More n))
+piece_advances kind bs q n other e count = body_piece kind (IsPieceOf kind) (quote_of kind) q bs n (step_piece kind bs other ∙ ap next_one e) (piece_is kind bs q other e) count
 
-piece_none : (kind : StringKind) (bs : List ℕ) → begins (is_byte (mark_of kind)) bs ≡ false → piece_of kind bs ≡ None → body_len kind bs ≡ None
+piece_none : (kind : StringKind) (bs : List ℕ) → begins (is_byte (quote_of kind)) bs ≡ false → piece_of kind bs ≡ None → body_len kind bs ≡ None
 piece_none kind bs other e = body_none kind bs (step_piece kind bs other ∙ ap next_one e)
 
 -- escapes
 
-module _ (kind : StringKind) (bs : List ℕ) (other : begins (is_byte (mark_of kind)) bs ≡ false) where
+module _ (kind : StringKind) (bs : List ℕ) (other : begins (is_byte (quote_of kind)) bs ≡ false) where
   escape_goes : (o : Option StringPiece) (n : ℕ) → piece_of kind bs ≡ o → Some n ≡ option_map behind_len o → Advances kind bs (Some (More (1 + n)))
   escape_goes None n e h = absurd cc
   escape_goes (Some q) n e h =
@@ -155,7 +155,7 @@ module _ (kind : StringKind) (bs : List ℕ) (other : begins (is_byte (mark_of k
   escape_stops None e h = piece_none kind bs other e
   escape_stops (Some q) e h = absurd cc
 
-backslash_other : (kind : StringKind) (bs : List ℕ) → 1 ≤ length bs → get_or bs 0 0 ≡ 0x5C → begins (is_byte (mark_of kind)) bs ≡ false
+backslash_other : (kind : StringKind) (bs : List ℕ) → 1 ≤ length bs → get_or bs 0 0 ≡ 0x5C → begins (is_byte (quote_of kind)) bs ≡ false
 backslash_other kind [] some is = absurd (omega arith)
 backslash_other Basic (b ∷ bs) some is = rw is refl
 backslash_other MultiLineBasic (b ∷ bs) some is = rw is refl
@@ -225,7 +225,7 @@ basic_run n bs e mark backslash = run_or_none Basic n bs e (λ h. piece_none Bas
 pub literal_run : (n : ℕ) (bs : List ℕ) → n ≡ run_len is_literal bs → begins (is_byte 0x27) bs ≡ false → Advances Literal bs (more_of n)
 literal_run n bs e mark = run_or_none Literal n bs e (λ h. piece_none Literal bs mark (literal_stops bs h))
 
-newline_or_none : (kind : StringKind) (n : ℕ) (bs : List ℕ) → n ≡ newline_len bs → begins (is_byte (mark_of kind)) bs ≡ false → piece_of kind bs ≡ newline_at n bs → Advances kind bs (more_of n)
+newline_or_none : (kind : StringKind) (n : ℕ) (bs : List ℕ) → n ≡ newline_len bs → begins (is_byte (quote_of kind)) bs ≡ false → piece_of kind bs ≡ newline_at n bs → Advances kind bs (more_of n)
 newline_or_none kind zero bs e mark is = piece_none kind bs mark is
 newline_or_none kind (suc n) bs e mark is =
     let some : eqb (suc n) 0 ≡ false = ne_eqb (suc n) 0 (λ z. omega arith) in
@@ -242,14 +242,14 @@ pub no_mark_begins : (mark : ℕ) (bs : List ℕ) → (1 ≤ length bs → get_o
 no_mark_begins mark [] other = refl
 no_mark_begins mark (b ∷ bs) other = ne_eqb b mark (λ e. other (omega arith) e)
 
-pub one_mark : (kind : StringKind) (bs : List ℕ) → is_multi_line kind ≡ false → 1 ≤ length bs → get_or bs 0 0 ≡ mark_of kind → body_len kind bs ≡ Some 1
+pub one_mark : (kind : StringKind) (bs : List ℕ) → is_multi_line kind ≡ false → 1 ≤ length bs → get_or bs 0 0 ≡ quote_of kind → body_len kind bs ≡ Some 1
 unfolding one_step
 one_mark Basic bs e some is = body_last Basic [] bs 1 (cond-true _ _ _ (mark_begins 0x22 bs some is)) some refl
 one_mark Literal bs e some is = body_last Literal [] bs 1 (cond-true _ _ _ (mark_begins 0x27 bs some is)) some refl
 one_mark MultiLineBasic bs e some is = absurd cc
 one_mark MultiLineLiteral bs e some is = absurd cc
 
-three_marks : (kind : StringKind) (bs : List ℕ) → is_multi_line kind ≡ true → 1 ≤ length bs → get_or bs 0 0 ≡ mark_of kind → step_of kind bs ≡ Some (marks_step (mark_of kind) (run_len (is_byte (mark_of kind)) bs))
+three_marks : (kind : StringKind) (bs : List ℕ) → is_multi_line kind ≡ true → 1 ≤ length bs → get_or bs 0 0 ≡ quote_of kind → step_of kind bs ≡ Some (marks_step (quote_of kind) (run_len (is_byte (quote_of kind)) bs))
 unfolding three_step
 three_marks Basic bs e some is = absurd cc
 three_marks Literal bs e some is = absurd cc
@@ -263,9 +263,9 @@ marks_count mark n = ap length (marks_text mark n) ∙ length-replicate n mark
 abbrev pub marks_of : ℕ → Advance
 marks_of n = if nat_le n 2 then More n else End (min n 5)
 
-pub marks_advance : (kind : StringKind) (n : ℕ) (bs : List ℕ) → is_multi_line kind ≡ true → marks_len kind ≡ 3 → 1 ≤ length bs → get_or bs 0 0 ≡ mark_of kind → n ≡ run_len (is_byte (mark_of kind)) bs → Advances kind bs (Some (marks_of n))
+pub marks_advance : (kind : StringKind) (n : ℕ) (bs : List ℕ) → is_multi_line kind ≡ true → marks_len kind ≡ 3 → 1 ≤ length bs → get_or bs 0 0 ≡ quote_of kind → n ≡ run_len (is_byte (quote_of kind)) bs → Advances kind bs (Some (marks_of n))
 marks_advance kind n bs multi three some is run =
-    let mark : ℕ = mark_of kind in
+    let mark : ℕ = quote_of kind in
     let step : step_of kind bs ≡ Some (marks_step mark n) = three_marks kind bs multi some is ∙ ap (λ m. Some (marks_step mark m)) (sym run) in
     let first : 0 < run_len (is_byte mark) bs = run_some mark bs (mark_begins mark bs some is) in
     let within : run_len (is_byte mark) bs ≤ length bs = run_len-le (is_byte mark) bs in
@@ -289,7 +289,7 @@ line_byte Literal b bs multi h = absurd cc
 line_byte MultiLineBasic b bs multi h = ⊎_elim (λ (e : b ≡ 0x0A). rw e refl) (λ (e : b ≡ 0x0D). rw e refl) h
 line_byte MultiLineLiteral b bs multi h = ⊎_elim (λ (e : b ≡ 0x0A). rw e refl) (λ (e : b ≡ 0x0D). rw e refl) h
 
-line_other : (kind : StringKind) (b : ℕ) (bs : List ℕ) → (b ≡ 0x0A) ⊎ (b ≡ 0x0D) → begins (is_byte (mark_of kind)) (b ∷ bs) ≡ false
+line_other : (kind : StringKind) (b : ℕ) (bs : List ℕ) → (b ≡ 0x0A) ⊎ (b ≡ 0x0D) → begins (is_byte (quote_of kind)) (b ∷ bs) ≡ false
 line_other Basic b bs h = ⊎_elim (λ (e : b ≡ 0x0A). rw e refl) (λ (e : b ≡ 0x0D). rw e refl) h
 line_other Literal b bs h = ⊎_elim (λ (e : b ≡ 0x0A). rw e refl) (λ (e : b ≡ 0x0D). rw e refl) h
 line_other MultiLineBasic b bs h = ⊎_elim (λ (e : b ≡ 0x0A). rw e refl) (λ (e : b ≡ 0x0D). rw e refl) h

@@ -5,7 +5,7 @@ use Rattle.std.specs.List.{flat_map}
 use Rattle.std.proofs.lemmas.Bool.{cond-true, eqb-true}
 use Rattle.std.proofs.lemmas.List.{append-nil, take_at, nil_from_length}
 use Rattle.toml_text.specs.Runs.{begins, is_byte}
-use Rattle.toml_scalar.specs.Strings.{StringPiece, Plain, piece_means, pieces_text, mark_of, three, string_text, IsContent, MeansString, IsString}
+use Rattle.toml_scalar.specs.Strings.{StringPiece, Plain, piece_means, pieces_text, quote_of, three, string_text, IsContent, MeansString, IsString}
 use Rattle.toml_scalar.specs.declared.strings.kind.StringKind.{StringKind}
 use Rattle.toml_scalar.specs.declared.strings.kind.StringKind.TheVariants.{Basic, MultiLineBasic, Literal, MultiLineLiteral}
 use Rattle.toml_scalar.specs.StringRuns.{kind_at, StringToken, string_at, token_len, string_len, whole_value, string_value}
@@ -30,10 +30,10 @@ string_sound bs n e = len_is_sound bs n (string_at bs) (string_at_sound bs) e
 -- found
 
 -- where the mark does not follow, the token is the string alone
-alone : (kind : StringKind) (first : List ℕ) (ps : List StringPiece) (rest : List ℕ) (o : Option StringToken) → IsRead kind first ps rest o → begins (is_byte (mark_of kind)) rest ≡ false → o ≡ Some (record { kind = kind; first = first; pieces = ps })
+alone : (kind : StringKind) (first : List ℕ) (ps : List StringPiece) (rest : List ℕ) (o : Option StringToken) → IsRead kind first ps rest o → begins (is_byte (quote_of kind)) rest ≡ false → o ≡ Some (record { kind = kind; first = first; pieces = ps })
 alone kind first ps rest o r stop = r.1 ∙ ap Some (ap (token kind first ps) (r.2 stop) ∙ ap (λ qs. record { kind = kind; first = first; pieces = qs }) (append-nil ps))
 
-content_at : (kind : StringKind) (first : List ℕ) (ps : List StringPiece) (rest : List ℕ) → IsContent kind first ps → begins (is_byte (mark_of kind)) rest ≡ false → string_at (string_text kind first ps ++ rest) ≡ Some (record { kind = kind; first = first; pieces = ps })
+content_at : (kind : StringKind) (first : List ℕ) (ps : List StringPiece) (rest : List ℕ) → IsContent kind first ps → begins (is_byte (quote_of kind)) rest ≡ false → string_at (string_text kind first ps ++ rest) ≡ Some (record { kind = kind; first = first; pieces = ps })
 content_at kind first ps rest h stop = alone kind first ps rest _ (string_at_found kind first ps rest h (opens_found kind first ps rest h stop)) stop
 
 pub string_found : StringIsFound
@@ -69,7 +69,7 @@ longest_of kind first ps rest n h e = ⊎_elim
     let r : IsRead kind first ps rest (string_at (string_text kind first ps ++ rest)) = string_at_found kind first ps rest h opens in
     let some : Some (token_len (token kind first ps r.0)) ≡ Some n = sym (ap (option_map token_len) r.1) ∙ e in
     let count : token_len (token kind first ps r.0) ≡ n = cc in
-    omega (arith, text_longer kind first ps (replicate r.0 (Plain (mark_of kind)))))
+    omega (arith, text_longer kind first ps (replicate r.0 (Plain (quote_of kind)))))
     (λ (two : length (string_text kind first ps) ≡ 2). omega (arith, any_two _ n e))
     (opens_or_two kind first ps rest h)
 
@@ -126,11 +126,11 @@ one_value j k text v w means_v means_w =
     let same : ◌≡◌ {A = Option (List ℕ)} (Some v) (Some w) = sym a ∙ b in
     cc
 
-text_begins : (kind : StringKind) (first : List ℕ) (ps : List StringPiece) → begins (is_byte (mark_of kind)) (string_text kind first ps) ≡ true
+text_begins : (kind : StringKind) (first : List ℕ) (ps : List StringPiece) → begins (is_byte (quote_of kind)) (string_text kind first ps) ≡ true
 text_begins Basic first ps = refl
 text_begins MultiLineBasic first ps = refl
 text_begins Literal first ps = refl
 text_begins MultiLineLiteral first ps = refl
 
 pub string_begins : StringBegins
-string_begins kind text is = ap (begins (is_byte (mark_of kind))) is.1.3 ∙ text_begins kind is.1.0 is.1.1
+string_begins kind text is = ap (begins (is_byte (quote_of kind))) is.1.3 ∙ text_begins kind is.1.0 is.1.1

@@ -5,7 +5,7 @@ use Rattle.std.proofs.lemmas.List.{take_rest, length-take-le}
 use Rattle.toml_text.specs.Runs.{is_byte, newline_len}
 use Rattle.toml_text.proofs.Newlines.{newline_len-le}
 use Rattle.toml_text.proofs.Runs.{run_len-le}
-use Rattle.toml_scalar.specs.Strings.{StringPiece, pieces_text, mark_of, three}
+use Rattle.toml_scalar.specs.Strings.{StringPiece, pieces_text, quote_of, three}
 use Rattle.toml_scalar.specs.StringRuns.{pieces_from, step_of, marks_len, first_len, body_len, kind_at, token_of, string_at, token_len, string_len}
 use Rattle.toml_scalar.specs.StringScan.{longer_by}
 use Rattle.toml_scalar.specs.declared.strings.kind.StringKind.{StringKind}
@@ -40,7 +40,7 @@ string_len_none bs e = rw e refl
 pub kind_within : (kind : StringKind) (bs : List ℕ) → kind_at bs ≡ Some kind → marks_len kind ≤ length bs
 kind_within kind bs e =
     let opens : Opens bs kind = subst (λ o. IfSome o (Opens bs)) e (kind_opens bs) in
-    omega (arith, run_len-le (is_byte (mark_of kind)) bs)
+    omega (arith, run_len-le (is_byte (quote_of kind)) bs)
 
 -- what the code adds up, by the slices that it takes
 abbrev tail_of : ℕ → List ℕ → List ℕ

@@ -9,7 +9,7 @@ use Rattle.toml_text.specs.Forms.{IsNewline}
 use Rattle.toml_text.specs.Runs.{run_len, begins, is_byte, newline_len}
 use Rattle.toml_text.proofs.Newlines.{newline_piece}
 use Rattle.toml_text.proofs.Found.{newline_found}
-use Rattle.toml_scalar.specs.Strings.{StringPiece, Plain, Escape, UnicodeEscape, Newline, Dropped, piece_text, pieces_text, EachPiece, IsBasicPiece, IsLiteralPiece, IsMultiLineBasicPiece, IsMultiLineLiteralPiece, LongestDropped, IsFirst, mark_of, three, string_text, IsContent}
+use Rattle.toml_scalar.specs.Strings.{StringPiece, Plain, Escape, UnicodeEscape, Newline, Dropped, piece_text, pieces_text, EachPiece, IsBasicPiece, IsLiteralPiece, IsMultiLineBasicPiece, IsMultiLineLiteralPiece, LongestDropped, IsFirst, quote_of, three, string_text, IsContent}
 use Rattle.toml_scalar.specs.declared.strings.kind.StringKind.{StringKind}
 use Rattle.toml_scalar.specs.declared.strings.kind.StringKind.TheVariants.{Basic, MultiLineBasic, Literal, MultiLineLiteral}
 use Rattle.toml_scalar.specs.StringRuns.{Step, basic_at, literal_at, multi_line_basic_at, multi_line_literal_at, one_step, three_step, pieces_from, is_multi_line, marks_len, kind_at, begins_three, StringToken, token_of, string_at}
@@ -64,7 +64,7 @@ forms P f (q ∷ qs) h = (f q h.0, forms P f qs h.1)
 behind_first : (n : ℕ) (bs more : List ℕ) → drop n bs ≡ more → bs ≡ take n bs ++ more
 behind_first n bs more is = sym (ap (λ l. take n bs ++ l) (sym is) ∙ take-append-drop n bs)
 
-pub token_sound : (kind : StringKind) (bs : List ℕ) → IfSome (token_of kind bs) (TokenIs (replicate (marks_len kind) (mark_of kind) ++ bs))
+pub token_sound : (kind : StringKind) (bs : List ℕ) → IfSome (token_of kind bs) (TokenIs (replicate (marks_len kind) (quote_of kind) ++ bs))
 token_sound Basic bs = if_map _ (pieces_from (one_step 0x22 basic_at) 0 bs) _ _
     (λ ps h. ((refl, h.2), (h.0, one_text 0x22 bs h.0 ps h.1)))
     (one_sound IsBasicPiece 0x22 basic_at basic_sound bs)
@@ -90,7 +90,7 @@ token_sound MultiLineLiteral bs =
 
 -- the marks that a kind opens with
 abbrev pub Opens : List ℕ → StringKind → Type 0
-Opens bs kind = marks_len kind ≤ run_len (is_byte (mark_of kind)) bs
+Opens bs kind = marks_len kind ≤ run_len (is_byte (quote_of kind)) bs
 
 run_one : (mark : ℕ) (bs : List ℕ) → begins (is_byte mark) bs ≡ true → 1 ≤ run_len (is_byte mark) bs
 run_one mark [] e = absurd cc
@@ -105,7 +105,7 @@ kind_opens bs = cond_both (begins (is_byte 0x22) bs) _ _ (λ o. IfSome o (Opens 
 
 string_at_kind : (bs : List ℕ) (o : Option StringKind) → IfSome o (Opens bs) → IfSome (option_and_then (λ kind. token_of kind (drop (marks_len kind) bs)) o) (TokenIs bs)
 string_at_kind bs None h = tt
-string_at_kind bs (Some kind) h = subst (λ l. IfSome (token_of kind (drop (marks_len kind) bs)) (TokenIs l)) (sym (marks_front (mark_of kind) (marks_len kind) bs h)) (token_sound kind (drop (marks_len kind) bs))
+string_at_kind bs (Some kind) h = subst (λ l. IfSome (token_of kind (drop (marks_len kind) bs)) (TokenIs l)) (sym (marks_front (quote_of kind) (marks_len kind) bs h)) (token_sound kind (drop (marks_len kind) bs))
 
 pub string_at_sound : (bs : List ℕ) → IfSome (string_at bs) (TokenIs bs)
 unfolding string_at
@@ -115,13 +115,13 @@ string_at_sound bs = string_at_kind bs (kind_at bs) (kind_opens bs)
 
 -- the string, and marks behind it that go on with it
 abbrev pub token : StringKind → List ℕ → List StringPiece → ℕ → StringToken
-token kind first ps e = record { kind = kind; first = first; pieces = ps ++ replicate e (Plain (mark_of kind)) }
+token kind first ps e = record { kind = kind; first = first; pieces = ps ++ replicate e (Plain (quote_of kind)) }
 
 abbrev pub closing : StringKind → List ℕ
-closing kind = replicate (marks_len kind) (mark_of kind)
+closing kind = replicate (marks_len kind) (quote_of kind)
 
 abbrev pub IsRead : StringKind → List ℕ → List StringPiece → List ℕ → Option StringToken → Type 0
-IsRead kind first ps rest o = (e : ℕ) × (o ≡ Some (token kind first ps e)) × (begins (is_byte (mark_of kind)) rest ≡ false → e ≡ 0)
+IsRead kind first ps rest o = (e : ℕ) × (o ≡ Some (token kind first ps e)) × (begins (is_byte (quote_of kind)) rest ≡ false → e ≡ 0)
 
 one_read : (kind : StringKind) (first : List ℕ) (ps : List StringPiece) (rest : List ℕ) (o : Option (List StringPiece)) → first ≡ [] → o ≡ Some ps → IsRead kind first ps rest (option_map (λ qs. record { kind = kind; first = []; pieces = qs }) o)
 one_read kind first ps rest o none e = (zero, rw (e, none) (ap (λ qs. Some (record { kind = kind; first = []; pieces = qs })) (sym (append-nil ps))), λ h. refl)
@@ -181,7 +181,7 @@ first_len_is mark [] more (UnicodeEscape u digits ∷ ps) m h f = refl
 first_len_is mark [] more (Dropped ws line spaces ∷ ps) m h f = refl
 first_len_is mark [] more (Newline line ∷ ps) m h f = absurd f
 
-three_read : (kind : StringKind) (first bs : List ℕ) (ps : List StringPiece) (rest : List ℕ) (step : List ℕ → Option Step) → newline_len (first ++ bs) ≡ length first → ((e : ℕ) × (pieces_from step 0 bs ≡ Some (ps ++ replicate e (Plain (mark_of kind)))) × (begins (is_byte (mark_of kind)) rest ≡ false → e ≡ 0)) →
+three_read : (kind : StringKind) (first bs : List ℕ) (ps : List StringPiece) (rest : List ℕ) (step : List ℕ → Option Step) → newline_len (first ++ bs) ≡ length first → ((e : ℕ) × (pieces_from step 0 bs ≡ Some (ps ++ replicate e (Plain (quote_of kind)))) × (begins (is_byte (quote_of kind)) rest ≡ false → e ≡ 0)) →
     IsRead kind first ps rest (option_map (λ qs. record { kind = kind; first = take (newline_len (first ++ bs)) (first ++ bs); pieces = qs }) (pieces_from step 0 (drop (newline_len (first ++ bs)) (first ++ bs))))
 three_read kind first bs ps rest step n r = (r.0, rw (n, drop_at first bs (length first) refl, take_at first bs (length first) refl, r.1) refl, r.2)
 
@@ -201,7 +201,7 @@ token_found MultiLineLiteral first ps rest h =
 
 -- which kind the marks open
 
-pub string_split : (kind : StringKind) (first : List ℕ) (ps : List StringPiece) (rest : List ℕ) → IsContent kind first ps → string_text kind first ps ++ rest ≡ replicate (marks_len kind) (mark_of kind) ++ (first ++ (pieces_text ps ++ (closing kind ++ rest)))
+pub string_split : (kind : StringKind) (first : List ℕ) (ps : List StringPiece) (rest : List ℕ) → IsContent kind first ps → string_text kind first ps ++ rest ≡ replicate (marks_len kind) (quote_of kind) ++ (first ++ (pieces_text ps ++ (closing kind ++ rest)))
 string_split Basic first ps rest h = ap (λ l. 0x22 ∷ l) (append_assoc (pieces_text ps) (0x22 ∷ []) rest ∙ ap (λ l. l ++ (pieces_text ps ++ (0x22 ∷ rest))) (sym h.0))
 string_split Literal first ps rest h = ap (λ l. 0x27 ∷ l) (append_assoc (pieces_text ps) (0x27 ∷ []) rest ∙ ap (λ l. l ++ (pieces_text ps ++ (0x27 ∷ rest))) (sym h.0))
 string_split MultiLineBasic first ps rest h = sym (three_text 0x22 first (first ++ (pieces_text ps ++ (three 0x22 ++ rest))) rest ps refl)
@@ -225,13 +225,13 @@ not_three mark bs h = lt-leb 3 (run_len (is_byte mark) (mark ∷ bs)) (omega (ar
 is_three : (mark : ℕ) (bs : List ℕ) → begins_three mark (three mark ++ bs) ≡ true
 is_three mark bs = le-leb 3 (run_len (is_byte mark) (three mark ++ bs)) (omega (arith, run_more mark (mark ∷ mark ∷ bs), run_more mark (mark ∷ bs), run_more mark bs))
 
-kind_of_one : (kind : StringKind) (bs : List ℕ) → (is_multi_line kind ≡ false) → run_len (is_byte (mark_of kind)) bs < 2 → kind_at (mark_of kind ∷ bs) ≡ Some kind
+kind_of_one : (kind : StringKind) (bs : List ℕ) → (is_multi_line kind ≡ false) → run_len (is_byte (quote_of kind)) bs < 2 → kind_at (quote_of kind ∷ bs) ≡ Some kind
 kind_of_one Basic bs e h = ap Some (cond-false _ _ _ (not_three 0x22 bs h))
 kind_of_one Literal bs e h = ap Some (cond-false _ _ _ (not_three 0x27 bs h))
 kind_of_one MultiLineBasic bs e h = absurd cc
 kind_of_one MultiLineLiteral bs e h = absurd cc
 
-kind_of_three : (kind : StringKind) (bs : List ℕ) → is_multi_line kind ≡ true → kind_at (three (mark_of kind) ++ bs) ≡ Some kind
+kind_of_three : (kind : StringKind) (bs : List ℕ) → is_multi_line kind ≡ true → kind_at (three (quote_of kind) ++ bs) ≡ Some kind
 kind_of_three Basic bs e = absurd cc
 kind_of_three Literal bs e = absurd cc
 kind_of_three MultiLineBasic bs e = ap Some (cond-true _ _ _ (is_three 0x22 bs))
@@ -241,7 +241,7 @@ others : (P : StringPiece → Type 0) (mark : ℕ) → ((q : StringPiece) → P 
 others P mark f [] h = tt
 others P mark f (q ∷ qs) h = (f q h.0, others P mark f qs h.1)
 
-pub opens_found : (kind : StringKind) (first : List ℕ) (ps : List StringPiece) (rest : List ℕ) → IsContent kind first ps → begins (is_byte (mark_of kind)) rest ≡ false → kind_at (string_text kind first ps ++ rest) ≡ Some kind
+pub opens_found : (kind : StringKind) (first : List ℕ) (ps : List StringPiece) (rest : List ℕ) → IsContent kind first ps → begins (is_byte (quote_of kind)) rest ≡ false → kind_at (string_text kind first ps ++ rest) ≡ Some kind
 opens_found Basic first ps rest h stop =
     ap (λ l. kind_at (0x22 ∷ l)) (append_assoc (pieces_text ps) (0x22 ∷ []) rest)
     ∙ kind_of_one Basic (pieces_text ps ++ (0x22 ∷ rest)) refl (one_mark 0x22 ps rest quote (forms IsBasicPiece basic_form ps h.1) (others IsBasicPiece 0x22 basic_other ps h.1) stop)
@@ -274,5 +274,5 @@ pub string_at_found : (kind : StringKind) (first : List ℕ) (ps : List StringPi
 unfolding string_at
 string_at_found kind first ps rest h opens =
     let behind : drop (marks_len kind) (string_text kind first ps ++ rest) ≡ first ++ (pieces_text ps ++ (closing kind ++ rest)) =
-    ap (drop (marks_len kind)) (string_split kind first ps rest h) ∙ drop_at (closing kind) (first ++ (pieces_text ps ++ (closing kind ++ rest))) (marks_len kind) (length-replicate (marks_len kind) (mark_of kind)) in
+    ap (drop (marks_len kind)) (string_split kind first ps rest h) ∙ drop_at (closing kind) (first ++ (pieces_text ps ++ (closing kind ++ rest))) (marks_len kind) (length-replicate (marks_len kind) (quote_of kind)) in
     rw (opens, behind) (token_found kind first ps rest h)

@@ -5,7 +5,7 @@ use Rattle.std.proofs.lemmas.Bool.{ltb-true}
 use Rattle.std.proofs.lemmas.List.{append-nil, take_all, take_at, drop_at, get_or_append_left, get_or_at, length-replicate}
 use Rattle.std.proofs.iter.AsciiBoundary.{after_IsAscii, before_ascii}
 use Rattle.toml_text.specs.Forms.{Each}
-use Rattle.toml_scalar.specs.Strings.{StringPiece, Plain, Escape, UnicodeEscape, Newline, Dropped, pieces_text, piece_means, EachPiece, IsBasicPiece, IsMultiLineBasicPiece, IsLiteralPiece, IsMultiLineLiteralPiece, LongestDropped, IsFirst, mark_of, string_text, IsContent, MeansString, IsString}
+use Rattle.toml_scalar.specs.Strings.{StringPiece, Plain, Escape, UnicodeEscape, Newline, Dropped, pieces_text, piece_means, EachPiece, IsBasicPiece, IsMultiLineBasicPiece, IsLiteralPiece, IsMultiLineLiteralPiece, LongestDropped, IsFirst, quote_of, string_text, IsContent, MeansString, IsString}
 use Rattle.toml_scalar.specs.StringRuns.{marks_len, first_len, kind_at, string_len, string_value}
 use Rattle.toml_scalar.specs.StringValues.{Unescapes, IsContentOf}
 use Rattle.toml_scalar.specs.declared.strings.kind.StringKind.{StringKind}
@@ -55,7 +55,7 @@ module _ (kind : StringKind) (text first : List ℕ) (ps : List StringPiece) (h 
 
   first_is : first_len kind (drop (marks_len kind) text) ≡ length first
   first_is =
-      ap (first_len kind) (ap (drop (marks_len kind)) behind_marks ∙ drop_at (closing kind) (first ++ (pieces_text ps ++ closing kind)) (marks_len kind) (length-replicate (marks_len kind) (mark_of kind)))
+      ap (first_len kind) (ap (drop (marks_len kind)) behind_marks ∙ drop_at (closing kind) (first ++ (pieces_text ps ++ closing kind)) (marks_len kind) (length-replicate (marks_len kind) (quote_of kind)))
       ∙ by_kind kind h
     where
       by_kind : (kind : StringKind) → IsContent kind first ps → first_len kind (first ++ (pieces_text ps ++ closing kind)) ≡ length first
@@ -67,7 +67,7 @@ module _ (kind : StringKind) (text first : List ℕ) (ps : List StringPiece) (h 
   start_is : (marks n : ℕ) → marks ≡ marks_len kind → n ≡ first_len kind (drop marks text) → marks + n ≡ length (front kind first)
   start_is marks n m e =
       let k : n ≡ length first = e ∙ (ap (λ x. first_len kind (drop x text)) m ∙ first_is) in
-      omega (arith, length-append (closing kind) first, length-replicate (marks_len kind) (mark_of kind))
+      omega (arith, length-append (closing kind) first, length-replicate (marks_len kind) (quote_of kind))
 
   front_ascii : Each is_ascii (front kind first)
   front_ascii = each_append is_ascii (closing kind) first (marks_ascii kind) (by_kind kind h)
@@ -94,7 +94,7 @@ module _ (kind : StringKind) (text first : List ℕ) (ps : List StringPiece) (h 
     ap length text_split,
     length-append (front kind first) (pieces_text ps ++ closing kind),
     length-append (pieces_text ps) (closing kind),
-    length-replicate (marks_len kind) (mark_of kind),
+    length-replicate (marks_len kind) (quote_of kind),
   )
 
   pub start_bound : (marks n : ℕ) → marks ≡ marks_len kind → n ≡ first_len kind (drop marks text) → IsUtf8 text → IsCharBoundary text (marks + n)
@@ -110,17 +110,17 @@ module _ (kind : StringKind) (text first : List ℕ) (ps : List StringPiece) (h 
   end_bound marks m =
       before_ascii text (length text - marks) (omega arith) (λ below.
       let count : length (front kind first ++ pieces_text ps) ≡ length text - marks = omega (arith, length_is, length-append (front kind first) (pieces_text ps)) in
-      let here : get_or text (length text - marks) 0 ≡ mark_of kind =
+      let here : get_or text (length text - marks) 0 ≡ quote_of kind =
       ap (λ l. get_or l (length text - marks) 0) (text_split ∙ sym (append_assoc (front kind first) (pieces_text ps) (closing kind))) ∙ at_close kind (front kind first ++ pieces_text ps) (length text - marks) count in
       omega (arith, mark_small kind))
     where
-      at_close : (kind : StringKind) (bs : List ℕ) (n : ℕ) → length bs ≡ n → get_or (bs ++ closing kind) n 0 ≡ mark_of kind
+      at_close : (kind : StringKind) (bs : List ℕ) (n : ℕ) → length bs ≡ n → get_or (bs ++ closing kind) n 0 ≡ quote_of kind
       at_close Basic bs n e = get_or_at bs 0x22 [] 0 n e
       at_close Literal bs n e = get_or_at bs 0x27 [] 0 n e
       at_close MultiLineBasic bs n e = get_or_at bs 0x22 (0x22 ∷ 0x22 ∷ []) 0 n e
       at_close MultiLineLiteral bs n e = get_or_at bs 0x27 (0x27 ∷ 0x27 ∷ []) 0 n e
 
-      mark_small : (kind : StringKind) → mark_of kind < 128
+      mark_small : (kind : StringKind) → quote_of kind < 128
       mark_small Basic = omega arith
       mark_small Literal = omega arith
       mark_small MultiLineBasic = omega arith

@@ -24,3 +24,4 @@ pub mod Spelling
 pub mod ValueLaws
 pub mod ScanLaws
 pub mod NumberLaws
+pub mod FaultLaws

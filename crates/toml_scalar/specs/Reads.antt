@@ -9,6 +9,7 @@ use Rattle.toml_scalar.specs.Values.{ScalarValue, scalar_of, scalar_value, name_
 use Rattle.toml_scalar.specs.declared.fault.SyntaxFault.{SyntaxFault}
 use Rattle.toml_scalar.specs.declared.fault.SyntaxFault.TheVariants.{NoMemory}
 use Rattle.toml_scalar.specs.declared.kind.ScalarKind.{ScalarKind}
+use Rattle.toml_scalar.specs.declared.kind.ScalarKind.TheVariants as kinds
 use Rattle.toml_scalar.specs.declared.scalar.Scalar.{Scalar}
 
 -- the value of the token that the span holds, by the plain function; else its fault
@@ -25,3 +26,11 @@ ReadsKey text span (Err e) = (e ≡ NoMemory) ⊎ ((name_of (slice_range text sp
 abbrev pub Reads : {E : Type 0} → Option ScalarValue → Result (Option Scalar) E → Type 0
 Reads found (Ok s) = option_map scalar_value s ≡ found
 Reads found (Err e) = Unit {0}
+
+-- a value of the kind takes memory: its text, of a string, a float, a date or a time
+abbrev pub TakesMemory : ScalarKind → Type 0
+TakesMemory kinds.Text = Unit {0}
+TakesMemory kinds.Integer = ⊥
+TakesMemory kinds.Float = Unit {0}
+TakesMemory kinds.Bool = ⊥
+TakesMemory (kinds.Moment kind) = Unit {0}

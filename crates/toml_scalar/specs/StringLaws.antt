@@ -1,7 +1,7 @@
 -- Laws: the plain functions of `StringRuns` find the strings of `Strings`, and no others.
 use Rattle.std.specs.Prelude.{◌≡◌, ◌≤◌, ℕ, true, false, List, ◌++◌, length, take, Some}
 use Rattle.toml_text.specs.Runs.{begins, is_byte}
-use Rattle.toml_scalar.specs.Strings.{MeansString, IsString, mark_of}
+use Rattle.toml_scalar.specs.Strings.{MeansString, IsString, quote_of}
 use Rattle.toml_scalar.specs.declared.strings.kind.StringKind.{StringKind}
 use Rattle.toml_scalar.specs.StringRuns.{string_len, string_value}
 
@@ -11,7 +11,7 @@ StringIsSound = (bs : List ℕ) (n : ℕ) → string_len bs ≡ Some n → (n �
 
 -- a string is found, where its mark does not stand behind it
 abbrev pub StringIsFound : Type 0
-StringIsFound = (kind : StringKind) (text rest : List ℕ) → IsString kind text → begins (is_byte (mark_of kind)) rest ≡ false → string_len (text ++ rest) ≡ Some (length text)
+StringIsFound = (kind : StringKind) (text rest : List ℕ) → IsString kind text → begins (is_byte (quote_of kind)) rest ≡ false → string_len (text ++ rest) ≡ Some (length text)
 
 -- no string at the front is longer than what is found
 abbrev pub StringIsLongest : Type 0
@@ -33,4 +33,4 @@ OneStringValue = (j k : StringKind) (text v w : List ℕ) → MeansString j text
 
 -- a string begins with its mark
 abbrev pub StringBegins : Type 0
-StringBegins = (kind : StringKind) (text : List ℕ) → IsString kind text → begins (is_byte (mark_of kind)) text ≡ true
+StringBegins = (kind : StringKind) (text : List ℕ) → IsString kind text → begins (is_byte (quote_of kind)) text ≡ true

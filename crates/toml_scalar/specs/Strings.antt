@@ -114,12 +114,12 @@ IsFirst [] (Newline line ∷ ps) = ⊥
 IsFirst [] _ = Unit {0}
 IsFirst first ps = IsNewline first
 
--- the mark of a kind, `"` or `'`
-abbrev pub mark_of : StringKind → ℕ
-mark_of Basic = 0x22
-mark_of MultiLineBasic = 0x22
-mark_of Literal = 0x27
-mark_of MultiLineLiteral = 0x27
+-- the quote of a kind: the mark, `"` or `'`, of its strings
+abbrev pub quote_of : StringKind → ℕ
+quote_of Basic = 0x22
+quote_of MultiLineBasic = 0x22
+quote_of Literal = 0x27
+quote_of MultiLineLiteral = 0x27
 
 abbrev pub three : ℕ → List ℕ
 three mark = mark ∷ mark ∷ mark ∷ []

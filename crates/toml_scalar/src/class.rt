@@ -1,7 +1,7 @@
 //! How long a run of one class is at the front of some bytes.
 ghost use Rattle.std.specs.Prelude.{◌≡◌, ◌≤◌, length};
-ghost use Rattle.toml_text.specs.Bytes.{is_bare, is_digit, is_letter};
-ghost use Rattle.toml_text.specs.Runs.{run_len, begins};
+ghost use Rattle.toml_text.specs.Bytes.{is_bare};
+ghost use Rattle.toml_text.specs.Runs.{run_len};
 ghost use Rattle.toml_scalar.specs.Runs.{is_value_byte};
 
 /// Whether a bare key may have the byte.

@@ -1,4 +1,5 @@
 //! Laws over the definitions: each function's contract is a few, and nothing is run.
+ghost use Rattle.toml_scalar.specs.FaultLaws.{ScalarFaultIsAt, KeyFaultIsAt, ValueFaultIsAt};
 ghost use Rattle.toml_scalar.specs.MomentLaws.{MomentIsForm, FormIsMoment, OneMomentKind, MomentBegins, MomentIsRun, SpaceIsApart, DateText, TimeText, LocalText, OffsetText};
 ghost use Rattle.toml_scalar.specs.NumberLaws.{IntegerFormIsForm, FormIsIntegerForm, FittingFits, FitsIsFitting, IntegerIsForm, FormIsInteger, FloatIsForm, FormIsFloat, BoolIsForm, FormIsBool};
 ghost use Rattle.toml_scalar.specs.ScanLaws.{ScanIsSound, ScanIsFound, ScanIsLongest, OneKind, TokenBegins, PartIsSound, PartIsFound, PartIsLongest, PartBegins};
@@ -78,4 +79,11 @@ pub fn names()
 /// The spelling of a name names it.
 pub fn spelled_names()
     ensures { SpelledNames }
+{}
+
+/// The faults of what stands at a place are at that place.
+pub fn fault_places()
+    ensures scalar { ScalarFaultIsAt }
+    ensures key { KeyFaultIsAt }
+    ensures value { ValueFaultIsAt }
 {}

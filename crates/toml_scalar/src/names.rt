@@ -3,12 +3,11 @@ ghost use Rattle.std.specs.Prelude.{◌≡◌, option_map, IfOk, string_bytes};
 ghost use Rattle.toml_text.specs.Source.{text_of, IsHeld};
 ghost use Rattle.toml_scalar.specs.Faults.{key_fault};
 ghost use Rattle.toml_scalar.specs.Reads.{ReadsKey};
-ghost use Rattle.toml_scalar.specs.StringRuns.{string_value};
 ghost use Rattle.toml_scalar.specs.Values.{name_of, quoted_name};
 
 use crate::class::{bare_len, is_bare};
 use crate::fault::SyntaxFault;
-use crate::strings::{StringKind, kind_at, string_len, string_value};
+use crate::strings::{StringKind, kind_at, read_string};
 use std::alloc::{AllocError, Global};
 use toml_text::{Source, Span};
 
@@ -49,18 +48,7 @@ fn quoted_name(alloc: Global, part: &str) -> Result<Option<String>, AllocError>
     ensures { IfOk result (λ name. option_map string_bytes name ≡ quoted_name part.now) }
 {
     match kind_at(part.as_bytes()) {
-        Some(StringKind::Basic | StringKind::Literal) => whole_value(alloc, part),
-        _ => Ok(None),
-    }
-}
-
-/// The value of a text, if it is a string.
-#[tactic(auto, using(crate::proofs::Wholes::not_whole, crate::proofs::Wholes::no_string))]
-pub fn whole_value(alloc: Global, text: &str) -> Result<Option<String>, AllocError>
-    ensures { IfOk result (λ value. option_map string_bytes value ≡ string_value text.now) }
-{
-    match string_len(text.as_bytes()) {
-        Some(len) if len == text.len() => Ok(Some(string_value(alloc, text)?)),
+        Some(StringKind::Basic | StringKind::Literal) => read_string(alloc, part),
         _ => Ok(None),
     }
 }

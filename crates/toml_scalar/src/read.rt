@@ -1,10 +1,10 @@
-//! The value of a scalar's token, and the name of a key part.
-ghost use Rattle.std.specs.Prelude.{◌≡◌, ◌==◌, option_map, Some, None};
-ghost use Rattle.std.specs.String.{string_bytes};
+//! The value of a scalar's token.
+ghost use Rattle.std.specs.Prelude.{◌≡◌, ◌==◌, option_map, IfErr};
 ghost use Rattle.toml_text.specs.Source.{text_of, IsHeld};
 ghost use Rattle.toml_scalar.specs.Faults.{value_fault};
 ghost use Rattle.toml_scalar.specs.Values.{scalar_of, scalar_value, moment_number};
-ghost use Rattle.toml_scalar.specs.Reads.{ReadsScalar, Reads};
+ghost use Rattle.toml_scalar.specs.Reads.{ReadsScalar, Reads, TakesMemory};
+ghost use Rattle.toml_scalar.specs.declared.fault.SyntaxFault.TheVariants.{NoMemory};
 ghost use Rattle.toml_scalar.specs.declared.kind.ScalarKind.TheVariants as kinds;
 
 use crate::boolean::read_bool;
@@ -13,14 +13,14 @@ use crate::float::{float_text, is_float};
 use crate::integer::{is_integer_form, read_integer};
 use crate::kind::{MomentKind, ScalarKind};
 use crate::moment::{moment_kind, moment_text};
-use crate::names::whole_value;
 use crate::scalar::{FloatText, Moment, Scalar};
+use crate::strings::read_string;
 use std::alloc::{AllocError, Global};
 use toml_text::{Source, Span};
 
 /// The value of the scalar of a kind that the span holds.
 ///
-/// A text that is no token of the kind is refused at the span's start.
+/// A text that is no token of the kind is refused at the span's start. An integer or a boolean takes no memory.
 pub fn read_scalar(
     alloc: Global,
     source: Source<'_>,
@@ -28,7 +28,8 @@ pub fn read_scalar(
     kind: ScalarKind,
 ) -> Result<Scalar, SyntaxFault>
     requires { IsHeld (text_of source) span }
-    ensures { ReadsScalar (text_of source.entry) span kind result }
+    ensures value { ReadsScalar (text_of source.entry) span kind result }
+    ensures memory { IfErr result (λ fault. fault ≡ NoMemory → TakesMemory kind) }
 {
     let run = source.slice(span);
     match read_kind(alloc, run, kind)? {
@@ -39,7 +40,8 @@ pub fn read_scalar(
 
 /// The value of a text, if it is a token of the kind.
 fn read_kind(alloc: Global, run: &str, kind: ScalarKind) -> Result<Option<Scalar>, AllocError>
-    ensures { Reads (scalar_of kind run.now) result }
+    ensures value { Reads (scalar_of kind run.now) result }
+    ensures memory { IfErr result (λ _. TakesMemory kind) }
 {
     match kind {
         ScalarKind::Text => read_text(alloc, run),
@@ -54,7 +56,7 @@ fn read_kind(alloc: Global, run: &str, kind: ScalarKind) -> Result<Option<Scalar
 fn read_text(alloc: Global, run: &str) -> Result<Option<Scalar>, AllocError>
     ensures { Reads (scalar_of kinds.Text run.now) result }
 {
-    Ok(whole_value(alloc, run)?.map(Scalar::Text))
+    Ok(read_string(alloc, run)?.map(Scalar::Text))
 }
 
 #[tactic(auto, using(crate::proofs::Integers::fits_sound, crate::proofs::Integers::fits_complete), unfolding(crate::specs::Values::scalar_of))]

@@ -1,12 +1,12 @@
 //! Where the scalar or the key part at a place ends.
-ghost use Rattle.std.specs.Prelude.{◌≡◌, ◌⊎◌, ◌+◌, ◌≤◌, drop, length, take, option_map, Some, None};
+ghost use Rattle.std.specs.Prelude.{◌≡◌, ◌⊎◌, ◌≤◌, drop, length, option_map};
 ghost use Rattle.std.specs.Str.{IsCharBoundary};
 ghost use Rattle.toml_text.specs.Source.{text_of};
 ghost use Rattle.toml_text.specs.Runs.{begins};
 ghost use Rattle.toml_scalar.specs.Scanning.{scan_at, key_part_len, is_key_start, is_scalar_start, value_len, goes_on, kind_of};
 ghost use Rattle.toml_scalar.specs.StringRuns.{token_of, token_len};
-ghost use Rattle.toml_scalar.specs.Faults.{begins_moment, is_number_start, run_fault, scalar_fault, key_fault};
-ghost use Rattle.toml_scalar.specs.Scans.{ScansScalar, ScansKey, Finds, IsSpan};
+ghost use Rattle.toml_scalar.specs.Faults.{begins_moment, run_fault, scalar_fault, key_fault};
+ghost use Rattle.toml_scalar.specs.Scans.{ScansScalar, ScansKey, Finds};
 ghost use Rattle.toml_scalar.specs.declared.strings.kind.StringKind.TheVariants.{Basic, Literal};
 
 use crate::boolean::is_bool;

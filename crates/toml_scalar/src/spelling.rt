@@ -34,7 +34,7 @@ fn is_bare_key(name: &[u8]) -> bool
 fn quoted(alloc: Global, name: &str) -> Result<String, AllocError>
     ensures { IfOk result (λ text. string_bytes text ≡ quoted name.now) }
 {
-    let mut text = String::new(alloc);
+    let mut text = String::with_capacity(alloc, name.len() + 2)?;
     text.push('"')?;
     for character in name.chars() {
         push_spelled(&mut text, character)?;

@@ -9,6 +9,7 @@ mod source;
 mod span;
 
 pub use fault::TextFault;
+pub use scan::{newline_len, ws_len};
 pub use source::{MAX_LEN, Source};
 pub use span::Span;
 

@@ -7,7 +7,8 @@ use memchr::memchr;
 
 /// How many tabs and spaces the bytes begin with.
 pub fn ws_len(bytes: &[u8]) -> usize
-    ensures { result ≡ run_len is_ws bytes.now }
+    ensures run { result ≡ run_len is_ws bytes.now }
+    ensures within { result ≤ length bytes.now }
 {
     for (i, byte) in bytes.iter().enumerate() {
         if *byte != b' ' && *byte != b'\t' {
@@ -19,7 +20,8 @@ pub fn ws_len(bytes: &[u8]) -> usize
 
 /// The length of the newline at the front, or 0.
 pub fn newline_len(bytes: &[u8]) -> usize
-    ensures { result ≡ newline_len bytes.now }
+    ensures value { result ≡ newline_len bytes.now }
+    ensures within { result ≤ length bytes.now }
 {
     match bytes {
         [b'\n', ..] => 1,

@@ -8,7 +8,7 @@ use Rattle.toml_tree.specs.Document.{RefusesValue}
 use Rattle.toml_tree.specs.Reads.{Fails, end}
 use Rattle.toml_tree.specs.Tree.{Value, KeyVal, Expr}
 use Rattle.toml_tree.specs.Spells.{Part, joined, Placed, value_parts, keyval_parts, expr_parts, SpellsValue, SpellsKeyVal, SpellsExpr, IsNoValue, max_depth}
-use Rattle.toml_tree.specs.Laws.{OneValue, OneKeyVal, OneExpr}
+use Rattle.toml_tree.specs.Laws.{ValueReaderIsComplete, OneValue, OneKeyVal, OneExpr}
 use Rattle.toml_tree.specs.Reading.{Cursor}
 use Rattle.toml_tree.specs.ReadingValues.{value_at, keyval_at}
 use Rattle.toml_tree.specs.ReadingLines.{expr_at}
@@ -16,6 +16,7 @@ use Rattle.toml_tree.proofs.Spans.{Spans, spans_from, spans_joined, spans_placed
 use Rattle.toml_tree.proofs.CompleteValues.{value_complete, keyval_complete}
 use Rattle.toml_tree.proofs.CompleteLines.{expr_complete}
 use Rattle.std.proofs.lemmas.List.{append-nil}
+use Rattle.std.proofs.Math.Seq.{drop-length}
 use Rattle.toml_tree.proofs.SoundValues.{ValueIs, value_sound}
 
 -- where a text begins and where it ends
@@ -31,6 +32,9 @@ stands ps at text is placed = subst (λ t. Spans ps (front at t) (back at text))
 
 value_read : (v : Value) (at : ℕ) (text : List ℕ) → SpellsValue v at text → value_at max_depth (front at text) ≡ Some (v, back at text)
 value_read v at text h = value_complete v max_depth h.form h.shallow (front at text) (back at text) (stands (value_parts v) at text h.text_is h.placed) tt
+
+pub value_is_read : ValueReaderIsComplete
+value_is_read v c h = value_read v c.at c.rest h ∙ ap (λ l. Some (v, record { at = c.at + length c.rest; rest = l })) (sym (drop-length c.rest))
 
 pub one_value : OneValue
 one_value v w at text h k = (some_pair_parts _ _ _ _ (sym (value_read v at text h) ∙ value_read w at text k)).0

@@ -50,7 +50,8 @@ piece_of (Inline whole pairs) = whole
 pub piece_of_inline : (whole : Piece) (ms : List Member) (ws : Option Piece) → piece_of (inline whole ms ws) ≡ whole
 piece_of_inline whole [] None = refl
 piece_of_inline whole [] (Some ws) = refl
-piece_of_inline whole (m ∷ ms) ws = refl
+piece_of_inline whole (m ∷ ms) None = refl
+piece_of_inline whole (m ∷ ms) (Some ws) = refl
 
 -- a value's piece has the text of its parts
 pub text_of_value : (v : Value) → IsValue v → (piece_of v).text ≡ joined (value_parts v)

@@ -1,7 +1,9 @@
 -- Laws: what the definitions of the tree give those who build on them.
-use Rattle.std.specs.Prelude.{◌≡◌, ◌⊎◌, ◌≤◌, ℕ, zero, suc, List, Some}
+use Rattle.std.specs.Prelude.{◌≡◌, ◌⊎◌, ◌≤◌, ℕ, zero, suc, List, [], length, Some}
+use Rattle.toml_tree.specs.Reading.{Cursor, ahead}
 use Rattle.toml_tree.specs.ReadingLines.{document_at}
-use Rattle.toml_tree.specs.Spells.{depth, Spells, SpellsValue, SpellsKeyVal, SpellsExpr}
+use Rattle.toml_tree.specs.ReadingValues.{value_at}
+use Rattle.toml_tree.specs.Spells.{depth, max_depth, Spells, SpellsValue, SpellsKeyVal, SpellsExpr}
 use Rattle.toml_tree.specs.Tree.{Value, Scalar, Array, Empty, Inline, Items, Close, Last, More, Pairs, LastPair, MorePairs, KeyVal, Expr, Doc}
 
 -- a text has at most one tree
@@ -26,6 +28,13 @@ ReaderIsSound = (text : List ℕ) (d : Doc) → document_at text ≡ Some d → 
 
 abbrev pub ReaderIsComplete : Type 0
 ReaderIsComplete = (text : List ℕ) (d : Doc) → Spells d text → document_at text ≡ Some d
+
+-- the same of a text that is one value
+abbrev pub ValueReaderIsSound : Type 0
+ValueReaderIsSound = (v : Value) (c d : Cursor) → value_at max_depth c ≡ Some (v, d) → d.rest ≡ [] → SpellsValue v c.at c.rest
+
+abbrev pub ValueReaderIsComplete : Type 0
+ValueReaderIsComplete = (v : Value) (c : Cursor) → SpellsValue v c.at c.rest → value_at max_depth c ≡ Some (v, ahead (length c.rest) c)
 
 -- a value stands in another: in an array, or as the value of a pair of an inline table
 abbrev pub IsItemOf : Value → Items → Type 0

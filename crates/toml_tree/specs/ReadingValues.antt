@@ -72,11 +72,12 @@ abbrev pub pairs_of : Member → List Member → Pairs
 pairs_of m [] = LastPair m.before m.pair.assign m.pair.value m.after
 pairs_of m (n ∷ ms) = MorePairs m.before m.pair.assign m.pair.value m.after (pairs_of n ms)
 
--- an inline table, and the whitespace in one with no pair
+-- An inline table by its pairs, and the whitespace in one with no pair. With neither or both it is none that stands in a text:
+-- there the whitespace has no place before the first byte behind `{`.
 abbrev pub inline : Piece → List Member → Option Piece → Value
-inline whole [] None = Empty whole (record { start = 0; text = [] })
 inline whole [] (Some ws) = Empty whole ws
-inline whole (m ∷ ms) ws = Inline whole (pairs_of m ms)
+inline whole (m ∷ ms) None = Inline whole (pairs_of m ms)
+inline whole ms ws = Empty whole (record { start = 0; text = [] })
 
 -- behind a pair: a comma, or the end of the inline table
 unfoldable pub after_member : Member → Cursor → Option (Step Member Member × Cursor)

@@ -45,7 +45,8 @@ gap_line l = record { blank = blank l.blank; newline = piece l.newline }
 abbrev pub gap : Gap → tree.Gap
 gap g = record { lines = map gap_line g.lines.items; ws = piece g.ws }
 
--- the items of an array with no comma behind the last
+-- The items of an array with no comma behind the last. With no item and no gap it is none that stands in a text: there a gap's
+-- place is behind `[`.
 abbrev pub last_ends : List Element → tree.Items
 last_ends [] = tree.Close (record { lines = []; ws = record { start = 0; text = [] } })
 last_ends (e ∷ []) = tree.Last e.before e.value e.after
@@ -99,7 +100,7 @@ header h = record { before = piece h.before; key = key h.key; after = piece h.af
 
 abbrev pub expr : Expr → tree.Expr
 expr (exprs.Blank b) = tree.BlankLine (blank b)
-expr (exprs.KeyVal ws pair tail) = tree.KeyValLine (piece ws) (keyval pair) (blank tail)
+expr (exprs.KeyVal ws k tail) = tree.KeyValLine (piece ws) (keyval k) (blank tail)
 expr (exprs.Std ws h tail) = tree.TableLine (piece ws) (header h) (blank tail)
 expr (exprs.Array ws h tail) = tree.ArrayTableLine (piece ws) (header h) (blank tail)
 

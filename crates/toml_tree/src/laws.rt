@@ -1,5 +1,5 @@
 //! Laws over the definitions: each function's contract is one or a few, and nothing is run.
-ghost use Rattle.toml_tree.specs.Laws.{OneTree, OneValue, OneKeyVal, OneExpr, DepthIsNesting, ReaderIsSound, ReaderIsComplete};
+ghost use Rattle.toml_tree.specs.Laws.{OneTree, OneValue, OneKeyVal, OneExpr, DepthIsNesting, ReaderIsSound, ReaderIsComplete, ValueReaderIsSound, ValueReaderIsComplete};
 
 /// A text has at most one tree.
 pub fn one_tree()
@@ -22,4 +22,6 @@ pub fn depths()
 pub fn plain_reader()
     ensures sound { ReaderIsSound }
     ensures complete { ReaderIsComplete }
+    ensures value_sound { ValueReaderIsSound }
+    ensures value_complete { ValueReaderIsComplete }
 {}

@@ -20,9 +20,9 @@ impl<'t> Reader<'t> {
     fn keyval_line(&mut self, alloc: Global, ws: Piece<'t>) -> Result<Expr<'t>, SyntaxFault>
         ensures { Reads expr (cursor self.old) (cursor self.new) result (keyval_line_at (piece ws.entry) (cursor self.old)) }
     {
-        let pair = self.keyval(alloc, MAX_DEPTH)?;
+        let keyval = self.keyval(alloc, MAX_DEPTH)?;
         let tail = self.blank();
-        Ok(Expr::KeyVal { ws, pair, tail })
+        Ok(Expr::KeyVal { ws, keyval, tail })
     }
 
     /// `expression`

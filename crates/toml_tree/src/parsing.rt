@@ -15,7 +15,11 @@ use std::alloc::Global;
 use toml_scalar::SyntaxFault;
 use toml_text::Source;
 
-/// The tree of the text: one exactly where some tree spells the text behind the optional mark U+FEFF.
+/// The tree of the text (`toml`): one exactly where some tree spells the text behind the optional mark U+FEFF.
+///
+/// A refusal says that none does. Its place is a byte offset from 0, the mark counted, and at most the text's
+/// length: what stands there is no form of the grammar (`BadCharacter`, `Expected`), is a bad scalar, which begins
+/// there, or is a value nested more than 100 deep. `NoMemory` says nothing of the text.
 pub fn parse<'t>(alloc: Global, source: Source<'t>) -> Result<Doc<'t>, SyntaxFault>
     ensures spelled { IfOk result (λ doc. Spells (document doc) (text_of source.entry)) }
     ensures refused { IfErr result (Refuses (text_of source.entry)) }
@@ -27,7 +31,7 @@ pub fn parse<'t>(alloc: Global, source: Source<'t>) -> Result<Doc<'t>, SyntaxFau
 }
 
 /// The tree of a text that is one value and nothing else: one exactly where the text is a value that nests at most
-/// 100 deep. The mark U+FEFF is no part of a value.
+/// 100 deep (`val`). The mark U+FEFF is no part of a value. It refuses as `parse` does.
 pub fn parse_value<'t>(alloc: Global, source: Source<'t>) -> Result<Value<'t>, SyntaxFault>
     ensures spelled { IfOk result (λ v. SpellsValue (value v) 0 (text_of source.entry)) }
     ensures refused { IfErr result (RefusesValue (text_of source.entry)) }

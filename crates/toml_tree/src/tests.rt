@@ -72,10 +72,10 @@ fn pieces_have_their_places(rt: HostRuntime) -> Result<(), Fail> {
         _ => assert!(rt; false),
     }
     match lines[1].expr() {
-        Expr::KeyVal { pair, .. } => {
-            assert_piece(&rt, pair.assign.key.first, "a", 9);
-            assert_piece(&rt, pair.assign.before_equals, " ", 10);
-            assert_piece(&rt, pair.assign.after_equals, "", 12);
+        Expr::KeyVal { keyval, .. } => {
+            assert_piece(&rt, keyval.assign.key.first, "a", 9);
+            assert_piece(&rt, keyval.assign.before_equals, " ", 10);
+            assert_piece(&rt, keyval.assign.after_equals, "", 12);
         }
         _ => assert!(rt; false),
     }
@@ -111,7 +111,7 @@ fn values_have_their_kinds(rt: HostRuntime) -> Result<(), Fail> {
         let doc = parse(rt.alloc(), source)?;
         for line in doc.lines() {
             match line.expr() {
-                Expr::KeyVal { pair, .. } => match &pair.value {
+                Expr::KeyVal { keyval, .. } => match &keyval.value {
                     Value::Scalar(kind, _) => assert_eq!(rt; *kind, wanted),
                     _ => assert!(rt; false),
                 },
@@ -187,10 +187,10 @@ fn arrays_and_inline_tables_have_their_pieces(rt: HostRuntime) -> Result<(), Fai
     let text = "a = [ 1 , # c\n { b.c =2}, ]";
     let source = Source::new(text.as_bytes()).map_err(|_| "no text")?;
     let doc = parse(rt.alloc(), source)?;
-    let Expr::KeyVal { pair, .. } = doc.lines()[0].expr() else {
+    let Expr::KeyVal { keyval, .. } = doc.lines()[0].expr() else {
         return Err(Fail::from("no pair"));
     };
-    let Value::Array(array) = &pair.value else {
+    let Value::Array(array) = &keyval.value else {
         return Err(Fail::from("no array"));
     };
     assert_piece(&rt, array.whole, "[ 1 , # c\n { b.c =2}, ]", 4);

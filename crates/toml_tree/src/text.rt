@@ -106,9 +106,9 @@ fn push_expr(out: &mut String, e: &Expr<'_>) -> Result<(), AllocError>
 {
     match e {
         Expr::Blank(b) => push_blank(out, b),
-        Expr::KeyVal { ws, pair, tail } => {
+        Expr::KeyVal { ws, keyval, tail } => {
             out.push_str(ws.text)?;
-            push_keyval(out, pair)?;
+            push_keyval(out, keyval)?;
             push_blank(out, tail)?;
             Ok(())
         }
@@ -140,7 +140,7 @@ impl Doc<'_> {
     ghost use Rattle.toml_tree.specs.Document.{document};
     ghost use Rattle.toml_tree.specs.Spells.{doc_parts, Spells};
 
-    /// The text of the tree: of a parsed document the text that was read.
+    /// The text of the tree: of a parsed document the text that was read. It fails only for want of memory.
     pub fn text(&self, alloc: Global) -> Result<String, AllocError>
         ensures parts { IfOk result (λ out. string_bytes out ≡ joined (doc_parts (document self.now))) }
         ensures read { IfOk result (λ out. (text : List ℕ) → Spells (document self.now) text → string_bytes out ≡ text) }

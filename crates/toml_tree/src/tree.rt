@@ -24,7 +24,7 @@ pub struct Assign<'t> {
     pub after_equals: Piece<'t>,
 }
 
-/// A value. Arrays and inline tables are boxed, so that a scalar takes no more room than it needs.
+/// A value (TOML v1.0.0, String to Inline Table; `val`). Arrays and inline tables are boxed, so that a scalar takes no more room than it needs.
 #[derive(Drop)]
 #[cycle(value)]
 pub enum Value<'t> {
@@ -96,7 +96,7 @@ pub enum Expr<'t> {
     Blank(Blank<'t>),
     KeyVal {
         ws: Piece<'t>,
-        pair: KeyVal<'t>,
+        keyval: KeyVal<'t>,
         tail: Blank<'t>,
     },
     /// `[table]`

@@ -36,6 +36,7 @@ abbrev pub front_keys : List Line → List (Option Key)
 front_keys [] = []
 front_keys (l ∷ ls) = keys_with l.expr (front_keys ls)
 
+-- the key of each line of a document before its first header
 abbrev pub keys_of : Doc → List (Option Key)
 keys_of d = front_keys d.lines
 

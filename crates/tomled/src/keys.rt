@@ -41,7 +41,7 @@ pub fn keys_of<'t>(alloc: Global, doc: &Doc<'t>) -> Result<Vec<Option<Vec<String
     for line in doc.lines() {
         match line.expr() {
             Expr::Blank(_) => keys.push(None)?,
-            Expr::KeyVal { pair, .. } => keys.push(Some(names_of(alloc, &pair.assign.key)?))?,
+            Expr::KeyVal { keyval, .. } => keys.push(Some(names_of(alloc, &keyval.assign.key)?))?,
             Expr::Std { .. } | Expr::Array { .. } => break,
         }
     }

@@ -1,6 +1,5 @@
 //! Escapes: what stands behind a `\`.
 ghost use Rattle.std.specs.Prelude.{◌≡◌, ◌≤◌, ℕ, ◌+◌, length, option_map, if◌then◌else◌, Some, None, IfSome};
-ghost use Rattle.std.specs.Char.{digit_value};
 ghost use Rattle.toml_scalar.specs.Strings.{escaped};
 ghost use Rattle.toml_scalar.specs.StringRuns.{hex_after, is_escape, unicode_at, escape_at, multi_line_escape_at};
 

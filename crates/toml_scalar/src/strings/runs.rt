@@ -1,8 +1,10 @@
 //! How long a run of one class is at the front of some bytes.
-ghost use Rattle.std.specs.Prelude.{◌≡◌, ◌≤◌, length, drop};
-ghost use Rattle.toml_text.specs.Bytes.{is_ws, is_basic, is_literal};
-ghost use Rattle.toml_text.specs.Runs.{run_len, is_byte, newline_len};
+ghost use Rattle.std.specs.Prelude.{◌≡◌, ◌≤◌, length};
+ghost use Rattle.toml_text.specs.Bytes.{is_basic, is_literal};
+ghost use Rattle.toml_text.specs.Runs.{run_len, is_byte};
 ghost use Rattle.toml_scalar.specs.StringRuns.{spaces_len, dropped_len};
+
+use toml_text::{newline_len, ws_len};
 
 /// How many bytes at the front stand for themselves in a basic string.
 ///
@@ -45,31 +47,6 @@ pub fn mark_len(mark: u8, bytes: &[u8]) -> usize
         }
     }
     bytes.len()
-}
-
-/// How many tabs and spaces the bytes begin with.
-fn ws_len(bytes: &[u8]) -> usize
-    ensures run { result ≡ run_len is_ws bytes.now }
-    ensures within { result ≤ length bytes.now }
-{
-    for (i, byte) in bytes.iter().enumerate() {
-        if *byte != b' ' && *byte != b'\t' {
-            return i;
-        }
-    }
-    bytes.len()
-}
-
-/// The length of the newline at the front, or 0.
-pub fn newline_len(bytes: &[u8]) -> usize
-    ensures value { result ≡ newline_len bytes.now }
-    ensures within { result ≤ length bytes.now }
-{
-    match bytes {
-        [b'\n', ..] => 1,
-        [b'\r', b'\n', ..] => 2,
-        _ => 0,
-    }
 }
 
 /// How many bytes of whitespace and newlines stand at the front.

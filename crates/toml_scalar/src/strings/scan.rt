@@ -4,8 +4,9 @@ ghost use Rattle.toml_scalar.specs.StringRuns.{begins_three, kind_at, marks_len,
 
 use crate::strings::advance::Advance;
 use crate::strings::kind::StringKind;
-use crate::strings::runs::{mark_len, newline_len};
+use crate::strings::runs::mark_len;
 use crate::strings::steps::step;
+use toml_text::newline_len;
 
 /// Whether three marks stand at the front.
 fn begins_three(mark: u8, bytes: &[u8]) -> bool

@@ -7,7 +7,8 @@ ghost use Rattle.toml_scalar.specs.declared.strings.kind.StringKind.TheVariants.
 use crate::strings::advance::Advance;
 use crate::strings::escapes::{escape, multi_line_escape_len};
 use crate::strings::kind::StringKind;
-use crate::strings::runs::{basic_len, literal_len, mark_len, newline_len};
+use crate::strings::runs::{basic_len, literal_len, mark_len};
+use toml_text::newline_len;
 
 /// On over a run, if it has a byte.
 fn more(len: usize) -> Option<Advance>

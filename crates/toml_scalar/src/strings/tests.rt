@@ -1,14 +1,5 @@
-use super::{string_len, string_value};
-use std::alloc::{AllocError, Global};
+use super::{read_string, string_len};
 use std::test::Fail;
-
-/// The value of a text, if it is a string.
-fn value_of(alloc: Global, text: &str) -> Result<Option<String>, AllocError> {
-    if string_len(text.as_bytes()) != Some(text.len()) {
-        return Ok(None);
-    }
-    Ok(Some(string_value(alloc, text)?))
-}
 
 #[test]
 fn lengths(rt: HostRuntime) {
@@ -61,7 +52,7 @@ fn values(rt: HostRuntime) -> Result<(), Fail> {
         ("\"\"\"\u{85}\"\"\"", "\u{85}"),
         ("'''\u{85}'''", "\u{85}"),
     ] {
-        let Some(read) = value_of(rt.alloc(), text)? else {
+        let Some(read) = read_string(rt.alloc(), text)? else {
             return Err("no string".into());
         };
         assert_eq!(rt; read.as_str(), value, "{text}");

@@ -1,5 +1,5 @@
 //! The value of a string.
-ghost use Rattle.std.specs.Prelude.{◌≡◌, ◌≤◌, ℕ, List, length, IfOk, Some, string_bytes};
+ghost use Rattle.std.specs.Prelude.{◌≡◌, ◌≤◌, ℕ, List, length, option_map, IfOk, Some, string_bytes};
 ghost use Rattle.toml_text.specs.Runs.{run_len};
 ghost use Rattle.toml_scalar.specs.StringValues.{Unescapes, Unescaped, EndsAscii, IsContentOf, is_verbatim};
 ghost use Rattle.toml_scalar.specs.Strings.{IsString};
@@ -8,7 +8,7 @@ ghost use Rattle.toml_scalar.specs.StringRuns.{string_len, string_value};
 use crate::strings::escapes::escape;
 use crate::strings::kind::StringKind;
 use crate::strings::runs::dropped_len;
-use crate::strings::scan::{first_len, kind_at, marks_len};
+use crate::strings::scan::{first_len, kind_at, marks_len, string_len};
 use std::alloc::{AllocError, Global};
 
 /// How many bytes at the front stand before the first `\`.
@@ -80,7 +80,7 @@ fn content(kind: StringKind, text: &str) -> &str
 }
 
 /// The value of a string, which takes no more memory than its text.
-pub fn string_value(alloc: Global, text: &str) -> Result<String, AllocError>
+fn string_value(alloc: Global, text: &str) -> Result<String, AllocError>
     requires { string_len text.now ≡ Some (length text.now) }
     ensures { IfOk result (λ value. string_value text.now ≡ Some (string_bytes value)) }
 {
@@ -92,5 +92,16 @@ pub fn string_value(alloc: Global, text: &str) -> Result<String, AllocError>
     match kind {
         StringKind::Basic | StringKind::MultiLineBasic => unescape(alloc, content),
         StringKind::Literal | StringKind::MultiLineLiteral => copy(alloc, content),
+    }
+}
+
+/// The value of a text, if it is a string.
+#[tactic(auto, using(crate::proofs::Wholes::not_whole, crate::proofs::Wholes::no_string))]
+pub fn read_string(alloc: Global, text: &str) -> Result<Option<String>, AllocError>
+    ensures { IfOk result (λ value. option_map string_bytes value ≡ string_value text.now) }
+{
+    match string_len(text.as_bytes()) {
+        Some(len) if len == text.len() => Ok(Some(string_value(alloc, text)?)),
+        _ => Ok(None),
     }
 }

@@ -20,7 +20,7 @@ pub returns-in_ok-push_blank-in-KeyVal : goal.returns-in_ok-push_blank-in-KeyVal
 returns-in_ok-push_blank-in-KeyVal c =
     let out = string_bytes c.args.out.now in
     let k = c.in-KeyVal in
-    written_around out (piece k.ws) (keyval_parts (keyval k.pair)) (blank k.tail) _ _ _
+    written_around out (piece k.ws) (keyval_parts (keyval k.keyval)) (blank k.tail) _ _ _
     c.in_ok-push_str-in-KeyVal.ensures.bytes c.in_ok-push_keyval-in-KeyVal.ensures c.in_ok-push_blank-in-KeyVal.ensures
     ∙ ap (λ e. out ++ joined (expr_parts (expr e))) (sym k.is)
 
