@@ -1,11 +1,13 @@
 -- What the reading of a document's names answers.
-use Rattle.std.specs.Prelude.{◌≡◌, ◌<◌, ◌+◌, ◌++◌, ℕ, List, length, take}
-use Rattle.toml_tree.specs.Tree.{Line}
+use Rattle.std.specs.Prelude.{◌≡◌, ◌<◌, ◌+◌, ◌++◌, ℕ, Bool, true, false, ◌&&◌, ◌==◌, if◌then◌else◌, List, [], ◌∷◌, length, take, Option, Some, None, Result, Ok, Err}
+use Rattle.toml_tree.specs.Tree.{Expr, Line}
 use Rattle.toml_names.specs.declared.fault.NameFault.{NameFault}
 use Rattle.toml_names.specs.declared.fault.NameFault.TheVariants as faults
+use Rattle.toml_names.specs.declared.named.Role.{Role}
+use Rattle.toml_names.specs.declared.named.Role.TheVariants.{Header, Valued, Element}
 use Rattle.toml_names.specs.Addresses.{Address}
-use Rattle.toml_names.specs.Mentions.{Named, named}
-use Rattle.toml_names.specs.Rules.{KeepsRules, IsShort, IsFirstOffence}
+use Rattle.toml_names.specs.Mentions.{Named, named, named_by, section}
+use Rattle.toml_names.specs.Rules.{KeepsRules, IsShort, IsFirstOffence, misfit}
 
 -- the mentions of lines keep the table rules, and no address has more than 100 steps
 abbrev pub AreGood : List Line → Type 0
@@ -26,7 +28,31 @@ pub record IsLong (lines : List Line) (line : ℕ) : Type 0 where
   pub keeps : KeepsRules (named (take (line + 1) lines))
   pub long : ¬ IsShort (named (take (line + 1) lines))
 
+-- why names are refused; want of memory says nothing of them
 abbrev pub RefusesNames : List Line → NameFault → Type 0
 RefusesNames lines (faults.Redefined line at) = IsRedefined lines line at
 RefusesNames lines (faults.LongAddress line) = IsLong lines line
 RefusesNames lines faults.NoMemory = Unit {0}
+
+-- what taking one more line gives, by the plain functions: the list so far, and the table of the last header
+abbrev pub Takes : List Named → List Named → ℕ → Expr → Result Address NameFault → Type 0
+Takes old new line e (Ok at) = (new ≡ old ++ named_by old line e) × (misfit old (named_by old line e) ≡ None) × IsShort (named_by old line e) × (at ≡ section new)
+Takes old new line e (Err (faults.Redefined l at)) = (l ≡ line) × (misfit old (named_by old line e) ≡ Some at)
+Takes old new line e (Err (faults.LongAddress l)) = (l ≡ line) × (misfit old (named_by old line e) ≡ None) × ¬ IsShort (named_by old line e)
+Takes old new line e (Err faults.NoMemory) = Unit {0}
+
+-- the role in which a line mentions what it stands for
+abbrev pub is_own : Role → Bool
+is_own Header = true
+is_own Valued = true
+is_own Element = true
+is_own _ = false
+
+-- the address of a line's value, table or element: that of its first mention in such a role
+abbrev pub line_address : List Named → ℕ → Option Address
+line_address [] line = None
+line_address (m ∷ ms) line = if m.line == line && is_own m.role then Some m.address else line_address ms line
+
+-- Law: lines of which the names are refused, memory aside, are not good.
+abbrev pub RefusedAreBad : Type 0
+RefusedAreBad = (lines : List Line) (fault : NameFault) → RefusesNames lines fault → (fault ≡ faults.NoMemory → ⊥) → ¬ AreGood lines

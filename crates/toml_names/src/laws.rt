@@ -1,8 +1,14 @@
-//! Laws over the definitions.
+//! Laws over the definitions: nothing is run.
+ghost use Rattle.toml_names.specs.Names.{RefusedAreBad};
 ghost use Rattle.toml_names.specs.Rules.{NoMisfit, MisfitIsFirst};
 
 /// Mentions keep the table rules exactly where no misfit is found among them, and what is found is the first offence.
 pub fn rules()
     ensures none { NoMisfit }
     ensures first { MisfitIsFirst }
+{}
+
+/// Lines of which the names are refused, memory aside, are not good.
+pub fn refusals()
+    ensures { RefusedAreBad }
 {}

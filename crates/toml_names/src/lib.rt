@@ -14,4 +14,4 @@ pub use address::{Address, Step};
 pub use fault::NameFault;
 pub use name::Name;
 pub use named::Role;
-pub use names::Names;
+pub use names::{Names, read_names};

@@ -15,7 +15,10 @@ use Rattle.toml_tree.specs.Tree.{Doc}
 use Rattle.toml_tree.proofs.Exact.{one_tree}
 use Rattle.tomled.specs.Check.{IsTextRefusal, IsSyntaxRefusal, code_of}
 use Rattle.tomled.specs.Documents.{IsDocument}
-use Rattle.tomled.specs.Keys.{keys_of, BreaksRule, IsFirstBreak}
+use Rattle.toml_names.specs.Names.{AreGood, RefusesNames}
+use Rattle.toml_names.specs.declared.fault.NameFault.{NameFault}
+use Rattle.toml_names.specs.declared.fault.NameFault.TheVariants as names
+use Rattle.toml_names.proofs.Refused.{refused_are_bad}
 use Rattle.tomled.specs.Refusals.{IsRefusalOf, IsSyntaxCode}
 use Rattle.tomled.specs.declared.refusal.Refusal.{Refusal}
 
@@ -49,10 +52,8 @@ no_tree bytes fault r text h k =
     let code : IsSyntaxCode r.code = subst (λ (o : Option ℕ). IfSome o IsSyntaxCode) k.0 (coded fault) in
     ((λ document. told.1 document.1 document.2), inr (inr (inl (code, told.0, text, told.1))))
 
-pub no_rules : (bytes : List ℕ) (d : Doc) (line : ℕ) (r : Refusal) → IsText bytes → Spells d bytes → IsFirstBreak (keys_of d) line → r.code ≡ 201 → r.place ≡ line + 1 → IsRefused bytes r
-no_rules bytes d line r text spelled broken code place = (
-  (λ document.
-      let same : d ≡ document.1 = one_tree d document.1 bytes spelled document.2 in
-      document.3 line (subst (λ (e : Doc). BreaksRule (keys_of e) line) same broken.breaks)),
-  inr (inr (inr (code, text, d, line, place, spelled, broken))),
-)
+-- the lines of the one tree of the bytes are refused
+pub no_names : (bytes : List ℕ) (d : Doc) (fault : NameFault) → Spells d bytes → RefusesNames d.lines fault → (fault ≡ names.NoMemory → ⊥) → ¬ IsDocument bytes
+no_names bytes d fault spelled refuses memory document =
+    let same : document.1 ≡ d = one_tree document.1 d bytes document.2 spelled in
+    refused_are_bad d.lines fault refuses memory (subst (λ (e : Doc). AreGood e.lines) same document.3)

@@ -1,4 +1,2 @@
 pub mod Appended
-pub mod Beginnings
-pub mod KeyLists
 pub mod Judged

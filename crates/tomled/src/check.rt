@@ -2,10 +2,10 @@
 ghost use Rattle.std.specs.Prelude.{◌≡◌, ◌+◌, ◌<◌, IfOk, IfErr, MatchResult};
 ghost use Rattle.tomled.specs.Check.{Checks, Tells, Prints, Judges, IsSyntaxRefusal, IsTextRefusal};
 
-use crate::keys::{first_break, keys_of};
 use crate::outcome::Outcome;
 use crate::refusal::Refusal;
 use std::alloc::{AllocError, Global};
+use toml_names::{NameFault, read_names};
 use toml_text::{MAX_LEN, Source, TextFault};
 use toml_tree::{SyntaxFault, parse};
 
@@ -31,13 +31,23 @@ fn refusal_of(alloc: Global, file: &[u8]) -> Result<Option<Refusal>, AllocError>
         Ok(doc) => doc,
         Err(fault) => return Ok(Some(syntax_refusal(fault)?)),
     };
-    let keys = keys_of(alloc, &doc)?;
-    match first_break(&keys) {
-        None => Ok(None),
-        Some(line) => Ok(Some(Refusal {
-            code: 201,
-            place: line + 1,
-        })),
+    match read_names(alloc, &doc) {
+        Ok(_) => Ok(None),
+        Err(NameFault::Redefined { line, .. }) => Ok(Some(line_refusal(201, line))),
+        Err(NameFault::LongAddress { line }) => Ok(Some(line_refusal(203, line))),
+        Err(NameFault::NoMemory) => Err(AllocError),
+    }
+}
+
+/// The refusal of a line, which is counted from 0 here and from 1 in print.
+fn line_refusal(code: u16, line: usize) -> Refusal
+    requires { line < 9223372036854775807 }
+    ensures code { result.code ≡ code }
+    ensures place { result.place ≡ line + 1 }
+{
+    Refusal {
+        code,
+        place: line + 1,
     }
 }
 

@@ -2,7 +2,6 @@
 #![tactic(auto)]
 
 mod check;
-mod keys;
 mod outcome;
 mod output;
 mod refusal;

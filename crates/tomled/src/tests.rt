@@ -113,11 +113,67 @@ fn keys_that_clash(rt: HostRuntime) -> Result<(), Fail> {
     Ok(())
 }
 
-/// For now: the rules behind headers are not judged yet.
 #[test]
-fn keys_behind_a_header(rt: HostRuntime) -> Result<(), Fail> {
-    let rows: [&[u8]; 2] = [b"a = 1\n[t]\na = 1\n", b"[t]\na = 1\na = 2\n"];
+fn tables_that_may_stand_together(rt: HostRuntime) -> Result<(), Fail> {
+    let rows: [&[u8]; 10] = [
+        b"a = 1\n[t]\na = 1\n",
+        b"[a.b.c]\n[a]\nb.x = 1\n",
+        b"[fruit]\napple.color = 1\n[fruit.apple.texture]\n",
+        b"[[a]]\n[a.b]\n[[a]]\n[a.b]\n",
+        b"[[a.b]]\n[a]\nc = 1",
+        b"[a]\nb.c = 1\n[[a.d]]\n[a.d.e]\n[[a.d]]\n[a.d.e]",
+        b"a = {b.c = 1, b.d = 2, e = {}}",
+        b"x = [{y = 1}, {y = 1}]\n[z]",
+        b"[a]\n[a.b]\n[b]\n[b.a]",
+        b"[a.b]\n[a.c]\n[a]",
+    ];
     assert_ok(&rt, rt.alloc(), &rows)?;
+    Ok(())
+}
+
+#[test]
+fn tables_that_may_not(rt: HostRuntime) -> Result<(), Fail> {
+    let rows: [(&[u8], u16, usize); 16] = [
+        (b"[t]\na = 1\na = 2\n", 201, 3),
+        (b"[a.b.c]\n[a]\nb.x = 1\n[a.b]", 201, 4),
+        (b"[fruit]\napple.color = 1\n[fruit.apple]\n", 201, 3),
+        (b"[fruit.physical]\n[[fruit]]\n", 201, 2),
+        (b"a = 1\n[a.b]", 201, 2),
+        (b"[a]\nb = {c = 1}\n[a.b.d]", 201, 3),
+        (b"x = [{y = 1}]\n[[x]]", 201, 2),
+        (b"[a.b]\n[a]\nb.x = 1\n", 201, 3),
+        (b"x = {a = 1, a.b = 2}", 201, 1),
+        (b"[a]\n[a]", 201, 2),
+        (b"[[a]]\n[a]", 201, 2),
+        (b"[a]\n[[a]]", 201, 2),
+        (b"[[a]]\n[a.b]\n[a.b]", 201, 3),
+        (b"a = []\n[[a]]", 201, 2),
+        (b"x = [{y = 1, y = 2}]", 201, 1),
+        (b"a = [\n1]\n[a]\n[a]", 201, 2),
+    ];
+    assert_refused(&rt, rt.alloc(), &rows)?;
+    Ok(())
+}
+
+#[test]
+fn long_addresses(rt: HostRuntime) -> Result<(), Fail> {
+    let good = [
+        repeated(rt.alloc(), &[(b"[a", 1), (b".a", 99), (b"]", 1)])?,
+        repeated(rt.alloc(), &[(b"a.", 99), (b"a = []", 1)])?,
+    ];
+    for text in &good {
+        assert_ok(&rt, rt.alloc(), &[text.as_slice()])?;
+    }
+    let rows: [&[(&[u8], usize)]; 4] = [
+        &[(b"a.", 100), (b"a = 1", 1)],
+        &[(b"a.", 99), (b"a = [1]", 1)],
+        &[(b"[[a", 1), (b".a", 99), (b"]]", 1)],
+        &[(b"[a", 1), (b".a", 100), (b"]\n[a]", 1)],
+    ];
+    for parts in rows {
+        let text = repeated(rt.alloc(), parts)?;
+        assert_refused(&rt, rt.alloc(), &[(text.as_slice(), 203, 1)])?;
+    }
     Ok(())
 }
 

@@ -1,0 +1,6 @@
+pub mod Same
+pub mod Misfits
+pub mod Pairs
+pub mod Offences
+pub mod NextLine
+pub mod Refused
