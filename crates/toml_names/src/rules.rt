@@ -1,5 +1,5 @@
 //! The table rules, judged pair by pair.
-ghost use Rattle.std.specs.Prelude.{◌≡◌, ◌↔◌, ◌++◌, IsTrue, option_map};
+ghost use Rattle.std.specs.Prelude.{◌≡◌, ◌↔◌, IsTrue, option_map};
 ghost use Rattle.toml_names.specs.Rules.{may_follow, fits, misfit, IsShort};
 ghost use Rattle.toml_names.specs.View.{named, all_named};
 
@@ -35,10 +35,7 @@ fn fits(earlier: &[Named<'_>], mention: &Named<'_>) -> bool
 }
 
 /// The address of the first mention that does not go with the earlier ones and those before it.
-pub fn first_misfit<'n, 't>(
-    earlier: &[Named<'t>],
-    new: &'n [Named<'t>],
-) -> Option<&'n Address>
+pub fn first_misfit<'n, 't>(earlier: &[Named<'t>], new: &'n [Named<'t>]) -> Option<&'n Address>
     ensures { option_map (λ a. a.now) result ≡ misfit (all_named earlier.now) (all_named new.now) }
 {
     for (index, mention) in new.iter().enumerate() {
@@ -53,5 +50,6 @@ pub fn first_misfit<'n, 't>(
 pub fn are_short(new: &[Named<'_>]) -> bool
     ensures { IsTrue result ↔ IsShort (all_named new.now) }
 {
-    new.iter().all(|mention| mention.address.steps().len() <= MAX_STEPS)
+    new.iter()
+        .all(|mention| mention.address.steps().len() <= MAX_STEPS)
 }
