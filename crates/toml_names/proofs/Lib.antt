@@ -4,3 +4,5 @@ pub mod Pairs
 pub mod Offences
 pub mod NextLine
 pub mod Refused
+pub mod Loop
+pub mod Above

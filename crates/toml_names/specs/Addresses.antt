@@ -1,5 +1,5 @@
 -- Addresses: lists of steps, a step a name, as its bytes, or an index.
-use Rattle.std.specs.Prelude.{ℕ, Bool, false, ◌==◌, List, [], ◌∷◌, ◌++◌, map}
+use Rattle.std.specs.Prelude.{ℕ, Bool, true, false, ◌&&◌, ◌==◌, List, [], ◌∷◌, ◌++◌, map}
 use Rattle.std.specs.Cmp.Lexicographic.{pointwise}
 use Rattle.std.specs.Str.{bytes_eq}
 use Rattle.toml_names.specs.declared.address.Step.{Step}
@@ -27,3 +27,10 @@ element at i = at ++ Index i ∷ []
 -- the address that a whole key reaches from the table at the address
 abbrev pub below : Address → List (List ℕ) → Address
 below at key = at ++ map Name key
+
+-- the first address is a beginning of the second, and shorter
+abbrev pub is_above : Address → Address → Bool
+is_above [] [] = false
+is_above [] (t ∷ other) = true
+is_above (s ∷ at) [] = false
+is_above (s ∷ at) (t ∷ other) = same_step s t && is_above at other

@@ -4,3 +4,4 @@ pub mod Mentions
 pub mod Rules
 pub mod View
 pub mod Names
+pub mod Places

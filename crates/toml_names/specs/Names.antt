@@ -34,12 +34,17 @@ RefusesNames lines (faults.Redefined line at) = IsRedefined lines line at
 RefusesNames lines (faults.LongAddress line) = IsLong lines line
 RefusesNames lines faults.NoMemory = Unit {0}
 
--- what taking one more line gives, by the plain functions: the list so far, and the table of the last header
-abbrev pub Takes : List Named → List Named → ℕ → Expr → Result Address NameFault → Type 0
-Takes old new line e (Ok at) = (new ≡ old ++ named_by old line e) × (misfit old (named_by old line e) ≡ None) × IsShort (named_by old line e) × (at ≡ section new)
-Takes old new line e (Err (faults.Redefined l at)) = (l ≡ line) × (misfit old (named_by old line e) ≡ Some at)
-Takes old new line e (Err (faults.LongAddress l)) = (l ≡ line) × (misfit old (named_by old line e) ≡ None) × ¬ IsShort (named_by old line e)
-Takes old new line e (Err faults.NoMemory) = Unit {0}
+-- what judging the new mentions of a line gives, by the plain functions
+abbrev pub Judges : {A : Type 0} → List Named → List Named → ℕ → Result A NameFault → Type 0
+Judges old new line (Ok a) = (misfit old new ≡ None) × IsShort new
+Judges old new line (Err (faults.Redefined l at)) = (l ≡ line) × (misfit old new ≡ Some at)
+Judges old new line (Err (faults.LongAddress l)) = (l ≡ line) × (misfit old new ≡ None) × ¬ IsShort new
+Judges old new line (Err faults.NoMemory) = Unit {0}
+
+-- a line that was taken: the list so far, and the table of the last header
+pub record IsTaken (old new : List Named) (line : ℕ) (e : Expr) (at : Address) : Type 0 where
+  pub list : new ≡ old ++ named_by old line e
+  pub table : at ≡ section new
 
 -- the role in which a line mentions what it stands for
 abbrev pub is_own : Role → Bool

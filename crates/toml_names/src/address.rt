@@ -51,7 +51,7 @@ impl Step {
 }
 
 impl Address {
-    ghost use Rattle.toml_names.specs.Addresses.{child, element, same_address};
+    ghost use Rattle.toml_names.specs.Addresses.{child, element, is_above, same_address};
 
     /// The steps from the root.
     pub fn steps(&self) -> &[Step]
@@ -103,6 +103,21 @@ impl Address {
         ensures { result ≡ same_address self.now other.now }
     {
         if self.steps.len() != other.steps.len() {
+            return false;
+        }
+        for (index, step) in self.steps.iter().enumerate() {
+            if !step.is_same(&other.steps[index]) {
+                return false;
+            }
+        }
+        true
+    }
+
+    /// Whether it is strictly above the other: a beginning of it, and shorter.
+    pub fn is_above(&self, other: &Address) -> bool
+        ensures { result ≡ is_above self.now other.now }
+    {
+        if self.steps.len() >= other.steps.len() {
             return false;
         }
         for (index, step) in self.steps.iter().enumerate() {

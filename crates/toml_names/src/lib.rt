@@ -8,6 +8,7 @@ mod name;
 mod named;
 mod naming;
 mod names;
+mod place;
 mod rules;
 
 pub use address::{Address, Step};
@@ -15,3 +16,7 @@ pub use fault::NameFault;
 pub use name::Name;
 pub use named::Role;
 pub use names::{Names, read_names};
+pub use place::Place;
+
+#[cfg(test)]
+mod tests;

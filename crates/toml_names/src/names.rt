@@ -1,8 +1,8 @@
-ghost use Rattle.std.specs.Prelude.{◌≡◌, option_map, IfOk, IfErr};
+ghost use Rattle.std.specs.Prelude.{◌≡◌, [], option_map, IfOk, IfErr};
 ghost use Rattle.toml_tree.specs.Document.{document};
 ghost use Rattle.toml_tree.specs.Lines.{line as tree_line};
-ghost use Rattle.toml_names.specs.Mentions.{named as named_of, section};
-ghost use Rattle.toml_names.specs.Names.{AreGood, RefusesNames, Takes, is_own, line_address};
+ghost use Rattle.toml_names.specs.Mentions.{named as named_of, named_by, section};
+ghost use Rattle.toml_names.specs.Names.{AreGood, RefusesNames, Judges, IsTaken, is_own, line_address};
 ghost use Rattle.toml_names.specs.View.{all_named};
 
 use crate::address::Address;
@@ -16,7 +16,7 @@ use toml_tree::{Doc, Line};
 /// The names of a document: all that its lines mention, in text order.
 #[derive(Drop)]
 pub struct Names<'t> {
-    named: Vec<Named<'t>>,
+    pub(crate) named: Vec<Named<'t>>,
 }
 
 impl Names<'_> {
@@ -82,19 +82,33 @@ fn take_line<'t>(
     line: &Line<'t>,
 ) -> Result<Address, NameFault>
     requires { at ≡ section (all_named list.old.items) }
-    ensures { Takes (all_named list.old.items) (all_named list.new.items) number (tree_line line.now).expr result }
+    ensures judged { Judges (all_named list.old.items) (named_by (all_named list.old.items) number (tree_line line.now).expr) number result }
+    ensures taken { IfOk result (λ after. IsTaken (all_named list.old.items) (all_named list.new.items) number (tree_line line.now).expr after) }
 {
     let mut new = name_line(alloc, list, &at, number, line)?;
-    if let Some(address) = first_misfit(list, &new) {
+    judge(alloc, list, &new, number)?;
+    let after = section_after(alloc, at, &new)?;
+    list.append(&mut new)?;
+    Ok(after)
+}
+
+/// Judges the new mentions of a line.
+fn judge(
+    alloc: Global,
+    list: &[Named<'_>],
+    new: &[Named<'_>],
+    number: usize,
+) -> Result<(), NameFault>
+    ensures { Judges (all_named list.now) (all_named new.now) number result }
+{
+    if let Some(address) = first_misfit(list, new) {
         return Err(NameFault::Redefined {
             line: number,
             address: address.copy(alloc)?,
         });
     }
-    if !are_short(&new) {
+    if !are_short(new) {
         return Err(NameFault::LongAddress { line: number });
     }
-    let after = section_after(alloc, at, &new)?;
-    list.append(&mut new)?;
-    Ok(after)
+    Ok(())
 }

@@ -1,0 +1,121 @@
+use crate::{Address, Name, NameFault, Place, read_names};
+use std::alloc::Global;
+use std::test::Fail;
+use toml_text::Source;
+use toml_tree::{Doc, parse};
+
+/// A step of a worked address.
+#[derive(Clone, Copy)]
+enum At {
+    Name(&'static str),
+    Index(u64),
+}
+
+use At::{Index, Name as Key};
+
+fn doc<'t>(alloc: Global, text: &'t str) -> Result<Doc<'t>, Fail> {
+    let source = Source::new(text.as_bytes()).map_err(|_| "no text")?;
+    Ok(parse(alloc, source)?)
+}
+
+fn address(alloc: Global, steps: &[At]) -> Result<Address, Fail> {
+    let mut at = Address::root(alloc);
+    for step in steps {
+        at = match step {
+            At::Name(name) => at.child(alloc, Name::of(String::from_str(alloc, name)?))?,
+            At::Index(index) => at.element(alloc, *index)?,
+        };
+    }
+    Ok(at)
+}
+
+fn line_of(place: Option<Place>) -> Option<(u8, usize)> {
+    match place? {
+        Place::Root => Some((0, 0)),
+        Place::KeyVal(line) => Some((1, line)),
+        Place::Inside(line) => Some((2, line)),
+        Place::Header(line) => Some((3, line)),
+        Place::Dotted(line) => Some((4, line)),
+        Place::Implicit(line) => Some((5, line)),
+        Place::Tables(line) => Some((6, line)),
+    }
+}
+
+const TEXT: &str = "a.b = 1\n[x.y]\nz = [{k = 1}]\n[[t]]\n[[t]]\n# c\n[x]\nq.r = {s.t = 2}\nq.u = 3\n";
+
+#[test]
+fn things_have_their_places(rt: HostRuntime) -> Result<(), Fail> {
+    let doc = doc(rt.alloc(), TEXT)?;
+    let names = read_names(rt.alloc(), &doc).map_err(|_| "refused")?;
+    let rows: [(&[At], Option<(u8, usize)>); 16] = [
+        (&[], Some((0, 0))),
+        (&[Key("a")], Some((4, 0))),
+        (&[Key("a"), Key("b")], Some((1, 0))),
+        (&[Key("a"), Key("b"), Key("c")], None),
+        (&[Key("x")], Some((3, 6))),
+        (&[Key("x"), Key("y")], Some((3, 1))),
+        (&[Key("x"), Key("y"), Key("z")], Some((1, 2))),
+        (&[Key("x"), Key("y"), Key("z"), Index(0)], Some((2, 2))),
+        (&[Key("x"), Key("y"), Key("z"), Index(1)], None),
+        (&[Key("x"), Key("y"), Key("z"), Index(0), Key("k")], Some((2, 2))),
+        (&[Key("t")], Some((6, 3))),
+        (&[Key("t"), Index(1)], Some((3, 4))),
+        (&[Key("t"), Index(2)], None),
+        (&[Key("x"), Key("q")], Some((4, 7))),
+        (&[Key("x"), Key("q"), Key("r"), Key("s")], Some((2, 7))),
+        (&[Key("q")], None),
+    ];
+    for (steps, wanted) in rows {
+        let at = address(rt.alloc(), steps)?;
+        assert_eq!(rt; line_of(names.place(&at)), wanted);
+    }
+    Ok(())
+}
+
+#[test]
+fn tables_made_by_longer_headers(rt: HostRuntime) -> Result<(), Fail> {
+    let doc = doc(rt.alloc(), "[a.b]\n[a.c]\n")?;
+    let names = read_names(rt.alloc(), &doc).map_err(|_| "refused")?;
+    let at = address(rt.alloc(), &[Key("a")])?;
+    assert_eq!(rt; line_of(names.place(&at)), Some((5, 0)));
+    Ok(())
+}
+
+#[test]
+fn lines_have_their_addresses(rt: HostRuntime) -> Result<(), Fail> {
+    let doc = doc(rt.alloc(), TEXT)?;
+    let names = read_names(rt.alloc(), &doc).map_err(|_| "refused")?;
+    let rows: [(usize, Option<&[At]>); 7] = [
+        (0, Some(&[Key("a"), Key("b")])),
+        (1, Some(&[Key("x"), Key("y")])),
+        (4, Some(&[Key("t"), Index(1)])),
+        (5, None),
+        (7, Some(&[Key("x"), Key("q"), Key("r")])),
+        (9, None),
+        (100, None),
+    ];
+    for (line, wanted) in rows {
+        match (names.address_of(line), wanted) {
+            (Some(found), Some(steps)) => {
+                let at = address(rt.alloc(), steps)?;
+                assert!(rt; found.is_same(&at));
+            }
+            (found, wanted) => assert_eq!(rt; found.is_some(), wanted.is_some()),
+        }
+    }
+    Ok(())
+}
+
+#[test]
+fn the_first_offence_is_told(rt: HostRuntime) -> Result<(), Fail> {
+    let doc = doc(rt.alloc(), "[a]\nb = {c = 1}\n[a.b.d]\n[a]")?;
+    match read_names(rt.alloc(), &doc) {
+        Err(NameFault::Redefined { line, address: found }) => {
+            assert_eq!(rt; line, 2);
+            let at = address(rt.alloc(), &[Key("a"), Key("b")])?;
+            assert!(rt; found.is_same(&at));
+        }
+        _ => assert!(rt; false),
+    }
+    Ok(())
+}
