@@ -6,3 +6,5 @@ pub mod NextLine
 pub mod Refused
 pub mod Loop
 pub mod Above
+pub mod Along
+pub mod Inside

@@ -6,8 +6,8 @@ mod fault;
 pub mod laws;
 mod name;
 mod named;
-mod naming;
 mod names;
+mod naming;
 mod place;
 mod rules;
 
