@@ -41,7 +41,8 @@ fn line_of(place: Option<Place>) -> Option<(u8, usize)> {
     }
 }
 
-const TEXT: &str = "a.b = 1\n[x.y]\nz = [{k = 1}]\n[[t]]\n[[t]]\n# c\n[x]\nq.r = {s.t = 2}\nq.u = 3\n";
+const TEXT: &str =
+    "a.b = 1\n[x.y]\nz = [{k = 1}]\n[[t]]\n[[t]]\n# c\n[x]\nq.r = {s.t = 2}\nq.u = 3\n";
 
 #[test]
 fn things_have_their_places(rt: HostRuntime) -> Result<(), Fail> {
@@ -57,7 +58,10 @@ fn things_have_their_places(rt: HostRuntime) -> Result<(), Fail> {
         (&[Key("x"), Key("y"), Key("z")], Some((1, 2))),
         (&[Key("x"), Key("y"), Key("z"), Index(0)], Some((2, 2))),
         (&[Key("x"), Key("y"), Key("z"), Index(1)], None),
-        (&[Key("x"), Key("y"), Key("z"), Index(0), Key("k")], Some((2, 2))),
+        (
+            &[Key("x"), Key("y"), Key("z"), Index(0), Key("k")],
+            Some((2, 2)),
+        ),
         (&[Key("t")], Some((6, 3))),
         (&[Key("t"), Index(1)], Some((3, 4))),
         (&[Key("t"), Index(2)], None),
@@ -110,7 +114,12 @@ fn lines_have_their_addresses(rt: HostRuntime) -> Result<(), Fail> {
 fn the_first_offence_is_told(rt: HostRuntime) -> Result<(), Fail> {
     let doc = doc(rt.alloc(), "[a]\nb = {c = 1}\n[a.b.d]\n[a]")?;
     match read_names(rt.alloc(), &doc) {
-        Err(NameFault::Redefined { line, address: found }) => {
+        Err(
+            NameFault::Redefined {
+                line,
+                address: found,
+            },
+        ) => {
             assert_eq!(rt; line, 2);
             let at = address(rt.alloc(), &[Key("a"), Key("b")])?;
             assert!(rt; found.is_same(&at));
