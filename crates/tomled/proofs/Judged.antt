@@ -15,7 +15,8 @@ use Rattle.toml_tree.specs.Tree.{Doc}
 use Rattle.toml_tree.proofs.Exact.{one_tree}
 use Rattle.tomled.specs.Check.{IsTextRefusal, IsSyntaxRefusal, code_of}
 use Rattle.tomled.specs.Documents.{IsDocument}
-use Rattle.toml_names.specs.Names.{AreGood, RefusesNames}
+use Rattle.toml_names.specs.Addresses.{Address}
+use Rattle.toml_names.specs.Names.{AreGood, IsRedefined, IsLong, RefusesNames}
 use Rattle.toml_names.specs.declared.fault.NameFault.{NameFault}
 use Rattle.toml_names.specs.declared.fault.NameFault.TheVariants as names
 use Rattle.toml_names.proofs.Refused.{refused_are_bad}
@@ -53,7 +54,19 @@ no_tree bytes fault r text h k =
     ((λ document. told.1 document.1 document.2), inr (inr (inl (code, told.0, text, told.1))))
 
 -- the lines of the one tree of the bytes are refused
-pub no_names : (bytes : List ℕ) (d : Doc) (fault : NameFault) → Spells d bytes → RefusesNames d.lines fault → (fault ≡ names.NoMemory → ⊥) → ¬ IsDocument bytes
+no_names : (bytes : List ℕ) (d : Doc) (fault : NameFault) → Spells d bytes → RefusesNames d.lines fault → (fault ≡ names.NoMemory → ⊥) → ¬ IsDocument bytes
 no_names bytes d fault spelled refuses memory document =
     let same : document.1 ≡ d = one_tree document.1 d bytes document.2 spelled in
     refused_are_bad d.lines fault refuses memory (subst (λ (e : Doc). AreGood e.lines) same document.3)
+
+pub no_rules : (bytes : List ℕ) (d : Doc) (line : ℕ) (at : Address) (r : Refusal) → IsText bytes → Spells d bytes → IsRedefined d.lines line at → r.code ≡ 201 → r.place ≡ line + 1 → IsRefused bytes r
+no_rules bytes d line at r text spelled broken code place = (
+  no_names bytes d (names.Redefined line at) spelled broken (λ e. cc),
+  inr (inr (inr (inl (code, text, d, line, at, place, spelled, broken)))),
+)
+
+pub too_long : (bytes : List ℕ) (d : Doc) (line : ℕ) (r : Refusal) → IsText bytes → Spells d bytes → IsLong d.lines line → r.code ≡ 203 → r.place ≡ line + 1 → IsRefused bytes r
+too_long bytes d line r text spelled long code place = (
+  no_names bytes d (names.LongAddress line) spelled long (λ e. cc),
+  inr (inr (inr (inr (code, text, d, line, place, spelled, long)))),
+)
