@@ -8,3 +8,4 @@ pub mod Loop
 pub mod Above
 pub mod Along
 pub mod Inside
+pub mod Bare

@@ -25,10 +25,13 @@ fn may_follow(earlier: Role, later: Role) -> bool
     )
 }
 
-/// Whether the mention goes with each of the earlier ones.
+/// Whether the mention goes with each of the earlier ones; what is no mention goes with all.
 fn fits(earlier: &[Named<'_>], mention: &Named<'_>) -> bool
     ensures { result ≡ fits (all_named earlier.now) (named mention.now) }
 {
+    if let Role::Bare = mention.role {
+        return true;
+    }
     earlier.iter().all(|other| {
         !other.address.is_same(&mention.address) || may_follow(other.role, mention.role)
     })
