@@ -3,8 +3,8 @@
 
   bench/check.py --binary crates/tomled/out/tomled
 
-Texts of many pairs end in a mistake, so that the time is that of reading: the rule on keys, which compares them
-pair by pair for now, is not reached.
+Texts of many names end in a mistake, so that the time is that of reading: the table rules, which compare mentions
+pair by pair for now, are not reached.
 
 For each text it prints the best of some runs: seconds, megabytes a second, the ratio to `wc -l` and to
 `cat`, and the peak memory as a multiple of the text. No test rests on these numbers.
@@ -47,7 +47,7 @@ def array(item, first=10_000_000_000_000):
         out.append(text)
         size += len(text)
         number += 1
-    return b''.join(out) + b']\n'
+    return b''.join(out) + b']\n?'
 
 
 TEXTS = {
@@ -63,9 +63,9 @@ TEXTS = {
     'array, short': lambda: array(b'%d, ', 0),
     'array, comments': lambda: array(b'  %d, # a comment of a usual length\n'),
     'inline tables': lambda: numbered(b'point', b' = { name = "a point", x = -1_000.25, y = 0.125 }\n') + b'?',
-    'headers': lambda: numbered(b'[servers.region.host', b']\n'),
-    'array headers': lambda: filled(b'[[products.variants]]\n'),
-    'dotted key': lambda: b'a' + b'.a' * (LIMIT // 2 - 4) + b' = 1',
+    'headers': lambda: numbered(b'[servers.region.host', b']\n') + b'?',
+    'array headers': lambda: filled(b'[[products.variants]]\n')[:-1] + b'?',
+    'dotted key': lambda: b'a' + b'.a' * (LIMIT // 2 - 4) + b' = 1\n?',
     'brackets': lambda: b'a = ' + b'[' * (LIMIT - 4),
 }
 
