@@ -1,5 +1,5 @@
 -- A loop that takes line by line.
-use Rattle.std.proofs.Common.{◌≡◌, ℕ, ◌+◌, ◌<◌, List, ◌++◌, length, map, take, Result, Ok, Err, sym, ap, subst, ◌∙◌, get_or}
+use Rattle.std.proofs.Common.{◌≡◌, ℕ, ◌+◌, ◌<◌, List, ◌++◌, length, take, Ok, Err, sym, ap, ◌∙◌, get_or}
 use Rattle.toml_tree.specs.Tree.{Line}
 use Rattle.toml_names.specs.Addresses.{Address}
 use Rattle.toml_names.specs.Mentions.{Named, named, named_by, section}

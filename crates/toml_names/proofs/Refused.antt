@@ -1,14 +1,13 @@
 -- Lines of which the names are refused are not good.
-use Rattle.std.proofs.Common.{◌≡◌, ◌≤◌, ℕ, ◌+◌, ◌<◌, true, length-append, List, [], ◌∷◌, ◌++◌, length, take, drop, sym, refl, ap, subst, ◌∙◌, get_or, arith}
+use Rattle.std.proofs.Common.{◌≡◌, ◌≤◌, ℕ, ◌+◌, true, length-append, List, [], ◌∷◌, ◌++◌, length, take, drop, sym, refl, ap, subst, ◌∙◌, get_or, arith}
 use Rattle.std.proofs.lemmas.List.{append_assoc, append-nil, get_or_append_left, take-append-drop}
 use Rattle.std.proofs.lemmas.List.Elements.{All-head, All-tail, All-cons, All-nil}
 use Rattle.toml_tree.specs.Tree.{Line}
-use Rattle.toml_names.specs.declared.fault.NameFault.{NameFault}
 use Rattle.toml_names.specs.declared.fault.NameFault.TheVariants as faults
 use Rattle.toml_names.specs.Addresses.{Address}
 use Rattle.toml_names.specs.Mentions.{Named, root, named, named_by, named_from}
-use Rattle.toml_names.specs.Rules.{may_follow, KeepsRules, IsShort, max_steps, IsFirstOffence}
-use Rattle.toml_names.specs.Names.{AreGood, IsRedefined, IsLong, RefusesNames, RefusedAreBad}
+use Rattle.toml_names.specs.Rules.{may_follow, KeepsRules, IsShort, max_steps}
+use Rattle.toml_names.specs.Names.{AreGood, IsRedefined, IsLong, RefusedAreBad}
 
 abbrev Goes : Named → Named → Type 0
 Goes e l = e.address ≡ l.address → may_follow e.role l.role ≡ true

@@ -1,5 +1,5 @@
 -- The table rules, and the first mention that breaks them.
-use Rattle.std.specs.Prelude.{◌≡◌, ◌≤◌, ◌<◌, ◌||◌, not, ℕ, Bool, true, false, ◌↔◌, if◌then◌else◌, List, [], ◌∷◌, ◌++◌, length, All, AllPairs, Option, Some, None}
+use Rattle.std.specs.Prelude.{◌≡◌, ◌≤◌, ◌||◌, not, ℕ, Bool, true, false, ◌↔◌, if◌then◌else◌, List, [], ◌∷◌, ◌++◌, length, All, AllPairs, Option, Some, None}
 use Rattle.std.specs.List.{list_all}
 use Rattle.toml_names.specs.declared.named.Role.{Role}
 use Rattle.toml_names.specs.declared.named.Role.TheVariants.{Passed, Header, Dotted, Tables, Element, Bare}

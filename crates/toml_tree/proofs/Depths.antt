@@ -1,5 +1,5 @@
 -- The depth of a value is how deep values nest in it.
-use Rattle.std.proofs.Common.{◌≡◌, ◌⊎◌, ◌<◌, ◌≤◌, ℕ, zero, suc, max, true, false, leb, inl, inr, sym, refl, ap, subst, arith, ⊎_elim}
+use Rattle.std.proofs.Common.{◌≡◌, ◌⊎◌, ◌<◌, ◌≤◌, ℕ, zero, suc, max, true, false, leb, inl, inr, refl, ap, arith, ⊎_elim}
 use Rattle.std.proofs.lemmas.Bool.Decides.{leb_tells}
 use Rattle.toml_tree.specs.Laws.{IsItemOf, IsPairOf, IsIn, Nests, DepthIsNesting}
 use Rattle.toml_tree.specs.Spells.{depth, items_depth, pairs_depth}

@@ -1,9 +1,8 @@
-use Rattle.std.proofs.Common.{◌≡◌, ◌+◌, ◌<◌, length, map, sym, ap, subst, ◌∙◌, get_or, arith}
-use Rattle.std.proofs.lemmas.List.{get_or_read, length-map}
+use Rattle.std.proofs.Common.{◌<◌, length, map, sym, ap, subst, ◌∙◌, arith}
+use Rattle.std.proofs.lemmas.List.{length-map}
 use Rattle.std.proofs.lemmas.Result.{err_from_is_err_and}
 use Rattle.std.proofs.Math.ListN.{get_or-map}
 use Rattle.toml_tree.specs.Lines.{line}
-use Rattle.toml_tree.specs.Tree.{Line}
 use Rattle.toml_names.specs.Names.{RefusesNames}
 use Rattle.toml_names.proofs.Loop.{read_more, read_refused}
 use Rattle.toml_names.proofs.names.read_names.Goals as goal

@@ -1,7 +1,5 @@
-use Rattle.std.proofs.Common.{map, take}
+use Rattle.std.proofs.Common.{map}
 use Rattle.toml_tree.specs.Lines.{line}
-use Rattle.toml_names.specs.Mentions as mentions
-use Rattle.toml_names.specs.Names.{AreGood}
 use Rattle.toml_names.specs.View.{all_named}
 use Rattle.toml_names.proofs.Loop.{IsRead}
 use Rattle.toml_names.proofs.names.read_names.Given as goal
