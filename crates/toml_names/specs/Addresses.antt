@@ -1,5 +1,5 @@
 -- Addresses: lists of steps, a step a name, as its bytes, or an index.
-use Rattle.std.specs.Prelude.{ℕ, Bool, true, false, ◌&&◌, ◌==◌, List, [], ◌∷◌, ◌++◌, map}
+use Rattle.std.specs.Prelude.{◌≡◌, ◌↔◌, ℕ, Bool, true, false, ◌&&◌, ◌==◌, List, [], ◌∷◌, ◌++◌, map}
 use Rattle.std.specs.Cmp.Lexicographic.{pointwise}
 use Rattle.std.specs.Str.{bytes_eq}
 use Rattle.toml_names.specs.declared.address.Step.{Step}
@@ -34,3 +34,7 @@ is_above [] [] = false
 is_above [] (t ∷ other) = true
 is_above (s ∷ at) [] = false
 is_above (s ∷ at) (t ∷ other) = same_step s t && is_above at other
+
+-- Law: addresses that are the same are equal, and equal ones the same.
+abbrev pub SameIsEqual : Type 0
+SameIsEqual = (a b : Address) → (same_address a b ≡ true) ↔ (a ≡ b)

@@ -1,4 +1,5 @@
-//! The plain reader of names: the list of all that a line names.
+//! The plain reader of names: the list of all that a line names (TOML v1.0.0, Keys, Table, Inline Table, Array of
+//! Tables).
 ghost use Rattle.std.specs.Prelude.{◌≡◌, [], ◌∷◌, ◌++◌, List, OnOk, IfOk};
 ghost use Rattle.toml_tree.specs.Lines.{line as tree_line};
 ghost use Rattle.toml_tree.specs.View.{piece, key as tree_key, value, keyval as tree_keyval};

@@ -77,11 +77,28 @@ fn things_have_their_places(rt: HostRuntime) -> Result<(), Fail> {
 }
 
 #[test]
-fn tables_made_by_longer_headers(rt: HostRuntime) -> Result<(), Fail> {
-    let doc = doc(rt.alloc(), "[a.b]\n[a.c]\n")?;
-    let names = read_names(rt.alloc(), &doc).map_err(|_| "refused")?;
-    let at = address(rt.alloc(), &[Key("a")])?;
-    assert_eq!(rt; line_of(names.place(&at)), Some((5, 0)));
+fn tables_that_several_lines_make(rt: HostRuntime) -> Result<(), Fail> {
+    let rows: [(&str, &[At], Option<(u8, usize)>); 5] = [
+        ("[a.b]\n[a.c]\n", &[Key("a")], Some((5, 0))),
+        ("[a.b.c]\n[a]\nb.x = 1", &[Key("a"), Key("b")], Some((4, 2))),
+        ("[[t]]\n[t.u]", &[Key("t"), Index(0)], Some((3, 0))),
+        (
+            "[[a]]\n[[a.b]]\n[[a]]\n[[a.b]]",
+            &[Key("a"), Index(1), Key("b"), Index(0)],
+            Some((3, 3)),
+        ),
+        (
+            "[[a]]\nk = 1\n[[a]]\nk = 1",
+            &[Key("a"), Index(1), Key("k")],
+            Some((1, 3)),
+        ),
+    ];
+    for (text, steps, wanted) in rows {
+        let doc = doc(rt.alloc(), text)?;
+        let names = read_names(rt.alloc(), &doc).map_err(|_| "refused")?;
+        let at = address(rt.alloc(), steps)?;
+        assert_eq!(rt; line_of(names.place(&at)), wanted);
+    }
     Ok(())
 }
 

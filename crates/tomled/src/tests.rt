@@ -115,8 +115,9 @@ fn keys_that_clash(rt: HostRuntime) -> Result<(), Fail> {
 
 #[test]
 fn tables_that_may_stand_together(rt: HostRuntime) -> Result<(), Fail> {
-    let rows: [&[u8]; 10] = [
+    let rows: [&[u8]; 11] = [
         b"a = 1\n[t]\na = 1\n",
+        b"[[a]]\nk = 1\n[[a]]\nk = 1",
         b"[a.b.c]\n[a]\nb.x = 1\n",
         b"[fruit]\napple.color = 1\n[fruit.apple.texture]\n",
         b"[[a]]\n[a.b]\n[[a]]\n[a.b]\n",
@@ -133,8 +134,13 @@ fn tables_that_may_stand_together(rt: HostRuntime) -> Result<(), Fail> {
 
 #[test]
 fn tables_that_may_not(rt: HostRuntime) -> Result<(), Fail> {
-    let rows: [(&[u8], u16, usize); 16] = [
+    let rows: [(&[u8], u16, usize); 21] = [
         (b"[t]\na = 1\na = 2\n", 201, 3),
+        (b"[a.b.c]\n[a]\nb = 1", 201, 3),
+        (b"[a.b]\n[a]\nb = 1", 201, 3),
+        (b"a.b = 1\n[[a]]", 201, 2),
+        (b"[[a.b]]\n[a]\nb.c = 1", 201, 3),
+        (b"[[a.b]]\n[a]\nb = 1", 201, 3),
         (b"[a.b.c]\n[a]\nb.x = 1\n[a.b]", 201, 4),
         (b"[fruit]\napple.color = 1\n[fruit.apple]\n", 201, 3),
         (b"[fruit.physical]\n[[fruit]]\n", 201, 2),
@@ -173,6 +179,25 @@ fn long_addresses(rt: HostRuntime) -> Result<(), Fail> {
     for parts in rows {
         let text = repeated(rt.alloc(), parts)?;
         assert_refused(&rt, rt.alloc(), &[(text.as_slice(), 203, 1)])?;
+    }
+    Ok(())
+}
+
+/// The first bad line decides, and in one line the rules come first.
+#[test]
+fn long_addresses_that_break_the_rules(rt: HostRuntime) -> Result<(), Fail> {
+    let rows: [(&[(&[u8], usize)], u16, usize); 3] = [
+        (&[(b"a = 1\n", 1), (b"a.", 100), (b"a = 1", 1)], 201, 2),
+        (&[(b"a.", 100), (b"a = 1\nb = 1\nb = 2", 1)], 203, 1),
+        (
+            &[(b"b = 1\nb = 2\n", 1), (b"a.", 100), (b"a = 1", 1)],
+            201,
+            2,
+        ),
+    ];
+    for (parts, code, line) in rows {
+        let text = repeated(rt.alloc(), parts)?;
+        assert_refused(&rt, rt.alloc(), &[(text.as_slice(), code, line)])?;
     }
     Ok(())
 }
