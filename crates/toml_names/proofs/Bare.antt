@@ -15,7 +15,7 @@ bare_follows Tables = refl
 bare_follows Element = refl
 bare_follows Bare = refl
 
-or_true : (b : Bool) → (b || true) ≡ true
+pub or_true : (b : Bool) → (b || true) ≡ true
 or_true true = refl
 or_true _ = refl
 

@@ -9,3 +9,4 @@ pub mod Above
 pub mod Along
 pub mod Inside
 pub mod Bare
+pub mod Filtered

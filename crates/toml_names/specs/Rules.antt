@@ -1,10 +1,10 @@
 -- The table rules, and the first mention that breaks them.
-use Rattle.std.specs.Prelude.{◌≡◌, ◌≤◌, ◌||◌, not, ℕ, Bool, true, false, ◌↔◌, if◌then◌else◌, List, [], ◌∷◌, ◌++◌, length, All, AllPairs, Option, Some, None}
+use Rattle.std.specs.Prelude.{◌≡◌, ◌≤◌, ◌||◌, not, ℕ, Bool, true, false, ◌↔◌, if◌then◌else◌, List, [], ◌∷◌, ◌++◌, length, filter, All, AllPairs, Option, Some, None}
 use Rattle.std.specs.List.{list_all}
 use Rattle.toml_names.specs.declared.named.Role.{Role}
 use Rattle.toml_names.specs.declared.named.Role.TheVariants.{Passed, Header, Dotted, Tables, Element, Bare}
 use Rattle.toml_names.specs.Addresses.{Address, same_address}
-use Rattle.toml_names.specs.Mentions.{Named}
+use Rattle.toml_names.specs.Mentions.{Named, is_mention}
 
 -- TOML v1.0.0, Keys, Table, Inline Table, Array of Tables: an address that was mentioned in the first role may be mentioned in the
 -- second. What is no mention goes with all.
@@ -58,3 +58,7 @@ NoMisfit = (ms : List Named) → (misfit [] ms ≡ None) ↔ KeepsRules ms
 
 abbrev pub MisfitIsFirst : Type 0
 MisfitIsFirst = (earlier new : List Named) (at : Address) → KeepsRules earlier → misfit earlier new ≡ Some at → IsFirstOffence earlier new at
+
+-- Law: what is no mention has no part in the rules.
+abbrev pub RulesAreOfMentions : Type 0
+RulesAreOfMentions = (ms : List Named) → KeepsRules ms ↔ KeepsRules (filter is_mention ms)

@@ -1,4 +1,5 @@
 use Rattle.toml_names.proofs.Offences.{no_misfit, misfit_is_first}
+use Rattle.toml_names.proofs.Filtered.{rules_are_of_mentions}
 use Rattle.toml_names.proofs.laws.rules.Goals as goal
 
 pub returns-clause-none : goal.returns-clause-none
@@ -6,3 +7,6 @@ returns-clause-none c = no_misfit
 
 pub returns-clause-first : goal.returns-clause-first
 returns-clause-first c = misfit_is_first
+
+pub returns-clause-mentions : goal.returns-clause-mentions
+returns-clause-mentions c = rules_are_of_mentions
