@@ -187,34 +187,39 @@ fn arrays_and_inline_tables_have_their_pieces(rt: HostRuntime) -> Result<(), Fai
     let text = "a = [ 1 , # c\n { b.c =2}, ]";
     let source = Source::new(text.as_bytes()).map_err(|_| "no text")?;
     let doc = parse(rt.alloc(), source)?;
-    let Expr::KeyVal { keyval, .. } = doc.lines()[0].expr() else {
+    let first = doc.lines().first().ok_or("no line")?;
+    let Expr::KeyVal { keyval, .. } = first.expr() else {
         return Err(Fail::from("no pair"));
     };
     let Value::Array(array) = &keyval.value else {
         return Err(Fail::from("no array"));
     };
     assert_piece(&rt, array.whole, "[ 1 , # c\n { b.c =2}, ]", 4);
-    assert_eq!(rt; array.items.len(), 2);
-    assert_piece(&rt, array.items[0].before.ws, " ", 5);
-    assert_piece(&rt, array.items[0].after.ws, " ", 7);
-    let before = &array.items[1].before;
-    assert_piece(&rt, before.lines[0].blank.ws, " ", 9);
-    let comment = before.lines[0].blank.comment.ok_or("no comment")?;
-    assert_piece(&rt, comment, "# c", 10);
-    assert_piece(&rt, before.lines[0].newline, "\n", 13);
-    assert_piece(&rt, before.ws, " ", 14);
+    let [one, two] = array.items.as_slice() else {
+        return Err(Fail::from("not two items"));
+    };
+    assert_piece(&rt, one.before.ws, " ", 5);
+    assert_piece(&rt, one.after.ws, " ", 7);
+    let line = two.before.lines.first().ok_or("no line in the gap")?;
+    assert_piece(&rt, line.blank.ws, " ", 9);
+    assert_piece(&rt, line.blank.comment.ok_or("no comment")?, "# c", 10);
+    assert_piece(&rt, line.newline, "\n", 13);
+    assert_piece(&rt, two.before.ws, " ", 14);
     let end = array.end.as_ref().ok_or("no end")?;
     assert_piece(&rt, end.ws, " ", 25);
-    let Value::Inline(table) = &array.items[1].value else {
+    let Value::Inline(table) = &two.value else {
         return Err(Fail::from("no inline table"));
     };
     assert_piece(&rt, table.whole, "{ b.c =2}", 15);
     assert!(rt; table.ws.is_none());
-    assert_eq!(rt; table.pairs.len(), 1);
-    assert_piece(&rt, table.pairs[0].before, " ", 16);
-    assert_piece(&rt, table.pairs[0].after, "", 23);
-    let assign = &table.pairs[0].keyval.assign;
-    assert_piece(&rt, assign.key.rest[0].part, "c", 19);
+    let [pair] = table.pairs.as_slice() else {
+        return Err(Fail::from("not one pair"));
+    };
+    assert_piece(&rt, pair.before, " ", 16);
+    assert_piece(&rt, pair.after, "", 23);
+    let assign = &pair.keyval.assign;
+    let dotted = assign.key.rest.first().ok_or("no second part")?;
+    assert_piece(&rt, dotted.part, "c", 19);
     assert_piece(&rt, assign.before_equals, " ", 20);
     Ok(())
 }
@@ -224,16 +229,20 @@ fn headers_have_their_pieces(rt: HostRuntime) -> Result<(), Fail> {
     let text = " [ a.b ] # c\n[[d]]";
     let source = Source::new(text.as_bytes()).map_err(|_| "no text")?;
     let doc = parse(rt.alloc(), source)?;
-    let Expr::Std { ws, header, tail } = doc.lines()[0].expr() else {
+    let [one, two] = doc.lines() else {
+        return Err(Fail::from("not two lines"));
+    };
+    let Expr::Std { ws, header, tail } = one.expr() else {
         return Err(Fail::from("no header"));
     };
     assert_piece(&rt, *ws, " ", 0);
     assert_piece(&rt, header.before, " ", 2);
     assert_piece(&rt, header.key.first, "a", 3);
-    assert_piece(&rt, header.key.rest[0].part, "b", 5);
+    let dotted = header.key.rest.first().ok_or("no second part")?;
+    assert_piece(&rt, dotted.part, "b", 5);
     assert_piece(&rt, header.after, " ", 6);
     assert_piece(&rt, tail.comment.ok_or("no comment")?, "# c", 9);
-    let Expr::Array { header, .. } = doc.lines()[1].expr() else {
+    let Expr::Array { header, .. } = two.expr() else {
         return Err(Fail::from("no header of an array of tables"));
     };
     assert_piece(&rt, header.before, "", 15);
