@@ -127,21 +127,21 @@ fn lines_have_their_addresses(rt: HostRuntime) -> Result<(), Fail> {
     Ok(())
 }
 
+/// The line and the address of a refusal, if names are told again.
+fn redefined(fault: NameFault) -> Option<(usize, Address)> {
+    match fault {
+        NameFault::Redefined { line, address } => Some((line, address)),
+        _ => None,
+    }
+}
+
 #[test]
 fn the_first_offence_is_told(rt: HostRuntime) -> Result<(), Fail> {
     let doc = doc(rt.alloc(), "[a]\nb = {c = 1}\n[a.b.d]\n[a]")?;
-    match read_names(rt.alloc(), &doc) {
-        Err(
-            NameFault::Redefined {
-                line,
-                address: found,
-            },
-        ) => {
-            assert_eq!(rt; line, 2);
-            let at = address(rt.alloc(), &[Key("a"), Key("b")])?;
-            assert!(rt; found.is_same(&at));
-        }
-        _ => assert!(rt; false),
-    }
+    let fault = read_names(rt.alloc(), &doc).err().ok_or("no fault")?;
+    let (line, found) = redefined(fault).ok_or("another fault")?;
+    assert_eq!(rt; line, 2);
+    let at = address(rt.alloc(), &[Key("a"), Key("b")])?;
+    assert!(rt; found.is_same(&at));
     Ok(())
 }
