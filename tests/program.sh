@@ -32,14 +32,18 @@ printf 'a = 1\n' >good.toml
 printf 'a = 1\na = 2\n' >twice.toml
 run 0 ok - check good.toml
 run 1 - 'refused 201 2' check twice.toml
+run 0 '{"a":{"type":"integer","value":"1"}}' - show good.toml
+run 1 - 'refused 201 2' show twice.toml
 run 2 - 'error:'
 run 2 - 'error:' check
+run 2 - 'error:' show
 run 2 - 'error:' check good.toml twice.toml
 run 2 - 'error:' unknown good.toml
 run 2 - 'error:' check --unknown good.toml
 run 3 - 'file fault' check missing.toml
 run 3 - 'file fault' check .
 run 0 'Reads and edits TOML documents' - --help
+run 0 'Prints the data of a TOML document' - show --help
 run 0 'Says whether a file is a TOML document' - check --help
 [ "$failed" -eq 0 ] && echo 'all passed'
 exit "$failed"

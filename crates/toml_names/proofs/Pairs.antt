@@ -6,13 +6,13 @@ use Rattle.std.proofs.lemmas.List.Sums.{AllPass-from_list_all, list_all-from_All
 use Rattle.toml_names.specs.Mentions.{Named}
 use Rattle.toml_names.specs.Addresses.{same_address}
 use Rattle.toml_names.specs.Rules.{may_follow, fits, misfit, KeepsRules}
-use Rattle.toml_names.proofs.Same.{same_address-equal, same_address-self}
+use Rattle.toml_names.proofs.Equal.{same_address-equal, same_address-self}
 use Rattle.toml_names.proofs.Misfits.{misfit-later, fits-from_misfit}
 
 abbrev goes : Named → Named → Bool
 goes e m = not (same_address e.address m.address) || may_follow e.role m.role
 
-abbrev Goes : Named → Named → Type 0
+abbrev pub Goes : Named → Named → Type 0
 Goes e m = e.address ≡ m.address → may_follow e.role m.role ≡ true
 
 goes-Goes : (e m : Named) → goes e m ≡ true → Goes e m
@@ -25,7 +25,7 @@ Goes-goes e m h = by (same_address e.address m.address) refl
     by true same = h (same_address-equal e.address m.address same)
     by false apart = refl
 
-at_each : (ms : List Named) (m : Named) → fits ms m ≡ true → (k : ℕ) (d : Named) → k < length ms → Goes (get_or ms k d) m
+pub at_each : (ms : List Named) (m : Named) → fits ms m ≡ true → (k : ℕ) (d : Named) → k < length ms → Goes (get_or ms k d) m
 at_each ms m good k d low = goes-Goes (get_or ms k d) m (AllPass-from_list_all (λ e. goes e m) ms good k d low)
 
 pub KeepsRules-nil : KeepsRules []

@@ -29,6 +29,10 @@ abbrev pub below : Address → List (List ℕ) → Address
 below at key = at ++ map Name key
 
 -- the first address is a beginning of the second, and shorter
+abbrev pub IsAbove : Address → Address → Type 0
+IsAbove a b = (s : Step) × (rest : Address) × (b ≡ a ++ s ∷ rest)
+
+-- the plain function
 abbrev pub is_above : Address → Address → Bool
 is_above [] [] = false
 is_above [] (t ∷ other) = true
@@ -38,3 +42,6 @@ is_above (s ∷ at) (t ∷ other) = same_step s t && is_above at other
 -- Law: addresses that are the same are equal, and equal ones the same.
 abbrev pub SameIsEqual : Type 0
 SameIsEqual = (a b : Address) → (same_address a b ≡ true) ↔ (a ≡ b)
+
+abbrev pub AboveIsAbove : Type 0
+AboveIsAbove = (a b : Address) → (is_above a b ≡ true) ↔ IsAbove a b

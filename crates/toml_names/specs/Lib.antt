@@ -5,3 +5,8 @@ pub mod Rules
 pub mod View
 pub mod Names
 pub mod Places
+pub mod Data
+pub mod Joining
+pub mod Values
+pub mod Building
+pub mod Local

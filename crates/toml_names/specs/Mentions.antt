@@ -134,6 +134,10 @@ root = table_at 0 Bare []
 abbrev pub named : List Line → List Named
 named = named_from (root ∷ []) 0
 
+-- what a value alone names: itself, at the root, and what stands in it
+abbrev pub value_facts : Value → List Named
+value_facts v = value_named 0 Valued [] v ∷ inside 0 [] v
+
 abbrev pub is_mention : Named → Bool
 is_mention m = elim m.role [ Bare ↦ false | _ ↦ true ]
 

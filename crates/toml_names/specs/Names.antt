@@ -1,12 +1,13 @@
 -- What the reading of a document's names answers.
-use Rattle.std.specs.Prelude.{◌≡◌, ◌<◌, ◌+◌, ◌++◌, ℕ, Bool, true, false, ◌&&◌, ◌==◌, if◌then◌else◌, List, [], ◌∷◌, length, take, Option, Some, None, Result, Ok, Err}
-use Rattle.toml_tree.specs.Tree.{Expr, Line}
+use Rattle.std.specs.Prelude.{◌≡◌, ◌<◌, ◌≤◌, ◌+◌, ◌++◌, ℕ, Bool, true, false, ◌&&◌, ◌==◌, if◌then◌else◌, List, [], ◌∷◌, length, take, Option, Some, None, Result, Ok, Err}
+use Rattle.toml_tree.specs.Tree.{Expr, BlankLine, KeyValLine, TableLine, ArrayTableLine, Line}
 use Rattle.toml_names.specs.declared.fault.NameFault.{NameFault}
 use Rattle.toml_names.specs.declared.fault.NameFault.TheVariants as faults
 use Rattle.toml_names.specs.declared.named.Role.{Role}
 use Rattle.toml_names.specs.declared.named.Role.TheVariants.{Header, Valued, Element}
-use Rattle.toml_names.specs.Addresses.{Address}
-use Rattle.toml_names.specs.Mentions.{Named, named, named_by, section}
+use Rattle.toml_names.specs.Addresses.{Address, child, element, below}
+use Rattle.toml_names.specs.Keys.{Key, key_names}
+use Rattle.toml_names.specs.Mentions.{Named, named, named_by, section, entered, count_tables}
 use Rattle.toml_names.specs.Rules.{KeepsRules, IsShort, IsFirstOffence, misfit}
 
 -- the mentions of lines keep the table rules, and no address has more than 100 steps
@@ -46,6 +47,20 @@ pub record IsTaken (old new : List Named) (line : ℕ) (e : Expr) (at : Address)
   pub list : new ≡ old ++ named_by old line e
   pub table : at ≡ section new
 
+-- where a header's key ends, followed from the address
+abbrev pub header_end : List Named → Address → Key → Address
+header_end earlier at [] = at
+header_end earlier at (n ∷ []) = child at n
+header_end earlier at (n ∷ m ∷ more) = header_end earlier (entered earlier (child at n)) (m ∷ more)
+
+-- the address of what an expression stands for, after the lines before it: its value, its table, its element; a blank line has none
+abbrev pub own_address : List Named → Expr → Option Address
+own_address earlier (BlankLine b) = None
+own_address earlier (KeyValLine ws pair tail) = Some (below (section earlier) (key_names pair.assign.key))
+own_address earlier (TableLine ws header tail) = Some (header_end earlier [] (key_names header.key))
+own_address earlier (ArrayTableLine ws header tail) =
+    let at = header_end earlier [] (key_names header.key) in Some (element at (count_tables earlier at))
+
 -- the role in which a line mentions what it stands for
 abbrev pub is_own : Role → Bool
 is_own Header = true
@@ -53,10 +68,17 @@ is_own Valued = true
 is_own Element = true
 is_own _ = false
 
--- the address of a line's value, table or element: that of its first mention in such a role
+-- the plain function: the address of the line's first mention in such a role
 abbrev pub line_address : List Named → ℕ → Option Address
 line_address [] line = None
 line_address (m ∷ ms) line = if m.line == line && is_own m.role then Some m.address else line_address ms line
+
+-- Laws: it is that of what the line's expression stands for, and there is none behind the last line.
+abbrev pub LineAddresses : Type 0
+LineAddresses = (before behind : List Line) (l : Line) → line_address (named (before ++ l ∷ behind)) (length before) ≡ own_address (named before) l.expr
+
+abbrev pub NoLineAddress : Type 0
+NoLineAddress = (lines : List Line) (line : ℕ) → length lines ≤ line → line_address (named lines) line ≡ None
 
 -- Law: lines of which the names are refused, memory aside, are not good.
 abbrev pub RefusedAreBad : Type 0

@@ -69,6 +69,13 @@ impl Address {
         }
     }
 
+    /// The address with these steps. It takes no memory.
+    pub fn of(steps: Vec<Step>) -> Address
+        ensures { result ≡ steps.items }
+    {
+        Address { steps }
+    }
+
     /// An address of its own that is the same.
     pub fn copy(&self, alloc: Global) -> Result<Address, AllocError>
         ensures { IfOk result (λ a. a ≡ self.now) }

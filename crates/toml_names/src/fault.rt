@@ -1,5 +1,6 @@
 ghost use Rattle.std.specs.Prelude.{◌≡◌};
-ghost use Rattle.toml_names.specs.declared.fault.NameFault.TheVariants.{NoMemory};
+ghost use Rattle.toml_names.specs.declared.fault.NameFault.TheVariants as names;
+ghost use Rattle.toml_names.specs.declared.fault.ValueFault.TheVariants as values;
 
 use crate::address::Address;
 use std::alloc::{AllocError, AllocFailed};
@@ -16,7 +17,7 @@ pub enum NameFault {
 }
 
 impl From<AllocError> for NameFault {
-    ghost from_gives = { λ _ e. e ≡ NoMemory };
+    ghost from_gives = { λ _ e. e ≡ names.NoMemory };
 
     fn from(_: AllocError) -> NameFault {
         NameFault::NoMemory
@@ -24,9 +25,28 @@ impl From<AllocError> for NameFault {
 }
 
 impl<T: Drop> From<AllocFailed<T>> for NameFault {
-    ghost from_gives = { λ _ e. e ≡ NoMemory };
+    ghost from_gives = { λ _ e. e ≡ names.NoMemory };
 
     fn from(_: AllocFailed<T>) -> NameFault {
         NameFault::NoMemory
+    }
+}
+
+/// Why the data of a value are refused.
+#[derive(Debug, Clone, Copy, PartialEq, Eq)]
+pub enum ValueFault {
+    /// The mentions inside it break the table rules.
+    Rules,
+    /// They keep the rules, and an address counted from the value has more than 100 steps.
+    Long,
+    /// A growth was refused.
+    NoMemory,
+}
+
+impl From<AllocError> for ValueFault {
+    ghost from_gives = { λ _ e. e ≡ values.NoMemory };
+
+    fn from(_: AllocError) -> ValueFault {
+        ValueFault::NoMemory
     }
 }

@@ -1,11 +1,16 @@
 //! Laws over the definitions: nothing is run.
-ghost use Rattle.toml_names.specs.Addresses.{SameIsEqual};
-ghost use Rattle.toml_names.specs.Names.{RefusedAreBad};
+ghost use Rattle.toml_names.specs.Addresses.{SameIsEqual, AboveIsAbove};
+ghost use Rattle.toml_names.specs.Joining.{LinesJoin, ValuesJoin, OneKind, FirstIsData, ValuesStandAlone};
+ghost use Rattle.toml_names.specs.Local.{LastRoleDecides};
+ghost use Rattle.toml_names.specs.Names.{RefusedAreBad, LineAddresses, NoLineAddress};
+ghost use Rattle.toml_names.specs.Places.{PlacesAreFound, NoPlace};
 ghost use Rattle.toml_names.specs.Rules.{NoMisfit, MisfitIsFirst, RulesAreOfMentions};
 
-/// Addresses that are the same are equal, and equal ones the same.
+/// Addresses that are the same are equal, and equal ones the same; an address is above those of which it is a
+/// beginning.
 pub fn addresses()
-    ensures { SameIsEqual }
+    ensures same { SameIsEqual }
+    ensures above { AboveIsAbove }
 {}
 
 /// Mentions keep the table rules exactly where no misfit is found among them, and what is found is the first
@@ -19,4 +24,31 @@ pub fn rules()
 /// Lines of which the names are refused, memory aside, are not good.
 pub fn refusals()
     ensures { RefusedAreBad }
+{}
+
+/// The address of a line is that of what its expression stands for; behind the last line there is none.
+pub fn line_addresses()
+    ensures of_lines { LineAddresses }
+    ensures behind { NoLineAddress }
+{}
+
+/// Where a thing stands is read off the mentions of its address; what has no place is not named.
+pub fn places()
+    ensures found { PlacesAreFound }
+    ensures none { NoPlace }
+{}
+
+/// Under the rules each thing that lines or a value name joins those before it. So what is named at one address is of
+/// one kind, the first kind at each address is the data, and values stand alone.
+pub fn data()
+    ensures lines { LinesJoin }
+    ensures values { ValuesJoin }
+    ensures kinds { OneKind }
+    ensures first { FirstIsData }
+    ensures alone { ValuesStandAlone }
+{}
+
+/// Under the rules a mention goes with each earlier one exactly where the last role at its address allows it.
+pub fn last_roles()
+    ensures { LastRoleDecides }
 {}

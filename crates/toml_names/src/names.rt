@@ -1,28 +1,53 @@
 ghost use Rattle.std.specs.Prelude.{◌≡◌, [], option_map, IfOk, IfErr};
 ghost use Rattle.toml_tree.specs.Document.{document};
 ghost use Rattle.toml_tree.specs.Lines.{line as tree_line};
+ghost use Rattle.toml_names.specs.Data.{IsDataOf, kind_at};
 ghost use Rattle.toml_names.specs.Mentions.{named as named_of, named_by, section};
 ghost use Rattle.toml_names.specs.Names.{AreGood, RefusesNames, Judges, IsTaken, is_own, line_address};
 ghost use Rattle.toml_names.specs.View.{all_named};
 
 use crate::address::Address;
+use crate::building::datum_of;
+use crate::datum::Data;
 use crate::fault::NameFault;
 use crate::named::{Kind, Named, Role};
 use crate::naming::{name_line, section_after};
 use crate::rules::{are_short, first_misfit};
 use std::alloc::{AllocError, Global};
+use std::marker::Model;
 use toml_tree::{Doc, Line};
 
-/// The names of a document: all that its lines mention, in text order.
+/// The names of a document. Contracts see them as the list of all that its lines name, in text order.
 #[derive(Drop)]
 pub struct Names<'t> {
     pub(crate) named: Vec<Named<'t>>,
+    data: Data,
+}
+
+impl<'t> Model for Names<'t> {
+    ghost use Rattle.std.specs.Prelude.{List};
+    ghost use Rattle.toml_names.specs.Data.{IsDataOf, kind_at};
+    ghost use Rattle.toml_names.specs.Mentions as mentions;
+    ghost use Rattle.toml_names.specs.View.{all_named};
+
+    ghost Value = { List mentions.Named };
+
+    ghost view = { λ names. all_named names.named.items };
+
+    ghost invariant = { λ names. IsDataOf (all_named names.named.items) (kind_at names.«data».root) };
 }
 
 impl Names<'_> {
+    /// The data of the document: what its lines name, each at its address.
+    pub fn data(&self) -> &Data
+        ensures { IsDataOf self.now (kind_at result.now.root) }
+    {
+        &self.data
+    }
+
     /// The address of a line's value, table or element; none for a blank line. Lines are counted from 0.
     pub fn address_of(&self, line: usize) -> Option<&Address>
-        ensures { option_map (λ a. a.now) result ≡ line_address (all_named self.now.named.items) line }
+        ensures { option_map (λ a. a.now) result ≡ line_address self.now line }
     {
         for mention in &self.named {
             if mention.line == line && is_own(mention.role) {
@@ -48,7 +73,7 @@ fn is_own(role: Role) -> bool
 /// first.
 pub fn read_names<'t>(alloc: Global, doc: &Doc<'t>) -> Result<Names<'t>, NameFault>
     ensures good { IfOk result (λ names. AreGood (document doc.now).lines) }
-    ensures named { IfOk result (λ names. all_named names.named.items ≡ named_of (document doc.now).lines) }
+    ensures named { IfOk result (λ names. names ≡ named_of (document doc.now).lines) }
     ensures refused { IfErr result (RefusesNames (document doc.now).lines) }
 {
     let mut named = root(alloc)?;
@@ -56,7 +81,11 @@ pub fn read_names<'t>(alloc: Global, doc: &Doc<'t>) -> Result<Names<'t>, NameFau
     for (number, line) in doc.lines().iter().enumerate() {
         section = take_line(alloc, &mut named, section, number, line)?;
     }
-    Ok(Names { named })
+    let root = datum_of(alloc, &named)?;
+    Ok(Names {
+        named,
+        data: Data { root },
+    })
 }
 
 /// The list with the root alone.

@@ -85,7 +85,7 @@ fn name_key<'t>(
 
 /// Adds a value at the address in a role, and what it names inside it.
 #[cycle(inside)]
-fn name_value<'t>(
+pub fn name_value<'t>(
     alloc: Global,
     names: &mut Vec<Named<'t>>,
     number: usize,

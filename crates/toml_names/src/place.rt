@@ -29,11 +29,10 @@ pub enum Place {
 impl Names<'_> {
     ghost use Rattle.std.specs.Prelude.{◌≡◌};
     ghost use Rattle.toml_names.specs.Places.{place};
-    ghost use Rattle.toml_names.specs.View.{all_named};
 
     /// Where what stands at the address stands in the text; none where the data have nothing there.
     pub fn place(&self, at: &Address) -> Option<Place>
-        ensures { result ≡ place (all_named self.now.named.items) at.now }
+        ensures { result ≡ place self.now at.now }
     {
         if at.steps().is_empty() {
             return Some(Place::Root);

@@ -38,7 +38,7 @@ fn fits(earlier: &[Named<'_>], mention: &Named<'_>) -> bool
 }
 
 /// The address of the first mention that does not go with the earlier ones and those before it.
-pub fn first_misfit<'n, 't>(earlier: &[Named<'t>], new: &'n [Named<'t>]) -> Option<&'n Address>
+pub fn first_misfit<'n, 't>(earlier: &[Named<'_>], new: &'n [Named<'t>]) -> Option<&'n Address>
     ensures { option_map (λ a. a.now) result ≡ misfit (all_named earlier.now) (all_named new.now) }
 {
     for (index, mention) in new.iter().enumerate() {

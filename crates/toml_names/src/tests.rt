@@ -1,6 +1,9 @@
-use crate::{Address, Name, NameFault, Place, read_names};
+use crate::datum::{add_member, same};
+use crate::{Address, Data, Datum, Name, NameFault, Place, read_names};
 use std::alloc::Global;
+use std::collections::BTreeMap;
 use std::test::Fail;
+use toml_scalar::{ScalarKind, scalar_of};
 use toml_text::Source;
 use toml_tree::{Doc, parse};
 
@@ -143,5 +146,78 @@ fn the_first_offence_is_told(rt: HostRuntime) -> Result<(), Fail> {
     assert_eq!(rt; line, 2);
     let at = address(rt.alloc(), &[Key("a"), Key("b")])?;
     assert!(rt; found.is_same(&at));
+    Ok(())
+}
+
+fn scalar(alloc: Global, kind: ScalarKind, token: &str) -> Result<Datum, Fail> {
+    let value = scalar_of(alloc, kind, token)?.ok_or("no token")?;
+    Ok(Datum::Scalar(value))
+}
+
+/// `list = [1, {text = 'x'}]`, and a float's token as `number`.
+fn sample(alloc: Global, float: &str) -> Result<Datum, Fail> {
+    let mut inner = BTreeMap::new(alloc);
+    let text = scalar(alloc, ScalarKind::Text, "'x'")?;
+    add_member(alloc, &mut inner, "text", text)?;
+    let mut list = Vec::new(alloc);
+    list.push(scalar(alloc, ScalarKind::Integer, "1")?)?;
+    list.push(Datum::Table(inner))?;
+    let mut members = BTreeMap::new(alloc);
+    add_member(alloc, &mut members, "list", Datum::Array(list))?;
+    let number = scalar(alloc, ScalarKind::Float, float)?;
+    add_member(alloc, &mut members, "number", number)?;
+    Ok(Datum::Table(members))
+}
+
+#[test]
+fn parts_have_their_addresses(rt: HostRuntime) -> Result<(), Fail> {
+    let data = sample(rt.alloc(), "1.0")?;
+    let rows: [(&[At], bool); 9] = [
+        (&[], true),
+        (&[Key("list")], true),
+        (&[Key("list"), Index(0)], true),
+        (&[Key("list"), Index(0), Index(0)], false),
+        (&[Key("list"), Index(1), Key("text")], true),
+        (&[Key("list"), Index(1), Key("text"), Key("x")], false),
+        (&[Key("list"), Index(2)], false),
+        (&[Key("list"), Key("text")], false),
+        (&[Key("text")], false),
+    ];
+    for (steps, wanted) in rows {
+        let at = address(rt.alloc(), steps)?;
+        assert_eq!(rt; data.at(&at).is_some(), wanted);
+    }
+    let at = address(rt.alloc(), &[Key("number")])?;
+    let number = data.at(&at).ok_or("no number")?;
+    let wanted = scalar(rt.alloc(), ScalarKind::Float, "1.0")?;
+    assert!(rt; same(number, &wanted));
+    Ok(())
+}
+
+#[test]
+fn floats_are_the_same_as_they_are_spelled(rt: HostRuntime) -> Result<(), Fail> {
+    let one = sample(rt.alloc(), "1.0")?;
+    let again = sample(rt.alloc(), "+1.0")?;
+    let other = sample(rt.alloc(), "1.00")?;
+    assert!(rt; same(&one, &again));
+    assert!(rt; !same(&one, &other));
+    assert!(rt; !same(&one, &Datum::Table(BTreeMap::new(rt.alloc()))));
+    assert!(rt; !same(&Datum::Table(BTreeMap::new(rt.alloc())), &one));
+    assert!(rt;
+        !same(
+            &Datum::Table(BTreeMap::new(rt.alloc())),
+            &Datum::Array(Vec::new(rt.alloc()))
+        )
+    );
+    Ok(())
+}
+
+#[test]
+fn copies_are_the_same(rt: HostRuntime) -> Result<(), Fail> {
+    let data = Data {
+        root: sample(rt.alloc(), "1.0")?,
+    };
+    let copy = data.copy(rt.alloc())?;
+    assert!(rt; same(&data.root, &copy.root));
     Ok(())
 }

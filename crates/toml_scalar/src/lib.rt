@@ -20,7 +20,7 @@ mod strings;
 pub use fault::SyntaxFault;
 pub use kind::{MomentKind, ScalarKind};
 pub use names::{name_of, read_key};
-pub use read::read_scalar;
+pub use read::{read_scalar, scalar_of};
 pub use scalar::{FloatText, Moment, Scalar, is_same};
 pub use scan::{begins_key, begins_scalar, scan_key, scan_scalar};
 pub use spelling::spell_key;

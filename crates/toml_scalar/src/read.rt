@@ -32,14 +32,14 @@ pub fn read_scalar(
     ensures memory { IfErr result (λ fault. fault ≡ NoMemory → TakesMemory kind) }
 {
     let run = source.slice(span);
-    match read_kind(alloc, run, kind)? {
+    match scalar_of(alloc, kind, run)? {
         Some(scalar) => Ok(scalar),
         None => Err(value_fault(kind, run.as_bytes(), span.start)),
     }
 }
 
-/// The value of a text, if it is a token of the kind.
-fn read_kind(alloc: Global, run: &str, kind: ScalarKind) -> Result<Option<Scalar>, AllocError>
+/// The value of a text, if it is a token of the kind. An integer or a boolean takes no memory.
+pub fn scalar_of(alloc: Global, kind: ScalarKind, run: &str) -> Result<Option<Scalar>, AllocError>
     ensures value { Reads (scalar_of kind run.now) result }
     ensures memory { IfErr result (λ _. TakesMemory kind) }
 {

@@ -1,6 +1,8 @@
 -- Why bytes that were refused are no document, and bytes that were not are one.
 use Rattle.std.proofs.Common.{◌≡◌, ◌≤◌, ℕ, ◌+◌, List, length, Option, sym, subst, arith, inl, inr}
-use Rattle.std.specs.Prelude.{IfSome}
+use Rattle.std.proofs.lemmas.Result.{IfOk-weaker}
+use Rattle.std.specs.Prelude.{IfOk, IfSome, Result}
+use Rattle.std.specs.declared.alloc.AllocError.{AllocError}
 use Rattle.std.specs.Str.{IsValidUpTo}
 use Rattle.std.proofs.lemmas.Str.{IsUtf8-from_is_utf8}
 use Rattle.toml_text.specs.Limit.{IsText, max_len}
@@ -13,14 +15,19 @@ use Rattle.toml_tree.specs.Document as trees
 use Rattle.toml_tree.specs.Spells.{Spells, SpelledByNone}
 use Rattle.toml_tree.specs.Tree.{Doc}
 use Rattle.toml_tree.proofs.Exact.{one_tree}
-use Rattle.tomled.specs.Check.{IsTextRefusal, IsSyntaxRefusal, code_of}
+use Rattle.tomled.specs.Outcomes.{Refuses, Tells}
+use Rattle.tomled.specs.Reading.{AreNamesOf, IsTextRefusal, IsSyntaxRefusal, code_of}
 use Rattle.tomled.specs.Documents.{IsDocument}
 use Rattle.toml_names.specs.Addresses.{Address}
 use Rattle.toml_names.specs.Names.{AreGood, IsRedefined, IsLong, RefusesNames}
 use Rattle.toml_names.specs.declared.fault.NameFault.{NameFault}
 use Rattle.toml_names.specs.declared.fault.NameFault.TheVariants as names
+use Rattle.toml_names.specs.Data.{Kinds, IsDataOf}
+use Rattle.toml_names.specs.Mentions.{Named}
 use Rattle.toml_names.proofs.Refused.{refused_are_bad}
+use Rattle.tomled.specs.Show.{IsLineOf, ShowsData}
 use Rattle.tomled.specs.Refusals.{IsRefusalOf, IsSyntaxCode}
+use Rattle.tomled.specs.declared.outcome.Outcome.{Outcome}
 use Rattle.tomled.specs.declared.refusal.Refusal.{Refusal}
 
 abbrev pub IsRefused : List ℕ → Refusal → Type 0
@@ -70,3 +77,20 @@ too_long bytes d line r text spelled long code place = (
   no_names bytes d (names.LongAddress line) spelled long (λ e. cc),
   inr (inr (inr (inr (code, text, d, line, place, spelled, long)))),
 )
+
+pub document_of : (bytes : List ℕ) (names : List Named) → AreNamesOf bytes names → IsDocument bytes
+document_of bytes names h = (h.text, h.doc, h.spelled, h.good)
+
+pub refuses : (bytes : List ℕ) (r : Refusal) (result : Result Outcome AllocError) → IsRefused bytes r → IfOk result (Tells r) → IfOk result (Refuses bytes)
+refuses bytes r result refused = IfOk-weaker result (Tells r) (Refuses bytes) (λ o tells. (refused.0, r, refused.1, tells))
+
+pub shown : (bytes line : List ℕ) (names : List Named) (kinds : Kinds) → AreNamesOf bytes names → IsDataOf names kinds → IsLineOf kinds line → ShowsData bytes line
+shown bytes line names kinds read facts told = record {
+  text = read.text;
+  doc = read.doc;
+  spelled = read.spelled;
+  good = read.good;
+  kinds = kinds;
+  facts = subst (λ (ms : List Named). IsDataOf ms kinds) read.all facts;
+  shown = told;
+}

@@ -1,2 +1,6 @@
 pub mod Appended
 pub mod Judged
+pub mod Tagging
+pub mod Built
+pub mod Texts
+pub mod Unique

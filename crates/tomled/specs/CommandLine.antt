@@ -9,6 +9,10 @@ use Rattle.clap.specs.declared.builder.command.Command.TheViews.{out-Command}
 abbrev pub required_argument : Text → Rule
 required_argument name = record (new_rule name) { required = true }
 
+-- `show FILE`
+abbrev pub show : App
+show = with_rule (new_app (codes "show")) (required_argument (codes "FILE"))
+
 -- `check FILE`
 abbrev pub check : App
 check = with_rule (new_app (codes "check")) (required_argument (codes "FILE"))
@@ -19,7 +23,7 @@ root = on_top (λ shape. record shape { subcommand_required = true }) (new_app (
 
 -- the whole command line
 unfoldable pub tool : App
-tool = with_subcommand root check.top
+tool = with_subcommand (with_subcommand root show.top) check.top
 
 -- a parse reads this definition of the command, which has no global argument
 pub record IsDefined (app : App) (command : Command) : Type 0 where

@@ -3,4 +3,8 @@ pub mod Counts
 pub mod Request
 pub mod Documents
 pub mod Refusals
+pub mod Outcomes
+pub mod Reading
 pub mod Check
+pub mod Tagged
+pub mod Show

@@ -6,25 +6,31 @@ use Rattle.clap.specs.Words.{Row, Text, fault_of, first_of, kind_of, subcommand_
 use Rattle.clap.specs.declared.error.kind.ErrorKind.TheVariants.{OutOfMemory}
 use Rattle.tomled.specs.CommandLine.{tool}
 use Rattle.tomled.specs.declared.words.Request.{Request}
-use Rattle.tomled.specs.declared.words.Request.TheVariants.{Check}
+use Rattle.tomled.specs.declared.words.Request.TheVariants.{Show, Check}
 use Rattle.tomled.specs.declared.words.WordsFault.{WordsFault}
 use Rattle.tomled.specs.declared.words.WordsFault.TheVariants.{Parser, Missing}
 
 -- a request, with texts in place of references to them
 pub data Asked : Type 0 where
+  show : (file : Text) → Asked
   check : (file : Text) → Asked
 
 -- what a request asks
 abbrev pub asked_by : Request → Asked
+asked_by (Show file) = show file.now
 asked_by (Check file) = check file.now
 
--- what `check` asks with these values: each path is the first value of its argument
+-- what `show` asks with these values: each path is the first value of its argument
+abbrev pub show_of : List Row → Option Asked
+show_of rows = option_map show (first_of (codes "FILE") rows)
+
+-- what `check` asks with these values
 abbrev pub check_of : List Row → Option Asked
 check_of rows = option_map check (first_of (codes "FILE") rows)
 
 -- what a subcommand asks by its name and its values, or nothing where a path has no value
 abbrev pub asked_of : Text × List Row → Option Asked
-asked_of met = if bytes_eq met.0 (codes "check") then check_of met.1 else None
+asked_of met = if bytes_eq met.0 (codes "show") then show_of met.1 else (if bytes_eq met.0 (codes "check") then check_of met.1 else None)
 
 -- what the subcommand asks that the definition gives for the words
 abbrev pub asked_in : List Text → Option Asked

@@ -2,9 +2,13 @@
 #![tactic(auto)]
 
 mod check;
+mod document;
+pub mod laws;
 mod outcome;
 mod output;
 mod refusal;
+mod show;
+mod tagged;
 #[cfg(test)]
 mod tests;
 mod words;
@@ -13,6 +17,7 @@ use check::run_check;
 use clap::error::ErrorKind;
 use outcome::Outcome;
 use output::{Counting, emit};
+use show::run_show;
 use std::alloc::{AllocError, Global};
 use std::fs::File;
 use std::io::{Read, Write};
@@ -83,6 +88,10 @@ fn run<R: Env + Files + AllocGlobal>(rt: &R) -> Result<Outcome, RunFault> {
     let owned = arguments(rt)?;
     let words: Vec<&str> = owned.iter().map(|word| word.as_str()).collect(rt.alloc())?;
     match read_words(rt.alloc(), words.as_slice()) {
+        Ok(Request::Show { file }) => {
+            let bytes = read_file(rt, file)?;
+            Ok(run_show(rt.alloc(), bytes.as_slice())?)
+        }
         Ok(Request::Check { file }) => {
             let bytes = read_file(rt, file)?;
             Ok(run_check(rt.alloc(), bytes.as_slice())?)

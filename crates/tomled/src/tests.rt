@@ -1,8 +1,9 @@
-//! The worked rows: what `check` prints for a text.
+//! The worked rows: what `check` and `show` print for a text.
 
 use crate::check::run_check;
 use crate::outcome::Outcome;
 use crate::refusal::Refusal;
+use crate::show::run_show;
 use std::alloc::{AllocError, Global};
 use std::process::Abort;
 use std::test::Fail;
@@ -31,6 +32,16 @@ fn assert_refused(
     for (text, code, place) in rows {
         let line = format!(in alloc; "refused {code} {place}\n")?;
         assert_outcome(rt, &run_check(alloc, text)?, 1, "", line.as_str());
+        assert_outcome(rt, &run_show(alloc, text)?, 1, "", line.as_str());
+    }
+    Ok(())
+}
+
+/// Each text is a document with these data.
+fn assert_shown(rt: &impl Abort, alloc: Global, rows: &[(&[u8], &str)]) -> Result<(), AllocError> {
+    for (text, json) in rows {
+        let line = format!(in alloc; "{json}\n")?;
+        assert_outcome(rt, &run_show(alloc, text)?, 0, line.as_str(), "");
     }
     Ok(())
 }
@@ -313,6 +324,105 @@ fn the_limit(rt: HostRuntime) -> Result<(), Fail> {
     assert_refused(&rt, rt.alloc(), &[(text.as_slice(), 102, 16_777_216)])?;
     let _ = text.pop();
     assert_ok(&rt, rt.alloc(), &[text.as_slice()])?;
+    Ok(())
+}
+
+#[test]
+fn data_shown(rt: HostRuntime) -> Result<(), Fail> {
+    let rows: [(&[u8], &str); 11] = [
+        (b"", "{}"),
+        (
+            b"3.14 = 0xdead_beef\n",
+            r#"{"3":{"14":{"type":"integer","value":"3735928559"}}}"#,
+        ),
+        (
+            b"a = \"\"\"\"x\"\"\"\"\"",
+            r#"{"a":{"type":"string","value":"\"x\"\""}}"#,
+        ),
+        (
+            b"a = \"\"\"\r\nb\\ \r\n\r\n  c\"\"\"",
+            r#"{"a":{"type":"string","value":"bc"}}"#,
+        ),
+        (
+            b"[[a]]\n[a.b]\n[[a]]\n[a.b]\n",
+            r#"{"a":[{"b":{}},{"b":{}}]}"#,
+        ),
+        (
+            b"f = +6.626_0E-34\nd = 1979-05-27 07:32:00.50z\n",
+            r#"{"d":{"type":"datetime","value":"1979-05-27T07:32:00.50Z"},"f":{"type":"float","value":"6.6260e-34"}}"#,
+        ),
+        (
+            b"[[a.b]]\n[a]\nc = 1",
+            r#"{"a":{"b":[{}],"c":{"type":"integer","value":"1"}}}"#,
+        ),
+        (
+            b"b = [[], [-1]]\na = {\"\" = {}}",
+            r#"{"a":{"":{}},"b":[[],[{"type":"integer","value":"-1"}]]}"#,
+        ),
+        (
+            b"ab = true\na = false",
+            r#"{"a":{"type":"bool","value":"false"},"ab":{"type":"bool","value":"true"}}"#,
+        ),
+        (
+            b"type = \"integer\"\nvalue = \"1\"",
+            r#"{"type":{"type":"string","value":"integer"},"value":{"type":"string","value":"1"}}"#,
+        ),
+        (
+            "\"\\t\\\"\" = 'é\u{2028}'".as_bytes(),
+            "{\"\\t\\\"\":{\"type\":\"string\",\"value\":\"é\u{2028}\"}}",
+        ),
+    ];
+    assert_shown(&rt, rt.alloc(), &rows)?;
+    Ok(())
+}
+
+#[test]
+fn scalars_shown(rt: HostRuntime) -> Result<(), Fail> {
+    let rows: [(&str, &str, &str); 16] = [
+        ("0o17", "integer", "15"),
+        ("0b1_0", "integer", "2"),
+        ("0x7fffffffffffffff", "integer", "9223372036854775807"),
+        ("-9223372036854775808", "integer", "-9223372036854775808"),
+        ("-0", "integer", "0"),
+        ("1e06", "float", "1e06"),
+        ("+1E+2", "float", "1e+2"),
+        ("-0.0", "float", "-0.0"),
+        ("+inf", "float", "inf"),
+        ("-nan", "float", "nan"),
+        ("0000-02-29", "date-local", "0000-02-29"),
+        ("23:59:60", "time-local", "23:59:60"),
+        (
+            "1979-05-27 07:32:00",
+            "datetime-local",
+            "1979-05-27T07:32:00",
+        ),
+        (
+            "1979-05-27t07:32:00.5+23:59",
+            "datetime",
+            "1979-05-27T07:32:00.5+23:59",
+        ),
+        ("'x'", "string", "x"),
+        ("true", "bool", "true"),
+    ];
+    for (value, tag, text) in rows {
+        let document = format!(in rt.alloc(); "a = {value}")?;
+        let json = format!(in rt.alloc(); r#"{{"a":{{"type":"{tag}","value":"{text}"}}}}"#)?;
+        assert_shown(&rt, rt.alloc(), &[(document.as_bytes(), json.as_str())])?;
+    }
+    Ok(())
+}
+
+/// As deep as values may nest, with the data of each level told.
+#[test]
+fn deepest_shown(rt: HostRuntime) -> Result<(), Fail> {
+    let text = repeated(rt.alloc(), &[(b"a = ", 1), (b"[", 100), (b"]", 100)])?;
+    let line = repeated(
+        rt.alloc(),
+        &[(b"{\"a\":", 1), (b"[", 100), (b"]", 100), (b"}\n", 1)],
+    )?;
+    let outcome = run_show(rt.alloc(), &text)?;
+    assert_eq!(&rt; outcome.status, 0);
+    assert_eq!(&rt; outcome.out.as_slice(), line.as_slice());
     Ok(())
 }
 

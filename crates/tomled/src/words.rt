@@ -3,8 +3,8 @@ ghost use Rattle.std.specs.Prelude.{◌≡◌, IfErr, IfOk, false, option_and_th
 ghost use Rattle.clap.specs.Walk.{texts};
 ghost use Rattle.clap.specs.Words.{FailsBy, fault_of, first_of, found_of, kind_of, rows_of, rule_of};
 ghost use Rattle.clap.specs.Words.{subcommand_of, subcommand_rows_of, takes};
-ghost use Rattle.tomled.specs.CommandLine.{IsDefined, check, required_argument, tool};
-ghost use Rattle.tomled.specs.Request.{IsFaultIn, IsRequestIn, asked_by, asked_of, check_of};
+ghost use Rattle.tomled.specs.CommandLine.{IsDefined, check, required_argument, show, tool};
+ghost use Rattle.tomled.specs.Request.{IsFaultIn, IsRequestIn, asked_by, asked_of, check_of, show_of};
 
 #[cfg(test)]
 mod tests;
@@ -16,6 +16,8 @@ use std::alloc::{AllocError, Global};
 /// What the words ask for.
 #[derive(Debug, Drop, PartialEq, Eq)]
 pub enum Request<'a> {
+    /// The data of the file.
+    Show { file: &'a str },
     /// Whether the file is a TOML document.
     Check { file: &'a str },
 }
@@ -59,12 +61,23 @@ fn parse<'a>(alloc: Global, words: &'a [&'a str]) -> Result<ArgMatches<'a>, clap
 fn command<'a>(alloc: Global) -> Result<Command<'a>, AllocError>
     ensures { IfOk result (IsDefined tool) }
 {
+    let show = show_command(alloc)?;
     let check = check_command(alloc)?;
     Command::new(alloc, "tomled")
         .bin_name("tomled")?
         .about("Reads and edits TOML documents, and keeps their layout")
         .subcommand_required(true)
+        .subcommand(show)?
         .subcommand(check)
+}
+
+fn show_command<'a>(alloc: Global) -> Result<Command<'a>, AllocError>
+    ensures { IfOk result (IsDefined show) }
+{
+    let file = path(alloc, "FILE", "The document");
+    Command::new(alloc, "show")
+        .about("Prints the data of a TOML document as tagged JSON")
+        .arg(file)
 }
 
 fn check_command<'a>(alloc: Global) -> Result<Command<'a>, AllocError>
@@ -91,9 +104,17 @@ fn requested<'a>(matches: &ArgMatches<'a>) -> Option<Request<'a>>
 {
     let (name, found) = matches.subcommand()?;
     match name {
+        "show" => show_request(found),
         "check" => check_request(found),
         _ => None,
     }
+}
+
+fn show_request<'a>(found: &ArgMatches<'a>) -> Option<Request<'a>>
+    ensures { option_map asked_by result ≡ show_of (rows_of (found_of found.now)) }
+{
+    let file = first_value(found, "FILE")?;
+    Some(Request::Show { file })
 }
 
 fn check_request<'a>(found: &ArgMatches<'a>) -> Option<Request<'a>>

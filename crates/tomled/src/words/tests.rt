@@ -8,10 +8,17 @@ fn check_has_its_path(rt: HostRuntime) {
 }
 
 #[test]
+fn show_has_its_path(rt: HostRuntime) {
+    let request = read_words(rt.alloc(), ["tomled", "show", "a.toml"].as_slice());
+    assert!(rt; matches!(&request, Ok(Request::Show { file: "a.toml" })));
+}
+
+#[test]
 fn help_is_shown(rt: HostRuntime) {
     for words in [
         ["tomled", "--help"].as_slice(),
         ["tomled", "check", "--help"].as_slice(),
+        ["tomled", "show", "--help"].as_slice(),
         ["tomled", "help"].as_slice(),
     ] {
         let result = read_words(rt.alloc(), words);
@@ -31,7 +38,9 @@ fn help_is_shown(rt: HostRuntime) {
 fn mistakes_are_refused(rt: HostRuntime) {
     for words in [
         ["tomled"].as_slice(),
-        ["tomled", "show", "a.toml"].as_slice(),
+        ["tomled", "edit", "a.toml"].as_slice(),
+        ["tomled", "show"].as_slice(),
+        ["tomled", "show", "a.toml", "b.toml"].as_slice(),
         ["tomled", "check"].as_slice(),
         ["tomled", "check", "a.toml", "b.toml"].as_slice(),
     ] {

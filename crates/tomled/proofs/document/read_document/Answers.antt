@@ -1,9 +1,9 @@
-use Rattle.std.proofs.Common.{◌≡◌, ℕ, List, subst, inl, inr}
+use Rattle.std.proofs.Common.{ℕ, List, subst}
 use Rattle.toml_tree.specs.Document.{document}
 use Rattle.toml_tree.specs.Spells.{Spells}
 use Rattle.toml_names.specs.Names.{RefusesNames}
 use Rattle.tomled.proofs.Judged.{no_text, no_rules, too_long}
-use Rattle.tomled.proofs.check.refusal_of.Goals as goal
+use Rattle.tomled.proofs.document.read_document.Goals as goal
 
 pub returns-in-Err : goal.returns-in-Err
 returns-in-Err c = no_text c.args.file.now c.in-Err.fault c.text_refusal.result c.in-Err.ensures c.text_refusal.ensures

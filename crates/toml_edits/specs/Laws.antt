@@ -1,0 +1,38 @@
+-- Laws of edits, over the definitions alone.
+use Rattle.std.specs.Prelude.{◌≡◌, ◌++◌, ◌∷◌, ◌+◌, ◌<◌, ◌^◌, ℕ, List, [], length, Option, Some, None, IsSome, option_map}
+use Rattle.toml_names.specs.declared.address.Step.{Step}
+use Rattle.toml_names.specs.declared.address.Step.TheVariants.{Name, Index}
+use Rattle.toml_names.specs.Addresses.{Address, IsAbove}
+use Rattle.toml_names.specs.Data.{Kinds}
+use Rattle.toml_edits.specs.After.{IsAfter, Moves}
+use Rattle.toml_edits.specs.Carry.{Carrier, carry}
+use Rattle.toml_edits.specs.Edits.{Change, set, insert, rename, remove, place}
+use Rattle.toml_edits.specs.Faults.{IsFault}
+
+-- for `set`, the address is not the edit's own
+abbrev pub IsNotSet : Change → Address → Type 0
+IsNotSet (set at value) a = ¬ (at ≡ a)
+IsNotSet _ a = Unit {0}
+
+-- Where the place edited is not strictly below an address, what is below the address is carried along with it.
+abbrev pub CarriedAlong : Type 0
+CarriedAlong = (c : Change) (a r : Address) → ¬ IsAbove a (place c) → IsNotSet c a → carry c (a ++ r) ≡ option_map (λ b. b ++ r) (carry c a)
+
+-- A beginning of what is carried is carried to a beginning of the same length.
+pub record Front (c : Carrier) (a b : Address) : Type 0 where
+  pub to : Address
+  pub rest : Address
+  pub carried : c a ≡ Some to
+  pub whole : b ≡ to ++ rest
+  pub same : length to ≡ length a
+
+abbrev pub CarriedFront : Type 0
+CarriedFront = (c : Change) (a r b : Address) → carry c (a ++ r) ≡ Some b → Front (carry c) a b
+
+-- Two addresses of the data that an edit without a fault carries to one address are one.
+abbrev pub CarriedApart : Type 0
+CarriedApart = (c : Change) (kinds : Kinds) → IsFault c kinds None → (a b to : Address) → IsSome (kinds a) → IsSome (kinds b) → carry c a ≡ Some to → carry c b ≡ Some to → a ≡ b
+
+-- An edit makes one thing of data: two maps that are what it makes are equal.
+abbrev pub OneAfter : Type 0
+OneAfter = (c : Change) (old one two : Kinds) → IsAfter c old one → IsAfter c old two → (a : Address) → one a ≡ two a

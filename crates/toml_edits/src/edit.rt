@@ -1,0 +1,14 @@
+use toml_names::Address;
+
+/// One edit on the data of a document, at an address. A `value` is the text of one TOML value, `to` is a name.
+#[derive(Drop)]
+pub enum Edit {
+    /// The value takes the place of what stands there.
+    Set { at: Address, value: String },
+    /// A new member of a table, or a new element of an array before the one that has the index, or at its end.
+    Insert { at: Address, value: String },
+    /// A member of a table gets another name.
+    Rename { at: Address, to: String },
+    /// What stands there goes.
+    Remove { at: Address },
+}

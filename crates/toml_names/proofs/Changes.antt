@@ -1,0 +1,161 @@
+-- What a datum has where one part changes.
+use Rattle.std.proofs.Common.{◌≡◌, ◌⊎◌, inl, inr, ◌&&◌, true≢false, ℕ, zero, suc, ◌<◌, ◌≤◌, ◌==◌, Bool, true, false, cond, List, [], ◌∷◌, ◌++◌, length, set, Option, Some, None, IsSome, is_some, String, Vec, BTreeMap, Global, bytes_eq, refl, sym, ap, subst, ◌∙◌, arith}
+use Rattle.std.proofs.lemmas.Bool.{cases_lt}
+use Rattle.std.proofs.lemmas.Bool.Decides.{nat_tests}
+use Rattle.std.specs.Bool.{nat_eq}
+use Rattle.std.specs.Prelude.{slice_get}
+use Rattle.std.specs.BTreeMap.{get_by_text}
+use Rattle.toml_names.specs.declared.address.Step.{Step}
+use Rattle.toml_names.specs.declared.address.Step.TheVariants.{Name, Index}
+use Rattle.toml_names.specs.declared.datum.Datum.{Datum, Scalar, Array, Table}
+use Rattle.toml_names.specs.declared.datum.Datum.TheVariants.{rolls-Scalar, rolls-Array, rolls-Table}
+use Rattle.toml_names.specs.declared.datum.Datum.TheOpen.{Datum-F}
+use Rattle.toml_names.specs.declared.datum.Datum.TheViews.{roll-Datum}
+use Rattle.toml_names.specs.Addresses.{Address, same_step, same_address}
+use Rattle.toml_names.specs.Building.{only, IsOnly, with_child, with_kind}
+use Rattle.toml_names.specs.Data.{Kinds, kind_at, kind_in}
+use Rattle.toml_names.specs.Joining.{IsNext, IsFree}
+use Rattle.toml_names.specs.Mentions.{Kind}
+use Rattle.toml_names.proofs.Equal.{same_step-equal}
+use Rattle.toml_names.proofs.Alike.{part_there, kind_there}
+use Rattle.toml_names.proofs.Levels.{by_cases, scalar-below, array-here, array-item, array-name, table-here, table-member, table-index, has_kind}
+
+same_test : (i j : ℕ) → nat_eq i j ≡ nat_eq (suc i) (suc j)
+same_test i j = grind (arith, nat_tests)
+
+get_set : {X : Type 0} (xs : List X) (i j : ℕ) (x : X) → i < length xs → slice_get (set xs i x) j ≡ cond (nat_eq i j) (Some x) (slice_get xs j)
+get_set [] i j x h = absurd (omega arith)
+get_set (y ∷ xs) zero zero x h = refl
+get_set (y ∷ xs) zero (suc j) x h = grind (arith, nat_tests)
+get_set (y ∷ xs) (suc i) zero x h = grind (arith, nat_tests)
+get_set (y ∷ xs) (suc i) (suc j) x h = get_set xs i j x (omega arith) ∙ ap (λ b. cond b (Some x) (slice_get xs j)) (same_test i j)
+
+one_of : (b : Bool) (o r : Option Datum) (at : Address) → kind_in (cond b o r) at ≡ cond b (kind_in o at) (kind_in r at)
+one_of true o r at = refl
+one_of false o r at = refl
+
+pub array-set : (v w : Vec Datum Global) (i : ℕ) (d : Datum) → w.items ≡ set v.items i d → i < length v.items → (at : Address) → kind_at (Array w) at ≡ with_child (Index i) (kind_at d) (kind_at (Array v)) at
+array-set v w i d is low [] = array-here w ∙ sym (array-here v)
+array-set v w i d is low (Name n ∷ at) = array-name w n at ∙ sym (array-name v n at)
+array-set v w i d is low (Index j ∷ at) =
+    array-item w j at ∙ ap (λ (ds : List Datum). kind_in (slice_get ds j) at) is ∙ ap (λ (o : Option Datum). kind_in o at) (get_set v.items i j d low)
+    ∙ one_of (nat_eq i j) (Some d) (slice_get v.items j) at ∙ ap (cond (nat_eq i j) (kind_at d at)) (sym (array-item v j at))
+
+pub table-set : (m n : BTreeMap (String Global) Datum) (k : List ℕ) (d : Datum) → ((q : List ℕ) → get_by_text n q ≡ cond (bytes_eq k q) (Some d) (get_by_text m q))
+    → (at : Address) → kind_at (Table n) at ≡ with_child (Name k) (kind_at d) (kind_at (Table m)) at
+table-set m n k d is [] = table-here n ∙ sym (table-here m)
+table-set m n k d is (Index i ∷ at) = table-index n i at ∙ sym (table-index m i at)
+table-set m n k d is (Name q ∷ at) =
+    table-member n q at ∙ ap (λ (r : Option Datum). kind_in r at) (is q) ∙ one_of (bytes_eq k q) (Some d) (get_by_text m q) at ∙ ap (cond (bytes_eq k q) (kind_at d at)) (sym (table-member m q at))
+
+within : (ds : List Datum) (i : ℕ) → IsSome (kind_in (slice_get ds i) []) → i < length ds
+within [] i some = cc
+within (d ∷ ds) zero some = omega arith
+within (d ∷ ds) (suc i) some = let low : i < length ds = within ds i some in omega arith
+
+-- an index at which something stands is below the length
+pub array-within : (v : Vec Datum Global) (i : ℕ) → IsSome (kind_at (Array v) (Index i ∷ [])) → i < length v.items
+array-within v i some = within v.items i (subst IsSome (array-item v i []) some)
+
+pub table-has : (m : BTreeMap (String Global) Datum) (k : List ℕ) → IsSome (kind_at (Table m) (Name k ∷ [])) → IsSome (get_by_text m k)
+table-has m k some = part_there _ (subst IsSome (table-member m k []) some)
+
+-- the part one step below, if there is one
+abbrev pub HasPart : Step → Datum → Type 0
+HasPart s d = (o : Option Datum) × ((at : Address) → kind_at d (s ∷ at) ≡ kind_in o at)
+
+part_rolled : (s : Step) (x : Datum-F Datum) → HasPart s (roll-Datum x)
+part_rolled s (Datum-F.Scalar t) = subst (HasPart s) (sym (rolls-Scalar t)) (None, λ at. scalar-below t s at)
+part_rolled (Index i) (Datum-F.Array v) = subst (HasPart (Index i)) (sym (rolls-Array v)) (slice_get v.items i, λ at. array-item v i at)
+part_rolled (Name n) (Datum-F.Array v) = subst (HasPart (Name n)) (sym (rolls-Array v)) (None, λ at. array-name v n at)
+part_rolled (Name n) (Datum-F.Table m) = subst (HasPart (Name n)) (sym (rolls-Table m)) (get_by_text m n, λ at. table-member m n at)
+part_rolled (Index i) (Datum-F.Table m) = subst (HasPart (Index i)) (sym (rolls-Table m)) (None, λ at. table-index m i at)
+
+pub has_part : (s : Step) (d : Datum) → HasPart s d
+has_part s = by_cases (HasPart s) (part_rolled s)
+
+-- what has something below a step has something at the step
+part_above : (o : Option Datum) (at : Address) → IsSome (kind_in o at) → IsSome (kind_in o [])
+part_above None at some = some
+part_above (Some d) at some = has_kind d
+
+pub step_there : (d : Datum) (s : Step) (at : Address) → IsSome (kind_at d (s ∷ at)) → IsSome (kind_at d (s ∷ []))
+step_there d s at some = let p = has_part s d in subst IsSome (sym (p.1 [])) (part_above p.0 at (subst IsSome (p.1 at) some))
+
+get_push : {X : Type 0} (xs : List X) (x : X) (j : ℕ) → slice_get (xs ++ x ∷ []) j ≡ cond (nat_eq (length xs) j) (Some x) (slice_get xs j)
+get_push [] x zero = refl
+get_push [] x (suc j) = grind (arith, nat_tests)
+get_push (y ∷ xs) x zero = grind (arith, nat_tests)
+get_push (y ∷ xs) x (suc j) = get_push xs x j ∙ ap (λ b. cond b (Some x) (slice_get xs j)) (same_test (length xs) j)
+
+pub array-pushed : (v w : Vec Datum Global) (i : ℕ) (d : Datum) → w.items ≡ v.items ++ d ∷ [] → length v.items ≡ i → (at : Address) → kind_at (Array w) at ≡ with_child (Index i) (kind_at d) (kind_at (Array v)) at
+array-pushed v w i d is last [] = array-here w ∙ sym (array-here v)
+array-pushed v w i d is last (Name n ∷ at) = array-name w n at ∙ sym (array-name v n at)
+array-pushed v w i d is last (Index j ∷ at) =
+    array-item w j at ∙ ap (λ (ds : List Datum). kind_in (slice_get ds j) at) is ∙ ap (λ (o : Option Datum). kind_in o at) (get_push v.items d j)
+    ∙ one_of (nat_eq (length v.items) j) (Some d) (slice_get v.items j) at ∙ ap (λ k. cond (nat_eq k j) (kind_at d at) (kind_in (slice_get v.items j) at)) last
+    ∙ ap (cond (nat_eq i j) (kind_at d at)) (sym (array-item v j at))
+
+-- an array that has an element at each index below this one, and none at it, has so many
+filled : (v : Vec Datum Global) (i : ℕ) → ((j : ℕ) → j < i → IsSome (kind_at (Array v) (Index j ∷ []))) → i ≤ length v.items
+filled v zero all = omega arith
+filled v (suc i) all = let low : i < length v.items = array-within v i (all i (omega arith)) in omega arith
+
+some_below : (ds : List Datum) (i : ℕ) → i < length ds → IsSome (kind_in (slice_get ds i) [])
+some_below [] i low = absurd (omega arith)
+some_below (d ∷ ds) zero low = has_kind d
+some_below (d ∷ ds) (suc i) low = some_below ds i (omega arith)
+
+no_some : {P : Type 0} (o : Option Kind) → o ≡ None → IsSome o → P
+no_some o none some = absurd (true≢false (sym some ∙ ap is_some none))
+
+pub array-next : (v : Vec Datum Global) (i : ℕ) → kind_at (Array v) (Index i ∷ []) ≡ None → ((j : ℕ) → j < i → IsSome (kind_at (Array v) (Index j ∷ []))) → length v.items ≡ i
+array-next v i absent all = by (cases_lt i (length v.items))
+  where
+    by : i < length v.items ⊎ (length v.items ≤ i) → length v.items ≡ i
+    by (inl low) = no_some _ absent (subst IsSome (sym (array-item v i [])) (some_below v.items i low))
+    by (inr high) = let low : i ≤ length v.items = filled v i all in omega arith
+
+-- a part with nothing in it, put where nothing stands
+none_below : (d : Datum) (s : Step) → kind_at d (s ∷ []) ≡ None → (at : Address) → kind_at d (s ∷ at) ≡ None
+none_below d s absent at = by (has_part s d)
+  where
+    none : (o : Option Datum) → kind_in o [] ≡ None → kind_in o at ≡ None
+    none None is = refl
+    none (Some e) is = no_some _ is (has_kind e)
+
+    by : HasPart s d → kind_at d (s ∷ at) ≡ None
+    by p = p.1 at ∙ none p.0 (sym (p.1 []) ∙ absent)
+
+pub child_is_kind : (d : Datum) (s : Step) (k : Kind) (part : Kinds) → ((at : Address) → part at ≡ only k at) → kind_at d (s ∷ []) ≡ None
+    → (at : Address) → with_child s part (kind_at d) at ≡ with_kind (s ∷ []) k (kind_at d) at
+child_is_kind d s k part is absent [] = sym (ap (λ b. cond b (kind_at d []) (kind_at d [])) (ap is_some absent))
+child_is_kind d s k part is absent (t ∷ at) =
+    by (same_step s t) refl ∙ sym (ap (λ b. cond b (kind_at d (t ∷ at)) (cond (same_step s t && same_address [] at) (Some k) (kind_at d (t ∷ at)))) (ap is_some absent))
+  where
+    whole : (at : Address) → kind_at d (t ∷ at) ≡ only k at ⊎ (kind_at d (t ∷ at) ≡ None) → part at ≡ cond (same_address [] at) (Some k) (kind_at d (t ∷ at))
+    whole [] h = is []
+    whole (u ∷ at) (inl h) = is (u ∷ at) ∙ sym h
+    whole (u ∷ at) (inr h) = is (u ∷ at) ∙ sym h
+
+    by : (b : Bool) → same_step s t ≡ b → cond b (part at) (kind_at d (t ∷ at)) ≡ cond (b && same_address [] at) (Some k) (kind_at d (t ∷ at))
+    by true same = whole at (inr (ap (λ (u : Step). kind_at d (u ∷ at)) (sym (same_step-equal s t same)) ∙ none_below d s absent at))
+    by false apart = refl
+
+-- one step alone is the last
+alone : (p : Address) (s l : Step) → s ∷ [] ≡ p ++ l ∷ [] → (p ≡ []) × (s ≡ l)
+alone [] s l is = (refl, cc)
+alone (t ∷ []) s l is = cc
+alone (t ∷ u ∷ p) s l is = cc
+
+next_of : (kinds : Kinds) (s : Step) → IsFree kinds (s ∷ []) → IsNext kinds [] s
+next_of kinds s free = let is = alone free.parent s free.last free.is in subst (λ p. IsNext kinds p s) is.0 (subst (IsNext kinds free.parent) (sym is.1) free.next)
+
+pub added_item : (v w : Vec Datum Global) (i : ℕ) (d : Datum) (k : Kind) → w.items ≡ v.items ++ d ∷ [] → IsFree (kind_at (Array v)) (Index i ∷ []) → IsOnly k d
+    → (at : Address) → kind_at (Array w) at ≡ with_kind (Index i ∷ []) k (kind_at (Array v)) at
+added_item v w i d k is free empty at =
+    array-pushed v w i d is (array-next v i free.absent (next_of (kind_at (Array v)) (Index i) free).1) at ∙ child_is_kind (Array v) (Index i) k (kind_at d) empty free.absent at
+
+pub added_member : (m n : BTreeMap (String Global) Datum) (name : List ℕ) (d : Datum) (k : Kind) → ((q : List ℕ) → get_by_text n q ≡ cond (bytes_eq name q) (Some d) (get_by_text m q))
+    → IsFree (kind_at (Table m)) (Name name ∷ []) → IsOnly k d → (at : Address) → kind_at (Table n) at ≡ with_kind (Name name ∷ []) k (kind_at (Table m)) at
+added_member m n name d k is free empty at = table-set m n name d is at ∙ child_is_kind (Table m) (Name name) k (kind_at d) empty free.absent at

@@ -1,0 +1,9 @@
+use Rattle.toml_names.proofs.PlacesFound.{places_are_found}
+use Rattle.toml_names.proofs.PlacesNone.{no_place}
+use Rattle.toml_names.proofs.laws.places.Goals as goal
+
+pub returns-clause-found : goal.returns-clause-found
+returns-clause-found c = places_are_found
+
+pub returns-clause-none : goal.returns-clause-none
+returns-clause-none c = no_place

@@ -1,0 +1,37 @@
+-- What `show` answers.
+use Rattle.std.specs.Prelude.{◌≡◌, ◌⊎◌, ◌++◌, ◌∷◌, ℕ, List, []}
+use Rattle.serde_json.specs.Data.{Data}
+use Rattle.serde_json.specs.Written.{compact_text}
+use Rattle.toml_text.specs.Limit.{IsText}
+use Rattle.toml_tree.specs.Spells.{Spells}
+use Rattle.toml_tree.specs.Tree.{Doc}
+use Rattle.toml_names.specs.Data.{Kinds, IsDataOf}
+use Rattle.toml_names.specs.Mentions.{named}
+use Rattle.toml_names.specs.Names.{AreGood}
+use Rattle.tomled.specs.Outcomes.{Prints, Refuses}
+use Rattle.tomled.specs.Tagged.{IsTagged}
+use Rattle.tomled.specs.declared.outcome.Outcome.{Outcome}
+
+-- the line is the data's tagged JSON in compact text, and LF
+pub record IsLineOf (kinds : Kinds) (line : List ℕ) : Type 0 where
+  pub json : Data
+  pub tagged : IsTagged kinds json
+  pub is : line ≡ compact_text json ++ 0x0A ∷ []
+
+-- the bytes are a document, and the line is that of its data
+pub record ShowsData (bytes line : List ℕ) : Type 0 where
+  pub text : IsText bytes
+  pub doc : Doc
+  pub spelled : Spells doc bytes
+  pub good : AreGood doc.lines
+  pub kinds : Kinds
+  pub facts : IsDataOf (named doc.lines) kinds
+  pub shown : IsLineOf kinds line
+
+-- the data of a document, and a refusal of other bytes
+abbrev pub Shows : List ℕ → Outcome → Type 0
+Shows bytes o = ((line : List ℕ) × ShowsData bytes line × Prints line o) ⊎ Refuses bytes o
+
+-- Law: a document has at most one line.
+abbrev pub OneLine : Type 0
+OneLine = (bytes l m : List ℕ) → ShowsData bytes l → ShowsData bytes m → l ≡ m
