@@ -1,5 +1,5 @@
 -- What a datum has where one part changes.
-use Rattle.std.proofs.Common.{◌≡◌, ◌⊎◌, inl, inr, ◌&&◌, true≢false, ℕ, zero, suc, ◌<◌, ◌≤◌, ◌==◌, Bool, true, false, cond, List, [], ◌∷◌, ◌++◌, length, set, Option, Some, None, IsSome, is_some, String, Vec, BTreeMap, Global, bytes_eq, refl, sym, ap, subst, ◌∙◌, arith}
+use Rattle.std.proofs.Common.{◌≡◌, ◌⊎◌, inl, inr, ◌&&◌, true≢false, ℕ, zero, suc, ◌<◌, ◌≤◌, ◌==◌, Bool, true, false, cond, List, [], ◌∷◌, ◌++◌, length, map, set, Option, Some, None, IsSome, is_some, String, Vec, BTreeMap, Global, bytes_eq, refl, sym, ap, subst, ◌∙◌, arith}
 use Rattle.std.proofs.lemmas.Bool.{cases_lt}
 use Rattle.std.proofs.lemmas.Bool.Decides.{nat_tests}
 use Rattle.std.specs.Bool.{nat_eq}
@@ -7,18 +7,18 @@ use Rattle.std.specs.Prelude.{slice_get}
 use Rattle.std.specs.BTreeMap.{get_by_text}
 use Rattle.toml_names.specs.declared.address.Step.{Step}
 use Rattle.toml_names.specs.declared.address.Step.TheVariants.{Name, Index}
-use Rattle.toml_names.specs.declared.datum.Datum.{Datum, Scalar, Array, Table}
+use Rattle.toml_names.specs.declared.datum.Datum.{Datum, Array, Table}
 use Rattle.toml_names.specs.declared.datum.Datum.TheVariants.{rolls-Scalar, rolls-Array, rolls-Table}
 use Rattle.toml_names.specs.declared.datum.Datum.TheOpen.{Datum-F}
 use Rattle.toml_names.specs.declared.datum.Datum.TheViews.{roll-Datum}
 use Rattle.toml_names.specs.Addresses.{Address, same_step, same_address}
 use Rattle.toml_names.specs.Building.{only, IsOnly, with_child, with_kind}
-use Rattle.toml_names.specs.Data.{Kinds, kind_at, kind_in}
+use Rattle.toml_names.specs.Data.{Kinds, kind_at, kind_in, in_array, in_table}
 use Rattle.toml_names.specs.Joining.{IsNext, IsFree}
 use Rattle.toml_names.specs.Mentions.{Kind}
 use Rattle.toml_names.proofs.Equal.{same_step-equal}
 use Rattle.toml_names.proofs.Alike.{part_there, kind_there}
-use Rattle.toml_names.proofs.Levels.{by_cases, scalar-below, array-here, array-item, array-name, table-here, table-member, table-index, has_kind}
+use Rattle.toml_names.proofs.Levels.{by_cases, kind_at-array, kind_at-table, scalar-below, array-here, array-item, array-name, table-here, table-member, table-index, has_kind}
 
 same_test : (i j : ℕ) → nat_eq i j ≡ nat_eq (suc i) (suc j)
 same_test i j = grind (arith, nat_tests)
@@ -159,3 +159,25 @@ added_item v w i d k is free empty at =
 pub added_member : (m n : BTreeMap (String Global) Datum) (name : List ℕ) (d : Datum) (k : Kind) → ((q : List ℕ) → get_by_text n q ≡ cond (bytes_eq name q) (Some d) (get_by_text m q))
     → IsFree (kind_at (Table m)) (Name name ∷ []) → IsOnly k d → (at : Address) → kind_at (Table n) at ≡ with_kind (Name name ∷ []) k (kind_at (Table m)) at
 added_member m n name d k is free empty at = table-set m n name d is at ∙ child_is_kind (Table m) (Name name) k (kind_at d) empty free.absent at
+
+-- where nothing stands at an index, the array has no more elements; where nothing stands at a name, the table has no such member
+pub array-past : (v : Vec Datum Global) (i : ℕ) → kind_at (Array v) (Index i ∷ []) ≡ None → length v.items ≤ i
+array-past v i absent = by (cases_lt i (length v.items))
+  where
+    by : i < length v.items ⊎ (length v.items ≤ i) → length v.items ≤ i
+    by (inl low) = no_some _ absent (subst IsSome (sym (array-item v i [])) (some_below v.items i low))
+    by (inr high) = high
+
+no_part : (o : Option Datum) → kind_in o [] ≡ None → o ≡ None
+no_part None is = refl
+no_part (Some d) is = no_some _ is (has_kind d)
+
+pub table-lacks : (m : BTreeMap (String Global) Datum) (k : List ℕ) → kind_at (Table m) (Name k ∷ []) ≡ None → get_by_text m k ≡ None
+table-lacks m k absent = no_part _ (sym (table-member m k []) ∙ absent)
+
+-- the elements, or the members, are all that counts
+pub array-alike : (v w : Vec Datum Global) → w.items ≡ v.items → (at : Address) → kind_at (Array w) at ≡ kind_at (Array v) at
+array-alike v w is at = ap (λ (f : Kinds). f at) (kind_at-array w ∙ ap (λ ds. in_array (map kind_at ds)) is ∙ sym (kind_at-array v))
+
+pub table-alike : (m n : BTreeMap (String Global) Datum) → n.entries ≡ m.entries → (at : Address) → kind_at (Table n) at ≡ kind_at (Table m) at
+table-alike m n is at = ap (λ (f : Kinds). f at) (kind_at-table n ∙ ap (λ es. in_table (map (λ (e : String Global × Datum). (e.0, kind_at e.1)) es)) is ∙ sym (kind_at-table m))

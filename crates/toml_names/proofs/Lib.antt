@@ -27,6 +27,7 @@ pub mod FirstNamed
 pub mod TablesJoin
 pub mod HeadersJoin
 pub mod AllLines
+pub mod UnderRules
 pub mod Levels
 pub mod Alike
 pub mod Changes

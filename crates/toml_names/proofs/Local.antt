@@ -1,4 +1,4 @@
--- The last role at an address stands for all of its roles.
+-- The mark of an address stands for all of its roles.
 use Rattle.std.proofs.Common.{◌≡◌, Bool, true, false, not, cond, ◌&&◌, ◌||◌, List, [], ◌∷◌, ◌++◌, Option, Some, None, refl, sym, ap, ◌∙◌}
 use Rattle.std.proofs.lemmas.List.{append_assoc, append-nil}
 use Rattle.std.proofs.lemmas.List.Folds.{list_all-append}
@@ -7,9 +7,10 @@ use Rattle.toml_names.specs.declared.named.Role.TheVariants.{Passed, Header, Dot
 use Rattle.toml_names.specs.Addresses.{Address, same_address}
 use Rattle.toml_names.specs.Local.{mark_after, mark_from, mark_of, allows, LastRoleDecides}
 use Rattle.toml_names.specs.Mentions.{Named}
-use Rattle.toml_names.specs.Rules.{may_follow, fits, misfit}
+use Rattle.toml_names.specs.Rules.{may_follow, fits, misfit, KeepsRules}
 use Rattle.toml_names.proofs.Misfits.{misfit-later, fits-from_misfit}
 use Rattle.toml_names.proofs.Equal.{same_address-equal}
+use Rattle.toml_names.proofs.Pairs.{KeepsRules-push, fits-from_KeepsRules, misfit-from_KeepsRules}
 
 and_same : (b : Bool) → (b && b) ≡ b
 and_same true = refl
@@ -53,7 +54,7 @@ mark_from-push : (xs : List Named) (q : Option Role) (m : Named) (at : Address)
 mark_from-push [] q m at = refl
 mark_from-push (x ∷ xs) q m at = mark_from-push xs (cond (same_address x.address at) (mark_after q x.role) q) m at
 
--- the last role after one more
+-- the mark after one more
 pub mark_of-push : (xs : List Named) (m : Named) (at : Address) → mark_of (xs ++ m ∷ []) at ≡ cond (same_address m.address at) (mark_after (mark_of xs at) m.role) (mark_of xs at)
 mark_of-push xs m at = mark_from-push xs None m at
 
@@ -62,7 +63,7 @@ cases_here : (b : Bool) (q : Option Role) (e m : Role) (f : Bool) → f ≡ allo
 cases_here true q e m f same goes = rw same (one_more q e m (goes refl))
 cases_here false q e m f same goes = and_true f ∙ same
 
--- the last roles stand for the mentions
+-- the marks stand for the mentions
 abbrev pub AreMarked : List Named → Type 0
 AreMarked ms = (m : Named) → fits ms m ≡ allows (mark_of ms m.address) m.role
 
@@ -80,5 +81,11 @@ AreMarked-more (m ∷ ms) earlier marked none =
     let more = AreMarked-more ms (earlier ++ m ∷ []) (AreMarked-push earlier m marked good) (sym (misfit-later earlier ms m good) ∙ none) in
     rw append_assoc at more
 
+-- under the rules the marks stand for the mentions
+marked_under_rules : (ms : List Named) → KeepsRules ms → AreMarked ms
+marked_under_rules ms keeps = AreMarked-more ms [] (λ m. refl) (misfit-from_KeepsRules ms [] keeps)
+
 pub last_role_decides : LastRoleDecides
-last_role_decides ms m none = AreMarked-more ms [] (λ m. refl) none m
+last_role_decides ms m keeps =
+    let same = marked_under_rules ms keeps m in
+    (λ more. sym same ∙ fits-from_KeepsRules ms [] m more, λ allowed. KeepsRules-push ms m keeps (same ∙ allowed))

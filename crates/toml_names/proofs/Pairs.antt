@@ -42,7 +42,7 @@ KeepsRules-from_misfit (m ∷ ms) earlier keeps none =
     rw append_assoc at more
 
 -- where the rules hold, a mention goes with each before it
-fits-from_KeepsRules : (earlier ms : List Named) (m : Named) → KeepsRules (earlier ++ m ∷ ms) → fits earlier m ≡ true
+pub fits-from_KeepsRules : (earlier ms : List Named) (m : Named) → KeepsRules (earlier ++ m ∷ ms) → fits earlier m ≡ true
 fits-from_KeepsRules earlier ms m keeps =
     let long : length (earlier ++ m ∷ ms) ≡ length earlier + suc (length ms) = length-append earlier (m ∷ ms) in
     list_all-from_AllPass (λ e. goes e m) earlier (λ k d low.

@@ -1,6 +1,6 @@
 -- The place that is found is one.
-use Rattle.std.proofs.Common.{◌≡◌, ◌⊎◌, inl, inr, ℕ, suc, ◌<◌, Bool, true, false, ◌&&◌, cond, ◌↔◌, List, [], ◌∷◌, ◌++◌, length, Option, Some, None, refl, sym, ap, subst, ◌∙◌, arith}
-use Rattle.std.specs.Prelude.{All, Any, get_or}
+use Rattle.std.proofs.Common.{◌≡◌, inl, inr, ℕ, suc, Bool, true, false, ◌&&◌, cond, List, [], ◌∷◌, ◌++◌, Option, Some, None, refl, sym, ap, subst, ◌∙◌, arith}
+use Rattle.std.specs.Prelude.{Any}
 use Rattle.std.proofs.lemmas.List.Elements.{All-nil, All-cons}
 use Rattle.toml_names.specs.declared.named.Role.{Role}
 use Rattle.toml_names.specs.declared.named.Role.TheVariants.{Passed, Header, Dotted, Valued, Tables, Element, Bare}
@@ -9,7 +9,7 @@ use Rattle.toml_names.specs.declared.place.Place.TheVariants as places
 use Rattle.toml_names.specs.declared.address.Step.{Step}
 use Rattle.toml_names.specs.Addresses.{Address, IsAbove, AboveIsAbove, same_step, same_address, is_above}
 use Rattle.toml_names.specs.Mentions.{Named}
-use Rattle.toml_names.specs.Places.{IsNamed, IsNotIn, IsFirstIn, IsInside, IsOutside, IsOnlyPassed, IsPlace, PlacesAreFound, same_role, first_line, line_above, inside, or_else, outside, in_value, place}
+use Rattle.toml_names.specs.Places.{IsNamed, IsNotIn, IsFirstIn, IsInside, IsOutside, IsOnlyPassed, IsPlace, PlacesAreFound, same_role, first_line, line_above, inside, or_else, in_value}
 use Rattle.toml_names.proofs.Equal.{same_step-equal, same_step-self, same_address-equal, same_address-self}
 
 -- an address is above another where it is a beginning of it, and shorter

@@ -1,6 +1,6 @@
 -- Where no place is found, nothing is named: what is no mention, the root aside, lies inside a value.
 use Rattle.std.proofs.Common.{◌≡◌, ◌⊎◌, inl, inr, ℕ, suc, ◌+◌, ◌<◌, Bool, true, false, cond, List, [], ◌∷◌, ◌++◌, length, get_or, Option, Some, None, refl, sym, ap, subst, ◌∙◌, arith}
-use Rattle.std.specs.Prelude.{All, Any}
+use Rattle.std.specs.Prelude.{All}
 use Rattle.std.proofs.lemmas.List.{append_assoc}
 use Rattle.std.proofs.lemmas.List.Elements.{All-nil, All-cons}
 use Rattle.toml_tree.specs.Tree.{Value, Scalar, Array, Empty, Inline, Items, Close, Last, More, Pairs, LastPair, MorePairs, Expr, BlankLine, KeyValLine, TableLine, ArrayTableLine, Line}
@@ -10,7 +10,7 @@ use Rattle.toml_names.specs.declared.named.Role.{Role}
 use Rattle.toml_names.specs.declared.named.Role.TheVariants.{Passed, Header, Dotted, Valued, Tables, Element, Bare}
 use Rattle.toml_names.specs.declared.place.Place.TheVariants as places
 use Rattle.toml_names.specs.Addresses.{Address, IsAbove, same_address, child, element, below}
-use Rattle.toml_names.specs.Keys.{Key, part_name, rest_names, key_names}
+use Rattle.toml_names.specs.Keys.{Key, part_name, key_names}
 use Rattle.toml_names.specs.Mentions.{Named, root, value_named, fronts, inside, elements, members, followed, entered, ends_table, ends_tables, named, named_by, named_from, section}
 use Rattle.toml_names.specs.Places as spec
 use Rattle.toml_names.specs.Places.{IsNamed, IsNotIn, IsOutside, NoPlace, first_line, line_above, or_else, outside, in_value, place}

@@ -1,16 +1,15 @@
 -- An empty part put at an address, step by step.
-use Rattle.std.proofs.Common.{◌≡◌, ◌⊎◌, inl, inr, true≢false, Bool, true, false, cond, ◌&&◌, List, [], ◌∷◌, ◌++◌, length, ◌==◌, Option, Some, None, IsSome, is_some, refl, sym, ap, subst, ◌∙◌}
+use Rattle.std.proofs.Common.{◌≡◌, inl, inr, true≢false, Bool, true, false, cond, ◌&&◌, [], ◌∷◌, ◌++◌, length, ◌==◌, Option, Some, None, IsSome, is_some, refl, sym, ap, subst, ◌∙◌}
 use mathlib.Core.Path.{fun_ext}
 use Rattle.toml_names.specs.declared.address.Step.{Step}
 use Rattle.toml_names.specs.declared.address.Step.TheVariants.{Name, Index}
 use Rattle.toml_names.specs.declared.datum.Datum.{Datum}
 use Rattle.toml_names.specs.Addresses.{Address, same_step, same_address}
 use Rattle.toml_names.specs.Building.{with_child, with_kind}
-use Rattle.toml_names.specs.Data.{Kinds, kind_at, kind_in}
+use Rattle.toml_names.specs.Data.{Kinds, kind_at}
 use Rattle.toml_names.specs.Joining.{IsNext, IsFree, IsOpen}
 use Rattle.toml_names.specs.Mentions.{Kind}
 use Rattle.toml_names.proofs.Changes.{step_there}
-use Rattle.toml_names.proofs.Levels.{has_kind}
 use Rattle.toml_names.proofs.Equal.{same_step-equal, same_step-self}
 
 -- where something stands nothing changes

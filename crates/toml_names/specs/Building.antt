@@ -1,5 +1,5 @@
 -- What a datum becomes where a part of it changes.
-use Rattle.std.specs.Prelude.{◌≡◌, Bool, List, [], ◌∷◌, Option, Some, None, is_some, if◌then◌else◌}
+use Rattle.std.specs.Prelude.{◌≡◌, List, [], ◌∷◌, Some, None, is_some, if◌then◌else◌}
 use Rattle.toml_names.specs.declared.address.Step.{Step}
 use Rattle.toml_names.specs.Addresses.{Address, same_step, same_address}
 use Rattle.toml_names.specs.Data.{Kinds, kind_at}

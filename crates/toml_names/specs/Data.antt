@@ -1,6 +1,5 @@
 -- Data: the finite map from addresses to kinds, of a `Datum` and of what lines name.
-use Rattle.std.specs.Prelude.{◌≡◌, ◌↔◌, ℕ, List, [], ◌∷◌, Any, Option, Some, None, if◌then◌else◌, slice_get, String, string_bytes}
-use Rattle.std.specs.Borrow.{Bor}
+use Rattle.std.specs.Prelude.{◌≡◌, ◌↔◌, List, [], ◌∷◌, Any, Option, Some, None, if◌then◌else◌, slice_get, String, string_bytes}
 use Rattle.std.specs.BTreeMap.{is_at}
 use Rattle.std.specs.Cmp.Lexicographic.{slice_cmp}
 use Rattle.std.specs.Map.{lookup}

@@ -1,6 +1,6 @@
 -- How what is named joins what was named before it: each thing is new, at a place that is free, or is a table or an array of tables that
 -- is there already.
-use Rattle.std.specs.Prelude.{◌≡◌, ◌⊎◌, ◌<◌, ℕ, Bool, true, false, List, [], ◌∷◌, ◌++◌, All, AllPairs, IsSome, Option, Some, None}
+use Rattle.std.specs.Prelude.{◌≡◌, ◌⊎◌, ◌<◌, ℕ, Bool, true, false, List, [], ◌∷◌, ◌++◌, All, AllPairs, IsSome, Some, None}
 use Rattle.toml_tree.specs.Tree.{Value, Line}
 use Rattle.toml_names.specs.declared.address.Step.{Step}
 use Rattle.toml_names.specs.declared.address.Step.TheVariants.{Name, Index}
@@ -53,6 +53,14 @@ abbrev pub Joined : List Named → Type 0
 Joined [] = Unit {0}
 Joined (m ∷ ms) = JoinAll (m ∷ []) ms
 
+-- all that is named at one address is of one kind
+abbrev pub HasOneKind : List Named → Type 0
+HasOneKind ms = (at : Address) (k l : Kind) → IsFact ms at k → IsFact ms at l → k ≡ l
+
+-- the addresses of values and of elements in values are pairwise distinct, and distinct from those of tables and arrays of tables
+abbrev pub AreAlone : List Named → Type 0
+AreAlone ms = AllPairs (λ e l. e.address ≡ l.address → (is_lone e.role ≡ false) × (is_lone l.role ≡ false)) ms
+
 -- Laws. Under the rules each thing named joins those before it;
 abbrev pub LinesJoin : Type 0
 LinesJoin = (lines : List Line) → KeepsRules (named lines) → Joined (named lines)
@@ -62,12 +70,12 @@ ValuesJoin = (v : Value) → KeepsRules (value_facts v) → Joined (value_facts 
 
 -- so what is named at one address is of one kind,
 abbrev pub OneKind : Type 0
-OneKind = (ms : List Named) → Joined ms → (at : Address) (k l : Kind) → IsFact ms at k → IsFact ms at l → k ≡ l
+OneKind = (ms : List Named) → Joined ms → HasOneKind ms
 
 -- the first kind named at each address is the data,
 abbrev pub FirstIsData : Type 0
 FirstIsData = (ms : List Named) → Joined ms → IsDataOf ms (fact_at ms)
 
--- and the addresses of values and of elements in values are pairwise distinct, and distinct from those of tables and arrays of tables.
+-- and values and elements in values stand alone.
 abbrev pub ValuesStandAlone : Type 0
-ValuesStandAlone = (ms : List Named) → Joined ms → AllPairs (λ e l. e.address ≡ l.address → (is_lone e.role ≡ false) × (is_lone l.role ≡ false)) ms
+ValuesStandAlone = (ms : List Named) → Joined ms → AreAlone ms

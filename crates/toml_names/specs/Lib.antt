@@ -7,6 +7,8 @@ pub mod Names
 pub mod Places
 pub mod Data
 pub mod Joining
+pub mod DataLaws
 pub mod Values
 pub mod Building
 pub mod Local
+pub mod Documents

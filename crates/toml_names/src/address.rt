@@ -76,6 +76,13 @@ impl Address {
         Address { steps }
     }
 
+    /// The steps themselves. It takes no memory.
+    pub fn into_steps(self) -> Vec<Step>
+        ensures { result.items ≡ self }
+    {
+        self.steps
+    }
+
     /// An address of its own that is the same.
     pub fn copy(&self, alloc: Global) -> Result<Address, AllocError>
         ensures { IfOk result (λ a. a ≡ self.now) }

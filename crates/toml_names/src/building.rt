@@ -1,6 +1,6 @@
 //! The data of what is named, in one go.
 ghost use Rattle.std.specs.Prelude.{◌≡◌, ◌∷◌, [], IfOk, IsSome};
-ghost use Rattle.toml_names.specs.Addresses.{Address as Place};
+ghost use Rattle.toml_names.specs.Addresses.{Address as Steps};
 ghost use Rattle.toml_names.specs.Building.{BeginsAtRoot, IsOnly, with_kind};
 ghost use Rattle.toml_names.specs.Data.{kind_at, fact_at};
 ghost use Rattle.toml_names.specs.Joining.{IsFree, IsOpen, Joined};
@@ -18,7 +18,7 @@ impl Datum {
     /// Adds an empty part one step below, where there is none.
     fn add_child(self, alloc: Global, step: &Step, part: Datum) -> Result<Datum, AllocError>
         requires { IsFree (kind_at self) (step.now ∷ []) }
-        ensures { (k : mentions.Kind) → IsOnly k part → IfOk result (λ d. (at : Place) → kind_at d at ≡ with_kind (step.now ∷ []) k (kind_at self) at) }
+        ensures { (k : mentions.Kind) → IsOnly k part → IfOk result (λ d. (at : Steps) → kind_at d at ≡ with_kind (step.now ∷ []) k (kind_at self) at) }
     {
         match step {
             Step::Index(_) => match self {
@@ -37,13 +37,11 @@ impl Datum {
             },
         }
     }
-}
 
-impl Datum {
     /// Puts an empty part at the steps, unless something stands there.
     fn put(self, alloc: Global, steps: &[Step], part: Datum) -> Result<Datum, AllocError>
         requires { IsOpen (kind_at self) steps.now }
-        ensures { (k : mentions.Kind) → IsOnly k part → IfOk result (λ d. (at : Place) → kind_at d at ≡ with_kind steps.now k (kind_at self) at) }
+        ensures { (k : mentions.Kind) → IsOnly k part → IfOk result (λ d. (at : Steps) → kind_at d at ≡ with_kind steps.now k (kind_at self) at) }
     {
         let Some((step, rest)) = steps.split_first() else {
             return Ok(self);
@@ -60,7 +58,7 @@ impl Datum {
     /// Puts an empty part one step below, unless something stands there.
     fn put_child(self, alloc: Global, step: &Step, part: Datum) -> Result<Datum, AllocError>
         requires { IsOpen (kind_at self) (step.now ∷ []) }
-        ensures { (k : mentions.Kind) → IsOnly k part → IfOk result (λ d. (at : Place) → kind_at d at ≡ with_kind (step.now ∷ []) k (kind_at self) at) }
+        ensures { (k : mentions.Kind) → IsOnly k part → IfOk result (λ d. (at : Steps) → kind_at d at ≡ with_kind (step.now ∷ []) k (kind_at self) at) }
     {
         if self.child(step).is_some() {
             return Ok(self);
@@ -94,7 +92,7 @@ fn part_of(alloc: Global, kind: &Kind<'_>) -> Result<Datum, AllocError>
 pub fn datum_of(alloc: Global, named: &[Named<'_>]) -> Result<Datum, AllocError>
     requires root { BeginsAtRoot (all_named named.now) }
     requires joined { Joined (all_named named.now) }
-    ensures { IfOk result (λ d. (at : Place) → kind_at d at ≡ fact_at (all_named named.now) at) }
+    ensures { IfOk result (λ d. (at : Steps) → kind_at d at ≡ fact_at (all_named named.now) at) }
 {
     let Some((root, rest)) = named.split_first() else {
         return Ok(hole());

@@ -1,5 +1,6 @@
 //! Laws over the definitions: nothing is run.
 ghost use Rattle.toml_names.specs.Addresses.{SameIsEqual, AboveIsAbove};
+ghost use Rattle.toml_names.specs.DataLaws.{LinesHaveOneKind, LineValuesStandAlone, ValuesHaveOneKind, InnerValuesStandAlone};
 ghost use Rattle.toml_names.specs.Joining.{LinesJoin, ValuesJoin, OneKind, FirstIsData, ValuesStandAlone};
 ghost use Rattle.toml_names.specs.Local.{LastRoleDecides};
 ghost use Rattle.toml_names.specs.Names.{RefusedAreBad, LineAddresses, NoLineAddress};
@@ -38,9 +39,17 @@ pub fn places()
     ensures none { NoPlace }
 {}
 
-/// Under the rules each thing that lines or a value name joins those before it. So what is named at one address is of
-/// one kind, the first kind at each address is the data, and values stand alone.
+/// Under the rules what lines or a value name at one address is of one kind, and values stand alone.
 pub fn data()
+    ensures kinds { LinesHaveOneKind }
+    ensures alone { LineValuesStandAlone }
+    ensures inner_kinds { ValuesHaveOneKind }
+    ensures inner_alone { InnerValuesStandAlone }
+{}
+
+/// Under the rules each thing that lines or a value name joins those before it. Where each does, what is named at one
+/// address is of one kind, the first kind at each address is the data, and values stand alone.
+pub fn joining()
     ensures lines { LinesJoin }
     ensures values { ValuesJoin }
     ensures kinds { OneKind }
@@ -48,7 +57,7 @@ pub fn data()
     ensures alone { ValuesStandAlone }
 {}
 
-/// Under the rules a mention goes with each earlier one exactly where the last role at its address allows it.
+/// Under the rules one more mention keeps them exactly where the mark of its address, one role for all, allows it.
 pub fn last_roles()
     ensures { LastRoleDecides }
 {}

@@ -1,4 +1,5 @@
-//! The names of a document: what its lines mention, and the table rules that the mentions keep.
+//! The names and the data of a document: what its lines mention, the table rules that the mentions keep, and what stands
+//! at each address.
 #![tactic(auto)]
 
 mod address;
@@ -19,7 +20,6 @@ pub use address::{Address, Step};
 pub use datum::{Data, Datum, same};
 pub use fault::{NameFault, ValueFault};
 pub use name::Name;
-pub use named::Role;
 pub use names::{Names, read_names};
 pub use place::Place;
 pub use value::read_value;

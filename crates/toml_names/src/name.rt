@@ -42,4 +42,11 @@ impl Name {
     {
         self.text.as_str()
     }
+
+    /// The text itself. It takes no memory.
+    pub fn into_string(self) -> String
+        ensures { string_bytes result ≡ self }
+    {
+        self.text
+    }
 }

@@ -3,7 +3,7 @@
 ghost use Rattle.std.specs.Prelude.{◌≡◌, [], ◌∷◌, ◌++◌, List, OnOk, IfOk};
 ghost use Rattle.toml_tree.specs.Lines.{line as tree_line};
 ghost use Rattle.toml_tree.specs.View.{piece, key as tree_key, value, keyval as tree_keyval};
-ghost use Rattle.toml_names.specs.Addresses.{Address as Place, below};
+ghost use Rattle.toml_names.specs.Addresses.{Address as Steps, below};
 ghost use Rattle.toml_names.specs.Keys.{part_name, key_names};
 ghost use Rattle.toml_names.specs.Mentions as mentions;
 ghost use Rattle.toml_names.specs.Mentions.{kind_of, table_at, value_named, fronts, inside, pair_named, count_tables, entered, followed, ends_tables, is_section, section, section_from, named_by};
@@ -165,7 +165,7 @@ fn follow<'t>(
     number: usize,
     key: &Key<'t>,
 ) -> Result<Address, AllocError>
-    ensures { IfOk result (λ here. (end : Place → List mentions.Named) → all_named names.new.items ++ end here ≡ all_named names.old.items ++ followed number (all_named earlier.now) end [] (key_names (tree_key key.now))) }
+    ensures { IfOk result (λ here. (end : Steps → List mentions.Named) → all_named names.new.items ++ end here ≡ all_named names.old.items ++ followed number (all_named earlier.now) end [] (key_names (tree_key key.now))) }
 {
     let first = part_name(alloc, &key.first)?;
     let root = Address::root(alloc);

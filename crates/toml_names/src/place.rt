@@ -8,7 +8,7 @@ use crate::named::{Named, Role};
 use crate::names::Names;
 
 /// Where a thing of the data stands in the text. Lines are counted from 0, as the tree has them.
-#[derive(Clone, Copy, Drop)]
+#[derive(Clone, Copy, Debug, Drop, PartialEq, Eq)]
 pub enum Place {
     /// The root, which no line makes.
     Root,

@@ -1,11 +1,11 @@
 use crate::datum::{add_member, same};
-use crate::{Address, Data, Datum, Name, NameFault, Place, read_names};
+use crate::{Address, Data, Datum, Name, NameFault, Place, ValueFault, read_names, read_value};
 use std::alloc::Global;
 use std::collections::BTreeMap;
 use std::test::Fail;
 use toml_scalar::{ScalarKind, scalar_of};
 use toml_text::Source;
-use toml_tree::{Doc, parse};
+use toml_tree::{Doc, parse, parse_value};
 
 /// A step of a worked address.
 #[derive(Clone, Copy)]
@@ -32,18 +32,6 @@ fn address(alloc: Global, steps: &[At]) -> Result<Address, Fail> {
     Ok(at)
 }
 
-fn line_of(place: Option<Place>) -> Option<(u8, usize)> {
-    match place? {
-        Place::Root => Some((0, 0)),
-        Place::KeyVal(line) => Some((1, line)),
-        Place::Inside(line) => Some((2, line)),
-        Place::Header(line) => Some((3, line)),
-        Place::Dotted(line) => Some((4, line)),
-        Place::Implicit(line) => Some((5, line)),
-        Place::Tables(line) => Some((6, line)),
-    }
-}
-
 const TEXT: &str =
     "a.b = 1\n[x.y]\nz = [{k = 1}]\n[[t]]\n[[t]]\n# c\n[x]\nq.r = {s.t = 2}\nq.u = 3\n";
 
@@ -51,56 +39,70 @@ const TEXT: &str =
 fn things_have_their_places(rt: HostRuntime) -> Result<(), Fail> {
     let doc = doc(rt.alloc(), TEXT)?;
     let names = read_names(rt.alloc(), &doc).map_err(|_| "refused")?;
-    let rows: [(&[At], Option<(u8, usize)>); 16] = [
-        (&[], Some((0, 0))),
-        (&[Key("a")], Some((4, 0))),
-        (&[Key("a"), Key("b")], Some((1, 0))),
+    let rows: [(&[At], Option<Place>); 16] = [
+        (&[], Some(Place::Root)),
+        (&[Key("a")], Some(Place::Dotted(0))),
+        (&[Key("a"), Key("b")], Some(Place::KeyVal(0))),
         (&[Key("a"), Key("b"), Key("c")], None),
-        (&[Key("x")], Some((3, 6))),
-        (&[Key("x"), Key("y")], Some((3, 1))),
-        (&[Key("x"), Key("y"), Key("z")], Some((1, 2))),
-        (&[Key("x"), Key("y"), Key("z"), Index(0)], Some((2, 2))),
+        (&[Key("x")], Some(Place::Header(6))),
+        (&[Key("x"), Key("y")], Some(Place::Header(1))),
+        (&[Key("x"), Key("y"), Key("z")], Some(Place::KeyVal(2))),
+        (
+            &[Key("x"), Key("y"), Key("z"), Index(0)],
+            Some(Place::Inside(2)),
+        ),
         (&[Key("x"), Key("y"), Key("z"), Index(1)], None),
         (
             &[Key("x"), Key("y"), Key("z"), Index(0), Key("k")],
-            Some((2, 2)),
+            Some(Place::Inside(2)),
         ),
-        (&[Key("t")], Some((6, 3))),
-        (&[Key("t"), Index(1)], Some((3, 4))),
+        (&[Key("t")], Some(Place::Tables(3))),
+        (&[Key("t"), Index(1)], Some(Place::Header(4))),
         (&[Key("t"), Index(2)], None),
-        (&[Key("x"), Key("q")], Some((4, 7))),
-        (&[Key("x"), Key("q"), Key("r"), Key("s")], Some((2, 7))),
+        (&[Key("x"), Key("q")], Some(Place::Dotted(7))),
+        (
+            &[Key("x"), Key("q"), Key("r"), Key("s")],
+            Some(Place::Inside(7)),
+        ),
         (&[Key("q")], None),
     ];
     for (steps, wanted) in rows {
         let at = address(rt.alloc(), steps)?;
-        assert_eq!(rt; line_of(names.place(&at)), wanted);
+        assert_eq!(rt; names.place(&at), wanted);
     }
     Ok(())
 }
 
 #[test]
 fn tables_that_several_lines_make(rt: HostRuntime) -> Result<(), Fail> {
-    let rows: [(&str, &[At], Option<(u8, usize)>); 5] = [
-        ("[a.b]\n[a.c]\n", &[Key("a")], Some((5, 0))),
-        ("[a.b.c]\n[a]\nb.x = 1", &[Key("a"), Key("b")], Some((4, 2))),
-        ("[[t]]\n[t.u]", &[Key("t"), Index(0)], Some((3, 0))),
+    let rows: [(&str, &[At], Option<Place>); 5] = [
+        ("[a.b]\n[a.c]\n", &[Key("a")], Some(Place::Implicit(0))),
+        (
+            "[a.b.c]\n[a]\nb.x = 1",
+            &[Key("a"), Key("b")],
+            Some(Place::Dotted(2)),
+        ),
+        (
+            "[[t]]\n[t.u]",
+            &[Key("t"), Index(0)],
+            Some(Place::Header(0)),
+        ),
         (
             "[[a]]\n[[a.b]]\n[[a]]\n[[a.b]]",
             &[Key("a"), Index(1), Key("b"), Index(0)],
-            Some((3, 3)),
+            Some(Place::Header(3)),
         ),
         (
             "[[a]]\nk = 1\n[[a]]\nk = 1",
             &[Key("a"), Index(1), Key("k")],
-            Some((1, 3)),
+            Some(Place::KeyVal(3)),
         ),
     ];
     for (text, steps, wanted) in rows {
         let doc = doc(rt.alloc(), text)?;
         let names = read_names(rt.alloc(), &doc).map_err(|_| "refused")?;
         let at = address(rt.alloc(), steps)?;
-        assert_eq!(rt; line_of(names.place(&at)), wanted);
+        assert_eq!(rt; names.place(&at), wanted);
     }
     Ok(())
 }
@@ -219,5 +221,93 @@ fn copies_are_the_same(rt: HostRuntime) -> Result<(), Fail> {
     };
     let copy = data.copy(rt.alloc())?;
     assert!(rt; same(&data.root, &copy.root));
+    Ok(())
+}
+
+#[test]
+fn documents_have_their_data(rt: HostRuntime) -> Result<(), Fail> {
+    let doc = doc(rt.alloc(), TEXT)?;
+    let names = read_names(rt.alloc(), &doc).map_err(|_| "refused")?;
+    let rows: [(&[At], &str); 4] = [
+        (&[Key("a"), Key("b")], "1"),
+        (&[Key("x"), Key("y"), Key("z"), Index(0), Key("k")], "1"),
+        (&[Key("x"), Key("q"), Key("r"), Key("s"), Key("t")], "2"),
+        (&[Key("x"), Key("q"), Key("u")], "3"),
+    ];
+    for (steps, token) in rows {
+        let at = address(rt.alloc(), steps)?;
+        let found = names.data().root.at(&at).ok_or("no data")?;
+        let wanted = scalar(rt.alloc(), ScalarKind::Integer, token)?;
+        assert!(rt; same(found, &wanted));
+    }
+    let behind = address(rt.alloc(), &[Key("t"), Index(2)])?;
+    assert!(rt; names.data().root.at(&behind).is_none());
+    Ok(())
+}
+
+#[test]
+fn copies_of_addresses_are_the_same(rt: HostRuntime) -> Result<(), Fail> {
+    let at = address(rt.alloc(), &[Key("t"), Index(1), Key("u")])?;
+    assert!(rt; at.copy(rt.alloc())?.is_same(&at));
+    let mut steps = Vec::new(rt.alloc());
+    for step in at.steps() {
+        steps.push(step.copy(rt.alloc())?)?;
+    }
+    assert!(rt; Address::of(steps).is_same(&at));
+    assert!(rt; Address::of(at.copy(rt.alloc())?.into_steps()).is_same(&at));
+    let name = Name::of(String::from_str(rt.alloc(), "u")?);
+    assert_eq!(rt; name.copy(rt.alloc())?.as_str(), "u");
+    assert_eq!(rt; name.into_string().as_str(), "u");
+    Ok(())
+}
+
+/// The data of a text that is one value, or why they are refused.
+fn data_of(alloc: Global, text: &str) -> Result<Result<Datum, ValueFault>, Fail> {
+    let source = Source::new(text.as_bytes()).map_err(|_| "no text")?;
+    let value = parse_value(alloc, source).map_err(|_| "no value")?;
+    Ok(read_value(alloc, &value))
+}
+
+/// An inline table with a key of so many parts, and what stands behind the key.
+fn with_long_key(alloc: Global, parts: usize, rest: &str) -> Result<String, Fail> {
+    let mut text = String::from_str(alloc, "{a")?;
+    for _ in 1..parts {
+        text.push_str(".a")?;
+    }
+    text.push_str(rest)?;
+    Ok(text)
+}
+
+#[test]
+fn values_have_their_data(rt: HostRuntime) -> Result<(), Fail> {
+    let data = data_of(rt.alloc(), "{a.b = 1, a.c = [2]}")?.map_err(|_| "refused")?;
+    let rows: [(&[At], &str); 2] = [
+        (&[Key("a"), Key("b")], "1"),
+        (&[Key("a"), Key("c"), Index(0)], "2"),
+    ];
+    for (steps, token) in rows {
+        let at = address(rt.alloc(), steps)?;
+        let found = data.at(&at).ok_or("no data")?;
+        let wanted = scalar(rt.alloc(), ScalarKind::Integer, token)?;
+        assert!(rt; same(found, &wanted));
+    }
+    Ok(())
+}
+
+#[test]
+fn values_are_refused(rt: HostRuntime) -> Result<(), Fail> {
+    let twice = data_of(rt.alloc(), "{k = 1, k = 2}")?;
+    assert_eq!(rt; twice.err(), Some(ValueFault::Rules));
+    let rows: [(usize, &str, Option<ValueFault>); 5] = [
+        (100, " = []}", None),
+        (100, " = [1]}", Some(ValueFault::Long)),
+        (101, " = []}", Some(ValueFault::Long)),
+        (101, " = [], k = 1, k = 2}", Some(ValueFault::Rules)),
+        (100, " = [{k = 1, k = 2}]}", Some(ValueFault::Rules)),
+    ];
+    for (parts, rest, wanted) in rows {
+        let text = with_long_key(rt.alloc(), parts, rest)?;
+        assert_eq!(rt; data_of(rt.alloc(), text.as_str())?.err(), wanted);
+    }
     Ok(())
 }

@@ -17,7 +17,7 @@ use Rattle.toml_tree.specs.Tree.{Doc}
 use Rattle.toml_tree.proofs.Exact.{one_tree}
 use Rattle.tomled.specs.Outcomes.{Refuses, Tells}
 use Rattle.tomled.specs.Reading.{AreNamesOf, IsTextRefusal, IsSyntaxRefusal, code_of}
-use Rattle.tomled.specs.Documents.{IsDocument}
+use Rattle.toml_names.specs.Documents.{IsDocument}
 use Rattle.toml_names.specs.Addresses.{Address}
 use Rattle.toml_names.specs.Names.{AreGood, IsRedefined, IsLong, RefusesNames}
 use Rattle.toml_names.specs.declared.fault.NameFault.{NameFault}

@@ -1,7 +1,6 @@
 pub mod CommandLine
 pub mod Counts
 pub mod Request
-pub mod Documents
 pub mod Refusals
 pub mod Outcomes
 pub mod Reading

@@ -1,6 +1,6 @@
 -- What a run of the program comes to.
 use Rattle.std.specs.Prelude.{◌≡◌, ℕ, List, []}
-use Rattle.tomled.specs.Documents.{IsDocument}
+use Rattle.toml_names.specs.Documents.{IsDocument}
 use Rattle.tomled.specs.Refusals.{IsRefusalOf, refusal_line}
 use Rattle.tomled.specs.declared.outcome.Outcome.{Outcome}
 use Rattle.tomled.specs.declared.refusal.Refusal.{Refusal}

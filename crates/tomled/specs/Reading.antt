@@ -10,7 +10,7 @@ use Rattle.toml_tree.specs.Spells.{Spells}
 use Rattle.toml_tree.specs.Tree.{Doc}
 use Rattle.toml_names.specs.Mentions.{Named, named}
 use Rattle.toml_names.specs.Names.{AreGood}
-use Rattle.tomled.specs.Documents.{IsDocument}
+use Rattle.toml_names.specs.Documents.{IsDocument}
 use Rattle.tomled.specs.Refusals.{IsRefusalOf}
 use Rattle.tomled.specs.declared.refusal.Refusal.{Refusal}
 

@@ -1,10 +1,9 @@
-use Rattle.std.proofs.Common.{◌≡◌, ◌∷◌, ◌<◌, length, sym, ap, ◌∙◌, subst, get_or, arith}
+use Rattle.std.proofs.Common.{◌<◌, length, sym, ap, ◌∙◌, arith}
 use Rattle.std.proofs.lemmas.List.{length-map}
 use Rattle.std.proofs.Math.ListN.{get_or-map}
 use Rattle.toml_names.specs.Addresses.{Address}
 use Rattle.toml_names.specs.Building.{with_kind}
 use Rattle.toml_names.specs.Data.{kind_at}
-use Rattle.toml_names.specs.Joining.{IsOpen}
 use Rattle.toml_names.specs.View.{named, all_named, kind}
 use Rattle.toml_names.proofs.Built.{built_none, built_open, built_more, built_all}
 use Rattle.toml_names.proofs.building.datum_of.Goals as goal

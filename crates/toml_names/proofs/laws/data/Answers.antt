@@ -1,19 +1,14 @@
-use Rattle.toml_names.proofs.AllLines.{lines_join}
-use Rattle.toml_names.proofs.FirstNamed.{values_join}
-use Rattle.toml_names.proofs.OfOneKind.{one_kind, first_is_data, values_stand_alone}
+use Rattle.toml_names.proofs.UnderRules.{lines_have_one_kind, line_values_stand_alone, values_have_one_kind, inner_values_stand_alone}
 use Rattle.toml_names.proofs.laws.data.Goals as goal
 
-pub returns-clause-lines : goal.returns-clause-lines
-returns-clause-lines c = lines_join
-
-pub returns-clause-values : goal.returns-clause-values
-returns-clause-values c = values_join
-
 pub returns-clause-kinds : goal.returns-clause-kinds
-returns-clause-kinds c = one_kind
-
-pub returns-clause-first : goal.returns-clause-first
-returns-clause-first c = first_is_data
+returns-clause-kinds c = lines_have_one_kind
 
 pub returns-clause-alone : goal.returns-clause-alone
-returns-clause-alone c = values_stand_alone
+returns-clause-alone c = line_values_stand_alone
+
+pub returns-clause-inner_kinds : goal.returns-clause-inner_kinds
+returns-clause-inner_kinds c = values_have_one_kind
+
+pub returns-clause-inner_alone : goal.returns-clause-inner_alone
+returns-clause-inner_alone c = inner_values_stand_alone
