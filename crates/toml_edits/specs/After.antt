@@ -1,5 +1,5 @@
 -- The data after an edit: a set of facts moved at once. The tree of the data is not mentioned.
-use Rattle.std.specs.Prelude.{◌≡◌, ◌⊎◌, ◌++◌, ℕ, List, [], Some, None}
+use Rattle.std.specs.Prelude.{◌≡◌, ◌⊎◌, ◌++◌, [], Some, None}
 use Rattle.toml_names.specs.Addresses.{Address}
 use Rattle.toml_names.specs.Data.{Kinds}
 use Rattle.toml_names.specs.Mentions.{Kind}

@@ -1,7 +1,6 @@
 -- When an edit is refused, and why: the first row that holds.
 use Rattle.std.specs.Prelude.{◌≡◌, ◌⊎◌, ◌+◌, ◌<◌, ℕ, List, [], ◌∷◌, ◌++◌, length, Option, Some, None, IsSome, MatchOption}
 use Rattle.toml_names.specs.declared.address.Step.{Step}
-use Rattle.toml_names.specs.declared.address.Step.TheVariants.{Name, Index}
 use Rattle.toml_names.specs.Addresses.{Address, child, element}
 use Rattle.toml_names.specs.Data.{Kinds}
 use Rattle.toml_names.specs.Mentions.{a_table, an_array}

@@ -1,12 +1,12 @@
 -- Laws of edits, over the definitions alone.
-use Rattle.std.specs.Prelude.{◌≡◌, ◌++◌, ◌∷◌, ◌+◌, ◌<◌, ◌^◌, ℕ, List, [], length, Option, Some, None, IsSome, option_map}
+use Rattle.std.specs.Prelude.{◌≡◌, ℕ, List, [], ◌∷◌, ◌++◌, length, Some, None, IsSome, option_map}
 use Rattle.toml_names.specs.declared.address.Step.{Step}
-use Rattle.toml_names.specs.declared.address.Step.TheVariants.{Name, Index}
+use Rattle.toml_names.specs.declared.datum.Datum.{Datum}
 use Rattle.toml_names.specs.Addresses.{Address, IsAbove}
-use Rattle.toml_names.specs.Data.{Kinds}
-use Rattle.toml_edits.specs.After.{IsAfter, Moves}
-use Rattle.toml_edits.specs.Carry.{Carrier, carry}
-use Rattle.toml_edits.specs.Edits.{Change, set, insert, rename, remove, place}
+use Rattle.toml_names.specs.Data.{Kinds, kind_at}
+use Rattle.toml_edits.specs.After.{IsAfter}
+use Rattle.toml_edits.specs.Carry.{Carrier, carry, carry_below, nowhere}
+use Rattle.toml_edits.specs.Edits.{Change, set, place}
 use Rattle.toml_edits.specs.Faults.{IsFault}
 
 -- for `set`, the address is not the edit's own
@@ -29,10 +29,21 @@ pub record Front (c : Carrier) (a b : Address) : Type 0 where
 abbrev pub CarriedFront : Type 0
 CarriedFront = (c : Change) (a r b : Address) → carry c (a ++ r) ≡ Some b → Front (carry c) a b
 
+-- Where nothing stands, nothing stands below.
+abbrev pub IsClosed : Kinds → Type 0
+IsClosed kinds = (a : Address) (s : Step) → kinds a ≡ None → kinds (a ++ s ∷ []) ≡ None
+
+abbrev pub DataAreClosed : Type 0
+DataAreClosed = (d : Datum) → IsClosed (kind_at d)
+
 -- Two addresses of the data that an edit without a fault carries to one address are one.
 abbrev pub CarriedApart : Type 0
-CarriedApart = (c : Change) (kinds : Kinds) → IsFault c kinds None → (a b to : Address) → IsSome (kinds a) → IsSome (kinds b) → carry c a ≡ Some to → carry c b ≡ Some to → a ≡ b
+CarriedApart = (c : Change) (kinds : Kinds) → IsClosed kinds → IsFault c kinds None → (a b to : Address) → IsSome (kinds a) → IsSome (kinds b) → carry c a ≡ Some to → carry c b ≡ Some to → a ≡ b
 
 -- An edit makes one thing of data: two maps that are what it makes are equal.
 abbrev pub OneAfter : Type 0
 OneAfter = (c : Change) (old one two : Kinds) → IsAfter c old one → IsAfter c old two → (a : Address) → one a ≡ two a
+
+-- For `set`, the place's own old fact aside, the facts move as the edit carries them.
+abbrev pub SetCarries : Type 0
+SetCarries = (s : Step) (p a : Address) (value : List ℕ) → ¬ (a ≡ s ∷ p) → carry_below (s ∷ p) nowhere a ≡ carry (set (s ∷ p) value) a

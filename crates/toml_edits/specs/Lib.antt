@@ -5,3 +5,8 @@ pub mod ValueTexts
 pub mod Faults
 pub mod EditList
 pub mod Laws
+-- words of the code's own contracts
+pub mod Readings
+pub mod Changed
+pub mod Reach
+pub mod Judged

@@ -1,4 +1,5 @@
 ghost use Rattle.std.specs.Prelude.{◌≡◌};
+ghost use Rattle.toml_edits.specs.declared.fault.EditFault.TheVariants as edits;
 ghost use Rattle.toml_edits.specs.declared.fault.EditsFault.TheVariants as lists;
 
 use std::alloc::{AllocError, AllocFailed};
@@ -63,5 +64,13 @@ impl<T: Drop> From<AllocFailed<T>> for EditsFault {
 
     fn from(_: AllocFailed<T>) -> EditsFault {
         EditsFault::NoMemory
+    }
+}
+
+impl From<AllocError> for EditFault {
+    ghost from_gives = { λ _ e. e ≡ edits.NoMemory };
+
+    fn from(_: AllocError) -> EditFault {
+        EditFault::NoMemory
     }
 }

@@ -1,10 +1,18 @@
 //! Edits on data: what an edit is, what it makes of the data, and where every other thing then stands.
 #![tactic(auto)]
 
+mod applying;
+mod carrying;
+mod change;
 mod edit;
 mod fault;
+pub mod laws;
 mod list;
+mod part;
+mod value;
 
+pub use applying::apply;
+pub use carrying::carry;
 pub use edit::Edit;
 pub use fault::{EditFault, EditsFault};
 pub use list::read_edits;

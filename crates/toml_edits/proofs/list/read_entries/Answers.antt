@@ -1,4 +1,4 @@
-use Rattle.std.proofs.Common.{◌≡◌, ◌<◌, [], length, Some, option_map, sym, ap, subst, ◌∙◌, arith}
+use Rattle.std.proofs.Common.{option_map, sym, ap, subst, ◌∙◌, arith}
 use Rattle.toml_edits.specs.Edits.{change}
 use Rattle.toml_edits.proofs.Lists.{AreRead, edits_more, edits_stop, edits_all}
 use Rattle.toml_edits.proofs.list.read_entries.Goals as goal

@@ -1,4 +1,4 @@
-use Rattle.std.proofs.Common.{◌≡◌, ◌<◌, [], length, Some, sym, ap, subst, ◌∙◌, arith}
+use Rattle.std.proofs.Common.{Some, sym, ap, subst, ◌∙◌, arith}
 use Rattle.toml_edits.proofs.Lists.{TakenSteps, steps_none, steps_more, steps_stop, steps_all}
 use Rattle.toml_edits.proofs.list.steps_of.Goals as goal
 

@@ -1,0 +1,213 @@
+//! Edits applied to data.
+ghost use Rattle.std.specs.Prelude.{◌≡◌, ◌⊎◌, ◌↔◌, ◌∷◌, [], Some, None, IsSome, IsTrue, IfErr, OnOk, OnErr, ℕ, List};
+ghost use Rattle.toml_names.specs.declared.address.Step.TheVariants.{Name};
+ghost use Rattle.toml_names.specs.Addresses.{Address as Place, child};
+ghost use Rattle.toml_names.specs.Data.{kind_at};
+ghost use Rattle.toml_edits.specs.After.{IsAfter};
+ghost use Rattle.toml_edits.specs.declared.fault.EditFault.TheVariants.{NoMemory};
+ghost use Rattle.toml_edits.specs.Edits.{change, set, insert, rename, remove};
+ghost use Rattle.toml_edits.specs.Faults.{IsFault};
+ghost use Rattle.toml_edits.specs.Judged.{IsFitting, IsStepFault, IsJudged};
+ghost use Rattle.toml_edits.specs.Readings.{IsReading};
+
+use crate::change::{DatumChange, alter};
+use crate::edit::Edit;
+use crate::fault::EditFault;
+use crate::part::{part, reaches};
+use crate::value::{Reading, read_text};
+use std::alloc::Global;
+use toml_names::{Data, Datum, Step};
+
+/// How many steps an address may have.
+const MAX_STEPS: usize = 100;
+
+/// Applies an edit to data. It tells the first fault of this order, `NoMemory` aside, which may come in place of any
+/// answer; after a fault the data are as before.
+///
+/// | Fault | When |
+/// |---|---|
+/// | `RootNamed` | the address is that of the root |
+/// | `BadValue` | `set`, `insert`: the text is longer than a text may be, is not one value, or a key in it breaks the table rules |
+/// | `NoSuchPlace` | `set`, `rename`, `remove`: nothing stands at the address; `insert`: nothing at its parent |
+/// | `NotATable` | `insert` of a name: the parent is no table |
+/// | `IndexOutside` | `insert` at an index: the parent is no array, or the index is greater than its length |
+/// | `NotAName` | `rename`: the last step is an index |
+/// | `AlreadyThere` | `insert`: the table has the name; `rename`: it has the new name, which may be the old one |
+/// | `AddressLength` | `set`, `insert`: an address of the result would have more than 100 steps |
+/// | `NoMemory` | a growth was refused |
+///
+/// A parent that loses its last child stays.
+pub fn apply(alloc: Global, data: &mut Data, edit: &Edit) -> Result<(), EditFault>
+    ensures fault { IfErr result (λ x. (x ≡ NoMemory) ⊎ IsFault (change edit.now) (kind_at «data».old.root) (Some x)) }
+    ensures ok { OnOk result (IsFault (change edit.now) (kind_at «data».old.root) None × IsAfter (change edit.now) (kind_at «data».old.root) (kind_at «data».new.root)) }
+    ensures err { OnErr result ((at : Place) → kind_at «data».new.root at ≡ kind_at «data».old.root at) }
+{
+    let root = &mut data.root;
+    match edit {
+        Edit::Set { at, value } => set(alloc, root, at.steps(), value.as_str()),
+        Edit::Insert { at, value } => insert(alloc, root, at.steps(), value.as_str()),
+        Edit::Rename { at, to } => rename(alloc, root, at.steps(), to.as_str()),
+        Edit::Remove { at } => remove(alloc, root, at.steps()),
+    }
+}
+
+fn remove(alloc: Global, root: &mut Datum, at: &[Step]) -> Result<(), EditFault>
+    ensures fault { IfErr result (λ x. (x ≡ NoMemory) ⊎ IsFault (remove at.now) (kind_at root.old) (Some x)) }
+    ensures ok { OnOk result (IsFault (remove at.now) (kind_at root.old) None × IsAfter (remove at.now) (kind_at root.old) (kind_at root.new)) }
+    ensures err { OnErr result ((p : Place) → kind_at root.new p ≡ kind_at root.old p) }
+{
+    let Some((last, parent)) = at.split_last() else {
+        return Err(EditFault::RootNamed);
+    };
+    if part(&*root, at).is_none() {
+        return Err(EditFault::NoSuchPlace);
+    }
+    match last {
+        Step::Name(name) => alter(alloc, root, parent, DatumChange::DropMember(name.as_str())),
+        Step::Index(index) => alter(alloc, root, parent, DatumChange::DropElement(*index)),
+    }
+}
+
+fn rename(alloc: Global, root: &mut Datum, at: &[Step], to: &str) -> Result<(), EditFault>
+    ensures fault { IfErr result (λ x. (x ≡ NoMemory) ⊎ IsFault (rename at.now to.now) (kind_at root.old) (Some x)) }
+    ensures ok { OnOk result (IsFault (rename at.now to.now) (kind_at root.old) None × IsAfter (rename at.now to.now) (kind_at root.old) (kind_at root.new)) }
+    ensures err { OnErr result ((p : Place) → kind_at root.new p ≡ kind_at root.old p) }
+{
+    let Some((last, parent)) = at.split_last() else {
+        return Err(EditFault::RootNamed);
+    };
+    if part(&*root, at).is_none() {
+        return Err(EditFault::NoSuchPlace);
+    }
+    let Step::Name(from) = last else {
+        return Err(EditFault::NotAName);
+    };
+    if has_member(&*root, parent, to) {
+        return Err(EditFault::AlreadyThere);
+    }
+    alter(alloc, root, parent, DatumChange::Rename(from.as_str(), to))
+}
+
+/// Whether a table stands at the steps and has the name.
+fn has_member(root: &Datum, steps: &[Step], name: &str) -> bool
+    ensures { IsTrue result ↔ IsSome (kind_at root.now (child steps.now name.now)) }
+{
+    let Some(datum) = part(root, steps) else {
+        return false;
+    };
+    has_name(datum, name)
+}
+
+/// Whether it is a table that has the name.
+fn has_name(datum: &Datum, name: &str) -> bool
+    ensures { IsTrue result ↔ IsSome (kind_at datum.now (Name name.now ∷ [])) }
+{
+    match datum {
+        Datum::Table(members) => members.contains_key(name),
+        _ => false,
+    }
+}
+
+fn set(alloc: Global, root: &mut Datum, at: &[Step], text: &str) -> Result<(), EditFault>
+    ensures fault { IfErr result (λ x. (x ≡ NoMemory) ⊎ IsFault (set at.now text.now) (kind_at root.old) (Some x)) }
+    ensures ok { OnOk result (IsFault (set at.now text.now) (kind_at root.old) None × IsAfter (set at.now text.now) (kind_at root.old) (kind_at root.new)) }
+    ensures err { OnErr result ((p : Place) → kind_at root.new p ≡ kind_at root.old p) }
+{
+    let value = value_to_set(alloc, &*root, at, text)?;
+    alter(alloc, root, at, DatumChange::Put(value))
+}
+
+/// The data of the text, if they may be set at the steps.
+fn value_to_set(alloc: Global, root: &Datum, at: &[Step], text: &str) -> Result<Datum, EditFault>
+    ensures { IsJudged (set at.now text.now) text.now (kind_at root.now) result }
+{
+    if at.is_empty() {
+        return Err(EditFault::RootNamed);
+    }
+    let reading = read_text(alloc, text)?;
+    if reading.is_bad() {
+        return Err(EditFault::BadValue);
+    }
+    if part(root, at).is_none() {
+        return Err(EditFault::NoSuchPlace);
+    }
+    fitting(at, reading)
+}
+
+fn insert(alloc: Global, root: &mut Datum, at: &[Step], text: &str) -> Result<(), EditFault>
+    ensures fault { IfErr result (λ x. (x ≡ NoMemory) ⊎ IsFault (insert at.now text.now) (kind_at root.old) (Some x)) }
+    ensures ok { OnOk result (IsFault (insert at.now text.now) (kind_at root.old) None × IsAfter (insert at.now text.now) (kind_at root.old) (kind_at root.new)) }
+    ensures err { OnErr result ((p : Place) → kind_at root.new p ≡ kind_at root.old p) }
+{
+    let Some((last, parent)) = at.split_last() else {
+        return Err(EditFault::RootNamed);
+    };
+    let value = value_to_insert(alloc, &*root, at, text)?;
+    match last {
+        Step::Name(name) => alter(
+            alloc,
+            root,
+            parent,
+            DatumChange::AddMember(name.as_str(), value),
+        ),
+        Step::Index(index) => alter(alloc, root, parent, DatumChange::AddElement(*index, value)),
+    }
+}
+
+/// The data of the text, if they may be inserted at the steps.
+fn value_to_insert(alloc: Global, root: &Datum, at: &[Step], text: &str) -> Result<Datum, EditFault>
+    ensures { IsJudged (insert at.now text.now) text.now (kind_at root.now) result }
+{
+    let Some((last, above)) = at.split_last() else {
+        return Err(EditFault::RootNamed);
+    };
+    let reading = read_text(alloc, text)?;
+    if reading.is_bad() {
+        return Err(EditFault::BadValue);
+    }
+    let Some(parent) = part(root, above) else {
+        return Err(EditFault::NoSuchPlace);
+    };
+    if let Some(fault) = step_fault(parent, last) {
+        return Err(fault);
+    }
+    fitting(at, reading)
+}
+
+/// Why nothing new may stand one step below.
+fn step_fault(parent: &Datum, step: &Step) -> Option<EditFault>
+    ensures { IsStepFault step.now (kind_at parent.now) result }
+{
+    match step {
+        Step::Name(name) => match parent {
+            Datum::Table(members) if members.contains_key(name.as_str()) => {
+                Some(EditFault::AlreadyThere)
+            }
+            Datum::Table(_) => None,
+            _ => Some(EditFault::NotATable),
+        },
+        Step::Index(index) => match parent {
+            Datum::Array(items) if *index <= items.len() as u64 => None,
+            _ => Some(EditFault::IndexOutside),
+        },
+    }
+}
+
+/// The data of what was read, if no address in them is too long below the steps.
+fn fitting(at: &[Step], reading: Reading) -> Result<Datum, EditFault>
+    ensures { (text : List ℕ) → IsReading text reading → IsFitting at.now text result }
+{
+    match reading {
+        Reading::Good(value) => {
+            if reaches(&value, (MAX_STEPS + 1).saturating_sub(at.len())) {
+                return Err(EditFault::AddressLength);
+            }
+            Ok(value)
+        }
+        Reading::Bad => Err(EditFault::BadValue),
+        Reading::Long => Err(EditFault::AddressLength),
+    }
+}
+
+#[cfg(test)]
+mod tests;
