@@ -1,5 +1,5 @@
 -- What a datum has where one part changes.
-use Rattle.std.proofs.Common.{◌≡◌, ◌⊎◌, inl, inr, ◌&&◌, true≢false, ℕ, zero, suc, ◌<◌, ◌≤◌, ◌==◌, Bool, true, false, cond, List, [], ◌∷◌, ◌++◌, length, map, set, Option, Some, None, IsSome, is_some, String, Vec, BTreeMap, Global, bytes_eq, refl, sym, ap, subst, ◌∙◌, arith}
+use Rattle.std.proofs.Common.{◌≡◌, ◌⊎◌, inl, inr, ◌&&◌, true≢false, ℕ, zero, suc, ◌<◌, ◌≤◌, Bool, true, false, cond, List, [], ◌∷◌, ◌++◌, length, map, set, Option, Some, None, IsSome, is_some, String, Vec, BTreeMap, Global, bytes_eq, refl, sym, ap, subst, ◌∙◌, arith}
 use Rattle.std.proofs.lemmas.Bool.{cases_lt}
 use Rattle.std.proofs.lemmas.Bool.Decides.{nat_tests}
 use Rattle.std.specs.Bool.{nat_eq}
@@ -17,7 +17,7 @@ use Rattle.toml_names.specs.Data.{Kinds, kind_at, kind_in, in_array, in_table}
 use Rattle.toml_names.specs.Joining.{IsNext, IsFree}
 use Rattle.toml_names.specs.Mentions.{Kind}
 use Rattle.toml_names.proofs.Equal.{same_step-equal}
-use Rattle.toml_names.proofs.Alike.{part_there, kind_there}
+use Rattle.toml_names.proofs.Alike.{part_there}
 use Rattle.toml_names.proofs.Levels.{by_cases, kind_at-array, kind_at-table, scalar-below, array-here, array-item, array-name, table-here, table-member, table-index, has_kind}
 
 same_test : (i j : ℕ) → nat_eq i j ≡ nat_eq (suc i) (suc j)

@@ -1,4 +1,4 @@
-use Rattle.std.proofs.Common.{arith, ◌≡◌, ◌∷◌, ◌<◌, Option, Some, None, cond, [], IsSome, sym, ap, ◌∙◌, subst}
+use Rattle.std.proofs.Common.{arith, ◌≡◌, ◌∷◌, Option, Some, None, cond, [], IsSome, sym, ap, ◌∙◌, subst}
 use Rattle.std.specs.BTreeMap.{get_by_text}
 use Rattle.std.specs.Str.{bytes_eq}
 use Rattle.toml_names.specs.declared.address.Step.{Step}
