@@ -3,14 +3,15 @@
 
   bench/check.py --binary crates/tomled/out/tomled
 
-Texts of many names end in a mistake, so that the time is that of reading: the table rules, which compare mentions
-pair by pair for now, are not reached.
+The first texts end in a mistake, so that the time is that of reading the syntax. Those behind them, whose names begin
+with "names", are documents, or refused for their names: the table rules are judged too.
 
 For each text it prints the best of some runs: seconds, megabytes a second, the ratio to `wc -l` and to
 `cat`, and the peak memory as a multiple of the text. No test rests on these numbers.
 """
 import argparse
 import os
+import random
 import subprocess
 import sys
 import tempfile
@@ -50,6 +51,41 @@ def array(item, first=10_000_000_000_000):
     return b''.join(out) + b']\n?'
 
 
+def grouped(header, keys):
+    """A header before so many keys, again and again, as often as a text may have it."""
+    out, size, number = [], 0, 0
+    while True:
+        part = header(number) + b''.join(b'name_%d = "value %d"\n' % (key, number) for key in range(keys))
+        if size + len(part) > LIMIT:
+            return b''.join(out)
+        out.append(part)
+        size += len(part)
+        number += 1
+
+
+def alike(front):
+    """Names of 48 bytes that begin alike, as many as a text may have."""
+    lines = LIMIT // 51
+    return b''.join(front + b'%08d' % number + b'abcdefghijklmnop=1\n' for number in range(lines))
+
+
+MULTIPLIER, SEED, WORD = 0x9e3779b97f4a7c15, 0x243f6a8885a308d3, (1 << 64) - 1
+LETTERS = b'abcdefghijklmnopqrstuvwxyzABCDEFGHIJKLMNOPQRSTUVWXYZ0123456789_-'
+
+
+def front_of_colliding_names():
+    """24 bytes of a bare key behind which eight bytes do not count for `indexmap`'s default hash of a name of 48: the
+    first 16 bring its state to eight bytes of a key, and those bytes in turn make the product 0."""
+    numbers = random.Random(1)
+    while True:
+        first = bytes(numbers.choice(LETTERS) for _ in range(16))
+        product = ((SEED + 48 & WORD ^ int.from_bytes(first[:8], 'little'))
+                   * (int.from_bytes(first[8:], 'little') ^ MULTIPLIER))
+        state = (product & WORD ^ product >> 64).to_bytes(8, 'little')
+        if all(byte in LETTERS for byte in state):
+            return first + state
+
+
 TEXTS = {
     'comment lines': lambda: filled(b'# a comment of a usual length, with a few words in it\n'),
     'spaces': lambda: b' ' * LIMIT,
@@ -70,6 +106,13 @@ TEXTS = {
     'array h., short': lambda: filled(b'[[products.variants]]\n')[:-1] + b'?',
     'dotted key': lambda: b'a' + b'.a' * (LIMIT // 2 - 4) + b' = 1\n?',
     'brackets': lambda: b'a = ' + b'[' * (LIMIT - 4),
+    'names, integers': lambda: numbered(b'key_', b' = 1_000_000\n'),
+    'names, tables': lambda: grouped(lambda number: b'[table_%d]\n' % number, 7),
+    'names, arrays': lambda: grouped(lambda number: b'[[tables]]\n', 2),
+    'names, elements': lambda: array(b'%d, ')[:-1],
+    'names, alike': lambda: alike(b'a_front_of_24_bytes_that'),
+    'names, colliding': lambda: alike(front_of_colliding_names()),
+    'names, long key': lambda: b'a' + b'.a' * (LIMIT // 2 - 4) + b' = 1\n',
 }
 
 
@@ -77,7 +120,7 @@ def seconds(words):
     start = time.perf_counter()
     done = subprocess.run(words, stdout=subprocess.DEVNULL, stderr=subprocess.PIPE, check=False)
     took = time.perf_counter() - start
-    if done.returncode != 0 and not done.stderr.startswith((b'refused 104 ', b'refused 109 ')):
+    if done.returncode != 0 and not done.stderr.startswith((b'refused 104 ', b'refused 109 ', b'refused 203 ')):
         sys.exit('%s failed: %s' % (' '.join(words), done.stderr.decode()))
     return took
 

@@ -13,7 +13,7 @@ ghost use Rattle.toml_edits.specs.Readings.{IsReading};
 use crate::change::{DatumChange, alter};
 use crate::edit::Edit;
 use crate::fault::EditFault;
-use crate::part::{part, reaches};
+use crate::reach::reaches;
 use crate::value::{Reading, read_text};
 use std::alloc::Global;
 use toml_names::{Data, Datum, Step};
@@ -59,7 +59,7 @@ fn remove(alloc: Global, root: &mut Datum, at: &[Step]) -> Result<(), EditFault>
     let Some((last, parent)) = at.split_last() else {
         return Err(EditFault::RootNamed);
     };
-    if part(&*root, at).is_none() {
+    if root.part(at).is_none() {
         return Err(EditFault::NoSuchPlace);
     }
     match last {
@@ -76,7 +76,7 @@ fn rename(alloc: Global, root: &mut Datum, at: &[Step], to: &str) -> Result<(), 
     let Some((last, parent)) = at.split_last() else {
         return Err(EditFault::RootNamed);
     };
-    if part(&*root, at).is_none() {
+    if root.part(at).is_none() {
         return Err(EditFault::NoSuchPlace);
     }
     let Step::Name(from) = last else {
@@ -92,7 +92,7 @@ fn rename(alloc: Global, root: &mut Datum, at: &[Step], to: &str) -> Result<(), 
 fn has_member(root: &Datum, steps: &[Step], name: &str) -> bool
     ensures { IsTrue result ↔ IsSome (kind_at root.now (child steps.now name.now)) }
 {
-    let Some(datum) = part(root, steps) else {
+    let Some(datum) = root.part(steps) else {
         return false;
     };
     has_name(datum, name)
@@ -128,7 +128,7 @@ fn value_to_set(alloc: Global, root: &Datum, at: &[Step], text: &str) -> Result<
     if reading.is_bad() {
         return Err(EditFault::BadValue);
     }
-    if part(root, at).is_none() {
+    if root.part(at).is_none() {
         return Err(EditFault::NoSuchPlace);
     }
     fitting(at, reading)
@@ -165,7 +165,7 @@ fn value_to_insert(alloc: Global, root: &Datum, at: &[Step], text: &str) -> Resu
     if reading.is_bad() {
         return Err(EditFault::BadValue);
     }
-    let Some(parent) = part(root, above) else {
+    let Some(parent) = root.part(above) else {
         return Err(EditFault::NoSuchPlace);
     };
     if let Some(fault) = step_fault(parent, last) {

@@ -8,7 +8,7 @@ mod edit;
 mod fault;
 pub mod laws;
 mod list;
-mod part;
+mod reach;
 mod value;
 
 pub use applying::apply;

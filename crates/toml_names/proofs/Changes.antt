@@ -1,5 +1,5 @@
 -- What a datum has where one part changes.
-use Rattle.std.proofs.Common.{◌≡◌, ◌⊎◌, inl, inr, ◌&&◌, true≢false, ℕ, zero, suc, ◌<◌, ◌≤◌, Bool, true, false, cond, List, [], ◌∷◌, ◌++◌, length, map, set, Option, Some, None, IsSome, is_some, String, Vec, BTreeMap, Global, bytes_eq, refl, sym, ap, subst, ◌∙◌, arith}
+use Rattle.std.proofs.Common.{◌≡◌, ◌⊎◌, inl, inr, true≢false, ℕ, zero, suc, ◌<◌, ◌≤◌, Bool, true, false, cond, List, [], ◌∷◌, length, map, set, Option, Some, None, IsSome, is_some, String, Vec, BTreeMap, Global, bytes_eq, refl, sym, ap, subst, ◌∙◌, arith}
 use Rattle.std.proofs.lemmas.Bool.{cases_lt}
 use Rattle.std.proofs.lemmas.Bool.Decides.{nat_tests}
 use Rattle.std.specs.Bool.{nat_eq}
@@ -11,12 +11,11 @@ use Rattle.toml_names.specs.declared.datum.Datum.{Datum, Array, Table}
 use Rattle.toml_names.specs.declared.datum.Datum.TheVariants.{rolls-Scalar, rolls-Array, rolls-Table}
 use Rattle.toml_names.specs.declared.datum.Datum.TheOpen.{Datum-F}
 use Rattle.toml_names.specs.declared.datum.Datum.TheViews.{roll-Datum}
-use Rattle.toml_names.specs.Addresses.{Address, same_step, same_address}
-use Rattle.toml_names.specs.Building.{only, IsOnly, with_child, with_kind}
+use Rattle.toml_names.specs.Addresses.{Address}
+use Rattle.toml_names.specs.Building.{with_child}
 use Rattle.toml_names.specs.Data.{Kinds, kind_at, kind_in, in_array, in_table}
-use Rattle.toml_names.specs.Joining.{IsNext, IsFree}
 use Rattle.toml_names.specs.Mentions.{Kind}
-use Rattle.toml_names.proofs.Equal.{same_step-equal}
+use Rattle.toml_names.proofs.Equal.{same_step-self}
 use Rattle.toml_names.proofs.Alike.{part_there}
 use Rattle.toml_names.proofs.Levels.{by_cases, kind_at-array, kind_at-table, scalar-below, array-here, array-item, array-name, table-here, table-member, table-index, has_kind}
 
@@ -82,25 +81,6 @@ part_above (Some d) at some = has_kind d
 pub step_there : (d : Datum) (s : Step) (at : Address) → IsSome (kind_at d (s ∷ at)) → IsSome (kind_at d (s ∷ []))
 step_there d s at some = let p = has_part s d in subst IsSome (sym (p.1 [])) (part_above p.0 at (subst IsSome (p.1 at) some))
 
-get_push : {X : Type 0} (xs : List X) (x : X) (j : ℕ) → slice_get (xs ++ x ∷ []) j ≡ cond (nat_eq (length xs) j) (Some x) (slice_get xs j)
-get_push [] x zero = refl
-get_push [] x (suc j) = grind (arith, nat_tests)
-get_push (y ∷ xs) x zero = grind (arith, nat_tests)
-get_push (y ∷ xs) x (suc j) = get_push xs x j ∙ ap (λ b. cond b (Some x) (slice_get xs j)) (same_test (length xs) j)
-
-pub array-pushed : (v w : Vec Datum Global) (i : ℕ) (d : Datum) → w.items ≡ v.items ++ d ∷ [] → length v.items ≡ i → (at : Address) → kind_at (Array w) at ≡ with_child (Index i) (kind_at d) (kind_at (Array v)) at
-array-pushed v w i d is last [] = array-here w ∙ sym (array-here v)
-array-pushed v w i d is last (Name n ∷ at) = array-name w n at ∙ sym (array-name v n at)
-array-pushed v w i d is last (Index j ∷ at) =
-    array-item w j at ∙ ap (λ (ds : List Datum). kind_in (slice_get ds j) at) is ∙ ap (λ (o : Option Datum). kind_in o at) (get_push v.items d j)
-    ∙ one_of (nat_eq (length v.items) j) (Some d) (slice_get v.items j) at ∙ ap (λ k. cond (nat_eq k j) (kind_at d at) (kind_in (slice_get v.items j) at)) last
-    ∙ ap (cond (nat_eq i j) (kind_at d at)) (sym (array-item v j at))
-
--- an array that has an element at each index below this one, and none at it, has so many
-filled : (v : Vec Datum Global) (i : ℕ) → ((j : ℕ) → j < i → IsSome (kind_at (Array v) (Index j ∷ []))) → i ≤ length v.items
-filled v zero all = omega arith
-filled v (suc i) all = let low : i < length v.items = array-within v i (all i (omega arith)) in omega arith
-
 some_below : (ds : List Datum) (i : ℕ) → i < length ds → IsSome (kind_in (slice_get ds i) [])
 some_below [] i low = absurd (omega arith)
 some_below (d ∷ ds) zero low = has_kind d
@@ -108,57 +88,6 @@ some_below (d ∷ ds) (suc i) low = some_below ds i (omega arith)
 
 no_some : {P : Type 0} (o : Option Kind) → o ≡ None → IsSome o → P
 no_some o none some = absurd (true≢false (sym some ∙ ap is_some none))
-
-pub array-next : (v : Vec Datum Global) (i : ℕ) → kind_at (Array v) (Index i ∷ []) ≡ None → ((j : ℕ) → j < i → IsSome (kind_at (Array v) (Index j ∷ []))) → length v.items ≡ i
-array-next v i absent all = by (cases_lt i (length v.items))
-  where
-    by : i < length v.items ⊎ (length v.items ≤ i) → length v.items ≡ i
-    by (inl low) = no_some _ absent (subst IsSome (sym (array-item v i [])) (some_below v.items i low))
-    by (inr high) = let low : i ≤ length v.items = filled v i all in omega arith
-
--- a part with nothing in it, put where nothing stands
-none_below : (d : Datum) (s : Step) → kind_at d (s ∷ []) ≡ None → (at : Address) → kind_at d (s ∷ at) ≡ None
-none_below d s absent at = by (has_part s d)
-  where
-    none : (o : Option Datum) → kind_in o [] ≡ None → kind_in o at ≡ None
-    none None is = refl
-    none (Some e) is = no_some _ is (has_kind e)
-
-    by : HasPart s d → kind_at d (s ∷ at) ≡ None
-    by p = p.1 at ∙ none p.0 (sym (p.1 []) ∙ absent)
-
-pub child_is_kind : (d : Datum) (s : Step) (k : Kind) (part : Kinds) → ((at : Address) → part at ≡ only k at) → kind_at d (s ∷ []) ≡ None
-    → (at : Address) → with_child s part (kind_at d) at ≡ with_kind (s ∷ []) k (kind_at d) at
-child_is_kind d s k part is absent [] = sym (ap (λ b. cond b (kind_at d []) (kind_at d [])) (ap is_some absent))
-child_is_kind d s k part is absent (t ∷ at) =
-    by (same_step s t) refl ∙ sym (ap (λ b. cond b (kind_at d (t ∷ at)) (cond (same_step s t && same_address [] at) (Some k) (kind_at d (t ∷ at)))) (ap is_some absent))
-  where
-    whole : (at : Address) → kind_at d (t ∷ at) ≡ only k at ⊎ (kind_at d (t ∷ at) ≡ None) → part at ≡ cond (same_address [] at) (Some k) (kind_at d (t ∷ at))
-    whole [] h = is []
-    whole (u ∷ at) (inl h) = is (u ∷ at) ∙ sym h
-    whole (u ∷ at) (inr h) = is (u ∷ at) ∙ sym h
-
-    by : (b : Bool) → same_step s t ≡ b → cond b (part at) (kind_at d (t ∷ at)) ≡ cond (b && same_address [] at) (Some k) (kind_at d (t ∷ at))
-    by true same = whole at (inr (ap (λ (u : Step). kind_at d (u ∷ at)) (sym (same_step-equal s t same)) ∙ none_below d s absent at))
-    by false apart = refl
-
--- one step alone is the last
-alone : (p : Address) (s l : Step) → s ∷ [] ≡ p ++ l ∷ [] → (p ≡ []) × (s ≡ l)
-alone [] s l is = (refl, cc)
-alone (t ∷ []) s l is = cc
-alone (t ∷ u ∷ p) s l is = cc
-
-next_of : (kinds : Kinds) (s : Step) → IsFree kinds (s ∷ []) → IsNext kinds [] s
-next_of kinds s free = let is = alone free.parent s free.last free.is in subst (λ p. IsNext kinds p s) is.0 (subst (IsNext kinds free.parent) (sym is.1) free.next)
-
-pub added_item : (v w : Vec Datum Global) (i : ℕ) (d : Datum) (k : Kind) → w.items ≡ v.items ++ d ∷ [] → IsFree (kind_at (Array v)) (Index i ∷ []) → IsOnly k d
-    → (at : Address) → kind_at (Array w) at ≡ with_kind (Index i ∷ []) k (kind_at (Array v)) at
-added_item v w i d k is free empty at =
-    array-pushed v w i d is (array-next v i free.absent (next_of (kind_at (Array v)) (Index i) free).1) at ∙ child_is_kind (Array v) (Index i) k (kind_at d) empty free.absent at
-
-pub added_member : (m n : BTreeMap (String Global) Datum) (name : List ℕ) (d : Datum) (k : Kind) → ((q : List ℕ) → get_by_text n q ≡ cond (bytes_eq name q) (Some d) (get_by_text m q))
-    → IsFree (kind_at (Table m)) (Name name ∷ []) → IsOnly k d → (at : Address) → kind_at (Table n) at ≡ with_kind (Name name ∷ []) k (kind_at (Table m)) at
-added_member m n name d k is free empty at = table-set m n name d is at ∙ child_is_kind (Table m) (Name name) k (kind_at d) empty free.absent at
 
 -- where nothing stands at an index, the array has no more elements; where nothing stands at a name, the table has no such member
 pub array-past : (v : Vec Datum Global) (i : ℕ) → kind_at (Array v) (Index i ∷ []) ≡ None → length v.items ≤ i
@@ -181,3 +110,7 @@ array-alike v w is at = ap (λ (f : Kinds). f at) (kind_at-array w ∙ ap (λ ds
 
 pub table-alike : (m n : BTreeMap (String Global) Datum) → n.entries ≡ m.entries → (at : Address) → kind_at (Table n) at ≡ kind_at (Table m) at
 table-alike m n is at = ap (λ (f : Kinds). f at) (kind_at-table n ∙ ap (λ es. in_table (map (λ (e : String Global × Datum). (e.0, kind_at e.1)) es)) is ∙ sym (kind_at-table m))
+
+-- a hole that was left is there
+pub hole_there : (s : Step) (hole kinds : Kinds) → IsSome (hole []) → IsSome (with_child s hole kinds (s ∷ []))
+hole_there s hole kinds some = subst (λ b. IsSome (cond b (hole []) (kinds (s ∷ [])))) (sym (same_step-self s)) some

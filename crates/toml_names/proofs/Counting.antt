@@ -13,7 +13,7 @@ use Rattle.toml_names.proofs.Equal.{same_address-self}
 abbrev pub adds : Address → Named → ℕ
 adds at m = cond (is_tables_at at m) 1 0
 
-count_cons : (m : Named) (ms : List Named) (at : Address) → count_tables (m ∷ ms) at ≡ adds at m + count_tables ms at
+pub count_cons : (m : Named) (ms : List Named) (at : Address) → count_tables (m ∷ ms) at ≡ adds at m + count_tables ms at
 count_cons m ms at = sum_by-cons (adds at) m ms
 
 pub count_push : (ms : List Named) (m : Named) (at : Address) → count_tables (ms ++ m ∷ []) at ≡ count_tables ms at + adds at m

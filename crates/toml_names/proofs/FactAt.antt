@@ -7,10 +7,10 @@ use Rattle.toml_names.specs.Data.{IsFact, fact_at}
 use Rattle.toml_names.specs.Mentions.{Kind, Named}
 use Rattle.toml_names.proofs.Equal.{same_address-equal, same_address-self}
 
-any_here : (P : Named → Type 0) (m : Named) (ms : List Named) → P m → Any P (m ∷ ms)
+pub any_here : (P : Named → Type 0) (m : Named) (ms : List Named) → P m → Any P (m ∷ ms)
 any_here P m ms p = (zero, m, omega arith, refl, p)
 
-any_later : (P : Named → Type 0) (m : Named) (ms : List Named) → Any P ms → Any P (m ∷ ms)
+pub any_later : (P : Named → Type 0) (m : Named) (ms : List Named) → Any P ms → Any P (m ∷ ms)
 any_later P m ms (k, x, low, is, p) = (suc k, x, omega (arith, low), is, p)
 
 -- what holds of all holds of the one

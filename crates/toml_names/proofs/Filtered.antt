@@ -12,7 +12,7 @@ use Rattle.toml_names.specs.Rules.{may_follow, fits, misfit, RulesAreOfMentions}
 use Rattle.toml_names.proofs.Bare.{or_true, bare_fits}
 use Rattle.toml_names.proofs.Offences.{no_misfit}
 
-is_bare : (r : Role) → elim r [ Bare ↦ false | _ ↦ true ] ≡ false → r ≡ Bare
+pub is_bare : (r : Role) → elim r [ Bare ↦ false | _ ↦ true ] ≡ false → r ≡ Bare
 is_bare Passed h = absurd (true≢false h)
 is_bare Header h = absurd (true≢false h)
 is_bare Dotted h = absurd (true≢false h)

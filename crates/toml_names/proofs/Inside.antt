@@ -48,7 +48,7 @@ module _ (line : ℕ) (at : Address) where
   elements-array_items es (Some g) = elements-before_end es 0 (gap g)
   elements-array_items es None = elements-last_ends es 0
 
-  inside-array : (b : Box Array Global) → inside line at (value (made.Array b)) ≡ elements_of line at 0 (map tree_element (out-Array b.value).items.items)
+  pub inside-array : (b : Box Array Global) → inside line at (value (made.Array b)) ≡ elements_of line at 0 (map tree_element (out-Array b.value).items.items)
   inside-array b = ap (inside line at) (value_array b) ∙ elements-array_items (map tree_element (out-Array b.value).items.items) (out-Array b.value).end
 
   members-pairs_of : (ms : List Member) (m : Member) → members line at (pairs_of m ms) ≡ members_of line at (m ∷ ms)
@@ -61,7 +61,7 @@ module _ (line : ℕ) (at : Address) where
   members-inline whole ms (Some ws) h = cc
 
   -- an inline table without whitespace for no pair names what its pairs name
-  inside-inline : (b : Box InlineTable Global) → is_some (out-InlineTable b.value).ws ≡ false → inside line at (value (made.Inline b)) ≡ members_of line at (map member (out-InlineTable b.value).pairs.items)
+  pub inside-inline : (b : Box InlineTable Global) → is_some (out-InlineTable b.value).ws ≡ false → inside line at (value (made.Inline b)) ≡ members_of line at (map member (out-InlineTable b.value).pairs.items)
   inside-inline b none =
       let table = out-InlineTable b.value in
       ap (inside line at) (value_inline b) ∙ members-inline (piece table.whole) (map member table.pairs.items) table.ws none

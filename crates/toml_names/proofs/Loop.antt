@@ -1,14 +1,11 @@
 -- A loop that takes line by line.
-use Rattle.std.proofs.Common.{◌≡◌, refl, ℕ, ◌+◌, ◌<◌, List, [], ◌∷◌, ◌++◌, length, take, Ok, Err, sym, ap, subst, ◌∙◌, get_or}
+use Rattle.std.proofs.Common.{◌≡◌, ℕ, ◌+◌, ◌<◌, List, ◌++◌, length, take, Ok, Err, sym, ap, ◌∙◌, get_or}
 use Rattle.toml_tree.specs.Tree.{Line}
 use Rattle.toml_names.specs.Addresses.{Address}
-use Rattle.toml_names.specs.Mentions.{Named, root, named, named_by, named_from, section}
+use Rattle.toml_names.specs.Mentions.{Named, named, named_by, section}
 use Rattle.toml_names.specs.Names.{AreGood, Judges, IsTaken, RefusesNames}
 use Rattle.toml_names.specs.declared.fault.NameFault.{NameFault}
 use Rattle.toml_names.specs.declared.fault.NameFault.TheVariants as faults
-use Rattle.toml_names.specs.Building.{BeginsAtRoot}
-use Rattle.toml_names.specs.Joining.{Joined}
-use Rattle.toml_names.proofs.AllLines.{lines_join}
 use Rattle.toml_names.proofs.NextLine.{named-more, AreGood-more, IsRedefined-at, IsLong-at}
 
 -- so many lines were taken
@@ -37,16 +34,3 @@ module _ (lines : List Line) (i : ℕ) (l : Line) (low : i < length lines) (is :
   read_refused (faults.Redefined k a) judged = rw judged.0 (IsRedefined-at lines i l low read.good a (rw (sym same, sym read.list_is) judged.1))
   read_refused (faults.LongAddress k) judged = rw judged.0 (IsLong-at lines i l low read.good (rw (sym same, sym read.list_is) judged.1) (rw (sym same) judged.2))
   read_refused faults.NoMemory judged = tt
-
--- what the lines read name joins
-pub read_joined : {lines : List Line} {count : ℕ} {list : List Named} {at : Address} → IsRead lines count list at → Joined list
-read_joined {lines = lines} {count = count} read = subst Joined (sym read.list_is) (lines_join (take count lines) read.good.0)
-
--- and begins at the root
-from_begins : (ls : List Line) (earlier : List Named) (n : ℕ) → BeginsAtRoot earlier → BeginsAtRoot (named_from earlier n ls)
-from_begins [] earlier n begins = begins
-from_begins (l ∷ ls) [] n begins = absurd begins
-from_begins (l ∷ ls) (m ∷ earlier) n begins = from_begins ls ((m ∷ earlier) ++ named_by (m ∷ earlier) n l.expr) (n + 1) begins
-
-pub read_begins : {lines : List Line} {count : ℕ} {list : List Named} {at : Address} → IsRead lines count list at → BeginsAtRoot list
-read_begins {lines = lines} {count = count} read = subst BeginsAtRoot (sym read.list_is) (from_begins (take count lines) (root ∷ []) 0 refl)

@@ -33,7 +33,7 @@ above_complete a b h = ap (is_above a) h.2 ∙ beginning a h.0 h.1
 pub above_is_above : AboveIsAbove
 above_is_above a b = (above_sound a b, above_complete a b)
 
-same_role-equal : (r q : Role) → same_role r q ≡ true → r ≡ q
+pub same_role-equal : (r q : Role) → same_role r q ≡ true → r ≡ q
 same_role-equal Passed Passed h = refl
 same_role-equal Header Header h = refl
 same_role-equal Dotted Dotted h = refl
@@ -43,7 +43,7 @@ same_role-equal Element Element h = refl
 same_role-equal Bare Bare h = refl
 same_role-equal _ _ h = cc
 
-same_role-self : (r : Role) → same_role r r ≡ true
+pub same_role-self : (r : Role) → same_role r r ≡ true
 same_role-self Passed = refl
 same_role-self Header = refl
 same_role-self Dotted = refl

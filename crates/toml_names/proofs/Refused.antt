@@ -7,7 +7,7 @@ use Rattle.toml_names.specs.declared.fault.NameFault.TheVariants as faults
 use Rattle.toml_names.specs.Addresses.{Address}
 use Rattle.toml_names.specs.Mentions.{Named, root, named, named_by, named_from}
 use Rattle.toml_names.specs.Rules.{may_follow, KeepsRules, IsShort, max_steps}
-use Rattle.toml_names.specs.Names.{AreGood, IsRedefined, IsLong, RefusedAreBad}
+use Rattle.toml_names.specs.Names.{AreGood, IsRedefined, RefusedAreBad}
 
 abbrev Goes : Named → Named → Type 0
 Goes e l = e.address ≡ l.address → may_follow e.role l.role ≡ true
@@ -43,23 +43,22 @@ named_front lines k =
     let r = named_from-append (take k lines) (drop k lines) (root ∷ []) 0 in
     (r.0, ap named (sym (take-append-drop k lines)) ∙ r.1)
 
+-- of good lines each front is good
+pub good_front : (lines : List Line) (k : ℕ) → AreGood lines → AreGood (take k lines)
+good_front lines k good =
+    let front = named_front lines k in
+    (KeepsRules-front _ front.0 (subst KeepsRules front.1 good.0), IsShort-front _ front.0 (subst IsShort front.1 good.1))
+
 -- an offence stays one, whatever follows
-redefined_is_bad : (lines : List Line) (line : ℕ) (at : Address) → IsRedefined lines line at → ¬ AreGood lines
-redefined_is_bad lines line at h good =
+pub redefined_breaks : (lines : List Line) (line : ℕ) (at : Address) → IsRedefined lines line at → ¬ KeepsRules (named (take (line + 1) lines))
+redefined_breaks lines line at h keeps =
     let o = h.offence in
-    let front = named_front lines (line + 1) in
     let earlier = named (take line lines) in
     let all : named (take (line + 1) lines) ≡ ((earlier ++ o.before) ++ o.mention ∷ []) ++ o.behind =
     h.is ∙ ap (λ l. earlier ++ l) o.is ∙ sym (append_assoc (earlier ++ o.before) (o.mention ∷ []) o.behind ∙ append_assoc earlier o.before (o.mention ∷ o.behind)) in
-    let keeps : KeepsRules (named (take (line + 1) lines)) = KeepsRules-front _ front.0 (subst KeepsRules front.1 good.0) in
     o.offends (KeepsRules-front _ o.behind (subst KeepsRules all keeps))
 
-long_is_bad : (lines : List Line) (line : ℕ) → IsLong lines line → ¬ AreGood lines
-long_is_bad lines line h good =
-    let front = named_front lines (line + 1) in
-    h.long (IsShort-front _ front.0 (subst IsShort front.1 good.1))
-
 pub refused_are_bad : RefusedAreBad
-refused_are_bad lines (faults.Redefined line at) h memory = redefined_is_bad lines line at h
-refused_are_bad lines (faults.LongAddress line) h memory = long_is_bad lines line h
-refused_are_bad lines faults.NoMemory h memory = absurd (memory refl)
+refused_are_bad lines (faults.Redefined line at) h memory good = redefined_breaks lines line at h (good_front lines (line + 1) good).0
+refused_are_bad lines (faults.LongAddress line) h memory good = h.long (good_front lines (line + 1) good).1
+refused_are_bad lines faults.NoMemory h memory good = absurd (memory refl)

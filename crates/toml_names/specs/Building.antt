@@ -1,7 +1,7 @@
 -- What a datum becomes where a part of it changes.
-use Rattle.std.specs.Prelude.{◌≡◌, List, [], ◌∷◌, Some, None, is_some, if◌then◌else◌}
+use Rattle.std.specs.Prelude.{◌≡◌, List, [], ◌∷◌, Some, None, if◌then◌else◌}
 use Rattle.toml_names.specs.declared.address.Step.{Step}
-use Rattle.toml_names.specs.Addresses.{Address, same_step, same_address}
+use Rattle.toml_names.specs.Addresses.{Address, same_step}
 use Rattle.toml_names.specs.Data.{Kinds, kind_at}
 use Rattle.toml_names.specs.declared.datum.Datum.{Datum}
 use Rattle.toml_names.specs.Mentions.{Kind, Named}
@@ -18,10 +18,6 @@ IsOnly k d = (at : Address) → kind_at d at ≡ only k at
 abbrev pub with_child : Step → Kinds → Kinds → Kinds
 with_child s part kinds [] = kinds []
 with_child s part kinds (t ∷ at) = if same_step s t then part at else kinds (t ∷ at)
-
--- an empty part of the kind was put at the address, unless something stood there
-abbrev pub with_kind : Address → Kind → Kinds → Kinds
-with_kind at k kinds b = if is_some (kinds at) then kinds b else if same_address at b then Some k else kinds b
 
 -- the first thing named is the root
 abbrev pub BeginsAtRoot : List Named → Type 0

@@ -12,3 +12,14 @@ pub mod Values
 pub mod Building
 pub mod Local
 pub mod Documents
+pub mod FirstMentions
+pub mod KeyParts
+pub mod Nodes
+pub mod NameTree
+pub mod Headers
+pub mod EnteringLines
+pub mod Reading
+pub mod Finished
+pub mod Placing
+pub mod EnteringHeaders
+pub mod LongKeys

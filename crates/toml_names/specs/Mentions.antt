@@ -138,8 +138,12 @@ named = named_from (root ∷ []) 0
 abbrev pub value_facts : Value → List Named
 value_facts v = value_named 0 Valued [] v ∷ inside 0 [] v
 
+-- whether a thing in the role is a mention
+abbrev pub is_mentioned : Role → Bool
+is_mentioned r = elim r [ Bare ↦ false | _ ↦ true ]
+
 abbrev pub is_mention : Named → Bool
-is_mention m = elim m.role [ Bare ↦ false | _ ↦ true ]
+is_mention m = is_mentioned m.role
 
 -- the mentions of the lines
 abbrev pub mentions : List Line → List Named

@@ -83,3 +83,7 @@ NoLineAddress = (lines : List Line) (line : ℕ) → length lines ≤ line → l
 -- Law: lines of which the names are refused, memory aside, are not good.
 abbrev pub RefusedAreBad : Type 0
 RefusedAreBad = (lines : List Line) (fault : NameFault) → RefusesNames lines fault → (fault ≡ faults.NoMemory → ⊥) → ¬ AreGood lines
+
+-- Law: why the names of lines are refused, memory aside, is one fault.
+abbrev pub OneRefusal : Type 0
+OneRefusal = (lines : List Line) (f g : NameFault) → RefusesNames lines f → RefusesNames lines g → (f ≡ faults.NoMemory → ⊥) → (g ≡ faults.NoMemory → ⊥) → f ≡ g

@@ -87,29 +87,38 @@ impl Address {
     pub fn copy(&self, alloc: Global) -> Result<Address, AllocError>
         ensures { IfOk result (λ a. a ≡ self.now) }
     {
-        let mut steps = Vec::new(alloc);
+        Ok(Address {
+            steps: self.copy_steps(alloc, 0)?,
+        })
+    }
+
+    /// The steps copied, with room for so many more.
+    fn copy_steps(&self, alloc: Global, more: usize) -> Result<Vec<Step>, AllocError>
+        ensures { IfOk result (λ steps. steps.items ≡ self.now) }
+    {
+        let mut steps = Vec::with_capacity(alloc, self.steps.len().saturating_add(more))?;
         for step in &self.steps {
             steps.push(step.copy(alloc)?)?;
         }
-        Ok(Address { steps })
+        Ok(steps)
     }
 
     /// The address of an element of the array at this one.
     pub fn element(&self, alloc: Global, index: u64) -> Result<Address, AllocError>
         ensures { IfOk result (λ a. a ≡ element self.now index) }
     {
-        let mut address = self.copy(alloc)?;
-        address.steps.push(Step::Index(index))?;
-        Ok(address)
+        let mut steps = self.copy_steps(alloc, 1)?;
+        steps.push(Step::Index(index))?;
+        Ok(Address { steps })
     }
 
     /// The address of a name in the table at this one.
     pub fn child(&self, alloc: Global, name: Name) -> Result<Address, AllocError>
         ensures { IfOk result (λ a. a ≡ child self.now name) }
     {
-        let mut address = self.copy(alloc)?;
-        address.steps.push(Step::Name(name))?;
-        Ok(address)
+        let mut steps = self.copy_steps(alloc, 1)?;
+        steps.push(Step::Name(name))?;
+        Ok(Address { steps })
     }
 
     /// Whether it is the other address.

@@ -38,7 +38,7 @@ impl Data {
 
 impl Datum {
     /// The part one step below.
-    pub(crate) fn child(&self, step: &Step) -> Option<&Datum>
+    fn child(&self, step: &Step) -> Option<&Datum>
         ensures { (rest : Steps) → kind_in (option_copied result) rest ≡ kind_at self.now (step.now ∷ rest) }
     {
         match (self, step) {
@@ -59,13 +59,21 @@ impl Datum {
         Some(here)
     }
 
-    /// The part at the address, if anything stands there. It takes no memory.
+    /// The part at the steps, if anything stands there. It takes no memory.
     #[tactic(auto, using(crate::proofs::Levels::part_found))]
+    pub fn part(&self, steps: &[Step]) -> Option<&Datum>
+        ensures part { (rest : Steps) → kind_in (option_copied result) rest ≡ kind_at self.now (steps.now ++ rest) }
+        ensures found { IsSome result ↔ IsSome (kind_at self.now steps.now) }
+    {
+        self.below(steps)
+    }
+
+    /// The part at the address, if anything stands there. It takes no memory.
     pub fn at(&self, at: &Address) -> Option<&Datum>
         ensures part { (rest : Steps) → kind_in (option_copied result) rest ≡ kind_at self.now (at.now ++ rest) }
         ensures found { IsSome result ↔ IsSome (kind_at self.now at.now) }
     {
-        self.below(at.steps())
+        self.part(at.steps())
     }
 
     /// A datum of its own that is the same.

@@ -1,9 +1,10 @@
 //! Laws over the definitions: nothing is run.
 ghost use Rattle.toml_names.specs.Addresses.{SameIsEqual, AboveIsAbove};
 ghost use Rattle.toml_names.specs.DataLaws.{LinesHaveOneKind, LineValuesStandAlone, ValuesHaveOneKind, InnerValuesStandAlone};
+ghost use Rattle.toml_names.specs.FirstMentions.{FirstMentionsAreThese, OneListOfFirstMentions};
 ghost use Rattle.toml_names.specs.Joining.{LinesJoin, ValuesJoin, OneKind, FirstIsData, ValuesStandAlone};
 ghost use Rattle.toml_names.specs.Local.{LastRoleDecides};
-ghost use Rattle.toml_names.specs.Names.{RefusedAreBad, LineAddresses, NoLineAddress};
+ghost use Rattle.toml_names.specs.Names.{RefusedAreBad, OneRefusal, LineAddresses, NoLineAddress};
 ghost use Rattle.toml_names.specs.Places.{PlacesAreFound, NoPlace};
 ghost use Rattle.toml_names.specs.Rules.{NoMisfit, MisfitIsFirst, RulesAreOfMentions};
 
@@ -22,9 +23,10 @@ pub fn rules()
     ensures mentions { RulesAreOfMentions }
 {}
 
-/// Lines of which the names are refused, memory aside, are not good.
+/// Lines of which the names are refused, memory aside, are not good, and there is one fault for which they are.
 pub fn refusals()
-    ensures { RefusedAreBad }
+    ensures bad { RefusedAreBad }
+    ensures one { OneRefusal }
 {}
 
 /// The address of a line is that of what its expression stands for; behind the last line there is none.
@@ -60,4 +62,11 @@ pub fn joining()
 /// Under the rules one more mention keeps them exactly where the mark of its address, one role for all, allows it.
 pub fn last_roles()
     ensures { LastRoleDecides }
+{}
+
+/// The plain list of first mentions has each address that is mentioned, once, in the order of the first mentions; no
+/// other list is so.
+pub fn mentions_in_order()
+    ensures these { FirstMentionsAreThese }
+    ensures one { OneListOfFirstMentions }
 {}

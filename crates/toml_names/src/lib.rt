@@ -3,26 +3,39 @@
 #![tactic(auto)]
 
 mod address;
-mod building;
 mod datum;
+mod entering;
 mod fault;
+mod finishing;
+mod hashing;
+mod headers;
+mod keying;
 pub mod laws;
+mod long_keys;
 mod name;
 mod named;
 mod names;
 mod naming;
+mod node;
 mod parts;
 mod place;
+mod placing;
+mod plain;
+mod reader;
 mod rules;
+mod tree;
 mod value;
 
 pub use address::{Address, Step};
 pub use datum::{Data, Datum, same};
 pub use fault::{NameFault, ValueFault};
 pub use name::Name;
-pub use names::{Names, read_names};
+pub use names::{Names, read_lines, read_names};
 pub use place::Place;
+pub use reader::NameReader;
 pub use value::read_value;
 
+#[cfg(test)]
+mod reader_tests;
 #[cfg(test)]
 mod tests;

@@ -1,68 +1,170 @@
-ghost use Rattle.std.specs.Prelude.{◌≡◌, [], option_map, IfOk, IfErr};
+//! The names of a document, read.
+ghost use Rattle.std.specs.Prelude.{◌≡◌, ◌≤◌, ◌+◌, option_map, option_and_then, slice_get, map, IfOk, IfErr, OnOk};
 ghost use Rattle.toml_tree.specs.Document.{document};
 ghost use Rattle.toml_tree.specs.Lines.{line as tree_line};
 ghost use Rattle.toml_names.specs.Data.{IsDataOf, kind_at};
-ghost use Rattle.toml_names.specs.Mentions.{named as named_of, named_by, section};
-ghost use Rattle.toml_names.specs.Names.{AreGood, RefusesNames, Judges, IsTaken, is_own, line_address};
-ghost use Rattle.toml_names.specs.View.{all_named};
+ghost use Rattle.toml_names.specs.FirstMentions.{first_mentions};
+ghost use Rattle.toml_names.specs.KeyParts.{all_key_parts};
+ghost use Rattle.toml_names.specs.Mentions.{named as named_of};
+ghost use Rattle.toml_names.specs.Names.{AreGood, RefusesNames, line_address};
+ghost use Rattle.toml_names.specs.Places.{place};
+ghost use Rattle.toml_names.specs.Reading.{lines_of, rank_in};
 
 use crate::address::Address;
-use crate::building::datum_of;
 use crate::datum::Data;
 use crate::fault::NameFault;
-use crate::named::{Kind, Named, Role};
-use crate::naming::{name_line, section_after};
-use crate::rules::{are_short, first_misfit};
+use crate::keying::key_of;
+use crate::place::Place;
+use crate::reader::NameReader;
+use crate::tree::NameTree;
 use std::alloc::{AllocError, Global};
 use std::marker::Model;
 use toml_tree::{Doc, Line};
 
-/// The names of a document. Contracts see them as the list of all that its lines name, in text order.
+/// The names of lines, of which each is good after those before it. Contracts see them as the list of all that the
+/// lines name, in text order, and the count of look-ups.
 #[derive(Drop)]
-pub struct Names<'t> {
-    pub(crate) named: Vec<Named<'t>>,
+pub struct Names<'d, 't> {
+    tree: NameTree<'t>,
+    lines: Vec<&'d Line<'t>>,
     data: Data,
+    // the first mentions
+    first: Vec<Address>,
+    // for each line where its own address stands among the first mentions
+    own: Vec<Option<usize>>,
 }
 
-impl<'t> Model for Names<'t> {
-    ghost use Rattle.std.specs.Prelude.{List};
-    ghost use Rattle.toml_names.specs.Data.{IsDataOf, kind_at};
-    ghost use Rattle.toml_names.specs.Mentions as mentions;
-    ghost use Rattle.toml_names.specs.View.{all_named};
+impl<'d, 't> Model for Names<'d, 't> {
+    ghost use Rattle.std.specs.Prelude.{map};
+    ghost use Rattle.toml_tree.specs.Lines.{line as tree_line};
+    ghost use Rattle.toml_names.specs.Data.{kind_at};
+    ghost use Rattle.toml_names.specs.Mentions.{named as named_of};
+    ghost use Rattle.toml_names.specs.Reading.{Known, AreNames};
 
-    ghost Value = { List mentions.Named };
+    ghost Value = { Known };
 
-    ghost view = { λ names. all_named names.named.items };
+    ghost view = { λ n. record { named = named_of (map tree_line (map (λ l. l.now) n.lines.items)); lookups = n.tree.lookups } };
 
-    ghost invariant = { λ names. IsDataOf (all_named names.named.items) (kind_at names.«data».root) };
+    ghost invariant = { λ n. AreNames n.tree.nodes.items (map tree_line (map (λ l. l.now) n.lines.items)) (kind_at n.«data».root) n.first.items n.own.items };
 }
 
-impl Names<'_> {
-    /// The data of the document: what its lines name, each at its address.
+impl Names<'_, '_> {
+    /// The data of the lines: what they name, each at its address.
     pub fn data(&self) -> &Data
-        ensures { IsDataOf self.now (kind_at result.now.root) }
+        ensures { IsDataOf self.now.named (kind_at result.now.root) }
     {
         &self.data
     }
 
     /// The address of a line's value, table or element; none for a blank line. Lines are counted from 0.
     pub fn address_of(&self, line: usize) -> Option<&Address>
-        ensures { option_map (λ a. a.now) result ≡ line_address self.now line }
+        ensures { option_map (λ a. a.now) result ≡ line_address self.now.named line }
     {
-        for mention in &self.named {
-            if mention.line == line && is_own(mention.role) {
-                return Some(&mention.address);
-            }
-        }
-        None
+        let rank = rank_of_line(&self.own, line)?;
+        self.first.get(rank)
+    }
+
+    /// Where what stands at the address stands in the text; none where the data have nothing there.
+    pub fn place(&self, at: &Address) -> Option<Place>
+        ensures { result ≡ place self.now.named at.now }
+    {
+        self.tree.place(at)
+    }
+
+    /// The distinct addresses of the mentions, in the order of their first mentions.
+    pub fn first_mentions(&self) -> &[Address]
+        ensures { result.now ≡ first_mentions self.now.named }
+    {
+        &self.first
+    }
+
+    /// How many look-ups of names were made; it stops at the greatest `u64`.
+    pub fn lookups(&self) -> u64
+        ensures { result ≡ self.now.lookups }
+    {
+        self.tree.lookups
     }
 }
 
-/// Whether a line mentions what it stands for in the role.
-fn is_own(role: Role) -> bool
-    ensures { result ≡ is_own role }
+impl<'d, 't> NameReader<'d, 't> {
+    /// The data of the lines taken: what they name, each at its address.
+    pub fn data(&self) -> Result<Data, AllocError>
+        ensures { IfOk result (λ d. IsDataOf (named_of (lines_of self.now)) (kind_at d.root)) }
+    {
+        Ok(Data {
+            root: self.tree.datum(0)?,
+        })
+    }
+
+    /// The names of the lines taken. Where a growth is refused nothing is handed back.
+    pub fn finish(self) -> Result<Names<'d, 't>, AllocError>
+        ensures named { IfOk result (λ names. names.named ≡ named_of (lines_of self.entry)) }
+        ensures good { OnOk result (AreGood (lines_of self.entry)) }
+        ensures lookups { IfOk result (λ names. names.lookups ≡ self.entry.lookups) }
+    {
+        let alloc = self.tree.alloc;
+        let data = self.data()?;
+        let first = self.tree.first_mentions()?;
+        let ranks = self.tree.ranks()?;
+        let own = ranks_of(alloc, &self.own, &ranks)?;
+        Ok(Names {
+            tree: self.tree,
+            lines: self.taken,
+            data,
+            first,
+            own,
+        })
+    }
+}
+
+/// The ranks of nodes.
+fn ranks_of(
+    alloc: Global,
+    nodes: &[Option<usize>],
+    ranks: &[usize],
+) -> Result<Vec<Option<usize>>, AllocError>
+    ensures { IfOk result (λ list. list.items ≡ map (rank_in ranks.now) nodes.now) }
 {
-    matches!(role, Role::Header | Role::Valued | Role::Element)
+    let mut list = Vec::with_capacity(alloc, nodes.len())?;
+    for node in nodes {
+        list.push(rank_of(ranks, *node))?;
+    }
+    Ok(list)
+}
+
+/// The rank of a node, if there is one.
+fn rank_of(ranks: &[usize], node: Option<usize>) -> Option<usize>
+    ensures { result ≡ rank_in ranks.now node }
+{
+    match node {
+        Some(id) => ranks.get(id).copied(),
+        None => None,
+    }
+}
+
+/// The rank that a line has, if there is such a line and it is not blank.
+fn rank_of_line(own: &[Option<usize>], line: usize) -> Option<usize>
+    ensures { result ≡ option_and_then (λ rank. rank) (slice_get own.now line) }
+{
+    match own.get(line) {
+        Some(rank) => *rank,
+        None => None,
+    }
+}
+
+/// A reader that has taken all lines of a document: Ok exactly where `read_names` is, and refused as it is. Nothing is
+/// built but the tree of names. Names are hashed by a key that is made of all of them.
+pub fn read_lines<'d, 't>(alloc: Global, doc: &'d Doc<'t>) -> Result<NameReader<'d, 't>, NameFault>
+    ensures good { IfOk result (λ reader. AreGood (document doc.now).lines) }
+    ensures taken { IfOk result (λ reader. lines_of reader ≡ (document doc.now).lines) }
+    ensures refused { IfErr result (RefusesNames (document doc.now).lines) }
+    ensures lookups { IfOk result (λ reader. reader.lookups ≤ all_key_parts (document doc.now).lines) }
+{
+    let mut reader = NameReader::keyed(alloc, key_of(doc))?;
+    for line in doc.lines() {
+        reader.line(line)?;
+    }
+    Ok(reader)
 }
 
 /// The names of a document: Ok exactly where its mentions keep the table rules and no address has more than 100
@@ -70,74 +172,12 @@ fn is_own(role: Role) -> bool
 ///
 /// Else `Redefined` is told with the first line that breaks the rules, and the address of that line's first mention
 /// that does; or `LongAddress` with the first line that keeps them and has a longer address, whichever line comes
-/// first.
-pub fn read_names<'t>(alloc: Global, doc: &Doc<'t>) -> Result<Names<'t>, NameFault>
+/// first. Each key part is looked up at most once.
+pub fn read_names<'d, 't>(alloc: Global, doc: &'d Doc<'t>) -> Result<Names<'d, 't>, NameFault>
     ensures good { IfOk result (λ names. AreGood (document doc.now).lines) }
-    ensures named { IfOk result (λ names. names ≡ named_of (document doc.now).lines) }
+    ensures named { IfOk result (λ names. names.named ≡ named_of (document doc.now).lines) }
     ensures refused { IfErr result (RefusesNames (document doc.now).lines) }
+    ensures lookups { IfOk result (λ names. names.lookups ≤ all_key_parts (document doc.now).lines) }
 {
-    let mut named = root(alloc)?;
-    let mut section = Address::root(alloc);
-    for (number, line) in doc.lines().iter().enumerate() {
-        section = take_line(alloc, &mut named, section, number, line)?;
-    }
-    let root = datum_of(alloc, &named)?;
-    Ok(Names {
-        named,
-        data: Data { root },
-    })
-}
-
-/// The list with the root alone.
-fn root<'t>(alloc: Global) -> Result<Vec<Named<'t>>, AllocError>
-    ensures { IfOk result (λ list. all_named list.items ≡ named_of []) }
-{
-    let mut named = Vec::new(alloc);
-    named.push(Named {
-        address: Address::root(alloc),
-        role: Role::Bare,
-        kind: Kind::Table,
-        line: 0,
-    })?;
-    Ok(named)
-}
-
-/// Takes one more line, and gives the table of the last header behind it.
-fn take_line<'t>(
-    alloc: Global,
-    list: &mut Vec<Named<'t>>,
-    at: Address,
-    number: usize,
-    line: &Line<'t>,
-) -> Result<Address, NameFault>
-    requires { at ≡ section (all_named list.old.items) }
-    ensures judged { Judges (all_named list.old.items) (named_by (all_named list.old.items) number (tree_line line.now).expr) number result }
-    ensures taken { IfOk result (λ after. IsTaken (all_named list.old.items) (all_named list.new.items) number (tree_line line.now).expr after) }
-{
-    let mut new = name_line(alloc, list, &at, number, line)?;
-    judge(alloc, list, &new, number)?;
-    let after = section_after(alloc, at, &new)?;
-    list.append(&mut new)?;
-    Ok(after)
-}
-
-/// Judges the new mentions of a line.
-fn judge(
-    alloc: Global,
-    list: &[Named<'_>],
-    new: &[Named<'_>],
-    number: usize,
-) -> Result<(), NameFault>
-    ensures { Judges (all_named list.now) (all_named new.now) number result }
-{
-    if let Some(address) = first_misfit(list, new) {
-        return Err(NameFault::Redefined {
-            line: number,
-            address: address.copy(alloc)?,
-        });
-    }
-    if !are_short(new) {
-        return Err(NameFault::LongAddress { line: number });
-    }
-    Ok(())
+    Ok(read_lines(alloc, doc)?.finish()?)
 }

@@ -29,7 +29,7 @@ fn table_at<'t>(number: usize, role: Role, address: Address) -> Named<'t>
 }
 
 /// What a value is.
-fn kind_of<'t>(v: &Value<'t>) -> Kind<'t>
+pub fn kind_of<'t>(v: &Value<'t>) -> Kind<'t>
     ensures { kind result ≡ kind_of (value v.now) }
 {
     match v {
@@ -52,7 +52,7 @@ fn value_named<'t>(number: usize, role: Role, address: Address, v: &Value<'t>) -
 }
 
 /// The name of a key part, and an empty one for a text that is none.
-fn part_name(alloc: Global, part: &Piece<'_>) -> Result<Name, AllocError>
+pub fn part_name(alloc: Global, part: &Piece<'_>) -> Result<Name, AllocError>
     ensures { IfOk result (λ name. name ≡ part_name (piece part.now)) }
 {
     match name_of(alloc, part.text)? {
@@ -85,7 +85,7 @@ fn name_key<'t>(
 
 /// Adds a value at the address in a role, and what it names inside it.
 #[cycle(inside)]
-pub fn name_value<'t>(
+fn name_value<'t>(
     alloc: Global,
     names: &mut Vec<Named<'t>>,
     number: usize,

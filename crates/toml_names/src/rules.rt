@@ -10,7 +10,7 @@ use crate::named::{Named, Role};
 pub const MAX_STEPS: usize = 100;
 
 /// Whether an address that was mentioned in the first role may be mentioned in the second.
-fn may_follow(earlier: Role, later: Role) -> bool
+pub fn may_follow(earlier: Role, later: Role) -> bool
     ensures { result ≡ may_follow earlier later }
 {
     matches!(

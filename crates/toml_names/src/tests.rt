@@ -9,19 +9,19 @@ use toml_tree::{Doc, parse, parse_value};
 
 /// A step of a worked address.
 #[derive(Clone, Copy)]
-enum At {
+pub enum At {
     Name(&'static str),
     Index(u64),
 }
 
 use At::{Index, Name as Key};
 
-fn doc<'t>(alloc: Global, text: &'t str) -> Result<Doc<'t>, Fail> {
+pub fn doc<'t>(alloc: Global, text: &'t str) -> Result<Doc<'t>, Fail> {
     let source = Source::new(text.as_bytes()).map_err(|_| "no text")?;
     Ok(parse(alloc, source)?)
 }
 
-fn address(alloc: Global, steps: &[At]) -> Result<Address, Fail> {
+pub fn address(alloc: Global, steps: &[At]) -> Result<Address, Fail> {
     let mut at = Address::root(alloc);
     for step in steps {
         at = match step {
@@ -133,7 +133,7 @@ fn lines_have_their_addresses(rt: HostRuntime) -> Result<(), Fail> {
 }
 
 /// The line and the address of a refusal, if names are told again.
-fn redefined(fault: NameFault) -> Option<(usize, Address)> {
+pub fn redefined(fault: NameFault) -> Option<(usize, Address)> {
     match fault {
         NameFault::Redefined { line, address } => Some((line, address)),
         _ => None,
@@ -148,6 +148,62 @@ fn the_first_offence_is_told(rt: HostRuntime) -> Result<(), Fail> {
     assert_eq!(rt; line, 2);
     let at = address(rt.alloc(), &[Key("a"), Key("b")])?;
     assert!(rt; found.is_same(&at));
+    Ok(())
+}
+
+/// A line of a key of so many parts `a`.
+fn line_of(alloc: Global, before: &str, parts: usize, after: &str) -> Result<String, Fail> {
+    let mut text = String::from_str(alloc, before)?;
+    for _ in 1..parts {
+        text.push_str("a.")?;
+    }
+    text.push_str("a")?;
+    text.push_str(after)?;
+    Ok(text)
+}
+
+#[test]
+fn long_keys_are_refused(rt: HostRuntime) -> Result<(), Fail> {
+    let rows: [(&str, usize, &str, bool); 12] = [
+        ("", 100, " = 1", false),
+        ("", 101, " = 1", true),
+        ("", 200_000, " = 1", true),
+        ("[s]\n", 99, " = 1", false),
+        ("[s]\n", 100, " = 1", true),
+        ("a.b = 1\n", 200_000, " = 1", true),
+        ("", 101, " = []", true),
+        ("[", 100, "]", false),
+        ("[", 200_000, "]", true),
+        ("[a.b]\n[", 101, "]", true),
+        ("[[", 100, "]]", true),
+        ("[[a]]\n[[", 200_000, "]]", true),
+    ];
+    for (before, parts, after, wanted) in rows {
+        let text = line_of(rt.alloc(), before, parts, after)?;
+        let doc = doc(rt.alloc(), text.as_str())?;
+        let long = matches!(
+            read_names(rt.alloc(), &doc),
+            Err(NameFault::LongAddress { .. })
+        );
+        assert_eq!(rt; long, wanted);
+    }
+    Ok(())
+}
+
+#[test]
+fn long_keys_break_the_rules_first(rt: HostRuntime) -> Result<(), Fail> {
+    let rows: [(&str, &str, &[At]); 3] = [
+        ("a = 1\n", " = 1", &[Key("a")]),
+        ("a.a = 1\n[", "]", &[Key("a"), Key("a")]),
+        ("[[a]]\na = 1\n[[", "]]", &[Key("a"), Index(0), Key("a")]),
+    ];
+    for (before, after, steps) in rows {
+        let text = line_of(rt.alloc(), before, 101, after)?;
+        let doc = doc(rt.alloc(), text.as_str())?;
+        let fault = read_names(rt.alloc(), &doc).err().ok_or("no fault")?;
+        let (_, found) = redefined(fault).ok_or("another fault")?;
+        assert!(rt; found.is_same(&address(rt.alloc(), steps)?));
+    }
     Ok(())
 }
 

@@ -1,5 +1,5 @@
 -- Why bytes that were refused are no document, and bytes that were not are one.
-use Rattle.std.proofs.Common.{◌≡◌, ◌≤◌, ℕ, ◌+◌, List, length, Option, sym, subst, arith, inl, inr}
+use Rattle.std.proofs.Common.{◌≡◌, ◌⊎◌, ◌≤◌, ℕ, List, length, Option, sym, subst, arith, inl, inr, ap, ◌∙◌}
 use Rattle.std.proofs.lemmas.Result.{IfOk-weaker}
 use Rattle.std.specs.Prelude.{IfOk, IfSome, Result}
 use Rattle.std.specs.declared.alloc.AllocError.{AllocError}
@@ -16,15 +16,16 @@ use Rattle.toml_tree.specs.Spells.{Spells, SpelledByNone}
 use Rattle.toml_tree.specs.Tree.{Doc}
 use Rattle.toml_tree.proofs.Exact.{one_tree}
 use Rattle.tomled.specs.Outcomes.{Refuses, Tells}
-use Rattle.tomled.specs.Reading.{AreNamesOf, IsTextRefusal, IsSyntaxRefusal, code_of}
+use Rattle.tomled.specs.Reading.{IsTextRefusal, IsSyntaxRefusal, RefusesLines, code_of}
 use Rattle.toml_names.specs.Documents.{IsDocument}
-use Rattle.toml_names.specs.Addresses.{Address}
-use Rattle.toml_names.specs.Names.{AreGood, IsRedefined, IsLong, RefusesNames}
+use Rattle.toml_names.specs.Names.{AreGood, RefusesNames}
 use Rattle.toml_names.specs.declared.fault.NameFault.{NameFault}
 use Rattle.toml_names.specs.declared.fault.NameFault.TheVariants as names
 use Rattle.toml_names.specs.Data.{Kinds, IsDataOf}
-use Rattle.toml_names.specs.Mentions.{Named}
+use Rattle.toml_names.specs.FirstMentions.{first_mentions}
+use Rattle.toml_names.specs.Mentions.{Named, named}
 use Rattle.toml_names.proofs.Refused.{refused_are_bad}
+use Rattle.tomled.specs.Listing.{ListsAddresses, lines_of}
 use Rattle.tomled.specs.Show.{IsLineOf, ShowsData}
 use Rattle.tomled.specs.Refusals.{IsRefusalOf, IsSyntaxCode}
 use Rattle.tomled.specs.declared.outcome.Outcome.{Outcome}
@@ -66,31 +67,36 @@ no_names bytes d fault spelled refuses memory document =
     let same : document.1 ≡ d = one_tree document.1 d bytes document.2 spelled in
     refused_are_bad d.lines fault refuses memory (subst (λ (e : Doc). AreGood e.lines) same document.3)
 
-pub no_rules : (bytes : List ℕ) (d : Doc) (line : ℕ) (at : Address) (r : Refusal) → IsText bytes → Spells d bytes → IsRedefined d.lines line at → r.code ≡ 201 → r.place ≡ line + 1 → IsRefused bytes r
-no_rules bytes d line at r text spelled broken code place = (
-  no_names bytes d (names.Redefined line at) spelled broken (λ e. cc),
-  inr (inr (inr (inl (code, text, d, line, at, place, spelled, broken)))),
+pub no_lines : (bytes : List ℕ) (d : Doc) (r : Refusal) → IsText bytes → Spells d bytes → RefusesLines d.lines r → IsRefused bytes r
+no_lines bytes d r text spelled (inl h) = (
+  no_names bytes d (names.Redefined h.1 h.2) spelled h.4 (λ e. cc),
+  inr (inr (inr (inl (h.0, text, d, h.1, h.2, h.3, spelled, h.4)))),
+)
+no_lines bytes d r text spelled (inr h) = (
+  no_names bytes d (names.LongAddress h.1) spelled h.3 (λ e. cc),
+  inr (inr (inr (inr (h.0, text, d, h.1, h.2, spelled, h.3)))),
 )
 
-pub too_long : (bytes : List ℕ) (d : Doc) (line : ℕ) (r : Refusal) → IsText bytes → Spells d bytes → IsLong d.lines line → r.code ≡ 203 → r.place ≡ line + 1 → IsRefused bytes r
-too_long bytes d line r text spelled long code place = (
-  no_names bytes d (names.LongAddress line) spelled long (λ e. cc),
-  inr (inr (inr (inr (code, text, d, line, place, spelled, long)))),
-)
+-- what is refused is told, whatever else the answer of a document may be
+pub refuses : (A : Outcome → Type 0) (bytes : List ℕ) (r : Refusal) (result : Result Outcome AllocError) → IsRefused bytes r → IfOk result (Tells r) → IfOk result (λ o. A o ⊎ Refuses bytes o)
+refuses A bytes r result refused = IfOk-weaker result (Tells r) (λ o. A o ⊎ Refuses bytes o) (λ o tells. inr (refused.0, r, refused.1, tells))
 
-pub document_of : (bytes : List ℕ) (names : List Named) → AreNamesOf bytes names → IsDocument bytes
-document_of bytes names h = (h.text, h.doc, h.spelled, h.good)
-
-pub refuses : (bytes : List ℕ) (r : Refusal) (result : Result Outcome AllocError) → IsRefused bytes r → IfOk result (Tells r) → IfOk result (Refuses bytes)
-refuses bytes r result refused = IfOk-weaker result (Tells r) (Refuses bytes) (λ o tells. (refused.0, r, refused.1, tells))
-
-pub shown : (bytes line : List ℕ) (names : List Named) (kinds : Kinds) → AreNamesOf bytes names → IsDataOf names kinds → IsLineOf kinds line → ShowsData bytes line
-shown bytes line names kinds read facts told = record {
-  text = read.text;
-  doc = read.doc;
-  spelled = read.spelled;
-  good = read.good;
+pub shown : (bytes line : List ℕ) (d : Doc) (kinds : Kinds) → IsText bytes → Spells d bytes → AreGood d.lines → IsDataOf (named d.lines) kinds → IsLineOf kinds line → ShowsData bytes line
+shown bytes line d kinds text spelled good facts told = record {
+  text = text;
+  doc = d;
+  spelled = spelled;
+  good = good;
   kinds = kinds;
-  facts = subst (λ (ms : List Named). IsDataOf ms kinds) read.all facts;
+  facts = facts;
   shown = told;
+}
+
+pub listed : (bytes text : List ℕ) (d : Doc) (names : List Named) → IsText bytes → Spells d bytes → AreGood d.lines × (names ≡ named d.lines) → text ≡ lines_of (first_mentions names) → ListsAddresses bytes text
+listed bytes text d names limit spelled read told = record {
+  limit = limit;
+  doc = d;
+  spelled = spelled;
+  good = read.0;
+  listed = told ∙ ap (λ (ms : List Named). lines_of (first_mentions ms)) read.1;
 }

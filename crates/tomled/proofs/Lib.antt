@@ -4,3 +4,4 @@ pub mod Tagging
 pub mod Built
 pub mod Texts
 pub mod Unique
+pub mod Listed

@@ -1,4 +1,4 @@
--- Data have at most one tagged JSON, and a document one line.
+-- Data have at most one tagged JSON, and a document one line of it and one list of its addresses.
 use Rattle.std.proofs.Common.{◌≡◌, ◌⊎◌, ◌<◌, ◌+◌, ℕ, zero, suc, List, [], ◌∷◌, ◌++◌, length, get_or, Option, Some, None, IsSome, is_some, Contains, Less, Equal, Greater, Ordering, refl, sym, ap, ◌∙◌, subst, true≢false, arith, inl, inr, nat_cmp}
 use Rattle.std.proofs.lemmas.Cmp.{nat_list_cmp_total, tied_itself}
 use Rattle.std.proofs.lemmas.List.Elements.{All-contains, All-from_recursion}
@@ -14,7 +14,9 @@ use Rattle.toml_tree.specs.Tree.{Doc}
 use Rattle.toml_tree.proofs.Exact.{one_tree}
 use Rattle.toml_names.specs.declared.address.Step.TheVariants.{Name, Index}
 use Rattle.toml_names.specs.Data.{Kinds, IsDataOf}
+use Rattle.toml_names.specs.FirstMentions.{first_mentions}
 use Rattle.toml_names.specs.Mentions.{Kind, Named, named, a_table, an_array, a_scalar}
+use Rattle.tomled.specs.Listing.{ListsAddresses, lines_of}
 use Rattle.tomled.specs.Show.{ShowsData}
 use Rattle.tomled.specs.Tagged.{IsTagged, AreItems, AreMembers, HasKeys, TellsScalar, keys, part, tag_of, text_of, told}
 
@@ -171,3 +173,8 @@ one_line bytes l m h k =
     let map : h.kinds ≡ k.kinds = one_map (named k.doc.lines) h.kinds k.kinds (subst (λ (d : Doc). IsDataOf (named d.lines) h.kinds) doc h.facts) k.facts in
     let json : h.shown.json ≡ k.shown.json = one_tagged h.shown.json k.shown.json k.kinds (subst (λ (f : Kinds). IsTagged f h.shown.json) map h.shown.tagged) k.shown.tagged in
     h.shown.is ∙ (ap (λ j. compact_text j ++ 0x0A ∷ []) json ∙ sym k.shown.is)
+
+pub one_listing : (bytes l m : List ℕ) → ListsAddresses bytes l → ListsAddresses bytes m → l ≡ m
+one_listing bytes l m h k =
+    let doc : h.doc ≡ k.doc = one_tree h.doc k.doc bytes h.spelled k.spelled in
+    h.listed ∙ (ap (λ (d : Doc). lines_of (first_mentions (named d.lines))) doc ∙ sym k.listed)

@@ -1,7 +1,8 @@
 -- The definition of the command line: the subcommands and their arguments.
-use Rattle.std.specs.Prelude.{◌≡◌, codes, true, false}
+use Rattle.std.specs.Prelude.{◌≡◌, codes, Some, true, false}
 use Rattle.clap.specs.Words.{App, Rule, Text, app_of, new_app, new_rule, with_rule, with_subcommand}
 use Rattle.clap.specs.Simple.{on_top}
+use Rattle.clap.specs.declared.builder.action.ArgAction.TheVariants.{SetTrue}
 use Rattle.clap.specs.declared.builder.command.Command.{Command}
 use Rattle.clap.specs.declared.builder.command.Command.TheViews.{out-Command}
 
@@ -9,9 +10,13 @@ use Rattle.clap.specs.declared.builder.command.Command.TheViews.{out-Command}
 abbrev pub required_argument : Text → Rule
 required_argument name = record (new_rule name) { required = true }
 
--- `show FILE`
+-- an argument of no value, told by two dashes and its name, that is true where it is given
+abbrev pub flag : Text → Rule
+flag name = record (new_rule name) { long = Some name; action = Some SetTrue }
+
+-- `show FILE`, and `--list` before or behind it
 abbrev pub show : App
-show = with_rule (new_app (codes "show")) (required_argument (codes "FILE"))
+show = with_rule (with_rule (new_app (codes "show")) (required_argument (codes "FILE"))) (flag (codes "list"))
 
 -- `check FILE`
 abbrev pub check : App

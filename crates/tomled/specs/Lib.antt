@@ -7,3 +7,4 @@ pub mod Reading
 pub mod Check
 pub mod Tagged
 pub mod Show
+pub mod Listing

@@ -1,5 +1,5 @@
 -- What the words of the command line ask, by clap's reading of the definition `tool`.
-use Rattle.std.specs.Prelude.{◌≡◌, List, [], codes, true, if◌then◌else◌, Option, Some, None}
+use Rattle.std.specs.Prelude.{◌≡◌, Bool, List, [], codes, true, false, if◌then◌else◌, Option, Some, None}
 use Rattle.std.specs.Prelude.{option_map, option_and_then}
 use Rattle.std.specs.Str.{bytes_eq}
 use Rattle.clap.specs.Words.{Row, Text, fault_of, first_of, kind_of, subcommand_of, takes, HasKind}
@@ -12,17 +12,22 @@ use Rattle.tomled.specs.declared.words.WordsFault.TheVariants.{Parser, Missing}
 
 -- a request, with texts in place of references to them
 pub data Asked : Type 0 where
-  show : (file : Text) → Asked
+  show : (file : Text) (list : Bool) → Asked
   check : (file : Text) → Asked
 
 -- what a request asks
 abbrev pub asked_by : Request → Asked
-asked_by (Show file) = show file.now
+asked_by (Show file list) = show file.now list
 asked_by (Check file) = check file.now
+
+-- the flag's first value is the text `true`
+abbrev pub is_true : Option Text → Bool
+is_true None = false
+is_true (Some text) = bytes_eq text (codes "true")
 
 -- what `show` asks with these values: each path is the first value of its argument
 abbrev pub show_of : List Row → Option Asked
-show_of rows = option_map show (first_of (codes "FILE") rows)
+show_of rows = option_map (λ file. show file (is_true (first_of (codes "list") rows))) (first_of (codes "FILE") rows)
 
 -- what `check` asks with these values
 abbrev pub check_of : List Row → Option Asked

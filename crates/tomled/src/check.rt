@@ -2,7 +2,7 @@
 ghost use Rattle.std.specs.Prelude.{IfOk};
 ghost use Rattle.tomled.specs.Check.{Checks};
 
-use crate::document::read_document;
+use crate::document::{judge, read_tree};
 use crate::outcome::Outcome;
 use std::alloc::{AllocError, Global};
 
@@ -10,8 +10,12 @@ use std::alloc::{AllocError, Global};
 pub fn run_check(alloc: Global, file: &[u8]) -> Result<Outcome, AllocError>
     ensures { IfOk result (Checks file.now) }
 {
-    match read_document(alloc, file)? {
-        Ok(_) => Ok(Outcome::good(alloc, "ok\n".to_string(alloc)?.into_bytes())),
+    let doc = match read_tree(alloc, file)? {
+        Ok(doc) => doc,
+        Err(refusal) => return Outcome::refused(alloc, refusal),
+    };
+    match judge(alloc, &doc)? {
+        Ok(()) => Ok(Outcome::good(alloc, "ok\n".to_string(alloc)?.into_bytes())),
         Err(refusal) => Outcome::refused(alloc, refusal),
     }
 }

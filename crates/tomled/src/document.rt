@@ -1,33 +1,71 @@
-//! The reading of a document, and why other bytes are refused.
+//! The reading of a document, its tree first and then its names, and why other bytes are refused.
 ghost use Rattle.std.specs.Prelude.{◌≡◌, ◌+◌, ◌<◌, IfOk};
-ghost use Rattle.tomled.specs.Reading.{IsSyntaxRefusal, IsTextRefusal, Reads};
+ghost use Rattle.toml_tree.specs.Document.{document};
+ghost use Rattle.tomled.specs.Reading.{HasNumber, IsNameRefusal, IsSyntaxRefusal, IsTextRefusal};
+ghost use Rattle.tomled.specs.Reading.{JudgesLines, ReadsData, ReadsNames, ReadsTree};
 
 use crate::refusal::Refusal;
 use std::alloc::{AllocError, Global};
-use toml_names::{NameFault, Names, read_names};
+use toml_names::{Data, NameFault, Names, read_lines, read_names};
 use toml_text::{MAX_LEN, Source, TextFault};
-use toml_tree::{SyntaxFault, parse};
+use toml_tree::{Doc, SyntaxFault, parse};
 
-/// The names of the document that the bytes are, or why they are none.
-pub fn read_document<'t>(
-    alloc: Global,
-    file: &'t [u8],
-) -> Result<Result<Names<'t>, Refusal>, AllocError>
-    ensures { IfOk result (Reads file.now) }
+/// The tree of the text that the bytes are, or why no tree spells them.
+pub fn read_tree<'t>(alloc: Global, file: &'t [u8]) -> Result<Result<Doc<'t>, Refusal>, AllocError>
+    ensures { IfOk result (ReadsTree file.now) }
 {
     let source = match Source::new(file) {
         Ok(source) => source,
         Err(fault) => return Ok(Err(text_refusal(fault))),
     };
-    let doc = match parse(alloc, source) {
-        Ok(doc) => doc,
-        Err(fault) => return Ok(Err(syntax_refusal(fault)?)),
-    };
-    match read_names(alloc, &doc) {
+    match parse(alloc, source) {
+        Ok(doc) => Ok(Ok(doc)),
+        Err(fault) => Ok(Err(syntax_refusal(fault)?)),
+    }
+}
+
+/// Whether the names of the lines keep the rules, and else the refusal. Nothing else is built of them.
+pub fn judge(alloc: Global, doc: &Doc<'_>) -> Result<Result<(), Refusal>, AllocError>
+    ensures { IfOk result (JudgesLines (document doc.now).lines) }
+{
+    match read_lines(alloc, doc) {
+        Ok(_) => Ok(Ok(())),
+        Err(fault) => Ok(Err(name_refusal(fault)?)),
+    }
+}
+
+/// The data of the lines, or why they are refused.
+pub fn read_data(alloc: Global, doc: &Doc<'_>) -> Result<Result<Data, Refusal>, AllocError>
+    ensures { IfOk result (ReadsData (document doc.now).lines) }
+{
+    match read_lines(alloc, doc) {
+        Ok(reader) => Ok(Ok(reader.data()?)),
+        Err(fault) => Ok(Err(name_refusal(fault)?)),
+    }
+}
+
+/// The names of the lines, or why they are refused.
+pub fn read_all<'d, 't>(
+    alloc: Global,
+    doc: &'d Doc<'t>,
+) -> Result<Result<Names<'d, 't>, Refusal>, AllocError>
+    ensures { IfOk result (ReadsNames (document doc.now).lines) }
+{
+    match read_names(alloc, doc) {
         Ok(names) => Ok(Ok(names)),
-        Err(NameFault::Redefined { line, .. }) => Ok(Err(line_refusal(201, line))),
-        Err(NameFault::LongAddress { line }) => Ok(Err(line_refusal(203, line))),
-        Err(NameFault::NoMemory) => Err(AllocError),
+        Err(fault) => Ok(Err(name_refusal(fault)?)),
+    }
+}
+
+/// The refusal of a fault of the names, unless there was no memory.
+fn name_refusal(fault: NameFault) -> Result<Refusal, AllocError>
+    requires { HasNumber fault }
+    ensures { IfOk result (IsNameRefusal fault) }
+{
+    match fault {
+        NameFault::Redefined { line, .. } => Ok(line_refusal(201, line)),
+        NameFault::LongAddress { line } => Ok(line_refusal(203, line)),
+        NameFault::NoMemory => Err(AllocError),
     }
 }
 

@@ -1,4 +1,5 @@
 //! Laws over the definitions: nothing is run.
+ghost use Rattle.tomled.specs.Listing.{OneListing};
 ghost use Rattle.tomled.specs.Show.{OneLine};
 ghost use Rattle.tomled.specs.Tagged.{OneTagged};
 
@@ -6,4 +7,9 @@ ghost use Rattle.tomled.specs.Tagged.{OneTagged};
 pub fn shown()
     ensures tagged { OneTagged }
     ensures line { OneLine }
+{}
+
+/// A document has at most one list of its addresses.
+pub fn listed()
+    ensures { OneListing }
 {}

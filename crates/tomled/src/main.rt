@@ -4,6 +4,7 @@
 mod check;
 mod document;
 pub mod laws;
+mod list;
 mod outcome;
 mod output;
 mod refusal;
@@ -15,6 +16,7 @@ mod words;
 
 use check::run_check;
 use clap::error::ErrorKind;
+use list::run_list;
 use outcome::Outcome;
 use output::{Counting, emit};
 use show::run_show;
@@ -88,9 +90,13 @@ fn run<R: Env + Files + AllocGlobal>(rt: &R) -> Result<Outcome, RunFault> {
     let owned = arguments(rt)?;
     let words: Vec<&str> = owned.iter().map(|word| word.as_str()).collect(rt.alloc())?;
     match read_words(rt.alloc(), words.as_slice()) {
-        Ok(Request::Show { file }) => {
+        Ok(Request::Show { file, list }) => {
             let bytes = read_file(rt, file)?;
-            Ok(run_show(rt.alloc(), bytes.as_slice())?)
+            if list {
+                Ok(run_list(rt.alloc(), bytes.as_slice())?)
+            } else {
+                Ok(run_show(rt.alloc(), bytes.as_slice())?)
+            }
         }
         Ok(Request::Check { file }) => {
             let bytes = read_file(rt, file)?;

@@ -3,7 +3,7 @@ ghost use Rattle.std.specs.Prelude.{IfOk};
 ghost use Rattle.toml_names.specs.Data.{kind_at};
 ghost use Rattle.tomled.specs.Show.{IsLineOf, Shows};
 
-use crate::document::read_document;
+use crate::document::{read_data, read_tree};
 use crate::outcome::Outcome;
 use crate::tagged::tagged;
 use std::alloc::{AllocError, Global};
@@ -13,8 +13,12 @@ use toml_names::Data;
 pub fn run_show(alloc: Global, file: &[u8]) -> Result<Outcome, AllocError>
     ensures { IfOk result (Shows file.now) }
 {
-    match read_document(alloc, file)? {
-        Ok(names) => Ok(Outcome::good(alloc, data_line(alloc, names.data())?)),
+    let doc = match read_tree(alloc, file)? {
+        Ok(doc) => doc,
+        Err(refusal) => return Outcome::refused(alloc, refusal),
+    };
+    match read_data(alloc, &doc)? {
+        Ok(whole) => Ok(Outcome::good(alloc, data_line(alloc, &whole)?)),
         Err(refusal) => Outcome::refused(alloc, refusal),
     }
 }

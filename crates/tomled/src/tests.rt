@@ -1,6 +1,7 @@
-//! The worked rows: what `check` and `show` print for a text.
+//! The worked rows: what `check`, `show` and `show --list` print for a text.
 
 use crate::check::run_check;
+use crate::list::run_list;
 use crate::outcome::Outcome;
 use crate::refusal::Refusal;
 use crate::show::run_show;
@@ -423,6 +424,74 @@ fn deepest_shown(rt: HostRuntime) -> Result<(), Fail> {
     let outcome = run_show(rt.alloc(), &text)?;
     assert_eq!(&rt; outcome.status, 0);
     assert_eq!(&rt; outcome.out.as_slice(), line.as_slice());
+    Ok(())
+}
+
+#[test]
+fn addresses_listed(rt: HostRuntime) -> Result<(), Fail> {
+    let rows: [(&[u8], &str); 12] = [
+        (b"", ""),
+        (b"# c\n\n", ""),
+        (b"x = [{y = 1}]", "[\"x\"]\n[\"x\",0,\"y\"]\n"),
+        (
+            b"[[a]]\n[a.b]\n[[a]]\n[a.b]\n",
+            "[\"a\"]\n[\"a\",0]\n[\"a\",0,\"b\"]\n[\"a\",1]\n[\"a\",1,\"b\"]\n",
+        ),
+        (b"\"a\\\"b\" = 1", "[\"a\\\"b\"]\n"),
+        (b"\"\" = 1\n\"a\\tb\" = 1", "[\"\"]\n[\"a\\tb\"]\n"),
+        (b"0.1 = [1, 2]", "[\"0\"]\n[\"0\",\"1\"]\n"),
+        (b"b = 1\na = 1", "[\"b\"]\n[\"a\"]\n"),
+        (
+            b"[a.b.c]\n[a]\nb.x = 1\n",
+            "[\"a\"]\n[\"a\",\"b\"]\n[\"a\",\"b\",\"c\"]\n[\"a\",\"b\",\"x\"]\n",
+        ),
+        (
+            b"a.b = 1\nc = 1\na.d = 1",
+            "[\"a\"]\n[\"a\",\"b\"]\n[\"c\"]\n[\"a\",\"d\"]\n",
+        ),
+        (
+            b"x = [[], [{}, {y.z = {}}]]",
+            "[\"x\"]\n[\"x\",1,1,\"y\"]\n[\"x\",1,1,\"y\",\"z\"]\n",
+        ),
+        ("'é' = 1".as_bytes(), "[\"é\"]\n"),
+    ];
+    for (text, lines) in rows {
+        assert_outcome(&rt, &run_list(rt.alloc(), text)?, 0, lines, "");
+    }
+    Ok(())
+}
+
+/// With so many elements that an index has several digits.
+#[test]
+fn many_addresses_listed(rt: HostRuntime) -> Result<(), Fail> {
+    let mut text = String::from_str(rt.alloc(), "[[a]]\n")?;
+    let mut lines = String::from_str(rt.alloc(), "[\"a\"]\n[\"a\",0]\n")?;
+    for index in 1..1_000 {
+        text.push_str("[[a]]\n")?;
+        lines.push_str(format!(in rt.alloc(); "[\"a\",{index}]\n")?.as_str())?;
+    }
+    let outcome = run_list(rt.alloc(), text.as_bytes())?;
+    assert_outcome(&rt, &outcome, 0, lines.as_str(), "");
+    Ok(())
+}
+
+#[test]
+fn addresses_refused(rt: HostRuntime) -> Result<(), Fail> {
+    let rows: [(&[u8], &str); 7] = [
+        (b"a = \"\xFF\"", "refused 101 5\n"),
+        (b"a = 1\rb = 2", "refused 103 5\n"),
+        (b"a = 1\na = 2\n?", "refused 104 12\n"),
+        (b"a = 01", "refused 106 4\n"),
+        (b"a = 1\na = 2\n", "refused 201 2\n"),
+        (b"[fruit.physical]\n[[fruit]]\n", "refused 201 2\n"),
+        (b"x = {a = 1, a.b = 2}", "refused 201 1\n"),
+    ];
+    for (text, line) in rows {
+        assert_outcome(&rt, &run_list(rt.alloc(), text)?, 1, "", line);
+    }
+    let long = repeated(rt.alloc(), &[(b"a.", 100), (b"a = 1", 1)])?;
+    let outcome = run_list(rt.alloc(), long.as_slice())?;
+    assert_outcome(&rt, &outcome, 1, "", "refused 203 1\n");
     Ok(())
 }
 

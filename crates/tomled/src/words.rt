@@ -3,23 +3,29 @@ ghost use Rattle.std.specs.Prelude.{◌≡◌, IfErr, IfOk, false, option_and_th
 ghost use Rattle.clap.specs.Walk.{texts};
 ghost use Rattle.clap.specs.Words.{FailsBy, fault_of, first_of, found_of, kind_of, rows_of, rule_of};
 ghost use Rattle.clap.specs.Words.{subcommand_of, subcommand_rows_of, takes};
-ghost use Rattle.tomled.specs.CommandLine.{IsDefined, check, required_argument, show, tool};
-ghost use Rattle.tomled.specs.Request.{IsFaultIn, IsRequestIn, asked_by, asked_of, check_of, show_of};
+ghost use Rattle.tomled.specs.CommandLine.{IsDefined, check, flag, required_argument, show, tool};
+ghost use Rattle.tomled.specs.Request.{IsFaultIn, IsRequestIn, asked_by, asked_of, check_of, is_true, show_of};
 
 #[cfg(test)]
 mod tests;
 
 use clap::error::ErrorKind;
-use clap::{Arg, ArgMatches, Command};
+use clap::{Arg, ArgAction, ArgMatches, Command};
 use std::alloc::{AllocError, Global};
 
 /// What the words ask for.
 #[derive(Debug, Drop, PartialEq, Eq)]
 pub enum Request<'a> {
     /// The data of the file.
-    Show { file: &'a str },
+    Show {
+        file: &'a str,
+        /// List the addresses in place of the data.
+        list: bool,
+    },
     /// Whether the file is a TOML document.
-    Check { file: &'a str },
+    Check {
+        file: &'a str,
+    },
 }
 
 /// Why words make no request.
@@ -75,9 +81,11 @@ fn show_command<'a>(alloc: Global) -> Result<Command<'a>, AllocError>
     ensures { IfOk result (IsDefined show) }
 {
     let file = path(alloc, "FILE", "The document");
+    let list = flag(alloc, "list", "List the addresses in place of the data");
     Command::new(alloc, "show")
         .about("Prints the data of a TOML document as tagged JSON")
-        .arg(file)
+        .arg(file)?
+        .arg(list)
 }
 
 fn check_command<'a>(alloc: Global) -> Result<Command<'a>, AllocError>
@@ -97,6 +105,17 @@ fn path<'a>(alloc: Global, name: &'a str, help: &'a str) -> Arg<'a>
     Arg::new(alloc, name).required(true).help(help)
 }
 
+fn flag<'a>(alloc: Global, name: &'a str, help: &'a str) -> Arg<'a>
+    ensures rule { rule_of result ≡ flag name.entry.now }
+    ensures local { result.global ≡ false }
+    ensures help { result.help ≡ Some help.entry }
+{
+    Arg::new(alloc, name)
+        .long(name)
+        .action(ArgAction::SetTrue)
+        .help(help)
+}
+
 /// The request of the subcommand that was met, if it has its paths.
 fn requested<'a>(matches: &ArgMatches<'a>) -> Option<Request<'a>>
     ensures { option_map asked_by result
@@ -114,7 +133,8 @@ fn show_request<'a>(found: &ArgMatches<'a>) -> Option<Request<'a>>
     ensures { option_map asked_by result ≡ show_of (rows_of (found_of found.now)) }
 {
     let file = first_value(found, "FILE")?;
-    Some(Request::Show { file })
+    let list = is_given(found, "list");
+    Some(Request::Show { file, list })
 }
 
 fn check_request<'a>(found: &ArgMatches<'a>) -> Option<Request<'a>>
@@ -122,6 +142,16 @@ fn check_request<'a>(found: &ArgMatches<'a>) -> Option<Request<'a>>
 {
     let file = first_value(found, "FILE")?;
     Some(Request::Check { file })
+}
+
+/// Whether the flag was given: the parser answers `true` or `false` for it.
+fn is_given(found: &ArgMatches<'_>, flag: &str) -> bool
+    ensures { result ≡ is_true (first_of flag.now (rows_of (found_of found.now))) }
+{
+    match first_value(found, flag) {
+        Some(text) => text == "true",
+        None => false,
+    }
 }
 
 fn first_value<'a>(found: &ArgMatches<'a>, argument: &str) -> Option<&'a str>

@@ -10,7 +10,34 @@ fn check_has_its_path(rt: HostRuntime) {
 #[test]
 fn show_has_its_path(rt: HostRuntime) {
     let request = read_words(rt.alloc(), ["tomled", "show", "a.toml"].as_slice());
-    assert!(rt; matches!(&request, Ok(Request::Show { file: "a.toml" })));
+    assert!(rt;
+        matches!(
+            &request,
+            Ok(Request::Show {
+                file: "a.toml",
+                list: false
+            })
+        )
+    );
+}
+
+#[test]
+fn show_lists_before_and_behind_its_path(rt: HostRuntime) {
+    for words in [
+        ["tomled", "show", "--list", "a.toml"],
+        ["tomled", "show", "a.toml", "--list"],
+    ] {
+        let request = read_words(rt.alloc(), words.as_slice());
+        assert!(rt;
+            matches!(
+                &request,
+                Ok(Request::Show {
+                    file: "a.toml",
+                    list: true
+                })
+            )
+        );
+    }
 }
 
 #[test]
@@ -41,8 +68,11 @@ fn mistakes_are_refused(rt: HostRuntime) {
         ["tomled", "edit", "a.toml"].as_slice(),
         ["tomled", "show"].as_slice(),
         ["tomled", "show", "a.toml", "b.toml"].as_slice(),
+        ["tomled", "show", "--list"].as_slice(),
+        ["tomled", "show", "--list", "--list", "a.toml"].as_slice(),
         ["tomled", "check"].as_slice(),
         ["tomled", "check", "a.toml", "b.toml"].as_slice(),
+        ["tomled", "check", "--list", "a.toml"].as_slice(),
     ] {
         let result = read_words(rt.alloc(), words);
         let is_mistake = match &result {

@@ -1,5 +1,9 @@
+use Rattle.toml_names.proofs.OneRefusal.{one_refusal}
 use Rattle.toml_names.proofs.Refused.{refused_are_bad}
 use Rattle.toml_names.proofs.laws.refusals.Goals as goal
 
-pub returns : goal.returns
-returns c = refused_are_bad
+pub returns-clause-bad : goal.returns-clause-bad
+returns-clause-bad c = refused_are_bad
+
+pub returns-clause-one : goal.returns-clause-one
+returns-clause-one c = one_refusal

@@ -1,6 +1,7 @@
 use Rattle.std.proofs.Common.{subst}
 use Rattle.toml_names.specs.Data.{IsDataOf, kind_at}
+use Rattle.toml_names.specs.Reading.{Known}
 use Rattle.toml_names.proofs.names.Names.data.Goals as goal
 
 pub returns : goal.returns
-returns c = subst (λ ms. IsDataOf ms (kind_at c.self.inside.«data».root)) c.self.view_is c.self.invariant
+returns c = subst (λ (k : Known). IsDataOf k.named (kind_at c.self.inside.«data».root)) c.self.view_is c.self.invariant.facts

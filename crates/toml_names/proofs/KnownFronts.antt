@@ -1,0 +1,78 @@
+-- A dotted key's fronts that are there already, one by one, up to the first name that is new.
+use Rattle.std.proofs.Common.{◌≡◌, ℕ, ◌+◌, ◌<◌, true, false, List, [], ◌∷◌, ◌++◌, length, map, take, drop, Some, refl, sym, ap, subst, ◌∙◌, slice_index_or}
+use Rattle.std.proofs.lemmas.List.{append_assoc, map-append}
+use Rattle.std.specs.Map.{lookup}
+use Rattle.std.specs.Str.{bytes_eq}
+use Rattle.toml_tree.specs.declared.tree.Dotted.{Dotted as Part}
+use Rattle.toml_tree.specs.View.{piece}
+use Rattle.toml_names.specs.declared.address.Step.TheVariants.{Name}
+use Rattle.toml_names.specs.declared.named.Role.TheVariants.{Dotted, Valued}
+use Rattle.toml_names.specs.Addresses.{Address, below}
+use Rattle.toml_names.specs.Keys.{Key, part_name}
+use Rattle.toml_names.specs.LongKeys.{CanEnter, FollowedFronts, key_named}
+use Rattle.toml_names.specs.Mentions.{Kind, Named, a_table, table_at, fronts}
+use Rattle.toml_names.specs.NameTree.{IsTree, Enters, Clashes}
+use Rattle.toml_names.specs.Nodes.{Spot, address_at, noted}
+use Rattle.toml_names.specs.Rules.{may_follow}
+use Rattle.toml_names.proofs.Along.{names_left}
+use Rattle.toml_names.proofs.EnterFronts.{first_names, all_names, fronts-append, Enters-front, last-front, Clashes-fronts}
+use Rattle.toml_names.proofs.EnterName.{Clashes-found, Enters-found, LeadsTo-found, found-within}
+use Rattle.toml_names.proofs.EnterSteps.{Enters-append, Enters-none}
+use Rattle.toml_names.proofs.FreshKeys.{IsAbsent, fresh_key, named-more}
+
+-- no front was entered yet
+pub followed-first : (old : List Spot) (line at : ℕ) (first : List ℕ) → IsTree old → at < length old → FollowedFronts old old line (address_at old at) at first (first ∷ [])
+followed-first old line at first tree low = record { entered = Enters-none old tree; within = low; last = refl }
+
+-- a whole key's own name
+abbrev end : ℕ → Kind → Address → Named
+end line k at = record { address = at; role = Valued; kind = k; line = line }
+
+-- a whole key, up to a name and from there on
+named-append : (line : ℕ) (k : Kind) (at : Address) (n : List ℕ) (xs : Key) (y : List ℕ) (ys : Key)
+    → key_named line at (n ∷ xs ++ y ∷ ys) k ≡ fronts line at (n ∷ xs) ++ (table_at line Dotted (below at (n ∷ xs)) ∷ key_named line (below at (n ∷ xs)) (y ∷ ys) k)
+named-append line k at n xs y ys =
+    let more = table_at line Dotted (below at (n ∷ xs)) ∷ fronts line (below at (n ∷ xs)) (y ∷ ys) in
+    ap (λ l. l ++ end line k (below at (n ∷ xs ++ y ∷ ys)) ∷ []) (fronts-append line xs at n y ys)
+    ∙ append_assoc (fronts line at (n ∷ xs)) more (end line k (below at (n ∷ xs ++ y ∷ ys)) ∷ [])
+    ∙ ap (λ a. fronts line at (n ∷ xs) ++ (more ++ end line k a ∷ [])) (ap (λ l. at ++ l) (map-append Name (n ∷ xs) (y ∷ ys)) ∙ sym (append_assoc at (map Name (n ∷ xs)) (map Name (y ∷ ys))))
+
+module _ (first : List ℕ) (rest : List Part) (i : ℕ) (d : Part) (low : i < length rest) (is : d ≡ slice_index_or rest i d)
+    (old now : List Spot) (line : ℕ) (at : Address) (here : ℕ) (part : List ℕ) (followed : FollowedFronts old now line at here part (first_names first rest i)) where
+  abbrev n : List ℕ
+  n = part_name (piece d.part)
+
+  -- the next name leads to a node
+  module _ (id : ℕ) (e : Spot) (found : lookup (bytes_eq part) (slice_index_or now here e).children ≡ Some id) where
+    pub followed-within : id < length now
+    followed-within = found-within now followed.entered.tree here followed.within part e id found
+
+    pub followed-found : may_follow (slice_index_or now id e).role Dotted ≡ true
+        → FollowedFronts old (noted now id (slice_index_or now id e) Dotted line) line at id n (first_names first rest (i + 1))
+    followed-found goes =
+        let next = noted now id (slice_index_or now id e) Dotted line in
+        let leads = LeadsTo-found now followed.entered.tree here followed.within part e id found Dotted a_table line e in
+        record {
+          entered = Enters-front first rest i d low is old now at line here part followed.entered followed.last next
+              (Enters-found now followed.entered.tree here followed.within part e id found Dotted a_table line e refl goes);
+          within = leads.within;
+          last = last-front first rest i d low is old now at line here part followed.entered followed.last (address_at next id) leads.address;
+        }
+
+    pub followed-clash : may_follow (slice_index_or now id e).role Dotted ≡ false → Clashes old (fronts line at (first ∷ names_left rest)) (address_at now id)
+    followed-clash bad =
+        Clashes-fronts first rest i d low is old now at line here part followed.entered followed.last (address_at now id)
+        (Clashes-found now followed.entered.tree here followed.within part e id found Dotted a_table line e bad)
+
+  -- it leads nowhere
+  pub followed-fresh : IsAbsent now here part → (e : Spot) (k : Kind) → CanEnter old (key_named line at (first ∷ names_left rest) k)
+  followed-fresh absent e k =
+      let behind = names_left (drop (i + 1) rest) in
+      let before = first_names first rest i in
+      let (new, enters) = fresh_key line k (n ∷ behind) now here part e followed.entered.tree followed.within absent in
+      let made : key_named line at (first ∷ names_left rest) k ≡ fronts line at before ++ key_named line (address_at now here) (part ∷ n ∷ behind) k =
+      ap (λ key. key_named line at key k) (all_names first rest i d low is)
+      ∙ named-append line k at first (names_left (take i rest)) n behind
+      ∙ ap (λ a. fronts line at before ++ (table_at line Dotted a ∷ key_named line a (n ∷ behind) k)) (sym followed.last)
+      ∙ ap (λ l. fronts line at before ++ l) (sym (named-more line k (address_at now here) part n behind)) in
+      (new, subst (Enters old new) (sym made) (Enters-append (fronts line at before) (key_named line (address_at now here) (part ∷ n ∷ behind) k) followed.entered enters))

@@ -1,0 +1,36 @@
+-- A pair whose value names nothing inside: its key's fronts, and the value's own name.
+use Rattle.std.proofs.Common.{◌≡◌, ℕ, ◌+◌, ◌<◌, List, [], ◌∷◌, ◌++◌, length, sym, ap, subst, ◌∙◌, slice_index_or, arith}
+use Rattle.toml_tree.specs.Tree.{Assign, Value}
+use Rattle.toml_names.specs.declared.named.Role.TheVariants.{Valued}
+use Rattle.toml_names.specs.Addresses.{Address, child, below}
+use Rattle.toml_names.specs.Keys.{Key, key_names}
+use Rattle.toml_names.specs.LongKeys.{CanEnter, FollowedFronts, IsLongKey, key_named}
+use Rattle.toml_names.specs.Mentions.{Kind, kind_of, inside, fronts, pair_named, value_named}
+use Rattle.toml_names.specs.NameTree.{IsTree, Enters, LeadsTo, name_at}
+use Rattle.toml_names.specs.Nodes.{Spot, address_at}
+use Rattle.toml_names.proofs.EnterSteps.{Enters-none}
+use Rattle.toml_names.proofs.PairEntered.{Enters-pair}
+
+-- what the code read of the node: its key is too long
+pub long_key : (nodes : List Spot) (at : ℕ) (s : Spot) (depth : ℕ) (key : Key) → IsTree nodes → at < length nodes → s ≡ slice_index_or nodes at s → depth ≡ s.depth
+    → 100 < depth + length key → IsLongKey (address_at nodes at) key
+long_key nodes at s depth key tree low read is long =
+    let deep : depth ≡ length (address_at nodes at) = is ∙ ap (λ (t : Spot). t.depth) read ∙ tree.deep at s low in omega (arith, deep, long)
+
+module _ (line : ℕ) (at : Address) (a : Assign) (v : Value) (plain : (line : ℕ) (at : Address) → inside line at v ≡ []) where
+  named-plain : pair_named line at a v ≡ key_named line at (key_names a.key) (kind_of v)
+  named-plain = ap (λ l. fronts line at (key_names a.key) ++ (value_named line Valued (below at (key_names a.key)) v ∷ l)) (plain line (below at (key_names a.key)))
+
+  -- it goes on at a name that is new
+  pub pair_fresh : (old : List Spot) → ((k : Kind) → CanEnter old (key_named line at (key_names a.key) k)) → CanEnter old (pair_named line at a v)
+  pair_fresh old fresh = subst (CanEnter old) (sym named-plain) (fresh (kind_of v))
+
+  -- its fronts are there
+  pub pair_found : (old now next : List Spot) (here : ℕ) (part : List ℕ) (k : Kind) (id : ℕ) → FollowedFronts old now line at here part (key_names a.key) → k ≡ kind_of v
+      → Enters now next (name_at now here part Valued k line ∷ []) → LeadsTo next id (child (address_at now here) part)
+      → Enters old next (pair_named line at a v) × LeadsTo next id (below at (key_names a.key))
+  pair_found old now next here part k id followed is enters leads = (
+    Enters-pair old now next here line part k v (below at (key_names a.key)) (fronts line at (key_names a.key)) followed.last is followed.entered id enters leads next
+        (subst (Enters next next) (sym (plain line (address_at next id))) (Enters-none next enters.tree)),
+    subst (LeadsTo next id) followed.last leads,
+  )

@@ -1,0 +1,7 @@
+use Rattle.std.proofs.Common.{map}
+use Rattle.toml_tree.specs.Lines.{line as tree_line}
+use Rattle.toml_names.proofs.WholeDocument.{IsAt}
+use Rattle.toml_names.proofs.names.read_lines.Given as goal
+
+abbrev pub invariant-loop-line : goal.invariant-loop-line
+invariant-loop-line l = IsAt (map tree_line l.line-items) l.line-index l.reader

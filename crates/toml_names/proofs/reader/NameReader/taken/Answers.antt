@@ -1,0 +1,8 @@
+use Rattle.std.proofs.Common.{subst}
+use Rattle.toml_names.specs.Names.{AreGood}
+use Rattle.toml_names.specs.Reading.{ReaderState, lines_of}
+use Rattle.toml_names.proofs.OneMoreLine.{reader_good}
+use Rattle.toml_names.proofs.reader.NameReader.taken.Goals as goal
+
+pub returns-clause-good : goal.returns-clause-good
+returns-clause-good c = subst (λ (r : ReaderState). AreGood (lines_of r)) c.self.view_is (reader_good c.self.invariant.0)

@@ -1,0 +1,29 @@
+use Rattle.std.proofs.lemmas.Result.{err_from_is_err_and}
+use Rattle.toml_tree.specs.View.{piece, key as tree_key}
+use Rattle.toml_names.specs.EnteringHeaders.{PassedFronts}
+use Rattle.toml_names.specs.Keys.{part_name, rest_names, key_names}
+use Rattle.toml_names.specs.Mentions.{ends_tables}
+use Rattle.toml_names.proofs.HeaderLines.{clash_in_fronts, tables_line, tables_clash}
+use Rattle.toml_names.proofs.tree.NameTree.tables_unless_long.Goals as goal
+
+pub returns-in_err-here-clause-clash : goal.returns-in_err-here-clause-clash
+returns-in_err-here-clause-clash c =
+    let p = err_from_is_err_and c.from_residual-in_err-here.result c.from_residual-in_err-here.ensures.1 in
+    rw (p.1, p.2) (λ a same ms stands. clash_in_fronts c.args.line ms (ends_tables c.args.line ms) (part_name (piece c.args.key.now.first)) (rest_names (tree_key c.args.key.now).rest) a (c.in_err-here.ensures.clash a same ms stands))
+
+pub returns-in_err-enter_tables-in-Some-clause-clash : goal.returns-in_err-enter_tables-in-Some-clause-clash
+returns-in_err-enter_tables-in-Some-clause-clash c =
+    let p = err_from_is_err_and c.from_residual-in_err-enter_tables-in-Some.result c.from_residual-in_err-enter_tables-in-Some.ensures.1 in
+    let passed : PassedFronts c.args.self.now.nodes.items c.pass_known.new.self.nodes.items c.args.line c.in-Some.here (part_name (piece c.in-Some.part)) (key_names (tree_key c.args.key.now)) =
+    rw c.in-Some.is at c.in_ok-here.ensures.known in
+    rw (p.1, p.2)
+    (λ a same. tables_clash c.args.self.now.nodes.items c.pass_known.new.self.nodes.items c.args.line c.in-Some.here (part_name (piece c.in-Some.part)) (part_name (piece c.args.key.now.first)) (rest_names (tree_key c.args.key.now).rest)
+    passed.kept (λ ms stands. (passed.stands ms stands, passed.goes ms stands)) passed.last a (c.in_err-enter_tables-in-Some.ensures.clash a same))
+
+pub returns-in_ok-enter_tables-in-Some-clause-enters : goal.returns-in_ok-enter_tables-in-Some-clause-enters
+returns-in_ok-enter_tables-in-Some-clause-enters c =
+    let passed : PassedFronts c.args.self.now.nodes.items c.pass_known.new.self.nodes.items c.args.line c.in-Some.here (part_name (piece c.in-Some.part)) (key_names (tree_key c.args.key.now)) =
+    rw c.in-Some.is at c.in_ok-here.ensures.known in
+    let made = c.in_ok-enter_tables-in-Some.ensures in
+    tables_line c.args.self.now.nodes.items c.pass_known.new.self.nodes.items c.args.line c.in-Some.here (part_name (piece c.in-Some.part)) (part_name (piece c.args.key.now.first)) (rest_names (tree_key c.args.key.now).rest)
+    passed.kept (λ ms stands. (passed.stands ms stands, passed.goes ms stands)) passed.last c.enter_tables.new.self.nodes.items c.in_ok-enter_tables-in-Some.field-0 made.tree made.kept made.within made.stands made.leads

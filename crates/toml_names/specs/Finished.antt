@@ -1,0 +1,19 @@
+-- What the finished tree of names tells.
+use Rattle.std.specs.Prelude.{◌≡◌, ◌++◌, ℕ, Bool, true, false, List, slice_index_or}
+use Rattle.toml_names.specs.declared.datum.Datum.{Datum}
+use Rattle.toml_names.specs.declared.named.Role.{Role}
+use Rattle.toml_names.specs.declared.named.Role.TheVariants.{Bare}
+use Rattle.toml_names.specs.Addresses.{Address}
+use Rattle.toml_names.specs.Data.{kind_at, fact_at}
+use Rattle.toml_names.specs.Joining.{Joined}
+use Rattle.toml_names.specs.Mentions.{Kind, Named}
+use Rattle.toml_names.specs.NameTree.{IsTreeOf}
+use Rattle.toml_names.specs.Nodes.{Spot, address_at}
+
+-- the datum has what is named at the node's address and below
+abbrev pub IsDatumAt : List Spot → ℕ → Datum → Type 0
+IsDatumAt nodes id d = (ms : List Named) → IsTreeOf nodes ms → Joined ms → (at : Address) → kind_at d at ≡ fact_at ms (address_at nodes id ++ at)
+
+-- the node is of the kind
+abbrev pub IsOfKind : List Spot → ℕ → Kind → Type 0
+IsOfKind nodes id k = (d : Spot) → (slice_index_or nodes id d).kind ≡ k

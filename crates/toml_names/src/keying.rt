@@ -1,0 +1,64 @@
+//! The key for hashing the names of a document: a hash of all its key parts. Names that collide would have to be found
+//! under a key that they make themselves.
+use std::hash::{DefaultHasher, Hasher};
+use toml_tree::{Doc, Expr, Key, KeyVal, Line, Piece, Value};
+
+/// A hash of the key parts of a document, in text order.
+pub fn key_of(doc: &Doc<'_>) -> u64 {
+    let mut hasher = DefaultHasher::new();
+    for line in doc.lines() {
+        feed_line(&mut hasher, line);
+    }
+    hasher.finish()
+}
+
+/// A hash of the key parts of a value, in text order.
+pub fn key_in(value: &Value<'_>) -> u64 {
+    let mut hasher = DefaultHasher::new();
+    feed_value(&mut hasher, value);
+    hasher.finish()
+}
+
+fn feed_line(hasher: &mut DefaultHasher, line: &Line<'_>) {
+    match line.expr() {
+        Expr::Blank(_) => {}
+        Expr::KeyVal { keyval, .. } => feed_pair(hasher, keyval),
+        Expr::Std { header, .. } | Expr::Array { header, .. } => feed_key(hasher, &header.key),
+    }
+}
+
+fn feed_key(hasher: &mut DefaultHasher, key: &Key<'_>) {
+    feed_part(hasher, &key.first);
+    for dotted in &key.rest {
+        feed_part(hasher, &dotted.part);
+    }
+}
+
+/// One part; no key part has the byte FF, which ends it here.
+fn feed_part(hasher: &mut DefaultHasher, part: &Piece<'_>) {
+    hasher.write(part.text.as_bytes());
+    hasher.write_u8(0xFF);
+}
+
+#[cycle(feeding)]
+fn feed_pair(hasher: &mut DefaultHasher, pair: &KeyVal<'_>) {
+    feed_key(hasher, &pair.assign.key);
+    feed_value(hasher, &pair.value);
+}
+
+#[cycle(feeding)]
+fn feed_value(hasher: &mut DefaultHasher, value: &Value<'_>) {
+    match value {
+        Value::Scalar(_, _) => {}
+        Value::Array(array) => {
+            for item in &array.items {
+                feed_value(hasher, &item.value);
+            }
+        }
+        Value::Inline(table) => {
+            for pair in &table.pairs {
+                feed_pair(hasher, &pair.keyval);
+            }
+        }
+    }
+}

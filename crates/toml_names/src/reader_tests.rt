@@ -1,0 +1,233 @@
+//! Worked rows of the reader of names, and the plain program beside it.
+use crate::named::{Named, Role};
+use crate::place::same_role;
+use crate::plain::plain_names;
+use crate::tests::At::{Index, Name as Key};
+use crate::tests::{At, address, doc, redefined};
+use crate::{Address, NameFault, NameReader, read_names};
+use std::alloc::Global;
+use std::process::Abort;
+use std::test::Fail;
+use toml_tree::Doc;
+
+const ROW_EIGHT: &str = "[[a]]\n[a.b]\n[[a]]\n[a.b]\n";
+
+/// Whether the addresses are those, one by one.
+fn are(alloc: Global, found: &[Address], wanted: &[&[At]]) -> Result<bool, Fail> {
+    if found.len() != wanted.len() {
+        return Ok(false);
+    }
+    for (index, steps) in wanted.iter().enumerate() {
+        if !found[index].is_same(&address(alloc, steps)?) {
+            return Ok(false);
+        }
+    }
+    Ok(true)
+}
+
+/// A reader that was handed each line in turn, and the lines and addresses of the refusals.
+fn hand_in<'d, 't>(
+    alloc: Global,
+    doc: &'d Doc<'t>,
+) -> Result<(NameReader<'d, 't>, Vec<(usize, Address)>), Fail> {
+    let mut reader = NameReader::new(alloc)?;
+    let mut refused = Vec::new(alloc);
+    for line in doc.lines() {
+        if let Err(fault) = reader.line(line) {
+            refused.push(redefined(fault).ok_or("another fault")?)?;
+        }
+    }
+    Ok((reader, refused))
+}
+
+#[test]
+fn a_refused_line_leaves_no_trace(rt: HostRuntime) -> Result<(), Fail> {
+    let text = "[a]\nx.y = {z = 1, z = 2}\nx = 1";
+    let doc = doc(rt.alloc(), text)?;
+    let (reader, refused) = hand_in(rt.alloc(), &doc)?;
+    assert_eq!(rt; refused.len(), 1);
+    assert_eq!(rt; refused[0].0, 1);
+    let at = address(rt.alloc(), &[Key("a"), Key("x"), Key("y"), Key("z")])?;
+    assert!(rt; refused[0].1.is_same(&at));
+    assert_eq!(rt; reader.taken().len(), 2);
+    let names = reader.finish()?;
+    let first: [&[At]; 2] = [&[Key("a")], &[Key("a"), Key("x")]];
+    assert!(rt; are(rt.alloc(), names.first_mentions(), &first)?);
+    Ok(())
+}
+
+#[test]
+fn addresses_are_listed_and_looked_up_once(rt: HostRuntime) -> Result<(), Fail> {
+    let rows: [(&str, u64, &[&[At]]); 3] = [
+        ("", 0, &[]),
+        (
+            "x = [{y = 1}]",
+            2,
+            &[&[Key("x")], &[Key("x"), Index(0), Key("y")]],
+        ),
+        (
+            ROW_EIGHT,
+            6,
+            &[
+                &[Key("a")],
+                &[Key("a"), Index(0)],
+                &[Key("a"), Index(0), Key("b")],
+                &[Key("a"), Index(1)],
+                &[Key("a"), Index(1), Key("b")],
+            ],
+        ),
+    ];
+    for (text, parts, wanted) in rows {
+        let doc = doc(rt.alloc(), text)?;
+        let names = read_names(rt.alloc(), &doc).map_err(|_| "refused")?;
+        assert!(rt; names.lookups() <= parts);
+        assert!(rt; are(rt.alloc(), names.first_mentions(), wanted)?);
+    }
+    Ok(())
+}
+
+/// The distinct addresses of the mentions, in the order of their first mentions, by the plain list.
+fn distinct<'n>(alloc: Global, list: &'n [Named<'_>]) -> Result<Vec<&'n Address>, Fail> {
+    let mut found: Vec<&Address> = Vec::new(alloc);
+    for mention in list {
+        let is_bare = same_role(mention.role, Role::Bare);
+        if !is_bare && !found.iter().any(|at| at.is_same(&mention.address)) {
+            found.push(&mention.address)?;
+        }
+    }
+    Ok(found)
+}
+
+/// Whether the faults are the same, and of this line.
+fn are_of_line(one: &NameFault, other: &NameFault, wanted: Option<usize>) -> bool {
+    match (one, other) {
+        (
+            NameFault::Redefined { line, address },
+            NameFault::Redefined {
+                line: second,
+                address: other,
+            },
+        ) => wanted == Some(*line) && line == second && address.is_same(other),
+        (NameFault::LongAddress { line }, NameFault::LongAddress { line: second }) => {
+            wanted == Some(*line) && line == second
+        }
+        _ => false,
+    }
+}
+
+/// Whether the plain program and the reader answer the same, and refuse this line.
+fn agree(alloc: Global, text: &str, wanted: Option<usize>) -> Result<bool, Fail> {
+    let doc = doc(alloc, text)?;
+    match (plain_names(alloc, &doc), read_names(alloc, &doc)) {
+        (Ok(list), Ok(names)) => {
+            let mentions = distinct(alloc, &list)?;
+            let first = names.first_mentions();
+            let are_same = first
+                .iter()
+                .zip(&mentions)
+                .all(|(one, other)| one.is_same(other));
+            Ok(wanted.is_none() && first.len() == mentions.len() && are_same)
+        }
+        (Err(one), Err(other)) => Ok(are_of_line(&one, &other, wanted)),
+        _ => Ok(false),
+    }
+}
+
+#[test]
+fn the_plain_program_answers_the_same(rt: HostRuntime) -> Result<(), Fail> {
+    let rows: [(&str, Option<usize>); 19] = [
+        ("", None),
+        ("3.14 = 0xdead_beef\n", None),
+        ("a = \"\"\"\"x\"\"\"\"\"", None),
+        ("a = \"\"\"\r\nb\\ \r\n\r\n  c\"\"\"", None),
+        ("[a.b.c]\n[a]\nb.x = 1\n", None),
+        ("[a.b.c]\n[a]\nb.x = 1\n[a.b]", Some(3)),
+        ("[fruit]\napple.color = 1\n[fruit.apple.texture]\n", None),
+        ("[fruit]\napple.color = 1\n[fruit.apple]", Some(2)),
+        (ROW_EIGHT, None),
+        ("[fruit.physical]\n[[fruit]]\n", Some(1)),
+        ("f = +6.626_0E-34\nd = 1979-05-27 07:32:00.50z\n", None),
+        ("a = 1\n[a.b]", Some(1)),
+        ("[a]\nb = {c = 1}\n[a.b.d]", Some(2)),
+        ("x = [{y = 1}]\n[[x]]", Some(1)),
+        ("[a.b]\n[a]\nb.x = 1\n", Some(2)),
+        ("x = {a = 1, a.b = 2}", Some(0)),
+        ("[[a.b]]\n[a]\nc = 1", None),
+        ("x = [{y = 1}]", None),
+        ("[a]\nx.y = {z = 1, z = 2}\nx = 1", Some(1)),
+    ];
+    for (text, wanted) in rows {
+        assert!(rt; agree(rt.alloc(), text, wanted)?);
+    }
+    Ok(())
+}
+
+/// The start, so many times the first part, the second, and as many times the third.
+fn around(
+    alloc: Global,
+    start: &str,
+    times: usize,
+    (front, middle, back): (&str, &str, &str),
+) -> Result<String, Fail> {
+    let mut text = String::from_str(alloc, start)?;
+    for _ in 0..times {
+        text.push_str(front)?;
+    }
+    text.push_str(middle)?;
+    for _ in 0..times {
+        text.push_str(back)?;
+    }
+    Ok(text)
+}
+
+#[test]
+fn the_plain_program_has_the_same_limit(rt: HostRuntime) -> Result<(), Fail> {
+    let rows: [(&str, usize, (&str, &str, &str), Option<usize>); 4] = [
+        ("a = ", 100, ("[", "", "]"), None),
+        ("", 99, ("a.", "a = 1", ""), None),
+        ("", 100, ("a.", "a = 1", ""), Some(0)),
+        ("", 99, ("a.", "a = [1]", ""), Some(0)),
+    ];
+    for (start, times, parts, wanted) in rows {
+        let text = around(rt.alloc(), start, times, parts)?;
+        assert!(rt; agree(rt.alloc(), text.as_str(), wanted)?);
+    }
+    Ok(())
+}
+
+/// A reader that took each line; one that was refused for want of memory was handed in again.
+fn take_all<'d, 't>(
+    rt: &impl Abort,
+    alloc: Global,
+    doc: &'d Doc<'t>,
+) -> Result<NameReader<'d, 't>, Fail> {
+    let mut reader = NameReader::new(alloc)?;
+    for line in doc.lines() {
+        let taken = reader.taken().len();
+        if let Err(NameFault::NoMemory) = reader.line(line) {
+            assert_eq!(rt; reader.taken().len(), taken);
+            reader.line(line).map_err(|_| "refused again")?;
+        }
+    }
+    assert_eq!(rt; reader.taken().len(), doc.lines().len());
+    Ok(reader)
+}
+
+/// With ample memory each line is taken. Where a growth is refused in `line` (`rt try --test --fail-alloc N`) no line
+/// is taken, and then the same one is.
+#[test]
+fn refused_growths_leave_no_trace(rt: HostRuntime) -> Result<(), Fail> {
+    let rows: [(&str, usize); 2] = [
+        (
+            "port = 1_000 # keep\nx = [1, # one\n 2]\n[a.b]\na.b = 1\nd = 1979-05-27 07:32:00.50z\n",
+            7,
+        ),
+        (ROW_EIGHT, 5),
+    ];
+    for (text, mentions) in rows {
+        let doc = doc(rt.alloc(), text)?;
+        let names = take_all(&rt, rt.alloc(), &doc)?.finish()?;
+        assert_eq!(rt; names.first_mentions().len(), mentions);
+    }
+    Ok(())
+}

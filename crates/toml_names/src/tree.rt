@@ -1,0 +1,273 @@
+//! The tree of names, and the changes that a line makes in it.
+ghost use Rattle.std.specs.Prelude.{◌∷◌, ◌≡◌, ◌+◌, ◌<◌, ◌≤◌, ℕ, List, length, min, string_bytes, false, None, Some, OnOk, OnErr, IfOk, slice_index_or, vec_len, []};
+ghost use Rattle.std.specs.Map.{lookup};
+ghost use Rattle.std.specs.Str.{bytes_eq};
+ghost use Rattle.toml_tree.specs.View.{piece};
+ghost use Rattle.toml_names.specs.declared.address.Step.TheVariants as steps;
+ghost use Rattle.toml_names.specs.declared.named.Role.{Role as Mark};
+ghost use Rattle.toml_names.specs.declared.named.Role.TheVariants.{Bare};
+ghost use Rattle.toml_names.specs.Keys.{part_name};
+ghost use Rattle.toml_names.specs.Local.{role_after};
+ghost use Rattle.toml_names.specs.Mentions as mentions;
+ghost use Rattle.toml_names.specs.Mentions.{is_tables};
+ghost use Rattle.toml_names.specs.NameTree.{IsTree, IsTreeOf};
+ghost use Rattle.toml_names.specs.Nodes.{Spot, address_at, grown, noted, reverted, undone};
+ghost use Rattle.toml_names.specs.Rules.{misfit};
+ghost use Rattle.toml_names.specs.View.{kind as kind_of};
+
+use crate::address::{Address, Step};
+use crate::hashing::NameHashing;
+use crate::name::Name;
+use crate::named::{Kind, Role};
+use crate::naming::part_name;
+use crate::node::{Node, Under};
+use crate::place::same_role;
+use std::alloc::{AllocError, Global};
+use toml_tree::Piece;
+
+/// A change of the nodes.
+#[derive(Clone, Copy, Drop)]
+pub enum Change {
+    /// The last node was made, and a name of this node leads to it.
+    NameLinked(usize),
+    /// The last node was made, as the last element of this node.
+    ElementLinked(usize),
+    /// This node had that mark, of that line.
+    RoleNoted(usize, Role, usize),
+}
+
+/// Why a mention was not entered.
+#[derive(Drop)]
+pub enum EnterFault {
+    /// It does not go with an earlier one of this address.
+    Clash(Address),
+    NoMemory,
+}
+
+impl From<AllocError> for EnterFault {
+    ghost use Rattle.toml_names.specs.declared.tree.EnterFault.TheVariants.{NoMemory};
+
+    ghost from_gives = { λ _ f. f ≡ NoMemory };
+
+    fn from(_: AllocError) -> Self {
+        EnterFault::NoMemory
+    }
+}
+
+/// The tree, with the changes of the line that is being read.
+#[derive(Drop)]
+pub struct NameTree<'t> {
+    pub(crate) alloc: Global,
+    pub(crate) hashing: NameHashing,
+    pub(crate) nodes: Vec<Node<'t>>,
+    pub(crate) changes: Vec<Change>,
+    pub(crate) lookups: u64,
+}
+
+impl<'t> NameTree<'t> {
+    /// A tree of one node, the root: it is of this kind, and named in this role.
+    pub fn new(
+        alloc: Global,
+        hashing: NameHashing,
+        role: Role,
+        kind: Kind<'t>,
+    ) -> Result<NameTree<'t>, AllocError>
+        requires { is_tables role ≡ false }
+        ensures root { IfOk result (λ t. IsTreeOf t.nodes.items (record { address = []; role = role; kind = kind_of kind.entry; line = 0 } ∷ [])) }
+        ensures lone { IfOk result (λ t. (length t.nodes.items ≡ 1) × ((d : Spot) → (slice_index_or t.nodes.items 0 d).elements ≡ [])) }
+        ensures changes { IfOk result (λ t. t.changes.items ≡ []) }
+        ensures lookups { IfOk result (λ t. t.lookups ≡ 0) }
+    {
+        let mut nodes = Vec::new(alloc);
+        nodes.push(Node::leaf(alloc, hashing, Under::Root, 0, role, kind, 0))?;
+        Ok(NameTree {
+            alloc,
+            hashing,
+            nodes,
+            changes: Vec::new(alloc),
+            lookups: 0,
+        })
+    }
+
+    /// The node of a name: the one look-up. It is counted, up to the greatest `u64`.
+    pub fn look(&mut self, at: usize, name: &str) -> Option<usize>
+        requires { at < vec_len self.old.nodes }
+        ensures found { (d : Spot) → result ≡ lookup (bytes_eq name.now) (slice_index_or self.old.nodes.items at d).children }
+        ensures nodes { self.new.nodes ≡ self.old.nodes }
+        ensures changes { self.new.changes ≡ self.old.changes }
+        ensures counted { self.new.lookups ≡ min (self.old.lookups + 1) 18446744073709551615 }
+        ensures rises { self.old.lookups ≤ self.new.lookups }
+    {
+        self.lookups = self.lookups.saturating_add(1);
+        self.nodes[at].child(name)
+    }
+
+    /// The address of a node.
+    pub fn address(&self, id: usize) -> Result<Address, AllocError>
+        requires within { id < vec_len self.now.nodes }
+        requires tree { IsTree self.now.nodes.items }
+        ensures { IfOk result (λ a. a ≡ address_at self.now.nodes.items id) }
+    {
+        let mut steps = Vec::with_capacity(self.alloc, self.nodes[id].depth())?;
+        let mut here = id;
+        while let Some((above, step)) = self.above(here)? {
+            steps.push(step)?;
+            here = above;
+        }
+        steps.reverse();
+        Ok(Address::of(steps))
+    }
+
+    /// The node above a node, and the step from there; none for the root.
+    fn above(&self, id: usize) -> Result<Option<(usize, Step)>, AllocError>
+        requires { id < vec_len self.now.nodes }
+        ensures { IfOk result (λ above. (d : Spot) → above ≡ (slice_index_or self.now.nodes.items id d).under) }
+    {
+        match self.nodes[id].under() {
+            Under::Root => Ok(None),
+            Under::Name(above, part) => {
+                let name = part_name(self.alloc, &part)?;
+                Ok(Some((above, Step::Name(name))))
+            }
+            Under::Index(above, index) => Ok(Some((above, Step::Index(index)))),
+        }
+    }
+
+    /// A new node, for a name that leads nowhere yet: what the key part means.
+    pub fn grow_name(
+        &mut self,
+        above: usize,
+        name: Name,
+        part: Piece<'t>,
+        role: Role,
+        kind: Kind<'t>,
+        line: usize,
+    ) -> Result<usize, AllocError>
+        requires within { above < vec_len self.old.nodes }
+        requires tree { IsTree self.old.nodes.items }
+        requires meaning { name ≡ part_name (piece part) }
+        requires absent { (d : Spot) → lookup (bytes_eq name) (slice_index_or self.old.nodes.items above d).children ≡ None }
+        ensures grown { OnOk result ((d : Spot) → self.new.nodes.items ≡ grown self.old.nodes.items above (slice_index_or self.old.nodes.items above d) (steps.Name name) role (kind_of kind.entry) line) }
+        ensures id { IfOk result (λ id. id ≡ vec_len self.old.nodes) }
+        ensures kept { OnErr result (self.new.nodes.items ≡ self.old.nodes.items) }
+        ensures can_undo { undone self.new.changes.items self.new.nodes.items ≡ undone self.old.changes.items self.old.nodes.items }
+        ensures lookups { self.new.lookups ≡ self.old.lookups }
+    {
+        self.changes.reserve(1)?;
+        self.nodes.reserve(1)?;
+        let id = self.nodes.len();
+        let node = &mut self.nodes[above];
+        let depth = node.depth() + 1;
+        node.link_name(name.into_string(), id)?;
+        let under = Under::Name(above, part);
+        self.nodes.push(Node::leaf(self.alloc, self.hashing, under, depth, role, kind, line))?;
+        self.changes.push(Change::NameLinked(above))?;
+        Ok(id)
+    }
+
+    /// A new node, for the next element of an array.
+    pub fn grow_element(
+        &mut self,
+        above: usize,
+        role: Role,
+        kind: Kind<'t>,
+        line: usize,
+    ) -> Result<usize, AllocError>
+        requires within { above < vec_len self.old.nodes }
+        requires tree { IsTree self.old.nodes.items }
+        ensures grown { OnOk result ((d : Spot) → self.new.nodes.items ≡ grown self.old.nodes.items above (slice_index_or self.old.nodes.items above d)
+            (steps.Index (length (slice_index_or self.old.nodes.items above d).elements)) role (kind_of kind.entry) line) }
+        ensures id { IfOk result (λ id. id ≡ vec_len self.old.nodes) }
+        ensures kept { OnErr result (self.new.nodes.items ≡ self.old.nodes.items) }
+        ensures can_undo { undone self.new.changes.items self.new.nodes.items ≡ undone self.old.changes.items self.old.nodes.items }
+        ensures lookups { self.new.lookups ≡ self.old.lookups }
+    {
+        self.changes.reserve(1)?;
+        self.nodes.reserve(1)?;
+        let id = self.nodes.len();
+        let node = &mut self.nodes[above];
+        let depth = node.depth() + 1;
+        let index = node.elements().len() as u64;
+        node.link_element(id)?;
+        let under = Under::Index(above, index);
+        self.nodes.push(Node::leaf(self.alloc, self.hashing, under, depth, role, kind, line))?;
+        self.changes.push(Change::ElementLinked(above))?;
+        Ok(id)
+    }
+
+    /// A node is named once more.
+    pub fn note(&mut self, at: usize, role: Role, line: usize) -> Result<(), AllocError>
+        requires { at < vec_len self.old.nodes }
+        ensures noted { OnOk result ((d : Spot) → self.new.nodes.items ≡ noted self.old.nodes.items at (slice_index_or self.old.nodes.items at d) role line) }
+        ensures kept { OnErr result (self.new.nodes.items ≡ self.old.nodes.items) }
+        ensures can_undo { undone self.new.changes.items self.new.nodes.items ≡ undone self.old.changes.items self.old.nodes.items }
+        ensures lookups { self.new.lookups ≡ self.old.lookups }
+    {
+        let node = &self.nodes[at];
+        let before = node.role();
+        let of_line = node.line();
+        let after = role_after(before, role);
+        let line = if same_role(after, before) {
+            of_line
+        } else {
+            line
+        };
+        self.changes.push(Change::RoleNoted(at, before, of_line))?;
+        let node = &mut self.nodes[at];
+        node.remark(after, line);
+        Ok(())
+    }
+
+    /// The nodes as they were before the changes.
+    pub fn undo(&mut self)
+        ensures nodes { self.new.nodes.items ≡ undone self.old.changes.items self.old.nodes.items }
+        ensures changes { self.new.changes.items ≡ [] }
+        ensures lookups { self.new.lookups ≡ self.old.lookups }
+    {
+        while let Some(change) = self.changes.pop() {
+            self.revert(change);
+        }
+    }
+
+    /// The nodes as they were before the change. A change of a node that is not there changes nothing; the journal has
+    /// none.
+    fn revert(&mut self, change: Change)
+        ensures nodes { self.new.nodes.items ≡ reverted change self.old.nodes.items }
+        ensures changes { self.new.changes ≡ self.old.changes }
+        ensures lookups { self.new.lookups ≡ self.old.lookups }
+    {
+        match change {
+            Change::NameLinked(above) => {
+                let _ = self.nodes.pop();
+                if above < self.nodes.len() {
+                    let node = &mut self.nodes[above];
+                    node.unlink_name();
+                }
+            }
+            Change::ElementLinked(above) => {
+                let _ = self.nodes.pop();
+                if above < self.nodes.len() {
+                    let node = &mut self.nodes[above];
+                    node.unlink_element();
+                }
+            }
+            Change::RoleNoted(at, role, line) => {
+                if at < self.nodes.len() {
+                    let node = &mut self.nodes[at];
+                    node.remark(role, line);
+                }
+            }
+        }
+    }
+}
+
+/// What is left of two roles of one node.
+fn role_after(first: Role, then: Role) -> Role
+    ensures { result ≡ role_after first then }
+{
+    match (first, then) {
+        (Role::Bare, _) => then,
+        (_, Role::Bare) | (_, Role::Passed) => first,
+        _ => then,
+    }
+}

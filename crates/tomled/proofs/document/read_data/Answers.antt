@@ -1,0 +1,9 @@
+use Rattle.std.proofs.Common.{List, subst}
+use Rattle.toml_tree.specs.Tree.{Line}
+use Rattle.toml_names.specs.Data.{IsDataOf, kind_at}
+use Rattle.toml_names.specs.Mentions.{named}
+use Rattle.tomled.proofs.document.read_data.Goals as goal
+
+pub returns-in_ok-data-in-Ok : goal.returns-in_ok-data-in-Ok
+returns-in_ok-data-in-Ok c =
+    (c.in-Ok.ensures.good, subst (λ (lines : List Line). IsDataOf (named lines) (kind_at c.in_ok-data-in-Ok.field-0.root)) c.in-Ok.ensures.taken c.in_ok-data-in-Ok.ensures)

@@ -1,0 +1,50 @@
+-- What `show --list` answers.
+use Rattle.std.specs.Prelude.{◌≡◌, ◌⊎◌, ◌++◌, ◌∷◌, ℕ, List, [], map}
+use Rattle.std.specs.List.{flat_map}
+use Rattle.serde_json.specs.Data.{Data, array, number, string, unsigned}
+use Rattle.serde_json.specs.View.{items_of}
+use Rattle.serde_json.specs.Written.{compact_text}
+use Rattle.toml_text.specs.Limit.{IsText}
+use Rattle.toml_tree.specs.Spells.{Spells}
+use Rattle.toml_tree.specs.Tree.{Doc}
+use Rattle.toml_names.specs.declared.address.Step.{Step}
+use Rattle.toml_names.specs.declared.address.Step.TheVariants.{Name, Index}
+use Rattle.toml_names.specs.Addresses.{Address}
+use Rattle.toml_names.specs.FirstMentions.{first_mentions}
+use Rattle.toml_names.specs.Mentions.{named}
+use Rattle.toml_names.specs.Names.{AreGood}
+use Rattle.tomled.specs.Outcomes.{Prints, Refuses}
+use Rattle.tomled.specs.declared.outcome.Outcome.{Outcome}
+
+-- a name is a text, an index a number
+abbrev pub step_json : Step → Data
+step_json (Name n) = string n
+step_json (Index i) = number (unsigned i)
+
+-- the list of an address's steps
+abbrev pub address_json : Address → Data
+address_json at = array (items_of (map step_json at))
+
+-- the JSON of an address in compact text, and LF
+abbrev pub line_of : Address → List ℕ
+line_of at = compact_text (address_json at) ++ 0x0A ∷ []
+
+-- a line for each address
+abbrev pub lines_of : List Address → List ℕ
+lines_of = flat_map line_of
+
+-- the bytes are a document, and the text lists the addresses of its mentions, each once, in the order of the first mentions
+pub record ListsAddresses (bytes text : List ℕ) : Type 0 where
+  pub limit : IsText bytes
+  pub doc : Doc
+  pub spelled : Spells doc bytes
+  pub good : AreGood doc.lines
+  pub listed : text ≡ lines_of (first_mentions (named doc.lines))
+
+-- the addresses of a document, and a refusal of other bytes
+abbrev pub Lists : List ℕ → Outcome → Type 0
+Lists bytes o = ((text : List ℕ) × ListsAddresses bytes text × Prints text o) ⊎ Refuses bytes o
+
+-- Law: a document has at most one such text.
+abbrev pub OneListing : Type 0
+OneListing = (bytes l m : List ℕ) → ListsAddresses bytes l → ListsAddresses bytes m → l ≡ m

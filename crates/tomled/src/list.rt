@@ -1,0 +1,68 @@
+//! `show --list`: the addresses of a document's mentions.
+ghost use Rattle.std.specs.Prelude.{◌≡◌, IfOk};
+ghost use Rattle.serde_json.specs.View.{view};
+ghost use Rattle.tomled.specs.Listing.{Lists, address_json, line_of, lines_of, step_json};
+
+use crate::document::{read_all, read_tree};
+use crate::outcome::Outcome;
+use serde_json::Value;
+use std::alloc::{AllocError, Global};
+use toml_names::{Address, Step};
+
+/// Prints the distinct addresses of a document's mentions in the order of their first mentions, and else its refusal.
+pub fn run_list(alloc: Global, file: &[u8]) -> Result<Outcome, AllocError>
+    ensures { IfOk result (Lists file.now) }
+{
+    let doc = match read_tree(alloc, file)? {
+        Ok(doc) => doc,
+        Err(refusal) => return Outcome::refused(alloc, refusal),
+    };
+    match read_all(alloc, &doc)? {
+        Ok(names) => Ok(Outcome::good(alloc, lines(alloc, names.first_mentions())?)),
+        Err(refusal) => Outcome::refused(alloc, refusal),
+    }
+}
+
+/// A line for each address.
+fn lines(alloc: Global, addresses: &[Address]) -> Result<Vec<u8>, AllocError>
+    ensures { IfOk result (λ text. text.items ≡ lines_of addresses.now) }
+{
+    let mut text = Vec::new(alloc);
+    for address in addresses {
+        text.extend_from_slice(line(alloc, address)?.as_slice())?;
+    }
+    Ok(text)
+}
+
+/// The JSON of an address in compact text, and LF.
+#[tactic(auto, using(crate::proofs::Listed::no_float))]
+fn line(alloc: Global, address: &Address) -> Result<Vec<u8>, AllocError>
+    ensures { IfOk result (λ line. line.items ≡ line_of address.now) }
+{
+    let json = address_json(alloc, address)?;
+    let mut line = json.to_vec(alloc)?;
+    line.push(b'\n')?;
+    Ok(line)
+}
+
+/// The list of an address's steps.
+fn address_json(alloc: Global, address: &Address) -> Result<Value, AllocError>
+    ensures { IfOk result (λ json. view json ≡ address_json address.now) }
+{
+    let steps = address.steps();
+    let mut list = Vec::with_capacity(alloc, steps.len())?;
+    for step in steps {
+        list.push(step_json(alloc, step)?)?;
+    }
+    Ok(Value::Array(list))
+}
+
+/// A name as a text, an index as a number.
+fn step_json(alloc: Global, step: &Step) -> Result<Value, AllocError>
+    ensures { IfOk result (λ json. view json ≡ step_json step.now) }
+{
+    match step {
+        Step::Name(name) => Value::try_from_str(alloc, name.as_str()),
+        Step::Index(index) => Ok(Value::from(*index)),
+    }
+}
