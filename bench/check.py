@@ -63,6 +63,13 @@ def grouped(header, keys):
         number += 1
 
 
+def elements():
+    """An array of tables with a text and a number in each, some 300,000 in all."""
+    lines = LIMIT // 56
+    return b''.join(b'[[a]]\nname = "some value %06d"\nnumber = 1_000_000_%03d\n' % (number, number % 1000)
+                    for number in range(lines))
+
+
 def alike(front):
     """Names of 48 bytes that begin alike, as many as a text may have."""
     lines = LIMIT // 51
@@ -108,7 +115,7 @@ TEXTS = {
     'brackets': lambda: b'a = ' + b'[' * (LIMIT - 4),
     'names, integers': lambda: numbered(b'key_', b' = 1_000_000\n'),
     'names, tables': lambda: grouped(lambda number: b'[table_%d]\n' % number, 7),
-    'names, arrays': lambda: grouped(lambda number: b'[[tables]]\n', 2),
+    'names, arrays': elements,
     'names, elements': lambda: array(b'%d, ')[:-1],
     'names, alike': lambda: alike(b'a_front_of_24_bytes_that'),
     'names, colliding': lambda: alike(front_of_colliding_names()),

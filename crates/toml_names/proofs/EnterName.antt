@@ -1,5 +1,5 @@
 -- What a look-up at a node tells of what was named, and what entering a name leaves.
-use Rattle.std.proofs.Common.{◌≡◌, ℕ, ◌<◌, Bool, true, false, List, [], ◌∷◌, length, Option, Some, None, refl, sym, ap, ◌∙◌, slice_index_or, arith, ◌⊎◌, inl, inr}
+use Rattle.std.proofs.Common.{◌≡◌, ℕ, ◌<◌, true, false, List, [], ◌∷◌, length, Option, Some, None, refl, sym, ap, subst, ◌∙◌, slice_index_or, arith, ◌⊎◌, inl, inr}
 use Rattle.std.proofs.lemmas.Bool.{cases_eq}
 use Rattle.std.proofs.lemmas.List.{same_from_push, length_push, get_or_default}
 use Rattle.std.specs.Map.{lookup}
@@ -8,10 +8,11 @@ use Rattle.toml_names.specs.declared.address.Step.{Step}
 use Rattle.toml_names.specs.declared.address.Step.TheVariants.{Name, Index}
 use Rattle.toml_names.specs.declared.named.Role.{Role}
 use Rattle.toml_names.specs.declared.named.Role.TheVariants.{Passed, Header, Dotted, Valued, Tables, Element, Bare}
-use Rattle.toml_names.specs.Addresses.{child}
+use Rattle.toml_names.specs.declared.tree.Found.TheVariants.{New}
+use Rattle.toml_names.specs.Addresses.{Address, child}
 use Rattle.toml_names.specs.Mentions.{Kind, is_tables}
-use Rattle.toml_names.specs.Nodes.{Spot, addresses, address_at, address_under, place_of, grown, noted}
-use Rattle.toml_names.specs.NameTree.{IsTree, Enters, Clashes, LeadsTo, KeepsElements, name_at}
+use Rattle.toml_names.specs.Nodes.{Spot, nowhere, addresses, address_at, address_under, place_of, grown, noted}
+use Rattle.toml_names.specs.NameTree.{IsTree, IsFound, Enters, Clashes, LeadsTo, KeepsElements, name_at}
 use Rattle.toml_names.specs.Rules.{may_follow}
 use Rattle.toml_names.proofs.CountsKept.{IsTreeOf-grown, IsTreeOf-noted}
 use Rattle.toml_names.proofs.Fitting.{but_counts, fits-at_node, fits-no_node}
@@ -19,7 +20,7 @@ use Rattle.toml_names.proofs.Misfits.{misfit-here, misfit-later}
 use Rattle.toml_names.proofs.NodeAddresses.{length-addresses, address_at-under}
 use Rattle.toml_names.proofs.NodePlaces.{place_of-at}
 use Rattle.toml_names.proofs.TreeGrown.{length-grown, address-new, node-last, node-above, node-other, KeepsAddresses-grown, IsTree-grown}
-use Rattle.toml_names.proofs.TreeNoted.{length-noted, address-noted, KeepsAddresses-noted, IsTree-noted}
+use Rattle.toml_names.proofs.TreeNoted.{length-noted, address-noted, KeepsAddresses-noted, KeepsElements-noted, IsTree-noted}
 
 -- nothing goes before a value
 before_value : (q : Role) → (q ≡ Bare → ⊥) → may_follow q Valued ≡ false
@@ -61,17 +62,18 @@ module _ (nodes : List Spot) (tree : IsTree nodes) (at : ℕ) (low : at < length
       LeadsTo-found = record { within = rw (length-noted nodes id e r line found-within) found-within; address = address-noted nodes id e r line found-within id ∙ found-address }
 
     -- a node that hangs by a name is named
-    pub hangs_by : (e : Spot) (u : Option (ℕ × Step)) → (slice_index_or nodes id e).under ≡ u → (q : ℕ) × (u ≡ Some (q, Name n))
+    hangs_by : (e : Spot) (u : Option (ℕ × Step)) → (slice_index_or nodes id e).under ≡ u → (q : ℕ) × (u ≡ Some (q, Name n))
     hangs_by e u is = by u is (ap (address_under (addresses nodes)) (sym is) ∙ sym (address_at-under nodes id e found-within (λ q s. tree.rising id e q s found-within)) ∙ found-address)
       where
         by : (u : Option (ℕ × Step)) → (slice_index_or nodes id e).under ≡ u → address_under (addresses nodes) u ≡ child (address_at nodes at) n → (q : ℕ) × (u ≡ Some (q, Name n))
         by None is same = let h : 0 ≡ length (child (address_at nodes at) n) = ap length same in absurd (omega (arith, length_push (address_at nodes at) (Name n)))
         by (Some (q, s)) is same = (q, ap (λ t. Some (q, t)) (same_from_push (slice_index_or (addresses nodes) q []) (address_at nodes at) s (Name n) same).1)
 
+    pub found-mentioned : (e : Spot) → (slice_index_or nodes id e).role ≡ Bare → ⊥
+    found-mentioned e = let (q, under) = hangs_by e (slice_index_or nodes id e).under refl in tree.mentioned id e q n found-within under
+
     pub Clashes-value : (k : Kind) (line : ℕ) → Clashes nodes (name_at nodes at n Valued k line ∷ []) (address_at nodes id)
-    Clashes-value k line =
-        let (q, under) = hangs_by d (slice_index_or nodes id d).under refl in
-        Clashes-found Valued k line d (before_value (slice_index_or nodes id d).role (tree.mentioned id d q n found-within under))
+    Clashes-value k line = Clashes-found Valued k line d (before_value (slice_index_or nodes id d).role (found-mentioned d))
 
   -- a name that leads nowhere is new
   module _ (absent : lookup (bytes_eq n) (slice_index_or nodes at d).children ≡ None) (r : Role) (k : Kind) (line : ℕ) (e : Spot) where
@@ -105,12 +107,57 @@ module _ (nodes : List Spot) (tree : IsTree nodes) (at : ℕ) (low : at < length
         by (inl is) = ap (λ (s : Spot). s.elements) (node-above nodes at e (Name n) r k line low j f is) ∙ ap (λ (s : Spot). s.elements) (get_or_default nodes at e f low) ∙ ap (λ i. (slice_index_or nodes i f).elements) (sym is)
         by (inr apart) = ap (λ (s : Spot). s.elements) (node-other nodes at e (Name n) r k line low j f within apart)
 
--- what the look-up of a key part gave
-pub led : (o : Option ℕ) (text n : List ℕ) (es : List (List ℕ × ℕ)) → o ≡ lookup (bytes_eq text) es → text ≡ n → (to : Option ℕ) → o ≡ to → lookup (bytes_eq n) es ≡ to
-led o text n es found is to gave = ap (λ t. lookup (bytes_eq t) es) (sym is) ∙ sym found ∙ gave
+-- a name was entered in the table of the node `at`, and leads to the node `id`
+pub record EntersName (old new : List Spot) (at : ℕ) (n : List ℕ) (r : Role) (k : Kind) (line id : ℕ) : Type 0 where
+  pub enters : Enters old new (name_at old at n r k line ∷ [])
+  pub leads : LeadsTo new id (child (address_at old at) n)
+  pub elements : KeepsElements old new
 
--- what the code read and tested, at the node
-pub tested : (nodes now : List Spot) (id : ℕ) (v : Spot) (role r : Role) (b x : Bool) → now ≡ nodes → v ≡ slice_index_or now id v → role ≡ v.role → b ≡ may_follow role r → b ≡ x
-    → may_follow (slice_index_or nodes id v).role r ≡ x
-tested nodes now id v role r b x same read is test out =
-    ap (λ (s : Spot). may_follow s.role r) (sym (read ∙ ap (λ l. slice_index_or l id v) same)) ∙ ap (λ t. may_follow t r) (sym is) ∙ sym test ∙ out
+-- what `IsFound` says where the name led to the node `id`, which was there
+abbrev pub IsKnown : List Spot → List Spot → ℕ → List ℕ → ℕ → Type 0
+IsKnown old new at n id = (new ≡ old) × ((d : Spot) → lookup (bytes_eq n) (slice_index_or old at d).children ≡ Some id)
+
+module _ (old new : List Spot) (tree : IsTree old) (at : ℕ) (low : at < length old) (n : List ℕ) (id : ℕ) where
+  -- to a node that was there
+  module _ (known : IsKnown old new at n id) where
+    pub known-within : id < length new
+    known-within = rw known.0 (found-within old tree at low n nowhere id (known.1 nowhere))
+
+    pub known-address : address_at new id ≡ child (address_at old at) n
+    known-address = rw known.0 (found-address old tree at low n nowhere id (known.1 nowhere))
+
+    pub known-mentioned : (e : Spot) → (slice_index_or new id e).role ≡ Bare → ⊥
+    known-mentioned = rw known.0 (found-mentioned old tree at low n nowhere id (known.1 nowhere))
+
+    pub Clashes-known_value : (k : Kind) (line : ℕ) (a : Address) → address_at new id ≡ a → Clashes old (name_at old at n Valued k line ∷ []) a
+    Clashes-known_value k line a is =
+        subst (Clashes old (name_at old at n Valued k line ∷ [])) (rw known.0 at is) (Clashes-value old tree at low n nowhere id (known.1 nowhere) k line)
+
+    module _ (r : Role) (k : Kind) (line : ℕ) where
+      pub Clashes-known : (a : Address) → (may_follow (slice_index_or new id nowhere).role r ≡ false) × (address_at new id ≡ a) → Clashes old (name_at old at n r k line ∷ []) a
+      Clashes-known a clash =
+          let bad = rw known.0 at clash in
+          subst (Clashes old (name_at old at n r k line ∷ [])) bad.1 (Clashes-found old tree at low n nowhere id (known.1 nowhere) r k line nowhere bad.0)
+
+      pub EntersName-known : is_tables r ≡ false → (then : List Spot)
+          → (may_follow (slice_index_or new id nowhere).role r ≡ true) × (then ≡ noted new id (slice_index_or new id nowhere) r line) → EntersName old then at n r k line id
+      EntersName-known plain then mentioned =
+          let goes = rw known.0 at mentioned in
+          rw goes.1 (record {
+            enters = Enters-found old tree at low n nowhere id (known.1 nowhere) r k line nowhere plain goes.0;
+            leads = LeadsTo-found old tree at low n nowhere id (known.1 nowhere) r k line nowhere;
+            elements = KeepsElements-noted old id nowhere r line (found-within old tree at low n nowhere id (known.1 nowhere));
+          })
+
+  -- to a new node
+  module _ (r : Role) (k : Kind) (line : ℕ) (led : IsFound old new at n r k line (New id)) where
+    pub EntersName-new : is_tables r ≡ false → (r ≡ Bare → ⊥) → EntersName old new at n r k line id
+    EntersName-new plain mention =
+        rw (led.2 nowhere, led.0) (record {
+          enters = Enters-new old tree at low n nowhere (led.1 nowhere) r k line nowhere plain mention;
+          leads = LeadsTo-new old tree at low n nowhere (led.1 nowhere) r k line nowhere;
+          elements = KeepsElements-new old tree at low n nowhere (led.1 nowhere) r k line nowhere;
+        })
+
+    pub lone-led : (e : Spot) → (slice_index_or new id e).elements ≡ []
+    lone-led = rw (led.2 nowhere, led.0) (lone-new old tree at low n nowhere (led.1 nowhere) r k line nowhere)

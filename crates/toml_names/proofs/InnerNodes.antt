@@ -11,10 +11,10 @@ use Rattle.toml_names.specs.declared.named.Role.TheVariants.{Passed, Tables}
 use Rattle.toml_names.specs.Addresses.{Address, child, element}
 use Rattle.toml_names.specs.Mentions.{Named, a_table, is_tables, count_tables, entered, table_at}
 use Rattle.toml_names.specs.NameTree.{IsTree, IsTreeOf, Passes}
-use Rattle.toml_names.specs.Nodes.{Spot, addresses, address_at, place_of, grown, noted}
+use Rattle.toml_names.specs.Nodes.{Spot, nowhere, addresses, address_at, place_of, grown, noted}
 use Rattle.toml_names.specs.Rules.{may_follow, misfit}
 use Rattle.toml_names.proofs.CountsKept.{IsTreeOf-noted}
-use Rattle.toml_names.proofs.EnterName.{Enters-new, LeadsTo-new}
+use Rattle.toml_names.proofs.EnterName.{Enters-new, LeadsTo-new, IsKnown, known-address}
 use Rattle.toml_names.proofs.Fitting.{but_counts, fits-at_node}
 use Rattle.toml_names.proofs.Misfits.{misfit-here, misfit-later}
 use Rattle.toml_names.proofs.NodeAddresses.{length-addresses}
@@ -33,10 +33,6 @@ entered_counted ms at n is = ap (λ n. cond (n == 0) at (element at (n - 1))) is
 -- a header goes on at the node `id` from the address
 abbrev pub GoesOnAt : List Spot → Address → ℕ → Type 0
 GoesOnAt nodes at id = (ms : List Named) → IsTreeOf nodes ms → address_at nodes id ≡ entered ms at
-
--- what the code read among nodes that a look-up left as they were
-pub goes_on-read : (nodes now : List Spot) (found id : ℕ) (at : Address) → now ≡ nodes → address_at nodes found ≡ at → GoesOnAt now (address_at now found) id → GoesOnAt nodes at id
-goes_on-read nodes now found id at same is goes_on ms stands = subst (λ l. GoesOnAt l (address_at l found) id) same goes_on ms stands ∙ ap (entered ms) is
 
 module _ (nodes : List Spot) (tree : IsTree nodes) (id : ℕ) (v : Spot) (low : id < length nodes) (read : v ≡ slice_index_or nodes id v) (role : v.role ≡ Tables) where
   tables : is_tables (slice_index_or nodes id v).role ≡ true
@@ -115,3 +111,24 @@ module _ (nodes : List Spot) (tree : IsTree nodes) (at : ℕ) (n : List ℕ) (li
           goes = λ ms stands. subst (λ a. misfit ms (table_at line Passed a ∷ []) ≡ None) (itself ms stands) (enters.goes ms stands);
           address = λ ms stands. leads.address ∙ itself ms stands;
         }
+
+-- a name led to the node `found`, and the header goes on at `id`
+module _ (old new : List Spot) (tree : IsTree old) (at : ℕ) (low : at < length old) (n : List ℕ) (line found : ℕ) (known : IsKnown old new at n found)
+    (id : ℕ) (within : id < length new) (goes_on : GoesOnAt new (address_at new found) id) where
+  low_there : id < length old
+  low_there = rw known.0 at within
+
+  goes_there : GoesOnAt old (child (address_at old at) n) id
+  goes_there = subst (λ l. GoesOnAt l (child (address_at old at) n) id) known.0 (subst (λ a. GoesOnAt new a id) (known-address old new tree at low n found known) goes_on)
+
+  pub Passes-known : (then : List Spot) → (may_follow (slice_index_or new id nowhere).role Passed ≡ true) × (then ≡ noted new id (slice_index_or new id nowhere) Passed line)
+      → Passes old then id at line n
+  Passes-known then mentioned =
+      let goes = rw known.0 at mentioned in
+      rw goes.1 (Passes-found old tree at n line id nowhere low_there goes_there goes.0)
+
+  pub clash-known : (a : Address) → (may_follow (slice_index_or new id nowhere).role Passed ≡ false) × (address_at new id ≡ a)
+      → (ms : List Named) → IsTreeOf old ms → misfit ms (table_at line Passed (entered ms (child (address_at old at) n)) ∷ []) ≡ Some a
+  clash-known a clash ms stands =
+      let bad = rw known.0 at clash in
+      clash-found old tree at n line id nowhere low_there goes_there bad.0 ms stands ∙ ap Some bad.1

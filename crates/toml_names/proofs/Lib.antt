@@ -39,6 +39,7 @@ pub mod ShortNodes
 pub mod OneMoreLine
 pub mod NodeAddresses
 pub mod Children
+pub mod Distinct
 pub mod Depths
 pub mod Grows
 pub mod Undo

@@ -4,12 +4,13 @@ use Rattle.std.proofs.lemmas.List.{append_assoc, length_push}
 use Rattle.std.proofs.lemmas.Option.{slice_get_past}
 use Rattle.toml_names.specs.declared.address.Step.TheVariants.{Name, Index}
 use Rattle.toml_names.specs.declared.named.Role.TheVariants.{Tables, Element, Bare}
-use Rattle.toml_names.specs.Addresses.{Address, element}
+use Rattle.toml_names.specs.declared.tree.Found.TheVariants.{New}
+use Rattle.toml_names.specs.Addresses.{Address, child, element}
 use Rattle.toml_names.specs.Local.{role_after}
 use Rattle.toml_names.specs.Mentions.{Named, a_table, an_array, is_tables, count_tables, table_at, ends_tables}
-use Rattle.toml_names.specs.NameTree.{IsTree, IsTreeOf, KeepsAddresses, table_count}
+use Rattle.toml_names.specs.NameTree.{IsTree, IsTreeOf, IsFound, KeepsAddresses, table_count}
 use Rattle.toml_names.specs.EnteringHeaders.{AddsTable}
-use Rattle.toml_names.specs.Nodes.{Spot, addresses, address_at, place_of, linked, grown, noted}
+use Rattle.toml_names.specs.Nodes.{Spot, nowhere, addresses, address_at, place_of, linked, grown, noted}
 use Rattle.toml_names.specs.Rules.{may_follow, misfit}
 use Rattle.toml_names.proofs.Counting.{count_plain}
 use Rattle.toml_names.proofs.EnterSteps.{misfit-append, KeepsAddresses-then}
@@ -199,6 +200,31 @@ module _ (nodes : List Spot) (p : ℕ) (d : Spot) (n : List ℕ) (line : ℕ) (l
       adds_element with_name (length nodes) e line (let long = length-grown nodes p d (Name n) Tables an_array line low in omega arith) (IsTree-array tree) nodes (address_at nodes p ++ Name n ∷ [])
       (KeepsAddresses-grown nodes p d (Name n) Tables an_array line low) (address-new nodes p d (Name n) Tables an_array line low (length nodes) refl) Opened-new
 
--- among nodes that a look-up left as they were, at an address that is the same
-pub adds_read : (nodes now new : List Spot) (id line : ℕ) (at read : Address) → now ≡ nodes → read ≡ at → AddsTable now new id line read → AddsTable nodes new id line at
-adds_read nodes now new id line at read same is adds = subst (λ l. AddsTable l new id line at) same (subst (AddsTable now new id line) is adds)
+-- the array's name led nowhere before
+module _ (old new : List Spot) (tree : IsTree old) (at : ℕ) (low : at < length old) (n : List ℕ) (line id : ℕ) (led : IsFound old new at n Tables an_array line (New id)) where
+  fresh_name : place_of (child (address_at old at) n) (addresses old) ≡ None
+  fresh_name = sym (tree.names at nowhere n low) ∙ led.1 nowhere
+
+  pub new_array-within : id < length new
+  new_array-within = let long = ap length (led.2 nowhere) ∙ length-grown old at nowhere (Name n) Tables an_array line low in let last = led.0 in omega arith
+
+  pub new_array-tree : IsTree new
+  new_array-tree = rw (led.2 nowhere) (IsTree-array old at nowhere n line low fresh_name tree)
+
+  pub new_array-adds : (then : List Spot) (last : ℕ) → last ≡ length new
+      → then ≡ grown new id (slice_index_or new id nowhere) (Index (length (slice_index_or new id nowhere).elements)) Element a_table line
+      → AddsTable old then last line (child (address_at old at) n)
+  new_array-adds then last is made = rw (made, is, led.0, led.2 nowhere) (adds_first old at nowhere n line low fresh_name tree nowhere)
+
+-- the array was named once more
+module _ (old mid : List Spot) (tree : IsTree old) (id : ℕ) (low : id < length old) (line : ℕ) (again : mid ≡ noted old id (slice_index_or old id nowhere) Tables line) where
+  pub noted_array-within : id < length mid
+  noted_array-within = rw (again, length-noted old id nowhere Tables line low) low
+
+  pub noted_array-tree : IsTree mid
+  noted_array-tree = rw again (IsTree-noted old id nowhere Tables line low tree)
+
+  pub noted_array-adds : (slice_index_or old id nowhere).role ≡ Tables → (then : List Spot) (last : ℕ) → last ≡ length mid
+      → then ≡ grown mid id (slice_index_or mid id nowhere) (Index (length (slice_index_or mid id nowhere).elements)) Element a_table line
+      → AddsTable old then last line (address_at old id)
+  noted_array-adds role then last is made = rw (made, is, again) (adds_next old id nowhere line low role tree nowhere)

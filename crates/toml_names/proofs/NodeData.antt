@@ -1,17 +1,14 @@
 -- The data at a node, from the data at the nodes below it.
-use Rattle.std.proofs.Common.{◌≡◌, ℕ, zero, suc, ◌+◌, ◌<◌, ◌≤◌, Bool, true, false, cond, List, [], ◌∷◌, ◌++◌, length, take, get_or, All, Result, Ok, Err, IfOk, Option, Some, None, String, Vec, BTreeMap, Global, string_bytes, bytes_eq, refl, sym, ap, subst, ◌∙◌, slice_index_or}
+use Rattle.std.proofs.Common.{◌≡◌, ℕ, zero, suc, ◌+◌, ◌<◌, ◌≤◌, Bool, true, false, cond, List, [], ◌∷◌, ◌++◌, length, drop, take, get_or, Result, Ok, Err, IfOk, Option, Some, None, String, Vec, BTreeMap, Global, string_bytes, bytes_eq, refl, sym, ap, subst, ◌∙◌, slice_index_or}
 use Rattle.std.proofs.lemmas.Bool.{cond-false, false_from_ne_true, false≢true}
-use Rattle.std.proofs.lemmas.List.{append_assoc, append-nil, take_more, take_all, get_or_default}
+use Rattle.std.proofs.lemmas.List.{append_assoc, append-nil, drop_more, take_more, take_all, get_or_default}
 use Rattle.std.proofs.lemmas.Slice.Eq.{bytes_eq-Decides}
-use Rattle.std.proofs.lemmas.Map.Entries.{hash_map_get_place}
-use Rattle.std.proofs.lemmas.Option.{slice_get-get_or}
+use Rattle.std.proofs.lemmas.Option.{get_or_from_slice_get, slice_get-get_or, slice_get_within}
 use Rattle.std.specs.BTreeMap.{is_at, get_by_text}
 use Rattle.std.specs.Cmp.Lexicographic.{slice_cmp}
-use Rattle.std.specs.HashMap.{HashMap, IsUnique}
 use Rattle.std.specs.Map.{lookup}
 use Rattle.std.specs.Ordering.{nat_cmp}
 use Rattle.std.specs.Prelude.{slice_get}
-use Rattle.std.specs.String.{string_eq, string_eq_equiv}
 use Rattle.toml_scalar.specs.Values.{ScalarValue}
 use Rattle.toml_names.specs.declared.address.Step.{Step}
 use Rattle.toml_names.specs.declared.address.Step.TheVariants.{Name, Index}
@@ -23,8 +20,7 @@ use Rattle.toml_names.specs.Finished.{IsDatumAt, IsOfKind}
 use Rattle.toml_names.specs.Joining.{Joined}
 use Rattle.toml_names.specs.Mentions.{Kind, a_table, an_array, a_scalar, Named}
 use Rattle.toml_names.specs.NameTree.{IsTree, IsTreeOf}
-use Rattle.toml_names.specs.Nodes.{Spot, addresses, address_at, place_of, children_of, nowhere}
-use Rattle.toml_names.proofs.Children.{lookup-children_of}
+use Rattle.toml_names.specs.Nodes.{Spot, addresses, address_at, place_of, nowhere}
 use Rattle.toml_names.proofs.Holders.{holder, held, begins_at_root, none_below}
 use Rattle.toml_names.proofs.Levels.{array-here, array-item, array-name, table-here, table-member, table-index}
 use Rattle.toml_names.proofs.Walking.{leads_to, later, no_place, nothing_named}
@@ -111,53 +107,41 @@ items_all nodes (k ∷ ks) (d ∷ ds) are (suc i) = items_all nodes ks ds are.1 
 pub items_whole : (nodes : List Spot) (ks : List ℕ) (ds : List Datum) (i : ℕ) → length ks ≤ i → ItemsAre nodes (take i ks) ds → (j : ℕ) → PartIs nodes (slice_get ks j) (slice_get ds j)
 items_whole nodes ks ds i past are = items_all nodes ks ds (subst (λ l. ItemsAre nodes l ds) (take_all i ks past) are)
 
--- the entries of a map of names
-abbrev pub Entries : Type 0
-Entries = List (String Global × ℕ)
-
-abbrev pub leads : List ℕ → Entries → Option ℕ
-leads n es = lookup (λ k. bytes_eq n (string_bytes k)) es
-
 -- each name that is none of those left has its part
-abbrev pub Fills : List Spot → Entries → Entries → BTreeMap (String Global) Datum → Type 0
-Fills nodes all left members = (n : List ℕ) → leads n left ≡ None → PartIs nodes (leads n all) (get_by_text members n)
+abbrev pub Fills : List Spot → List (List ℕ × ℕ) → List (List ℕ × ℕ) → BTreeMap (String Global) Datum → Type 0
+Fills nodes all left members = (n : List ℕ) → lookup (bytes_eq n) left ≡ None → PartIs nodes (lookup (bytes_eq n) all) (get_by_text members n)
 
-pub fills_more : (nodes : List Spot) (all left rest : Entries) (e : String Global × ℕ) (name : List ℕ) (d : Datum) (members more : BTreeMap (String Global) Datum) → left ≡ e ∷ rest → name ≡ string_bytes e.0
-    → leads (string_bytes e.0) all ≡ Some e.1 → IsDatumAt nodes e.1 d → Fills nodes all left members
-    → ((n : List ℕ) → get_by_text more n ≡ cond (bytes_eq name n) (Some d) (get_by_text members n)) → Fills nodes all rest more
-fills_more nodes all left rest e name d members more is key there one fills inserted n none = subst (PartIs nodes (leads n all)) (sym (inserted n)) (by (bytes_eq name n) refl)
+pub fills_more : (nodes : List Spot) (all left rest : List (List ℕ × ℕ)) (e : List ℕ × ℕ) (d : Datum) (members more : BTreeMap (String Global) Datum) → left ≡ e ∷ rest
+    → lookup (bytes_eq e.0) all ≡ Some e.1 → IsDatumAt nodes e.1 d → Fills nodes all left members
+    → ((n : List ℕ) → get_by_text more n ≡ cond (bytes_eq e.0 n) (Some d) (get_by_text members n)) → Fills nodes all rest more
+fills_more nodes all left rest e d members more is there one fills inserted n none = subst (PartIs nodes (lookup (bytes_eq n) all)) (sym (inserted n)) (by (bytes_eq e.0 n) refl)
   where
-    by : (b : Bool) → bytes_eq name n ≡ b → PartIs nodes (leads n all) (cond b (Some d) (get_by_text members n))
-    by true same =
-        let it : n ≡ string_bytes e.0 = sym ((bytes_eq-Decides name n).0 same) ∙ key in
-        subst (λ o. PartIs nodes o (Some d)) (sym (ap (λ m. leads m all) it ∙ there)) one
+    by : (b : Bool) → bytes_eq e.0 n ≡ b → PartIs nodes (lookup (bytes_eq n) all) (cond b (Some d) (get_by_text members n))
+    by true same = subst (λ o. PartIs nodes o (Some d)) (sym (ap (λ m. lookup (bytes_eq m) all) (sym ((bytes_eq-Decides e.0 n).0 same)) ∙ there)) one
     by false apart =
-        let other = false_from_ne_true (bytes_eq n (string_bytes e.0)) (λ same. false≢true (sym apart ∙ (bytes_eq-Decides name n).1 (key ∙ sym ((bytes_eq-Decides n (string_bytes e.0)).0 same)))) in
-        fills n (ap (leads n) is ∙ cond-false _ _ _ other ∙ none)
+        let other = false_from_ne_true (bytes_eq n e.0) (λ same. false≢true (sym apart ∙ (bytes_eq-Decides e.0 n).1 (sym ((bytes_eq-Decides n e.0).0 same)))) in
+        fills n (ap (lookup (bytes_eq n)) is ∙ cond-false _ _ _ other ∙ none)
 
-pub fills_all : (nodes : List Spot) (all : Entries) (members : BTreeMap (String Global) Datum) (children : List (List ℕ × ℕ)) → children_of all ≡ children → Fills nodes all [] members
+-- the pair at a place comes next
+pub pair_next : (all : List (List ℕ × ℕ)) (i : ℕ) (e : List ℕ × ℕ) → Some e ≡ slice_get all i → drop i all ≡ e ∷ drop (i + 1) all
+pair_next all i e is = drop_more all i e (slice_get_within all i e (sym is)) ∙ ap (λ p. p ∷ drop (i + 1) all) (get_or_from_slice_get all i e e (sym is))
+
+pub fills_all : (nodes : List Spot) (all children : List (List ℕ × ℕ)) (members : BTreeMap (String Global) Datum) → all ≡ children → Fills nodes all [] members
     → (n : List ℕ) → PartIs nodes (lookup (bytes_eq n) children) (get_by_text members n)
-fills_all nodes all members children are fills n =
-    subst (λ o. PartIs nodes o (get_by_text members n)) (sym (lookup-children_of n all) ∙ ap (lookup (bytes_eq n)) are) (fills n refl)
+fills_all nodes all children members are fills n = subst (λ l. PartIs nodes (lookup (bytes_eq n) l) (get_by_text members n)) are (fills n refl)
 
-pub fills_none : (nodes : List Spot) (all : Entries) (members : BTreeMap (String Global) Datum) → members.entries ≡ [] → Fills nodes all all members
+pub fills_none : (nodes : List Spot) (all : List (List ℕ × ℕ)) (members : BTreeMap (String Global) Datum) → members.entries ≡ [] → Fills nodes all all members
 fills_none nodes all members none n apart =
     subst (λ o. PartIs nodes o (get_by_text members n)) (sym apart)
     (subst (PartIs nodes None) (sym (ap (λ es. lookup (is_at (λ k. slice_cmp nat_cmp n (string_bytes k))) es) none)) tt)
-
--- each entry is found by its name
-pub entries_there : {S : Type 0} (m : HashMap (String Global) ℕ S) → IsUnique string_eq m → All (λ e. leads (string_bytes e.0) m.entries ≡ Some e.1) m.entries
-entries_there m unique i d low =
-    hash_map_get_place string_eq_equiv m i (get_or m.entries i d).0 (get_or m.entries i d).1 unique (slice_get-get_or m.entries i d low)
 
 -- the nodes below a node are nodes, and later ones
 module _ (nodes : List Spot) (tree : IsTree nodes) (id : ℕ) (low : id < length nodes) where
   pub below_place : (s : Step) (c : ℕ) → place_of (address_at nodes id ++ s ∷ []) (addresses nodes) ≡ Some c → (c < length nodes) × (id < c)
   below_place s c place = ((leads_to nodes tree (address_at nodes id ++ s ∷ []) c place).within, later nodes tree id c s low place)
 
-  pub below_name : (all : Entries) (n : List ℕ) (c : ℕ) → children_of all ≡ (slice_index_or nodes id nowhere).children → leads n all ≡ Some c → (c < length nodes) × (id < c)
-  below_name all n c are there =
-      below_place (Name n) c (sym (tree.names id nowhere n low) ∙ ap (lookup (bytes_eq n)) (sym are) ∙ lookup-children_of n all ∙ there)
+  pub below_name : (all : List (List ℕ × ℕ)) (n : List ℕ) (c : ℕ) → all ≡ (slice_index_or nodes id nowhere).children → lookup (bytes_eq n) all ≡ Some c → (c < length nodes) × (id < c)
+  below_name all n c are there = below_place (Name n) c (sym (tree.names id nowhere n low) ∙ ap (lookup (bytes_eq n)) (sym are) ∙ there)
 
   pub below_element : (elements : List ℕ) (i e : ℕ) → elements ≡ (slice_index_or nodes id nowhere).elements → i < length elements → (get_or elements i e < length nodes) × (id < get_or elements i e)
   below_element elements i e are there =

@@ -1,8 +1,6 @@
 -- What the finished tree of names tells.
-use Rattle.std.specs.Prelude.{◌≡◌, ◌++◌, ℕ, Bool, true, false, List, slice_index_or}
+use Rattle.std.specs.Prelude.{◌≡◌, ◌++◌, ℕ, List, slice_index_or}
 use Rattle.toml_names.specs.declared.datum.Datum.{Datum}
-use Rattle.toml_names.specs.declared.named.Role.{Role}
-use Rattle.toml_names.specs.declared.named.Role.TheVariants.{Bare}
 use Rattle.toml_names.specs.Addresses.{Address}
 use Rattle.toml_names.specs.Data.{kind_at, fact_at}
 use Rattle.toml_names.specs.Joining.{Joined}

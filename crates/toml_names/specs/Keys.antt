@@ -13,9 +13,13 @@ abbrev pub name_or_empty : Option (List ℕ) → List ℕ
 name_or_empty None = []
 name_or_empty (Some name) = name
 
--- the name of a key part; each part of a tree's key has one (the law `NameIsTotal` of key parts)
+-- the name that the text of a key part spells; each part of a tree's key has one (the law `NameIsTotal` of key parts)
+abbrev pub spelled_name : List ℕ → List ℕ
+spelled_name text = name_or_empty (name_of text)
+
+-- the name of a key part
 abbrev pub part_name : Piece → List ℕ
-part_name p = name_or_empty (name_of p.text)
+part_name p = spelled_name p.text
 
 -- the names of a key's parts behind the first
 abbrev pub rest_names : List tree.Dotted → Key

@@ -14,6 +14,7 @@ pub mod Local
 pub mod Documents
 pub mod FirstMentions
 pub mod KeyParts
+pub mod NameMaps
 pub mod Nodes
 pub mod NameTree
 pub mod Headers

@@ -6,12 +6,14 @@ use Rattle.toml_names.specs.declared.address.Step.{Step}
 use Rattle.toml_names.specs.declared.address.Step.TheVariants.{Name}
 use Rattle.toml_names.specs.declared.named.Role.{Role}
 use Rattle.toml_names.specs.declared.named.Role.TheVariants.{Bare, Passed}
+use Rattle.toml_names.specs.declared.tree.Found.{Found}
+use Rattle.toml_names.specs.declared.tree.Found.TheVariants.{Known, New}
 use Rattle.toml_names.specs.Addresses.{Address, child, element}
 use Rattle.toml_names.specs.Data.{fact_at}
 use Rattle.toml_names.specs.FirstMentions.{first_named}
 use Rattle.toml_names.specs.Local.{mark_of}
 use Rattle.toml_names.specs.Mentions.{Kind, Named, is_tables, count_tables, entered, table_at}
-use Rattle.toml_names.specs.Nodes.{Spot, addresses, address_at, place_of}
+use Rattle.toml_names.specs.Nodes.{Spot, addresses, address_at, place_of, grown}
 use Rattle.toml_names.specs.Places.{first_line}
 use Rattle.toml_names.specs.Rules.{misfit}
 
@@ -67,6 +69,15 @@ pub record Enters (old new : List Spot) (made : List Named) : Type 0 where
 -- the first of what would be made that breaks the rules is at the address
 abbrev pub Clashes : List Spot → List Named → Address → Type 0
 Clashes nodes made at = (ms : List Named) → IsTreeOf nodes ms → misfit ms made ≡ Some at
+
+-- Where a name leads from the node `above`: to a node that was there, among the same nodes; or nowhere, and then to a new one.
+abbrev pub IsFound : List Spot → List Spot → ℕ → List ℕ → Role → Kind → ℕ → Found → Type 0
+IsFound old new above n r k line (Known id) =
+    (new ≡ old) × ((d : Spot) → lookup (bytes_eq n) (slice_index_or old above d).children ≡ Some id)
+IsFound old new above n r k line (New id) =
+    (id ≡ length old)
+    × ((d : Spot) → lookup (bytes_eq n) (slice_index_or old above d).children ≡ None)
+    × ((d : Spot) → new ≡ grown old above (slice_index_or old above d) (Name n) r k line)
 
 -- the node has the address
 pub record LeadsTo (nodes : List Spot) (id : ℕ) (at : Address) : Type 0 where

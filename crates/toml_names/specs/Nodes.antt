@@ -1,18 +1,18 @@
 -- The nodes of the tree of names, in the order in which they were made, and the changes that a line makes in them.
-use Rattle.std.specs.Prelude.{ℕ, ◌+◌, ◌-◌, if◌then◌else◌, List, [], ◌∷◌, ◌++◌, length, map, take, Option, Some, None, String, string_bytes, slice_set, slice_index_or}
+use Rattle.std.specs.Prelude.{ℕ, ◌+◌, ◌-◌, if◌then◌else◌, List, [], ◌∷◌, ◌++◌, length, take, Option, Some, None, slice_set, slice_index_or}
+use Rattle.std.specs.Global.{Box}
 use Rattle.std.specs.Option.{option_map}
-use Rattle.std.specs.declared.alloc.Global.{Global}
-use Rattle.toml_tree.specs.View.{piece}
 use Rattle.toml_names.specs.declared.address.Step.{Step}
 use Rattle.toml_names.specs.declared.address.Step.TheVariants.{Name, Index}
 use Rattle.toml_names.specs.declared.named.Role.{Role}
 use Rattle.toml_names.specs.declared.named.Role.TheVariants.{Bare}
+use Rattle.toml_names.specs.declared.node.Below.{Below}
 use Rattle.toml_names.specs.declared.node.Under.{Under}
 use Rattle.toml_names.specs.declared.node.Under.TheVariants as unders
 use Rattle.toml_names.specs.declared.tree.Change.{Change}
 use Rattle.toml_names.specs.declared.tree.Change.TheVariants.{NameLinked, ElementLinked, RoleNoted}
 use Rattle.toml_names.specs.Addresses.{Address, same_address}
-use Rattle.toml_names.specs.Keys.{part_name}
+use Rattle.toml_names.specs.Keys.{spelled_name}
 use Rattle.toml_names.specs.Local.{role_after}
 use Rattle.toml_names.specs.Mentions.{Kind, a_table}
 use Rattle.toml_names.specs.Places.{same_role}
@@ -30,12 +30,17 @@ pub record Spot : Type 0 where
 
 abbrev pub under_of : Under → Option (ℕ × Step)
 under_of unders.Root = None
-under_of (unders.Name above part) = Some (above, Name (part_name (piece part)))
+under_of (unders.Name above text) = Some (above, Name (spelled_name text.now))
 under_of (unders.Index above index) = Some (above, Index index)
 
--- the pairs of a map, by the names' bytes
-abbrev pub children_of : List (String Global × ℕ) → List (List ℕ × ℕ)
-children_of entries = map (λ e. (string_bytes e.0, e.1)) entries
+-- what hangs under a node: no names and no elements where nothing does
+abbrev pub names_below : Option (Box Below) → List (List ℕ × ℕ)
+names_below None = []
+names_below (Some b) = b.value.names
+
+abbrev pub elements_below : Option (Box Below) → List ℕ
+elements_below None = []
+elements_below (Some b) = b.value.elements.items
 
 -- the address under a node, whose address is among the earlier ones
 abbrev pub address_under : List Address → Option (ℕ × Step) → Address

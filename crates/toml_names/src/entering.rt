@@ -14,9 +14,8 @@ ghost use Rattle.toml_names.specs.Nodes.{Spot, address_at, grown, undone};
 ghost use Rattle.toml_names.specs.View.{kind as kind_of};
 
 use crate::named::{Kind, Role};
-use crate::naming::{kind_of, part_name};
-use crate::rules::may_follow;
-use crate::tree::{EnterFault, NameTree};
+use crate::naming::kind_of;
+use crate::tree::{EnterFault, Found, NameTree};
 use std::alloc::AllocError;
 use toml_tree::{Key, KeyVal, Piece, Value};
 
@@ -42,17 +41,12 @@ impl<'t> NameTree<'t> {
         ensures lookups { self.new.lookups ≤ self.old.lookups + 1 }
         ensures rises { self.old.lookups ≤ self.new.lookups }
     {
-        let name = part_name(self.alloc, &part)?;
-        match self.look(at, name.as_str()) {
-            Some(id) => {
-                if may_follow(self.nodes[id].role(), role) {
-                    self.note(id, role, line)?;
-                    Ok(id)
-                } else {
-                    Err(EnterFault::Clash(self.address(id)?))
-                }
+        match self.find_or_grow(at, part, role, kind, line)? {
+            Found::Known(id) => {
+                self.mention(id, role, line)?;
+                Ok(id)
             }
-            None => Ok(self.grow_name(at, name, part, role, kind, line)?),
+            Found::New(id) => Ok(id),
         }
     }
 
@@ -75,10 +69,9 @@ impl<'t> NameTree<'t> {
         ensures lookups { self.new.lookups ≤ self.old.lookups + 1 }
         ensures rises { self.old.lookups ≤ self.new.lookups }
     {
-        let name = part_name(self.alloc, &part)?;
-        match self.look(at, name.as_str()) {
-            Some(id) => Err(EnterFault::Clash(self.address(id)?)),
-            None => Ok(self.grow_name(at, name, part, Role::Valued, kind, line)?),
+        match self.find_or_grow(at, part, Role::Valued, kind, line)? {
+            Found::Known(id) => Err(EnterFault::Clash(self.address(id)?)),
+            Found::New(id) => Ok(id),
         }
     }
 

@@ -1,6 +1,5 @@
 //! What the finished tree of names tells: the data, the first mentions, and whether addresses are short.
 ghost use Rattle.std.specs.Prelude.{◌≡◌, ◌++◌, ◌<◌, ◌≤◌, ◌↔◌, ℕ, List, IsTrue, IfOk, Some, slice_get, slice_index_or, length, vec_len};
-ghost use Rattle.toml_tree.specs.View.{piece};
 ghost use Rattle.toml_names.specs.declared.named.Role.TheVariants.{Bare};
 ghost use Rattle.toml_names.specs.Addresses.{Address as Steps};
 ghost use Rattle.toml_names.specs.Building.{IsOnly};
@@ -21,7 +20,6 @@ use crate::tree::NameTree;
 use std::alloc::{AllocError, Global};
 use std::collections::BTreeMap;
 use toml_scalar::{Scalar, ScalarKind, scalar_of};
-use toml_tree::Piece;
 
 impl<'t> NameTree<'t> {
     /// The data at a node: what stands at its address and below.
@@ -34,7 +32,7 @@ impl<'t> NameTree<'t> {
         match self.nodes[id].kind() {
             Kind::Table => self.table_datum(id),
             Kind::Array => self.array_datum(id),
-            Kind::Scalar(kind, token) => scalar_datum(self.alloc, kind, &token),
+            Kind::Scalar(kind, token) => scalar_datum(self.alloc, kind, token),
         }
     }
 
@@ -47,10 +45,14 @@ impl<'t> NameTree<'t> {
         ensures { IfOk result (IsDatumAt self.now.nodes.items id) }
     {
         let mut members = BTreeMap::new(self.alloc);
-        let children = self.nodes[id].children();
-        for (name, below) in children {
-            let member = self.datum(*below)?;
-            add_member(self.alloc, &mut members, name.as_str(), member)?;
+        let Some(names) = self.nodes[id].names() else {
+            return Ok(Datum::Table(members));
+        };
+        for place in 0..names.len() {
+            if let Some((name, below)) = names.nth(place) {
+                let member = self.datum(below)?;
+                add_member(self.alloc, &mut members, name, member)?;
+            }
         }
         Ok(Datum::Table(members))
     }
@@ -124,10 +126,10 @@ fn is_mention(role: Role) -> bool
 }
 
 /// The datum of a scalar: the value that its token spells.
-fn scalar_datum(alloc: Global, kind: ScalarKind, token: &Piece<'_>) -> Result<Datum, AllocError>
-    ensures { IfOk result (IsOnly (token_kind kind (piece token.now).text)) }
+fn scalar_datum(alloc: Global, kind: ScalarKind, token: &str) -> Result<Datum, AllocError>
+    ensures { IfOk result (IsOnly (token_kind kind token.now)) }
 {
-    match scalar_of(alloc, kind, token.text)? {
+    match scalar_of(alloc, kind, token)? {
         Some(scalar) => Ok(Datum::Scalar(scalar)),
         None => Ok(Datum::Scalar(Scalar::Text(String::new(alloc)))),
     }

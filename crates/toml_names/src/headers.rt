@@ -20,11 +20,9 @@ ghost use Rattle.toml_names.specs.EnteringHeaders.{EntersHeader, AddsTable};
 ghost use Rattle.toml_names.specs.Nodes.{Spot, address_at, undone};
 ghost use Rattle.toml_names.specs.Rules.{misfit};
 
-use crate::name::Name;
 use crate::named::{Kind, Role};
-use crate::naming::part_name;
 use crate::rules::may_follow;
-use crate::tree::{EnterFault, NameTree};
+use crate::tree::{EnterFault, Found, NameTree};
 use std::alloc::AllocError;
 use toml_tree::{Expr, Key, Line, Piece};
 
@@ -61,18 +59,13 @@ impl<'t> NameTree<'t> {
         ensures lookups { self.new.lookups ≤ self.old.lookups + 1 }
         ensures rises { self.old.lookups ≤ self.new.lookups }
     {
-        let name = part_name(self.alloc, &part)?;
-        match self.look(at, name.as_str()) {
-            Some(found) => {
+        match self.find_or_grow(at, part, Role::Passed, Kind::Table, line)? {
+            Found::Known(found) => {
                 let id = self.inner(found);
-                if may_follow(self.nodes[id].role(), Role::Passed) {
-                    self.note(id, Role::Passed, line)?;
-                    Ok(id)
-                } else {
-                    Err(EnterFault::Clash(self.address(id)?))
-                }
+                self.mention(id, Role::Passed, line)?;
+                Ok(id)
             }
-            None => Ok(self.grow_name(at, name, part, Role::Passed, Kind::Table, line)?),
+            Found::New(id) => Ok(id),
         }
     }
 
@@ -127,31 +120,10 @@ impl<'t> NameTree<'t> {
         ensures lookups { self.new.lookups ≤ self.old.lookups + 1 }
         ensures rises { self.old.lookups ≤ self.new.lookups }
     {
-        let name = part_name(self.alloc, &part)?;
-        match self.look(at, name.as_str()) {
-            Some(id) => self.enter_next_table(id, line),
-            None => Ok(self.enter_new_array(at, name, part, line)?),
+        match self.find_or_grow(at, part, Role::Tables, Kind::Array, line)? {
+            Found::Known(array) => self.enter_next_table(array, line),
+            Found::New(array) => Ok(self.grow_element(array, Role::Element, Kind::Table, line)?),
         }
-    }
-
-    /// Enters a new array of tables and its first element, whose node it gives.
-    fn enter_new_array(
-        &mut self,
-        at: usize,
-        name: Name,
-        part: Piece<'t>,
-        line: usize,
-    ) -> Result<usize, AllocError>
-        requires within { at < vec_len self.old.nodes }
-        requires tree { IsTree self.old.nodes.items }
-        requires meaning { name ≡ part_name (piece part) }
-        requires absent { (d : Spot) → lookup (bytes_eq name) (slice_index_or self.old.nodes.items at d).children ≡ None }
-        ensures adds { IfOk result (λ id. AddsTable self.old.nodes.items self.new.nodes.items id line (child (address_at self.old.nodes.items at) (part_name (piece part.entry)))) }
-        ensures can_undo { undone self.new.changes.items self.new.nodes.items ≡ undone self.old.changes.items self.old.nodes.items }
-        ensures lookups { self.new.lookups ≡ self.old.lookups }
-    {
-        let id = self.grow_name(at, name, part, Role::Tables, Kind::Array, line)?;
-        self.grow_element(id, Role::Element, Kind::Table, line)
     }
 
     /// Enters one more header of an array of tables that is there: the array, and its next element, whose node it gives.
@@ -165,10 +137,7 @@ impl<'t> NameTree<'t> {
         ensures can_undo { undone self.new.changes.items self.new.nodes.items ≡ undone self.old.changes.items self.old.nodes.items }
         ensures lookups { self.new.lookups ≡ self.old.lookups }
     {
-        if !may_follow(self.nodes[array].role(), Role::Tables) {
-            return Err(EnterFault::Clash(self.address(array)?));
-        }
-        self.note(array, Role::Tables, line)?;
+        self.mention(array, Role::Tables, line)?;
         Ok(self.grow_element(array, Role::Element, Kind::Table, line)?)
     }
 

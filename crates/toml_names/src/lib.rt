@@ -13,6 +13,7 @@ mod keying;
 pub mod laws;
 mod long_keys;
 mod name;
+mod name_map;
 mod named;
 mod names;
 mod naming;

@@ -19,44 +19,13 @@ ghost use Rattle.toml_names.specs.Nodes.{Spot, address_at, noted, undone};
 ghost use Rattle.toml_names.specs.Rules.{may_follow, misfit};
 
 use crate::named::{Kind, Role};
-use crate::naming::{kind_of, part_name};
+use crate::naming::{kind_of, spelled_name};
 use crate::rules::{MAX_STEPS, may_follow};
 use crate::tree::{EnterFault, NameTree};
 use std::alloc::AllocError;
 use toml_tree::{Key, KeyVal, Piece, Value};
 
 impl<'t> NameTree<'t> {
-    /// The node that a key part leads to from a node.
-    fn lead(&mut self, at: usize, part: &Piece<'t>) -> Result<Option<usize>, AllocError>
-        requires within { at < vec_len self.old.nodes }
-        ensures found { IfOk result (λ to. (d : Spot) → lookup (bytes_eq (part_name (piece part.now))) (slice_index_or self.old.nodes.items at d).children ≡ to) }
-        ensures nodes { self.new.nodes ≡ self.old.nodes }
-        ensures changes { self.new.changes ≡ self.old.changes }
-        ensures lookups { self.new.lookups ≤ self.old.lookups + 1 }
-        ensures rises { self.old.lookups ≤ self.new.lookups }
-    {
-        let name = part_name(self.alloc, part)?;
-        Ok(self.look(at, name.as_str()))
-    }
-
-    /// Names a node once more, if that goes with its mark.
-    fn mention(&mut self, id: usize, role: Role, line: usize) -> Result<(), EnterFault>
-        requires within { id < vec_len self.old.nodes }
-        requires tree { IsTree self.old.nodes.items }
-        ensures noted { OnOk result ((d : Spot) → (may_follow (slice_index_or self.old.nodes.items id d).role role ≡ true)
-            × (self.new.nodes.items ≡ noted self.old.nodes.items id (slice_index_or self.old.nodes.items id d) role line)) }
-        ensures clash { IfErr result (λ e. (a : Steps) → e ≡ Clash a → (d : Spot) → (may_follow (slice_index_or self.old.nodes.items id d).role role ≡ false)
-            × (address_at self.old.nodes.items id ≡ a)) }
-        ensures can_undo { undone self.new.changes.items self.new.nodes.items ≡ undone self.old.changes.items self.old.nodes.items }
-        ensures lookups { self.new.lookups ≡ self.old.lookups }
-    {
-        if !may_follow(self.nodes[id].role(), role) {
-            return Err(EnterFault::Clash(self.address(id)?));
-        }
-        self.note(id, role, line)?;
-        Ok(())
-    }
-
     /// Enters the proper fronts of a dotted key that are there, and gives the table of the last of them and the key's
     /// last part; none where one of them is new.
     fn enter_known(
@@ -78,7 +47,7 @@ impl<'t> NameTree<'t> {
         let mut here = at;
         let mut part = key.first;
         for dotted in &key.rest {
-            match self.lead(here, &part)? {
+            match self.find(here, &part)? {
                 Some(id) => here = id,
                 None => return Ok(None),
             }
@@ -111,7 +80,7 @@ impl<'t> NameTree<'t> {
         let mut here = 0;
         let mut part = key.first;
         for dotted in &key.rest {
-            match self.lead(here, &part)? {
+            match self.find(here, &part)? {
                 Some(found) => here = self.inner(found),
                 None => return Ok(None),
             }

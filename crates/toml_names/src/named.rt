@@ -1,6 +1,5 @@
 use crate::address::Address;
 use toml_scalar::ScalarKind;
-use toml_tree::Piece;
 
 /// What a mention says of its address.
 #[derive(Clone, Copy, Drop)]
@@ -26,7 +25,7 @@ pub enum Role {
 pub enum Kind<'t> {
     Table,
     Array,
-    Scalar(ScalarKind, Piece<'t>),
+    Scalar(ScalarKind, &'t str),
 }
 
 /// An address that a line names, and how; lines are counted from 0.

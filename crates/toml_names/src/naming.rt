@@ -1,10 +1,11 @@
-//! The plain reader of names: the list of all that a line names (TOML v1.0.0, Keys, Table, Inline Table, Array of
-//! Tables).
+//! What a key part and a value stand for; and the plain reader of names: the list of all that a line names (TOML v1.0.0,
+//! Keys, Table, Inline Table, Array of Tables).
+ghost use Rattle.std.specs.Cow.{cow_str_bytes};
 ghost use Rattle.std.specs.Prelude.{◌≡◌, [], ◌∷◌, ◌++◌, List, OnOk, IfOk};
 ghost use Rattle.toml_tree.specs.Lines.{line as tree_line};
 ghost use Rattle.toml_tree.specs.View.{piece, key as tree_key, value, keyval as tree_keyval};
 ghost use Rattle.toml_names.specs.Addresses.{Address as Steps, below};
-ghost use Rattle.toml_names.specs.Keys.{part_name, key_names};
+ghost use Rattle.toml_names.specs.Keys.{spelled_name, key_names};
 ghost use Rattle.toml_names.specs.Mentions as mentions;
 ghost use Rattle.toml_names.specs.Mentions.{kind_of, table_at, value_named, fronts, inside, pair_named, count_tables, entered, followed, ends_tables, is_section, section, section_from, named_by};
 ghost use Rattle.toml_names.specs.View.{kind, named, all_named};
@@ -13,6 +14,7 @@ use crate::address::Address;
 use crate::name::Name;
 use crate::named::{Kind, Named, Role};
 use std::alloc::{AllocError, Global};
+use std::borrow::CowStr;
 use toml_scalar::name_of;
 use toml_tree::{Expr, Key, KeyVal, Line, Piece, Value};
 
@@ -33,7 +35,7 @@ pub fn kind_of<'t>(v: &Value<'t>) -> Kind<'t>
     ensures { kind result ≡ kind_of (value v.now) }
 {
     match v {
-        Value::Scalar(kind, token) => Kind::Scalar(*kind, *token),
+        Value::Scalar(kind, token) => Kind::Scalar(*kind, token.text),
         Value::Array(_) => Kind::Array,
         Value::Inline(_) => Kind::Table,
     }
@@ -51,14 +53,23 @@ fn value_named<'t>(number: usize, role: Role, address: Address, v: &Value<'t>) -
     }
 }
 
-/// The name of a key part, and an empty one for a text that is none.
-pub fn part_name(alloc: Global, part: &Piece<'_>) -> Result<Name, AllocError>
-    ensures { IfOk result (λ name. name ≡ part_name (piece part.now)) }
+/// The name that the text of a key part spells, lent where it is the text itself; an empty one for a text that is no key
+/// part.
+pub fn spelled_name<'t>(alloc: Global, text: &'t str) -> Result<CowStr<'t>, AllocError>
+    ensures { IfOk result (λ name. cow_str_bytes name ≡ spelled_name text.now) }
 {
-    match name_of(alloc, part.text)? {
-        Some(text) => Ok(Name::of(text)),
-        None => Ok(Name::of(String::new(alloc))),
+    match name_of(alloc, text)? {
+        Some(name) => Ok(name),
+        None => Ok(CowStr::Borrowed("")),
     }
+}
+
+/// The name that the text of a key part spells, as a name of its own.
+pub fn own_name(alloc: Global, text: &str) -> Result<Name, AllocError>
+    ensures { IfOk result (λ name. name ≡ spelled_name text.now) }
+{
+    let name = spelled_name(alloc, text)?;
+    Ok(Name::of(name.into_owned(alloc)?))
 }
 
 /// Adds the fronts of a key in the table at the address, and gives the address of the whole key.
@@ -72,10 +83,10 @@ fn name_key<'t>(
     ensures fronts { OnOk result (all_named names.new.items ≡ all_named names.old.items ++ fronts number at.now (key_names (tree_key key.now))) }
     ensures whole { IfOk result (λ here. here ≡ below at.now (key_names (tree_key key.now))) }
 {
-    let first = part_name(alloc, &key.first)?;
+    let first = own_name(alloc, key.first.text)?;
     let mut here = at.child(alloc, first)?;
     for dotted in &key.rest {
-        let name = part_name(alloc, &dotted.part)?;
+        let name = own_name(alloc, dotted.part.text)?;
         let next = here.child(alloc, name)?;
         names.push(table_at(number, Role::Dotted, here))?;
         here = next;
@@ -167,11 +178,11 @@ fn follow<'t>(
 ) -> Result<Address, AllocError>
     ensures { IfOk result (λ here. (end : Steps → List mentions.Named) → all_named names.new.items ++ end here ≡ all_named names.old.items ++ followed number (all_named earlier.now) end [] (key_names (tree_key key.now))) }
 {
-    let first = part_name(alloc, &key.first)?;
+    let first = own_name(alloc, key.first.text)?;
     let root = Address::root(alloc);
     let mut here = root.child(alloc, first)?;
     for dotted in &key.rest {
-        let name = part_name(alloc, &dotted.part)?;
+        let name = own_name(alloc, dotted.part.text)?;
         let inside = enter(alloc, earlier, here)?;
         let next = inside.child(alloc, name)?;
         names.push(table_at(number, Role::Passed, inside))?;

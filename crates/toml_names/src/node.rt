@@ -1,24 +1,33 @@
 //! The nodes of the tree of names.
-ghost use Rattle.std.specs.Prelude.{◌≡◌, ◌-◌, ℕ, length, string_bytes, None, Some, OnOk, OnErr, slice_get};
+ghost use Rattle.std.specs.Cow.{cow_str_bytes};
+ghost use Rattle.std.specs.Prelude.{◌≡◌, ℕ, OnOk, OnErr, IfOk, IfSome, IfNone, []};
 ghost use Rattle.std.specs.Map.{lookup};
 ghost use Rattle.std.specs.Str.{bytes_eq};
 
 use crate::hashing::NameHashing;
+use crate::name_map::NameMap;
 use crate::named::{Kind, Role};
-use indexmap::IndexMap;
 use std::alloc::{AllocError, Global};
+use std::borrow::CowStr;
 use std::marker::Model;
-use toml_tree::Piece;
 
-/// Where a node hangs: under another node, by a key part or an index.
+/// Where a node hangs: under another node, by the text of a key part or by an index.
 #[derive(Clone, Copy, Drop)]
 pub enum Under<'t> {
     Root,
-    Name(usize, Piece<'t>),
+    Name(usize, &'t str),
     Index(usize, u64),
 }
 
-/// A node: where it hangs, what it stands for, the nodes of the names in it, and those of its elements.
+/// What hangs under a node: the names in it and their nodes, in the order of their first mentions, and the nodes of its
+/// elements.
+#[derive(Drop)]
+pub struct Below<'t> {
+    names: NameMap<'t>,
+    elements: Vec<usize>,
+}
+
+/// A node: where it hangs, what it stands for, and what hangs under it.
 #[derive(Drop)]
 pub struct Node<'t> {
     under: Under<'t>,
@@ -29,34 +38,26 @@ pub struct Node<'t> {
     kind: Kind<'t>,
     // the first line that named it in the mark's role
     line: usize,
-    children: IndexMap<String, usize, NameHashing>,
-    elements: Vec<usize>,
+    // most nodes are scalars' and have nothing under them
+    below: Option<Box<Below<'t>>>,
 }
 
 impl<'t> Model for Node<'t> {
-    ghost use Rattle.toml_names.specs.Nodes.{Spot, under_of, children_of};
+    ghost use Rattle.toml_names.specs.Nodes.{Spot, under_of, names_below, elements_below};
     ghost use Rattle.toml_names.specs.View.{kind as kind_of};
 
     ghost Value = { Spot };
 
-    ghost view = { λ n. record { under = under_of n.under; depth = n.depth; role = n.role; kind = kind_of n.kind; line = n.line; children = children_of n.children.entries; elements = n.elements.items } };
+    ghost view = { λ n. record { under = under_of n.under; depth = n.depth; role = n.role; kind = kind_of n.kind; line = n.line; children = names_below n.below; elements = elements_below n.below } };
 }
 
 impl<'t> Node<'t> {
     ghost use Rattle.toml_names.specs.declared.address.Step.TheVariants.{Name, Index};
-    ghost use Rattle.toml_names.specs.Nodes.{leaf, linked, under_of, children_of, remarked, without_name, without_element};
+    ghost use Rattle.toml_names.specs.Nodes.{leaf, linked, under_of, remarked, without_name, without_element};
     ghost use Rattle.toml_names.specs.View.{kind as kind_of};
 
     /// A node that leads nowhere.
-    pub fn leaf(
-        alloc: Global,
-        hashing: NameHashing,
-        under: Under<'t>,
-        depth: usize,
-        role: Role,
-        what: Kind<'t>,
-        line: usize,
-    ) -> Node<'t>
+    pub fn leaf(under: Under<'t>, depth: usize, role: Role, what: Kind<'t>, line: usize) -> Node<'t>
         ensures { result ≡ leaf (under_of under.entry) depth role (kind_of what.entry) line }
     {
         Node {
@@ -65,8 +66,7 @@ impl<'t> Node<'t> {
             role,
             kind: what,
             line,
-            children: IndexMap::with_hasher(alloc, hashing),
-            elements: Vec::new(alloc),
+            below: None,
         }
     }
 
@@ -117,47 +117,83 @@ impl<'t> Node<'t> {
     pub fn child(&self, name: &str) -> Option<usize>
         ensures { result ≡ lookup (bytes_eq name.now) self.now.children }
     {
-        self.children.get(name).copied()
+        match &self.below {
+            Some(below) => below.names.get(name),
+            None => None,
+        }
     }
 
-    /// The names in it and their nodes, in the order of their first mentions.
-    pub fn children(&self) -> &IndexMap<String, usize, NameHashing>
-        ensures { children_of result.now.entries ≡ self.now.children }
+    /// The names in it and their nodes, in the order of their first mentions; nothing where it has had none.
+    pub fn names(&self) -> Option<&NameMap<'t>>
+        ensures some { IfSome result (λ names. names.now ≡ self.now.children) }
+        ensures none { IfNone result (self.now.children ≡ []) }
     {
-        &self.children
+        match &self.below {
+            Some(below) => Some(&below.names),
+            None => None,
+        }
     }
 
     /// The nodes of its elements.
     pub fn elements(&self) -> &[usize]
         ensures { result.now ≡ self.now.elements }
     {
-        &self.elements
+        match &self.below {
+            Some(below) => &below.elements,
+            None => &[],
+        }
     }
 
-    /// A new name leads to a node.
-    pub fn link_name(&mut self, name: String, id: usize) -> Result<(), AllocError>
-        requires { lookup (bytes_eq (string_bytes name)) self.old.children ≡ None }
-        ensures linked { OnOk result (self.new ≡ linked self.old (Name (string_bytes name)) id) }
+    /// The node that a name leads to; a name that leads nowhere is linked to `id`.
+    pub fn find_or_link(
+        &mut self,
+        alloc: Global,
+        hashing: NameHashing,
+        name: CowStr<'t>,
+        id: usize,
+    ) -> Result<Option<usize>, AllocError>
+        ensures found { IfOk result (λ to. to ≡ lookup (bytes_eq (cow_str_bytes name.entry)) self.old.children) }
+        ensures known { IfOk result (λ to. IfSome to (λ there. self.new ≡ self.old)) }
+        ensures linked { IfOk result (λ to. IfNone to (self.new ≡ linked self.old (Name (cow_str_bytes name.entry)) id)) }
         ensures unchanged { OnErr result (self.new ≡ self.old) }
     {
-        self.children.insert(name, id)?;
-        Ok(())
+        match &mut self.below {
+            Some(below) => below.names.find_or_insert(alloc, hashing, name, id),
+            None => {
+                let mut names = NameMap::new(alloc);
+                names.find_or_insert(alloc, hashing, name, id)?;
+                let elements = Vec::new(alloc);
+                self.below = Some(Box::new(alloc, Below { names, elements })?);
+                Ok(None)
+            }
+        }
     }
 
     /// The name that was linked last leads nowhere again.
     pub fn unlink_name(&mut self)
         ensures { self.new ≡ without_name self.old }
     {
-        let names = self.children.len();
-        self.children.truncate(names.saturating_sub(1));
+        if let Some(below) = &mut self.below {
+            below.names.drop_last();
+        }
     }
 
     /// A new last element.
-    pub fn link_element(&mut self, id: usize) -> Result<(), AllocError>
+    pub fn link_element(&mut self, alloc: Global, id: usize) -> Result<(), AllocError>
         ensures linked { OnOk result ((index : ℕ) → self.new ≡ linked self.old (Index index) id) }
         ensures unchanged { OnErr result (self.new ≡ self.old) }
     {
-        self.elements.push(id)?;
+        match &mut self.below {
+            Some(below) => {
+                below.elements.push(id)?;
+            }
+            None => {
+                let mut elements = Vec::new(alloc);
+                elements.push(id)?;
+                let names = NameMap::new(alloc);
+                self.below = Some(Box::new(alloc, Below { names, elements })?);
+            }
+        }
         Ok(())
     }
 
@@ -165,6 +201,8 @@ impl<'t> Node<'t> {
     pub fn unlink_element(&mut self)
         ensures { self.new ≡ without_element self.old }
     {
-        let _ = self.elements.pop();
+        if let Some(below) = &mut self.below {
+            let _ = below.elements.pop();
+        }
     }
 }

@@ -56,6 +56,37 @@ fn a_refused_line_leaves_no_trace(rt: HostRuntime) -> Result<(), Fail> {
     Ok(())
 }
 
+// eleven names, of which the last is led to, taken back and made anew
+const MANY_NAMES: &str =
+    "a = 0\nb = 1\nc = 2\nd = 3\ne = 4\nf = 5\ng = 6\nh = 7\ni = 8\nj = 9\nb = 1\ni = 8\nk = {x = 1, x = 2}\nk = 10\n";
+
+#[test]
+fn a_table_of_many_names(rt: HostRuntime) -> Result<(), Fail> {
+    let doc = doc(rt.alloc(), MANY_NAMES)?;
+    let (reader, refused) = hand_in(rt.alloc(), &doc)?;
+    let wanted: [&[At]; 3] = [&[Key("b")], &[Key("i")], &[Key("k"), Key("x")]];
+    assert_eq!(rt; refused.len(), wanted.len());
+    for (index, steps) in wanted.iter().enumerate() {
+        assert!(rt; refused[index].1.is_same(&address(rt.alloc(), steps)?));
+    }
+    let names = reader.finish()?;
+    let first: [&[At]; 11] = [
+        &[Key("a")],
+        &[Key("b")],
+        &[Key("c")],
+        &[Key("d")],
+        &[Key("e")],
+        &[Key("f")],
+        &[Key("g")],
+        &[Key("h")],
+        &[Key("i")],
+        &[Key("j")],
+        &[Key("k")],
+    ];
+    assert!(rt; are(rt.alloc(), names.first_mentions(), &first)?);
+    Ok(())
+}
+
 #[test]
 fn addresses_are_listed_and_looked_up_once(rt: HostRuntime) -> Result<(), Fail> {
     let rows: [(&str, u64, &[&[At]]); 3] = [
@@ -219,8 +250,8 @@ fn take_all<'d, 't>(
 fn refused_growths_leave_no_trace(rt: HostRuntime) -> Result<(), Fail> {
     let rows: [(&str, usize); 2] = [
         (
-            "port = 1_000 # keep\nx = [1, # one\n 2]\n[a.b]\na.b = 1\nd = 1979-05-27 07:32:00.50z\n",
-            7,
+            "port = 1_000 # keep\nx = [1, # one\n 2]\n[a.b]\na.b = 1\n\"\\u0063\" = 2\nd = 1979-05-27 07:32:00.50z\n",
+            8,
         ),
         (ROW_EIGHT, 5),
     ];

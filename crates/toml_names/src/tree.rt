@@ -1,28 +1,32 @@
 //! The tree of names, and the changes that a line makes in it.
-ghost use Rattle.std.specs.Prelude.{◌∷◌, ◌≡◌, ◌+◌, ◌<◌, ◌≤◌, ℕ, List, length, min, string_bytes, false, None, Some, OnOk, OnErr, IfOk, slice_index_or, vec_len, []};
+ghost use Rattle.std.specs.Cow.{cow_str_bytes};
+ghost use Rattle.std.specs.Prelude.{◌∷◌, ◌≡◌, ◌+◌, ◌<◌, ◌≤◌, ℕ, List, length, min, string_bytes, true, false, None, Some, OnOk, OnErr, IfOk, IfErr, slice_index_or, vec_len, []};
 ghost use Rattle.std.specs.Map.{lookup};
 ghost use Rattle.std.specs.Str.{bytes_eq};
 ghost use Rattle.toml_tree.specs.View.{piece};
 ghost use Rattle.toml_names.specs.declared.address.Step.TheVariants as steps;
 ghost use Rattle.toml_names.specs.declared.named.Role.{Role as Mark};
 ghost use Rattle.toml_names.specs.declared.named.Role.TheVariants.{Bare};
+ghost use Rattle.toml_names.specs.Addresses.{Address as Steps};
+ghost use Rattle.toml_names.specs.declared.tree.EnterFault.TheVariants.{Clash};
 ghost use Rattle.toml_names.specs.Keys.{part_name};
 ghost use Rattle.toml_names.specs.Local.{role_after};
 ghost use Rattle.toml_names.specs.Mentions as mentions;
 ghost use Rattle.toml_names.specs.Mentions.{is_tables};
-ghost use Rattle.toml_names.specs.NameTree.{IsTree, IsTreeOf};
+ghost use Rattle.toml_names.specs.NameTree.{IsTree, IsTreeOf, IsFound};
 ghost use Rattle.toml_names.specs.Nodes.{Spot, address_at, grown, noted, reverted, undone};
-ghost use Rattle.toml_names.specs.Rules.{misfit};
+ghost use Rattle.toml_names.specs.Rules.{may_follow};
 ghost use Rattle.toml_names.specs.View.{kind as kind_of};
 
 use crate::address::{Address, Step};
 use crate::hashing::NameHashing;
-use crate::name::Name;
 use crate::named::{Kind, Role};
-use crate::naming::part_name;
+use crate::naming::{own_name, spelled_name};
 use crate::node::{Node, Under};
 use crate::place::same_role;
+use crate::rules::may_follow;
 use std::alloc::{AllocError, Global};
+use std::borrow::CowStr;
 use toml_tree::Piece;
 
 /// A change of the nodes.
@@ -34,6 +38,15 @@ pub enum Change {
     ElementLinked(usize),
     /// This node had that mark, of that line.
     RoleNoted(usize, Role, usize),
+}
+
+/// Where a name leads from a node.
+#[derive(Clone, Copy, Drop)]
+pub enum Found {
+    /// To a node that was there.
+    Known(usize),
+    /// Nowhere before: to a new node.
+    New(usize),
 }
 
 /// Why a mention was not entered.
@@ -79,7 +92,7 @@ impl<'t> NameTree<'t> {
         ensures lookups { IfOk result (λ t. t.lookups ≡ 0) }
     {
         let mut nodes = Vec::new(alloc);
-        nodes.push(Node::leaf(alloc, hashing, Under::Root, 0, role, kind, 0))?;
+        nodes.push(Node::leaf(Under::Root, 0, role, kind, 0))?;
         Ok(NameTree {
             alloc,
             hashing,
@@ -89,17 +102,29 @@ impl<'t> NameTree<'t> {
         })
     }
 
-    /// The node of a name: the one look-up. It is counted, up to the greatest `u64`.
-    pub fn look(&mut self, at: usize, name: &str) -> Option<usize>
-        requires { at < vec_len self.old.nodes }
-        ensures found { (d : Spot) → result ≡ lookup (bytes_eq name.now) (slice_index_or self.old.nodes.items at d).children }
+    /// One look-up more, up to the greatest `u64`.
+    fn count_lookup(&mut self)
         ensures nodes { self.new.nodes ≡ self.old.nodes }
         ensures changes { self.new.changes ≡ self.old.changes }
         ensures counted { self.new.lookups ≡ min (self.old.lookups + 1) 18446744073709551615 }
         ensures rises { self.old.lookups ≤ self.new.lookups }
     {
         self.lookups = self.lookups.saturating_add(1);
-        self.nodes[at].child(name)
+    }
+
+    /// The node that a key part's name leads to from a node: a look-up, which is counted.
+    pub fn find(&mut self, at: usize, part: &Piece<'t>) -> Result<Option<usize>, AllocError>
+        requires within { at < vec_len self.old.nodes }
+        ensures found { IfOk result (λ to. (d : Spot) → lookup (bytes_eq (part_name (piece part.now))) (slice_index_or self.old.nodes.items at d).children ≡ to) }
+        ensures nodes { self.new.nodes ≡ self.old.nodes }
+        ensures changes { self.new.changes ≡ self.old.changes }
+        ensures counted { OnOk result (self.new.lookups ≡ min (self.old.lookups + 1) 18446744073709551615) }
+        ensures lookups { self.new.lookups ≤ self.old.lookups + 1 }
+        ensures rises { self.old.lookups ≤ self.new.lookups }
+    {
+        let name = spelled_name(self.alloc, part.text)?;
+        self.count_lookup();
+        Ok(self.nodes[at].child(name.as_str()))
     }
 
     /// The address of a node.
@@ -125,44 +150,46 @@ impl<'t> NameTree<'t> {
     {
         match self.nodes[id].under() {
             Under::Root => Ok(None),
-            Under::Name(above, part) => {
-                let name = part_name(self.alloc, &part)?;
+            Under::Name(above, text) => {
+                let name = own_name(self.alloc, text)?;
                 Ok(Some((above, Step::Name(name))))
             }
             Under::Index(above, index) => Ok(Some((above, Step::Index(index)))),
         }
     }
 
-    /// A new node, for a name that leads nowhere yet: what the key part means.
-    pub fn grow_name(
+    /// The node that a key part's name leads to, or else a new one for it: a look-up, which is counted.
+    pub fn find_or_grow(
         &mut self,
         above: usize,
-        name: Name,
         part: Piece<'t>,
         role: Role,
         kind: Kind<'t>,
         line: usize,
-    ) -> Result<usize, AllocError>
+    ) -> Result<Found, AllocError>
         requires within { above < vec_len self.old.nodes }
         requires tree { IsTree self.old.nodes.items }
-        requires meaning { name ≡ part_name (piece part) }
-        requires absent { (d : Spot) → lookup (bytes_eq name) (slice_index_or self.old.nodes.items above d).children ≡ None }
-        ensures grown { OnOk result ((d : Spot) → self.new.nodes.items ≡ grown self.old.nodes.items above (slice_index_or self.old.nodes.items above d) (steps.Name name) role (kind_of kind.entry) line) }
-        ensures id { IfOk result (λ id. id ≡ vec_len self.old.nodes) }
+        ensures led { IfOk result (IsFound self.old.nodes.items self.new.nodes.items above (part_name (piece part.entry)) role (kind_of kind.entry) line) }
         ensures kept { OnErr result (self.new.nodes.items ≡ self.old.nodes.items) }
         ensures can_undo { undone self.new.changes.items self.new.nodes.items ≡ undone self.old.changes.items self.old.nodes.items }
-        ensures lookups { self.new.lookups ≡ self.old.lookups }
+        ensures counted { OnOk result (self.new.lookups ≡ min (self.old.lookups + 1) 18446744073709551615) }
+        ensures lookups { self.new.lookups ≤ self.old.lookups + 1 }
+        ensures rises { self.old.lookups ≤ self.new.lookups }
     {
+        let name = spelled_name(self.alloc, part.text)?;
+        self.count_lookup();
         self.changes.reserve(1)?;
         self.nodes.reserve(1)?;
         let id = self.nodes.len();
         let node = &mut self.nodes[above];
         let depth = node.depth() + 1;
-        node.link_name(name.into_string(), id)?;
-        let under = Under::Name(above, part);
-        self.nodes.push(Node::leaf(self.alloc, self.hashing, under, depth, role, kind, line))?;
+        if let Some(known) = node.find_or_link(self.alloc, self.hashing, name, id)? {
+            return Ok(Found::Known(known));
+        }
+        let under = Under::Name(above, part.text);
+        self.nodes.push(Node::leaf(under, depth, role, kind, line))?;
         self.changes.push(Change::NameLinked(above))?;
-        Ok(id)
+        Ok(Found::New(id))
     }
 
     /// A new node, for the next element of an array.
@@ -188,9 +215,9 @@ impl<'t> NameTree<'t> {
         let node = &mut self.nodes[above];
         let depth = node.depth() + 1;
         let index = node.elements().len() as u64;
-        node.link_element(id)?;
+        node.link_element(self.alloc, id)?;
         let under = Under::Index(above, index);
-        self.nodes.push(Node::leaf(self.alloc, self.hashing, under, depth, role, kind, line))?;
+        self.nodes.push(Node::leaf(under, depth, role, kind, line))?;
         self.changes.push(Change::ElementLinked(above))?;
         Ok(id)
     }
@@ -215,6 +242,24 @@ impl<'t> NameTree<'t> {
         self.changes.push(Change::RoleNoted(at, before, of_line))?;
         let node = &mut self.nodes[at];
         node.remark(after, line);
+        Ok(())
+    }
+
+    /// Names a node once more, if that goes with its mark.
+    pub fn mention(&mut self, id: usize, role: Role, line: usize) -> Result<(), EnterFault>
+        requires within { id < vec_len self.old.nodes }
+        requires tree { IsTree self.old.nodes.items }
+        ensures noted { OnOk result ((d : Spot) → (may_follow (slice_index_or self.old.nodes.items id d).role role ≡ true)
+            × (self.new.nodes.items ≡ noted self.old.nodes.items id (slice_index_or self.old.nodes.items id d) role line)) }
+        ensures clash { IfErr result (λ e. (a : Steps) → e ≡ Clash a → (d : Spot) → (may_follow (slice_index_or self.old.nodes.items id d).role role ≡ false)
+            × (address_at self.old.nodes.items id ≡ a)) }
+        ensures can_undo { undone self.new.changes.items self.new.nodes.items ≡ undone self.old.changes.items self.old.nodes.items }
+        ensures lookups { self.new.lookups ≡ self.old.lookups }
+    {
+        if !may_follow(self.nodes[id].role(), role) {
+            return Err(EnterFault::Clash(self.address(id)?));
+        }
+        self.note(id, role, line)?;
         Ok(())
     }
 

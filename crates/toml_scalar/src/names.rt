@@ -1,4 +1,5 @@
 //! The names of key parts.
+ghost use Rattle.std.specs.Cow.{cow_str_bytes};
 ghost use Rattle.std.specs.Prelude.{◌≡◌, option_map, IfOk, string_bytes};
 ghost use Rattle.toml_text.specs.Source.{text_of, IsHeld};
 ghost use Rattle.toml_scalar.specs.Faults.{key_fault};
@@ -9,6 +10,7 @@ use crate::class::{bare_len, is_bare};
 use crate::fault::SyntaxFault;
 use crate::strings::{StringKind, kind_at, read_string};
 use std::alloc::{AllocError, Global};
+use std::borrow::CowStr;
 use toml_text::{Source, Span};
 
 /// The name of the key part that the span holds.
@@ -20,26 +22,29 @@ pub fn read_key(alloc: Global, source: Source<'_>, span: Span) -> Result<String,
 {
     let part = source.slice(span);
     match name_of(alloc, part)? {
-        Some(name) => Ok(name),
+        Some(name) => Ok(name.into_owned(alloc)?),
         None => Err(key_fault(part.as_bytes(), span.start)),
     }
 }
 
-/// The name of a text, if it is a key part: a bare key names itself, a one-line string its value.
+/// The name of a text, if it is a key part: a bare key names itself, and is lent; a one-line string names its value.
 ///
 /// `simple-key = quoted-key / unquoted-key`
 #[tactic(auto, unfolding(crate::specs::Values::name_of))]
-pub fn name_of(alloc: Global, part: &str) -> Result<Option<String>, AllocError>
-    ensures { IfOk result (λ name. option_map string_bytes name ≡ name_of part.now) }
+pub fn name_of<'t>(alloc: Global, part: &'t str) -> Result<Option<CowStr<'t, Global>>, AllocError>
+    ensures { IfOk result (λ name. option_map cow_str_bytes name ≡ name_of part.now) }
 {
     match part.as_bytes() {
         [first, ..] if is_bare(*first) => {
             if bare_len(part.as_bytes()) != part.len() {
                 return Ok(None);
             }
-            Ok(Some(String::from_str(alloc, part)?))
+            Ok(Some(CowStr::Borrowed(part)))
         }
-        _ => quoted_name(alloc, part),
+        _ => match quoted_name(alloc, part)? {
+            Some(name) => Ok(Some(CowStr::Owned(name))),
+            None => Ok(None),
+        },
     }
 }
 

@@ -4,6 +4,7 @@ ghost use Rattle.toml_tree.specs.ReadingValues.{gap_step, gap_at};
 ghost use Rattle.toml_tree.specs.Reads.{cursor, Moves, Reads, step};
 ghost use Rattle.toml_tree.specs.View.{piece, gap_line, gap};
 
+use crate::growing::push_sparing;
 use crate::piece::{Gap, GapLine, Piece};
 use crate::reader::Reader;
 use crate::step::Step;
@@ -35,7 +36,7 @@ impl<'t> Reader<'t> {
         let mut lines = Vec::new(alloc);
         loop {
             match self.gap_step()? {
-                Step::Next(line) => lines.push(line)?,
+                Step::Next(line) => push_sparing(&mut lines, line)?,
                 Step::Done(ws) => {
                     lines.shrink_to_fit();
                     return Ok(Gap { lines, ws });

@@ -6,6 +6,7 @@ ghost use Rattle.toml_tree.specs.Reading.{part_at, dotted_step, dotted_at, key_a
 ghost use Rattle.toml_tree.specs.Reads.{cursor, Moves, Reads, step};
 ghost use Rattle.toml_tree.specs.View.{piece, dotted, key, assign};
 
+use crate::growing::push_sparing;
 use crate::piece::Piece;
 use crate::reader::Reader;
 use crate::step::Step;
@@ -58,7 +59,7 @@ impl<'t> Reader<'t> {
         let mut parts = Vec::new(alloc);
         loop {
             match self.dotted_step()? {
-                Step::Next(part) => parts.push(part)?,
+                Step::Next(part) => push_sparing(&mut parts, part)?,
                 Step::Done(()) => {
                     parts.shrink_to_fit();
                     return Ok(parts);

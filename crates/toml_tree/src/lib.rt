@@ -3,6 +3,7 @@
 
 mod document;
 mod gaps;
+mod growing;
 mod headers;
 mod keys;
 pub mod laws;

@@ -8,3 +8,4 @@ pub mod Check
 pub mod Tagged
 pub mod Show
 pub mod Listing
+pub mod RunFaults

@@ -1,6 +1,8 @@
 //! `tomled`: reads and edits TOML documents, and keeps their layout.
 #![tactic(auto)]
 
+ghost use Rattle.std.specs.Prelude.{◌≡◌};
+
 mod check;
 mod document;
 pub mod laws;
@@ -43,7 +45,12 @@ enum RunFault {
 }
 
 impl RunFault {
-    fn status(self) -> u8 {
+    ghost use Rattle.tomled.specs.RunFaults.{status_of, told};
+
+    /// The exit status.
+    fn status(self) -> u8
+        ensures { result ≡ status_of self }
+    {
         match self {
             RunFault::Words => 2,
             RunFault::File => 3,
@@ -51,7 +58,10 @@ impl RunFault {
         }
     }
 
-    fn text(self) -> &'static str {
+    /// What standard error is told.
+    fn text(self) -> &'static str
+        ensures { result.now ≡ told self }
+    {
         match self {
             RunFault::Words => "bad words\n",
             RunFault::File => "file fault\n",
@@ -61,12 +71,21 @@ impl RunFault {
 }
 
 impl From<AllocError> for RunFault {
+    ghost use Rattle.tomled.specs.declared.RunFault.TheVariants.{Memory};
+
+    ghost from_gives = { λ _ fault. fault ≡ Memory };
+
     fn from(_error: AllocError) -> RunFault {
         RunFault::Memory
     }
 }
 
 impl From<io::Error> for RunFault {
+    ghost use Rattle.std.specs.IoError.{error_kind};
+    ghost use Rattle.tomled.specs.RunFaults.{fault_of_kind};
+
+    ghost from_gives = { λ error fault. fault ≡ fault_of_kind (error_kind error) };
+
     fn from(error: io::Error) -> RunFault {
         match error.kind() {
             io::ErrorKind::OutOfMemory => RunFault::Memory,

@@ -1,4 +1,4 @@
-use Rattle.std.proofs.Common.{◌+◌, ◌-◌, ◌*◌, take, vec_len}
+use Rattle.std.proofs.Common.{◌+◌, ◌-◌, ◌*◌, drop, take, vec_len}
 use Rattle.toml_names.proofs.NodeData.{ItemsAre, Fills}
 use Rattle.toml_names.proofs.tree.NameTree.+datum.Given as goal
 
@@ -15,5 +15,5 @@ decreases-array_datum l = 2 * (vec_len l.self.now.nodes - l.id)
 abbrev pub invariant-array_datum-loop-below : goal.invariant-array_datum-loop-below
 invariant-array_datum-loop-below l = ItemsAre l.self.nodes.items (take l.below-index l.elements) l.items.items
 
-abbrev pub invariant-table_datum-loop-name : goal.invariant-table_datum-loop-name
-invariant-table_datum-loop-name l = Fills l.self.nodes.items l.initial.name-iterator l.name-iterator l.members
+abbrev pub invariant-table_datum-loop-place : goal.invariant-table_datum-loop-place
+invariant-table_datum-loop-place l = Fills l.self.nodes.items l.names (drop l.place l.names) l.members

@@ -38,7 +38,7 @@ mention-requires-clause-within c =
     followed-within (part_name (piece c.args.key.now.first)) c.deref-dotted-items.result.now c.loop-dotted.dotted-index c.dotted-item.result c.loop-dotted-test.true c.dotted-item.is
     c.args.self.now.nodes.items now c.args.line (address_at c.args.self.now.nodes.items c.args.at) c.loop-dotted.here (part_name (piece c.loop-dotted.part)) c.loop-dotted.invariant.followed
     c.in-Some.id nowhere (c.in_ok-id.ensures.found nowhere ∙ c.in-Some.is) in
-    rw c.lead.ensures.nodes (omega arith)
+    rw c.find.ensures.nodes (omega arith)
 
 pub returns-in_err-mention-clause-clash : goal.returns-in_err-mention-clause-clash
 returns-in_err-mention-clause-clash c =
@@ -47,7 +47,7 @@ returns-in_err-mention-clause-clash c =
     let old = c.args.self.now.nodes.items in
     let now = c.loop-dotted.self.nodes.items in
     let at = address_at old c.args.at in
-    let same : c.lead.new.self.nodes.items ≡ now = ap (λ (w : Vec Node Global). w.items) c.lead.ensures.nodes in
+    let same : c.find.new.self.nodes.items ≡ now = ap (λ (w : Vec Node Global). w.items) c.find.ensures.nodes in
     rw (p.1, p.2)
     (λ a is.
     let step = subst (λ l. (may_follow (slice_index_or l c.in-Some.id nowhere).role Dotted ≡ false) × (address_at l c.in-Some.id ≡ a)) same (c.in_err-mention.ensures.clash a is nowhere) in
@@ -65,7 +65,7 @@ loop-dotted-preserved c =
     let then = c.mention.new.self.nodes.items in
     let id = c.in-Some.id in
     let at = address_at old c.args.at in
-    let same : c.lead.new.self.nodes.items ≡ now = ap (λ (w : Vec Node Global). w.items) c.lead.ensures.nodes in
+    let same : c.find.new.self.nodes.items ≡ now = ap (λ (w : Vec Node Global). w.items) c.find.ensures.nodes in
     let step = subst (λ l. (may_follow (slice_index_or l id nowhere).role Dotted ≡ true) × (then ≡ noted l id (slice_index_or l id nowhere) Dotted c.args.line)) same (c.in_ok-mention.ensures.noted nowhere) in
     record {
       followed = rw step.1
@@ -73,6 +73,6 @@ loop-dotted-preserved c =
           old now c.args.line at c.loop-dotted.here (part_name (piece c.loop-dotted.part)) c.loop-dotted.invariant.followed
           id nowhere (c.in_ok-id.ensures.found nowhere ∙ c.in-Some.is) step.0);
       can_undo = search rules;
-      lookups = omega (arith, c.mention.ensures.lookups, c.lead.ensures.lookups, c.loop-dotted.invariant.lookups);
-      rises = omega (arith, c.mention.ensures.lookups, c.lead.ensures.rises, c.loop-dotted.invariant.rises);
+      lookups = omega (arith, c.mention.ensures.lookups, c.find.ensures.lookups, c.loop-dotted.invariant.lookups);
+      rises = omega (arith, c.mention.ensures.lookups, c.find.ensures.rises, c.loop-dotted.invariant.rises);
     }

@@ -1,31 +1,31 @@
-use Rattle.std.proofs.Common.{◌≡◌, ◌∙◌, sym, ap, refl, length, true, false, slice_index_or, Some, arith}
-use Rattle.toml_names.specs.declared.address.Step.TheVariants.{Index}
-use Rattle.toml_names.specs.declared.named.Role.TheVariants.{Tables, Element}
-use Rattle.toml_names.specs.Mentions.{a_table}
-use Rattle.toml_names.specs.Nodes.{grown, noted}
-use Rattle.toml_names.proofs.EnterName.{tested}
-use Rattle.toml_names.proofs.NextTables.{adds_next, clash_next}
+use Rattle.std.proofs.Common.{◌<◌, ◌∙◌, ap, length, Some, arith}
+use Rattle.std.proofs.lemmas.Result.{err_from_is_err_and}
+use Rattle.toml_names.specs.Nodes.{nowhere}
+use Rattle.toml_names.proofs.NextTables.{noted_array-within, noted_array-tree, noted_array-adds, clash_next}
 use Rattle.toml_names.proofs.Suiting.{tables_before}
 use Rattle.toml_names.proofs.tree.NameTree.enter_next_table.Goals as goal
 
-pub returns-then-not-may_follow-clause-clash : goal.returns-then-not-may_follow-clause-clash
-returns-then-not-may_follow-clause-clash c = λ a same ms stands.
-    let old = c.args.self.now.nodes.items in
-    let v = c.index.result.now in
-    let bad = tested old old c.args.array v c.role.result Tables c.may_follow.result false refl c.index.ensures c.role.ensures c.may_follow.ensures c.if-not-may_follow.true in
-    let is : c.in_ok-address.field-0 ≡ a = cc in
-    clash_next old c.args.array v c.args.line (omega arith) bad ms stands ∙ ap Some (sym c.in_ok-address.ensures ∙ is)
+pub returns-in_err-mention-clause-clash : goal.returns-in_err-mention-clause-clash
+returns-in_err-mention-clause-clash c =
+    let p = err_from_is_err_and c.from_residual.result c.from_residual.ensures.1 in
+    rw (p.1, p.2)
+    (λ a is ms stands.
+    let clash = c.in_err-mention.ensures.clash a is nowhere in
+    clash_next c.args.self.now.nodes.items c.args.array nowhere c.args.line (omega arith) clash.0 ms stands ∙ ap Some clash.1)
+
+pub grow_element-requires-clause-within : goal.grow_element-requires-clause-within
+grow_element-requires-clause-within c =
+    let h : c.args.array < length c.mention.new.self.nodes.items =
+    noted_array-within c.args.self.now.nodes.items c.mention.new.self.nodes.items c.requires.tree c.args.array (omega arith) c.args.line (c.in_ok-mention.ensures.noted nowhere).1 in
+    omega arith
+
+pub grow_element-requires-clause-tree : goal.grow_element-requires-clause-tree
+grow_element-requires-clause-tree c =
+    noted_array-tree c.args.self.now.nodes.items c.mention.new.self.nodes.items c.requires.tree c.args.array (omega arith) c.args.line (c.in_ok-mention.ensures.noted nowhere).1
 
 pub returns-clause-adds : goal.returns-clause-adds
 returns-clause-adds c =
-    let old = c.args.self.now.nodes.items in
-    let id = c.args.array in
-    let v = c.index.result.now in
-    let goes = tested old old id v c.role.result Tables c.may_follow.result true refl c.index.ensures c.role.ensures c.may_follow.ensures c.if-not-may_follow.false in
-    let role = tables_before (slice_index_or old id v).role goes (c.requires.mention v) in
-    let mid = noted old id (slice_index_or old id v) Tables c.args.line in
-    let mid_is = c.in_ok-note.ensures.noted v in
-    let after : c.grow_element.new.self.nodes.items ≡ grown mid id (slice_index_or mid id v) (Index (length (slice_index_or mid id v).elements)) Element a_table c.args.line =
-    c.in_ok-grow_element.ensures.grown v ∙ ap (λ l. grown l id (slice_index_or l id v) (Index (length (slice_index_or l id v).elements)) Element a_table c.args.line) mid_is in
-    let count : c.in_ok-grow_element.field-0 ≡ length c.note.new.self.nodes.items = omega (arith, c.in_ok-grow_element.ensures.id) in
-    rw (after, count ∙ ap length mid_is) (adds_next old id v c.args.line (omega arith) role c.requires.tree v)
+    let again = c.in_ok-mention.ensures.noted nowhere in
+    noted_array-adds c.args.self.now.nodes.items c.mention.new.self.nodes.items c.requires.tree c.args.array (omega arith) c.args.line again.1
+    (tables_before _ again.0 (c.requires.mention nowhere))
+    c.grow_element.new.self.nodes.items c.in_ok-grow_element.field-0 (omega (arith, c.in_ok-grow_element.ensures.id)) (c.in_ok-grow_element.ensures.grown nowhere)

@@ -32,7 +32,7 @@ inner-here-requires-clause-within c =
     passed-within (part_name (piece c.args.key.now.first)) c.deref-dotted-items.result.now c.loop-dotted.dotted-index c.dotted-item.result c.loop-dotted-test.true c.dotted-item.is
     c.args.self.now.nodes.items now c.args.line c.loop-dotted.here (part_name (piece c.loop-dotted.part)) c.loop-dotted.invariant.passed
     c.in-Some.found nowhere (c.in_ok-found.ensures.found nowhere ∙ c.in-Some.is) in
-    rw c.lead.ensures.nodes (omega arith)
+    rw c.find.ensures.nodes (omega arith)
 
 pub returns-in-None-clause-fresh_table : goal.returns-in-None-clause-fresh_table
 returns-in-None-clause-fresh_table c =
@@ -59,7 +59,7 @@ returns-in_err-mention-clause-clash c =
     let first = part_name (piece c.args.key.now.first) in
     let now = c.loop-dotted.self.nodes.items in
     let id = c.inner-here.result in
-    let same : c.lead.new.self.nodes.items ≡ now = ap (λ (w : Vec Node Global). w.items) c.lead.ensures.nodes in
+    let same : c.find.new.self.nodes.items ≡ now = ap (λ (w : Vec Node Global). w.items) c.find.ensures.nodes in
     let inside = subst (λ l. (id < length l) × GoesOnAt l (address_at l c.in-Some.found) id) same (c.inner-here.ensures.within, c.inner-here.ensures.entered) in
     rw (p.1, p.2)
     (λ a is ms stands.
@@ -76,7 +76,7 @@ loop-dotted-preserved c =
     let now = c.loop-dotted.self.nodes.items in
     let then = c.mention.new.self.nodes.items in
     let id = c.inner-here.result in
-    let same : c.lead.new.self.nodes.items ≡ now = ap (λ (w : Vec Node Global). w.items) c.lead.ensures.nodes in
+    let same : c.find.new.self.nodes.items ≡ now = ap (λ (w : Vec Node Global). w.items) c.find.ensures.nodes in
     let inside = subst (λ l. (id < length l) × GoesOnAt l (address_at l c.in-Some.found) id) same (c.inner-here.ensures.within, c.inner-here.ensures.entered) in
     let step = subst (λ l. (may_follow (slice_index_or l id nowhere).role Passed ≡ true) × (then ≡ noted l id (slice_index_or l id nowhere) Passed c.args.line)) same (c.in_ok-mention.ensures.noted nowhere) in
     record {
@@ -85,6 +85,6 @@ loop-dotted-preserved c =
           c.args.self.now.nodes.items now c.args.line c.loop-dotted.here (part_name (piece c.loop-dotted.part)) c.loop-dotted.invariant.passed
           c.in-Some.found nowhere (c.in_ok-found.ensures.found nowhere ∙ c.in-Some.is) id inside.0 inside.1 step.0);
       can_undo = search rules;
-      lookups = omega (arith, c.mention.ensures.lookups, c.lead.ensures.lookups, c.loop-dotted.invariant.lookups);
-      rises = omega (arith, c.mention.ensures.lookups, c.lead.ensures.rises, c.loop-dotted.invariant.rises);
+      lookups = omega (arith, c.mention.ensures.lookups, c.find.ensures.lookups, c.loop-dotted.invariant.lookups);
+      rises = omega (arith, c.mention.ensures.lookups, c.find.ensures.rises, c.loop-dotted.invariant.rises);
     }

@@ -13,7 +13,7 @@ returns-in_err-part c =
     rw (p.1, p.2) (loop_failed dotted (λ u. u) dotted_step _ _ _ _ _ c.loop-parts.invariant c.in_err-part.ensures.reads (λ e. rw e refl))
 
 pub loop-parts-preserved : goal.loop-parts-preserved
-loop-parts-preserved c = loop_pushed dotted (λ u. u) dotted_step _ _ _ _ _ _ _ c.loop-parts.invariant c.in_ok-push-in-Next.ensures.items c.in_ok-part.ensures.reads c.in_ok-part.ensures.moves c.in-Next.is
+loop-parts-preserved c = loop_pushed dotted (λ u. u) dotted_step _ _ _ _ _ _ _ c.loop-parts.invariant c.in_ok-push_sparing-in-Next.ensures.items c.in_ok-part.ensures.reads c.in_ok-part.ensures.moves c.in-Next.is
 
 pub returns-in-Done : goal.returns-in-Done
 unfolding dotted_at

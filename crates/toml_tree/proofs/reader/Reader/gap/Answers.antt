@@ -13,7 +13,7 @@ returns-in_err-line c =
     rw (p.1, p.2) (loop_failed gap_line piece gap_step _ _ _ _ _ c.loop-lines.invariant c.in_err-line.ensures.reads (λ e. rw e refl))
 
 pub loop-lines-preserved : goal.loop-lines-preserved
-loop-lines-preserved c = loop_pushed gap_line piece gap_step _ _ _ _ _ _ _ c.loop-lines.invariant c.in_ok-push-in-Next.ensures.items c.in_ok-line.ensures.reads c.in_ok-line.ensures.moves c.in-Next.is
+loop-lines-preserved c = loop_pushed gap_line piece gap_step _ _ _ _ _ _ _ c.loop-lines.invariant c.in_ok-push_sparing-in-Next.ensures.items c.in_ok-line.ensures.reads c.in_ok-line.ensures.moves c.in-Next.is
 
 pub returns-in-Done : goal.returns-in-Done
 unfolding gap_at

@@ -1,0 +1,23 @@
+-- Why a run of the program has no outcome, and what it then tells.
+use Rattle.std.specs.Prelude.{ℕ, List, ◌∷◌, ◌++◌, [], codes}
+use Rattle.std.specs.declared.io.ErrorKind.{ErrorKind}
+use Rattle.std.specs.declared.io.ErrorKind.TheVariants.{OutOfMemory}
+use Rattle.tomled.specs.declared.RunFault.{RunFault}
+use Rattle.tomled.specs.declared.RunFault.TheVariants.{Words, File, Memory}
+
+-- what a failed read or write comes to, by its kind
+abbrev pub fault_of_kind : ErrorKind → RunFault
+fault_of_kind OutOfMemory = Memory
+fault_of_kind _ = File
+
+-- the exit status
+abbrev pub status_of : RunFault → ℕ
+status_of Words = 2
+status_of File = 3
+status_of Memory = 4
+
+-- the line on standard error
+abbrev pub told : RunFault → List ℕ
+told Words = codes "bad words" ++ 10 ∷ []
+told File = codes "file fault" ++ 10 ∷ []
+told Memory = codes "no memory" ++ 10 ∷ []
