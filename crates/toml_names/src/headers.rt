@@ -1,7 +1,5 @@
 //! Headers and whole lines entered into the tree of names.
 ghost use Rattle.std.specs.Prelude.{◌∷◌, ◌≡◌, ◌+◌, ◌<◌, ◌≤◌, ◌++◌, ℕ, List, length, OnOk, IfOk, IfErr, IfSome, IfNone, None, Some, slice_index_or, vec_len, []};
-ghost use Rattle.std.specs.Map.{lookup};
-ghost use Rattle.std.specs.Str.{bytes_eq};
 ghost use Rattle.toml_tree.specs.Lines.{line as tree_line};
 ghost use Rattle.toml_tree.specs.View.{piece, key as tree_key};
 ghost use Rattle.toml_names.specs.declared.named.Role.TheVariants.{Passed, Bare};
@@ -15,15 +13,13 @@ ghost use Rattle.toml_names.specs.LongKeys.{IsLongEntry};
 ghost use Rattle.toml_names.specs.Mentions as mentions;
 ghost use Rattle.toml_names.specs.Mentions.{table_at, entered, followed, ends_table, ends_tables, count_tables};
 ghost use Rattle.toml_names.specs.Names.{header_end};
-ghost use Rattle.toml_names.specs.NameTree.{IsTree, IsTreeOf, Enters, Passes, KeepsAddresses, LeadsTo, name_at};
+ghost use Rattle.toml_names.specs.NameTree.{IsTree, IsTreeOf, Enters, Passes, KeepsAddresses, LeadsTo};
 ghost use Rattle.toml_names.specs.EnteringHeaders.{EntersHeader, AddsTable};
 ghost use Rattle.toml_names.specs.Nodes.{Spot, address_at, undone};
 ghost use Rattle.toml_names.specs.Rules.{misfit};
 
 use crate::named::{Kind, Role};
-use crate::rules::may_follow;
 use crate::tree::{EnterFault, Found, NameTree};
-use std::alloc::AllocError;
 use toml_tree::{Expr, Key, Line, Piece};
 
 /// What a line leaves: the node of its value, table or element, if it is not blank, and that of the last header's

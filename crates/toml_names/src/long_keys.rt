@@ -1,8 +1,6 @@
 //! Lines whose key alone is too long for an address. Where a name of the key is new, so is all behind it: nothing there
 //! can clash, and the line is refused with no node for each of its parts.
-ghost use Rattle.std.specs.Prelude.{◌≡◌, ◌+◌, ◌<◌, ◌≤◌, true, false, ℕ, List, length, OnOk, IfOk, IfErr, IfSome, IfNone, IsTrue, slice_index_or, vec_len, []};
-ghost use Rattle.std.specs.Map.{lookup};
-ghost use Rattle.std.specs.Str.{bytes_eq};
+ghost use Rattle.std.specs.Prelude.{◌≡◌, ◌+◌, ◌<◌, ◌≤◌, ℕ, List, length, IfOk, IfErr, IfSome, IfNone, IsTrue, slice_index_or, vec_len, []};
 ghost use Rattle.toml_tree.specs.View.{piece, key as tree_key, value, keyval as tree_keyval};
 ghost use Rattle.toml_names.specs.declared.tree.EnterFault.TheVariants.{Clash};
 ghost use Rattle.toml_names.specs.Addresses.{Address as Steps, element, below};
@@ -15,14 +13,13 @@ ghost use Rattle.toml_names.specs.Mentions as mentions;
 ghost use Rattle.toml_names.specs.Mentions.{fronts, followed, ends_table, ends_tables, count_tables, pair_named};
 ghost use Rattle.toml_names.specs.Names.{header_end};
 ghost use Rattle.toml_names.specs.NameTree.{IsTree, IsTreeOf, Enters, Clashes, LeadsTo};
-ghost use Rattle.toml_names.specs.Nodes.{Spot, address_at, noted, undone};
-ghost use Rattle.toml_names.specs.Rules.{may_follow, misfit};
+ghost use Rattle.toml_names.specs.Nodes.{address_at, undone};
+ghost use Rattle.toml_names.specs.Rules.{misfit};
 
 use crate::named::{Kind, Role};
 use crate::naming::{kind_of, spelled_name};
-use crate::rules::{MAX_STEPS, may_follow};
+use crate::rules::MAX_STEPS;
 use crate::tree::{EnterFault, NameTree};
-use std::alloc::AllocError;
 use toml_tree::{Key, KeyVal, Piece, Value};
 
 impl<'t> NameTree<'t> {

@@ -173,7 +173,7 @@ fn insert_behind<'t>(
     name: CowStr<'t>,
     id: usize,
 ) -> Result<usize, AllocError>
-    ensures led { IfOk result (λ to. to ≡ unwrap_or (get same_name names.old name.entry) id) }
+    ensures found { IfOk result (λ to. to ≡ unwrap_or (get same_name names.old name.entry) id) }
     ensures entries { IfOk result (λ to. names.new.entries ≡ insert_entry same_name names.old.entries name.entry to) }
     ensures unchanged { OnErr result (names.new.entries ≡ names.old.entries) }
 {

@@ -98,7 +98,7 @@ impl<'t> Node<'t> {
         self.kind
     }
 
-    /// The line that made it so.
+    /// The first line that named it in the mark's role, from 0.
     pub fn line(&self) -> usize
         ensures { result ≡ self.now.line }
     {

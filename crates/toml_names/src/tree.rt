@@ -1,11 +1,9 @@
 //! The tree of names, and the changes that a line makes in it.
-ghost use Rattle.std.specs.Cow.{cow_str_bytes};
-ghost use Rattle.std.specs.Prelude.{◌∷◌, ◌≡◌, ◌+◌, ◌<◌, ◌≤◌, ℕ, List, length, min, string_bytes, true, false, None, Some, OnOk, OnErr, IfOk, IfErr, slice_index_or, vec_len, []};
+ghost use Rattle.std.specs.Prelude.{◌∷◌, ◌≡◌, ◌+◌, ◌<◌, ◌≤◌, ℕ, List, length, min, true, false, None, Some, OnOk, OnErr, IfOk, IfErr, slice_index_or, vec_len, []};
 ghost use Rattle.std.specs.Map.{lookup};
 ghost use Rattle.std.specs.Str.{bytes_eq};
 ghost use Rattle.toml_tree.specs.View.{piece};
 ghost use Rattle.toml_names.specs.declared.address.Step.TheVariants as steps;
-ghost use Rattle.toml_names.specs.declared.named.Role.{Role as Mark};
 ghost use Rattle.toml_names.specs.declared.named.Role.TheVariants.{Bare};
 ghost use Rattle.toml_names.specs.Addresses.{Address as Steps};
 ghost use Rattle.toml_names.specs.declared.tree.EnterFault.TheVariants.{Clash};
@@ -26,7 +24,6 @@ use crate::node::{Node, Under};
 use crate::place::same_role;
 use crate::rules::may_follow;
 use std::alloc::{AllocError, Global};
-use std::borrow::CowStr;
 use toml_tree::Piece;
 
 /// A change of the nodes.
@@ -169,7 +166,7 @@ impl<'t> NameTree<'t> {
     ) -> Result<Found, AllocError>
         requires within { above < vec_len self.old.nodes }
         requires tree { IsTree self.old.nodes.items }
-        ensures led { IfOk result (IsFound self.old.nodes.items self.new.nodes.items above (part_name (piece part.entry)) role (kind_of kind.entry) line) }
+        ensures found { IfOk result (IsFound self.old.nodes.items self.new.nodes.items above (part_name (piece part.entry)) role (kind_of kind.entry) line) }
         ensures kept { OnErr result (self.new.nodes.items ≡ self.old.nodes.items) }
         ensures can_undo { undone self.new.changes.items self.new.nodes.items ≡ undone self.old.changes.items self.old.nodes.items }
         ensures counted { OnOk result (self.new.lookups ≡ min (self.old.lookups + 1) 18446744073709551615) }

@@ -10,20 +10,20 @@ pub address-requires-clause-within : goal.address-requires-clause-within
 address-requires-clause-within c =
     let h : c.in-Known.id < length c.find_or_grow.new.self.nodes.items =
     known-within c.args.self.now.nodes.items c.find_or_grow.new.self.nodes.items c.requires.tree c.args.at (omega arith) (part_name (piece c.args.part))
-    c.in-Known.id (rw c.in-Known.is at c.in_ok-id.ensures.led) in
+    c.in-Known.id (rw c.in-Known.is at c.in_ok-id.ensures.found) in
     omega arith
 
 pub returns-in_ok-address-in-Known-clause-clash : goal.returns-in_ok-address-in-Known-clause-clash
 returns-in_ok-address-in-Known-clause-clash c = λ a same.
     let is : c.in_ok-address-in-Known.field-0 ≡ a = cc in
     Clashes-known_value c.args.self.now.nodes.items c.find_or_grow.new.self.nodes.items c.requires.tree c.args.at (omega arith) (part_name (piece c.args.part))
-    c.in-Known.id (rw c.in-Known.is at c.in_ok-id.ensures.led) (kind_of c.args.kind) c.args.line a (sym c.in_ok-address-in-Known.ensures ∙ is)
+    c.in-Known.id (rw c.in-Known.is at c.in_ok-id.ensures.found) (kind_of c.args.kind) c.args.line a (sym c.in_ok-address-in-Known.ensures ∙ is)
 
 -- the name of a new node
 new : (c : goal.In-New) → EntersName c.args.self.now.nodes.items c.find_or_grow.new.self.nodes.items c.args.at (part_name (piece c.args.part)) Valued (kind_of c.args.kind) c.args.line c.in-New.id
 new c =
     EntersName-new c.args.self.now.nodes.items c.find_or_grow.new.self.nodes.items c.requires.tree c.args.at (omega arith) (part_name (piece c.args.part))
-    c.in-New.id Valued (kind_of c.args.kind) c.args.line (rw c.in-New.is at c.in_ok-id.ensures.led) refl (λ e. cc)
+    c.in-New.id Valued (kind_of c.args.kind) c.args.line (rw c.in-New.is at c.in_ok-id.ensures.found) refl (λ e. cc)
 
 pub returns-in-New-clause-enters : goal.returns-in-New-clause-enters
 returns-in-New-clause-enters c = (new c).enters
@@ -33,7 +33,7 @@ returns-in-New-clause-leads c = (new c).leads
 
 pub returns-in-New-clause-lone : goal.returns-in-New-clause-lone
 returns-in-New-clause-lone c =
-    let led = rw c.in-New.is at c.in_ok-id.ensures.led in
+    let led = rw c.in-New.is at c.in_ok-id.ensures.found in
     (led.0, lone-led c.args.self.now.nodes.items c.find_or_grow.new.self.nodes.items c.requires.tree c.args.at (omega arith) (part_name (piece c.args.part)) c.in-New.id Valued (kind_of c.args.kind) c.args.line led)
 
 pub returns-in-New-clause-elements : goal.returns-in-New-clause-elements
