@@ -18,3 +18,6 @@ pub mod Ends
 pub mod Texts
 pub mod Taken
 pub mod Depths
+pub mod Parts
+pub mod Moved
+pub mod Inner
