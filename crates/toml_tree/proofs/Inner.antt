@@ -1,13 +1,13 @@
 -- What stands inside a tree that spells a text spells its own text at its own place.
-use Rattle.std.proofs.Common.{◌≡◌, ℕ, ◌+◌, ◌≤◌, ◌<◌, List, [], ◌∷◌, ◌++◌, length, max, refl, sym, ap, subst, ◌∙◌, arith, inl, inr, length-append}
+use Rattle.std.proofs.Common.{◌≡◌, ℕ, ◌+◌, ◌≤◌, ◌<◌, List, [], ◌∷◌, ◌++◌, length, refl, sym, ap, subst, arith, inl, inr}
 use Rattle.toml_scalar.specs.Tokens.{IsToken}
 use Rattle.toml_scalar.specs.declared.kind.ScalarKind.{ScalarKind}
 use Rattle.toml_scalar.proofs.Scanned.{token_first}
 use Rattle.toml_tree.specs.Inner.{SpellsItself, KeyValSpellsItself, ExprSpellsItself, IsKeyValOf, LinesInside, KeyValInside, ValueOfKeyVal, ValuesInside, KeyValsInside}
-use Rattle.toml_tree.specs.Laws.{IsItemOf, IsPairOf, IsIn}
+use Rattle.toml_tree.specs.Laws.{IsItemOf, IsPairOf}
 use Rattle.toml_tree.specs.Parts.{size}
-use Rattle.toml_tree.specs.Pieces.{piece_of, ValuePieceIsText, ValueHasByte, ValueStartsThere, KeyValStartsThere, ExprStartsThere}
-use Rattle.toml_tree.specs.Spells.{Part, piece, symbol, joined, Placed, EachIs, assign_parts, blank_parts, gap_parts, value_parts, items_parts, pairs_parts, keyval_parts, expr_parts, line_parts, lines_parts, IsAssign, IsValue, AreItems, ArePairs, IsKeyVal, IsExpr, AreLines, depth, items_depth, pairs_depth, max_depth, SpellsValue}
+use Rattle.toml_tree.specs.Pieces.{ValuePieceIsText, ValueHasByte, ValueStartsThere, KeyValStartsThere, ExprStartsThere}
+use Rattle.toml_tree.specs.Spells.{Part, piece, symbol, Placed, EachIs, assign_parts, blank_parts, gap_parts, value_parts, items_parts, pairs_parts, keyval_parts, expr_parts, line_parts, lines_parts, IsValue, AreItems, ArePairs, IsKeyVal, IsExpr, AreLines, depth, items_depth, pairs_depth, max_depth}
 use Rattle.toml_tree.specs.Tree.{Value, Scalar, Array, Empty, Inline, Items, Close, Last, More, Pairs, LastPair, MorePairs, Assign, KeyVal, Expr, BlankLine, KeyValLine, TableLine, ArrayTableLine, Line}
 use Rattle.toml_tree.proofs.Parts.{placed_front, placed_back, placed_both}
 use Rattle.toml_tree.proofs.Texts.{text_of_value}

@@ -21,3 +21,10 @@ pub mod Depths
 pub mod Parts
 pub mod Moved
 pub mod Inner
+pub mod Bared
+pub mod PutSame
+pub mod PutPlaced
+pub mod PutFormed
+pub mod Unmarked
+pub mod Put
+pub mod Proved

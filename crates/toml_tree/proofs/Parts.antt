@@ -1,5 +1,5 @@
 -- How many bytes parts have, and where some of them stand.
-use Rattle.std.proofs.Common.{◌≡◌, ℕ, ◌+◌, List, [], ◌∷◌, ◌++◌, length, sym, ap, subst, ◌∙◌, arith, length-append}
+use Rattle.std.proofs.Common.{◌≡◌, ℕ, ◌+◌, List, [], ◌∷◌, length, sym, ap, subst, ◌∙◌, arith, length-append}
 use Rattle.toml_tree.specs.Parts.{size, PartsJoin, SizesAdd, FrontIsPlaced, BackIsPlaced, BothArePlaced}
 use Rattle.toml_tree.specs.Spells.{Part, part_text, joined, Placed}
 use Rattle.toml_tree.proofs.Texts.{joined_append}

@@ -13,4 +13,7 @@ pub mod Pieces
 pub mod Parts
 pub mod Moved
 pub mod Inner
+pub mod Bare
+pub mod Places
+pub mod ViewLaws
 pub mod Reads

@@ -3,7 +3,7 @@ use Rattle.std.specs.Prelude.{◌≡◌, ℕ, ◌+◌, List, map, option_map}
 use Rattle.toml_tree.specs.Spells.{joined, value_parts, keyval_parts, expr_parts, SpellsValue, SpellsKeyVal, SpellsExpr}
 use Rattle.toml_tree.specs.Tree.{Piece, Blank, Dotted, Key, Assign, GapLine, Gap, Value, Scalar, Array, Empty, Inline, Items, Close, Last, More, Pairs, LastPair, MorePairs, KeyVal, Header, Expr, BlankLine, KeyValLine, TableLine, ArrayTableLine}
 
--- each piece starts n further behind
+-- a piece that starts n further behind, and what is made of such pieces
 module _ (n : ℕ) where
   abbrev pub moved_piece : Piece → Piece
   moved_piece p = record { start = p.start + n; text = p.text }
