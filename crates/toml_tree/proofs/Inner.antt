@@ -2,7 +2,7 @@
 use Rattle.std.proofs.Common.{◌≡◌, ℕ, ◌+◌, ◌≤◌, ◌<◌, List, [], ◌∷◌, ◌++◌, length, refl, sym, ap, subst, arith, inl, inr}
 use Rattle.toml_scalar.specs.Tokens.{IsToken}
 use Rattle.toml_scalar.specs.declared.kind.ScalarKind.{ScalarKind}
-use Rattle.toml_scalar.proofs.Scanned.{token_first}
+use Rattle.toml_scalar.proofs.Proved.{token_first}
 use Rattle.toml_tree.specs.Inner.{SpellsItself, KeyValSpellsItself, ExprSpellsItself, IsKeyValOf, LinesInside, KeyValInside, ValueOfKeyVal, ValuesInside, KeyValsInside}
 use Rattle.toml_tree.specs.Laws.{IsItemOf, IsPairOf}
 use Rattle.toml_tree.specs.Parts.{size}

@@ -3,7 +3,7 @@ use Rattle.std.proofs.Common.{◌≡◌, inl, inr, ℕ, ◌==◌, ◌&&◌, Bool
 use Rattle.toml_text.specs.Bytes.{is_ws}
 use Rattle.toml_text.specs.Forms.{IsWs, IsNewline, IsComment}
 use Rattle.toml_scalar.specs.Names.{IsKeyPart}
-use Rattle.toml_scalar.proofs.Keys.{part_first}
+use Rattle.toml_scalar.proofs.Proved.{part_first}
 use Rattle.toml_scalar.specs.Scanning.{is_key_start}
 use Rattle.toml_text.specs.Runs.{begins}
 use Rattle.toml_tree.specs.Places.{LinesHaveNoMark}
