@@ -57,7 +57,7 @@ value_len-le bs =
     let within : n ≤ length bs = (run_piece is_value_byte bs).0 in
     elim (is_date_shape (take n bs) && goes_on (drop n bs)) as (λ t. (is_date_shape (take n bs) && goes_on (drop n bs)) ≡ t → cond t (n + 1 + run_len is_value_byte (drop (n + 1) bs)) n ≤ length bs) [
       | true ↦ λ e.
-          let two : 2 ≤ length (drop n bs) = goes_on_two (drop n bs) (and_parts _ _ e).1 in
+          let two : 2 ≤ length (drop n bs) = goes_on_two (drop n bs) (and_parts (is_date_shape (take n bs)) (goes_on (drop n bs)) e).1 in
           omega (arith, two, length-drop n bs, (run_piece is_value_byte (drop (n + 1) bs)).0, length-drop (n + 1) bs)
       | false ↦ λ e. within
     ] refl
