@@ -10,7 +10,7 @@ use Rattle.std.specs.Str.{IsAscii}
 use Rattle.toml_text.specs.Bytes.{is_digit}
 use Rattle.toml_text.specs.Forms.{Each}
 use Rattle.toml_text.specs.Runs.{begins}
-use Rattle.toml_text.proofs.Found.{run_found}
+use Rattle.toml_text.proofs.Proved.{run_found}
 use Rattle.toml_scalar.specs.Runs.{is_value_byte}
 use Rattle.toml_scalar.specs.Integers.{AreDigits, IsDecimal}
 use Rattle.toml_scalar.specs.IntegerRuns.{is_sign, are_digits, is_decimal}

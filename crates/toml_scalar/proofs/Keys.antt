@@ -9,7 +9,7 @@ use Rattle.std.proofs.Math.Seq.{take-append_seam}
 use Rattle.toml_text.specs.Bytes.{is_bare}
 use Rattle.toml_text.specs.Forms.{Each}
 use Rattle.toml_text.specs.Runs.{run_len, begins, is_byte}
-use Rattle.toml_text.proofs.Found.{run_piece, run_found}
+use Rattle.toml_text.proofs.Proved.{run_piece, run_found}
 use Rattle.toml_scalar.specs.Names.{IsBareKey, IsKeyPart}
 use Rattle.toml_scalar.specs.ScanLaws.{PartBegins}
 use Rattle.toml_scalar.specs.Scanning.{key_part_len, one_line_len, is_key_start}

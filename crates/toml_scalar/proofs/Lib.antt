@@ -9,6 +9,7 @@ pub mod Dates
 pub mod Times
 pub mod Moments
 pub mod MomentTexts
+pub mod Newlines
 pub mod StringSpaces
 pub mod StringPieces
 pub mod StringSteps
@@ -34,3 +35,4 @@ pub mod ScalarValues
 pub mod NameValues
 pub mod OneKind
 pub mod LongestPart
+pub mod Proved

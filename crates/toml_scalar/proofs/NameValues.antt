@@ -7,7 +7,7 @@ use Rattle.std.proofs.lemmas.Option.{none-some, option_and_then_some}
 use Rattle.toml_text.specs.Bytes.{is_bare}
 use Rattle.toml_text.specs.Forms.{Each}
 use Rattle.toml_text.specs.Runs.{run_len, begins}
-use Rattle.toml_text.proofs.Found.{run_piece, run_found}
+use Rattle.toml_text.proofs.Proved.{run_piece, run_found}
 use Rattle.toml_scalar.specs.Names.{IsBareKey}
 use Rattle.toml_scalar.specs.Strings.{StringPiece, MeansString}
 use Rattle.toml_scalar.specs.StringRuns.{StringToken, string_at, kind_at, token_of, marks_len, string_value, is_multi_line, pieces_from, step_of, first_len}

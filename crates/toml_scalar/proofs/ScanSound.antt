@@ -4,7 +4,8 @@ use Rattle.std.proofs.lemmas.Bool.{false≢true, and_parts, cond-true, cond-fals
 use Rattle.std.proofs.lemmas.Option.{none-some, same_Some}
 use Rattle.toml_text.specs.Runs.{run_len, begins}
 use Rattle.toml_text.specs.Forms.{Each}
-use Rattle.toml_text.proofs.Found.{run_piece}
+use Rattle.toml_text.proofs.Proved.{run_piece, begins_other, begins_more}
+use Rattle.toml_scalar.specs.ScanLaws.{ScanIsLongest}
 use Rattle.toml_scalar.specs.Runs.{is_value_byte}
 use Rattle.toml_scalar.specs.Booleans.{is_bool}
 use Rattle.toml_scalar.specs.FloatRuns.{is_float}
@@ -23,7 +24,7 @@ use Rattle.toml_scalar.proofs.Digits.{either}
 use Rattle.toml_scalar.proofs.Floats.{float_sound, float_run, float_some}
 use Rattle.toml_scalar.proofs.Integers.{integer_sound, integer_run, integer_some}
 use Rattle.toml_scalar.proofs.Moments.{moment_sound, moment_run}
-use Rattle.toml_scalar.proofs.Scanned.{run_len-append, spaced_len, moment_some, value_no_mark, begins_other, string_first, begins_more, mark_is}
+use Rattle.toml_scalar.proofs.Scanned.{run_len-append, spaced_len, moment_some, value_no_mark, string_first, mark_is}
 use Rattle.toml_scalar.proofs.StringLaws.{string_sound, string_longest}
 
 pub option_map_some : {A B : Type 0} (f : A → B) (o : Option A) (y : B) → option_map f o ≡ Some y → (x : A) × (o ≡ Some x) × (f x ≡ y)
@@ -56,7 +57,7 @@ value_len-le bs =
     let within : n ≤ length bs = (run_piece is_value_byte bs).0 in
     elim (is_date_shape (take n bs) && goes_on (drop n bs)) as (λ t. (is_date_shape (take n bs) && goes_on (drop n bs)) ≡ t → cond t (n + 1 + run_len is_value_byte (drop (n + 1) bs)) n ≤ length bs) [
       | true ↦ λ e.
-          let two : 2 ≤ length (drop n bs) = goes_on_two (drop n bs) (and_parts _ _ e).1 in
+          let two : 2 ≤ length (drop n bs) = goes_on_two (drop n bs) (and_parts (is_date_shape (take n bs)) (goes_on (drop n bs)) e).1 in
           omega (arith, two, length-drop n bs, (run_piece is_value_byte (drop (n + 1) bs)).0, length-drop (n + 1) bs)
       | false ↦ λ e. within
     ] refl
@@ -121,3 +122,6 @@ module _ (k : ScalarKind) (t r : List ℕ) (n : ℕ) (found : scan_at (t ++ r) �
   scan_longest kinds.Float is = run (float_some t r is) (plain_longest t r (float_run t is))
   scan_longest kinds.Bool is = run (bool_some t r is) (plain_longest t r (bool_run t is))
   scan_longest (kinds.Moment m) is = run (moment_some t r m is) (⊎_elim (λ (e : Each is_value_byte t). plain_longest t r e) (λ (s : IsSpaced t). spaced_longest t r s) (moment_run t m is))
+
+pub scan_is_longest : ScanIsLongest
+scan_is_longest token rest n found kind is = scan_longest found token rest n is kind

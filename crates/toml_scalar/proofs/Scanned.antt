@@ -6,7 +6,7 @@ use Rattle.std.proofs.Math.Seq.{take-append_seam, drop-append_seam, drop-append-
 use Rattle.toml_text.specs.Bytes.{is_digit, is_ws}
 use Rattle.toml_text.specs.Forms.{Each}
 use Rattle.toml_text.specs.Runs.{run_len, begins, is_byte}
-use Rattle.toml_text.proofs.Found.{run_found}
+use Rattle.toml_text.proofs.Proved.{run_found, begins_other, begins_more}
 use Rattle.toml_scalar.specs.Runs.{is_value_byte}
 use Rattle.toml_scalar.specs.Booleans.{is_bool}
 use Rattle.toml_scalar.specs.FloatRuns.{is_float}
@@ -169,10 +169,6 @@ value_no_ws b h = grind (arith, nat_tests)
 digit_value : (b : ℕ) → is_digit b ≡ true → is_value_byte b ≡ true
 digit_value b h = grind (arith, nat_tests)
 
-pub begins_other : (p q : ℕ → Bool) (bs : List ℕ) → ((b : ℕ) → p b ≡ true → q b ≡ false) → begins p bs ≡ true → begins q bs ≡ false
-begins_other p q [] h e = refl
-begins_other p q (b ∷ bs) h e = h b e
-
 pub moment_some : (bs rest : List ℕ) (k : MomentKind) → IsMoment k bs → begins is_value_byte (bs ++ rest) ≡ true
 moment_some bs rest k h = first (moment_first bs k h)
   where
@@ -200,10 +196,6 @@ mark_is MultiLineLiteral b h = no_matter (eqb b 0x22) (eqb b 0x27) h
     no_matter : (x y : Bool) → y ≡ true → (x || y) ≡ true
     no_matter true y e = refl
     no_matter false y e = e
-
-pub begins_more : (p q : ℕ → Bool) (bs : List ℕ) → ((b : ℕ) → p b ≡ true → q b ≡ true) → begins p bs ≡ true → begins q bs ≡ true
-begins_more p q [] h e = absurd (false≢true e)
-begins_more p q (b ∷ bs) h e = h b e
 
 -- what a token begins with
 pub token_starts : (k : ScalarKind) (t rest : List ℕ) → IsToken k t → (begins is_mark (t ++ rest) ≡ true) ⊎ (begins is_value_byte (t ++ rest) ≡ true)

@@ -6,8 +6,7 @@ use Rattle.std.proofs.lemmas.Bool.Decides.{nat_tests}
 use Rattle.std.proofs.lemmas.List.{append-nil, drop_at, length-replicate, length-take-le}
 use Rattle.toml_text.specs.Bytes.{is_basic, is_literal}
 use Rattle.toml_text.specs.Runs.{run_len, begins, is_byte, newline_len}
-use Rattle.toml_text.proofs.Runs.{run_len-le}
-use Rattle.toml_text.proofs.Newlines.{newline_len-le}
+use Rattle.toml_text.proofs.Proved.{newlines_piece, run_piece}
 use Rattle.toml_scalar.specs.Strings.{StringPiece, Plain, Newline, piece_text, pieces_text, quote_of, IsBasicPiece, IsMultiLineBasicPiece, IsLiteralPiece, IsMultiLineLiteralPiece}
 use Rattle.toml_scalar.specs.StringRuns.{Next, Last, next_one, one_step, marks_step, three_step, pieces_from, step_of, marks_len, is_multi_line, body_len, escape_at, multi_line_escape_at, newline_at, basic_at, literal_at, multi_line_basic_at, multi_line_literal_at}
 use Rattle.toml_scalar.specs.StringScan.{behind_len, longer_by, Advances}
@@ -118,7 +117,7 @@ plain_run kind (suc n) (b ∷ bs) h =
     omega_one n = omega arith
 
 pub plain_advances : (kind : StringKind) (n : ℕ) (bs : List ℕ) → n ≡ run_len (is_plain kind) bs → 0 < n → Advances kind bs (Some (More n))
-plain_advances kind n bs e some = (plain_run kind n bs (omega arith), some, omega (arith, run_len-le (is_plain kind) bs))
+plain_advances kind n bs e some = (plain_run kind n bs (omega arith), some, omega (arith, (run_piece (is_plain kind) bs).0))
 
 -- what a piece of a kind is
 abbrev IsPieceOf : StringKind → StringPiece → Type 0
@@ -230,7 +229,7 @@ newline_or_none kind zero bs e mark is = piece_none kind bs mark is
 newline_or_none kind (suc n) bs e mark is =
     let some : eqb (suc n) 0 ≡ false = ne_eqb (suc n) 0 (λ z. omega arith) in
     subst (Advances kind bs) (sym (cond-false _ _ _ some))
-    (piece_advances kind bs (Newline (take (suc n) bs)) (suc n) mark (is ∙ cond-false _ _ _ some) (length-take-le (suc n) bs (omega (arith, newline_len-le bs))))
+    (piece_advances kind bs (Newline (take (suc n) bs)) (suc n) mark (is ∙ cond-false _ _ _ some) (length-take-le (suc n) bs (omega (arith, (newlines_piece bs).0))))
 
 -- marks
 
@@ -268,7 +267,7 @@ marks_advance kind n bs multi three some is run =
     let mark : ℕ = quote_of kind in
     let step : step_of kind bs ≡ Some (marks_step mark n) = three_marks kind bs multi some is ∙ ap (λ m. Some (marks_step mark m)) (sym run) in
     let first : 0 < run_len (is_byte mark) bs = run_some mark bs (mark_begins mark bs some is) in
-    let within : run_len (is_byte mark) bs ≤ length bs = run_len-le (is_byte mark) bs in
+    let within : run_len (is_byte mark) bs ≤ length bs = (run_piece (is_byte mark) bs).0 in
     cond_both (nat_le n 2) (More n) (End (min n 5)) (λ a. Advances kind bs (Some a))
     (λ e. body_next kind (replicate n (Plain mark)) bs (drop n bs) n (step ∙ ap Some (cond-true _ _ _ e)) (marks_front mark n bs (omega arith) ∙ ap (λ l. l ++ drop n bs) (sym (marks_text mark n))) (marks_count mark n) (omega arith))
     (λ e.

@@ -5,7 +5,7 @@ use Rattle.std.proofs.lemmas.Bool.{cond_both, eqb-true, cond-true, cond-false, l
 use Rattle.std.proofs.lemmas.List.{append-nil, replicate-append-replicate}
 use Rattle.toml_text.specs.Bytes.{is_ws}
 use Rattle.toml_text.specs.Runs.{run_len, begins, is_byte, newline_len}
-use Rattle.toml_text.proofs.Found.{newline_found}
+use Rattle.toml_text.proofs.Proved.{newline_found}
 use Rattle.toml_scalar.specs.Strings.{StringPiece, Plain, Escape, UnicodeEscape, Newline, Dropped, piece_text, pieces_text, EachPiece, BeginsWithThree, NoThree, Stops, LongestDropped, three}
 use Rattle.toml_scalar.specs.StringRuns.{Step, Next, Last, next_one, one_step, marks_step, three_step, pieces_from}
 use Rattle.toml_scalar.proofs.StringSteps.{behind, StepIs, PiecesAre, pieces_next, pieces_last, pieces_sound}

@@ -11,13 +11,12 @@ use Rattle.std.proofs.lemmas.List.{length-take-le}
 use Rattle.toml_text.specs.Bytes.{is_ws, is_hex}
 use Rattle.toml_text.specs.Forms.{Each}
 use Rattle.toml_text.specs.Runs.{run_len, newline_len}
-use Rattle.toml_text.proofs.Runs.{run_len-le, run_most}
+use Rattle.toml_text.proofs.Proved.{newlines_piece, run_most, run_piece}
 use Rattle.toml_scalar.specs.Integers.{digits_value}
 use Rattle.toml_scalar.specs.Strings.{StringPiece, Escape, UnicodeEscape, escaped}
 use Rattle.toml_scalar.specs.StringRuns.{hex_after, is_scalar_value, unicode_at, is_escape, escape_at, spaces_len, dropped_len, dropped, multi_line_escape_at}
 use Rattle.toml_scalar.specs.declared.strings.escapes.EscapedChar.{EscapedChar}
 use Rattle.toml_scalar.specs.StringScan.{behind_len, escaped_char}
-use Rattle.toml_text.proofs.Newlines.{newline_len-le}
 use Rattle.toml_scalar.proofs.StringSpaces.{spaces_len-le}
 use Rattle.toml_scalar.proofs.StringPieces.{each_hex}
 
@@ -78,7 +77,7 @@ scalar_same n = elim (nat_lt n 0xD800) as (λ t. cond t true (nat_le 0xE000 n &&
 module _ (u n : ℕ) (bs : List ℕ) where
   pub unicode_short : length bs < n → unicode_at u n bs ≡ None
   unfolding unicode_at
-  unicode_short h = cond-false _ _ _ (and_left _ _ (lt-leb n (run_len is_hex bs) (omega (arith, run_len-le is_hex bs))))
+  unicode_short h = cond-false _ _ _ (and_left _ _ (lt-leb n (run_len is_hex bs) (omega (arith, (run_piece is_hex bs).0))))
 
   pub unicode_other : hex_after 0 (take n bs) ≡ None → unicode_at u n bs ≡ None
   unfolding unicode_at
@@ -166,8 +165,8 @@ is_dropped bs n e some =
         arith,
         length-append (take ws bs) (take line (drop ws bs) ++ take spaces (drop line (drop ws bs))),
         length-append (take line (drop ws bs)) (take spaces (drop line (drop ws bs))),
-        length-take-le ws bs (run_len-le is_ws bs),
-        length-take-le line (drop ws bs) (newline_len-le (drop ws bs)),
+        length-take-le ws bs (run_piece is_ws bs).0,
+        length-take-le line (drop ws bs) (newlines_piece (drop ws bs)).0,
         length-take-le spaces (drop line (drop ws bs)) (spaces_len-le (drop line (drop ws bs))),
       ))
     ] e

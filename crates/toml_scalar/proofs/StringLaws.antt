@@ -109,8 +109,8 @@ pub value_means : ValueIsMeant
 unfolding string_value
 value_means text value e = value_of text value (string_at text) (string_at_sound text) e
 
-pub one_kind : OneStringKind
-one_kind j k text is_j is_k =
+pub one_string_kind : OneStringKind
+one_string_kind j k text is_j is_k =
     let a = whole_at j text is_j.0 is_j.1 in
     let b = whole_at k text is_k.0 is_k.1 in
     let same : ◌≡◌ {A = Option StringToken} (Some (record { kind = j; first = is_j.1.0; pieces = is_j.1.1 })) (Some (record { kind = k; first = is_k.1.0; pieces = is_k.1.1 })) = sym a ∙ b in
@@ -119,8 +119,8 @@ one_kind j k text is_j is_k =
     kinds : (s t : StringToken) → ◌≡◌ {A = Option StringToken} (Some s) (Some t) → s.kind ≡ t.kind
     kinds s t e = let same : s ≡ t = cc in ap (λ (x : StringToken). x.kind) same
 
-pub one_value : OneStringValue
-one_value j k text v w means_v means_w =
+pub one_string_value : OneStringValue
+one_string_value j k text v w means_v means_w =
     let a = value_found j text v means_v in
     let b = value_found k text w means_w in
     let same : ◌≡◌ {A = Option (List ℕ)} (Some v) (Some w) = sym a ∙ b in

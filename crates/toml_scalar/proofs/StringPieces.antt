@@ -7,9 +7,8 @@ use Rattle.std.proofs.lemmas.List.{take-append-drop, take-take, take_at, drop_at
 use Rattle.toml_text.specs.Bytes.{is_ws, is_hex, is_basic, is_literal}
 use Rattle.toml_text.specs.Forms.{Each, IsWs, IsNewline}
 use Rattle.toml_text.specs.Runs.{run_len, begins, is_byte, newline_len}
-use Rattle.toml_text.proofs.Runs.{run_len-le, run_each, run_most}
-use Rattle.toml_text.proofs.Newlines.{newline_piece, newline_len-le}
-use Rattle.toml_text.proofs.Found.{run_found, newline_found}
+use Rattle.toml_scalar.proofs.Newlines.{newline_there}
+use Rattle.toml_text.proofs.Proved.{run_found, newline_found, newlines_piece, run_most, run_piece}
 use Rattle.toml_scalar.specs.Integers.{digits_value}
 use Rattle.toml_scalar.specs.Strings.{StringPiece, Plain, Escape, UnicodeEscape, Newline, Dropped, piece_text, IsEscape, IsScalarValue, IsUnicodeEscape, AreSpaces, IsBasicPiece, IsMultiLineBasicPiece, IsLiteralPiece, IsMultiLineLiteralPiece}
 use Rattle.toml_scalar.specs.StringRuns.{is_escape, is_scalar_value, unicode_at, escape_at, spaces_len, dropped, multi_line_escape_at, basic_at, literal_at, newline_at, multi_line_basic_at, multi_line_literal_at}
@@ -56,7 +55,7 @@ each_front p [] (suc n) h = tt
 each_front p (x ∷ xs) (suc n) h = (h.0, each_front p xs n h.1)
 
 pub each_hex : (bs : List ℕ) (n : ℕ) → n ≤ run_len is_hex bs → Each is_hex (take n bs)
-each_hex bs n h = subst (Each is_hex) (take-take n (run_len is_hex bs) bs h) (each_front is_hex (take (run_len is_hex bs) bs) n (run_each is_hex bs))
+each_hex bs n h = subst (Each is_hex) (take-take n (run_len is_hex bs) bs h) (each_front is_hex (take (run_len is_hex bs) bs) n (run_piece is_hex bs).1)
 
 abbrev pub IsUnicodeLetter : ℕ → ℕ → Type 0
 IsUnicodeLetter u n = ((u ≡ 0x75) × (n ≡ 4)) ⊎ ((u ≡ 0x55) × (n ≡ 8))
@@ -67,7 +66,7 @@ unicode_sound mark u n bs letter = some_cond _ _ _ _
     (λ e.
     let p = and_parts (nat_le n (run_len is_hex bs)) (is_scalar_value (digits_value 16 (take n bs))) e in
     let enough : n ≤ run_len is_hex bs = leb-true n (run_len is_hex bs) p.0 in
-    let count : length (take n bs) ≡ n = length-take-le n bs (omega (arith, run_len-le is_hex bs)) in
+    let count : length (take n bs) ≡ n = length-take-le n bs (omega (arith, (run_piece is_hex bs).0)) in
     record {
       is = (rw count letter, each_hex bs n enough, scalar_is _ p.1);
       other = refl;
@@ -108,7 +107,7 @@ dropped_is mark ws bs w more =
     let line : ℕ = newline_len at in
     let n : ℕ = spaces_len (drop line at) in
     record {
-      is = (rw w (run_each is_ws bs), newline_piece at more, spaces_are (drop line at));
+      is = (rw w (run_piece is_ws bs).1, newline_there at more, spaces_are (drop line at));
       other = refl;
       more = omega arith;
       rest = drop n (drop line at);
@@ -130,9 +129,9 @@ newline_sound P mark bs f = some_cond (eqb (newline_len bs) 0) _ _ _
     (λ e.
     let more : 0 < newline_len bs = positive _ e in
     record {
-      is = f (take (newline_len bs) bs) (newline_piece bs more);
+      is = f (take (newline_len bs) bs) (newline_there bs more);
       other = refl;
-      more = omega (arith, length-take-le (newline_len bs) bs (newline_len-le bs));
+      more = omega (arith, length-take-le (newline_len bs) bs (newlines_piece bs).0);
       rest = drop (newline_len bs) bs;
       text = sym (take-append-drop (newline_len bs) bs);
       ends = tt;

@@ -3,8 +3,7 @@ use Rattle.std.proofs.Common.{◌≡◌, ℕ, ◌+◌, ◌-◌, ◌≤◌, List,
 use Rattle.std.specs.Prelude.{IfSome, option_map}
 use Rattle.std.proofs.lemmas.List.{take_rest, length-take-le}
 use Rattle.toml_text.specs.Runs.{is_byte, newline_len}
-use Rattle.toml_text.proofs.Newlines.{newline_len-le}
-use Rattle.toml_text.proofs.Runs.{run_len-le}
+use Rattle.toml_text.proofs.Proved.{newlines_piece, run_piece}
 use Rattle.toml_scalar.specs.Strings.{StringPiece, pieces_text, quote_of, three}
 use Rattle.toml_scalar.specs.StringRuns.{pieces_from, step_of, marks_len, first_len, body_len, kind_at, token_of, string_at, token_len, string_len}
 use Rattle.toml_scalar.specs.StringScan.{longer_by}
@@ -20,10 +19,10 @@ lens Basic bs (Some ps) = ap Some (omega (arith, length-append (pieces_text ps) 
 lens Literal bs (Some ps) = ap Some (omega (arith, length-append (pieces_text ps) (0x27 ∷ [])))
 lens MultiLineBasic bs (Some ps) =
     let n : ℕ = newline_len bs in
-    ap Some (omega (arith, length-append (take n bs) (pieces_text ps ++ three 0x22), length-append (pieces_text ps) (three 0x22), length-take-le n bs (newline_len-le bs)))
+    ap Some (omega (arith, length-append (take n bs) (pieces_text ps ++ three 0x22), length-append (pieces_text ps) (three 0x22), length-take-le n bs (newlines_piece bs).0))
 lens MultiLineLiteral bs (Some ps) =
     let n : ℕ = newline_len bs in
-    ap Some (omega (arith, length-append (take n bs) (pieces_text ps ++ three 0x27), length-append (pieces_text ps) (three 0x27), length-take-le n bs (newline_len-le bs)))
+    ap Some (omega (arith, length-append (take n bs) (pieces_text ps ++ three 0x27), length-append (pieces_text ps) (three 0x27), length-take-le n bs (newlines_piece bs).0))
 
 token_lens : (kind : StringKind) (bs : List ℕ) → option_map token_len (token_of kind bs) ≡ longer_by (marks_len kind + first_len kind bs) (body_len kind (drop (first_len kind bs) bs))
 unfolding body_len
@@ -40,7 +39,7 @@ string_len_none bs e = rw e refl
 pub kind_within : (kind : StringKind) (bs : List ℕ) → kind_at bs ≡ Some kind → marks_len kind ≤ length bs
 kind_within kind bs e =
     let opens : Opens bs kind = subst (λ o. IfSome o (Opens bs)) e (kind_opens bs) in
-    omega (arith, run_len-le (is_byte (quote_of kind)) bs)
+    omega (arith, (run_piece (is_byte (quote_of kind)) bs).0)
 
 -- what the code adds up, by the slices that it takes
 abbrev tail_of : ℕ → List ℕ → List ℕ

@@ -7,8 +7,8 @@ use Rattle.toml_text.specs.Bytes.{is_basic, is_literal}
 use Rattle.std.proofs.lemmas.List.{append-nil, take-append-drop, take_at, drop_at, length-replicate}
 use Rattle.toml_text.specs.Forms.{IsNewline}
 use Rattle.toml_text.specs.Runs.{run_len, begins, is_byte, newline_len}
-use Rattle.toml_text.proofs.Newlines.{newline_piece}
-use Rattle.toml_text.proofs.Found.{newline_found}
+use Rattle.toml_scalar.proofs.Newlines.{newline_there}
+use Rattle.toml_text.proofs.Proved.{newline_found}
 use Rattle.toml_scalar.specs.Strings.{StringPiece, Plain, Escape, UnicodeEscape, Newline, Dropped, piece_text, pieces_text, EachPiece, IsBasicPiece, IsLiteralPiece, IsMultiLineBasicPiece, IsMultiLineLiteralPiece, LongestDropped, IsFirst, quote_of, three, string_text, IsContent}
 use Rattle.toml_scalar.specs.declared.strings.kind.StringKind.{StringKind}
 use Rattle.toml_scalar.specs.declared.strings.kind.StringKind.TheVariants.{Basic, MultiLineBasic, Literal, MultiLineLiteral}
@@ -54,7 +54,7 @@ no_first bs more (Newline line ∷ ps) none is h =
 
 first_is : (n : ℕ) (bs more : List ℕ) (ps : List StringPiece) → n ≡ newline_len bs → drop n bs ≡ pieces_text ps ++ more → EachPiece HasForm ps → IsFirst (take n bs) ps
 first_is zero bs more ps e is h = no_first bs more ps (sym e) is h
-first_is (suc n) bs more ps e is h = is_first (take (suc n) bs) ps (rw e (newline_piece bs (omega arith)))
+first_is (suc n) bs more ps e is h = is_first (take (suc n) bs) ps (rw e (newline_there bs (omega arith)))
 
 pub forms : (P : StringPiece → Type 0) → ((q : StringPiece) → P q → HasForm q) → (qs : List StringPiece) → EachPiece P qs → EachPiece HasForm qs
 forms P f [] h = tt

@@ -7,10 +7,10 @@ use Rattle.std.proofs.lemmas.Bool.Decides.{nat_tests}
 use Rattle.std.proofs.lemmas.List.{append-nil, drop_at, drop_all, drop-drop, drop_more, take_rest, get_or_append_left, get_or-drop}
 use Rattle.std.proofs.lemmas.Str.{encode_ascii, IsUtf8-drop, IsCharBoundary-after_ascii, IsCharBoundary-from_rest}
 use Rattle.std.proofs.iter.AsciiBoundary.{after_IsAscii, before_ascii}
-use Rattle.toml_text.proofs.Runs.{run_len-le, run_stop}
 use Rattle.toml_text.specs.Bytes.{is_ws, is_hex, is_basic}
 use Rattle.toml_text.specs.Forms.{Each, IsNewline}
 use Rattle.toml_text.specs.Runs.{run_len, newline_len}
+use Rattle.toml_text.proofs.Proved.{run_piece, run_stop}
 use Rattle.toml_scalar.specs.Strings.{StringPiece, Plain, Escape, UnicodeEscape, Newline, Dropped, piece_text, pieces_text, piece_means, escaped, EachPiece, AreSpaces, IsEscape, IsBasicPiece, IsMultiLineBasicPiece, Stops, LongestDropped}
 use Rattle.toml_scalar.specs.StringRuns.{escape_at, multi_line_escape_at, multi_line_basic_at, dropped, dropped_len, spaces_len}
 use Rattle.toml_scalar.specs.StringScan.{behind_len, escape_value, escaped_char}
@@ -305,7 +305,7 @@ bound_next content at n utf8 within is few ascii =
 pub bound_before : (content : List ℕ) (from n : ℕ) → n ≡ run_len is_verbatim (drop from content) → from ≤ length content → IsCharBoundary content (from + n)
 bound_before content from n e within =
     let left : length (drop from content) ≡ length content - from = length-drop from content in
-    before_ascii content (from + n) (omega (arith, run_len-le is_verbatim (drop from content))) (λ l. omega (arith, backslash_at content from n e l))
+    before_ascii content (from + n) (omega (arith, (run_piece is_verbatim (drop from content)).0)) (λ l. omega (arith, backslash_at content from n e l))
 
 -- the same by the slices that the code takes
 

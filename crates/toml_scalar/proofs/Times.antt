@@ -5,8 +5,7 @@ use Rattle.std.proofs.lemmas.List.{take-append-drop}
 use Rattle.toml_text.specs.Bytes.{is_digit}
 use Rattle.toml_text.specs.Forms.{Each}
 use Rattle.toml_text.specs.Runs.{run_len, begins}
-use Rattle.toml_text.proofs.Runs.{run_each}
-use Rattle.toml_text.proofs.Found.{run_found}
+use Rattle.toml_text.proofs.Proved.{run_found, run_piece}
 use Rattle.toml_scalar.specs.Runs.{is_value_byte}
 use Rattle.toml_scalar.specs.Moments.{AreTwoDigits, IsSecondFraction, IsTime, IsOffset}
 use Rattle.toml_scalar.specs.MomentRuns.{are_digits_to, is_hour_minute, after_fraction, after_time, is_whole, is_time, is_offset}
@@ -28,7 +27,7 @@ fraction_of b [] is some = absurd (false≢true some)
 fraction_of b (d ∷ ds) is some =
     let n : run_len is_digit (d ∷ ds) ≡ run_len is_digit ds + 1 = cond-true _ _ _ some in
     let P : ℕ → Type 0 = λ k. IsSecondFraction (b ∷ take k (d ∷ ds)) in
-    subst P (sym n) (rw add-one (is, (some, run_each is_digit ds)))
+    subst P (sym n) (rw add-one (is, (some, (run_piece is_digit ds).1)))
 
 -- the fraction at the front, or nothing
 record FractionFront (bs : List ℕ) (rest : List ℕ) : Type 0 where

@@ -4,3 +4,5 @@ pub mod Comments
 pub mod Bounds
 pub mod Ends
 pub mod Found
+pub mod Firsts
+pub mod Proved

@@ -3,6 +3,7 @@ use Rattle.std.proofs.Common.{◌≡◌, ℕ, zero, suc, ◌+◌, ◌-◌, ◌<�
 use Rattle.std.proofs.lemmas.Bool.{cond-true}
 use Rattle.toml_text.specs.Bytes.{is_comment}
 use Rattle.toml_text.specs.Forms.{Each}
+use Rattle.toml_text.specs.Laws.{RunIsLongest, RunStops}
 use Rattle.toml_text.specs.Longest.{IsLongest, BeginsNone}
 use Rattle.toml_text.specs.Runs.{run_len}
 
@@ -39,8 +40,7 @@ run_each p (b ∷ bs) = elim (p b) as (λ t. p b ≡ t → Each p (take (cond t 
   | false ↦ λ e. tt
 ] refl
 
--- no front that passes is longer than the run
-pub run_most : (p : ℕ → Bool) (bs : List ℕ) (m : ℕ) → m ≤ length bs → Each p (take m bs) → m ≤ run_len p bs
+pub run_most : RunIsLongest
 run_most p bs zero h e = omega arith
 run_most p [] (suc m) h e = absurd (omega arith)
 run_most p (b ∷ bs) (suc m) h e =
@@ -75,8 +75,7 @@ cond_stop : (t : Bool) (r n : ℕ) → cond t (r + 1) 0 < suc n → (t ≡ false
 cond_stop true r n h = inr (refl, omega arith)
 cond_stop false r n h = inl refl
 
--- the byte behind a run does not pass
-pub run_stop : (p : ℕ → Bool) (bs : List ℕ) → run_len p bs < length bs → p (get_or bs (run_len p bs) 0) ≡ false
+pub run_stop : RunStops
 run_stop p [] h = absurd (omega arith)
 run_stop p (b ∷ bs) h = ⊎_elim
     (λ (f : p b ≡ false). subst (λ t. p (get_or (b ∷ bs) (cond t (run_len p bs + 1) 0) 0) ≡ false) (sym f) f)

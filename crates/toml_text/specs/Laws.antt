@@ -1,5 +1,5 @@
--- Laws: the plain functions of `Runs` find the pieces of the forms of `Forms`, and no others.
-use Rattle.std.specs.Prelude.{◌≡◌, ◌≤◌, ℕ, Bool, false, List, ◌++◌, length, take, ◌⊎◌}
+-- Laws: the plain functions of `Runs` find the pieces of the forms of `Forms`, and no others; what a first byte tells.
+use Rattle.std.specs.Prelude.{◌≡◌, ◌<◌, ◌≤◌, ℕ, Bool, true, false, List, ◌++◌, length, take, get_or, ◌⊎◌}
 use Rattle.toml_text.specs.Bytes.{is_comment}
 use Rattle.toml_text.specs.Forms.{Each, IsNewline, IsComment}
 use Rattle.toml_text.specs.Runs.{run_len, begins, newline_len, comment_len}
@@ -23,3 +23,19 @@ NewlineIsFound = (piece rest : List ℕ) → IsNewline piece → newline_len (pi
 
 abbrev pub CommentIsFound : Type 0
 CommentIsFound = (piece rest : List ℕ) → IsComment piece → begins is_comment rest ≡ false → comment_len (piece ++ rest) ≡ length piece
+
+-- no front that passes is longer than the run
+abbrev pub RunIsLongest : Type 0
+RunIsLongest = (p : ℕ → Bool) (bs : List ℕ) (n : ℕ) → n ≤ length bs → Each p (take n bs) → n ≤ run_len p bs
+
+-- the byte behind the run does not pass
+abbrev pub RunStops : Type 0
+RunStops = (p : ℕ → Bool) (bs : List ℕ) → run_len p bs < length bs → p (get_or bs (run_len p bs) 0) ≡ false
+
+-- a first byte that passes a test does not pass one that nothing passes with it
+abbrev pub BeginsApart : Type 0
+BeginsApart = (p q : ℕ → Bool) (bs : List ℕ) → ((b : ℕ) → p b ≡ true → q b ≡ false) → begins p bs ≡ true → begins q bs ≡ false
+
+-- it passes one that everything passes with it
+abbrev pub BeginsWider : Type 0
+BeginsWider = (p q : ℕ → Bool) (bs : List ℕ) → ((b : ℕ) → p b ≡ true → q b ≡ true) → begins p bs ≡ true → begins q bs ≡ true

@@ -1,10 +1,12 @@
 //! Laws over the definitions: each function's contract is one or two, and nothing is run.
-ghost use Rattle.toml_text.specs.Laws.{RunIsPiece, RunIsFound, NewlineIsPiece, NewlineIsFound, CommentIsPiece, CommentIsFound};
+ghost use Rattle.toml_text.specs.Laws.{RunIsPiece, RunIsFound, NewlineIsPiece, NewlineIsFound, CommentIsPiece, CommentIsFound, RunIsLongest, RunStops, BeginsApart, BeginsWider};
 
 /// `run_len` finds the longest run of bytes that pass a test at the front.
 pub fn runs()
     ensures piece { RunIsPiece }
     ensures found { RunIsFound }
+    ensures longest { RunIsLongest }
+    ensures stops { RunStops }
 {}
 
 /// `newline_len` finds the newline at the front, and 0 only where none stands.
@@ -17,4 +19,10 @@ pub fn newlines()
 pub fn comments()
     ensures piece { CommentIsPiece }
     ensures found { CommentIsFound }
+{}
+
+/// What a first byte that passes one test tells of another test.
+pub fn firsts()
+    ensures apart { BeginsApart }
+    ensures wider { BeginsWider }
 {}

@@ -5,12 +5,11 @@ use Rattle.std.proofs.lemmas.Bool.Decides.{nat_tests}
 use Rattle.toml_text.specs.Bytes.{is_ws, is_comment}
 use Rattle.toml_text.specs.Forms.{Each, IsWs, IsNewline, IsComment}
 use Rattle.toml_text.specs.Runs.{run_len, begins, is_byte, newline_len, comment_len}
-use Rattle.toml_text.proofs.Found.{run_found, newline_found, comment_found}
+use Rattle.toml_text.proofs.Proved.{run_found, newline_found, comment_found, begins_other}
+use Rattle.toml_scalar.proofs.Proved.{part_complete, part_first}
 use Rattle.toml_scalar.specs.Names.{IsKeyPart}
 use Rattle.toml_scalar.specs.Scanning.{key_part_len, is_key_start}
 use Rattle.toml_scalar.specs.Tokens.{Closes}
-use Rattle.toml_scalar.proofs.Scanned.{begins_other}
-use Rattle.toml_scalar.proofs.Keys.{part_complete, part_first}
 use Rattle.toml_tree.specs.Tree.{Piece, Blank, Dotted, Key, Assign}
 use Rattle.toml_tree.specs.Spells.{Part, piece, symbol, part_text, joined, EachIs, all_parts, comment_parts, blank_parts, dotted_parts, key_parts, equals_parts, assign_parts, IsCommentOrNone, IsBlank, IsDotted, IsKey, IsAssign}
 use Rattle.toml_tree.specs.Reading.{Cursor, here, ahead, many, run_at, comment_at, blank_at, part_at, dotted_step, dotted_at, key_at, equals_at, assign_at}

@@ -6,7 +6,7 @@ use Rattle.toml_text.specs.Bytes.{is_ws}
 use Rattle.toml_text.specs.Forms.{IsWs}
 use Rattle.toml_text.specs.Runs.{begins, is_byte, newline_len}
 use Rattle.toml_scalar.specs.Scanning.{is_key_start}
-use Rattle.toml_scalar.proofs.Scanned.{begins_other}
+use Rattle.toml_text.proofs.Proved.{begins_other}
 use Rattle.toml_tree.specs.Tree.{Piece, Blank, Header, KeyVal, Expr, BlankLine, KeyValLine, TableLine, ArrayTableLine, Line}
 use Rattle.toml_tree.specs.Spells.{Part, piece, symbol, EachIs, all_parts, comment_parts, blank_parts, key_parts, keyval_parts, header_parts, array_header_parts, expr_parts, line_parts, lines_parts, IsBlank, IsHeader, IsKeyVal, IsExpr, AreLines, max_depth}
 use Rattle.toml_tree.specs.Reading.{Cursor, ahead, all_of}

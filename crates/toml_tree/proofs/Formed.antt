@@ -3,7 +3,7 @@ use Rattle.std.proofs.Common.{◌≡◌, take, Some, ap, ◌∙◌, sym, subst, 
 use Rattle.std.specs.Prelude.{IfSome}
 use Rattle.toml_text.specs.Forms.{IsNewline}
 use Rattle.toml_text.specs.Runs.{newline_len}
-use Rattle.toml_text.proofs.Found.{newlines_piece}
+use Rattle.toml_text.proofs.Proved.{newlines_piece}
 use Rattle.toml_tree.specs.declared.piece.Piece.{Piece}
 use Rattle.toml_tree.specs.declared.tree.Expr.{Expr}
 use Rattle.toml_tree.specs.Reading.{Cursor, here}

@@ -18,3 +18,13 @@ pub mod Ends
 pub mod Texts
 pub mod Taken
 pub mod Depths
+pub mod Parts
+pub mod Moved
+pub mod Inner
+pub mod Bared
+pub mod PutSame
+pub mod PutPlaced
+pub mod PutFormed
+pub mod Unmarked
+pub mod Put
+pub mod Proved

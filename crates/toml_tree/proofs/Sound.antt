@@ -6,10 +6,10 @@ use Rattle.std.proofs.lemmas.List.{append-nil, take-append-drop, length-take-le}
 use Rattle.toml_text.specs.Bytes.{is_ws}
 use Rattle.toml_text.specs.Forms.{Each, IsWs, IsNewline, IsComment}
 use Rattle.toml_text.specs.Runs.{run_len, begins, is_byte, newline_len, comment_len}
-use Rattle.toml_text.proofs.Found.{run_piece, newlines_piece, comments_piece}
+use Rattle.toml_text.proofs.Proved.{run_piece, newlines_piece, comments_piece}
+use Rattle.toml_scalar.proofs.Proved.{part_sound}
 use Rattle.toml_scalar.specs.Names.{IsKeyPart}
 use Rattle.toml_scalar.specs.Scanning.{key_part_len}
-use Rattle.toml_scalar.proofs.Keys.{part_sound}
 use Rattle.toml_tree.specs.Tree.{Piece}
 use Rattle.toml_tree.specs.Spells.{Part, piece, symbol, EachIs, all_parts, comment_parts, blank_parts, dotted_parts, key_parts, equals_parts, assign_parts, IsCommentOrNone, IsBlank, IsDotted, IsKey, IsAssign}
 use Rattle.toml_tree.specs.Reading.{Cursor, ◌>>=◌, here, ahead, many, all_of, run_at, comment_at, blank_at, part_at, dotted_step, dotted_at, key_at, equals_at, assign_at}

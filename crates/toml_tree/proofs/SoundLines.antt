@@ -7,7 +7,7 @@ use Rattle.std.proofs.lemmas.List.{nil_from_length}
 use Rattle.toml_text.specs.Bytes.{is_ws}
 use Rattle.toml_text.specs.Forms.{IsNewline}
 use Rattle.toml_text.specs.Runs.{begins, is_byte, newline_len}
-use Rattle.toml_text.proofs.Found.{newlines_piece}
+use Rattle.toml_text.proofs.Proved.{newlines_piece}
 use Rattle.toml_scalar.specs.Scanning.{is_key_start}
 use Rattle.toml_tree.specs.Tree.{Header, Expr, Line}
 use Rattle.toml_tree.specs.Spells.{Part, piece, symbol, EachIs, comment_parts, blank_parts, key_parts, keyval_parts, header_parts, array_header_parts, expr_parts, line_parts, lines_parts, max_depth, IsHeader, IsExpr, AreLines}

@@ -5,10 +5,10 @@ use Rattle.std.proofs.lemmas.Bool.{eqb-false}
 use Rattle.toml_text.specs.Bytes.{is_ws}
 use Rattle.toml_text.specs.Forms.{IsWs}
 use Rattle.toml_text.specs.Runs.{begins, is_byte, newline_len}
-use Rattle.toml_text.proofs.Found.{newlines_piece}
+use Rattle.toml_text.proofs.Proved.{newlines_piece}
+use Rattle.toml_scalar.proofs.Proved.{scan_sound}
 use Rattle.toml_scalar.specs.Scanning.{scan_at}
 use Rattle.toml_scalar.specs.Tokens.{IsToken}
-use Rattle.toml_scalar.proofs.ScanSound.{scan_sound}
 use Rattle.toml_tree.specs.Tree.{Piece, Value, Items, KeyVal}
 use Rattle.toml_tree.specs.Spells.{Part, piece, symbol, begin, joined, EachIs, all_parts, comment_parts, blank_parts, assign_parts, gap_line_parts, gap_parts, value_parts, items_parts, pairs_parts, keyval_parts, IsAssign, IsGapLine, IsGap, IsValue, AreItems, ArePairs, depth, items_depth, pairs_depth}
 use Rattle.toml_tree.specs.Reading.{Cursor, ◌>>=◌, here, ahead, up_to, all_of, run_at, blank_at, assign_at}

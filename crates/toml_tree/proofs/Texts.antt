@@ -1,6 +1,7 @@
 -- Writing the parts of a tree one after the other.
 use Rattle.std.proofs.Common.{◌≡◌, ℕ, zero, suc, ◌+◌, ◌<◌, ◌≤◌, List, [], ◌∷◌, ◌++◌, length, get_or, map, take, drop, sym, ap, ◌∙◌, arith, append_assoc, add-one, drop-cons, refl, Option, Some, None}
 use Rattle.std.proofs.lemmas.List.{take-append-drop}
+use Rattle.toml_tree.specs.Pieces.{piece_of}
 use Rattle.toml_tree.specs.ReadingValues.{Member, inline}
 use Rattle.toml_tree.specs.Spells.{Part, part_text, joined, all_parts, value_parts, IsValue, mark_of, Spells, doc_parts}
 use Rattle.toml_tree.specs.Tree.{Piece, Value, Scalar, Array, Empty, Inline, Doc}
@@ -39,13 +40,6 @@ module _ {X A : Type 0} (g : X → A) (f : A → List Part) where
   -- all were written
   pub text_all : (xs : List X) (i : ℕ) (out all : List ℕ) → length xs ≤ i → out ++ joined (all_parts f (map g (drop i xs))) ≡ all → out ≡ all
   text_all xs i out all le before = sym (append-nil out) ∙ ap (λ l. out ++ joined (all_parts f (map g l))) (sym (drop_past xs i le)) ∙ before
-
--- the piece that a value is written by
-abbrev pub piece_of : Value → Piece
-piece_of (Scalar kind p) = p
-piece_of (Array whole items) = whole
-piece_of (Empty whole ws) = whole
-piece_of (Inline whole pairs) = whole
 
 pub piece_of_inline : (whole : Piece) (ms : List Member) (ws : Option Piece) → piece_of (inline whole ms ws) ≡ whole
 piece_of_inline whole [] None = refl

@@ -9,4 +9,11 @@ pub mod View
 pub mod Lines
 pub mod Document
 pub mod Laws
+pub mod Pieces
+pub mod Parts
+pub mod Moved
+pub mod Inner
+pub mod Bare
+pub mod Places
+pub mod ViewLaws
 pub mod Reads

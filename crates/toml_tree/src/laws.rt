@@ -1,5 +1,12 @@
 //! Laws over the definitions: each function's contract is one or a few, and nothing is run.
 ghost use Rattle.toml_tree.specs.Laws.{OneTree, OneValue, OneKeyVal, OneExpr, DepthIsNesting, ReaderIsSound, ReaderIsComplete, ValueReaderIsSound, ValueReaderIsComplete};
+ghost use Rattle.toml_tree.specs.Pieces.{ValuePieceIsText, ValueHasByte, ValueStartsThere, KeyValStartsThere, ExprStartsThere};
+ghost use Rattle.toml_tree.specs.Parts.{PartsJoin, SizesAdd, FrontIsPlaced, BackIsPlaced, BothArePlaced};
+ghost use Rattle.toml_tree.specs.Moved.{MovedValueSpells, MovedKeyValSpells, MovedExprSpells, MovedValueText, MovedKeyValText, MovedExprText};
+ghost use Rattle.toml_tree.specs.Inner.{LinesInside, KeyValInside, ValueOfKeyVal, ValuesInside, KeyValsInside};
+ghost use Rattle.toml_tree.specs.Bare.{BareValueText, BareItemsText, BarePairsText, BareLinesText};
+ghost use Rattle.toml_tree.specs.Places.{PutValueIsSame, PutLinesAreSame, PutValueSpells, PutLinesSpell, LinesHaveNoMark, PutDocSpells};
+ghost use Rattle.toml_tree.specs.ViewLaws.{ViewOfScalar, ViewOfArray, ViewOfInline, ViewOfKeyVal};
 
 /// A text has at most one tree.
 pub fn one_tree()
@@ -24,4 +31,75 @@ pub fn plain_reader()
     ensures complete { ReaderIsComplete }
     ensures value_sound { ValueReaderIsSound }
     ensures value_complete { ValueReaderIsComplete }
+{}
+
+/// A value's own piece begins where its parts stand and is their text, a byte at least; a pair and an expression begin where their parts stand.
+pub fn pieces()
+    ensures text { ValuePieceIsText }
+    ensures byte { ValueHasByte }
+    ensures value_start { ValueStartsThere }
+    ensures keyval_start { KeyValStartsThere }
+    ensures expr_start { ExprStartsThere }
+{}
+
+/// Parts before others lie in the whole, in order: their texts join, their sizes add, and each stands at its place exactly where the whole does.
+pub fn parts()
+    ensures texts { PartsJoin }
+    ensures sizes { SizesAdd }
+    ensures front { FrontIsPlaced }
+    ensures back { BackIsPlaced }
+    ensures both { BothArePlaced }
+{}
+
+/// What spells a text at one place spells it, moved, at any place further behind.
+pub fn moved()
+    ensures value { MovedValueSpells }
+    ensures keyval { MovedKeyValSpells }
+    ensures expr { MovedExprSpells }
+{}
+
+/// What is moved keeps its text, in its form or not.
+pub fn moved_texts()
+    ensures value { MovedValueText }
+    ensures keyval { MovedKeyValText }
+    ensures expr { MovedExprText }
+{}
+
+/// Each expression, pair and value inside a tree that spells a text spells its own text at its own place.
+pub fn inner()
+    ensures lines { LinesInside }
+    ensures keyval { KeyValInside }
+    ensures value { ValueOfKeyVal }
+    ensures values { ValuesInside }
+    ensures keyvals { KeyValsInside }
+{}
+
+/// Without its places a tree has the same text.
+pub fn bare_texts()
+    ensures value { BareValueText }
+    ensures items { BareItemsText }
+    ensures pairs { BarePairsText }
+    ensures lines { BareLinesText }
+{}
+
+/// What is in the forms, whatever places it has, is the same tree but for its places when it is put at a place, and spells its own text there.
+pub fn put_trees()
+    ensures same_value { PutValueIsSame }
+    ensures same_lines { PutLinesAreSame }
+    ensures value { PutValueSpells }
+    ensures lines { PutLinesSpell }
+{}
+
+/// Lines in the forms begin with no mark, and behind a mark or none they are the document of the text that they make.
+pub fn put_documents()
+    ensures no_mark { LinesHaveNoMark }
+    ensures document { PutDocSpells }
+{}
+
+/// The tree of a parsed value, and of a parsed pair, is that of what it holds.
+pub fn views()
+    ensures scalar { ViewOfScalar }
+    ensures array { ViewOfArray }
+    ensures inline { ViewOfInline }
+    ensures keyval { ViewOfKeyVal }
 {}

@@ -1,5 +1,5 @@
 use Rattle.toml_scalar.proofs.Scanned.{scan_complete, token_first}
-use Rattle.toml_scalar.proofs.ScanSound.{scan_sound, scan_longest}
+use Rattle.toml_scalar.proofs.ScanSound.{scan_sound, scan_is_longest}
 use Rattle.toml_scalar.proofs.OneKind.{one_kind}
 use Rattle.toml_scalar.proofs.laws.scans.Goals as goal
 
@@ -10,7 +10,7 @@ pub returns-clause-found : goal.returns-clause-found
 returns-clause-found c = scan_complete
 
 pub returns-clause-longest : goal.returns-clause-longest
-returns-clause-longest c token rest n found kind is = scan_longest found token rest n is kind
+returns-clause-longest c = scan_is_longest
 
 pub returns-clause-one_kind : goal.returns-clause-one_kind
 returns-clause-one_kind c = one_kind

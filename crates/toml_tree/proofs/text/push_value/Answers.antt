@@ -3,7 +3,8 @@ use Rattle.std.proofs.Math.Logic.{∥∥₁_elim}
 use Rattle.std.proofs.Props.{props}
 use Rattle.toml_tree.specs.View.{piece, value}
 use Rattle.toml_tree.specs.declared.tree.Value.TheViews.{out-Array, out-InlineTable}
-use Rattle.toml_tree.proofs.Texts.{piece_of, piece_of_inline, text_of_value}
+use Rattle.toml_tree.proofs.Texts.{piece_of_inline, text_of_value}
+use Rattle.toml_tree.specs.Pieces.{piece_of}
 use Rattle.toml_tree.proofs.Views.{value_scalar, value_array, value_inline}
 use Rattle.toml_tree.proofs.text.push_value.Goals as goal
 use Rattle.toml_tree.proofs.text.push_value.Goals.{in-Scalar, in-Array, in-Inline}

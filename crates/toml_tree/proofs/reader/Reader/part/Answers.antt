@@ -1,7 +1,7 @@
 use Rattle.std.proofs.Common.{◌∙◌, ap}
 use Rattle.std.proofs.lemmas.Result.{err_from_is_err_and}
 use Rattle.toml_scalar.specs.Faults.{place_of}
-use Rattle.toml_scalar.proofs.FaultPlaces.{key_fault_at}
+use Rattle.toml_scalar.proofs.Proved.{key_fault_at}
 use Rattle.toml_tree.specs.Reading.{part_at}
 use Rattle.toml_tree.specs.Reads.{cursor}
 use Rattle.toml_tree.proofs.Taken.{part_taken, no_part, fails_here}

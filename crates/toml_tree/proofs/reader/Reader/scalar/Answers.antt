@@ -1,7 +1,7 @@
 use Rattle.std.proofs.Common.{Some, ◌∙◌, ap, sym}
 use Rattle.std.proofs.lemmas.Result.{err_from_is_err_and}
 use Rattle.toml_scalar.specs.Faults.{place_of}
-use Rattle.toml_scalar.proofs.FaultPlaces.{scalar_fault_at}
+use Rattle.toml_scalar.proofs.Proved.{scalar_fault_at}
 use Rattle.toml_tree.specs.ReadingValues.{scalar_at}
 use Rattle.toml_tree.specs.Reads.{cursor}
 use Rattle.toml_tree.proofs.Views.{value_scalar}
