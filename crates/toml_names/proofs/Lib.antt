@@ -94,3 +94,4 @@ pub mod FreshHeaders
 pub mod KnownHeaders
 pub mod LongPairs
 pub mod LongLines
+pub mod Proved

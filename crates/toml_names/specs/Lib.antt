@@ -8,6 +8,9 @@ pub mod Places
 pub mod Data
 pub mod Joining
 pub mod DataLaws
+pub mod Levels
+pub mod Parts
+pub mod SameData
 pub mod Values
 pub mod Building
 pub mod Local
