@@ -8,6 +8,11 @@ pub mod Places
 pub mod Data
 pub mod Joining
 pub mod DataLaws
+pub mod OwnAddresses
+pub mod Inside
+pub mod Alike
+pub mod Clear
+pub mod Indices
 pub mod Levels
 pub mod Parts
 pub mod SameData

@@ -1,11 +1,15 @@
 //! Laws over the definitions: nothing is run.
 ghost use Rattle.toml_names.specs.Addresses.{SameStepIsEqual, StepIsSame, SameIsEqual, AboveIsAbove};
-ghost use Rattle.toml_names.specs.DataLaws.{LinesHaveOneKind, LineValuesStandAlone, ValuesHaveOneKind, InnerValuesStandAlone};
+ghost use Rattle.toml_names.specs.Alike.{AlikeNameTheSame, AlikeStayAlike, PairsLeaveAlike};
+ghost use Rattle.toml_names.specs.Clear.{NotNamedIsClear};
+ghost use Rattle.toml_names.specs.DataLaws.{LinesHaveOneKind, LineValuesStandAlone, ValuesHaveOneKind, InnerValuesStandAlone, OneData, LinesAreClosed, ValuesAreClosed};
 ghost use Rattle.toml_names.specs.FirstMentions.{FirstMentionsAreThese, OneListOfFirstMentions};
+ghost use Rattle.toml_names.specs.Inside.{InsideIsBelow, InsideMoves};
 ghost use Rattle.toml_names.specs.Joining.{LinesJoin, ValuesJoin, OneKind, FirstIsData, ValuesStandAlone};
 ghost use Rattle.toml_names.specs.Levels.{ScalarLevel, ArrayLevel, TableLevel, DatumIsOneOfThree, DatumHasRoot, ArrayAtRoot, ArrayAtIndex, ArrayAtName, IndexIsWithin, TableAtRoot, TableAtName, TableAtIndex, NameHasMember, NothingBelowScalar};
 ghost use Rattle.toml_names.specs.Local.{LastRoleDecides};
 ghost use Rattle.toml_names.specs.Names.{RefusedAreBad, OneRefusal, LineAddresses, NoLineAddress};
+ghost use Rattle.toml_names.specs.OwnAddresses.{LineIsNamed, ThemselvesDiffer, OwnAddressesDiffer, OwnAddressIsNamed, OwnAddressHasFact};
 ghost use Rattle.toml_names.specs.Parts.{DatumHasPart, StepIsThere, PartIsThere};
 ghost use Rattle.toml_names.specs.Places.{PlacesAreFound, NoPlace};
 ghost use Rattle.toml_names.specs.Rules.{NoMisfit, MisfitIsFirst, RulesAreOfMentions};
@@ -40,6 +44,36 @@ pub fn line_addresses()
     ensures behind { NoLineAddress }
 {}
 
+/// What a line names stands in what the lines name. Under the rules what is named by itself, by a header, as a value or
+/// as an element, is so named once; so lines that have one address of their own are one line. That address is named
+/// by the line, and something stands there in the data.
+pub fn own_addresses()
+    ensures line { LineIsNamed }
+    ensures themselves { ThemselvesDiffer }
+    ensures differ { OwnAddressesDiffer }
+    ensures named { OwnAddressIsNamed }
+    ensures fact { OwnAddressHasFact }
+{}
+
+/// What a value names inside it lies strictly below its address, and moves along with it.
+pub fn inside()
+    ensures below { InsideIsBelow }
+    ensures moves { InsideMoves }
+{}
+
+/// What a line names depends on what was named before by the last header's table, and by how many tables the arrays of
+/// tables have. Lists that are alike in these stay so once the same is named behind both, and a pair changes neither.
+pub fn alike_lists()
+    ensures same { AlikeNameTheSame }
+    ensures more { AlikeStayAlike }
+    ensures pairs { PairsLeaveAlike }
+{}
+
+/// Under the rules, where an address is not named, nothing is named at it or below it.
+pub fn clear()
+    ensures { NotNamedIsClear }
+{}
+
 /// Where a thing stands is read off the mentions of its address; what has no place is not named.
 pub fn places()
     ensures found { PlacesAreFound }
@@ -52,6 +86,14 @@ pub fn data()
     ensures alone { LineValuesStandAlone }
     ensures inner_kinds { ValuesHaveOneKind }
     ensures inner_alone { InnerValuesStandAlone }
+{}
+
+/// What is named has one map of data. Under the rules, where nothing stands in the data of lines or of a value, nothing
+/// stands below.
+pub fn closed_data()
+    ensures one { OneData }
+    ensures lines { LinesAreClosed }
+    ensures values { ValuesAreClosed }
 {}
 
 /// Under the rules each thing that lines or a value name joins those before it. Where each does, what is named at one
