@@ -10,7 +10,7 @@ use Rattle.toml_names.specs.Addresses.{Address, same_address}
 use Rattle.toml_names.specs.Data.{Kinds, kind_at}
 use Rattle.toml_names.specs.Mentions.{Kind, kind_of, value_named}
 use Rattle.toml_names.specs.declared.named.Role.TheVariants.{Valued}
-use Rattle.toml_names.proofs.Equal.{same_address-equal, same_address-self}
+use Rattle.toml_names.proofs.Proved.{same_address-decides}
 use Rattle.toml_edits.specs.After.{IsAfter}
 use Rattle.toml_edits.specs.Carry.{carry}
 use Rattle.toml_edits.specs.Edits.{Change, set, insert, rename, remove}
@@ -45,7 +45,7 @@ not_zero : (s : Step) (p : Address) → (length (s ∷ p) == 0) ≡ false
 not_zero s p = grind (arith, nat_tests)
 
 differ : (x y : Address) → same_address x y ≡ false → ¬ (x ≡ y)
-differ x y e is = let f : same_address x y ≡ true = ap (same_address x) (sym is) ∙ same_address-self x in cc
+differ x y e is = let f : same_address x y ≡ true = ap (same_address x) (sym is) ∙ (same_address-decides x x).1 refl in cc
 
 pub stands : (c : Change) (old new : Kinds) → IsFault c old None → IsAfter c old new → (a b : Address) → carry c a ≡ Some b → Has old a → Has new b
 stands (set [] value) old new fault after a b is h = absurd (fault RootNamed refl)
@@ -54,7 +54,7 @@ stands (set (s ∷ p) value) old new fault after a b is h = by (same_address a (
     by : (t : Bool) → same_address a (s ∷ p) ≡ t → Has new b
     by false e = (h.0, after.2.carried b a h.0 h.1 (set_carries s p a value (differ a (s ∷ p) e) ∙ is))
     by true e =
-        let same : a ≡ s ∷ p = same_address-equal a (s ∷ p) e in
+        let same : a ≡ s ∷ p = (same_address-decides a (s ∷ p)).0 e in
         let root = good_root value after.0 after.1 in
         let here : a ≡ b = same_Some a b (sym (set_here (s ∷ p) a [] (not_zero s p) (same ∙ sym (append-nil (s ∷ p))) refl) ∙ is) in
         (root.0, ap new (sym here ∙ same ∙ sym (append-nil (s ∷ p))) ∙ after.2.placed [] root.0 root.1)

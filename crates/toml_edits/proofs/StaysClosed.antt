@@ -5,14 +5,14 @@ use Rattle.std.proofs.lemmas.Option.{same_Some, none-some}
 use Rattle.toml_names.specs.declared.address.Step.{Step}
 use Rattle.toml_names.specs.declared.address.Step.TheVariants.{Name, Index}
 use Rattle.toml_names.specs.Addresses.{Address}
-use Rattle.toml_names.specs.Data.{Kinds}
+use Rattle.toml_names.specs.Data.{Kinds, IsClosed}
 use Rattle.toml_names.specs.Mentions.{Kind}
+use Rattle.toml_names.proofs.Proved.{values_are_closed}
 use Rattle.toml_edits.specs.declared.fault.EditFault.TheVariants.{NoSuchPlace}
 use Rattle.toml_edits.specs.After.{Comes, Moves, nothing}
 use Rattle.toml_edits.specs.Carry.{Carrier, carry, carry_below, nowhere, up_from, inserting, parted}
 use Rattle.toml_edits.specs.Edits.{Change, set, insert, rename, remove}
 use Rattle.toml_edits.specs.Faults.{IsFault}
-use Rattle.toml_edits.specs.Laws.{IsClosed}
 use Rattle.toml_edits.specs.ListLaws.{StaysClosed}
 use Rattle.toml_edits.specs.ValueTexts.{IsGoodValue}
 use Rattle.toml_edits.proofs.Along.{ends}
@@ -98,7 +98,7 @@ no_parent : (new : Kinds) (q : Address) (s : Step) → [] ≡ q ++ s ∷ [] → 
 no_parent new q s is = absurd (no_root q s (sym is))
 
 value_closed : (text : List ℕ) (v : Kinds) → IsGoodValue text v → IsClosed v
-value_closed text v good = ?
+value_closed text v good = values_are_closed good.value.tree v good.value.keeps good.facts
 
 -- the place above a `set` keeps what it has
 set_parent : (at : Address) (value : List ℕ) (v old new : Kinds) → IsClosed old → IsFault (set at value) old None → Moves (carry_below at nowhere) at v old new → (q : Address) (s : Step) → at ≡ q ++ s ∷ [] → Has new q

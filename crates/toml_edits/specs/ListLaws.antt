@@ -2,14 +2,14 @@
 use Rattle.std.specs.Prelude.{◌≡◌, ◌^◌, ℕ, List, ◌++◌, Option, Some, None, IsSome, option_and_then}
 use Rattle.toml_names.specs.declared.datum.Datum.{Datum}
 use Rattle.toml_names.specs.Addresses.{Address}
-use Rattle.toml_names.specs.Data.{Kinds, kind_at}
+use Rattle.toml_names.specs.Indices.{IsLow}
+use Rattle.toml_names.specs.Data.{Kinds, kind_at, IsClosed}
 use Rattle.toml_edits.specs.declared.fault.EditFault.{EditFault}
 use Rattle.toml_edits.specs.After.{IsAfter}
 use Rattle.toml_edits.specs.Carry.{carry}
 use Rattle.toml_edits.specs.Edits.{Change}
 use Rattle.toml_edits.specs.Faults.{IsFault}
-use Rattle.toml_edits.specs.Laws.{IsClosed}
-use Rattle.toml_edits.specs.Lists.{carried, Lead, IsFirstFault, IsLow}
+use Rattle.toml_edits.specs.Lists.{carried, Lead, IsFirstFault}
 
 -- Through two lists, one after the other, a thing is carried by the second to where the first has carried it.
 abbrev pub CarriedOn : Type 0
@@ -39,5 +39,5 @@ abbrev pub StaysClosed : Type 0
 StaysClosed = (c : Change) (old new : Kinds) → IsClosed old → IsFault c old None → IsAfter c old new → IsClosed new
 
 -- Each index in data is below 2^63.
-abbrev pub IndicesAreLow : Type 0
-IndicesAreLow = (d : Datum) (a : Address) → IsSome (kind_at d a) → IsLow (2 ^ 63) a
+abbrev pub DataIndicesAreLow : Type 0
+DataIndicesAreLow = (d : Datum) (a : Address) → IsSome (kind_at d a) → IsLow (2 ^ 63) a

@@ -1,6 +1,5 @@
 -- Lists of edits, one after the other: where things then stand, what becomes of the data, and which edit is the first with a fault.
-use Rattle.std.specs.Prelude.{◌≡◌, ◌<◌, ◌^◌, ℕ, zero, suc, List, [], ◌∷◌, ◌++◌, Option, Some, None, IsSome, option_and_then}
-use Rattle.toml_names.specs.declared.address.Step.TheVariants.{Name, Index}
+use Rattle.std.specs.Prelude.{◌≡◌, ℕ, zero, suc, List, [], ◌∷◌, Option, Some, None, option_and_then}
 use Rattle.toml_names.specs.declared.datum.Datum.{Datum}
 use Rattle.toml_names.specs.Addresses.{Address}
 use Rattle.toml_names.specs.Data.{kind_at}
@@ -25,9 +24,3 @@ abbrev pub IsFirstFault : List Change → Datum → ℕ → EditFault → Type 0
 IsFirstFault [] old i fault = ⊥
 IsFirstFault (c ∷ cs) old zero fault = IsFault c (kind_at old) (Some fault)
 IsFirstFault (c ∷ cs) old (suc i) fault = IsFault c (kind_at old) None × (mid : Datum) × IsAfter c (kind_at old) (kind_at mid) × IsFirstFault cs mid i fault
-
--- each index in the address is below the number
-abbrev pub IsLow : ℕ → Address → Type 0
-IsLow n [] = Unit {0}
-IsLow n (Name name ∷ a) = IsLow n a
-IsLow n (Index i ∷ a) = (i < n) × IsLow n a

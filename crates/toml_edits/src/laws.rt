@@ -1,5 +1,5 @@
 //! Laws over the definitions: nothing is run.
-ghost use Rattle.toml_edits.specs.ListLaws.{CarriedOn, CarriedStands, FaultOrLead, IndicesAreLow, ListsCarryApart, OneFirstFault, OneLead, StaysClosed};
+ghost use Rattle.toml_edits.specs.ListLaws.{CarriedOn, CarriedStands, DataIndicesAreLow, FaultOrLead, ListsCarryApart, OneFirstFault, OneLead, StaysClosed};
 ghost use Rattle.toml_edits.specs.Laws.{CarriedAlong, CarriedFront, CarriedApart, DataAreClosed, OneAfter, SetCarries};
 
 /// What is below an address is carried along with it, unless the edit is below the address or a `set` at it. A
@@ -16,7 +16,7 @@ pub fn carried()
 pub fn closed()
     ensures data { DataAreClosed }
     ensures stays { StaysClosed }
-    ensures indices { IndicesAreLow }
+    ensures indices { DataIndicesAreLow }
 {}
 
 /// An edit makes one thing of data. What a value that is set finds there moves as the edit carries it, the place's own
