@@ -18,3 +18,6 @@ pub mod Ends
 pub mod Plain
 pub mod Walked
 pub mod AllLines
+pub mod DigitValues
+pub mod Numbers
+pub mod Certificates
