@@ -21,3 +21,9 @@ pub mod AllLines
 pub mod DigitValues
 pub mod Numbers
 pub mod Certificates
+pub mod UnitLines
+pub mod Twins
+pub mod Bases
+pub mod Standing
+pub mod Read
+pub mod Proved
