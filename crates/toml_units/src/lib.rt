@@ -1,0 +1,16 @@
+//! Units: the lines, comments, elements and pairs of a document, each of which an edit keeps, changes or takes away as a
+//! whole.
+#![tactic(auto)]
+
+mod certificate;
+mod fault;
+mod key;
+pub mod laws;
+mod lines;
+mod unit;
+mod walk;
+
+pub use certificate::{Certificate, certificate_text, read_certificate};
+pub use fault::CertificateFault;
+pub use lines::units;
+pub use unit::{Unit, UnitKind};
