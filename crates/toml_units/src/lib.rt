@@ -3,6 +3,7 @@
 #![tactic(auto)]
 
 mod certificate;
+mod decimal;
 mod fault;
 mod key;
 pub mod laws;
