@@ -18,7 +18,7 @@ pub mod Plain
 pub mod Walked
 pub mod AllLines
 pub mod DigitValues
-pub mod Numbers
+pub mod Decimals
 pub mod Certificates
 pub mod UnitLines
 pub mod Twins

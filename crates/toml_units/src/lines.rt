@@ -37,18 +37,13 @@ fn expr_span(e: &Expr) -> Span
             start: tail.ws.start,
             end: blank_end(tail),
         },
-        Expr::KeyVal { ws, tail, .. } => Span {
-            start: ws.start,
-            end: blank_end(tail),
-        },
-        Expr::Std { ws, tail, .. } => Span {
-            start: ws.start,
-            end: blank_end(tail),
-        },
-        Expr::Array { ws, tail, .. } => Span {
-            start: ws.start,
-            end: blank_end(tail),
-        },
+        Expr::KeyVal { ws, tail, .. } | Expr::Std { ws, tail, .. } | Expr::Array { ws, tail, .. } =>
+            {
+                Span {
+                    start: ws.start,
+                    end: blank_end(tail),
+                }
+            }
     }
 }
 
@@ -94,21 +89,9 @@ fn push_line(
             }
             push_comment(alloc, units, UnitKind::TailComment, own, tail.comment)
         }
-        Expr::Blank(tail) => push_comment(alloc, units, UnitKind::TailComment, own, tail.comment),
-        Expr::Std { tail, .. } => push_comment(
-            alloc,
-            units,
-            UnitKind::TailComment,
-            own,
-            tail.comment,
-        ),
-        Expr::Array { tail, .. } => push_comment(
-            alloc,
-            units,
-            UnitKind::TailComment,
-            own,
-            tail.comment,
-        ),
+        Expr::Blank(tail) | Expr::Std { tail, .. } | Expr::Array { tail, .. } => {
+            push_comment(alloc, units, UnitKind::TailComment, own, tail.comment)
+        }
     }
 }
 
