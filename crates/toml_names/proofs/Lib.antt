@@ -104,3 +104,4 @@ pub mod BelowValues
 pub mod PlaceFound
 pub mod Indices
 pub mod Proved
+pub mod Placeless

@@ -24,5 +24,6 @@ pub use Rattle.toml_names.proofs.OwnAddresses.{line_is_named, themselves_differ,
 pub use Rattle.toml_names.proofs.PlaceFound.{below_is_of_its_line, place_is_found}
 pub use Rattle.toml_names.proofs.PlacesFound.{above_is_above, places_are_found}
 pub use Rattle.toml_names.proofs.PlacesNone.{inside_is_below, no_place}
+pub use Rattle.toml_names.proofs.Placeless.{places_are_not_named, value_places_are_not_named}
 pub use Rattle.toml_names.proofs.Refused.{refused_are_bad}
 pub use Rattle.toml_names.proofs.UnderRules.{lines_have_one_kind, line_values_stand_alone, values_have_one_kind, inner_values_stand_alone}

@@ -13,6 +13,7 @@ pub mod Inside
 pub mod Alike
 pub mod Clear
 pub mod Indices
+pub mod Placeless
 pub mod Levels
 pub mod Parts
 pub mod SameData

@@ -3,7 +3,7 @@ ghost use Rattle.std.specs.Prelude.{◌≡◌, ◌↔◌, ◌∷◌, ◌++◌, �
 ghost use Rattle.std.specs.Str.{bytes_eq};
 ghost use Rattle.std.specs.BTreeMap.{get_by_text};
 ghost use Rattle.toml_scalar.specs.Values.{scalar_value};
-ghost use Rattle.toml_names.specs.Addresses.{Address as Steps};
+ghost use Rattle.toml_names.specs.Addresses.{Address};
 ghost use Rattle.toml_names.specs.Data.{kind_at, kind_in};
 
 use crate::address::{Address, Step};
@@ -28,7 +28,7 @@ pub struct Data {
 impl Data {
     /// Data of their own that are the same.
     pub fn copy(&self, alloc: Global) -> Result<Data, AllocError>
-        ensures { IfOk result (λ d. (at : Steps) → kind_at d.root at ≡ kind_at self.now.root at) }
+        ensures { IfOk result (λ d. (at : Address) → kind_at d.root at ≡ kind_at self.now.root at) }
     {
         Ok(Data {
             root: self.root.copy(alloc)?,
@@ -39,7 +39,7 @@ impl Data {
 impl Datum {
     /// The part one step below.
     fn child(&self, step: &Step) -> Option<&Datum>
-        ensures { (rest : Steps) → kind_in (option_copied result) rest ≡ kind_at self.now (step.now ∷ rest) }
+        ensures { (rest : Address) → kind_in (option_copied result) rest ≡ kind_at self.now (step.now ∷ rest) }
     {
         match (self, step) {
             (Datum::Array(items), Step::Index(index)) => items.get(*index as usize),
@@ -50,7 +50,7 @@ impl Datum {
 
     /// The part that the steps lead to.
     fn below(&self, steps: &[Step]) -> Option<&Datum>
-        ensures { (rest : Steps) → kind_in (option_copied result) rest ≡ kind_at self.now (steps.now ++ rest) }
+        ensures { (rest : Address) → kind_in (option_copied result) rest ≡ kind_at self.now (steps.now ++ rest) }
     {
         let mut here = self;
         for step in steps {
@@ -62,7 +62,7 @@ impl Datum {
     /// The part at the steps, if anything stands there. It takes no memory.
     #[tactic(auto, using(crate::proofs::Levels::part_found))]
     pub fn part(&self, steps: &[Step]) -> Option<&Datum>
-        ensures part { (rest : Steps) → kind_in (option_copied result) rest ≡ kind_at self.now (steps.now ++ rest) }
+        ensures part { (rest : Address) → kind_in (option_copied result) rest ≡ kind_at self.now (steps.now ++ rest) }
         ensures found { IsSome result ↔ IsSome (kind_at self.now steps.now) }
     {
         self.below(steps)
@@ -70,7 +70,7 @@ impl Datum {
 
     /// The part at the address, if anything stands there. It takes no memory.
     pub fn at(&self, at: &Address) -> Option<&Datum>
-        ensures part { (rest : Steps) → kind_in (option_copied result) rest ≡ kind_at self.now (at.now ++ rest) }
+        ensures part { (rest : Address) → kind_in (option_copied result) rest ≡ kind_at self.now (at.now ++ rest) }
         ensures found { IsSome result ↔ IsSome (kind_at self.now at.now) }
     {
         self.part(at.steps())
@@ -79,7 +79,7 @@ impl Datum {
     /// A datum of its own that is the same.
     #[cycle(copy)]
     pub fn copy(&self, alloc: Global) -> Result<Datum, AllocError>
-        ensures { IfOk result (λ d. (at : Steps) → kind_at d at ≡ kind_at self.now at) }
+        ensures { IfOk result (λ d. (at : Address) → kind_at d at ≡ kind_at self.now at) }
     {
         match self {
             Datum::Scalar(scalar) => Ok(Datum::Scalar(copy_scalar(alloc, scalar)?)),
@@ -92,7 +92,7 @@ impl Datum {
 /// Whether two data are the same: the same stands at each address in both. It takes no memory.
 #[cycle(same)]
 pub fn same(one: &Datum, other: &Datum) -> bool
-    ensures { IsTrue result ↔ ((at : Steps) → kind_at one.now at ≡ kind_at other.now at) }
+    ensures { IsTrue result ↔ ((at : Address) → kind_at one.now at ≡ kind_at other.now at) }
 {
     match (one, other) {
         (Datum::Scalar(one), Datum::Scalar(other)) => is_same(one, other),
@@ -107,7 +107,7 @@ pub fn same(one: &Datum, other: &Datum) -> bool
 /// Whether the elements of two arrays are the same, index by index.
 #[cycle(same)]
 fn same_items(one: &[Datum], other: &[Datum]) -> bool
-    ensures { IsTrue result ↔ ((index : ℕ) (at : Steps) → kind_in (slice_get one.now index) at ≡ kind_in (slice_get other.now index) at) }
+    ensures { IsTrue result ↔ ((index : ℕ) (at : Address) → kind_in (slice_get one.now index) at ≡ kind_in (slice_get other.now index) at) }
 {
     if one.len() != other.len() {
         return false;
@@ -123,7 +123,7 @@ fn same_items(one: &[Datum], other: &[Datum]) -> bool
 /// Whether each member of a table is in another table under its name, and the same.
 #[cycle(same)]
 fn same_members(one: &BTreeMap<String, Datum>, other: &BTreeMap<String, Datum>) -> bool
-    ensures { IsTrue result ↔ ((name : List ℕ) → IsSome (get_by_text one.now name) → (at : Steps) → kind_in (get_by_text one.now name) at ≡ kind_in (get_by_text other.now name) at) }
+    ensures { IsTrue result ↔ ((name : List ℕ) → IsSome (get_by_text one.now name) → (at : Address) → kind_in (get_by_text one.now name) at ≡ kind_in (get_by_text other.now name) at) }
 {
     for (name, member) in one {
         match other.get(name.as_str()) {
@@ -171,7 +171,7 @@ fn copy_scalar(alloc: Global, scalar: &Scalar) -> Result<Scalar, AllocError>
 /// Elements of their own that are the same, index by index.
 #[cycle(copy)]
 fn copy_items(alloc: Global, items: &[Datum]) -> Result<Vec<Datum>, AllocError>
-    ensures { IfOk result (λ copies. (index : ℕ) (at : Steps) → kind_in (slice_get copies.items index) at ≡ kind_in (slice_get items.now index) at) }
+    ensures { IfOk result (λ copies. (index : ℕ) (at : Address) → kind_in (slice_get copies.items index) at ≡ kind_in (slice_get items.now index) at) }
 {
     let mut copies = Vec::new(alloc);
     for item in items {
@@ -186,7 +186,7 @@ fn copy_members(
     alloc: Global,
     members: &BTreeMap<String, Datum>,
 ) -> Result<BTreeMap<String, Datum>, AllocError>
-    ensures { IfOk result (λ copies. (name : List ℕ) (at : Steps) → kind_in (get_by_text copies name) at ≡ kind_in (get_by_text members.now name) at) }
+    ensures { IfOk result (λ copies. (name : List ℕ) (at : Address) → kind_in (get_by_text copies name) at ≡ kind_in (get_by_text members.now name) at) }
 {
     let mut copies = BTreeMap::new(alloc);
     for (name, member) in members {

@@ -5,7 +5,7 @@ ghost use Rattle.toml_names.specs.declared.address.Step.TheVariants as steps;
 ghost use Rattle.toml_names.specs.declared.named.Role.{Role as Mark};
 ghost use Rattle.toml_names.specs.declared.named.Role.TheVariants.{Bare, Valued};
 ghost use Rattle.toml_names.specs.declared.tree.EnterFault.TheVariants.{Clash};
-ghost use Rattle.toml_names.specs.Addresses.{Address as Steps, below, child};
+ghost use Rattle.toml_names.specs.Addresses.{Address, below, child};
 ghost use Rattle.toml_names.specs.Keys.{part_name, key_names};
 ghost use Rattle.toml_names.specs.KeyParts.{value_key_parts, keyval_key_parts};
 ghost use Rattle.toml_names.specs.Mentions.{fronts, inside, is_tables, pair_named};
@@ -36,7 +36,7 @@ impl<'t> NameTree<'t> {
         ensures enters { OnOk result (Enters self.old.nodes.items self.new.nodes.items (name_at self.old.nodes.items at (part_name (piece part.entry)) role (kind_of kind.entry) line ∷ [])) }
         ensures leads { IfOk result (λ id. LeadsTo self.new.nodes.items id (child (address_at self.old.nodes.items at) (part_name (piece part.entry)))) }
         ensures elements { OnOk result (KeepsElements self.old.nodes.items self.new.nodes.items) }
-        ensures clash { IfErr result (λ e. (a : Steps) → e ≡ Clash a → Clashes self.old.nodes.items (name_at self.old.nodes.items at (part_name (piece part.entry)) role (kind_of kind.entry) line ∷ []) a) }
+        ensures clash { IfErr result (λ e. (a : Address) → e ≡ Clash a → Clashes self.old.nodes.items (name_at self.old.nodes.items at (part_name (piece part.entry)) role (kind_of kind.entry) line ∷ []) a) }
         ensures can_undo { undone self.new.changes.items self.new.nodes.items ≡ undone self.old.changes.items self.old.nodes.items }
         ensures lookups { self.new.lookups ≤ self.old.lookups + 1 }
         ensures rises { self.old.lookups ≤ self.new.lookups }
@@ -64,7 +64,7 @@ impl<'t> NameTree<'t> {
         ensures leads { IfOk result (λ id. LeadsTo self.new.nodes.items id (child (address_at self.old.nodes.items at) (part_name (piece part.entry)))) }
         ensures lone { IfOk result (λ id. (id ≡ length self.old.nodes.items) × ((d : Spot) → (slice_index_or self.new.nodes.items id d).elements ≡ [])) }
         ensures elements { OnOk result (KeepsElements self.old.nodes.items self.new.nodes.items) }
-        ensures clash { IfErr result (λ e. (a : Steps) → e ≡ Clash a → Clashes self.old.nodes.items (name_at self.old.nodes.items at (part_name (piece part.entry)) Valued (kind_of kind.entry) line ∷ []) a) }
+        ensures clash { IfErr result (λ e. (a : Address) → e ≡ Clash a → Clashes self.old.nodes.items (name_at self.old.nodes.items at (part_name (piece part.entry)) Valued (kind_of kind.entry) line ∷ []) a) }
         ensures can_undo { undone self.new.changes.items self.new.nodes.items ≡ undone self.old.changes.items self.old.nodes.items }
         ensures lookups { self.new.lookups ≤ self.old.lookups + 1 }
         ensures rises { self.old.lookups ≤ self.new.lookups }
@@ -89,7 +89,7 @@ impl<'t> NameTree<'t> {
         ensures within { IfOk result (λ r. r.0 < length self.new.nodes.items) }
         ensures last { IfOk result (λ r. child (address_at self.new.nodes.items r.0) (part_name (piece r.1)) ≡ below (address_at self.old.nodes.items at) (key_names (tree_key key.now))) }
         ensures elements { OnOk result (KeepsElements self.old.nodes.items self.new.nodes.items) }
-        ensures clash { IfErr result (λ e. (a : Steps) → e ≡ Clash a → Clashes self.old.nodes.items (fronts line (address_at self.old.nodes.items at) (key_names (tree_key key.now))) a) }
+        ensures clash { IfErr result (λ e. (a : Address) → e ≡ Clash a → Clashes self.old.nodes.items (fronts line (address_at self.old.nodes.items at) (key_names (tree_key key.now))) a) }
         ensures can_undo { undone self.new.changes.items self.new.nodes.items ≡ undone self.old.changes.items self.old.nodes.items }
         ensures lookups { self.new.lookups + 1 ≤ self.old.lookups + length (key_names (tree_key key.now)) }
         ensures rises { self.old.lookups ≤ self.new.lookups }
@@ -116,7 +116,7 @@ impl<'t> NameTree<'t> {
         ensures enters { OnOk result (Enters self.old.nodes.items self.new.nodes.items (pair_named line (address_at self.old.nodes.items at) (tree_keyval pair.now).assign (tree_keyval pair.now).value)) }
         ensures leads { IfOk result (λ id. LeadsTo self.new.nodes.items id (below (address_at self.old.nodes.items at) (key_names (tree_keyval pair.now).assign.key))) }
         ensures elements { OnOk result (KeepsElements self.old.nodes.items self.new.nodes.items) }
-        ensures clash { IfErr result (λ e. (a : Steps) → e ≡ Clash a → Clashes self.old.nodes.items (pair_named line (address_at self.old.nodes.items at) (tree_keyval pair.now).assign (tree_keyval pair.now).value) a) }
+        ensures clash { IfErr result (λ e. (a : Address) → e ≡ Clash a → Clashes self.old.nodes.items (pair_named line (address_at self.old.nodes.items at) (tree_keyval pair.now).assign (tree_keyval pair.now).value) a) }
         ensures can_undo { undone self.new.changes.items self.new.nodes.items ≡ undone self.old.changes.items self.old.nodes.items }
         ensures lookups { self.new.lookups ≤ self.old.lookups + keyval_key_parts (tree_keyval pair.now).assign (tree_keyval pair.now).value }
         ensures rises { self.old.lookups ≤ self.new.lookups }
@@ -135,7 +135,7 @@ impl<'t> NameTree<'t> {
         requires lone { (d : Spot) → (slice_index_or self.old.nodes.items id d).elements ≡ [] }
         ensures enters { OnOk result (Enters self.old.nodes.items self.new.nodes.items (inside line (address_at self.old.nodes.items id) (value v.now))) }
         ensures elements { OnOk result (KeepsOthers id self.old.nodes.items self.new.nodes.items) }
-        ensures clash { IfErr result (λ e. (a : Steps) → e ≡ Clash a → Clashes self.old.nodes.items (inside line (address_at self.old.nodes.items id) (value v.now)) a) }
+        ensures clash { IfErr result (λ e. (a : Address) → e ≡ Clash a → Clashes self.old.nodes.items (inside line (address_at self.old.nodes.items id) (value v.now)) a) }
         ensures can_undo { undone self.new.changes.items self.new.nodes.items ≡ undone self.old.changes.items self.old.nodes.items }
         ensures lookups { self.new.lookups ≤ self.old.lookups + value_key_parts (value v.now) }
         ensures rises { self.old.lookups ≤ self.new.lookups }

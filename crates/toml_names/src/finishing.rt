@@ -1,7 +1,7 @@
 //! What the finished tree of names tells: the data, the first mentions, and whether addresses are short.
 ghost use Rattle.std.specs.Prelude.{◌≡◌, ◌++◌, ◌<◌, ◌≤◌, ◌↔◌, ℕ, List, IsTrue, IfOk, Some, slice_get, slice_index_or, length, vec_len};
 ghost use Rattle.toml_names.specs.declared.named.Role.TheVariants.{Bare};
-ghost use Rattle.toml_names.specs.Addresses.{Address as Steps};
+ghost use Rattle.toml_names.specs.Addresses.{Address};
 ghost use Rattle.toml_names.specs.Building.{IsOnly};
 ghost use Rattle.toml_names.specs.Data.{kind_at, fact_at};
 ghost use Rattle.toml_names.specs.Finished.{IsDatumAt, IsOfKind};

@@ -4,7 +4,7 @@ ghost use Rattle.toml_tree.specs.Lines.{line as tree_line};
 ghost use Rattle.toml_tree.specs.View.{piece, key as tree_key};
 ghost use Rattle.toml_names.specs.declared.named.Role.TheVariants.{Passed, Bare};
 ghost use Rattle.toml_names.specs.declared.tree.EnterFault.TheVariants.{Clash};
-ghost use Rattle.toml_names.specs.Addresses.{Address as Steps, child, element};
+ghost use Rattle.toml_names.specs.Addresses.{Address, child, element};
 ghost use Rattle.toml_names.specs.EnteringLines.{EntersLine, ClashesInLine};
 ghost use Rattle.toml_names.specs.Headers.{header_fronts};
 ghost use Rattle.toml_names.specs.Keys.{part_name, key_names};
@@ -49,7 +49,7 @@ impl<'t> NameTree<'t> {
         requires within { at < vec_len self.old.nodes }
         requires tree { IsTree self.old.nodes.items }
         ensures passes { IfOk result (λ id. Passes self.old.nodes.items self.new.nodes.items id at line (part_name (piece part.entry))) }
-        ensures clash { IfErr result (λ e. (a : Steps) → e ≡ Clash a → (ms : List mentions.Named) → IsTreeOf self.old.nodes.items ms
+        ensures clash { IfErr result (λ e. (a : Address) → e ≡ Clash a → (ms : List mentions.Named) → IsTreeOf self.old.nodes.items ms
             → misfit ms (table_at line Passed (entered ms (child (address_at self.old.nodes.items at) (part_name (piece part.entry)))) ∷ []) ≡ Some a) }
         ensures can_undo { undone self.new.changes.items self.new.nodes.items ≡ undone self.old.changes.items self.old.nodes.items }
         ensures lookups { self.new.lookups ≤ self.old.lookups + 1 }
@@ -77,7 +77,7 @@ impl<'t> NameTree<'t> {
             × (misfit ms (header_fronts line ms [] (key_names (tree_key key.now))) ≡ None)) }
         ensures last { IfOk result (λ r. (ms : List mentions.Named) → IsTreeOf self.old.nodes.items ms
             → child (address_at self.new.nodes.items r.0) (part_name (piece r.1)) ≡ header_end ms [] (key_names (tree_key key.now))) }
-        ensures clash { IfErr result (λ e. (a : Steps) → e ≡ Clash a → (ms : List mentions.Named) → IsTreeOf self.old.nodes.items ms
+        ensures clash { IfErr result (λ e. (a : Address) → e ≡ Clash a → (ms : List mentions.Named) → IsTreeOf self.old.nodes.items ms
             → misfit ms (header_fronts line ms [] (key_names (tree_key key.now))) ≡ Some a) }
         ensures can_undo { undone self.new.changes.items self.new.nodes.items ≡ undone self.old.changes.items self.old.nodes.items }
         ensures lookups { self.new.lookups + 1 ≤ self.old.lookups + length (key_names (tree_key key.now)) }
@@ -110,7 +110,7 @@ impl<'t> NameTree<'t> {
         ensures leads { IfOk result (λ id. (ms : List mentions.Named) → IsTreeOf self.old.nodes.items ms
             → LeadsTo self.new.nodes.items id (element (child (address_at self.old.nodes.items at) (part_name (piece part.entry))) (count_tables ms (child (address_at self.old.nodes.items at) (part_name (piece part.entry)))))) }
         ensures within { IfOk result (λ id. id < length self.new.nodes.items) }
-        ensures clash { IfErr result (λ e. (a : Steps) → e ≡ Clash a → (ms : List mentions.Named) → IsTreeOf self.old.nodes.items ms
+        ensures clash { IfErr result (λ e. (a : Address) → e ≡ Clash a → (ms : List mentions.Named) → IsTreeOf self.old.nodes.items ms
             → misfit ms (ends_tables line ms (child (address_at self.old.nodes.items at) (part_name (piece part.entry)))) ≡ Some a) }
         ensures can_undo { undone self.new.changes.items self.new.nodes.items ≡ undone self.old.changes.items self.old.nodes.items }
         ensures lookups { self.new.lookups ≤ self.old.lookups + 1 }
@@ -128,7 +128,7 @@ impl<'t> NameTree<'t> {
         requires tree { IsTree self.old.nodes.items }
         requires mention { (d : Spot) → (slice_index_or self.old.nodes.items array d).role ≡ Bare → ⊥ }
         ensures adds { IfOk result (λ id. AddsTable self.old.nodes.items self.new.nodes.items id line (address_at self.old.nodes.items array)) }
-        ensures clash { IfErr result (λ e. (a : Steps) → e ≡ Clash a → (ms : List mentions.Named) → IsTreeOf self.old.nodes.items ms
+        ensures clash { IfErr result (λ e. (a : Address) → e ≡ Clash a → (ms : List mentions.Named) → IsTreeOf self.old.nodes.items ms
             → misfit ms (ends_tables line ms (address_at self.old.nodes.items array)) ≡ Some a) }
         ensures can_undo { undone self.new.changes.items self.new.nodes.items ≡ undone self.old.changes.items self.old.nodes.items }
         ensures lookups { self.new.lookups ≡ self.old.lookups }
@@ -142,7 +142,7 @@ impl<'t> NameTree<'t> {
         requires tree { IsTree self.old.nodes.items }
         ensures enters { IfOk result (λ id. EntersHeader self.old.nodes.items self.new.nodes.items id
             (λ ms. followed line ms (ends_table line) [] (key_names (tree_key key.now))) (λ ms. header_end ms [] (key_names (tree_key key.now)))) }
-        ensures clash { IfErr result (λ e. (a : Steps) → e ≡ Clash a → (ms : List mentions.Named) → IsTreeOf self.old.nodes.items ms
+        ensures clash { IfErr result (λ e. (a : Address) → e ≡ Clash a → (ms : List mentions.Named) → IsTreeOf self.old.nodes.items ms
             → misfit ms (followed line ms (ends_table line) [] (key_names (tree_key key.now))) ≡ Some a) }
         ensures can_undo { undone self.new.changes.items self.new.nodes.items ≡ undone self.old.changes.items self.old.nodes.items }
         ensures lookups { self.new.lookups ≤ self.old.lookups + length (key_names (tree_key key.now)) }
@@ -159,7 +159,7 @@ impl<'t> NameTree<'t> {
         ensures enters { IfOk result (λ id. EntersHeader self.old.nodes.items self.new.nodes.items id
             (λ ms. followed line ms (ends_tables line ms) [] (key_names (tree_key key.now)))
             (λ ms. element (header_end ms [] (key_names (tree_key key.now))) (count_tables ms (header_end ms [] (key_names (tree_key key.now)))))) }
-        ensures clash { IfErr result (λ e. (a : Steps) → e ≡ Clash a → (ms : List mentions.Named) → IsTreeOf self.old.nodes.items ms
+        ensures clash { IfErr result (λ e. (a : Address) → e ≡ Clash a → (ms : List mentions.Named) → IsTreeOf self.old.nodes.items ms
             → misfit ms (followed line ms (ends_tables line ms) [] (key_names (tree_key key.now))) ≡ Some a) }
         ensures can_undo { undone self.new.changes.items self.new.nodes.items ≡ undone self.old.changes.items self.old.nodes.items }
         ensures lookups { self.new.lookups ≤ self.old.lookups + length (key_names (tree_key key.now)) }
@@ -181,7 +181,7 @@ impl<'t> NameTree<'t> {
         requires tree { IsTree self.old.nodes.items }
         ensures enters { IfOk result (λ r. IfSome r (EntersLine self.old.nodes.items self.new.nodes.items at number (tree_line line.now).expr)) }
         ensures long { IfOk result (λ r. IfNone r (IsLongEntry self.old.nodes.items at number (tree_line line.now).expr)) }
-        ensures clash { IfErr result (λ e. (a : Steps) → e ≡ Clash a → ClashesInLine self.old.nodes.items at number (tree_line line.now).expr a) }
+        ensures clash { IfErr result (λ e. (a : Address) → e ≡ Clash a → ClashesInLine self.old.nodes.items at number (tree_line line.now).expr a) }
         ensures can_undo { undone self.new.changes.items self.new.nodes.items ≡ undone self.old.changes.items self.old.nodes.items }
         ensures lookups { self.new.lookups ≤ self.old.lookups + expr_key_parts (tree_line line.now).expr }
         ensures rises { self.old.lookups ≤ self.new.lookups }

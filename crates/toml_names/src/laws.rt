@@ -12,6 +12,7 @@ ghost use Rattle.toml_names.specs.Local.{LastRoleDecides};
 ghost use Rattle.toml_names.specs.Names.{RefusedAreBad, OneRefusal, LineAddresses, NoLineAddress};
 ghost use Rattle.toml_names.specs.OwnAddresses.{LineIsNamed, NamedHasLine, ThemselvesDiffer, OwnAddressesDiffer, OwnAddressIsNamed, OwnAddressHasFact};
 ghost use Rattle.toml_names.specs.Parts.{DatumHasPart, StepIsThere, PartIsThere};
+ghost use Rattle.toml_names.specs.Placeless.{PlacesAreNotNamed, ValuePlacesAreNotNamed};
 ghost use Rattle.toml_names.specs.Places.{PlacesAreFound, NoPlace, PlaceIsFound};
 ghost use Rattle.toml_names.specs.Rules.{NoMisfit, MisfitIsFirst, RulesAreOfMentions};
 ghost use Rattle.toml_names.specs.SameData.{SameScalars, SameArrays, SameTables};
@@ -181,4 +182,10 @@ pub fn same_data()
     ensures scalars { SameScalars }
     ensures arrays { SameArrays }
     ensures tables { SameTables }
+{}
+
+/// Lines, and values, that are the same but for where their pieces stand name the same.
+pub fn placeless()
+    ensures lines { PlacesAreNotNamed }
+    ensures value { ValuePlacesAreNotNamed }
 {}

@@ -32,6 +32,7 @@ pub use datum::{Data, Datum, same};
 pub use fault::{NameFault, ValueFault};
 pub use name::Name;
 pub use names::{Names, read_lines, read_names};
+pub use naming::key_address;
 pub use place::Place;
 pub use reader::NameReader;
 pub use rules::MAX_STEPS;

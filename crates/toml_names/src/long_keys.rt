@@ -3,7 +3,7 @@
 ghost use Rattle.std.specs.Prelude.{◌≡◌, ◌+◌, ◌<◌, ◌≤◌, ℕ, List, length, IfOk, IfErr, IfSome, IfNone, IsTrue, slice_index_or, vec_len, []};
 ghost use Rattle.toml_tree.specs.View.{piece, key as tree_key, value, keyval as tree_keyval};
 ghost use Rattle.toml_names.specs.declared.tree.EnterFault.TheVariants.{Clash};
-ghost use Rattle.toml_names.specs.Addresses.{Address as Steps, element, below};
+ghost use Rattle.toml_names.specs.Addresses.{Address, element, below};
 ghost use Rattle.toml_names.specs.EnteringHeaders.{EntersHeader, PassedFronts};
 ghost use Rattle.toml_names.specs.Headers.{header_fronts};
 ghost use Rattle.toml_names.specs.Keys.{part_name, key_names};
@@ -14,7 +14,7 @@ ghost use Rattle.toml_names.specs.Mentions.{fronts, followed, ends_table, ends_t
 ghost use Rattle.toml_names.specs.Names.{header_end};
 ghost use Rattle.toml_names.specs.NameTree.{IsTree, IsTreeOf, Enters, Clashes, LeadsTo};
 ghost use Rattle.toml_names.specs.Nodes.{address_at, undone};
-ghost use Rattle.toml_names.specs.Rules.{misfit};
+ghost use Rattle.toml_names.specs.Rules.{max_steps, misfit};
 
 use crate::named::{Kind, Role};
 use crate::naming::{kind_of, spelled_name};
@@ -36,7 +36,7 @@ impl<'t> NameTree<'t> {
         ensures known { IfOk result (λ r. IfSome r (λ w.
             FollowedFronts self.old.nodes.items self.new.nodes.items line (address_at self.old.nodes.items at) w.0 (part_name (piece w.1)) (key_names (tree_key key.now)))) }
         ensures fresh { IfOk result (λ r. IfNone r ((k : mentions.Kind) → CanEnter self.old.nodes.items (key_named line (address_at self.old.nodes.items at) (key_names (tree_key key.now)) k))) }
-        ensures clash { IfErr result (λ e. (a : Steps) → e ≡ Clash a → Clashes self.old.nodes.items (fronts line (address_at self.old.nodes.items at) (key_names (tree_key key.now))) a) }
+        ensures clash { IfErr result (λ e. (a : Address) → e ≡ Clash a → Clashes self.old.nodes.items (fronts line (address_at self.old.nodes.items at) (key_names (tree_key key.now))) a) }
         ensures can_undo { undone self.new.changes.items self.new.nodes.items ≡ undone self.old.changes.items self.old.nodes.items }
         ensures lookups { self.new.lookups + 1 ≤ self.old.lookups + length (key_names (tree_key key.now)) }
         ensures rises { self.old.lookups ≤ self.new.lookups }
@@ -68,7 +68,7 @@ impl<'t> NameTree<'t> {
         ensures fresh_tables { IfOk result (λ r. IfNone r (CanEnterHeader self.old.nodes.items
             (λ ms. followed line ms (ends_tables line ms) [] (key_names (tree_key key.now)))
             (λ ms. element (header_end ms [] (key_names (tree_key key.now))) (count_tables ms (header_end ms [] (key_names (tree_key key.now))))))) }
-        ensures clash { IfErr result (λ e. (a : Steps) → e ≡ Clash a → (ms : List mentions.Named) → IsTreeOf self.old.nodes.items ms
+        ensures clash { IfErr result (λ e. (a : Address) → e ≡ Clash a → (ms : List mentions.Named) → IsTreeOf self.old.nodes.items ms
             → misfit ms (header_fronts line ms [] (key_names (tree_key key.now))) ≡ Some a) }
         ensures can_undo { undone self.new.changes.items self.new.nodes.items ≡ undone self.old.changes.items self.old.nodes.items }
         ensures lookups { self.new.lookups + 1 ≤ self.old.lookups + length (key_names (tree_key key.now)) }
@@ -103,7 +103,7 @@ impl<'t> NameTree<'t> {
         ensures long { IfOk result (λ r. IfNone r (
             CanEnter self.old.nodes.items (pair_named line (address_at self.old.nodes.items at) (tree_keyval pair.now).assign (tree_keyval pair.now).value)
             × IsLongKey (address_at self.old.nodes.items at) (key_names (tree_keyval pair.now).assign.key))) }
-        ensures clash { IfErr result (λ e. (a : Steps) → e ≡ Clash a → Clashes self.old.nodes.items (pair_named line (address_at self.old.nodes.items at) (tree_keyval pair.now).assign (tree_keyval pair.now).value) a) }
+        ensures clash { IfErr result (λ e. (a : Address) → e ≡ Clash a → Clashes self.old.nodes.items (pair_named line (address_at self.old.nodes.items at) (tree_keyval pair.now).assign (tree_keyval pair.now).value) a) }
         ensures can_undo { undone self.new.changes.items self.new.nodes.items ≡ undone self.old.changes.items self.old.nodes.items }
         ensures lookups { self.new.lookups ≤ self.old.lookups + keyval_key_parts (tree_keyval pair.now).assign (tree_keyval pair.now).value }
         ensures rises { self.old.lookups ≤ self.new.lookups }
@@ -135,7 +135,7 @@ impl<'t> NameTree<'t> {
         ensures long { IfOk result (λ r. IfNone r (CanEnterHeader self.old.nodes.items
             (λ ms. followed line ms (ends_table line) [] (key_names (tree_key key.now))) (λ ms. header_end ms [] (key_names (tree_key key.now)))
             × IsLongKey [] (key_names (tree_key key.now)))) }
-        ensures clash { IfErr result (λ e. (a : Steps) → e ≡ Clash a → (ms : List mentions.Named) → IsTreeOf self.old.nodes.items ms
+        ensures clash { IfErr result (λ e. (a : Address) → e ≡ Clash a → (ms : List mentions.Named) → IsTreeOf self.old.nodes.items ms
             → misfit ms (followed line ms (ends_table line) [] (key_names (tree_key key.now))) ≡ Some a) }
         ensures can_undo { undone self.new.changes.items self.new.nodes.items ≡ undone self.old.changes.items self.old.nodes.items }
         ensures lookups { self.new.lookups ≤ self.old.lookups + length (key_names (tree_key key.now)) }
@@ -171,7 +171,7 @@ impl<'t> NameTree<'t> {
             (λ ms. followed line ms (ends_tables line ms) [] (key_names (tree_key key.now)))
             (λ ms. element (header_end ms [] (key_names (tree_key key.now))) (count_tables ms (header_end ms [] (key_names (tree_key key.now)))))
             × IsLongKey [] (key_names (tree_key key.now)))) }
-        ensures clash { IfErr result (λ e. (a : Steps) → e ≡ Clash a → (ms : List mentions.Named) → IsTreeOf self.old.nodes.items ms
+        ensures clash { IfErr result (λ e. (a : Address) → e ≡ Clash a → (ms : List mentions.Named) → IsTreeOf self.old.nodes.items ms
             → misfit ms (followed line ms (ends_tables line ms) [] (key_names (tree_key key.now))) ≡ Some a) }
         ensures can_undo { undone self.new.changes.items self.new.nodes.items ≡ undone self.old.changes.items self.old.nodes.items }
         ensures lookups { self.new.lookups ≤ self.old.lookups + length (key_names (tree_key key.now)) }
@@ -189,14 +189,14 @@ impl<'t> NameTree<'t> {
 
 /// Whether a key, from an address of so many steps, is too long for an address.
 fn is_long(depth: usize, key: &Key<'_>) -> bool
-    ensures { IsTrue result → 100 < depth + length (key_names (tree_key key.now)) }
+    ensures { IsTrue result → max_steps < depth + length (key_names (tree_key key.now)) }
 {
     depth.saturating_add(key.rest.len()) >= MAX_STEPS
 }
 
 /// Whether a value is a scalar.
 fn is_scalar(v: &Value<'_>) -> bool
-    ensures { IsTrue result → (line : ℕ) (at : Steps) → mentions.inside line at (value v.now) ≡ [] }
+    ensures { IsTrue result → (line : ℕ) (at : Address) → mentions.inside line at (value v.now) ≡ [] }
 {
     matches!(v, Value::Scalar(_, _))
 }

@@ -4,7 +4,7 @@ ghost use Rattle.std.specs.Cow.{cow_str_bytes};
 ghost use Rattle.std.specs.Prelude.{◌≡◌, [], ◌∷◌, ◌++◌, List, OnOk, IfOk};
 ghost use Rattle.toml_tree.specs.Lines.{line as tree_line};
 ghost use Rattle.toml_tree.specs.View.{piece, key as tree_key, value, keyval as tree_keyval};
-ghost use Rattle.toml_names.specs.Addresses.{Address as Steps, below};
+ghost use Rattle.toml_names.specs.Addresses.{Address, below};
 ghost use Rattle.toml_names.specs.Keys.{spelled_name, key_names};
 ghost use Rattle.toml_names.specs.Mentions as mentions;
 ghost use Rattle.toml_names.specs.Mentions.{kind_of, table_at, value_named, fronts, inside, pair_named, count_tables, entered, followed, ends_tables, is_section, section, section_from, named_by};
@@ -70,6 +70,19 @@ pub fn own_name(alloc: Global, text: &str) -> Result<Name, AllocError>
 {
     let name = spelled_name(alloc, text)?;
     Name::of(name.into_owned(alloc)?)
+}
+
+/// The address of a whole key in the table at the address (TOML v1.0.0, Keys).
+pub fn key_address(alloc: Global, at: &Address, key: &Key) -> Result<Address, AllocError>
+    ensures { IfOk result (λ here. here ≡ below at.now (key_names (tree_key key.now))) }
+{
+    let first = own_name(alloc, key.first.text)?;
+    let mut here = at.child(alloc, first)?;
+    for dotted in &key.rest {
+        let name = own_name(alloc, dotted.part.text)?;
+        here = here.child(alloc, name)?;
+    }
+    Ok(here)
 }
 
 /// Adds the fronts of a key in the table at the address, and gives the address of the whole key.
@@ -176,7 +189,7 @@ fn follow<'t>(
     number: usize,
     key: &Key<'t>,
 ) -> Result<Address, AllocError>
-    ensures { IfOk result (λ here. (end : Steps → List mentions.Named) → all_named names.new.items ++ end here ≡ all_named names.old.items ++ followed number (all_named earlier.now) end [] (key_names (tree_key key.now))) }
+    ensures { IfOk result (λ here. (end : Address → List mentions.Named) → all_named names.new.items ++ end here ≡ all_named names.old.items ++ followed number (all_named earlier.now) end [] (key_names (tree_key key.now))) }
 {
     let first = own_name(alloc, key.first.text)?;
     let root = Address::root(alloc);

@@ -2,7 +2,7 @@
 ghost use Rattle.std.specs.BTreeMap.{get_by_text};
 ghost use Rattle.std.specs.Prelude.{◌≡◌, ◌∷◌, [], ◌<◌, ◌≤◌, List, ℕ, Some, None, cond, IsSome, slice_get, slice_set, vec_len};
 ghost use Rattle.std.specs.Str.{bytes_eq};
-ghost use Rattle.toml_names.specs.Addresses.{Address as Steps};
+ghost use Rattle.toml_names.specs.Addresses.{Address};
 ghost use Rattle.toml_names.specs.Building.{with_child};
 ghost use Rattle.toml_names.specs.Data.{kind_at};
 
@@ -39,9 +39,9 @@ impl Datum {
     /// Puts a part one step below, where one is, and gives the one before. Where nothing stands there, the datum stays
     /// as it is and the part comes back.
     pub fn swap_child(self, step: &Step, part: Datum) -> (Datum, Datum)
-        ensures before { IsSome (kind_at self (step.now ∷ [])) → (at : Steps) → kind_at result.1 at ≡ kind_at self (step.now ∷ at) }
-        ensures after { IsSome (kind_at self (step.now ∷ [])) → (at : Steps) → kind_at result.0 at ≡ with_child step.now (kind_at part) (kind_at self) at }
-        ensures none { kind_at self (step.now ∷ []) ≡ None → (at : Steps) → (kind_at result.0 at ≡ kind_at self at) × (kind_at result.1 at ≡ kind_at part at) }
+        ensures before { IsSome (kind_at self (step.now ∷ [])) → (at : Address) → kind_at result.1 at ≡ kind_at self (step.now ∷ at) }
+        ensures after { IsSome (kind_at self (step.now ∷ [])) → (at : Address) → kind_at result.0 at ≡ with_child step.now (kind_at part) (kind_at self) at }
+        ensures none { kind_at self (step.now ∷ []) ≡ None → (at : Address) → (kind_at result.0 at ≡ kind_at self at) × (kind_at result.1 at ≡ kind_at part at) }
     {
         match (step, self) {
             (Step::Index(index), Datum::Array(mut items)) => {

@@ -5,7 +5,7 @@ ghost use Rattle.std.specs.Str.{bytes_eq};
 ghost use Rattle.toml_tree.specs.View.{piece};
 ghost use Rattle.toml_names.specs.declared.address.Step.TheVariants as steps;
 ghost use Rattle.toml_names.specs.declared.named.Role.TheVariants.{Bare};
-ghost use Rattle.toml_names.specs.Addresses.{Address as Steps};
+ghost use Rattle.toml_names.specs.Addresses.{Address};
 ghost use Rattle.toml_names.specs.declared.tree.EnterFault.TheVariants.{Clash};
 ghost use Rattle.toml_names.specs.Keys.{part_name};
 ghost use Rattle.toml_names.specs.Local.{role_after};
@@ -280,7 +280,7 @@ impl<'t> NameTree<'t> {
         requires tree { IsTree self.old.nodes.items }
         ensures noted { OnOk result ((d : Spot) → (may_follow (slice_index_or self.old.nodes.items id d).role role ≡ true)
             × (self.new.nodes.items ≡ noted self.old.nodes.items id (slice_index_or self.old.nodes.items id d) role line)) }
-        ensures clash { IfErr result (λ e. (a : Steps) → e ≡ Clash a → (d : Spot) → (may_follow (slice_index_or self.old.nodes.items id d).role role ≡ false)
+        ensures clash { IfErr result (λ e. (a : Address) → e ≡ Clash a → (d : Spot) → (may_follow (slice_index_or self.old.nodes.items id d).role role ≡ false)
             × (address_at self.old.nodes.items id ≡ a)) }
         ensures can_undo { undone self.new.changes.items self.new.nodes.items ≡ undone self.old.changes.items self.old.nodes.items }
         ensures lookups { self.new.lookups ≡ self.old.lookups }
