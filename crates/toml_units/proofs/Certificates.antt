@@ -1,8 +1,9 @@
 -- The texts of certificates.
 use Rattle.std.proofs.Common.{◌≡◌, ℕ, ◌+◌, ◌<◌, List, [], ◌∷◌, ◌++◌, length, refl, sym, drop, get_or, ap, subst, ◌∙◌, arith, append_assoc, length-append}
 use Rattle.std.proofs.lemmas.List.{append-nil, append_cancel_left, drop_more}
-use Rattle.toml_units.specs.Certificates.{number_text, pair_text, pairs_text, first_line, certificate_of, AreSmall, BeginsWithNoDigit, BeginsWithNoNumber, BeginsWithNoPair, OneCertificate}
-use Rattle.toml_units.proofs.Numbers.{one_number}
+use Rattle.toml_units.specs.Certificates.{pair_text, pairs_text, first_line, certificate_of, AreSmall, BeginsWithNoPair, OneCertificate}
+use Rattle.toml_units.specs.Decimals.{number_text, BeginsWithNoDigit, BeginsWithNoNumber}
+use Rattle.toml_units.proofs.Decimals.{one_number}
 
 -- the line of a pair, and what follows
 pub pair_line : (p : ℕ × ℕ) (r : List ℕ) → pair_text p ++ r ≡ number_text p.0 ++ (0x20 ∷ (number_text p.1 ++ (0x0A ∷ r)))

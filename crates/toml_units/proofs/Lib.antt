@@ -4,7 +4,6 @@ pub mod Below
 pub mod Full
 pub mod InValues
 pub mod InLines
-pub mod Moved
 pub mod MovedUnits
 pub mod Under
 pub mod Alike
@@ -19,7 +18,7 @@ pub mod Plain
 pub mod Walked
 pub mod AllLines
 pub mod DigitValues
-pub mod Numbers
+pub mod Decimals
 pub mod Certificates
 pub mod UnitLines
 pub mod Twins

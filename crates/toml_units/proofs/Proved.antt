@@ -3,6 +3,7 @@ pub use Rattle.toml_units.proofs.Alike.{units_are_alike}
 pub use Rattle.toml_units.proofs.Apart.{units_are_apart}
 pub use Rattle.toml_units.proofs.Bases.{units_are_based}
 pub use Rattle.toml_units.proofs.Certificates.{one_certificate}
+pub use Rattle.toml_units.proofs.Decimals.{number_decimal}
 pub use Rattle.toml_units.proofs.Ends.{pair_ends, line_ends}
 pub use Rattle.toml_units.proofs.InLines.{units_nest}
 pub use Rattle.toml_units.proofs.Named.{units_are_named, units_have_addresses}

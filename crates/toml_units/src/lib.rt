@@ -3,6 +3,7 @@
 #![tactic(auto)]
 
 mod certificate;
+mod decimal;
 mod fault;
 mod key;
 pub mod laws;
@@ -14,3 +15,6 @@ pub use certificate::{Certificate, certificate_text, read_certificate};
 pub use fault::CertificateFault;
 pub use lines::units;
 pub use unit::{Unit, UnitKind};
+
+#[cfg(test)]
+mod tests;

@@ -6,7 +6,8 @@ ghost use Rattle.toml_names.specs.Keys.{key_names};
 ghost use Rattle.toml_names.specs.Mentions.{named};
 ghost use Rattle.toml_units.specs.Ends.{blank_end, expr_end};
 ghost use Rattle.toml_units.specs.Plain.{spanned, own_base, line_spans, plain_units};
-ghost use Rattle.toml_units.specs.Units.{expr_start, units as units_of};
+ghost use Rattle.toml_tree.specs.Pieces.{expr_start};
+ghost use Rattle.toml_units.specs.Units.{units as units_of};
 ghost use Rattle.toml_units.specs.View.{all_units};
 
 use crate::unit::{Unit, UnitKind};
@@ -36,18 +37,13 @@ fn expr_span(e: &Expr) -> Span
             start: tail.ws.start,
             end: blank_end(tail),
         },
-        Expr::KeyVal { ws, tail, .. } => Span {
-            start: ws.start,
-            end: blank_end(tail),
-        },
-        Expr::Std { ws, tail, .. } => Span {
-            start: ws.start,
-            end: blank_end(tail),
-        },
-        Expr::Array { ws, tail, .. } => Span {
-            start: ws.start,
-            end: blank_end(tail),
-        },
+        Expr::KeyVal { ws, tail, .. } | Expr::Std { ws, tail, .. } | Expr::Array { ws, tail, .. } =>
+            {
+                Span {
+                    start: ws.start,
+                    end: blank_end(tail),
+                }
+            }
     }
 }
 
@@ -93,21 +89,9 @@ fn push_line(
             }
             push_comment(alloc, units, UnitKind::TailComment, own, tail.comment)
         }
-        Expr::Blank(tail) => push_comment(alloc, units, UnitKind::TailComment, own, tail.comment),
-        Expr::Std { tail, .. } => push_comment(
-            alloc,
-            units,
-            UnitKind::TailComment,
-            own,
-            tail.comment,
-        ),
-        Expr::Array { tail, .. } => push_comment(
-            alloc,
-            units,
-            UnitKind::TailComment,
-            own,
-            tail.comment,
-        ),
+        Expr::Blank(tail) | Expr::Std { tail, .. } | Expr::Array { tail, .. } => {
+            push_comment(alloc, units, UnitKind::TailComment, own, tail.comment)
+        }
     }
 }
 

@@ -1,8 +1,9 @@
 use Rattle.std.proofs.Common.{◌≡◌, ◌++◌, ◌∷◌, [], string_bytes, sym, ap, ◌∙◌}
 use Rattle.std.proofs.lemmas.Result.{IfOk-weaker}
 use Rattle.std.specs.Fmt.{decimal}
-use Rattle.toml_units.specs.Certificates.{number_text, pair_text}
-use Rattle.toml_units.proofs.Numbers.{number_decimal}
+use Rattle.toml_units.specs.Certificates.{pair_text}
+use Rattle.toml_units.specs.Decimals.{number_text}
+use Rattle.toml_units.proofs.Decimals.{number_decimal}
 use Rattle.toml_units.proofs.certificate.pair_line.Goals as goal
 
 pub returns : goal.returns

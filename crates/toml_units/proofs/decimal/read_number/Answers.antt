@@ -1,5 +1,5 @@
-use Rattle.toml_units.proofs.Numbers.{run_is, none_plain, too_large, found_number}
-use Rattle.toml_units.proofs.certificate.read_number.Goals as goal
+use Rattle.toml_units.proofs.Decimals.{run_is, none_plain, too_large, found_number}
+use Rattle.toml_units.proofs.decimal.read_number.Goals as goal
 
 pub returns-then-not-is_plain : goal.returns-then-not-is_plain
 returns-then-not-is_plain c =

@@ -1,7 +1,6 @@
 -- Numbers in decimal.
 use Rattle.std.proofs.Common.{◌≡◌, ℕ, ◌+◌, ◌<◌, ◌^◌, suc, zero, true, false, Bool, List, [], ◌∷◌, ◌++◌, length, map, take, drop, refl, sym, ap, subst, ◌∙◌, arith, get_or}
 use Rattle.std.specs.Char.{is_ascii_digit, digit_value}
-use Rattle.std.specs.Fmt.{decimal}
 use Rattle.std.specs.Int.{IsInRange}
 use Rattle.std.specs.List.{prefix_len}
 use Rattle.std.specs.Int.Digits.{digits_of, number_from_digits, AllBelowBase}
@@ -14,7 +13,7 @@ use Rattle.std.proofs.lemmas.List.{take-append-drop}
 use Rattle.std.proofs.lemmas.Str.{digit_value_digit}
 use Rattle.std.proofs.lemmas.Str.Parse.{IsDigitsTest, numerals_by_value}
 use Rattle.toml_tree.specs.Spells.{EachIs}
-use Rattle.toml_units.specs.Certificates.{number_text, IsPlain, BeginsWithNoDigit, BeginsWithNoNumber}
+use Rattle.toml_units.specs.Decimals.{number_text, IsPlain, BeginsWithNoDigit, BeginsWithNoNumber, NumbersAreDecimal}
 
 abbrev pub AreDigits : List ℕ → Type 0
 AreDigits bs = EachIs (λ b. is_ascii_digit b ≡ true) bs
@@ -88,7 +87,7 @@ number_value (suc n) =
     ∙ number_digits_of 10 (suc n) (omega arith)
 
 -- and other digits without a leading zero are the text of their value.
-pub number_decimal : (n : ℕ) → n < 2 ^ 64 → number_text n ≡ decimal n
+pub number_decimal : NumbersAreDecimal
 number_decimal zero low = text_of_zero ∙ sym (decimal_digit 0 (omega arith))
 number_decimal (suc n) low = text_of_some (suc n) (omega arith) ∙ sym (decimal-digits_of (suc n) (omega arith) low)
 
