@@ -1,11 +1,11 @@
 -- What a line names depends on what was named before by the last header's table, and by how many tables the arrays have.
-use Rattle.std.proofs.Common.{◌≡◌, ℕ, ◌+◌, ◌-◌, ◌==◌, cond, List, [], ◌∷◌, ◌++◌, refl, sym, ap, ◌∙◌, arith}
-use Rattle.toml_tree.specs.Tree.{Assign, Value, Inline, LastPair, Expr, BlankLine, KeyValLine, TableLine, ArrayTableLine}
+use Rattle.std.proofs.Common.{◌≡◌, ℕ, ◌+◌, ◌-◌, ◌==◌, cond, List, [], ◌∷◌, refl, sym, ap, ◌∙◌, arith}
+use Rattle.toml_tree.specs.Tree.{Expr, BlankLine, KeyValLine, TableLine, ArrayTableLine}
 use Rattle.toml_names.specs.declared.named.Role.TheVariants.{Passed}
 use Rattle.toml_names.specs.Addresses.{Address, child, element}
 use Rattle.toml_names.specs.Alike.{AreAlike, AlikeNameTheSame, AlikeStayAlike, PairsLeaveAlike}
 use Rattle.toml_names.specs.Keys.{Key, key_names}
-use Rattle.toml_names.specs.Mentions.{Named, named_by, pair_named, section, section_from, count_tables, entered, followed, table_at, ends_table, ends_tables}
+use Rattle.toml_names.specs.Mentions.{Named, named_by, pair_named, section_from, count_tables, entered, followed, table_at, ends_table, ends_tables}
 use Rattle.toml_names.proofs.LineSections.{section_pair}
 use Rattle.toml_names.proofs.NextLine.{section_from-append}
 use Rattle.toml_names.proofs.NoTables.{count-append, no_tables-pair}

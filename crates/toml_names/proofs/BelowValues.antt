@@ -15,7 +15,7 @@ use Rattle.toml_names.proofs.Clear.{not_above_more, clear_more, clear_root, clea
 use Rattle.toml_names.proofs.Counting.{adds, count_cons}
 use Rattle.toml_names.proofs.Each.{Has, each_append, each_left, each_right, each_weaker, has_left, has_right, has_each}
 use Rattle.toml_names.proofs.Equal.{same_address-equal, same_address-self}
-use Rattle.toml_names.proofs.LineAddresses.{AreOf, by_of}
+use Rattle.toml_names.proofs.LineAddresses.{AreOf, named_has_line}
 use Rattle.toml_names.proofs.LineSections.{section_pair}
 use Rattle.toml_names.proofs.NextLine.{section_from-append}
 
@@ -210,7 +210,7 @@ module _ (p : Address) where
       let new = named_by xs n l.expr in
       let so_far = each_from _ ls (xs ++ new) (n + 1) values in
       all_of_theirs ls (xs ++ new) (n + 1) apart (line_section xs n l.expr apart clear so_far) values
-      (each_append _ xs new (old_of_theirs xs new theirs) (new_of_theirs xs new n (by_of xs n l.expr) (line_new xs n l.expr apart clear so_far)))
+      (each_append _ xs new (old_of_theirs xs new theirs) (new_of_theirs xs new n (named_has_line xs n l.expr) (line_new xs n l.expr apart clear so_far)))
 
   pub below_values : (lines : List Line) → ¬ (p ≡ []) → AreValuesAt (named lines) → AreOfTheirs (named lines) (named lines)
   below_values lines apart values =

@@ -1,15 +1,11 @@
 -- Addresses that another is neither at nor above.
-use Rattle.std.proofs.Common.{◌≡◌, Bool, true, false, cond, ◌⊎◌, inl, inr, List, [], ◌∷◌, ◌++◌, Option, Some, None, refl, sym, ap, ◌∙◌}
+use Rattle.std.proofs.Common.{◌≡◌, Bool, true, false, cond, ◌⊎◌, inl, inr, [], ◌∷◌, ◌++◌, Option, Some, None, refl, sym, ap, ◌∙◌}
 use Rattle.std.proofs.lemmas.Option.{none-some}
-use Rattle.toml_tree.specs.Spells.{EachIs}
-use Rattle.toml_tree.specs.Tree.{Line}
 use Rattle.toml_names.specs.declared.address.Step.{Step}
 use Rattle.toml_names.specs.Addresses.{Address, IsAbove}
 use Rattle.toml_names.specs.Clear.{IsClear, NotNamedIsClear}
-use Rattle.toml_names.specs.Data.{IsFact, fact_at}
+use Rattle.toml_names.specs.Data.{fact_at}
 use Rattle.toml_names.specs.Mentions.{Kind, Named, named}
-use Rattle.toml_names.specs.Places.{IsNamed}
-use Rattle.toml_names.specs.Rules.{KeepsRules}
 use Rattle.toml_names.proofs.AllLines.{lines_join}
 use Rattle.toml_names.proofs.Closed.{closed_lines, closed_below}
 use Rattle.toml_names.proofs.Each.{Has, each_weaker, has_of_any, any_of_has, has_weaker, members_self}

@@ -1,8 +1,8 @@
 -- The data of what is named are one map, in which nothing stands below nothing.
-use Rattle.std.proofs.Common.{◌≡◌, ◌↔◌, ℕ, List, [], ◌∷◌, ◌++◌, Option, Some, None, refl, sym, ap, ◌∙◌, subst, append_assoc, append-nil}
-use Rattle.toml_tree.specs.Tree.{Value, Line}
+use Rattle.std.proofs.Common.{◌≡◌, List, [], ◌∷◌, ◌++◌, Option, Some, None, refl, sym, ap, ◌∙◌, subst, append_assoc, append-nil}
+use Rattle.toml_tree.specs.Tree.{Line}
 use Rattle.toml_names.specs.Addresses.{Address}
-use Rattle.toml_names.specs.Data.{Kinds, IsDataOf, IsFact, IsClosed, fact_at}
+use Rattle.toml_names.specs.Data.{Kinds, IsDataOf, IsClosed, fact_at}
 use Rattle.toml_names.specs.DataLaws.{OneData, LinesAreClosed, ValuesAreClosed}
 use Rattle.toml_names.specs.Joining.{JoinAll, Joined}
 use Rattle.toml_names.specs.Mentions.{Kind, Named, root, named, value_facts, inside}

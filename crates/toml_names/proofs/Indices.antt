@@ -1,16 +1,16 @@
 -- Each index in what a text names is below its length, since each element takes a byte, and so does each header.
-use Rattle.std.proofs.Common.{◌≡◌, ℕ, ◌+◌, ◌-◌, ◌<◌, ◌≤◌, ◌==◌, ◌&&◌, Bool, true, false, cond, List, [], ◌∷◌, ◌++◌, map, length, drop, sym, ap, ◌∙◌, subst, refl, true≢false, arith, length-append}
+use Rattle.std.proofs.Common.{◌≡◌, ℕ, ◌+◌, ◌-◌, ◌<◌, ◌≤◌, ◌==◌, Bool, true, false, cond, List, [], ◌∷◌, ◌++◌, map, length, drop, ap, refl, arith, length-append}
 use Rattle.std.proofs.lemmas.Bool.{eqb-false}
 use Rattle.std.proofs.lemmas.List.{length-drop}
-use Rattle.toml_tree.specs.Spells.{EachIs, Part, joined, value_parts, items_parts, pairs_parts, gap_parts, assign_parts, keyval_parts, blank_parts, header_parts, array_header_parts, expr_parts, lines_parts, line_parts, piece, symbol, mark_of}
+use Rattle.toml_tree.specs.Spells.{EachIs, Part, joined, value_parts, items_parts, pairs_parts, gap_parts, assign_parts, blank_parts, header_parts, array_header_parts, expr_parts, lines_parts, line_parts, piece, symbol, mark_of}
 use Rattle.toml_tree.specs.Tree as spelled
 use Rattle.toml_tree.specs.Tree.{Piece, Blank, Assign, Value, Scalar, Array, Empty, Inline, Items, Close, Last, More, Pairs, LastPair, MorePairs, Expr, BlankLine, KeyValLine, TableLine, ArrayTableLine, Line}
 use Rattle.toml_names.specs.declared.address.Step.TheVariants.{Name, Index}
-use Rattle.toml_names.specs.declared.named.Role.TheVariants.{Passed, Header, Tables, Element, Valued, Bare}
-use Rattle.toml_names.specs.Addresses.{Address, same_address, child, element, below}
+use Rattle.toml_names.specs.declared.named.Role.TheVariants.{Passed, Header, Tables, Element, Valued}
+use Rattle.toml_names.specs.Addresses.{Address, child, element, below}
 use Rattle.toml_names.specs.Indices.{IsLow, IsLowStep, IndicesAreLow, ValueIndicesAreLow}
 use Rattle.toml_names.specs.Keys.{Key, key_names, part_name, rest_names}
-use Rattle.toml_names.specs.Mentions.{an_array, Named, root, named, named_by, named_from, table_at, value_named, inside, elements, members, fronts, pair_named, section, section_from, is_section, is_tables, is_tables_at, count_tables, entered, followed, ends_table, ends_tables}
+use Rattle.toml_names.specs.Mentions.{an_array, Named, root, named_by, named_from, table_at, value_named, inside, elements, members, fronts, pair_named, section, section_from, is_section, is_tables_at, count_tables, entered, followed, ends_table, ends_tables}
 use Rattle.toml_names.proofs.Counting.{adds, adds_none, count_cons}
 use Rattle.toml_names.proofs.Each.{each_append}
 use Rattle.toml_names.proofs.NoTables.{count-append, no_tables-pair}

@@ -5,11 +5,10 @@ use Rattle.std.proofs.lemmas.Option.{slice_get_past, slice_get-get_or}
 use Rattle.std.specs.Prelude.{slice_get, option_copied}
 use Rattle.std.specs.Slice.{IsGetResult}
 use Rattle.std.specs.Map.{lookup}
-use Rattle.std.specs.BTreeMap.{is_at, get_by_text}
+use Rattle.std.specs.BTreeMap.{is_at}
 use Rattle.std.specs.Cmp.Lexicographic.{slice_cmp}
 use Rattle.toml_scalar.specs.declared.scalar.Scalar.{Scalar as Value}
 use Rattle.toml_scalar.specs.Values.{ScalarValue, scalar_value}
-use Rattle.toml_names.specs.declared.address.Step.{Step}
 use Rattle.toml_names.specs.declared.address.Step.TheVariants.{Name, Index}
 use Rattle.toml_names.specs.declared.datum.Datum.{Datum, Scalar, Array, Table, the_lemmas}
 use Rattle.toml_names.specs.declared.datum.Datum.TheVariants.{rolls-Scalar, rolls-Array, rolls-Table}
@@ -17,7 +16,7 @@ use Rattle.toml_names.specs.declared.datum.Datum.TheOpen.{Datum-F}
 use Rattle.toml_names.specs.declared.datum.Datum.TheViews.{roll-Datum}
 use Rattle.toml_names.specs.declared.datum.Datum.TheFolds.{ind-Datum}
 use Rattle.toml_names.specs.Addresses.{Address}
-use Rattle.toml_names.specs.Data.{Kinds, kind_at, kind_in, within, in_scalar, in_array, in_table}
+use Rattle.toml_names.specs.Data.{Kinds, kind_at, kind_in, within}
 use Rattle.toml_names.specs.Levels.{Elements, Members, ScalarLevel, ArrayLevel, TableLevel, DatumIsOneOfThree, DatumHasRoot, ArrayAtRoot, ArrayAtIndex, ArrayAtName, TableAtRoot, TableAtName, TableAtIndex, NothingBelowScalar}
 use Rattle.toml_names.specs.Mentions.{Kind, a_table, an_array, a_scalar}
 

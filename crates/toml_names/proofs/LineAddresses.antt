@@ -8,6 +8,7 @@ use Rattle.toml_names.specs.declared.named.Role.TheVariants.{Valued}
 use Rattle.toml_names.specs.Addresses.{Address, child, element, below}
 use Rattle.toml_names.specs.Keys.{Key, part_name, rest_names, key_names}
 use Rattle.toml_names.specs.Mentions.{Named, root, value_named, fronts, inside, elements, members, followed, entered, ends_table, ends_tables, named, named_by, named_from, section}
+use Rattle.toml_names.specs.OwnAddresses.{NamedHasLine}
 use Rattle.toml_names.specs.Names.{LineAddresses, NoLineAddress, is_own, line_address, header_end, own_address}
 use Rattle.toml_names.proofs.Above.{and_false}
 
@@ -64,11 +65,11 @@ followed_of line earlier end ends [] at = tt
 followed_of line earlier end ends (n ∷ []) at = ends (child at n)
 followed_of line earlier end ends (n ∷ m ∷ more) at = (refl, followed_of line earlier end ends (m ∷ more) (entered earlier (child at n)))
 
-pub by_of : (earlier : List Named) (line : ℕ) (e : Expr) → AreOf line (named_by earlier line e)
-by_of earlier line (BlankLine b) = tt
-by_of earlier line (KeyValLine ws pair tail) = of-append line (fronts line (section earlier) (key_names pair.assign.key)) _ (fronts_of line (key_names pair.assign.key) (section earlier)) (refl, inside_of line pair.value (below (section earlier) (key_names pair.assign.key)))
-by_of earlier line (TableLine ws header tail) = followed_of line earlier (ends_table line) (λ at. (refl, tt)) (key_names header.key) []
-by_of earlier line (ArrayTableLine ws header tail) = followed_of line earlier (ends_tables line earlier) (λ at. (refl, (refl, tt))) (key_names header.key) []
+pub named_has_line : NamedHasLine
+named_has_line earlier line (BlankLine b) = tt
+named_has_line earlier line (KeyValLine ws pair tail) = of-append line (fronts line (section earlier) (key_names pair.assign.key)) _ (fronts_of line (key_names pair.assign.key) (section earlier)) (refl, inside_of line pair.value (below (section earlier) (key_names pair.assign.key)))
+named_has_line earlier line (TableLine ws header tail) = followed_of line earlier (ends_table line) (λ at. (refl, tt)) (key_names header.key) []
+named_has_line earlier line (ArrayTableLine ws header tail) = followed_of line earlier (ends_tables line earlier) (λ at. (refl, (refl, tt))) (key_names header.key) []
 
 not_same : (n line : ℕ) → n < line ⊎ line < n → (n == line) ≡ false
 not_same n line (inl low) = ne_eqb n line (λ e. omega (arith, e))
@@ -84,14 +85,14 @@ rest_passed [] earlier n line low = ([], sym (append-nil earlier), tt)
 rest_passed (l ∷ ls) earlier n line low =
     let by = named_by earlier n l.expr in
     let r = rest_passed ls (earlier ++ by) (n + 1) line (omega arith) in
-    (by ++ r.0, r.1 ∙ append_assoc earlier by r.0, passed-append line by r.0 (others_passed n line by (inr low) (by_of earlier n l.expr)) r.2)
+    (by ++ r.0, r.1 ∙ append_assoc earlier by r.0, passed-append line by r.0 (others_passed n line by (inr low) (named_has_line earlier n l.expr)) r.2)
 
 -- lines that came before
 before_passed : (ls : List Line) (earlier : List Named) (n line : ℕ) → n + length ls ≤ line → ArePassed line earlier → ArePassed line (named_from earlier n ls)
 before_passed [] earlier n line low h = h
 before_passed (l ∷ ls) earlier n line low h =
     let by = named_by earlier n l.expr in
-    before_passed ls (earlier ++ by) (n + 1) line (omega arith) (passed-append line earlier by h (others_passed n line by (inl (omega arith)) (by_of earlier n l.expr)))
+    before_passed ls (earlier ++ by) (n + 1) line (omega arith) (passed-append line earlier by h (others_passed n line by (inl (omega arith)) (named_has_line earlier n l.expr)))
 
 none : (line : ℕ) (ms : List Named) → ArePassed line ms → line_address ms line ≡ None
 none line ms h = ap (λ l. line_address l line) (sym (append-nil ms)) ∙ pass line ms [] h

@@ -5,7 +5,8 @@ use Rattle.std.proofs.lemmas.List.{take_more, length-take-le}
 use Rattle.std.proofs.lemmas.List.Elements.{All-nil, All-cons, All-tail, All-append}
 use Rattle.toml_tree.specs.Tree.{Line}
 use Rattle.toml_names.specs.Addresses.{Address}
-use Rattle.toml_names.specs.Mentions.{Named, root, named, named_by, named_from, is_section, section_from}
+use Rattle.toml_names.specs.Alike.{SectionGoesOn}
+use Rattle.toml_names.specs.Mentions.{Named, root, named, named_by, named_from, is_section}
 use Rattle.toml_names.specs.Rules.{misfit, KeepsRules, IsShort, max_steps}
 use Rattle.toml_names.specs.Names.{AreGood, IsRedefined, IsLong}
 use Rattle.toml_names.proofs.Offences.{misfit_is_first}
@@ -66,6 +67,6 @@ module _ (lines : List Line) (i : ℕ) (d : Line) (low : i < length lines) (good
     long = λ short. long (IsShort-behind earlier new (rw (named-more lines i d low) at short));
   }
 
-pub section_from-append : (xs ys : List Named) (at : Address) → section_from at (xs ++ ys) ≡ section_from (section_from at xs) ys
+pub section_from-append : SectionGoesOn
 section_from-append [] ys at = refl
 section_from-append (x ∷ xs) ys at = section_from-append xs ys (if is_section x.role then x.address else at)

@@ -3,6 +3,7 @@ use Rattle.std.proofs.Common.{◌≡◌, ℕ, ◌+◌, false, List, [], ◌∷�
 use Rattle.std.proofs.lemmas.List.Sums.{sum_by-append}
 use Rattle.toml_names.specs.declared.named.Role.TheVariants.{Dotted, Valued, Bare}
 use Rattle.toml_names.specs.Addresses.{Address, child, element, below}
+use Rattle.toml_names.specs.Alike.{CountsAdd}
 use Rattle.toml_names.specs.Keys.{Key, key_names}
 use Rattle.toml_names.specs.Mentions.{Named, table_at, value_named, is_tables, count_tables, fronts, inside, elements, members, pair_named}
 use Rattle.toml_names.proofs.Counting.{adds, count_plain}
@@ -12,7 +13,7 @@ use Rattle.toml_tree.specs.Tree.{Assign, Value, Scalar, Array, Empty, Inline, It
 abbrev pub HasNoTables : List Named → Type 0
 HasNoTables ms = (at : Address) → count_tables ms at ≡ 0
 
-pub count-append : (xs ys : List Named) (at : Address) → count_tables (xs ++ ys) at ≡ count_tables xs at + count_tables ys at
+pub count-append : CountsAdd
 count-append xs ys at = sum_by-append (adds at) xs ys
 
 pub no_tables-append : (xs ys : List Named) → HasNoTables xs → HasNoTables ys → HasNoTables (xs ++ ys)

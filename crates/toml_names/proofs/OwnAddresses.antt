@@ -1,19 +1,17 @@
 -- What is named by itself is so named once, and each line's own address is named and has a fact.
-use Rattle.std.proofs.Common.{◌≡◌, ℕ, ◌+◌, ◌==◌, Bool, true, false, cond, ◌&&◌, List, [], ◌∷◌, ◌++◌, length, AllPairs, Any, Option, Some, None, IfSome, IsSome, is_some, refl, sym, ap, ◌∙◌, subst, inl, inr, true≢false, arith}
+use Rattle.std.proofs.Common.{◌≡◌, ℕ, ◌+◌, ◌==◌, Bool, true, false, cond, ◌&&◌, List, [], ◌∷◌, ◌++◌, length, Any, Option, Some, None, IfSome, IsSome, is_some, refl, sym, ap, ◌∙◌, inl, inr, arith}
 use Rattle.std.proofs.lemmas.Bool.{eqb-true}
 use Rattle.std.proofs.lemmas.Option.{none-some, same_Some}
-use Rattle.toml_tree.specs.Tree.{Line}
 use Rattle.toml_names.specs.declared.named.Role.{Role}
 use Rattle.toml_names.specs.declared.named.Role.TheVariants.{Passed, Header, Dotted, Valued, Tables, Element, Bare}
 use Rattle.toml_names.specs.Addresses.{Address}
-use Rattle.toml_names.specs.Data.{Kinds, IsDataOf}
 use Rattle.toml_names.specs.Joining.{is_lone}
 use Rattle.toml_names.specs.Mentions.{Named, root, named, named_by}
 use Rattle.toml_names.specs.Names.{is_own, line_address, own_address}
 use Rattle.toml_names.specs.OwnAddresses.{is_itself, LineIsNamed, ThemselvesDiffer, OwnAddressesDiffer, OwnAddressIsNamed, OwnAddressHasFact}
 use Rattle.toml_names.specs.Rules.{may_follow}
 use Rattle.toml_names.proofs.AllLines.{new_from, named_from-is}
-use Rattle.toml_names.proofs.Each.{Has, pairs_of_all, has_of_any, any_of_has, from_two}
+use Rattle.toml_names.proofs.Each.{Has, pairs_of_all, any_of_has, from_two}
 use Rattle.toml_names.proofs.LineAddresses.{named_from-append, line_addresses}
 use Rattle.toml_names.proofs.UnderRules.{line_values_stand_alone}
 

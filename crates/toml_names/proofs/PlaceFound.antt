@@ -1,8 +1,8 @@
 -- Under the rules each thing has one place, the one that is found.
-use Rattle.std.proofs.Common.{◌≡◌, ◌⊎◌, inl, inr, ℕ, Bool, true, false, ◌&&◌, cond, List, [], ◌∷◌, ◌++◌, All, Any, Option, Some, None, refl, sym, ap, subst, ◌∙◌, true≢false}
-use Rattle.std.proofs.lemmas.Bool.{cond-true, cond-false}
+use Rattle.std.proofs.Common.{◌≡◌, ◌⊎◌, inl, inr, ℕ, Bool, true, false, ◌&&◌, cond, List, [], ◌∷◌, ◌++◌, Option, Some, None, refl, sym, ap, subst, ◌∙◌, true≢false}
+use Rattle.std.proofs.lemmas.Bool.{cond-true}
 use Rattle.std.proofs.lemmas.List.Elements.{All-head, All-tail}
-use Rattle.std.proofs.lemmas.Option.{none-some}
+use Rattle.toml_tree.specs.Spells.{EachIs}
 use Rattle.toml_tree.specs.Tree.{Line}
 use Rattle.toml_names.specs.declared.address.Step.{Step}
 use Rattle.toml_names.specs.declared.named.Role.{Role}
@@ -10,16 +10,16 @@ use Rattle.toml_names.specs.declared.named.Role.TheVariants.{Passed, Header, Dot
 use Rattle.toml_names.specs.declared.place.Place.{Place}
 use Rattle.toml_names.specs.declared.place.Place.TheVariants as places
 use Rattle.toml_names.specs.Addresses.{Address, IsAbove, same_address}
-use Rattle.toml_names.specs.Data.{fact_at}
+use Rattle.toml_names.specs.Inside.{BelowIsOfItsLine}
 use Rattle.toml_names.specs.Joining.{is_lone}
 use Rattle.toml_names.specs.Local.{mark_of}
-use Rattle.toml_names.specs.Mentions.{Kind, Named, root, named}
-use Rattle.toml_names.specs.Places.{IsNamed, IsNotIn, IsFirstIn, IsInside, IsOutside, IsPlace, PlaceIsFound, same_role, first_line, line_above, inside, outside, in_value, place}
+use Rattle.toml_names.specs.Mentions.{Named, root, named}
+use Rattle.toml_names.specs.Places.{IsNamed, IsNotIn, IsFirstIn, IsInside, IsOutside, IsPlace, PlaceIsFound, same_role, first_line, line_above, inside, outside, in_value}
 use Rattle.toml_names.specs.Placing.{place_of_mark}
 use Rattle.toml_names.specs.Rules.{KeepsRules}
-use Rattle.toml_names.proofs.AllLines.{new_from, named_from-is, lines_join}
-use Rattle.toml_names.proofs.BelowValues.{AreValuesAt, IsHere, AreOfTheirs, below_values}
-use Rattle.toml_names.proofs.Each.{Has, PairsAre, pairs_of_all, has_of_any, any_of_has, has_right, has_weaker, from_two, members_self, each_weaker, taken, of_member}
+use Rattle.toml_names.proofs.AllLines.{named_from-is, lines_join}
+use Rattle.toml_names.proofs.BelowValues.{AreValuesAt, IsHere, below_values}
+use Rattle.toml_names.proofs.Each.{Has, PairsAre, pairs_of_all, has_of_any, has_right, has_weaker, from_two, members_self, each_weaker, taken, of_member}
 use Rattle.toml_names.proofs.Equal.{same_address-self}
 use Rattle.toml_names.proofs.FirstLines.{AreHolding, holding_under_rules, may_hold, marks_hold, inside-some, outside-mark, skip, stop}
 use Rattle.toml_names.proofs.FactAt.{from_all}
@@ -121,6 +121,14 @@ module _ (lines : List Line) (share : PairsAre Share (named lines)) where
       by : (o : Option ℕ) → line_above all at ≡ o → line_above all at ≡ Some line
       by None none = from_all (IsNoValueAbove at) (IsValueAbove at line) (line_above all at ≡ Some line) all (none_above all at none) is (λ m not p. absurd (not p.0 p.1))
       by (Some k) found = found ∙ ap Some (one_above at k line (has_of_any _ all (above_in all at k found)) (has_of_any _ all is))
+
+pub below_is_of_its_line : BelowIsOfItsLine
+below_is_of_its_line lines keeps =
+    let ms = named lines in
+    let share = pairs_of_all Share ms (line_values_stand_alone lines keeps) in
+    each_weaker (λ v. Has (λ z. z ≡ v) ms) (λ v. v.role ≡ Valued → EachIs (λ m. IsAbove v.address m.address → m.line ≡ v.line) ms)
+    (λ v first value. each_weaker (λ m. Has (λ z. z ≡ m) ms) (λ m. IsAbove v.address m.address → m.line ≡ v.line) (λ m then above. sym (below_one lines share v m first then value above)) ms (members_self ms))
+    ms (members_self ms)
 
 outside_is : (ms : List Named) (at : Address) → IsOutside ms at → line_above ms at ≡ None
 outside_is ms at out = by (line_above ms at) refl

@@ -12,14 +12,16 @@ pub use Rattle.toml_names.proofs.FirstNamed.{values_join}
 pub use Rattle.toml_names.proofs.Indices.{indices_are_low, value_indices_are_low}
 pub use Rattle.toml_names.proofs.InsideMoves.{inside_moves}
 pub use Rattle.toml_names.proofs.Levels.{kind_at-scalar, kind_at-array, kind_at-table, datum_is, has_kind, array-here, array-item, array-name, table-here, table-member, table-index, scalar-below}
-pub use Rattle.toml_names.proofs.LineAddresses.{line_addresses, no_line_address}
+pub use Rattle.toml_names.proofs.LineAddresses.{named_has_line, line_addresses, no_line_address}
 pub use Rattle.toml_names.proofs.Local.{last_role_decides}
+pub use Rattle.toml_names.proofs.NextLine.{section_from-append}
+pub use Rattle.toml_names.proofs.NoTables.{count-append}
 pub use Rattle.toml_names.proofs.Offences.{no_misfit, misfit_is_first}
 pub use Rattle.toml_names.proofs.OfOneKind.{one_kind, first_is_data, values_stand_alone}
 pub use Rattle.toml_names.proofs.OneOrder.{one_list_of_first_mentions}
 pub use Rattle.toml_names.proofs.OneRefusal.{one_refusal}
 pub use Rattle.toml_names.proofs.OwnAddresses.{line_is_named, themselves_differ, own_addresses_differ, own_address_is_named, own_address_has_fact}
-pub use Rattle.toml_names.proofs.PlaceFound.{place_is_found}
+pub use Rattle.toml_names.proofs.PlaceFound.{below_is_of_its_line, place_is_found}
 pub use Rattle.toml_names.proofs.PlacesFound.{above_is_above, places_are_found}
 pub use Rattle.toml_names.proofs.PlacesNone.{inside_is_below, no_place}
 pub use Rattle.toml_names.proofs.Refused.{refused_are_bad}

@@ -1,9 +1,11 @@
--- Where what a value names inside it stands.
-use Rattle.std.specs.Prelude.{◌≡◌, ◌++◌, ℕ, map}
+-- Where what a value names inside it stands, and what else stands there.
+use Rattle.std.specs.Prelude.{◌≡◌, ◌++◌, ℕ, List, map}
 use Rattle.toml_tree.specs.Spells.{EachIs}
-use Rattle.toml_tree.specs.Tree.{Value}
+use Rattle.toml_tree.specs.Tree.{Value, Line}
+use Rattle.toml_names.specs.declared.named.Role.TheVariants.{Valued}
 use Rattle.toml_names.specs.Addresses.{Address, IsAbove}
-use Rattle.toml_names.specs.Mentions.{Named, inside}
+use Rattle.toml_names.specs.Mentions.{Named, named, inside}
+use Rattle.toml_names.specs.Rules.{KeepsRules}
 
 -- the same thing in a line, below another address
 abbrev pub shifted : ℕ → Address → Named → Named
@@ -16,3 +18,8 @@ InsideIsBelow = (line : ℕ) (v : Value) (at : Address) → EachIs (λ m. IsAbov
 -- and moves along with it.
 abbrev pub InsideMoves : Type 0
 InsideMoves = (line old : ℕ) (v : Value) (p at : Address) → inside line (p ++ at) v ≡ map (shifted line p) (inside old at v)
+
+-- Under the rules only the line of a value names anything strictly below it.
+abbrev pub BelowIsOfItsLine : Type 0
+BelowIsOfItsLine = (lines : List Line) → KeepsRules (named lines)
+    → EachIs (λ v. v.role ≡ Valued → EachIs (λ m. IsAbove v.address m.address → m.line ≡ v.line) (named lines)) (named lines)

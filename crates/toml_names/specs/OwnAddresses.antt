@@ -1,6 +1,7 @@
 -- What the lines of a document name by itself, and the address that each line has of its own.
 use Rattle.std.specs.Prelude.{◌≡◌, ◌∷◌, ◌++◌, ℕ, Bool, true, false, List, length, Any, AllPairs, Some, IfSome, IsSome}
-use Rattle.toml_tree.specs.Tree.{Line}
+use Rattle.toml_tree.specs.Spells.{EachIs}
+use Rattle.toml_tree.specs.Tree.{Expr, Line}
 use Rattle.toml_names.specs.declared.named.Role.{Role}
 use Rattle.toml_names.specs.declared.named.Role.TheVariants.{Header, Valued, Element, Bare}
 use Rattle.toml_names.specs.Addresses.{Address}
@@ -22,6 +23,10 @@ is_itself _ = false
 abbrev pub LineIsNamed : Type 0
 LineIsNamed = (before behind : List Line) (l : Line)
     → (rest : List Named) × (named (before ++ l ∷ behind) ≡ (named before ++ named_by (named before) (length before) l.expr) ++ rest)
+
+-- Each thing that it names has its number.
+abbrev pub NamedHasLine : Type 0
+NamedHasLine = (earlier : List Named) (line : ℕ) (e : Expr) → EachIs (λ m. m.line ≡ line) (named_by earlier line e)
 
 -- Under the rules no two things that are named by themselves are at one address,
 abbrev pub ThemselvesDiffer : Type 0

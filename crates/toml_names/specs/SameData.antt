@@ -1,5 +1,5 @@
 -- Data that are the same, level by level.
-use Rattle.std.specs.Prelude.{◌≡◌, ◌↔◌, ℕ, List, Option, IsSome, slice_get}
+use Rattle.std.specs.Prelude.{◌≡◌, ◌↔◌, ℕ, List, Option, slice_get}
 use Rattle.std.specs.BTreeMap.{get_by_text}
 use Rattle.toml_scalar.specs.declared.scalar.Scalar.{Scalar as Token}
 use Rattle.toml_scalar.specs.Values.{scalar_value}

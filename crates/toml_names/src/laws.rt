@@ -1,16 +1,16 @@
 //! Laws over the definitions: nothing is run.
 ghost use Rattle.toml_names.specs.Addresses.{SameStepIsEqual, StepIsSame, SameIsEqual, AboveIsAbove};
-ghost use Rattle.toml_names.specs.Alike.{AlikeNameTheSame, AlikeStayAlike, PairsLeaveAlike};
+ghost use Rattle.toml_names.specs.Alike.{SectionGoesOn, CountsAdd, AlikeNameTheSame, AlikeStayAlike, PairsLeaveAlike};
 ghost use Rattle.toml_names.specs.Clear.{NotNamedIsClear};
 ghost use Rattle.toml_names.specs.DataLaws.{LinesHaveOneKind, LineValuesStandAlone, ValuesHaveOneKind, InnerValuesStandAlone, OneData, LinesAreClosed, ValuesAreClosed};
 ghost use Rattle.toml_names.specs.FirstMentions.{FirstMentionsAreThese, OneListOfFirstMentions};
 ghost use Rattle.toml_names.specs.Indices.{IndicesAreLow, ValueIndicesAreLow};
-ghost use Rattle.toml_names.specs.Inside.{InsideIsBelow, InsideMoves};
+ghost use Rattle.toml_names.specs.Inside.{InsideIsBelow, InsideMoves, BelowIsOfItsLine};
 ghost use Rattle.toml_names.specs.Joining.{LinesJoin, ValuesJoin, OneKind, FirstIsData, ValuesStandAlone};
 ghost use Rattle.toml_names.specs.Levels.{ScalarLevel, ArrayLevel, TableLevel, DatumIsOneOfThree, DatumHasRoot, ArrayAtRoot, ArrayAtIndex, ArrayAtName, IndexIsWithin, TableAtRoot, TableAtName, TableAtIndex, NameHasMember, NothingBelowScalar};
 ghost use Rattle.toml_names.specs.Local.{LastRoleDecides};
 ghost use Rattle.toml_names.specs.Names.{RefusedAreBad, OneRefusal, LineAddresses, NoLineAddress};
-ghost use Rattle.toml_names.specs.OwnAddresses.{LineIsNamed, ThemselvesDiffer, OwnAddressesDiffer, OwnAddressIsNamed, OwnAddressHasFact};
+ghost use Rattle.toml_names.specs.OwnAddresses.{LineIsNamed, NamedHasLine, ThemselvesDiffer, OwnAddressesDiffer, OwnAddressIsNamed, OwnAddressHasFact};
 ghost use Rattle.toml_names.specs.Parts.{DatumHasPart, StepIsThere, PartIsThere};
 ghost use Rattle.toml_names.specs.Places.{PlacesAreFound, NoPlace, PlaceIsFound};
 ghost use Rattle.toml_names.specs.Rules.{NoMisfit, MisfitIsFirst, RulesAreOfMentions};
@@ -45,26 +45,36 @@ pub fn line_addresses()
     ensures behind { NoLineAddress }
 {}
 
-/// What a line names stands in what the lines name. Under the rules what is named by itself, by a header, as a value or
-/// as an element, is so named once; so lines that have one address of their own are one line. That address is named
-/// by the line, and something stands there in the data.
+/// What a line names stands in what the lines name, behind what those before it name, and has the line's number.
+pub fn named_lines()
+    ensures there { LineIsNamed }
+    ensures number { NamedHasLine }
+{}
+
+/// Under the rules what is named by itself, by a header, as a value or as an element, is so named once; so lines that
+/// have one address of their own are one line. That address is named by the line, and something stands there in the
+/// data.
 pub fn own_addresses()
-    ensures line { LineIsNamed }
     ensures themselves { ThemselvesDiffer }
     ensures differ { OwnAddressesDiffer }
     ensures named { OwnAddressIsNamed }
     ensures fact { OwnAddressHasFact }
 {}
 
-/// What a value names inside it lies strictly below its address, and moves along with it.
+/// What a value names inside it lies strictly below its address, and moves along with it. Under the rules only the line
+/// of a value names anything strictly below it.
 pub fn inside()
     ensures below { InsideIsBelow }
     ensures moves { InsideMoves }
+    ensures alone { BelowIsOfItsLine }
 {}
 
 /// What a line names depends on what was named before by the last header's table, and by how many tables the arrays of
-/// tables have. Lists that are alike in these stay so once the same is named behind both, and a pair changes neither.
+/// tables have; both go on where a list before stopped. Lists that are alike in these stay so once the same is named
+/// behind both, and a pair changes neither.
 pub fn alike_lists()
+    ensures section { SectionGoesOn }
+    ensures counts { CountsAdd }
     ensures same { AlikeNameTheSame }
     ensures more { AlikeStayAlike }
     ensures pairs { PairsLeaveAlike }

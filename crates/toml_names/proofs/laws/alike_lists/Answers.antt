@@ -1,5 +1,13 @@
 use Rattle.toml_names.proofs.AlikeNames.{alike_name_the_same, alike_stay_alike, pairs_leave_alike}
+use Rattle.toml_names.proofs.NextLine.{section_from-append}
+use Rattle.toml_names.proofs.NoTables.{count-append}
 use Rattle.toml_names.proofs.laws.alike_lists.Goals as goal
+
+pub returns-clause-section : goal.returns-clause-section
+returns-clause-section c = section_from-append
+
+pub returns-clause-counts : goal.returns-clause-counts
+returns-clause-counts c = count-append
 
 pub returns-clause-same : goal.returns-clause-same
 returns-clause-same c = alike_name_the_same

@@ -1,4 +1,5 @@
 use Rattle.toml_names.proofs.InsideMoves.{inside_moves}
+use Rattle.toml_names.proofs.PlaceFound.{below_is_of_its_line}
 use Rattle.toml_names.proofs.PlacesNone.{inside_is_below}
 use Rattle.toml_names.proofs.laws.inside.Goals as goal
 
@@ -7,3 +8,6 @@ returns-clause-below c = inside_is_below
 
 pub returns-clause-moves : goal.returns-clause-moves
 returns-clause-moves c = inside_moves
+
+pub returns-clause-alone : goal.returns-clause-alone
+returns-clause-alone c = below_is_of_its_line
