@@ -14,7 +14,8 @@ use Rattle.toml_names.specs.Mentions.{an_array, Named, root, named_by, named_fro
 use Rattle.toml_names.proofs.Counting.{adds, adds_none, count_cons}
 use Rattle.toml_names.proofs.Each.{each_append}
 use Rattle.toml_names.proofs.NoTables.{count-append, no_tables-pair}
-use Rattle.toml_names.proofs.Sizes.{size, sizes_add}
+use Rattle.toml_tree.specs.Parts.{size}
+use Rattle.toml_tree.proofs.Proved.{sizes_add}
 
 module _ (n : ℕ) where
   abbrev AllLow : List Named → Type 0

@@ -102,6 +102,5 @@ pub mod AlikeNames
 pub mod Clear
 pub mod BelowValues
 pub mod PlaceFound
-pub mod Sizes
 pub mod Indices
 pub mod Proved

@@ -1,7 +1,9 @@
 -- Why bytes that were refused are no document, and bytes that were not are one.
-use Rattle.std.proofs.Common.{◌≡◌, ◌⊎◌, ◌≤◌, ℕ, List, length, Option, sym, subst, arith, inl, inr, ap, ◌∙◌}
+use Rattle.std.proofs.Common.{◌≡◌, ◌⊎◌, ◌≤◌, ◌+◌, ℕ, List, length, Option, Some, Result, Ok, Err, Vec, Global, sym, subst, arith, inl, inr, ap, ◌∙◌}
+use Rattle.std.proofs.lemmas.Option.{none-some}
 use Rattle.std.proofs.lemmas.Result.{IfOk-weaker}
-use Rattle.std.specs.Prelude.{IfOk, IfSome, Result}
+use Rattle.std.specs.Prelude.{IfErr, IfOk, IfSome}
+use Rattle.std.specs.Result.{IsErrAnd}
 use Rattle.std.specs.declared.alloc.AllocError.{AllocError}
 use Rattle.std.specs.Str.{IsValidUpTo}
 use Rattle.std.proofs.lemmas.Str.{IsUtf8-from_is_utf8}
@@ -13,10 +15,10 @@ use Rattle.toml_scalar.specs.declared.fault.SyntaxFault.{SyntaxFault}
 use Rattle.toml_scalar.specs.declared.fault.SyntaxFault.TheVariants as faults
 use Rattle.toml_tree.specs.Document as trees
 use Rattle.toml_tree.specs.Spells.{Spells, SpelledByNone}
-use Rattle.toml_tree.specs.Tree.{Doc}
+use Rattle.toml_tree.specs.Tree.{Doc, Line}
 use Rattle.toml_tree.proofs.Proved.{one_tree}
-use Rattle.tomled.specs.Outcomes.{Refuses, Tells}
-use Rattle.tomled.specs.Reading.{IsTextRefusal, IsSyntaxRefusal, RefusesLines, code_of}
+use Rattle.tomled.specs.Outcomes.{ComesTo, Ends, IsRefused, Prints, Refuses, Tells}
+use Rattle.tomled.specs.Reading.{IsNameEnding, IsNameRefusal, IsSyntaxEnding, IsTextRefusal, IsSyntaxRefusal, RefusesLines, code_of}
 use Rattle.toml_names.specs.Documents.{IsDocument}
 use Rattle.toml_names.specs.Names.{AreGood, RefusesNames}
 use Rattle.toml_names.specs.declared.fault.NameFault.{NameFault}
@@ -28,11 +30,10 @@ use Rattle.toml_names.proofs.Proved.{refused_are_bad}
 use Rattle.tomled.specs.Listing.{ListsAddresses, lines_of}
 use Rattle.tomled.specs.Show.{IsLineOf, ShowsData}
 use Rattle.tomled.specs.Refusals.{IsRefusalOf, IsSyntaxCode}
+use Rattle.tomled.specs.declared.ending.Ending.{Ending}
+use Rattle.tomled.specs.declared.ending.Ending.TheVariants as ends
 use Rattle.tomled.specs.declared.outcome.Outcome.{Outcome}
 use Rattle.tomled.specs.declared.refusal.Refusal.{Refusal}
-
-abbrev pub IsRefused : List ℕ → Refusal → Type 0
-IsRefused bytes r = (¬ IsDocument bytes) × IsRefusalOf bytes r
 
 pub no_text : (bytes : List ℕ) (fault : TextFault) (r : Refusal) → IsFaultOf bytes fault → IsTextRefusal fault r → IsRefused bytes r
 no_text bytes (NotUtf8 at) r h k = (
@@ -54,49 +55,53 @@ coded (faults.BadDate at) = (omega arith, omega arith)
 coded (faults.TooDeep at) = (omega arith, omega arith)
 coded faults.NoMemory = tt
 
-pub no_tree : (bytes : List ℕ) (fault : SyntaxFault) (r : Refusal) → IsText bytes → trees.Refuses bytes fault → IsSyntaxRefusal fault r → IsRefused bytes r
-no_tree bytes fault r text h k =
+told_tree : (bytes : List ℕ) (fault : SyntaxFault) (r : Refusal) → IsText bytes → trees.Refuses bytes fault → IsSyntaxRefusal fault r → IsRefused bytes r
+told_tree bytes fault r text h k =
     let R : ℕ → Type 0 = λ at. (at ≤ length bytes) × SpelledByNone bytes in
     let told : R r.place = subst (λ (o : Option ℕ). IfSome o R) k.1 h in
     let code : IsSyntaxCode r.code = subst (λ (o : Option ℕ). IfSome o IsSyntaxCode) k.0 (coded fault) in
     ((λ document. told.1 document.1 document.2), inr (inr (inl (code, told.0, text, told.1))))
 
+pub no_tree : (bytes : List ℕ) (fault : SyntaxFault) (e : Ending) → IsText bytes → trees.Refuses bytes fault → IsSyntaxEnding fault e → Ends (IsRefused bytes) e
+no_tree bytes fault (ends.Refused r) text h k = told_tree bytes fault r text h k
+no_tree bytes fault ends.NoMemory text h k = tt
+
+-- a fault of the names refuses the lines
+some_same : (m n : ℕ) → ◌≡◌ {A = Option ℕ} (Some m) (Some n) → n ≡ m
+some_same m n e = cc
+
+told_names : (lines : List Line) (fault : NameFault) (r : Refusal) → RefusesNames lines fault → IsNameRefusal fault r → RefusesLines lines r
+told_names lines (names.Redefined line at) r h k = inl (some_same 201 r.code k.0, line, at, some_same (line + 1) r.place k.1, h)
+told_names lines (names.LongAddress line) r h k = inr (some_same 203 r.code k.0, line, some_same (line + 1) r.place k.1, h)
+told_names lines names.NoMemory r h k = absurd (none-some r.code k.0)
+
+pub names_end : (lines : List Line) (fault : NameFault) (e : Ending) → RefusesNames lines fault → IsNameEnding fault e → Ends (RefusesLines lines) e
+names_end lines fault (ends.Refused r) h k = told_names lines fault r h k
+names_end lines fault ends.NoMemory h k = tt
+
 -- the lines of the one tree of the bytes are refused
-no_names : (bytes : List ℕ) (d : Doc) (fault : NameFault) → Spells d bytes → RefusesNames d.lines fault → (fault ≡ names.NoMemory → ⊥) → ¬ IsDocument bytes
-no_names bytes d fault spelled refuses memory document =
+bad_names : (bytes : List ℕ) (d : Doc) (fault : NameFault) → Spells d bytes → RefusesNames d.lines fault → (fault ≡ names.NoMemory → ⊥) → ¬ IsDocument bytes
+bad_names bytes d fault spelled refuses memory document =
     let same : document.1 ≡ d = one_tree document.1 d bytes document.2 spelled in
     refused_are_bad d.lines fault refuses memory (subst (λ (e : Doc). AreGood e.lines) same document.3)
 
 pub no_lines : (bytes : List ℕ) (d : Doc) (r : Refusal) → IsText bytes → Spells d bytes → RefusesLines d.lines r → IsRefused bytes r
 no_lines bytes d r text spelled (inl h) = (
-  no_names bytes d (names.Redefined h.1 h.2) spelled h.4 (λ e. cc),
+  bad_names bytes d (names.Redefined h.1 h.2) spelled h.4 (λ e. cc),
   inr (inr (inr (inl (h.0, text, d, h.1, h.2, h.3, spelled, h.4)))),
 )
 no_lines bytes d r text spelled (inr h) = (
-  no_names bytes d (names.LongAddress h.1) spelled h.3 (λ e. cc),
+  bad_names bytes d (names.LongAddress h.1) spelled h.3 (λ e. cc),
   inr (inr (inr (inr (h.0, text, d, h.1, h.2, spelled, h.3)))),
 )
 
--- what is refused is told, whatever else the answer of a document may be
-pub refuses : (A : Outcome → Type 0) (bytes : List ℕ) (r : Refusal) (result : Result Outcome AllocError) → IsRefused bytes r → IfOk result (Tells r) → IfOk result (λ o. A o ⊎ Refuses bytes o)
-refuses A bytes r result refused = IfOk-weaker result (Tells r) (λ o. A o ⊎ Refuses bytes o) (λ o tells. inr (refused.0, r, refused.1, tells))
+-- so are the bytes
+pub no_names : (bytes : List ℕ) (d : Doc) (e : Ending) → IsText bytes → Spells d bytes → Ends (RefusesLines d.lines) e → Ends (IsRefused bytes) e
+no_names bytes d (ends.Refused r) text spelled h = no_lines bytes d r text spelled h
+no_names bytes d ends.NoMemory text spelled h = tt
 
-pub shown : (bytes line : List ℕ) (d : Doc) (kinds : Kinds) → IsText bytes → Spells d bytes → AreGood d.lines → IsDataOf (named d.lines) kinds → IsLineOf kinds line → ShowsData bytes line
-shown bytes line d kinds text spelled good facts told = record {
-  text = text;
-  doc = d;
-  spelled = spelled;
-  good = good;
-  kinds = kinds;
-  facts = facts;
-  shown = told;
-}
-
-pub listed : (bytes text : List ℕ) (d : Doc) (names : List Named) → IsText bytes → Spells d bytes → AreGood d.lines × (names ≡ named d.lines) → text ≡ lines_of (first_mentions names) → ListsAddresses bytes text
-listed bytes text d names limit spelled read told = record {
-  limit = limit;
-  doc = d;
-  spelled = spelled;
-  good = read.0;
-  listed = told ∙ ap (λ (ms : List Named). lines_of (first_mentions ms)) read.1;
-}
+-- a refusal of the names is handed on
+pub passed_up : {T : Type 0} (bytes : List ℕ) (d : Doc) (e : Ending) (result : Result T Ending) → IsErrAnd result (λ x. x ≡ e) → IsText bytes × Spells d bytes → Ends (RefusesLines d.lines) e
+    → IfErr result (Ends (IsRefused bytes))
+passed_up bytes d e (Ok x) same read h = tt
+passed_up bytes d e (Err x) same read h = subst (Ends (IsRefused bytes)) (sym same) (no_names bytes d e read.0 read.1 h)

@@ -1,7 +1,10 @@
 -- What a run of the program comes to.
-use Rattle.std.specs.Prelude.{◌≡◌, ℕ, List, []}
+use Rattle.std.specs.Prelude.{◌≡◌, ℕ, List, [], Result, Ok, Err, Vec}
+use Rattle.std.specs.declared.alloc.Global.{Global}
 use Rattle.toml_names.specs.Documents.{IsDocument}
 use Rattle.tomled.specs.Refusals.{IsRefusalOf, refusal_line}
+use Rattle.tomled.specs.declared.ending.Ending.{Ending}
+use Rattle.tomled.specs.declared.ending.Ending.TheVariants.{Refused, NoMemory}
 use Rattle.tomled.specs.declared.outcome.Outcome.{Outcome}
 use Rattle.tomled.specs.declared.refusal.Refusal.{Refusal}
 
@@ -19,6 +22,21 @@ pub record Tells (r : Refusal) (o : Outcome) : Type 0 where
   pub err : o.err.items ≡ refusal_line r
   pub files : o.files.items ≡ []
 
+-- what a command's answer comes to: its text is printed, its refusal told
+abbrev pub ComesTo : Result (Vec ℕ Global) Ending → Outcome → Type 0
+ComesTo (Ok text) o = Prints text.items o
+ComesTo (Err (Refused r)) o = Tells r o
+ComesTo (Err NoMemory) o = ⊥
+
+-- it ends with such a refusal; want of memory says nothing
+abbrev pub Ends : (Refusal → Type 0) → Ending → Type 0
+Ends P (Refused r) = P r
+Ends P NoMemory = Unit {0}
+
+-- the bytes are no document, and the refusal says why
+abbrev pub IsRefused : List ℕ → Refusal → Type 0
+IsRefused bytes r = (¬ IsDocument bytes) × IsRefusalOf bytes r
+
 -- the bytes are no document, and the answer tells why
 abbrev pub Refuses : List ℕ → Outcome → Type 0
-Refuses bytes o = (¬ IsDocument bytes) × (r : Refusal) × IsRefusalOf bytes r × Tells r o
+Refuses bytes o = (r : Refusal) × IsRefused bytes r × Tells r o

@@ -1,46 +1,23 @@
 -- What the reading of a document gives.
-use Rattle.std.specs.Prelude.{◌≡◌, ◌<◌, ◌+◌, ◌⊎◌, ℕ, ⊤, List, Option, Some, None, option_map, Result, IfSome, MatchResult}
-use Rattle.toml_text.specs.Limit.{IsText, max_len}
+use Rattle.std.specs.Prelude.{◌≡◌, ◌<◌, ◌+◌, ◌⊎◌, ℕ, List, Option, Some, None, option_map, IfSome}
+use Rattle.toml_text.specs.Limit.{max_len}
 use Rattle.toml_text.specs.declared.fault.TextFault.{TextFault}
 use Rattle.toml_text.specs.declared.fault.TextFault.TheVariants.{NotUtf8, TooLong}
 use Rattle.toml_scalar.specs.Faults.{place_of}
 use Rattle.toml_scalar.specs.declared.fault.SyntaxFault.{SyntaxFault}
 use Rattle.toml_scalar.specs.declared.fault.SyntaxFault.TheVariants as faults
-use Rattle.toml_tree.specs.declared.document.Doc.{Doc}
-use Rattle.toml_tree.specs.Document.{document}
-use Rattle.toml_tree.specs.Spells.{Spells}
 use Rattle.toml_tree.specs.Tree.{Line}
 use Rattle.toml_names.specs.Addresses.{Address}
-use Rattle.toml_names.specs.Mentions.{named}
-use Rattle.toml_names.specs.Names.{AreGood, IsRedefined, IsLong}
-use Rattle.toml_names.specs.Data.{IsDataOf, kind_at}
-use Rattle.toml_names.specs.declared.datum.Data.{Data}
+use Rattle.toml_names.specs.Names.{IsRedefined, IsLong}
 use Rattle.toml_names.specs.declared.fault.NameFault.{NameFault}
 use Rattle.toml_names.specs.declared.fault.NameFault.TheVariants as names
-use Rattle.toml_names.specs.Documents.{IsDocument}
-use Rattle.toml_names.specs.Reading.{Known}
-use Rattle.tomled.specs.Refusals.{IsRefusalOf}
+use Rattle.tomled.specs.declared.ending.Ending.{Ending}
+use Rattle.tomled.specs.declared.ending.Ending.TheVariants.{Refused, NoMemory}
 use Rattle.tomled.specs.declared.refusal.Refusal.{Refusal}
-
--- a text within the limit has its tree, and bytes that no tree spells have their refusal
-abbrev pub ReadsTree : List ℕ → Result Doc Refusal → Type 0
-ReadsTree bytes found = MatchResult found (λ doc. IsText bytes × Spells (document doc) bytes) (λ r. (¬ IsDocument bytes) × IsRefusalOf bytes r)
 
 -- the refusal that stands for lines of which the names are refused
 abbrev pub RefusesLines : List Line → Refusal → Type 0
 RefusesLines lines r = ((r.code ≡ 201) × (line : ℕ) × (at : Address) × (r.place ≡ line + 1) × IsRedefined lines line at) ⊎ ((r.code ≡ 203) × (line : ℕ) × (r.place ≡ line + 1) × IsLong lines line)
-
--- good lines are taken, and other lines have their refusal
-abbrev pub JudgesLines : List Line → Result ⊤ Refusal → Type 0
-JudgesLines lines found = MatchResult found (λ done. AreGood lines) (RefusesLines lines)
-
--- good lines have their data, and other lines have their refusal
-abbrev pub ReadsData : List Line → Result Data Refusal → Type 0
-ReadsData lines found = MatchResult found (λ d. AreGood lines × IsDataOf (named lines) (kind_at d.root)) (RefusesLines lines)
-
--- good lines have their names, and other lines have their refusal
-abbrev pub ReadsNames : List Line → Result Known Refusal → Type 0
-ReadsNames lines found = MatchResult found (λ names. AreGood lines × (names.named ≡ named lines)) (RefusesLines lines)
 
 -- the refusal that stands for a fault of the bytes as a text
 abbrev pub IsTextRefusal : TextFault → Refusal → Type 0
@@ -62,6 +39,11 @@ code_of faults.NoMemory = None
 abbrev pub IsSyntaxRefusal : SyntaxFault → Refusal → Type 0
 IsSyntaxRefusal fault r = (code_of fault ≡ Some r.code) × (place_of fault ≡ Some r.place)
 
+-- what it comes to
+abbrev pub IsSyntaxEnding : SyntaxFault → Ending → Type 0
+IsSyntaxEnding fault (Refused r) = IsSyntaxRefusal fault r
+IsSyntaxEnding fault NoMemory = fault ≡ faults.NoMemory
+
 -- the code of a fault of the names, and the line that it tells, from 0; want of memory has none
 abbrev pub name_code : NameFault → Option ℕ
 name_code (names.Redefined line at) = Some 201
@@ -80,3 +62,8 @@ HasNumber fault = IfSome (name_line fault) (λ line. line < 9223372036854775807)
 -- the refusal that stands for a fault of the names
 abbrev pub IsNameRefusal : NameFault → Refusal → Type 0
 IsNameRefusal fault r = (name_code fault ≡ Some r.code) × (option_map (λ line. line + 1) (name_line fault) ≡ Some r.place)
+
+-- what it comes to
+abbrev pub IsNameEnding : NameFault → Ending → Type 0
+IsNameEnding fault (Refused r) = IsNameRefusal fault r
+IsNameEnding fault NoMemory = fault ≡ names.NoMemory

@@ -1,71 +1,84 @@
 //! The reading of a document, its tree first and then its names, and why other bytes are refused.
-ghost use Rattle.std.specs.Prelude.{◌≡◌, ◌+◌, ◌<◌, IfOk};
+ghost use Rattle.std.specs.Prelude.{◌≡◌, ◌+◌, ◌<◌, IfErr, IfOk, OnOk};
+ghost use Rattle.toml_text.specs.Limit.{IsText};
 ghost use Rattle.toml_tree.specs.Document.{document};
-ghost use Rattle.tomled.specs.Reading.{HasNumber, IsNameRefusal, IsSyntaxRefusal, IsTextRefusal};
-ghost use Rattle.tomled.specs.Reading.{JudgesLines, ReadsData, ReadsNames, ReadsTree};
+ghost use Rattle.toml_tree.specs.Spells.{Spells};
+ghost use Rattle.toml_names.specs.Data.{IsDataOf, kind_at};
+ghost use Rattle.toml_names.specs.Mentions.{named};
+ghost use Rattle.toml_names.specs.Names.{AreGood};
+ghost use Rattle.tomled.specs.Outcomes.{Ends, IsRefused};
+ghost use Rattle.tomled.specs.Reading.{HasNumber, IsNameEnding, IsSyntaxEnding, IsTextRefusal, RefusesLines};
 
+use crate::ending::Ending;
 use crate::refusal::Refusal;
-use std::alloc::{AllocError, Global};
+use std::alloc::Global;
 use toml_names::{Data, NameFault, Names, read_lines, read_names};
 use toml_text::{MAX_LEN, Source, TextFault};
 use toml_tree::{Doc, SyntaxFault, parse};
 
 /// The tree of the text that the bytes are, or why no tree spells them.
-pub fn read_tree<'t>(alloc: Global, file: &'t [u8]) -> Result<Result<Doc<'t>, Refusal>, AllocError>
-    ensures { IfOk result (ReadsTree file.now) }
+#[tactic(auto, using(crate::proofs::Judged::no_tree, crate::proofs::Judged::no_text))]
+pub fn read_tree<'t>(alloc: Global, file: &'t [u8]) -> Result<Doc<'t>, Ending>
+    ensures spelled { IfOk result (λ doc. IsText file.now × Spells (document doc) file.now) }
+    ensures refused { IfErr result (Ends (IsRefused file.now)) }
 {
     let source = match Source::new(file) {
         Ok(source) => source,
-        Err(fault) => return Ok(Err(text_refusal(fault))),
+        Err(fault) => return Err(Ending::Refused(text_refusal(fault))),
     };
     match parse(alloc, source) {
-        Ok(doc) => Ok(Ok(doc)),
-        Err(fault) => Ok(Err(syntax_refusal(fault)?)),
+        Ok(doc) => Ok(doc),
+        Err(fault) => Err(syntax_ending(fault)),
     }
 }
 
-/// Whether the names of the lines keep the rules, and else the refusal. Nothing else is built of them.
-pub fn judge(alloc: Global, doc: &Doc<'_>) -> Result<Result<(), Refusal>, AllocError>
-    ensures { IfOk result (JudgesLines (document doc.now).lines) }
+/// Whether the names of the lines keep the rules, and else why they don't. Nothing else is built of them.
+#[tactic(auto, using(crate::proofs::Judged::names_end))]
+pub fn judge(alloc: Global, doc: &Doc<'_>) -> Result<(), Ending>
+    ensures good { OnOk result (AreGood (document doc.now).lines) }
+    ensures refused { IfErr result (Ends (RefusesLines (document doc.now).lines)) }
 {
     match read_lines(alloc, doc) {
-        Ok(_) => Ok(Ok(())),
-        Err(fault) => Ok(Err(name_refusal(fault)?)),
+        Ok(_) => Ok(()),
+        Err(fault) => Err(name_ending(fault)),
     }
 }
 
 /// The data of the lines, or why they are refused.
-pub fn read_data(alloc: Global, doc: &Doc<'_>) -> Result<Result<Data, Refusal>, AllocError>
-    ensures { IfOk result (ReadsData (document doc.now).lines) }
+#[tactic(auto, using(crate::proofs::Judged::names_end))]
+pub fn read_data(alloc: Global, doc: &Doc<'_>) -> Result<Data, Ending>
+    ensures good { OnOk result (AreGood (document doc.now).lines) }
+    ensures facts { IfOk result (λ whole. IsDataOf (named (document doc.now).lines) (kind_at whole.root)) }
+    ensures refused { IfErr result (Ends (RefusesLines (document doc.now).lines)) }
 {
     match read_lines(alloc, doc) {
-        Ok(reader) => Ok(Ok(reader.data()?)),
-        Err(fault) => Ok(Err(name_refusal(fault)?)),
+        Ok(reader) => Ok(reader.data()?),
+        Err(fault) => Err(name_ending(fault)),
     }
 }
 
 /// The names of the lines, or why they are refused.
-pub fn read_all<'d, 't>(
-    alloc: Global,
-    doc: &'d Doc<'t>,
-) -> Result<Result<Names<'d, 't>, Refusal>, AllocError>
-    ensures { IfOk result (ReadsNames (document doc.now).lines) }
+#[tactic(auto, using(crate::proofs::Judged::names_end))]
+pub fn read_all<'d, 't>(alloc: Global, doc: &'d Doc<'t>) -> Result<Names<'d, 't>, Ending>
+    ensures good { OnOk result (AreGood (document doc.now).lines) }
+    ensures named { IfOk result (λ names. names.named ≡ named (document doc.now).lines) }
+    ensures refused { IfErr result (Ends (RefusesLines (document doc.now).lines)) }
 {
     match read_names(alloc, doc) {
-        Ok(names) => Ok(Ok(names)),
-        Err(fault) => Ok(Err(name_refusal(fault)?)),
+        Ok(names) => Ok(names),
+        Err(fault) => Err(name_ending(fault)),
     }
 }
 
-/// The refusal of a fault of the names, unless there was no memory.
-fn name_refusal(fault: NameFault) -> Result<Refusal, AllocError>
+/// What a fault of the names comes to.
+fn name_ending(fault: NameFault) -> Ending
     requires { HasNumber fault }
-    ensures { IfOk result (IsNameRefusal fault) }
+    ensures { IsNameEnding fault result }
 {
     match fault {
-        NameFault::Redefined { line, .. } => Ok(line_refusal(201, line)),
-        NameFault::LongAddress { line } => Ok(line_refusal(203, line)),
-        NameFault::NoMemory => Err(AllocError),
+        NameFault::Redefined { line, .. } => Ending::Refused(line_refusal(201, line)),
+        NameFault::LongAddress { line } => Ending::Refused(line_refusal(203, line)),
+        NameFault::NoMemory => Ending::NoMemory,
     }
 }
 
@@ -96,9 +109,9 @@ fn text_refusal(fault: TextFault) -> Refusal
     }
 }
 
-/// The refusal of a syntax fault, unless there was no memory.
-fn syntax_refusal(fault: SyntaxFault) -> Result<Refusal, AllocError>
-    ensures { IfOk result (IsSyntaxRefusal fault) }
+/// What a syntax fault comes to.
+fn syntax_ending(fault: SyntaxFault) -> Ending
+    ensures { IsSyntaxEnding fault result }
 {
     let (code, place) = match fault {
         SyntaxFault::BadCharacter { at } => (103, at),
@@ -108,7 +121,7 @@ fn syntax_refusal(fault: SyntaxFault) -> Result<Refusal, AllocError>
         SyntaxFault::IntegerRange { at } => (107, at),
         SyntaxFault::BadDate { at } => (108, at),
         SyntaxFault::TooDeep { at } => (109, at),
-        SyntaxFault::NoMemory => return Err(AllocError),
+        SyntaxFault::NoMemory => return Ending::NoMemory,
     };
-    Ok(Refusal { code, place })
+    Ending::Refused(Refusal { code, place })
 }

@@ -1,9 +1,11 @@
 //! `show --list`: the addresses of a document's mentions.
-ghost use Rattle.std.specs.Prelude.{◌≡◌, IfOk};
+ghost use Rattle.std.specs.Prelude.{◌≡◌, IfErr, IfOk};
 ghost use Rattle.serde_json.specs.View.{view};
-ghost use Rattle.tomled.specs.Listing.{Lists, address_json, line_of, lines_of, step_json};
+ghost use Rattle.tomled.specs.Listing.{Lists, ListsAddresses, address_json, line_of, lines_of, step_json};
+ghost use Rattle.tomled.specs.Outcomes.{Ends, IsRefused};
 
 use crate::document::{read_all, read_tree};
+use crate::ending::Ending;
 use crate::outcome::Outcome;
 use serde_json::Value;
 use std::alloc::{AllocError, Global};
@@ -13,14 +15,17 @@ use toml_names::{Address, Step};
 pub fn run_list(alloc: Global, file: &[u8]) -> Result<Outcome, AllocError>
     ensures { IfOk result (Lists file.now) }
 {
-    let doc = match read_tree(alloc, file)? {
-        Ok(doc) => doc,
-        Err(refusal) => return Outcome::refused(alloc, refusal),
-    };
-    match read_all(alloc, &doc)? {
-        Ok(names) => Ok(Outcome::good(alloc, lines(alloc, names.first_mentions())?)),
-        Err(refusal) => Outcome::refused(alloc, refusal),
-    }
+    Outcome::of(alloc, listed(alloc, file))
+}
+
+/// The lines of a document's addresses.
+fn listed(alloc: Global, file: &[u8]) -> Result<Vec<u8>, Ending>
+    ensures good { IfOk result (λ text. ListsAddresses file.now text.items) }
+    ensures refused { IfErr result (Ends (IsRefused file.now)) }
+{
+    let doc = read_tree(alloc, file)?;
+    let names = read_all(alloc, &doc)?;
+    Ok(lines(alloc, names.first_mentions())?)
 }
 
 /// A line for each address.

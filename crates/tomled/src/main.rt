@@ -5,6 +5,7 @@ ghost use Rattle.std.specs.Prelude.{◌≡◌};
 
 mod check;
 mod document;
+mod ending;
 pub mod laws;
 mod list;
 mod outcome;

@@ -1,8 +1,8 @@
 //! What a run of the program answers.
 ghost use Rattle.std.specs.Prelude.{IfOk};
-ghost use Rattle.tomled.specs.Outcomes.{Prints, Tells};
+ghost use Rattle.tomled.specs.Outcomes.{ComesTo};
 
-use crate::refusal::Refusal;
+use crate::ending::Ending;
 use std::alloc::{AllocError, Global};
 
 /// What a request came to. Nothing of it is printed or written yet.
@@ -19,27 +19,25 @@ pub struct Outcome {
 }
 
 impl Outcome {
-    /// Status 0, and the bytes on standard output.
-    pub fn good(alloc: Global, out: Vec<u8>) -> Outcome
-        ensures { Prints out.items result }
+    /// The outcome of a command: status 0 and its bytes on standard output, or status 1 and the line of its refusal on
+    /// standard error.
+    pub fn of(alloc: Global, answer: Result<Vec<u8>, Ending>) -> Result<Outcome, AllocError>
+        ensures { IfOk result (ComesTo answer) }
     {
-        Outcome {
-            status: 0,
-            out,
-            err: Vec::new(alloc),
-            files: Vec::new(alloc),
+        match answer {
+            Ok(out) => Ok(Outcome {
+                status: 0,
+                out,
+                err: Vec::new(alloc),
+                files: Vec::new(alloc),
+            }),
+            Err(Ending::Refused(refusal)) => Ok(Outcome {
+                status: 1,
+                out: Vec::new(alloc),
+                err: refusal.line(alloc)?.into_bytes(),
+                files: Vec::new(alloc),
+            }),
+            Err(Ending::NoMemory) => Err(AllocError),
         }
-    }
-
-    /// Status 1, and a refusal's line on standard error.
-    pub fn refused(alloc: Global, refusal: Refusal) -> Result<Outcome, AllocError>
-        ensures { IfOk result (Tells refusal) }
-    {
-        Ok(Outcome {
-            status: 1,
-            out: Vec::new(alloc),
-            err: refusal.line(alloc)?.into_bytes(),
-            files: Vec::new(alloc),
-        })
     }
 }

@@ -1,9 +1,11 @@
 //! `show`: the data of a document as tagged JSON.
-ghost use Rattle.std.specs.Prelude.{IfOk};
+ghost use Rattle.std.specs.Prelude.{IfErr, IfOk};
 ghost use Rattle.toml_names.specs.Data.{kind_at};
-ghost use Rattle.tomled.specs.Show.{IsLineOf, Shows};
+ghost use Rattle.tomled.specs.Outcomes.{Ends, IsRefused};
+ghost use Rattle.tomled.specs.Show.{IsLineOf, Shows, ShowsData};
 
 use crate::document::{read_data, read_tree};
+use crate::ending::Ending;
 use crate::outcome::Outcome;
 use crate::tagged::tagged;
 use std::alloc::{AllocError, Global};
@@ -13,14 +15,17 @@ use toml_names::Data;
 pub fn run_show(alloc: Global, file: &[u8]) -> Result<Outcome, AllocError>
     ensures { IfOk result (Shows file.now) }
 {
-    let doc = match read_tree(alloc, file)? {
-        Ok(doc) => doc,
-        Err(refusal) => return Outcome::refused(alloc, refusal),
-    };
-    match read_data(alloc, &doc)? {
-        Ok(whole) => Ok(Outcome::good(alloc, data_line(alloc, &whole)?)),
-        Err(refusal) => Outcome::refused(alloc, refusal),
-    }
+    Outcome::of(alloc, shown(alloc, file))
+}
+
+/// The line of a document's data.
+fn shown(alloc: Global, file: &[u8]) -> Result<Vec<u8>, Ending>
+    ensures good { IfOk result (λ line. ShowsData file.now line.items) }
+    ensures refused { IfErr result (Ends (IsRefused file.now)) }
+{
+    let doc = read_tree(alloc, file)?;
+    let whole = read_data(alloc, &doc)?;
+    Ok(data_line(alloc, &whole)?)
 }
 
 /// The tagged JSON of the data in compact text, and LF.

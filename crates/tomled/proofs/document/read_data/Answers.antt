@@ -4,6 +4,6 @@ use Rattle.toml_names.specs.Data.{IsDataOf, kind_at}
 use Rattle.toml_names.specs.Mentions.{named}
 use Rattle.tomled.proofs.document.read_data.Goals as goal
 
-pub returns-in_ok-data-in-Ok : goal.returns-in_ok-data-in-Ok
-returns-in_ok-data-in-Ok c =
-    (c.in-Ok.ensures.good, subst (λ (lines : List Line). IsDataOf (named lines) (kind_at c.in_ok-data-in-Ok.field-0.root)) c.in-Ok.ensures.taken c.in_ok-data-in-Ok.ensures)
+pub returns-in_ok-data-in-Ok-clause-facts : goal.returns-in_ok-data-in-Ok-clause-facts
+returns-in_ok-data-in-Ok-clause-facts c =
+    subst (λ (lines : List Line). IsDataOf (named lines) (kind_at c.in_ok-data-in-Ok.field-0.root)) c.in-Ok.ensures.taken c.in_ok-data-in-Ok.ensures
