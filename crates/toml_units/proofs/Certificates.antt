@@ -1,7 +1,7 @@
 -- The texts of certificates.
 use Rattle.std.proofs.Common.{◌≡◌, ℕ, ◌+◌, ◌<◌, List, [], ◌∷◌, ◌++◌, length, refl, sym, drop, get_or, ap, subst, ◌∙◌, arith, append_assoc, length-append}
 use Rattle.std.proofs.lemmas.List.{append-nil, append_cancel_left, drop_more}
-use Rattle.toml_units.specs.Certificates.{pair_text, pairs_text, first_line, certificate_of, AreSmall, BeginsWithNoPair, OneCertificate}
+use Rattle.toml_units.specs.Certificates.{pair_text, pairs_text, first_line, certificate_of, AreSmall, BeginsWithNoPair, OneCertificate, IsCertificate}
 use Rattle.toml_units.specs.Decimals.{number_text, BeginsWithNoDigit, BeginsWithNoNumber}
 use Rattle.toml_units.proofs.Decimals.{one_number}
 
@@ -53,8 +53,8 @@ small_behind (p ∷ ps) qs h = small_behind ps qs h.1
 
 -- what is left behind some pairs, and begins with no pair, is no end of a certificate
 pub none_left : (bytes left : List ℕ) (ps : List (ℕ × ℕ)) → bytes ≡ certificate_of ps ++ left → 0 < length left
-    → BeginsWithNoPair left → (qs : List (ℕ × ℕ)) → AreSmall qs → ¬ (bytes ≡ certificate_of qs)
-none_left bytes left ps read some none qs small is =
+    → BeginsWithNoPair left → (qs : List (ℕ × ℕ)) → ¬ IsCertificate bytes qs
+none_left bytes left ps read some none qs (small, is) =
     let behind = append_cancel_left first_line (pairs_text ps ++ left) (pairs_text qs) (sym (append_assoc first_line (pairs_text ps) left) ∙ sym read ∙ is) in
     let more = first_pairs ps qs left behind in
     by more.0 more.2 (small_behind ps more.0 (subst AreSmall more.1 small))

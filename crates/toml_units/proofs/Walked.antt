@@ -4,7 +4,6 @@ use Rattle.std.proofs.lemmas.List.{append-nil, append_assoc, drop_all}
 use Rattle.std.specs.Prelude.{false, is_some, option_map}
 use Rattle.toml_tree.specs.declared.piece.Gap.{Gap}
 use Rattle.toml_tree.specs.declared.piece.Piece.{Piece}
-use Rattle.toml_tree.specs.declared.tree.Dotted.{Dotted}
 use Rattle.toml_tree.specs.declared.tree.Array.{Array}
 use Rattle.toml_tree.specs.declared.tree.InlineTable.{InlineTable}
 use Rattle.toml_tree.specs.declared.tree.Item.{Item}
@@ -14,16 +13,11 @@ use Rattle.toml_tree.specs.declared.tree.Value.TheVariants as made
 use Rattle.toml_tree.specs.declared.tree.Value.TheViews.{out-Array, out-InlineTable}
 use Rattle.toml_tree.specs.Tree as tree
 use Rattle.toml_tree.specs.ReadingValues.{Element, Member, before_end, pairs_of, inline}
-use Rattle.toml_tree.specs.View.{piece, dotted, gap, value, element as tree_element, member, array_items, last_ends}
+use Rattle.toml_tree.specs.View.{piece, gap, value, element as tree_element, member, array_items, last_ends}
 use Rattle.toml_tree.proofs.Proved.{value_array, value_inline}
 use Rattle.toml_names.specs.Addresses.{Address, element}
-use Rattle.toml_names.specs.Keys.{Key, rest_names}
 use Rattle.toml_units.specs.Plain.{Spanned, spanned, plain_inside, plain_elements, plain_members, element_units, pair_units}
 use Rattle.toml_units.specs.Units.{gap_units, element_unit}
-
--- the names of the parts that are left of a key
-abbrev pub names_left : List Dotted → Key
-names_left ds = rest_names (map dotted ds)
 
 -- elements from the index on, whatever ends them
 abbrev pub items_of : Address → ℕ → List Element → List Spanned

@@ -21,12 +21,19 @@ abbrev pub certificate_of : List (ℕ × ℕ) → List ℕ
 certificate_of ps = first_line ++ pairs_text ps
 
 -- numbers that the code can hold
+abbrev pub IsSmall : (ℕ × ℕ) → Type 0
+IsSmall p = (p.0 < 2 ^ 64) × (p.1 < 2 ^ 64)
+
 abbrev pub AreSmall : List (ℕ × ℕ) → Type 0
-AreSmall ps = EachIs (λ p. (p.0 < 2 ^ 64) × (p.1 < 2 ^ 64)) ps
+AreSmall = EachIs IsSmall
+
+-- the bytes are the text of these pairs, whose numbers have at most 64 bits
+abbrev pub IsCertificate : List ℕ → List (ℕ × ℕ) → Type 0
+IsCertificate bytes ps = AreSmall ps × (bytes ≡ certificate_of ps)
 
 -- a refusal says that the bytes are no text of a certificate; want of memory says nothing of them
 abbrev pub RefusesCertificate : List ℕ → CertificateFault → Type 0
-RefusesCertificate bytes faults.BadCertificate = (ps : List (ℕ × ℕ)) → AreSmall ps → ¬ (bytes ≡ certificate_of ps)
+RefusesCertificate bytes faults.BadCertificate = (ps : List (ℕ × ℕ)) → ¬ IsCertificate bytes ps
 RefusesCertificate bytes faults.NoMemory = Unit {0}
 
 -- no line of a pair is at the front whose numbers the code can hold

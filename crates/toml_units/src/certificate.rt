@@ -1,6 +1,6 @@
 //! Certificates: which unit of a text is kept as which unit of another.
-ghost use Rattle.std.specs.Prelude.{◌≡◌, ◌∷◌, ◌++◌, List, ℕ, string_bytes, IfOk, IfErr, MatchOption};
-ghost use Rattle.toml_units.specs.Certificates.{pair_text, certificate_of, RefusesCertificate, BeginsWithNoPair};
+ghost use Rattle.std.specs.Prelude.{◌≡◌, ◌∷◌, ◌++◌, List, ℕ, string_bytes, IfOk, IfErr, IfSome, MatchOption};
+ghost use Rattle.toml_units.specs.Certificates.{pair_text, certificate_of, BeginsWithNoPair, IsCertificate, IsSmall, RefusesCertificate};
 
 use crate::decimal::read_number;
 use crate::fault::CertificateFault;
@@ -23,7 +23,8 @@ fn after(byte: u8, bytes: &[u8]) -> Option<&[u8]>
 
 /// The pair of the first line, and what stands behind the line.
 fn read_pair(bytes: &[u8]) -> Option<((u64, u64), &[u8])>
-    ensures { MatchOption result (BeginsWithNoPair bytes.now) (λ r. bytes.now ≡ pair_text r.0 ++ r.1.now) }
+    ensures read { MatchOption result (BeginsWithNoPair bytes.now) (λ r. bytes.now ≡ pair_text r.0 ++ r.1.now) }
+    ensures small { IfSome result (λ r. IsSmall r.0) }
 {
     let (first, spaced) = read_number(bytes)?;
     let numbered = after(b' ', spaced)?;
@@ -36,7 +37,7 @@ fn read_pair(bytes: &[u8]) -> Option<((u64, u64), &[u8])>
 /// in decimal, without leading zeros and with one space between them. Each line ends in LF, the last one too; nothing
 /// else is accepted.
 pub fn read_certificate(alloc: Global, bytes: &[u8]) -> Result<Certificate, CertificateFault>
-    ensures read { IfOk result (λ c. bytes.now ≡ certificate_of c.pairs.items) }
+    ensures read { IfOk result (λ c. IsCertificate bytes.now c.pairs.items) }
     ensures refused { IfErr result (RefusesCertificate bytes.now) }
 {
     let Some(mut left) = bytes.strip_prefix(b"kept 1\n") else {

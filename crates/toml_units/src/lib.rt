@@ -5,7 +5,6 @@
 mod certificate;
 mod decimal;
 mod fault;
-mod key;
 pub mod laws;
 mod lines;
 mod unit;

@@ -6,10 +6,9 @@ ghost use Rattle.toml_tree.specs.Pieces.{piece_of};
 ghost use Rattle.toml_units.specs.Units.{comment_units, gap_units, gap_line_units};
 ghost use Rattle.toml_units.specs.View.{unit, all_units};
 
-use crate::key::key_address;
 use crate::unit::{Unit, UnitKind};
 use std::alloc::{AllocError, Global};
-use toml_names::Address;
+use toml_names::{Address, key_address};
 use toml_text::Span;
 use toml_tree::{Gap, Item, KeyVal, Piece, Value};
 
