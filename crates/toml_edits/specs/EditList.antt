@@ -74,6 +74,10 @@ AreEdits no_items [] = Unit {0}
 AreEdits (item d ds) (c ∷ cs) = (entry_of d ≡ Some c) × AreEdits ds cs
 AreEdits _ _ = ⊥
 
+-- the bytes are the list of these edits
+abbrev pub IsEditList : List ℕ → List Change → Type 0
+IsEditList bytes cs = (ds : Items) × IsList bytes ds × AreEdits ds cs
+
 -- the first item that is no edit, counted from 0
 abbrev pub IsFirstBad : Items → ℕ → Type 0
 IsFirstBad no_items i = ⊥
@@ -93,3 +97,10 @@ ReadsEdits bytes (Ok es) = (ds : Items) × IsList bytes ds × ReadsItems ds (Ok 
 ReadsEdits bytes (Err faults.NotAList) = (ds : Items) → ¬ IsList bytes ds
 ReadsEdits bytes (Err (faults.BadEdits index)) = (ds : Items) × IsList bytes ds × IsFirstBad ds index
 ReadsEdits bytes (Err faults.NoMemory) = Unit {0}
+
+-- Laws: bytes are at most one list of edits; where the first entry that is none is found they are none.
+abbrev pub OneEditList : Type 0
+OneEditList = (bytes : List ℕ) (cs ds : List Change) → IsEditList bytes cs → IsEditList bytes ds → cs ≡ ds
+
+abbrev pub BadListIsNone : Type 0
+BadListIsNone = (bytes : List ℕ) (ds : Items) (i : ℕ) (cs : List Change) → IsList bytes ds → IsFirstBad ds i → ¬ IsEditList bytes cs

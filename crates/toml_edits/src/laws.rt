@@ -1,4 +1,5 @@
 //! Laws over the definitions: nothing is run.
+ghost use Rattle.toml_edits.specs.EditList.{BadListIsNone, OneEditList};
 ghost use Rattle.toml_edits.specs.ListLaws.{CarriedOn, CarriedStands, DataIndicesAreLow, FaultOrLead, ListsCarryApart, OneFirstFault, OneLead, StaysClosed};
 ghost use Rattle.toml_edits.specs.Laws.{CarriedAlong, CarriedFront, CarriedApart, DataAreClosed, OneAfter, SetCarries};
 
@@ -34,9 +35,15 @@ pub fn carried_by_lists()
     ensures apart { ListsCarryApart }
 {}
 
-/// The data after a list are one. A list that leads to data has no first fault, and else at most one.
+/// A list leads to data or has a first fault, never both; of each there is at most one.
 pub fn lists()
     ensures one { OneLead }
     ensures or_fault { FaultOrLead }
     ensures one_fault { OneFirstFault }
+{}
+
+/// Bytes are at most one list of edits, and none where an entry is no edit.
+pub fn edit_lists()
+    ensures one { OneEditList }
+    ensures bad { BadListIsNone }
 {}
