@@ -45,5 +45,14 @@ run 3 - 'file fault' check .
 run 0 'Reads and edits TOML documents' - --help
 run 0 'Prints the data of a TOML document' - show --help
 run 0 'Says whether a file is a TOML document' - check --help
+run 0 'Says whether an edited TOML document' - verify --help
+printf '[]' >none.json
+printf 'kept 1\n0 0\n1 1\n' >kept.txt
+run 0 yes - verify good.toml none.json good.toml kept.txt
+run 1 - 'refused 330 0' verify good.toml none.json good.toml none.json
+run 1 - 'refused 401 0' verify twice.toml none.json good.toml kept.txt
+run 2 - 'error:' verify good.toml none.json good.toml
+run 3 - 'file fault' verify good.toml none.json missing.toml kept.txt
+run 3 - 'file fault' verify good.toml missing.json good.toml kept.txt
 [ "$failed" -eq 0 ] && echo 'all passed'
 exit "$failed"

@@ -22,13 +22,17 @@ show = with_rule (with_rule (new_app (codes "show")) (required_argument (codes "
 abbrev pub check : App
 check = with_rule (new_app (codes "check")) (required_argument (codes "FILE"))
 
+-- `verify BEFORE EDITS AFTER CERT`
+abbrev pub verify : App
+verify = with_rule (with_rule (with_rule (with_rule (new_app (codes "verify")) (required_argument (codes "BEFORE"))) (required_argument (codes "EDITS"))) (required_argument (codes "AFTER"))) (required_argument (codes "CERT"))
+
 -- `tomled` before its subcommands are added: it wants one
 abbrev pub root : App
 root = on_top (λ shape. record shape { subcommand_required = true }) (new_app (codes "tomled"))
 
 -- the whole command line
 unfoldable pub tool : App
-tool = with_subcommand (with_subcommand root show.top) check.top
+tool = with_subcommand (with_subcommand (with_subcommand root show.top) check.top) verify.top
 
 -- a parse reads this definition of the command, which has no global argument
 pub record IsDefined (app : App) (command : Command) : Type 0 where

@@ -8,4 +8,5 @@ pub mod Check
 pub mod Tagged
 pub mod Show
 pub mod Listing
+pub mod Verify
 pub mod RunFaults

@@ -15,6 +15,9 @@ mod show;
 mod tagged;
 #[cfg(test)]
 mod tests;
+mod verify;
+#[cfg(test)]
+mod verify_tests;
 mod words;
 
 use check::run_check;
@@ -29,6 +32,7 @@ use std::io::{Read, Write};
 use std::process::ExitCode;
 use std::rt::{Env, Files};
 use std::{env, io};
+use verify::run_verify;
 use words::{Request, WordsFault, read_words};
 
 /// One byte more than the longest document has, so that a longer file shows.
@@ -122,6 +126,24 @@ fn run<R: Env + Files + AllocGlobal>(rt: &R) -> Result<Outcome, RunFault> {
             let bytes = read_file(rt, file)?;
             Ok(run_check(rt.alloc(), bytes.as_slice())?)
         }
+        Ok(Request::Verify {
+            before,
+            edits,
+            after,
+            cert,
+        }) => {
+            let before = read_file(rt, before)?;
+            let edits = read_whole(rt, edits)?;
+            let after = read_file(rt, after)?;
+            let cert = read_whole(rt, cert)?;
+            Ok(run_verify(
+                rt.alloc(),
+                before.as_slice(),
+                edits.as_slice(),
+                after.as_slice(),
+                cert.as_slice(),
+            )?)
+        }
         Err(WordsFault::Parser(error)) => explain(rt.alloc(), &error),
         Err(WordsFault::Missing) => Err(RunFault::Words),
     }
@@ -143,6 +165,14 @@ fn read_file<R: Files + AllocGlobal>(rt: &R, path: &str) -> io::Result<Vec<u8>> 
     let mut bytes = Vec::new(rt.alloc());
     let file = File::open(rt, path)?;
     file.take(READ_LIMIT).read_to_end(&mut bytes)?;
+    Ok(bytes)
+}
+
+/// All bytes of a file.
+fn read_whole<R: Files + AllocGlobal>(rt: &R, path: &str) -> io::Result<Vec<u8>> {
+    let mut bytes = Vec::new(rt.alloc());
+    let mut file = File::open(rt, path)?;
+    file.read_to_end(&mut bytes)?;
     Ok(bytes)
 }
 

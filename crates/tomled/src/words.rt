@@ -3,8 +3,8 @@ ghost use Rattle.std.specs.Prelude.{◌≡◌, IfErr, IfOk, false, option_and_th
 ghost use Rattle.clap.specs.Walk.{texts};
 ghost use Rattle.clap.specs.Words.{FailsBy, fault_of, first_of, found_of, kind_of, rows_of, rule_of};
 ghost use Rattle.clap.specs.Words.{subcommand_of, subcommand_rows_of, takes};
-ghost use Rattle.tomled.specs.CommandLine.{IsDefined, check, flag, required_argument, show, tool};
-ghost use Rattle.tomled.specs.Request.{IsFaultIn, IsRequestIn, asked_by, asked_of, check_of, is_true, show_of};
+ghost use Rattle.tomled.specs.CommandLine.{IsDefined, check, flag, required_argument, show, tool, verify};
+ghost use Rattle.tomled.specs.Request.{IsFaultIn, IsRequestIn, asked_by, asked_of, check_of, is_true, show_of, verify_of};
 
 #[cfg(test)]
 mod tests;
@@ -25,6 +25,13 @@ pub enum Request<'a> {
     /// Whether the file is a TOML document.
     Check {
         file: &'a str,
+    },
+    /// Whether a text is what edits make of another, as a certificate has it.
+    Verify {
+        before: &'a str,
+        edits: &'a str,
+        after: &'a str,
+        cert: &'a str,
     },
 }
 
@@ -69,12 +76,14 @@ fn command<'a>(alloc: Global) -> Result<Command<'a>, AllocError>
 {
     let show = show_command(alloc)?;
     let check = check_command(alloc)?;
+    let verify = verify_command(alloc)?;
     Command::new(alloc, "tomled")
         .bin_name("tomled")?
         .about("Reads and edits TOML documents, and keeps their layout")
         .subcommand_required(true)
         .subcommand(show)?
-        .subcommand(check)
+        .subcommand(check)?
+        .subcommand(verify)
 }
 
 fn show_command<'a>(alloc: Global) -> Result<Command<'a>, AllocError>
@@ -95,6 +104,21 @@ fn check_command<'a>(alloc: Global) -> Result<Command<'a>, AllocError>
     Command::new(alloc, "check")
         .about("Says whether a file is a TOML document")
         .arg(file)
+}
+
+fn verify_command<'a>(alloc: Global) -> Result<Command<'a>, AllocError>
+    ensures { IfOk result (IsDefined verify) }
+{
+    let before = path(alloc, "BEFORE", "The document before the edits");
+    let edits = path(alloc, "EDITS", "The edits, a JSON list");
+    let after = path(alloc, "AFTER", "The document after the edits");
+    let cert = path(alloc, "CERT", "The certificate: which parts are kept");
+    Command::new(alloc, "verify")
+        .about("Says whether an edited TOML document is what the edits make, and keeps all else")
+        .arg(before)?
+        .arg(edits)?
+        .arg(after)?
+        .arg(cert)
 }
 
 fn path<'a>(alloc: Global, name: &'a str, help: &'a str) -> Arg<'a>
@@ -125,6 +149,7 @@ fn requested<'a>(matches: &ArgMatches<'a>) -> Option<Request<'a>>
     match name {
         "show" => show_request(found),
         "check" => check_request(found),
+        "verify" => verify_request(found),
         _ => None,
     }
 }
@@ -142,6 +167,21 @@ fn check_request<'a>(found: &ArgMatches<'a>) -> Option<Request<'a>>
 {
     let file = first_value(found, "FILE")?;
     Some(Request::Check { file })
+}
+
+fn verify_request<'a>(found: &ArgMatches<'a>) -> Option<Request<'a>>
+    ensures { option_map asked_by result ≡ verify_of (rows_of (found_of found.now)) }
+{
+    let before = first_value(found, "BEFORE")?;
+    let edits = first_value(found, "EDITS")?;
+    let after = first_value(found, "AFTER")?;
+    let cert = first_value(found, "CERT")?;
+    Some(Request::Verify {
+        before,
+        edits,
+        after,
+        cert,
+    })
 }
 
 /// Whether the flag was given: the parser answers `true` or `false` for it.

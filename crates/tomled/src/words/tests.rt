@@ -41,11 +41,29 @@ fn show_lists_before_and_behind_its_path(rt: HostRuntime) {
 }
 
 #[test]
+fn verify_has_its_paths(rt: HostRuntime) {
+    let words = ["tomled", "verify", "a.toml", "e.json", "b.toml", "c.txt"];
+    let request = read_words(rt.alloc(), words.as_slice());
+    assert!(rt;
+        matches!(
+            &request,
+            Ok(Request::Verify {
+                before: "a.toml",
+                edits: "e.json",
+                after: "b.toml",
+                cert: "c.txt"
+            })
+        )
+    );
+}
+
+#[test]
 fn help_is_shown(rt: HostRuntime) {
     for words in [
         ["tomled", "--help"].as_slice(),
         ["tomled", "check", "--help"].as_slice(),
         ["tomled", "show", "--help"].as_slice(),
+        ["tomled", "verify", "--help"].as_slice(),
         ["tomled", "help"].as_slice(),
     ] {
         let result = read_words(rt.alloc(), words);
@@ -73,6 +91,8 @@ fn mistakes_are_refused(rt: HostRuntime) {
         ["tomled", "check"].as_slice(),
         ["tomled", "check", "a.toml", "b.toml"].as_slice(),
         ["tomled", "check", "--list", "a.toml"].as_slice(),
+        ["tomled", "verify", "a.toml", "e.json", "b.toml"].as_slice(),
+        ["tomled", "verify", "a.toml", "e.json", "b.toml", "c", "d"].as_slice(),
     ] {
         let result = read_words(rt.alloc(), words);
         let is_mistake = match &result {

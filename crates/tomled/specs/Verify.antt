@@ -1,0 +1,63 @@
+-- What `verify` answers.
+use Rattle.std.specs.Prelude.{◌≡◌, ◌⊎◌, ℕ, List, codes}
+use Rattle.toml_edits.specs.EditList.{IsEditList, IsList, IsFirstBad}
+use Rattle.toml_edits.specs.Edits.{Change}
+use Rattle.toml_units.specs.Certificates.{IsCertificate}
+use Rattle.toml_checker.specs.Demands.{Certified, IsVerdict}
+use Rattle.toml_checker.specs.declared.verdict.Reason.{Reason}
+use Rattle.toml_checker.specs.declared.verdict.Reason.TheVariants.{BeforeRefused, AfterRefused, EditsRefused, OtherData, BadPair, Lost, Unasked, NewComment, NotTheSame}
+use Rattle.toml_checker.specs.declared.verdict.Verdict.TheVariants.{No}
+use Rattle.serde_json.specs.Data.{Items}
+use Rattle.tomled.specs.Outcomes.{Prints, Tells}
+use Rattle.tomled.specs.declared.outcome.Outcome.{Outcome}
+use Rattle.tomled.specs.declared.refusal.Refusal.{Refusal}
+
+-- the bytes are an edit list and a certificate, and this certifies that the one text is what the edits make of the other
+pub record IsVerified (before edits after cert : List ℕ) : Type 0 where
+  pub changes : List Change
+  pub listed : IsEditList edits changes
+  pub pairs : List (ℕ × ℕ)
+  pub certificate : IsCertificate cert pairs
+  pub certified : Certified before changes after pairs
+
+-- 321: no JSON list; 320: the first entry that is no edit, by its number from 0
+abbrev pub IsListRefusal : List ℕ → Refusal → Type 0
+IsListRefusal edits r = ((r.code ≡ 321) × (r.place ≡ 0) × ((ds : Items) → ¬ IsList edits ds)) ⊎ ((r.code ≡ 320) × (ds : Items) × IsList edits ds × IsFirstBad ds r.place)
+
+-- 330: no certificate
+abbrev pub IsCertificateRefusal : List ℕ → Refusal → Type 0
+IsCertificateRefusal cert r = (r.code ≡ 330) × (r.place ≡ 0) × ((pairs : List (ℕ × ℕ)) → ¬ IsCertificate cert pairs)
+
+-- 401 to 409: the first demand that fails
+abbrev pub reason_code : Reason → ℕ
+reason_code BeforeRefused = 401
+reason_code AfterRefused = 402
+reason_code EditsRefused = 403
+reason_code OtherData = 404
+reason_code BadPair = 405
+reason_code Lost = 406
+reason_code Unasked = 407
+reason_code NewComment = 408
+reason_code NotTheSame = 409
+
+abbrev pub IsReasonRefusal : Reason → Refusal → Type 0
+IsReasonRefusal reason r = (r.code ≡ reason_code reason) × (r.place ≡ 0)
+
+-- both are there, and a demand fails
+pub record FailsDemand (before edits after cert : List ℕ) (r : Refusal) : Type 0 where
+  pub changes : List Change
+  pub listed : IsEditList edits changes
+  pub pairs : List (ℕ × ℕ)
+  pub certificate : IsCertificate cert pairs
+  pub reason : Reason
+  pub first : IsVerdict before changes after pairs (No reason)
+  pub told : IsReasonRefusal reason r
+
+-- the edit list is judged first, then the certificate, and then the demands
+abbrev pub IsUnverified : List ℕ → List ℕ → List ℕ → List ℕ → Refusal → Type 0
+IsUnverified before edits after cert r = IsListRefusal edits r ⊎ (((changes : List Change) × IsEditList edits changes × IsCertificateRefusal cert r) ⊎ FailsDemand before edits after cert r)
+
+-- `yes` and LF exactly for what is verified, and else the refusal
+abbrev pub Verifies : List ℕ → List ℕ → List ℕ → List ℕ → Outcome → Type 0
+Verifies before edits after cert o =
+    (IsVerified before edits after cert × Prints (codes "yes\n") o) ⊎ ((¬ IsVerified before edits after cert) × (r : Refusal) × IsUnverified before edits after cert r × Tells r o)

@@ -1,0 +1,100 @@
+//! `verify`: whether a text is what edits make of another, and keeps all else.
+ghost use Rattle.std.specs.Prelude.{◌≡◌, codes, map, IfErr, IfOk};
+ghost use Rattle.toml_edits.specs.EditList.{IsEditList};
+ghost use Rattle.toml_edits.specs.Edits.{change};
+ghost use Rattle.toml_units.specs.Certificates.{IsCertificate};
+ghost use Rattle.tomled.specs.Outcomes.{Ends};
+ghost use Rattle.tomled.specs.Verify.{IsCertificateRefusal, IsListRefusal, IsReasonRefusal, IsVerified, IsUnverified, Verifies};
+
+use crate::ending::Ending;
+use crate::outcome::Outcome;
+use crate::refusal::Refusal;
+use std::alloc::{AllocError, Global};
+use toml_checker::{Reason, Verdict, check};
+use toml_edits::{Edit, EditsFault, read_edits};
+use toml_units::{Certificate, CertificateFault, read_certificate};
+
+/// Prints `yes` where the certificate shows that the text after is what the edits make of the one before, with all that
+/// no edit names; else the refusal. The edit list is judged first, then the certificate, and then both texts.
+pub fn run_verify(
+    alloc: Global,
+    before: &[u8],
+    edits: &[u8],
+    after: &[u8],
+    cert: &[u8],
+) -> Result<Outcome, AllocError>
+    ensures { IfOk result (Verifies before.now edits.now after.now cert.now) }
+{
+    Outcome::of(alloc, verified(alloc, before, edits, after, cert))
+}
+
+/// `yes` and LF, where all demands hold.
+fn verified(
+    alloc: Global,
+    before: &[u8],
+    edits: &[u8],
+    after: &[u8],
+    cert: &[u8],
+) -> Result<Vec<u8>, Ending>
+    ensures yes { IfOk result (λ text. IsVerified before.now edits.now after.now cert.now × (text.items ≡ codes "yes\n")) }
+    ensures no { IfErr result (Ends (IsUnverified before.now edits.now after.now cert.now)) }
+{
+    let edits = edit_list(alloc, edits)?;
+    let certificate = certificate(alloc, cert)?;
+    match check(alloc, before, &edits, after, &certificate)? {
+        Verdict::Yes => Ok("yes\n".to_string(alloc)?.into_bytes()),
+        Verdict::No(reason) => Err(Ending::Refused(reason_refusal(reason))),
+    }
+}
+
+/// The edits of the list, or why the bytes are none.
+fn edit_list(alloc: Global, bytes: &[u8]) -> Result<Vec<Edit>, Ending>
+    ensures read { IfOk result (λ edits. IsEditList bytes.now (map change edits.items)) }
+    ensures refused { IfErr result (Ends (IsListRefusal bytes.now)) }
+{
+    match read_edits(alloc, bytes) {
+        Ok(edits) => Ok(edits),
+        Err(EditsFault::NotAList) => Err(Ending::Refused(Refusal {
+            code: 321,
+            place: 0,
+        })),
+        Err(EditsFault::BadEdits { index }) => Err(Ending::Refused(Refusal {
+            code: 320,
+            place: index,
+        })),
+        Err(EditsFault::NoMemory) => Err(Ending::NoMemory),
+    }
+}
+
+/// The certificate, or why the bytes are none.
+fn certificate(alloc: Global, bytes: &[u8]) -> Result<Certificate, Ending>
+    ensures read { IfOk result (λ certificate. IsCertificate bytes.now certificate.pairs.items) }
+    ensures refused { IfErr result (Ends (IsCertificateRefusal bytes.now)) }
+{
+    match read_certificate(alloc, bytes) {
+        Ok(certificate) => Ok(certificate),
+        Err(CertificateFault::BadCertificate) => Err(Ending::Refused(Refusal {
+            code: 330,
+            place: 0,
+        })),
+        Err(CertificateFault::NoMemory) => Err(Ending::NoMemory),
+    }
+}
+
+/// The refusal of a reason of the checker; it has no place.
+fn reason_refusal(reason: Reason) -> Refusal
+    ensures { IsReasonRefusal reason result }
+{
+    let code = match reason {
+        Reason::BeforeRefused => 401,
+        Reason::AfterRefused => 402,
+        Reason::EditsRefused => 403,
+        Reason::OtherData => 404,
+        Reason::BadPair => 405,
+        Reason::Lost => 406,
+        Reason::Unasked => 407,
+        Reason::NewComment => 408,
+        Reason::NotTheSame => 409,
+    };
+    Refusal { code, place: 0 }
+}
