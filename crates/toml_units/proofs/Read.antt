@@ -1,5 +1,5 @@
 -- The texts of units are what stands at their spans.
-use Rattle.std.proofs.Common.{ℕ, ◌+◌, List, [], ◌∷◌, ◌++◌, length, Option, Some, None, refl, sym, ap, subst, ◌∙◌, arith, append_assoc}
+use Rattle.std.proofs.Common.{ℕ, ◌+◌, List, [], ◌∷◌, ◌++◌, length, Option, Some, None, refl, sym, ap, subst, ◌∙◌, append_assoc}
 use Rattle.std.proofs.lemmas.List.{append-nil}
 use Rattle.toml_tree.specs.Spells.{Part, symbol, piece, begin, EachIs, joined, all_parts, comment_parts, blank_parts, gap_line_parts, gap_parts, header_parts, array_header_parts, assign_parts, value_parts, items_parts, pairs_parts, keyval_parts, expr_parts, line_parts, lines_parts, IsValue, AreItems, ArePairs, IsExpr, AreLines, mark_of}
 use Rattle.toml_tree.specs.Tree.{Piece, Blank, GapLine, Gap, Value, Scalar, Array, Empty, Inline, Items, Close, Last, More, Pairs, LastPair, MorePairs, KeyVal, Expr, BlankLine, KeyValLine, TableLine, ArrayTableLine, Line}
@@ -126,7 +126,6 @@ units_read_the_text d text h =
     let at = length (mark_of text) in
     let whole : StandIn text at (lines_parts d.lines) = record {
       placed = h.lines.placed;
-      low = omega arith;
       front = mark_of text;
       back = [];
       long = refl;

@@ -1,5 +1,5 @@
 -- Parts that stand in a text.
-use Rattle.std.proofs.Common.{◌≡◌, ℕ, ◌+◌, ◌-◌, ◌≤◌, ◌==◌, ◌&&◌, Bool, true, false, List, [], ◌∷◌, ◌++◌, length, take, drop, refl, sym, ap, ◌∙◌, arith, append_assoc, length-append}
+use Rattle.std.proofs.Common.{◌≡◌, ℕ, ◌+◌, ◌-◌, ◌==◌, ◌&&◌, Bool, true, false, List, [], ◌∷◌, ◌++◌, length, take, drop, refl, sym, ap, ◌∙◌, arith, append_assoc, length-append}
 use Rattle.std.proofs.Math.Seq.{drop-append_seam, take-append_seam}
 use Rattle.toml_tree.specs.Spells.{Part, part_text, joined, Placed, mark_of}
 use Rattle.toml_tree.specs.Parts.{size}
@@ -8,10 +8,9 @@ use Rattle.toml_units.specs.Blocks.{end}
 use Rattle.toml_units.specs.Texts.{ReadsIn}
 use Rattle.toml_units.specs.Units.{TextUnit}
 
--- the parts, joined, are what the text has from the place on, which is behind the mark
+-- the parts, joined, are what the text has from the place on
 pub record StandIn (text : List ℕ) (n : ℕ) (ps : List Part) : Type 0 where
   pub placed : Placed n ps
-  pub low : length (mark_of text) ≤ n
   pub front : List ℕ
   pub back : List ℕ
   pub long : length front ≡ n
@@ -21,7 +20,6 @@ module _ (text : List ℕ) where
   pub stand_front : (ps qs : List Part) (n : ℕ) → StandIn text n (ps ++ qs) → StandIn text n ps
   stand_front ps qs n h = record {
     placed = placed_front ps qs n h.placed;
-    low = h.low;
     front = h.front;
     back = joined qs ++ h.back;
     long = h.long;
@@ -31,7 +29,6 @@ module _ (text : List ℕ) where
   pub stand_back : (ps qs : List Part) (n : ℕ) → StandIn text n (ps ++ qs) → StandIn text (n + size ps) qs
   stand_back ps qs n h = record {
     placed = placed_back ps qs n h.placed;
-    low = omega (arith, h.low);
     front = h.front ++ joined ps;
     back = h.back;
     long = omega (arith, length-append h.front (joined ps), h.long);
@@ -41,7 +38,6 @@ module _ (text : List ℕ) where
   pub stand_behind : (p : Part) (ps : List Part) (n : ℕ) → StandIn text n (p ∷ ps) → StandIn text (n + length (part_text p)) ps
   stand_behind p ps n h = record {
     placed = h.placed.1;
-    low = omega (arith, h.low);
     front = h.front ++ part_text p;
     back = h.back;
     long = omega (arith, length-append h.front (part_text p), h.long);
@@ -60,7 +56,6 @@ module _ (text : List ℕ) where
             ∙ ap (λ l. take (length u.piece.text) (drop (length h.front) l)) whole
             ∙ ap (take (length u.piece.text)) (drop-append_seam h.front (u.piece.text ++ h.back))
             ∙ take-append_seam u.piece.text h.back,
-        omega (arith, h.low, start),
       )
 
 -- the mark, and what stands behind it
