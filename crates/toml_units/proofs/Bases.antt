@@ -2,7 +2,7 @@
 use Rattle.std.proofs.Common.{◌≡◌, inl, inr, ℕ, ◌+◌, ◌<◌, List, [], ◌∷◌, ◌++◌, length, Option, Some, None, refl, sym, subst, arith}
 use Rattle.std.proofs.lemmas.Option.{same_Some}
 use Rattle.toml_tree.specs.Spells.{EachIs}
-use Rattle.toml_tree.specs.Tree.{Piece, Assign, GapLine, Gap, Value, Scalar, Array, Empty, Inline, Items, Close, Last, More, Pairs, LastPair, MorePairs, KeyVal, Expr, BlankLine, KeyValLine, TableLine, ArrayTableLine, Line}
+use Rattle.toml_tree.specs.Tree.{Piece, GapLine, Gap, Value, Scalar, Array, Empty, Inline, Items, Close, Last, More, Pairs, LastPair, MorePairs, KeyVal, Expr, BlankLine, KeyValLine, TableLine, ArrayTableLine, Line}
 use Rattle.toml_tree.specs.Tree as tree
 use Rattle.toml_names.specs.Addresses.{Address, element}
 use Rattle.toml_names.specs.Keys.{key_names}

@@ -18,8 +18,7 @@ use Rattle.toml_tree.specs.View.{piece, dotted, gap, value, element as tree_elem
 use Rattle.toml_tree.proofs.Proved.{value_array, value_inline}
 use Rattle.toml_names.specs.Addresses.{Address, element}
 use Rattle.toml_names.specs.Keys.{Key, rest_names}
-use Rattle.toml_units.specs.Plain.{plain_inside, plain_elements, plain_members, element_units, pair_units}
-use Rattle.toml_units.specs.View.{Spanned, spanned}
+use Rattle.toml_units.specs.Plain.{Spanned, spanned, plain_inside, plain_elements, plain_members, element_units, pair_units}
 use Rattle.toml_units.specs.Units.{gap_units, element_unit}
 
 -- the names of the parts that are left of a key
