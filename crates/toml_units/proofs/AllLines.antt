@@ -9,7 +9,8 @@ use Rattle.toml_names.specs.Addresses.{Address}
 use Rattle.toml_names.specs.Mentions.{Named, root, named, named_by, named_from}
 use Rattle.toml_names.specs.Names.{own_address, line_address}
 use Rattle.toml_names.proofs.Proved.{line_addresses}
-use Rattle.toml_units.specs.Plain.{Spanned, spanned, line_spans, plain_from, plain_units}
+use Rattle.toml_units.specs.Plain.{line_spans, plain_from, plain_units}
+use Rattle.toml_units.specs.View.{Spanned, spanned}
 use Rattle.toml_units.specs.Units.{units}
 use Rattle.toml_units.proofs.Plain.{plain_is_units}
 

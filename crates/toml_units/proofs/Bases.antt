@@ -1,23 +1,24 @@
 -- Which units have a base.
-use Rattle.std.proofs.Common.{◌≡◌, inl, inr, ℕ, ◌+◌, ◌<◌, List, [], ◌∷◌, ◌++◌, length, map, Option, Some, None, refl, arith, length-append}
+use Rattle.std.proofs.Common.{◌≡◌, inl, inr, ℕ, ◌+◌, ◌<◌, List, [], ◌∷◌, ◌++◌, length, Option, Some, None, refl, sym, subst, arith}
 use Rattle.std.proofs.lemmas.Option.{same_Some}
 use Rattle.toml_tree.specs.Spells.{EachIs}
-use Rattle.toml_tree.specs.Tree.{Piece, Assign, GapLine, Gap, Value, Scalar, Array, Empty, Inline, Items, Close, Last, More, Pairs, LastPair, MorePairs, KeyVal, Expr, BlankLine, KeyValLine, TableLine, ArrayTableLine, Line}
+use Rattle.toml_tree.specs.Tree.{Piece, GapLine, Gap, Value, Scalar, Array, Empty, Inline, Items, Close, Last, More, Pairs, LastPair, MorePairs, KeyVal, Expr, BlankLine, KeyValLine, TableLine, ArrayTableLine, Line}
 use Rattle.toml_tree.specs.Tree as tree
-use Rattle.toml_names.specs.declared.address.Step.TheVariants.{Name}
-use Rattle.toml_names.specs.Addresses.{Address, element, below}
+use Rattle.toml_names.specs.Addresses.{Address, element}
 use Rattle.toml_names.specs.Keys.{key_names}
 use Rattle.toml_names.specs.Mentions.{Named, root, section, named_by}
 use Rattle.toml_names.specs.Names.{own_address}
 use Rattle.toml_units.specs.declared.unit.UnitKind.{UnitKind}
 use Rattle.toml_units.specs.declared.unit.UnitKind.TheVariants as kinds
-use Rattle.toml_units.specs.Bases.{IsBased, UnitsAreBased}
+use Rattle.toml_units.specs.Bases.{IsBased, UnitsAreBased, lines_of, HasBase, AreLines, LinesAreUnits}
 use Rattle.toml_units.specs.Units.{TextUnit, comment_units, gap_units, gap_line_units, element_unit, pair_unit, pair_address, inside, elements, members, value_units, tail_units, inside_line, line_unit, units_from}
 use Rattle.toml_units.proofs.Each.{each_append}
+use Rattle.toml_units.proofs.InLines.{line_no_lines}
+use Rattle.toml_units.proofs.UnitLines.{not_line}
 
 -- a key has a part
-key_adds : (at : Address) (k : tree.Key) → length at < length (below at (key_names k))
-key_adds at k = omega (arith, length-append at (map Name (key_names k)))
+key_some : (k : tree.Key) → 0 < length (key_names k)
+key_some k = omega arith
 
 -- a unit without a base
 without : (u : TextUnit) → u.base ≡ None → ¬ (u.kind ≡ kinds.Pair) → IsBased u
@@ -45,7 +46,7 @@ pair_based : (at : Address) (k : KeyVal) → IsBased (pair_unit at k)
 pair_based at k = record {
   only = λ some. inr refl;
   pair = λ is. refl;
-  front = λ n is. let same = same_Some (length at) n is in (pair_address at k.assign, refl, omega (arith, same, key_adds at k.assign.key));
+  front = λ n is. record { table = at; key = key_names k.assign.key; long = sym (same_Some (length at) n is); address = refl; some = key_some k.assign.key };
 }
 
 mutual
@@ -80,7 +81,7 @@ line_based earlier (BlankLine b) = without (line_unit earlier (BlankLine b)) ref
 line_based earlier (KeyValLine ws k b) = record {
   only = λ some. inl refl;
   pair = λ is. refl;
-  front = λ n is. let same = same_Some (length (section earlier)) n is in (below (section earlier) (key_names k.assign.key), refl, omega (arith, same, key_adds (section earlier) k.assign.key));
+  front = λ n is. record { table = section earlier; key = key_names k.assign.key; long = sym (same_Some (length (section earlier)) n is); address = refl; some = key_some k.assign.key };
 }
 line_based earlier (TableLine ws h b) = without (line_unit earlier (TableLine ws h b)) refl (λ e. cc)
 line_based earlier (ArrayTableLine ws h b) = without (line_unit earlier (ArrayTableLine ws h b)) refl (λ e. cc)
@@ -98,3 +99,25 @@ lines_based (l ∷ ls) earlier n =
 
 pub units_are_based : UnitsAreBased
 units_are_based ls = lines_based ls (root ∷ []) 0
+
+-- behind what is no line come the lines that come anyway
+no_lines_before : (us vs : List TextUnit) → EachIs (λ w. ¬ (w.kind ≡ kinds.Line)) us → lines_of (us ++ vs) ≡ lines_of vs
+no_lines_before [] vs h = refl
+no_lines_before (u ∷ us) vs h = rw (not_line u.kind h.0) (no_lines_before us vs h.1)
+
+has_base : (earlier : List Named) (e : Expr) → HasBase (line_unit earlier e) e
+has_base earlier (BlankLine b) = refl
+has_base earlier (KeyValLine ws k b) = refl
+has_base earlier (TableLine ws h b) = refl
+has_base earlier (ArrayTableLine ws h b) = refl
+
+each_line : (ls : List Line) (earlier : List Named) (n : ℕ) → AreLines (lines_of (units_from earlier n ls)) ls
+each_line [] earlier n = tt
+each_line (l ∷ ls) earlier n =
+    let old = earlier ++ named_by earlier n l.expr in
+    let rest = units_from old (n + 1) ls in
+    let behind = no_lines_before (inside_line (own_address earlier l.expr) l.expr) rest (line_no_lines earlier l.expr) in
+    (refl, has_base earlier l.expr, subst (λ us. AreLines us ls) (sym behind) (each_line ls old (n + 1)))
+
+pub lines_are_units : LinesAreUnits
+lines_are_units ls = each_line ls (root ∷ []) 0

@@ -6,24 +6,12 @@ use Rattle.toml_tree.specs.ReadingValues.{Element as ArrayElement}
 use Rattle.toml_tree.specs.Pieces.{piece_of, expr_start}
 use Rattle.toml_names.specs.Addresses.{Address, element}
 use Rattle.toml_names.specs.Keys.{key_names}
+pub use Rattle.toml_units.specs.View.{Spanned, spanned}
 use Rattle.toml_names.specs.Mentions.{Named, root, named_by}
 use Rattle.toml_names.specs.Names.{own_address}
-use Rattle.toml_units.specs.declared.unit.UnitKind.{UnitKind}
 use Rattle.toml_units.specs.declared.unit.UnitKind.TheVariants as kinds
-use Rattle.toml_units.specs.Blocks.{end}
 use Rattle.toml_units.specs.Ends.{piece_end, expr_end}
 use Rattle.toml_units.specs.Units.{TextUnit, gap_units, element_unit, pair_address, tail_units, units}
-
--- A unit by its span, from its first byte to the place behind its last one; its text is what stands there.
-pub record Spanned : Type 0 where
-  pub kind : UnitKind
-  pub start : ℕ
-  pub stop : ℕ
-  pub address : Option Address
-  pub base : Option ℕ
-
-abbrev pub spanned : TextUnit → Spanned
-spanned u = record { kind = u.kind; start = u.piece.start; stop = end u; address = u.address; base = u.base }
 
 -- a pair goes as far as its value
 abbrev pub pair_span : Address → KeyVal → Spanned

@@ -69,7 +69,7 @@ fn first_other(alloc: Global, text: &str, rows: &[Row]) -> Result<Option<usize>,
     Ok((found.len() > rows.len()).then_some(rows.len()))
 }
 
-const LINES: [(&str, &[Row]); 6] = [
+const LINES: [(&str, &[Row]); 8] = [
     ("", &[(Line, 0, 0, None, None)]),
     (
         "\u{FEFF}a = 1",
@@ -124,6 +124,27 @@ const LINES: [(&str, &[Row]); 6] = [
             (TailComment, 25, 30, Some(&[Name("a")]), None),
         ],
     ),
+    (
+        "\u{FEFF}# c\na = 1",
+        &[
+            (Line, 3, 6, None, None),
+            (TailComment, 3, 6, None, None),
+            (Line, 7, 12, Some(&[Name("a")]), Some(0)),
+        ],
+    ),
+    (
+        "[[t]]\na.b = 1",
+        &[
+            (Line, 0, 5, Some(&[Name("t"), Index(0)]), None),
+            (
+                Line,
+                6,
+                13,
+                Some(&[Name("t"), Index(0), Name("a"), Name("b")]),
+                Some(2),
+            ),
+        ],
+    ),
 ];
 
 #[test]
@@ -134,7 +155,7 @@ fn units_of_lines(rt: HostRuntime) -> Result<(), Fail> {
     Ok(())
 }
 
-const VALUES: [(&str, &[Row]); 7] = [
+const VALUES: [(&str, &[Row]); 11] = [
     (
         "a = []\nb = {}\n",
         &[
@@ -216,6 +237,47 @@ const VALUES: [(&str, &[Row]); 7] = [
         ],
     ),
     (
+        "x = [1 # c\n, 2]",
+        &[
+            (Line, 0, 15, Some(&[Name("x")]), Some(0)),
+            (Element, 5, 6, Some(&[Name("x"), Index(0)]), None),
+            (InnerComment, 7, 10, Some(&[Name("x")]), None),
+            (Element, 13, 14, Some(&[Name("x"), Index(1)]), None),
+        ],
+    ),
+    (
+        "x = [1 # c\n]",
+        &[
+            (Line, 0, 12, Some(&[Name("x")]), Some(0)),
+            (Element, 5, 6, Some(&[Name("x"), Index(0)]), None),
+            (InnerComment, 7, 10, Some(&[Name("x")]), None),
+        ],
+    ),
+    (
+        "x = [1, # c\r\n2]",
+        &[
+            (Line, 0, 15, Some(&[Name("x")]), Some(0)),
+            (Element, 5, 6, Some(&[Name("x"), Index(0)]), None),
+            (InnerComment, 8, 11, Some(&[Name("x")]), None),
+            (Element, 13, 14, Some(&[Name("x"), Index(1)]), None),
+        ],
+    ),
+    (
+        "p = {a = [ # c\n 1]}",
+        &[
+            (Line, 0, 19, Some(&[Name("p")]), Some(0)),
+            (Pair, 5, 18, Some(&[Name("p"), Name("a")]), Some(1)),
+            (InnerComment, 11, 14, Some(&[Name("p"), Name("a")]), None),
+            (
+                Element,
+                16,
+                17,
+                Some(&[Name("p"), Name("a"), Index(0)]),
+                None,
+            ),
+        ],
+    ),
+    (
         "[[a.b]]\n[a.b.c]\nd = [1,\n2] # t",
         &[
             (Line, 0, 7, Some(&[Name("a"), Name("b"), Index(0)]), None),
@@ -291,7 +353,7 @@ fn what_is_read(alloc: Global, bytes: &[u8]) -> Result<Option<Certificate>, Fail
 
 #[test]
 fn certificates_are_read_and_written(rt: HostRuntime) -> Result<(), Fail> {
-    let rows: [(&str, &[(u64, u64)]); 5] = [
+    let rows: [(&str, &[(u64, u64)]); 7] = [
         ("kept 1\n", &[]),
         ("kept 1\n0 0\n", &[(0, 0)]),
         ("kept 1\n1 1\n2 2\n", &[(1, 1), (2, 2)]),
@@ -300,6 +362,11 @@ fn certificates_are_read_and_written(rt: HostRuntime) -> Result<(), Fail> {
             "kept 1\n18446744073709551615 10\n",
             &[(18_446_744_073_709_551_615, 10)],
         ),
+        (
+            "kept 1\n18446744073709551615 0\n",
+            &[(18_446_744_073_709_551_615, 0)],
+        ),
+        ("kept 1\n0 0\n1 1\n2 0\n", &[(0, 0), (1, 1), (2, 0)]),
     ];
     for (text, pairs) in rows {
         let read = what_is_read(rt.alloc(), text.as_bytes())?.ok_or("refused")?;
@@ -324,6 +391,7 @@ fn other_texts_are_refused(rt: HostRuntime) -> Result<(), Fail> {
         "kept 1\n0\n",
         "kept 1\n0 0",
         "kept 1\n0 0\r\n",
+        "kept 1\r\n0 0\n",
         "kept 1\n00 0\n",
         "kept 1\n0 01\n",
         "kept 1\n0  0\n",

@@ -1,4 +1,4 @@
-use Rattle.toml_units.proofs.Bases.{units_are_based}
+use Rattle.toml_units.proofs.Bases.{units_are_based, lines_are_units}
 use Rattle.toml_units.proofs.UnitLines.{units_are_of_lines}
 use Rattle.toml_units.proofs.laws.lines.Goals as goal
 
@@ -7,3 +7,6 @@ returns-clause-of_lines c = units_are_of_lines
 
 pub returns-clause-bases : goal.returns-clause-bases
 returns-clause-bases c = units_are_based
+
+pub returns-clause-each : goal.returns-clause-each
+returns-clause-each c = lines_are_units
