@@ -1,0 +1,87 @@
+-- The plain function of units: spans, read off the pieces.
+use Rattle.std.specs.Prelude.{◌≡◌, ◌+◌, ◌-◌, ℕ, List, [], ◌∷◌, ◌++◌, length, map, Option, Some, None}
+use Rattle.toml_tree.specs.Spells.{Spells}
+use Rattle.toml_tree.specs.Tree.{Value, Scalar, Array, Empty, Inline, Items, Close, Last, More, Pairs, LastPair, MorePairs, KeyVal, Expr, BlankLine, KeyValLine, TableLine, ArrayTableLine, Line, Doc}
+use Rattle.toml_tree.specs.ReadingValues.{Element as ArrayElement}
+use Rattle.toml_names.specs.Addresses.{Address, element}
+use Rattle.toml_names.specs.Keys.{key_names}
+use Rattle.toml_names.specs.Mentions.{Named, root, named_by}
+use Rattle.toml_names.specs.Names.{own_address}
+use Rattle.toml_units.specs.declared.unit.UnitKind.{UnitKind}
+use Rattle.toml_units.specs.declared.unit.UnitKind.TheVariants as kinds
+use Rattle.toml_units.specs.Blocks.{end}
+use Rattle.toml_units.specs.Ends.{piece_end, expr_end}
+use Rattle.toml_units.specs.Units.{TextUnit, gap_units, value_piece, element_unit, pair_address, tail_units, expr_start, units}
+
+-- A unit by its span, from its first byte to the place behind its last one; its text is what stands there.
+pub record Spanned : Type 0 where
+  pub kind : UnitKind
+  pub start : ℕ
+  pub stop : ℕ
+  pub address : Option Address
+  pub base : Option ℕ
+
+abbrev pub spanned : TextUnit → Spanned
+spanned u = record { kind = u.kind; start = u.piece.start; stop = end u; address = u.address; base = u.base }
+
+-- a pair goes as far as its value
+abbrev pub pair_span : Address → KeyVal → Spanned
+pair_span at k = record { kind = kinds.Pair; start = k.assign.key.first.start; stop = piece_end (value_piece k.value); address = Some (pair_address at k.assign); base = Some (length at) }
+
+abbrev mutual
+  pub plain_inside : Address → Value → List Spanned
+  plain_inside at (Scalar kind p) = []
+  plain_inside at (Array whole items) = plain_elements at 0 items
+  plain_inside at (Empty whole ws) = []
+  plain_inside at (Inline whole pairs) = plain_members at pairs
+
+  pub plain_elements : Address → ℕ → Items → List Spanned
+  plain_elements at i (Close g) = map spanned (gap_units at g)
+  plain_elements at i (Last g v h) = map spanned (gap_units at g) ++ ((spanned (element_unit (element at i) v) ∷ plain_inside (element at i) v) ++ map spanned (gap_units at h))
+  plain_elements at i (More g v h is) = map spanned (gap_units at g) ++ ((spanned (element_unit (element at i) v) ∷ plain_inside (element at i) v) ++ (map spanned (gap_units at h) ++ plain_elements at (i + 1) is))
+
+  pub plain_members : Address → Pairs → List Spanned
+  plain_members at (LastPair ws a v after) = pair_span at (record { assign = a; value = v }) ∷ plain_inside (pair_address at a) v
+  plain_members at (MorePairs ws a v after ps) = (pair_span at (record { assign = a; value = v }) ∷ plain_inside (pair_address at a) v) ++ plain_members at ps
+
+-- what lies in a value, where it has an address
+abbrev pub plain_value : Option Address → Value → List Spanned
+plain_value None v = []
+plain_value (Some at) v = plain_inside at v
+
+-- what lies in an expression whose value, table or element is at the address
+abbrev pub plain_line : Option Address → Expr → List Spanned
+plain_line at (BlankLine b) = map spanned (tail_units at b)
+plain_line at (KeyValLine ws k b) = plain_value at k.value ++ map spanned (tail_units at b)
+plain_line at (TableLine ws h b) = map spanned (tail_units at b)
+plain_line at (ArrayTableLine ws h b) = map spanned (tail_units at b)
+
+-- the steps of a keyval line's address less the parts of its key
+abbrev pub own_base : Option Address → Expr → Option ℕ
+own_base (Some at) (KeyValLine ws k b) = Some (length at - length (key_names k.assign.key))
+own_base _ _ = None
+
+abbrev pub line_span : Option Address → Expr → Spanned
+line_span at e = record { kind = kinds.Line; start = expr_start e; stop = expr_end e; address = at; base = own_base at e }
+
+-- the units of a line at the address
+abbrev pub line_spans : Option Address → Expr → List Spanned
+line_spans at e = line_span at e ∷ plain_line at e
+
+abbrev pub plain_from : List Named → ℕ → List Line → List Spanned
+plain_from earlier n [] = []
+plain_from earlier n (l ∷ ls) = line_spans (own_address earlier l.expr) l.expr ++ plain_from (earlier ++ named_by earlier n l.expr) (n + 1) ls
+
+abbrev pub plain_units : List Line → List Spanned
+plain_units = plain_from (root ∷ []) 0
+
+-- an element between its gaps, and a pair, with what lies in them
+abbrev pub element_units : Address → ℕ → ArrayElement → List Spanned
+element_units at i e = map spanned (gap_units at e.before) ++ ((spanned (element_unit (element at i) e.value) ∷ plain_inside (element at i) e.value) ++ map spanned (gap_units at e.after))
+
+abbrev pub pair_units : Address → KeyVal → List Spanned
+pair_units at k = pair_span at k ∷ plain_inside (pair_address at k.assign) k.value
+
+-- Law: of a document these are the units.
+abbrev pub PlainIsUnits : Type 0
+PlainIsUnits = (d : Doc) (text : List ℕ) → Spells d text → plain_units d.lines ≡ map spanned (units d.lines)

@@ -1,0 +1,12 @@
+//! Units: the lines, comments, elements and pairs of a document, each of which an edit keeps, changes or takes away as a
+//! whole.
+#![tactic(auto)]
+
+mod key;
+pub mod laws;
+mod lines;
+mod unit;
+mod walk;
+
+pub use lines::units;
+pub use unit::{Unit, UnitKind};

@@ -1,0 +1,128 @@
+//! The units of lines and of documents.
+ghost use Rattle.std.specs.Prelude.{◌≡◌, ◌++◌, length, map, option_map, OnOk, IfOk};
+ghost use Rattle.toml_tree.specs.Document.{document};
+ghost use Rattle.toml_tree.specs.View.{blank, key as tree_key, expr};
+ghost use Rattle.toml_names.specs.Keys.{key_names};
+ghost use Rattle.toml_names.specs.Mentions.{named};
+ghost use Rattle.toml_units.specs.Ends.{blank_end, expr_end};
+ghost use Rattle.toml_units.specs.Plain.{spanned, own_base, line_spans, plain_units};
+ghost use Rattle.toml_units.specs.Units.{expr_start, units as units_of};
+ghost use Rattle.toml_units.specs.View.{all_units};
+
+use crate::unit::{Unit, UnitKind};
+use crate::walk::{copied, push_comment, push_inside};
+use std::alloc::{AllocError, Global};
+use toml_names::{Address, Names};
+use toml_text::Span;
+use toml_tree::{Blank, Doc, Expr, Key};
+
+/// The place behind whitespace and a comment.
+fn blank_end(b: &Blank) -> usize
+    ensures { result ≡ blank_end (blank b.now) }
+{
+    match b.comment {
+        Some(comment) => comment.span().end,
+        None => b.ws.span().end,
+    }
+}
+
+/// Where an expression stands, with its whitespace and its comment.
+fn expr_span(e: &Expr) -> Span
+    ensures start { result.start ≡ expr_start (expr e.now) }
+    ensures end { result.end ≡ expr_end (expr e.now) }
+{
+    match e {
+        Expr::Blank(tail) => Span {
+            start: tail.ws.start,
+            end: blank_end(tail),
+        },
+        Expr::KeyVal { ws, tail, .. } => Span {
+            start: ws.start,
+            end: blank_end(tail),
+        },
+        Expr::Std { ws, tail, .. } => Span {
+            start: ws.start,
+            end: blank_end(tail),
+        },
+        Expr::Array { ws, tail, .. } => Span {
+            start: ws.start,
+            end: blank_end(tail),
+        },
+    }
+}
+
+/// How many parts a key has.
+fn parts(key: &Key) -> usize
+    ensures { result ≡ length (key_names (tree_key key.now)) }
+{
+    key.rest.len() + 1
+}
+
+/// The base of a line, read off its own address.
+fn own_base(own: Option<&Address>, e: &Expr) -> Option<usize>
+    ensures { result ≡ own_base (option_map (λ a. a.now) own.entry) (expr e.now) }
+{
+    match e {
+        Expr::KeyVal { keyval, .. } => {
+            let at = own?;
+            Some(at.steps().len().saturating_sub(parts(&keyval.assign.key)))
+        }
+        _ => None,
+    }
+}
+
+/// Adds the units of a line at its own address.
+fn push_line(
+    alloc: Global,
+    units: &mut Vec<Unit>,
+    own: Option<&Address>,
+    e: &Expr,
+) -> Result<(), AllocError>
+    ensures { OnOk result (all_units units.new.items ≡ all_units units.old.items ++ line_spans (option_map (λ a. a.now) own.entry) (expr e.now)) }
+{
+    units.push(Unit {
+        kind: UnitKind::Line,
+        span: expr_span(e),
+        address: copied(alloc, own)?,
+        base: own_base(own, e),
+    })?;
+    match e {
+        Expr::KeyVal { keyval, tail, .. } => {
+            if let Some(at) = own {
+                push_inside(alloc, units, at, &keyval.value)?;
+            }
+            push_comment(alloc, units, UnitKind::TailComment, own, tail.comment)
+        }
+        Expr::Blank(tail) => push_comment(alloc, units, UnitKind::TailComment, own, tail.comment),
+        Expr::Std { tail, .. } => push_comment(
+            alloc,
+            units,
+            UnitKind::TailComment,
+            own,
+            tail.comment,
+        ),
+        Expr::Array { tail, .. } => push_comment(
+            alloc,
+            units,
+            UnitKind::TailComment,
+            own,
+            tail.comment,
+        ),
+    }
+}
+
+/// The units of a document, in text order, an outer one before what lies in it: each line; behind it what lies in the
+/// value of its key, where it has one, that is the comments and elements of arrays and the pairs of inline tables at
+/// every depth; and then the comment at its end. The mark is in no unit, nor is a line's newline.
+///
+/// The names are those of the document.
+pub fn units(alloc: Global, doc: &Doc, names: &Names) -> Result<Vec<Unit>, AllocError>
+    requires { names.now.named ≡ named (document doc.now).lines }
+    ensures { IfOk result (λ us. all_units us.items ≡ map spanned (units_of (document doc.now).lines)) }
+{
+    let mut units = Vec::new(alloc);
+    for (number, line) in doc.lines().iter().enumerate() {
+        push_line(alloc, &mut units, names.address_of(number), line.expr())?;
+    }
+    Ok(units)
+}

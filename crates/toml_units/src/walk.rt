@@ -1,0 +1,150 @@
+//! The units of values.
+ghost use Rattle.std.specs.Prelude.{◌≡◌, [], ◌∷◌, ◌++◌, length, map, option_map, OnOk, IfOk};
+ghost use Rattle.toml_tree.specs.View.{piece, gap, gap_line, value, element as tree_element, keyval as tree_keyval};
+ghost use Rattle.toml_units.specs.Plain.{spanned, plain_inside, element_units, pair_units};
+ghost use Rattle.toml_units.specs.Units.{comment_units, gap_units, gap_line_units, value_piece};
+ghost use Rattle.toml_units.specs.View.{unit, all_units};
+
+use crate::key::key_address;
+use crate::unit::{Unit, UnitKind};
+use std::alloc::{AllocError, Global};
+use toml_names::Address;
+use toml_text::Span;
+use toml_tree::{Gap, Item, KeyVal, Piece, Value};
+
+/// An address of its own that is the same, where there is one.
+pub fn copied(alloc: Global, at: Option<&Address>) -> Result<Option<Address>, AllocError>
+    ensures { IfOk result (λ own. own ≡ option_map (λ a. a.now) at.entry) }
+{
+    match at {
+        Some(address) => Ok(Some(address.copy(alloc)?)),
+        None => Ok(None),
+    }
+}
+
+/// Adds a comment, where there is one.
+pub fn push_comment(
+    alloc: Global,
+    units: &mut Vec<Unit>,
+    kind: UnitKind,
+    at: Option<&Address>,
+    comment: Option<Piece>,
+) -> Result<(), AllocError>
+    ensures { OnOk result (all_units units.new.items ≡ all_units units.old.items ++ map spanned (comment_units kind (option_map (λ a. a.now) at.entry) (option_map piece comment.entry))) }
+{
+    if let Some(found) = comment {
+        units.push(Unit {
+            kind,
+            span: found.span(),
+            address: copied(alloc, at)?,
+            base: None,
+        })?;
+    }
+    Ok(())
+}
+
+/// Adds the comments of a gap of the array at the address.
+fn push_gap(alloc: Global, units: &mut Vec<Unit>, at: &Address, g: &Gap) -> Result<(), AllocError>
+    ensures { OnOk result (all_units units.new.items ≡ all_units units.old.items ++ map spanned (gap_units at.now (gap g.now))) }
+{
+    for line in &g.lines {
+        push_comment(
+            alloc,
+            units,
+            UnitKind::InnerComment,
+            Some(at),
+            line.blank.comment,
+        )?;
+    }
+    Ok(())
+}
+
+/// The piece that a value is spelled by.
+fn whole<'t>(v: &Value<'t>) -> Piece<'t>
+    ensures { piece result ≡ value_piece (value v.now) }
+{
+    match v {
+        Value::Scalar(_, token) => *token,
+        Value::Array(array) => array.whole,
+        Value::Inline(table) => table.whole,
+    }
+}
+
+/// Adds what lies in a value at the address.
+#[cycle(inside)]
+pub fn push_inside(
+    alloc: Global,
+    units: &mut Vec<Unit>,
+    at: &Address,
+    v: &Value,
+) -> Result<(), AllocError>
+    ensures { OnOk result (all_units units.new.items ≡ all_units units.old.items ++ plain_inside at.now (value v.now)) }
+{
+    match v {
+        Value::Scalar(_, _) => Ok(()),
+        Value::Array(array) => {
+            for (index, item) in array.items.iter().enumerate() {
+                push_element(alloc, units, at, index as u64, item)?;
+            }
+            if let Some(end) = &array.end {
+                push_gap(alloc, units, at, end)?;
+            }
+            Ok(())
+        }
+        Value::Inline(table) => {
+            if table.ws.is_some() {
+                return Ok(());
+            }
+            for pair in &table.pairs {
+                push_pair(alloc, units, at, &pair.keyval)?;
+            }
+            Ok(())
+        }
+    }
+}
+
+/// Adds an element of the array at the address, with its gaps.
+#[cycle(inside)]
+fn push_element(
+    alloc: Global,
+    units: &mut Vec<Unit>,
+    at: &Address,
+    index: u64,
+    item: &Item,
+) -> Result<(), AllocError>
+    ensures { OnOk result (all_units units.new.items ≡ all_units units.old.items ++ element_units at.now index (tree_element item.now)) }
+{
+    push_gap(alloc, units, at, &item.before)?;
+    let here = at.element(alloc, index)?;
+    units.push(Unit {
+        kind: UnitKind::Element,
+        span: whole(&item.value).span(),
+        address: Some(here.copy(alloc)?),
+        base: None,
+    })?;
+    push_inside(alloc, units, &here, &item.value)?;
+    push_gap(alloc, units, at, &item.after)
+}
+
+/// Adds a pair of the table at the address.
+#[cycle(inside)]
+fn push_pair(
+    alloc: Global,
+    units: &mut Vec<Unit>,
+    at: &Address,
+    pair: &KeyVal,
+) -> Result<(), AllocError>
+    ensures { OnOk result (all_units units.new.items ≡ all_units units.old.items ++ pair_units at.now (tree_keyval pair.now)) }
+{
+    let here = key_address(alloc, at, &pair.assign.key)?;
+    units.push(Unit {
+        kind: UnitKind::Pair,
+        span: Span {
+            start: pair.assign.key.first.start,
+            end: whole(&pair.value).span().end,
+        },
+        address: Some(here.copy(alloc)?),
+        base: Some(at.steps().len()),
+    })?;
+    push_inside(alloc, units, &here, &pair.value)
+}
