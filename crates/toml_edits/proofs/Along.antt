@@ -5,7 +5,7 @@ use Rattle.std.specs.Bool.{nat_lt, nat_eq}
 use Rattle.toml_names.specs.declared.address.Step.{Step}
 use Rattle.toml_names.specs.declared.address.Step.TheVariants.{Name, Index}
 use Rattle.toml_names.specs.Addresses.{Address, IsAbove, same_step}
-use Rattle.toml_names.proofs.Equal.{same_step-equal}
+use Rattle.toml_names.proofs.Proved.{same_step-equal}
 use Rattle.toml_edits.specs.Carry.{Carrier, carry_below, emptied, nowhere, up_from, down_above, to_name, setting, inserting, renaming, removing, parted}
 use Rattle.toml_edits.specs.Edits.{set, insert, rename, remove}
 use Rattle.toml_edits.specs.Laws.{CarriedAlong}

@@ -8,15 +8,14 @@ use Rattle.toml_names.specs.declared.address.Step.{Step}
 use Rattle.toml_names.specs.declared.address.Step.TheVariants.{Name, Index}
 use Rattle.toml_names.specs.declared.datum.Datum.{Datum}
 use Rattle.toml_names.specs.Addresses.{Address, same_step, child}
-use Rattle.toml_names.specs.Data.{Kinds, kind_at, kind_in}
+use Rattle.toml_names.specs.Data.{Kinds, kind_at, kind_in, IsClosed}
 use Rattle.toml_names.specs.Mentions.{Kind}
-use Rattle.toml_names.proofs.Changes.{HasPart, has_part}
-use Rattle.toml_names.proofs.Levels.{has_kind}
-use Rattle.toml_names.proofs.Equal.{same_step-equal}
+use Rattle.toml_names.specs.Parts.{HasPart}
+use Rattle.toml_names.proofs.Proved.{has_part, has_kind, same_step-equal}
 use Rattle.toml_edits.specs.declared.fault.EditFault.TheVariants.{AlreadyThere}
 use Rattle.toml_edits.specs.Carry.{Carrier, carry_below, emptied, nowhere, up_from, down_above, to_name, setting, inserting, renaming, removing}
 use Rattle.toml_edits.specs.Edits.{set, insert, rename, remove}
-use Rattle.toml_edits.specs.Laws.{IsClosed, DataAreClosed, CarriedApart}
+use Rattle.toml_edits.specs.Laws.{DataAreClosed, CarriedApart}
 use Rattle.toml_edits.proofs.Along.{by_parts}
 use Rattle.toml_edits.proofs.Fronts.{onto}
 

@@ -9,8 +9,7 @@ use Rattle.toml_names.specs.declared.address.Step.TheVariants.{Name, Index}
 use Rattle.toml_names.specs.declared.datum.Datum.{Datum, Array, Table}
 use Rattle.toml_names.specs.Addresses.{Address}
 use Rattle.toml_names.specs.Data.{kind_at, kind_in}
-use Rattle.toml_names.proofs.Changes.{array-within}
-use Rattle.toml_names.proofs.Levels.{array-here, array-item, array-name, table-here, table-member, table-index, has_kind}
+use Rattle.toml_names.proofs.Proved.{array-within, array-here, array-item, array-name, table-here, table-member, table-index, has_kind}
 use Rattle.toml_edits.specs.Changed.{below, shifted_in, shifted_out, renamed}
 
 one_of : (b : Bool) (o r : Option Datum) (at : Address) → kind_in (cond b o r) at ≡ cond b (kind_in o at) (kind_in r at)

@@ -35,7 +35,7 @@ at_rank AlreadyThere = refl
 at_rank AddressLength = refl
 at_rank NoMemory = refl
 
-one_rank : (x y : EditFault) → rank x ≡ rank y → x ≡ y
+pub one_rank : (x y : EditFault) → rank x ≡ rank y → x ≡ y
 one_rank x y is = inner (sym (at_rank x) ∙ ap (slice_get in_order) is ∙ at_rank y)
   where
     inner : ◌≡◌ {A = Option EditFault} (Some x) (Some y) → x ≡ y

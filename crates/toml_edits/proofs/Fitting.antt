@@ -1,6 +1,6 @@
 -- A value of which no address is too long.
 use Rattle.std.proofs.Common.{◌≡◌, inl, inr, ℕ, ◌-◌, List, length, Option, Some, None, IsSome, is_some, refl, ap, subst, sym, true≢false, arith}
-use Rattle.toml_tree.proofs.ExactValues.{one_value}
+use Rattle.toml_tree.proofs.Proved.{one_value}
 use Rattle.toml_names.specs.Addresses.{Address}
 use Rattle.toml_names.specs.Data.{Kinds, IsFact}
 use Rattle.toml_names.specs.Mentions.{Kind, value_facts}

@@ -17,7 +17,7 @@ pub onto : (t : Step) (o : Option Address) (b : Address) → option_map (λ r. t
 onto t None b e = cc
 onto t (Some r) b e = (r, refl, cc)
 
-below_front : (p : Address) (c : Carrier) → IsFrontal c → IsFrontal (carry_below p c)
+pub below_front : (p : Address) (c : Carrier) → IsFrontal c → IsFrontal (carry_below p c)
 below_front [] c l a r b e = l a r b e
 below_front (s ∷ p) c l [] r b e = record { to = []; rest = b; carried = refl; whole = refl; same = refl }
 below_front (s ∷ p) c l (t ∷ a) r b e = by (same_step s t) refl (λ x h. below_front p c l a r x h) e
@@ -33,7 +33,7 @@ below_front (s ∷ p) c l (t ∷ a) r b e = by (same_step s t) refl (λ x h. bel
 same_front : IsFrontal Some
 same_front a r b e = record { to = a; rest = r; carried = refl; whole = cc; same = refl }
 
-nowhere_front : IsFrontal nowhere
+pub nowhere_front : IsFrontal nowhere
 nowhere_front a r b e = cc
 
 emptied_front : IsFrontal emptied

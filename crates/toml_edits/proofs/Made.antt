@@ -5,14 +5,10 @@ use Rattle.std.specs.Prelude.{option_map}
 use Rattle.toml_names.specs.declared.address.Step.{Step}
 use Rattle.toml_names.specs.declared.address.Step.TheVariants.{Name, Index}
 use Rattle.toml_names.specs.declared.datum.Datum.{Datum, Array}
-use Rattle.toml_names.specs.declared.datum.Datum.TheVariants.{rolls-Scalar, rolls-Array, rolls-Table}
-use Rattle.toml_names.specs.declared.datum.Datum.TheOpen.{Datum-F}
-use Rattle.toml_names.specs.declared.datum.Datum.TheViews.{roll-Datum}
 use Rattle.toml_names.specs.Addresses.{Address, same_step, child, element}
 use Rattle.toml_names.specs.Data.{Kinds, kind_at, kind_in}
 use Rattle.toml_names.specs.Mentions.{Kind, a_table, an_array, a_scalar}
-use Rattle.toml_names.proofs.Changes.{array-within, has_part, step_there}
-use Rattle.toml_names.proofs.Levels.{by_cases, scalar-below, array-name, table-here, table-index, has_kind}
+use Rattle.toml_names.proofs.Proved.{array-within, has_part, step_there, datum_is, scalar-below, array-name, table-here, table-index, has_kind}
 use Rattle.toml_edits.specs.declared.fault.EditFault.TheVariants.{NotATable, IndexOutside, AlreadyThere}
 use Rattle.toml_edits.specs.After.{Moves, Comes, IsAfter, nothing}
 use Rattle.toml_edits.specs.Carry.{Carrier, carry_below, nowhere, inserting, renaming, removing, parted, up_from, down_above, to_name}
@@ -61,13 +57,12 @@ none_below d q s empty at = none_of _ (λ some. some_none _ (front_there (q ++ s
 
 -- ---- what has a member is a table
 
-table_at_name : (n : List ℕ) (x : Datum-F Datum) → IsSome (kind_at (roll-Datum x) (Name n ∷ [])) → kind_at (roll-Datum x) [] ≡ Some a_table
-table_at_name n (Datum-F.Scalar s) some = absurd (some_none _ some (ap (λ d. kind_at d (Name n ∷ [])) (rolls-Scalar s) ∙ scalar-below s (Name n) []))
-table_at_name n (Datum-F.Array v) some = absurd (some_none _ some (ap (λ d. kind_at d (Name n ∷ [])) (rolls-Array v) ∙ array-name v n []))
-table_at_name n (Datum-F.Table m) some = ap (λ d. kind_at d []) (rolls-Table m) ∙ table-here m
-
 is_table : (n : List ℕ) (d : Datum) → IsSome (kind_at d (Name n ∷ [])) → kind_at d [] ≡ Some a_table
-is_table n = by_cases (λ d. IsSome (kind_at d (Name n ∷ [])) → kind_at d [] ≡ Some a_table) (table_at_name n)
+is_table n d some = elim (datum_is d) [
+  | inl (s, is) ↦ absurd (some_none _ some (ap (λ e. kind_at e (Name n ∷ [])) is ∙ scalar-below s (Name n) []))
+  | inr (inl (v, is)) ↦ absurd (some_none _ some (ap (λ e. kind_at e (Name n ∷ [])) is ∙ array-name v n []))
+  | inr (inr (m, is)) ↦ ap (λ e. kind_at e []) is ∙ table-here m
+]
 
 table_in : (f : Kinds) (s : Step) (p : Address) (o : Option Datum) → ((r : Address) → f (s ∷ r) ≡ kind_in o r) → (n : List ℕ) → ((e : Datum) → IsSome (kind_at e (p ++ Name n ∷ [])) → kind_at e p ≡ Some a_table) → IsSome (f (s ∷ (p ++ Name n ∷ []))) → f (s ∷ p) ≡ Some a_table
 table_in f s p None is n next some = absurd (true≢false (sym (subst IsSome (is (p ++ Name n ∷ [])) some)))
@@ -82,17 +77,18 @@ parent_table (s ∷ q) d n some = let part = has_part s d in table_in (kind_at d
 array_small : (v : Vec Datum Global) → length v.items < 2 ^ 63
 array_small v = let ok = v.ok.0 in let small = v.small in omega arith
 
-fit_here : (x : Datum-F Datum) → IndicesFit (kind_at (roll-Datum x))
-fit_here (Datum-F.Scalar s) j at k is = no_kind k (sym (scalar-below s (Index j) at) ∙ subst (λ d. kind_at d (Index j ∷ at) ≡ Some k) (rolls-Scalar s) is)
-fit_here (Datum-F.Table m) j at k is = no_kind k (sym (table-index m j at) ∙ subst (λ d. kind_at d (Index j ∷ at) ≡ Some k) (rolls-Table m) is)
-fit_here (Datum-F.Array v) j at k is =
-    let e : kind_at (Array v) (Index j ∷ at) ≡ Some k = subst (λ d. kind_at d (Index j ∷ at) ≡ Some k) (rolls-Array v) is in
-    let low : j < length v.items = array-within v j (step_there (Array v) (Index j) at (ap is_some e)) in
+array_fits : (v : Vec Datum Global) → IndicesFit (kind_at (Array v))
+array_fits v j at k is =
+    let low : j < length v.items = array-within v j (step_there (Array v) (Index j) at (ap is_some is)) in
     let bound = array_small v in
     omega arith
 
 indices_fit : (d : Datum) → IndicesFit (kind_at d)
-indices_fit = by_cases (λ d. IndicesFit (kind_at d)) fit_here
+indices_fit d = elim (datum_is d) [
+  | inl (s, is) ↦ subst (λ e. IndicesFit (kind_at e)) (sym is) (λ j at k have. no_kind k (sym (scalar-below s (Index j) at) ∙ have))
+  | inr (inl (v, is)) ↦ subst (λ e. IndicesFit (kind_at e)) (sym is) (array_fits v)
+  | inr (inr (m, is)) ↦ subst (λ e. IndicesFit (kind_at e)) (sym is) (λ j at k have. no_kind k (sym (table-index m j at) ∙ have))
+]
 
 fit_in : (f : Kinds) (s : Step) (p : Address) (o : Option Datum) → ((r : Address) → f (s ∷ r) ≡ kind_in o r) → ((e : Datum) → IndicesFit (λ r. kind_at e (p ++ r))) → IndicesFit (λ r. f (s ∷ (p ++ r)))
 fit_in f s p None is next j at k have = no_kind k (sym (is (p ++ Index j ∷ at)) ∙ have)

@@ -9,7 +9,7 @@ use Rattle.toml_names.specs.declared.address.Step.TheVariants.{Name, Index}
 use Rattle.toml_names.specs.Addresses.{Address, same_step}
 use Rattle.toml_names.specs.Data.{Kinds}
 use Rattle.toml_names.specs.Mentions.{Kind}
-use Rattle.toml_names.proofs.Equal.{same_step-equal, same_step-self}
+use Rattle.toml_names.proofs.Proved.{same_step-equal, same_step-self}
 use Rattle.toml_edits.specs.After.{Comes, Moves, nothing}
 use Rattle.toml_edits.specs.Carry.{Carrier, carry_below, nowhere, up_from, down_above, to_name}
 use Rattle.toml_edits.specs.Changed.{below, shifted_in, shifted_out, renamed}

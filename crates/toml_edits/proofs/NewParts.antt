@@ -7,8 +7,7 @@ use Rattle.toml_names.specs.declared.address.Step.TheVariants.{Name, Index}
 use Rattle.toml_names.specs.declared.datum.Datum.{Datum, Array, Table}
 use Rattle.toml_names.specs.Data.{kind_at, kind_in}
 use Rattle.toml_names.specs.Mentions.{a_table, an_array}
-use Rattle.toml_names.proofs.Changes.{table-has}
-use Rattle.toml_names.proofs.Levels.{array-here, array-item, table-here, table-member, has_kind}
+use Rattle.toml_names.proofs.Proved.{table-has, array-here, array-item, table-here, table-member, has_kind}
 use Rattle.toml_edits.specs.Faults.{HasFewer}
 use Rattle.toml_edits.proofs.Found.{none_of}
 

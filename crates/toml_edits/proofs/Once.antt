@@ -1,6 +1,6 @@
 -- An edit makes one thing of data.
 use Rattle.std.proofs.Common.{◌≡◌, inl, inr, List, ℕ, Option, Some, None, refl, sym, ap, subst, ◌∙◌}
-use Rattle.toml_tree.proofs.ExactValues.{one_value}
+use Rattle.toml_tree.proofs.Proved.{one_value}
 use Rattle.toml_tree.specs.Tree.{Value}
 use Rattle.toml_names.specs.Addresses.{Address}
 use Rattle.toml_names.specs.Data.{Kinds, IsDataOf}

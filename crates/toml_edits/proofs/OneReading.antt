@@ -3,7 +3,7 @@ use Rattle.std.proofs.Common.{◌≡◌, ℕ, List, subst, refl}
 use Rattle.toml_text.specs.Limit.{IsText}
 use Rattle.toml_tree.specs.Spells.{SpellsValue}
 use Rattle.toml_tree.specs.Tree.{Value}
-use Rattle.toml_tree.proofs.ExactValues.{one_value}
+use Rattle.toml_tree.proofs.Proved.{one_value}
 use Rattle.toml_names.specs.Mentions.{value_facts}
 use Rattle.toml_names.specs.Rules.{KeepsRules}
 use Rattle.toml_edits.specs.declared.value.Reading.{Reading}

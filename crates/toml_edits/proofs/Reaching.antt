@@ -1,5 +1,5 @@
 -- How far below data something stands, level by level.
-use Rattle.std.proofs.Common.{◌≡◌, ◌↔◌, ℕ, zero, suc, ◌-◌, ◌<◌, ◌≤◌, Bool, true, false, cond, List, [], ◌∷◌, length, Option, Some, None, IsSome, IsTrue, is_some, is_eq, nat_cmp, String, Vec, BTreeMap, Global, string_bytes, sym, ap, subst, ◌∙◌, true≢false, arith}
+use Rattle.std.proofs.Common.{◌≡◌, ◌↔◌, ℕ, zero, suc, ◌-◌, ◌<◌, ◌≤◌, Bool, true, false, cond, List, [], ◌∷◌, length, Option, Some, None, IsSome, IsTrue, is_some, is_eq, nat_cmp, String, Vec, BTreeMap, Global, string_bytes, refl, sym, ap, subst, ◌∙◌, true≢false, arith}
 use Rattle.std.specs.BTreeMap.{get_by_text, is_at}
 use Rattle.std.specs.Cmp.Lexicographic.{slice_cmp}
 use Rattle.std.specs.Map.{lookup}
@@ -9,8 +9,15 @@ use Rattle.toml_names.specs.declared.address.Step.TheVariants.{Name, Index}
 use Rattle.toml_names.specs.declared.datum.Datum.{Datum, Scalar, Array, Table}
 use Rattle.toml_names.specs.Data.{kind_at, kind_in}
 use Rattle.toml_names.specs.Mentions.{Kind}
-use Rattle.toml_names.proofs.Levels.{scalar-below, array-item, array-name, table-member, table-index, has_kind}
+use Rattle.toml_names.proofs.Proved.{scalar-below, array-item, array-name, table-member, table-index, has_kind}
 use Rattle.toml_edits.specs.Reach.{Reaches}
+
+-- what a test answers, once it is known
+pub accepted : {A : Type 0} → A → IsTrue true ↔ A
+accepted a = (λ h. a, λ b. refl)
+
+pub refused : {A : Type 0} → (A → ⊥) → IsTrue false ↔ A
+refused not = (λ h. absurd (true≢false (sym h)), λ a. absurd (not a))
 
 abbrev pub Entry : Type 0
 Entry = String Global × Datum

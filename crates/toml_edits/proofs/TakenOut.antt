@@ -7,8 +7,7 @@ use Rattle.toml_names.specs.Addresses.{Address, same_step}
 use Rattle.toml_names.specs.Building.{with_child}
 use Rattle.toml_names.specs.Data.{Kinds, kind_at}
 use Rattle.toml_names.specs.Mentions.{Kind}
-use Rattle.toml_names.proofs.Changes.{step_there}
-use Rattle.toml_names.proofs.Equal.{same_step-equal}
+use Rattle.toml_names.proofs.Proved.{step_there, same_step-equal}
 use Rattle.toml_edits.specs.declared.change.DatumChange.{DatumChange}
 use Rattle.toml_edits.specs.declared.change.DatumChange.TheVariants.{Put, AddMember, AddElement, Rename, DropMember, DropElement}
 use Rattle.toml_edits.specs.Changed.{below, IsApplicable}

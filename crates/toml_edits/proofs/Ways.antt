@@ -8,7 +8,7 @@ use Rattle.std.proofs.lemmas.List.{take_more, take-append-drop}
 use Rattle.toml_names.specs.declared.address.Step.{Step}
 use Rattle.toml_names.specs.declared.address.Step.TheVariants.{Name, Index}
 use Rattle.toml_names.specs.Addresses.{Address, same_step}
-use Rattle.toml_names.proofs.Equal.{same_step-equal, same_step-self}
+use Rattle.toml_names.proofs.Proved.{same_step-equal, same_step-self}
 use Rattle.toml_edits.specs.Carry.{Carrier, carry_below, setting, emptied, up_from, down_above, to_name, parted}
 
 pub same_next : (p : Address) (s t : Step) (a b : Address) → p ++ s ∷ a ≡ p ++ t ∷ b → s ≡ t

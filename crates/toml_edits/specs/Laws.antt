@@ -3,7 +3,7 @@ use Rattle.std.specs.Prelude.{◌≡◌, ℕ, List, [], ◌∷◌, ◌++◌, len
 use Rattle.toml_names.specs.declared.address.Step.{Step}
 use Rattle.toml_names.specs.declared.datum.Datum.{Datum}
 use Rattle.toml_names.specs.Addresses.{Address, IsAbove}
-use Rattle.toml_names.specs.Data.{Kinds, kind_at}
+use Rattle.toml_names.specs.Data.{Kinds, kind_at, IsClosed}
 use Rattle.toml_edits.specs.After.{IsAfter}
 use Rattle.toml_edits.specs.Carry.{Carrier, carry, carry_below, nowhere}
 use Rattle.toml_edits.specs.Edits.{Change, set, place}
@@ -29,10 +29,7 @@ pub record Front (c : Carrier) (a b : Address) : Type 0 where
 abbrev pub CarriedFront : Type 0
 CarriedFront = (c : Change) (a r b : Address) → carry c (a ++ r) ≡ Some b → Front (carry c) a b
 
--- Where nothing stands, nothing stands below.
-abbrev pub IsClosed : Kinds → Type 0
-IsClosed kinds = (a : Address) (s : Step) → kinds a ≡ None → kinds (a ++ s ∷ []) ≡ None
-
+-- In data nothing stands below an address where nothing does.
 abbrev pub DataAreClosed : Type 0
 DataAreClosed = (d : Datum) → IsClosed (kind_at d)
 

@@ -5,6 +5,8 @@ pub mod ValueTexts
 pub mod Faults
 pub mod EditList
 pub mod Laws
+pub mod Lists
+pub mod ListLaws
 -- words of the code's own contracts
 pub mod Readings
 pub mod Changed

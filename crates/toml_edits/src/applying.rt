@@ -1,7 +1,7 @@
 //! Edits applied to data.
 ghost use Rattle.std.specs.Prelude.{◌≡◌, ◌⊎◌, ◌↔◌, ◌∷◌, [], Some, None, IsSome, IsTrue, IfErr, OnOk, OnErr, ℕ, List};
 ghost use Rattle.toml_names.specs.declared.address.Step.TheVariants.{Name};
-ghost use Rattle.toml_names.specs.Addresses.{Address as Place, child};
+ghost use Rattle.toml_names.specs.Addresses.{Address, child};
 ghost use Rattle.toml_names.specs.Data.{kind_at};
 ghost use Rattle.toml_edits.specs.After.{IsAfter};
 ghost use Rattle.toml_edits.specs.declared.fault.EditFault.TheVariants.{NoMemory};
@@ -16,10 +16,7 @@ use crate::fault::EditFault;
 use crate::reach::reaches;
 use crate::value::{Reading, read_text};
 use std::alloc::Global;
-use toml_names::{Data, Datum, Step};
-
-/// How many steps an address may have.
-const MAX_STEPS: usize = 100;
+use toml_names::{Data, Datum, MAX_STEPS, Step};
 
 /// Applies an edit to data. It tells the first fault of this order, `NoMemory` aside, which may come in place of any
 /// answer; after a fault the data are as before.
@@ -40,7 +37,7 @@ const MAX_STEPS: usize = 100;
 pub fn apply(alloc: Global, data: &mut Data, edit: &Edit) -> Result<(), EditFault>
     ensures fault { IfErr result (λ x. (x ≡ NoMemory) ⊎ IsFault (change edit.now) (kind_at «data».old.root) (Some x)) }
     ensures ok { OnOk result (IsFault (change edit.now) (kind_at «data».old.root) None × IsAfter (change edit.now) (kind_at «data».old.root) (kind_at «data».new.root)) }
-    ensures err { OnErr result ((at : Place) → kind_at «data».new.root at ≡ kind_at «data».old.root at) }
+    ensures err { OnErr result ((at : Address) → kind_at «data».new.root at ≡ kind_at «data».old.root at) }
 {
     let root = &mut data.root;
     match edit {
@@ -54,7 +51,7 @@ pub fn apply(alloc: Global, data: &mut Data, edit: &Edit) -> Result<(), EditFaul
 fn remove(alloc: Global, root: &mut Datum, at: &[Step]) -> Result<(), EditFault>
     ensures fault { IfErr result (λ x. (x ≡ NoMemory) ⊎ IsFault (remove at.now) (kind_at root.old) (Some x)) }
     ensures ok { OnOk result (IsFault (remove at.now) (kind_at root.old) None × IsAfter (remove at.now) (kind_at root.old) (kind_at root.new)) }
-    ensures err { OnErr result ((p : Place) → kind_at root.new p ≡ kind_at root.old p) }
+    ensures err { OnErr result ((p : Address) → kind_at root.new p ≡ kind_at root.old p) }
 {
     let Some((last, parent)) = at.split_last() else {
         return Err(EditFault::RootNamed);
@@ -71,7 +68,7 @@ fn remove(alloc: Global, root: &mut Datum, at: &[Step]) -> Result<(), EditFault>
 fn rename(alloc: Global, root: &mut Datum, at: &[Step], to: &str) -> Result<(), EditFault>
     ensures fault { IfErr result (λ x. (x ≡ NoMemory) ⊎ IsFault (rename at.now to.now) (kind_at root.old) (Some x)) }
     ensures ok { OnOk result (IsFault (rename at.now to.now) (kind_at root.old) None × IsAfter (rename at.now to.now) (kind_at root.old) (kind_at root.new)) }
-    ensures err { OnErr result ((p : Place) → kind_at root.new p ≡ kind_at root.old p) }
+    ensures err { OnErr result ((p : Address) → kind_at root.new p ≡ kind_at root.old p) }
 {
     let Some((last, parent)) = at.split_last() else {
         return Err(EditFault::RootNamed);
@@ -111,7 +108,7 @@ fn has_name(datum: &Datum, name: &str) -> bool
 fn set(alloc: Global, root: &mut Datum, at: &[Step], text: &str) -> Result<(), EditFault>
     ensures fault { IfErr result (λ x. (x ≡ NoMemory) ⊎ IsFault (set at.now text.now) (kind_at root.old) (Some x)) }
     ensures ok { OnOk result (IsFault (set at.now text.now) (kind_at root.old) None × IsAfter (set at.now text.now) (kind_at root.old) (kind_at root.new)) }
-    ensures err { OnErr result ((p : Place) → kind_at root.new p ≡ kind_at root.old p) }
+    ensures err { OnErr result ((p : Address) → kind_at root.new p ≡ kind_at root.old p) }
 {
     let value = value_to_set(alloc, &*root, at, text)?;
     alter(alloc, root, at, DatumChange::Put(value))
@@ -137,7 +134,7 @@ fn value_to_set(alloc: Global, root: &Datum, at: &[Step], text: &str) -> Result<
 fn insert(alloc: Global, root: &mut Datum, at: &[Step], text: &str) -> Result<(), EditFault>
     ensures fault { IfErr result (λ x. (x ≡ NoMemory) ⊎ IsFault (insert at.now text.now) (kind_at root.old) (Some x)) }
     ensures ok { OnOk result (IsFault (insert at.now text.now) (kind_at root.old) None × IsAfter (insert at.now text.now) (kind_at root.old) (kind_at root.new)) }
-    ensures err { OnErr result ((p : Place) → kind_at root.new p ≡ kind_at root.old p) }
+    ensures err { OnErr result ((p : Address) → kind_at root.new p ≡ kind_at root.old p) }
 {
     let Some((last, parent)) = at.split_last() else {
         return Err(EditFault::RootNamed);

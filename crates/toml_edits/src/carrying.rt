@@ -33,11 +33,11 @@ fn next<'a>(place: &[Step], steps: &'a [Step]) -> Option<(&'a Step, &'a [Step])>
 }
 
 /// Copies steps onto the end of others.
-fn copy_onto(alloc: Global, all: &mut Vec<Step>, steps: &[Step]) -> Result<(), AllocError>
+fn copy_onto(all: &mut Vec<Step>, steps: &[Step]) -> Result<(), AllocError>
     ensures { OnOk result (all.new.items ≡ all.old.items ++ steps.now) }
 {
     for step in steps {
-        all.push(step.copy(alloc)?)?;
+        all.push(step.copy()?)?;
     }
     Ok(())
 }
@@ -47,7 +47,7 @@ fn kept(alloc: Global, steps: &[Step]) -> Result<Option<Address>, AllocError>
     ensures { IfOk result (λ o. o ≡ Some steps.now) }
 {
     let mut all = Vec::with_capacity(alloc, steps.len())?;
-    copy_onto(alloc, &mut all, steps)?;
+    copy_onto(&mut all, steps)?;
     Ok(Some(Address::of(all)))
 }
 
@@ -61,9 +61,9 @@ fn joined(
     ensures { IfOk result (λ o. o ≡ Some (parent.now ++ step ∷ tail.now)) }
 {
     let mut all = Vec::with_capacity(alloc, parent.len() + 1 + tail.len())?;
-    copy_onto(alloc, &mut all, parent)?;
+    copy_onto(&mut all, parent)?;
     all.push(step)?;
-    copy_onto(alloc, &mut all, tail)?;
+    copy_onto(&mut all, tail)?;
     Ok(Some(Address::of(all)))
 }
 
@@ -146,7 +146,7 @@ fn carry_rename(
 fn name_step(alloc: Global, text: &str) -> Result<Step, AllocError>
     ensures { IfOk result (λ step. step ≡ steps.Name text.now) }
 {
-    Ok(Step::Name(Name::of(String::from_str(alloc, text)?)))
+    Ok(Step::Name(Name::of(String::from_str(alloc, text)?)?))
 }
 
 /// What the parent has under the name, under the new one.

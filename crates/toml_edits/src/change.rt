@@ -3,7 +3,7 @@ ghost use Rattle.std.specs.BTreeMap.{get_by_text};
 ghost use Rattle.std.specs.List.{insert as inserted};
 ghost use Rattle.std.specs.Prelude.{◌≡◌, ◌≤◌, ◌++◌, [], List, ℕ, Some, None, IsSome, OnOk, OnErr, IfErr, cond, vec_len};
 ghost use Rattle.std.specs.Str.{bytes_eq};
-ghost use Rattle.toml_names.specs.Addresses.{Address as Place};
+ghost use Rattle.toml_names.specs.Addresses.{Address};
 ghost use Rattle.toml_names.specs.Data.{kind_at};
 ghost use Rattle.toml_edits.specs.declared.fault.EditFault.TheVariants.{NoMemory};
 ghost use Rattle.toml_edits.specs.Changed.{below, changed, IsApplicable};
@@ -103,8 +103,8 @@ fn change_here(
     change: DatumChange<'_>,
 ) -> (Datum, Result<(), AllocError>)
     requires { IsApplicable change (kind_at datum) }
-    ensures ok { OnOk result.1 ((at : Place) → kind_at result.0 at ≡ changed change.entry (kind_at datum) at) }
-    ensures err { OnErr result.1 ((at : Place) → kind_at result.0 at ≡ kind_at datum at) }
+    ensures ok { OnOk result.1 ((at : Address) → kind_at result.0 at ≡ changed change.entry (kind_at datum) at) }
+    ensures err { OnErr result.1 ((at : Address) → kind_at result.0 at ≡ kind_at datum at) }
 {
     match change {
         DatumChange::Put(part) => (part, Ok(())),
@@ -154,8 +154,8 @@ fn change_at(
     change: DatumChange<'_>,
 ) -> (Datum, Result<(), AllocError>)
     requires { IsApplicable change (λ at. kind_at datum (steps.now ++ at)) }
-    ensures ok { OnOk result.1 ((at : Place) → kind_at result.0 at ≡ below steps.now (changed change.entry) (kind_at datum) at) }
-    ensures err { OnErr result.1 ((at : Place) → kind_at result.0 at ≡ kind_at datum at) }
+    ensures ok { OnOk result.1 ((at : Address) → kind_at result.0 at ≡ below steps.now (changed change.entry) (kind_at datum) at) }
+    ensures err { OnErr result.1 ((at : Address) → kind_at result.0 at ≡ kind_at datum at) }
 {
     let Some((step, rest)) = steps.split_first() else {
         return change_here(alloc, datum, change);
@@ -174,8 +174,8 @@ pub(crate) fn alter(
     change: DatumChange<'_>,
 ) -> Result<(), EditFault>
     requires { IsApplicable change (λ at. kind_at root.old (steps.now ++ at)) }
-    ensures ok { OnOk result ((at : Place) → kind_at root.new at ≡ below steps.now (changed change.entry) (kind_at root.old) at) }
-    ensures err { OnErr result ((at : Place) → kind_at root.new at ≡ kind_at root.old at) }
+    ensures ok { OnOk result ((at : Address) → kind_at root.new at ≡ below steps.now (changed change.entry) (kind_at root.old) at) }
+    ensures err { OnErr result ((at : Address) → kind_at root.new at ≡ kind_at root.old at) }
     ensures fault { IfErr result (λ x. x ≡ NoMemory) }
 {
     let whole = mem::replace(root, hole());

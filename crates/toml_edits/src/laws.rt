@@ -1,4 +1,5 @@
 //! Laws over the definitions: nothing is run.
+ghost use Rattle.toml_edits.specs.ListLaws.{CarriedOn, CarriedStands, DataIndicesAreLow, FaultOrLead, ListsCarryApart, OneFirstFault, OneLead, StaysClosed};
 ghost use Rattle.toml_edits.specs.Laws.{CarriedAlong, CarriedFront, CarriedApart, DataAreClosed, OneAfter, SetCarries};
 
 /// What is below an address is carried along with it, unless the edit is below the address or a `set` at it. A
@@ -10,9 +11,12 @@ pub fn carried()
     ensures apart { CarriedApart }
 {}
 
-/// In data nothing stands below an address where nothing does.
+/// In data nothing stands below an address where nothing does; an edit without a fault leaves it so. Each index in data
+/// is below 2^63.
 pub fn closed()
-    ensures { DataAreClosed }
+    ensures data { DataAreClosed }
+    ensures stays { StaysClosed }
+    ensures indices { DataIndicesAreLow }
 {}
 
 /// An edit makes one thing of data. What a value that is set finds there moves as the edit carries it, the place's own
@@ -20,4 +24,19 @@ pub fn closed()
 pub fn after()
     ensures one { OneAfter }
     ensures set { SetCarries }
+{}
+
+/// Through a list a thing is carried edit by edit. Edits without a fault carry what stands somewhere to where something
+/// stands, and no two things to one address.
+pub fn carried_by_lists()
+    ensures on { CarriedOn }
+    ensures stands { CarriedStands }
+    ensures apart { ListsCarryApart }
+{}
+
+/// The data after a list are one. A list that leads to data has no first fault, and else at most one.
+pub fn lists()
+    ensures one { OneLead }
+    ensures or_fault { FaultOrLead }
+    ensures one_fault { OneFirstFault }
 {}

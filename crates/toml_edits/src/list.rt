@@ -112,7 +112,7 @@ fn step_of(alloc: Global, item: &Value) -> Result<Option<Step>, AllocError>
 {
     if let Some(name) = item.as_str() {
         let text = String::from_str(alloc, name)?;
-        return Ok(Some(Step::Name(Name::of(text))));
+        return Ok(Some(Step::Name(Name::of(text)?)));
     }
     Ok(item.as_u64().map(Step::Index))
 }

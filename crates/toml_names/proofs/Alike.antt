@@ -14,15 +14,10 @@ use Rattle.toml_names.specs.declared.address.Step.TheVariants.{Name, Index}
 use Rattle.toml_names.specs.declared.datum.Datum.{Datum, Scalar, Array, Table}
 use Rattle.toml_names.specs.Addresses.{Address}
 use Rattle.toml_names.specs.Data.{kind_at, kind_in}
+use Rattle.toml_names.specs.Levels.{Members}
 use Rattle.toml_names.specs.Mentions.{Kind, a_scalar}
+use Rattle.toml_names.specs.SameData.{AreSame, AreSameIn, SameScalars, SameArrays, SameTables}
 use Rattle.toml_names.proofs.Levels.{scalar-here, scalar-below, array-here, array-item, array-name, table-here, table-member, table-index, has_kind, scalar_from_kind, array_from_kind, table_from_kind}
-
-abbrev pub Alike : Datum → Datum → Type 0
-Alike d e = (at : Address) → kind_at d at ≡ kind_at e at
-
--- parts that may not be there
-abbrev pub AlikeIn : Option Datum → Option Datum → Type 0
-AlikeIn o p = (at : Address) → kind_in o at ≡ kind_in p at
 
 pub part_there : (o : Option Datum) → IsSome (kind_in o []) → IsSome o
 part_there None some = some
@@ -32,10 +27,10 @@ pub kind_there : (o : Option Datum) → IsSome o → IsSome (kind_in o [])
 kind_there None some = some
 kind_there (Some d) some = has_kind d
 
-pub there_too : (o p : Option Datum) → AlikeIn o p → IsSome o → IsSome p
+pub there_too : (o p : Option Datum) → AreSameIn o p → IsSome o → IsSome p
 there_too o p alike some = part_there p (subst IsSome (alike []) (kind_there o some))
 
-pub parts_alike : (o p : Option Datum) (d e : Datum) → o ≡ Some d → p ≡ Some e → Alike d e ↔ AlikeIn o p
+pub parts_alike : (o p : Option Datum) (d e : Datum) → o ≡ Some d → p ≡ Some e → AreSame d e ↔ AreSameIn o p
 parts_alike o p d e is to =
     let there : (at : Address) → kind_in o at ≡ kind_at d at = λ at. ap (λ (r : Option Datum). kind_in r at) is in
     let too : (at : Address) → kind_in p at ≡ kind_at e at = λ at. ap (λ (r : Option Datum). kind_in r at) to in
@@ -43,10 +38,10 @@ parts_alike o p d e is to =
 
 -- ---- scalars
 
-pub scalars_alike : (s t : Value) → (scalar_value s ≡ scalar_value t) ↔ Alike (Scalar s) (Scalar t)
+pub scalars_alike : SameScalars
 scalars_alike s t = (there, λ alike. inner (sym (scalar-here s) ∙ alike [] ∙ scalar-here t))
   where
-    there : scalar_value s ≡ scalar_value t → Alike (Scalar s) (Scalar t)
+    there : scalar_value s ≡ scalar_value t → AreSame (Scalar s) (Scalar t)
     there same [] = scalar-here s ∙ ap (λ v. Some (a_scalar v)) same ∙ sym (scalar-here t)
     there same (step ∷ at) = scalar-below s step at ∙ sym (scalar-below t step at)
 
@@ -56,12 +51,12 @@ scalars_alike s t = (there, λ alike. inner (sym (scalar-here s) ∙ alike [] �
 -- ---- arrays
 
 abbrev pub AlikeItems : List Datum → List Datum → Type 0
-AlikeItems ds es = (index : ℕ) → AlikeIn (slice_get ds index) (slice_get es index)
+AlikeItems ds es = (index : ℕ) → AreSameIn (slice_get ds index) (slice_get es index)
 
-pub arrays_alike : (v w : Vec Datum Global) → AlikeItems v.items w.items ↔ Alike (Array v) (Array w)
+pub arrays_alike : SameArrays
 arrays_alike v w = (there, λ alike index at. sym (array-item v index at) ∙ alike (Index index ∷ at) ∙ array-item w index at)
   where
-    there : AlikeItems v.items w.items → Alike (Array v) (Array w)
+    there : AlikeItems v.items w.items → AreSame (Array v) (Array w)
     there alike [] = array-here v ∙ sym (array-here w)
     there alike (Name n ∷ at) = array-name v n at ∙ sym (array-name w n at)
     there alike (Index i ∷ at) = array-item v i at ∙ alike i at ∙ sym (array-item w i at)
@@ -89,47 +84,47 @@ lengths_alike ds es alike =
     let less : length es ≤ length ds = no_longer ds es alike in
     omega arith
 
-past_alike : (ds es : List Datum) (i : ℕ) → length ds ≡ length es → length ds ≤ i → AlikeIn (slice_get ds i) (slice_get es i)
+past_alike : (ds es : List Datum) (i : ℕ) → length ds ≡ length es → length ds ≤ i → AreSameIn (slice_get ds i) (slice_get es i)
 past_alike ds es i long past at =
     let far : length es ≤ i = omega arith in
     ap (λ (o : Option Datum). kind_in o at) (slice_get_past ds i past ∙ sym (slice_get_past es i far))
 
 -- arrays of one length with like elements at each index
-pub items_alike : (ds es : List Datum) (count : ℕ) → length ds ≡ length es → length ds ≤ count → ((i : ℕ) → i < count → AlikeIn (slice_get ds i) (slice_get es i)) → AlikeItems ds es
+pub items_alike : (ds es : List Datum) (count : ℕ) → length ds ≡ length es → length ds ≤ count → ((i : ℕ) → i < count → AreSameIn (slice_get ds i) (slice_get es i)) → AlikeItems ds es
 items_alike ds es count long all each i =
     ⊎_elim (λ low. each i low) (λ far. past_alike ds es i long (omega arith)) (cases_lt i count)
 
 -- ---- tables
 
-abbrev pub Members : Type 0
-Members = BTreeMap (String Global) Datum
-
 abbrev pub HasLike : Members → Members → Type 0
-HasLike m n = (name : List ℕ) → IsSome (get_by_text m name) → AlikeIn (get_by_text m name) (get_by_text n name)
+HasLike m n = (name : List ℕ) → IsSome (get_by_text m name) → AreSameIn (get_by_text m name) (get_by_text n name)
 
 abbrev pub HasNames : Members → Members → Type 0
 HasNames m n = (name : List ℕ) → IsSome (get_by_text n name) → IsSome (get_by_text m name)
 
-member_alike : (o p : Option Datum) → (IsSome o → AlikeIn o p) → (IsSome p → IsSome o) → AlikeIn o p
+member_alike : (o p : Option Datum) → (IsSome o → AreSameIn o p) → (IsSome p → IsSome o) → AreSameIn o p
 member_alike (Some d) p like there at = like refl at
 member_alike None None like there at = refl
 member_alike None (Some e) like there at = absurd (true≢false (sym (there refl)))
 
-pub tables_like : (m n : Members) → ((name : List ℕ) → AlikeIn (get_by_text m name) (get_by_text n name)) → Alike (Table m) (Table n)
+pub tables_like : (m n : Members) → ((name : List ℕ) → AreSameIn (get_by_text m name) (get_by_text n name)) → AreSame (Table m) (Table n)
 tables_like m n like [] = table-here m ∙ sym (table-here n)
 tables_like m n like (Index i ∷ at) = table-index m i at ∙ sym (table-index n i at)
 tables_like m n like (Name k ∷ at) = table-member m k at ∙ like k at ∙ sym (table-member n k at)
 
-pub tables_alike : (m n : Members) → HasLike m n → HasNames m n → Alike (Table m) (Table n)
+pub tables_alike : (m n : Members) → HasLike m n → HasNames m n → AreSame (Table m) (Table n)
 tables_alike m n like names = tables_like m n (λ name. member_alike (get_by_text m name) (get_by_text n name) (like name) (names name))
 
-members_alike : (m n : Members) → Alike (Table m) (Table n) → (name : List ℕ) → AlikeIn (get_by_text m name) (get_by_text n name)
+members_alike : (m n : Members) → AreSame (Table m) (Table n) → (name : List ℕ) → AreSameIn (get_by_text m name) (get_by_text n name)
 members_alike m n alike name at = sym (table-member m name at) ∙ alike (Name name ∷ at) ∙ table-member n name at
 
-pub has_like : (m n : Members) → Alike (Table m) (Table n) → HasLike m n
+pub tables_same : SameTables
+tables_same m n = (tables_like m n, members_alike m n)
+
+pub has_like : (m n : Members) → AreSame (Table m) (Table n) → HasLike m n
 has_like m n alike name some = members_alike m n alike name
 
-pub has_names : (m n : Members) → Alike (Table m) (Table n) → HasNames m n
+pub has_names : (m n : Members) → AreSame (Table m) (Table n) → HasNames m n
 has_names m n alike name some = there_too (get_by_text n name) (get_by_text m name) (λ at. sym (members_alike m n alike name at)) some
 
 abbrev pub Entry : Type 0
@@ -165,7 +160,7 @@ HasEach m = Each (λ name d. IsSome (get_by_text m name))
 
 -- the table has the like of each under its name
 abbrev pub HasLikeEach : Members → List Entry → Type 0
-HasLikeEach n = Each (λ name d. AlikeIn (Some d) (get_by_text n name))
+HasLikeEach n = Each (λ name d. AreSameIn (Some d) (get_by_text n name))
 
 pub HasNames-from_each : (m n : Members) → HasEach m n.entries → HasNames m n
 HasNames-from_each m n each name some = by (get_by_text n name) refl some
@@ -177,25 +172,25 @@ HasNames-from_each m n each name some = by (get_by_text n name) refl some
 pub HasLike-from_each : (m n : Members) → HasLikeEach n m.entries → HasLike m n
 HasLike-from_each m n each name some = by (get_by_text m name) refl some
   where
-    by : (o : Option Datum) → get_by_text m name ≡ o → IsSome o → AlikeIn o (get_by_text n name)
+    by : (o : Option Datum) → get_by_text m name ≡ o → IsSome o → AreSameIn o (get_by_text n name)
     by None is h = absurd (true≢false (sym h))
-    by (Some d) is h = each_found (λ name d. AlikeIn (Some d) (get_by_text n name)) m.entries each name d is
+    by (Some d) is h = each_found (λ name d. AreSameIn (Some d) (get_by_text n name)) m.entries each name d is
 
 -- ---- what the code answers
 
 decided : {r : Bool} {A B : Type 0} → IsTrue r ↔ A → A ↔ B → IsTrue r ↔ B
 decided e f = (λ h. f.0 (e.0 h), λ b. e.1 (f.1 b))
 
-pub scalars_decided : (r : Bool) (s t : Value) → IsTrue r ↔ (scalar_value s ≡ scalar_value t) → IsTrue r ↔ Alike (Scalar s) (Scalar t)
+pub scalars_decided : (r : Bool) (s t : Value) → IsTrue r ↔ (scalar_value s ≡ scalar_value t) → IsTrue r ↔ AreSame (Scalar s) (Scalar t)
 scalars_decided r s t e = decided e (scalars_alike s t)
 
-pub arrays_decided : (r : Bool) (v w : Vec Datum Global) (ds es : List Datum) → ds ≡ v.items → es ≡ w.items → IsTrue r ↔ AlikeItems ds es → IsTrue r ↔ Alike (Array v) (Array w)
+pub arrays_decided : (r : Bool) (v w : Vec Datum Global) (ds es : List Datum) → ds ≡ v.items → es ≡ w.items → IsTrue r ↔ AlikeItems ds es → IsTrue r ↔ AreSame (Array v) (Array w)
 arrays_decided r v w ds es p q e = decided (subst (λ xs. IsTrue r ↔ AlikeItems xs w.items) p (subst (λ ys. IsTrue r ↔ AlikeItems ds ys) q e)) (arrays_alike v w)
 
-pub tables_decided : (r : Bool) (m n : Members) → HasLike m n → IsTrue r ↔ HasNames m n → IsTrue r ↔ Alike (Table m) (Table n)
+pub tables_decided : (r : Bool) (m n : Members) → HasLike m n → IsTrue r ↔ HasNames m n → IsTrue r ↔ AreSame (Table m) (Table n)
 tables_decided r m n like e = (λ h. tables_alike m n like (e.0 h), λ alike. e.1 (has_names m n alike))
 
-pub tables_apart : (r : Bool) (m n : Members) → IsTrue r ↔ HasLike m n → r ≡ false → IsTrue r ↔ Alike (Table m) (Table n)
+pub tables_apart : (r : Bool) (m n : Members) → IsTrue r ↔ HasLike m n → r ≡ false → IsTrue r ↔ AreSame (Table m) (Table n)
 tables_apart r m n e refused = (λ h. absurd (true≢false (sym h ∙ refused)), λ alike. e.1 (has_like m n alike))
 
 pub accepted : {A : Type 0} → A → IsTrue true ↔ A
@@ -204,11 +199,11 @@ accepted a = (λ h. a, λ b. refl)
 pub refused : {A : Type 0} → (A → ⊥) → IsTrue false ↔ A
 refused not = (λ h. absurd (true≢false (sym h)), λ a. absurd (not a))
 
-pub scalar_apart : (s : Value) (d : Datum) → ((t : Value) → d ≡ Scalar t → ⊥) → Alike (Scalar s) d → ⊥
+pub scalar_apart : (s : Value) (d : Datum) → ((t : Value) → d ≡ Scalar t → ⊥) → AreSame (Scalar s) d → ⊥
 scalar_apart s d other alike = let is = scalar_from_kind d (scalar_value s) (sym (alike []) ∙ scalar-here s) in other is.0 is.1
 
-pub array_apart : (v : Vec Datum Global) (d : Datum) → ((w : Vec Datum Global) → d ≡ Array w → ⊥) → Alike (Array v) d → ⊥
+pub array_apart : (v : Vec Datum Global) (d : Datum) → ((w : Vec Datum Global) → d ≡ Array w → ⊥) → AreSame (Array v) d → ⊥
 array_apart v d other alike = let is = array_from_kind d (sym (alike []) ∙ array-here v) in other is.0 is.1
 
-pub table_apart : (m : Members) (d : Datum) → ((n : Members) → d ≡ Table n → ⊥) → Alike (Table m) d → ⊥
+pub table_apart : (m : Members) (d : Datum) → ((n : Members) → d ≡ Table n → ⊥) → AreSame (Table m) d → ⊥
 table_apart m d other alike = let is = table_from_kind d (sym (alike []) ∙ table-here m) in other is.0 is.1

@@ -51,11 +51,11 @@ line_adds ms line (TableLine ws header tail) grown table = table_line_adds line 
 line_adds ms line (ArrayTableLine ws header tail) grown table = tables_line_adds line (rest_names header.key.rest) (part_name header.key.first) ms grown table
 
 -- what lines name, without what was named before
-abbrev new_from : List Named → ℕ → List Line → List Named
+abbrev pub new_from : List Named → ℕ → List Line → List Named
 new_from ms line [] = []
 new_from ms line (l ∷ ls) = named_by ms line l.expr ++ new_from (ms ++ named_by ms line l.expr) (line + 1) ls
 
-named_from-is : (ls : List Line) (ms : List Named) (line : ℕ) → named_from ms line ls ≡ ms ++ new_from ms line ls
+pub named_from-is : (ls : List Line) (ms : List Named) (line : ℕ) → named_from ms line ls ≡ ms ++ new_from ms line ls
 named_from-is [] ms line = sym (append-nil ms)
 named_from-is (l ∷ ls) ms line =
     let new = named_by ms line l.expr in

@@ -14,7 +14,9 @@ use Rattle.toml_names.specs.declared.datum.Datum.TheViews.{roll-Datum}
 use Rattle.toml_names.specs.Addresses.{Address}
 use Rattle.toml_names.specs.Building.{with_child}
 use Rattle.toml_names.specs.Data.{Kinds, kind_at, kind_in, in_array, in_table}
+use Rattle.toml_names.specs.Levels.{IndexIsWithin, NameHasMember}
 use Rattle.toml_names.specs.Mentions.{Kind}
+use Rattle.toml_names.specs.Parts.{HasPart, DatumHasPart, StepIsThere, PartIsThere}
 use Rattle.toml_names.proofs.Equal.{same_step-self}
 use Rattle.toml_names.proofs.Alike.{part_there}
 use Rattle.toml_names.proofs.Levels.{by_cases, kind_at-array, kind_at-table, scalar-below, array-here, array-item, array-name, table-here, table-member, table-index, has_kind}
@@ -53,15 +55,11 @@ within (d ∷ ds) zero some = omega arith
 within (d ∷ ds) (suc i) some = let low : i < length ds = within ds i some in omega arith
 
 -- an index at which something stands is below the length
-pub array-within : (v : Vec Datum Global) (i : ℕ) → IsSome (kind_at (Array v) (Index i ∷ [])) → i < length v.items
+pub array-within : IndexIsWithin
 array-within v i some = within v.items i (subst IsSome (array-item v i []) some)
 
-pub table-has : (m : BTreeMap (String Global) Datum) (k : List ℕ) → IsSome (kind_at (Table m) (Name k ∷ [])) → IsSome (get_by_text m k)
+pub table-has : NameHasMember
 table-has m k some = part_there _ (subst IsSome (table-member m k []) some)
-
--- the part one step below, if there is one
-abbrev pub HasPart : Step → Datum → Type 0
-HasPart s d = (o : Option Datum) × ((at : Address) → kind_at d (s ∷ at) ≡ kind_in o at)
 
 part_rolled : (s : Step) (x : Datum-F Datum) → HasPart s (roll-Datum x)
 part_rolled s (Datum-F.Scalar t) = subst (HasPart s) (sym (rolls-Scalar t)) (None, λ at. scalar-below t s at)
@@ -70,7 +68,7 @@ part_rolled (Name n) (Datum-F.Array v) = subst (HasPart (Name n)) (sym (rolls-Ar
 part_rolled (Name n) (Datum-F.Table m) = subst (HasPart (Name n)) (sym (rolls-Table m)) (get_by_text m n, λ at. table-member m n at)
 part_rolled (Index i) (Datum-F.Table m) = subst (HasPart (Index i)) (sym (rolls-Table m)) (None, λ at. table-index m i at)
 
-pub has_part : (s : Step) (d : Datum) → HasPart s d
+pub has_part : DatumHasPart
 has_part s = by_cases (HasPart s) (part_rolled s)
 
 -- what has something below a step has something at the step
@@ -78,7 +76,7 @@ part_above : (o : Option Datum) (at : Address) → IsSome (kind_in o at) → IsS
 part_above None at some = some
 part_above (Some d) at some = has_kind d
 
-pub step_there : (d : Datum) (s : Step) (at : Address) → IsSome (kind_at d (s ∷ at)) → IsSome (kind_at d (s ∷ []))
+pub step_there : StepIsThere
 step_there d s at some = let p = has_part s d in subst IsSome (sym (p.1 [])) (part_above p.0 at (subst IsSome (p.1 at) some))
 
 some_below : (ds : List Datum) (i : ℕ) → i < length ds → IsSome (kind_in (slice_get ds i) [])
@@ -112,5 +110,5 @@ pub table-alike : (m n : BTreeMap (String Global) Datum) → n.entries ≡ m.ent
 table-alike m n is at = ap (λ (f : Kinds). f at) (kind_at-table n ∙ ap (λ es. in_table (map (λ (e : String Global × Datum). (e.0, kind_at e.1)) es)) is ∙ sym (kind_at-table m))
 
 -- a hole that was left is there
-pub hole_there : (s : Step) (hole kinds : Kinds) → IsSome (hole []) → IsSome (with_child s hole kinds (s ∷ []))
+pub hole_there : PartIsThere
 hole_there s hole kinds some = subst (λ b. IsSome (cond b (hole []) (kinds (s ∷ [])))) (sym (same_step-self s)) some

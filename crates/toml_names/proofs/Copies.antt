@@ -10,7 +10,9 @@ use Rattle.std.specs.Map.{lookup}
 use mathlib.Core.Path.{fun_ext}
 use Rattle.toml_names.specs.declared.datum.Datum.{Datum}
 use Rattle.toml_names.specs.Data.{Kinds, kind_at, kind_in, within}
-use Rattle.toml_names.proofs.Alike.{Alike, AlikeIn, AlikeItems, Members, Entry}
+use Rattle.toml_names.specs.Levels.{Members}
+use Rattle.toml_names.specs.SameData.{AreSame, AreSameIn}
+use Rattle.toml_names.proofs.Alike.{AlikeItems, Entry}
 use Rattle.toml_names.proofs.Levels.{item_part}
 
 -- ---- arrays
@@ -19,7 +21,7 @@ use Rattle.toml_names.proofs.Levels.{item_part}
 abbrev pub AreCopied : ℕ → List Datum → List Datum → Type 0
 AreCopied count items copies = map kind_at copies ≡ map kind_at (take count items)
 
-pub copied_more : (items copies : List Datum) (count : ℕ) (d e : Datum) → count < length items → e ≡ get_or items count e → AreCopied count items copies → Alike d e → AreCopied (count + 1) items (copies ++ d ∷ [])
+pub copied_more : (items copies : List Datum) (count : ℕ) (d e : Datum) → count < length items → e ≡ get_or items count e → AreCopied count items copies → AreSame d e → AreCopied (count + 1) items (copies ++ d ∷ [])
 copied_more items copies count d e low is copied alike =
     let one : kind_at d ≡ kind_at (get_or items count e) = fun_ext alike ∙ ap kind_at is in
     map-append kind_at copies (d ∷ [])
@@ -45,7 +47,7 @@ or_part (Some d) p = Some d
 
 -- with what is left the copies are like all members
 abbrev pub Completes : Members → List Entry → Members → Type 0
-Completes copies left all = (name : List ℕ) → AlikeIn (or_part (get_by_text copies name) (found name left)) (get_by_text all name)
+Completes copies left all = (name : List ℕ) → AreSameIn (or_part (get_by_text copies name) (found name left)) (get_by_text all name)
 
 pub completes_none : (copies all : Members) (left : List Entry) → copies.entries ≡ [] → left ≡ all.entries → Completes copies left all
 completes_none copies all left none is name at = ap (λ es. kind_in (or_part (found name es) (found name left)) at) none ∙ ap (λ es. kind_in (found name es) at) is
@@ -54,7 +56,7 @@ or_none : (o : Option Datum) → or_part o None ≡ o
 or_none None = refl
 or_none (Some d) = refl
 
-pub completes_all : (copies all : Members) (left : List Entry) → left ≡ [] → Completes copies left all → (name : List ℕ) → AlikeIn (get_by_text copies name) (get_by_text all name)
+pub completes_all : (copies all : Members) (left : List Entry) → left ≡ [] → Completes copies left all → (name : List ℕ) → AreSameIn (get_by_text copies name) (get_by_text all name)
 completes_all copies all left none completes name at =
     ap (λ (o : Option Datum). kind_in o at) (sym (or_none (get_by_text copies name)))
     ∙ ap (λ es. kind_in (or_part (get_by_text copies name) (found name es)) at) (sym none)
@@ -67,7 +69,7 @@ apart k q h = by (bytes_eq q k) refl
     by false is = refl
     by true is = sym ((bytes_eq-Decides k q).1 (sym ((bytes_eq-Decides q k).0 is))) ∙ h
 
-module _ (copies more all : Members) (left rest : List Entry) (e : Entry) (d : Datum) (k : List ℕ) (is : left ≡ e ∷ rest) (key : k ≡ string_bytes e.0) (alike : Alike d e.1) (there : get_by_text all (string_bytes e.0) ≡ Some e.1) where
+module _ (copies more all : Members) (left rest : List Entry) (e : Entry) (d : Datum) (k : List ℕ) (is : left ≡ e ∷ rest) (key : k ≡ string_bytes e.0) (alike : AreSame d e.1) (there : get_by_text all (string_bytes e.0) ≡ Some e.1) where
   pub completes_more : Completes copies left all → ((q : List ℕ) → get_by_text more q ≡ cond (bytes_eq k q) (Some d) (get_by_text copies q)) → Completes more rest all
   completes_more completes inserted q at = ap (λ o. kind_in (or_part o (found q rest)) at) (inserted q) ∙ by (bytes_eq k q) refl (completes q at)
     where

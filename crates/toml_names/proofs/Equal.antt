@@ -5,15 +5,15 @@ use Rattle.std.specs.Bool.{Decides}
 use Rattle.std.specs.Cmp.Lexicographic.{pointwise_decides, bytes_decides}
 use Rattle.toml_names.specs.declared.address.Step.{Step}
 use Rattle.toml_names.specs.declared.address.Step.TheVariants.{Name, Index}
-use Rattle.toml_names.specs.Addresses.{Address, same_step, same_address}
+use Rattle.toml_names.specs.Addresses.{Address, same_step, same_address, SameStepIsEqual, StepIsSame}
 
-pub same_step-equal : (s t : Step) → same_step s t ≡ true → s ≡ t
+pub same_step-equal : SameStepIsEqual
 same_step-equal (Name m) (Name n) h = ap Name ((bytes_decides m n).0 h)
 same_step-equal (Name m) (Index j) h = cc
 same_step-equal (Index i) (Name n) h = cc
 same_step-equal (Index i) (Index j) h = ap Index (eqb-true i j h)
 
-pub same_step-self : (s : Step) → same_step s s ≡ true
+pub same_step-self : StepIsSame
 same_step-self (Name m) = (bytes_decides m m).1 refl
 same_step-self (Index i) = eq-eqb i i refl
 

@@ -1,5 +1,5 @@
 -- What a datum has at each address, level by level.
-use Rattle.std.proofs.Common.{◌≡◌, ◌↔◌, ℕ, zero, suc, List, [], ◌∷◌, ◌++◌, map, Option, Some, None, IsSome, is_some, String, Vec, BTreeMap, Global, string_bytes, nat_cmp, cond, Bool, true, false, Bor, refl, sym, ap, subst, ◌∙◌, true≢false, arith, rules}
+use Rattle.std.proofs.Common.{◌≡◌, ◌↔◌, ◌⊎◌, inl, inr, ℕ, zero, suc, List, [], ◌∷◌, ◌++◌, map, Option, Some, None, IsSome, is_some, String, Vec, BTreeMap, Global, string_bytes, nat_cmp, cond, Bool, true, false, Bor, refl, sym, ap, subst, ◌∙◌, true≢false, arith, rules}
 use Rattle.std.proofs.lemmas.List.{append-nil}
 use Rattle.std.proofs.lemmas.Option.{slice_get_past, slice_get-get_or}
 use Rattle.std.specs.Prelude.{slice_get, option_copied}
@@ -18,15 +18,16 @@ use Rattle.toml_names.specs.declared.datum.Datum.TheViews.{roll-Datum}
 use Rattle.toml_names.specs.declared.datum.Datum.TheFolds.{ind-Datum}
 use Rattle.toml_names.specs.Addresses.{Address}
 use Rattle.toml_names.specs.Data.{Kinds, kind_at, kind_in, within, in_scalar, in_array, in_table}
+use Rattle.toml_names.specs.Levels.{Elements, Members, ScalarLevel, ArrayLevel, TableLevel, DatumIsOneOfThree, DatumHasRoot, ArrayAtRoot, ArrayAtIndex, ArrayAtName, TableAtRoot, TableAtName, TableAtIndex, NothingBelowScalar}
 use Rattle.toml_names.specs.Mentions.{Kind, a_table, an_array, a_scalar}
 
-pub kind_at-scalar : (s : Value) → kind_at (Scalar s) ≡ in_scalar (scalar_value s)
+pub kind_at-scalar : ScalarLevel
 kind_at-scalar s = search (rules, the_lemmas)
 
-pub kind_at-array : (v : Vec Datum Global) → kind_at (Array v) ≡ in_array (map kind_at v.items)
+pub kind_at-array : ArrayLevel
 kind_at-array v = search (rules, the_lemmas)
 
-pub kind_at-table : (m : BTreeMap (String Global) Datum) → kind_at (Table m) ≡ in_table (map (λ e. (e.0, kind_at e.1)) m.entries)
+pub kind_at-table : TableLevel
 kind_at-table m = search (rules, the_lemmas)
 
 pub item_part : (ds : List Datum) (i : ℕ) (at : Address) → within (slice_get (map kind_at ds) i) at ≡ kind_in (slice_get ds i) at
@@ -46,25 +47,25 @@ member_part n (e ∷ es) at = found_part _ e.1 _ _ at (member_part n es at)
 pub scalar-here : (s : Value) → kind_at (Scalar s) [] ≡ Some (a_scalar (scalar_value s))
 scalar-here s = ap (λ (f : Kinds). f []) (kind_at-scalar s)
 
-pub scalar-below : (s : Value) (step : Step) (at : Address) → kind_at (Scalar s) (step ∷ at) ≡ None
+pub scalar-below : NothingBelowScalar
 scalar-below s step at = ap (λ (f : Kinds). f (step ∷ at)) (kind_at-scalar s)
 
-pub array-here : (v : Vec Datum Global) → kind_at (Array v) [] ≡ Some an_array
+pub array-here : ArrayAtRoot
 array-here v = ap (λ (f : Kinds). f []) (kind_at-array v)
 
-pub array-item : (v : Vec Datum Global) (i : ℕ) (at : Address) → kind_at (Array v) (Index i ∷ at) ≡ kind_in (slice_get v.items i) at
+pub array-item : ArrayAtIndex
 array-item v i at = ap (λ (f : Kinds). f (Index i ∷ at)) (kind_at-array v) ∙ item_part v.items i at
 
-pub array-name : (v : Vec Datum Global) (n : List ℕ) (at : Address) → kind_at (Array v) (Name n ∷ at) ≡ None
+pub array-name : ArrayAtName
 array-name v n at = ap (λ (f : Kinds). f (Name n ∷ at)) (kind_at-array v)
 
-pub table-here : (m : BTreeMap (String Global) Datum) → kind_at (Table m) [] ≡ Some a_table
+pub table-here : TableAtRoot
 table-here m = ap (λ (f : Kinds). f []) (kind_at-table m)
 
-pub table-member : (m : BTreeMap (String Global) Datum) (n : List ℕ) (at : Address) → kind_at (Table m) (Name n ∷ at) ≡ kind_in (get_by_text m n) at
+pub table-member : TableAtName
 table-member m n at = ap (λ (f : Kinds). f (Name n ∷ at)) (kind_at-table m) ∙ member_part n m.entries at
 
-pub table-index : (m : BTreeMap (String Global) Datum) (i : ℕ) (at : Address) → kind_at (Table m) (Index i ∷ at) ≡ None
+pub table-index : TableAtIndex
 table-index m i at = ap (λ (f : Kinds). f (Index i ∷ at)) (kind_at-table m)
 
 -- by cases on a datum
@@ -80,8 +81,17 @@ rolled_here (Datum-F.Array v) = subst (λ d. IsSome (kind_at d [])) (sym (rolls-
 rolled_here (Datum-F.Table m) = subst (λ d. IsSome (kind_at d [])) (sym (rolls-Table m)) (some_kind _ _ (table-here m))
 
 -- each datum is of a kind
-pub has_kind : (d : Datum) → IsSome (kind_at d [])
+pub has_kind : DatumHasRoot
 has_kind = by_cases (λ d. IsSome (kind_at d [])) rolled_here
+
+one_of_three : (x : Datum-F Datum) → ((s : Value) × (roll-Datum x ≡ Scalar s)) ⊎ (((v : Elements) × (roll-Datum x ≡ Array v)) ⊎ ((m : Members) × (roll-Datum x ≡ Table m)))
+one_of_three (Datum-F.Scalar s) = inl (s, rolls-Scalar s)
+one_of_three (Datum-F.Array v) = inr (inl (v, rolls-Array v))
+one_of_three (Datum-F.Table m) = inr (inr (m, rolls-Table m))
+
+-- each datum is of a variant
+pub datum_is : DatumIsOneOfThree
+datum_is = by_cases (λ d. ((s : Value) × (d ≡ Scalar s)) ⊎ (((v : Elements) × (d ≡ Array v)) ⊎ ((m : Members) × (d ≡ Table m)))) one_of_three
 
 -- its kind says which variant it is
 

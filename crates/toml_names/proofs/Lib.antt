@@ -94,3 +94,10 @@ pub mod FreshHeaders
 pub mod KnownHeaders
 pub mod LongPairs
 pub mod LongLines
+pub mod Each
+pub mod OwnAddresses
+pub mod Closed
+pub mod InsideMoves
+pub mod AlikeNames
+pub mod Clear
+pub mod Proved

@@ -130,7 +130,7 @@ module _ (earlier : List Named) (k : ℕ) (rest : List Named) where
   own_found (TableLine ws header tail) h = own_end (ends_table k) (part_name header.key.first) (rest_names header.key.rest) [] ∙ rw same refl
   own_found (ArrayTableLine ws header tail) h = own_end (ends_tables k earlier) (part_name header.key.first) (rest_names header.key.rest) [] ∙ rw (and_false (k == k), same) refl
 
-named_from-append : (xs ys : List Line) (earlier : List Named) (n at : ℕ) → n + length xs ≡ at → named_from earlier n (xs ++ ys) ≡ named_from (named_from earlier n xs) at ys
+pub named_from-append : (xs ys : List Line) (earlier : List Named) (n at : ℕ) → n + length xs ≡ at → named_from earlier n (xs ++ ys) ≡ named_from (named_from earlier n xs) at ys
 named_from-append [] ys earlier n at is = ap (λ k. named_from earlier k ys) (omega (arith, is))
 named_from-append (x ∷ xs) ys earlier n at is = named_from-append xs ys (earlier ++ named_by earlier n x.expr) (n + 1) at (omega (arith, is))
 

@@ -4,9 +4,9 @@ use Rattle.std.proofs.lemmas.List.Sums.{sum_by-append}
 use Rattle.toml_names.specs.declared.named.Role.TheVariants.{Dotted, Valued, Bare}
 use Rattle.toml_names.specs.Addresses.{Address, child, element, below}
 use Rattle.toml_names.specs.Keys.{Key, key_names}
-use Rattle.toml_names.specs.Mentions.{Named, table_at, value_named, is_tables, count_tables, fronts, inside, elements, members}
+use Rattle.toml_names.specs.Mentions.{Named, table_at, value_named, is_tables, count_tables, fronts, inside, elements, members, pair_named}
 use Rattle.toml_names.proofs.Counting.{adds, count_plain}
-use Rattle.toml_tree.specs.Tree.{Value, Scalar, Array, Empty, Inline, Items, Close, Last, More, Pairs, LastPair, MorePairs}
+use Rattle.toml_tree.specs.Tree.{Assign, Value, Scalar, Array, Empty, Inline, Items, Close, Last, More, Pairs, LastPair, MorePairs}
 
 -- no array of tables is named
 abbrev pub HasNoTables : List Named → Type 0
@@ -56,3 +56,9 @@ mutual
       (no_tables-append (fronts line at (key_names a.key)) (value_named line Valued here v ∷ inside line here v) (no_tables-fronts line (key_names a.key) at)
       (no_tables-cons (value_named line Valued here v) (inside line here v) refl (no_tables-inside line v here)))
       (no_tables-members line ps at)
+
+pub no_tables-pair : (line : ℕ) (at : Address) (a : Assign) (v : Value) → HasNoTables (pair_named line at a v)
+no_tables-pair line at a v =
+    let here = below at (key_names a.key) in
+    no_tables-append (fronts line at (key_names a.key)) (value_named line Valued here v ∷ inside line here v) (no_tables-fronts line (key_names a.key) at)
+    (no_tables-cons (value_named line Valued here v) (inside line here v) refl (no_tables-inside line v here))

@@ -3,6 +3,7 @@ use Rattle.std.proofs.Common.{◌≡◌, ◌⊎◌, inl, inr, ℕ, suc, ◌+◌,
 use Rattle.std.specs.Prelude.{All}
 use Rattle.std.proofs.lemmas.List.{append_assoc}
 use Rattle.std.proofs.lemmas.List.Elements.{All-nil, All-cons}
+use Rattle.toml_tree.specs.Spells.{EachIs}
 use Rattle.toml_tree.specs.Tree.{Value, Scalar, Array, Empty, Inline, Items, Close, Last, More, Pairs, LastPair, MorePairs, Expr, BlankLine, KeyValLine, TableLine, ArrayTableLine, Line}
 use Rattle.toml_names.specs.declared.address.Step.{Step}
 use Rattle.toml_names.specs.declared.address.Step.TheVariants.{Name, Index}
@@ -10,6 +11,7 @@ use Rattle.toml_names.specs.declared.named.Role.{Role}
 use Rattle.toml_names.specs.declared.named.Role.TheVariants.{Passed, Header, Dotted, Valued, Tables, Element, Bare}
 use Rattle.toml_names.specs.declared.place.Place.TheVariants as places
 use Rattle.toml_names.specs.Addresses.{Address, IsAbove, same_address, child, element, below}
+use Rattle.toml_names.specs.Inside.{InsideIsBelow}
 use Rattle.toml_names.specs.Keys.{Key, part_name, key_names}
 use Rattle.toml_names.specs.Mentions.{Named, root, value_named, fronts, inside, elements, members, followed, entered, ends_table, ends_tables, named, named_by, named_from, section}
 use Rattle.toml_names.specs.Places as spec
@@ -19,8 +21,7 @@ use Rattle.toml_names.proofs.Equal.{same_address-self}
 
 -- strictly below the address
 abbrev AreBelow : Address → List Named → Type 0
-AreBelow at [] = Unit {0}
-AreBelow at (m ∷ ms) = IsAbove at m.address × AreBelow at ms
+AreBelow at = EachIs (λ m. IsAbove at m.address)
 
 below-append : (at : Address) (ms more : List Named) → AreBelow at ms → AreBelow at more → AreBelow at (ms ++ more)
 below-append at [] more h g = g
@@ -72,6 +73,9 @@ mutual
       below-append at _ (members line at ps)
       (below-append at (fronts line at (key_names a.key)) _ (fronts_below line (key_names a.key) at) (deeper, below-deeper at w (inside line w v) deeper (inside_below line v w)))
       (members_below line ps at)
+
+pub inside_is_below : InsideIsBelow
+inside_is_below line v at = inside_below line v at
 
 -- a value above the address
 abbrev HasAbove : List Named → Address → Type 0

@@ -39,7 +39,14 @@ is_above [] (t ∷ other) = true
 is_above (s ∷ at) [] = false
 is_above (s ∷ at) (t ∷ other) = same_step s t && is_above at other
 
--- Law: addresses that are the same are equal, and equal ones the same.
+-- Laws: steps that are the same are equal, and each is the same as itself;
+abbrev pub SameStepIsEqual : Type 0
+SameStepIsEqual = (s t : Step) → same_step s t ≡ true → s ≡ t
+
+abbrev pub StepIsSame : Type 0
+StepIsSame = (s : Step) → same_step s s ≡ true
+
+-- addresses that are the same are equal, and equal ones the same.
 abbrev pub SameIsEqual : Type 0
 SameIsEqual = (a b : Address) → (same_address a b ≡ true) ↔ (a ≡ b)
 

@@ -1,11 +1,12 @@
 -- Data: the finite map from addresses to kinds, of a `Datum` and of what lines name.
-use Rattle.std.specs.Prelude.{◌≡◌, ◌↔◌, List, [], ◌∷◌, Any, Option, Some, None, if◌then◌else◌, slice_get, String, string_bytes}
+use Rattle.std.specs.Prelude.{◌≡◌, ◌↔◌, List, [], ◌∷◌, ◌++◌, Any, Option, Some, None, if◌then◌else◌, slice_get, String, string_bytes}
 use Rattle.std.specs.BTreeMap.{is_at}
 use Rattle.std.specs.Cmp.Lexicographic.{slice_cmp}
 use Rattle.std.specs.Map.{lookup}
 use Rattle.std.specs.Ordering.{nat_cmp}
 use Rattle.std.specs.declared.alloc.Global.{Global}
 use Rattle.toml_scalar.specs.Values.{ScalarValue, scalar_value}
+use Rattle.toml_names.specs.declared.address.Step.{Step}
 use Rattle.toml_names.specs.declared.address.Step.TheVariants.{Name, Index}
 use Rattle.toml_names.specs.declared.datum.Datum.{Datum, fold-Datum}
 use Rattle.toml_names.specs.declared.datum.Datum.TheOpen.{Datum-F}
@@ -57,6 +58,10 @@ IsFact ms at k = Any (λ m. (m.address ≡ at) × (m.kind ≡ k)) ms
 -- the map is the data of what is named: it has at each address the kind of what is named there, and nothing elsewhere
 abbrev pub IsDataOf : List Named → Kinds → Type 0
 IsDataOf ms kinds = (at : Address) (k : Kind) → (kinds at ≡ Some k) ↔ IsFact ms at k
+
+-- where nothing stands, nothing stands below
+abbrev pub IsClosed : Kinds → Type 0
+IsClosed kinds = (at : Address) (s : Step) → kinds at ≡ None → kinds (at ++ s ∷ []) ≡ None
 
 -- the plain function: the kind of the first thing named at the address
 abbrev pub fact_at : List Named → Kinds

@@ -1,8 +1,10 @@
--- What the table rules give: one kind at each address, and values that stand alone.
-use Rattle.std.specs.Prelude.{List}
+-- What the table rules give: one kind at each address, values that stand alone, and nothing below nothing.
+use Rattle.std.specs.Prelude.{◌≡◌, List}
 use Rattle.toml_tree.specs.Tree.{Value, Line}
+use Rattle.toml_names.specs.Addresses.{Address}
+use Rattle.toml_names.specs.Data.{Kinds, IsDataOf, IsClosed}
 use Rattle.toml_names.specs.Joining.{HasOneKind, AreAlone}
-use Rattle.toml_names.specs.Mentions.{named, value_facts}
+use Rattle.toml_names.specs.Mentions.{Named, named, value_facts}
 use Rattle.toml_names.specs.Rules.{KeepsRules}
 
 -- Laws of what the lines of a document name,
@@ -18,3 +20,14 @@ ValuesHaveOneKind = (v : Value) → KeepsRules (value_facts v) → HasOneKind (v
 
 abbrev pub InnerValuesStandAlone : Type 0
 InnerValuesStandAlone = (v : Value) → KeepsRules (value_facts v) → AreAlone (value_facts v)
+
+-- Law: only one map is the data of what is named.
+abbrev pub OneData : Type 0
+OneData = (ms : List Named) (k l : Kinds) → IsDataOf ms k → IsDataOf ms l → (at : Address) → k at ≡ l at
+
+-- Laws: the data of lines under the rules, and those of a value, are closed.
+abbrev pub LinesAreClosed : Type 0
+LinesAreClosed = (lines : List Line) (kinds : Kinds) → KeepsRules (named lines) → IsDataOf (named lines) kinds → IsClosed kinds
+
+abbrev pub ValuesAreClosed : Type 0
+ValuesAreClosed = (v : Value) (kinds : Kinds) → KeepsRules (value_facts v) → IsDataOf (value_facts v) kinds → IsClosed kinds

@@ -8,6 +8,14 @@ pub mod Places
 pub mod Data
 pub mod Joining
 pub mod DataLaws
+pub mod OwnAddresses
+pub mod Inside
+pub mod Alike
+pub mod Clear
+pub mod Indices
+pub mod Levels
+pub mod Parts
+pub mod SameData
 pub mod Values
 pub mod Building
 pub mod Local

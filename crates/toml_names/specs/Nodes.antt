@@ -1,5 +1,5 @@
 -- The nodes of the tree of names, in the order in which they were made, and the changes that a line makes in them.
-use Rattle.std.specs.Prelude.{ℕ, ◌+◌, ◌-◌, if◌then◌else◌, List, [], ◌∷◌, ◌++◌, length, take, Option, Some, None, slice_set, slice_index_or}
+use Rattle.std.specs.Prelude.{◌≡◌, ℕ, ◌+◌, ◌-◌, if◌then◌else◌, List, [], ◌∷◌, ◌++◌, length, take, Option, Some, None, slice_get, slice_set, slice_index_or}
 use Rattle.std.specs.Global.{Box}
 use Rattle.std.specs.Option.{option_map}
 use Rattle.toml_names.specs.declared.address.Step.{Step}
@@ -32,6 +32,18 @@ abbrev pub under_of : Under → Option (ℕ × Step)
 under_of unders.Root = None
 under_of (unders.Name above text) = Some (above, Name (spelled_name text.now))
 under_of (unders.Index above index) = Some (above, Index index)
+
+-- the step from the node above to the node; of the root, which has none, some step
+abbrev pub step_under : Option (ℕ × Step) → Step
+step_under None = Index 0
+step_under (Some u) = u.1
+
+abbrev pub last_step : Spot → Step
+last_step s = step_under s.under
+
+-- the steps are the last ones of the first nodes
+abbrev pub AreSteps : List Spot → List Step → Type 0
+AreSteps nodes steps = (k : ℕ) (s : Step) → slice_get steps k ≡ Some s → (d : Spot) → s ≡ last_step (slice_index_or nodes k d)
 
 -- what hangs under a node: no names and no elements where nothing does
 abbrev pub names_below : Option (Box Below) → List (List ℕ × ℕ)

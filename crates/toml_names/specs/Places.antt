@@ -7,6 +7,7 @@ use Rattle.toml_names.specs.declared.place.Place.{Place}
 use Rattle.toml_names.specs.declared.place.Place.TheVariants as places
 use Rattle.toml_names.specs.Addresses.{Address, IsAbove, same_address, is_above}
 use Rattle.toml_names.specs.Mentions.{Named, named}
+use Rattle.toml_names.specs.Rules.{KeepsRules}
 
 -- something is named at the address
 abbrev pub IsNamed : List Named → Address → Type 0
@@ -109,3 +110,7 @@ PlacesAreFound = (ms : List Named) (at : Address) (p : Place) → place ms at �
 
 abbrev pub NoPlace : Type 0
 NoPlace = (lines : List Line) (at : Address) → place (named lines) at ≡ None → ¬ IsNamed (named lines) at
+
+-- Law: under the rules each thing has one place, the one that is found.
+abbrev pub PlaceIsFound : Type 0
+PlaceIsFound = (lines : List Line) (at : Address) (p : Place) → KeepsRules (named lines) → IsPlace (named lines) at p → place (named lines) at ≡ Some p

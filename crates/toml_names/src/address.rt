@@ -28,12 +28,12 @@ impl Model for Address {
 }
 
 impl Step {
-    /// A step of its own that is the same.
-    pub fn copy(&self, alloc: Global) -> Result<Step, AllocError>
+    /// The same step. It takes no memory.
+    pub fn copy(&self) -> Result<Step, AllocError>
         ensures { IfOk result (λ s. s ≡ self.now) }
     {
         match self {
-            Step::Name(name) => Ok(Step::Name(name.copy(alloc)?)),
+            Step::Name(name) => Ok(Step::Name(name.copy()?)),
             Step::Index(index) => Ok(Step::Index(*index)),
         }
     }
@@ -83,7 +83,7 @@ impl Address {
         self.steps
     }
 
-    /// An address of its own that is the same.
+    /// An address of its own that is the same; its names are shared.
     pub fn copy(&self, alloc: Global) -> Result<Address, AllocError>
         ensures { IfOk result (λ a. a ≡ self.now) }
     {
@@ -98,7 +98,7 @@ impl Address {
     {
         let mut steps = Vec::with_capacity(alloc, self.steps.len().saturating_add(more))?;
         for step in &self.steps {
-            steps.push(step.copy(alloc)?)?;
+            steps.push(step.copy()?)?;
         }
         Ok(steps)
     }

@@ -10,9 +10,10 @@ ghost use Rattle.toml_names.specs.Joining.{Joined};
 ghost use Rattle.toml_names.specs.Mentions as mentions;
 ghost use Rattle.toml_names.specs.Mentions.{a_table, an_array, is_mentioned, token_kind};
 ghost use Rattle.toml_names.specs.NameTree.{IsTree, IsTreeOf};
-ghost use Rattle.toml_names.specs.Nodes.{Spot, address_at};
+ghost use Rattle.toml_names.specs.Nodes.{Spot, AreSteps, address_at};
+ghost use Rattle.toml_names.specs.Rules.{max_steps};
 
-use crate::address::Address;
+use crate::address::{Address, Step};
 use crate::datum::{Datum, add_member};
 use crate::named::{Kind, Role};
 use crate::rules::MAX_STEPS;
@@ -78,13 +79,25 @@ impl<'t> NameTree<'t> {
         requires tree { IsTree self.now.nodes.items }
         ensures { IfOk result (λ list. (ms : List mentions.Named) → IsTreeOf self.now.nodes.items ms → Joined ms → list.items ≡ first_mentions ms) }
     {
+        let steps = self.last_steps()?;
         let mut list = Vec::new(self.alloc);
         for (id, node) in self.nodes.iter().enumerate() {
             if is_mention(node.role()) {
-                list.push(self.address(id)?)?;
+                list.push(self.address_by(&steps, id)?)?;
             }
         }
         Ok(list)
+    }
+
+    /// The last step of each node. Addresses that are made of these share their names.
+    fn last_steps(&self) -> Result<Vec<Step>, AllocError>
+        ensures { IfOk result (λ steps. AreSteps self.now.nodes.items steps.items) }
+    {
+        let mut steps = Vec::with_capacity(self.alloc, self.nodes.len())?;
+        for id in 0..self.nodes.len() {
+            steps.push(self.last_step(id)?)?;
+        }
+        Ok(steps)
     }
 
     /// How many nodes before each node are mentions: the place of its address among the first mentions, if it is one.
@@ -110,7 +123,7 @@ impl<'t> NameTree<'t> {
     pub fn are_short_from(&self, start: usize) -> bool
         requires within { start ≤ vec_len self.now.nodes }
         requires tree { IsTree self.now.nodes.items }
-        ensures { IsTrue result ↔ ((k : ℕ) → start ≤ k → k < length self.now.nodes.items → length (address_at self.now.nodes.items k) ≤ 100) }
+        ensures { IsTrue result ↔ ((k : ℕ) → start ≤ k → k < length self.now.nodes.items → length (address_at self.now.nodes.items k) ≤ max_steps) }
     {
         self.nodes[start..]
             .iter()

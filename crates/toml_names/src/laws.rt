@@ -1,16 +1,25 @@
 //! Laws over the definitions: nothing is run.
-ghost use Rattle.toml_names.specs.Addresses.{SameIsEqual, AboveIsAbove};
-ghost use Rattle.toml_names.specs.DataLaws.{LinesHaveOneKind, LineValuesStandAlone, ValuesHaveOneKind, InnerValuesStandAlone};
+ghost use Rattle.toml_names.specs.Addresses.{SameStepIsEqual, StepIsSame, SameIsEqual, AboveIsAbove};
+ghost use Rattle.toml_names.specs.Alike.{AlikeNameTheSame, AlikeStayAlike, PairsLeaveAlike};
+ghost use Rattle.toml_names.specs.Clear.{NotNamedIsClear};
+ghost use Rattle.toml_names.specs.DataLaws.{LinesHaveOneKind, LineValuesStandAlone, ValuesHaveOneKind, InnerValuesStandAlone, OneData, LinesAreClosed, ValuesAreClosed};
 ghost use Rattle.toml_names.specs.FirstMentions.{FirstMentionsAreThese, OneListOfFirstMentions};
+ghost use Rattle.toml_names.specs.Inside.{InsideIsBelow, InsideMoves};
 ghost use Rattle.toml_names.specs.Joining.{LinesJoin, ValuesJoin, OneKind, FirstIsData, ValuesStandAlone};
+ghost use Rattle.toml_names.specs.Levels.{ScalarLevel, ArrayLevel, TableLevel, DatumIsOneOfThree, DatumHasRoot, ArrayAtRoot, ArrayAtIndex, ArrayAtName, IndexIsWithin, TableAtRoot, TableAtName, TableAtIndex, NameHasMember, NothingBelowScalar};
 ghost use Rattle.toml_names.specs.Local.{LastRoleDecides};
 ghost use Rattle.toml_names.specs.Names.{RefusedAreBad, OneRefusal, LineAddresses, NoLineAddress};
+ghost use Rattle.toml_names.specs.OwnAddresses.{LineIsNamed, ThemselvesDiffer, OwnAddressesDiffer, OwnAddressIsNamed, OwnAddressHasFact};
+ghost use Rattle.toml_names.specs.Parts.{DatumHasPart, StepIsThere, PartIsThere};
 ghost use Rattle.toml_names.specs.Places.{PlacesAreFound, NoPlace};
 ghost use Rattle.toml_names.specs.Rules.{NoMisfit, MisfitIsFirst, RulesAreOfMentions};
+ghost use Rattle.toml_names.specs.SameData.{SameScalars, SameArrays, SameTables};
 
-/// Addresses that are the same are equal, and equal ones the same; an address is above those of which it is a
-/// beginning.
+/// Steps that are the same are equal, and so are addresses, and equal ones are the same; an address is above those of
+/// which it is a beginning.
 pub fn addresses()
+    ensures equal_steps { SameStepIsEqual }
+    ensures same_steps { StepIsSame }
     ensures same { SameIsEqual }
     ensures above { AboveIsAbove }
 {}
@@ -35,6 +44,36 @@ pub fn line_addresses()
     ensures behind { NoLineAddress }
 {}
 
+/// What a line names stands in what the lines name. Under the rules what is named by itself, by a header, as a value or
+/// as an element, is so named once; so lines that have one address of their own are one line. That address is named
+/// by the line, and something stands there in the data.
+pub fn own_addresses()
+    ensures line { LineIsNamed }
+    ensures themselves { ThemselvesDiffer }
+    ensures differ { OwnAddressesDiffer }
+    ensures named { OwnAddressIsNamed }
+    ensures fact { OwnAddressHasFact }
+{}
+
+/// What a value names inside it lies strictly below its address, and moves along with it.
+pub fn inside()
+    ensures below { InsideIsBelow }
+    ensures moves { InsideMoves }
+{}
+
+/// What a line names depends on what was named before by the last header's table, and by how many tables the arrays of
+/// tables have. Lists that are alike in these stay so once the same is named behind both, and a pair changes neither.
+pub fn alike_lists()
+    ensures same { AlikeNameTheSame }
+    ensures more { AlikeStayAlike }
+    ensures pairs { PairsLeaveAlike }
+{}
+
+/// Under the rules, where an address is not named, nothing is named at it or below it.
+pub fn clear()
+    ensures { NotNamedIsClear }
+{}
+
 /// Where a thing stands is read off the mentions of its address; what has no place is not named.
 pub fn places()
     ensures found { PlacesAreFound }
@@ -47,6 +86,14 @@ pub fn data()
     ensures alone { LineValuesStandAlone }
     ensures inner_kinds { ValuesHaveOneKind }
     ensures inner_alone { InnerValuesStandAlone }
+{}
+
+/// What is named has one map of data. Under the rules, where nothing stands in the data of lines or of a value, nothing
+/// stands below.
+pub fn closed_data()
+    ensures one { OneData }
+    ensures lines { LinesAreClosed }
+    ensures values { ValuesAreClosed }
 {}
 
 /// Under the rules each thing that lines or a value name joins those before it. Where each does, what is named at one
@@ -69,4 +116,49 @@ pub fn last_roles()
 pub fn mentions_in_order()
     ensures these { FirstMentionsAreThese }
     ensures one { OneListOfFirstMentions }
+{}
+
+/// A datum is a scalar, an array or a table, and something stands at its root. What each has at every address is told
+/// level by level, by what its parts have.
+pub fn levels()
+    ensures scalars { ScalarLevel }
+    ensures arrays { ArrayLevel }
+    ensures tables { TableLevel }
+    ensures three { DatumIsOneOfThree }
+    ensures root { DatumHasRoot }
+{}
+
+/// An array stands at its root; at an index stands the element, at a name nothing. An index at which something stands
+/// is below the length.
+pub fn arrays()
+    ensures here { ArrayAtRoot }
+    ensures index { ArrayAtIndex }
+    ensures name { ArrayAtName }
+    ensures within { IndexIsWithin }
+{}
+
+/// A table stands at its root; at a name stands the member, at an index nothing. A name at which something stands has
+/// a member.
+pub fn tables()
+    ensures here { TableAtRoot }
+    ensures name { TableAtName }
+    ensures index { TableAtIndex }
+    ensures member { NameHasMember }
+{}
+
+/// A datum has a part at each step, or none, and a scalar has none. Where something stands below a step something
+/// stands at it, and a part that is put at a step is there.
+pub fn parts()
+    ensures part { DatumHasPart }
+    ensures scalar { NothingBelowScalar }
+    ensures step { StepIsThere }
+    ensures put { PartIsThere }
+{}
+
+/// Data are the same where they are so level by level: scalars by their values, arrays at each index, tables at each
+/// name.
+pub fn same_data()
+    ensures scalars { SameScalars }
+    ensures arrays { SameArrays }
+    ensures tables { SameTables }
 {}

@@ -34,6 +34,7 @@ pub use name::Name;
 pub use names::{Names, read_lines, read_names};
 pub use place::Place;
 pub use reader::NameReader;
+pub use rules::MAX_STEPS;
 pub use value::read_value;
 
 #[cfg(test)]

@@ -69,7 +69,7 @@ pub fn own_name(alloc: Global, text: &str) -> Result<Name, AllocError>
     ensures { IfOk result (λ name. name ≡ spelled_name text.now) }
 {
     let name = spelled_name(alloc, text)?;
-    Ok(Name::of(name.into_owned(alloc)?))
+    Name::of(name.into_owned(alloc)?)
 }
 
 /// Adds the fronts of a key in the table at the address, and gives the address of the whole key.

@@ -25,7 +25,7 @@ pub fn address(alloc: Global, steps: &[At]) -> Result<Address, Fail> {
     let mut at = Address::root(alloc);
     for step in steps {
         at = match step {
-            At::Name(name) => at.child(alloc, Name::of(String::from_str(alloc, name)?))?,
+            At::Name(name) => at.child(alloc, Name::of(String::from_str(alloc, name)?)?)?,
             At::Index(index) => at.element(alloc, *index)?,
         };
     }
@@ -307,13 +307,12 @@ fn copies_of_addresses_are_the_same(rt: HostRuntime) -> Result<(), Fail> {
     assert!(rt; at.copy(rt.alloc())?.is_same(&at));
     let mut steps = Vec::new(rt.alloc());
     for step in at.steps() {
-        steps.push(step.copy(rt.alloc())?)?;
+        steps.push(step.copy()?)?;
     }
     assert!(rt; Address::of(steps).is_same(&at));
     assert!(rt; Address::of(at.copy(rt.alloc())?.into_steps()).is_same(&at));
-    let name = Name::of(String::from_str(rt.alloc(), "u")?);
-    assert_eq!(rt; name.copy(rt.alloc())?.as_str(), "u");
-    assert_eq!(rt; name.into_string().as_str(), "u");
+    let name = Name::of(String::from_str(rt.alloc(), "u")?)?;
+    assert_eq!(rt; name.copy()?.as_str(), "u");
     Ok(())
 }
 

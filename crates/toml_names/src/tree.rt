@@ -12,7 +12,7 @@ ghost use Rattle.toml_names.specs.Local.{role_after};
 ghost use Rattle.toml_names.specs.Mentions as mentions;
 ghost use Rattle.toml_names.specs.Mentions.{is_tables};
 ghost use Rattle.toml_names.specs.NameTree.{IsTree, IsTreeOf, IsFound};
-ghost use Rattle.toml_names.specs.Nodes.{Spot, address_at, grown, noted, reverted, undone};
+ghost use Rattle.toml_names.specs.Nodes.{Spot, AreSteps, address_at, last_step, grown, noted, reverted, undone};
 ghost use Rattle.toml_names.specs.Rules.{may_follow};
 ghost use Rattle.toml_names.specs.View.{kind as kind_of};
 
@@ -130,28 +130,60 @@ impl<'t> NameTree<'t> {
         requires tree { IsTree self.now.nodes.items }
         ensures { IfOk result (λ a. a ≡ address_at self.now.nodes.items id) }
     {
-        let mut steps = Vec::with_capacity(self.alloc, self.nodes[id].depth())?;
+        self.address_by(&[], id)
+    }
+
+    /// The address of a node, of which these steps are the last ones of the first nodes: it shares their names.
+    pub fn address_by(&self, steps: &[Step], id: usize) -> Result<Address, AllocError>
+        requires within { id < vec_len self.now.nodes }
+        requires tree { IsTree self.now.nodes.items }
+        requires steps { AreSteps self.now.nodes.items steps.now }
+        ensures { IfOk result (λ a. a ≡ address_at self.now.nodes.items id) }
+    {
+        let mut way = Vec::with_capacity(self.alloc, self.nodes[id].depth())?;
         let mut here = id;
-        while let Some((above, step)) = self.above(here)? {
-            steps.push(step)?;
+        while let Some((above, step)) = self.above(steps, here)? {
+            way.push(step)?;
             here = above;
         }
-        steps.reverse();
-        Ok(Address::of(steps))
+        way.reverse();
+        Ok(Address::of(way))
     }
 
     /// The node above a node, and the step from there; none for the root.
-    fn above(&self, id: usize) -> Result<Option<(usize, Step)>, AllocError>
-        requires { id < vec_len self.now.nodes }
+    fn above(&self, steps: &[Step], id: usize) -> Result<Option<(usize, Step)>, AllocError>
+        requires within { id < vec_len self.now.nodes }
+        requires steps { AreSteps self.now.nodes.items steps.now }
         ensures { IfOk result (λ above. (d : Spot) → above ≡ (slice_index_or self.now.nodes.items id d).under) }
     {
         match self.nodes[id].under() {
             Under::Root => Ok(None),
-            Under::Name(above, text) => {
-                let name = own_name(self.alloc, text)?;
-                Ok(Some((above, Step::Name(name))))
-            }
-            Under::Index(above, index) => Ok(Some((above, Step::Index(index)))),
+            Under::Name(above, _) => Ok(Some((above, self.step_by(steps, id)?))),
+            Under::Index(above, _) => Ok(Some((above, self.step_by(steps, id)?))),
+        }
+    }
+
+    /// The step from the node above a node to it, shared where it is among the steps.
+    fn step_by(&self, steps: &[Step], id: usize) -> Result<Step, AllocError>
+        requires within { id < vec_len self.now.nodes }
+        requires steps { AreSteps self.now.nodes.items steps.now }
+        ensures { IfOk result (λ step. (d : Spot) → step ≡ last_step (slice_index_or self.now.nodes.items id d)) }
+    {
+        match steps.get(id) {
+            Some(step) => step.copy(),
+            None => self.last_step(id),
+        }
+    }
+
+    /// The step from the node above a node to it; of the root, which has none, some step.
+    pub fn last_step(&self, id: usize) -> Result<Step, AllocError>
+        requires { id < vec_len self.now.nodes }
+        ensures { IfOk result (λ step. (d : Spot) → step ≡ last_step (slice_index_or self.now.nodes.items id d)) }
+    {
+        match self.nodes[id].under() {
+            Under::Root => Ok(Step::Index(0)),
+            Under::Name(_, text) => Ok(Step::Name(own_name(self.alloc, text)?)),
+            Under::Index(_, index) => Ok(Step::Index(index)),
         }
     }
 

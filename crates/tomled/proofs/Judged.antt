@@ -24,7 +24,7 @@ use Rattle.toml_names.specs.declared.fault.NameFault.TheVariants as names
 use Rattle.toml_names.specs.Data.{Kinds, IsDataOf}
 use Rattle.toml_names.specs.FirstMentions.{first_mentions}
 use Rattle.toml_names.specs.Mentions.{Named, named}
-use Rattle.toml_names.proofs.Refused.{refused_are_bad}
+use Rattle.toml_names.proofs.Proved.{refused_are_bad}
 use Rattle.tomled.specs.Listing.{ListsAddresses, lines_of}
 use Rattle.tomled.specs.Show.{IsLineOf, ShowsData}
 use Rattle.tomled.specs.Refusals.{IsRefusalOf, IsSyntaxCode}

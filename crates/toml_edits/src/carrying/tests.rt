@@ -29,7 +29,7 @@ fn address(alloc: Global, steps: &[At]) -> Result<Address, Fail> {
     let mut at = Address::root(alloc);
     for step in steps {
         at = match step {
-            At::Name(name) => at.child(alloc, Name::of(String::from_str(alloc, name)?))?,
+            At::Name(name) => at.child(alloc, Name::of(String::from_str(alloc, name)?)?)?,
             At::Index(index) => at.element(alloc, *index)?,
         };
     }

@@ -3,7 +3,7 @@ use Rattle.std.proofs.lemmas.Result.{on_ok_weaker}
 use Rattle.toml_names.specs.declared.datum.Datum.{Datum}
 use Rattle.toml_names.specs.Addresses.{Address}
 use Rattle.toml_names.specs.Data.{kind_at}
-use Rattle.toml_names.proofs.Changes.{array-within, table-has}
+use Rattle.toml_names.proofs.Proved.{array-within, table-has}
 use Rattle.toml_edits.specs.declared.change.DatumChange.{DatumChange}
 use Rattle.toml_edits.specs.Changed.{IsApplicable, changed}
 use Rattle.toml_edits.proofs.Elements.{array-added, array-removed, array-filled, table-put, table-renamed, table-lacks}

@@ -1,5 +1,13 @@
 use Rattle.toml_edits.proofs.Apart.{data_are_closed}
+use Rattle.toml_edits.proofs.LowIndices.{indices_are_low}
+use Rattle.toml_edits.proofs.StaysClosed.{stays_closed}
 use Rattle.toml_edits.proofs.laws.closed.Goals as goal
 
-pub returns : goal.returns
-returns c = data_are_closed
+pub returns-clause-data : goal.returns-clause-data
+returns-clause-data c = data_are_closed
+
+pub returns-clause-stays : goal.returns-clause-stays
+returns-clause-stays c = stays_closed
+
+pub returns-clause-indices : goal.returns-clause-indices
+returns-clause-indices c = indices_are_low

@@ -6,9 +6,8 @@ use Rattle.std.specs.BTreeMap.{get}
 use Rattle.std.specs.Map.Iter.{deref_pair}
 use Rattle.toml_names.specs.declared.datum.Datum.{Datum}
 use Rattle.toml_names.specs.Data.{kind_in}
-use Rattle.toml_names.proofs.Alike.{accepted, refused}
 use Rattle.toml_edits.specs.Reach.{Reaches}
-use Rattle.toml_edits.proofs.Reaching.{array_reaches, table_reaches, none_past, none_found, through, refuted, none_more, none_left}
+use Rattle.toml_edits.proofs.Reaching.{accepted, refused, array_reaches, table_reaches, none_past, none_found, through, refuted, none_more, none_left}
 use Rattle.toml_edits.proofs.reach.+reaches.Goals as goal
 
 pub item_reaches-loop-item-preserved : goal.item_reaches-loop-item-preserved

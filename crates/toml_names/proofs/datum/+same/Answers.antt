@@ -4,7 +4,8 @@ use Rattle.std.proofs.lemmas.Option.{slice_get_read}
 use Rattle.std.specs.Prelude.{slice_get}
 use Rattle.std.specs.BTreeMap.{get, get_by_text}
 use Rattle.std.specs.Map.Iter.{deref_pair}
-use Rattle.toml_names.proofs.Alike.{AlikeIn, scalars_decided, arrays_decided, tables_decided, tables_apart, accepted, refused, scalar_apart, array_apart, table_apart, lengths_alike, items_alike, parts_alike, there_too, each_more, each_none, HasLike-from_each}
+use Rattle.toml_names.specs.SameData.{AreSameIn}
+use Rattle.toml_names.proofs.Alike.{scalars_decided, arrays_decided, tables_decided, tables_apart, accepted, refused, scalar_apart, array_apart, table_apart, lengths_alike, items_alike, parts_alike, there_too, each_more, each_none, HasLike-from_each}
 use Rattle.toml_names.proofs.datum.+same.Goals as goal
 
 pub same-returns-in-Scalar-Scalar : goal.same-returns-in-Scalar-Scalar
@@ -47,7 +48,7 @@ pub same_items-loop-index-preserved : goal.same_items-loop-index-preserved
 same_items-loop-index-preserved t c =
     let one = slice_get_read c.args.one.now _ c.loop-index.index c.index-one-index.result refl c.loop-index-test.true c.index-one-index.is in
     let other = slice_get_read c.args.other.now _ c.loop-index.index c.index-other-index.result c.if-one-other.false c.loop-index-test.true c.index-other-index.is in
-    below_more (λ i. AlikeIn (slice_get c.args.one.now i) (slice_get c.args.other.now i)) c.loop-index.index c.loop-index.invariant
+    below_more (λ i. AreSameIn (slice_get c.args.one.now i) (slice_get c.args.other.now i)) c.loop-index.index c.loop-index.invariant
     ((parts_alike _ _ _ _ one other).0 (c.same.ensures.0 c.if-not-same.false))
 
 pub same_items-returns : goal.same_items-returns
@@ -76,8 +77,8 @@ same_members-loop-name-preserved t c = λ left.
     let other : get_by_text c.args.other.now (string_bytes c.in-Some.name.now) ≡ Some c.in-Some-get.found.now =
     ap (get_by_text c.args.other.now) (sym c.as_str.ensures.value) ∙ sym c.in-Some-get.ensures.value in
     c.loop-name.invariant
-    (each_more (λ name d. AlikeIn (Some d) (get_by_text c.args.other.now name)) _ c.next.new.self (c.in-Some.name.now, c.in-Some.member.now) c.in-Some.ensures.steps
+    (each_more (λ name d. AreSameIn (Some d) (get_by_text c.args.other.now name)) _ c.next.new.self (c.in-Some.name.now, c.in-Some.member.now) c.in-Some.ensures.steps
     ((parts_alike _ _ _ _ refl other).0 (c.same.ensures.0 c.if-not-same.false)) left)
 
 pub same_members-returns : goal.same_members-returns
-same_members-returns t c = accepted (HasLike-from_each c.args.one.now c.args.other.now (c.loop-name.invariant (each_none (λ name d. AlikeIn (Some d) (get_by_text c.args.other.now name)) _ c.in-None.ensures.steps.0)))
+same_members-returns t c = accepted (HasLike-from_each c.args.one.now c.args.other.now (c.loop-name.invariant (each_none (λ name d. AreSameIn (Some d) (get_by_text c.args.other.now name)) _ c.in-None.ensures.steps.0)))

@@ -1,6 +1,6 @@
 use Rattle.serde_json.proofs.Views.{view-Array, view-Object}
 use Rattle.tomled.proofs.Built.{items_more, items_done, members_more, members_done}
-use Rattle.toml_names.proofs.Levels.{kind_at-array, kind_at-table}
+use Rattle.toml_names.proofs.Proved.{kind_at-array, kind_at-table}
 use Rattle.tomled.proofs.tagged.+tagged.Goals as goal
 
 pub tagged_datum-returns-in_ok-tagged_items-in-Array : goal.tagged_datum-returns-in_ok-tagged_items-in-Array

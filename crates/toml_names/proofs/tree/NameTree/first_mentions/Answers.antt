@@ -4,7 +4,7 @@ use Rattle.toml_names.specs.Mentions.{is_mentioned}
 use Rattle.toml_names.specs.Nodes.{Spot, nowhere}
 use Rattle.toml_names.proofs.Ranks.{mentioned_upto, upto-mention, upto-other, role_read, listed_all}
 use Rattle.toml_names.proofs.tree.NameTree.first_mentions.Goals as goal
-use Rattle.toml_names.proofs.tree.NameTree.first_mentions.Goals.{then-is_mention+in_ok-address+in_ok-push, else-is_mention}
+use Rattle.toml_names.proofs.tree.NameTree.first_mentions.Goals.{then-is_mention+in_ok-address_by+in_ok-push, else-is_mention}
 
 pub loop-id-init : goal.loop-id-init
 loop-id-init c = c.new-list.ensures.items
@@ -20,10 +20,10 @@ loop-id-preserved c =
     let tells : c.is_mention.result ≡ is_mentioned node.role = c.is_mention.ensures ∙ ap is_mentioned c.role.ensures in
     let reads : is_mentioned (slice_index_or nodes i nowhere).role ≡ c.is_mention.result = role_read nodes i node low is ∙ sym tells in
     elim c.if-is_mention.branch [
-      | then-is_mention+in_ok-address+in_ok-push w ↦
+      | then-is_mention+in_ok-address_by+in_ok-push w ↦
           ap (λ v. v.items) w.list-is ∙ w.in_ok-push.ensures.items
-          ∙ ap (λ (l : List Address). l ++ w.in_ok-address.field-0 ∷ []) c.loop-id.invariant
-          ∙ ap (λ (a : Address). mentioned_upto nodes i ++ a ∷ []) w.in_ok-address.ensures
+          ∙ ap (λ (l : List Address). l ++ w.in_ok-address_by.field-0 ∷ []) c.loop-id.invariant
+          ∙ ap (λ (a : Address). mentioned_upto nodes i ++ a ∷ []) w.in_ok-address_by.ensures
           ∙ sym (upto-mention nodes i (reads ∙ w.if-is_mention.true))
       | else-is_mention w ↦ ap (λ v. v.items) w.list-is ∙ c.loop-id.invariant ∙ sym (upto-other nodes i (reads ∙ w.if-is_mention.false))
     ]

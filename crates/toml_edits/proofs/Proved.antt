@@ -1,0 +1,10 @@
+-- The proofs of the laws, for the crates above.
+pub use Rattle.toml_edits.proofs.Along.{carried_along}
+pub use Rattle.toml_edits.proofs.Apart.{carried_apart, data_are_closed}
+pub use Rattle.toml_edits.proofs.Emptied.{set_carries}
+pub use Rattle.toml_edits.proofs.Fronts.{carried_front}
+pub use Rattle.toml_edits.proofs.LowIndices.{indices_are_low}
+pub use Rattle.toml_edits.proofs.Once.{one_after}
+pub use Rattle.toml_edits.proofs.OnLists.{carried_on, one_lead, fault_or_lead, one_first_fault}
+pub use Rattle.toml_edits.proofs.Standing.{carried_stands, lists_carry_apart}
+pub use Rattle.toml_edits.proofs.StaysClosed.{stays_closed}

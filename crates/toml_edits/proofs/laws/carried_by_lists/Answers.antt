@@ -1,0 +1,12 @@
+use Rattle.toml_edits.proofs.OnLists.{carried_on}
+use Rattle.toml_edits.proofs.Standing.{carried_stands, lists_carry_apart}
+use Rattle.toml_edits.proofs.laws.carried_by_lists.Goals as goal
+
+pub returns-clause-on : goal.returns-clause-on
+returns-clause-on c = carried_on
+
+pub returns-clause-stands : goal.returns-clause-stands
+returns-clause-stands c = carried_stands
+
+pub returns-clause-apart : goal.returns-clause-apart
+returns-clause-apart c = lists_carry_apart

@@ -1,0 +1,26 @@
+-- Lists of edits, one after the other: where things then stand, what becomes of the data, and which edit is the first with a fault.
+use Rattle.std.specs.Prelude.{◌≡◌, ℕ, zero, suc, List, [], ◌∷◌, Option, Some, None, option_and_then}
+use Rattle.toml_names.specs.declared.datum.Datum.{Datum}
+use Rattle.toml_names.specs.Addresses.{Address}
+use Rattle.toml_names.specs.Data.{kind_at}
+use Rattle.toml_edits.specs.declared.fault.EditFault.{EditFault}
+use Rattle.toml_edits.specs.After.{IsAfter}
+use Rattle.toml_edits.specs.Carry.{carry}
+use Rattle.toml_edits.specs.Edits.{Change}
+use Rattle.toml_edits.specs.Faults.{IsFault}
+
+-- where the thing at an address stands after the edits; what stands nowhere stays so
+abbrev pub carried : List Change → Address → Option Address
+carried [] a = Some a
+carried (c ∷ cs) a = option_and_then (carried cs) (carry c a)
+
+-- each edit is without a fault on the data so far, and the last data have the same at each address as these
+abbrev pub Lead : List Change → Datum → Datum → Type 0
+Lead [] old new = (a : Address) → kind_at old a ≡ kind_at new a
+Lead (c ∷ cs) old new = IsFault c (kind_at old) None × (mid : Datum) × IsAfter c (kind_at old) (kind_at mid) × Lead cs mid new
+
+-- the edit of this number, from 0, has the fault on the data so far, and those before it have none
+abbrev pub IsFirstFault : List Change → Datum → ℕ → EditFault → Type 0
+IsFirstFault [] old i fault = ⊥
+IsFirstFault (c ∷ cs) old zero fault = IsFault c (kind_at old) (Some fault)
+IsFirstFault (c ∷ cs) old (suc i) fault = IsFault c (kind_at old) None × (mid : Datum) × IsAfter c (kind_at old) (kind_at mid) × IsFirstFault cs mid i fault
