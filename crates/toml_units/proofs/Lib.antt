@@ -18,3 +18,12 @@ pub mod Ends
 pub mod Plain
 pub mod Walked
 pub mod AllLines
+pub mod DigitValues
+pub mod Numbers
+pub mod Certificates
+pub mod UnitLines
+pub mod Twins
+pub mod Bases
+pub mod Standing
+pub mod Read
+pub mod Proved

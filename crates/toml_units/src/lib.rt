@@ -2,11 +2,15 @@
 //! whole.
 #![tactic(auto)]
 
+mod certificate;
+mod fault;
 mod key;
 pub mod laws;
 mod lines;
 mod unit;
 mod walk;
 
+pub use certificate::{Certificate, certificate_text, read_certificate};
+pub use fault::CertificateFault;
 pub use lines::units;
 pub use unit::{Unit, UnitKind};

@@ -1,0 +1,100 @@
+-- Which units have a base.
+use Rattle.std.proofs.Common.{◌≡◌, inl, inr, ℕ, ◌+◌, ◌<◌, List, [], ◌∷◌, ◌++◌, length, map, Option, Some, None, refl, arith, length-append}
+use Rattle.std.proofs.lemmas.Option.{same_Some}
+use Rattle.toml_tree.specs.Spells.{EachIs}
+use Rattle.toml_tree.specs.Tree.{Piece, Assign, GapLine, Gap, Value, Scalar, Array, Empty, Inline, Items, Close, Last, More, Pairs, LastPair, MorePairs, KeyVal, Expr, BlankLine, KeyValLine, TableLine, ArrayTableLine, Line}
+use Rattle.toml_tree.specs.Tree as tree
+use Rattle.toml_names.specs.declared.address.Step.TheVariants.{Name}
+use Rattle.toml_names.specs.Addresses.{Address, element, below}
+use Rattle.toml_names.specs.Keys.{key_names}
+use Rattle.toml_names.specs.Mentions.{Named, root, section, named_by}
+use Rattle.toml_names.specs.Names.{own_address}
+use Rattle.toml_units.specs.declared.unit.UnitKind.{UnitKind}
+use Rattle.toml_units.specs.declared.unit.UnitKind.TheVariants as kinds
+use Rattle.toml_units.specs.Bases.{IsBased, UnitsAreBased}
+use Rattle.toml_units.specs.Units.{TextUnit, comment_units, gap_units, gap_line_units, element_unit, pair_unit, pair_address, inside, elements, members, value_units, tail_units, inside_line, line_unit, units_from}
+use Rattle.toml_units.proofs.Each.{each_append}
+
+-- a key has a part
+key_adds : (at : Address) (k : tree.Key) → length at < length (below at (key_names k))
+key_adds at k = omega (arith, length-append at (map Name (key_names k)))
+
+-- a unit without a base
+without : (u : TextUnit) → u.base ≡ None → ¬ (u.kind ≡ kinds.Pair) → IsBased u
+without u none other = record {
+  only = λ some. cc;
+  pair = λ is. absurd (other is);
+  front = λ n is. cc;
+}
+
+comments_based : (kind : UnitKind) (at : Option Address) (c : Option Piece) → ¬ (kind ≡ kinds.Pair) → EachIs IsBased (comment_units kind at c)
+comments_based kind at None other = tt
+comments_based kind at (Some p) other = (without (record { kind = kind; piece = p; address = at; base = None }) refl other, tt)
+
+gap_lines_based : (at : Address) (ls : List GapLine) → EachIs IsBased (gap_line_units at ls)
+gap_lines_based at [] = tt
+gap_lines_based at (l ∷ ls) = each_append IsBased (comment_units kinds.InnerComment (Some at) l.blank.comment) (gap_line_units at ls) (comments_based kinds.InnerComment (Some at) l.blank.comment (λ e. cc)) (gap_lines_based at ls)
+
+gap_based : (at : Address) (g : Gap) → EachIs IsBased (gap_units at g)
+gap_based at g = gap_lines_based at g.lines
+
+element_based : (at : Address) (v : Value) → IsBased (element_unit at v)
+element_based at v = without (element_unit at v) refl (λ e. cc)
+
+pair_based : (at : Address) (k : KeyVal) → IsBased (pair_unit at k)
+pair_based at k = record {
+  only = λ some. inr refl;
+  pair = λ is. refl;
+  front = λ n is. let same = same_Some (length at) n is in (pair_address at k.assign, refl, omega (arith, same, key_adds at k.assign.key));
+}
+
+mutual
+  inside_based : (at : Address) (v : Value) → EachIs IsBased (inside at v)
+  inside_based at (Scalar kind p) = tt
+  inside_based at (Array whole items) = elements_based at 0 items
+  inside_based at (Empty whole ws) = tt
+  inside_based at (Inline whole pairs) = members_based at pairs
+
+  elements_based : (at : Address) (i : ℕ) (is : Items) → EachIs IsBased (elements at i is)
+  elements_based at i (Close g) = gap_based at g
+  elements_based at i (Last g v h) =
+      each_append IsBased (gap_units at g) _ (gap_based at g)
+      (element_based (element at i) v, each_append IsBased (inside (element at i) v) (gap_units at h) (inside_based (element at i) v) (gap_based at h))
+  elements_based at i (More g v h is) =
+      each_append IsBased (gap_units at g) _ (gap_based at g)
+      (element_based (element at i) v, each_append IsBased (inside (element at i) v) (gap_units at h ++ elements at (i + 1) is) (inside_based (element at i) v) (each_append IsBased (gap_units at h) (elements at (i + 1) is) (gap_based at h) (elements_based at (i + 1) is)))
+
+  members_based : (at : Address) (ps : Pairs) → EachIs IsBased (members at ps)
+  members_based at (LastPair ws a v after) = (pair_based at (record { assign = a; value = v }), inside_based (pair_address at a) v)
+  members_based at (MorePairs ws a v after ps) = (pair_based at (record { assign = a; value = v }), each_append IsBased (inside (pair_address at a) v) (members at ps) (inside_based (pair_address at a) v) (members_based at ps))
+
+value_based : (at : Option Address) (v : Value) → EachIs IsBased (value_units at v)
+value_based None v = tt
+value_based (Some at) v = inside_based at v
+
+tail_based : (at : Option Address) (b : tree.Blank) → EachIs IsBased (tail_units at b)
+tail_based at b = comments_based kinds.TailComment at b.comment (λ e. cc)
+
+line_based : (earlier : List Named) (e : Expr) → IsBased (line_unit earlier e)
+line_based earlier (BlankLine b) = without (line_unit earlier (BlankLine b)) refl (λ e. cc)
+line_based earlier (KeyValLine ws k b) = record {
+  only = λ some. inl refl;
+  pair = λ is. refl;
+  front = λ n is. let same = same_Some (length (section earlier)) n is in (below (section earlier) (key_names k.assign.key), refl, omega (arith, same, key_adds (section earlier) k.assign.key));
+}
+line_based earlier (TableLine ws h b) = without (line_unit earlier (TableLine ws h b)) refl (λ e. cc)
+line_based earlier (ArrayTableLine ws h b) = without (line_unit earlier (ArrayTableLine ws h b)) refl (λ e. cc)
+
+in_line_based : (at : Option Address) (e : Expr) → EachIs IsBased (inside_line at e)
+in_line_based at (BlankLine b) = tail_based at b
+in_line_based at (KeyValLine ws k b) = each_append IsBased (value_units at k.value) (tail_units at b) (value_based at k.value) (tail_based at b)
+in_line_based at (TableLine ws h b) = tail_based at b
+in_line_based at (ArrayTableLine ws h b) = tail_based at b
+
+lines_based : (ls : List Line) (earlier : List Named) (n : ℕ) → EachIs IsBased (units_from earlier n ls)
+lines_based [] earlier n = tt
+lines_based (l ∷ ls) earlier n =
+    (line_based earlier l.expr, each_append IsBased (inside_line (own_address earlier l.expr) l.expr) (units_from (earlier ++ named_by earlier n l.expr) (n + 1) ls) (in_line_based (own_address earlier l.expr) l.expr) (lines_based ls (earlier ++ named_by earlier n l.expr) (n + 1)))
+
+pub units_are_based : UnitsAreBased
+units_are_based ls = lines_based ls (root ∷ []) 0

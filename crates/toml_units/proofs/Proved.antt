@@ -1,0 +1,13 @@
+-- The proofs of the laws of src/laws.rt, for the crates above.
+pub use Rattle.toml_units.proofs.Alike.{units_are_alike}
+pub use Rattle.toml_units.proofs.Apart.{units_are_apart}
+pub use Rattle.toml_units.proofs.Bases.{units_are_based}
+pub use Rattle.toml_units.proofs.Certificates.{one_certificate}
+pub use Rattle.toml_units.proofs.Ends.{pair_ends, line_ends}
+pub use Rattle.toml_units.proofs.InLines.{units_nest}
+pub use Rattle.toml_units.proofs.Named.{units_are_named, units_have_addresses}
+pub use Rattle.toml_units.proofs.Places.{units_are_sized, one_block}
+pub use Rattle.toml_units.proofs.Plain.{plain_is_units}
+pub use Rattle.toml_units.proofs.Read.{units_read_the_text}
+pub use Rattle.toml_units.proofs.Twins.{units_are_twins}
+pub use Rattle.toml_units.proofs.UnitLines.{units_are_of_lines}
