@@ -14,8 +14,8 @@ fn part_name(alloc: Global, text: &str) -> Result<Name, AllocError>
     ensures { IfOk result (λ name. name ≡ spelled_name text.now) }
 {
     match name_of(alloc, text)? {
-        Some(name) => Ok(Name::of(name.into_owned(alloc)?)),
-        None => Ok(Name::of(String::new(alloc))),
+        Some(name) => Name::of(name.into_owned(alloc)?),
+        None => Name::of(String::new(alloc)),
     }
 }
 
