@@ -1,0 +1,6 @@
+//! The judge of edited texts: whether a text is what edits make of another, with all that no edit names in it as it was.
+#![tactic(auto)]
+
+mod verdict;
+
+pub use verdict::{Reason, Verdict};
