@@ -23,7 +23,7 @@ and_false : (b : Bool) → (b && false) ≡ false
 and_false true = refl
 and_false false = refl
 
-adds_none : (m : Named) (at : Address) → is_tables m.role ≡ false → adds at m ≡ 0
+pub adds_none : (m : Named) (at : Address) → is_tables m.role ≡ false → adds at m ≡ 0
 adds_none m at plain = cond-false _ _ _ (ap (λ b. same_address m.address at && b) plain ∙ and_false (same_address m.address at))
 
 pub count_plain : (ms : List Named) (m : Named) (at : Address) → is_tables m.role ≡ false → count_tables (ms ++ m ∷ []) at ≡ count_tables ms at

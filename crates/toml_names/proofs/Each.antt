@@ -75,6 +75,12 @@ has_weaker P Q w [] h = absurd h
 has_weaker P Q w (x ∷ xs) (inl p) = inl (w x p)
 has_weaker P Q w (x ∷ xs) (inr h) = inr (has_weaker P Q w xs h)
 
+-- one of them, of which something else holds too
+pub has_each : {A : Type 0} (P Q R : A → Type 0) → ((x : A) → P x → Q x → R x) → (xs : List A) → EachIs P xs → Has Q xs → Has R xs
+has_each P Q R w [] p h = h
+has_each P Q R w (x ∷ xs) p (inl q) = inl (w x p.0 q)
+has_each P Q R w (x ∷ xs) p (inr h) = inr (has_each P Q R w xs p.1 h)
+
 -- what follows from one of them, where something holds of each
 pub from_has : {A : Type 0} (P Q : A → Type 0) (C : Type 0) → ((x : A) → P x → Q x → C) → (xs : List A) → EachIs P xs → Has Q xs → C
 from_has P Q C w [] p h = absurd h
@@ -93,3 +99,11 @@ from_two R P Q C one first last (x ∷ xs) pairs (inr h) (inr k) = from_two R P 
 pub members_self : {A : Type 0} (xs : List A) → EachIs (λ x. Has (λ y. y ≡ x) xs) xs
 members_self [] = tt
 members_self (x ∷ xs) = (inl refl, each_weaker (λ z. Has (λ y. y ≡ z) xs) (λ z. Has (λ y. y ≡ z) (x ∷ xs)) (λ z h. inr h) xs (members_self xs))
+
+-- what follows from one of them
+pub taken : {A : Type 0} (Q : A → Type 0) (C : Type 0) (xs : List A) → ((x : A) → Has (λ y. y ≡ x) xs → Q x → C) → Has Q xs → C
+taken Q C xs w h = from_has (λ x. Has (λ y. y ≡ x) xs) Q C w xs (members_self xs) h
+
+-- what holds of each holds of one of them
+pub of_member : {A : Type 0} (P : A → Type 0) (xs : List A) (x : A) → EachIs P xs → Has (λ y. y ≡ x) xs → P x
+of_member P xs x each there = from_has P (λ y. y ≡ x) (P x) (λ y p is. subst P is p) xs each there

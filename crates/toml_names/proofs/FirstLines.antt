@@ -193,10 +193,10 @@ inside-some (m ∷ ms) at line k some = by (same_address m.address at) some (ins
 
 -- ---- the place by the mark
 
-skip : (o : Option ℕ) (f : ℕ → Place) (rest : Option Place) → o ≡ None → or_else o f rest ≡ rest
+pub skip : (o : Option ℕ) (f : ℕ → Place) (rest : Option Place) → o ≡ None → or_else o f rest ≡ rest
 skip o f rest is = ap (λ x. or_else x f rest) is
 
-stop : (o : Option ℕ) (f : ℕ → Place) (rest : Option Place) (line : ℕ) → o ≡ Some line → or_else o f rest ≡ Some (f line)
+pub stop : (o : Option ℕ) (f : ℕ → Place) (rest : Option Place) (line : ℕ) → o ≡ Some line → or_else o f rest ≡ Some (f line)
 stop o f rest line is = ap (λ x. or_else x f rest) is
 
 pub outside-none : (ms : List Named) (at : Address) → fact_at ms at ≡ None → outside ms at ≡ None

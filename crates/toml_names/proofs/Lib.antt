@@ -100,4 +100,8 @@ pub mod Closed
 pub mod InsideMoves
 pub mod AlikeNames
 pub mod Clear
+pub mod BelowValues
+pub mod PlaceFound
+pub mod Sizes
+pub mod Indices
 pub mod Proved

@@ -2,6 +2,7 @@
 use Rattle.std.proofs.Common.{◌≡◌, ◌⊎◌, inl, inr, ℕ, ◌+◌, ◌<◌, ◌≤◌, ◌==◌, true, false, ◌&&◌, List, [], ◌∷◌, ◌++◌, length, Some, None, refl, sym, ap, ◌∙◌, arith}
 use Rattle.std.proofs.lemmas.Bool.{eq-eqb, ne_eqb}
 use Rattle.std.proofs.lemmas.List.{append_assoc, append-nil}
+use Rattle.toml_tree.specs.Spells.{EachIs}
 use Rattle.toml_tree.specs.Tree.{Value, Scalar, Array, Empty, Inline, Items, Close, Last, More, Pairs, LastPair, MorePairs, Expr, BlankLine, KeyValLine, TableLine, ArrayTableLine, Line}
 use Rattle.toml_names.specs.declared.named.Role.TheVariants.{Valued}
 use Rattle.toml_names.specs.Addresses.{Address, child, element, below}
@@ -27,9 +28,8 @@ passed-append line [] more h g = g
 passed-append line (m ∷ ms) more h g = (h.0, passed-append line ms more h.1 g)
 
 -- what a line names is of that line
-abbrev AreOf : ℕ → List Named → Type 0
-AreOf line [] = Unit {0}
-AreOf line (m ∷ ms) = (m.line ≡ line) × AreOf line ms
+abbrev pub AreOf : ℕ → List Named → Type 0
+AreOf line = EachIs (λ m. m.line ≡ line)
 
 of-append : (line : ℕ) (ms more : List Named) → AreOf line ms → AreOf line more → AreOf line (ms ++ more)
 of-append line [] more h g = g
@@ -64,7 +64,7 @@ followed_of line earlier end ends [] at = tt
 followed_of line earlier end ends (n ∷ []) at = ends (child at n)
 followed_of line earlier end ends (n ∷ m ∷ more) at = (refl, followed_of line earlier end ends (m ∷ more) (entered earlier (child at n)))
 
-by_of : (earlier : List Named) (line : ℕ) (e : Expr) → AreOf line (named_by earlier line e)
+pub by_of : (earlier : List Named) (line : ℕ) (e : Expr) → AreOf line (named_by earlier line e)
 by_of earlier line (BlankLine b) = tt
 by_of earlier line (KeyValLine ws pair tail) = of-append line (fronts line (section earlier) (key_names pair.assign.key)) _ (fronts_of line (key_names pair.assign.key) (section earlier)) (refl, inside_of line pair.value (below (section earlier) (key_names pair.assign.key)))
 by_of earlier line (TableLine ws header tail) = followed_of line earlier (ends_table line) (λ at. (refl, tt)) (key_names header.key) []

@@ -10,7 +10,7 @@ use Rattle.toml_tree.specs.declared.tree.Value.TheViews.{out-Array, out-InlineTa
 use Rattle.toml_tree.specs.Tree as tree
 use Rattle.toml_tree.specs.ReadingValues.{Element, Member, before_end, pairs_of, inline}
 use Rattle.toml_tree.specs.View.{piece, gap, value, element as tree_element, member, array_items, last_ends}
-use Rattle.toml_tree.proofs.Views.{value_array, value_inline}
+use Rattle.toml_tree.proofs.Proved.{value_array, value_inline}
 use Rattle.toml_names.specs.KeyParts.{value_key_parts, item_key_parts, pair_key_parts, keyval_key_parts}
 
 abbrev pub parts_of_elements : List Element → ℕ

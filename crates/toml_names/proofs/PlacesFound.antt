@@ -60,7 +60,7 @@ any_later : (P : Named → Type 0) (m : Named) (ms : List Named) → Any P ms �
 any_later P m ms h = (suc h.0, h.1, omega (arith, h.2), h.3, h.4)
 
 -- the first line that names the address in the role
-is_it : (m : Named) (at : Address) (role : Role) → (same_address m.address at && same_role m.role role) ≡ true → (m.address ≡ at) × (m.role ≡ role)
+pub is_it : (m : Named) (at : Address) (role : Role) → (same_address m.address at && same_role m.role role) ≡ true → (m.address ≡ at) × (m.role ≡ role)
 is_it m at role h = by (same_address m.address at) refl h
   where
     by : (b : Bool) → same_address m.address at ≡ b → (b && same_role m.role role) ≡ true → (m.address ≡ at) × (m.role ≡ role)
@@ -126,7 +126,7 @@ is_no_value m at h a r =
     let both : (is_above m.address at && same_role m.role Valued) ≡ true = rw (above_complete m.address at a, r) refl in
     cc
 
-above_in : (ms : List Named) (at : Address) (line : ℕ) → line_above ms at ≡ Some line → IsInside ms at line
+pub above_in : (ms : List Named) (at : Address) (line : ℕ) → line_above ms at ≡ Some line → IsInside ms at line
 above_in [] at line h = cc
 above_in (m ∷ ms) at line h = by (is_above m.address at && same_role m.role Valued) refl h (above_in ms at line)
   where

@@ -9,6 +9,7 @@ pub use Rattle.toml_names.proofs.Equal.{same_step-equal, same_step-self, same_ad
 pub use Rattle.toml_names.proofs.Filtered.{rules_are_of_mentions}
 pub use Rattle.toml_names.proofs.FirstMentioned.{first_mentions_are_these}
 pub use Rattle.toml_names.proofs.FirstNamed.{values_join}
+pub use Rattle.toml_names.proofs.Indices.{indices_are_low, value_indices_are_low}
 pub use Rattle.toml_names.proofs.InsideMoves.{inside_moves}
 pub use Rattle.toml_names.proofs.Levels.{kind_at-scalar, kind_at-array, kind_at-table, datum_is, has_kind, array-here, array-item, array-name, table-here, table-member, table-index, scalar-below}
 pub use Rattle.toml_names.proofs.LineAddresses.{line_addresses, no_line_address}
@@ -18,6 +19,7 @@ pub use Rattle.toml_names.proofs.OfOneKind.{one_kind, first_is_data, values_stan
 pub use Rattle.toml_names.proofs.OneOrder.{one_list_of_first_mentions}
 pub use Rattle.toml_names.proofs.OneRefusal.{one_refusal}
 pub use Rattle.toml_names.proofs.OwnAddresses.{line_is_named, themselves_differ, own_addresses_differ, own_address_is_named, own_address_has_fact}
+pub use Rattle.toml_names.proofs.PlaceFound.{place_is_found}
 pub use Rattle.toml_names.proofs.PlacesFound.{above_is_above, places_are_found}
 pub use Rattle.toml_names.proofs.PlacesNone.{inside_is_below, no_place}
 pub use Rattle.toml_names.proofs.Refused.{refused_are_bad}

@@ -4,6 +4,7 @@ ghost use Rattle.toml_names.specs.Alike.{AlikeNameTheSame, AlikeStayAlike, Pairs
 ghost use Rattle.toml_names.specs.Clear.{NotNamedIsClear};
 ghost use Rattle.toml_names.specs.DataLaws.{LinesHaveOneKind, LineValuesStandAlone, ValuesHaveOneKind, InnerValuesStandAlone, OneData, LinesAreClosed, ValuesAreClosed};
 ghost use Rattle.toml_names.specs.FirstMentions.{FirstMentionsAreThese, OneListOfFirstMentions};
+ghost use Rattle.toml_names.specs.Indices.{IndicesAreLow, ValueIndicesAreLow};
 ghost use Rattle.toml_names.specs.Inside.{InsideIsBelow, InsideMoves};
 ghost use Rattle.toml_names.specs.Joining.{LinesJoin, ValuesJoin, OneKind, FirstIsData, ValuesStandAlone};
 ghost use Rattle.toml_names.specs.Levels.{ScalarLevel, ArrayLevel, TableLevel, DatumIsOneOfThree, DatumHasRoot, ArrayAtRoot, ArrayAtIndex, ArrayAtName, IndexIsWithin, TableAtRoot, TableAtName, TableAtIndex, NameHasMember, NothingBelowScalar};
@@ -11,7 +12,7 @@ ghost use Rattle.toml_names.specs.Local.{LastRoleDecides};
 ghost use Rattle.toml_names.specs.Names.{RefusedAreBad, OneRefusal, LineAddresses, NoLineAddress};
 ghost use Rattle.toml_names.specs.OwnAddresses.{LineIsNamed, ThemselvesDiffer, OwnAddressesDiffer, OwnAddressIsNamed, OwnAddressHasFact};
 ghost use Rattle.toml_names.specs.Parts.{DatumHasPart, StepIsThere, PartIsThere};
-ghost use Rattle.toml_names.specs.Places.{PlacesAreFound, NoPlace};
+ghost use Rattle.toml_names.specs.Places.{PlacesAreFound, NoPlace, PlaceIsFound};
 ghost use Rattle.toml_names.specs.Rules.{NoMisfit, MisfitIsFirst, RulesAreOfMentions};
 ghost use Rattle.toml_names.specs.SameData.{SameScalars, SameArrays, SameTables};
 
@@ -69,15 +70,24 @@ pub fn alike_lists()
     ensures pairs { PairsLeaveAlike }
 {}
 
+/// Each index in what the lines of a document name is below the length of its text, and each in what a value alone
+/// names below the length of the value's.
+pub fn indices()
+    ensures lines { IndicesAreLow }
+    ensures values { ValueIndicesAreLow }
+{}
+
 /// Under the rules, where an address is not named, nothing is named at it or below it.
 pub fn clear()
     ensures { NotNamedIsClear }
 {}
 
-/// Where a thing stands is read off the mentions of its address; what has no place is not named.
+/// Where a thing stands is read off the mentions of its address; what has no place is not named. Under the rules each
+/// thing has one place.
 pub fn places()
     ensures found { PlacesAreFound }
     ensures none { NoPlace }
+    ensures one { PlaceIsFound }
 {}
 
 /// Under the rules what lines or a value name at one address is of one kind, and values stand alone.

@@ -8,7 +8,7 @@ use Rattle.toml_tree.specs.Tree.{Expr, Line, Doc}
 use Rattle.toml_names.specs.Addresses.{Address}
 use Rattle.toml_names.specs.Mentions.{Named, root, named, named_by, named_from}
 use Rattle.toml_names.specs.Names.{own_address, line_address}
-use Rattle.toml_names.proofs.LineAddresses.{line_addresses}
+use Rattle.toml_names.proofs.Proved.{line_addresses}
 use Rattle.toml_units.specs.Plain.{Spanned, spanned, line_spans, plain_from, plain_units}
 use Rattle.toml_units.specs.Units.{units}
 use Rattle.toml_units.proofs.Plain.{plain_is_units}

@@ -4,7 +4,6 @@ pub mod Below
 pub mod Full
 pub mod InValues
 pub mod InLines
-pub mod Moved
 pub mod MovedUnits
 pub mod Under
 pub mod Alike

@@ -3,6 +3,9 @@ use Rattle.std.proofs.Common.{◌≡◌, ℕ, ◌+◌, ◌-◌, ◌≤◌, List,
 use Rattle.std.proofs.lemmas.List.{length-map}
 use Rattle.toml_tree.specs.Spells.{Part, symbol, piece, Placed, joined, blank_parts, gap_parts, assign_parts, value_parts, items_parts, pairs_parts, keyval_parts, expr_parts, line_parts, lines_parts, IsAssign, IsValue, AreItems, ArePairs, depth, items_depth, pairs_depth, max_depth, IsExpr, AreLines}
 use Rattle.toml_tree.specs.Tree.{Value, Scalar, Array, Empty, Inline, Items, Close, Last, More, Pairs, LastPair, MorePairs, KeyVal, Expr, BlankLine, KeyValLine, TableLine, ArrayTableLine, Line}
+use Rattle.toml_tree.specs.Pieces.{expr_start}
+use Rattle.toml_tree.specs.Parts.{size}
+use Rattle.toml_tree.proofs.Proved.{placed_front, placed_back}
 use Rattle.toml_names.specs.declared.address.Step.TheVariants.{Name}
 use Rattle.toml_names.specs.Addresses.{Address, element, below}
 use Rattle.toml_names.specs.Keys.{key_names}
@@ -10,10 +13,9 @@ use Rattle.toml_names.specs.Mentions.{Named, root, section, named_by}
 use Rattle.toml_names.specs.Names.{own_address}
 use Rattle.toml_units.specs.declared.unit.UnitKind.TheVariants as kinds
 use Rattle.toml_units.specs.Plain.{spanned, pair_span, plain_inside, plain_elements, plain_members, plain_value, plain_line, own_base, line_spans, plain_from, PlainIsUnits}
-use Rattle.toml_units.specs.Units.{gap_units, element_unit, pair_unit, pair_address, inside, elements, members, value_units, tail_units, inside_line, expr_start, line_base, line_units, units_from}
+use Rattle.toml_units.specs.Units.{gap_units, element_unit, pair_unit, pair_address, inside, elements, members, value_units, tail_units, inside_line, line_base, line_units, units_from}
 use Rattle.toml_units.proofs.Ends.{pair_ends, line_ends}
 use Rattle.toml_units.proofs.MovedUnits.{both_images}
-use Rattle.toml_units.proofs.Sizes.{size, placed_front, placed_back}
 
 pair_plain : (k : KeyVal) (at : Address) (n : ℕ) → IsAssign k.assign → IsValue k.value → depth k.value ≤ max_depth → Placed n (keyval_parts k) → pair_span at k ≡ spanned (pair_unit at k)
 pair_plain k at n assign form deep placed =

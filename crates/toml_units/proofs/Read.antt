@@ -3,6 +3,7 @@ use Rattle.std.proofs.Common.{ℕ, ◌+◌, List, [], ◌∷◌, ◌++◌, lengt
 use Rattle.std.proofs.lemmas.List.{append-nil}
 use Rattle.toml_tree.specs.Spells.{Part, symbol, piece, begin, EachIs, joined, all_parts, comment_parts, blank_parts, gap_line_parts, gap_parts, header_parts, array_header_parts, assign_parts, value_parts, items_parts, pairs_parts, keyval_parts, expr_parts, line_parts, lines_parts, IsValue, AreItems, ArePairs, IsExpr, AreLines, mark_of}
 use Rattle.toml_tree.specs.Tree.{Piece, Blank, GapLine, Gap, Value, Scalar, Array, Empty, Inline, Items, Close, Last, More, Pairs, LastPair, MorePairs, KeyVal, Expr, BlankLine, KeyValLine, TableLine, ArrayTableLine, Line}
+use Rattle.toml_tree.proofs.Proved.{value_start}
 use Rattle.toml_names.specs.Addresses.{Address, element}
 use Rattle.toml_names.specs.Mentions.{Named, root, named_by}
 use Rattle.toml_names.specs.Names.{own_address}
@@ -12,7 +13,7 @@ use Rattle.toml_units.specs.Texts.{ReadsIn, UnitsReadTheText}
 use Rattle.toml_units.specs.Units.{comment_units, gap_line_units, gap_units, element_unit, pair_unit, pair_address, inside, elements, members, value_units, tail_units, inside_line, line_unit, line_units, units_from}
 use Rattle.toml_units.proofs.Each.{each_append}
 use Rattle.toml_units.proofs.InLines.{start_of}
-use Rattle.toml_units.proofs.Sizes.{value_text, value_start}
+use Rattle.toml_units.proofs.Sizes.{value_text}
 use Rattle.toml_units.proofs.Standing.{StandIn, stand_front, stand_back, stand_behind, reads, mark_ahead}
 
 module _ (text : List ℕ) where

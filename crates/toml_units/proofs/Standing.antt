@@ -2,11 +2,11 @@
 use Rattle.std.proofs.Common.{◌≡◌, ℕ, ◌+◌, ◌-◌, ◌==◌, ◌&&◌, Bool, true, false, List, [], ◌∷◌, ◌++◌, length, take, drop, refl, sym, ap, ◌∙◌, arith, append_assoc, length-append}
 use Rattle.std.proofs.Math.Seq.{drop-append_seam, take-append_seam}
 use Rattle.toml_tree.specs.Spells.{Part, part_text, joined, Placed, mark_of}
-use Rattle.toml_tree.proofs.Texts.{joined_append}
+use Rattle.toml_tree.specs.Parts.{size}
+use Rattle.toml_tree.proofs.Proved.{placed_front, placed_back, parts_join}
 use Rattle.toml_units.specs.Blocks.{end}
 use Rattle.toml_units.specs.Texts.{ReadsIn}
 use Rattle.toml_units.specs.Units.{TextUnit}
-use Rattle.toml_units.proofs.Sizes.{size, placed_front, placed_back}
 
 -- the parts, joined, are what the text has from the place on
 pub record StandIn (text : List ℕ) (n : ℕ) (ps : List Part) : Type 0 where
@@ -23,7 +23,7 @@ module _ (text : List ℕ) where
     front = h.front;
     back = joined qs ++ h.back;
     long = h.long;
-    is = h.is ∙ ap (λ l. h.front ++ l) (ap (λ l. l ++ h.back) (joined_append ps qs) ∙ append_assoc (joined ps) (joined qs) h.back);
+    is = h.is ∙ ap (λ l. h.front ++ l) (ap (λ l. l ++ h.back) (parts_join ps qs) ∙ append_assoc (joined ps) (joined qs) h.back);
   }
 
   pub stand_back : (ps qs : List Part) (n : ℕ) → StandIn text n (ps ++ qs) → StandIn text (n + size ps) qs
@@ -32,7 +32,7 @@ module _ (text : List ℕ) where
     front = h.front ++ joined ps;
     back = h.back;
     long = omega (arith, length-append h.front (joined ps), h.long);
-    is = h.is ∙ ap (λ l. h.front ++ l) (ap (λ l. l ++ h.back) (joined_append ps qs) ∙ append_assoc (joined ps) (joined qs) h.back) ∙ sym (append_assoc h.front (joined ps) (joined qs ++ h.back));
+    is = h.is ∙ ap (λ l. h.front ++ l) (ap (λ l. l ++ h.back) (parts_join ps qs) ∙ append_assoc (joined ps) (joined qs) h.back) ∙ sym (append_assoc h.front (joined ps) (joined qs ++ h.back));
   }
 
   pub stand_behind : (p : Part) (ps : List Part) (n : ℕ) → StandIn text n (p ∷ ps) → StandIn text (n + length (part_text p)) ps

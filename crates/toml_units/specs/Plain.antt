@@ -3,6 +3,7 @@ use Rattle.std.specs.Prelude.{◌≡◌, ◌+◌, ◌-◌, ℕ, List, [], ◌∷
 use Rattle.toml_tree.specs.Spells.{Spells}
 use Rattle.toml_tree.specs.Tree.{Value, Scalar, Array, Empty, Inline, Items, Close, Last, More, Pairs, LastPair, MorePairs, KeyVal, Expr, BlankLine, KeyValLine, TableLine, ArrayTableLine, Line, Doc}
 use Rattle.toml_tree.specs.ReadingValues.{Element as ArrayElement}
+use Rattle.toml_tree.specs.Pieces.{piece_of, expr_start}
 use Rattle.toml_names.specs.Addresses.{Address, element}
 use Rattle.toml_names.specs.Keys.{key_names}
 use Rattle.toml_names.specs.Mentions.{Named, root, named_by}
@@ -11,7 +12,7 @@ use Rattle.toml_units.specs.declared.unit.UnitKind.{UnitKind}
 use Rattle.toml_units.specs.declared.unit.UnitKind.TheVariants as kinds
 use Rattle.toml_units.specs.Blocks.{end}
 use Rattle.toml_units.specs.Ends.{piece_end, expr_end}
-use Rattle.toml_units.specs.Units.{TextUnit, gap_units, value_piece, element_unit, pair_address, tail_units, expr_start, units}
+use Rattle.toml_units.specs.Units.{TextUnit, gap_units, element_unit, pair_address, tail_units, units}
 
 -- A unit by its span, from its first byte to the place behind its last one; its text is what stands there.
 pub record Spanned : Type 0 where
@@ -26,7 +27,7 @@ spanned u = record { kind = u.kind; start = u.piece.start; stop = end u; address
 
 -- a pair goes as far as its value
 abbrev pub pair_span : Address → KeyVal → Spanned
-pair_span at k = record { kind = kinds.Pair; start = k.assign.key.first.start; stop = piece_end (value_piece k.value); address = Some (pair_address at k.assign); base = Some (length at) }
+pair_span at k = record { kind = kinds.Pair; start = k.assign.key.first.start; stop = piece_end (piece_of k.value); address = Some (pair_address at k.assign); base = Some (length at) }
 
 abbrev mutual
   pub plain_inside : Address → Value → List Spanned

@@ -6,7 +6,8 @@ ghost use Rattle.toml_names.specs.Keys.{key_names};
 ghost use Rattle.toml_names.specs.Mentions.{named};
 ghost use Rattle.toml_units.specs.Ends.{blank_end, expr_end};
 ghost use Rattle.toml_units.specs.Plain.{spanned, own_base, line_spans, plain_units};
-ghost use Rattle.toml_units.specs.Units.{expr_start, units as units_of};
+ghost use Rattle.toml_tree.specs.Pieces.{expr_start};
+ghost use Rattle.toml_units.specs.Units.{units as units_of};
 ghost use Rattle.toml_units.specs.View.{all_units};
 
 use crate::unit::{Unit, UnitKind};

@@ -2,7 +2,8 @@
 ghost use Rattle.std.specs.Prelude.{◌≡◌, [], ◌∷◌, ◌++◌, length, map, option_map, OnOk, IfOk};
 ghost use Rattle.toml_tree.specs.View.{piece, gap, gap_line, value, element as tree_element, keyval as tree_keyval};
 ghost use Rattle.toml_units.specs.Plain.{spanned, plain_inside, element_units, pair_units};
-ghost use Rattle.toml_units.specs.Units.{comment_units, gap_units, gap_line_units, value_piece};
+ghost use Rattle.toml_tree.specs.Pieces.{piece_of};
+ghost use Rattle.toml_units.specs.Units.{comment_units, gap_units, gap_line_units};
 ghost use Rattle.toml_units.specs.View.{unit, all_units};
 
 use crate::key::key_address;
@@ -61,7 +62,7 @@ fn push_gap(alloc: Global, units: &mut Vec<Unit>, at: &Address, g: &Gap) -> Resu
 
 /// The piece that a value is spelled by.
 fn whole<'t>(v: &Value<'t>) -> Piece<'t>
-    ensures { piece result ≡ value_piece (value v.now) }
+    ensures { piece result ≡ piece_of (value v.now) }
 {
     match v {
         Value::Scalar(_, token) => *token,

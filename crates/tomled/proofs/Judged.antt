@@ -14,7 +14,7 @@ use Rattle.toml_scalar.specs.declared.fault.SyntaxFault.TheVariants as faults
 use Rattle.toml_tree.specs.Document as trees
 use Rattle.toml_tree.specs.Spells.{Spells, SpelledByNone}
 use Rattle.toml_tree.specs.Tree.{Doc}
-use Rattle.toml_tree.proofs.Exact.{one_tree}
+use Rattle.toml_tree.proofs.Proved.{one_tree}
 use Rattle.tomled.specs.Outcomes.{Refuses, Tells}
 use Rattle.tomled.specs.Reading.{IsTextRefusal, IsSyntaxRefusal, RefusesLines, code_of}
 use Rattle.toml_names.specs.Documents.{IsDocument}

@@ -11,7 +11,7 @@ use Rattle.std.specs.Ordering.{ordering_reverse}
 use Rattle.serde_json.specs.Data.{Data, null, boolean, number, string, array, object, Items, no_items, item, Members, no_members, member}
 use Rattle.serde_json.specs.Written.{compact_text}
 use Rattle.toml_tree.specs.Tree.{Doc}
-use Rattle.toml_tree.proofs.Exact.{one_tree}
+use Rattle.toml_tree.proofs.Proved.{one_tree}
 use Rattle.toml_names.specs.declared.address.Step.TheVariants.{Name, Index}
 use Rattle.toml_names.specs.Data.{Kinds, IsDataOf}
 use Rattle.toml_names.specs.FirstMentions.{first_mentions}

@@ -1,3 +1,4 @@
+use Rattle.toml_names.proofs.PlaceFound.{place_is_found}
 use Rattle.toml_names.proofs.PlacesFound.{places_are_found}
 use Rattle.toml_names.proofs.PlacesNone.{no_place}
 use Rattle.toml_names.proofs.laws.places.Goals as goal
@@ -7,3 +8,6 @@ returns-clause-found c = places_are_found
 
 pub returns-clause-none : goal.returns-clause-none
 returns-clause-none c = no_place
+
+pub returns-clause-one : goal.returns-clause-one
+returns-clause-one c = place_is_found

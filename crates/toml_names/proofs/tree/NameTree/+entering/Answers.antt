@@ -4,7 +4,7 @@ use Rattle.std.specs.Prelude.{is_some}
 use Rattle.toml_tree.specs.declared.tree.Value.TheViews.{out-Array, out-InlineTable}
 use Rattle.toml_tree.specs.View.{piece, key, value}
 use Rattle.toml_tree.specs.Tree.{KeyVal}
-use Rattle.toml_tree.proofs.Views.{keyval_is}
+use Rattle.toml_tree.proofs.Proved.{keyval_is}
 use Rattle.toml_names.specs.Keys.{part_name, key_names}
 use Rattle.toml_names.specs.Addresses.{below}
 use Rattle.toml_names.specs.Mentions.{fronts, value_named, inside, pair_named}

@@ -2,7 +2,7 @@ use Rattle.std.proofs.Common.{◌∷◌, ◌<◌, length, sym, subst, arith}
 use Rattle.std.proofs.lemmas.Result.{err_from_is_err_and}
 use Rattle.toml_tree.specs.View.{piece, key, value, assign}
 use Rattle.toml_tree.specs.Tree.{KeyVal}
-use Rattle.toml_tree.proofs.Views.{keyval_is}
+use Rattle.toml_tree.proofs.Proved.{keyval_is}
 use Rattle.toml_names.specs.declared.named.Role.TheVariants.{Valued}
 use Rattle.toml_names.specs.Addresses.{below}
 use Rattle.toml_names.specs.Keys.{part_name, key_names}
