@@ -9,3 +9,7 @@ pub mod Comments
 pub mod Frame
 pub mod Documents
 pub mod Demands
+pub mod Laws
+-- words of the code's own contracts
+pub mod Sides
+pub mod Plain

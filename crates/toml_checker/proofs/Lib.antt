@@ -1,0 +1,13 @@
+pub mod Each
+pub mod Parted
+pub mod Sent
+pub mod LowUnits
+pub mod InBlocks
+pub mod Within
+pub mod ProtectedUnits
+pub mod Sides
+pub mod Leaving
+pub mod Flags
+pub mod Walked
+pub mod Verdicts
+pub mod Proved
