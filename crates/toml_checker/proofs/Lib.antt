@@ -9,5 +9,6 @@ pub mod Sides
 pub mod Leaving
 pub mod Flags
 pub mod Walked
+pub mod Examples
 pub mod Verdicts
 pub mod Proved
