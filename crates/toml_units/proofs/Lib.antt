@@ -26,4 +26,5 @@ pub mod Bases
 pub mod Standing
 pub mod Read
 pub mod Holders
+pub mod Tails
 pub mod Proved
