@@ -10,3 +10,6 @@ mod verdict;
 
 pub use protection::protected;
 pub use verdict::{Reason, Verdict};
+
+#[cfg(test)]
+mod tests;
