@@ -10,5 +10,9 @@ pub mod Leaving
 pub mod Flags
 pub mod Walked
 pub mod Examples
+pub mod Partners
+pub mod Between
+pub mod Headline
+pub mod Stands
 pub mod Verdicts
 pub mod Proved

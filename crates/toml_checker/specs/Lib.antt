@@ -10,6 +10,7 @@ pub mod Frame
 pub mod Documents
 pub mod Demands
 pub mod Laws
+pub mod Headline
 -- words of the code's own contracts
 pub mod Sides
 pub mod Plain

@@ -1,4 +1,5 @@
 //! Laws over the definitions: nothing is run.
+ghost use Rattle.toml_checker.specs.Headline.{CertifiedStand};
 ghost use Rattle.toml_checker.specs.Laws.{UnitsAreLow, InnerAreProtected, ProtectedAreCarried, CertifiedIsAllDemands, OneVerdict};
 ghost use Rattle.toml_checker.specs.Plain.{FlagsTell};
 ghost use Rattle.toml_checker.specs.Sides.{SidesAreRight};
@@ -24,4 +25,9 @@ pub fn verdicts()
 pub fn plain()
     ensures sides { SidesAreRight }
     ensures flags { FlagsTell }
+{}
+
+/// Of what is certified, all that no edit names stands in the new text: each protected unit has a partner of its own.
+pub fn headline()
+    ensures { CertifiedStand }
 {}
