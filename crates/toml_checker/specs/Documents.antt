@@ -1,0 +1,21 @@
+-- What holds of the one tree of a text, and of its data.
+use Rattle.std.specs.Prelude.{ℕ, List}
+use Rattle.toml_tree.specs.Spells.{Spells}
+use Rattle.toml_tree.specs.Tree.{Doc}
+use Rattle.toml_names.specs.declared.datum.Datum.{Datum}
+use Rattle.toml_names.specs.Data.{kind_at, IsDataOf}
+use Rattle.toml_names.specs.Mentions.{named}
+use Rattle.toml_edits.specs.Edits.{Change}
+use Rattle.toml_edits.specs.Lists.{Lead}
+
+-- a tree spells the text, and so it is of it
+abbrev pub OfTree : List ℕ → (Doc → Type 0) → Type 0
+OfTree text P = (d : Doc) × Spells d text × P d
+
+-- there are data of the text, and so it is of them
+abbrev pub OfData : List ℕ → (Datum → Type 0) → Type 0
+OfData text P = (d : Doc) × Spells d text × (data_of : Datum) × IsDataOf (named d.lines) (kind_at data_of) × P data_of
+
+-- each edit in turn is defined on the data so far
+abbrev pub AreDefined : List Change → Datum → Type 0
+AreDefined cs old = (new : Datum) × Lead cs old new
