@@ -9,3 +9,6 @@ pub mod Comments
 pub mod Frame
 pub mod Documents
 pub mod Demands
+pub mod Reading
+pub mod After
+pub mod Walking

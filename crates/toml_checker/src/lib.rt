@@ -1,6 +1,15 @@
 //! The judge of edited texts: whether a text is what edits make of another, with all that no edit names in it as it was.
 #![tactic(auto)]
 
+mod arriving;
+mod documents;
+mod facts;
+mod frame;
+mod pairs;
 mod verdict;
 
+pub use documents::{Document, Rest, read_rest, read_tree};
+pub use facts::data_after;
+pub use frame::keeps_frame;
+pub use pairs::pairs_fit;
 pub use verdict::{Reason, Verdict};
