@@ -6,3 +6,17 @@ pub mod Counted
 pub mod Seen
 pub mod Standing
 pub mod Resting
+pub mod Each
+pub mod Parted
+pub mod Sent
+pub mod LowUnits
+pub mod InBlocks
+pub mod Within
+pub mod ProtectedUnits
+pub mod Sides
+pub mod Leaving
+pub mod Flags
+pub mod Walked
+pub mod Examples
+pub mod Verdicts
+pub mod Proved

@@ -12,3 +12,7 @@ pub mod Demands
 pub mod Reading
 pub mod After
 pub mod Walking
+pub mod Laws
+-- words of the code's own contracts
+pub mod Sides
+pub mod Plain

@@ -5,11 +5,17 @@ mod arriving;
 mod documents;
 mod facts;
 mod frame;
+pub mod laws;
+mod moving;
 mod pairs;
+mod protection;
+mod side;
+mod tables;
 mod verdict;
 
 pub use documents::{Document, Rest, read_rest, read_tree};
 pub use facts::data_after;
 pub use frame::keeps_frame;
 pub use pairs::pairs_fit;
+pub use protection::protected;
 pub use verdict::{Reason, Verdict};

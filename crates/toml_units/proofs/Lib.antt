@@ -25,4 +25,5 @@ pub mod Twins
 pub mod Bases
 pub mod Standing
 pub mod Read
+pub mod Holders
 pub mod Proved

@@ -4,6 +4,7 @@ pub use Rattle.toml_units.proofs.Apart.{units_are_apart}
 pub use Rattle.toml_units.proofs.Bases.{units_are_based}
 pub use Rattle.toml_units.proofs.Certificates.{one_certificate}
 pub use Rattle.toml_units.proofs.Ends.{pair_ends, line_ends}
+pub use Rattle.toml_units.proofs.Holders.{holders_are_no_comments}
 pub use Rattle.toml_units.proofs.InLines.{units_nest}
 pub use Rattle.toml_units.proofs.Named.{units_are_named, units_have_addresses}
 pub use Rattle.toml_units.proofs.Places.{units_are_sized, one_block}

@@ -1,0 +1,7 @@
+use Rattle.std.proofs.Common.{◌≡◌, ◌++◌, map, drop}
+use Rattle.toml_edits.specs.Edits.{change}
+use Rattle.toml_checker.specs.Plain.{made_site, line_site, flags_from, flags}
+use Rattle.toml_checker.proofs.protection.protected.Given as goal
+
+abbrev pub invariant-loop-unit : goal.invariant-loop-unit
+invariant-loop-unit l = l.flags.items ++ flags_from (map change l.edits) (line_site l.line) (map made_site (drop l.unit-index l.units)) ≡ flags (map change l.edits) (map made_site l.units)

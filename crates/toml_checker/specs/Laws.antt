@@ -1,0 +1,41 @@
+-- Laws of what is protected, and of the demands.
+use Rattle.std.specs.Prelude.{◌≡◌, ◌↔◌, ◌<◌, ◌^◌, ◌++◌, ℕ, List, length, Option, Some, None, IfSome, option_map}
+use Rattle.toml_tree.specs.Spells.{EachIs}
+use Rattle.toml_names.specs.Addresses.{Address}
+use Rattle.toml_names.specs.Documents.{IsDocument}
+use Rattle.toml_names.specs.Indices.{IsLow}
+use Rattle.toml_edits.specs.Edits.{Change}
+use Rattle.toml_edits.specs.Lists.{carried}
+use Rattle.toml_units.specs.Places.{LiesInside}
+use Rattle.toml_units.specs.Units.{TextUnit, units}
+use Rattle.toml_checker.specs.declared.verdict.Reason.{Reason}
+use Rattle.toml_checker.specs.declared.verdict.Verdict.{Verdict}
+use Rattle.toml_checker.specs.Demands.{Demand, Certified, IsVerdict}
+use Rattle.toml_checker.specs.Protected.{IsProtected}
+
+-- Each index in the address of a unit of a document is far below the numbers that an index may be.
+abbrev pub UnitsAreLow : Type 0
+UnitsAreLow = (text : List ℕ) (doc : IsDocument text) → EachIs (λ (u : TextUnit). IfSome u.address (IsLow (2 ^ 63))) (units doc.1.lines)
+
+-- the second address goes with the first one, wherever that is carried
+abbrev pub GoesWith : List Change → Option Address → Option Address → Type 0
+GoesWith cs None w = w ≡ None
+GoesWith cs (Some a) w = (rest : Address) × (w ≡ Some (a ++ rest)) × (carried cs (a ++ rest) ≡ option_map (λ b. b ++ rest) (carried cs a))
+
+-- What lies in a protected unit is protected, and is carried along with it.
+abbrev pub InnerAreProtected : Type 0
+InnerAreProtected = (text : List ℕ) (doc : IsDocument text) (cs : List Change) → length cs < 2 ^ 63 → (i j : ℕ) (l : LiesInside (units doc.1.lines) i j)
+    → IsProtected cs (units doc.1.lines) i → IsProtected cs (units doc.1.lines) j × GoesWith cs l.outer.address l.inner.address
+
+-- The address of a protected unit, where it has one, is carried to an address.
+abbrev pub ProtectedAreCarried : Type 0
+ProtectedAreCarried = (text : List ℕ) (doc : IsDocument text) (cs : List Change) → length cs < 2 ^ 63 → (i : ℕ) (p : IsProtected cs (units doc.1.lines) i)
+    → IfSome p.0.address (λ a. (b : Address) × (carried cs a ≡ Some b))
+
+-- A text is certified exactly where all demands hold.
+abbrev pub CertifiedIsAllDemands : Type 0
+CertifiedIsAllDemands = (before after : List ℕ) (cs : List Change) (ps : List (ℕ × ℕ)) → Certified before cs after ps ↔ ((r : Reason) → Demand r before cs after ps)
+
+-- There is one verdict.
+abbrev pub OneVerdict : Type 0
+OneVerdict = (before after : List ℕ) (cs : List Change) (ps : List (ℕ × ℕ)) (v w : Verdict) → IsVerdict before cs after ps v → IsVerdict before cs after ps w → v ≡ w

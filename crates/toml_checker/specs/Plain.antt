@@ -1,0 +1,157 @@
+-- The plain function of what is protected: which edits name a unit, read off where their places lie.
+use Rattle.std.specs.Prelude.{◌≡◌, ◌↔◌, ◌&&◌, ◌||◌, not, ℕ, Bool, true, false, List, [], ◌∷◌, length, map, option_map, Option, Some, None, slice_get, if◌then◌else◌}
+use Rattle.std.specs.Bool.{nat_lt}
+use Rattle.std.specs.Borrow.{Bor}
+use Rattle.toml_names.specs.declared.address.Step.{Step}
+use Rattle.toml_names.specs.declared.address.Step.TheVariants.{Name, Index}
+use Rattle.toml_names.specs.Addresses.{Address}
+use Rattle.toml_edits.specs.Carry.{carry}
+use Rattle.toml_edits.specs.Edits.{Change, set, rename, remove, place}
+use Rattle.toml_units.specs.declared.unit.Unit.{Unit as Made}
+use Rattle.toml_units.specs.declared.unit.UnitKind.{UnitKind}
+use Rattle.toml_units.specs.declared.unit.UnitKind.TheVariants as kinds
+use Rattle.toml_units.specs.Places.{is_line}
+use Rattle.toml_units.specs.Units.{TextUnit}
+use Rattle.toml_checker.specs.declared.moving.Moved.{Moved}
+use Rattle.toml_checker.specs.declared.moving.Moved.TheVariants as moves
+use Rattle.toml_checker.specs.declared.side.Side.{Side}
+use Rattle.toml_checker.specs.declared.side.Side.TheVariants.{Apart, Above, At, Below}
+use Rattle.toml_checker.specs.declared.tables.Part.{Part}
+use Rattle.toml_checker.specs.declared.tables.Part.TheVariants as parts
+use Rattle.toml_checker.specs.Protected.{IsProtected}
+use Rattle.toml_checker.specs.Sides.{side}
+
+abbrev pub is_at_or_above : Side → Bool
+is_at_or_above Apart = false
+is_at_or_above Above = true
+is_at_or_above At = true
+is_at_or_above Below = false
+
+abbrev pub is_above : Side → Bool
+is_above Above = true
+is_above _ = false
+
+abbrev pub is_at : Side → Bool
+is_at At = true
+is_at _ = false
+
+abbrev pub is_below : Side → Bool
+is_below Below = true
+is_below _ = false
+
+abbrev pub removes : Change → Side → Bool
+removes (remove at) s = is_at_or_above s
+removes _ s = false
+
+abbrev pub sets : Change → Side → Bool
+sets (set at value) s = is_at_or_above s
+sets _ s = false
+
+abbrev pub sets_above : Change → Side → Bool
+sets_above (set at value) s = is_above s
+sets_above _ s = false
+
+abbrev pub sets_it : Change → Side → Bool
+sets_it (set at value) s = is_at s
+sets_it _ s = false
+
+abbrev pub renames : Change → Side → Bool
+renames (rename at to) s = is_at_or_above s
+renames _ s = false
+
+abbrev pub renames_in : Change → ℕ → Side → Bool
+renames_in (rename at to) steps s = is_at_or_above s && nat_lt steps (length at)
+renames_in _ steps s = false
+
+abbrev pub part_is_gone : Change → Side → Bool
+part_is_gone c s = removes c s || sets c s
+
+abbrev pub line_is_gone : Change → Option ℕ → Side → Bool
+line_is_gone c None s = part_is_gone c s
+line_is_gone c (Some steps) s = removes c s || sets_above c s
+
+abbrev pub line_is_changed : Change → Option ℕ → Side → Bool
+line_is_changed c None s = renames c s
+line_is_changed c (Some steps) s = sets_it c s || (is_below s || renames_in c steps s)
+
+-- the edit, whose place lies so, names what is asked for
+abbrev pub is_named : Part → Change → Option ℕ → Side → Bool
+is_named parts.Line c base s = line_is_gone c base s || line_is_changed c base s
+is_named parts.Home c base s = line_is_gone c base s
+is_named parts.Element c base s = part_is_gone c s || is_below s
+is_named parts.Comment c base s = part_is_gone c s
+
+-- no element from the index on, of the array at the address, is at the second address or above it
+abbrev pub step_is_before : ℕ → Option Step → Bool
+step_is_before i (Some (Index j)) = nat_lt j i
+step_is_before i (Some (Name n)) = true
+step_is_before i None = true
+
+abbrev pub is_before : Address → ℕ → Address → Bool
+is_before p i a = not (is_above (side p a)) || step_is_before i (slice_get a (length p))
+
+abbrev pub is_elsewhere : Address → Address → Bool
+is_elsewhere p a = not (is_at_or_above (side p a))
+
+-- where a thing stands that stood at the address
+abbrev pub outcome : Moved → Address → Option Address
+outcome moves.Stays a = Some a
+outcome (moves.To b) a = Some b
+outcome moves.Nowhere a = None
+
+abbrev pub here : Option Address → Address → Address
+here None a = a
+here (Some b) a = b
+
+-- no edit names it, each where those before it have carried it
+abbrev pub stands : Part → List Change → Option Address → Option ℕ → Bool
+stands part [] o base = true
+stands part (c ∷ cs) None base = true
+stands part (c ∷ cs) (Some a) base = not (is_named part c base (side (place c) a)) && stands part cs (carry c a) base
+
+-- what of a unit decides whether it is protected
+pub record Site : Type 0 where
+  pub kind : UnitKind
+  pub address : Option Address
+  pub base : Option ℕ
+
+abbrev pub site : TextUnit → Site
+site u = record { kind = u.kind; address = u.address; base = u.base }
+
+abbrev pub made_site : Made → Site
+made_site u = record { kind = u.kind; address = u.address; base = u.base }
+
+abbrev pub line_site : Option (Bor Made) → Option Site
+line_site = option_map (λ (u : Bor Made). made_site u.now)
+
+-- the line of a comment stays
+abbrev pub home_stands : List Change → Option Site → Bool
+home_stands cs None = true
+home_stands cs (Some l) = stands parts.Home cs l.address l.base
+
+abbrev pub is_kept : UnitKind → List Change → Option Site → Site → Bool
+is_kept kinds.Line cs line s = stands parts.Line cs s.address s.base
+is_kept kinds.Pair cs line s = stands parts.Line cs s.address s.base
+is_kept kinds.Element cs line s = stands parts.Element cs s.address s.base
+is_kept kinds.TailComment cs line s = home_stands cs line
+is_kept kinds.InnerComment cs line s = home_stands cs line && stands parts.Comment cs s.address s.base
+
+-- the unit where it is a line, else the line so far
+abbrev pub next_line : Option Site → Site → Option Site
+next_line line s = if is_line s.kind then Some s else line
+
+-- for each unit, behind such a line, whether it is protected
+abbrev pub flags_from : List Change → Option Site → List Site → List Bool
+flags_from cs line [] = []
+flags_from cs line (s ∷ ss) = is_kept s.kind cs (next_line line s) s ∷ flags_from cs (next_line line s) ss
+
+abbrev pub flags : List Change → List Site → List Bool
+flags cs = flags_from cs None
+
+-- the flags tell of each unit whether it is protected
+abbrev pub TellProtected : List Change → List TextUnit → List Bool → Type 0
+TellProtected cs us fs = (length fs ≡ length us) × ((i : ℕ) → (slice_get fs i ≡ Some true) ↔ IsProtected cs us i)
+
+-- Law: those of the plain function do.
+abbrev pub FlagsTell : Type 0
+FlagsTell = (cs : List Change) (us : List TextUnit) → TellProtected cs us (flags cs (map site us))

@@ -1,0 +1,127 @@
+//! Which units no edit of a list takes away or changes.
+ghost use Rattle.std.specs.Prelude.{◌≡◌, List, map, Some, IfOk};
+ghost use Rattle.toml_edits.specs.Edits.{change};
+ghost use Rattle.toml_units.specs.Plain.{spanned};
+ghost use Rattle.toml_units.specs.Units.{TextUnit};
+ghost use Rattle.toml_units.specs.View.{all_units};
+ghost use Rattle.toml_checker.specs.Plain.{here, stands, home_stands, made_site, line_site, next_line, is_kept, TellProtected};
+
+use crate::moving::{Moved, moved_by, place};
+use crate::side::side_of;
+use crate::tables::{Part, is_named};
+use std::alloc::{AllocError, Global};
+use toml_edits::Edit;
+use toml_names::Address;
+use toml_units::{Unit, UnitKind};
+
+/// Where the thing stands that stood at the first address: there, unless it was moved.
+fn here<'a>(moved: &'a Option<Address>, first: &'a Address) -> &'a Address
+    ensures { result.now ≡ here moved.now first.now }
+{
+    match moved {
+        Some(at) => at,
+        None => first,
+    }
+}
+
+/// Whether no edit names the part at the address, each where those before it have carried it. What stands nowhere is named
+/// no more.
+fn stands_at(
+    alloc: Global,
+    part: Part,
+    edits: &[Edit],
+    first: &Address,
+    base: Option<usize>,
+) -> Result<bool, AllocError>
+    ensures { IfOk result (λ b. b ≡ stands part (map change edits.now) (Some first.now) base) }
+{
+    let mut moved_to = None;
+    for edit in edits {
+        let at = here(&moved_to, first);
+        if is_named(part, edit, base, side_of(place(edit).steps(), at.steps())) {
+            return Ok(false);
+        }
+        match moved_by(alloc, edit, at)? {
+            Moved::Stays => {}
+            Moved::To(to) => moved_to = Some(to),
+            Moved::Nowhere => return Ok(true),
+        }
+    }
+    Ok(true)
+}
+
+/// The same of a unit, which may have no address.
+fn stands(alloc: Global, part: Part, edits: &[Edit], unit: &Unit) -> Result<bool, AllocError>
+    ensures { IfOk result (λ b. b ≡ stands part (map change edits.now) unit.now.address unit.now.base) }
+{
+    match &unit.address {
+        Some(at) => stands_at(alloc, part, edits, at, unit.base),
+        None => Ok(true),
+    }
+}
+
+/// Whether the line of a comment is still there.
+fn home_stands(alloc: Global, edits: &[Edit], line: Option<&Unit>) -> Result<bool, AllocError>
+    ensures { IfOk result (λ b. b ≡ home_stands (map change edits.now) (line_site line.entry)) }
+{
+    match line {
+        Some(unit) => stands(alloc, Part::Home, edits, unit),
+        None => Ok(true),
+    }
+}
+
+/// Whether a unit of the line is protected.
+fn is_kept(
+    alloc: Global,
+    edits: &[Edit],
+    line: Option<&Unit>,
+    unit: &Unit,
+) -> Result<bool, AllocError>
+    ensures { IfOk result (λ b. b ≡ is_kept unit.now.kind (map change edits.now) (line_site line.entry) (made_site unit.now)) }
+{
+    match unit.kind {
+        UnitKind::Line | UnitKind::Pair => stands(alloc, Part::Line, edits, unit),
+        UnitKind::Element => stands(alloc, Part::Element, edits, unit),
+        UnitKind::TailComment => home_stands(alloc, edits, line),
+        UnitKind::InnerComment => {
+            if !home_stands(alloc, edits, line)? {
+                return Ok(false);
+            }
+            stands(alloc, Part::Comment, edits, unit)
+        }
+    }
+}
+
+/// The unit where it is a line, else the line so far.
+fn next_line<'a>(line: Option<&'a Unit>, unit: &'a Unit) -> Option<&'a Unit>
+    ensures { line_site result ≡ next_line (line_site line.entry) (made_site unit.now) }
+{
+    match unit.kind {
+        UnitKind::Line => Some(unit),
+        UnitKind::TailComment | UnitKind::InnerComment | UnitKind::Element | UnitKind::Pair => line,
+    }
+}
+
+/// Whether each unit of a document is protected under the edits: whether no edit takes it away or changes it, each where
+/// those before it have carried the unit. By the address `p` of an edit, the unit's address `a`, and of a pair and of a
+/// line with a key and a value the address `s` of the table in which it stands:
+///
+/// | Unit | taken away | changed |
+/// |---|---|---|
+/// | line with a key and a value, pair | remove with `p` at or above `a`; set with `p` strictly above `a` | set with `p` = `a`; any edit with `p` strictly below `a`; rename with `p` at or above `a` and longer than `s` |
+/// | header line | remove or set with `p` at or above `a` | rename with `p` at or above `a` |
+/// | element | remove or set with `p` at or above `a` | any edit with `p` strictly below `a` |
+/// | comment at the end of a line | its line is taken away | never |
+/// | comment in an array | its line is taken away; remove or set with `p` at or above `a` | never |
+/// | blank line | never | never |
+pub fn protected(alloc: Global, units: &[Unit], edits: &[Edit]) -> Result<Vec<bool>, AllocError>
+    ensures { IfOk result (λ flags. (us : List TextUnit) → all_units units.now ≡ map spanned us → TellProtected (map change edits.now) us flags.items) }
+{
+    let mut flags = Vec::with_capacity(alloc, units.len())?;
+    let mut line = None;
+    for unit in units {
+        line = next_line(line, unit);
+        flags.push(is_kept(alloc, edits, line, unit)?)?;
+    }
+    Ok(flags)
+}
