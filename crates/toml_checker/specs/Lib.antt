@@ -9,3 +9,4 @@ pub mod Comments
 pub mod Frame
 pub mod Documents
 pub mod Demands
+pub mod Marks

@@ -1,6 +1,8 @@
 //! The judge of edited texts: whether a text is what edits make of another, with all that no edit names in it as it was.
 #![tactic(auto)]
 
+mod covered;
+mod kept;
 mod verdict;
 
 pub use verdict::{Reason, Verdict};
