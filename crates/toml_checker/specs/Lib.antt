@@ -10,3 +10,4 @@ pub mod Frame
 pub mod Documents
 pub mod Demands
 pub mod Marks
+pub mod Debts
