@@ -19,4 +19,11 @@ pub mod Flags
 pub mod Walked
 pub mod Examples
 pub mod Verdicts
+pub mod Reach
+pub mod Held
+pub mod KeptUnits
+pub mod AtOrAbove
+pub mod Owing
+pub mod AskedLines
+pub mod EditedLists
 pub mod Proved

@@ -16,3 +16,5 @@ pub mod Laws
 -- words of the code's own contracts
 pub mod Sides
 pub mod Plain
+pub mod Marks
+pub mod Debts

@@ -1,11 +1,17 @@
 //! The judge of edited texts: whether a text is what edits make of another, with all that no edit names in it as it was.
 #![tactic(auto)]
 
+mod above;
+mod along;
 mod arriving;
+mod covered;
+mod debts;
 mod documents;
 mod facts;
 mod frame;
+mod kept;
 pub mod laws;
+mod lines;
 mod moving;
 mod pairs;
 mod protection;
