@@ -1,3 +1,11 @@
+pub mod Refused
+pub mod Leading
+pub mod Edits
+pub mod CarriedSoFar
+pub mod Counted
+pub mod Seen
+pub mod Standing
+pub mod Resting
 pub mod Each
 pub mod Parted
 pub mod Sent
@@ -15,4 +23,11 @@ pub mod Between
 pub mod Headline
 pub mod Stands
 pub mod Verdicts
+pub mod Reach
+pub mod Held
+pub mod KeptUnits
+pub mod AtOrAbove
+pub mod Owing
+pub mod AskedLines
+pub mod EditedLists
 pub mod Proved

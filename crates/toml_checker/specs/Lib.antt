@@ -9,8 +9,13 @@ pub mod Comments
 pub mod Frame
 pub mod Documents
 pub mod Demands
+pub mod Reading
+pub mod After
+pub mod Walking
 pub mod Laws
 pub mod Headline
 -- words of the code's own contracts
 pub mod Sides
 pub mod Plain
+pub mod Marks
+pub mod Debts

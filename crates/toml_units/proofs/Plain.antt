@@ -12,7 +12,7 @@ use Rattle.toml_names.specs.Keys.{key_names}
 use Rattle.toml_names.specs.Mentions.{Named, root, section, named_by}
 use Rattle.toml_names.specs.Names.{own_address}
 use Rattle.toml_units.specs.declared.unit.UnitKind.TheVariants as kinds
-use Rattle.toml_units.specs.Plain.{spanned, pair_span, plain_inside, plain_elements, plain_members, plain_value, plain_line, own_base, line_spans, plain_from, PlainIsUnits}
+use Rattle.toml_units.specs.Plain.{spanned, pair_span, plain_inside, plain_elements, plain_members, plain_value, plain_line, own_base, line_spans, plain_from, PlainIsUnits, PlainIsInside}
 use Rattle.toml_units.specs.Units.{gap_units, element_unit, pair_unit, pair_address, inside, elements, members, value_units, tail_units, inside_line, line_base, line_units, units_from}
 use Rattle.toml_units.proofs.Ends.{pair_ends, line_ends}
 use Rattle.toml_units.proofs.MovedUnits.{both_images}
@@ -117,3 +117,6 @@ lines_plain (l ∷ m ∷ ls) earlier k n form placed =
 
 pub plain_is_units : PlainIsUnits
 plain_is_units d text h = lines_plain d.lines (root ∷ []) 0 _ h.lines.forms h.lines.placed
+
+pub plain_is_inside : PlainIsInside
+plain_is_inside v at n text h = inside_plain v at n h.form h.shallow h.placed

@@ -12,8 +12,8 @@ pub use Rattle.toml_units.proofs.Holders.{holders_are_no_comments}
 pub use Rattle.toml_units.proofs.InLines.{units_nest}
 pub use Rattle.toml_units.proofs.Named.{units_are_named, units_have_addresses}
 pub use Rattle.toml_units.proofs.Places.{units_are_sized, one_block}
-pub use Rattle.toml_units.proofs.Plain.{plain_is_units}
-pub use Rattle.toml_units.proofs.Read.{units_read_the_text}
+pub use Rattle.toml_units.proofs.Plain.{plain_is_units, plain_is_inside}
+pub use Rattle.toml_units.proofs.Read.{units_read_the_text, inside_reads_the_text}
 pub use Rattle.toml_units.proofs.Tails.{tails_end_lines}
 pub use Rattle.toml_units.proofs.Twins.{units_are_twins}
 pub use Rattle.toml_units.proofs.UnitLines.{units_are_of_lines}

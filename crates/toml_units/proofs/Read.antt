@@ -9,7 +9,7 @@ use Rattle.toml_names.specs.Mentions.{Named, root, named_by}
 use Rattle.toml_names.specs.Names.{own_address}
 use Rattle.toml_units.specs.declared.unit.UnitKind.{UnitKind}
 use Rattle.toml_units.specs.declared.unit.UnitKind.TheVariants as kinds
-use Rattle.toml_units.specs.Texts.{ReadsIn, UnitsReadTheText}
+use Rattle.toml_units.specs.Texts.{ReadsIn, UnitsReadTheText, InsideReadsTheText}
 use Rattle.toml_units.specs.Units.{comment_units, gap_line_units, gap_units, element_unit, pair_unit, pair_address, inside, elements, members, value_units, tail_units, inside_line, line_unit, line_units, units_from}
 use Rattle.toml_units.proofs.Each.{each_append}
 use Rattle.toml_units.proofs.InLines.{start_of}
@@ -132,3 +132,7 @@ units_read_the_text d text h =
       is = sym (mark_ahead text) ∙ ap (λ l. mark_of text ++ l) (sym h.lines.text_is ∙ sym (append-nil (joined (lines_parts d.lines))));
     } in
     lines_read text d.lines (root ∷ []) 0 at h.lines.forms whole
+
+pub inside_reads_the_text : InsideReadsTheText
+inside_reads_the_text v at text h =
+    inside_read text v at 0 h.form (record { placed = h.placed; front = []; back = []; long = refl; is = sym h.text_is ∙ sym (append-nil (joined (value_parts v))) })

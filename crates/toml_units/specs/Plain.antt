@@ -1,6 +1,6 @@
 -- The plain function of units: spans, read off the pieces.
 use Rattle.std.specs.Prelude.{◌≡◌, ◌+◌, ◌-◌, ℕ, List, [], ◌∷◌, ◌++◌, length, map, Option, Some, None}
-use Rattle.toml_tree.specs.Spells.{Spells}
+use Rattle.toml_tree.specs.Spells.{Spells, SpellsValue}
 use Rattle.toml_tree.specs.Tree.{Value, Scalar, Array, Empty, Inline, Items, Close, Last, More, Pairs, LastPair, MorePairs, KeyVal, Expr, BlankLine, KeyValLine, TableLine, ArrayTableLine, Line, Doc}
 use Rattle.toml_tree.specs.ReadingValues.{Element as ArrayElement}
 use Rattle.toml_tree.specs.Pieces.{piece_of, expr_start}
@@ -11,7 +11,7 @@ use Rattle.toml_names.specs.Mentions.{Named, root, named_by}
 use Rattle.toml_names.specs.Names.{own_address}
 use Rattle.toml_units.specs.declared.unit.UnitKind.TheVariants as kinds
 use Rattle.toml_units.specs.Ends.{piece_end, expr_end}
-use Rattle.toml_units.specs.Units.{TextUnit, gap_units, element_unit, pair_address, tail_units, units}
+use Rattle.toml_units.specs.Units.{TextUnit, gap_units, element_unit, pair_address, tail_units, inside, units}
 
 -- a pair goes as far as its value
 abbrev pub pair_span : Address → KeyVal → Spanned
@@ -74,3 +74,7 @@ pair_units at k = pair_span at k ∷ plain_inside (pair_address at k.assign) k.v
 -- Law: of a document these are the units.
 abbrev pub PlainIsUnits : Type 0
 PlainIsUnits = (d : Doc) (text : List ℕ) → Spells d text → plain_units d.lines ≡ map spanned (units d.lines)
+
+-- Law: so it is with what lies in a value that spells a text.
+abbrev pub PlainIsInside : Type 0
+PlainIsInside = (v : Value) (at : Address) (n : ℕ) (text : List ℕ) → SpellsValue v n text → plain_inside at v ≡ map spanned (inside at v)

@@ -14,6 +14,7 @@ pub use certificate::{Certificate, certificate_text, read_certificate};
 pub use fault::CertificateFault;
 pub use lines::units;
 pub use unit::{Unit, UnitKind};
+pub use walk::units_inside;
 
 #[cfg(test)]
 mod tests;

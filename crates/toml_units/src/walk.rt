@@ -1,9 +1,10 @@
 //! The units of values.
-ghost use Rattle.std.specs.Prelude.{◌≡◌, [], ◌∷◌, ◌++◌, length, map, option_map, OnOk, IfOk};
+ghost use Rattle.std.specs.Prelude.{ℕ, List, ◌≡◌, [], ◌∷◌, ◌++◌, length, map, option_map, OnOk, IfOk};
 ghost use Rattle.toml_tree.specs.View.{piece, gap, gap_line, value, element as tree_element, keyval as tree_keyval};
 ghost use Rattle.toml_units.specs.Plain.{spanned, plain_inside, element_units, pair_units};
 ghost use Rattle.toml_tree.specs.Pieces.{piece_of};
-ghost use Rattle.toml_units.specs.Units.{comment_units, gap_units, gap_line_units};
+ghost use Rattle.toml_tree.specs.Spells.{SpellsValue};
+ghost use Rattle.toml_units.specs.Units.{comment_units, gap_units, gap_line_units, inside};
 ghost use Rattle.toml_units.specs.View.{unit, all_units};
 
 use crate::unit::{Unit, UnitKind};
@@ -147,4 +148,14 @@ fn push_pair(
         base: Some(at.steps().len()),
     })?;
     push_inside(alloc, units, &here, &pair.value)
+}
+
+/// What lies in a value, in text order, an outer unit before what lies in it. The value's own address is taken to be the
+/// root's, and the places are those of the text of which it is a tree.
+pub fn units_inside(alloc: Global, v: &Value) -> Result<Vec<Unit>, AllocError>
+    ensures { IfOk result (λ us. (n : ℕ) (text : List ℕ) → SpellsValue (value v.now) n text → all_units us.items ≡ map spanned (inside [] (value v.now))) }
+{
+    let mut units = Vec::new(alloc);
+    push_inside(alloc, &mut units, &Address::root(alloc), v)?;
+    Ok(units)
 }

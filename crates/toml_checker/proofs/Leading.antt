@@ -1,0 +1,44 @@
+-- Edits one after the other: one more edit, the first that has a fault, and data that are the same.
+use Rattle.std.proofs.Common.{◌≡◌, List, [], ◌∷◌, ◌++◌, length, Some, None, refl, sym, ap, ◌∙◌, subst}
+use Rattle.std.proofs.Math.Path.{fun_ext}
+use Rattle.toml_names.specs.declared.datum.Datum.{Datum}
+use Rattle.toml_names.specs.Addresses.{Address}
+use Rattle.toml_names.specs.Data.{Kinds, kind_at}
+use Rattle.toml_edits.specs.declared.fault.EditFault.{EditFault}
+use Rattle.toml_edits.specs.After.{IsAfter}
+use Rattle.toml_edits.specs.Edits.{Change}
+use Rattle.toml_edits.specs.Faults.{IsFault}
+use Rattle.toml_edits.specs.Lists.{Lead, IsFirstFault}
+use Rattle.toml_edits.proofs.Proved.{fault_or_lead}
+use Rattle.toml_checker.specs.Documents.{AreDefined}
+
+pub same_kinds : (one two : Datum) → ((a : Address) → kind_at one a ≡ kind_at two a) → kind_at one ≡ kind_at two
+same_kinds one two h = fun_ext h
+
+-- data that are the same lead to the same,
+pub lead_from : (cs : List Change) (one two new : Datum) → kind_at one ≡ kind_at two → Lead cs one new → Lead cs two new
+lead_from [] one two new is h = λ a. ap (λ (k : Kinds). k a) (sym is) ∙ h a
+lead_from (c ∷ cs) one two new is h = (
+  subst (λ k. IsFault c k None) is h.0,
+  h.1,
+  subst (λ k. IsAfter c k (kind_at h.1)) is h.2,
+  h.3,
+)
+
+-- and what leads to data leads to all that are the same.
+pub lead_to : (cs : List Change) (old one two : Datum) → ((a : Address) → kind_at one a ≡ kind_at two a) → Lead cs old one → Lead cs old two
+lead_to [] old one two is h = λ a. h a ∙ is a
+lead_to (c ∷ cs) old one two is h = (h.0, h.1, h.2, lead_to cs h.1 one two is h.3)
+
+pub lead_more : (cs : List Change) (c : Change) (old mid new : Datum) → Lead cs old mid → IsFault c (kind_at mid) None → IsAfter c (kind_at mid) (kind_at new) → Lead (cs ++ c ∷ []) old new
+lead_more [] c old mid new lead none after =
+    let is : kind_at mid ≡ kind_at old = sym (same_kinds old mid lead) in
+    (subst (λ k. IsFault c k None) is none, new, subst (λ k. IsAfter c k (kind_at new)) is after, (λ a. refl))
+lead_more (d ∷ cs) c old mid new lead none after = (lead.0, lead.1, lead.2, lead_more cs c lead.1 mid new lead.3 none after)
+
+first_fault : (cs ds : List Change) (c : Change) (old mid : Datum) (fault : EditFault) → Lead cs old mid → IsFault c (kind_at mid) (Some fault) → IsFirstFault (cs ++ c ∷ ds) old (length cs) fault
+first_fault [] ds c old mid fault lead is = subst (λ k. IsFault c k (Some fault)) (sym (same_kinds old mid lead)) is
+first_fault (d ∷ cs) ds c old mid fault lead is = (lead.0, lead.1, lead.2, first_fault cs ds c lead.1 mid fault lead.3 is)
+
+pub not_defined : (cs ds : List Change) (c : Change) (old mid : Datum) (fault : EditFault) → Lead cs old mid → IsFault c (kind_at mid) (Some fault) → ¬ AreDefined (cs ++ c ∷ ds) old
+not_defined cs ds c old mid fault lead is = λ defined. fault_or_lead (cs ++ c ∷ ds) old defined.0 (length cs) fault (first_fault cs ds c old mid fault lead is) defined.1

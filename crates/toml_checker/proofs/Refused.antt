@@ -1,0 +1,48 @@
+-- Why a text that was refused is no document.
+use Rattle.std.proofs.Common.{◌≡◌, ◌≤◌, ℕ, List, length, subst, refl, sym, ◌∙◌, arith}
+use Rattle.std.proofs.lemmas.Str.{IsUtf8-from_is_utf8}
+use Rattle.toml_text.specs.Limit.{max_len}
+use Rattle.toml_text.specs.Source.{IsFaultOf}
+use Rattle.toml_text.specs.declared.fault.TextFault.{TextFault}
+use Rattle.toml_text.specs.declared.fault.TextFault.TheVariants.{NotUtf8, TooLong}
+use Rattle.toml_scalar.specs.declared.fault.SyntaxFault.{SyntaxFault}
+use Rattle.toml_scalar.specs.declared.fault.SyntaxFault.TheVariants as faults
+use Rattle.toml_tree.specs.Document.{Refuses}
+use Rattle.toml_tree.specs.Spells.{Spells}
+use Rattle.toml_tree.specs.Tree.{Doc}
+use Rattle.toml_tree.proofs.Proved.{one_tree}
+use Rattle.toml_names.specs.Addresses.{Address}
+use Rattle.toml_names.specs.Data.{Kinds, IsDataOf, IsFact}
+use Rattle.toml_names.specs.Documents.{IsDocument}
+use Rattle.toml_names.specs.Mentions.{Named}
+use Rattle.toml_names.specs.Names.{AreGood, RefusesNames}
+use Rattle.toml_names.specs.declared.fault.NameFault.{NameFault}
+use Rattle.toml_names.specs.declared.fault.NameFault.TheVariants as names
+use Rattle.toml_names.proofs.Proved.{refused_are_bad}
+
+pub no_text : (text : List ℕ) (fault : TextFault) → IsFaultOf text fault → ¬ IsDocument text
+no_text text (NotUtf8 at) h = λ document. h.0 (IsUtf8-from_is_utf8 text document.0.utf8)
+no_text text TooLong h = λ document. let fits : length text ≤ max_len = document.0.fits in absurd (omega (arith, h.1))
+
+pub no_tree : (text : List ℕ) (fault : SyntaxFault) → (fault ≡ faults.NoMemory → ⊥) → Refuses text fault → ¬ IsDocument text
+no_tree text (faults.BadCharacter at) memory h = λ document. h.1 document.1 document.2
+no_tree text (faults.Expected at) memory h = λ document. h.1 document.1 document.2
+no_tree text (faults.BadString at) memory h = λ document. h.1 document.1 document.2
+no_tree text (faults.BadNumber at) memory h = λ document. h.1 document.1 document.2
+no_tree text (faults.IntegerRange at) memory h = λ document. h.1 document.1 document.2
+no_tree text (faults.BadDate at) memory h = λ document. h.1 document.1 document.2
+no_tree text (faults.TooDeep at) memory h = λ document. h.1 document.1 document.2
+no_tree text faults.NoMemory memory h = λ document. memory refl
+
+-- the lines of the one tree of the text are refused
+pub no_names : (text : List ℕ) (d : Doc) (fault : NameFault) → Spells d text → (fault ≡ names.NoMemory → ⊥) → RefusesNames d.lines fault → ¬ IsDocument text
+no_names text d fault spelled memory refuses = λ document.
+    let same : document.1 ≡ d = one_tree document.1 d text document.2 spelled in
+    refused_are_bad d.lines fault refuses memory (subst (λ (e : Doc). AreGood e.lines) same document.3)
+
+-- a copy of data is data of the same
+pub data_copied : (ms ns : List Named) (k l : Kinds) → ns ≡ ms → IsDataOf ns k → ((at : Address) → l at ≡ k at) → IsDataOf ms l
+data_copied ms ns k l is facts same = λ at kind. let e = facts at kind in (
+  (λ h. subst (λ (ms : List Named). IsFact ms at kind) is (e.0 (sym (same at) ∙ h))),
+  (λ h. same at ∙ e.1 (subst (λ (ms : List Named). IsFact ms at kind) (sym is) h)),
+)

@@ -1,0 +1,37 @@
+-- What the reading of a text gives.
+use Rattle.std.specs.Prelude.{◌≡◌, List, ℕ, Option, MatchOption, map}
+use Rattle.toml_text.specs.Limit.{IsText}
+use Rattle.toml_tree.specs.declared.document.Doc.{Doc}
+use Rattle.toml_tree.specs.Document.{document}
+use Rattle.toml_tree.specs.Spells.{Spells}
+use Rattle.toml_names.specs.Data.{IsDataOf, kind_at}
+use Rattle.toml_names.specs.Documents.{IsDocument}
+use Rattle.toml_names.specs.Mentions.{named}
+use Rattle.toml_names.specs.Names.{AreGood}
+use Rattle.toml_checker.specs.declared.documents.Document.{Document}
+use Rattle.toml_checker.specs.declared.documents.Rest.{Rest}
+use Rattle.toml_units.specs.declared.unit.Unit.{Unit as Made}
+use Rattle.toml_units.specs.Plain.{spanned}
+use Rattle.toml_units.specs.Units.{units}
+use Rattle.toml_units.specs.View.{all_units}
+
+-- the tree of a text within the limit; without one it is no document
+abbrev pub FindsTree : List ℕ → Option Doc → Type 0
+FindsTree text found = MatchOption found (¬ IsDocument text) (λ doc. IsText text × Spells (document doc) text)
+
+-- these are the units of the tree
+abbrev pub AreUnitsOf : Doc → List Made → Type 0
+AreUnitsOf doc us = all_units us ≡ map spanned (units (document doc).lines)
+
+-- these are the data and the units of the tree
+abbrev pub IsRest : Doc → Rest → Type 0
+IsRest doc rest = IsDataOf (named (document doc).lines) (kind_at rest.«data».root) × AreUnitsOf doc rest.units.items
+
+-- the same, and the names keep the rules; without them the text is no document
+abbrev pub FindsRest : List ℕ → Doc → Option Rest → Type 0
+FindsRest text doc found = MatchOption found (¬ IsDocument text) (λ rest. AreGood (document doc).lines × IsRest doc rest)
+
+-- the tree is that of the text, and the units are those of the tree
+pub record IsRead (d : Document) : Type 0 where
+  pub spelled : Spells (document d.doc.now) d.text.now
+  pub units : AreUnitsOf d.doc.now d.units.now

@@ -1,0 +1,44 @@
+-- Units walked past in order, and what two units are found to have in common.
+use Rattle.std.specs.Prelude.{◌≡◌, ◌⊎◌, ◌≤◌, ◌+◌, ℕ, List, [], ◌∷◌, length, take, count_by, option_map, slice_get, slice_range}
+use Rattle.toml_tree.specs.Tree.{Doc, Line}
+use Rattle.toml_edits.specs.Edits.{Change}
+use Rattle.toml_units.specs.declared.unit.Unit.{Unit as Made}
+use Rattle.toml_units.specs.Places.{is_line}
+use Rattle.toml_checker.specs.declared.pairs.Passed.{Passed}
+use Rattle.toml_checker.specs.CarriedTo.{IsCarriedTo}
+use Rattle.toml_checker.specs.Pairs.{RiseFrom, AllFit, StandsAs}
+
+-- how many of the units are lines
+abbrev pub lines_in : List Made → ℕ
+lines_in us = count_by (λ (u : Made). is_line u.kind) us
+
+-- so many units were walked past, and so many lines are among them
+pub record IsPassed (us : List Made) (p : Passed) : Type 0 where
+  pub within : p.units ≤ length us
+  pub lines : p.lines ≡ lines_in (take p.units us)
+
+-- the unit stands within the text
+abbrev pub IsWithin : List ℕ → Made → Type 0
+IsWithin text u = (u.span.start ≤ u.span.end) × (u.span.end ≤ length text)
+
+-- two units are of one kind, with the same bytes, and the edits carry the one's address to the other's
+abbrev pub AreAlike : List Change → List ℕ → Made → List ℕ → Made → Type 0
+AreAlike cs text u other w = (u.kind ≡ w.kind) × (slice_range text u.span.start u.span.end ≡ slice_range other w.span.start w.span.end) × IsCarriedTo cs u.address w.address
+
+-- the lines with these numbers have one newline, or one of them is the last of its text
+abbrev pub HaveOneNewline : Doc → Doc → ℕ → ℕ → Type 0
+HaveOneNewline d e m n = (option_map (λ (l : Line). l.newline.text) (slice_get d.lines m) ≡ option_map (λ (l : Line). l.newline.text) (slice_get e.lines n)) ⊎ (m + 1 ≡ length d.lines) ⊎ (n + 1 ≡ length e.lines)
+
+-- the numbers of a pair are not below these, and its units fit
+pub record NextFits (cs : List Change) (d e : Doc) (i k : ℕ) (p : ℕ × ℕ) : Type 0 where
+  pub first : i ≤ p.0
+  pub second : k ≤ p.1
+  pub stands : StandsAs cs d e p.0 p.1
+
+-- pairs that rise from these numbers on
+abbrev pub RiseAt : ℕ → ℕ → List (ℕ × ℕ) → Type 0
+RiseAt i k [] = Unit {0}
+RiseAt i k (p ∷ ps) = (i ≤ p.0) × (k ≤ p.1) × RiseFrom p.0 p.1 ps
+
+abbrev pub RestFits : List Change → Doc → Doc → ℕ → ℕ → List (ℕ × ℕ) → Type 0
+RestFits cs d e i k ps = RiseAt i k ps × AllFit cs d e ps

@@ -1,0 +1,106 @@
+//! Which units are marked, or lie inside a marked one.
+ghost use Rattle.std.specs.Prelude.{◌≡◌, ◌↔◌, ◌<◌, ◌⊎◌, ℕ, IsTrue, IfOk, length, vec_len, List};
+ghost use Rattle.toml_checker.specs.Marks.{IsSet, IsHeld, stops, reach_with, reaches};
+ghost use Rattle.toml_checker.specs.Pairs.{IsFirst, IsSecond};
+ghost use Rattle.toml_units.specs.View.{all_units};
+
+use std::alloc::{AllocError, Global};
+use toml_units::Unit;
+
+/// The furthest end of marked units so far, with that of one more that may be marked.
+fn reach_with(reach: Option<usize>, marked: bool, end: usize) -> Option<usize>
+    ensures { result ≡ reach_with reach marked end }
+{
+    if !marked {
+        return reach;
+    }
+    match reach {
+        Some(far) if end <= far => Some(far),
+        _ => Some(end),
+    }
+}
+
+/// Whether the end is no further.
+fn reaches(reach: Option<usize>, end: usize) -> bool
+    ensures { result ≡ reaches reach end }
+{
+    match reach {
+        Some(far) => end <= far,
+        None => false,
+    }
+}
+
+/// Which units are marked or end no further than a marked one before them: in a document, where the starts do not fall, lie
+/// inside it.
+pub(crate) fn covered(
+    alloc: Global,
+    units: &[Unit],
+    marks: &[bool],
+) -> Result<Vec<bool>, AllocError>
+    requires { length marks.now ≡ length units.now }
+    ensures len { IfOk result (λ v. vec_len v ≡ length units.now) }
+    ensures held { IfOk result (λ v. (i : ℕ) → i < length units.now → (IsSet v.items i ↔ IsHeld (stops (all_units units.now)) marks.now i)) }
+{
+    let mut covered = Vec::new(alloc);
+    let mut reach = None;
+    for (index, unit) in units.iter().enumerate() {
+        let end = unit.span.end;
+        reach = reach_with(reach, marks[index], end);
+        covered.push(reaches(reach, end))?;
+    }
+    Ok(covered)
+}
+
+/// No marks on so many units.
+fn no_marks(alloc: Global, count: usize) -> Result<Vec<bool>, AllocError>
+    ensures len { IfOk result (λ v. vec_len v ≡ count) }
+    ensures none { IfOk result (λ v. (i : ℕ) → ¬ (IsSet v.items i)) }
+{
+    let mut marks = Vec::with_capacity(alloc, count)?;
+    for _ in 0..count {
+        marks.push(false)?;
+    }
+    Ok(marks)
+}
+
+/// Marks the unit with the number, if there is one.
+fn mark(marks: &mut Vec<bool>, number: u64)
+    ensures len { vec_len marks.new ≡ vec_len marks.old }
+    ensures marked { (i : ℕ) → i < vec_len marks.old → (IsSet marks.new.items i ↔ ((number ≡ i) ⊎ IsSet marks.old.items i)) }
+{
+    if let Some(place) = marks.get_mut(number as usize) {
+        *place = true;
+    }
+}
+
+/// Which units the pairs name first.
+pub(crate) fn first_marks(
+    alloc: Global,
+    count: usize,
+    pairs: &[(u64, u64)],
+) -> Result<Vec<bool>, AllocError>
+    ensures len { IfOk result (λ v. vec_len v ≡ count) }
+    ensures marked { IfOk result (λ v. (i : ℕ) → i < count → (IsSet v.items i ↔ IsFirst pairs.now i)) }
+{
+    let mut marks = no_marks(alloc, count)?;
+    for pair in pairs {
+        mark(&mut marks, pair.0);
+    }
+    Ok(marks)
+}
+
+/// Which units the pairs name second.
+pub(crate) fn second_marks(
+    alloc: Global,
+    count: usize,
+    pairs: &[(u64, u64)],
+) -> Result<Vec<bool>, AllocError>
+    ensures len { IfOk result (λ v. vec_len v ≡ count) }
+    ensures marked { IfOk result (λ v. (i : ℕ) → i < count → (IsSet v.items i ↔ IsSecond pairs.now i)) }
+{
+    let mut marks = no_marks(alloc, count)?;
+    for pair in pairs {
+        mark(&mut marks, pair.1);
+    }
+    Ok(marks)
+}

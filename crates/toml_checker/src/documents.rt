@@ -1,0 +1,78 @@
+//! The reading of a text, its tree first and then its names, data and units.
+ghost use Rattle.std.specs.Prelude.{◌≡◌, IfOk, OnOk};
+ghost use Rattle.toml_names.specs.declared.fault.NameFault.TheVariants as names;
+ghost use Rattle.toml_tree.specs.Document.{document};
+ghost use Rattle.toml_tree.specs.Spells.{Spells};
+ghost use Rattle.toml_names.specs.Mentions.{named};
+ghost use Rattle.toml_checker.specs.Reading.{FindsTree, FindsRest, IsRest};
+
+use std::alloc::{AllocError, Global};
+use toml_names::{Data, NameFault, Names, read_names};
+use toml_text::Source;
+use toml_tree::{Doc, SyntaxFault, parse};
+use toml_units::{Unit, units};
+
+/// What is read of a tree: the data and the units.
+#[derive(Drop)]
+pub struct Rest {
+    pub data: Data,
+    pub units: Vec<Unit>,
+}
+
+/// The tree of a text. Where there is none the text is no document.
+pub fn read_tree<'t>(alloc: Global, text: &'t [u8]) -> Result<Option<Doc<'t>>, AllocError>
+    ensures { IfOk result (FindsTree text.now) }
+{
+    let Ok(source) = Source::new(text) else {
+        return Ok(None);
+    };
+    match parse(alloc, source) {
+        Ok(doc) => Ok(Some(doc)),
+        Err(SyntaxFault::NoMemory) => Err(AllocError),
+        Err(_) => Ok(None),
+    }
+}
+
+/// The data and the units of the tree of a text. Where there are none the text is no document. The names are let go.
+pub fn read_rest(alloc: Global, text: &[u8], doc: &Doc) -> Result<Option<Rest>, AllocError>
+    requires { Spells (document doc.now) text.now }
+    ensures { IfOk result (FindsRest text.now doc.now) }
+{
+    match read_names(alloc, doc) {
+        Ok(names) => Ok(Some(rest_of(alloc, doc, &names)?)),
+        Err(fault) => {
+            told(fault)?;
+            Ok(None)
+        }
+    }
+}
+
+/// Passes on that there was no memory.
+fn told(fault: NameFault) -> Result<(), AllocError>
+    ensures { OnOk result (¬ (fault ≡ names.NoMemory)) }
+{
+    match fault {
+        NameFault::NoMemory => Err(AllocError),
+        _ => Ok(()),
+    }
+}
+
+/// The data and the units that the names of a tree give.
+fn rest_of(alloc: Global, doc: &Doc, names: &Names) -> Result<Rest, AllocError>
+    requires { names.now.named ≡ named (document doc.now).lines }
+    ensures { IfOk result (IsRest doc.now) }
+{
+    let units = units(alloc, doc, names)?;
+    let data = names.data().copy(alloc)?;
+    Ok(Rest { data, units })
+}
+
+/// A document as the judge reads it.
+#[derive(Clone, Copy)]
+pub struct Document<'a, 't> {
+    pub text: &'a [u8],
+    /// The tree of the text.
+    pub doc: &'a Doc<'t>,
+    /// The units of the tree.
+    pub units: &'a [Unit],
+}
