@@ -20,6 +20,7 @@ pub mod Taken
 pub mod Depths
 pub mod Parts
 pub mod Moved
+pub mod MovedBack
 pub mod Inner
 pub mod Bared
 pub mod PutSame

@@ -2,27 +2,27 @@
 use Rattle.std.proofs.Common.{◌≡◌, ℕ, ◌+◌, List, [], ◌∷◌, ◌++◌, length, map, Option, Some, None, refl, sym, ap, subst, ◌∙◌, arith}
 use Rattle.std.specs.Prelude.{max, option_map}
 use Rattle.std.proofs.lemmas.List.{map-append}
-use Rattle.toml_tree.specs.Moved.{moved_piece, moved_blank, moved_dotted, moved_key, moved_assign, moved_gap_line, moved_gap, moved, moved_items, moved_pairs, moved_keyval, moved_header, moved_expr, MovedValueText, MovedKeyValText, MovedExprText, MovedValueSpells, MovedKeyValSpells, MovedExprSpells}
+use Rattle.toml_tree.specs.Moved.{moved_piece, moved_blank, moved_dotted, moved_key, moved_assign, moved_gap_line, moved_gap, moved, moved_items, moved_pairs, moved_keyval, moved_header, moved_expr, MovedValueText, MovedKeyValText, MovedExprText}
 use Rattle.toml_tree.specs.Spells.{Part, piece, symbol, begin, part_text, joined, StartsAt, Placed, all_parts, EachIs, comment_parts, blank_parts, dotted_parts, key_parts, equals_parts, assign_parts, gap_line_parts, gap_parts, value_parts, items_parts, pairs_parts, keyval_parts, header_parts, array_header_parts, expr_parts, IsCommentOrNone, IsBlank, IsDotted, IsKey, IsAssign, IsGapLine, IsGap, IsValue, AreItems, ArePairs, depth, items_depth, pairs_depth, IsKeyVal, IsHeader, IsExpr, SpellsValue, SpellsKeyVal, SpellsExpr}
 use Rattle.toml_tree.specs.Tree.{Piece, Blank, Key, Assign, GapLine, Gap, Value, Scalar, Array, Empty, Inline, Items, Close, Last, More, Pairs, LastPair, MorePairs, KeyVal, Header, Expr, BlankLine, KeyValLine, TableLine, ArrayTableLine}
 
 module _ (n : ℕ) where
   -- ---- parts
 
-  abbrev moved_part : Part → Part
+  abbrev pub moved_part : Part → Part
   moved_part (piece p) = piece (moved_piece n p)
   moved_part (symbol bs) = symbol bs
   moved_part (begin p) = begin (moved_piece n p)
 
-  abbrev moved_parts : List Part → List Part
+  abbrev pub moved_parts : List Part → List Part
   moved_parts = map moved_part
 
-  part_same : (p : Part) → part_text (moved_part p) ≡ part_text p
+  pub part_same : (p : Part) → part_text (moved_part p) ≡ part_text p
   part_same (piece p) = refl
   part_same (symbol bs) = refl
   part_same (begin p) = refl
 
-  joined_same : (ps : List Part) → joined (moved_parts ps) ≡ joined ps
+  pub joined_same : (ps : List Part) → joined (moved_parts ps) ≡ joined ps
   joined_same [] = refl
   joined_same (p ∷ ps) = λ i. part_same p i ++ joined_same ps i
 
@@ -64,13 +64,13 @@ module _ (n : ℕ) where
   gap_moved g = both (all_parts gap_line_parts (map (moved_gap_line n) g.lines)) _ (all_parts gap_line_parts g.lines) (piece g.ws ∷ []) (all_moved gap_line_parts (moved_gap_line n) gap_line_moved g.lines) refl
 
   mutual
-    value_moved : (v : Value) → value_parts (moved n v) ≡ moved_parts (value_parts v)
+    pub value_moved : (v : Value) → value_parts (moved n v) ≡ moved_parts (value_parts v)
     value_moved (Scalar kind p) = refl
     value_moved (Array whole items) = ap (λ ps. begin (moved_piece n whole) ∷ symbol (0x5B ∷ []) ∷ ps) (items_moved items)
     value_moved (Empty whole ws) = refl
     value_moved (Inline whole pairs) = ap (λ ps. begin (moved_piece n whole) ∷ symbol (0x7B ∷ []) ∷ ps) (pairs_moved pairs)
 
-    items_moved : (items : Items) → items_parts (moved_items n items) ≡ moved_parts (items_parts items)
+    pub items_moved : (items : Items) → items_parts (moved_items n items) ≡ moved_parts (items_parts items)
     items_moved (Close g) = both _ _ (gap_parts g) (symbol (0x5D ∷ []) ∷ []) (gap_moved g) refl
     items_moved (Last g v h) =
         both _ _ (gap_parts g) (value_parts v ++ (gap_parts h ++ symbol (0x5D ∷ []) ∷ [])) (gap_moved g)
@@ -81,7 +81,7 @@ module _ (n : ℕ) where
         (both _ _ (value_parts v) (gap_parts h ++ symbol (0x2C ∷ []) ∷ items_parts is) (value_moved v)
         (both _ _ (gap_parts h) (symbol (0x2C ∷ []) ∷ items_parts is) (gap_moved h) (ap (λ ps. symbol (0x2C ∷ []) ∷ ps) (items_moved is))))
 
-    pairs_moved : (pairs : Pairs) → pairs_parts (moved_pairs n pairs) ≡ moved_parts (pairs_parts pairs)
+    pub pairs_moved : (pairs : Pairs) → pairs_parts (moved_pairs n pairs) ≡ moved_parts (pairs_parts pairs)
     pairs_moved (LastPair ws a v after) =
         ap (λ ps. piece (moved_piece n ws) ∷ ps)
         (both _ _ (assign_parts a) (value_parts v ++ (piece after ∷ symbol (0x7D ∷ []) ∷ [])) (assign_moved a)
@@ -92,26 +92,26 @@ module _ (n : ℕ) where
         (both _ _ (value_parts v) (piece after ∷ symbol (0x2C ∷ []) ∷ pairs_parts ps) (value_moved v)
         (ap (λ qs. piece (moved_piece n after) ∷ symbol (0x2C ∷ []) ∷ qs) (pairs_moved ps))))
 
-  keyval_moved : (k : KeyVal) → keyval_parts (moved_keyval n k) ≡ moved_parts (keyval_parts k)
+  pub keyval_moved : (k : KeyVal) → keyval_parts (moved_keyval n k) ≡ moved_parts (keyval_parts k)
   keyval_moved k = both _ _ (assign_parts k.assign) (value_parts k.value) (assign_moved k.assign) (value_moved k.value)
 
   header_moved : (h : Header) → header_parts (moved_header n h) ≡ moved_parts (header_parts h)
   header_moved h = ap (λ ps. symbol (0x5B ∷ []) ∷ piece (moved_piece n h.before) ∷ ps) (both _ _ (key_parts h.key) (piece h.after ∷ symbol (0x5D ∷ []) ∷ []) (key_moved h.key) refl)
 
-  expr_moved : (e : Expr) → expr_parts (moved_expr n e) ≡ moved_parts (expr_parts e)
+  pub expr_moved : (e : Expr) → expr_parts (moved_expr n e) ≡ moved_parts (expr_parts e)
   expr_moved (BlankLine b) = blank_moved b
   expr_moved (KeyValLine ws k b) = ap (λ ps. piece (moved_piece n ws) ∷ ps) (both _ _ (keyval_parts k) (blank_parts b) (keyval_moved k) (blank_moved b))
   expr_moved (TableLine ws h b) = ap (λ ps. piece (moved_piece n ws) ∷ ps) (both _ _ (header_parts h) (blank_parts b) (header_moved h) (blank_moved b))
   expr_moved (ArrayTableLine ws h b) =
       ap (λ ps. piece (moved_piece n ws) ∷ ps) (both _ _ (array_header_parts h) (blank_parts b) (ap (λ ps. symbol (0x5B ∷ []) ∷ ps) (both _ _ (header_parts h) (symbol (0x5D ∷ []) ∷ []) (header_moved h) refl)) (blank_moved b))
 
-  value_text : (v : Value) → joined (value_parts (moved n v)) ≡ joined (value_parts v)
+  pub value_text : (v : Value) → joined (value_parts (moved n v)) ≡ joined (value_parts v)
   value_text v = ap joined (value_moved v) ∙ joined_same (value_parts v)
 
-  keyval_text : (k : KeyVal) → joined (keyval_parts (moved_keyval n k)) ≡ joined (keyval_parts k)
+  pub keyval_text : (k : KeyVal) → joined (keyval_parts (moved_keyval n k)) ≡ joined (keyval_parts k)
   keyval_text k = ap joined (keyval_moved k) ∙ joined_same (keyval_parts k)
 
-  expr_text : (e : Expr) → joined (expr_parts (moved_expr n e)) ≡ joined (expr_parts e)
+  pub expr_text : (e : Expr) → joined (expr_parts (moved_expr n e)) ≡ joined (expr_parts e)
   expr_text e = ap joined (expr_moved e) ∙ joined_same (expr_parts e)
 
   -- ---- forms
@@ -153,7 +153,7 @@ module _ (n : ℕ) where
     pairs_form (MorePairs ws a v after ps) h = (h.0, assign_form a h.1, value_form v h.2, h.3, pairs_form ps h.4)
 
   mutual
-    depth_same : (v : Value) → depth (moved n v) ≡ depth v
+    pub depth_same : (v : Value) → depth (moved n v) ≡ depth v
     depth_same (Scalar kind p) = refl
     depth_same (Array whole items) = ap (λ k. k + 1) (items_depth_same items)
     depth_same (Empty whole ws) = refl
@@ -182,7 +182,7 @@ module _ (n : ℕ) where
 
   -- ---- what is moved spells the same text
 
-  spells_value : (v : Value) (at : ℕ) (text : List ℕ) → SpellsValue v at text → SpellsValue (moved n v) (at + n) text
+  pub spells_value : (v : Value) (at : ℕ) (text : List ℕ) → SpellsValue v at text → SpellsValue (moved n v) (at + n) text
   spells_value v at text h = record {
     form = value_form v h.form;
     shallow = rw (depth_same v) h.shallow;
@@ -190,14 +190,14 @@ module _ (n : ℕ) where
     placed = subst (λ ps. Placed (at + n) ps) (sym (value_moved v)) (placed_moved (value_parts v) at h.placed);
   }
 
-  spells_keyval : (k : KeyVal) (at : ℕ) (text : List ℕ) → SpellsKeyVal k at text → SpellsKeyVal (moved_keyval n k) (at + n) text
+  pub spells_keyval : (k : KeyVal) (at : ℕ) (text : List ℕ) → SpellsKeyVal k at text → SpellsKeyVal (moved_keyval n k) (at + n) text
   spells_keyval k at text h = record {
     form = keyval_form k h.form;
     text_is = keyval_text k ∙ h.text_is;
     placed = subst (λ ps. Placed (at + n) ps) (sym (keyval_moved k)) (placed_moved (keyval_parts k) at h.placed);
   }
 
-  spells_expr : (e : Expr) (at : ℕ) (text : List ℕ) → SpellsExpr e at text → SpellsExpr (moved_expr n e) (at + n) text
+  pub spells_expr : (e : Expr) (at : ℕ) (text : List ℕ) → SpellsExpr e at text → SpellsExpr (moved_expr n e) (at + n) text
   spells_expr e at text h = record {
     form = expr_form e h.form;
     text_is = expr_text e ∙ h.text_is;
@@ -212,12 +212,3 @@ moved_keyval_text k n = keyval_text n k
 
 pub moved_expr_text : MovedExprText
 moved_expr_text e n = expr_text n e
-
-pub moved_value_spells : MovedValueSpells
-moved_value_spells v n at text h = spells_value n v at text h
-
-pub moved_keyval_spells : MovedKeyValSpells
-moved_keyval_spells k n at text h = spells_keyval n k at text h
-
-pub moved_expr_spells : MovedExprSpells
-moved_expr_spells e n at text h = spells_expr n e at text h

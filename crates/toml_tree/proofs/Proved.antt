@@ -4,7 +4,8 @@ pub use Rattle.toml_tree.proofs.ExactValues.{one_value, one_keyval, one_expr, va
 pub use Rattle.toml_tree.proofs.Depths.{depth_is_nesting}
 pub use Rattle.toml_tree.proofs.Inner.{value_piece, value_byte, value_start, keyval_start, expr_starts, lines_inside, keyval_inside, value_of_keyval, values_inside, keyvals_inside}
 pub use Rattle.toml_tree.proofs.Parts.{parts_join, sizes_add, placed_front, placed_back, placed_both}
-pub use Rattle.toml_tree.proofs.Moved.{moved_value_spells, moved_keyval_spells, moved_expr_spells, moved_value_text, moved_keyval_text, moved_expr_text}
+pub use Rattle.toml_tree.proofs.Moved.{moved_value_text, moved_keyval_text, moved_expr_text}
+pub use Rattle.toml_tree.proofs.MovedBack.{moved_value_spells, moved_keyval_spells, moved_expr_spells}
 pub use Rattle.toml_tree.proofs.Bared.{bare_value_text, bare_items_text, bare_pairs_text, bare_lines_text}
 pub use Rattle.toml_tree.proofs.PutSame.{put_value_same, put_lines_same}
 pub use Rattle.toml_tree.proofs.Put.{put_value_spells, put_lines_spell, put_doc_spells}

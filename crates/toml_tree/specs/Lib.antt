@@ -1,10 +1,6 @@
+-- trees, the texts that they spell, and what is said of them
 pub mod Tree
 pub mod Spells
-pub mod Reading
-pub mod ReadingValues
-pub mod ReadingLines
-pub mod Stands
-pub mod Bounded
 pub mod View
 pub mod Lines
 pub mod Document
@@ -16,4 +12,10 @@ pub mod Inner
 pub mod Bare
 pub mod Places
 pub mod ViewLaws
+pub mod ReadingValues
+-- words of the code's own contracts
+pub mod Reading
+pub mod ReadingLines
+pub mod Stands
+pub mod Bounded
 pub mod Reads

@@ -1,5 +1,5 @@
 -- A tree that stands further behind by some bytes: the same, at another place.
-use Rattle.std.specs.Prelude.{◌≡◌, ℕ, ◌+◌, List, map, option_map}
+use Rattle.std.specs.Prelude.{◌≡◌, ◌↔◌, ℕ, ◌+◌, List, map, option_map}
 use Rattle.toml_tree.specs.Spells.{joined, value_parts, keyval_parts, expr_parts, SpellsValue, SpellsKeyVal, SpellsExpr}
 use Rattle.toml_tree.specs.Tree.{Piece, Blank, Dotted, Key, Assign, GapLine, Gap, Value, Scalar, Array, Empty, Inline, Items, Close, Last, More, Pairs, LastPair, MorePairs, KeyVal, Header, Expr, BlankLine, KeyValLine, TableLine, ArrayTableLine}
 
@@ -64,13 +64,13 @@ MovedKeyValText = (k : KeyVal) (n : ℕ) → joined (keyval_parts (moved_keyval 
 abbrev pub MovedExprText : Type 0
 MovedExprText = (e : Expr) (n : ℕ) → joined (expr_parts (moved_expr n e)) ≡ joined (expr_parts e)
 
--- a value that spells a text spells it, moved, further behind
+-- a value spells a text exactly where it spells it, moved, further behind
 abbrev pub MovedValueSpells : Type 0
-MovedValueSpells = (v : Value) (n at : ℕ) (text : List ℕ) → SpellsValue v at text → SpellsValue (moved n v) (at + n) text
+MovedValueSpells = (v : Value) (n at : ℕ) (text : List ℕ) → SpellsValue v at text ↔ SpellsValue (moved n v) (at + n) text
 
 -- the same of a pair, and of an expression
 abbrev pub MovedKeyValSpells : Type 0
-MovedKeyValSpells = (k : KeyVal) (n at : ℕ) (text : List ℕ) → SpellsKeyVal k at text → SpellsKeyVal (moved_keyval n k) (at + n) text
+MovedKeyValSpells = (k : KeyVal) (n at : ℕ) (text : List ℕ) → SpellsKeyVal k at text ↔ SpellsKeyVal (moved_keyval n k) (at + n) text
 
 abbrev pub MovedExprSpells : Type 0
-MovedExprSpells = (e : Expr) (n at : ℕ) (text : List ℕ) → SpellsExpr e at text → SpellsExpr (moved_expr n e) (at + n) text
+MovedExprSpells = (e : Expr) (n at : ℕ) (text : List ℕ) → SpellsExpr e at text ↔ SpellsExpr (moved_expr n e) (at + n) text

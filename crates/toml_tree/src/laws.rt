@@ -51,7 +51,7 @@ pub fn parts()
     ensures both { BothArePlaced }
 {}
 
-/// What spells a text at one place spells it, moved, at any place further behind.
+/// A tree spells a text at one place exactly where, moved, it spells it further behind.
 pub fn moved()
     ensures value { MovedValueSpells }
     ensures keyval { MovedKeyValSpells }

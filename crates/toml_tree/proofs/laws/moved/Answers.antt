@@ -1,4 +1,4 @@
-use Rattle.toml_tree.proofs.Moved.{moved_value_spells, moved_keyval_spells, moved_expr_spells}
+use Rattle.toml_tree.proofs.MovedBack.{moved_value_spells, moved_keyval_spells, moved_expr_spells}
 use Rattle.toml_tree.proofs.laws.moved.Goals as goal
 
 pub returns-clause-value : goal.returns-clause-value
