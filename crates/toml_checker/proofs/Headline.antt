@@ -147,8 +147,10 @@ same_place d text h keeps v i j x u a low high lt is are kind at there =
     let comment : x.kind ≡ kinds.InnerComment = two_at AreComments us i j x u apart.0 lt is are kind a at there in
     let same : l.inner ≡ x = same_Some l.inner x (sym l.inner_is ∙ is) in
     let lies = subst (λ (y : TextUnit). (l.outer.piece.start ≤ y.piece.start) × (y.piece.start + length y.piece.text ≤ l.outer.piece.start + length l.outer.piece.text)) same l.lies in
-    let held = apart.1 l.outer x u (before_at us v i l.outer x low l.outer_is is) lies (member_at us j u are) comment (sym kind ∙ comment) (at ∙ sym there) in
-    (((units_are_sized d text h).0 v j).0 (record { later = omega arith; outer = l.outer; outer_is = l.outer_is; inner = u; inner_is = are; lies = held.1 })).1
+    let held =
+    apart.1 l.outer x u (record { before = before_at us v i l.outer x low l.outer_is is; lies = lies }) (member_at us j u are)
+    (record { first = comment; second = sym kind ∙ comment; address = at ∙ sym there }) in
+    (((units_are_sized d text h).0 v j).0 (record { later = omega arith; outer = l.outer; outer_is = l.outer_is; inner = u; inner_is = are; lies = held.lies })).1
 
 pub named_at : (d : Doc) (text : List ℕ) → Spells d text → (old : Datum) → IsDataOf (named d.lines) (kind_at old) → (i : ℕ) (u : TextUnit) (a : Address) → slice_get (units d.lines) i ≡ Some u → u.address ≡ Some a → IsSome (kind_at old a)
 named_at d text h old facts i u a is at =
