@@ -11,6 +11,7 @@ pub mod Owners
 pub mod Named
 pub mod Distinct
 pub mod Apart
+pub mod Order
 pub mod Places
 pub mod Examples
 pub mod Ends

@@ -8,16 +8,16 @@ use Rattle.std.specs.Int.Digits.{digits_of}
 unfoldable pub number_text : ℕ → List ℕ
 number_text n = if n == 0 then codes "0" else map (λ d. 48 + d) (digits_of 10 n)
 
--- there is a digit, and no leading zero
+-- Words of the code's own contracts: there is a digit, and no leading zero;
 abbrev pub IsPlain : List ℕ → Type 0
 IsPlain digits = (0 < length digits) × (slice_index digits 0 ≡ 48 → length digits ≡ 1)
 
--- no digit is the first of the bytes
+-- no digit is the first of the bytes;
 abbrev pub BeginsWithNoDigit : List ℕ → Type 0
 BeginsWithNoDigit [] = Unit {0}
 BeginsWithNoDigit (b ∷ bs) = is_ascii_digit b ≡ false
 
--- no number that the code can hold is at the front, up to its last digit
+-- no number that the code can hold is at the front, up to its last digit.
 abbrev pub BeginsWithNoNumber : List ℕ → Type 0
 BeginsWithNoNumber bytes = (n : ℕ) (rest : List ℕ) → n < 2 ^ 64 → BeginsWithNoDigit rest → ¬ (bytes ≡ number_text n ++ rest)
 
