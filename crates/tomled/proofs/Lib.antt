@@ -5,3 +5,4 @@ pub mod Built
 pub mod Texts
 pub mod Unique
 pub mod Listed
+pub mod Verified

@@ -1,0 +1,47 @@
+-- What is refused by `verify` is not verified.
+use Rattle.std.proofs.Common.{◌≡◌, ◌⊎◌, inl, inr, ℕ, List, Result, Ok, Err, Vec, Global, sym, subst, ◌∙◌}
+use Rattle.std.specs.Prelude.{IfErr}
+use Rattle.std.specs.Result.{IsErrAnd}
+use Rattle.toml_edits.specs.Edits.{Change}
+use Rattle.toml_edits.proofs.Proved.{one_edit_list, bad_list_is_none}
+use Rattle.toml_units.proofs.Proved.{one_certificate}
+use Rattle.toml_checker.specs.Demands.{Certified, IsVerdict}
+use Rattle.toml_checker.specs.declared.verdict.Reason.{Reason}
+use Rattle.toml_checker.specs.declared.verdict.Verdict.{Verdict}
+use Rattle.toml_checker.specs.declared.verdict.Verdict.TheVariants.{Yes, No}
+use Rattle.toml_checker.proofs.Proved.{one_verdict}
+use Rattle.tomled.specs.Outcomes.{Ends}
+use Rattle.tomled.specs.Verify.{FailsDemand, IsListRefusal, IsUnverified, IsVerified}
+use Rattle.tomled.specs.declared.ending.Ending.{Ending}
+use Rattle.tomled.specs.declared.ending.Ending.TheVariants as ends
+use Rattle.tomled.specs.declared.refusal.Refusal.{Refusal}
+
+no_yes : (reason : Reason) → ◌≡◌ {A = Verdict} Yes (No reason) → ⊥
+no_yes reason e = cc
+
+module _ (before edits after cert : List ℕ) where
+  no_list : (r : Refusal) → IsListRefusal edits r → ¬ IsVerified before edits after cert
+  no_list r (inl (code, place, none)) v = none v.listed.0 v.listed.1
+  no_list r (inr (code, ds, list, bad)) v = bad_list_is_none edits ds r.place v.changes list bad v.listed
+
+  no_demand : (r : Refusal) → FailsDemand before edits after cert r → ¬ IsVerified before edits after cert
+  no_demand r f v =
+      let changes : f.changes ≡ v.changes = one_edit_list edits f.changes v.changes f.listed v.listed in
+      let pairs : f.pairs ≡ v.pairs = one_certificate f.pairs v.pairs (sym f.certificate.1 ∙ v.certificate.1) in
+      let first : IsVerdict before v.changes after v.pairs (No f.reason) =
+      subst (λ (ps : List (ℕ × ℕ)). IsVerdict before v.changes after ps (No f.reason)) pairs (subst (λ (cs : List Change). IsVerdict before cs after f.pairs (No f.reason)) changes f.first) in
+      no_yes f.reason (one_verdict before after v.changes v.pairs Yes (No f.reason) v.certified first)
+
+  pub unverified : (r : Refusal) → IsUnverified before edits after cert r → ¬ IsVerified before edits after cert
+  unverified r (inl h) = no_list r h
+  unverified r (inr (inl (cs, listed, (code, place, none)))) = λ v. none v.pairs v.certificate
+  unverified r (inr (inr h)) = no_demand r h
+
+-- a refusal is handed on as one of another kind
+pub handed_on : {T : Type 0} (P Q : Refusal → Type 0) (e : Ending) (result : Result T Ending) → IsErrAnd result (λ x. x ≡ e) → ((r : Refusal) → P r → Q r) → Ends P e → IfErr result (Ends Q)
+handed_on P Q e (Ok x) same then h = tt
+handed_on P Q e (Err x) same then h = subst (Ends Q) (sym same) (by e h)
+  where
+    by : (e : Ending) → Ends P e → Ends Q e
+    by (ends.Refused r) h = then r h
+    by ends.NoMemory h = tt
