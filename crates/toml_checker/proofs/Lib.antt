@@ -26,4 +26,7 @@ pub mod AtOrAbove
 pub mod Owing
 pub mod AskedLines
 pub mod EditedLists
+pub mod Asked
+pub mod OfDocuments
+pub mod FlagsSet
 pub mod Proved

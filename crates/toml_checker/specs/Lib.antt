@@ -18,3 +18,4 @@ pub mod Sides
 pub mod Plain
 pub mod Marks
 pub mod Debts
+pub mod Judging

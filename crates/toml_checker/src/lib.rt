@@ -9,6 +9,7 @@ mod debts;
 mod documents;
 mod facts;
 mod frame;
+mod judging;
 mod kept;
 pub mod laws;
 mod lines;
@@ -19,9 +20,6 @@ mod side;
 mod tables;
 mod verdict;
 
-pub use documents::{Document, Rest, read_rest, read_tree};
-pub use facts::data_after;
-pub use frame::keeps_frame;
-pub use pairs::pairs_fit;
+pub use judging::check;
 pub use protection::protected;
 pub use verdict::{Reason, Verdict};
