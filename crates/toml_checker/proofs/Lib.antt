@@ -5,3 +5,9 @@ pub mod AtOrAbove
 pub mod Owing
 pub mod AskedLines
 pub mod EditedLists
+pub mod Counts
+pub mod Times
+pub mod NewComments
+pub mod WrittenTexts
+pub mod AddedComments
+pub mod Values

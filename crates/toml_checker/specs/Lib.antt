@@ -11,3 +11,6 @@ pub mod Documents
 pub mod Demands
 pub mod Marks
 pub mod Debts
+pub mod Counts
+pub mod UnmarkedComments
+pub mod WrittenComments

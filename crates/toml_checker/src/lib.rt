@@ -3,10 +3,14 @@
 
 mod above;
 mod along;
+mod comments;
+mod counting;
 mod covered;
 mod debts;
 mod kept;
 mod lines;
+mod unmarked;
 mod verdict;
+mod written;
 
 pub use verdict::{Reason, Verdict};
