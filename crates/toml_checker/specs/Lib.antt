@@ -19,3 +19,6 @@ pub mod Plain
 pub mod Marks
 pub mod Debts
 pub mod Judging
+pub mod Counts
+pub mod UnmarkedComments
+pub mod WrittenComments

@@ -4,6 +4,8 @@
 mod above;
 mod along;
 mod arriving;
+mod comments;
+mod counting;
 mod covered;
 mod debts;
 mod documents;
@@ -18,7 +20,9 @@ mod pairs;
 mod protection;
 mod side;
 mod tables;
+mod unmarked;
 mod verdict;
+mod written;
 
 pub use judging::check;
 pub use protection::protected;
