@@ -1,5 +1,5 @@
 -- Edits one after the other: one more edit, the first that has a fault, and data that are the same.
-use Rattle.std.proofs.Common.{◌≡◌, List, [], ◌∷◌, ◌++◌, length, Some, None, refl, sym, ap, ◌∙◌, subst}
+use Rattle.std.proofs.Common.{◌≡◌, List, [], ◌∷◌, ◌++◌, length, Option, Some, None, refl, sym, ap, ◌∙◌, subst}
 use Rattle.std.proofs.Math.Path.{fun_ext}
 use Rattle.toml_names.specs.declared.datum.Datum.{Datum}
 use Rattle.toml_names.specs.Addresses.{Address}
@@ -10,6 +10,8 @@ use Rattle.toml_edits.specs.Edits.{Change}
 use Rattle.toml_edits.specs.Faults.{IsFault}
 use Rattle.toml_edits.specs.Lists.{Lead, IsFirstFault}
 use Rattle.toml_edits.proofs.Proved.{fault_or_lead}
+use Rattle.toml_names.specs.declared.datum.Data.{Data}
+use Rattle.toml_checker.specs.After.{GivesData}
 use Rattle.toml_checker.specs.Documents.{AreDefined}
 
 pub same_kinds : (one two : Datum) → ((a : Address) → kind_at one a ≡ kind_at two a) → kind_at one ≡ kind_at two
@@ -42,3 +44,7 @@ first_fault (d ∷ cs) ds c old mid fault lead is = (lead.0, lead.1, lead.2, fir
 
 pub not_defined : (cs ds : List Change) (c : Change) (old mid : Datum) (fault : EditFault) → Lead cs old mid → IsFault c (kind_at mid) (Some fault) → ¬ AreDefined (cs ++ c ∷ ds) old
 not_defined cs ds c old mid fault lead is = λ defined. fault_or_lead (cs ++ c ∷ ds) old defined.0 (length cs) fault (first_fault cs ds c old mid fault lead is) defined.1
+
+-- what the edits were found to give
+pub given : (cs : List Change) (old : Data) (found : Option Data) (d : Data) → found ≡ Some d → GivesData cs old found → Lead cs old.root d.root
+given cs old found d is h = subst (GivesData cs old) is h

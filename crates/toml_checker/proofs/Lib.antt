@@ -30,4 +30,13 @@ pub mod AtOrAbove
 pub mod Owing
 pub mod AskedLines
 pub mod EditedLists
+pub mod Asked
+pub mod OfDocuments
+pub mod FlagsSet
+pub mod Counts
+pub mod Times
+pub mod NewComments
+pub mod WrittenTexts
+pub mod AddedComments
+pub mod Values
 pub mod Proved

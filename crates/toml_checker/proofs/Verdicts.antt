@@ -42,7 +42,7 @@ at_rank Unasked = refl
 at_rank NewComment = refl
 at_rank NotTheSame = refl
 
-same_rank : (r q : Reason) → rank r ≡ rank q → r ≡ q
+pub same_rank : (r q : Reason) → rank r ≡ rank q → r ≡ q
 same_rank r q e = same_Some r q (sym (at_rank r) ∙ ap (slice_get in_order) e ∙ at_rank q)
 
 which : (m n : ℕ) → (m < n) ⊎ (n < m) ⊎ (m ≡ n)

@@ -19,3 +19,7 @@ pub mod Sides
 pub mod Plain
 pub mod Marks
 pub mod Debts
+pub mod Judging
+pub mod Counts
+pub mod UnmarkedComments
+pub mod WrittenComments

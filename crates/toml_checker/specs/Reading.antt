@@ -35,3 +35,7 @@ FindsRest text doc found = MatchOption found (¬ IsDocument text) (λ rest. AreG
 pub record IsRead (d : Document) : Type 0 where
   pub spelled : Spells (document d.doc.now) d.text.now
   pub units : AreUnitsOf d.doc.now d.units.now
+
+-- the tree, the data and the units of a document; without them the text is none
+abbrev pub FindsDocument : List ℕ → Option (Doc × Rest) → Type 0
+FindsDocument text found = MatchOption found (¬ IsDocument text) (λ r. IsDocument text × Spells (document r.0) text × IsRest r.0 r.1)

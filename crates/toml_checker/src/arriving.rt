@@ -1,35 +1,28 @@
 //! Whether edits carry an address to another.
 ghost use Rattle.std.specs.Prelude.{◌≡◌, ◌↔◌, IsTrue, IfOk, Some, map, option_map};
 ghost use Rattle.toml_edits.specs.Edits.{change};
-ghost use Rattle.toml_edits.specs.Lists.{carried as carried_of};
+ghost use Rattle.toml_edits.specs.Lists.{carried};
 ghost use Rattle.toml_checker.specs.CarriedTo.{IsCarriedTo};
 
+use crate::moving::{Moved, moved_by};
+use crate::protection::here;
 use std::alloc::{AllocError, Global};
-use toml_edits::{Edit, carry};
+use toml_edits::Edit;
 use toml_names::Address;
 
-/// Where the edits, one after the other, carry what stands at the address.
-fn carried(alloc: Global, edits: &[Edit], at: Address) -> Result<Option<Address>, AllocError>
-    ensures { IfOk result (λ to. to ≡ carried_of (map change edits.now) at) }
+/// Whether the edits carry the one address to the other. An address is made only where an edit moves it.
+fn arrives(alloc: Global, edits: &[Edit], from: &Address, to: &Address) -> Result<bool, AllocError>
+    ensures { IfOk result (λ arrived. IsTrue arrived ↔ (carried (map change edits.now) from.now ≡ Some to.now)) }
 {
-    let mut here = at;
+    let mut moved_to = None;
     for edit in edits {
-        match carry(alloc, edit, &here)? {
-            Some(next) => here = next,
-            None => return Ok(None),
+        match moved_by(alloc, edit, here(&moved_to, from))? {
+            Moved::Stays => {}
+            Moved::To(next) => moved_to = Some(next),
+            Moved::Nowhere => return Ok(false),
         }
     }
-    Ok(Some(here))
-}
-
-/// Whether the edits carry the one address to the other.
-fn arrives(alloc: Global, edits: &[Edit], from: &Address, to: &Address) -> Result<bool, AllocError>
-    ensures { IfOk result (λ yes. IsTrue yes ↔ (carried_of (map change edits.now) from.now ≡ Some to.now)) }
-{
-    match carried(alloc, edits, from.copy(alloc)?)? {
-        Some(end) => Ok(end.is_same(to)),
-        None => Ok(false),
-    }
+    Ok(here(&moved_to, from).is_same(to))
 }
 
 /// Whether there is no address, or the edits carry the one to the other.
@@ -39,7 +32,7 @@ pub(crate) fn is_carried_to(
     from: Option<&Address>,
     to: Option<&Address>,
 ) -> Result<bool, AllocError>
-    ensures { IfOk result (λ yes. IsTrue yes ↔ IsCarriedTo (map change edits.now) (option_map (λ a. a.now) from.entry) (option_map (λ a. a.now) to.entry)) }
+    ensures { IfOk result (λ arrived. IsTrue arrived ↔ IsCarriedTo (map change edits.now) (option_map (λ a. a.now) from.entry) (option_map (λ a. a.now) to.entry)) }
 {
     match (from, to) {
         (None, None) => Ok(true),

@@ -52,7 +52,7 @@ pub(crate) fn covered(
 }
 
 /// No marks on so many units.
-fn no_marks(alloc: Global, count: usize) -> Result<Vec<bool>, AllocError>
+pub(crate) fn no_marks(alloc: Global, count: usize) -> Result<Vec<bool>, AllocError>
     ensures len { IfOk result (λ v. vec_len v ≡ count) }
     ensures none { IfOk result (λ v. (i : ℕ) → ¬ (IsSet v.items i)) }
 {

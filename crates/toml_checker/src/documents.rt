@@ -4,7 +4,7 @@ ghost use Rattle.toml_names.specs.declared.fault.NameFault.TheVariants as names;
 ghost use Rattle.toml_tree.specs.Document.{document};
 ghost use Rattle.toml_tree.specs.Spells.{Spells};
 ghost use Rattle.toml_names.specs.Mentions.{named};
-ghost use Rattle.toml_checker.specs.Reading.{FindsTree, FindsRest, IsRest};
+ghost use Rattle.toml_checker.specs.Reading.{FindsDocument, FindsTree, FindsRest, IsRest};
 
 use std::alloc::{AllocError, Global};
 use toml_names::{Data, NameFault, Names, read_names};
@@ -14,13 +14,13 @@ use toml_units::{Unit, units};
 
 /// What is read of a tree: the data and the units.
 #[derive(Drop)]
-pub struct Rest {
-    pub data: Data,
-    pub units: Vec<Unit>,
+pub(crate) struct Rest {
+    pub(crate) data: Data,
+    pub(crate) units: Vec<Unit>,
 }
 
 /// The tree of a text. Where there is none the text is no document.
-pub fn read_tree<'t>(alloc: Global, text: &'t [u8]) -> Result<Option<Doc<'t>>, AllocError>
+fn read_tree<'t>(alloc: Global, text: &'t [u8]) -> Result<Option<Doc<'t>>, AllocError>
     ensures { IfOk result (FindsTree text.now) }
 {
     let Ok(source) = Source::new(text) else {
@@ -34,7 +34,7 @@ pub fn read_tree<'t>(alloc: Global, text: &'t [u8]) -> Result<Option<Doc<'t>>, A
 }
 
 /// The data and the units of the tree of a text. Where there are none the text is no document. The names are let go.
-pub fn read_rest(alloc: Global, text: &[u8], doc: &Doc) -> Result<Option<Rest>, AllocError>
+fn read_rest(alloc: Global, text: &[u8], doc: &Doc) -> Result<Option<Rest>, AllocError>
     requires { Spells (document doc.now) text.now }
     ensures { IfOk result (FindsRest text.now doc.now) }
 {
@@ -67,12 +67,28 @@ fn rest_of(alloc: Global, doc: &Doc, names: &Names) -> Result<Rest, AllocError>
     Ok(Rest { data, units })
 }
 
-/// A document as the judge reads it.
+/// The tree, the data and the units of a text, if it is a document.
+pub(crate) fn read_document<'t>(
+    alloc: Global,
+    text: &'t [u8],
+) -> Result<Option<(Doc<'t>, Rest)>, AllocError>
+    ensures { IfOk result (FindsDocument text.now) }
+{
+    let Some(doc) = read_tree(alloc, text)? else {
+        return Ok(None);
+    };
+    let Some(rest) = read_rest(alloc, text, &doc)? else {
+        return Ok(None);
+    };
+    Ok(Some((doc, rest)))
+}
+
+/// A document as the judge looks at it.
 #[derive(Clone, Copy)]
-pub struct Document<'a, 't> {
-    pub text: &'a [u8],
+pub(crate) struct Document<'a, 't> {
+    pub(crate) text: &'a [u8],
     /// The tree of the text.
-    pub doc: &'a Doc<'t>,
+    pub(crate) doc: &'a Doc<'t>,
     /// The units of the tree.
-    pub units: &'a [Unit],
+    pub(crate) units: &'a [Unit],
 }

@@ -9,7 +9,7 @@ use toml_edits::Edit;
 use toml_tree::Doc;
 
 /// Whether the mark is in both texts or in neither, and the texts are equal where there is no edit.
-pub fn keeps_frame(before: &[u8], old: &Doc, edits: &[Edit], after: &[u8], new: &Doc) -> bool
+pub(crate) fn keeps_frame(before: &[u8], old: &Doc, edits: &[Edit], after: &[u8], new: &Doc) -> bool
     requires before { Spells (document old.now) before.now }
     requires after { Spells (document new.now) after.now }
     ensures { IsTrue result ↔ KeepsFrame (map change edits.now) before.now after.now }

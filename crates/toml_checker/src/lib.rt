@@ -4,11 +4,14 @@
 mod above;
 mod along;
 mod arriving;
+mod comments;
+mod counting;
 mod covered;
 mod debts;
 mod documents;
 mod facts;
 mod frame;
+mod judging;
 mod kept;
 pub mod laws;
 mod lines;
@@ -17,12 +20,11 @@ mod pairs;
 mod protection;
 mod side;
 mod tables;
+mod unmarked;
 mod verdict;
+mod written;
 
-pub use documents::{Document, Rest, read_rest, read_tree};
-pub use facts::data_after;
-pub use frame::keeps_frame;
-pub use pairs::pairs_fit;
+pub use judging::check;
 pub use protection::protected;
 pub use verdict::{Reason, Verdict};
 

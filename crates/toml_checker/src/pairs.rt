@@ -208,7 +208,7 @@ fn next_fits(
 /// Whether the numbers of the pairs rise, and each pair names two units that are there, of one kind, with the same bytes,
 /// the second at the address to which the edits carry the first's; and two lines have one newline, or one of them is the
 /// last of its text.
-pub fn pairs_fit(
+pub(crate) fn pairs_fit(
     alloc: Global,
     before: Document,
     edits: &[Edit],

@@ -15,7 +15,7 @@ use toml_names::Address;
 use toml_units::{Unit, UnitKind};
 
 /// Where the thing stands that stood at the first address: there, unless it was moved.
-fn here<'a>(moved: &'a Option<Address>, first: &'a Address) -> &'a Address
+pub(crate) fn here<'a>(moved: &'a Option<Address>, first: &'a Address) -> &'a Address
     ensures { result.now ≡ here moved.now first.now }
 {
     match moved {

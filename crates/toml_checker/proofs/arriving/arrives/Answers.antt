@@ -1,10 +1,14 @@
-use Rattle.std.proofs.Common.{map, ap, ◌∙◌}
+use Rattle.std.proofs.Common.{List, map, drop, ap, refl, sym, ◌∙◌, Some, arith}
+use Rattle.toml_edits.specs.declared.edit.Edit.{Edit}
 use Rattle.toml_edits.specs.Edits.{change}
 use Rattle.toml_edits.specs.Lists.{carried}
-use Rattle.toml_checker.proofs.CarriedSoFar.{arrived}
+use Rattle.toml_checker.specs.Plain.{here}
+use Rattle.toml_checker.proofs.CarriedSoFar.{arrived, none_left}
 use Rattle.toml_checker.proofs.arriving.arrives.Goals as goal
 
-pub returns-in-Some : goal.returns-in-Some
-returns-in-Some c =
-    arrived (carried (map change c.args.edits.now) c.args.from.now) c.in_ok-end.field-0 c.in-Some.end c.args.to.now c.is_same.result
-    (c.in_ok-end.ensures ∙ ap (carried (map change c.args.edits.now)) c.in_ok-copy.ensures) c.in-Some.is c.is_same.ensures
+pub returns : goal.returns
+returns c =
+    let es = c.args.edits.now in
+    let at = here c.loop-edit.moved_to c.args.from.now in
+    arrived (carried (map change es) c.args.from.now) (carried (map change es) c.args.from.now) c.here-2.result.now c.args.to.now c.is_same.result refl
+    (c.loop-edit.invariant ∙ ap (λ (ds : List Edit). carried (map change ds) at) (none_left es c.loop-edit.edit-index (omega arith)) ∙ ap Some (sym c.here-2.ensures)) c.is_same.ensures
