@@ -4,7 +4,7 @@
 --     [t] # head                      2, 3
 --     a.b = [1, {x = 2}, # inner      4: line; 5, 6: elements; 7: pair; 8: comment
 --       3] # tail                     9: element; 10: comment
-use Rattle.std.proofs.Common.{◌≡◌, ℕ, List, [], ◌∷◌, ◌++◌, length, Option, Some, None, Bool, true, false, inl, inr, refl, sym, ap, ◌∙◌, arith, length-append}
+use Rattle.std.proofs.Common.{◌≡◌, ℕ, List, [], ◌∷◌, ◌++◌, length, Option, Some, None, Bool, true, false, inl, inr, refl, ap, ◌∙◌, arith, length-append}
 use Rattle.toml_names.specs.declared.address.Step.TheVariants.{Name, Index}
 use Rattle.toml_names.specs.Addresses.{Address}
 use Rattle.toml_edits.specs.Edits.{Change, set, insert, rename, remove}
