@@ -1,20 +1,18 @@
 -- The demands, one after the other.
-use Rattle.std.proofs.Common.{◌≡◌, ◌⊎◌, inl, inr, ℕ, zero, suc, ◌+◌, ◌<◌, Bool, true, false, List, [], ◌∷◌, get_or, Option, Some, None, refl, sym, ap, ◌∙◌, subst, true≢false, arith}
+use Rattle.std.proofs.Common.{◌≡◌, ◌⊎◌, inl, inr, ℕ, ◌+◌, ◌<◌, Bool, true, false, List, refl, sym, ◌∙◌, subst, true≢false, arith}
 use Rattle.std.proofs.lemmas.Bool.Decides.{nat_tests}
-use Rattle.std.proofs.lemmas.Option.{same_Some}
 use Rattle.std.specs.Bool.{nat_lt}
-use Rattle.std.specs.Prelude.{◌↔◌, IsTrue, slice_get}
+use Rattle.std.specs.Prelude.{◌↔◌, IsTrue}
 use Rattle.toml_tree.specs.Spells.{Spells}
 use Rattle.toml_tree.specs.Tree.{Doc}
 use Rattle.toml_tree.proofs.Proved.{one_tree}
 use Rattle.toml_edits.specs.Edits.{Change}
 use Rattle.toml_checker.specs.declared.verdict.Reason.{Reason}
 use Rattle.toml_checker.specs.declared.verdict.Reason.TheVariants.{BeforeRefused, AfterRefused, EditsRefused, OtherData, BadPair, Lost, Unasked, NewComment, NotTheSame}
-use Rattle.toml_checker.specs.declared.verdict.Verdict.TheVariants.{Yes, No}
+use Rattle.toml_checker.specs.declared.verdict.Verdict.TheVariants.{No}
 use Rattle.toml_checker.specs.Demands.{Demand, Certified, rank, IsVerdict}
 use Rattle.toml_checker.specs.Documents.{OfTree}
 use Rattle.toml_checker.specs.Judging.{HoldBelow}
-use Rattle.toml_checker.specs.Pairs.{PairsFit}
 use Rattle.toml_checker.proofs.Verdicts.{certified_is_all_demands, same_rank}
 
 pub none_below : (before after : List ℕ) (cs : List Change) (ps : List (ℕ × ℕ)) → HoldBelow 0 before cs after ps

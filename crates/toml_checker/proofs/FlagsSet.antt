@@ -1,13 +1,9 @@
 -- Flags of units, read as marks.
-use Rattle.std.proofs.Common.{◌≡◌, ℕ, zero, suc, Bool, true, false, List, [], ◌∷◌, length, map, Some, refl, sym, ap, ◌∙◌}
-use Rattle.std.proofs.lemmas.List.{length-map}
+use Rattle.std.proofs.Common.{◌≡◌, ℕ, zero, suc, Bool, true, List, [], ◌∷◌, Some, ap}
 use Rattle.std.proofs.lemmas.Option.{same_Some}
 use Rattle.std.specs.Prelude.{◌↔◌, slice_get}
 use Rattle.toml_edits.specs.Edits.{Change}
-use Rattle.toml_units.specs.declared.unit.Unit.{Unit as Made}
-use Rattle.toml_units.specs.Plain.{spanned}
 use Rattle.toml_units.specs.Units.{TextUnit}
-use Rattle.toml_units.specs.View.{unit, all_units}
 use Rattle.toml_checker.specs.Marks.{IsSet}
 use Rattle.toml_checker.specs.Plain.{TellProtected}
 use Rattle.toml_checker.specs.Protected.{IsProtected}

@@ -1,5 +1,5 @@
 -- What is found of the data of two documents.
-use Rattle.std.proofs.Common.{◌≡◌, ℕ, List, Option, Some, None, sym, subst, ap}
+use Rattle.std.proofs.Common.{◌≡◌, ℕ, List, Option, Some, None, subst, ap, arith}
 use Rattle.toml_tree.specs.declared.document.Doc.{Doc as Made}
 use Rattle.toml_tree.specs.Document.{document}
 use Rattle.toml_tree.specs.Spells.{Spells}
@@ -21,6 +21,8 @@ use Rattle.toml_checker.specs.Demands.{IsVerdict}
 use Rattle.toml_checker.specs.Documents.{OfData, AreDefined}
 use Rattle.toml_checker.specs.Judging.{HoldBelow}
 use Rattle.toml_checker.specs.Reading.{FindsDocument, IsRest}
+use Rattle.toml_checker.specs.WrittenComments.{HaveValues}
+use Rattle.toml_checker.proofs.Values.{values_of}
 use Rattle.toml_checker.proofs.Asked.{holds, none_below}
 use Rattle.toml_checker.proofs.Leading.{lead_from, lead_to, same_kinds}
 
@@ -71,3 +73,10 @@ has_data text doc rest h = record { spelled = h.1; facts = h.2.0 }
 
 pub documents_hold : (before after : List ℕ) (cs : List Change) (ps : List (ℕ × ℕ)) → IsDocument before → IsDocument after → HoldBelow 2 before cs after ps
 documents_hold before after cs ps old new = holds AfterRefused before after cs ps (holds BeforeRefused before after cs ps (none_below before after cs ps) old) new
+
+-- where the edits are defined no value of theirs is refused
+pub values_hold : (before after : List ℕ) (cs : List Change) (ps : List (ℕ × ℕ)) → HoldBelow 4 before cs after ps → HaveValues cs
+values_hold before after cs ps h = by (h EditsRefused (omega arith))
+  where
+    by : OfData before (λ old. AreDefined cs old) → HaveValues cs
+    by (d, spelled, x, facts, (new, lead)) = values_of cs x new lead

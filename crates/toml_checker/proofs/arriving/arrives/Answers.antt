@@ -1,4 +1,4 @@
-use Rattle.std.proofs.Common.{List, map, drop, ap, refl, sym, ◌∙◌, Some, arith}
+use Rattle.std.proofs.Common.{List, map, ap, refl, sym, ◌∙◌, Some, arith}
 use Rattle.toml_edits.specs.declared.edit.Edit.{Edit}
 use Rattle.toml_edits.specs.Edits.{change}
 use Rattle.toml_edits.specs.Lists.{carried}

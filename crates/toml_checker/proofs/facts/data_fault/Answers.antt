@@ -12,8 +12,7 @@ returns-then-same c =
 pub returns : goal.returns
 returns c =
     let cs = map change c.args.edits.now in
-    let lead = given cs c.args.old c.in_ok-data.field-0 c.in-Some.«data» c.in-Some.is c.in_ok-data.ensures in
-    (
+    let lead = given cs c.args.old c.in_ok-data.field-0 c.in-Some.«data» c.in-Some.is c.in_ok-data.ensures in (
       (c.in-Some.«data».root, lead),
       (λ other. absurd (true≢false (sym (c.same.ensures.1 (one_lead cs c.args.old.root c.in-Some.«data».root c.args.new.now.root lead other)) ∙ c.if-same.false))),
     )

@@ -7,7 +7,11 @@ use Rattle.toml_checker.specs.Kept.{AllKept}
 use Rattle.toml_checker.specs.Lines.{NoLinesAdded}
 use Rattle.toml_checker.specs.Pairs.{PairsFit}
 use Rattle.toml_checker.proofs.Asked.{passes, fails, all_hold, of_tree, of_trees}
+use Rattle.toml_checker.proofs.OfDocuments.{values_hold}
 use Rattle.toml_checker.proofs.judging.judge.Goals as goal
+
+pub no_comments_added-requires : goal.no_comments_added-requires
+no_comments_added-requires c = values_hold c.args.before.text.now c.args.after.text.now (map change c.args.edits.now) c.args.pairs.now c.requires.so_far
 
 pub returns-then-not-branch : goal.returns-then-not-branch
 returns-then-not-branch c =

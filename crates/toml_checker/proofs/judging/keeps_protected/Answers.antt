@@ -1,4 +1,4 @@
-use Rattle.std.proofs.Common.{List, Bool, map, subst, sym}
+use Rattle.std.proofs.Common.{map, subst, sym}
 use Rattle.std.proofs.lemmas.Result.{IfOk-weaker}
 use Rattle.toml_tree.specs.Document.{document}
 use Rattle.toml_edits.specs.Edits.{change}
