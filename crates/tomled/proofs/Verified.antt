@@ -1,7 +1,8 @@
 -- What is refused by `verify` is not verified.
 use Rattle.std.proofs.Common.{◌≡◌, ◌⊎◌, inl, inr, ℕ, List, Result, Ok, Err, Vec, Global, sym, subst, ◌∙◌}
-use Rattle.std.specs.Prelude.{IfErr}
-use Rattle.std.specs.Result.{IsErrAnd}
+use Rattle.std.proofs.lemmas.Result.{IfOk-weaker}
+use Rattle.std.specs.Prelude.{IfErr, IfOk, codes}
+use Rattle.std.specs.declared.alloc.AllocError.{AllocError}
 use Rattle.toml_edits.specs.Edits.{Change}
 use Rattle.toml_edits.proofs.Proved.{one_edit_list, bad_list_is_none}
 use Rattle.toml_units.proofs.Proved.{one_certificate}
@@ -10,10 +11,11 @@ use Rattle.toml_checker.specs.declared.verdict.Reason.{Reason}
 use Rattle.toml_checker.specs.declared.verdict.Verdict.{Verdict}
 use Rattle.toml_checker.specs.declared.verdict.Verdict.TheVariants.{Yes, No}
 use Rattle.toml_checker.proofs.Proved.{one_verdict}
-use Rattle.tomled.specs.Outcomes.{Ends}
-use Rattle.tomled.specs.Verify.{FailsDemand, IsListRefusal, IsUnverified, IsVerified}
+use Rattle.tomled.specs.Outcomes.{ComesTo, Ends, Prints, Tells}
+use Rattle.tomled.specs.Verify.{FailsDemand, IsListRefusal, IsUnverified, IsVerified, Verifies}
 use Rattle.tomled.specs.declared.ending.Ending.{Ending}
 use Rattle.tomled.specs.declared.ending.Ending.TheVariants as ends
+use Rattle.tomled.specs.declared.outcome.Outcome.{Outcome}
 use Rattle.tomled.specs.declared.refusal.Refusal.{Refusal}
 
 no_yes : (reason : Reason) → ◌≡◌ {A = Verdict} Yes (No reason) → ⊥
@@ -37,11 +39,12 @@ module _ (before edits after cert : List ℕ) where
   unverified r (inr (inl (cs, listed, (code, place, none)))) = λ v. none v.pairs v.certificate
   unverified r (inr (inr h)) = no_demand r h
 
--- a refusal is handed on as one of another kind
-pub handed_on : {T : Type 0} (P Q : Refusal → Type 0) (e : Ending) (result : Result T Ending) → IsErrAnd result (λ x. x ≡ e) → ((r : Refusal) → P r → Q r) → Ends P e → IfErr result (Ends Q)
-handed_on P Q e (Ok x) same then h = tt
-handed_on P Q e (Err x) same then h = subst (Ends Q) (sym same) (by e h)
-  where
-    by : (e : Ending) → Ends P e → Ends Q e
-    by (ends.Refused r) h = then r h
-    by ends.NoMemory h = tt
+  -- what the command comes to
+  pub comes : (answer : Result (Vec ℕ Global) Ending) (result : Result Outcome AllocError)
+      → IfOk answer (λ text. IsVerified before edits after cert × (text.items ≡ codes "yes\n")) → IfErr answer (Ends (IsUnverified before edits after cert))
+      → IfOk result (ComesTo answer) → IfOk result (Verifies before edits after cert)
+  comes (Ok text) result good bad =
+      IfOk-weaker result (Prints text.items) (Verifies before edits after cert) (λ o prints. inl (good.0, subst (λ (t : List ℕ). Prints t o) good.1 prints))
+  comes (Err (ends.Refused r)) result good bad =
+      IfOk-weaker result (Tells r) (Verifies before edits after cert) (λ o tells. inr (unverified r bad, r, bad, tells))
+  comes (Err ends.NoMemory) result good bad = IfOk-weaker result (λ o. ⊥) (Verifies before edits after cert) (λ o none. absurd none)

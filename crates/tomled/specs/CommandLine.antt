@@ -30,9 +30,13 @@ verify = with_rule (with_rule (with_rule (with_rule (new_app (codes "verify")) (
 abbrev pub root : App
 root = on_top (λ shape. record shape { subcommand_required = true }) (new_app (codes "tomled"))
 
+-- with the subcommands that read one document
+unfoldable pub readers : App
+readers = with_subcommand (with_subcommand root show.top) check.top
+
 -- the whole command line
 unfoldable pub tool : App
-tool = with_subcommand (with_subcommand (with_subcommand root show.top) check.top) verify.top
+tool = with_subcommand readers verify.top
 
 -- a parse reads this definition of the command, which has no global argument
 pub record IsDefined (app : App) (command : Command) : Type 0 where

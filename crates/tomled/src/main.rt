@@ -126,12 +126,14 @@ fn run<R: Env + Files + AllocGlobal>(rt: &R) -> Result<Outcome, RunFault> {
             let bytes = read_file(rt, file)?;
             Ok(run_check(rt.alloc(), bytes.as_slice())?)
         }
-        Ok(Request::Verify {
-            before,
-            edits,
-            after,
-            cert,
-        }) => {
+        Ok(
+            Request::Verify {
+                before,
+                edits,
+                after,
+                cert,
+            },
+        ) => {
             let before = read_file(rt, before)?;
             let edits = read_whole(rt, edits)?;
             let after = read_file(rt, after)?;

@@ -3,7 +3,7 @@ ghost use Rattle.std.specs.Prelude.{◌≡◌, IfErr, IfOk, false, option_and_th
 ghost use Rattle.clap.specs.Walk.{texts};
 ghost use Rattle.clap.specs.Words.{FailsBy, fault_of, first_of, found_of, kind_of, rows_of, rule_of};
 ghost use Rattle.clap.specs.Words.{subcommand_of, subcommand_rows_of, takes};
-ghost use Rattle.tomled.specs.CommandLine.{IsDefined, check, flag, required_argument, show, tool, verify};
+ghost use Rattle.tomled.specs.CommandLine.{IsDefined, check, flag, readers, required_argument, show, tool, verify};
 ghost use Rattle.tomled.specs.Request.{IsFaultIn, IsRequestIn, asked_by, asked_of, check_of, is_true, show_of, verify_of};
 
 #[cfg(test)]
@@ -74,16 +74,24 @@ fn parse<'a>(alloc: Global, words: &'a [&'a str]) -> Result<ArgMatches<'a>, clap
 fn command<'a>(alloc: Global) -> Result<Command<'a>, AllocError>
     ensures { IfOk result (IsDefined tool) }
 {
+    let readers = reading_commands(alloc)?;
+    let verify = verify_command(alloc)?;
+    readers.subcommand(verify)
+}
+
+/// The command with the subcommands that read one document.
+#[tactic(auto, unfolding(crate::specs::CommandLine::readers))]
+fn reading_commands<'a>(alloc: Global) -> Result<Command<'a>, AllocError>
+    ensures { IfOk result (IsDefined readers) }
+{
     let show = show_command(alloc)?;
     let check = check_command(alloc)?;
-    let verify = verify_command(alloc)?;
     Command::new(alloc, "tomled")
         .bin_name("tomled")?
         .about("Reads and edits TOML documents, and keeps their layout")
         .subcommand_required(true)
         .subcommand(show)?
-        .subcommand(check)?
-        .subcommand(verify)
+        .subcommand(check)
 }
 
 fn show_command<'a>(alloc: Global) -> Result<Command<'a>, AllocError>
