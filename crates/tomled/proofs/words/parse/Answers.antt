@@ -6,15 +6,15 @@ use Rattle.clap.specs.Words.{App, FailsBy, HasMatchesOf, fault_of, is_simple, is
 use Rattle.clap.specs.Words.{kind_of, takes}
 use Rattle.clap.specs.declared.error.kind.ErrorKind.TheVariants.{OutOfMemory}
 use Rattle.clap.proofs.OnLiterals.{clap_on_literals}
-use Rattle.tomled.specs.CommandLine.{tool}
+use Rattle.tomled.specs.CommandLine.{readers, tool}
 use Rattle.tomled.proofs.words.parse.Goals as goal
 
 tool_is_simple : is_simple tool ≡ true
-unfolding clap_on_literals tool
+unfolding clap_on_literals tool readers
 tool_is_simple = refl
 
 tool_is_free : is_simple_and_free tool ≡ true
-unfolding clap_on_literals tool
+unfolding clap_on_literals tool readers
 tool_is_free = refl
 
 pub returns-clause-ok : goal.returns-clause-ok
