@@ -48,7 +48,7 @@ pub(crate) fn no_comments_added(
     pairs: &[(u64, u64)],
 ) -> Result<bool, AllocError>
     requires { HaveValues (map change edits.now) }
-    ensures { IfOk result (λ yes. (e : Doc) → Spells e text.now → all_units units.now ≡ map spanned (units_of e.lines) → (IsTrue yes ↔ NoCommentsAdded (map change edits.now) e pairs.now)) }
+    ensures { IfOk result (λ holds. (e : Doc) → Spells e text.now → all_units units.now ≡ map spanned (units_of e.lines) → (IsTrue holds ↔ NoCommentsAdded (map change edits.now) e pairs.now)) }
 {
     let written = all_written(alloc, edits)?;
     let paired = second_marks(alloc, units.len(), pairs)?;

@@ -56,7 +56,7 @@ pub(crate) fn has(counts: &BTreeMap<&[u8], u64>, text: &[u8]) -> bool
 
 /// Whether no text stands more often among the first ones than among the second.
 pub(crate) fn no_more(alloc: Global, used: &[&[u8]], allowed: &[&[u8]]) -> Result<bool, AllocError>
-    ensures { IfOk result (λ yes. IsTrue yes ↔ ((t : List ℕ) → seen t used.now ≤ seen t allowed.now)) }
+    ensures { IfOk result (λ holds. IsTrue holds ↔ ((t : List ℕ) → seen t used.now ≤ seen t allowed.now)) }
 {
     let mut left = counted(alloc, allowed)?;
     for text in used {

@@ -49,8 +49,8 @@ pub(crate) fn all_kept(
     pairs: &[(u64, u64)],
 ) -> Result<bool, AllocError>
     requires { length protected.now ≡ length units.now }
-    ensures { IfOk result (λ yes. (cs : List Change) (d : Doc) (text : List ℕ) → Spells d text → all_units units.now ≡ map spanned (units_of d.lines)
-        → ((i : ℕ) → IsSet protected.now i ↔ IsProtected cs (units_of d.lines) i) → (IsTrue yes ↔ AllKept cs d pairs.now)) }
+    ensures { IfOk result (λ holds. (cs : List Change) (d : Doc) (text : List ℕ) → Spells d text → all_units units.now ≡ map spanned (units_of d.lines)
+        → ((i : ℕ) → IsSet protected.now i ↔ IsProtected cs (units_of d.lines) i) → (IsTrue holds ↔ AllKept cs d pairs.now)) }
 {
     let paired = first_marks(alloc, units.len(), pairs)?;
     let holders = both(alloc, protected, &paired)?;

@@ -76,7 +76,7 @@ pub(crate) fn no_lines_added(
     pairs: &[(u64, u64)],
 ) -> Result<bool, AllocError>
     requires { all_units units.now ≡ map spanned (units_of (document doc.now).lines) }
-    ensures { IfOk result (λ yes. IsTrue yes ↔ NoLinesAdded (map change edits.now) (document doc.now) pairs.now) }
+    ensures { IfOk result (λ holds. IsTrue holds ↔ NoLinesAdded (map change edits.now) (document doc.now) pairs.now) }
 {
     let debts = debts(alloc, edits)?;
     let paired = second_marks(alloc, units.len(), pairs)?;

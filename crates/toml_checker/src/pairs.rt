@@ -92,7 +92,7 @@ fn are_alike(
 ) -> Result<bool, AllocError>
     requires one { IsWithin text.now one.now }
     requires other { IsWithin other_text.now other.now }
-    ensures { IfOk result (λ yes. IsTrue yes ↔ AreAlike (map change edits.now) text.now one.now other_text.now other.now) }
+    ensures { IfOk result (λ holds. IsTrue holds ↔ AreAlike (map change edits.now) text.now one.now other_text.now other.now) }
 {
     if one.kind != other.kind {
         return Ok(false);
@@ -158,7 +158,7 @@ fn stands_as(
     requires after { IsRead after }
     requires second { IsPassed after.units.now second }
     requires second_there { second.units < length after.units.now }
-    ensures { IfOk result (λ yes. IsTrue yes ↔ StandsAs (map change edits.now) (document before.entry.doc.now) (document after.entry.doc.now) first.units second.units) }
+    ensures { IfOk result (λ holds. IsTrue holds ↔ StandsAs (map change edits.now) (document before.entry.doc.now) (document after.entry.doc.now) first.units second.units) }
 {
     let one = &before.units[first.units];
     let other = &after.units[second.units];
@@ -217,7 +217,7 @@ pub(crate) fn pairs_fit(
 ) -> Result<bool, AllocError>
     requires before { IsRead before }
     requires after { IsRead after }
-    ensures { IfOk result (λ yes. IsTrue yes ↔ PairsFit (map change edits.now) (document before.entry.doc.now) (document after.entry.doc.now) pairs.now) }
+    ensures { IfOk result (λ holds. IsTrue holds ↔ PairsFit (map change edits.now) (document before.entry.doc.now) (document after.entry.doc.now) pairs.now) }
 {
     let mut one = Passed { units: 0, lines: 0 };
     let mut other = one;
