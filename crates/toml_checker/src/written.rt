@@ -5,7 +5,6 @@ ghost use Rattle.toml_checker.specs.Comments.{AreCommentsOf, AreCommentsIn};
 ghost use Rattle.toml_checker.specs.Counts.{plain};
 ghost use Rattle.toml_checker.specs.WrittenComments.{HasValue, HaveValues, IsWrittenBy, AreWrittenBy, LiesBelow, Writes, AnyWrites};
 ghost use Rattle.toml_edits.specs.Edits.{change};
-ghost use Rattle.toml_edits.specs.Edits as edits_of;
 ghost use Rattle.toml_edits.specs.ValueTexts.{IsBadValue};
 ghost use Rattle.toml_tree.specs.Spells.{SpellsValue};
 ghost use Rattle.toml_tree.specs.View.{value as tree_value};
@@ -14,6 +13,7 @@ use crate::above::is_at_or_above;
 use crate::along::carried_along;
 use crate::counting::{counted, has};
 use crate::covered::no_marks;
+use crate::moving::place;
 use crate::unmarked::{texts_of, unmarked};
 use std::alloc::{AllocError, Global};
 use std::collections::BTreeMap;
@@ -76,18 +76,6 @@ fn comments_in<'e>(alloc: Global, edit: &'e Edit) -> Result<Vec<&'e [u8]>, Alloc
         Edit::Insert { value, .. } => comments_of(alloc, value.as_str()),
         Edit::Rename { .. } => Ok(Vec::new(alloc)),
         Edit::Remove { .. } => Ok(Vec::new(alloc)),
-    }
-}
-
-/// The address that an edit names.
-fn place(edit: &Edit) -> &Address
-    ensures { result.now ≡ edits_of.place (change edit.now) }
-{
-    match edit {
-        Edit::Set { at, .. } => at,
-        Edit::Insert { at, .. } => at,
-        Edit::Rename { at, .. } => at,
-        Edit::Remove { at } => at,
     }
 }
 

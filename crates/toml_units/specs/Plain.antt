@@ -6,12 +6,12 @@ use Rattle.toml_tree.specs.ReadingValues.{Element as ArrayElement}
 use Rattle.toml_tree.specs.Pieces.{piece_of, expr_start}
 use Rattle.toml_names.specs.Addresses.{Address, element}
 use Rattle.toml_names.specs.Keys.{key_names}
-pub use Rattle.toml_units.specs.View.{Spanned, spanned}
 use Rattle.toml_names.specs.Mentions.{Named, root, named_by}
 use Rattle.toml_names.specs.Names.{own_address}
 use Rattle.toml_units.specs.declared.unit.UnitKind.TheVariants as kinds
 use Rattle.toml_units.specs.Ends.{piece_end, expr_end}
-use Rattle.toml_units.specs.Units.{TextUnit, gap_units, element_unit, pair_address, tail_units, inside, units}
+use Rattle.toml_units.specs.Units.{gap_units, element_unit, pair_address, tail_units, inside, units}
+pub use Rattle.toml_units.specs.View.{Spanned, spanned}
 
 -- a pair goes as far as its value
 abbrev pub pair_span : Address → KeyVal → Spanned

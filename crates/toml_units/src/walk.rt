@@ -1,10 +1,10 @@
 //! The units of values.
-ghost use Rattle.std.specs.Prelude.{ℕ, List, ◌≡◌, [], ◌∷◌, ◌++◌, length, map, option_map, OnOk, IfOk};
-ghost use Rattle.toml_tree.specs.View.{piece, gap, gap_line, value, element as tree_element, keyval as tree_keyval};
+ghost use Rattle.std.specs.Prelude.{ℕ, List, ◌≡◌, [], ◌++◌, map, option_map, OnOk, IfOk};
+ghost use Rattle.toml_tree.specs.View.{piece, gap, value, element as tree_element, keyval as tree_keyval};
 ghost use Rattle.toml_units.specs.Plain.{spanned, plain_inside, element_units, pair_units};
 ghost use Rattle.toml_tree.specs.Pieces.{piece_of};
 ghost use Rattle.toml_tree.specs.Spells.{SpellsValue};
-ghost use Rattle.toml_units.specs.Units.{comment_units, gap_units, gap_line_units, inside};
+ghost use Rattle.toml_units.specs.Units.{comment_units, gap_units, inside};
 ghost use Rattle.toml_units.specs.View.{unit, all_units};
 
 use crate::unit::{Unit, UnitKind};
