@@ -35,7 +35,7 @@ pub fn carried_by_lists()
     ensures apart { ListsCarryApart }
 {}
 
-/// A list leads to data or has a first fault, never both; of each there is at most one.
+/// No list both leads to data and has a first fault; of each there is at most one.
 pub fn lists()
     ensures one { OneLead }
     ensures or_fault { FaultOrLead }
