@@ -1,11 +1,11 @@
 #!/usr/bin/env python3
-"""Times `tomled verify` on large texts, beside `tomled check` of the same text.
+"""Times `tomled verify` and `tomled edit` on large texts, beside `tomled check` of the same text.
 
   bench/verify.py --binary crates/tomled/out/tomled
 
 Each text is edited by `set`, once and a hundred times, and the certificate keeps all that no edit names. For each text it
 prints the best of some runs: the seconds of `check`, of `verify` with one edit and with a hundred, the ratios, and the
-peak memory of both in megabytes. No test rests on these numbers.
+peak memory of both in megabytes; and the same of `edit`. No test rests on these numbers.
 """
 import argparse
 import importlib.util
@@ -112,9 +112,9 @@ def main():
     parser.add_argument('--runs', type=int, default=3)
     options = parser.parse_args()
     binary = os.path.abspath(options.binary)
-    print('%-14s %8s %8s %8s %8s %8s %9s %9s' % ('text', 'check', 'one', 'hundred', 'one/chk', 'hun/one', 'MB check', 'MB one'))
+    print('%-14s %-7s %8s %8s %8s %8s %8s %9s %9s' % ('text', 'command', 'check', 'one', 'hundred', 'one/chk', 'hun/one', 'MB check', 'MB one'))
     for name, make in (('flat keys', flat), ('tables', tables), ('array tables', array_tables), ('one array', array)):
-        row = []
+        plain, verified, made = None, [], []
         with tempfile.TemporaryDirectory() as folder:
             for count in (1, 100):
                 before, after, edits, kept = make(count)
@@ -126,10 +126,15 @@ def main():
                         out.write(data)
                     paths.append(path)
                 if count == 1:
-                    row.append(timed([binary, 'check', paths[0]], options.runs, 0))
-                row.append(timed([binary, 'verify'] + paths, options.runs, 0))
-        (plain, plain_memory), (one, memory), (hundred, _) = row
-        print('%-14s %8.2f %8.2f %8.2f %8.2f %8.2f %9.0f %9.0f' % (name, plain, one, hundred, one / plain, hundred / one, plain_memory, memory))
+                    plain = timed([binary, 'check', paths[0]], options.runs, 0)
+                verified.append(timed([binary, 'verify'] + paths, options.runs, 0))
+                out, cert = os.path.join(folder, 'out'), os.path.join(folder, 'out_cert')
+                made.append(timed([binary, 'edit', paths[0], paths[1], out, cert], options.runs, 0))
+                with open(out, 'rb') as written:
+                    if written.read() != after:
+                        raise SystemExit('%s: another text' % name)
+        for command, ((one, memory), (hundred, _)) in (('verify', verified), ('edit', made)):
+            print('%-14s %-7s %8.2f %8.2f %8.2f %8.2f %8.2f %9.0f %9.0f' % (name, command, plain[0], one, hundred, one / plain[0], hundred / one, plain[1], memory))
 
 
 if __name__ == '__main__':

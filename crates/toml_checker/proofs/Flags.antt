@@ -138,11 +138,11 @@ renames_in (remove at) n a = no (λ w. w.0)
 part_gone : (c : Change) (a : Address) → D (plain.part_is_gone c (side (place c) a)) (PartIsGone c a)
 part_gone c a = d_or (plain.removes c (side (place c) a)) (plain.sets c (side (place c) a)) (Removes c a) (Sets c a) (removes c a) (sets c a)
 
-line_gone : (c : Change) (a : Address) (b : Option ℕ) → D (plain.line_is_gone c b (side (place c) a)) (LineIsGone c (Some a) b)
+pub line_gone : (c : Change) (a : Address) (b : Option ℕ) → D (plain.line_is_gone c b (side (place c) a)) (LineIsGone c (Some a) b)
 line_gone c a None = part_gone c a
 line_gone c a (Some n) = d_or (plain.removes c (side (place c) a)) (plain.sets_above c (side (place c) a)) (Removes c a) (SetsAbove c a) (removes c a) (sets_above c a)
 
-line_changed : (c : Change) (a : Address) (b : Option ℕ) → D (plain.line_is_changed c b (side (place c) a)) (LineIsChanged c (Some a) b)
+pub line_changed : (c : Change) (a : Address) (b : Option ℕ) → D (plain.line_is_changed c b (side (place c) a)) (LineIsChanged c (Some a) b)
 line_changed c a None = renames c a
 line_changed c a (Some n) =
     d_or (plain.sets_it c (side (place c) a)) (plain.is_below (side (place c) a) || plain.renames_in c n (side (place c) a)) (SetsIt c a) (IsWithin c a ⊎ (Renames c a × (n < length (place c)))) (sets_it c a)

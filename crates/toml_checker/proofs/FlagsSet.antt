@@ -8,12 +8,12 @@ use Rattle.toml_checker.specs.Marks.{IsSet}
 use Rattle.toml_checker.specs.Plain.{TellProtected}
 use Rattle.toml_checker.specs.Protected.{IsProtected}
 
-to_mark : (fs : List Bool) (i : ℕ) → slice_get fs i ≡ Some true → IsSet fs i
+pub to_mark : (fs : List Bool) (i : ℕ) → slice_get fs i ≡ Some true → IsSet fs i
 to_mark [] i h = cc
 to_mark (f ∷ fs) zero h = same_Some f true h
 to_mark (f ∷ fs) (suc i) h = to_mark fs i h
 
-from_mark : (fs : List Bool) (i : ℕ) → IsSet fs i → slice_get fs i ≡ Some true
+pub from_mark : (fs : List Bool) (i : ℕ) → IsSet fs i → slice_get fs i ≡ Some true
 from_mark [] i h = cc
 from_mark (f ∷ fs) zero h = ap Some h
 from_mark (f ∷ fs) (suc i) h = from_mark fs i h

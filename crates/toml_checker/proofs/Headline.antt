@@ -64,12 +64,12 @@ first_pair [] i h = absurd h
 first_pair (q ∷ ps) i (inl e) = (q, inl refl, e)
 first_pair (q ∷ ps) i (inr h) = let r = first_pair ps i h in (r.0, inr r.1, r.2)
 
-past_first : (i k : ℕ) (ps : List (ℕ × ℕ)) (p : ℕ × ℕ) → RiseFrom i k ps → IsPair p ps → (i < p.0) × (k < p.1)
+pub past_first : (i k : ℕ) (ps : List (ℕ × ℕ)) (p : ℕ × ℕ) → RiseFrom i k ps → IsPair p ps → (i < p.0) × (k < p.1)
 past_first i k [] p r m = absurd m
 past_first i k (q ∷ ps) p r (inl e) = (subst (λ (x : ℕ × ℕ). i < x.0) (sym e) r.0, subst (λ (x : ℕ × ℕ). k < x.1) (sym e) r.1)
 past_first i k (q ∷ ps) p r (inr m) = let s = past_first q.0 q.1 ps p r.2 m in (omega (arith, r.0, s.0), omega (arith, r.1, s.1))
 
-rise_from : (i k : ℕ) (ps : List (ℕ × ℕ)) → RiseFrom i k ps → Rise ps
+pub rise_from : (i k : ℕ) (ps : List (ℕ × ℕ)) → RiseFrom i k ps → Rise ps
 rise_from i k [] r = tt
 rise_from i k (p ∷ ps) r = r.2
 

@@ -14,7 +14,7 @@ use Rattle.toml_checker.proofs.Parted.{parted_at}
 use Rattle.toml_checker.proofs.Sides.{side_past, side_of_front}
 
 -- what the carrier keeps of all at or below the place stays
-below_keeps : (p : Address) (g : Carrier) (a : Address) → ((r : Address) → a ≡ p ++ r → g r ≡ Some r) → carry_below p g a ≡ Some a
+pub below_keeps : (p : Address) (g : Carrier) (a : Address) → ((r : Address) → a ≡ p ++ r → g r ≡ Some r) → carry_below p g a ≡ Some a
 below_keeps [] g a h = h a refl
 below_keeps (s ∷ p) g [] h = refl
 below_keeps (s ∷ p) g (t ∷ a) h = by (same_step s t) refl (below_keeps p g a)

@@ -22,10 +22,13 @@ pub mod Partners
 pub mod Between
 pub mod Headline
 pub mod Stands
+pub mod Sentence
 pub mod Verdicts
 pub mod Reach
 pub mod Held
 pub mod KeptUnits
+pub mod OuterUnits
+pub mod OwedLines
 pub mod AtOrAbove
 pub mod Owing
 pub mod AskedLines

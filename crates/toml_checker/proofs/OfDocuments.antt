@@ -1,10 +1,11 @@
 -- What is found of the data of two documents.
-use Rattle.std.proofs.Common.{◌≡◌, ℕ, List, Option, Some, None, subst, ap, arith}
+use Rattle.std.proofs.Common.{◌≡◌, ℕ, List, Option, Some, None, subst, sym, arith}
 use Rattle.toml_tree.specs.declared.document.Doc.{Doc as Made}
 use Rattle.toml_tree.specs.Document.{document}
 use Rattle.toml_tree.specs.Spells.{Spells}
 use Rattle.toml_tree.specs.Tree.{Doc}
 use Rattle.toml_tree.proofs.Proved.{one_tree}
+use Rattle.toml_names.specs.declared.datum.Data.{Data}
 use Rattle.toml_names.specs.declared.datum.Datum.{Datum}
 use Rattle.toml_names.specs.Data.{IsDataOf, kind_at}
 use Rattle.toml_names.specs.Documents.{IsDocument}
@@ -12,11 +13,11 @@ use Rattle.toml_names.specs.Mentions.{named}
 use Rattle.toml_names.proofs.Proved.{one_data}
 use Rattle.toml_edits.specs.Edits.{Change}
 use Rattle.toml_edits.specs.Lists.{Lead}
+use Rattle.toml_edits.proofs.Proved.{one_lead}
 use Rattle.toml_checker.specs.declared.documents.Rest.{Rest}
-use Rattle.toml_checker.specs.declared.verdict.Reason.{Reason}
-use Rattle.toml_checker.specs.declared.verdict.Reason.TheVariants.{BeforeRefused, AfterRefused, EditsRefused, OtherData, BadPair, Lost, Unasked, NewComment, NotTheSame}
+use Rattle.toml_checker.specs.declared.verdict.Reason.TheVariants.{BeforeRefused, AfterRefused, EditsRefused, OtherData}
 use Rattle.toml_checker.specs.declared.verdict.Verdict.TheVariants.{No}
-use Rattle.toml_checker.specs.After.{IsDataFault}
+use Rattle.toml_checker.specs.After.{GivesData, GivesMade, IsMadeOf}
 use Rattle.toml_checker.specs.Demands.{IsVerdict}
 use Rattle.toml_checker.specs.Documents.{OfData, AreDefined}
 use Rattle.toml_checker.specs.Judging.{HoldBelow}
@@ -24,7 +25,7 @@ use Rattle.toml_checker.specs.Reading.{FindsDocument, IsRest}
 use Rattle.toml_checker.specs.WrittenComments.{HaveValues}
 use Rattle.toml_checker.proofs.Values.{values_of}
 use Rattle.toml_checker.proofs.Asked.{holds, none_below}
-use Rattle.toml_checker.proofs.Leading.{lead_from, lead_to, same_kinds}
+use Rattle.toml_checker.proofs.Leading.{lead_from, same_kinds}
 
 -- the tree of the text, and its data
 pub record HasData (text : List ℕ) (d : Doc) (x : Datum) : Type 0 where
@@ -40,39 +41,50 @@ one text d e x y h spelled facts =
 defined : (text : List ℕ) (d : Doc) (x : Datum) (cs : List Change) → HasData text d x → OfData text (λ old. AreDefined cs old) → AreDefined cs x
 defined text d x cs h (e, spelled, y, facts, (new, lead)) = (new, lead_from cs y x new (one text d e x y h spelled facts) lead)
 
-leads : (text other : List ℕ) (d e : Doc) (x y : Datum) (cs : List Change) → HasData text d x → HasData other e y → OfData text (λ old. OfData other (λ new. Lead cs old new)) → Lead cs x y
-leads text other d e x y cs h k (f, spelled, z, facts, (g, also, w, more, lead)) =
-    let same = one other e g y w k also more in
-    lead_to cs x w y (λ a. ap (λ kinds. kinds a) same) (lead_from cs z x w (one text d f x z h spelled facts) lead)
+-- what the edits were found to make of the data
+pub made_of : (text : List ℕ) (d : Doc) (old : Data) (cs : List Change) (found : Option Data) → HasData text d old.root → GivesData cs old found → GivesMade text cs found
+made_of text d old cs None h none = λ all. none (defined text d old.root cs h all)
+made_of text d old cs (Some new) h lead = (d, h.spelled, old.root, h.facts, lead)
 
--- the demands on the data hold, or one is the first that does not
-pub data_hold : (before after : List ℕ) (d e : Doc) (x y : Datum) (cs : List Change) (ps : List (ℕ × ℕ)) → HasData before d x → HasData after e y → HoldBelow 2 before cs after ps → IsDataFault cs x y None → HoldBelow 4 before cs after ps
-data_hold before after d e x y cs ps h k so lead =
-    holds OtherData before after cs ps (holds EditsRefused before after cs ps so (d, h.spelled, x, h.facts, (y, lead)))
-    (d, h.spelled, x, h.facts, (e, k.spelled, y, k.facts, lead))
+-- the demands on the documents and their data hold, or one is the first that does not
+pub documents_hold : (before after : List ℕ) (cs : List Change) (ps : List (ℕ × ℕ)) → IsDocument before → IsDocument after → HoldBelow 2 before cs after ps
+documents_hold before after cs ps old new = holds AfterRefused before after cs ps (holds BeforeRefused before after cs ps (none_below before after cs ps) old) new
 
-pub data_fail : (before after : List ℕ) (d e : Doc) (x y : Datum) (cs : List Change) (ps : List (ℕ × ℕ)) → HasData before d x → HasData after e y → HoldBelow 2 before cs after ps → (r : Reason) → IsDataFault cs x y (Some r) → IsVerdict before cs after ps (No r)
-data_fail before after d e x y cs ps h k so EditsRefused fault = ((λ all. fault (defined before d x cs h all)), so)
-data_fail before after d e x y cs ps h k so OtherData fault = (
-  (λ all. fault.1 (leads before after d e x y cs h k all)),
-  holds EditsRefused before after cs ps so (d, h.spelled, x, h.facts, fault.0),
+pub after_refused : (before after : List ℕ) (cs : List Change) (ps : List (ℕ × ℕ)) → IsDocument before → ¬ IsDocument after → IsVerdict before cs after ps (No AfterRefused)
+after_refused before after cs ps old none = (none, holds BeforeRefused before after cs ps (none_below before after cs ps) old)
+
+pub edits_refused : (before after : List ℕ) (cs : List Change) (ps : List (ℕ × ℕ)) → IsDocument before → IsDocument after → ¬ OfData before (AreDefined cs) → IsVerdict before cs after ps (No EditsRefused)
+edits_refused before after cs ps old new none = (none, documents_hold before after cs ps old new)
+
+edits_hold : (before after : List ℕ) (cs : List Change) (ps : List (ℕ × ℕ)) (made : Data) → HoldBelow 2 before cs after ps → IsMadeOf before cs made → HoldBelow 3 before cs after ps
+edits_hold before after cs ps made so (d, spelled, old, facts, lead) = holds EditsRefused before after cs ps so (d, spelled, old, facts, (made.root, lead))
+
+-- data that the edits make of those of the one text are the other's, if any are
+is_only : (before after : List ℕ) (e : Doc) (cs : List Change) (made : Data) → IsMadeOf before cs made → Spells e after → OfData before (λ old. OfData after (λ new. Lead cs old new)) → IsDataOf (named e.lines) (kind_at made.root)
+is_only before after e cs made (d, spelled, old, facts, lead) spells (f, also, x, more, (g, there, y, new, other)) =
+    let same = one before d f old x (record { spelled = spelled; facts = facts }) also more in
+    let kinds = same_kinds made.root y (one_lead cs old made.root y lead (lead_from cs x old y same other)) in
+    let tree : g ≡ e = one_tree g e after there spells in
+    subst (IsDataOf (named e.lines)) (sym kinds) (subst (λ (e : Doc). IsDataOf (named e.lines) (kind_at y)) tree new)
+
+pub other_data : (before after : List ℕ) (e : Doc) (cs : List Change) (ps : List (ℕ × ℕ)) (made : Data) → IsDocument before → IsDocument after → IsMadeOf before cs made → Spells e after
+    → ¬ IsDataOf (named e.lines) (kind_at made.root) → IsVerdict before cs after ps (No OtherData)
+other_data before after e cs ps made old new is spells other = (
+  λ all. other (is_only before after e cs made is spells all),
+  edits_hold before after cs ps made (documents_hold before after cs ps old new) is,
 )
-data_fail before after d e x y cs ps h k so BeforeRefused fault = absurd fault
-data_fail before after d e x y cs ps h k so AfterRefused fault = absurd fault
-data_fail before after d e x y cs ps h k so BadPair fault = absurd fault
-data_fail before after d e x y cs ps h k so Lost fault = absurd fault
-data_fail before after d e x y cs ps h k so Unasked fault = absurd fault
-data_fail before after d e x y cs ps h k so NewComment fault = absurd fault
-data_fail before after d e x y cs ps h k so NotTheSame fault = absurd fault
+
+pub data_hold : (before after : List ℕ) (e : Doc) (cs : List Change) (ps : List (ℕ × ℕ)) (made : Data) → IsDocument before → IsDocument after → IsMadeOf before cs made → Spells e after
+    → IsDataOf (named e.lines) (kind_at made.root) → HoldBelow 4 before cs after ps
+data_hold before after e cs ps made old new (d, spelled, x, facts, lead) spells are =
+    holds OtherData before after cs ps (edits_hold before after cs ps made (documents_hold before after cs ps old new) (d, spelled, x, facts, lead))
+    (d, spelled, x, facts, (e, spells, made.root, are, lead))
 
 pub found : (text : List ℕ) (o : Option (Made × Rest)) (doc : Made) (rest : Rest) → o ≡ Some (doc, rest) → FindsDocument text o → IsDocument text × Spells (document doc) text × IsRest doc rest
 found text o doc rest is h = subst (FindsDocument text) is h
 
 pub has_data : (text : List ℕ) (doc : Made) (rest : Rest) → IsDocument text × Spells (document doc) text × IsRest doc rest → HasData text (document doc) rest.«data».root
 has_data text doc rest h = record { spelled = h.1; facts = h.2.0 }
-
-pub documents_hold : (before after : List ℕ) (cs : List Change) (ps : List (ℕ × ℕ)) → IsDocument before → IsDocument after → HoldBelow 2 before cs after ps
-documents_hold before after cs ps old new = holds AfterRefused before after cs ps (holds BeforeRefused before after cs ps (none_below before after cs ps) old) new
 
 -- where the edits are defined no value of theirs is refused
 pub values_hold : (before after : List ℕ) (cs : List Change) (ps : List (ℕ × ℕ)) → HoldBelow 4 before cs after ps → HaveValues cs

@@ -10,7 +10,7 @@ parted_at [] s = refl
 parted_at (t ∷ []) s = refl
 parted_at (t ∷ u ∷ q) s = ap (option_map (λ (w : Address × Step). (t ∷ w.0, w.1))) (parted_at (u ∷ q) s)
 
-ends : (p : Address) → (p ≡ []) ⊎ ((q : Address) × (s : Step) × (p ≡ q ++ s ∷ []))
+pub ends : (p : Address) → (p ≡ []) ⊎ ((q : Address) × (s : Step) × (p ≡ q ++ s ∷ []))
 ends [] = inl refl
 ends (s ∷ p) = by (ends p)
   where

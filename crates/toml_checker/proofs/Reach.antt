@@ -1,12 +1,12 @@
 -- The furthest end of what is marked.
-use Rattle.std.proofs.Common.{◌≡◌, ℕ, zero, suc, ◌<◌, ◌≤◌, ◌+◌, ◌↔◌, Bool, true, false, List, [], ◌∷◌, ◌++◌, length, get_or, ap, Option, Some, None, ◌⊎◌, inl, inr, nat_le, below_more, refl, sym, ◌∙◌, subst, arith}
+use Rattle.std.proofs.Common.{◌≡◌, ℕ, zero, suc, ◌<◌, ◌≤◌, ◌+◌, ◌↔◌, Bool, true, false, true≢false, not, ◌&&◌, List, [], ◌∷◌, ◌++◌, length, get_or, ap, Option, Some, None, ◌⊎◌, inl, inr, nat_le, below_more, refl, sym, ◌∙◌, subst, arith}
 use Rattle.std.proofs.lemmas.Bool.Decides.{nat_tests}
 use Rattle.std.proofs.lemmas.List.{get_or_append_left}
 use Rattle.std.proofs.Math.Seq.{get_or-append_seam}
 use Rattle.std.proofs.lemmas.Option.{none-some, same_Some}
 use Rattle.toml_units.specs.declared.unit.Unit.{Unit as Made}
 use Rattle.toml_units.specs.View.{all_units}
-use Rattle.toml_checker.specs.Marks.{IsSet, IsHeld, stops, further, reach_with, reaches}
+use Rattle.toml_checker.specs.Marks.{EndsWithin, IsSet, IsHeld, IsFree, stops, further, reach_with, reaches}
 
 abbrev pub at : List ℕ → ℕ → ℕ
 at ends j = get_or ends j 0
@@ -87,6 +87,23 @@ module _ (ends : List ℕ) (marks : List Bool) (n : ℕ) where
 
   pub held_here : (reach : Option ℕ) → Reached ends marks (n + 1) reach → (reaches reach (at ends n) ≡ true) ↔ IsHeld ends marks n
   held_here reach h = (within reach h, held_within reach h)
+
+-- the same of what is reached before the unit
+module _ (ends : List ℕ) (marks : List Bool) (n : ℕ) where
+  within_before : (reach : Option ℕ) → Reached ends marks n reach → reaches reach (at ends n) ≡ true → EndsWithin ends marks n
+  within_before None h is = cc
+  within_before (Some far) h is =
+      let b = h.best far refl in
+      let low : at ends n ≤ far = grind (arith, nat_tests) in
+      (b.0, b.1, b.2, omega (arith, b.3))
+
+  before_within : (reach : Option ℕ) → Reached ends marks n reach → EndsWithin ends marks n → reaches reach (at ends n) ≡ true
+  before_within reach h (j, low, p, le) = let w = h.bound j low p in low_reaches ends marks n reach w.0 w.1 (omega (arith, w.2, le))
+
+  pub free_here : (reach : Option ℕ) (b r : Bool) → get_or marks n false ≡ b → reaches reach (at ends n) ≡ r → Reached ends marks n reach → ((b && not r) ≡ true) ↔ IsFree ends marks n
+  free_here reach false r is e h = ((λ s. absurd (true≢false (sym s))), (λ p. absurd (unlike _ is p.0)))
+  free_here reach true false is e h = ((λ s. (is, λ w. unlike _ e (before_within reach h w))), (λ p. refl))
+  free_here reach true true is e h = ((λ s. absurd (true≢false (sym s))), (λ p. absurd (p.1 (within_before reach h e))))
 
 -- One more mark at the end, behind those that say the same.
 pub one_more : (P : ℕ → Type 0) (marks : List Bool) (b : Bool) (n : ℕ) → length marks ≡ n → ((k : ℕ) → k < n → IsSet marks k ↔ P k) → (b ≡ true) ↔ P n → (k : ℕ) → k < n + 1 → IsSet (marks ++ b ∷ []) k ↔ P k

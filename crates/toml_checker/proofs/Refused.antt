@@ -39,10 +39,3 @@ pub no_names : (text : List ℕ) (d : Doc) (fault : NameFault) → Spells d text
 no_names text d fault spelled memory refuses = λ document.
     let same : document.1 ≡ d = one_tree document.1 d text document.2 spelled in
     refused_are_bad d.lines fault refuses memory (subst (λ (e : Doc). AreGood e.lines) same document.3)
-
--- a copy of data is data of the same
-pub data_copied : (ms ns : List Named) (k l : Kinds) → ns ≡ ms → IsDataOf ns k → ((at : Address) → l at ≡ k at) → IsDataOf ms l
-data_copied ms ns k l is facts same = λ at kind. let e = facts at kind in (
-  (λ h. subst (λ (ms : List Named). IsFact ms at kind) is (e.0 (sym (same at) ∙ h))),
-  (λ h. same at ∙ e.1 (subst (λ (ms : List Named). IsFact ms at kind) (sym is) h)),
-)

@@ -1,5 +1,5 @@
 -- The partners of protected units.
-use Rattle.std.proofs.Common.{◌≡◌, ◌⊎◌, inl, inr, ℕ, zero, suc, ◌+◌, ◌-◌, ◌<◌, ◌≤◌, ◌&&◌, Bool, true, false, cond, List, [], ◌∷◌, Option, Some, None, refl, sym, ap, subst, ◌∙◌, arith}
+use Rattle.std.proofs.Common.{◌≡◌, ◌⊎◌, inl, inr, ℕ, zero, suc, ◌+◌, ◌-◌, ◌<◌, ◌≤◌, ◌^◌, ◌&&◌, Bool, true, false, cond, List, [], ◌∷◌, length, Option, Some, None, refl, sym, ap, subst, ◌∙◌, arith}
 use Rattle.std.proofs.lemmas.Bool.Decides.{nat_tests}
 use Rattle.std.proofs.lemmas.Option.{same_Some}
 use Rattle.std.specs.Bool.{nat_le}
@@ -18,9 +18,12 @@ use Rattle.toml_edits.proofs.Proved.{lists_carry_apart}
 use Rattle.toml_units.specs.OfLines.{IsOfLine}
 use Rattle.toml_units.proofs.Proved.{units_nest, units_have_addresses, units_are_sized, units_are_of_lines, units_are_twins, tails_end_lines}
 use Rattle.toml_checker.specs.CarriedTo.{IsCarriedTo}
-use Rattle.toml_checker.specs.Headline.{AllStand, CertifiedStand}
+use Rattle.toml_checker.specs.Comments.{NoCommentsAdded}
+use Rattle.toml_checker.specs.Demands.{Certified}
+use Rattle.toml_checker.specs.Headline.{AllStand}
 use Rattle.toml_checker.specs.Kept.{AllKept}
-use Rattle.toml_checker.specs.Pairs.{StandsAs, PairsFit, IsFirst}
+use Rattle.toml_checker.specs.Lines.{NoLinesAdded}
+use Rattle.toml_checker.specs.Pairs.{StandsAs, PairsFit, IsFirst, Rise}
 use Rattle.toml_checker.specs.Plain.{site, flags}
 use Rattle.toml_checker.specs.Protected.{IsProtected}
 use Rattle.toml_checker.proofs.Between.{Between, between}
@@ -28,7 +31,7 @@ use Rattle.toml_checker.proofs.Each.{each_get}
 use Rattle.toml_checker.proofs.Flags.{flags_tell}
 use Rattle.toml_checker.proofs.InBlocks.{in_block as block_at}
 use Rattle.toml_checker.proofs.Partners.{in_block, Covered, partner, ApartFrom, Apart, block_low, block_high, block_in, both_true, clash, rises}
-use Rattle.toml_checker.proofs.Headline.{Given, IsPair, pair_is, first_pair, both_rise, inner_stands, line_stays, paired_line, same_place, named_at}
+use Rattle.toml_checker.proofs.Headline.{Given, IsPair, pair_is, first_pair, past_first, rise_from, both_rise, inner_stands, line_stays, paired_line, same_place, named_at}
 
 -- a line and a comment are not one
 line_no_tail : (k : UnitKind) → k ≡ kinds.Line → k ≡ kinds.TailComment → ⊥
@@ -216,7 +219,7 @@ flag_is : (o : Option Bool) → (flag_at o ≡ true) ↔ (o ≡ Some true)
 flag_is None = ((λ e. cc), (λ e. cc))
 flag_is (Some b) = ((λ e. ap Some e), (λ e. same_Some b true e))
 
-abbrev flag_of : List Change → List TextUnit → ℕ → Bool
+abbrev pub flag_of : List Change → List TextUnit → ℕ → Bool
 flag_of cs us i = flag_at (slice_get (flags cs (map site us)) i)
 
 flag_tells : (cs : List Change) (us : List TextUnit) (i : ℕ) → (flag_of cs us i ≡ true) ↔ IsProtected cs us i
@@ -225,16 +228,26 @@ flag_tells cs us i =
     let t = (flags_tell cs us).1 i in
     ((λ e. t.0 (f.0 e)), (λ p. f.1 (t.1 p)))
 
-pub certified_stand : CertifiedStand
-certified_stand before after cs ps c few =
+-- the one tree of each text, and the demands on them
+pub record Read (before : List ℕ) (cs : List Change) (after : List ℕ) (ps : List (ℕ × ℕ)) (d e : Doc) : Type 0 where
+  pub fit : PairsFit cs d e ps
+  pub kept : AllKept cs d ps
+  pub lines : NoLinesAdded cs e ps
+  pub comments : NoCommentsAdded cs e ps
+
+pub read : (before after : List ℕ) (cs : List Change) (ps : List (ℕ × ℕ)) (c : Certified before cs after ps) → Read before cs after ps c.old.1 c.new.1
+read before after cs ps c = record {
+  fit = subst (λ x. PairsFit cs x c.new.1 ps) (one_tree c.pairs.0 c.old.1 before c.pairs.1 c.old.2) (subst (λ x. PairsFit cs c.pairs.0 x ps) (one_tree c.pairs.2.0 c.new.1 after c.pairs.2.1 c.new.2) c.pairs.2.2);
+  kept = subst (λ x. AllKept cs x ps) (one_tree c.kept.0 c.old.1 before c.kept.1 c.old.2) c.kept.2;
+  lines = subst (λ x. NoLinesAdded cs x ps) (one_tree c.lines.0 c.new.1 after c.lines.1 c.new.2) c.lines.2;
+  comments = subst (λ x. NoCommentsAdded cs x ps) (one_tree c.comments.0 c.new.1 after c.comments.1 c.new.2) c.comments.2;
+}
+
+pub given : (before after : List ℕ) (cs : List Change) (ps : List (ℕ × ℕ)) (c : Certified before cs after ps) → length cs < 2 ^ 63 → Given cs c.old.1 c.new.1 ps (flag_of cs (units c.old.1.lines))
+given before after cs ps c few =
     let d = c.old.1 in
-    let e = c.new.1 in
-    let fit : PairsFit cs d e ps =
-    subst (λ x. PairsFit cs x e ps) (one_tree c.pairs.0 d before c.pairs.1 c.old.2) (subst (λ x. PairsFit cs c.pairs.0 x ps) (one_tree c.pairs.2.0 e after c.pairs.2.1 c.new.2) c.pairs.2.2) in
-    let kept : AllKept cs d ps = subst (λ x. AllKept cs x ps) (one_tree c.kept.0 d before c.kept.1 c.old.2) c.kept.2 in
-    let old_is : IsDataOf (named d.lines) (kind_at c.facts.2) = subst (λ (x : Doc). IsDataOf (named x.lines) (kind_at c.facts.2)) (one_tree c.facts.0 d before c.facts.1 c.old.2) c.facts.3 in
-    all_stand cs d e ps (flag_of cs (units d.lines))
-    (record {
+    let r = read before after cs ps c in
+    record {
       text = before;
       other = after;
       spells = c.old.2;
@@ -243,11 +256,41 @@ certified_stand before after cs ps c few =
       good = c.old.3;
       old = c.facts.2;
       new = c.facts.4.2;
-      old_is = old_is;
+      old_is = subst (λ (x : Doc). IsDataOf (named x.lines) (kind_at c.facts.2)) (one_tree c.facts.0 d before c.facts.1 c.old.2) c.facts.3;
       lead = c.facts.4.4;
-      rise = fit.0;
-      fit = fit.1;
-      kept = kept;
+      rise = r.fit.0;
+      fit = r.fit.1;
+      kept = r.kept;
       few = few;
       flags_are = flag_tells cs (units d.lines);
-    })
+    }
+
+-- ---- a paired line that is protected is the partner of its first
+
+one_second : (ps : List (ℕ × ℕ)) (p q : ℕ × ℕ) → Rise ps → IsPair p ps → IsPair q ps → p.0 ≡ q.0 → p.1 ≡ q.1
+one_second [] p q r m n e = absurd m
+one_second (x ∷ ps) p q r (inl a) (inl b) e = ap (λ (y : ℕ × ℕ). y.1) (a ∙ sym b)
+one_second (x ∷ ps) p q r (inl a) (inr n) e = absurd (omega (arith, (past_first x.0 x.1 ps q r n).0, ap (λ (y : ℕ × ℕ). y.0) a, e))
+one_second (x ∷ ps) p q r (inr m) (inl b) e = absurd (omega (arith, (past_first x.0 x.1 ps p r m).0, ap (λ (y : ℕ × ℕ). y.0) b, e))
+one_second (x ∷ ps) p q r (inr m) (inr n) e = one_second ps p q (rise_from x.0 x.1 ps r) m n e
+
+pub line_partner : (cs : List Change) (d e : Doc) (ps : List (ℕ × ℕ)) (flags : ℕ → Bool) (g : Given cs d e ps flags) (p : ℕ × ℕ) → IsPair p ps → (u : TextUnit) → slice_get (units d.lines) p.0 ≡ Some u → u.kind ≡ kinds.Line → IsProtected cs (units d.lines) p.0
+    → (all_stand cs d e ps flags g).partner p.0 ≡ p.1
+unfolding all_stand
+line_partner cs d e ps flags g p m u is line protected = by (nat_le p.0 f.pair.0) refl
+  where
+    f : Found flags (size (units d.lines)) ps p.0 (partner flags (size (units d.lines)) ps p.0)
+    f = found flags (size (units d.lines)) ps p.0 (covered cs d e ps flags g p.0 protected)
+
+    low : f.pair.0 ≤ p.0
+    low = block_low (size (units d.lines)) f.pair.0 p.0 f.inside
+
+    high : p.0 ≤ f.pair.0 + size (units d.lines) f.pair.0
+    high = block_high (size (units d.lines)) f.pair.0 p.0 f.inside
+
+    by : (b : Bool) → nat_le p.0 f.pair.0 ≡ b → partner flags (size (units d.lines)) ps p.0 ≡ p.1
+    by true t = let same : f.pair.0 ≡ p.0 = (let l : p.0 ≤ f.pair.0 = grind (arith, nat_tests) in omega (arith, low)) in let second = one_second ps f.pair p g.rise f.there m same in omega (arith, f.is, same, second)
+    by false t =
+        let before : f.pair.0 < p.0 = grind (arith, nat_tests) in
+        let l = ((units_are_sized d g.text g.spells).0 f.pair.0 p.0).1 (before, high) in
+        absurd ((block_at (units d.lines) (units_nest d g.text g.spells).0 f.pair.0 p.0 l.outer l.inner l.later l.outer_is l.inner_is l.lies).no_line (ap (λ (x : TextUnit). x.kind) (same_Some l.inner u (sym l.inner_is ∙ is)) ∙ line))

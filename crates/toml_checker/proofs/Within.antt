@@ -41,7 +41,7 @@ shorter_above a (t ∷ rest) p w = (t, rest ++ w.0 ∷ w.1, w.2 ∙ append_assoc
 above_at : (p a : Address) → IsAbove p a → IsAtOrAbove p a
 above_at p a w = (w.0 ∷ w.1, w.2)
 
-at_or_above : (p a : Address) → IsAtOrAbove p a → (p ≡ a) ⊎ IsAbove p a
+pub at_or_above : (p a : Address) → IsAtOrAbove p a → (p ≡ a) ⊎ IsAbove p a
 at_or_above p a ([], is) = inl (sym (is ∙ append-nil p))
 at_or_above p a (s ∷ r, is) = inr (s, r, is)
 
@@ -76,7 +76,7 @@ sets_split (insert at value) a n m w = w
 sets_split (rename at to) a n m w = w
 sets_split (remove at) a n m w = w
 
-not_set : (c : Change) (a : Address) → Safe c a → IsNotSet c a
+pub not_set : (c : Change) (a : Address) → Safe c a → IsNotSet c a
 not_set (set at value) a s = λ e. s.unset (sets_it (set at value) a e)
 not_set (insert at value) a s = tt
 not_set (rename at to) a s = tt

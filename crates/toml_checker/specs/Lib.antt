@@ -1,6 +1,7 @@
 pub mod CarriedTo
 pub mod GoneAndChanged
 pub mod Protected
+pub mod Outer
 pub mod Pairs
 pub mod Kept
 pub mod Owed

@@ -10,9 +10,17 @@ IsSet marks i = slice_index_or marks i false ≡ true
 abbrev pub stops : List Spanned → List ℕ
 stops us = map (λ (u : Spanned). u.stop) us
 
--- of the units that end there, the one at the place is marked, or ends no further than a marked one before it
+-- of the units that end there, the one at the place ends no further than a marked one before it
+abbrev pub EndsWithin : List ℕ → List Bool → ℕ → Type 0
+EndsWithin ends marks i = (j : ℕ) × (j < i) × IsSet marks j × (slice_index_or ends i 0 ≤ slice_index_or ends j 0)
+
+-- it is marked, or ends so
 abbrev pub IsHeld : List ℕ → List Bool → ℕ → Type 0
-IsHeld ends marks i = IsSet marks i ⊎ ((j : ℕ) × (j < i) × IsSet marks j × (slice_index_or ends i 0 ≤ slice_index_or ends j 0))
+IsHeld ends marks i = IsSet marks i ⊎ EndsWithin ends marks i
+
+-- it is marked, and does not end so
+abbrev pub IsFree : List ℕ → List Bool → ℕ → Type 0
+IsFree ends marks i = IsSet marks i × ¬ (EndsWithin ends marks i)
 
 -- the furthest end of marked units so far, and behind one more that may be marked
 abbrev pub further : ℕ → ℕ → ℕ

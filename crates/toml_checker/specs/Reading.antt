@@ -7,7 +7,7 @@ use Rattle.toml_tree.specs.Spells.{Spells}
 use Rattle.toml_names.specs.Data.{IsDataOf, kind_at}
 use Rattle.toml_names.specs.Documents.{IsDocument}
 use Rattle.toml_names.specs.Mentions.{named}
-use Rattle.toml_names.specs.Names.{AreGood}
+use Rattle.toml_names.specs.Reading.{ReaderState, lines_of}
 use Rattle.toml_checker.specs.declared.documents.Document.{Document}
 use Rattle.toml_checker.specs.declared.documents.Rest.{Rest}
 use Rattle.toml_units.specs.declared.unit.Unit.{Unit as Made}
@@ -27,9 +27,13 @@ AreUnitsOf doc us = all_units us ≡ map spanned (units (document doc).lines)
 abbrev pub IsRest : Doc → Rest → Type 0
 IsRest doc rest = IsDataOf (named (document doc).lines) (kind_at rest.«data».root) × AreUnitsOf doc rest.units.items
 
--- the same, and the names keep the rules; without them the text is no document
+-- a reader that took the lines of the tree, which is a document's; without one the text is no document
+abbrev pub FindsLines : List ℕ → Doc → Option ReaderState → Type 0
+FindsLines text doc found = MatchOption found (¬ IsDocument text) (λ reader. IsDocument text × (lines_of reader ≡ (document doc).lines))
+
+-- the data and the units of a document; without them the text is none
 abbrev pub FindsRest : List ℕ → Doc → Option Rest → Type 0
-FindsRest text doc found = MatchOption found (¬ IsDocument text) (λ rest. AreGood (document doc).lines × IsRest doc rest)
+FindsRest text doc found = MatchOption found (¬ IsDocument text) (λ rest. IsDocument text × IsRest doc rest)
 
 -- the tree is that of the text, and the units are those of the tree
 pub record IsRead (d : Document) : Type 0 where

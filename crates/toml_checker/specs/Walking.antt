@@ -1,12 +1,14 @@
 -- Units walked past in order, and what two units are found to have in common.
-use Rattle.std.specs.Prelude.{◌≡◌, ◌⊎◌, ◌≤◌, ◌+◌, ℕ, List, [], ◌∷◌, length, take, count_by, option_map, slice_get, slice_range}
+use Rattle.std.specs.Prelude.{◌≡◌, ◌⊎◌, ◌<◌, ◌≤◌, ◌+◌, ℕ, List, [], ◌∷◌, length, take, count_by, option_map, slice_get, slice_range}
 use Rattle.toml_tree.specs.Tree.{Doc, Line}
 use Rattle.toml_edits.specs.Edits.{Change}
 use Rattle.toml_units.specs.declared.unit.Unit.{Unit as Made}
 use Rattle.toml_units.specs.Places.{is_line}
+use Rattle.toml_checker.specs.declared.documents.Document.{Document}
 use Rattle.toml_checker.specs.declared.pairs.Passed.{Passed}
 use Rattle.toml_checker.specs.CarriedTo.{IsCarriedTo}
 use Rattle.toml_checker.specs.Pairs.{RiseFrom, AllFit, StandsAs}
+use Rattle.toml_checker.specs.Reading.{IsRead}
 
 -- how many of the units are lines
 abbrev pub lines_in : List Made → ℕ
@@ -16,6 +18,12 @@ lines_in us = count_by (λ (u : Made). is_line u.kind) us
 pub record IsPassed (us : List Made) (p : Passed) : Type 0 where
   pub within : p.units ≤ length us
   pub lines : p.lines ≡ lines_in (take p.units us)
+
+-- of a document that was read, the unit behind those walked past is there
+pub record IsSpot (d : Document) (p : Passed) : Type 0 where
+  pub read : IsRead d
+  pub passed : IsPassed d.units.now p
+  pub there : p.units < length d.units.now
 
 -- the unit stands within the text
 abbrev pub IsWithin : List ℕ → Made → Type 0

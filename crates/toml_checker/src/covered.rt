@@ -8,7 +8,7 @@ use std::alloc::{AllocError, Global};
 use toml_units::Unit;
 
 /// The furthest end of marked units so far, with that of one more that may be marked.
-fn reach_with(reach: Option<usize>, marked: bool, end: usize) -> Option<usize>
+pub(crate) fn reach_with(reach: Option<usize>, marked: bool, end: usize) -> Option<usize>
     ensures { result ≡ reach_with reach marked end }
 {
     if !marked {
@@ -21,7 +21,7 @@ fn reach_with(reach: Option<usize>, marked: bool, end: usize) -> Option<usize>
 }
 
 /// Whether the end is no further.
-fn reaches(reach: Option<usize>, end: usize) -> bool
+pub(crate) fn reaches(reach: Option<usize>, end: usize) -> bool
     ensures { result ≡ reaches reach end }
 {
     match reach {
@@ -74,7 +74,7 @@ fn mark(marks: &mut Vec<bool>, number: u64)
 }
 
 /// Which units the pairs name first.
-pub(crate) fn first_marks(
+pub fn first_marks(
     alloc: Global,
     count: usize,
     pairs: &[(u64, u64)],

@@ -1,16 +1,18 @@
 //! The reading of a text, its tree first and then its names, data and units.
 ghost use Rattle.std.specs.Prelude.{◌≡◌, IfOk, OnOk};
 ghost use Rattle.toml_names.specs.declared.fault.NameFault.TheVariants as names;
+ghost use Rattle.toml_text.specs.Limit.{IsText};
 ghost use Rattle.toml_tree.specs.Document.{document};
 ghost use Rattle.toml_tree.specs.Spells.{Spells};
-ghost use Rattle.toml_names.specs.Mentions.{named};
-ghost use Rattle.toml_checker.specs.Reading.{FindsDocument, FindsTree, FindsRest, IsRest};
+ghost use Rattle.toml_names.specs.Names.{AreOwnAddresses};
+ghost use Rattle.toml_names.specs.Reading.{lines_of};
+ghost use Rattle.toml_checker.specs.Reading.{AreUnitsOf, FindsDocument, FindsLines, FindsTree, FindsRest, IsRest};
 
 use std::alloc::{AllocError, Global};
-use toml_names::{Data, NameFault, Names, read_names};
+use toml_names::{Address, Data, NameFault, NameReader, read_lines};
 use toml_text::Source;
 use toml_tree::{Doc, SyntaxFault, parse};
-use toml_units::{Unit, units};
+use toml_units::{Unit, units_at};
 
 /// What is read of a tree: the data and the units.
 #[derive(Drop)]
@@ -20,7 +22,7 @@ pub(crate) struct Rest {
 }
 
 /// The tree of a text. Where there is none the text is no document.
-fn read_tree<'t>(alloc: Global, text: &'t [u8]) -> Result<Option<Doc<'t>>, AllocError>
+pub(crate) fn read_tree<'t>(alloc: Global, text: &'t [u8]) -> Result<Option<Doc<'t>>, AllocError>
     ensures { IfOk result (FindsTree text.now) }
 {
     let Ok(source) = Source::new(text) else {
@@ -33,13 +35,18 @@ fn read_tree<'t>(alloc: Global, text: &'t [u8]) -> Result<Option<Doc<'t>>, Alloc
     }
 }
 
-/// The data and the units of the tree of a text. Where there are none the text is no document. The names are let go.
-fn read_rest(alloc: Global, text: &[u8], doc: &Doc) -> Result<Option<Rest>, AllocError>
-    requires { Spells (document doc.now) text.now }
-    ensures { IfOk result (FindsRest text.now doc.now) }
+/// A reader of the lines of the tree of a text. Where there is none the text is no document.
+pub(crate) fn read_all_lines<'d, 't>(
+    alloc: Global,
+    text: &[u8],
+    doc: &'d Doc<'t>,
+) -> Result<Option<NameReader<'d, 't>>, AllocError>
+    requires text { IsText text.now }
+    requires tree { Spells (document doc.now) text.now }
+    ensures { IfOk result (FindsLines text.now doc.now) }
 {
-    match read_names(alloc, doc) {
-        Ok(names) => Ok(Some(rest_of(alloc, doc, &names)?)),
+    match read_lines(alloc, doc) {
+        Ok(reader) => Ok(Some(reader)),
         Err(fault) => {
             told(fault)?;
             Ok(None)
@@ -57,14 +64,34 @@ fn told(fault: NameFault) -> Result<(), AllocError>
     }
 }
 
-/// The data and the units that the names of a tree give.
-fn rest_of(alloc: Global, doc: &Doc, names: &Names) -> Result<Rest, AllocError>
-    requires { names.now.named ≡ named (document doc.now).lines }
+/// The data and the units of a tree whose lines were read.
+fn rest_of(alloc: Global, doc: &Doc, reader: NameReader) -> Result<Rest, AllocError>
+    requires { lines_of reader ≡ (document doc.now).lines }
     ensures { IfOk result (IsRest doc.now) }
 {
-    let units = units(alloc, doc, names)?;
-    let data = names.data().copy(alloc)?;
+    let data = reader.data()?;
+    let units = units_of(alloc, doc, reader)?;
     Ok(Rest { data, units })
+}
+
+/// The units of a tree whose lines were read. The names are let go before the units are made.
+pub(crate) fn units_of(
+    alloc: Global,
+    doc: &Doc,
+    reader: NameReader,
+) -> Result<Vec<Unit>, AllocError>
+    requires { lines_of reader ≡ (document doc.now).lines }
+    ensures { IfOk result (λ us. AreUnitsOf doc.now us.items) }
+{
+    let own = own_addresses(reader)?;
+    units_at(alloc, doc, own)
+}
+
+/// The address of each line. The reader is let go.
+fn own_addresses(reader: NameReader) -> Result<Vec<Option<Address>>, AllocError>
+    ensures { IfOk result (λ list. AreOwnAddresses (lines_of reader.entry) list.items) }
+{
+    reader.own_addresses()
 }
 
 /// The tree, the data and the units of a text, if it is a document.
@@ -83,12 +110,22 @@ pub(crate) fn read_document<'t>(
     Ok(Some((doc, rest)))
 }
 
-/// A document as the judge looks at it.
+/// The data and the units of the tree of a text. Where there are none the text is no document.
+fn read_rest(alloc: Global, text: &[u8], doc: &Doc) -> Result<Option<Rest>, AllocError>
+    requires text { IsText text.now }
+    requires tree { Spells (document doc.now) text.now }
+    ensures { IfOk result (FindsRest text.now doc.now) }
+{
+    match read_all_lines(alloc, text, doc)? {
+        Some(reader) => Ok(Some(rest_of(alloc, doc, reader)?)),
+        None => Ok(None),
+    }
+}
+
+/// A text as the judge looks at it: with its tree, and the units of the tree. That they are so is for the caller to show.
 #[derive(Clone, Copy)]
-pub(crate) struct Document<'a, 't> {
-    pub(crate) text: &'a [u8],
-    /// The tree of the text.
-    pub(crate) doc: &'a Doc<'t>,
-    /// The units of the tree.
-    pub(crate) units: &'a [Unit],
+pub struct Document<'a, 't> {
+    pub text: &'a [u8],
+    pub doc: &'a Doc<'t>,
+    pub units: &'a [Unit],
 }

@@ -1,16 +1,22 @@
 //! The data after edits.
-ghost use Rattle.std.specs.Prelude.{◌≡◌, IfOk, OnOk, map};
+ghost use Rattle.std.specs.Prelude.{◌≡◌, ◌↔◌, IsTrue, IfOk, OnOk, map};
+ghost use Rattle.toml_names.specs.Data.{IsDataOf, kind_at};
+ghost use Rattle.toml_names.specs.Mentions.{named};
+ghost use Rattle.toml_names.specs.Reading.{lines_of};
 ghost use Rattle.toml_edits.specs.declared.fault.EditFault.TheVariants as faults;
 ghost use Rattle.toml_edits.specs.Edits.{change};
-ghost use Rattle.toml_checker.specs.After.{GivesData, IsDataFault};
+ghost use Rattle.toml_checker.specs.After.{GivesData};
 
-use crate::verdict::Reason;
 use std::alloc::{AllocError, Global};
 use toml_edits::{Edit, EditFault, apply};
-use toml_names::{Data, same};
+use toml_names::{Data, NameReader};
 
 /// What the edits, one after the other, make of data; none where one is not defined on the data so far.
-fn data_after(alloc: Global, old: Data, edits: &[Edit]) -> Result<Option<Data>, AllocError>
+pub(crate) fn data_after(
+    alloc: Global,
+    old: Data,
+    edits: &[Edit],
+) -> Result<Option<Data>, AllocError>
     ensures { IfOk result (GivesData (map change edits.now) old) }
 {
     let mut data = old;
@@ -33,21 +39,9 @@ fn told(fault: EditFault) -> Result<(), AllocError>
     }
 }
 
-/// Why the edits do not lead from the one data to the other, if they do not.
-pub(crate) fn data_fault(
-    alloc: Global,
-    old: Data,
-    edits: &[Edit],
-    new: &Data,
-) -> Result<Option<Reason>, AllocError>
-    ensures { IfOk result (IsDataFault (map change edits.now) old.root new.now.root) }
+/// Whether the data are those of the lines of a reader. They are let go.
+pub(crate) fn are_made(reader: &NameReader, made: Data) -> Result<bool, AllocError>
+    ensures { IfOk result (λ b. IsTrue b ↔ IsDataOf (named (lines_of reader.now)) (kind_at made.root)) }
 {
-    let Some(data) = data_after(alloc, old, edits)? else {
-        return Ok(Some(Reason::EditsRefused));
-    };
-    if same(&data.root, &new.root) {
-        Ok(None)
-    } else {
-        Ok(Some(Reason::OtherData))
-    }
+    reader.has_data(&made)
 }

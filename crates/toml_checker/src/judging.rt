@@ -1,17 +1,18 @@
 //! The judge: the demands, one after the other.
 ghost use Rattle.std.specs.Prelude.{◌≡◌, ◌↔◌, IsTrue, IfOk, map};
 ghost use Rattle.toml_tree.specs.Document.{document};
-ghost use Rattle.toml_names.specs.Data.{kind_at};
+ghost use Rattle.toml_names.specs.Documents.{IsDocument};
 ghost use Rattle.toml_edits.specs.Edits.{change};
-ghost use Rattle.toml_checker.specs.After.{IsDataFault};
+ghost use Rattle.toml_checker.specs.After.{GivesMade, IsMadeOf};
 ghost use Rattle.toml_checker.specs.Demands.{IsVerdict};
+ghost use Rattle.toml_checker.specs.Headline.{YesMeans};
 ghost use Rattle.toml_checker.specs.Judging.{HoldBelow};
 ghost use Rattle.toml_checker.specs.Kept.{AllKept};
-ghost use Rattle.toml_checker.specs.Reading.{FindsDocument, IsRead};
+ghost use Rattle.toml_checker.specs.Reading.{IsRead};
 
 use crate::comments::no_comments_added;
-use crate::documents::{Document, read_document};
-use crate::facts::data_fault;
+use crate::documents::{Document, read_all_lines, read_document, read_tree, units_of};
+use crate::facts::{are_made, data_after};
 use crate::frame::keeps_frame;
 use crate::kept::all_kept;
 use crate::lines::no_lines_added;
@@ -20,6 +21,7 @@ use crate::protection::protected;
 use crate::verdict::{Reason, Verdict};
 use std::alloc::{AllocError, Global};
 use toml_edits::Edit;
+use toml_names::Data;
 use toml_units::Certificate;
 
 /// Whether no protected unit of a document is lost.
@@ -67,6 +69,41 @@ fn judge(
     Ok(Verdict::Yes)
 }
 
+/// What the demands say of a second text, where the first one is read and the data are made, if the edits are defined.
+fn judge_after(
+    alloc: Global,
+    before: Document,
+    edits: &[Edit],
+    made: Option<Data>,
+    after: &[u8],
+    pairs: &[(u64, u64)],
+) -> Result<Verdict, AllocError>
+    requires read { IsRead before }
+    requires document { IsDocument before.text.now }
+    requires made { GivesMade before.text.now (map change edits.now) made }
+    ensures { IfOk result (IsVerdict before.entry.text.now (map change edits.now) after.now pairs.now) }
+{
+    let Some(doc) = read_tree(alloc, after)? else {
+        return Ok(Verdict::No(Reason::AfterRefused));
+    };
+    let Some(reader) = read_all_lines(alloc, after, &doc)? else {
+        return Ok(Verdict::No(Reason::AfterRefused));
+    };
+    let Some(made) = made else {
+        return Ok(Verdict::No(Reason::EditsRefused));
+    };
+    if !are_made(&reader, made)? {
+        return Ok(Verdict::No(Reason::OtherData));
+    }
+    let units = units_of(alloc, &doc, reader)?;
+    let after = Document {
+        text: after,
+        doc: &doc,
+        units: &units,
+    };
+    judge(alloc, before, edits, after, pairs)
+}
+
 /// Whether the pairs of the certificate certify that the second text is what the edits make of the first, with all that
 /// no edit names in it as it was. Each text is read once.
 ///
@@ -89,26 +126,37 @@ pub fn check(
     after: &[u8],
     certificate: &Certificate,
 ) -> Result<Verdict, AllocError>
-    ensures { IfOk result (IsVerdict before.now (map change edits.now) after.now certificate.now.pairs.items) }
+    ensures verdict { IfOk result (IsVerdict before.now (map change edits.now) after.now certificate.now.pairs.items) }
+    ensures headline { IfOk result (YesMeans before.now (map change edits.now) after.now certificate.now.pairs.items) }
 {
-    let Some((old_doc, old)) = read_document(alloc, before)? else {
+    // each takes some bytes of memory
+    prove!(edits.len() <= isize::MAX as usize);
+    let Some((doc, old)) = read_document(alloc, before)? else {
         return Ok(Verdict::No(Reason::BeforeRefused));
     };
-    let Some((new_doc, new)) = read_document(alloc, after)? else {
-        return Ok(Verdict::No(Reason::AfterRefused));
-    };
-    if let Some(reason) = data_fault(alloc, old.data, edits, &new.data)? {
-        return Ok(Verdict::No(reason));
-    }
-    let one = Document {
+    let made = data_after(alloc, old.data, edits)?;
+    let before = Document {
         text: before,
-        doc: &old_doc,
+        doc: &doc,
         units: &old.units,
     };
-    let other = Document {
-        text: after,
-        doc: &new_doc,
-        units: &new.units,
-    };
-    judge(alloc, one, edits, other, &certificate.pairs)
+    judge_after(alloc, before, edits, made, after, &certificate.pairs)
+}
+
+/// What `check` answers of a document that is read already, with the data that the edits make of its data: the same verdict,
+/// by the same code. The second text alone is read. What a yes means is the law of the headline.
+pub fn check_made(
+    alloc: Global,
+    before: Document,
+    edits: &[Edit],
+    made: Data,
+    after: &[u8],
+    certificate: &Certificate,
+) -> Result<Verdict, AllocError>
+    requires read { IsRead before }
+    requires document { IsDocument before.text.now }
+    requires made { IsMadeOf before.text.now (map change edits.now) made }
+    ensures { IfOk result (IsVerdict before.entry.text.now (map change edits.now) after.now certificate.now.pairs.items) }
+{
+    judge_after(alloc, before, edits, Some(made), after, &certificate.pairs)
 }

@@ -27,7 +27,8 @@ pub fn plain()
     ensures flags { FlagsTell }
 {}
 
-/// Of what is certified, all that no edit names stands in the new text: each protected unit has a partner of its own.
+/// What is certified has the headline's meaning: two documents, the data that the edits make, a partner of its own for
+/// all that no edit names, in the same order and where the edits carry it, and nothing unasked.
 pub fn headline()
     ensures { CertifiedStand }
 {}

@@ -16,6 +16,7 @@ mod kept;
 pub mod laws;
 mod lines;
 mod moving;
+mod outer;
 mod pairs;
 mod protection;
 mod side;
@@ -24,9 +25,9 @@ mod unmarked;
 mod verdict;
 mod written;
 
-pub use judging::check;
+pub use covered::first_marks;
+pub use documents::Document;
+pub use judging::{check, check_made};
+pub use outer::outermost;
 pub use protection::protected;
 pub use verdict::{Reason, Verdict};
-
-#[cfg(test)]
-mod tests;

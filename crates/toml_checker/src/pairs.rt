@@ -6,7 +6,7 @@ ghost use Rattle.toml_edits.specs.Edits.{change};
 ghost use Rattle.toml_units.specs.Places.{is_line};
 ghost use Rattle.toml_checker.specs.Pairs.{PairsFit, StandsAs};
 ghost use Rattle.toml_checker.specs.Reading.{IsRead};
-ghost use Rattle.toml_checker.specs.Walking.{AreAlike, HaveOneNewline, IsPassed, IsWithin, NextFits, lines_in};
+ghost use Rattle.toml_checker.specs.Walking.{AreAlike, HaveOneNewline, IsPassed, IsSpot, IsWithin, NextFits, lines_in};
 
 use crate::arriving::is_carried_to;
 use crate::documents::Document;
@@ -152,12 +152,8 @@ fn stands_as(
     after: Document,
     second: Passed,
 ) -> Result<bool, AllocError>
-    requires before { IsRead before }
-    requires first { IsPassed before.units.now first }
-    requires first_there { first.units < length before.units.now }
-    requires after { IsRead after }
-    requires second { IsPassed after.units.now second }
-    requires second_there { second.units < length after.units.now }
+    requires first { IsSpot before first }
+    requires second { IsSpot after second }
     ensures { IfOk result (λ holds. IsTrue holds ↔ StandsAs (map change edits.now) (document before.entry.doc.now) (document after.entry.doc.now) first.units second.units) }
 {
     let one = &before.units[first.units];

@@ -205,6 +205,3 @@ fn fitting(at: &[Step], reading: Reading) -> Result<Datum, EditFault>
         Reading::Long => Err(EditFault::AddressLength),
     }
 }
-
-#[cfg(test)]
-mod tests;

@@ -245,6 +245,3 @@ pub fn carry(alloc: Global, edit: &Edit, address: &Address) -> Result<Option<Add
         Edit::Remove { at } => carry_remove(alloc, at.steps(), steps),
     }
 }
-
-#[cfg(test)]
-mod tests;

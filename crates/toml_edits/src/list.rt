@@ -182,6 +182,3 @@ fn rename_of(alloc: Global, at: Address, entry: &Value) -> Result<Option<Edit>, 
     let to = String::from_str(alloc, text)?;
     Ok(Some(Edit::Rename { at, to }))
 }
-
-#[cfg(test)]
-mod tests;

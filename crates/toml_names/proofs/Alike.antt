@@ -139,7 +139,7 @@ pub same_name : (name : List ℕ) (k : String Global) → is_eq (slice_cmp nat_c
 same_name name k h = (bytes_eq-Decides name (string_bytes k)).0 (sym (is_eq-slice_cmp name (string_bytes k)) ∙ h)
 
 -- so of what a look-up finds
-each_found : (P : List ℕ → Datum → Type 0) (es : List Entry) → Each P es → (name : List ℕ) (d : Datum) → lookup (is_at (λ k. slice_cmp nat_cmp name (string_bytes k))) es ≡ Some d → P name d
+pub each_found : (P : List ℕ → Datum → Type 0) (es : List Entry) → Each P es → (name : List ℕ) (d : Datum) → lookup (is_at (λ k. slice_cmp nat_cmp name (string_bytes k))) es ≡ Some d → P name d
 each_found P [] each name d found = cc
 each_found P (e ∷ es) each name d found = by (is_eq (slice_cmp nat_cmp name (string_bytes e.0))) refl found (each_found P es each.1 name d)
   where

@@ -81,6 +81,9 @@ pub mod FirstLines
 pub mod ValuesAbove
 pub mod OnWay
 pub mod WholeValue
+pub mod SameCount
+pub mod Held
+pub mod HeldData
 pub mod Clauses
 pub mod InnerNodes
 pub mod PassedFronts

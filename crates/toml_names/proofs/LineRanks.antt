@@ -12,7 +12,7 @@ use Rattle.toml_names.specs.FirstMentions.{first_mentions}
 use Rattle.toml_names.specs.Joining.{Joined}
 use Rattle.toml_names.specs.Local.{mark_from, mark_after, role_after}
 use Rattle.toml_names.specs.Mentions.{Named, named, is_mentioned}
-use Rattle.toml_names.specs.Names.{is_own, line_address}
+use Rattle.toml_names.specs.Names.{AreOwnAddresses, is_own, line_address}
 use Rattle.toml_names.specs.Nodes.{Spot, address_at, nowhere}
 use Rattle.toml_names.specs.NameTree.{IsTreeOf}
 use Rattle.toml_names.specs.Reading.{IsReader, AreNames, ranked, rank_in}
@@ -77,10 +77,22 @@ pub record AreRanks (ranks : List ℕ) (nodes : List Spot) (first : List Address
   pub all : length ranks ≡ length nodes
   pub places : (k : ℕ) (d : Spot) → k < length nodes → ((slice_index_or nodes k d).role ≡ Bare → ⊥) → slice_get first (slice_index_or ranks k 0) ≡ Some (address_at nodes k)
 
+pub mapped-more : {X Y : Type 0} (f : X → Y) (xs : List X) (i : ℕ) (d : X) → i < length xs → map f (take i xs) ++ f (slice_index_or xs i d) ∷ [] ≡ map f (take (i + 1) xs)
+mapped-more f xs i d low = sym (map-append f (take i xs) (slice_index_or xs i d ∷ [])) ∙ ap (map f) (sym (take_more xs i d low))
+
 -- the ranks of one node more
 pub ranks-more : (ranks : List ℕ) (nodes : List (Option ℕ)) (i : ℕ) (d : Option ℕ) → i < length nodes
     → map (rank_in ranks) (take i nodes) ++ rank_in ranks (slice_index_or nodes i d) ∷ [] ≡ map (rank_in ranks) (take (i + 1) nodes)
-ranks-more ranks nodes i d low = sym (map-append (rank_in ranks) (take i nodes) (slice_index_or nodes i d ∷ [])) ∙ ap (map (rank_in ranks)) (sym (take_more nodes i d low))
+ranks-more ranks nodes i d low = mapped-more (rank_in ranks) nodes i d low
+
+-- the addresses of the lines' nodes are the lines' own
+pub are_own_addresses : (nodes : List Spot) (lines : List Line) (own : List (Option ℕ)) (at : ℕ) → IsReader nodes lines own at → (list : List (Option Address)) → list ≡ map (option_map (address_at nodes)) own → AreOwnAddresses lines list
+are_own_addresses nodes lines own at reads list is = subst (AreOwnAddresses lines) (sym is) (record {
+  count = length-map own (option_map (address_at nodes)) ∙ reads.own_count;
+  each = λ l d low.
+      let inside : l < length own = omega (arith, length-map own (option_map (address_at nodes)), low) in
+      get_or-map (option_map (address_at nodes)) own l None d inside ∙ reads.owns l None inside;
+})
 
 module _ (nodes : List Spot) (lines : List Line) (own : List (Option ℕ)) (at : ℕ) (reads : IsReader nodes lines own at)
     (ranks : List ℕ) (first : List Address) (are : AreRanks ranks nodes first) where

@@ -30,6 +30,7 @@ pub mod Headers
 pub mod EnteringLines
 pub mod Reading
 pub mod Finished
+pub mod Held
 pub mod Placing
 pub mod EnteringHeaders
 pub mod LongKeys

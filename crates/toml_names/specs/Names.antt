@@ -1,5 +1,5 @@
 -- What the reading of a document's names answers.
-use Rattle.std.specs.Prelude.{◌≡◌, ◌<◌, ◌≤◌, ◌+◌, ◌++◌, ℕ, Bool, true, false, ◌&&◌, ◌==◌, if◌then◌else◌, List, [], ◌∷◌, length, take, Option, Some, None, Result, Ok, Err}
+use Rattle.std.specs.Prelude.{◌≡◌, ◌<◌, ◌≤◌, ◌+◌, ◌++◌, ℕ, Bool, true, false, ◌&&◌, ◌==◌, if◌then◌else◌, List, [], ◌∷◌, length, take, slice_index_or, Option, Some, None, Result, Ok, Err}
 use Rattle.toml_tree.specs.Tree.{Expr, BlankLine, KeyValLine, TableLine, ArrayTableLine, Line}
 use Rattle.toml_names.specs.declared.fault.NameFault.{NameFault}
 use Rattle.toml_names.specs.declared.fault.NameFault.TheVariants as faults
@@ -72,6 +72,11 @@ is_own _ = false
 abbrev pub line_address : List Named → ℕ → Option Address
 line_address [] line = None
 line_address (m ∷ ms) line = if m.line == line && is_own m.role then Some m.address else line_address ms line
+
+-- the list has that of each line
+pub record AreOwnAddresses (lines : List Line) (list : List (Option Address)) : Type 0 where
+  pub count : length list ≡ length lines
+  pub each : (l : ℕ) (d : Option Address) → l < length list → slice_index_or list l d ≡ line_address (named lines) l
 
 -- Laws: it is that of what the line's expression stands for, and there is none behind the last line.
 abbrev pub LineAddresses : Type 0

@@ -1,9 +1,10 @@
 //! What the finished tree of names tells: the data, the first mentions, and whether addresses are short.
-ghost use Rattle.std.specs.Prelude.{◌≡◌, ◌++◌, ◌<◌, ◌≤◌, ◌↔◌, ℕ, List, IsTrue, IfOk, Some, slice_get, slice_index_or, length, vec_len};
+ghost use Rattle.std.specs.Prelude.{◌≡◌, ◌++◌, ◌<◌, ◌≤◌, ◌↔◌, ℕ, List, Option, IsTrue, IfOk, Some, map, option_map, slice_get, slice_index_or, length, vec_len};
 ghost use Rattle.toml_names.specs.declared.named.Role.TheVariants.{Bare};
 ghost use Rattle.toml_names.specs.Addresses.{Address};
 ghost use Rattle.toml_names.specs.Building.{IsOnly};
 ghost use Rattle.toml_names.specs.Data.{kind_at, fact_at};
+ghost use Rattle.toml_names.specs.EnteringLines.{IsWithin};
 ghost use Rattle.toml_names.specs.Finished.{IsDatumAt, IsOfKind};
 ghost use Rattle.toml_names.specs.FirstMentions.{first_mentions};
 ghost use Rattle.toml_names.specs.Joining.{Joined};
@@ -98,6 +99,33 @@ impl<'t> NameTree<'t> {
             steps.push(self.last_step(id)?)?;
         }
         Ok(steps)
+    }
+
+    /// The addresses of nodes, where there are any.
+    pub fn addresses_of(&self, nodes: &[Option<usize>]) -> Result<Vec<Option<Address>>, AllocError>
+        requires within { (l : ℕ) (d : Option ℕ) → l < length nodes.now → IsWithin (slice_index_or nodes.now l d) self.now.nodes.items }
+        requires tree { IsTree self.now.nodes.items }
+        ensures { IfOk result (λ list. list.items ≡ map (option_map (address_at self.now.nodes.items)) nodes.now) }
+    {
+        let steps = self.last_steps()?;
+        let mut list = Vec::with_capacity(self.alloc, nodes.len())?;
+        for node in nodes {
+            list.push(self.address_of(&steps, *node)?)?;
+        }
+        Ok(list)
+    }
+
+    /// The address of a node, if there is one, made of the last steps of the nodes.
+    fn address_of(&self, steps: &[Step], node: Option<usize>) -> Result<Option<Address>, AllocError>
+        requires within { IsWithin node self.now.nodes.items }
+        requires tree { IsTree self.now.nodes.items }
+        requires steps { AreSteps self.now.nodes.items steps.now }
+        ensures { IfOk result (λ at. at ≡ option_map (address_at self.now.nodes.items) node) }
+    {
+        match node {
+            Some(id) => Ok(Some(self.address_by(steps, id)?)),
+            None => Ok(None),
+        }
     }
 
     /// How many nodes before each node are mentions: the place of its address among the first mentions, if it is one.

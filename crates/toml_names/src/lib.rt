@@ -9,6 +9,7 @@ mod fault;
 mod finishing;
 mod hashing;
 mod headers;
+mod holding;
 mod keying;
 pub mod laws;
 mod long_keys;
@@ -37,8 +38,3 @@ pub use place::Place;
 pub use reader::NameReader;
 pub use rules::MAX_STEPS;
 pub use value::read_value;
-
-#[cfg(test)]
-mod reader_tests;
-#[cfg(test)]
-mod tests;

@@ -2,7 +2,7 @@
 ghost use Rattle.std.specs.Cow.{cow_str_bytes};
 ghost use Rattle.std.specs.Option.{option_map, unwrap_or};
 ghost use Rattle.indexmap.specs.IndexMap.{get, insert_entry};
-ghost use Rattle.toml_names.specs.NameMaps.{children_of, children_behind, same_name};
+ghost use Rattle.toml_names.specs.NameMaps.{children_of, children_behind, same_name, AreDistinct};
 ghost use Rattle.std.specs.Prelude.{◌∷◌, ◌++◌, ◌≡◌, ◌-◌, ◌<◌, ◌↔◌, IsTrue, length, take, slice_get, Some, OnErr, IfOk, IfSome, IfNone, []};
 ghost use Rattle.std.specs.Map.{lookup};
 ghost use Rattle.std.specs.Str.{bytes_eq};
@@ -48,7 +48,8 @@ impl<'t> NameMap<'t> {
 
     /// How many names there are.
     pub fn len(&self) -> usize
-        ensures { result ≡ length self.now }
+        ensures count { result ≡ length self.now }
+        ensures distinct { AreDistinct self.now }
     {
         match &self.rest {
             Some(rest) => self.few.len() + rest.len(),

@@ -1,12 +1,12 @@
 //! The names of a document, read.
-ghost use Rattle.std.specs.Prelude.{◌≡◌, ◌≤◌, ◌+◌, option_map, option_and_then, slice_get, map, IfOk, IfErr, OnOk};
+ghost use Rattle.std.specs.Prelude.{◌≡◌, ◌↔◌, ◌≤◌, ◌+◌, IsTrue, option_map, option_and_then, slice_get, map, IfOk, IfErr, OnOk};
 ghost use Rattle.toml_tree.specs.Document.{document};
 ghost use Rattle.toml_tree.specs.Lines.{line as tree_line};
 ghost use Rattle.toml_names.specs.Data.{IsDataOf, kind_at};
 ghost use Rattle.toml_names.specs.FirstMentions.{first_mentions};
 ghost use Rattle.toml_names.specs.KeyParts.{all_key_parts};
 ghost use Rattle.toml_names.specs.Mentions.{named as named_of};
-ghost use Rattle.toml_names.specs.Names.{AreGood, RefusesNames, line_address};
+ghost use Rattle.toml_names.specs.Names.{AreGood, AreOwnAddresses, RefusesNames, line_address};
 ghost use Rattle.toml_names.specs.Places.{place};
 ghost use Rattle.toml_names.specs.Reading.{lines_of, rank_in};
 
@@ -94,6 +94,29 @@ impl<'d, 't> NameReader<'d, 't> {
         Ok(Data {
             root: self.tree.datum(0)?,
         })
+    }
+
+    /// Whether these are the data of the lines taken. No data are built of the lines for that: each scalar's value is made
+    /// to be compared, which can lack memory, and let go.
+    pub fn has_data(&self, data: &Data) -> Result<bool, AllocError>
+        ensures { IfOk result (λ b. IsTrue b ↔ IsDataOf (named_of (lines_of self.now)) (kind_at «data».now.root)) }
+    {
+        self.tree.holds(0, &data.root)
+    }
+
+    /// Where what stands at the address stands in the text; none where the data of the lines taken have nothing there.
+    pub fn place(&self, at: &Address) -> Option<Place>
+        ensures { result ≡ place (named_of (lines_of self.now)) at.now }
+    {
+        self.tree.place(at)
+    }
+
+    /// The address of each line's value, table or element, line by line; none for a blank line. They share the text of
+    /// their names.
+    pub fn own_addresses(&self) -> Result<Vec<Option<Address>>, AllocError>
+        ensures { IfOk result (λ list. AreOwnAddresses (lines_of self.now) list.items) }
+    {
+        self.tree.addresses_of(&self.own)
     }
 
     /// The names of the lines taken. Where a growth is refused nothing is handed back.

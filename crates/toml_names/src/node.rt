@@ -1,6 +1,6 @@
 //! The nodes of the tree of names.
 ghost use Rattle.std.specs.Cow.{cow_str_bytes};
-ghost use Rattle.std.specs.Prelude.{◌≡◌, ℕ, OnOk, OnErr, IfOk, IfSome, IfNone, []};
+ghost use Rattle.std.specs.Prelude.{◌≡◌, ◌↔◌, ℕ, IsTrue, OnOk, OnErr, IfOk, IfSome, IfNone, length, []};
 ghost use Rattle.std.specs.Map.{lookup};
 ghost use Rattle.std.specs.Str.{bytes_eq};
 
@@ -53,6 +53,7 @@ impl<'t> Model for Node<'t> {
 
 impl<'t> Node<'t> {
     ghost use Rattle.toml_names.specs.declared.address.Step.TheVariants.{Name, Index};
+    ghost use Rattle.toml_names.specs.NameMaps.{AreDistinct};
     ghost use Rattle.toml_names.specs.Nodes.{leaf, linked, under_of, remarked, without_name, without_element};
     ghost use Rattle.toml_names.specs.View.{kind as kind_of};
 
@@ -111,6 +112,24 @@ impl<'t> Node<'t> {
     {
         self.role = role;
         self.line = line;
+    }
+
+    /// Whether nothing hangs under it.
+    pub fn is_leaf(&self) -> bool
+        ensures { IsTrue result ↔ ((self.now.children ≡ []) × (self.now.elements ≡ [])) }
+    {
+        self.name_count() == 0 && self.elements().is_empty()
+    }
+
+    /// How many names lead on from it. No two are the same.
+    pub fn name_count(&self) -> usize
+        ensures count { result ≡ length self.now.children }
+        ensures distinct { AreDistinct self.now.children }
+    {
+        match &self.below {
+            Some(below) => below.names.len(),
+            None => 0,
+        }
     }
 
     /// The node of a name.

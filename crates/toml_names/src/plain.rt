@@ -1,5 +1,5 @@
 //! The plain program of the definition of names: the list of all that the lines name, each new mention compared with
-//! each earlier one. The reader of lines answers the same in one pass; tests run both.
+//! each earlier one. The reader of lines answers the same in one pass; no program calls this one.
 ghost use Rattle.std.specs.Prelude.{◌≡◌, [], IfOk, IfErr};
 ghost use Rattle.toml_tree.specs.Document.{document};
 ghost use Rattle.toml_tree.specs.Lines.{line as tree_line};

@@ -19,22 +19,3 @@ pub fn read_bool(run: &[u8]) -> Option<bool>
         _ => None,
     }
 }
-
-#[cfg(test)]
-mod tests {
-    use super::*;
-
-    #[test]
-    fn booleans(rt: HostRuntime) {
-        for (run, value) in [
-            ("true", Some(true)),
-            ("false", Some(false)),
-            ("True", None),
-            ("truee", None),
-            ("", None),
-        ] {
-            assert!(rt; is_bool(run.as_bytes()) == value.is_some(), "{run}");
-            assert!(rt; read_bool(run.as_bytes()) == value, "{run}");
-        }
-    }
-}

@@ -132,38 +132,3 @@ fn text_byte(byte: u8) -> u8
 {
     if byte == b'E' { b'e' } else { byte }
 }
-
-#[cfg(test)]
-mod tests {
-    use super::*;
-
-    #[test]
-    fn texts(rt: HostRuntime) {
-        for (run, text) in [
-            ("1e06", "1e06"),
-            ("+1E+2", "1e+2"),
-            ("-0.0", "-0.0"),
-            ("3.1_4", "3.14"),
-            ("+6.626_0E-34", "6.6260e-34"),
-            ("inf", "inf"),
-            ("+inf", "inf"),
-            ("-inf", "-inf"),
-            ("+nan", "nan"),
-            ("-nan", "nan"),
-        ] {
-            assert!(rt; is_float(run.as_bytes()), "{run}");
-            let answer = float_text(rt.alloc(), run);
-            assert!(rt; answer.is_ok_and(|answer| answer.as_str() == text), "{run}");
-        }
-    }
-
-    #[test]
-    fn others(rt: HostRuntime) {
-        for run in [
-            "", "1", "5.", ".5", "5.e1", "1e", "1e+", "01.0", "1_.0", "1._0", "1e1.0", "1.0.0",
-            "0x1e5", "Inf", "+-inf", "nane1",
-        ] {
-            assert!(rt; !is_float(run.as_bytes()), "{run}");
-        }
-    }
-}

@@ -24,6 +24,3 @@ pub use read::{read_scalar, scalar_of};
 pub use scalar::{FloatText, Moment, Scalar, is_same};
 pub use scan::{begins_key, begins_scalar, scan_key, scan_scalar};
 pub use spelling::spell_key;
-
-#[cfg(test)]
-mod tests;

@@ -82,24 +82,3 @@ fn hex_digit(number: u8) -> char
         b'A' - 10 + number
     })
 }
-
-#[cfg(test)]
-mod tests {
-    use super::*;
-
-    #[test]
-    fn spellings(rt: HostRuntime) -> Result<(), AllocError> {
-        for (name, text) in [
-            ("a-b", "a-b"),
-            ("", "\"\""),
-            ("a b", "\"a b\""),
-            ("\u{7F}", "\"\\u007F\""),
-            ("\t", "\"\\t\""),
-            ("\u{85}", "\"\u{85}\""),
-        ] {
-            let spelling = spell_key(rt.alloc(), name)?;
-            assert!(rt; spelling.as_str() == text, "{name}");
-        }
-        Ok(())
-    }
-}

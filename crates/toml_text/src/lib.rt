@@ -12,6 +12,3 @@ pub use fault::TextFault;
 pub use scan::{newline_len, ws_len};
 pub use source::{MAX_LEN, Source};
 pub use span::Span;
-
-#[cfg(test)]
-mod tests;

@@ -24,8 +24,3 @@ pub use parsing::{parse, parse_value};
 pub use piece::{Blank, Gap, GapLine, Piece};
 pub use toml_scalar::{MomentKind, ScalarKind, SyntaxFault};
 pub use tree::{Array, Assign, Dotted, Expr, Header, InlineTable, Item, Key, KeyVal, Pair, Value};
-
-#[cfg(test)]
-mod examples;
-#[cfg(test)]
-mod tests;

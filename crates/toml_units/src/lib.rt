@@ -7,14 +7,13 @@ mod decimal;
 mod fault;
 pub mod laws;
 mod lines;
+mod piece;
 mod unit;
 mod walk;
 
 pub use certificate::{Certificate, certificate_text, read_certificate};
 pub use fault::CertificateFault;
-pub use lines::units;
+pub use lines::{units, units_at};
+pub use piece::{Piece, join};
 pub use unit::{Unit, UnitKind};
 pub use walk::units_inside;
-
-#[cfg(test)]
-mod tests;

@@ -1,11 +1,13 @@
 //! The units of lines and of documents.
-ghost use Rattle.std.specs.Prelude.{◌≡◌, ◌++◌, length, map, option_map, OnOk, IfOk};
+ghost use Rattle.std.specs.Prelude.{◌≡◌, ◌<◌, ◌∷◌, ◌++◌, [], ℕ, Option, None, IsTrue, slice_index_or, length, map, option_map, OnOk, IfOk};
 ghost use Rattle.toml_tree.specs.Document.{document};
 ghost use Rattle.toml_tree.specs.View.{blank, key as tree_key, expr};
 ghost use Rattle.toml_names.specs.Keys.{key_names};
+ghost use Rattle.toml_names.specs.Addresses.{Address as Steps};
 ghost use Rattle.toml_names.specs.Mentions.{named};
+ghost use Rattle.toml_names.specs.Names.{AreOwnAddresses};
 ghost use Rattle.toml_units.specs.Ends.{blank_end, expr_end};
-ghost use Rattle.toml_units.specs.Plain.{own_base, line_spans};
+ghost use Rattle.toml_units.specs.Plain.{own_base, line_span, line_spans};
 ghost use Rattle.toml_units.specs.View.{spanned, all_units};
 ghost use Rattle.toml_tree.specs.Pieces.{expr_start};
 ghost use Rattle.toml_units.specs.Units.{units as units_of};
@@ -15,7 +17,7 @@ use crate::walk::{copied, push_comment, push_inside};
 use std::alloc::{AllocError, Global};
 use toml_names::{Address, Names};
 use toml_text::Span;
-use toml_tree::{Blank, Doc, Expr, Key};
+use toml_tree::{Blank, Doc, Expr, Key, Value};
 
 /// The place behind whitespace and a comment.
 fn blank_end(b: &Blank) -> usize
@@ -93,6 +95,71 @@ fn push_line(
             push_comment(alloc, units, UnitKind::TailComment, own, tail.comment)
         }
     }
+}
+
+/// Whether a line is one unit: it has no comment, and nothing lies in a value of it.
+fn is_lone(e: &Expr) -> bool
+    ensures { (own : Option Steps) → IsTrue result → line_spans own (expr e.now) ≡ line_span own (expr e.now) ∷ [] }
+{
+    match e {
+        Expr::KeyVal { keyval, tail, .. } => {
+            tail.comment.is_none() && matches!(&keyval.value, Value::Scalar(_, _))
+        }
+        Expr::Std { tail, .. } | Expr::Array { tail, .. } | Expr::Blank(tail) => {
+            tail.comment.is_none()
+        }
+    }
+}
+
+/// Adds the units of a line whose own address is given away: most lines are one unit, and then it is not copied.
+fn push_line_at(
+    alloc: Global,
+    units: &mut Vec<Unit>,
+    own: Option<Address>,
+    e: &Expr,
+) -> Result<(), AllocError>
+    ensures { OnOk result (all_units units.new.items ≡ all_units units.old.items ++ line_spans own (expr e.now)) }
+{
+    if !is_lone(e) {
+        return push_line(alloc, units, own.as_ref(), e);
+    }
+    let base = own_base(own.as_ref(), e);
+    let line = Unit {
+        kind: UnitKind::Line,
+        span: expr_span(e),
+        address: own,
+        base,
+    };
+    units.push(line)?;
+    Ok(())
+}
+
+/// The address at the place, which is given away.
+fn take_at(own: &mut Vec<Option<Address>>, place: usize) -> Option<Address>
+    ensures taken { result ≡ slice_index_or own.old.items place None }
+    ensures left { (k : ℕ) (d : Option Steps) → place < k → slice_index_or own.new.items k d ≡ slice_index_or own.old.items k d }
+{
+    match own.get_mut(place) {
+        Some(at) => at.take(),
+        None => None,
+    }
+}
+
+/// The units of a document whose lines have these addresses of their own, as `units` answers them.
+pub fn units_at(
+    alloc: Global,
+    doc: &Doc,
+    own: Vec<Option<Address>>,
+) -> Result<Vec<Unit>, AllocError>
+    requires { AreOwnAddresses (document doc.now).lines own.items }
+    ensures { IfOk result (λ us. all_units us.items ≡ map spanned (units_of (document doc.now).lines)) }
+{
+    let mut left = own;
+    let mut all = Vec::new(alloc);
+    for (number, line) in doc.lines().iter().enumerate() {
+        push_line_at(alloc, &mut all, take_at(&mut left, number), line.expr())?;
+    }
+    Ok(all)
 }
 
 /// The units of a document, in text order, an outer one before what lies in it: each line; behind it what lies in the

@@ -1,5 +1,5 @@
 //! The units of values.
-ghost use Rattle.std.specs.Prelude.{ℕ, List, ◌≡◌, [], ◌++◌, map, option_map, OnOk, IfOk};
+ghost use Rattle.std.specs.Prelude.{ℕ, List, ◌≡◌, [], ◌∷◌, ◌++◌, Some, map, option_map, OnOk, IfOk};
 ghost use Rattle.toml_tree.specs.View.{piece, gap, value, element as tree_element, keyval as tree_keyval};
 ghost use Rattle.toml_units.specs.Plain.{spanned, plain_inside, element_units, pair_units};
 ghost use Rattle.toml_tree.specs.Pieces.{piece_of};
@@ -117,13 +117,16 @@ fn push_element(
 {
     push_gap(alloc, units, at, &item.before)?;
     let here = at.element(alloc, index)?;
-    units.push(Unit {
-        kind: UnitKind::Element,
-        span: whole(&item.value).span(),
-        address: Some(here.copy(alloc)?),
-        base: None,
-    })?;
-    push_inside(alloc, units, &here, &item.value)?;
+    let span = whole(&item.value).span();
+    push_valued(
+        alloc,
+        units,
+        UnitKind::Element,
+        span,
+        None,
+        here,
+        &item.value,
+    )?;
     push_gap(alloc, units, at, &item.after)
 }
 
@@ -138,16 +141,44 @@ fn push_pair(
     ensures { OnOk result (all_units units.new.items ≡ all_units units.old.items ++ pair_units at.now (tree_keyval pair.now)) }
 {
     let here = key_address(alloc, at, &pair.assign.key)?;
+    let span = Span {
+        start: pair.assign.key.first.start,
+        end: whole(&pair.value).span().end,
+    };
+    let base = Some(at.steps().len());
+    push_valued(alloc, units, UnitKind::Pair, span, base, here, &pair.value)
+}
+
+/// Adds a unit that has a value, at the value's address, and what lies in the value.
+#[cycle(inside)]
+fn push_valued(
+    alloc: Global,
+    units: &mut Vec<Unit>,
+    kind: UnitKind,
+    span: Span,
+    base: Option<usize>,
+    here: Address,
+    v: &Value,
+) -> Result<(), AllocError>
+    ensures { OnOk result (all_units units.new.items ≡ all_units units.old.items ++ unit (record { kind = kind; span = span; address = Some here; base = base }) ∷ plain_inside here (value v.now)) }
+{
+    // most values have nothing in them, and then the address is not copied
+    if let Value::Scalar(_, _) = v {
+        units.push(Unit {
+            kind,
+            span,
+            address: Some(here),
+            base,
+        })?;
+        return Ok(());
+    }
     units.push(Unit {
-        kind: UnitKind::Pair,
-        span: Span {
-            start: pair.assign.key.first.start,
-            end: whole(&pair.value).span().end,
-        },
+        kind,
+        span,
         address: Some(here.copy(alloc)?),
-        base: Some(at.steps().len()),
+        base,
     })?;
-    push_inside(alloc, units, &here, &pair.value)
+    push_inside(alloc, units, &here, v)
 }
 
 /// What lies in a value, in text order, an outer unit before what lies in it. The value's own address is taken to be the

@@ -1,10 +1,8 @@
 -- Why bytes that were refused are no document, and bytes that were not are one.
-use Rattle.std.proofs.Common.{◌≡◌, ◌⊎◌, ◌≤◌, ◌+◌, ℕ, List, length, Option, Some, Result, Ok, Err, Vec, Global, sym, subst, arith, inl, inr, ap, ◌∙◌}
+use Rattle.std.proofs.Common.{◌≡◌, ◌≤◌, ◌+◌, ℕ, List, length, Option, Some, Result, Ok, Err, sym, subst, arith, inl, inr}
 use Rattle.std.proofs.lemmas.Option.{none-some}
-use Rattle.std.proofs.lemmas.Result.{IfOk-weaker}
-use Rattle.std.specs.Prelude.{IfErr, IfOk, IfSome}
+use Rattle.std.specs.Prelude.{IfErr, IfSome}
 use Rattle.std.specs.Result.{IsErrAnd}
-use Rattle.std.specs.declared.alloc.AllocError.{AllocError}
 use Rattle.std.specs.Str.{IsValidUpTo}
 use Rattle.std.proofs.lemmas.Str.{IsUtf8-from_is_utf8}
 use Rattle.toml_text.specs.Limit.{IsText, max_len}
@@ -17,22 +15,16 @@ use Rattle.toml_tree.specs.Document as trees
 use Rattle.toml_tree.specs.Spells.{Spells, SpelledByNone}
 use Rattle.toml_tree.specs.Tree.{Doc, Line}
 use Rattle.toml_tree.proofs.Proved.{one_tree}
-use Rattle.tomled.specs.Outcomes.{ComesTo, Ends, IsRefused, Prints, Refuses, Tells}
+use Rattle.tomled.specs.Outcomes.{Ends, IsRefused}
 use Rattle.tomled.specs.Reading.{IsNameEnding, IsNameRefusal, IsSyntaxEnding, IsTextRefusal, IsSyntaxRefusal, RefusesLines, code_of}
 use Rattle.toml_names.specs.Documents.{IsDocument}
 use Rattle.toml_names.specs.Names.{AreGood, RefusesNames}
 use Rattle.toml_names.specs.declared.fault.NameFault.{NameFault}
 use Rattle.toml_names.specs.declared.fault.NameFault.TheVariants as names
-use Rattle.toml_names.specs.Data.{Kinds, IsDataOf}
-use Rattle.toml_names.specs.FirstMentions.{first_mentions}
-use Rattle.toml_names.specs.Mentions.{Named, named}
 use Rattle.toml_names.proofs.Proved.{refused_are_bad}
-use Rattle.tomled.specs.Listing.{ListsAddresses, lines_of}
-use Rattle.tomled.specs.Show.{IsLineOf, ShowsData}
-use Rattle.tomled.specs.Refusals.{IsRefusalOf, IsSyntaxCode}
+use Rattle.tomled.specs.Refusals.{IsSyntaxCode}
 use Rattle.tomled.specs.declared.ending.Ending.{Ending}
 use Rattle.tomled.specs.declared.ending.Ending.TheVariants as ends
-use Rattle.tomled.specs.declared.outcome.Outcome.{Outcome}
 use Rattle.tomled.specs.declared.refusal.Refusal.{Refusal}
 
 pub no_text : (bytes : List ℕ) (fault : TextFault) (r : Refusal) → IsFaultOf bytes fault → IsTextRefusal fault r → IsRefused bytes r

@@ -6,3 +6,4 @@ pub mod Texts
 pub mod Unique
 pub mod Listed
 pub mod Verified
+pub mod Edited

@@ -1,18 +1,19 @@
 -- What is refused by `verify` is not verified.
-use Rattle.std.proofs.Common.{◌≡◌, ◌⊎◌, inl, inr, ℕ, List, Result, Ok, Err, Vec, Global, sym, subst, ◌∙◌}
+use Rattle.std.proofs.Common.{◌≡◌, inl, inr, ℕ, List, Result, Ok, Err, Vec, Global, sym, subst, ◌∙◌}
 use Rattle.std.proofs.lemmas.Result.{IfOk-weaker}
 use Rattle.std.specs.Prelude.{IfErr, IfOk, codes}
 use Rattle.std.specs.declared.alloc.AllocError.{AllocError}
 use Rattle.toml_edits.specs.Edits.{Change}
 use Rattle.toml_edits.proofs.Proved.{one_edit_list, bad_list_is_none}
 use Rattle.toml_units.proofs.Proved.{one_certificate}
-use Rattle.toml_checker.specs.Demands.{Certified, IsVerdict}
+use Rattle.toml_checker.specs.Demands.{IsVerdict}
 use Rattle.toml_checker.specs.declared.verdict.Reason.{Reason}
 use Rattle.toml_checker.specs.declared.verdict.Verdict.{Verdict}
 use Rattle.toml_checker.specs.declared.verdict.Verdict.TheVariants.{Yes, No}
 use Rattle.toml_checker.proofs.Proved.{one_verdict}
 use Rattle.tomled.specs.Outcomes.{ComesTo, Ends, Prints, Tells}
-use Rattle.tomled.specs.Verify.{FailsDemand, IsListRefusal, IsUnverified, IsVerified, Verifies}
+use Rattle.tomled.specs.EditLists.{IsListRefusal}
+use Rattle.tomled.specs.Verify.{FailsDemand, IsUnverified, IsVerified, Verifies}
 use Rattle.tomled.specs.declared.ending.Ending.{Ending}
 use Rattle.tomled.specs.declared.ending.Ending.TheVariants as ends
 use Rattle.tomled.specs.declared.outcome.Outcome.{Outcome}

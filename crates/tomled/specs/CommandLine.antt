@@ -22,6 +22,10 @@ show = with_rule (with_rule (new_app (codes "show")) (required_argument (codes "
 abbrev pub check : App
 check = with_rule (new_app (codes "check")) (required_argument (codes "FILE"))
 
+-- `edit FILE EDITS OUT CERT`
+abbrev pub edit : App
+edit = with_rule (with_rule (with_rule (with_rule (new_app (codes "edit")) (required_argument (codes "FILE"))) (required_argument (codes "EDITS"))) (required_argument (codes "OUT"))) (required_argument (codes "CERT"))
+
 -- `verify BEFORE EDITS AFTER CERT`
 abbrev pub verify : App
 verify = with_rule (with_rule (with_rule (with_rule (new_app (codes "verify")) (required_argument (codes "BEFORE"))) (required_argument (codes "EDITS"))) (required_argument (codes "AFTER"))) (required_argument (codes "CERT"))
@@ -36,7 +40,7 @@ readers = with_subcommand (with_subcommand root show.top) check.top
 
 -- the whole command line
 unfoldable pub tool : App
-tool = with_subcommand readers verify.top
+tool = with_subcommand (with_subcommand readers edit.top) verify.top
 
 -- a parse reads this definition of the command, which has no global argument
 pub record IsDefined (app : App) (command : Command) : Type 0 where

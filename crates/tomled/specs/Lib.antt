@@ -8,5 +8,7 @@ pub mod Check
 pub mod Tagged
 pub mod Show
 pub mod Listing
+pub mod EditLists
 pub mod Verify
+pub mod Edit
 pub mod RunFaults

@@ -1,19 +1,27 @@
 -- What a run of the program comes to.
-use Rattle.std.specs.Prelude.{◌≡◌, ℕ, List, [], Result, Ok, Err, Vec}
+use Rattle.std.specs.Prelude.{◌≡◌, ℕ, List, [], map, Result, Ok, Err, Vec}
 use Rattle.std.specs.declared.alloc.Global.{Global}
 use Rattle.toml_names.specs.Documents.{IsDocument}
 use Rattle.tomled.specs.Refusals.{IsRefusalOf, refusal_line}
 use Rattle.tomled.specs.declared.ending.Ending.{Ending}
 use Rattle.tomled.specs.declared.ending.Ending.TheVariants.{Refused, NoMemory}
+use Rattle.tomled.specs.declared.outcome.Answer.{Answer}
 use Rattle.tomled.specs.declared.outcome.Outcome.{Outcome}
 use Rattle.tomled.specs.declared.refusal.Refusal.{Refusal}
 
--- status 0, and the text on standard output
-pub record Prints (text : List ℕ) (o : Outcome) : Type 0 where
+abbrev pub texts_of : List (Vec ℕ Global) → List (List ℕ)
+texts_of = map (λ (v : Vec ℕ Global). v.items)
+
+-- status 0, the text on standard output, and the bytes of each file to be written
+pub record Gives (text : List ℕ) (written : List (List ℕ)) (o : Outcome) : Type 0 where
   pub status : o.status ≡ 0
   pub out : o.out.items ≡ text
   pub err : o.err.items ≡ []
-  pub files : o.files.items ≡ []
+  pub files : texts_of o.files.items ≡ written
+
+-- status 0, the text on standard output, and no file
+abbrev pub Prints : List ℕ → Outcome → Type 0
+Prints text = Gives text []
 
 -- status 1, and one refusal line on standard error
 pub record Tells (r : Refusal) (o : Outcome) : Type 0 where
@@ -22,7 +30,13 @@ pub record Tells (r : Refusal) (o : Outcome) : Type 0 where
   pub err : o.err.items ≡ refusal_line r
   pub files : o.files.items ≡ []
 
--- what a command's answer comes to: its text is printed, its refusal told
+-- what a command's answer comes to: its text is printed and its files are written, its refusal told
+abbrev pub Answers : Result Answer Ending → Outcome → Type 0
+Answers (Ok answer) o = Gives answer.out.items (texts_of answer.files.items) o
+Answers (Err (Refused r)) o = Tells r o
+Answers (Err NoMemory) o = ⊥
+
+-- so too where it is a text alone
 abbrev pub ComesTo : Result (Vec ℕ Global) Ending → Outcome → Type 0
 ComesTo (Ok text) o = Prints text.items o
 ComesTo (Err (Refused r)) o = Tells r o

@@ -6,7 +6,7 @@ use Rattle.clap.specs.Words.{Row, Text, fault_of, first_of, kind_of, subcommand_
 use Rattle.clap.specs.declared.error.kind.ErrorKind.TheVariants.{OutOfMemory}
 use Rattle.tomled.specs.CommandLine.{tool}
 use Rattle.tomled.specs.declared.words.Request.{Request}
-use Rattle.tomled.specs.declared.words.Request.TheVariants.{Show, Check, Verify}
+use Rattle.tomled.specs.declared.words.Request.TheVariants.{Show, Check, Edit, Verify}
 use Rattle.tomled.specs.declared.words.WordsFault.{WordsFault}
 use Rattle.tomled.specs.declared.words.WordsFault.TheVariants.{Parser, Missing}
 
@@ -14,12 +14,14 @@ use Rattle.tomled.specs.declared.words.WordsFault.TheVariants.{Parser, Missing}
 pub data Asked : Type 0 where
   show : (file : Text) (list : Bool) → Asked
   check : (file : Text) → Asked
+  edit : (file edits out cert : Text) → Asked
   verify : (before edits after cert : Text) → Asked
 
 -- what a request asks
 abbrev pub asked_by : Request → Asked
 asked_by (Show file list) = show file.now list
 asked_by (Check file) = check file.now
+asked_by (Edit file edits out cert) = edit file.now edits.now out.now cert.now
 asked_by (Verify before edits after cert) = verify before.now edits.now after.now cert.now
 
 -- the flag's first value is the text `true`
@@ -35,6 +37,12 @@ show_of rows = option_map (λ file. show file (is_true (first_of (codes "list") 
 abbrev pub check_of : List Row → Option Asked
 check_of rows = option_map check (first_of (codes "FILE") rows)
 
+-- what `edit` asks with these values
+abbrev pub edit_of : List Row → Option Asked
+edit_of rows =
+    option_and_then (λ file. option_and_then (λ edits. option_and_then (λ out. option_map (edit file edits out) (first_of (codes "CERT") rows))
+    (first_of (codes "OUT") rows)) (first_of (codes "EDITS") rows)) (first_of (codes "FILE") rows)
+
 -- what `verify` asks with these values
 abbrev pub verify_of : List Row → Option Asked
 verify_of rows =
@@ -43,7 +51,8 @@ verify_of rows =
 
 -- what a subcommand asks by its name and its values, or nothing where a path has no value
 abbrev pub asked_of : Text × List Row → Option Asked
-asked_of met = if bytes_eq met.0 (codes "show") then show_of met.1 else (if bytes_eq met.0 (codes "check") then check_of met.1 else (if bytes_eq met.0 (codes "verify") then verify_of met.1 else None))
+asked_of met =
+    if bytes_eq met.0 (codes "show") then show_of met.1 else (if bytes_eq met.0 (codes "check") then check_of met.1 else (if bytes_eq met.0 (codes "edit") then edit_of met.1 else (if bytes_eq met.0 (codes "verify") then verify_of met.1 else None)))
 
 -- what the subcommand asks that the definition gives for the words
 abbrev pub asked_in : List Text → Option Asked

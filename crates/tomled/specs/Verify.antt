@@ -1,13 +1,13 @@
 -- What `verify` answers.
 use Rattle.std.specs.Prelude.{◌≡◌, ◌⊎◌, ℕ, List, codes}
-use Rattle.toml_edits.specs.EditList.{IsEditList, IsList, IsFirstBad}
+use Rattle.toml_edits.specs.EditList.{IsEditList}
 use Rattle.toml_edits.specs.Edits.{Change}
 use Rattle.toml_units.specs.Certificates.{IsCertificate}
 use Rattle.toml_checker.specs.Demands.{Certified, IsVerdict}
 use Rattle.toml_checker.specs.declared.verdict.Reason.{Reason}
 use Rattle.toml_checker.specs.declared.verdict.Reason.TheVariants.{BeforeRefused, AfterRefused, EditsRefused, OtherData, BadPair, Lost, Unasked, NewComment, NotTheSame}
 use Rattle.toml_checker.specs.declared.verdict.Verdict.TheVariants.{No}
-use Rattle.serde_json.specs.Data.{Items}
+use Rattle.tomled.specs.EditLists.{IsListRefusal}
 use Rattle.tomled.specs.Outcomes.{Prints, Tells}
 use Rattle.tomled.specs.declared.outcome.Outcome.{Outcome}
 use Rattle.tomled.specs.declared.refusal.Refusal.{Refusal}
@@ -19,10 +19,6 @@ pub record IsVerified (before edits after cert : List ℕ) : Type 0 where
   pub pairs : List (ℕ × ℕ)
   pub certificate : IsCertificate cert pairs
   pub certified : Certified before changes after pairs
-
--- 321: no JSON list; 320: the first entry that is no edit, by its number from 0
-abbrev pub IsListRefusal : List ℕ → Refusal → Type 0
-IsListRefusal edits r = ((r.code ≡ 321) × (r.place ≡ 0) × ((ds : Items) → ¬ IsList edits ds)) ⊎ ((r.code ≡ 320) × (ds : Items) × IsList edits ds × IsFirstBad ds r.place)
 
 -- 330: no certificate
 abbrev pub IsCertificateRefusal : List ℕ → Refusal → Type 0

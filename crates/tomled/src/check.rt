@@ -13,7 +13,7 @@ use std::alloc::{AllocError, Global};
 pub fn run_check(alloc: Global, file: &[u8]) -> Result<Outcome, AllocError>
     ensures { IfOk result (Checks file.now) }
 {
-    Outcome::of(alloc, checked(alloc, file))
+    Outcome::of_text(alloc, checked(alloc, file))
 }
 
 /// `ok` and LF, for a document.

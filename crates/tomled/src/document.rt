@@ -71,7 +71,7 @@ pub fn read_all<'d, 't>(alloc: Global, doc: &'d Doc<'t>) -> Result<Names<'d, 't>
 }
 
 /// What a fault of the names comes to.
-fn name_ending(fault: NameFault) -> Ending
+pub fn name_ending(fault: NameFault) -> Ending
     requires { HasNumber fault }
     ensures { IsNameEnding fault result }
 {
@@ -94,7 +94,8 @@ fn line_refusal(code: u16, line: usize) -> Refusal
     }
 }
 
-fn text_refusal(fault: TextFault) -> Refusal
+/// The refusal of bytes that are no text.
+pub fn text_refusal(fault: TextFault) -> Refusal
     ensures { IsTextRefusal fault result }
 {
     match fault {
@@ -110,7 +111,7 @@ fn text_refusal(fault: TextFault) -> Refusal
 }
 
 /// What a syntax fault comes to.
-fn syntax_ending(fault: SyntaxFault) -> Ending
+pub fn syntax_ending(fault: SyntaxFault) -> Ending
     ensures { IsSyntaxEnding fault result }
 {
     let (code, place) = match fault {

@@ -15,7 +15,7 @@ use toml_names::{Address, Step};
 pub fn run_list(alloc: Global, file: &[u8]) -> Result<Outcome, AllocError>
     ensures { IfOk result (Lists file.now) }
 {
-    Outcome::of(alloc, listed(alloc, file))
+    Outcome::of_text(alloc, listed(alloc, file))
 }
 
 /// The lines of a document's addresses.

@@ -5,11 +5,19 @@ ghost use Rattle.std.specs.Prelude.{◌≡◌};
 
 mod check;
 mod document;
+mod edit;
+mod edit_list;
+#[cfg(test)]
+mod edit_tests;
 mod ending;
 pub mod laws;
+#[cfg(test)]
+mod library_tests;
 mod list;
 mod outcome;
 mod output;
+#[cfg(test)]
+mod partner_tests;
 mod refusal;
 mod show;
 mod tagged;
@@ -22,11 +30,12 @@ mod words;
 
 use check::run_check;
 use clap::error::ErrorKind;
+use edit::run_edit;
 use list::run_list;
 use outcome::Outcome;
-use output::{Counting, emit};
+use output::{Counting, EmitFault, emit};
 use show::run_show;
-use std::alloc::{AllocError, Global};
+use std::alloc::{AllocError, AllocFailed, Global};
 use std::fs::File;
 use std::io::{Read, Write};
 use std::process::ExitCode;
@@ -85,6 +94,16 @@ impl From<AllocError> for RunFault {
     }
 }
 
+impl<T: Drop> From<AllocFailed<T>> for RunFault {
+    ghost use Rattle.tomled.specs.declared.RunFault.TheVariants.{Memory};
+
+    ghost from_gives = { λ _ fault. fault ≡ Memory };
+
+    fn from(_error: AllocFailed<T>) -> RunFault {
+        RunFault::Memory
+    }
+}
+
 impl From<io::Error> for RunFault {
     ghost use Rattle.std.specs.IoError.{error_kind};
     ghost use Rattle.tomled.specs.RunFaults.{fault_of_kind};
@@ -102,53 +121,73 @@ impl From<io::Error> for RunFault {
 fn main(rt: HostRuntime) -> ExitCode {
     let mut out = Counting::new(rt.stdout());
     let mut err = Counting::new(rt.stderr());
-    let status = match run(&rt) {
-        Ok(outcome) => print(&mut out, &mut err, &outcome),
+    let status = match run(&rt, &mut out, &mut err) {
+        Ok(status) => status,
         Err(fault) => tell(&mut err, fault),
     };
     ExitCode::from(status)
 }
 
-/// What the words of the process come to.
-fn run<R: Env + Files + AllocGlobal>(rt: &R) -> Result<Outcome, RunFault> {
+/// Does what the words of the process ask, and gives the exit status.
+fn run<R: Env + Files + AllocGlobal, O: Write, E: Write>(
+    rt: &R,
+    out: &mut Counting<O>,
+    err: &mut Counting<E>,
+) -> Result<u8, RunFault> {
     let owned = arguments(rt)?;
     let words: Vec<&str> = owned.iter().map(|word| word.as_str()).collect(rt.alloc())?;
-    match read_words(rt.alloc(), words.as_slice()) {
-        Ok(Request::Show { file, list }) => {
-            let bytes = read_file(rt, file)?;
-            if list {
-                Ok(run_list(rt.alloc(), bytes.as_slice())?)
-            } else {
-                Ok(run_show(rt.alloc(), bytes.as_slice())?)
-            }
+    let (outcome, mut files) = match read_words(rt.alloc(), words.as_slice()) {
+        Ok(request) => {
+            let outcome = answer(rt, &request)?;
+            let files = outputs(rt, &request, &outcome)?;
+            (outcome, files)
         }
-        Ok(Request::Check { file }) => {
-            let bytes = read_file(rt, file)?;
-            Ok(run_check(rt.alloc(), bytes.as_slice())?)
+        Err(WordsFault::Parser(error)) => { (explain(rt.alloc(), &error)?, Vec::new(rt.alloc())) }
+        Err(WordsFault::Missing) => return Err(RunFault::Words),
+    };
+    Ok(deliver(files.as_mut_slice(), out, err, &outcome))
+}
+
+/// What the request comes to. Its files are read in the order of the words.
+fn answer<R: Files + AllocGlobal>(rt: &R, request: &Request<'_>) -> Result<Outcome, RunFault> {
+    let alloc = rt.alloc();
+    Ok(match *request {
+        Request::Show { file, list: true } => run_list(alloc, &read_file(rt, file)?)?,
+        Request::Show { file, list: false } => run_show(alloc, &read_file(rt, file)?)?,
+        Request::Check { file } => run_check(alloc, &read_file(rt, file)?)?,
+        Request::Edit { file, edits, .. } => {
+            let file = read_file(rt, file)?;
+            let edits = read_whole(rt, edits)?;
+            run_edit(alloc, &file, &edits)?
         }
-        Ok(
-            Request::Verify {
-                before,
-                edits,
-                after,
-                cert,
-            },
-        ) => {
+        Request::Verify {
+            before,
+            edits,
+            after,
+            cert,
+        } => {
             let before = read_file(rt, before)?;
             let edits = read_whole(rt, edits)?;
             let after = read_file(rt, after)?;
             let cert = read_whole(rt, cert)?;
-            Ok(run_verify(
-                rt.alloc(),
-                before.as_slice(),
-                edits.as_slice(),
-                after.as_slice(),
-                cert.as_slice(),
-            )?)
+            run_verify(alloc, &before, &edits, &after, &cert)?
         }
-        Err(WordsFault::Parser(error)) => explain(rt.alloc(), &error),
-        Err(WordsFault::Missing) => Err(RunFault::Words),
+    })
+}
+
+/// The files that the outcome has bytes for, made or emptied. None of them is opened for a refusal.
+fn outputs<R: Files + AllocGlobal>(
+    rt: &R,
+    request: &Request<'_>,
+    outcome: &Outcome,
+) -> Result<Vec<Counting<R::File>>, RunFault> {
+    let mut files = Vec::new(rt.alloc());
+    if let Request::Edit { out, cert, .. } = *request {
+        for (path, _) in [out, cert].iter().zip(&outcome.files) {
+            files.push(Counting::new(File::create(rt, *path)?))?;
+        }
     }
+    Ok(files)
 }
 
 /// The words of the process. One that is no UTF-8 text makes no request.
@@ -203,19 +242,31 @@ fn explain(alloc: Global, error: &clap::Error) -> Result<Outcome, RunFault> {
     })
 }
 
-/// Prints the outcome, and gives the exit status.
-fn print<O: Write, E: Write>(
+/// Writes the files in order and then prints the outcome, up to the first fault, and gives the exit status.
+fn deliver<F: Write, O: Write, E: Write>(
+    files: &mut [Counting<F>],
     out: &mut Counting<O>,
     err: &mut Counting<E>,
     outcome: &Outcome,
 ) -> u8 {
-    let printed = emit(out, outcome.out.as_slice());
-    let told = emit(err, outcome.err.as_slice());
-    if printed.is_ok() && told.is_ok() {
-        outcome.status
-    } else {
-        tell(err, RunFault::File)
+    match emit_all(files, out, err, outcome) {
+        Ok(()) => outcome.status,
+        Err(_) => tell(err, RunFault::File),
     }
+}
+
+/// Writes the bytes of each file, and then those of both outputs.
+fn emit_all<F: Write, O: Write, E: Write>(
+    files: &mut [Counting<F>],
+    out: &mut Counting<O>,
+    err: &mut Counting<E>,
+    outcome: &Outcome,
+) -> Result<(), EmitFault> {
+    for (file, bytes) in files.iter_mut().zip(&outcome.files) {
+        emit(file, bytes)?;
+    }
+    emit(out, &outcome.out)?;
+    emit(err, &outcome.err)
 }
 
 /// Prints why there is no outcome, and gives the exit status.

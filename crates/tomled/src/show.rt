@@ -15,7 +15,7 @@ use toml_names::Data;
 pub fn run_show(alloc: Global, file: &[u8]) -> Result<Outcome, AllocError>
     ensures { IfOk result (Shows file.now) }
 {
-    Outcome::of(alloc, shown(alloc, file))
+    Outcome::of_text(alloc, shown(alloc, file))
 }
 
 /// The line of a document's data.

@@ -1,17 +1,15 @@
 //! `verify`: whether a text is what edits make of another, and keeps all else.
-ghost use Rattle.std.specs.Prelude.{◌≡◌, codes, map, IfErr, IfOk};
-ghost use Rattle.toml_edits.specs.EditList.{IsEditList};
-ghost use Rattle.toml_edits.specs.Edits.{change};
+ghost use Rattle.std.specs.Prelude.{◌≡◌, codes, IfErr, IfOk};
 ghost use Rattle.toml_units.specs.Certificates.{IsCertificate};
 ghost use Rattle.tomled.specs.Outcomes.{Ends};
-ghost use Rattle.tomled.specs.Verify.{IsCertificateRefusal, IsListRefusal, IsReasonRefusal, IsVerified, IsUnverified, Verifies};
+ghost use Rattle.tomled.specs.Verify.{IsCertificateRefusal, IsReasonRefusal, IsVerified, IsUnverified, Verifies, reason_code};
 
+use crate::edit_list::edit_list;
 use crate::ending::Ending;
 use crate::outcome::Outcome;
 use crate::refusal::Refusal;
 use std::alloc::{AllocError, Global};
 use toml_checker::{Reason, Verdict, check};
-use toml_edits::{Edit, EditsFault, read_edits};
 use toml_units::{Certificate, CertificateFault, read_certificate};
 
 /// Prints `yes` where the certificate shows that the text after is what the edits make of the one before, with all that
@@ -25,7 +23,7 @@ pub fn run_verify(
 ) -> Result<Outcome, AllocError>
     ensures { IfOk result (Verifies before.now edits.now after.now cert.now) }
 {
-    Outcome::of(alloc, verified(alloc, before, edits, after, cert))
+    Outcome::of_text(alloc, verified(alloc, before, edits, after, cert))
 }
 
 /// `yes` and LF, where all demands hold.
@@ -44,25 +42,6 @@ fn verified(
     match check(alloc, before, &edits, after, &certificate)? {
         Verdict::Yes => Ok("yes\n".to_string(alloc)?.into_bytes()),
         Verdict::No(reason) => Err(Ending::Refused(reason_refusal(reason))),
-    }
-}
-
-/// The edits of the list, or why the bytes are none.
-fn edit_list(alloc: Global, bytes: &[u8]) -> Result<Vec<Edit>, Ending>
-    ensures read { IfOk result (λ edits. IsEditList bytes.now (map change edits.items)) }
-    ensures refused { IfErr result (Ends (IsListRefusal bytes.now)) }
-{
-    match read_edits(alloc, bytes) {
-        Ok(edits) => Ok(edits),
-        Err(EditsFault::NotAList) => Err(Ending::Refused(Refusal {
-            code: 321,
-            place: 0,
-        })),
-        Err(EditsFault::BadEdits { index }) => Err(Ending::Refused(Refusal {
-            code: 320,
-            place: index,
-        })),
-        Err(EditsFault::NoMemory) => Err(Ending::NoMemory),
     }
 }
 
@@ -85,7 +64,17 @@ fn certificate(alloc: Global, bytes: &[u8]) -> Result<Certificate, Ending>
 fn reason_refusal(reason: Reason) -> Refusal
     ensures { IsReasonRefusal reason result }
 {
-    let code = match reason {
+    Refusal {
+        code: reason_code(reason),
+        place: 0,
+    }
+}
+
+/// The code of a reason of the checker, 401 to 409.
+pub fn reason_code(reason: Reason) -> u16
+    ensures { result ≡ reason_code reason }
+{
+    match reason {
         Reason::BeforeRefused => 401,
         Reason::AfterRefused => 402,
         Reason::EditsRefused => 403,
@@ -95,6 +84,5 @@ fn reason_refusal(reason: Reason) -> Refusal
         Reason::Unasked => 407,
         Reason::NewComment => 408,
         Reason::NotTheSame => 409,
-    };
-    Refusal { code, place: 0 }
+    }
 }

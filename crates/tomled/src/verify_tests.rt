@@ -7,9 +7,9 @@ use std::process::Abort;
 use std::test::Fail;
 
 /// The text before, the edits, the text after, and the certificate.
-type Case = [&'static str; 4];
+pub(crate) type Case = [&'static str; 4];
 
-fn verify(alloc: Global, case: Case) -> Result<Outcome, AllocError> {
+pub(crate) fn verify(alloc: Global, case: Case) -> Result<Outcome, AllocError> {
     let [before, edits, after, cert] = case;
     run_verify(
         alloc,
@@ -20,7 +20,14 @@ fn verify(alloc: Global, case: Case) -> Result<Outcome, AllocError> {
     )
 }
 
-fn assert_outcome(rt: &impl Abort, case: Case, got: &Outcome, status: u8, out: &str, err: &str) {
+pub(crate) fn assert_outcome(
+    rt: &impl Abort,
+    case: Case,
+    got: &Outcome,
+    status: u8,
+    out: &str,
+    err: &str,
+) {
     assert_eq!(rt; got.status, status, "{case:?}");
     assert_eq!(rt; got.out.as_slice(), out.as_bytes(), "{case:?}");
     assert_eq!(rt; got.err.as_slice(), err.as_bytes(), "{case:?}");

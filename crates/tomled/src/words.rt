@@ -3,8 +3,8 @@ ghost use Rattle.std.specs.Prelude.{◌≡◌, IfErr, IfOk, false, option_and_th
 ghost use Rattle.clap.specs.Walk.{texts};
 ghost use Rattle.clap.specs.Words.{FailsBy, fault_of, first_of, found_of, kind_of, rows_of, rule_of};
 ghost use Rattle.clap.specs.Words.{subcommand_of, subcommand_rows_of, takes};
-ghost use Rattle.tomled.specs.CommandLine.{IsDefined, check, flag, readers, required_argument, show, tool, verify};
-ghost use Rattle.tomled.specs.Request.{IsFaultIn, IsRequestIn, asked_by, asked_of, check_of, is_true, show_of, verify_of};
+ghost use Rattle.tomled.specs.CommandLine.{IsDefined, check, edit, flag, readers, required_argument, show, tool, verify};
+ghost use Rattle.tomled.specs.Request.{IsFaultIn, IsRequestIn, asked_by, asked_of, check_of, edit_of, is_true, show_of, verify_of};
 
 #[cfg(test)]
 mod tests;
@@ -25,6 +25,15 @@ pub enum Request<'a> {
     /// Whether the file is a TOML document.
     Check {
         file: &'a str,
+    },
+    /// What edits make of the file, and the certificate which shows it.
+    Edit {
+        file: &'a str,
+        edits: &'a str,
+        /// Where the edited text is to be written.
+        out: &'a str,
+        /// Where its certificate is to be written.
+        cert: &'a str,
     },
     /// Whether a text is what edits make of another, as a certificate has it.
     Verify {
@@ -75,8 +84,9 @@ fn command<'a>(alloc: Global) -> Result<Command<'a>, AllocError>
     ensures { IfOk result (IsDefined tool) }
 {
     let readers = reading_commands(alloc)?;
+    let edit = edit_command(alloc)?;
     let verify = verify_command(alloc)?;
-    readers.subcommand(verify)
+    readers.subcommand(edit)?.subcommand(verify)
 }
 
 /// The command with the subcommands that read one document.
@@ -112,6 +122,21 @@ fn check_command<'a>(alloc: Global) -> Result<Command<'a>, AllocError>
     Command::new(alloc, "check")
         .about("Says whether a file is a TOML document")
         .arg(file)
+}
+
+fn edit_command<'a>(alloc: Global) -> Result<Command<'a>, AllocError>
+    ensures { IfOk result (IsDefined edit) }
+{
+    let file = path(alloc, "FILE", "The document");
+    let edits = path(alloc, "EDITS", "The edits, a JSON list");
+    let out = path(alloc, "OUT", "The file to write the edited document to");
+    let cert = path(alloc, "CERT", "The file to write the certificate to");
+    Command::new(alloc, "edit")
+        .about("Edits a TOML document, and keeps all that no edit names")
+        .arg(file)?
+        .arg(edits)?
+        .arg(out)?
+        .arg(cert)
 }
 
 fn verify_command<'a>(alloc: Global) -> Result<Command<'a>, AllocError>
@@ -157,6 +182,7 @@ fn requested<'a>(matches: &ArgMatches<'a>) -> Option<Request<'a>>
     match name {
         "show" => show_request(found),
         "check" => check_request(found),
+        "edit" => edit_request(found),
         "verify" => verify_request(found),
         _ => None,
     }
@@ -175,6 +201,21 @@ fn check_request<'a>(found: &ArgMatches<'a>) -> Option<Request<'a>>
 {
     let file = first_value(found, "FILE")?;
     Some(Request::Check { file })
+}
+
+fn edit_request<'a>(found: &ArgMatches<'a>) -> Option<Request<'a>>
+    ensures { option_map asked_by result ≡ edit_of (rows_of (found_of found.now)) }
+{
+    let file = first_value(found, "FILE")?;
+    let edits = first_value(found, "EDITS")?;
+    let out = first_value(found, "OUT")?;
+    let cert = first_value(found, "CERT")?;
+    Some(Request::Edit {
+        file,
+        edits,
+        out,
+        cert,
+    })
 }
 
 fn verify_request<'a>(found: &ArgMatches<'a>) -> Option<Request<'a>>

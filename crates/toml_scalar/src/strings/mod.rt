@@ -12,6 +12,3 @@ mod value;
 pub use kind::StringKind;
 pub use scan::{body_len, kind_at, string_len};
 pub use value::read_string;
-
-#[cfg(test)]
-mod tests;

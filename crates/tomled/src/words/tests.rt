@@ -58,11 +58,29 @@ fn verify_has_its_paths(rt: HostRuntime) {
 }
 
 #[test]
+fn edit_has_its_paths(rt: HostRuntime) {
+    let words = ["tomled", "edit", "a.toml", "e.json", "b.toml", "c.txt"];
+    let request = read_words(rt.alloc(), words.as_slice());
+    assert!(rt;
+        matches!(
+            &request,
+            Ok(Request::Edit {
+                file: "a.toml",
+                edits: "e.json",
+                out: "b.toml",
+                cert: "c.txt"
+            })
+        )
+    );
+}
+
+#[test]
 fn help_is_shown(rt: HostRuntime) {
     for words in [
         ["tomled", "--help"].as_slice(),
         ["tomled", "check", "--help"].as_slice(),
         ["tomled", "show", "--help"].as_slice(),
+        ["tomled", "edit", "--help"].as_slice(),
         ["tomled", "verify", "--help"].as_slice(),
         ["tomled", "help"].as_slice(),
     ] {
@@ -84,6 +102,8 @@ fn mistakes_are_refused(rt: HostRuntime) {
     for words in [
         ["tomled"].as_slice(),
         ["tomled", "edit", "a.toml"].as_slice(),
+        ["tomled", "edit", "a.toml", "e.json", "b.toml"].as_slice(),
+        ["tomled", "edit", "a.toml", "e.json", "b.toml", "c", "d"].as_slice(),
         ["tomled", "show"].as_slice(),
         ["tomled", "show", "a.toml", "b.toml"].as_slice(),
         ["tomled", "show", "--list"].as_slice(),

@@ -1,19 +1,28 @@
-use Rattle.std.proofs.Common.{map, subst}
+use Rattle.std.proofs.Common.{◌<◌, ◌^◌, length, IfOk, map, subst, sym, arith}
+use Rattle.std.proofs.lemmas.List.{length-map}
+use Rattle.std.proofs.lemmas.Result.{IfOk-weaker}
 use Rattle.toml_tree.specs.Document.{document}
 use Rattle.toml_edits.specs.Edits.{change}
-use Rattle.toml_checker.specs.After.{IsDataFault}
-use Rattle.toml_checker.proofs.OfDocuments.{found, has_data, documents_hold, data_fail}
+use Rattle.toml_checker.specs.Demands.{IsVerdict}
+use Rattle.toml_checker.specs.Reading.{AreUnitsOf}
+use Rattle.toml_checker.proofs.OfDocuments.{found, has_data, made_of}
+use Rattle.toml_checker.proofs.Sentence.{yes_means}
 use Rattle.toml_checker.proofs.judging.check.Goals as goal
 
-pub returns-in-Some-3 : goal.returns-in-Some-3
-returns-in-Some-3 c =
+pub judge_after-requires : goal.judge_after-requires
+judge_after-requires c =
     let before = c.args.before.now in
-    let after = c.args.after.now in
     let cs = map change c.args.edits.now in
-    let ps = c.args.certificate.now.pairs.items in
-    let old = found before c.in_ok-old_doc.field-0 c.in-Some.old_doc c.in-Some.old c.in-Some.is c.in_ok-old_doc.ensures in
-    let new = found after c.in_ok-new_doc.field-0 c.in-Some-2.new_doc c.in-Some-2.new c.in-Some-2.is c.in_ok-new_doc.ensures in
-    let x = c.in-Some.old.«data».root in
-    let y = c.in-Some-2.new.«data».root in
-    data_fail before after (document c.in-Some.old_doc) (document c.in-Some-2.new_doc) x y cs ps
-    (has_data before c.in-Some.old_doc c.in-Some.old old) (has_data after c.in-Some-2.new_doc c.in-Some-2.new new) (documents_hold before after cs ps old.0 new.0) c.in-Some-3.reason (subst (IsDataFault cs x y) c.in-Some-3.is c.in_ok-reason.ensures)
+    let old = found before c.in_ok-doc.field-0 c.in-Some.doc c.in-Some.old c.in-Some.is c.in_ok-doc.ensures in
+    record {
+      read = record { spelled = old.1; units = subst (AreUnitsOf c.in-Some.doc) (sym c.deref.ensures.value) old.2.1 };
+      document = old.0;
+      made = made_of before (document c.in-Some.doc) c.in-Some.old.«data» cs c.in_ok-made.made (has_data before c.in-Some.doc c.in-Some.old old) c.in_ok-made.ensures;
+    }
+
+pub returns-clause-headline : goal.returns-clause-headline
+returns-clause-headline c =
+    let cs = map change c.args.edits.now in
+    let few : length cs < 2 ^ 63 = omega (arith, length-map c.args.edits.now change, c.if-prove.false) in
+    IfOk-weaker c.judge_after.result _ _ (λ v h. yes_means c.args.before.now c.args.after.now cs c.args.certificate.now.pairs.items v few h)
+    (subst (λ ps. IfOk c.judge_after.result (IsVerdict c.args.before.now cs c.args.after.now ps)) c.deref-2.ensures.value c.judge_after.ensures)

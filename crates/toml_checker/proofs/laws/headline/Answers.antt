@@ -1,4 +1,4 @@
-use Rattle.toml_checker.proofs.Stands.{certified_stand}
+use Rattle.toml_checker.proofs.Sentence.{certified_stand}
 use Rattle.toml_checker.proofs.laws.headline.Goals as goal
 
 pub returns : goal.returns

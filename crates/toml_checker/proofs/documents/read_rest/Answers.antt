@@ -1,6 +1,0 @@
-use Rattle.toml_tree.specs.Document.{document}
-use Rattle.toml_checker.proofs.Refused.{no_names}
-use Rattle.toml_checker.proofs.documents.read_rest.Goals as goal
-
-pub returns-in_ok-told-in-Err : goal.returns-in_ok-told-in-Err
-returns-in_ok-told-in-Err c = no_names c.args.text.now (document c.args.doc.now) c.in-Err.fault c.requires c.in_ok-told-in-Err.ensures c.in-Err.ensures.refused

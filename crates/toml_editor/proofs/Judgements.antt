@@ -1,0 +1,145 @@
+-- From what was judged and told to the editor's answers.
+use Rattle.std.proofs.Common.{◌≡◌, ◌⊎◌, ◌↔◌, inl, inr, ℕ, zero, suc, ◌<◌, ◌≤◌, List, [], ◌∷◌, Bool, true, false, length, Option, Some, None, refl, sym, ap, subst, ◌∙◌, arith}
+use Rattle.std.proofs.lemmas.Option.{same_Some, slice_get_within}
+use Rattle.std.proofs.lemmas.Str.{IsUtf8-from_is_utf8}
+use Rattle.std.proofs.Math.Bool.{beq}
+use Rattle.std.specs.Cmp.Lexicographic.{pointwise}
+use Rattle.std.specs.Prelude.{IsTrue, slice_get}
+use Rattle.toml_text.specs.Limit.{IsText, max_len}
+use Rattle.toml_text.specs.Source.{IsFaultOf}
+use Rattle.toml_text.specs.declared.fault.TextFault.{TextFault}
+use Rattle.toml_text.specs.declared.fault.TextFault.TheVariants.{NotUtf8, TooLong}
+use Rattle.toml_scalar.specs.declared.fault.SyntaxFault.{SyntaxFault}
+use Rattle.toml_scalar.specs.declared.fault.SyntaxFault.TheVariants as syntax
+use Rattle.toml_tree.specs.Document.{Refuses}
+use Rattle.toml_tree.specs.Spells.{Spells}
+use Rattle.toml_tree.specs.Tree.{Doc}
+use Rattle.toml_tree.proofs.Proved.{one_tree}
+use Rattle.toml_names.specs.declared.fault.NameFault.{NameFault}
+use Rattle.toml_names.specs.declared.fault.NameFault.TheVariants as names
+use Rattle.toml_names.specs.declared.datum.Datum.{Datum}
+use Rattle.toml_names.specs.Addresses.{Address}
+use Rattle.toml_names.specs.Data.{Kinds, IsDataOf, IsFact, kind_at}
+use Rattle.toml_names.specs.Documents.{IsDocument}
+use Rattle.toml_names.specs.Mentions.{Named, named}
+use Rattle.toml_names.specs.Names.{AreGood, RefusesNames}
+use Rattle.toml_names.proofs.Proved.{refused_are_bad}
+use Rattle.toml_edits.specs.Edits.{Change}
+use Rattle.toml_units.specs.Units.{TextUnit, units}
+use Rattle.toml_checker.specs.declared.verdict.Verdict.{Verdict}
+use Rattle.toml_checker.specs.declared.verdict.Verdict.TheVariants.{Yes}
+use Rattle.toml_checker.specs.Demands.{Certified, IsVerdict}
+use Rattle.toml_checker.specs.Marks.{IsSet}
+use Rattle.toml_checker.specs.Outer.{IsOuter}
+use Rattle.toml_checker.specs.Pairs.{IsFirst, StandsAs, AllFit}
+use Rattle.toml_editor.specs.Edited.{IsEdited, NamesOuter, RefusesText, Tells, TellsWanted}
+use Rattle.toml_editor.specs.Making.{TellsAny}
+use Rattle.toml_editor.specs.declared.fault.EditorFault.{EditorFault}
+use Rattle.toml_editor.specs.declared.fault.EditorFault.TheVariants as faults
+use Rattle.toml_editor.specs.Faults.{of_syntax, of_names}
+use Rattle.toml_editor.specs.declared.fault.EditorFault.TheVariants.{Text}
+
+-- ---- refusals
+
+no_text : (text : List ℕ) (fault : TextFault) → IsFaultOf text fault → ¬ IsDocument text
+no_text text (NotUtf8 at) h = λ document. h.0 (IsUtf8-from_is_utf8 text document.0.utf8)
+no_text text TooLong h = λ document. let fits : length text ≤ max_len = document.0.fits in absurd (omega (arith, h.1))
+
+pub text_refused : (text : List ℕ) (fault : TextFault) → IsFaultOf text fault → RefusesText text (Text fault)
+text_refused text fault h = (no_text text fault h, h)
+
+pub tree_refused : (text : List ℕ) (fault : SyntaxFault) → IsText text → Refuses text fault → RefusesText text (of_syntax fault)
+tree_refused text (syntax.BadCharacter at) is h = ((λ document. h.1 document.1 document.2), is, h)
+tree_refused text (syntax.Expected at) is h = ((λ document. h.1 document.1 document.2), is, h)
+tree_refused text (syntax.BadString at) is h = ((λ document. h.1 document.1 document.2), is, h)
+tree_refused text (syntax.BadNumber at) is h = ((λ document. h.1 document.1 document.2), is, h)
+tree_refused text (syntax.IntegerRange at) is h = ((λ document. h.1 document.1 document.2), is, h)
+tree_refused text (syntax.BadDate at) is h = ((λ document. h.1 document.1 document.2), is, h)
+tree_refused text (syntax.TooDeep at) is h = ((λ document. h.1 document.1 document.2), is, h)
+tree_refused text syntax.NoMemory is h = tt
+
+no_names : (text : List ℕ) (d : Doc) (fault : NameFault) → Spells d text → (fault ≡ names.NoMemory → ⊥) → RefusesNames d.lines fault → ¬ IsDocument text
+no_names text d fault spelled memory refuses = λ document.
+    let same : document.1 ≡ d = one_tree document.1 d text document.2 spelled in
+    refused_are_bad d.lines fault refuses memory (subst (λ (e : Doc). AreGood e.lines) same document.3)
+
+pub names_refused : (text : List ℕ) (d : Doc) (fault : NameFault) → IsText text → Spells d text → RefusesNames d.lines fault → RefusesText text (of_names fault)
+names_refused text d (names.Redefined line at) is spelled h = (no_names text d (names.Redefined line at) spelled (λ e. cc) h, is, (d, spelled, h))
+names_refused text d (names.LongAddress line) is spelled h = (no_names text d (names.LongAddress line) spelled (λ e. cc) h, is, (d, spelled, h))
+names_refused text d names.NoMemory is spelled h = tt
+
+-- a copy of data is data of the same
+pub data_copied : (ms ns : List Named) (k l : Kinds) → ns ≡ ms → IsDataOf ns k → ((at : Address) → l at ≡ k at) → IsDataOf ms l
+data_copied ms ns k l is facts same = λ at kind. let e = facts at kind in (
+  (λ h. subst (λ (ms : List Named). IsFact ms at kind) is (e.0 (sym (same at) ∙ h))),
+  (λ h. same at ∙ e.1 (subst (λ (ms : List Named). IsFact ms at kind) (sym is) h)),
+)
+
+-- what is told of the data of a text is told of the text
+pub any_tells : (before : List ℕ) (cs : List Change) (d : Doc) (old : Datum) (fault : EditorFault) → Spells d before → IsDataOf (named d.lines) (kind_at old) → TellsAny cs old fault → Tells before cs fault
+any_tells before cs d old (faults.Edit i f) spelled facts h = (d, spelled, old, facts, h)
+any_tells before cs d old (faults.Spread i) spelled facts h = (d, spelled, old, facts, h)
+any_tells before cs d old (faults.LastElement i) spelled facts h = (d, spelled, old, facts, h)
+any_tells before cs d old faults.NoMemory spelled facts h = tt
+any_tells before cs d old (faults.Text f) spelled facts h = absurd h
+any_tells before cs d old (faults.Syntax f) spelled facts h = absurd h
+any_tells before cs d old (faults.Names f) spelled facts h = absurd h
+any_tells before cs d old faults.TooLong spelled facts h = absurd h
+any_tells before cs d old (faults.Unverified r) spelled facts h = absurd h
+
+-- ---- which units are paired
+
+pub pointwise_same : (xs ys : List Bool) → pointwise beq xs ys ≡ true → xs ≡ ys
+pointwise_same [] [] e = refl
+pointwise_same [] (y ∷ ys) e = cc
+pointwise_same (x ∷ xs) [] e = cc
+pointwise_same (true ∷ xs) (true ∷ ys) e = ap (λ zs. true ∷ zs) (pointwise_same xs ys e)
+pointwise_same (true ∷ xs) (false ∷ ys) e = cc
+pointwise_same (false ∷ xs) (true ∷ ys) e = cc
+pointwise_same (false ∷ xs) (false ∷ ys) e = ap (λ zs. false ∷ zs) (pointwise_same xs ys e)
+
+first_there : (cs : List Change) (d e : Doc) (ps : List (ℕ × ℕ)) (i : ℕ) → AllFit cs d e ps → IsFirst ps i → i < length (units d.lines)
+first_there cs d e [] i fit h = absurd h
+first_there cs d e (p ∷ ps) i fit (inl is) = subst (λ k. k < length (units d.lines)) is (slice_get_within (units d.lines) p.0 fit.0.first fit.0.first_is)
+first_there cs d e (p ∷ ps) i fit (inr h) = first_there cs d e ps i fit.1 h
+
+pub names_outer : (before after : List ℕ) (cs : List Change) (ps : List (ℕ × ℕ)) (wanted : List Bool) → Certified before cs after ps → TellsWanted before cs wanted
+    → ((i : ℕ) → i < length wanted → (slice_get wanted i ≡ Some true) ↔ IsFirst ps i) → NamesOuter before cs ps
+names_outer before after cs ps wanted c (d, spelled, told) all = (
+  d,
+  spelled,
+  (λ i. (
+    (λ f. (told.1 i).0 ((all i (low i f)).1 f)),
+    (λ o. let set = (told.1 i).1 o in (all i (slice_get_within wanted i true set)).0 set),
+  )),
+)
+  where
+    low : (i : ℕ) → IsFirst ps i → i < length wanted
+    low i f = subst (λ n. i < n) (sym told.0) (subst (λ (x : Doc). i < length (units x.lines)) (one_tree c.pairs.0 d before c.pairs.1 spelled) (first_there cs c.pairs.0 c.pairs.2.0 ps i c.pairs.2.2.1 f))
+
+to_mark : (fs : List Bool) (i : ℕ) → slice_get fs i ≡ Some true → IsSet fs i
+to_mark [] i h = cc
+to_mark (f ∷ fs) zero h = same_Some f true h
+to_mark (f ∷ fs) (suc i) h = to_mark fs i h
+
+from_mark : (fs : List Bool) (i : ℕ) → IsSet fs i → slice_get fs i ≡ Some true
+from_mark [] i h = cc
+from_mark (f ∷ fs) zero h = ap Some h
+from_mark (f ∷ fs) (suc i) h = from_mark fs i h
+
+-- the marks, which are the wanted ones, are on what the pairs name first
+pub marks_tell : (wanted marks : List Bool) (ps : List (ℕ × ℕ)) (n : ℕ) → n ≡ length wanted → marks ≡ wanted → ((i : ℕ) → i < n → IsSet marks i ↔ IsFirst ps i) → (i : ℕ) → i < length wanted → (slice_get wanted i ≡ Some true) ↔ IsFirst ps i
+marks_tell wanted marks ps n count same all i low =
+    let told = all i (subst (λ m. i < m) (sym count) low) in (
+      (λ e. told.0 (subst (λ fs. IsSet fs i) (sym same) (to_mark wanted i e))),
+      (λ f. from_mark wanted i (subst (λ fs. IsSet fs i) same (told.1 f))),
+    )
+
+-- a yes, and pairs that name the wanted units
+pub edited : (before after text : List ℕ) (cs : List Change) (ps pairs : List (ℕ × ℕ)) (wanted flags : List Bool) (v : Verdict) (all : Bool) → IsVerdict before cs after ps v → v ≡ Yes → after ≡ text → pairs ≡ ps → flags ≡ wanted → TellsWanted before cs wanted
+    → (IsTrue all → (i : ℕ) → i < length flags → (slice_get flags i ≡ Some true) ↔ IsFirst pairs i) → all ≡ true → IsEdited before cs text ps
+edited before after text cs ps pairs wanted flags v all verdict a_yes same same_pairs same_flags told names is =
+    let certified : Certified before cs after ps = subst (IsVerdict before cs after ps) a_yes verdict in
+    let first : (i : ℕ) → i < length wanted → (slice_get wanted i ≡ Some true) ↔ IsFirst ps i =
+    subst (λ qs. (i : ℕ) → i < length wanted → (slice_get wanted i ≡ Some true) ↔ IsFirst qs i) same_pairs (subst (λ fs. (i : ℕ) → i < length fs → (slice_get fs i ≡ Some true) ↔ IsFirst pairs i) same_flags (names is)) in
+    subst (λ t. IsEdited before cs t ps) same (record { certified = certified; outer = names_outer before after cs ps wanted certified told first })

@@ -1,0 +1,5 @@
+pub mod Shapes
+pub mod MadeEdits
+pub mod Judgements
+mod Each
+mod Tidy

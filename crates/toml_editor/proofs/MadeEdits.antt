@@ -1,0 +1,57 @@
+-- Edits made one after the other.
+use Rattle.std.proofs.Common.{◌≡◌, ◌⊎◌, inl, inr, ℕ, zero, suc, ◌+◌, ◌<◌, List, [], ◌∷◌, ◌++◌, length, take, get_or, map, Option, Some, None, refl, sym, ap, subst, ◌∙◌, arith}
+use Rattle.std.proofs.Math.Path.{fun_ext}
+use Rattle.std.proofs.lemmas.List.{take_more}
+use Rattle.std.specs.Prelude.{slice_get}
+use Rattle.toml_names.specs.declared.datum.Datum.{Datum}
+use Rattle.toml_names.specs.Addresses.{Address}
+use Rattle.toml_names.specs.Data.{Kinds, kind_at}
+use Rattle.toml_edits.specs.declared.edit.Edit.{Edit as Given}
+use Rattle.toml_edits.specs.After.{IsAfter}
+use Rattle.toml_edits.specs.Edits.{Change, change}
+use Rattle.toml_edits.specs.Faults.{IsFault}
+use Rattle.toml_edits.specs.Lists.{Lead}
+use Rattle.toml_editor.specs.Edited.{SoFar, MayBeSpread, TakesLastElement}
+use Rattle.toml_editor.specs.Making.{IsMade, TellsOne, TellsAny}
+use Rattle.toml_editor.specs.declared.fault.EditorFault.{EditorFault}
+use Rattle.toml_editor.specs.declared.fault.EditorFault.TheVariants as faults
+
+lead_more : (cs : List Change) (c : Change) (old mid new : Datum) → Lead cs old mid → IsMade c mid new → Lead (cs ++ c ∷ []) old new
+lead_more [] c old mid new lead made =
+    let is : kind_at mid ≡ kind_at old = sym (fun_ext lead) in
+    (subst (λ k. IsFault c k None) is made.0, new, subst (λ k. IsAfter c k (kind_at new)) is made.1, (λ a. refl))
+lead_more (d ∷ cs) c old mid new lead made = (lead.0, lead.1, lead.2, lead_more cs c lead.1 mid new lead.3 made)
+
+map_push : (xs ys : List Given) → map change (xs ++ ys) ≡ map change xs ++ map change ys
+map_push [] ys = refl
+map_push (x ∷ xs) ys = ap (λ zs. change x ∷ zs) (map_push xs ys)
+
+pub led_on : (es : List Given) (i : ℕ) (e : Given) (old mid new : Datum) → i < length es → e ≡ get_or es i e → Lead (map change (take i es)) old mid → IsMade (change e) mid new → Lead (map change (take (i + 1) es)) old new
+led_on es i e old mid new low is lead made =
+    let parts : map change (take (i + 1) es) ≡ map change (take i es) ++ change e ∷ [] = ap (map change) (take_more es i e low ∙ ap (λ x. take i es ++ x ∷ []) (sym is)) ∙ map_push (take i es) (e ∷ []) in
+    subst (λ cs. Lead cs old new) (sym parts) (lead_more (map change (take i es)) (change e) old mid new lead made)
+
+take_map : (n : ℕ) (es : List Given) → take n (map change es) ≡ map change (take n es)
+take_map zero es = refl
+take_map (suc n) [] = refl
+take_map (suc n) (e ∷ es) = ap (λ cs. change e ∷ cs) (take_map n es)
+
+get_map : (es : List Given) (i : ℕ) (e : Given) → i < length es → e ≡ get_or es i e → slice_get (map change es) i ≡ Some (change e)
+get_map [] i e low is = absurd (omega arith)
+get_map (x ∷ es) zero e low is = ap (λ y. Some (change y)) (sym is)
+get_map (x ∷ es) (suc i) e low is = get_map es i e (omega arith) is
+
+so_far : (es : List Given) (i j : ℕ) (e : Given) (old mid : Datum) (P : Change → Kinds → Type 0) → i < length es → e ≡ get_or es i e → Lead (map change (take i es)) old mid → j ≡ i → P (change e) (kind_at mid) → SoFar (map change es) old j P
+so_far es i j e old mid P low is lead same p =
+    subst (λ n. SoFar (map change es) old n P) (sym same) (mid, subst (λ cs. Lead cs old mid) (sym (take_map i es)) lead, change e, get_map es i e low is, p)
+
+pub any_of_one : (es : List Given) (i : ℕ) (e : Given) (old mid : Datum) (fault : EditorFault) → i < length es → e ≡ get_or es i e → Lead (map change (take i es)) old mid → TellsOne i (change e) (kind_at mid) fault → TellsAny (map change es) old fault
+any_of_one es i e old mid (faults.Edit j f) low is lead h = so_far es i j e old mid (λ c kinds. IsFault c kinds (Some f)) low is lead h.0 h.1
+any_of_one es i e old mid (faults.Spread j) low is lead h = so_far es i j e old mid MayBeSpread low is lead h.0 h.1
+any_of_one es i e old mid (faults.LastElement j) low is lead h = so_far es i j e old mid TakesLastElement low is lead h.0 h.1
+any_of_one es i e old mid faults.NoMemory low is lead h = tt
+any_of_one es i e old mid (faults.Text f) low is lead h = absurd h
+any_of_one es i e old mid (faults.Syntax f) low is lead h = absurd h
+any_of_one es i e old mid (faults.Names f) low is lead h = absurd h
+any_of_one es i e old mid faults.TooLong low is lead h = absurd h
+any_of_one es i e old mid (faults.Unverified r) low is lead h = absurd h

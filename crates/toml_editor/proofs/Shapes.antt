@@ -1,0 +1,34 @@
+-- What data have where they are seen to be a table, or an array of one element.
+use Rattle.std.proofs.Common.{◌≡◌, ◌⊎◌, inl, inr, ℕ, ◌<◌, List, [], ◌∷◌, ◌++◌, length, Option, Some, None, IsSome, refl, sym, ap, subst, ◌∙◌, arith, append_assoc}
+use Rattle.std.proofs.lemmas.Bool.Decides.{nat_tests}
+use Rattle.std.specs.Bool.{nat_eq}
+use Rattle.std.specs.Prelude.{IsTrue, slice_get, vec_len}
+use Rattle.toml_names.specs.declared.address.Step.{Step}
+use Rattle.toml_names.specs.declared.address.Step.TheVariants.{Index}
+use Rattle.toml_names.specs.declared.datum.Datum.{Datum}
+use Rattle.toml_names.specs.declared.datum.Datum.TheVariants.{Array, Table}
+use Rattle.toml_names.specs.Addresses.{Address, element}
+use Rattle.toml_names.specs.Data.{Kinds, kind_at, kind_in}
+use Rattle.toml_names.specs.Levels.{Elements, Members}
+use Rattle.toml_names.specs.Mentions.{a_table, an_array}
+use Rattle.toml_names.proofs.Proved.{array-here, array-item, has_kind, table-here}
+use Rattle.toml_edits.specs.Edits.{remove}
+use Rattle.toml_editor.specs.Edited.{TakesLastElement}
+use Rattle.toml_editor.specs.Making.{HasOne, IsMany}
+
+pub many_table : (m : Members) → IsMany (Some (Table m))
+many_table m = inl (table-here m)
+
+pub many_array : (v : Elements) → IsMany (Some (Array v))
+many_array v = inr (array-here v)
+
+one_in : (xs : List Datum) → length xs ≡ 1 → IsSome (kind_in (slice_get xs 0) []) × (kind_in (slice_get xs 1) [] ≡ None)
+one_in [] e = absurd (omega (arith, e))
+one_in (x ∷ []) e = (has_kind x, refl)
+one_in (x ∷ y ∷ xs) e = absurd (omega (arith, e))
+
+pub one_array : (v : Elements) (n : ℕ) → n ≡ vec_len v → IsTrue (nat_eq n 1) → HasOne (Some (Array v))
+one_array v n is one =
+    let e : length v.items ≡ 1 = (let same : n ≡ 1 = grind (arith, nat_tests) in omega (arith, is, same)) in
+    let w = one_in v.items e in
+    (subst IsSome (sym (array-item v 0 [])) w.0, array-item v 1 [] ∙ w.1)

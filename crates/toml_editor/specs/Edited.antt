@@ -1,0 +1,92 @@
+-- What the editor answers.
+use Rattle.std.specs.Prelude.{◌≡◌, ◌⊎◌, ◌↔◌, ℕ, List, Bool, take, Option, Some, None, IsSome, slice_get}
+use Rattle.toml_text.specs.Limit.{IsText}
+use Rattle.toml_text.specs.Source.{IsFaultOf}
+use Rattle.toml_tree.specs.Document.{Refuses}
+use Rattle.toml_tree.specs.Spells.{Spells}
+use Rattle.toml_tree.specs.Tree.{Doc}
+use Rattle.toml_names.specs.declared.datum.Datum.{Datum}
+use Rattle.toml_names.specs.Addresses.{Address, element}
+use Rattle.toml_names.specs.Data.{Kinds, kind_at}
+use Rattle.toml_names.specs.Documents.{IsDocument}
+use Rattle.toml_names.specs.Mentions.{a_table, an_array}
+use Rattle.toml_names.specs.Names.{RefusesNames}
+use Rattle.toml_edits.specs.Edits.{Change, set, insert, rename, remove}
+use Rattle.toml_edits.specs.Faults.{IsFault}
+use Rattle.toml_edits.specs.Lists.{Lead}
+use Rattle.toml_units.specs.declared.piece.Piece.{Piece}
+use Rattle.toml_units.specs.Pieces.{joined_text}
+use Rattle.toml_units.specs.Units.{units}
+use Rattle.toml_checker.specs.Demands.{Certified}
+use Rattle.toml_checker.specs.Documents.{OfTree, OfData}
+use Rattle.toml_checker.specs.Outer.{IsOuter, TellOuter}
+use Rattle.toml_checker.specs.Pairs.{IsFirst}
+use Rattle.toml_editor.specs.Tidy.{AreTidy}
+use Rattle.toml_editor.specs.declared.fault.EditorFault.{EditorFault}
+use Rattle.toml_editor.specs.declared.fault.EditorFault.TheVariants.{Text, Syntax, Names, Edit, Spread, LastElement, TooLong, Unverified, NoMemory}
+
+-- the pairs name first the outer protected units of the text, and no others
+abbrev pub NamesOuter : List ℕ → List Change → List (ℕ × ℕ) → Type 0
+NamesOuter before cs ps = OfTree before (λ d. (i : ℕ) → IsFirst ps i ↔ IsOuter cs (units d.lines) i)
+
+-- the text is certified to be what the edits make of the first one, by pairs that name the outer protected units
+pub record IsEdited (before : List ℕ) (cs : List Change) (after : List ℕ) (ps : List (ℕ × ℕ)) : Type 0 where
+  pub certified : Certified before cs after ps
+  pub outer : NamesOuter before cs ps
+
+-- the pieces, which are tidy, are the text
+pub record ArePieces (before after : List ℕ) (pieces : List Piece) : Type 0 where
+  pub joined : joined_text before pieces ≡ after
+  pub tidy : AreTidy before pieces
+
+-- the same as pieces
+pub record IsEditedInPieces (before : List ℕ) (cs : List Change) (list : List Piece) (ps : List (ℕ × ℕ)) : Type 0 where
+  pub after : List ℕ
+  pub edited : IsEdited before cs after ps
+  pub pieces : ArePieces before after list
+
+-- so it is of the edit with this number and of the data to which the edits before it lead
+abbrev pub SoFar : List Change → Datum → ℕ → (Change → Kinds → Type 0) → Type 0
+SoFar cs old index P = (mid : Datum) × Lead (take index cs) old mid × (c : Change) × (slice_get cs index ≡ Some c) × P c (kind_at mid)
+
+-- the same of the data of a text
+abbrev pub OnDataSoFar : List ℕ → List Change → ℕ → (Change → Kinds → Type 0) → Type 0
+OnDataSoFar before cs index P = OfData before (λ old. SoFar cs old index P)
+
+-- a value for a table or an array, or an element more of an array
+abbrev pub MayBeSpread : Change → Kinds → Type 0
+MayBeSpread (set at value) kinds = (kinds at ≡ Some a_table) ⊎ (kinds at ≡ Some an_array)
+MayBeSpread (insert at value) kinds = (q : Address) × (i : ℕ) × (at ≡ element q i)
+MayBeSpread _ kinds = ⊥
+
+-- the removal of the only element of an array
+abbrev pub TakesLastElement : Change → Kinds → Type 0
+TakesLastElement (remove at) kinds = (q : Address) × (at ≡ element q 0) × IsSome (kinds at) × (kinds (element q 1) ≡ None)
+TakesLastElement _ kinds = ⊥
+
+-- why the text is no document; want of memory tells nothing of it
+abbrev pub RefusesText : List ℕ → EditorFault → Type 0
+RefusesText before (Text fault) = (¬ IsDocument before) × IsFaultOf before fault
+RefusesText before (Syntax fault) = (¬ IsDocument before) × IsText before × Refuses before fault
+RefusesText before (Names fault) = (¬ IsDocument before) × IsText before × OfTree before (λ d. RefusesNames d.lines fault)
+RefusesText before NoMemory = Unit {0}
+RefusesText before _ = ⊥
+
+-- what a fault of the editor tells; of a result that is too long or that the judge refuses, and of want of memory, it tells nothing
+abbrev pub Tells : List ℕ → List Change → EditorFault → Type 0
+Tells before cs (Edit index fault) = OnDataSoFar before cs index (λ c kinds. IsFault c kinds (Some fault))
+Tells before cs (Spread index) = OnDataSoFar before cs index MayBeSpread
+Tells before cs (LastElement index) = OnDataSoFar before cs index TakesLastElement
+Tells before cs TooLong = Unit {0}
+Tells before cs (Unverified reason) = Unit {0}
+Tells before cs fault = RefusesText before fault
+
+-- what the reading of a text gives: the text, and the tree that spells it
+pub record IsRead (before text : List ℕ) (d : Doc) : Type 0 where
+  pub text_is : text ≡ before
+  pub within : IsText before
+  pub spelled : Spells d before
+
+-- the flags tell which units of the text are outer protected ones
+abbrev pub TellsWanted : List ℕ → List Change → List Bool → Type 0
+TellsWanted before cs flags = OfTree before (λ d. TellOuter cs (units d.lines) flags)

@@ -1,0 +1,46 @@
+-- What the making of edits tells, one after the other.
+use Rattle.std.specs.Prelude.{◌≡◌, ◌⊎◌, ℕ, List, [], ◌∷◌, Option, Some, None, IsSome}
+use Rattle.toml_names.specs.declared.datum.Datum.{Datum}
+use Rattle.toml_names.specs.Addresses.{Address, element}
+use Rattle.toml_names.specs.Data.{Kinds, kind_at, kind_in}
+use Rattle.toml_names.specs.Mentions.{a_table, an_array}
+use Rattle.toml_names.specs.declared.address.Step.TheVariants.{Index}
+use Rattle.toml_edits.specs.After.{IsAfter}
+use Rattle.toml_edits.specs.Edits.{Change, insert}
+use Rattle.toml_edits.specs.Faults.{IsFault}
+use Rattle.toml_editor.specs.Edited.{SoFar, MayBeSpread, TakesLastElement}
+use Rattle.toml_editor.specs.declared.fault.EditorFault.{EditorFault}
+use Rattle.toml_editor.specs.declared.fault.EditorFault.TheVariants.{Edit, Spread, LastElement, NoMemory}
+
+-- the edit has no fault on the one data, and makes the other of them
+abbrev pub IsMade : Change → Datum → Datum → Type 0
+IsMade c old new = IsFault c (kind_at old) None × IsAfter c (kind_at old) (kind_at new)
+
+-- it inserts at an index
+abbrev pub EndsInIndex : Change → Type 0
+EndsInIndex (insert at value) = (q : Address) × (i : ℕ) × (at ≡ element q i)
+EndsInIndex _ = ⊥
+
+-- what was found is a table or an array
+abbrev pub IsMany : Option Datum → Type 0
+IsMany found = (kind_in found [] ≡ Some a_table) ⊎ (kind_in found [] ≡ Some an_array)
+
+-- what was found has a first element, and no second one
+abbrev pub HasOne : Option Datum → Type 0
+HasOne found = IsSome (kind_in found (Index 0 ∷ [])) × (kind_in found (Index 1 ∷ []) ≡ None)
+
+-- the edit with this number has such a fault on the data
+abbrev pub TellsOne : ℕ → Change → Kinds → EditorFault → Type 0
+TellsOne i c kinds (Edit j fault) = (j ≡ i) × IsFault c kinds (Some fault)
+TellsOne i c kinds (Spread j) = (j ≡ i) × MayBeSpread c kinds
+TellsOne i c kinds (LastElement j) = (j ≡ i) × TakesLastElement c kinds
+TellsOne i c kinds NoMemory = Unit {0}
+TellsOne i c kinds _ = ⊥
+
+-- some edit has it on the data to which those before it lead
+abbrev pub TellsAny : List Change → Datum → EditorFault → Type 0
+TellsAny cs old (Edit i fault) = SoFar cs old i (λ c kinds. IsFault c kinds (Some fault))
+TellsAny cs old (Spread i) = SoFar cs old i MayBeSpread
+TellsAny cs old (LastElement i) = SoFar cs old i TakesLastElement
+TellsAny cs old NoMemory = Unit {0}
+TellsAny cs old _ = ⊥

@@ -1,0 +1,38 @@
+-- The text after one plain edit.
+use Rattle.std.specs.Prelude.{◌≡◌, true, ℕ, List, [], ◌∷◌, ◌++◌, Any, length, ◌==◌, if◌then◌else◌}
+use Rattle.toml_tree.specs.Spells.{Spells, SpellsValue, joined, lines_parts}
+use Rattle.toml_tree.specs.Tree.{Value, Line, Doc}
+use Rattle.toml_names.specs.Addresses.{Address}
+use Rattle.toml_names.specs.Joining.{is_lone}
+use Rattle.toml_names.specs.Mentions.{named}
+use Rattle.toml_names.specs.declared.address.Step.TheVariants.{Name}
+use Rattle.toml_names.specs.declared.named.Role.TheVariants.{Valued}
+use Rattle.toml_edits.specs.Edits.{Change, set, insert, rename, remove}
+use Rattle.toml_editor.specs.Setting.{set_lines}
+use Rattle.toml_editor.specs.Inserting.{insert_lines}
+use Rattle.toml_editor.specs.Removing.{remove_lines}
+use Rattle.toml_editor.specs.Renaming.{rename_lines}
+
+-- the newline of the first line, or LF where there is none
+abbrev pub style_of : List Line → List ℕ
+style_of [] = 0x0A ∷ []
+style_of (l ∷ ls) = if length l.newline.text == 0 then 0x0A ∷ [] else l.newline.text
+
+-- a value stands at the address: a key's, or an element of an array in a value
+abbrev pub HasValue : List Line → Address → Type 0
+HasValue lines p = Any (λ m. (m.address ≡ p) × (is_lone m.role ≡ true)) (named lines)
+
+-- a key's value stands there
+abbrev pub HasPair : List Line → Address → Type 0
+HasPair lines p = Any (λ m. (m.address ≡ p) × (m.role ≡ Valued)) (named lines)
+
+-- the lines after a plain edit; `style` is that of the text before all edits
+abbrev pub AreEdited : Change → List ℕ → List Line → List Line → Type 0
+AreEdited (set p text) style old new = (v : Value) × SpellsValue v 0 text × HasValue old p × (new ≡ set_lines p v old)
+AreEdited (insert p text) style old new = (v : Value) × SpellsValue v 0 text × (name : List ℕ) × (p ≡ Name name ∷ []) × (new ≡ insert_lines name v style old)
+AreEdited (rename p to) style old new = new ≡ rename_lines p to old
+AreEdited (remove p) style old new = (name : List ℕ) × (p ≡ Name name ∷ []) × HasPair old p × (new ≡ remove_lines p old)
+
+-- the text after it, the mark kept
+abbrev pub IsWritten : Change → List ℕ → List ℕ → List ℕ → Type 0
+IsWritten c style before after = (d : Doc) × Spells d before × (new : List Line) × AreEdited c style d.lines new × (after ≡ d.mark.text ++ joined (lines_parts new))

@@ -1,0 +1,231 @@
+//! The editor as a whole.
+ghost use Rattle.std.specs.Prelude.{◌≡◌, IfOk, IfErr, OnOk, length, map, string_bytes};
+ghost use Rattle.toml_text.specs.Source.{text_of};
+ghost use Rattle.toml_tree.specs.Document.{document};
+ghost use Rattle.toml_tree.specs.Spells.{Spells};
+ghost use Rattle.toml_names.specs.Documents.{IsDocument};
+ghost use Rattle.toml_names.specs.Reading.{lines_of};
+ghost use Rattle.toml_edits.specs.Edits.{change};
+ghost use Rattle.toml_checker.specs.After.{IsMadeOf};
+ghost use Rattle.toml_checker.specs.Reading.{AreUnitsOf, IsRead as IsJudged};
+ghost use Rattle.toml_editor.specs.Edited.{IsEdited, ArePieces, IsEditedInPieces, IsRead, RefusesText, Tells, TellsWanted};
+
+use crate::fault::EditorFault;
+use crate::making::make_all;
+use crate::pairing::names_all;
+use crate::spelled::{Spelled, spell_all};
+use crate::texts::Texts;
+use crate::working::Tree;
+use std::alloc::{AllocError, Global};
+use toml_checker::{Document, Reason, Verdict, check_made, outermost};
+use toml_edits::Edit;
+use toml_names::{Data, NameReader, read_lines};
+use toml_text::{MAX_LEN, Source};
+use toml_tree::{Doc, parse};
+use toml_units::{Certificate, Piece, Unit, join, units_at};
+
+/// What the editor makes: the pieces of the edited text, the text, and its certificate.
+#[derive(Drop)]
+struct Edited {
+    pieces: Vec<Piece>,
+    text: String,
+    certificate: Certificate,
+    /// Which units of the document are to be paired.
+    wanted: Vec<bool>,
+}
+
+/// The text that the edits make of a document, one after the other, and the certificate which shows that all else is kept:
+/// it pairs each unit that no edit names and that lies in no other such unit, and no others.
+///
+/// The text and the certificate are judged before they are handed out. Faults are told in the order of `EditorFault`.
+pub fn edit(
+    alloc: Global,
+    before: &[u8],
+    edits: &[Edit],
+) -> Result<(String, Certificate), EditorFault>
+    ensures edited { IfOk result (λ r. IsEdited before.now (map change edits.now) (string_bytes r.0) r.1.pairs.items) }
+    ensures told { IfErr result (Tells before.now (map change edits.now)) }
+{
+    let edited = judged(alloc, before, edits)?;
+    Ok((edited.text, edited.certificate))
+}
+
+/// A text certified in the same way, in pieces: kept spans of the text before the edits, which rise and do not overlap, and
+/// new texts. No piece is empty; new texts that meet are one, and so are kept spans that touch.
+pub fn edit_pieces(
+    alloc: Global,
+    before: &[u8],
+    edits: &[Edit],
+) -> Result<(Vec<Piece>, Certificate), EditorFault>
+    ensures edited { IfOk result (λ r. IsEditedInPieces before.now (map change edits.now) r.0.items r.1.pairs.items) }
+    ensures told { IfErr result (Tells before.now (map change edits.now)) }
+{
+    let edited = judged(alloc, before, edits)?;
+    Ok((edited.pieces, edited.certificate))
+}
+
+/// What the edits make of a document, where the judge certifies it.
+fn judged(alloc: Global, before: &[u8], edits: &[Edit]) -> Result<Edited, EditorFault>
+    ensures edited { IfOk result (λ e. IsEdited before.now (map change edits.now) (string_bytes e.text) e.certificate.pairs.items) }
+    ensures pieces { IfOk result (λ e. ArePieces before.now (string_bytes e.text) e.pieces.items) }
+    ensures told { IfErr result (Tells before.now (map change edits.now)) }
+{
+    let spelled = spell_all(alloc, edits)?;
+    spelled_judged(alloc, before, edits, &spelled)
+}
+
+/// The same with the spellings of the edits, which live as long as the text and the edits: new pieces are lent from all.
+fn spelled_judged<'x>(
+    alloc: Global,
+    before: &'x [u8],
+    edits: &'x [Edit],
+    spelled: &'x [Spelled],
+) -> Result<Edited, EditorFault>
+    requires { length spelled.now ≡ length edits.now }
+    ensures edited { IfOk result (λ e. IsEdited before.now (map change edits.now) (string_bytes e.text) e.certificate.pairs.items) }
+    ensures pieces { IfOk result (λ e. ArePieces before.now (string_bytes e.text) e.pieces.items) }
+    ensures told { IfErr result (Tells before.now (map change edits.now)) }
+{
+    let (source, doc) = read(alloc, before)?;
+    let reader = named_lines(alloc, before, &doc)?;
+    let units = units_of(alloc, &doc, &reader)?;
+    let wanted = outermost(alloc, &units, edits)?;
+    let (data, edited) = make(alloc, source, &doc, reader, &units, edits, spelled, wanted)?;
+    let read = Document {
+        text: before,
+        doc: &doc,
+        units: &units,
+    };
+    judge(alloc, read, edits, data, edited)
+}
+
+/// The units of the tree of a text.
+fn units_of(alloc: Global, doc: &Doc, reader: &NameReader) -> Result<Vec<Unit>, AllocError>
+    requires { lines_of reader.now ≡ (document doc.now).lines }
+    ensures { IfOk result (λ us. AreUnitsOf doc.now us.items) }
+{
+    let own = reader.own_addresses()?;
+    units_at(alloc, doc, own)
+}
+
+/// What is made is handed on where the judge says yes.
+fn judge(
+    alloc: Global,
+    before: Document,
+    edits: &[Edit],
+    data: Data,
+    edited: Edited,
+) -> Result<Edited, EditorFault>
+    requires read { IsJudged before }
+    requires document { IsDocument before.text.now }
+    requires made { IsMadeOf before.text.now (map change edits.now) «data» }
+    requires wanted { TellsWanted before.text.now (map change edits.now) edited.wanted.items }
+    requires pieces { ArePieces before.text.now (string_bytes edited.text) edited.pieces.items }
+    ensures edited { IfOk result (λ e. IsEdited before.entry.text.now (map change edits.now) (string_bytes e.text) e.certificate.pairs.items) }
+    ensures pieces { IfOk result (λ e. ArePieces before.entry.text.now (string_bytes e.text) e.pieces.items) }
+    ensures told { IfErr result (Tells before.entry.text.now (map change edits.now)) }
+{
+    if edited.text.len() > MAX_LEN {
+        return Err(EditorFault::TooLong);
+    }
+    match check_made(
+        alloc,
+        before,
+        edits,
+        data,
+        edited.text.as_bytes(),
+        &edited.certificate,
+    )? {
+        Verdict::No(reason) => Err(EditorFault::Unverified(reason)),
+        Verdict::Yes => {
+            if names_all(alloc, &edited.certificate.pairs, &edited.wanted)? {
+                Ok(edited)
+            } else {
+                Err(EditorFault::Unverified(Reason::Lost))
+            }
+        }
+    }
+}
+
+/// What the edits make of a document and its data, not judged yet.
+fn make<'x>(
+    alloc: Global,
+    source: Source<'x>,
+    doc: &Doc<'x>,
+    reader: NameReader<'_, 'x>,
+    units: &[Unit],
+    edits: &'x [Edit],
+    spelled: &'x [Spelled],
+    wanted: Vec<bool>,
+) -> Result<(Data, Edited), EditorFault>
+    requires read { Spells (document doc.now) (text_of source) }
+    requires names { lines_of reader ≡ (document doc.now).lines }
+    requires spelled { length spelled.now ≡ length edits.now }
+    ensures made { IfOk result (λ r. IsMadeOf (text_of source.entry) (map change edits.now) r.0) }
+    ensures wanted { IfOk result (λ r. r.1.wanted.items ≡ wanted.items) }
+    ensures pieces { IfOk result (λ r. ArePieces (text_of source.entry) (string_bytes r.1.text) r.1.pieces.items) }
+    ensures told { IfErr result (Tells (text_of source.entry) (map change edits.now)) }
+{
+    let mut data = reader.data()?;
+    let mut tree = Tree::of(Texts { alloc, source }, doc, &reader, units)?;
+    if let Err(fault) = make_all(alloc, &mut tree, &mut data, edits, spelled) {
+        return Err(fault);
+    }
+    let edited = write_out(alloc, source, doc, &tree, wanted)?;
+    Ok((data, edited))
+}
+
+/// What stands in the working tree, and its certificate.
+fn write_out<'t>(
+    alloc: Global,
+    source: Source<'t>,
+    doc: &Doc<'t>,
+    tree: &Tree<'_, '_, 't>,
+    wanted: Vec<bool>,
+) -> Result<Edited, AllocError>
+    ensures wanted { IfOk result (λ e. e.wanted.items ≡ wanted.items) }
+    ensures pieces { IfOk result (λ e. ArePieces (text_of source.entry) (string_bytes e.text) e.pieces.items) }
+{
+    let pieces = tree.pieces(source, doc.mark())?.into_list();
+    let text = join(alloc, source, &pieces)?;
+    let certificate = tree.certificate(&wanted)?;
+    Ok(Edited {
+        pieces,
+        text,
+        certificate,
+        wanted,
+    })
+}
+
+/// The text and its tree, or why there is none.
+#[tactic(auto, using(crate::proofs::Judgements::text_refused, crate::proofs::Judgements::tree_refused))]
+fn read<'x>(alloc: Global, before: &'x [u8]) -> Result<(Source<'x>, Doc<'x>), EditorFault>
+    ensures read { IfOk result (λ r. IsRead before.now (text_of r.0) (document r.1)) }
+    ensures refused { IfErr result (RefusesText before.now) }
+{
+    let source = match Source::new(before) {
+        Ok(source) => source,
+        Err(fault) => return Err(EditorFault::Text(fault)),
+    };
+    match parse(alloc, source) {
+        Ok(doc) => Ok((source, doc)),
+        Err(fault) => Err(EditorFault::from(fault)),
+    }
+}
+
+/// A reader of the lines of the tree of a text, or why they are refused.
+fn named_lines<'d, 't>(
+    alloc: Global,
+    before: &[u8],
+    doc: &'d Doc<'t>,
+) -> Result<NameReader<'d, 't>, EditorFault>
+    requires { IsRead before.now before.now (document doc.now) }
+    ensures document { OnOk result (IsDocument before.now) }
+    ensures taken { IfOk result (λ reader. lines_of reader ≡ (document doc.now).lines) }
+    ensures refused { IfErr result (RefusesText before.now) }
+{
+    match read_lines(alloc, doc) {
+        Ok(reader) => Ok(reader),
+        Err(fault) => Err(EditorFault::from(fault)),
+    }
+}

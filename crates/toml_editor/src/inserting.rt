@@ -1,0 +1,184 @@
+//! `insert`: an element of an array, a pair of an inline table, or a line with a key and a value.
+use crate::lines::{Line, below};
+use crate::tree::{Brackets, Expr, Header, Key, KeyVal, Leaf, Value};
+use crate::working::{Position, TablePlace, Tree};
+use std::alloc::{AllocError, Global};
+use toml_names::{Address, Step};
+
+impl<'t> Tree<'_, '_, 't> {
+    /// Puts a value in at the address; `spelled` are the spellings of its steps. It answers `false` where the parent is no
+    /// table, and no array in a value.
+    pub(crate) fn insert(
+        &mut self,
+        at: &Address,
+        spelled: &'t [String],
+        new: Value<'t>,
+    ) -> Result<bool, AllocError> {
+        let Some((last, above)) = at.steps().split_last() else {
+            return Ok(false);
+        };
+        let parent = copied(self.alloc(), above)?;
+        if let Some(place) = self.value_line(&parent) {
+            return self.insert_inside(place, at, spelled, new);
+        }
+        if matches!(last, Step::Index(_)) {
+            return Ok(false);
+        }
+        if above.is_empty() {
+            return self.insert_at_root(at, spelled, new);
+        }
+        match self.table_place(&parent) {
+            Some(TablePlace::Header(header)) => {
+                let behind = self.last_pair(header.next()).unwrap_or(header);
+                self.insert_behind(behind, at, above.len(), spelled, new)
+            }
+            Some(TablePlace::Dotted(line)) => {
+                let base = self.base(line);
+                let behind = self.last_pair(line).unwrap_or(line);
+                self.insert_behind(behind, at, base, spelled, new)
+            }
+            Some(TablePlace::Implicit(header)) => {
+                self.insert_before(header, at, parent, spelled, new)
+            }
+            None => Ok(false),
+        }
+    }
+
+    /// Puts a value in inside the value of a line.
+    fn insert_inside(
+        &mut self,
+        place: Position,
+        at: &Address,
+        spelled: &'t [String],
+        new: Value<'t>,
+    ) -> Result<bool, AllocError> {
+        let (texts, doc) = (self.texts, self.doc);
+        let Some(line) = self.line_mut(place) else {
+            return Ok(false);
+        };
+        let used = line.steps();
+        match line.open(texts.alloc, doc)? {
+            Some(open) => match &mut open.expr {
+                Expr::Pair(pair) => texts.insert_in(&mut pair.value, below(at, used), spelled, new),
+                _ => Ok(false),
+            },
+            None => Ok(false),
+        }
+    }
+
+    /// Puts a line in behind the last one with a key and a value before the first header, or as the first line.
+    fn insert_at_root(
+        &mut self,
+        at: &Address,
+        spelled: &'t [String],
+        new: Value<'t>,
+    ) -> Result<bool, AllocError> {
+        let first = Position { slot: 0, index: 0 };
+        match self.last_pair(first) {
+            Some(behind) => self.insert_behind(behind, at, 0, spelled, new),
+            None => {
+                let line = self.pair_line(at, 0, spelled, new, self.style)?;
+                self.put(first, line)
+            }
+        }
+    }
+
+    /// Puts a line in behind another; its table's address has `base` steps. Where that was the last line of the text, it gets
+    /// the newline of new lines, and the new one has none.
+    fn insert_behind(
+        &mut self,
+        behind: Position,
+        at: &Address,
+        base: usize,
+        spelled: &'t [String],
+        new: Value<'t>,
+    ) -> Result<bool, AllocError> {
+        let (alloc, doc, style) = (self.alloc(), self.doc, self.style);
+        let mut newline = style;
+        if let Some(line) = self.line_mut(behind) {
+            if line.is_last() {
+                newline = Leaf::EMPTY;
+                line.end_in(alloc, doc, style)?;
+            }
+        }
+        let line = self.pair_line(at, base, spelled, new, newline)?;
+        self.put(behind.next(), line)
+    }
+
+    /// Puts a header line for the parent, and a line behind it, in before another.
+    fn insert_before(
+        &mut self,
+        before: Position,
+        at: &Address,
+        parent: Address,
+        spelled: &'t [String],
+        new: Value<'t>,
+    ) -> Result<bool, AllocError> {
+        let (alloc, style) = (self.alloc(), self.style);
+        let line = self.pair_line(at, parent.steps().len(), spelled, new, style)?;
+        let key = names_key(alloc, &parent, spelled)?;
+        let header = Header {
+            brackets: Brackets::One,
+            before: Leaf::EMPTY,
+            key,
+            after: Leaf::EMPTY,
+        };
+        let above = Line::new(alloc, Some(parent), None, Expr::Header(header), style)?;
+        Ok(self.put(before, line)? && self.put(before, above)?)
+    }
+
+    /// A line with the key of the steps below its table, whose address has `base` steps.
+    fn pair_line(
+        &self,
+        at: &Address,
+        base: usize,
+        spelled: &'t [String],
+        new: Value<'t>,
+        newline: Leaf<'t>,
+    ) -> Result<Line<'t>, AllocError> {
+        let (_, parts) = spelled.split_at(base.min(spelled.len()));
+        let expr = Expr::Pair(KeyVal {
+            assign: self.texts.assign(parts)?,
+            value: new,
+        });
+        let address = at.copy(self.alloc())?;
+        Line::new(self.alloc(), Some(address), Some(base), expr, newline)
+    }
+
+    /// Puts a line in at a place.
+    fn put(&mut self, at: Position, line: Line<'t>) -> Result<bool, AllocError> {
+        match self.slots.get_mut(at.slot) {
+            Some(slot) => {
+                slot.put(at.index, line)?;
+                Ok(true)
+            }
+            None => Ok(false),
+        }
+    }
+}
+
+/// The address of these steps.
+fn copied(alloc: Global, steps: &[Step]) -> Result<Address, AllocError> {
+    let mut list = Vec::with_capacity(alloc, steps.len())?;
+    for step in steps {
+        list.push(step.copy()?)?;
+    }
+    Ok(Address::of(list))
+}
+
+/// The key of the names of an address, by the spellings of its steps; indices are left out.
+fn names_key<'t>(
+    alloc: Global,
+    at: &Address,
+    spelled: &'t [String],
+) -> Result<Key<'t>, AllocError> {
+    let mut key = Key::none(alloc);
+    let mut first = true;
+    for (step, text) in at.steps().iter().zip(spelled) {
+        if let Step::Name(_) = step {
+            key.push(first, text.as_str())?;
+            first = false;
+        }
+    }
+    Ok(key)
+}

@@ -1,0 +1,26 @@
+//! The editor: it writes what edits make of a document, keeps all else byte for byte, and hands out nothing that the judge
+//! has not said yes to.
+#![tactic(auto)]
+
+mod editing;
+mod entries;
+mod fault;
+mod inserting;
+mod lines;
+mod making;
+mod numbering;
+mod opening;
+mod pairing;
+mod pieces;
+mod removing;
+mod renaming;
+mod setting;
+mod spelled;
+mod texts;
+mod tree;
+mod values;
+mod working;
+mod writing;
+
+pub use editing::{edit, edit_pieces};
+pub use fault::EditorFault;

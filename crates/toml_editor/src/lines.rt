@@ -1,0 +1,264 @@
+//! The lines of the working tree: kept as they stand in the document until an edit changes something on them.
+use crate::opening::Opener;
+use crate::tree::{Blank, Brackets, Expr, Leaf, OpenLine};
+use crate::values::behind;
+use std::alloc::{AllocError, Global};
+use toml_names::{Address, Step};
+use toml_text::Span;
+use toml_tree::Doc;
+
+/// A line that is as it was.
+#[derive(Clone, Copy)]
+pub(crate) struct Kept {
+    /// Its number in the document, from 0.
+    pub(crate) line: usize,
+    /// Where it stands, with its newline.
+    pub(crate) span: Span,
+    /// Whether it is the header of an array of tables.
+    pub(crate) is_tables: bool,
+    /// Whether it is the last line, which ends in no newline.
+    pub(crate) is_last: bool,
+    /// The number of its first unit, and how many it has.
+    pub(crate) first: usize,
+    pub(crate) count: usize,
+}
+
+/// What stands on a line.
+#[derive(Drop)]
+pub(crate) enum Body<'t> {
+    Kept(Kept),
+    Open(Box<OpenLine<'t>>),
+}
+
+/// A line of the working tree.
+#[derive(Drop)]
+pub(crate) struct Line<'t> {
+    /// Where its value, table or element stands; none for a blank line.
+    pub(crate) address: Option<Address>,
+    /// Of a line with a key and a value: how many steps the address of the table has in which it stands.
+    pub(crate) base: Option<usize>,
+    pub(crate) body: Body<'t>,
+}
+
+/// The lines that now stand where one line of the document stood, in text order.
+#[derive(Drop)]
+pub(crate) struct Slot<'t> {
+    pub(crate) lines: Vec<Line<'t>>,
+}
+
+/// The steps of the address behind the first so many.
+pub(crate) fn below(at: &Address, used: usize) -> &[Step] {
+    behind(at.steps(), used)
+}
+
+/// The address with another step at a place.
+pub(crate) fn changed(
+    alloc: Global,
+    at: &Address,
+    place: usize,
+    step: Step,
+) -> Result<Address, AllocError> {
+    let mut steps = at.copy(alloc)?.into_steps();
+    if let Some(old) = steps.get_mut(place) {
+        *old = step;
+    }
+    Ok(Address::of(steps))
+}
+
+/// Whether the first address is a beginning of the second.
+pub(crate) fn is_at_or_above(at: &Address, other: &Address) -> bool {
+    at.is_same(other) || at.is_above(other)
+}
+
+impl<'t> Line<'t> {
+    /// The address, if the line has one.
+    pub(crate) fn at(&self) -> Option<&Address> {
+        self.address.as_ref()
+    }
+
+    /// How many steps its address has.
+    pub(crate) fn steps(&self) -> usize {
+        match self.at() {
+            Some(address) => address.steps().len(),
+            None => 0,
+        }
+    }
+
+    /// Whether it is a header line.
+    pub(crate) fn is_header(&self) -> bool {
+        self.address.is_some() && self.base.is_none()
+    }
+
+    /// Whether it is the header of an array of tables.
+    fn is_tables(&self) -> bool {
+        match &self.body {
+            Body::Kept(kept) => kept.is_tables,
+            Body::Open(line) => line.expr.is_tables(),
+        }
+    }
+
+    /// Whether it is the last line, which ends in no newline.
+    pub(crate) fn is_last(&self) -> bool {
+        match &self.body {
+            Body::Kept(kept) => kept.is_last,
+            Body::Open(line) => line.newline.is_empty(),
+        }
+    }
+
+    /// Whether it stands at the address or below it.
+    pub(crate) fn is_below(&self, at: &Address) -> bool {
+        match self.at() {
+            Some(own) => is_at_or_above(at, own),
+            None => false,
+        }
+    }
+
+    /// Whether its value is what stands at the address, or holds it.
+    pub(crate) fn holds(&self, at: &Address) -> bool {
+        match (self.base, self.at()) {
+            (Some(_), Some(own)) => is_at_or_above(own, at),
+            _ => false,
+        }
+    }
+
+    /// Whether the address is that of a table which dotted keys make, its own one among them.
+    pub(crate) fn is_dotted_in(&self, at: &Address) -> bool {
+        match (self.base, self.at()) {
+            (Some(base), Some(own)) => base < at.steps().len() && at.is_above(own),
+            _ => false,
+        }
+    }
+
+    /// Whether its own key mentions the address: a keyval each table that its key passes, and its value; a header each table
+    /// and element that its key passes, and what it stands for.
+    pub(crate) fn mentions(&self, at: &Address) -> bool {
+        if !self.is_below(at) {
+            return false;
+        }
+        match self.base {
+            Some(base) => base < at.steps().len(),
+            None => !self.passes_on(at),
+        }
+    }
+
+    /// Whether a header's key passes from an array of tables, at the address, on to an element of it.
+    fn passes_on(&self, at: &Address) -> bool {
+        let (Some(own), count) = (self.at(), at.steps().len()) else {
+            return false;
+        };
+        let is_own = self.is_tables() && own.steps().len() == count.saturating_add(1);
+        matches!(own.steps().get(count), Some(Step::Index(_))) && !is_own
+    }
+
+    /// Which part of its key stands for the address, if one does.
+    pub(crate) fn part_of(&self, at: &Address) -> Option<usize> {
+        match self.base {
+            Some(base) => at.steps().len().checked_sub(base.saturating_add(1)),
+            None => names_in(at.steps()).checked_sub(1),
+        }
+    }
+
+    /// The line with its pieces; the document is the one whose lines are kept.
+    pub(crate) fn open(
+        &mut self,
+        alloc: Global,
+        doc: &Doc<'t>,
+    ) -> Result<Option<&mut OpenLine<'t>>, AllocError> {
+        if let Body::Kept(kept) = self.body {
+            if let Some(line) = doc.lines().get(kept.line) {
+                let opened = Opener::kept(alloc, kept.first).line(line)?;
+                self.body = Body::Open(Box::new(alloc, opened)?);
+            }
+        }
+        match &mut self.body {
+            Body::Open(line) => Ok(Some(line)),
+            Body::Kept(_) => Ok(None),
+        }
+    }
+
+    /// Gives it another newline.
+    pub(crate) fn end_in(
+        &mut self,
+        alloc: Global,
+        doc: &Doc<'t>,
+        newline: Leaf<'t>,
+    ) -> Result<(), AllocError> {
+        if let Some(open) = self.open(alloc, doc)? {
+            open.newline = newline;
+        }
+        Ok(())
+    }
+
+    /// A line that an edit writes.
+    pub(crate) fn new(
+        alloc: Global,
+        address: Option<Address>,
+        base: Option<usize>,
+        expr: Expr<'t>,
+        newline: Leaf<'t>,
+    ) -> Result<Line<'t>, AllocError> {
+        let tail = Blank {
+            ws: Leaf::EMPTY,
+            comment: None,
+        };
+        let open = OpenLine {
+            origin: None,
+            ws: Leaf::EMPTY,
+            expr,
+            tail,
+            newline,
+        };
+        Ok(Line {
+            address,
+            base,
+            body: Body::Open(Box::new(alloc, open)?),
+        })
+    }
+
+    /// The last line of no bytes.
+    pub(crate) fn empty(alloc: Global) -> Result<Line<'t>, AllocError> {
+        Line::new(alloc, None, None, Expr::Blank, Leaf::EMPTY)
+    }
+
+    /// Gives it another address.
+    pub(crate) fn go_to(&mut self, address: Address) {
+        self.address = Some(address);
+    }
+}
+
+impl Expr<'_> {
+    /// Whether it is the header of an array of tables.
+    fn is_tables(&self) -> bool {
+        match self {
+            Expr::Header(header) => header.brackets == Brackets::Two,
+            Expr::Blank | Expr::Pair(_) => false,
+        }
+    }
+}
+
+/// How many of the steps are names.
+pub(crate) fn names_in(steps: &[Step]) -> usize {
+    steps
+        .iter()
+        .filter(|step| matches!(step, Step::Name(_)))
+        .count()
+}
+
+impl<'t> Slot<'t> {
+    /// A slot with one line.
+    pub(crate) fn of(alloc: Global, line: Line<'t>) -> Result<Slot<'t>, AllocError> {
+        let mut lines = Vec::with_capacity(alloc, 1)?;
+        lines.push(line)?;
+        Ok(Slot { lines })
+    }
+
+    /// Puts a line in before the one with the index, or behind the last one.
+    pub(crate) fn put(&mut self, index: usize, line: Line<'t>) -> Result<(), AllocError> {
+        if index < self.lines.len() {
+            self.lines.insert(index, line)?;
+        } else {
+            self.lines.push(line)?;
+        }
+        Ok(())
+    }
+}

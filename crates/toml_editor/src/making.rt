@@ -1,0 +1,169 @@
+//! One edit after the other, on the data and on the working tree.
+ghost use Rattle.std.specs.Prelude.{◌≡◌, IfErr, IsTrue, OnOk, Some, length, map, option_copied};
+ghost use Rattle.toml_names.specs.Data.{kind_at};
+ghost use Rattle.toml_edits.specs.Edits.{change, remove};
+ghost use Rattle.toml_edits.specs.Lists.{Lead};
+ghost use Rattle.toml_editor.specs.Edited.{MayBeSpread, TakesLastElement};
+ghost use Rattle.toml_editor.specs.Making.{EndsInIndex, HasOne, IsMade, IsMany, TellsAny, TellsOne};
+
+use crate::fault::EditorFault;
+use crate::spelled::{Spelled, open_value};
+use crate::working::Tree;
+use std::alloc::{AllocError, Global};
+use toml_edits::{Edit, EditFault, apply};
+use toml_names::{Address, Data, Datum, Name, Step};
+
+/// Makes the edits. The first one that is not defined on the data so far, or whose place is spread, or that would leave an
+/// array of tables without an element, is told with its number.
+pub(crate) fn make_all<'t>(
+    alloc: Global,
+    tree: &mut Tree<'_, '_, 't>,
+    data: &mut Data,
+    edits: &'t [Edit],
+    spelled: &'t [Spelled],
+) -> Result<(), EditorFault>
+    requires { length spelled.now ≡ length edits.now }
+    ensures made { OnOk result (Lead (map change edits.now) «data».old.root «data».new.root) }
+    ensures told { IfErr result (TellsAny (map change edits.now) «data».old.root) }
+{
+    for (index, edit) in edits.iter().enumerate() {
+        if let Err(fault) = make(alloc, tree, data, edit, &spelled[index], index) {
+            return Err(fault);
+        }
+    }
+    Ok(())
+}
+
+/// Makes the edit with this number, on the data first.
+fn make<'t>(
+    alloc: Global,
+    tree: &mut Tree<'_, '_, 't>,
+    data: &mut Data,
+    edit: &'t Edit,
+    spelled: &'t Spelled,
+    index: usize,
+) -> Result<(), EditorFault>
+    ensures ok { OnOk result (IsMade (change edit.now) «data».old.root «data».new.root) }
+    ensures told { IfErr result (TellsOne index (change edit.now) (kind_at «data».old.root)) }
+{
+    let compound = is_compound(data, edit);
+    let only = is_only_element(data, edit);
+    applied(alloc, data, edit, index)?;
+    let done = write_edit(alloc, tree, edit, spelled)?;
+    if !done && (compound || is_index_inserted(edit)) {
+        return Err(EditorFault::Spread { index });
+    }
+    if !done && only {
+        return Err(EditorFault::LastElement { index });
+    }
+    Ok(())
+}
+
+/// Makes the edit on the data.
+fn applied(alloc: Global, data: &mut Data, edit: &Edit, index: usize) -> Result<(), EditorFault>
+    ensures ok { OnOk result (IsMade (change edit.now) «data».old.root «data».new.root) }
+    ensures told { IfErr result (TellsOne index (change edit.now) (kind_at «data».old.root)) }
+{
+    match apply(alloc, data, edit) {
+        Ok(()) => Ok(()),
+        Err(EditFault::NoMemory) => Err(EditorFault::NoMemory),
+        Err(fault) => Err(EditorFault::Edit { index, fault }),
+    }
+}
+
+/// Makes the edit on the working tree. It answers `false` where the tree has no one place for it.
+fn write_edit<'t>(
+    alloc: Global,
+    tree: &mut Tree<'_, '_, 't>,
+    edit: &'t Edit,
+    spelled: &'t Spelled,
+) -> Result<bool, AllocError> {
+    match edit {
+        Edit::Set { at, value } => match open_value(alloc, value.as_str())? {
+            Some(new) => tree.set(at, new),
+            None => Ok(true),
+        },
+        Edit::Insert { at, value } => match open_value(alloc, value.as_str())? {
+            Some(new) => tree.insert(at, &spelled.steps, new),
+            None => Ok(true),
+        },
+        Edit::Rename { at, to } => {
+            let name = Name::of(String::from_str(alloc, to)?)?;
+            tree.rename(at, &name, spelled.to.as_str())?;
+            Ok(true)
+        }
+        Edit::Remove { at } => tree.remove(at),
+    }
+}
+
+/// Whether the edit sets what is a table or an array.
+fn is_compound(data: &Data, edit: &Edit) -> bool
+    ensures { IsTrue result → MayBeSpread (change edit.now) (kind_at «data».now.root) }
+{
+    match edit {
+        Edit::Set { at, .. } => is_many(data.root.at(at)),
+        _ => false,
+    }
+}
+
+/// Whether it is a table or an array.
+#[tactic(auto, using(crate::proofs::Shapes::many_table, crate::proofs::Shapes::many_array))]
+fn is_many(found: Option<&Datum>) -> bool
+    ensures { IsTrue result → IsMany (option_copied found.entry) }
+{
+    match found {
+        Some(Datum::Array(_)) => true,
+        Some(Datum::Table(_)) => true,
+        Some(Datum::Scalar(_)) | None => false,
+    }
+}
+
+/// Whether the edit inserts at an index.
+fn is_index_inserted(edit: &Edit) -> bool
+    ensures { IsTrue result → EndsInIndex (change edit.now) }
+{
+    match edit {
+        Edit::Insert { at, .. } => matches!(at.steps().last(), Some(Step::Index(_))),
+        _ => false,
+    }
+}
+
+/// Whether the edit removes the only element of an array.
+fn is_only_element(data: &Data, edit: &Edit) -> bool
+    ensures { IsTrue result → TakesLastElement (change edit.now) (kind_at «data».now.root) }
+{
+    match edit {
+        Edit::Remove { at } => is_only(data, at),
+        _ => false,
+    }
+}
+
+/// Whether the address is that of the only element of an array.
+fn is_only(data: &Data, at: &Address) -> bool
+    ensures { IsTrue result → TakesLastElement (remove at.now) (kind_at «data».now.root) }
+{
+    match at.steps().split_last() {
+        Some((Step::Index(index), above)) => *index == 0 && has_one(data.root.part(above)),
+        _ => false,
+    }
+}
+
+/// Whether it is an array of one element.
+fn has_one(found: Option<&Datum>) -> bool
+    ensures { IsTrue result → HasOne (option_copied found.entry) }
+{
+    match found {
+        Some(datum) => is_single(datum),
+        None => false,
+    }
+}
+
+/// Whether the datum is an array of one element.
+fn is_single(datum: &Datum) -> bool
+    ensures { IsTrue result → HasOne (Some datum.now) }
+{
+    match datum {
+        Datum::Array(items) => items.len() == 1,
+        Datum::Scalar(_) | Datum::Table(_) => false,
+    }
+}

@@ -1,0 +1,231 @@
+//! `remove`: elements and pairs in a value, and lines.
+use crate::lines::{Line, Slot, below, changed, names_in};
+use crate::texts::Texts;
+use crate::tree::{Blank, Brackets, Expr, Header, Leaf, OpenLine};
+use crate::working::{Position, Tree};
+use std::alloc::{AllocError, Global};
+use std::mem;
+use toml_names::{Address, Step};
+use toml_tree::Doc;
+
+/// What is left of the first removed line that mentions the parent, where no line that stays does.
+#[derive(Drop)]
+struct Parent {
+    address: Address,
+    /// It is left already.
+    stays: bool,
+}
+
+impl<'t> Tree<'_, '_, 't> {
+    /// Takes out what stands at the address. It answers `false`, and changes nothing, at the only element of an array of
+    /// tables: without its header there would be no array.
+    pub(crate) fn remove(&mut self, at: &Address) -> Result<bool, AllocError> {
+        match self.value_line(at) {
+            Some(place) if self.depth(place) < at.steps().len() => self.remove_inside(place, at)?,
+            _ => {
+                if !self.leaves_elements(at)? {
+                    return Ok(false);
+                }
+                self.remove_lines(at)?;
+                self.move_elements(at)?;
+            }
+        }
+        Ok(true)
+    }
+
+    /// Whether the address is not that of an element, or another element of its array stays.
+    fn leaves_elements(&self, at: &Address) -> Result<bool, AllocError> {
+        if !matches!(at.steps().last(), Some(Step::Index(_))) {
+            return Ok(true);
+        }
+        let array = parent_of(self.alloc(), at)?;
+        Ok(self.is_mentioned(&array, at))
+    }
+
+    /// Takes something out of the value of a line.
+    fn remove_inside(&mut self, place: Position, at: &Address) -> Result<(), AllocError> {
+        let (texts, doc) = (self.texts, self.doc);
+        let Some(line) = self.line_mut(place) else {
+            return Ok(());
+        };
+        let used = line.steps();
+        match line.open(texts.alloc, doc)? {
+            Some(open) => match &mut open.expr {
+                Expr::Pair(pair) => texts.remove_in(&mut pair.value, below(at, used)),
+                _ => Ok(()),
+            },
+            None => Ok(()),
+        }
+    }
+
+    /// Takes out all lines at the address and below. Where no other line mentions the parent, the first of them that does
+    /// becomes the parent as an empty table.
+    fn remove_lines(&mut self, at: &Address) -> Result<(), AllocError> {
+        let (texts, doc) = (self.texts, self.doc);
+        let address = parent_of(texts.alloc, at)?;
+        let stays = address.steps().is_empty() || self.is_mentioned(&address, at);
+        let mut parent = Parent { address, stays };
+        for slot in &mut self.slots {
+            if slot.lines.iter().any(|line| line.is_below(at)) {
+                slot.remove(texts, doc, at, &mut parent)?;
+            }
+        }
+        Ok(())
+    }
+
+    /// Whether a line that is not at the other address, nor below it, mentions the address.
+    fn is_mentioned(&self, address: &Address, other: &Address) -> bool {
+        self.slots
+            .iter()
+            .any(|slot| slot.is_mentioned(address, other))
+    }
+
+    /// Moves the elements behind a removed one of an array of tables.
+    fn move_elements(&mut self, at: &Address) -> Result<(), AllocError> {
+        let alloc = self.alloc();
+        if let Some((Step::Index(index), above)) = at.steps().split_last() {
+            for slot in &mut self.slots {
+                for line in &mut slot.lines {
+                    line.move_behind(alloc, at, above.len(), *index)?;
+                }
+            }
+        }
+        Ok(())
+    }
+}
+
+impl<'t> Line<'t> {
+    /// Moves a line of a later element of an array by one element.
+    fn move_behind(
+        &mut self,
+        alloc: Global,
+        at: &Address,
+        depth: usize,
+        index: u64,
+    ) -> Result<(), AllocError> {
+        let Some(own) = self.at() else {
+            return Ok(());
+        };
+        let Some(Step::Index(place)) = own.steps().get(depth) else {
+            return Ok(());
+        };
+        if *place > index && begin_alike(own, at, depth) {
+            let address = changed(alloc, own, depth, Step::Index(*place - 1))?;
+            self.go_to(address);
+        }
+        Ok(())
+    }
+}
+
+impl<'t> Slot<'t> {
+    /// Whether a line of it that is not at the other address, nor below it, mentions the address.
+    fn is_mentioned(&self, address: &Address, other: &Address) -> bool {
+        self.lines
+            .iter()
+            .any(|line| line.mentions(address) && !line.is_below(other))
+    }
+
+    /// Takes out its lines at the address and below.
+    fn remove(
+        &mut self,
+        texts: Texts<'t>,
+        doc: &Doc<'t>,
+        at: &Address,
+        parent: &mut Parent,
+    ) -> Result<(), AllocError> {
+        let mut left = Vec::new(texts.alloc);
+        for line in mem::replace(&mut self.lines, Vec::new(texts.alloc)) {
+            if !line.is_below(at) {
+                left.push(line)?;
+            } else if let Some(rest) = removed(texts, doc, line, parent)? {
+                left.push(rest)?;
+            }
+        }
+        self.lines = left;
+        Ok(())
+    }
+}
+
+/// What is left of a removed line: its parent as an empty table, or of the last line one of no bytes.
+fn removed<'t>(
+    texts: Texts<'t>,
+    doc: &Doc<'t>,
+    line: Line<'t>,
+    parent: &mut Parent,
+) -> Result<Option<Line<'t>>, AllocError> {
+    if !parent.stays && line.mentions(&parent.address) {
+        parent.stays = true;
+        return Ok(Some(emptied(texts, doc, line, &parent.address)?));
+    }
+    if line.is_last() {
+        return Ok(Some(Line::empty(texts.alloc)?));
+    }
+    Ok(None)
+}
+
+/// The line as one of the parent: its key's front up to it as an empty table, or as a header.
+fn emptied<'t>(
+    texts: Texts<'t>,
+    doc: &Doc<'t>,
+    line: Line<'t>,
+    parent: &Address,
+) -> Result<Line<'t>, AllocError> {
+    let mut line = line;
+    let parts = match line.base {
+        Some(base) => parent.steps().len().saturating_sub(base),
+        None => names_in(parent.steps()),
+    };
+    if let Some(open) = line.open(texts.alloc, doc)? {
+        open.empty(texts, parts)?;
+    }
+    line.address = Some(parent.copy(texts.alloc)?);
+    Ok(line)
+}
+
+impl<'t> OpenLine<'t> {
+    /// Makes it a line of an empty table, whose key has so many parts of this one's.
+    fn empty(&mut self, texts: Texts<'t>, parts: usize) -> Result<(), AllocError> {
+        self.origin = None;
+        self.tail = Blank {
+            ws: Leaf::EMPTY,
+            comment: None,
+        };
+        match &mut self.expr {
+            Expr::Blank => {}
+            Expr::Pair(pair) => {
+                pair.assign.cut(parts);
+                pair.value = texts.empty_table()?;
+            }
+            Expr::Header(header) => header.cut(parts),
+        }
+        Ok(())
+    }
+}
+
+impl Header<'_> {
+    /// Leaves so many parts of its key, between single brackets.
+    fn cut(&mut self, parts: usize) {
+        self.brackets = Brackets::One;
+        self.before = Leaf::EMPTY;
+        self.key.cut(parts);
+        self.after = Leaf::EMPTY;
+    }
+}
+
+/// The address without its last step.
+fn parent_of(alloc: Global, at: &Address) -> Result<Address, AllocError> {
+    let mut steps = at.copy(alloc)?.into_steps();
+    let _ = steps.pop();
+    Ok(Address::of(steps))
+}
+
+/// Whether the first `depth` steps of both are the same.
+fn begin_alike(one: &Address, other: &Address, depth: usize) -> bool {
+    let pairs = one.steps().iter().zip(other.steps()).take(depth);
+    for (step, same) in pairs {
+        if !step.is_same(same) {
+            return false;
+        }
+    }
+    true
+}

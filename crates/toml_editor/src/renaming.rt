@@ -1,0 +1,104 @@
+//! `rename`: each key part that stands for the address, in headers, keys of lines and keys of pairs, becomes the spelling of
+//! the new name.
+use crate::lines::{Line, below, changed};
+use crate::tree::{Expr, Leaf};
+use crate::working::{Position, Tree};
+use std::alloc::{AllocError, Global};
+use toml_names::{Address, Name, Step};
+use toml_tree::Doc;
+
+impl<'t> Tree<'_, '_, 't> {
+    /// Renames what stands at the address, and carries the addresses of lines at it and below.
+    pub(crate) fn rename(
+        &mut self,
+        at: &Address,
+        name: &Name,
+        spelled: &'t str,
+    ) -> Result<(), AllocError> {
+        match self.value_line(at) {
+            Some(place) if self.depth(place) < at.steps().len() => {
+                self.rename_inside(place, at, spelled)
+            }
+            _ => self.rename_lines(at, name, spelled),
+        }
+    }
+
+    /// Renames inside the value of a line.
+    fn rename_inside(
+        &mut self,
+        place: Position,
+        at: &Address,
+        spelled: &'t str,
+    ) -> Result<(), AllocError> {
+        let (texts, doc) = (self.texts, self.doc);
+        let Some(line) = self.line_mut(place) else {
+            return Ok(());
+        };
+        let used = line.steps();
+        match line.open(texts.alloc, doc)? {
+            Some(open) => match &mut open.expr {
+                Expr::Pair(pair) => texts.rename_in(&mut pair.value, below(at, used), spelled),
+                _ => Ok(()),
+            },
+            None => Ok(()),
+        }
+    }
+
+    /// Renames in the lines at the address and below.
+    fn rename_lines(
+        &mut self,
+        at: &Address,
+        name: &Name,
+        spelled: &'t str,
+    ) -> Result<(), AllocError> {
+        let (alloc, doc) = (self.alloc(), self.doc);
+        for slot in &mut self.slots {
+            for line in &mut slot.lines {
+                if line.is_below(at) {
+                    line.rename(alloc, doc, at, name, spelled)?;
+                }
+            }
+        }
+        Ok(())
+    }
+}
+
+impl<'t> Line<'t> {
+    /// Renames in a line at the address or below.
+    fn rename(
+        &mut self,
+        alloc: Global,
+        doc: &Doc<'t>,
+        at: &Address,
+        name: &Name,
+        spelled: &'t str,
+    ) -> Result<(), AllocError> {
+        if let Some(part) = self.part_of(at) {
+            self.set_part(alloc, doc, part, Leaf::New(spelled))?;
+        }
+        let place = at.steps().len().saturating_sub(1);
+        if let Some(own) = self.at() {
+            let address = changed(alloc, own, place, Step::Name(name.copy()?))?;
+            self.go_to(address);
+        }
+        Ok(())
+    }
+
+    /// Changes a part of its key.
+    fn set_part(
+        &mut self,
+        alloc: Global,
+        doc: &Doc<'t>,
+        part: usize,
+        leaf: Leaf<'t>,
+    ) -> Result<(), AllocError> {
+        if let Some(open) = self.open(alloc, doc)? {
+            match &mut open.expr {
+                Expr::Blank => {}
+                Expr::Pair(pair) => pair.assign.key.set_part(part, leaf),
+                Expr::Header(header) => header.key.set_part(part, leaf),
+            }
+        }
+        Ok(())
+    }
+}

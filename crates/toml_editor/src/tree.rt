@@ -1,0 +1,191 @@
+//! The working tree: the lines of the text as the edits made so far have left them. It has the shapes of the tree of a
+//! document, but its pieces are kept or new, and lines, comments, elements and pairs know which unit of the document they
+//! are.
+use std::alloc::{AllocError, Global};
+use toml_text::Span;
+
+/// A piece of the working text.
+#[derive(Clone, Copy)]
+pub(crate) enum Leaf<'t> {
+    /// It stands here in the text before the edits.
+    Kept(Span),
+    /// An edit has written it.
+    New(&'t str),
+}
+
+/// A comment, from `#` on.
+#[derive(Drop)]
+pub(crate) struct Comment<'t> {
+    /// Which unit of the document it is; none where an edit has written it.
+    pub(crate) origin: Option<usize>,
+    pub(crate) text: Leaf<'t>,
+}
+
+/// What stands between the values of an array, or the pairs of an inline table, but for the commas.
+#[derive(Drop)]
+pub(crate) struct Gap<'t> {
+    pub(crate) parts: Vec<GapPart<'t>>,
+}
+
+/// A part of a gap; the parts are in text order.
+#[derive(Drop)]
+pub(crate) enum GapPart<'t> {
+    Ws(Leaf<'t>),
+    Newline(Leaf<'t>),
+    Comment(Comment<'t>),
+}
+
+/// `.` between whitespace, and the key part behind it.
+#[derive(Clone, Copy)]
+pub(crate) struct Dotted<'t> {
+    pub(crate) before_dot: Leaf<'t>,
+    pub(crate) after_dot: Leaf<'t>,
+    pub(crate) part: Leaf<'t>,
+}
+
+/// A key by its parts.
+#[derive(Drop)]
+pub(crate) struct Key<'t> {
+    pub(crate) first: Leaf<'t>,
+    pub(crate) rest: Vec<Dotted<'t>>,
+}
+
+/// A key, and `=` between whitespace.
+#[derive(Drop)]
+pub(crate) struct Assign<'t> {
+    pub(crate) key: Key<'t>,
+    pub(crate) before_equals: Leaf<'t>,
+    pub(crate) after_equals: Leaf<'t>,
+}
+
+/// A value.
+#[derive(Drop)]
+#[cycle(value)]
+pub(crate) enum Value<'t> {
+    Scalar(Leaf<'t>),
+    Array(Box<Entries<'t>>),
+    Inline(Box<Entries<'t>>),
+}
+
+/// What stands between the brackets of an array, or the braces of an inline table.
+#[derive(Drop)]
+#[cycle(value)]
+pub(crate) struct Entries<'t> {
+    pub(crate) list: Vec<Entry<'t>>,
+    /// What stands behind the last comma, where one follows the last entry; without an entry all that stands there.
+    pub(crate) end: Option<Gap<'t>>,
+}
+
+/// An element of an array, or a pair of an inline table, with what stands around it up to the brackets or the commas.
+#[derive(Drop)]
+#[cycle(value)]
+pub(crate) struct Entry<'t> {
+    /// Which unit of the document it is; none where an edit has written it.
+    pub(crate) origin: Option<usize>,
+    pub(crate) before: Gap<'t>,
+    /// A pair's key; an element has none.
+    pub(crate) assign: Option<Assign<'t>>,
+    pub(crate) value: Value<'t>,
+    pub(crate) after: Gap<'t>,
+}
+
+/// Whitespace, and a comment if one follows.
+#[derive(Drop)]
+pub(crate) struct Blank<'t> {
+    pub(crate) ws: Leaf<'t>,
+    pub(crate) comment: Option<Comment<'t>>,
+}
+
+/// A key/value pair of a line.
+#[derive(Drop)]
+pub(crate) struct KeyVal<'t> {
+    pub(crate) assign: Assign<'t>,
+    pub(crate) value: Value<'t>,
+}
+
+/// A header between its brackets.
+#[derive(Drop)]
+pub(crate) struct Header<'t> {
+    pub(crate) brackets: Brackets,
+    pub(crate) before: Leaf<'t>,
+    pub(crate) key: Key<'t>,
+    pub(crate) after: Leaf<'t>,
+}
+
+/// What stands on a line, behind the whitespace before it.
+#[derive(Drop)]
+pub(crate) enum Expr<'t> {
+    Blank,
+    Pair(KeyVal<'t>),
+    Header(Header<'t>),
+}
+
+/// How many brackets stand on each side of a header.
+#[derive(Clone, Copy, Debug, Drop, PartialEq, Eq)]
+pub(crate) enum Brackets {
+    /// `[table]`
+    One,
+    /// `[[array of tables]]`
+    Two,
+}
+
+/// A line whose pieces can be changed.
+#[derive(Drop)]
+pub(crate) struct OpenLine<'t> {
+    /// Which unit of the document it is; none where an edit has written it.
+    pub(crate) origin: Option<usize>,
+    pub(crate) ws: Leaf<'t>,
+    pub(crate) expr: Expr<'t>,
+    pub(crate) tail: Blank<'t>,
+    pub(crate) newline: Leaf<'t>,
+}
+
+impl<'t> Leaf<'t> {
+    /// The piece of no bytes.
+    pub(crate) const EMPTY: Leaf<'static> = Leaf::New("");
+
+    /// Whether it has no bytes.
+    pub(crate) fn is_empty(self) -> bool {
+        match self {
+            Leaf::Kept(span) => span.start == span.end,
+            Leaf::New(text) => text.is_empty(),
+        }
+    }
+}
+
+impl<'t> Gap<'t> {
+    /// A gap of nothing.
+    pub(crate) fn empty(alloc: Global) -> Gap<'t> {
+        Gap {
+            parts: Vec::new(alloc),
+        }
+    }
+
+    /// A gap of this whitespace.
+    pub(crate) fn space(alloc: Global, ws: Leaf<'t>) -> Result<Gap<'t>, AllocError> {
+        let mut gap = Gap::empty(alloc);
+        gap.push_ws(ws)?;
+        Ok(gap)
+    }
+
+    /// Puts whitespace behind it, unless it has no bytes.
+    pub(crate) fn push_ws(&mut self, ws: Leaf<'t>) -> Result<(), AllocError> {
+        if !ws.is_empty() {
+            self.parts.push(GapPart::Ws(ws))?;
+        }
+        Ok(())
+    }
+
+    /// Puts another gap behind it.
+    pub(crate) fn join(&mut self, other: Gap<'t>) -> Result<(), AllocError> {
+        for part in other.parts {
+            self.parts.push(part)?;
+        }
+        Ok(())
+    }
+
+    /// Whether nothing but whitespace stands in it.
+    pub(crate) fn is_ws(&self) -> bool {
+        self.parts.iter().all(|part| matches!(part, GapPart::Ws(_)))
+    }
+}

@@ -1,0 +1,291 @@
+//! Where things stand in the working tree.
+use crate::lines::{Body, Kept, Line, Slot};
+use crate::texts::Texts;
+use crate::tree::Leaf;
+use std::alloc::{AllocError, Global};
+use toml_names::{Address, NameReader, Place};
+use toml_text::Span;
+use toml_tree::{Doc, Expr, Line as ReadLine};
+use toml_units::{Unit, UnitKind};
+
+/// The place of a line: the slot, and the index among the lines that stand there.
+#[derive(Clone, Copy)]
+pub(crate) struct Position {
+    pub(crate) slot: usize,
+    pub(crate) index: usize,
+}
+
+impl Position {
+    /// The place behind it.
+    pub(crate) fn next(self) -> Position {
+        Position {
+            slot: self.slot,
+            index: self.index.saturating_add(1),
+        }
+    }
+}
+
+/// Where a table stands that is no value of a line, nor inside one.
+#[derive(Clone, Copy)]
+pub(crate) enum TablePlace {
+    /// The header line that makes it.
+    Header(Position),
+    /// A line whose dotted key makes it.
+    Dotted(Position),
+    /// The first header line below it, where no line makes it.
+    Implicit(Position),
+}
+
+/// The working tree. There is a slot for each line of the document, and in it the lines that now stand there.
+#[derive(Drop)]
+pub(crate) struct Tree<'a, 'd, 't> {
+    pub(crate) texts: Texts<'t>,
+    pub(crate) doc: &'a Doc<'t>,
+    /// The names of the document, by which most lines are found.
+    names: &'a NameReader<'d, 't>,
+    pub(crate) slots: Vec<Slot<'t>>,
+    /// The newline of new lines: that of the document's first line, or LF where that has none.
+    pub(crate) style: Leaf<'t>,
+}
+
+impl<'a, 'd, 't> Tree<'a, 'd, 't> {
+    /// The tree of a document with these names and units.
+    pub(crate) fn of(
+        texts: Texts<'t>,
+        doc: &'a Doc<'t>,
+        names: &'a NameReader<'d, 't>,
+        units: &[Unit],
+    ) -> Result<Tree<'a, 'd, 't>, AllocError> {
+        let firsts = first_units(texts.alloc, units)?;
+        let mut slots = Vec::with_capacity(texts.alloc, doc.lines().len())?;
+        for (number, line) in doc.lines().iter().enumerate() {
+            let first = firsts.get(number).copied().unwrap_or(units.len());
+            let next = firsts
+                .get(number.saturating_add(1))
+                .copied()
+                .unwrap_or(units.len());
+            let kept = kept_line(number, line, first, next.saturating_sub(first));
+            let line = numbered(texts.alloc, kept, units.get(first))?;
+            slots.push(Slot::of(texts.alloc, line)?)?;
+        }
+        Ok(Tree {
+            texts,
+            doc,
+            names,
+            slots,
+            style: style_of(doc),
+        })
+    }
+
+    pub(crate) fn alloc(&self) -> Global {
+        self.texts.alloc
+    }
+
+    /// The line at a place.
+    pub(crate) fn line(&self, at: Position) -> Option<&Line<'t>> {
+        self.slots.get(at.slot)?.lines.get(at.index)
+    }
+
+    /// The line at a place, to be changed.
+    pub(crate) fn line_mut(&mut self, at: Position) -> Option<&mut Line<'t>> {
+        self.slots.get_mut(at.slot)?.lines.get_mut(at.index)
+    }
+
+    /// How many steps the address of the line at a place has.
+    pub(crate) fn depth(&self, at: Position) -> usize {
+        match self.line(at) {
+            Some(line) => line.steps(),
+            None => 0,
+        }
+    }
+
+    /// How many steps the address of the table has in which the line at a place stands.
+    pub(crate) fn base(&self, at: Position) -> usize {
+        match self.line(at) {
+            Some(line) => line.base.unwrap_or(0),
+            None => 0,
+        }
+    }
+
+    /// The line whose value stands at the address, or holds what stands there.
+    pub(crate) fn value_line(&self, at: &Address) -> Option<Position> {
+        let near = match self.names.place(at) {
+            Some(Place::KeyVal(line)) | Some(Place::Inside(line)) => self.holder_in(line, at),
+            _ => None,
+        };
+        if near.is_some() {
+            return near;
+        }
+        for slot in 0..self.slots.len() {
+            let found = self.holder_in(slot, at);
+            if found.is_some() {
+                return found;
+            }
+        }
+        None
+    }
+
+    /// The line of a slot whose value stands at the address, or holds what stands there.
+    fn holder_in(&self, slot: usize, at: &Address) -> Option<Position> {
+        for (index, line) in self.slots.get(slot)?.lines.iter().enumerate() {
+            if line.holds(at) {
+                return Some(Position { slot, index });
+            }
+        }
+        None
+    }
+
+    /// Where the table at the address stands.
+    pub(crate) fn table_place(&self, at: &Address) -> Option<TablePlace> {
+        let near = match self.names.place(at) {
+            Some(Place::Header(line)) => self.header_in(line, at),
+            Some(Place::Dotted(line)) => self.dotted_in(line, at),
+            _ => None,
+        };
+        match near {
+            Some(place) => Some(place),
+            None => self.sought_table(at),
+        }
+    }
+
+    /// Where the table at the address stands, by all lines: a header comes before a dotted key, and that before a longer
+    /// header.
+    fn sought_table(&self, at: &Address) -> Option<TablePlace> {
+        let mut dotted = None;
+        let mut implicit = None;
+        for slot in 0..self.slots.len() {
+            let header = self.header_in(slot, at);
+            if header.is_some() {
+                return header;
+            }
+            if dotted.is_none() {
+                dotted = self.dotted_in(slot, at);
+            }
+            if implicit.is_none() {
+                implicit = self.implicit_in(slot, at);
+            }
+        }
+        dotted.or(implicit)
+    }
+
+    /// The header line of a slot that makes the table.
+    fn header_in(&self, slot: usize, at: &Address) -> Option<TablePlace> {
+        for (index, line) in self.slots.get(slot)?.lines.iter().enumerate() {
+            if line.is_header() && line.at()?.is_same(at) {
+                return Some(TablePlace::Header(Position { slot, index }));
+            }
+        }
+        None
+    }
+
+    /// The line of a slot whose dotted key makes the table.
+    fn dotted_in(&self, slot: usize, at: &Address) -> Option<TablePlace> {
+        for (index, line) in self.slots.get(slot)?.lines.iter().enumerate() {
+            if line.is_dotted_in(at) {
+                return Some(TablePlace::Dotted(Position { slot, index }));
+            }
+        }
+        None
+    }
+
+    /// The first header line of a slot that stands below the table.
+    fn implicit_in(&self, slot: usize, at: &Address) -> Option<TablePlace> {
+        for (index, line) in self.slots.get(slot)?.lines.iter().enumerate() {
+            if line.is_header() && line.is_below(at) {
+                return Some(TablePlace::Implicit(Position { slot, index }));
+            }
+        }
+        None
+    }
+
+    /// The last line with a key and a value from the place on, before the next header line.
+    pub(crate) fn last_pair(&self, from: Position) -> Option<Position> {
+        let mut last = None;
+        let mut skip = from.index;
+        for slot in from.slot..self.slots.len() {
+            let (found, ends) = self.pairs_in(slot, skip);
+            if found.is_some() {
+                last = found;
+            }
+            if ends {
+                return last;
+            }
+            skip = 0;
+        }
+        last
+    }
+
+    /// The last line of a slot with a key and a value, before a header line of it, and whether there is one. So many lines
+    /// are passed over.
+    fn pairs_in(&self, slot: usize, skip: usize) -> (Option<Position>, bool) {
+        let Some(slot_lines) = self.slots.get(slot) else {
+            return (None, true);
+        };
+        let mut last = None;
+        for (index, line) in slot_lines.lines.iter().enumerate().skip(skip) {
+            if line.is_header() {
+                return (last, true);
+            }
+            if line.base.is_some() {
+                last = Some(Position { slot, index });
+            }
+        }
+        (last, false)
+    }
+}
+
+/// A line of the document that is as it was.
+fn kept_line(number: usize, line: &ReadLine<'_>, first: usize, count: usize) -> Kept {
+    let (ws, is_tables) = match line.expr() {
+        Expr::Blank(blank) => (blank.ws, false),
+        Expr::KeyVal { ws, .. } | Expr::Std { ws, .. } => (*ws, false),
+        Expr::Array { ws, .. } => (*ws, true),
+    };
+    Kept {
+        line: number,
+        span: Span {
+            start: ws.start,
+            end: line.newline().span().end,
+        },
+        is_tables,
+        is_last: line.newline().text.is_empty(),
+        first,
+        count,
+    }
+}
+
+/// The line with the address and the base that its unit has.
+fn numbered<'t>(alloc: Global, kept: Kept, unit: Option<&Unit>) -> Result<Line<'t>, AllocError> {
+    let mut address = None;
+    let mut base = None;
+    if let Some(line) = unit {
+        base = line.base;
+        if let Some(own) = &line.address {
+            address = Some(own.copy(alloc)?);
+        }
+    }
+    Ok(Line {
+        address,
+        base,
+        body: Body::Kept(kept),
+    })
+}
+
+/// The numbers of the units that are lines.
+fn first_units(alloc: Global, units: &[Unit]) -> Result<Vec<usize>, AllocError> {
+    let mut firsts = Vec::new(alloc);
+    for (number, unit) in units.iter().enumerate() {
+        if unit.kind == UnitKind::Line {
+            firsts.push(number)?;
+        }
+    }
+    Ok(firsts)
+}
+
+/// The newline of the first line, or LF where it has none.
+fn style_of<'t>(doc: &Doc<'t>) -> Leaf<'t> {
+    match doc.lines().first() {
+        Some(line) if !line.newline().text.is_empty() => Leaf::New(line.newline().text),
+        _ => Leaf::New("\n"),
+    }
+}

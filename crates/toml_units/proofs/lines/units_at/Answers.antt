@@ -1,0 +1,35 @@
+use Rattle.std.proofs.Common.{◌<◌, ◌≤◌, None, length, map, sym, ap, subst, ◌∙◌, arith}
+use Rattle.std.proofs.lemmas.List.{length-map}
+use Rattle.std.proofs.Math.ListN.{get_or-map}
+use Rattle.toml_tree.specs.Document.{document}
+use Rattle.toml_tree.specs.Lines.{line}
+use Rattle.toml_tree.specs.View.{expr}
+use Rattle.toml_names.specs.Mentions.{named}
+use Rattle.toml_names.specs.Names.{line_address}
+use Rattle.toml_units.specs.View.{all_units}
+use Rattle.toml_units.proofs.AllLines.{IsTaken, took_line, took_all}
+use Rattle.toml_units.proofs.lines.units_at.Goals as goal
+
+pub loop-number-preserved : goal.loop-number-preserved
+loop-number-preserved c =
+    let xs = c.lines-line-items.result.now in
+    let i = c.loop-number.number in
+    let inv = c.loop-number.invariant in
+    let low : i < length (map line xs) = omega (arith, length-map xs line, c.loop-number-test.true) in
+    let inside : i < length c.args.own.items = omega (arith, low, c.requires.count, ap length c.lines-line-items.ensures) in
+    let is = get_or-map line xs i c.line-item.result ∙ ap line (sym c.line-item.is) in
+    let own = c.take_at.ensures.taken ∙ inv.left i None (omega arith) ∙ c.requires.each i None inside ∙ ap (λ ls. line_address (named ls) i) (sym c.lines-line-items.ensures) in
+    record {
+      taken = took_line (map line xs) i (line c.line-item.result) low is (all_units c.loop-number.all.items) (all_units c.push_line_at.new.units.items)
+          c.take_at.result (expr c.expr.result.now) own c.expr.ensures c.in_ok-push_line_at.ensures inv.taken;
+      left = λ k d past. c.take_at.ensures.left k d (omega (arith, past)) ∙ inv.left k d (omega (arith, past));
+    }
+
+pub returns : goal.returns
+returns c =
+    let d = document c.args.doc.now in
+    let xs = c.lines-line-items.result.now in
+    let lines = c.lines-line-items.ensures in
+    let past : length d.lines ≤ c.loop-number.number = omega (arith, length-map xs line, ap length lines, c.loop-number-test.false) in
+    took_all d c.loop-number.number (all_units c.loop-number.all.items) c.args.doc.now.spelled past
+    (subst (λ ls. IsTaken ls c.loop-number.number (all_units c.loop-number.all.items)) lines c.loop-number.invariant.taken)

@@ -1,0 +1,88 @@
+-- What the editor's answers come to.
+use Rattle.std.proofs.Common.{◌≡◌, ◌≤◌, ◌+◌, inl, inr, ℕ, List, [], ◌∷◌, length, Result, Ok, Err, refl, ap, subst, arith, length-append}
+use Rattle.std.proofs.lemmas.List.{length-drop}
+use Rattle.std.proofs.lemmas.Result.{IfOk-weaker}
+use Rattle.std.specs.Prelude.{IfErr, IfOk, codes}
+use Rattle.std.specs.declared.alloc.AllocError.{AllocError}
+use Rattle.toml_text.specs.Forms.{IsNewline}
+use Rattle.toml_text.specs.Limit.{IsText, max_len}
+use Rattle.toml_tree.specs.Parts.{size}
+use Rattle.toml_tree.specs.Spells.{AreLines, Spells, expr_parts, line_parts, lines_parts, mark_of, piece}
+use Rattle.toml_tree.specs.Tree.{Doc, Line}
+use Rattle.toml_tree.proofs.Proved.{sizes_add}
+use Rattle.toml_names.specs.Names.{RefusesNames}
+use Rattle.toml_names.specs.declared.fault.NameFault.{NameFault}
+use Rattle.toml_names.specs.declared.fault.NameFault.TheVariants as names
+use Rattle.toml_edits.specs.EditList.{IsEditList}
+use Rattle.toml_edits.specs.Edits.{Change}
+use Rattle.toml_units.specs.Certificates.{certificate_of}
+use Rattle.toml_editor.specs.Edited as editor
+use Rattle.toml_editor.specs.declared.fault.EditorFault.{EditorFault}
+use Rattle.toml_editor.specs.declared.fault.EditorFault.TheVariants as faults
+use Rattle.tomled.specs.Edit.{Edits, IsEditing, IsEditorEnding, IsUnedited, TellsNumber}
+use Rattle.tomled.specs.Outcomes.{Answers, Ends, Gives, Tells, texts_of}
+use Rattle.tomled.specs.Reading.{HasNumber}
+use Rattle.tomled.specs.declared.ending.Ending.{Ending}
+use Rattle.tomled.specs.declared.ending.Ending.TheVariants as ends
+use Rattle.tomled.specs.declared.outcome.Answer.{Answer}
+use Rattle.tomled.specs.declared.outcome.Outcome.{Outcome}
+
+-- ---- a text has at most one line more than bytes
+
+newline_has_byte : (bs : List ℕ) → IsNewline bs → 1 ≤ length bs
+newline_has_byte bs (inl is) = let one = ap length is in omega (arith, one)
+newline_has_byte bs (inr is) = let two = ap length is in omega (arith, two)
+
+lines_have_bytes : (ls : List Line) → AreLines ls → length ls ≤ size (lines_parts ls) + 1
+lines_have_bytes [] are = absurd are
+lines_have_bytes (l ∷ []) are = omega arith
+lines_have_bytes (l ∷ m ∷ ls) are =
+    let rest = lines_have_bytes (m ∷ ls) are.2 in
+    let one = sizes_add (line_parts l) (lines_parts (m ∷ ls)) in
+    let two = sizes_add (expr_parts l.expr) (piece l.newline ∷ []) in
+    let three = length-append l.newline.text [] in
+    let byte = newline_has_byte l.newline.text are.1 in
+    omega (arith, rest, one, two, three, byte)
+
+lines_are_few : (d : Doc) (text : List ℕ) → IsText text → Spells d text → length d.lines ≤ max_len + 1
+lines_are_few d text fits spelled =
+    let few = lines_have_bytes d.lines spelled.lines.forms in
+    let all = ap length spelled.lines.text_is in
+    let behind = length-drop (length (mark_of text)) text in
+    let most = fits.fits in
+    omega (arith, few, all, behind, most)
+
+refused_line : (d : Doc) (fault : NameFault) → length d.lines ≤ max_len + 1 → RefusesNames d.lines fault → HasNumber fault
+refused_line d (names.Redefined line at) few refused = let there = refused.there in omega (arith, few, there)
+refused_line d (names.LongAddress line) few refused = let there = refused.there in omega (arith, few, there)
+refused_line d names.NoMemory few refused = tt
+
+-- so the number of a line that the editor tells is a machine number
+pub numbered : (before : List ℕ) (cs : List Change) (fault : EditorFault) → editor.Tells before cs fault → TellsNumber fault
+numbered before cs (faults.Text fault) told = tt
+numbered before cs (faults.Syntax fault) told = tt
+numbered before cs (faults.Names fault) told = refused_line told.2.0 fault (lines_are_few told.2.0 before told.1 told.2.1) told.2.2
+numbered before cs (faults.Edit index fault) told = tt
+numbered before cs (faults.Spread index) told = tt
+numbered before cs (faults.LastElement index) told = tt
+numbered before cs faults.TooLong told = tt
+numbered before cs (faults.Unverified reason) told = tt
+numbered before cs faults.NoMemory told = tt
+
+module _ (before edits : List ℕ) where
+  -- the ending of an editor's fault is one of `edit`
+  pub unedited : (cs : List Change) (fault : EditorFault) (e : Ending) → IsEditList edits cs → editor.Tells before cs fault → IsEditorEnding fault e → Ends (IsUnedited before edits) e
+  unedited cs fault (ends.Refused r) listed told stands = inr (record { changes = cs; listed = listed; fault = fault; told = told; stands = stands })
+  unedited cs fault ends.NoMemory listed told stands = tt
+
+  pub edited : (cs : List Change) (text : List ℕ) (pairs : List (ℕ × ℕ)) (a : Answer) → IsEditList edits cs → editor.IsEdited before cs text pairs → a.out.items ≡ codes "ok\n" → texts_of a.files.items ≡ text ∷ certificate_of pairs ∷ []
+      → IsEditing before edits a
+  edited cs text pairs a listed is printed written = (printed, text, certificate_of pairs, written, record { changes = cs; listed = listed; pairs = pairs; edited = is; written = refl })
+
+  -- what the command comes to
+  pub comes : (answer : Result Answer Ending) (result : Result Outcome AllocError) → IfOk answer (IsEditing before edits) → IfErr answer (Ends (IsUnedited before edits)) → IfOk result (Answers answer) → IfOk result (Edits before edits)
+  comes (Ok a) result good bad =
+      IfOk-weaker result (Gives a.out.items (texts_of a.files.items)) (Edits before edits)
+      (λ o gives. inl (good.1, good.2, good.4, subst (λ (out : List ℕ). Gives out (good.1 ∷ good.2 ∷ []) o) good.0 (subst (λ (files : List (List ℕ)). Gives a.out.items files o) good.3 gives)))
+  comes (Err (ends.Refused r)) result good bad = IfOk-weaker result (Tells r) (Edits before edits) (λ o tells. inr (r, bad, tells))
+  comes (Err ends.NoMemory) result good bad = IfOk-weaker result (λ o. ⊥) (Edits before edits) (λ o none. absurd none)

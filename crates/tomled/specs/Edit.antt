@@ -1,0 +1,96 @@
+-- What `edit` answers.
+use Rattle.std.specs.Prelude.{◌≡◌, ◌⊎◌, ℕ, List, [], ◌∷◌, codes, Option, Some, None}
+use Rattle.toml_text.specs.Limit.{max_len}
+use Rattle.toml_text.specs.declared.fault.TextFault.{TextFault}
+use Rattle.toml_edits.specs.EditList.{IsEditList}
+use Rattle.toml_edits.specs.Edits.{Change}
+use Rattle.toml_edits.specs.declared.fault.EditFault.{EditFault}
+use Rattle.toml_edits.specs.declared.fault.EditFault.TheVariants as edits
+use Rattle.toml_units.specs.Certificates.{certificate_of}
+use Rattle.toml_editor.specs.Edited as editor
+use Rattle.toml_editor.specs.declared.fault.EditorFault.{EditorFault}
+use Rattle.toml_editor.specs.declared.fault.EditorFault.TheVariants as faults
+use Rattle.tomled.specs.EditLists.{IsListRefusal}
+use Rattle.tomled.specs.Outcomes.{Gives, Tells, texts_of}
+use Rattle.tomled.specs.Reading.{HasNumber, IsNameEnding, IsSyntaxEnding, IsTextRefusal}
+use Rattle.tomled.specs.Verify.{reason_code}
+use Rattle.tomled.specs.declared.ending.Ending.{Ending}
+use Rattle.tomled.specs.declared.ending.Ending.TheVariants.{Refused, NoMemory}
+use Rattle.tomled.specs.declared.outcome.Answer.{Answer}
+use Rattle.tomled.specs.declared.outcome.Outcome.{Outcome}
+use Rattle.tomled.specs.declared.refusal.Refusal.{Refusal}
+
+-- the bytes are the list of some edits, and the files are a text and a certificate which shows that the text is what these
+-- edits make of the one before
+pub record AreEdited (before edits text certificate : List ℕ) : Type 0 where
+  pub changes : List Change
+  pub listed : IsEditList edits changes
+  pub pairs : List (ℕ × ℕ)
+  pub edited : editor.IsEdited before changes text pairs
+  pub written : certificate ≡ certificate_of pairs
+
+-- the code of a fault of an edit; want of memory has none
+abbrev pub edit_code : EditFault → Option ℕ
+edit_code edits.NoSuchPlace = Some 301
+edit_code edits.AlreadyThere = Some 302
+edit_code edits.NotATable = Some 303
+edit_code edits.IndexOutside = Some 304
+edit_code edits.NotAName = Some 305
+edit_code edits.BadValue = Some 306
+edit_code edits.RootNamed = Some 310
+edit_code edits.AddressLength = Some 312
+edit_code edits.NoMemory = None
+
+-- it is refused with this code and place
+abbrev pub IsRefusedAt : ℕ → ℕ → Ending → Type 0
+IsRefusedAt code place (Refused r) = (r.code ≡ code) × (r.place ≡ place)
+IsRefusedAt code place NoMemory = ⊥
+
+-- what a fault of the edit with this number comes to
+abbrev pub IsEditEnding : ℕ → EditFault → Ending → Type 0
+IsEditEnding index fault (Refused r) = (edit_code fault ≡ Some r.code) × (r.place ≡ index)
+IsEditEnding index fault NoMemory = fault ≡ edits.NoMemory
+
+-- what a fault of the bytes as a text comes to
+abbrev pub IsTextEnding : TextFault → Ending → Type 0
+IsTextEnding fault (Refused r) = IsTextRefusal fault r
+IsTextEnding fault NoMemory = ⊥
+
+-- what a fault of the editor comes to: of the document as `check` tells it, of an edit with its number from 0, of the judge
+-- with the number of the reason
+abbrev pub IsEditorEnding : EditorFault → Ending → Type 0
+IsEditorEnding (faults.Text fault) = IsTextEnding fault
+IsEditorEnding (faults.Syntax fault) = IsSyntaxEnding fault
+IsEditorEnding (faults.Names fault) = IsNameEnding fault
+IsEditorEnding (faults.Edit index fault) = IsEditEnding index fault
+IsEditorEnding (faults.Spread index) = IsRefusedAt 307 index
+IsEditorEnding (faults.LastElement index) = IsRefusedAt 308 index
+IsEditorEnding faults.TooLong = IsRefusedAt 102 max_len
+IsEditorEnding (faults.Unverified reason) = IsRefusedAt 309 (reason_code reason)
+IsEditorEnding faults.NoMemory = λ ending. ending ≡ NoMemory
+
+-- the number of a line that it tells, from 1, is a machine number
+abbrev pub TellsNumber : EditorFault → Type 0
+TellsNumber (faults.Names fault) = HasNumber fault
+TellsNumber _ = Unit {0}
+
+-- the bytes are the list of some edits, and the refusal stands for what the editor tells of them and the document
+pub record IsEditorRefusal (before edits : List ℕ) (r : Refusal) : Type 0 where
+  pub changes : List Change
+  pub listed : IsEditList edits changes
+  pub fault : EditorFault
+  pub told : editor.Tells before changes fault
+  pub stands : IsEditorEnding fault (Refused r)
+
+-- the edit list is judged first
+abbrev pub IsUnedited : List ℕ → List ℕ → Refusal → Type 0
+IsUnedited before edits r = IsListRefusal edits r ⊎ IsEditorRefusal before edits r
+
+-- the answer is `ok` and LF, and the edited text and its certificate as files
+abbrev pub IsEditing : List ℕ → List ℕ → Answer → Type 0
+IsEditing before edits a = (a.out.items ≡ codes "ok\n") × (text : List ℕ) × (certificate : List ℕ) × (texts_of a.files.items ≡ text ∷ certificate ∷ []) × AreEdited before edits text certificate
+
+-- `ok` and LF and two files, an edited text and its certificate; or a refusal, and no file
+abbrev pub Edits : List ℕ → List ℕ → Outcome → Type 0
+Edits before edits o =
+    ((text : List ℕ) × (certificate : List ℕ) × AreEdited before edits text certificate × Gives (codes "ok\n") (text ∷ certificate ∷ []) o) ⊎ ((r : Refusal) × IsUnedited before edits r × Tells r o)

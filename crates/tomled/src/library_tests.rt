@@ -1,0 +1,15 @@
+//! The worked rows of the libraries below.
+
+mod carrying;
+mod checker;
+mod edit_lists;
+mod editor;
+mod edits;
+mod examples;
+mod names;
+mod reader;
+mod scalars;
+mod text;
+mod tree;
+mod units;
+mod worked;
