@@ -98,5 +98,76 @@ run 3 - 'file fault' edit before.toml edits.json ./none/refused.toml refused.txt
 absent refused.toml refused.txt
 run 3 - 'file fault' edit before.toml edits.json opened.toml ./none/refused.txt
 holds opened.toml ''
+
+# Files that can't be read or opened: a folder, one whose bytes can't be had, a folder that is not there. What is refused
+# before both are open leaves nothing written.
+mkdir folder
+run 3 - 'file fault' check folder
+run 3 - 'file fault' check /proc/self/mem
+run 3 - 'file fault' edit folder edits.json unopened.toml unopened.txt
+run 3 - 'file fault' edit before.toml folder unopened.toml unopened.txt
+run 3 - 'file fault' edit before.toml edits.json folder unopened.txt
+run 3 - 'file fault' edit before.toml edits.json none/unopened.toml unopened.txt
+absent unopened.toml unopened.txt
+run 3 - 'file fault' edit before.toml edits.json emptied.toml folder
+holds emptied.toml ''
+run 3 - 'file fault' verify before.toml edits.json folder cert.txt
+run 3 - 'file fault' verify before.toml edits.json after.toml folder
+
+# OUT may be FILE, which is read before it is opened; a refusal leaves it as it was. So may one file have two names.
+cp before.toml same.toml
+run 1 - 'refused 301 0' edit same.toml missing.json same.toml same.txt
+holds same.toml 'port = 1_000 # keep\n'
+run 0 ok - edit same.toml edits.json same.toml same.txt
+holds same.toml 'port = 0x1F # keep\n'
+holds same.txt 'kept 1\n1 1\n2 2\n'
+cp before.toml first.toml
+ln first.toml second.toml
+run 0 ok - edit first.toml edits.json second.toml linked.txt
+holds first.toml 'port = 0x1F # keep\n'
+run 0 yes - verify before.toml edits.json second.toml linked.txt
+
+# Outputs that take no byte.
+"$program" check good.toml >/dev/full 2>err
+if [ $? -ne 3 ] || ! begins err 'file fault'; then
+  printf 'FAILED standard output is full\n'
+  failed=1
+fi
+"$program" check twice.toml >out 2>/dev/full
+if [ $? -ne 3 ] || [ -s out ]; then
+  printf 'FAILED standard error is full\n'
+  failed=1
+fi
+
+# The deepest texts under a stack of 256 KiB.
+deep() {
+  local count
+  for count in $(seq "$1"); do printf '%s' "$2"; done
+}
+{ printf 'a = '; deep 100 '['; deep 100 ']'; printf '\n'; } >arrays.toml
+{ printf 'a = '; deep 99 '{b = '; printf 1; deep 99 '}'; printf '\n'; } >tables.toml
+{ deep 99 'a.'; printf 'a = 1\n'; } >key.toml
+printf '[{"op":"insert","at":["z"],"value":"1"}]' >insert.json
+{ printf '[{"op":"set","at":["a"'; deep 99 ',0'; printf '],"value":"1"}]'; } >arrays.json
+{ printf '[{"op":"set","at":["a"'; deep 99 ',"b"'; printf '],"value":"2"}]'; } >tables.json
+{ printf '[{"op":"set","at":["a"'; deep 99 ',"a"'; printf '],"value":"2"}]'; } >key.json
+{ printf '[{"op":"set","at":["a"],"value":"'; deep 100 '['; deep 100 ']'; printf '"}]'; } >value.json
+{ deep 1000 '['; deep 1000 ']'; } >lists.json
+(
+  ulimit -s 256
+  for text in arrays tables key; do
+    run 0 ok - check "$text.toml"
+    run 0 '{"a":' - show "$text.toml"
+    run 0 '["a"]' - show --list "$text.toml"
+    run 0 ok - edit "$text.toml" insert.json deep.toml deep.txt
+    run 0 yes - verify "$text.toml" insert.json deep.toml deep.txt
+    run 0 ok - edit "$text.toml" "$text.json" deep.toml deep.txt
+    run 0 yes - verify "$text.toml" "$text.json" deep.toml deep.txt
+  done
+  run 0 ok - edit good.toml value.json deep.toml deep.txt
+  run 0 yes - verify good.toml value.json deep.toml deep.txt
+  run 1 - 'refused 32' edit good.toml lists.json deep.toml deep.txt
+  exit "$failed"
+) || failed=1
 [ "$failed" -eq 0 ] && echo 'all passed'
 exit "$failed"

@@ -15,6 +15,8 @@ pub mod Within
 pub mod ProtectedUnits
 pub mod Sides
 pub mod Leaving
+pub mod Areas
+pub mod AddedSteps
 pub mod Flags
 pub mod Walked
 pub mod Examples

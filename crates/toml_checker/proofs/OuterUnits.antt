@@ -9,7 +9,7 @@ use Rattle.toml_edits.specs.Edits.{Change}
 use Rattle.toml_units.specs.Places.{LiesInside}
 use Rattle.toml_units.specs.Plain.{Spanned, spanned}
 use Rattle.toml_units.specs.Units.{TextUnit, units}
-use Rattle.toml_checker.specs.Marks.{IsSet, IsFree, EndsWithin, stops}
+use Rattle.toml_checker.specs.Marks.{IsSet, IsFree, stops}
 use Rattle.toml_checker.specs.Outer.{IsOuter, TellOuter}
 use Rattle.toml_checker.specs.Plain.{TellProtected}
 use Rattle.toml_checker.specs.Protected.{IsProtected}

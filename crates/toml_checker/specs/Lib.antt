@@ -17,6 +17,10 @@ pub mod Laws
 pub mod Headline
 -- words of the code's own contracts
 pub mod Sides
+pub mod Areas
+pub mod Steps
+pub mod Fronts
+pub mod EditLists
 pub mod Plain
 pub mod Marks
 pub mod Debts

@@ -1,5 +1,6 @@
 -- Units walked past in order, and what two units are found to have in common.
-use Rattle.std.specs.Prelude.{◌≡◌, ◌⊎◌, ◌<◌, ◌≤◌, ◌+◌, ℕ, List, [], ◌∷◌, length, take, count_by, option_map, slice_get, slice_range}
+use Rattle.std.specs.Prelude.{◌≡◌, ◌⊎◌, ◌<◌, ◌≤◌, ◌+◌, ℕ, List, [], ◌∷◌, Option, MatchOption, length, take, count_by, option_map, slice_get, slice_range}
+use Rattle.toml_tree.specs.Document.{document}
 use Rattle.toml_tree.specs.Tree.{Doc, Line}
 use Rattle.toml_edits.specs.Edits.{Change}
 use Rattle.toml_units.specs.declared.unit.Unit.{Unit as Made}
@@ -7,7 +8,7 @@ use Rattle.toml_units.specs.Places.{is_line}
 use Rattle.toml_checker.specs.declared.documents.Document.{Document}
 use Rattle.toml_checker.specs.declared.pairs.Passed.{Passed}
 use Rattle.toml_checker.specs.CarriedTo.{IsCarriedTo}
-use Rattle.toml_checker.specs.Pairs.{RiseFrom, AllFit, StandsAs}
+use Rattle.toml_checker.specs.Pairs.{RiseFrom, AllFit, PairsFit, StandsAs}
 use Rattle.toml_checker.specs.Reading.{IsRead}
 
 -- how many of the units are lines
@@ -18,6 +19,17 @@ lines_in us = count_by (λ (u : Made). is_line u.kind) us
 pub record IsPassed (us : List Made) (p : Passed) : Type 0 where
   pub within : p.units ≤ length us
   pub lines : p.lines ≡ lines_in (take p.units us)
+
+-- from there on those before the number were, whose unit is there
+pub record IsReached (us : List Made) (from : Passed) (number : ℕ) (spot : Passed) : Type 0 where
+  pub at : spot.units ≡ number
+  pub passed : IsPassed us spot
+  pub onward : from.units ≤ number
+  pub there : number < length us
+
+-- there is no such spot exactly where the number's unit was walked past, or is not there
+abbrev pub Reaches : List Made → Passed → ℕ → Option Passed → Type 0
+Reaches us from number = λ found. MatchOption found ((number < from.units) ⊎ (length us ≤ number)) (IsReached us from number)
 
 -- of a document that was read, the unit behind those walked past is there
 pub record IsSpot (d : Document) (p : Passed) : Type 0 where
@@ -42,6 +54,27 @@ pub record NextFits (cs : List Change) (d e : Doc) (i k : ℕ) (p : ℕ × ℕ) 
   pub first : i ≤ p.0
   pub second : k ≤ p.1
   pub stands : StandsAs cs d e p.0 p.1
+
+-- the units of two documents that were read
+abbrev pub StandAs : List Change → Document → Document → ℕ → ℕ → Type 0
+StandAs cs b a i k = StandsAs cs (document b.doc.now) (document a.doc.now) i k
+
+abbrev pub AllPairsFit : List Change → Document → Document → List (ℕ × ℕ) → Type 0
+AllPairsFit cs b a ps = PairsFit cs (document b.doc.now) (document a.doc.now) ps
+
+abbrev pub PairFits : List Change → Document → Document → Passed → Passed → ℕ × ℕ → Type 0
+PairFits cs b a first second p = NextFits cs (document b.doc.now) (document a.doc.now) first.units second.units p
+
+-- the units of a pair that fits were walked past too
+pub record IsPairPassed (cs : List Change) (b a : Document) (first second : Passed) (p : ℕ × ℕ) (past : Passed × Passed) : Type 0 where
+  pub fits : PairFits cs b a first second p
+  pub first_past : past.0.units ≡ p.0 + 1
+  pub second_past : past.1.units ≡ p.1 + 1
+  pub first_passed : IsPassed b.units.now past.0
+  pub second_passed : IsPassed a.units.now past.1
+
+abbrev pub PassesPair : List Change → Document → Document → Passed → Passed → ℕ × ℕ → Option (Passed × Passed) → Type 0
+PassesPair cs b a first second p = λ found. MatchOption found (¬ (PairFits cs b a first second p)) (IsPairPassed cs b a first second p)
 
 -- pairs that rise from these numbers on
 abbrev pub RiseAt : ℕ → ℕ → List (ℕ × ℕ) → Type 0

@@ -1,21 +1,24 @@
 //! Whether edits carry an address to another.
-ghost use Rattle.std.specs.Prelude.{◌≡◌, ◌↔◌, IsTrue, IfOk, Some, map, option_map};
-ghost use Rattle.toml_edits.specs.Edits.{change};
+ghost use Rattle.std.specs.Prelude.{◌≡◌, ◌↔◌, IsTrue, IfOk, Some, option_map};
 ghost use Rattle.toml_edits.specs.Lists.{carried};
 ghost use Rattle.toml_checker.specs.CarriedTo.{IsCarriedTo};
+ghost use Rattle.toml_checker.specs.EditLists.{changes};
 
+use crate::fronts::EditList;
 use crate::moving::{Moved, moved_by};
 use crate::protection::here;
 use std::alloc::{AllocError, Global};
-use toml_edits::Edit;
 use toml_names::Address;
 
 /// Whether the edits carry the one address to the other. An address is made only where an edit moves it.
-fn arrives(alloc: Global, edits: &[Edit], from: &Address, to: &Address) -> Result<bool, AllocError>
-    ensures { IfOk result (λ arrived. IsTrue arrived ↔ (carried (map change edits.now) from.now ≡ Some to.now)) }
+fn arrives(alloc: Global, list: &EditList, from: &Address, to: &Address) -> Result<bool, AllocError>
+    ensures { IfOk result (λ arrived. IsTrue arrived ↔ (carried (changes list.now) from.now ≡ Some to.now)) }
 {
+    if list.fronts.is_far(from.steps()) {
+        return Ok(from.is_same(to));
+    }
     let mut moved_to = None;
-    for edit in edits {
+    for edit in list.edits {
         match moved_by(alloc, edit, here(&moved_to, from))? {
             Moved::Stays => {}
             Moved::To(next) => moved_to = Some(next),
@@ -28,15 +31,15 @@ fn arrives(alloc: Global, edits: &[Edit], from: &Address, to: &Address) -> Resul
 /// Whether there is no address, or the edits carry the one to the other.
 pub(crate) fn is_carried_to(
     alloc: Global,
-    edits: &[Edit],
+    list: &EditList,
     from: Option<&Address>,
     to: Option<&Address>,
 ) -> Result<bool, AllocError>
-    ensures { IfOk result (λ arrived. IsTrue arrived ↔ IsCarriedTo (map change edits.now) (option_map (λ a. a.now) from.entry) (option_map (λ a. a.now) to.entry)) }
+    ensures { IfOk result (λ arrived. IsTrue arrived ↔ IsCarriedTo (changes list.now) (option_map (λ a. a.now) from.entry) (option_map (λ a. a.now) to.entry)) }
 {
     match (from, to) {
         (None, None) => Ok(true),
-        (Some(from), Some(to)) => arrives(alloc, edits, from, to),
+        (Some(from), Some(to)) => arrives(alloc, list, from, to),
         _ => Ok(false),
     }
 }

@@ -1,15 +1,16 @@
 //! That the units of each pair are the same, but for where the edits carry them.
-ghost use Rattle.std.specs.Prelude.{◌≡◌, ◌↔◌, ◌⊎◌, ◌<◌, ◌≤◌, ◌+◌, ℕ, IsTrue, IfOk, MatchOption, length, map, option_map, slice_get, slice_range};
+ghost use Rattle.std.specs.Prelude.{◌≡◌, ◌↔◌, ◌≤◌, ◌+◌, IsTrue, IfOk, length, map, option_map, slice_get, slice_range};
 ghost use Rattle.toml_tree.specs.Document.{document};
 ghost use Rattle.toml_tree.specs.Tree.{Line as TreeLine};
 ghost use Rattle.toml_edits.specs.Edits.{change};
 ghost use Rattle.toml_units.specs.Places.{is_line};
-ghost use Rattle.toml_checker.specs.Pairs.{PairsFit, StandsAs};
+ghost use Rattle.toml_checker.specs.EditLists.{changes};
 ghost use Rattle.toml_checker.specs.Reading.{IsRead};
-ghost use Rattle.toml_checker.specs.Walking.{AreAlike, HaveOneNewline, IsPassed, IsSpot, IsWithin, NextFits, lines_in};
+ghost use Rattle.toml_checker.specs.Walking.{AllPairsFit, AreAlike, HaveOneNewline, IsPassed, IsSpot, IsWithin, PassesPair, Reaches, StandAs, lines_in};
 
 use crate::arriving::is_carried_to;
 use crate::documents::Document;
+use crate::fronts::EditList;
 use std::alloc::{AllocError, Global};
 use toml_edits::Edit;
 use toml_text::Span;
@@ -61,7 +62,7 @@ fn pass(units: &[Unit], passed: Passed, place: usize) -> Passed
 /// Walks on to the unit with the number, if it was not walked past and there is one.
 fn reach(units: &[Unit], passed: Passed, number: u64) -> Option<Passed>
     requires { IsPassed units.now passed }
-    ensures { MatchOption result ((number < passed.units) ⊎ (length units.now ≤ number)) (λ spot. (spot.units ≡ number) × IsPassed units.now spot × (passed.units ≤ number) × (number < length units.now)) }
+    ensures { Reaches units.now passed number result }
 {
     let place = number as usize;
     if place < passed.units || units.len() <= place {
@@ -86,13 +87,13 @@ fn are_alike(
     alloc: Global,
     text: &[u8],
     one: &Unit,
-    edits: &[Edit],
+    list: &EditList,
     other_text: &[u8],
     other: &Unit,
 ) -> Result<bool, AllocError>
     requires one { IsWithin text.now one.now }
     requires other { IsWithin other_text.now other.now }
-    ensures { IfOk result (λ holds. IsTrue holds ↔ AreAlike (map change edits.now) text.now one.now other_text.now other.now) }
+    ensures { IfOk result (λ holds. IsTrue holds ↔ AreAlike (changes list.now) text.now one.now other_text.now other.now) }
 {
     if one.kind != other.kind {
         return Ok(false);
@@ -100,7 +101,7 @@ fn are_alike(
     if !same_bytes(text, one.span, other_text, other.span) {
         return Ok(false);
     }
-    is_carried_to(alloc, edits, one.address.as_ref(), other.address.as_ref())
+    is_carried_to(alloc, list, one.address.as_ref(), other.address.as_ref())
 }
 
 /// The text of a line's newline, if there is such a line.
@@ -148,17 +149,17 @@ fn stands_as(
     alloc: Global,
     before: Document,
     first: Passed,
-    edits: &[Edit],
+    list: &EditList,
     after: Document,
     second: Passed,
 ) -> Result<bool, AllocError>
     requires first { IsSpot before first }
     requires second { IsSpot after second }
-    ensures { IfOk result (λ holds. IsTrue holds ↔ StandsAs (map change edits.now) (document before.entry.doc.now) (document after.entry.doc.now) first.units second.units) }
+    ensures { IfOk result (λ holds. IsTrue holds ↔ StandAs (changes list.now) before.entry after.entry first.units second.units) }
 {
     let one = &before.units[first.units];
     let other = &after.units[second.units];
-    if !are_alike(alloc, before.text, one, edits, after.text, other)? {
+    if !are_alike(alloc, before.text, one, list, after.text, other)? {
         return Ok(false);
     }
     if !is_line(one.kind) {
@@ -173,7 +174,7 @@ fn next_fits(
     alloc: Global,
     before: Document,
     first: Passed,
-    edits: &[Edit],
+    list: &EditList,
     after: Document,
     second: Passed,
     pair: (u64, u64),
@@ -182,10 +183,7 @@ fn next_fits(
     requires first { IsPassed before.units.now first }
     requires after { IsRead after }
     requires second { IsPassed after.units.now second }
-    ensures { IfOk result (λ found. MatchOption found
-        (¬ (NextFits (map change edits.now) (document before.entry.doc.now) (document after.entry.doc.now) first.units second.units pair))
-        (λ w. NextFits (map change edits.now) (document before.entry.doc.now) (document after.entry.doc.now) first.units second.units pair
-        × (w.0.units ≡ pair.0 + 1) × (w.1.units ≡ pair.1 + 1) × IsPassed before.entry.units.now w.0 × IsPassed after.entry.units.now w.1)) }
+    ensures { IfOk result (PassesPair (changes list.now) before.entry after.entry first second pair) }
 {
     let Some(one) = reach(before.units, first, pair.0) else {
         return Ok(None);
@@ -193,7 +191,7 @@ fn next_fits(
     let Some(other) = reach(after.units, second, pair.1) else {
         return Ok(None);
     };
-    if !stands_as(alloc, before, one, edits, after, other)? {
+    if !stands_as(alloc, before, one, list, after, other)? {
         return Ok(None);
     }
     let past = pass(before.units, one, one.units + 1);
@@ -213,12 +211,13 @@ pub(crate) fn pairs_fit(
 ) -> Result<bool, AllocError>
     requires before { IsRead before }
     requires after { IsRead after }
-    ensures { IfOk result (λ holds. IsTrue holds ↔ PairsFit (map change edits.now) (document before.entry.doc.now) (document after.entry.doc.now) pairs.now) }
+    ensures { IfOk result (λ holds. IsTrue holds ↔ AllPairsFit (map change edits.now) before.entry after.entry pairs.now) }
 {
+    let list = EditList::of(alloc, edits)?;
     let mut one = Passed { units: 0, lines: 0 };
     let mut other = one;
     for pair in pairs {
-        match next_fits(alloc, before, one, edits, after, other, *pair)? {
+        match next_fits(alloc, before, one, &list, after, other, *pair)? {
             Some((past, other_past)) => {
                 one = past;
                 other = other_past;

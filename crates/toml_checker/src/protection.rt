@@ -4,8 +4,10 @@ ghost use Rattle.toml_edits.specs.Edits.{change};
 ghost use Rattle.toml_units.specs.Plain.{spanned};
 ghost use Rattle.toml_units.specs.Units.{TextUnit};
 ghost use Rattle.toml_units.specs.View.{all_units};
+ghost use Rattle.toml_checker.specs.EditLists.{changes};
 ghost use Rattle.toml_checker.specs.Plain.{here, stands, home_stands, made_site, line_site, next_line, is_kept, TellProtected};
 
+use crate::fronts::EditList;
 use crate::moving::{Moved, moved_by, place};
 use crate::side::side_of;
 use crate::tables::{Part, is_named};
@@ -29,14 +31,17 @@ pub(crate) fn here<'a>(moved: &'a Option<Address>, first: &'a Address) -> &'a Ad
 fn stands_at(
     alloc: Global,
     part: Part,
-    edits: &[Edit],
+    list: &EditList,
     first: &Address,
     base: Option<usize>,
 ) -> Result<bool, AllocError>
-    ensures { IfOk result (λ b. b ≡ stands part (map change edits.now) (Some first.now) base) }
+    ensures { IfOk result (λ b. b ≡ stands part (changes list.now) (Some first.now) base) }
 {
+    if list.fronts.is_far(first.steps()) {
+        return Ok(true);
+    }
     let mut moved_to = None;
-    for edit in edits {
+    for edit in list.edits {
         let at = here(&moved_to, first);
         if is_named(part, edit, base, side_of(place(edit).steps(), at.steps())) {
             return Ok(false);
@@ -51,21 +56,21 @@ fn stands_at(
 }
 
 /// The same of a unit, which may have no address.
-fn stands(alloc: Global, part: Part, edits: &[Edit], unit: &Unit) -> Result<bool, AllocError>
-    ensures { IfOk result (λ b. b ≡ stands part (map change edits.now) unit.now.address unit.now.base) }
+fn stands(alloc: Global, part: Part, list: &EditList, unit: &Unit) -> Result<bool, AllocError>
+    ensures { IfOk result (λ b. b ≡ stands part (changes list.now) unit.now.address unit.now.base) }
 {
     match &unit.address {
-        Some(at) => stands_at(alloc, part, edits, at, unit.base),
+        Some(at) => stands_at(alloc, part, list, at, unit.base),
         None => Ok(true),
     }
 }
 
 /// Whether the line of a comment is still there.
-fn home_stands(alloc: Global, edits: &[Edit], line: Option<&Unit>) -> Result<bool, AllocError>
-    ensures { IfOk result (λ b. b ≡ home_stands (map change edits.now) (line_site line.entry)) }
+fn home_stands(alloc: Global, list: &EditList, line: Option<&Unit>) -> Result<bool, AllocError>
+    ensures { IfOk result (λ b. b ≡ home_stands (changes list.now) (line_site line.entry)) }
 {
     match line {
-        Some(unit) => stands(alloc, Part::Home, edits, unit),
+        Some(unit) => stands(alloc, Part::Home, list, unit),
         None => Ok(true),
     }
 }
@@ -73,21 +78,21 @@ fn home_stands(alloc: Global, edits: &[Edit], line: Option<&Unit>) -> Result<boo
 /// Whether a unit of the line is protected.
 fn is_kept(
     alloc: Global,
-    edits: &[Edit],
+    list: &EditList,
     line: Option<&Unit>,
     unit: &Unit,
 ) -> Result<bool, AllocError>
-    ensures { IfOk result (λ b. b ≡ is_kept unit.now.kind (map change edits.now) (line_site line.entry) (made_site unit.now)) }
+    ensures { IfOk result (λ b. b ≡ is_kept unit.now.kind (changes list.now) (line_site line.entry) (made_site unit.now)) }
 {
     match unit.kind {
-        UnitKind::Line | UnitKind::Pair => stands(alloc, Part::Line, edits, unit),
-        UnitKind::Element => stands(alloc, Part::Element, edits, unit),
-        UnitKind::TailComment => home_stands(alloc, edits, line),
+        UnitKind::Line | UnitKind::Pair => stands(alloc, Part::Line, list, unit),
+        UnitKind::Element => stands(alloc, Part::Element, list, unit),
+        UnitKind::TailComment => home_stands(alloc, list, line),
         UnitKind::InnerComment => {
-            if !home_stands(alloc, edits, line)? {
+            if !home_stands(alloc, list, line)? {
                 return Ok(false);
             }
-            stands(alloc, Part::Comment, edits, unit)
+            stands(alloc, Part::Comment, list, unit)
         }
     }
 }
@@ -117,11 +122,12 @@ fn next_line<'a>(line: Option<&'a Unit>, unit: &'a Unit) -> Option<&'a Unit>
 pub fn protected(alloc: Global, units: &[Unit], edits: &[Edit]) -> Result<Vec<bool>, AllocError>
     ensures { IfOk result (λ flags. (us : List TextUnit) → all_units units.now ≡ map spanned us → TellProtected (map change edits.now) us flags.items) }
 {
+    let list = EditList::of(alloc, edits)?;
     let mut flags = Vec::with_capacity(alloc, units.len())?;
     let mut line = None;
     for unit in units {
         line = next_line(line, unit);
-        flags.push(is_kept(alloc, edits, line, unit)?)?;
+        flags.push(is_kept(alloc, &list, line, unit)?)?;
     }
     Ok(flags)
 }

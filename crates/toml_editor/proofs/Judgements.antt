@@ -1,5 +1,5 @@
 -- From what was judged and told to the editor's answers.
-use Rattle.std.proofs.Common.{◌≡◌, ◌⊎◌, ◌↔◌, inl, inr, ℕ, zero, suc, ◌<◌, ◌≤◌, List, [], ◌∷◌, Bool, true, false, length, Option, Some, None, refl, sym, ap, subst, ◌∙◌, arith}
+use Rattle.std.proofs.Common.{◌≡◌, ◌↔◌, inl, inr, ℕ, zero, suc, ◌<◌, ◌≤◌, List, [], ◌∷◌, Bool, true, false, length, Some, refl, sym, ap, subst, ◌∙◌, arith}
 use Rattle.std.proofs.lemmas.Option.{same_Some, slice_get_within}
 use Rattle.std.proofs.lemmas.Str.{IsUtf8-from_is_utf8}
 use Rattle.std.proofs.Math.Bool.{beq}
@@ -25,14 +25,14 @@ use Rattle.toml_names.specs.Mentions.{Named, named}
 use Rattle.toml_names.specs.Names.{AreGood, RefusesNames}
 use Rattle.toml_names.proofs.Proved.{refused_are_bad}
 use Rattle.toml_edits.specs.Edits.{Change}
-use Rattle.toml_units.specs.Units.{TextUnit, units}
+use Rattle.toml_units.specs.Units.{units}
 use Rattle.toml_checker.specs.declared.verdict.Verdict.{Verdict}
 use Rattle.toml_checker.specs.declared.verdict.Verdict.TheVariants.{Yes}
 use Rattle.toml_checker.specs.Demands.{Certified, IsVerdict}
 use Rattle.toml_checker.specs.Marks.{IsSet}
-use Rattle.toml_checker.specs.Outer.{IsOuter}
-use Rattle.toml_checker.specs.Pairs.{IsFirst, StandsAs, AllFit}
-use Rattle.toml_editor.specs.Edited.{IsEdited, NamesOuter, RefusesText, Tells, TellsWanted}
+use Rattle.toml_checker.specs.Pairs.{IsFirst, AllFit}
+use Rattle.toml_editor.specs.Edited.{IsEdited, NamesOuter, RefusesText, Tells}
+use Rattle.toml_editor.specs.Editing.{TellsWanted}
 use Rattle.toml_editor.specs.Making.{TellsAny}
 use Rattle.toml_editor.specs.declared.fault.EditorFault.{EditorFault}
 use Rattle.toml_editor.specs.declared.fault.EditorFault.TheVariants as faults
@@ -136,10 +136,10 @@ marks_tell wanted marks ps n count same all i low =
     )
 
 -- a yes, and pairs that name the wanted units
-pub edited : (before after text : List ℕ) (cs : List Change) (ps pairs : List (ℕ × ℕ)) (wanted flags : List Bool) (v : Verdict) (all : Bool) → IsVerdict before cs after ps v → v ≡ Yes → after ≡ text → pairs ≡ ps → flags ≡ wanted → TellsWanted before cs wanted
-    → (IsTrue all → (i : ℕ) → i < length flags → (slice_get flags i ≡ Some true) ↔ IsFirst pairs i) → all ≡ true → IsEdited before cs text ps
-edited before after text cs ps pairs wanted flags v all verdict a_yes same same_pairs same_flags told names is =
+pub edited : (before after text : List ℕ) (cs : List Change) (ps pairs : List (ℕ × ℕ)) (wanted : List Bool) (v : Verdict) (all : Bool) → IsVerdict before cs after ps v → v ≡ Yes → after ≡ text → pairs ≡ ps → TellsWanted before cs wanted
+    → (IsTrue all → (i : ℕ) → i < length wanted → (slice_get wanted i ≡ Some true) ↔ IsFirst pairs i) → all ≡ true → IsEdited before cs text ps
+edited before after text cs ps pairs wanted v all verdict a_yes same same_pairs told names is =
     let certified : Certified before cs after ps = subst (IsVerdict before cs after ps) a_yes verdict in
     let first : (i : ℕ) → i < length wanted → (slice_get wanted i ≡ Some true) ↔ IsFirst ps i =
-    subst (λ qs. (i : ℕ) → i < length wanted → (slice_get wanted i ≡ Some true) ↔ IsFirst qs i) same_pairs (subst (λ fs. (i : ℕ) → i < length fs → (slice_get fs i ≡ Some true) ↔ IsFirst pairs i) same_flags (names is)) in
+    subst (λ qs. (i : ℕ) → i < length wanted → (slice_get wanted i ≡ Some true) ↔ IsFirst qs i) same_pairs (names is) in
     subst (λ t. IsEdited before cs t ps) same (record { certified = certified; outer = names_outer before after cs ps wanted certified told first })

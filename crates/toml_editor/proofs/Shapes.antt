@@ -1,19 +1,13 @@
 -- What data have where they are seen to be a table, or an array of one element.
-use Rattle.std.proofs.Common.{◌≡◌, ◌⊎◌, inl, inr, ℕ, ◌<◌, List, [], ◌∷◌, ◌++◌, length, Option, Some, None, IsSome, refl, sym, ap, subst, ◌∙◌, arith, append_assoc}
+use Rattle.std.proofs.Common.{◌≡◌, inl, inr, ℕ, List, [], ◌∷◌, length, Some, None, IsSome, refl, sym, subst, ◌∙◌, arith}
 use Rattle.std.proofs.lemmas.Bool.Decides.{nat_tests}
 use Rattle.std.specs.Bool.{nat_eq}
 use Rattle.std.specs.Prelude.{IsTrue, slice_get, vec_len}
-use Rattle.toml_names.specs.declared.address.Step.{Step}
-use Rattle.toml_names.specs.declared.address.Step.TheVariants.{Index}
 use Rattle.toml_names.specs.declared.datum.Datum.{Datum}
 use Rattle.toml_names.specs.declared.datum.Datum.TheVariants.{Array, Table}
-use Rattle.toml_names.specs.Addresses.{Address, element}
-use Rattle.toml_names.specs.Data.{Kinds, kind_at, kind_in}
+use Rattle.toml_names.specs.Data.{kind_in}
 use Rattle.toml_names.specs.Levels.{Elements, Members}
-use Rattle.toml_names.specs.Mentions.{a_table, an_array}
 use Rattle.toml_names.proofs.Proved.{array-here, array-item, has_kind, table-here}
-use Rattle.toml_edits.specs.Edits.{remove}
-use Rattle.toml_editor.specs.Edited.{TakesLastElement}
 use Rattle.toml_editor.specs.Making.{HasOne, IsMany}
 
 pub many_table : (m : Members) → IsMany (Some (Table m))

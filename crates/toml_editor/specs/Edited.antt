@@ -1,17 +1,15 @@
 -- What the editor answers.
-use Rattle.std.specs.Prelude.{◌≡◌, ◌⊎◌, ◌↔◌, ℕ, List, Bool, take, Option, Some, None, IsSome, slice_get}
+use Rattle.std.specs.Prelude.{◌≡◌, ◌⊎◌, ◌↔◌, ℕ, List, take, Some, None, IsSome, slice_get}
 use Rattle.toml_text.specs.Limit.{IsText}
 use Rattle.toml_text.specs.Source.{IsFaultOf}
 use Rattle.toml_tree.specs.Document.{Refuses}
-use Rattle.toml_tree.specs.Spells.{Spells}
-use Rattle.toml_tree.specs.Tree.{Doc}
 use Rattle.toml_names.specs.declared.datum.Datum.{Datum}
 use Rattle.toml_names.specs.Addresses.{Address, element}
 use Rattle.toml_names.specs.Data.{Kinds, kind_at}
 use Rattle.toml_names.specs.Documents.{IsDocument}
 use Rattle.toml_names.specs.Mentions.{a_table, an_array}
 use Rattle.toml_names.specs.Names.{RefusesNames}
-use Rattle.toml_edits.specs.Edits.{Change, set, insert, rename, remove}
+use Rattle.toml_edits.specs.Edits.{Change, set, insert, remove}
 use Rattle.toml_edits.specs.Faults.{IsFault}
 use Rattle.toml_edits.specs.Lists.{Lead}
 use Rattle.toml_units.specs.declared.piece.Piece.{Piece}
@@ -19,7 +17,7 @@ use Rattle.toml_units.specs.Pieces.{joined_text}
 use Rattle.toml_units.specs.Units.{units}
 use Rattle.toml_checker.specs.Demands.{Certified}
 use Rattle.toml_checker.specs.Documents.{OfTree, OfData}
-use Rattle.toml_checker.specs.Outer.{IsOuter, TellOuter}
+use Rattle.toml_checker.specs.Outer.{IsOuter}
 use Rattle.toml_checker.specs.Pairs.{IsFirst}
 use Rattle.toml_editor.specs.Tidy.{AreTidy}
 use Rattle.toml_editor.specs.declared.fault.EditorFault.{EditorFault}
@@ -80,13 +78,3 @@ Tells before cs (LastElement index) = OnDataSoFar before cs index TakesLastEleme
 Tells before cs TooLong = Unit {0}
 Tells before cs (Unverified reason) = Unit {0}
 Tells before cs fault = RefusesText before fault
-
--- what the reading of a text gives: the text, and the tree that spells it
-pub record IsRead (before text : List ℕ) (d : Doc) : Type 0 where
-  pub text_is : text ≡ before
-  pub within : IsText before
-  pub spelled : Spells d before
-
--- the flags tell which units of the text are outer protected ones
-abbrev pub TellsWanted : List ℕ → List Change → List Bool → Type 0
-TellsWanted before cs flags = OfTree before (λ d. TellOuter cs (units d.lines) flags)

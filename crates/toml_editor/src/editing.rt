@@ -2,16 +2,15 @@
 ghost use Rattle.std.specs.Prelude.{◌≡◌, IfOk, IfErr, OnOk, length, map, string_bytes};
 ghost use Rattle.toml_text.specs.Source.{text_of};
 ghost use Rattle.toml_tree.specs.Document.{document};
-ghost use Rattle.toml_tree.specs.Spells.{Spells};
 ghost use Rattle.toml_names.specs.Documents.{IsDocument};
 ghost use Rattle.toml_names.specs.Reading.{lines_of};
 ghost use Rattle.toml_edits.specs.Edits.{change};
-ghost use Rattle.toml_checker.specs.After.{IsMadeOf};
-ghost use Rattle.toml_checker.specs.Reading.{AreUnitsOf, IsRead as IsJudged};
-ghost use Rattle.toml_editor.specs.Edited.{IsEdited, ArePieces, IsEditedInPieces, IsRead, RefusesText, Tells, TellsWanted};
+ghost use Rattle.toml_checker.specs.Reading.{AreUnitsOf};
+ghost use Rattle.toml_editor.specs.Edited.{IsEdited, ArePieces, IsEditedInPieces, RefusesText, Tells};
+ghost use Rattle.toml_editor.specs.Editing.{HasLines, IsEditedText, IsKnown, IsMadeText, IsReadAs, TellsWanted};
 
 use crate::fault::EditorFault;
-use crate::making::make_all;
+use crate::making::{Read, make_all};
 use crate::pairing::names_all;
 use crate::spelled::{Spelled, spell_all};
 use crate::texts::Texts;
@@ -30,8 +29,6 @@ struct Edited {
     pieces: Vec<Piece>,
     text: String,
     certificate: Certificate,
-    /// Which units of the document are to be paired.
-    wanted: Vec<bool>,
 }
 
 /// The text that the edits make of a document, one after the other, and the certificate which shows that all else is kept:
@@ -46,7 +43,7 @@ pub fn edit(
     ensures edited { IfOk result (λ r. IsEdited before.now (map change edits.now) (string_bytes r.0) r.1.pairs.items) }
     ensures told { IfErr result (Tells before.now (map change edits.now)) }
 {
-    let edited = judged(alloc, before, edits)?;
+    let edited = edit_document(alloc, before, edits)?;
     Ok((edited.text, edited.certificate))
 }
 
@@ -60,47 +57,45 @@ pub fn edit_pieces(
     ensures edited { IfOk result (λ r. IsEditedInPieces before.now (map change edits.now) r.0.items r.1.pairs.items) }
     ensures told { IfErr result (Tells before.now (map change edits.now)) }
 {
-    let edited = judged(alloc, before, edits)?;
+    let edited = edit_document(alloc, before, edits)?;
     Ok((edited.pieces, edited.certificate))
 }
 
 /// What the edits make of a document, where the judge certifies it.
-fn judged(alloc: Global, before: &[u8], edits: &[Edit]) -> Result<Edited, EditorFault>
-    ensures edited { IfOk result (λ e. IsEdited before.now (map change edits.now) (string_bytes e.text) e.certificate.pairs.items) }
-    ensures pieces { IfOk result (λ e. ArePieces before.now (string_bytes e.text) e.pieces.items) }
+fn edit_document(alloc: Global, before: &[u8], edits: &[Edit]) -> Result<Edited, EditorFault>
+    ensures edited { IfOk result (λ e. IsEditedText before.now (map change edits.now) (string_bytes e.text) e.pieces.items e.certificate.pairs.items) }
     ensures told { IfErr result (Tells before.now (map change edits.now)) }
 {
     let spelled = spell_all(alloc, edits)?;
-    spelled_judged(alloc, before, edits, &spelled)
+    edit_with(alloc, before, edits, &spelled)
 }
 
 /// The same with the spellings of the edits, which live as long as the text and the edits: new pieces are lent from all.
-fn spelled_judged<'x>(
+fn edit_with<'x>(
     alloc: Global,
     before: &'x [u8],
     edits: &'x [Edit],
     spelled: &'x [Spelled],
 ) -> Result<Edited, EditorFault>
     requires { length spelled.now ≡ length edits.now }
-    ensures edited { IfOk result (λ e. IsEdited before.now (map change edits.now) (string_bytes e.text) e.certificate.pairs.items) }
-    ensures pieces { IfOk result (λ e. ArePieces before.now (string_bytes e.text) e.pieces.items) }
+    ensures edited { IfOk result (λ e. IsEditedText before.now (map change edits.now) (string_bytes e.text) e.pieces.items e.certificate.pairs.items) }
     ensures told { IfErr result (Tells before.now (map change edits.now)) }
 {
     let (source, doc) = read(alloc, before)?;
     let reader = named_lines(alloc, before, &doc)?;
-    let units = units_of(alloc, &doc, &reader)?;
+    let units = read_units(alloc, &doc, &reader)?;
     let wanted = outermost(alloc, &units, edits)?;
-    let (data, edited) = make(alloc, source, &doc, reader, &units, edits, spelled, wanted)?;
-    let read = Document {
+    let (data, edited) = make_text(alloc, source, &doc, reader, &units, edits, spelled, &wanted)?;
+    let known = Document {
         text: before,
         doc: &doc,
         units: &units,
     };
-    judge(alloc, read, edits, data, edited)
+    certify(alloc, known, edits, data, edited, &wanted)
 }
 
 /// The units of the tree of a text.
-fn units_of(alloc: Global, doc: &Doc, reader: &NameReader) -> Result<Vec<Unit>, AllocError>
+fn read_units(alloc: Global, doc: &Doc, reader: &NameReader) -> Result<Vec<Unit>, AllocError>
     requires { lines_of reader.now ≡ (document doc.now).lines }
     ensures { IfOk result (λ us. AreUnitsOf doc.now us.items) }
 {
@@ -109,20 +104,18 @@ fn units_of(alloc: Global, doc: &Doc, reader: &NameReader) -> Result<Vec<Unit>, 
 }
 
 /// What is made is handed on where the judge says yes.
-fn judge(
+fn certify(
     alloc: Global,
     before: Document,
     edits: &[Edit],
     data: Data,
     edited: Edited,
+    wanted: &[bool],
 ) -> Result<Edited, EditorFault>
-    requires read { IsJudged before }
-    requires document { IsDocument before.text.now }
-    requires made { IsMadeOf before.text.now (map change edits.now) «data» }
-    requires wanted { TellsWanted before.text.now (map change edits.now) edited.wanted.items }
-    requires pieces { ArePieces before.text.now (string_bytes edited.text) edited.pieces.items }
-    ensures edited { IfOk result (λ e. IsEdited before.entry.text.now (map change edits.now) (string_bytes e.text) e.certificate.pairs.items) }
-    ensures pieces { IfOk result (λ e. ArePieces before.entry.text.now (string_bytes e.text) e.pieces.items) }
+    requires known { IsKnown before }
+    requires made { IsMadeText before.text.now (map change edits.now) «data» (string_bytes edited.text) edited.pieces.items }
+    requires wanted { TellsWanted before.text.now (map change edits.now) wanted.now }
+    ensures edited { IfOk result (λ e. IsEditedText before.entry.text.now (map change edits.now) (string_bytes e.text) e.pieces.items e.certificate.pairs.items) }
     ensures told { IfErr result (Tells before.entry.text.now (map change edits.now)) }
 {
     if edited.text.len() > MAX_LEN {
@@ -138,7 +131,7 @@ fn judge(
     )? {
         Verdict::No(reason) => Err(EditorFault::Unverified(reason)),
         Verdict::Yes => {
-            if names_all(alloc, &edited.certificate.pairs, &edited.wanted)? {
+            if names_all(alloc, &edited.certificate.pairs, wanted)? {
                 Ok(edited)
             } else {
                 Err(EditorFault::Unverified(Reason::Lost))
@@ -148,7 +141,7 @@ fn judge(
 }
 
 /// What the edits make of a document and its data, not judged yet.
-fn make<'x>(
+fn make_text<'x>(
     alloc: Global,
     source: Source<'x>,
     doc: &Doc<'x>,
@@ -156,19 +149,24 @@ fn make<'x>(
     units: &[Unit],
     edits: &'x [Edit],
     spelled: &'x [Spelled],
-    wanted: Vec<bool>,
+    wanted: &[bool],
 ) -> Result<(Data, Edited), EditorFault>
-    requires read { Spells (document doc.now) (text_of source) }
-    requires names { lines_of reader ≡ (document doc.now).lines }
+    requires read { HasLines (text_of source) (document doc.now) (lines_of reader) }
     requires spelled { length spelled.now ≡ length edits.now }
-    ensures made { IfOk result (λ r. IsMadeOf (text_of source.entry) (map change edits.now) r.0) }
-    ensures wanted { IfOk result (λ r. r.1.wanted.items ≡ wanted.items) }
-    ensures pieces { IfOk result (λ r. ArePieces (text_of source.entry) (string_bytes r.1.text) r.1.pieces.items) }
+    ensures made { IfOk result (λ r. IsMadeText (text_of source.entry) (map change edits.now) r.0 (string_bytes r.1.text) r.1.pieces.items) }
     ensures told { IfErr result (Tells (text_of source.entry) (map change edits.now)) }
 {
     let mut data = reader.data()?;
-    let mut tree = Tree::of(Texts { alloc, source }, doc, &reader, units)?;
-    if let Err(fault) = make_all(alloc, &mut tree, &mut data, edits, spelled) {
+    let mut tree = Tree::of(Texts { alloc, source }, doc, units)?;
+    let names = &reader;
+    if let Err(fault) = make_all(
+        alloc,
+        &mut tree,
+        Read { doc, names },
+        &mut data,
+        edits,
+        spelled,
+    ) {
         return Err(fault);
     }
     let edited = write_out(alloc, source, doc, &tree, wanted)?;
@@ -176,31 +174,29 @@ fn make<'x>(
 }
 
 /// What stands in the working tree, and its certificate.
-fn write_out<'t>(
+fn write_out<'x>(
     alloc: Global,
-    source: Source<'t>,
-    doc: &Doc<'t>,
-    tree: &Tree<'_, '_, 't>,
-    wanted: Vec<bool>,
+    source: Source<'x>,
+    doc: &Doc<'x>,
+    tree: &Tree<'x>,
+    wanted: &[bool],
 ) -> Result<Edited, AllocError>
-    ensures wanted { IfOk result (λ e. e.wanted.items ≡ wanted.items) }
-    ensures pieces { IfOk result (λ e. ArePieces (text_of source.entry) (string_bytes e.text) e.pieces.items) }
+    ensures { IfOk result (λ e. ArePieces (text_of source.entry) (string_bytes e.text) e.pieces.items) }
 {
     let pieces = tree.pieces(source, doc.mark())?.into_list();
     let text = join(alloc, source, &pieces)?;
-    let certificate = tree.certificate(&wanted)?;
+    let certificate = tree.certificate(wanted)?;
     Ok(Edited {
         pieces,
         text,
         certificate,
-        wanted,
     })
 }
 
 /// The text and its tree, or why there is none.
 #[tactic(auto, using(crate::proofs::Judgements::text_refused, crate::proofs::Judgements::tree_refused))]
 fn read<'x>(alloc: Global, before: &'x [u8]) -> Result<(Source<'x>, Doc<'x>), EditorFault>
-    ensures read { IfOk result (λ r. IsRead before.now (text_of r.0) (document r.1)) }
+    ensures read { IfOk result (λ r. IsReadAs before.now (text_of r.0) (document r.1)) }
     ensures refused { IfErr result (RefusesText before.now) }
 {
     let source = match Source::new(before) {
@@ -219,7 +215,7 @@ fn named_lines<'d, 't>(
     before: &[u8],
     doc: &'d Doc<'t>,
 ) -> Result<NameReader<'d, 't>, EditorFault>
-    requires { IsRead before.now before.now (document doc.now) }
+    requires { IsReadAs before.now before.now (document doc.now) }
     ensures document { OnOk result (IsDocument before.now) }
     ensures taken { IfOk result (λ reader. lines_of reader ≡ (document doc.now).lines) }
     ensures refused { IfErr result (RefusesText before.now) }

@@ -3,39 +3,42 @@ use crate::lines::{Line, below};
 use crate::tree::{Brackets, Expr, Header, Key, KeyVal, Leaf, Value};
 use crate::working::{Position, TablePlace, Tree};
 use std::alloc::{AllocError, Global};
-use toml_names::{Address, Step};
+use toml_names::{Address, Place, Step};
+use toml_tree::Doc;
 
-impl<'t> Tree<'_, '_, 't> {
-    /// Puts a value in at the address; `spelled` are the spellings of its steps. It answers `false` where the parent is no
-    /// table, and no array in a value.
+impl<'x> Tree<'x> {
+    /// Puts a value in at the address; `spelled` are the spellings of its steps, and `named` is the place that the document's
+    /// names have for the parent. It answers `false` where the parent is no table, and no array in a value.
     pub(crate) fn insert(
         &mut self,
+        doc: &Doc<'x>,
+        named: Option<Place>,
+        parent: Address,
         at: &Address,
-        spelled: &'t [String],
-        new: Value<'t>,
+        spelled: &'x [String],
+        new: Value<'x>,
     ) -> Result<bool, AllocError> {
         let Some((last, above)) = at.steps().split_last() else {
             return Ok(false);
         };
-        let parent = copied(self.alloc(), above)?;
-        if let Some(place) = self.value_line(&parent) {
-            return self.insert_inside(place, at, spelled, new);
+        if let Some(place) = self.value_line(named, &parent) {
+            return self.insert_inside(doc, place, at, spelled, new);
         }
         if matches!(last, Step::Index(_)) {
             return Ok(false);
         }
         if above.is_empty() {
-            return self.insert_at_root(at, spelled, new);
+            return self.insert_at_root(doc, at, spelled, new);
         }
-        match self.table_place(&parent) {
+        match self.table_place(named, &parent) {
             Some(TablePlace::Header(header)) => {
                 let behind = self.last_pair(header.next()).unwrap_or(header);
-                self.insert_behind(behind, at, above.len(), spelled, new)
+                self.insert_behind(doc, behind, at, above.len(), spelled, new)
             }
             Some(TablePlace::Dotted(line)) => {
                 let base = self.base(line);
                 let behind = self.last_pair(line).unwrap_or(line);
-                self.insert_behind(behind, at, base, spelled, new)
+                self.insert_behind(doc, behind, at, base, spelled, new)
             }
             Some(TablePlace::Implicit(header)) => {
                 self.insert_before(header, at, parent, spelled, new)
@@ -47,21 +50,16 @@ impl<'t> Tree<'_, '_, 't> {
     /// Puts a value in inside the value of a line.
     fn insert_inside(
         &mut self,
+        doc: &Doc<'x>,
         place: Position,
         at: &Address,
-        spelled: &'t [String],
-        new: Value<'t>,
+        spelled: &'x [String],
+        new: Value<'x>,
     ) -> Result<bool, AllocError> {
-        let (texts, doc) = (self.texts, self.doc);
-        let Some(line) = self.line_mut(place) else {
-            return Ok(false);
-        };
-        let used = line.steps();
-        match line.open(texts.alloc, doc)? {
-            Some(open) => match &mut open.expr {
-                Expr::Pair(pair) => texts.insert_in(&mut pair.value, below(at, used), spelled, new),
-                _ => Ok(false),
-            },
+        let texts = self.texts;
+        let used = self.depth(place);
+        match self.value_at(doc, place)? {
+            Some(value) => texts.insert_in(value, below(at, used), spelled, new),
             None => Ok(false),
         }
     }
@@ -69,13 +67,14 @@ impl<'t> Tree<'_, '_, 't> {
     /// Puts a line in behind the last one with a key and a value before the first header, or as the first line.
     fn insert_at_root(
         &mut self,
+        doc: &Doc<'x>,
         at: &Address,
-        spelled: &'t [String],
-        new: Value<'t>,
+        spelled: &'x [String],
+        new: Value<'x>,
     ) -> Result<bool, AllocError> {
         let first = Position { slot: 0, index: 0 };
         match self.last_pair(first) {
-            Some(behind) => self.insert_behind(behind, at, 0, spelled, new),
+            Some(behind) => self.insert_behind(doc, behind, at, 0, spelled, new),
             None => {
                 let line = self.pair_line(at, 0, spelled, new, self.style)?;
                 self.put(first, line)
@@ -87,13 +86,14 @@ impl<'t> Tree<'_, '_, 't> {
     /// the newline of new lines, and the new one has none.
     fn insert_behind(
         &mut self,
+        doc: &Doc<'x>,
         behind: Position,
         at: &Address,
         base: usize,
-        spelled: &'t [String],
-        new: Value<'t>,
+        spelled: &'x [String],
+        new: Value<'x>,
     ) -> Result<bool, AllocError> {
-        let (alloc, doc, style) = (self.alloc(), self.doc, self.style);
+        let (alloc, style) = (self.alloc(), self.style);
         let mut newline = style;
         if let Some(line) = self.line_mut(behind) {
             if line.is_last() {
@@ -111,8 +111,8 @@ impl<'t> Tree<'_, '_, 't> {
         before: Position,
         at: &Address,
         parent: Address,
-        spelled: &'t [String],
-        new: Value<'t>,
+        spelled: &'x [String],
+        new: Value<'x>,
     ) -> Result<bool, AllocError> {
         let (alloc, style) = (self.alloc(), self.style);
         let line = self.pair_line(at, parent.steps().len(), spelled, new, style)?;
@@ -132,10 +132,10 @@ impl<'t> Tree<'_, '_, 't> {
         &self,
         at: &Address,
         base: usize,
-        spelled: &'t [String],
-        new: Value<'t>,
-        newline: Leaf<'t>,
-    ) -> Result<Line<'t>, AllocError> {
+        spelled: &'x [String],
+        new: Value<'x>,
+        newline: Leaf<'x>,
+    ) -> Result<Line<'x>, AllocError> {
         let (_, parts) = spelled.split_at(base.min(spelled.len()));
         let expr = Expr::Pair(KeyVal {
             assign: self.texts.assign(parts)?,
@@ -146,7 +146,7 @@ impl<'t> Tree<'_, '_, 't> {
     }
 
     /// Puts a line in at a place.
-    fn put(&mut self, at: Position, line: Line<'t>) -> Result<bool, AllocError> {
+    fn put(&mut self, at: Position, line: Line<'x>) -> Result<bool, AllocError> {
         match self.slots.get_mut(at.slot) {
             Some(slot) => {
                 slot.put(at.index, line)?;
@@ -155,15 +155,6 @@ impl<'t> Tree<'_, '_, 't> {
             None => Ok(false),
         }
     }
-}
-
-/// The address of these steps.
-fn copied(alloc: Global, steps: &[Step]) -> Result<Address, AllocError> {
-    let mut list = Vec::with_capacity(alloc, steps.len())?;
-    for step in steps {
-        list.push(step.copy()?)?;
-    }
-    Ok(Address::of(list))
 }
 
 /// The key of the names of an address, by the spellings of its steps; indices are left out.

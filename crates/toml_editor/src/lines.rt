@@ -1,6 +1,6 @@
 //! The lines of the working tree: kept as they stand in the document until an edit changes something on them.
 use crate::opening::Opener;
-use crate::tree::{Blank, Brackets, Expr, Leaf, OpenLine};
+use crate::tree::{Blank, Brackets, Expr, Leaf, OpenLine, Value};
 use crate::values::behind;
 use std::alloc::{AllocError, Global};
 use toml_names::{Address, Step};
@@ -158,21 +158,30 @@ impl<'t> Line<'t> {
         }
     }
 
-    /// The line with its pieces; the document is the one whose lines are kept.
-    pub(crate) fn open(
-        &mut self,
-        alloc: Global,
-        doc: &Doc<'t>,
-    ) -> Result<Option<&mut OpenLine<'t>>, AllocError> {
+    /// Makes it a line with its pieces, if it is none yet; the document is the one whose lines are kept.
+    pub(crate) fn open(&mut self, alloc: Global, doc: &Doc<'t>) -> Result<(), AllocError> {
         if let Body::Kept(kept) = self.body {
             if let Some(line) = doc.lines().get(kept.line) {
                 let opened = Opener::kept(alloc, kept.first).line(line)?;
                 self.body = Body::Open(Box::new(alloc, opened)?);
             }
         }
+        Ok(())
+    }
+
+    /// Its pieces, if it is opened.
+    pub(crate) fn opened(&mut self) -> Option<&mut OpenLine<'t>> {
         match &mut self.body {
-            Body::Open(line) => Ok(Some(line)),
-            Body::Kept(_) => Ok(None),
+            Body::Open(line) => Some(line),
+            Body::Kept(_) => None,
+        }
+    }
+
+    /// Its value, if it is opened and has one.
+    pub(crate) fn value(&mut self) -> Option<&mut Value<'t>> {
+        match &mut self.opened()?.expr {
+            Expr::Pair(pair) => Some(&mut pair.value),
+            Expr::Blank | Expr::Header(_) => None,
         }
     }
 
@@ -183,7 +192,8 @@ impl<'t> Line<'t> {
         doc: &Doc<'t>,
         newline: Leaf<'t>,
     ) -> Result<(), AllocError> {
-        if let Some(open) = self.open(alloc, doc)? {
+        self.open(alloc, doc)?;
+        if let Some(open) = self.opened() {
             open.newline = newline;
         }
         Ok(())

@@ -7,27 +7,37 @@ ghost use Rattle.toml_editor.specs.Edited.{MayBeSpread, TakesLastElement};
 ghost use Rattle.toml_editor.specs.Making.{EndsInIndex, HasOne, IsMade, IsMany, TellsAny, TellsOne};
 
 use crate::fault::EditorFault;
+use crate::removing::parent_of;
 use crate::spelled::{Spelled, open_value};
 use crate::working::Tree;
 use std::alloc::{AllocError, Global};
 use toml_edits::{Edit, EditFault, apply};
-use toml_names::{Address, Data, Datum, Name, Step};
+use toml_names::{Address, Data, Datum, Name, NameReader, Step};
+use toml_tree::Doc;
+
+/// What was read of the document, by which the edits are made on its working tree.
+#[derive(Clone, Copy)]
+pub(crate) struct Read<'a, 'd, 't> {
+    pub(crate) doc: &'a Doc<'t>,
+    pub(crate) names: &'a NameReader<'d, 't>,
+}
 
 /// Makes the edits. The first one that is not defined on the data so far, or whose place is spread, or that would leave an
 /// array of tables without an element, is told with its number.
-pub(crate) fn make_all<'t>(
+pub(crate) fn make_all<'x>(
     alloc: Global,
-    tree: &mut Tree<'_, '_, 't>,
+    tree: &mut Tree<'x>,
+    read: Read<'_, '_, 'x>,
     data: &mut Data,
-    edits: &'t [Edit],
-    spelled: &'t [Spelled],
+    edits: &'x [Edit],
+    spelled: &'x [Spelled],
 ) -> Result<(), EditorFault>
     requires { length spelled.now ≡ length edits.now }
     ensures made { OnOk result (Lead (map change edits.now) «data».old.root «data».new.root) }
     ensures told { IfErr result (TellsAny (map change edits.now) «data».old.root) }
 {
     for (index, edit) in edits.iter().enumerate() {
-        if let Err(fault) = make(alloc, tree, data, edit, &spelled[index], index) {
+        if let Err(fault) = make(alloc, tree, read, data, edit, &spelled[index], index) {
             return Err(fault);
         }
     }
@@ -35,12 +45,13 @@ pub(crate) fn make_all<'t>(
 }
 
 /// Makes the edit with this number, on the data first.
-fn make<'t>(
+fn make<'x>(
     alloc: Global,
-    tree: &mut Tree<'_, '_, 't>,
+    tree: &mut Tree<'x>,
+    read: Read<'_, '_, 'x>,
     data: &mut Data,
-    edit: &'t Edit,
-    spelled: &'t Spelled,
+    edit: &'x Edit,
+    spelled: &'x Spelled,
     index: usize,
 ) -> Result<(), EditorFault>
     ensures ok { OnOk result (IsMade (change edit.now) «data».old.root «data».new.root) }
@@ -49,7 +60,7 @@ fn make<'t>(
     let compound = is_compound(data, edit);
     let only = is_only_element(data, edit);
     applied(alloc, data, edit, index)?;
-    let done = write_edit(alloc, tree, edit, spelled)?;
+    let done = write_edit(alloc, tree, read, edit, spelled)?;
     if !done && (compound || is_index_inserted(edit)) {
         return Err(EditorFault::Spread { index });
     }
@@ -72,27 +83,38 @@ fn applied(alloc: Global, data: &mut Data, edit: &Edit, index: usize) -> Result<
 }
 
 /// Makes the edit on the working tree. It answers `false` where the tree has no one place for it.
-fn write_edit<'t>(
+fn write_edit<'x>(
     alloc: Global,
-    tree: &mut Tree<'_, '_, 't>,
-    edit: &'t Edit,
-    spelled: &'t Spelled,
+    tree: &mut Tree<'x>,
+    read: Read<'_, '_, 'x>,
+    edit: &'x Edit,
+    spelled: &'x Spelled,
 ) -> Result<bool, AllocError> {
     match edit {
         Edit::Set { at, value } => match open_value(alloc, value.as_str())? {
-            Some(new) => tree.set(at, new),
+            Some(new) => tree.set(read.doc, read.names.place(at), at, new),
             None => Ok(true),
         },
         Edit::Insert { at, value } => match open_value(alloc, value.as_str())? {
-            Some(new) => tree.insert(at, &spelled.steps, new),
+            Some(new) => {
+                let parent = parent_of(alloc, at)?;
+                let named = read.names.place(&parent);
+                tree.insert(read.doc, named, parent, at, &spelled.steps, new)
+            }
             None => Ok(true),
         },
         Edit::Rename { at, to } => {
             let name = Name::of(String::from_str(alloc, to)?)?;
-            tree.rename(at, &name, spelled.to.as_str())?;
+            tree.rename(
+                read.doc,
+                read.names.place(at),
+                at,
+                &name,
+                spelled.to.as_str(),
+            )?;
             Ok(true)
         }
-        Edit::Remove { at } => tree.remove(at),
+        Edit::Remove { at } => tree.remove(read.doc, read.names.place(at), at),
     }
 }
 

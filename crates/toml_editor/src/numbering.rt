@@ -15,7 +15,7 @@ struct Numbering<'a> {
     pairs: Vec<(u64, u64)>,
 }
 
-impl Tree<'_, '_, '_> {
+impl Tree<'_> {
     /// The certificate that pairs the wanted units of the document, where they still stand.
     pub(crate) fn certificate(&self, wanted: &[bool]) -> Result<Certificate, AllocError> {
         let mut numbering = Numbering {

@@ -5,7 +5,7 @@ use crate::tree::{Blank, Brackets, Expr, Header, Leaf, OpenLine};
 use crate::working::{Position, Tree};
 use std::alloc::{AllocError, Global};
 use std::mem;
-use toml_names::{Address, Step};
+use toml_names::{Address, Place, Step};
 use toml_tree::Doc;
 
 /// What is left of the first removed line that mentions the parent, where no line that stays does.
@@ -16,17 +16,24 @@ struct Parent {
     stays: bool,
 }
 
-impl<'t> Tree<'_, '_, 't> {
+impl<'x> Tree<'x> {
     /// Takes out what stands at the address. It answers `false`, and changes nothing, at the only element of an array of
     /// tables: without its header there would be no array.
-    pub(crate) fn remove(&mut self, at: &Address) -> Result<bool, AllocError> {
-        match self.value_line(at) {
-            Some(place) if self.depth(place) < at.steps().len() => self.remove_inside(place, at)?,
+    pub(crate) fn remove(
+        &mut self,
+        doc: &Doc<'x>,
+        named: Option<Place>,
+        at: &Address,
+    ) -> Result<bool, AllocError> {
+        match self.value_line(named, at) {
+            Some(place) if self.depth(place) < at.steps().len() => {
+                self.remove_inside(doc, place, at)?;
+            }
             _ => {
                 if !self.leaves_elements(at)? {
                     return Ok(false);
                 }
-                self.remove_lines(at)?;
+                self.remove_lines(doc, at)?;
                 self.move_elements(at)?;
             }
         }
@@ -43,25 +50,24 @@ impl<'t> Tree<'_, '_, 't> {
     }
 
     /// Takes something out of the value of a line.
-    fn remove_inside(&mut self, place: Position, at: &Address) -> Result<(), AllocError> {
-        let (texts, doc) = (self.texts, self.doc);
-        let Some(line) = self.line_mut(place) else {
-            return Ok(());
-        };
-        let used = line.steps();
-        match line.open(texts.alloc, doc)? {
-            Some(open) => match &mut open.expr {
-                Expr::Pair(pair) => texts.remove_in(&mut pair.value, below(at, used)),
-                _ => Ok(()),
-            },
+    fn remove_inside(
+        &mut self,
+        doc: &Doc<'x>,
+        place: Position,
+        at: &Address,
+    ) -> Result<(), AllocError> {
+        let texts = self.texts;
+        let used = self.depth(place);
+        match self.value_at(doc, place)? {
+            Some(value) => texts.remove_in(value, below(at, used)),
             None => Ok(()),
         }
     }
 
     /// Takes out all lines at the address and below. Where no other line mentions the parent, the first of them that does
     /// becomes the parent as an empty table.
-    fn remove_lines(&mut self, at: &Address) -> Result<(), AllocError> {
-        let (texts, doc) = (self.texts, self.doc);
+    fn remove_lines(&mut self, doc: &Doc<'x>, at: &Address) -> Result<(), AllocError> {
+        let texts = self.texts;
         let address = parent_of(texts.alloc, at)?;
         let stays = address.steps().is_empty() || self.is_mentioned(&address, at);
         let mut parent = Parent { address, stays };
@@ -175,7 +181,8 @@ fn emptied<'t>(
         Some(base) => parent.steps().len().saturating_sub(base),
         None => names_in(parent.steps()),
     };
-    if let Some(open) = line.open(texts.alloc, doc)? {
+    line.open(texts.alloc, doc)?;
+    if let Some(open) = line.opened() {
         open.empty(texts, parts)?;
     }
     line.address = Some(parent.copy(texts.alloc)?);
@@ -213,7 +220,7 @@ impl Header<'_> {
 }
 
 /// The address without its last step.
-fn parent_of(alloc: Global, at: &Address) -> Result<Address, AllocError> {
+pub(crate) fn parent_of(alloc: Global, at: &Address) -> Result<Address, AllocError> {
     let mut steps = at.copy(alloc)?.into_steps();
     let _ = steps.pop();
     Ok(Address::of(steps))

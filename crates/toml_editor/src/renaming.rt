@@ -4,42 +4,39 @@ use crate::lines::{Line, below, changed};
 use crate::tree::{Expr, Leaf};
 use crate::working::{Position, Tree};
 use std::alloc::{AllocError, Global};
-use toml_names::{Address, Name, Step};
+use toml_names::{Address, Name, Place, Step};
 use toml_tree::Doc;
 
-impl<'t> Tree<'_, '_, 't> {
+impl<'x> Tree<'x> {
     /// Renames what stands at the address, and carries the addresses of lines at it and below.
     pub(crate) fn rename(
         &mut self,
+        doc: &Doc<'x>,
+        named: Option<Place>,
         at: &Address,
         name: &Name,
-        spelled: &'t str,
+        spelled: &'x str,
     ) -> Result<(), AllocError> {
-        match self.value_line(at) {
+        match self.value_line(named, at) {
             Some(place) if self.depth(place) < at.steps().len() => {
-                self.rename_inside(place, at, spelled)
+                self.rename_inside(doc, place, at, spelled)
             }
-            _ => self.rename_lines(at, name, spelled),
+            _ => self.rename_lines(doc, at, name, spelled),
         }
     }
 
     /// Renames inside the value of a line.
     fn rename_inside(
         &mut self,
+        doc: &Doc<'x>,
         place: Position,
         at: &Address,
-        spelled: &'t str,
+        spelled: &'x str,
     ) -> Result<(), AllocError> {
-        let (texts, doc) = (self.texts, self.doc);
-        let Some(line) = self.line_mut(place) else {
-            return Ok(());
-        };
-        let used = line.steps();
-        match line.open(texts.alloc, doc)? {
-            Some(open) => match &mut open.expr {
-                Expr::Pair(pair) => texts.rename_in(&mut pair.value, below(at, used), spelled),
-                _ => Ok(()),
-            },
+        let texts = self.texts;
+        let used = self.depth(place);
+        match self.value_at(doc, place)? {
+            Some(value) => texts.rename_in(value, below(at, used), spelled),
             None => Ok(()),
         }
     }
@@ -47,11 +44,12 @@ impl<'t> Tree<'_, '_, 't> {
     /// Renames in the lines at the address and below.
     fn rename_lines(
         &mut self,
+        doc: &Doc<'x>,
         at: &Address,
         name: &Name,
-        spelled: &'t str,
+        spelled: &'x str,
     ) -> Result<(), AllocError> {
-        let (alloc, doc) = (self.alloc(), self.doc);
+        let alloc = self.alloc();
         for slot in &mut self.slots {
             for line in &mut slot.lines {
                 if line.is_below(at) {
@@ -92,7 +90,8 @@ impl<'t> Line<'t> {
         part: usize,
         leaf: Leaf<'t>,
     ) -> Result<(), AllocError> {
-        if let Some(open) = self.open(alloc, doc)? {
+        self.open(alloc, doc)?;
+        if let Some(open) = self.opened() {
             match &mut open.expr {
                 Expr::Blank => {}
                 Expr::Pair(pair) => pair.assign.key.set_part(part, leaf),

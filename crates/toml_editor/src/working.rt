@@ -1,9 +1,9 @@
 //! Where things stand in the working tree.
 use crate::lines::{Body, Kept, Line, Slot};
 use crate::texts::Texts;
-use crate::tree::Leaf;
+use crate::tree::{Leaf, Value};
 use std::alloc::{AllocError, Global};
-use toml_names::{Address, NameReader, Place};
+use toml_names::{Address, Place};
 use toml_text::Span;
 use toml_tree::{Doc, Expr, Line as ReadLine};
 use toml_units::{Unit, UnitKind};
@@ -37,25 +37,24 @@ pub(crate) enum TablePlace {
 }
 
 /// The working tree. There is a slot for each line of the document, and in it the lines that now stand there.
+///
+/// It holds neither the document nor its names: each lifetime that its type would name for them makes all its methods dearer
+/// to prove. Who asks for a line or a table says where the names have it, and who opens a line hands in the document.
 #[derive(Drop)]
-pub(crate) struct Tree<'a, 'd, 't> {
-    pub(crate) texts: Texts<'t>,
-    pub(crate) doc: &'a Doc<'t>,
-    /// The names of the document, by which most lines are found.
-    names: &'a NameReader<'d, 't>,
-    pub(crate) slots: Vec<Slot<'t>>,
+pub(crate) struct Tree<'x> {
+    pub(crate) texts: Texts<'x>,
+    pub(crate) slots: Vec<Slot<'x>>,
     /// The newline of new lines: that of the document's first line, or LF where that has none.
-    pub(crate) style: Leaf<'t>,
+    pub(crate) style: Leaf<'x>,
 }
 
-impl<'a, 'd, 't> Tree<'a, 'd, 't> {
+impl<'x> Tree<'x> {
     /// The tree of a document with these names and units.
     pub(crate) fn of(
-        texts: Texts<'t>,
-        doc: &'a Doc<'t>,
-        names: &'a NameReader<'d, 't>,
+        texts: Texts<'x>,
+        doc: &Doc<'x>,
         units: &[Unit],
-    ) -> Result<Tree<'a, 'd, 't>, AllocError> {
+    ) -> Result<Tree<'x>, AllocError> {
         let firsts = first_units(texts.alloc, units)?;
         let mut slots = Vec::with_capacity(texts.alloc, doc.lines().len())?;
         for (number, line) in doc.lines().iter().enumerate() {
@@ -70,8 +69,6 @@ impl<'a, 'd, 't> Tree<'a, 'd, 't> {
         }
         Ok(Tree {
             texts,
-            doc,
-            names,
             slots,
             style: style_of(doc),
         })
@@ -82,13 +79,27 @@ impl<'a, 'd, 't> Tree<'a, 'd, 't> {
     }
 
     /// The line at a place.
-    pub(crate) fn line(&self, at: Position) -> Option<&Line<'t>> {
+    pub(crate) fn line(&self, at: Position) -> Option<&Line<'x>> {
         self.slots.get(at.slot)?.lines.get(at.index)
     }
 
     /// The line at a place, to be changed.
-    pub(crate) fn line_mut(&mut self, at: Position) -> Option<&mut Line<'t>> {
+    pub(crate) fn line_mut(&mut self, at: Position) -> Option<&mut Line<'x>> {
         self.slots.get_mut(at.slot)?.lines.get_mut(at.index)
+    }
+
+    /// The value of the line at a place, to be changed, if it has one; the line is opened for it.
+    pub(crate) fn value_at(
+        &mut self,
+        doc: &Doc<'x>,
+        at: Position,
+    ) -> Result<Option<&mut Value<'x>>, AllocError> {
+        let alloc = self.texts.alloc;
+        let Some(line) = self.line_mut(at) else {
+            return Ok(None);
+        };
+        line.open(alloc, doc)?;
+        Ok(line.value())
     }
 
     /// How many steps the address of the line at a place has.
@@ -107,9 +118,10 @@ impl<'a, 'd, 't> Tree<'a, 'd, 't> {
         }
     }
 
-    /// The line whose value stands at the address, or holds what stands there.
-    pub(crate) fn value_line(&self, at: &Address) -> Option<Position> {
-        let near = match self.names.place(at) {
+    /// The line whose value stands at the address, or holds what stands there. `named` is the place that the document's names
+    /// have for the address.
+    pub(crate) fn value_line(&self, named: Option<Place>, at: &Address) -> Option<Position> {
+        let near = match named {
             Some(Place::KeyVal(line)) | Some(Place::Inside(line)) => self.holder_in(line, at),
             _ => None,
         };
@@ -135,9 +147,9 @@ impl<'a, 'd, 't> Tree<'a, 'd, 't> {
         None
     }
 
-    /// Where the table at the address stands.
-    pub(crate) fn table_place(&self, at: &Address) -> Option<TablePlace> {
-        let near = match self.names.place(at) {
+    /// Where the table at the address stands. `named` is the place that the document's names have for the address.
+    pub(crate) fn table_place(&self, named: Option<Place>, at: &Address) -> Option<TablePlace> {
+        let near = match named {
             Some(Place::Header(line)) => self.header_in(line, at),
             Some(Place::Dotted(line)) => self.dotted_in(line, at),
             _ => None,
@@ -255,7 +267,7 @@ fn kept_line(number: usize, line: &ReadLine<'_>, first: usize, count: usize) -> 
 }
 
 /// The line with the address and the base that its unit has.
-fn numbered<'t>(alloc: Global, kept: Kept, unit: Option<&Unit>) -> Result<Line<'t>, AllocError> {
+fn numbered<'x>(alloc: Global, kept: Kept, unit: Option<&Unit>) -> Result<Line<'x>, AllocError> {
     let mut address = None;
     let mut base = None;
     if let Some(line) = unit {
@@ -283,7 +295,7 @@ fn first_units(alloc: Global, units: &[Unit]) -> Result<Vec<usize>, AllocError> 
 }
 
 /// The newline of the first line, or LF where it has none.
-fn style_of<'t>(doc: &Doc<'t>) -> Leaf<'t> {
+fn style_of<'x>(doc: &Doc<'x>) -> Leaf<'x> {
     match doc.lines().first() {
         Some(line) if !line.newline().text.is_empty() => Leaf::New(line.newline().text),
         _ => Leaf::New("\n"),

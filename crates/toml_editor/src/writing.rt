@@ -12,7 +12,7 @@ use std::alloc::AllocError;
 use toml_text::Source;
 use toml_tree::Piece;
 
-impl<'t> Tree<'_, '_, 't> {
+impl<'t> Tree<'t> {
     /// The pieces of the text, behind the mark of the document.
     pub(crate) fn pieces(
         &self,

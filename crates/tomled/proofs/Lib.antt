@@ -7,3 +7,4 @@ pub mod Unique
 pub mod Listed
 pub mod Verified
 pub mod Edited
+pub mod Delivered

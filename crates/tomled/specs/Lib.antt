@@ -1,5 +1,6 @@
 pub mod CommandLine
 pub mod Counts
+pub mod Takes
 pub mod Request
 pub mod Refusals
 pub mod Outcomes
@@ -12,3 +13,4 @@ pub mod EditLists
 pub mod Verify
 pub mod Edit
 pub mod RunFaults
+pub mod Delivery

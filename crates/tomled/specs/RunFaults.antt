@@ -2,13 +2,20 @@
 use Rattle.std.specs.Prelude.{ℕ, List, ◌∷◌, ◌++◌, [], codes}
 use Rattle.std.specs.declared.io.ErrorKind.{ErrorKind}
 use Rattle.std.specs.declared.io.ErrorKind.TheVariants.{OutOfMemory}
-use Rattle.tomled.specs.declared.RunFault.{RunFault}
-use Rattle.tomled.specs.declared.RunFault.TheVariants.{Words, File, Memory}
+use Rattle.tomled.specs.declared.fault.RunFault.{RunFault}
+use Rattle.tomled.specs.declared.input.TakeFault.{TakeFault}
+use Rattle.tomled.specs.declared.input.TakeFault.TheVariants.{Device, NoMemory}
+use Rattle.tomled.specs.declared.fault.RunFault.TheVariants.{Words, File, Memory}
 
--- what a failed read or write comes to, by its kind
+-- what a file that could not be opened comes to, by the kind of the error
 abbrev pub fault_of_kind : ErrorKind → RunFault
 fault_of_kind OutOfMemory = Memory
 fault_of_kind _ = File
+
+-- what an input that was not read comes to
+abbrev pub fault_of_take : TakeFault → RunFault
+fault_of_take Device = File
+fault_of_take NoMemory = Memory
 
 -- the exit status
 abbrev pub status_of : RunFault → ℕ

@@ -3,11 +3,10 @@ ghost use Rattle.std.specs.Prelude.{◌≡◌, ◌<◌, IfErr, length};
 ghost use Rattle.std.specs.Io.KnownBytes.{Appends};
 ghost use Rattle.tomled.specs.Counts.{accepted_bytes, emit_count};
 
-mod counting;
 #[cfg(test)]
 mod tests;
 
-pub use counting::Counting;
+use crate::counting::Counting;
 use std::io::Write;
 
 /// Where writing a whole text stopped.
@@ -20,7 +19,7 @@ pub struct EmitFault {
 /// Writes all the bytes, or stops at the first write that fails and does not try again. It takes no
 /// memory.
 pub fn emit<W: Write>(writer: &mut Counting<W>, bytes: &[u8]) -> Result<(), EmitFault>
-    ensures bytes { Appends (W.contents writer.old.writer) (W.contents writer.new.writer)
+    ensures bytes { Appends (W.contents writer.old.device) (W.contents writer.new.device)
         (accepted_bytes bytes.now result) }
     ensures fewer { IfErr result (λ fault. fault.written < length bytes.now) }
     ensures count { writer.new.failures ≡ emit_count result writer.old.failures }

@@ -1,249 +1,166 @@
 //! Certificates that a careless map of kept units would give, and the right ones beside them.
 
-use crate::verify_tests::{Case, assert_outcome, verify};
+use crate::verify_tests::assert_verdicts;
 use std::test::Fail;
 
-/// The code of the refusal, or none for a `yes`.
-const CASES: [(Option<u16>, Case); 24] = [
-    // One of two equal comments cannot stand for both.
-    (
-        Some(406),
-        [
-            "# c\n# c\na = 1\n",
-            "[{\"op\":\"set\",\"at\":[\"a\"],\"value\":\"2\"}]",
-            "# c\na = 2\n",
-            "kept 1\n0 0\n5 3\n",
-        ],
-    ),
-    (
-        Some(405),
-        [
-            "# c\n# c\na = 1\n",
-            "[{\"op\":\"set\",\"at\":[\"a\"],\"value\":\"2\"}]",
-            "# c\na = 2\n",
-            "kept 1\n0 0\n2 0\n5 3\n",
-        ],
-    ),
-    // The comment of a line that goes is not that of the line behind it.
-    (
-        None,
-        [
-            "a = 1 # c\nb = 2 # c\n",
-            "[{\"op\":\"remove\",\"at\":[\"a\"]}]",
-            "b = 2 # c\n",
-            "kept 1\n2 0\n4 2\n",
-        ],
-    ),
-    (
-        Some(405),
-        [
-            "a = 1 # c\nb = 2 # c\n",
-            "[{\"op\":\"remove\",\"at\":[\"a\"]}]",
-            "b = 2 # c\n",
-            "kept 1\n1 1\n4 2\n",
-        ],
-    ),
-    // Nor is an element of one array that of another,
-    (
-        None,
-        [
-            "x = [7]\ny = [7]\n",
-            "[{\"op\":\"remove\",\"at\":[\"x\",0]}]",
-            "x = []\ny = [7]\n",
-            "kept 1\n2 1\n4 3\n",
-        ],
-    ),
-    (
-        Some(405),
-        [
-            "x = [7]\ny = [7]\n",
-            "[{\"op\":\"remove\",\"at\":[\"x\",0]}]",
-            "x = []\ny = [7]\n",
-            "kept 1\n1 2\n4 3\n",
-        ],
-    ),
-    // a line of one section that of another,
-    (
-        None,
-        [
-            "[a]\nk = 1\n[b]\nk = 1\n",
-            "[{\"op\":\"remove\",\"at\":[\"a\",\"k\"]}]",
-            "[a]\n[b]\nk = 1\n",
-            "kept 1\n0 0\n2 1\n3 2\n4 3\n",
-        ],
-    ),
-    (
-        Some(405),
-        [
-            "[a]\nk = 1\n[b]\nk = 1\n",
-            "[{\"op\":\"remove\",\"at\":[\"a\",\"k\"]}]",
-            "[a]\n[b]\nk = 1\n",
-            "kept 1\n0 0\n1 2\n4 3\n",
-        ],
-    ),
-    // whatever the sections are called then,
-    (
-        None,
-        [
-            "[a]\nk = 1\n[b]\nk = 1\n",
-            "[{\"op\":\"rename\",\"at\":[\"a\"],\"to\":\"c\"}]",
-            "[c]\nk = 1\n[b]\nk = 1\n",
-            "kept 1\n1 1\n2 2\n3 3\n4 4\n",
-        ],
-    ),
-    // and in whichever order they come.
-    (
-        Some(405),
-        [
-            "[a]\nk = 1\n[b]\nk = 1\n",
-            "[{\"op\":\"rename\",\"at\":[\"a\"],\"to\":\"c\"}]",
-            "[b]\nk = 1\n[c]\nk = 1\n",
-            "kept 1\n1 1\n3 3\n4 4\n",
-        ],
-    ),
-    (
-        Some(406),
-        [
-            "[a]\nk = 1\n[b]\nk = 1\n",
-            "[{\"op\":\"rename\",\"at\":[\"a\"],\"to\":\"c\"}]",
-            "[b]\nk = 1\n[c]\nk = 1\n",
-            "kept 1\n1 3\n4 4\n",
-        ],
-    ),
-    // The text of a comment inside a string is no comment.
-    (
-        None,
-        [
-            "# c\na = 1\n",
-            "[{\"op\":\"set\",\"at\":[\"a\"],\"value\":\"\\\"\\\"\\\"\\n# c\\\"\\\"\\\"\"}]",
-            "# c\na = \"\"\"\n# c\"\"\"\n",
-            "kept 1\n0 0\n3 3\n",
-        ],
-    ),
-    (
-        Some(405),
-        [
-            "# c\na = 1\n",
-            "[{\"op\":\"set\",\"at\":[\"a\"],\"value\":\"\\\"\\\"\\\"\\n# c\\\"\\\"\\\"\"}]",
-            "a = \"\"\"\n# c\"\"\"\n",
-            "kept 1\n1 0\n3 1\n",
-        ],
-    ),
-    (
-        Some(405),
-        [
-            "# c\na = 1\n",
-            "[{\"op\":\"set\",\"at\":[\"a\"],\"value\":\"\\\"\\\"\\\"\\n# c\\\"\\\"\\\"\"}]",
-            "a = \"\"\"\n# c\"\"\"\n",
-            "kept 1\n0 0\n3 1\n",
-        ],
-    ),
-    // A comment goes with the element in which it stands,
-    (
-        None,
-        [
-            "x = [[ # in\n 1], [ # in\n 2]]\n",
-            "[{\"op\":\"remove\",\"at\":[\"x\",0]}]",
-            "x = [[ # in\n 2]]\n",
-            "kept 1\n4 1\n7 4\n",
-        ],
-    ),
-    (
-        None,
-        [
-            "x = [[ # in\n 1], [ # in\n 2]]\n",
-            "[{\"op\":\"remove\",\"at\":[\"x\",0]}]",
-            "x = [[ # in\n 2]]\n",
-            "kept 1\n4 1\n5 2\n6 3\n7 4\n",
-        ],
-    ),
-    (
-        Some(405),
-        [
-            "x = [[ # in\n 1], [ # in\n 2]]\n",
-            "[{\"op\":\"remove\",\"at\":[\"x\",0]}]",
-            "x = [[ # in\n 2]]\n",
-            "kept 1\n2 2\n7 4\n",
-        ],
-    ),
-    (
-        Some(406),
-        [
-            "x = [[ # in\n 1], [ # in\n 2]]\n",
-            "[{\"op\":\"remove\",\"at\":[\"x\",0]}]",
-            "x = [[ # in\n 2]]\n",
-            "kept 1\n5 2\n6 3\n7 4\n",
-        ],
-    ),
-    // and stays where that one is changed.
-    (
-        None,
-        [
-            "x = [[ # in\n 1]]\n",
-            "[{\"op\":\"set\",\"at\":[\"x\",0,0],\"value\":\"2\"}]",
-            "x = [[ # in\n 2]]\n",
-            "kept 1\n2 2\n4 4\n",
-        ],
-    ),
-    (
-        Some(406),
-        [
-            "x = [[ # in\n 1]]\n",
-            "[{\"op\":\"set\",\"at\":[\"x\",0,0],\"value\":\"2\"}]",
-            "x = [[ # in\n 2]]\n",
-            "kept 1\n4 4\n",
-        ],
-    ),
-    (
-        Some(405),
-        [
-            "x = [[ # in\n 1]]\n",
-            "[{\"op\":\"set\",\"at\":[\"x\",0,0],\"value\":\"2\"}]",
-            "x = [[ # in\n 2]]\n",
-            "kept 1\n1 1\n4 4\n",
-        ],
-    ),
-    // What an edit names holds nothing, though it comes out the same.
-    (
-        Some(406),
-        [
-            "x = [1, 2]\n",
-            "[{\"op\":\"set\",\"at\":[\"x\",0],\"value\":\"1\"}]",
-            "x = [1, 2]\n",
-            "kept 1\n0 0\n3 3\n",
-        ],
-    ),
-    (
-        None,
-        [
-            "x = [1, 2]\n",
-            "[{\"op\":\"set\",\"at\":[\"x\",0],\"value\":\"1\"}]",
-            "x = [1, 2]\n",
-            "kept 1\n0 0\n2 2\n3 3\n",
-        ],
-    ),
-    (
-        None,
-        [
-            "x = [1, 2]\n",
-            "[{\"op\":\"set\",\"at\":[\"x\",0],\"value\":\"1\"}]",
-            "x = [1, 2]\n",
-            "kept 1\n2 2\n3 3\n",
-        ],
-    ),
-];
+/// What `verify` says, the text before, the edits, the text after, and the certificate.
+const CASES: &str = r#"
+// One of two equal comments cannot stand for both.
+refused 406 0
+# c¶# c¶a = 1¶
+[{"op":"set","at":["a"],"value":"2"}]
+# c¶a = 2¶
+kept 1¶0 0¶5 3¶
+
+refused 405 0
+# c¶# c¶a = 1¶
+[{"op":"set","at":["a"],"value":"2"}]
+# c¶a = 2¶
+kept 1¶0 0¶2 0¶5 3¶
+
+// The comment of a line that goes is not that of the line behind it.
+yes
+a = 1 # c¶b = 2 # c¶
+[{"op":"remove","at":["a"]}]
+b = 2 # c¶
+kept 1¶2 0¶4 2¶
+
+refused 405 0
+a = 1 # c¶b = 2 # c¶
+[{"op":"remove","at":["a"]}]
+b = 2 # c¶
+kept 1¶1 1¶4 2¶
+
+// Nor is an element of one array that of another,
+yes
+x = [7]¶y = [7]¶
+[{"op":"remove","at":["x",0]}]
+x = []¶y = [7]¶
+kept 1¶2 1¶4 3¶
+
+refused 405 0
+x = [7]¶y = [7]¶
+[{"op":"remove","at":["x",0]}]
+x = []¶y = [7]¶
+kept 1¶1 2¶4 3¶
+
+// a line of one section that of another,
+yes
+[a]¶k = 1¶[b]¶k = 1¶
+[{"op":"remove","at":["a","k"]}]
+[a]¶[b]¶k = 1¶
+kept 1¶0 0¶2 1¶3 2¶4 3¶
+
+refused 405 0
+[a]¶k = 1¶[b]¶k = 1¶
+[{"op":"remove","at":["a","k"]}]
+[a]¶[b]¶k = 1¶
+kept 1¶0 0¶1 2¶4 3¶
+
+// whatever the sections are called then,
+yes
+[a]¶k = 1¶[b]¶k = 1¶
+[{"op":"rename","at":["a"],"to":"c"}]
+[c]¶k = 1¶[b]¶k = 1¶
+kept 1¶1 1¶2 2¶3 3¶4 4¶
+
+// and in whichever order they come.
+refused 405 0
+[a]¶k = 1¶[b]¶k = 1¶
+[{"op":"rename","at":["a"],"to":"c"}]
+[b]¶k = 1¶[c]¶k = 1¶
+kept 1¶1 1¶3 3¶4 4¶
+
+refused 406 0
+[a]¶k = 1¶[b]¶k = 1¶
+[{"op":"rename","at":["a"],"to":"c"}]
+[b]¶k = 1¶[c]¶k = 1¶
+kept 1¶1 3¶4 4¶
+
+// The text of a comment inside a string is no comment.
+yes
+# c¶a = 1¶
+[{"op":"set","at":["a"],"value":"\"\"\"\n# c\"\"\""}]
+# c¶a = """¶# c"""¶
+kept 1¶0 0¶3 3¶
+
+refused 405 0
+# c¶a = 1¶
+[{"op":"set","at":["a"],"value":"\"\"\"\n# c\"\"\""}]
+a = """¶# c"""¶
+kept 1¶1 0¶3 1¶
+
+refused 405 0
+# c¶a = 1¶
+[{"op":"set","at":["a"],"value":"\"\"\"\n# c\"\"\""}]
+a = """¶# c"""¶
+kept 1¶0 0¶3 1¶
+
+// A comment goes with the element in which it stands,
+yes
+x = [[ # in¶ 1], [ # in¶ 2]]¶
+[{"op":"remove","at":["x",0]}]
+x = [[ # in¶ 2]]¶
+kept 1¶4 1¶7 4¶
+
+yes
+x = [[ # in¶ 1], [ # in¶ 2]]¶
+[{"op":"remove","at":["x",0]}]
+x = [[ # in¶ 2]]¶
+kept 1¶4 1¶5 2¶6 3¶7 4¶
+
+refused 405 0
+x = [[ # in¶ 1], [ # in¶ 2]]¶
+[{"op":"remove","at":["x",0]}]
+x = [[ # in¶ 2]]¶
+kept 1¶2 2¶7 4¶
+
+refused 406 0
+x = [[ # in¶ 1], [ # in¶ 2]]¶
+[{"op":"remove","at":["x",0]}]
+x = [[ # in¶ 2]]¶
+kept 1¶5 2¶6 3¶7 4¶
+
+// and stays where that one is changed.
+yes
+x = [[ # in¶ 1]]¶
+[{"op":"set","at":["x",0,0],"value":"2"}]
+x = [[ # in¶ 2]]¶
+kept 1¶2 2¶4 4¶
+
+refused 406 0
+x = [[ # in¶ 1]]¶
+[{"op":"set","at":["x",0,0],"value":"2"}]
+x = [[ # in¶ 2]]¶
+kept 1¶4 4¶
+
+refused 405 0
+x = [[ # in¶ 1]]¶
+[{"op":"set","at":["x",0,0],"value":"2"}]
+x = [[ # in¶ 2]]¶
+kept 1¶1 1¶4 4¶
+
+// What an edit names holds nothing, though it comes out the same.
+refused 406 0
+x = [1, 2]¶
+[{"op":"set","at":["x",0],"value":"1"}]
+x = [1, 2]¶
+kept 1¶0 0¶3 3¶
+
+yes
+x = [1, 2]¶
+[{"op":"set","at":["x",0],"value":"1"}]
+x = [1, 2]¶
+kept 1¶0 0¶2 2¶3 3¶
+
+yes
+x = [1, 2]¶
+[{"op":"set","at":["x",0],"value":"1"}]
+x = [1, 2]¶
+kept 1¶2 2¶3 3¶
+"#;
 
 #[test]
 fn kept_units_have_partners(rt: HostRuntime) -> Result<(), Fail> {
-    for (code, case) in CASES {
-        let got = verify(rt.alloc(), case)?;
-        match code {
-            None => assert_outcome(&rt, case, &got, 0, "yes\n", ""),
-            Some(code) => {
-                let line = format!(in rt.alloc(); "refused {code} 0\n")?;
-                assert_outcome(&rt, case, &got, 1, "", line.as_str());
-            }
-        }
-    }
-    Ok(())
+    assert_verdicts(&rt, rt.alloc(), CASES, 24)
 }

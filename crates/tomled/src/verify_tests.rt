@@ -1,386 +1,422 @@
-//! The worked rows of `verify`: two texts, the edits between them, and a certificate.
+//! The worked rows of `verify`: what it says, the text before, the edits, the text after, and the certificate.
 
-use crate::outcome::Outcome;
+use crate::rows::{is_told, rows};
 use crate::verify::run_verify;
-use std::alloc::{AllocError, Global};
+use std::alloc::Global;
 use std::process::Abort;
 use std::test::Fail;
 
-/// The text before, the edits, the text after, and the certificate.
-pub(crate) type Case = [&'static str; 4];
+/// What `verify` says of each of so many rows: a yes on the output, a refusal beside it.
+pub fn assert_verdicts(
+    rt: &impl Abort,
+    alloc: Global,
+    table: &str,
+    count: usize,
+) -> Result<(), Fail> {
+    for row in &rows(rt, alloc, table, count)? {
+        assert_verdict(rt, alloc, row.as_slice())?;
+    }
+    Ok(())
+}
 
-pub(crate) fn verify(alloc: Global, case: Case) -> Result<Outcome, AllocError> {
-    let [before, edits, after, cert] = case;
-    run_verify(
+fn assert_verdict(rt: &impl Abort, alloc: Global, row: &[String]) -> Result<(), Fail> {
+    let [said, before, edits, after, cert] = row else {
+        return Err(Fail::from("not five fields"));
+    };
+    let got = run_verify(
         alloc,
         before.as_bytes(),
         edits.as_bytes(),
         after.as_bytes(),
         cert.as_bytes(),
-    )
+    )?;
+    let line = format!(in alloc; "{said}\n")?;
+    let good = if said.as_str() == "yes" {
+        is_told(&got, 0, line.as_str(), "")
+    } else {
+        is_told(&got, 1, "", line.as_str())
+    };
+    assert!(rt; good && got.files.is_empty(), "{row:?}");
+    Ok(())
 }
 
-pub(crate) fn assert_outcome(
-    rt: &impl Abort,
-    case: Case,
-    got: &Outcome,
-    status: u8,
-    out: &str,
-    err: &str,
-) {
-    assert_eq!(rt; got.status, status, "{case:?}");
-    assert_eq!(rt; got.out.as_slice(), out.as_bytes(), "{case:?}");
-    assert_eq!(rt; got.err.as_slice(), err.as_bytes(), "{case:?}");
-    assert!(rt; got.files.is_empty());
-}
+const CERTIFIED: &str = r#"
+yes
+port = 1_000 # keep¶
+[{"op":"set","at":["port"],"value":"0x1F"}]
+port = 0x1F # keep¶
+kept 1¶1 1¶2 2¶
 
-const CERTIFIED: [Case; 28] = [
-    [
-        "port = 1_000 # keep\n",
-        "[{\"op\":\"set\",\"at\":[\"port\"],\"value\":\"0x1F\"}]",
-        "port = 0x1F # keep\n",
-        "kept 1\n1 1\n2 2\n",
-    ],
-    [
-        "a.b = 1\n",
-        "[{\"op\":\"remove\",\"at\":[\"a\",\"b\"]}]",
-        "a = {}\n",
-        "kept 1\n1 1\n",
-    ],
-    [
-        "x = [1, # one\n 2]\n",
-        "[{\"op\":\"remove\",\"at\":[\"x\",0]}]",
-        "x = [ # one\n 2]\n",
-        "kept 1\n2 1\n3 2\n4 3\n",
-    ],
-    [
-        "x = [1, 2, 3]\n",
-        "[{\"op\":\"remove\",\"at\":[\"x\",0]},{\"op\":\"remove\",\"at\":[\"x\",0]}]",
-        "x = [3]\n",
-        "kept 1\n3 1\n4 2\n",
-    ],
-    [
-        "[a.b]\n",
-        "[{\"op\":\"insert\",\"at\":[\"a\",\"x\"],\"value\":\"1\"}]",
-        "[a]\nx = 1\n[a.b]\n",
-        "kept 1\n0 2\n1 3\n",
-    ],
-    [
-        "[a]\nb = 1 # one\n[a.c]\n",
-        "[{\"op\":\"rename\",\"at\":[\"a\"],\"to\":\"z z\"}]",
-        "[\"z z\"]\nb = 1 # one\n[\"z z\".c]\n",
-        "kept 1\n1 1\n4 4\n",
-    ],
-    [
-        "a = 1",
-        "[{\"op\":\"insert\",\"at\":[\"b\"],\"value\":\"2\"}]",
-        "a = 1\nb = 2",
-        "kept 1\n0 0\n",
-    ],
-    [
-        "a = 1\r\n",
-        "[{\"op\":\"insert\",\"at\":[\"b\"],\"value\":\"2\"}]",
-        "a = 1\r\nb = 2\r\n",
-        "kept 1\n0 0\n1 2\n",
-    ],
-    [
-        "",
-        "[{\"op\":\"insert\",\"at\":[\"a\"],\"value\":\"1\"}]",
-        "a = 1\n",
-        "kept 1\n0 1\n",
-    ],
-    [
-        "x = [1, 2,]\n",
-        "[{\"op\":\"insert\",\"at\":[\"x\",2],\"value\":\"3\"}]",
-        "x = [1, 2, 3,]\n",
-        "kept 1\n1 1\n2 2\n3 4\n",
-    ],
-    [
-        "a = 1\nb = 2",
-        "[{\"op\":\"remove\",\"at\":[\"b\"]}]",
-        "a = 1\n",
-        "kept 1\n0 0\n",
-    ],
-    [
-        "q = 1\n",
-        "[{\"op\":\"rename\",\"at\":[\"q\"],\"to\":\"a-b\"}]",
-        "a-b = 1\n",
-        "kept 1\n1 1\n",
-    ],
-    [
-        "q = 1\n",
-        "[{\"op\":\"rename\",\"at\":[\"q\"],\"to\":\"\"}]",
-        "\"\" = 1\n",
-        "kept 1\n1 1\n",
-    ],
-    [
-        "q = 1\n",
-        "[{\"op\":\"rename\",\"at\":[\"q\"],\"to\":\"a b\"}]",
-        "\"a b\" = 1\n",
-        "kept 1\n1 1\n",
-    ],
-    [
-        "q = 1\n",
-        "[{\"op\":\"rename\",\"at\":[\"q\"],\"to\":\"\u{7F}\"}]",
-        "\"\\u007F\" = 1\n",
-        "kept 1\n1 1\n",
-    ],
-    [
-        "q = 1\n",
-        "[{\"op\":\"rename\",\"at\":[\"q\"],\"to\":\"\\t\"}]",
-        "\"\\t\" = 1\n",
-        "kept 1\n1 1\n",
-    ],
-    ["a = 1 # k\n", "[]", "a = 1 # k\n", "kept 1\n0 0\n2 2\n"],
-    [
-        "x = {a = 1, \"a b\" = 2}\n",
-        "[{\"op\":\"rename\",\"at\":[\"x\",\"a b\"],\"to\":\"c\"}]",
-        "x = {a = 1, c = 2}\n",
-        "kept 1\n1 1\n3 3\n",
-    ],
-    [
-        "a = 1\n",
-        "[{\"op\":\"rename\",\"at\":[\"a\"],\"to\":\"b\"},{\"op\":\"set\",\"at\":[\"b\"],\"value\":\"2\"}]",
-        "b = 2\n",
-        "kept 1\n1 1\n",
-    ],
-    [
-        "[[a]]\n[a.b]\n[[a]]\n[a.b]\n",
-        "[{\"op\":\"rename\",\"at\":[\"a\",0,\"b\"],\"to\":\"c\"}]",
-        "[[a]]\n[a.c]\n[[a]]\n[a.b]\n",
-        "kept 1\n0 0\n2 2\n3 3\n4 4\n",
-    ],
-    [
-        "a.b = 1\n[c]\n",
-        "[{\"op\":\"insert\",\"at\":[\"a\",\"d\"],\"value\":\"2\"}]",
-        "a.b = 1\na.d = 2\n[c]\n",
-        "kept 1\n0 0\n1 2\n2 3\n",
-    ],
-    [
-        "[s]\n# t\nx = 1\n\n[u]\n",
-        "[{\"op\":\"remove\",\"at\":[\"s\"]}]",
-        "# t\n\n[u]\n",
-        "kept 1\n1 0\n4 2\n5 3\n6 4\n",
-    ],
-    [
-        "t = {x = 1, y.z = 2}\n",
-        "[{\"op\":\"remove\",\"at\":[\"t\",\"y\",\"z\"]}]",
-        "t = {x = 1, y = {}}\n",
-        "kept 1\n1 1\n3 3\n",
-    ],
-    [
-        "t = {}\n",
-        "[{\"op\":\"insert\",\"at\":[\"t\",\"k k\"],\"value\":\"[1]\"}]",
-        "t = {\"k k\" = [1]}\n",
-        "kept 1\n1 3\n",
-    ],
-    ["", "[]", "", "kept 1\n0 0\n"],
-    [
-        "[a]\n",
-        "[{\"op\":\"set\",\"at\":[\"a\"],\"value\":\"1\"}]",
-        "a = 1\n",
-        "kept 1\n1 1\n",
-    ],
-    [
-        "a = 1",
-        "[{\"op\":\"set\",\"at\":[\"a\"],\"value\":\"2\"}]",
-        "a = 2\n",
-        "kept 1\n",
-    ],
-    [
-        "x = [ # c\n 1]\n",
-        "[{\"op\":\"set\",\"at\":[\"x\"],\"value\":\"[2]\"}]",
-        "x = [ # c\n 2]\n",
-        "kept 1\n1 1\n3 3\n",
-    ],
-];
+yes
+a.b = 1¶
+[{"op":"remove","at":["a","b"]}]
+a = {}¶
+kept 1¶1 1¶
+
+yes
+x = [1, # one¶ 2]¶
+[{"op":"remove","at":["x",0]}]
+x = [ # one¶ 2]¶
+kept 1¶2 1¶3 2¶4 3¶
+
+yes
+x = [1, 2, 3]¶
+[{"op":"remove","at":["x",0]},{"op":"remove","at":["x",0]}]
+x = [3]¶
+kept 1¶3 1¶4 2¶
+
+yes
+[a.b]¶
+[{"op":"insert","at":["a","x"],"value":"1"}]
+[a]¶x = 1¶[a.b]¶
+kept 1¶0 2¶1 3¶
+
+yes
+[a]¶b = 1 # one¶[a.c]¶
+[{"op":"rename","at":["a"],"to":"z z"}]
+["z z"]¶b = 1 # one¶["z z".c]¶
+kept 1¶1 1¶4 4¶
+
+yes
+a = 1
+[{"op":"insert","at":["b"],"value":"2"}]
+a = 1¶b = 2
+kept 1¶0 0¶
+
+yes
+a = 1␍¶
+[{"op":"insert","at":["b"],"value":"2"}]
+a = 1␍¶b = 2␍¶
+kept 1¶0 0¶1 2¶
+
+yes
+∅
+[{"op":"insert","at":["a"],"value":"1"}]
+a = 1¶
+kept 1¶0 1¶
+
+yes
+x = [1, 2,]¶
+[{"op":"insert","at":["x",2],"value":"3"}]
+x = [1, 2, 3,]¶
+kept 1¶1 1¶2 2¶3 4¶
+
+yes
+a = 1¶b = 2
+[{"op":"remove","at":["b"]}]
+a = 1¶
+kept 1¶0 0¶
+
+yes
+q = 1¶
+[{"op":"rename","at":["q"],"to":"a-b"}]
+a-b = 1¶
+kept 1¶1 1¶
+
+yes
+q = 1¶
+[{"op":"rename","at":["q"],"to":""}]
+"" = 1¶
+kept 1¶1 1¶
+
+yes
+q = 1¶
+[{"op":"rename","at":["q"],"to":"a b"}]
+"a b" = 1¶
+kept 1¶1 1¶
+
+yes
+q = 1¶
+[{"op":"rename","at":["q"],"to":"␡"}]
+"\u007F" = 1¶
+kept 1¶1 1¶
+
+yes
+q = 1¶
+[{"op":"rename","at":["q"],"to":"\t"}]
+"\t" = 1¶
+kept 1¶1 1¶
+
+yes
+a = 1 # k¶
+[]
+a = 1 # k¶
+kept 1¶0 0¶2 2¶
+
+yes
+x = {a = 1, "a b" = 2}¶
+[{"op":"rename","at":["x","a b"],"to":"c"}]
+x = {a = 1, c = 2}¶
+kept 1¶1 1¶3 3¶
+
+yes
+a = 1¶
+[{"op":"rename","at":["a"],"to":"b"},{"op":"set","at":["b"],"value":"2"}]
+b = 2¶
+kept 1¶1 1¶
+
+yes
+[[a]]¶[a.b]¶[[a]]¶[a.b]¶
+[{"op":"rename","at":["a",0,"b"],"to":"c"}]
+[[a]]¶[a.c]¶[[a]]¶[a.b]¶
+kept 1¶0 0¶2 2¶3 3¶4 4¶
+
+yes
+a.b = 1¶[c]¶
+[{"op":"insert","at":["a","d"],"value":"2"}]
+a.b = 1¶a.d = 2¶[c]¶
+kept 1¶0 0¶1 2¶2 3¶
+
+yes
+[s]¶# t¶x = 1¶¶[u]¶
+[{"op":"remove","at":["s"]}]
+# t¶¶[u]¶
+kept 1¶1 0¶4 2¶5 3¶6 4¶
+
+yes
+t = {x = 1, y.z = 2}¶
+[{"op":"remove","at":["t","y","z"]}]
+t = {x = 1, y = {}}¶
+kept 1¶1 1¶3 3¶
+
+yes
+t = {}¶
+[{"op":"insert","at":["t","k k"],"value":"[1]"}]
+t = {"k k" = [1]}¶
+kept 1¶1 3¶
+
+yes
+∅
+[]
+∅
+kept 1¶0 0¶
+
+yes
+[a]¶
+[{"op":"set","at":["a"],"value":"1"}]
+a = 1¶
+kept 1¶1 1¶
+
+yes
+a = 1
+[{"op":"set","at":["a"],"value":"2"}]
+a = 2¶
+kept 1¶
+
+yes
+x = [ # c¶ 1]¶
+[{"op":"set","at":["x"],"value":"[2]"}]
+x = [ # c¶ 2]¶
+kept 1¶1 1¶3 3¶
+"#;
 
 #[test]
 fn certified_texts(rt: HostRuntime) -> Result<(), Fail> {
-    for case in CERTIFIED {
-        let got = verify(rt.alloc(), case)?;
-        assert_outcome(&rt, case, &got, 0, "yes\n", "");
-    }
-    Ok(())
+    assert_verdicts(&rt, rt.alloc(), CERTIFIED, 28)
 }
 
-/// The code and the place of each refusal, in the order in which the causes are judged.
-const REFUSED: [(u16, usize, Case); 33] = [
-    (321, 0, ["a", "{}", "a", ""]),
-    (321, 0, ["", "[", "", "kept 1\n0 0\n"]),
-    (320, 0, ["", "[{\"op\":\"set\",\"at\":[\"a\"]}]", "", ""]),
-    (
-        320,
-        1,
-        [
-            "",
-            "[{\"op\":\"remove\",\"at\":[\"a\"]},{\"op\":\"remove\",\"at\":[-1]}]",
-            "",
-            "kept 1\n0 0\n",
-        ],
-    ),
-    (330, 0, ["", "[]", "", ""]),
-    (330, 0, ["", "[]", "", "kept 1\n00 0\n"]),
-    (330, 0, ["", "[]", "", "kept 1\n0 0"]),
-    (330, 0, ["", "[]", "", "kept 1\n0 18446744073709551616\n"]),
-    (330, 0, ["a", "[]", "a", "kept 2\n"]),
-    (401, 0, ["a = 01", "[]", "a = 01", "kept 1\n"]),
-    (
-        401,
-        0,
-        ["a = 1\na = 2\n", "[]", "a = 1\na = 2\n", "kept 1\n"],
-    ),
-    (402, 0, ["", "[]", "a", "kept 1\n0 0\n"]),
-    (
-        402,
-        0,
-        [
-            "a = 1\n",
-            "[{\"op\":\"set\",\"at\":[\"a\"],\"value\":\"2\"}]",
-            "a = 2\n[a]\n",
-            "kept 1\n",
-        ],
-    ),
-    (
-        403,
-        0,
-        [
-            "a = 1",
-            "[{\"op\":\"remove\",\"at\":[\"b\"]}]",
-            "a = 1",
-            "kept 1\n0 0\n",
-        ],
-    ),
-    (
-        403,
-        0,
-        [
-            "a = 1",
-            "[{\"op\":\"insert\",\"at\":[\"a\"],\"value\":\"2\"}]",
-            "a = 1",
-            "kept 1\n0 0\n",
-        ],
-    ),
-    (
-        404,
-        0,
-        [
-            "a.b = 1\n",
-            "[{\"op\":\"remove\",\"at\":[\"a\",\"b\"]}]",
-            "",
-            "kept 1\n1 1\n",
-        ],
-    ),
-    (
-        404,
-        0,
-        [
-            "a = 1",
-            "[{\"op\":\"set\",\"at\":[\"a\"],\"value\":\"2\"}]",
-            "a = 3",
-            "kept 1\n",
-        ],
-    ),
-    (
-        405,
-        0,
-        [
-            "port = 1_000 # keep\n",
-            "[{\"op\":\"set\",\"at\":[\"port\"],\"value\":\"0x1F\"}]",
-            "port = 0x1F # keep\n",
-            "kept 1\n0 0\n",
-        ],
-    ),
-    (
-        405,
-        0,
-        ["# c\n# c\n", "[]", "# c\n", "kept 1\n0 0\n1 1\n2 0\n"],
-    ),
-    (
-        405,
-        0,
-        [
-            "a = 1\r\nb = 2\r\n",
-            "[{\"op\":\"set\",\"at\":[\"b\"],\"value\":\"3\"}]",
-            "a = 1\nb = 3\r\n",
-            "kept 1\n0 0\n2 2\n",
-        ],
-    ),
-    (405, 0, ["", "[]", "", "kept 1\n18446744073709551615 0\n"]),
-    (405, 0, ["", "[]", "", "kept 1\n0 0\n0 0\n"]),
-    (
-        406,
-        0,
-        [
-            "# c\na = 1\n",
-            "[{\"op\":\"set\",\"at\":[\"a\"],\"value\":\"\\\"\\\"\\\"\\n# c\\\"\\\"\\\"\"}]",
-            "a = \"\"\"\n# c\"\"\"\n",
-            "kept 1\n",
-        ],
-    ),
-    (406, 0, ["a = 1\n\n", "[]", "a = 1\n", "kept 1\n0 0\n1 1\n"]),
-    (
-        406,
-        0,
-        [
-            "a = 1\nb = 2\n",
-            "[]",
-            "b = 2\na = 1\n",
-            "kept 1\n0 1\n2 2\n",
-        ],
-    ),
-    (406, 0, ["", "[]", "", "kept 1\n"]),
-    (
-        407,
-        0,
-        [
-            "",
-            "[{\"op\":\"insert\",\"at\":[\"a\"],\"value\":\"1\"}]",
-            "a = 1\n# new\n",
-            "kept 1\n0 3\n",
-        ],
-    ),
-    (407, 0, ["a = 1", "[]", "a = 1\n", "kept 1\n0 0\n"]),
-    (
-        408,
-        0,
-        [
-            "",
-            "[{\"op\":\"insert\",\"at\":[\"a\"],\"value\":\"1\"}]",
-            "a = 1 # new\n",
-            "kept 1\n0 2\n",
-        ],
-    ),
-    (
-        408,
-        0,
-        [
-            "",
-            "[{\"op\":\"insert\",\"at\":[\"a\"],\"value\":\"[ # c\\n 1]\"}]",
-            "a = [ # c\n # c\n 1]\n",
-            "kept 1\n0 4\n",
-        ],
-    ),
-    (409, 0, ["\u{FEFF}a = 1", "[]", "a = 1", "kept 1\n0 0\n"]),
-    (409, 0, ["a = 1", "[]", "\u{FEFF}a = 1", "kept 1\n0 0\n"]),
-    (
-        409,
-        0,
-        [
-            "\u{FEFF}a = 1",
-            "[{\"op\":\"set\",\"at\":[\"a\"],\"value\":\"2\"}]",
-            "a = 2",
-            "kept 1\n",
-        ],
-    ),
-];
+/// The refusals, in the order in which the causes are judged.
+const REFUSED: &str = r#"
+refused 321 0
+a
+{}
+a
+∅
+
+refused 321 0
+∅
+[
+∅
+kept 1¶0 0¶
+
+refused 320 0
+∅
+[{"op":"set","at":["a"]}]
+∅
+∅
+
+refused 320 1
+∅
+[{"op":"remove","at":["a"]},{"op":"remove","at":[-1]}]
+∅
+kept 1¶0 0¶
+
+refused 330 0
+∅
+[]
+∅
+∅
+
+refused 330 0
+∅
+[]
+∅
+kept 1¶00 0¶
+
+refused 330 0
+∅
+[]
+∅
+kept 1¶0 0
+
+refused 330 0
+∅
+[]
+∅
+kept 1¶0 18446744073709551616¶
+
+refused 330 0
+a
+[]
+a
+kept 2¶
+
+refused 401 0
+a = 01
+[]
+a = 01
+kept 1¶
+
+refused 401 0
+a = 1¶a = 2¶
+[]
+a = 1¶a = 2¶
+kept 1¶
+
+refused 402 0
+∅
+[]
+a
+kept 1¶0 0¶
+
+refused 402 0
+a = 1¶
+[{"op":"set","at":["a"],"value":"2"}]
+a = 2¶[a]¶
+kept 1¶
+
+refused 403 0
+a = 1
+[{"op":"remove","at":["b"]}]
+a = 1
+kept 1¶0 0¶
+
+refused 403 0
+a = 1
+[{"op":"insert","at":["a"],"value":"2"}]
+a = 1
+kept 1¶0 0¶
+
+refused 404 0
+a.b = 1¶
+[{"op":"remove","at":["a","b"]}]
+∅
+kept 1¶1 1¶
+
+refused 404 0
+a = 1
+[{"op":"set","at":["a"],"value":"2"}]
+a = 3
+kept 1¶
+
+refused 405 0
+port = 1_000 # keep¶
+[{"op":"set","at":["port"],"value":"0x1F"}]
+port = 0x1F # keep¶
+kept 1¶0 0¶
+
+refused 405 0
+# c¶# c¶
+[]
+# c¶
+kept 1¶0 0¶1 1¶2 0¶
+
+refused 405 0
+a = 1␍¶b = 2␍¶
+[{"op":"set","at":["b"],"value":"3"}]
+a = 1¶b = 3␍¶
+kept 1¶0 0¶2 2¶
+
+refused 405 0
+∅
+[]
+∅
+kept 1¶18446744073709551615 0¶
+
+refused 405 0
+∅
+[]
+∅
+kept 1¶0 0¶0 0¶
+
+refused 406 0
+# c¶a = 1¶
+[{"op":"set","at":["a"],"value":"\"\"\"\n# c\"\"\""}]
+a = """¶# c"""¶
+kept 1¶
+
+refused 406 0
+a = 1¶¶
+[]
+a = 1¶
+kept 1¶0 0¶1 1¶
+
+refused 406 0
+a = 1¶b = 2¶
+[]
+b = 2¶a = 1¶
+kept 1¶0 1¶2 2¶
+
+refused 406 0
+∅
+[]
+∅
+kept 1¶
+
+refused 407 0
+∅
+[{"op":"insert","at":["a"],"value":"1"}]
+a = 1¶# new¶
+kept 1¶0 3¶
+
+refused 407 0
+a = 1
+[]
+a = 1¶
+kept 1¶0 0¶
+
+refused 408 0
+∅
+[{"op":"insert","at":["a"],"value":"1"}]
+a = 1 # new¶
+kept 1¶0 2¶
+
+refused 408 0
+∅
+[{"op":"insert","at":["a"],"value":"[ # c\n 1]"}]
+a = [ # c¶ # c¶ 1]¶
+kept 1¶0 4¶
+
+refused 409 0
+□a = 1
+[]
+a = 1
+kept 1¶0 0¶
+
+refused 409 0
+a = 1
+[]
+□a = 1
+kept 1¶0 0¶
+
+refused 409 0
+□a = 1
+[{"op":"set","at":["a"],"value":"2"}]
+a = 2
+kept 1¶
+"#;
 
 #[test]
 fn refused_texts(rt: HostRuntime) -> Result<(), Fail> {
-    for (code, place, case) in REFUSED {
-        let got = verify(rt.alloc(), case)?;
-        let line = format!(in rt.alloc(); "refused {code} {place}\n")?;
-        assert_outcome(&rt, case, &got, 1, "", line.as_str());
-    }
-    Ok(())
+    assert_verdicts(&rt, rt.alloc(), REFUSED, 33)
 }

@@ -1,8 +1,9 @@
 use Rattle.std.proofs.Common.{◌≡◌, map, drop}
 use Rattle.toml_edits.specs.Edits.{change}
 use Rattle.toml_edits.specs.Lists.{carried}
+use Rattle.toml_checker.specs.EditLists.{changes}
 use Rattle.toml_checker.specs.Plain.{here}
 use Rattle.toml_checker.proofs.arriving.arrives.Given as goal
 
 abbrev pub invariant-loop-edit : goal.invariant-loop-edit
-invariant-loop-edit l = carried (map change l.edits) l.from ≡ carried (map change (drop l.edit-index l.edits)) (here l.moved_to l.from)
+invariant-loop-edit l = carried (changes l.list) l.from ≡ carried (map change (drop l.edit-index l.list.edits.now)) (here l.moved_to l.from)

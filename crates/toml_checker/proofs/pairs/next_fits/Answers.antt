@@ -1,10 +1,9 @@
-use Rattle.std.proofs.Common.{map}
-use Rattle.toml_edits.specs.Edits.{change}
+use Rattle.toml_checker.specs.EditLists.{changes}
 use Rattle.toml_checker.proofs.Standing.{no_first, no_second}
 use Rattle.toml_checker.proofs.pairs.next_fits.Goals as goal
 
 pub returns-in_default : goal.returns-in_default
-returns-in_default c = no_first (map change c.args.edits.now) c.args.before c.args.after c.args.first.units c.args.second.units c.args.pair c.requires.before c.in_default.ensures
+returns-in_default c = no_first (changes c.args.list.now) c.args.before c.args.after c.args.first.units c.args.second.units c.args.pair c.requires.before c.in_default.ensures
 
 pub returns-in_default-reach : goal.returns-in_default-reach
-returns-in_default-reach c = no_second (map change c.args.edits.now) c.args.before c.args.after c.args.first.units c.args.second.units c.args.pair c.requires.after c.in_default-reach.ensures
+returns-in_default-reach c = no_second (changes c.args.list.now) c.args.before c.args.after c.args.first.units c.args.second.units c.args.pair c.requires.after c.in_default-reach.ensures

@@ -1,6 +1,6 @@
-use Rattle.std.proofs.Common.{map, get_or, refl}
+use Rattle.std.proofs.Common.{get_or, refl}
 use Rattle.toml_tree.specs.Document.{document}
-use Rattle.toml_edits.specs.Edits.{change}
+use Rattle.toml_checker.specs.EditLists.{changes}
 use Rattle.toml_checker.proofs.Seen.{seen, within}
 use Rattle.toml_checker.proofs.Standing.{unlike, no_line, line}
 use Rattle.toml_checker.proofs.pairs.stands_as.Goals as goal
@@ -13,12 +13,12 @@ are_alike-requires-clause-other c = within (seen (document c.args.after.doc.now)
 
 pub returns-then-not-branch : goal.returns-then-not-branch
 returns-then-not-branch c =
-    unlike (map change c.args.edits.now) c.args.before c.args.after c.args.first.units c.args.second.units (get_or c.args.before.units.now c.args.first.units c.index-before-first.result) (get_or c.args.after.units.now c.args.second.units c.index-after-second.result) c.index-before-first.result c.index-after-second.result c.requires.first.read c.requires.second.read c.requires.first.there c.requires.second.there refl refl c.in_ok-are_alike.field-0 c.in_ok-are_alike.ensures c.if-not-branch.true
+    unlike (changes c.args.list.now) c.args.before c.args.after c.args.first.units c.args.second.units (get_or c.args.before.units.now c.args.first.units c.index-before-first.result) (get_or c.args.after.units.now c.args.second.units c.index-after-second.result) c.index-before-first.result c.index-after-second.result c.requires.first.read c.requires.second.read c.requires.first.there c.requires.second.there refl refl c.in_ok-are_alike.field-0 c.in_ok-are_alike.ensures c.if-not-branch.true
 
 pub returns-then-not-is_line : goal.returns-then-not-is_line
 returns-then-not-is_line c =
-    no_line (map change c.args.edits.now) c.args.before c.args.after c.args.first.units c.args.second.units (get_or c.args.before.units.now c.args.first.units c.index-before-first.result) (get_or c.args.after.units.now c.args.second.units c.index-after-second.result) c.index-before-first.result c.index-after-second.result c.requires.first.read c.requires.second.read c.requires.first.there c.requires.second.there refl refl c.in_ok-are_alike.field-0 c.in_ok-are_alike.ensures c.if-not-branch.false c.is_line.result c.is_line.ensures c.if-not-is_line.true
+    no_line (changes c.args.list.now) c.args.before c.args.after c.args.first.units c.args.second.units (get_or c.args.before.units.now c.args.first.units c.index-before-first.result) (get_or c.args.after.units.now c.args.second.units c.index-after-second.result) c.index-before-first.result c.index-after-second.result c.requires.first.read c.requires.second.read c.requires.first.there c.requires.second.there refl refl c.in_ok-are_alike.field-0 c.in_ok-are_alike.ensures c.if-not-branch.false c.is_line.result c.is_line.ensures c.if-not-is_line.true
 
 pub returns : goal.returns
 returns c =
-    line (map change c.args.edits.now) c.args.before c.args.after c.args.first c.args.second (get_or c.args.before.units.now c.args.first.units c.index-before-first.result) (get_or c.args.after.units.now c.args.second.units c.index-after-second.result) c.index-before-first.result c.index-after-second.result c.requires.first.read c.requires.second.read c.requires.first.there c.requires.second.there c.requires.first.passed.lines c.requires.second.passed.lines refl refl c.in_ok-are_alike.field-0 c.in_ok-are_alike.ensures c.if-not-branch.false c.is_line.result c.is_line.ensures c.if-not-is_line.false c.have_one_newline.result c.have_one_newline.ensures
+    line (changes c.args.list.now) c.args.before c.args.after c.args.first c.args.second (get_or c.args.before.units.now c.args.first.units c.index-before-first.result) (get_or c.args.after.units.now c.args.second.units c.index-after-second.result) c.index-before-first.result c.index-after-second.result c.requires.first.read c.requires.second.read c.requires.first.there c.requires.second.there c.requires.first.passed.lines c.requires.second.passed.lines refl refl c.in_ok-are_alike.field-0 c.in_ok-are_alike.ensures c.if-not-branch.false c.is_line.result c.is_line.ensures c.if-not-is_line.false c.have_one_newline.result c.have_one_newline.ensures

@@ -1,4 +1,4 @@
-use Rattle.std.proofs.Common.{◌∙◌, refl, sym, arith}
+use Rattle.std.proofs.Common.{◌∙◌, refl, sym}
 use Rattle.toml_editor.proofs.Judgements.{marks_tell, pointwise_same}
 use Rattle.toml_editor.proofs.pairing.names_all.Goals as goal
 

@@ -5,8 +5,8 @@ use Rattle.tomled.proofs.output.emit.Given as goal
 abbrev pub invariant-loop-written : goal.invariant-loop-written
 invariant-loop-written g l = record {
   within : l.written ≤ length l.bytes;
-  accepted : Appends (g.W.Write.contents l.initial.writer.writer)
-      (g.W.Write.contents l.writer.writer) (take l.written l.bytes);
+  accepted : Appends (g.W.Write.contents l.initial.writer.device)
+      (g.W.Write.contents l.writer.device) (take l.written l.bytes);
   count : l.writer.failures ≡ l.initial.writer.failures;
 }
 

@@ -1,0 +1,163 @@
+-- What is apart from the area of an edit is left alone by it.
+use Rattle.std.proofs.Common.{◌≡◌, ◌⊎◌, inl, inr, ℕ, List, [], ◌∷◌, ◌++◌, Option, Some, None, Bool, true, false, cond, not, ◌&&◌, ◌||◌, refl, sym, ap, subst, ◌∙◌}
+use Rattle.std.proofs.Math.Logic.{∥∥₁_elim}
+use Rattle.std.proofs.Props.{props}
+use Rattle.std.specs.Prelude.{◌↔◌, IsTrue, slice_get, length, option_and_then}
+use Rattle.toml_names.specs.declared.address.Step.{Step}
+use Rattle.toml_names.specs.declared.address.Step.TheVariants.{Name, Index}
+use Rattle.toml_names.specs.Addresses.{Address, same_step, same_address}
+use Rattle.toml_edits.specs.Carry.{carry, inserting, renaming, removing, parted}
+use Rattle.toml_edits.specs.Edits.{Change, set, insert, rename, remove, place}
+use Rattle.toml_edits.specs.Lists.{carried}
+use Rattle.toml_checker.specs.declared.side.Side.TheVariants.{Apart}
+use Rattle.toml_checker.specs.declared.tables.Part.{Part}
+use Rattle.toml_checker.specs.declared.tables.Part.TheVariants as parts
+use Rattle.toml_checker.specs.declared.fronts.Fronts.{Fronts}
+use Rattle.toml_checker.specs.Areas.{whole_by, whole_of, area, IsApart}
+use Rattle.toml_checker.specs.Fronts.{AreFronts, is_far}
+use Rattle.toml_checker.specs.Plain.{is_above, is_at_or_above, is_elsewhere, is_before, step_is_before, is_named, stands}
+use Rattle.toml_checker.specs.Sides.{side}
+use Rattle.toml_checker.proofs.CarriedSoFar.{arrived}
+use Rattle.toml_checker.proofs.Leaving.{set_leaves, insert_name, insert_index, rename_index, rename_name, remove_name, remove_index}
+use Rattle.toml_checker.proofs.Parted.{ends, parted_at}
+
+-- what is apart from an address is apart from what stands in it
+pub apart_below : (q : Address) (s : Step) (a : Address) → side q a ≡ Apart → side (q ++ s ∷ []) a ≡ Apart
+apart_below [] s [] h = cc
+apart_below [] s (t ∷ a) h = cc
+apart_below (u ∷ q) s [] h = cc
+apart_below (u ∷ q) s (t ∷ a) h = by (same_step u t) h (apart_below q s a)
+  where
+    by : (b : Bool) → cond b (side q a) Apart ≡ Apart → (side q a ≡ Apart → side (q ++ s ∷ []) a ≡ Apart) → cond b (side (q ++ s ∷ []) a) Apart ≡ Apart
+    by false h next = refl
+    by true h next = next h
+
+whole_apart : (at a : Address) → side (whole_of at) a ≡ Apart → side at a ≡ Apart
+whole_apart at a h = by (ends at)
+  where
+    last : (q : Address) (s : Step) → side (whole_by (Some (q, s)) (q ++ s ∷ [])) a ≡ Apart → side (q ++ s ∷ []) a ≡ Apart
+    last q (Name n) e = e
+    last q (Index i) e = apart_below q (Index i) a e
+
+    by : (at ≡ []) ⊎ ((q : Address) × (s : Step) × (at ≡ q ++ s ∷ [])) → side at a ≡ Apart
+    by (inl is) = ap (λ p. side p a) is ∙ subst (λ p. side (whole_of p) a ≡ Apart) is h
+    by (inr w) = ap (λ p. side p a) w.2 ∙ last w.0 w.1 (subst (λ o. side (whole_by o (w.0 ++ w.1 ∷ [])) a ≡ Apart) (parted_at w.0 w.1) (subst (λ p. side (whole_of p) a ≡ Apart) w.2 h))
+
+place_apart : (c : Change) (a : Address) → side (area c) a ≡ Apart → side (place c) a ≡ Apart
+place_apart (set at value) a h = h
+place_apart (insert at value) a h = whole_apart at a h
+place_apart (rename at to) a h = h
+place_apart (remove at) a h = whole_apart at a h
+
+before_apart : (q : Address) (i : ℕ) (a : Address) → side q a ≡ Apart → is_before q i a ≡ true
+before_apart q i a h = ap (λ x. not (is_above x) || step_is_before i (slice_get a (length q))) h
+
+parent_apart : (at q : Address) (i : ℕ) (a : Address) → at ≡ q ++ Index i ∷ [] → side (whole_of at) a ≡ Apart → side q a ≡ Apart
+parent_apart at q i a is h = subst (λ o. side (whole_by o (q ++ Index i ∷ [])) a ≡ Apart) (parted_at q (Index i)) (subst (λ p. side (whole_of p) a ≡ Apart) is h)
+
+elsewhere_apart : (p a : Address) → side p a ≡ Apart → is_elsewhere p a ≡ true
+elsewhere_apart p a h = ap (λ x. not (is_at_or_above x)) h
+
+insert_apart : (at a : Address) → side (whole_of at) a ≡ Apart → inserting (parted at) a ≡ Some a
+insert_apart at a h = by (ends at)
+  where
+    last : (q : Address) (s : Step) → at ≡ q ++ s ∷ [] → inserting (parted at) a ≡ Some a
+    last q (Name n) is = insert_name at q (Name n) n a is refl
+    last q (Index i) is = insert_index at q (Index i) i a is refl (before_apart q i a (parent_apart at q i a is h))
+
+    by : (at ≡ []) ⊎ ((q : Address) × (s : Step) × (at ≡ q ++ s ∷ [])) → inserting (parted at) a ≡ Some a
+    by (inl is) = ap (λ p. inserting (parted p) a) is
+    by (inr w) = last w.0 w.1 w.2
+
+rename_apart : (at : Address) (to : List ℕ) (a : Address) → side at a ≡ Apart → renaming (parted at) to a ≡ Some a
+rename_apart at to a h = by (ends at)
+  where
+    last : (q : Address) (s : Step) → at ≡ q ++ s ∷ [] → renaming (parted at) to a ≡ Some a
+    last q (Name n) is = rename_name at q (Name n) n to a is refl (elsewhere_apart at a h)
+    last q (Index i) is = rename_index at q (Index i) i to a is refl
+
+    by : (at ≡ []) ⊎ ((q : Address) × (s : Step) × (at ≡ q ++ s ∷ [])) → renaming (parted at) to a ≡ Some a
+    by (inl is) = ap (λ p. renaming (parted p) to a) is
+    by (inr w) = last w.0 w.1 w.2
+
+remove_apart : (at a : Address) → side (whole_of at) a ≡ Apart → removing (parted at) a ≡ Some a
+remove_apart at a h = by (ends at)
+  where
+    last : (q : Address) (s : Step) → at ≡ q ++ s ∷ [] → removing (parted at) a ≡ Some a
+    last q (Name n) is = remove_name at q (Name n) n a is refl (elsewhere_apart at a (whole_apart at a h))
+    last q (Index i) is = remove_index at q (Index i) i a is refl (before_apart q i a (parent_apart at q i a is h))
+
+    by : (at ≡ []) ⊎ ((q : Address) × (s : Step) × (at ≡ q ++ s ∷ [])) → removing (parted at) a ≡ Some a
+    by (inl is) = ap (λ p. removing (parted p) a) is
+    by (inr w) = last w.0 w.1 w.2
+
+carry_apart : (c : Change) (a : Address) → side (area c) a ≡ Apart → carry c a ≡ Some a
+carry_apart (set at value) a h = set_leaves at a (ap is_above h)
+carry_apart (insert at value) a h = insert_apart at a h
+carry_apart (rename at to) a h = rename_apart at to a h
+carry_apart (remove at) a h = remove_apart at a h
+
+named_apart : (part : Part) (c : Change) (base : Option ℕ) → is_named part c base Apart ≡ false
+named_apart parts.Line (set at value) None = refl
+named_apart parts.Line (set at value) (Some n) = refl
+named_apart parts.Line (insert at value) None = refl
+named_apart parts.Line (insert at value) (Some n) = refl
+named_apart parts.Line (rename at to) None = refl
+named_apart parts.Line (rename at to) (Some n) = refl
+named_apart parts.Line (remove at) None = refl
+named_apart parts.Line (remove at) (Some n) = refl
+named_apart parts.Home (set at value) None = refl
+named_apart parts.Home (set at value) (Some n) = refl
+named_apart parts.Home (insert at value) None = refl
+named_apart parts.Home (insert at value) (Some n) = refl
+named_apart parts.Home (rename at to) None = refl
+named_apart parts.Home (rename at to) (Some n) = refl
+named_apart parts.Home (remove at) None = refl
+named_apart parts.Home (remove at) (Some n) = refl
+named_apart parts.Element (set at value) base = refl
+named_apart parts.Element (insert at value) base = refl
+named_apart parts.Element (rename at to) base = refl
+named_apart parts.Element (remove at) base = refl
+named_apart parts.Comment (set at value) base = refl
+named_apart parts.Comment (insert at value) base = refl
+named_apart parts.Comment (rename at to) base = refl
+named_apart parts.Comment (remove at) base = refl
+
+-- no edit names what is apart from all their areas,
+pub stands_apart : (part : Part) (cs : List Change) (a : Address) (base : Option ℕ) → IsApart cs a → stands part cs (Some a) base ≡ true
+stands_apart part [] a base h = refl
+stands_apart part (c ∷ cs) a base h =
+    ap (λ x. not (is_named part c base x) && stands part cs (carry c a) base) (place_apart c a h.0)
+    ∙ ap (λ b. not b && stands part cs (carry c a) base) (named_apart part c base)
+    ∙ ap (λ o. stands part cs o base) (carry_apart c a h.0)
+    ∙ stands_apart part cs a base h.1
+
+-- and none moves it
+pub carried_apart : (cs : List Change) (a : Address) → IsApart cs a → carried cs a ≡ Some a
+carried_apart [] a h = refl
+carried_apart (c ∷ cs) a h = ap (option_and_then (carried cs)) (carry_apart c a h.0) ∙ carried_apart cs a h.1
+
+-- ---- what the code reads off the last step
+
+pub whole_root : (at : Address) → length at ≡ 0 → at ≡ whole_of at
+whole_root [] h = refl
+whole_root (s ∷ at) h = cc
+
+pub whole_name : (at q : Address) (s : Step) (n : List ℕ) → at ≡ q ++ s ∷ [] → s ≡ Name n → at ≡ whole_of at
+whole_name at q s n is same = sym (ap (λ o. whole_by o at) (ap parted is ∙ parted_at q s ∙ ap (λ (u : Step). Some (q, u)) same))
+
+pub whole_index : (at q : Address) (s : Step) (i : ℕ) → at ≡ q ++ s ∷ [] → s ≡ Index i → q ≡ whole_of at
+whole_index at q s i is same = sym (ap (λ o. whole_by o at) (ap parted is ∙ parted_at q s ∙ ap (λ (u : Step). Some (q, u)) same))
+
+-- ---- what the fronts of a list show to be far
+
+abbrev Shown : List Change → Fronts → Type 0
+Shown cs fronts = ∥ AreFronts cs fronts ∥₁
+
+pub stands_far : (part : Part) (cs : List Change) (fronts : Fronts) (a b : Address) (base : Option ℕ) → Shown cs fronts → b ≡ a → true ≡ is_far fronts b → true ≡ stands part cs (Some a) base
+stands_far part cs fronts a b base shown same far =
+    ∥∥₁_elim shown (hlevel props) (λ fit. sym (stands_apart part cs a base (fit a (sym (far ∙ ap (is_far fronts) same)))))
+
+pub arrives_far : (cs : List Change) (fronts : Fronts) (a b to : Address) (test : Bool) → Shown cs fronts → b ≡ a → true ≡ is_far fronts b → test ≡ same_address a to → IsTrue test ↔ (carried cs a ≡ Some to)
+arrives_far cs fronts a b to test shown same far is =
+    arrived (carried cs a) (Some a) a to test (∥∥₁_elim shown (hlevel props) (λ fit. sym (carried_apart cs a (fit a (sym (far ∙ ap (is_far fronts) same)))))) refl is

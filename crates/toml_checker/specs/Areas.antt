@@ -1,0 +1,29 @@
+-- The area of an edit: the address at which, or below which, all stands that it takes away or moves.
+use Rattle.std.specs.Prelude.{◌≡◌, List, [], ◌∷◌, Option, Some, None}
+use Rattle.toml_names.specs.declared.address.Step.{Step}
+use Rattle.toml_names.specs.declared.address.Step.TheVariants.{Name, Index}
+use Rattle.toml_names.specs.Addresses.{Address}
+use Rattle.toml_edits.specs.Carry.{parted}
+use Rattle.toml_edits.specs.Edits.{Change, set, insert, rename, remove}
+use Rattle.toml_checker.specs.declared.side.Side.TheVariants.{Apart}
+use Rattle.toml_checker.specs.Sides.{side}
+
+-- the array of an element, else the address itself
+abbrev pub whole_by : Option (Address × Step) → Address → Address
+whole_by None at = at
+whole_by (Some (q, Name n)) at = at
+whole_by (Some (q, Index i)) at = q
+
+abbrev pub whole_of : Address → Address
+whole_of at = whole_by (parted at) at
+
+abbrev pub area : Change → Address
+area (set at value) = at
+area (insert at value) = whole_of at
+area (rename at to) = at
+area (remove at) = whole_of at
+
+-- the address is neither at the area of one of the edits, nor below it, nor above it
+abbrev pub IsApart : List Change → Address → Type 0
+IsApart [] a = Unit {0}
+IsApart (c ∷ cs) a = (side (area c) a ≡ Apart) × IsApart cs a

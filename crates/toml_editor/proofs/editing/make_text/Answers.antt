@@ -1,0 +1,24 @@
+use Rattle.std.proofs.Common.{List, map, subst}
+use Rattle.toml_text.specs.Source.{text_of}
+use Rattle.toml_tree.specs.Document.{document}
+use Rattle.toml_tree.specs.Tree.{Line}
+use Rattle.toml_names.specs.Data.{IsDataOf, kind_at}
+use Rattle.toml_names.specs.Mentions.{named}
+use Rattle.toml_edits.specs.Edits.{change}
+use Rattle.toml_editor.proofs.Judgements.{any_tells}
+use Rattle.toml_editor.proofs.editing.make_text.Goals as goal
+
+pub returns-in-Err-clause-told : goal.returns-in-Err-clause-told
+returns-in-Err-clause-told c =
+    let old = c.in_ok-data.«data».root in
+    let facts = subst (λ (ls : List Line). IsDataOf (named ls) (kind_at old)) c.requires.read.taken c.in_ok-data.ensures in
+    any_tells (text_of c.args.source) (map change c.args.edits.now) (document c.args.doc.now) old c.in-Err.fault c.requires.read.spelled facts c.in-Err.ensures.told
+
+pub returns-clause-made : goal.returns-clause-made
+returns-clause-made c =
+    let old = c.in_ok-data.«data».root in
+    let facts = subst (λ (ls : List Line). IsDataOf (named ls) (kind_at old)) c.requires.read.taken c.in_ok-data.ensures in
+    record {
+      made = (document c.args.doc.now, c.requires.read.spelled, old, facts, c.in_default.ensures.made);
+      pieces = c.in_ok-edited.ensures;
+    }

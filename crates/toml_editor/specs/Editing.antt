@@ -1,0 +1,46 @@
+-- What the steps of an edit hand on to each other.
+use Rattle.std.specs.Prelude.{◌≡◌, ℕ, List, Bool}
+use Rattle.toml_text.specs.Limit.{IsText}
+use Rattle.toml_tree.specs.Spells.{Spells}
+use Rattle.toml_tree.specs.Tree.{Doc, Line}
+use Rattle.toml_names.specs.declared.datum.Data.{Data}
+use Rattle.toml_names.specs.Documents.{IsDocument}
+use Rattle.toml_edits.specs.Edits.{Change}
+use Rattle.toml_units.specs.declared.piece.Piece.{Piece}
+use Rattle.toml_units.specs.Units.{units}
+use Rattle.toml_checker.specs.declared.documents.Document.{Document}
+use Rattle.toml_checker.specs.After.{IsMadeOf}
+use Rattle.toml_checker.specs.Documents.{OfTree}
+use Rattle.toml_checker.specs.Outer.{TellOuter}
+use Rattle.toml_checker.specs.Reading.{IsRead}
+use Rattle.toml_editor.specs.Edited.{ArePieces, IsEdited}
+
+-- the bytes are read as this text, and this tree spells it
+pub record IsReadAs (before text : List ℕ) (d : Doc) : Type 0 where
+  pub text_is : text ≡ before
+  pub within : IsText before
+  pub spelled : Spells d before
+
+-- the tree spells the text, and these are its lines
+pub record HasLines (text : List ℕ) (d : Doc) (lines : List Line) : Type 0 where
+  pub spelled : Spells d text
+  pub taken : lines ≡ d.lines
+
+-- the text is a document's, and the tree and the units are those of the text
+pub record IsKnown (d : Document) : Type 0 where
+  pub read : IsRead d
+  pub document : IsDocument d.text.now
+
+-- the data are what the edits make of those of the first text, and the pieces of that one are the second
+pub record IsMadeText (before : List ℕ) (cs : List Change) (new : Data) (after : List ℕ) (list : List Piece) : Type 0 where
+  pub made : IsMadeOf before cs new
+  pub pieces : ArePieces before after list
+
+-- the text is certified to be what the edits make of the first one, and the pieces of that one are it
+pub record IsEditedText (before : List ℕ) (cs : List Change) (after : List ℕ) (list : List Piece) (ps : List (ℕ × ℕ)) : Type 0 where
+  pub edited : IsEdited before cs after ps
+  pub pieces : ArePieces before after list
+
+-- the flags tell which units of the text are outer protected ones
+abbrev pub TellsWanted : List ℕ → List Change → List Bool → Type 0
+TellsWanted before cs flags = OfTree before (λ d. TellOuter cs (units d.lines) flags)

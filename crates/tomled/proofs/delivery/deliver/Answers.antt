@@ -1,0 +1,26 @@
+use Rattle.std.proofs.Common.{◌+◌, arith, inl, length, refl}
+use Rattle.tomled.proofs.delivery.deliver.Goals as goal
+
+pub returns-in-Ok : goal.returns-in-Ok
+returns-in-Ok g c =
+    let given = c.in-Ok.ensures in
+    record {
+      stop = given.stop;
+      files_sent = given.files_sent;
+      out_sent = given.out_sent;
+      err_told = record { between = c.emit_all.new.err; sent = given.err_sent; silent = λ low. refl; told = λ far. absurd (omega (arith, given.stops)) };
+      good = λ low. refl;
+      failed = λ far. absurd (omega (arith, given.stops));
+    }
+
+pub returns-in-Err : goal.returns-in-Err
+returns-in-Err g c =
+    let given = c.in-Err.ensures in
+    record {
+      stop = given.stop;
+      files_sent = given.files_sent;
+      out_sent = given.out_sent;
+      err_told = record { between = c.emit_all.new.err; sent = given.err_sent; silent = λ low. absurd (omega (arith, given.stops)); told = λ far. c.tell.ensures.tried };
+      good = λ low. absurd (omega (arith, given.stops));
+      failed = λ far. c.tell.ensures.status;
+    }

@@ -1,0 +1,227 @@
+//! One failing read or write: what becomes of the bytes, and how the run ends.
+
+use crate::counting::Counting;
+use crate::delivery::{deliver, tell};
+use crate::edit::run_edit;
+use crate::fault::RunFault;
+use crate::input::{TakeFault, take};
+use crate::outcome::Outcome;
+use std::alloc::{AllocError, Global};
+use std::io;
+use std::io::{Read, Write};
+use std::test::Fail;
+
+const FILE: &[u8] = b"port = 1_000 # keep\n";
+
+const EDITS: &[u8] = b"[{\"op\":\"set\",\"at\":[\"port\"],\"value\":\"0x1F\"}]";
+
+const OUT: &[u8] = b"port = 0x1F # keep\n";
+
+const CERT: &[u8] = b"kept 1\n1 1\n2 2\n";
+
+const FAULT: &[u8] = b"file fault\n";
+
+/// Gives one byte a read, and fails at the read with this number, from 1.
+#[derive(Drop)]
+struct Giver<'t> {
+    bytes: &'t [u8],
+    failing: usize,
+    reads: usize,
+}
+
+impl<'t> Read for Giver<'t> {
+    fn read(&mut self, room: &mut [u8]) -> io::Result<usize> {
+        self.reads = self.reads.saturating_add(1);
+        if self.reads == self.failing {
+            return Err(io::Error::from(io::ErrorKind::Other));
+        }
+        if self.bytes.is_empty() || room.is_empty() {
+            return Ok(0);
+        }
+        room[0] = self.bytes[0];
+        self.bytes = &self.bytes[1..];
+        Ok(1)
+    }
+}
+
+/// Keeps at most `most` bytes a write, and fails at the write with this number, from 1.
+#[derive(Drop)]
+struct Keeper {
+    bytes: Vec<u8>,
+    most: usize,
+    failing: usize,
+    writes: usize,
+}
+
+impl Keeper {
+    fn new(alloc: Global, most: usize, failing: usize) -> Keeper {
+        Keeper {
+            bytes: Vec::new(alloc),
+            most,
+            failing,
+            writes: 0,
+        }
+    }
+}
+
+impl Write for Keeper {
+    fn write(&mut self, bytes: &[u8]) -> io::Result<usize> {
+        self.writes = self.writes.saturating_add(1);
+        if self.writes == self.failing {
+            return Err(io::Error::from(io::ErrorKind::Other));
+        }
+        let taken = bytes.len().min(self.most);
+        self.bytes.extend_from_slice(&bytes[..taken])?;
+        Ok(taken)
+    }
+
+    fn flush(&mut self) -> io::Result<()> {
+        Ok(())
+    }
+}
+
+/// The edit of the file above, which has two files to write.
+fn edited(alloc: Global) -> Result<Outcome, AllocError> {
+    run_edit(alloc, FILE, EDITS)
+}
+
+#[test]
+fn each_read_fails(rt: HostRuntime) -> Result<(), Fail> {
+    for text in [FILE, EDITS] {
+        // The last read sees the end.
+        for failing in 1..text.len().saturating_add(2) {
+            let mut giver = Giver {
+                bytes: text,
+                failing,
+                reads: 0,
+            };
+            let mut reader = Counting::new(&mut giver);
+            let answer = take(rt.alloc(), &mut reader, usize::MAX);
+            assert!(rt; matches!(&answer, Err(TakeFault::Device)), "read {failing}");
+            assert_eq!(rt; reader.failed(), 1, "read {failing}");
+            assert_eq!(rt; giver.reads, failing);
+        }
+    }
+    Ok(())
+}
+
+#[test]
+fn takes_up_to_the_limit(rt: HostRuntime) -> Result<(), Fail> {
+    // The limit, and how many bytes are taken in how many reads.
+    for (limit, taken, reads) in [
+        (0, 0, 0),
+        (3, 3, 3),
+        (20, 20, 20),
+        (21, 20, 21),
+        (99, 20, 21),
+    ] {
+        let mut giver = Giver {
+            bytes: FILE,
+            failing: 0,
+            reads: 0,
+        };
+        let mut reader = Counting::new(&mut giver);
+        let bytes = take(rt.alloc(), &mut reader, limit).map_err(|_| "not taken")?;
+        assert_eq!(rt;
+            bytes.as_slice(),
+            &FILE[..FILE.len().min(taken)],
+            "limit {limit}"
+        );
+        assert_eq!(rt; reader.failed(), 0, "limit {limit}");
+        assert_eq!(rt; giver.reads, reads, "limit {limit}");
+    }
+    Ok(())
+}
+
+/// The front of so many bytes at most.
+fn front(bytes: &[u8], count: usize) -> &[u8] {
+    &bytes[..bytes.len().min(count)]
+}
+
+/// What is handed to writers of the two files and of both outputs, and the status.
+fn delivered(
+    alloc: Global,
+    text: &mut Keeper,
+    cert: &mut Keeper,
+    out: &mut Keeper,
+    err: &mut Keeper,
+) -> Result<u8, Fail> {
+    let outcome = edited(alloc)?;
+    let mut files = vec![in alloc; Counting::new(text), Counting::new(cert)]?;
+    if files.len() != outcome.files.len() {
+        return Err(Fail::from("not two files"));
+    }
+    Ok(deliver(
+        files.as_mut_slice(),
+        &mut Counting::new(out),
+        &mut Counting::new(err),
+        &outcome,
+    ))
+}
+
+#[test]
+fn each_write_fails(rt: HostRuntime) -> Result<(), Fail> {
+    // One byte a write: 19 of the text, 15 of the certificate, 3 on standard output; at 0 none fails.
+    for failing in 0..38usize {
+        let alloc = rt.alloc();
+        let mut text = Keeper::new(alloc, 1, failing);
+        let mut cert = Keeper::new(alloc, 1, failing.saturating_sub(19));
+        let mut out = Keeper::new(alloc, 1, failing.saturating_sub(34));
+        let mut err = Keeper::new(alloc, 1, 0);
+        let status = delivered(alloc, &mut text, &mut cert, &mut out, &mut err)?;
+        let (wanted, accepted, told) = if failing == 0 {
+            (0, 37, b"".as_slice())
+        } else {
+            (3, failing - 1, FAULT)
+        };
+        assert_eq!(rt; status, wanted, "write {failing}");
+        assert_eq!(rt;
+            text.bytes.as_slice(),
+            front(OUT, accepted),
+            "write {failing}"
+        );
+        assert_eq!(rt;
+            cert.bytes.as_slice(),
+            front(CERT, accepted.saturating_sub(19)),
+            "write {failing}"
+        );
+        assert_eq!(rt;
+            out.bytes.as_slice(),
+            front(b"ok\n", accepted.saturating_sub(34)),
+            "write {failing}"
+        );
+        assert_eq!(rt; err.bytes.as_slice(), told, "write {failing}");
+    }
+    Ok(())
+}
+
+#[test]
+fn writes_that_take_no_byte(rt: HostRuntime) -> Result<(), Fail> {
+    let alloc = rt.alloc();
+    let mut text = Keeper::new(alloc, 9, 0);
+    let mut cert = Keeper::new(alloc, 0, 0);
+    let mut out = Keeper::new(alloc, 9, 0);
+    let mut err = Keeper::new(alloc, 9, 0);
+    let status = delivered(alloc, &mut text, &mut cert, &mut out, &mut err)?;
+    assert_eq!(rt; status, 3);
+    assert_eq!(rt; text.bytes.as_slice(), OUT);
+    assert_eq!(rt; cert.writes, 1);
+    assert_eq!(rt; out.writes, 0);
+    assert_eq!(rt; err.bytes.as_slice(), FAULT);
+    Ok(())
+}
+
+#[test]
+fn faults_of_a_run(rt: HostRuntime) {
+    let faults = [
+        (RunFault::Words, 2, "bad words\n"),
+        (RunFault::from(TakeFault::Device), 3, "file fault\n"),
+        (RunFault::from(TakeFault::NoMemory), 4, "no memory\n"),
+        (RunFault::from(AllocError), 4, "no memory\n"),
+    ];
+    for (fault, status, told) in faults {
+        let mut err = Keeper::new(rt.alloc(), 1, 0);
+        assert_eq!(rt; tell(&mut Counting::new(&mut err), fault), status);
+        assert_eq!(rt; err.bytes.as_slice(), told.as_bytes());
+    }
+}
