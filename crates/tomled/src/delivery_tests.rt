@@ -147,7 +147,9 @@ fn delivered(
     err: &mut Keeper,
 ) -> Result<u8, Fail> {
     let outcome = edited(alloc)?;
-    let mut files = vec![in alloc; Counting::new(text), Counting::new(cert)]?;
+    let mut files = Vec::new(alloc);
+    files.push(Counting::new(text))?;
+    files.push(Counting::new(cert))?;
     if files.len() != outcome.files.len() {
         return Err(Fail::from("not two files"));
     }
@@ -191,6 +193,36 @@ fn each_write_fails(rt: HostRuntime) -> Result<(), Fail> {
             "write {failing}"
         );
         assert_eq!(rt; err.bytes.as_slice(), told, "write {failing}");
+    }
+    Ok(())
+}
+
+#[test]
+fn each_write_of_a_refusal_fails(rt: HostRuntime) -> Result<(), Fail> {
+    let alloc = rt.alloc();
+    let outcome = run_edit(alloc, FILE, b"[")?;
+    assert_eq!(rt; outcome.err.as_slice(), b"refused 321 0\n".as_slice());
+    // One byte a write: 14 of the refusal; at 0 none fails.
+    for failing in 0..15usize {
+        let mut files: Vec<Counting<Keeper>> = Vec::new(alloc);
+        let mut out = Keeper::new(alloc, 1, 0);
+        let mut err = Keeper::new(alloc, 1, failing);
+        let status = deliver(
+            files.as_mut_slice(),
+            &mut Counting::new(&mut out),
+            &mut Counting::new(&mut err),
+            &outcome,
+        );
+        let (wanted, accepted, told) = if failing == 0 {
+            (1, 14, b"".as_slice())
+        } else {
+            (3, failing - 1, FAULT)
+        };
+        assert_eq!(rt; status, wanted, "write {failing}");
+        assert_eq!(rt; out.writes, 0, "write {failing}");
+        let taken = accepted.min(err.bytes.len());
+        assert_eq!(rt; &err.bytes[..taken], front(&outcome.err, accepted), "write {failing}");
+        assert_eq!(rt; &err.bytes[taken..], told, "write {failing}");
     }
     Ok(())
 }

@@ -3,6 +3,8 @@
 
 ghost use Rattle.std.specs.Prelude.{◌≡◌, [], length, IfOk};
 
+#[cfg(test)]
+mod ample_tests;
 mod check;
 mod counting;
 mod delivery;

@@ -6,7 +6,7 @@ use std::alloc::Global;
 use std::process::Abort;
 use std::test::Fail;
 use toml_edits::{Edit, EditFault, apply};
-use toml_names::{Data, Datum, same};
+use toml_names::{Data, Datum};
 use toml_scalar::Scalar;
 
 #[derive(Clone, Copy)]
@@ -204,46 +204,6 @@ fn edits_make_their_data(rt: HostRuntime) -> Result<(), Fail> {
         let edit = edit(rt.alloc(), op, steps, value)?;
         assert_eq!(rt; number(apply(rt.alloc(), &mut data, &edit)), wanted);
         assert_facts(&rt, rt.alloc(), &data, facts)?;
-    }
-    Ok(())
-}
-
-/// With ample memory the edits are made; where a growth is refused (`rt try --test --fail-alloc N`) nothing changes.
-#[test]
-fn refused_growths_change_nothing(rt: HostRuntime) -> Result<(), Fail> {
-    let rows: [(&str, Row); 3] = [
-        (
-            "[a.b]\nc = [1]\n",
-            (
-                Op::Insert,
-                &[Key("a"), Key("b"), Key("d")],
-                "[{e = 1}, 'x']",
-                0,
-            ),
-        ),
-        (BEFORE, (Op::Rename, &[Key("a")], "a longer name", 0)),
-        (
-            "x = [[1], [2, 3]]\n",
-            (
-                Op::Insert,
-                &[Key("x"), Index(1), Index(0)],
-                "{k = [1, 2]}",
-                0,
-            ),
-        ),
-    ];
-    for (text, (op, steps, value, wanted)) in rows {
-        let mut data = data(rt.alloc(), text)?;
-        let before = data.copy(rt.alloc())?;
-        let edit = edit(rt.alloc(), op, steps, value)?;
-        let found = number(apply(rt.alloc(), &mut data, &edit));
-        let unchanged = same(&data.root, &before.root);
-        if found == 311 {
-            assert!(rt; unchanged);
-        } else {
-            assert_eq!(rt; found, wanted);
-            assert!(rt; !unchanged);
-        }
     }
     Ok(())
 }

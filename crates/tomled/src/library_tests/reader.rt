@@ -4,7 +4,6 @@ use crate::library_tests::names::redefined;
 use crate::library_tests::worked::At::{self, Index, Name as Key};
 use crate::library_tests::worked::{self, address, doc};
 use std::alloc::Global;
-use std::process::Abort;
 use std::test::Fail;
 use toml_names::{Address, NameFault, NameReader};
 use toml_tree::Doc;
@@ -112,43 +111,6 @@ fn addresses_are_listed_and_looked_up_once(rt: HostRuntime) -> Result<(), Fail> 
         let names = worked::names(rt.alloc(), &doc)?;
         assert!(rt; names.lookups() <= parts);
         assert!(rt; are(rt.alloc(), names.first_mentions(), wanted)?);
-    }
-    Ok(())
-}
-
-/// A reader that took each line; one that was refused for want of memory was handed in again.
-fn take_all<'d, 't>(
-    rt: &impl Abort,
-    alloc: Global,
-    doc: &'d Doc<'t>,
-) -> Result<NameReader<'d, 't>, Fail> {
-    let mut reader = NameReader::new(alloc)?;
-    for line in doc.lines() {
-        let taken = reader.taken().len();
-        if let Err(NameFault::NoMemory) = reader.line(line) {
-            assert_eq!(rt; reader.taken().len(), taken);
-            reader.line(line).ok().ok_or("refused again")?;
-        }
-    }
-    assert_eq!(rt; reader.taken().len(), doc.lines().len());
-    Ok(reader)
-}
-
-/// With ample memory each line is taken. Where a growth is refused in `line` (`rt try --test --fail-alloc N`) no line
-/// is taken, and then the same one is.
-#[test]
-fn refused_growths_leave_no_trace(rt: HostRuntime) -> Result<(), Fail> {
-    let rows: [(&str, usize); 2] = [
-        (
-            "port = 1_000 # keep\nx = [1, # one\n 2]\n[a.b]\na.b = 1\n\"\\u0063\" = 2\nd = 1979-05-27 07:32:00.50z\n",
-            8,
-        ),
-        (ROW_EIGHT, 5),
-    ];
-    for (text, mentions) in rows {
-        let doc = doc(rt.alloc(), text)?;
-        let names = take_all(&rt, rt.alloc(), &doc)?.finish()?;
-        assert_eq!(rt; names.first_mentions().len(), mentions);
     }
     Ok(())
 }
