@@ -4,10 +4,10 @@
 # do without; the last one gives the answer.
 # With the tests as they are built, so too the edits of data and the reader of names: memory that is refused leaves both as
 # they were, and they go on once there is some.
-#   tests/memory.sh crates/tomled/out/tomled [crates/tomled/out/tomled_tests]
+#   tests/memory.sh crates/tomled/out/tomled crates/tomled/out/tomled_tests
 set -u
 program=$(realpath "$1")
-tests=${2:+$(realpath "$2")}
+tests=$(realpath "$2")
 folder=$(mktemp -d)
 trap 'rm -rf "$folder"' EXIT
 cd "$folder"
@@ -68,27 +68,36 @@ holds() {
   if [ "$2" = - ]; then [ ! -e "$1" ]; else [ -e "$1" ] && printf "$2" | cmp -s - "$1"; fi
 }
 
-# each OUT TEXT CERT WORDS..: what the last run prints and writes
+# refusing NUMBER WORDS..: a run with this allocation refused, for half a minute at most; `refused` says whether it was
+refusing() {
+  local number=$1
+  shift
+  timeout 30 env REFUSE="$number" LD_PRELOAD="$folder/refuse.so" "$@" >out 2>err 9>refused
+}
+
+# answers STATUS OUT ERR TEXT CERT: the run ended so; STATUS is the first word, the others are bytes of files
+answers() {
+  [ "$status" -eq "$1" ] && holds out "$2" && holds err "$3" && holds text "$4" && holds cert "$5"
+}
+
+# each STATUS OUT ERR TEXT CERT WORDS..: what the last run prints and writes
 each() {
-  local printed=$1 text=$2 cert=$3 number=0 status
-  shift 3
+  local wanted=("${@:1:5}") number=0 status
+  shift 5
   while :; do
     number=$((number + 1))
     rm -f text cert
-    REFUSE=$number LD_PRELOAD="$folder/refuse.so" "$program" "$@" >out 2>err 9>refused
+    refusing "$number" "$program" "$@"
     status=$?
     [ -s refused ] || break
-    # Some of it is room that is asked for beforehand: refused, a run makes do with less, and gives the whole answer.
-    if [ "$status" -eq 0 ] && holds out "$printed" && [ ! -s err ] && holds text "$text" && holds cert "$cert"; then
+    if answers "${wanted[@]}"; then
       spared=$((spared + 1))
-      continue
-    fi
-    if [ "$status" -ne 4 ] || [ -s out ] || ! holds err 'no memory\n' || [ -e text ] || [ -e cert ]; then
+    elif ! answers 4 '' 'no memory\n' - -; then
       fail "tomled $*: allocation $number: status $status"
       return
     fi
   done
-  if [ "$number" -lt 2 ] || [ "$status" -ne 0 ] || ! holds out "$printed" || [ -s err ] || ! holds text "$text" || ! holds cert "$cert"; then
+  if [ "$number" -lt 2 ] || ! answers "${wanted[@]}"; then
     fail "tomled $*: status $status"
   fi
   refusals=$((refusals + number - 1))
@@ -97,18 +106,25 @@ each() {
 # document TEXT DATA ADDRESSES: what is read of it
 document() {
   printf "$1" >before
-  each 'ok\n' - - check before
-  each "$2\n" - - show before
-  each "$3\n" - - show --list before
+  each 0 'ok\n' '' - - check before
+  each 0 "$2\n" '' - - show before
+  each 0 "$3\n" '' - - show --list before
 }
 
 # edited EDITS TEXT CERT: what the edits make of the document before, and the verdict on it
 edited() {
   printf '%s' "$1" >edits
-  each 'ok\n' "$2" "$3" edit before edits text cert
+  each 0 'ok\n' '' "$2" "$3" edit before edits text cert
   printf "$2" >after
   printf "$3" >shown
-  each 'yes\n' - - verify before edits after shown
+  each 0 'yes\n' '' - - verify before edits after shown
+}
+
+# refused LINE WORDS..: a refusal
+refused() {
+  local line=$1
+  shift
+  each 1 '' "refused $line\n" - - "$@"
 }
 
 integer() {
@@ -127,21 +143,35 @@ document '[a.b]\n' '{"a":{"b":{}}}' '["a"]\n["a","b"]'
 edited '[{"op":"insert","at":["a","x"],"value":"1"}]' '[a]\nx = 1\n[a.b]\n' 'kept 1\n0 2\n1 3\n'
 document 'f = +6.626_0E-34\nd = 1979-05-27 07:32:00.50z\n' \
   '{"d":{"type":"datetime","value":"1979-05-27T07:32:00.50Z"},"f":{"type":"float","value":"6.6260e-34"}}' '["f"]\n["d"]'
-# passes TEST: the test passes whichever of its allocations is refused
+printf '[a.b.c]\n[a]\nb.x = 1\n[a.b]\n' >before
+refused '201 4' check before
+refused '201 4' show before
+refused '201 4' show --list before
+printf 'a = 1\n' >before
+printf '[{"op":"set","at":["b"],"value":"1"}]' >edits
+printf 'kept 1\n0 0\n' >shown
+refused '301 0' edit before edits text cert
+refused '403 0' verify before edits before shown
+printf '[]' >edits
+refused '406 0' verify before edits before shown
+refused '330 0' verify before edits before edits
+
+# passes TEST: the test runs, and passes whichever of its allocations is refused
 passes() {
   local number=0 status
   while :; do
     number=$((number + 1))
-    REFUSE=$number LD_PRELOAD="$folder/refuse.so" "$tests" "$1" >out 2>&1 9>refused
+    refusing "$number" "$tests" "$1"
     status=$?
     [ "$status" -eq 0 ] || { fail "$1: allocation $number: status $status"; return; }
     [ -s refused ] || break
   done
+  grep -q '^1 passed' out || fail "$1: no such test"
   [ "$number" -gt 1 ] || fail "$1: no allocation was refused"
   refusals=$((refusals + number - 1))
 }
 
-[ -z "$tests" ] || passes memory_tests::applies_and_takes_or_wants
+passes memory_tests::applies_and_takes_or_wants
 printf '%s allocations were refused, %s of them not needed\n' "$refusals" "$spared"
 [ "$failed" -eq 0 ] && echo 'all passed'
 exit "$failed"

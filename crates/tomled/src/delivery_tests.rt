@@ -2,13 +2,12 @@
 
 use crate::counting::Counting;
 use crate::delivery::{deliver, tell};
+use crate::devices::{Giver, Keeper};
 use crate::edit::run_edit;
 use crate::fault::RunFault;
 use crate::input::{TakeFault, take};
 use crate::outcome::Outcome;
 use std::alloc::{AllocError, Global};
-use std::io;
-use std::io::{Read, Write};
 use std::test::Fail;
 
 const FILE: &[u8] = b"port = 1_000 # keep\n";
@@ -20,65 +19,6 @@ const OUT: &[u8] = b"port = 0x1F # keep\n";
 const CERT: &[u8] = b"kept 1\n1 1\n2 2\n";
 
 const FAULT: &[u8] = b"file fault\n";
-
-/// Gives one byte a read, and fails at the read with this number, from 1.
-#[derive(Drop)]
-struct Giver<'t> {
-    bytes: &'t [u8],
-    failing: usize,
-    reads: usize,
-}
-
-impl<'t> Read for Giver<'t> {
-    fn read(&mut self, room: &mut [u8]) -> io::Result<usize> {
-        self.reads = self.reads.saturating_add(1);
-        if self.reads == self.failing {
-            return Err(io::Error::from(io::ErrorKind::Other));
-        }
-        if self.bytes.is_empty() || room.is_empty() {
-            return Ok(0);
-        }
-        room[0] = self.bytes[0];
-        self.bytes = &self.bytes[1..];
-        Ok(1)
-    }
-}
-
-/// Keeps at most `most` bytes a write, and fails at the write with this number, from 1.
-#[derive(Drop)]
-struct Keeper {
-    bytes: Vec<u8>,
-    most: usize,
-    failing: usize,
-    writes: usize,
-}
-
-impl Keeper {
-    fn new(alloc: Global, most: usize, failing: usize) -> Keeper {
-        Keeper {
-            bytes: Vec::new(alloc),
-            most,
-            failing,
-            writes: 0,
-        }
-    }
-}
-
-impl Write for Keeper {
-    fn write(&mut self, bytes: &[u8]) -> io::Result<usize> {
-        self.writes = self.writes.saturating_add(1);
-        if self.writes == self.failing {
-            return Err(io::Error::from(io::ErrorKind::Other));
-        }
-        let taken = bytes.len().min(self.most);
-        self.bytes.extend_from_slice(&bytes[..taken])?;
-        Ok(taken)
-    }
-
-    fn flush(&mut self) -> io::Result<()> {
-        Ok(())
-    }
-}
 
 /// The edit of the file above, which has two files to write.
 fn edited(alloc: Global) -> Result<Outcome, AllocError> {
@@ -205,6 +145,9 @@ fn each_write_of_a_refusal_fails(rt: HostRuntime) -> Result<(), Fail> {
     // One byte a write: 14 of the refusal; at 0 none fails.
     for failing in 0..15usize {
         let mut files: Vec<Counting<Keeper>> = Vec::new(alloc);
+        if files.len() != outcome.files.len() {
+            return Err(Fail::from("files of a refusal"));
+        }
         let mut out = Keeper::new(alloc, 1, 0);
         let mut err = Keeper::new(alloc, 1, failing);
         let status = deliver(
@@ -221,7 +164,11 @@ fn each_write_of_a_refusal_fails(rt: HostRuntime) -> Result<(), Fail> {
         assert_eq!(rt; status, wanted, "write {failing}");
         assert_eq!(rt; out.writes, 0, "write {failing}");
         let taken = accepted.min(err.bytes.len());
-        assert_eq!(rt; &err.bytes[..taken], front(&outcome.err, accepted), "write {failing}");
+        assert_eq!(rt;
+            &err.bytes[..taken],
+            front(&outcome.err, accepted),
+            "write {failing}"
+        );
         assert_eq!(rt; &err.bytes[taken..], told, "write {failing}");
     }
     Ok(())

@@ -10,6 +10,8 @@ mod counting;
 mod delivery;
 #[cfg(test)]
 mod delivery_tests;
+#[cfg(test)]
+mod devices;
 mod document;
 mod edit;
 mod edit_list;

@@ -56,13 +56,19 @@ fn wanting(rt: &impl Abort, wants: bool) -> AllocError {
 /// is some. What comes before may want memory.
 fn applied(rt: &impl Abort, alloc: Global, text: &str, edits: &str) -> Result<(), AllocError> {
     let source = Source::new(text.as_bytes()).map_err(|_| wanting(rt, false))?;
-    let doc = parse(alloc, source)
-        .map_err(|fault| wanting(rt, matches!(&fault, SyntaxFault::NoMemory)))?;
-    let names = read_names(alloc, &doc)
-        .map_err(|fault| wanting(rt, matches!(&fault, NameFault::NoMemory)))?;
+    let doc = parse(alloc, source).map_err(|fault| wanting(
+        rt,
+        matches!(&fault, SyntaxFault::NoMemory),
+    ))?;
+    let names = read_names(alloc, &doc).map_err(|fault| wanting(
+        rt,
+        matches!(&fault, NameFault::NoMemory),
+    ))?;
     let mut data = names.data().copy(alloc)?;
-    let edits = read_edits(alloc, edits.as_bytes())
-        .map_err(|fault| wanting(rt, matches!(&fault, EditsFault::NoMemory)))?;
+    let edits = read_edits(alloc, edits.as_bytes()).map_err(|fault| wanting(
+        rt,
+        matches!(&fault, EditsFault::NoMemory),
+    ))?;
     for edit in &edits {
         let before = data.copy(alloc)?;
         if let Err(fault) = apply(alloc, &mut data, edit) {
@@ -78,8 +84,10 @@ fn applied(rt: &impl Abort, alloc: Global, text: &str, edits: &str) -> Result<()
 /// Each line is taken. One for which there is no memory is not, and is taken once there is some.
 fn taken(rt: &impl Abort, alloc: Global, text: &str) -> Result<(), AllocError> {
     let source = Source::new(text.as_bytes()).map_err(|_| wanting(rt, false))?;
-    let doc = parse(alloc, source)
-        .map_err(|fault| wanting(rt, matches!(&fault, SyntaxFault::NoMemory)))?;
+    let doc = parse(alloc, source).map_err(|fault| wanting(
+        rt,
+        matches!(&fault, SyntaxFault::NoMemory),
+    ))?;
     let mut reader = NameReader::new(alloc)?;
     let mut count = 0usize;
     for line in doc.lines() {

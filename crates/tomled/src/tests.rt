@@ -105,8 +105,27 @@ refused 103 3
 refused 103 3
 # a␡
 
+// A bare CR is no newline, and nothing else either.
 refused 103 5
 a = 1␍b = 2
+
+refused 103 5
+a = 1␍
+
+refused 103 3
+# x␍y
+
+refused 105 4
+a = "x␍y"
+
+refused 105 4
+a = """x␍y"""
+
+refused 105 4
+a = """x\␍y"""
+
+refused 105 4
+a = '''x␍y'''
 
 refused 104 0
 = 1
@@ -174,7 +193,7 @@ b = 1¶a = 1¶c = 1¶a = 2¶b = 2
 
 #[test]
 fn refusals(rt: HostRuntime) -> Result<(), Fail> {
-    assert_refused(&rt, rt.alloc(), REFUSALS, 24)?;
+    assert_refused(&rt, rt.alloc(), REFUSALS, 30)?;
     assert_refusal(&rt, rt.alloc(), b"a = \"\xFF\"", "refused 101 5")?;
     assert_refusal(&rt, rt.alloc(), b"#\xC3", "refused 101 1")
 }

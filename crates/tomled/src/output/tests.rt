@@ -1,48 +1,6 @@
 use super::{Counting, EmitFault, emit};
-use std::alloc::Global;
-use std::io;
-use std::io::Write;
+use crate::devices::Keeper;
 use std::test::Fail;
-
-/// Keeps at most `most` bytes of each write, and fails at the write of this number.
-#[derive(Drop)]
-struct Keeper {
-    bytes: Vec<u8>,
-    most: usize,
-    failing: usize,
-    writes: usize,
-}
-
-impl Keeper {
-    fn new(alloc: Global, most: usize, failing: usize) -> Keeper {
-        Keeper {
-            bytes: Vec::new(alloc),
-            most,
-            failing,
-            writes: 0,
-        }
-    }
-}
-
-impl Write for Keeper {
-    ghost use Rattle.std.specs.Prelude.{Some};
-
-    ghost contents = { λ k. Some k.bytes.items };
-
-    fn write(&mut self, bytes: &[u8]) -> io::Result<usize> {
-        self.writes = self.writes.saturating_add(1);
-        if self.writes == self.failing {
-            return Err(io::Error::from(io::ErrorKind::Other));
-        }
-        let taken = bytes.len().min(self.most);
-        self.bytes.extend_from_slice(&bytes[..taken])?;
-        Ok(taken)
-    }
-
-    fn flush(&mut self) -> io::Result<()> {
-        Ok(())
-    }
-}
 
 #[test]
 fn emits(rt: HostRuntime) -> Result<(), Fail> {
