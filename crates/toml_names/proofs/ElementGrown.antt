@@ -5,8 +5,7 @@ use Rattle.toml_names.specs.declared.named.Role.TheVariants.{Bare}
 use Rattle.toml_names.specs.Mentions.{Kind}
 use Rattle.toml_names.specs.NameTree.{IsTree}
 use Rattle.toml_names.specs.Nodes.{Spot, grown, nowhere}
-use Rattle.toml_names.proofs.CountsOfTables.{fresh_element}
-use Rattle.toml_names.proofs.EnterElement.{LeadsTo-element, lone-element}
+use Rattle.toml_names.proofs.EnterElement.{fresh_element, LeadsTo-element, lone-element}
 use Rattle.toml_names.proofs.TreeGrown.{IsTree-grown}
 
 -- what it leaves

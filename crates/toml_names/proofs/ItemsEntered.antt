@@ -1,6 +1,6 @@
 -- A value's elements, or its pairs, entered one by one: what was entered of them, and what is left.
 use Rattle.std.proofs.Common.{◌≡◌, ℕ, ◌+◌, ◌<◌, false, List, [], ◌∷◌, ◌++◌, length, None, refl, sym, ap, subst, ◌∙◌, slice_index_or, arith}
-use Rattle.std.proofs.lemmas.List.{append_assoc, append-nil, length_push}
+use Rattle.std.proofs.lemmas.List.{append_assoc, length_push}
 use Rattle.toml_names.specs.declared.address.Step.TheVariants.{Index}
 use Rattle.toml_names.specs.declared.named.Role.TheVariants.{Bare}
 use Rattle.toml_names.specs.Addresses.{Address, element}
@@ -9,9 +9,8 @@ use Rattle.toml_names.specs.NameTree.{IsTree, IsTreeOf, KeepsOthers, Enters, Cla
 use Rattle.toml_names.specs.Nodes.{Spot, addresses, address_at, place_of, grown}
 use Rattle.toml_names.specs.Rules.{misfit}
 use Rattle.toml_names.proofs.CountsKept.{IsTreeOf-grown}
-use Rattle.toml_names.proofs.CountsOfTables.{fresh_element}
 use Rattle.toml_names.proofs.ElementGrown.{index-next, index-no_name, tree-element}
-use Rattle.toml_names.proofs.EnterElement.{plain_from_count, count_from_lone, KeepsOthers-element, array-element}
+use Rattle.toml_names.proofs.EnterElement.{fresh_element, plain_from_count, count_from_lone, KeepsOthers-element, array-element}
 use Rattle.toml_names.proofs.EnterSteps.{misfit-append, KeepsAddresses-then, KeepsOthers-then, KeepsOthers-same, Enters-none, Enters-append, Clashes-later, Clashes-front}
 use Rattle.toml_names.proofs.Fitting.{but_counts, fits-no_node}
 use Rattle.toml_names.proofs.Misfits.{misfit-later}
@@ -34,10 +33,6 @@ entered-more start now next whole xs left entered more = record {
   enters = Enters-append entered.made xs entered.enters more;
   is = append_assoc entered.made xs left ∙ entered.is;
 }
-
-pub entered-all : (start now : List Spot) (whole left : List Named) → IsEntered start now whole left → left ≡ [] → Enters start now whole
-entered-all start now whole left entered none =
-    subst (Enters start now) (sym (append-nil entered.made) ∙ ap (λ l. entered.made ++ l) (sym none) ∙ entered.is) entered.enters
 
 pub entered-clash : (start now : List Spot) (whole xs left : List Named) (at : Address) → IsEntered start now whole (xs ++ left) → Clashes now xs at → Clashes start whole at
 entered-clash start now whole xs left at entered clash =
