@@ -1,6 +1,6 @@
 -- A value's elements, or its pairs, entered one by one: what was entered of them, and what is left.
 use Rattle.std.proofs.Common.{◌≡◌, ℕ, ◌+◌, ◌<◌, false, List, [], ◌∷◌, ◌++◌, length, None, refl, sym, ap, subst, ◌∙◌, slice_index_or, arith}
-use Rattle.std.proofs.lemmas.List.{append_assoc, length_push}
+use Rattle.std.proofs.lemmas.List.{append_assoc, append-nil, length_push}
 use Rattle.toml_names.specs.declared.address.Step.TheVariants.{Index}
 use Rattle.toml_names.specs.declared.named.Role.TheVariants.{Bare}
 use Rattle.toml_names.specs.Addresses.{Address, element}
@@ -37,6 +37,10 @@ entered-more start now next whole xs left entered more = record {
 pub entered-clash : (start now : List Spot) (whole xs left : List Named) (at : Address) → IsEntered start now whole (xs ++ left) → Clashes now xs at → Clashes start whole at
 entered-clash start now whole xs left at entered clash =
     subst (λ l. Clashes start l at) entered.is (Clashes-later entered.made (xs ++ left) at entered.enters (Clashes-front xs left at clash))
+
+pub entered-all : (start now : List Spot) (whole left : List Named) → IsEntered start now whole left → left ≡ [] → Enters start now whole
+entered-all start now whole left entered none =
+    subst (Enters start now) (sym (append-nil entered.made) ∙ ap (λ l. entered.made ++ l) (sym none) ∙ entered.is) entered.enters
 
 -- the array at the node `id` has its first elements
 pub record HasElements (start now : List Spot) (id i : ℕ) : Type 0 where

@@ -106,3 +106,4 @@ pub mod PlaceFound
 pub mod Indices
 pub mod Proved
 pub mod Placeless
+pub mod Steps
