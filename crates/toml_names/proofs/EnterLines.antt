@@ -1,11 +1,11 @@
 -- What entering a line leaves, by what stands on it.
 use Rattle.std.proofs.Common.{◌≡◌, ℕ, ◌<◌, List, [], ◌++◌, length, Some, None, refl, sym, ap, subst, ◌∙◌, arith}
 use Rattle.toml_tree.specs.Tree.{Piece, Blank, Header, KeyVal, KeyValLine, TableLine, ArrayTableLine, Expr}
-use Rattle.toml_names.specs.Addresses.{Address, element, below}
+use Rattle.toml_names.specs.Addresses.{Address, below}
 use Rattle.toml_names.specs.EnteringHeaders.{EntersHeader, table_names, tables_names, next_table}
 use Rattle.toml_names.specs.EnteringLines.{EntersLine}
 use Rattle.toml_names.specs.Keys.{key_names, part_name, rest_names}
-use Rattle.toml_names.specs.Mentions.{Named, named_by, section, pair_named, followed, ends_table, ends_tables, count_tables}
+use Rattle.toml_names.specs.Mentions.{Named, named_by, section, pair_named}
 use Rattle.toml_names.specs.Names.{header_end, own_address}
 use Rattle.toml_names.specs.NameTree.{IsTreeOf, EntersTo}
 use Rattle.toml_names.specs.Nodes.{Spot, address_at}

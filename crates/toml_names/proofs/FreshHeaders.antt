@@ -1,18 +1,13 @@
 -- A header whose next name is new: all behind it is new too, so that nodes for it can be added.
-use Rattle.std.proofs.Common.{◌≡◌, ℕ, List, [], ◌∷◌, ◌++◌, length, None, refl, sym, subst, ◌∙◌, slice_index_or}
+use Rattle.std.proofs.Common.{ℕ, List, [], ◌∷◌, ◌++◌, length, refl, sym, subst, ◌∙◌, slice_index_or}
 use Rattle.std.proofs.lemmas.List.{append_assoc, append-nil}
 use Rattle.toml_names.specs.declared.address.Step.TheVariants.{Name, Index}
 use Rattle.toml_names.specs.declared.named.Role.TheVariants.{Header, Passed, Tables, Element}
-use Rattle.toml_names.specs.Addresses.{element}
 use Rattle.toml_names.specs.EnteringHeaders.{PassedFronts}
-use Rattle.toml_names.specs.Headers.{header_fronts}
 use Rattle.toml_names.specs.Keys.{Key}
 use Rattle.toml_names.specs.LongKeys.{CanEnterHeaders}
-use Rattle.toml_names.specs.Mentions.{Named, a_table, an_array, followed, ends_table, ends_tables, count_tables}
-use Rattle.toml_names.specs.Names.{header_end}
-use Rattle.toml_names.specs.NameTree.{IsTreeOf}
+use Rattle.toml_names.specs.Mentions.{a_table, an_array}
 use Rattle.toml_names.specs.Nodes.{Spot, grown}
-use Rattle.toml_names.specs.Rules.{misfit}
 use Rattle.toml_names.proofs.EnterName.{Enters-new, LeadsTo-new, KeepsElements-new}
 use Rattle.toml_names.proofs.FreshKeys.{IsAbsent, absent-new}
 use Rattle.toml_names.proofs.HeaderLines.{table_line, tables_line}

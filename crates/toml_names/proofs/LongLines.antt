@@ -10,7 +10,7 @@ use Rattle.toml_names.specs.EnteringHeaders.{table_names, tables_names, next_tab
 use Rattle.toml_names.specs.EnteringLines.{EntersLine}
 use Rattle.toml_names.specs.Keys.{Key, key_names}
 use Rattle.toml_names.specs.LongKeys.{CanEnter, CanEnterHeader, IsLongKey, IsLongEntry}
-use Rattle.toml_names.specs.Mentions.{Named, named_by, section, fronts, inside, value_named, pair_named, followed, ends_table, ends_tables, entered, count_tables}
+use Rattle.toml_names.specs.Mentions.{Named, named_by, section, fronts, inside, value_named, pair_named, entered, count_tables}
 use Rattle.toml_names.specs.Names.{header_end, own_address}
 use Rattle.toml_names.specs.Nodes.{Spot, address_at}
 use Rattle.toml_names.specs.Rules.{max_steps, misfit}

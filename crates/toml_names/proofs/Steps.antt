@@ -1,11 +1,11 @@
 -- Steps of the tree of names, one after the other.
-use Rattle.std.proofs.Common.{◌≡◌, ℕ, ◌+◌, ◌≤◌, Result, Ok, Err, refl, ◌∙◌, arith}
+use Rattle.std.proofs.Common.{◌≡◌, ℕ, ◌+◌, ◌≤◌, Result, Err, refl, ◌∙◌, arith}
 use Rattle.std.proofs.lemmas.Result.{IfOk-weaker, IfErr-weaker}
 use Rattle.toml_names.specs.declared.tree.EnterFault.{EnterFault}
 use Rattle.toml_names.specs.declared.tree.EnterFault.TheVariants.{NoMemory}
 use Rattle.toml_names.specs.declared.tree.NameTree.{NameTree as Tree}
 use Rattle.toml_names.specs.Addresses.{Address}
-use Rattle.toml_names.specs.Steps.{RisesBy, GoesOn, Steps}
+use Rattle.toml_names.specs.Steps.{GoesOn, Steps}
 
 pub GoesOn-same : (t : Tree) → GoesOn 0 t t
 GoesOn-same t = record { can_undo = refl; lookups = record { most = omega arith; least = omega arith } }

@@ -1,5 +1,5 @@
 -- What one step of the tree of names makes of it.
-use Rattle.std.specs.Prelude.{◌≡◌, ◌<◌, ◌≤◌, ◌+◌, ℕ, List, [], ◌∷◌, length, true, false, Result, IfOk, IfErr, slice_index_or}
+use Rattle.std.specs.Prelude.{◌≡◌, ◌<◌, ◌≤◌, ◌+◌, ℕ, List, length, true, false, Result, IfOk, IfErr, slice_index_or}
 use Rattle.toml_names.specs.declared.address.Step.TheVariants.{Index}
 use Rattle.toml_names.specs.declared.named.Role.{Role}
 use Rattle.toml_names.specs.declared.tree.EnterFault.{EnterFault}

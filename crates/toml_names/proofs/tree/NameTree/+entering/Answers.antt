@@ -19,7 +19,7 @@ use Rattle.toml_names.proofs.Inside.{elements_of, members_of}
 use Rattle.toml_names.proofs.ItemsEntered.{no_elements, entered-all}
 use Rattle.toml_names.proofs.PairEntered.{pair-parts, own-clash, within-clash, EntersTo-pair}
 use Rattle.toml_names.proofs.PartsInside.{parts_of_elements, parts_of_members}
-use Rattle.toml_names.proofs.Steps.{GoesOn-same, GoesOn-then, GoesOnTo-begin, GoesOnTo-more, GoesOnTo-within, no_memory, refuses}
+use Rattle.toml_names.proofs.Steps.{GoesOn-same, GoesOn-then, GoesOnTo-begin, GoesOnTo-more, GoesOnTo-within, refuses}
 use Rattle.toml_names.proofs.ValueEntered.{parts-next_element, parts-next_pair, array-begin, array-parts, table-begin, table-parts, element-clash, element-more, pair-clash, pair-more}
 use Rattle.toml_names.proofs.tree.NameTree.+entering.Goals as goal
 

@@ -37,12 +37,14 @@ returns-in-None c =
     }
 
 pub mention-requires : goal.mention-requires
-mention-requires c = record { there = rw c.find.ensures.nodes (record {
-  tree = c.loop-dotted.invariant.followed.entered.tree;
-  within = followed-within (part_name (piece c.args.key.now.first)) c.deref-dotted-items.result.now c.loop-dotted.dotted-index c.dotted-item.result c.loop-dotted-test.true c.dotted-item.is
-      c.args.self.now.nodes.items c.loop-dotted.self.nodes.items c.args.line (address_at c.args.self.now.nodes.items c.args.at) c.loop-dotted.here (part_name (piece c.loop-dotted.part)) c.loop-dotted.invariant.followed
-      c.in-Some.id nowhere (c.in_ok-id.ensures.found nowhere ∙ c.in-Some.is);
-}) }
+mention-requires c = record {
+  there = rw c.find.ensures.nodes (record {
+    tree = c.loop-dotted.invariant.followed.entered.tree;
+    within = followed-within (part_name (piece c.args.key.now.first)) c.deref-dotted-items.result.now c.loop-dotted.dotted-index c.dotted-item.result c.loop-dotted-test.true c.dotted-item.is
+        c.args.self.now.nodes.items c.loop-dotted.self.nodes.items c.args.line (address_at c.args.self.now.nodes.items c.args.at) c.loop-dotted.here (part_name (piece c.loop-dotted.part)) c.loop-dotted.invariant.followed
+        c.in-Some.id nowhere (c.in_ok-id.ensures.found nowhere ∙ c.in-Some.is);
+  });
+}
 
 pub returns-in_err-mention : goal.returns-in_err-mention
 returns-in_err-mention c =

@@ -1,9 +1,6 @@
 use Rattle.std.proofs.Common.{arith}
 use Rattle.toml_tree.specs.View.{piece}
-use Rattle.toml_names.specs.EnteringHeaders.{AddsTable}
 use Rattle.toml_names.specs.Keys.{part_name}
-use Rattle.toml_names.specs.Mentions.{ends_tables}
-use Rattle.toml_names.specs.NameTree.{ClashesAfter}
 use Rattle.toml_names.proofs.EnterName.{IsNode-known, known-address, known-mentioned}
 use Rattle.toml_names.proofs.NextTables.{new_array-there, new_array-adds}
 use Rattle.toml_names.proofs.Steps.{GoesOn-then, follows}

@@ -14,10 +14,12 @@ inner-id-requires c = record {
 }
 
 pub mention-requires : goal.mention-requires
-mention-requires c = record { there = record {
-  tree = (IsNode-known c.args.self.now.nodes.items c.find_or_grow.new.self.nodes.items c.args.at c.requires.there (part_name (piece c.args.part)) c.in-Known.found (rw c.in-Known.is at c.in_ok-found.ensures.found)).tree;
-  within = c.inner-id.ensures.within;
-} }
+mention-requires c = record {
+  there = record {
+    tree = (IsNode-known c.args.self.now.nodes.items c.find_or_grow.new.self.nodes.items c.args.at c.requires.there (part_name (piece c.args.part)) c.in-Known.found (rw c.in-Known.is at c.in_ok-found.ensures.found)).tree;
+    within = c.inner-id.ensures.within;
+  };
+}
 
 pub returns-in_err-mention-in-Known : goal.returns-in_err-mention-in-Known
 returns-in_err-mention-in-Known c =

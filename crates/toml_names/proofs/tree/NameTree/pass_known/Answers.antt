@@ -39,12 +39,14 @@ returns-in-None c =
     }
 
 pub inner-here-requires : goal.inner-here-requires
-inner-here-requires c = record { there = rw c.find.ensures.nodes (record {
-  tree = c.loop-dotted.invariant.passed.tree;
-  within = passed-within (part_name (piece c.args.key.now.first)) c.deref-dotted-items.result.now c.loop-dotted.dotted-index c.dotted-item.result c.loop-dotted-test.true c.dotted-item.is
-      c.args.self.now.nodes.items c.loop-dotted.self.nodes.items c.args.line c.loop-dotted.here (part_name (piece c.loop-dotted.part)) c.loop-dotted.invariant.passed
-      c.in-Some.found nowhere (c.in_ok-found.ensures.found nowhere ∙ c.in-Some.is);
-}) }
+inner-here-requires c = record {
+  there = rw c.find.ensures.nodes (record {
+    tree = c.loop-dotted.invariant.passed.tree;
+    within = passed-within (part_name (piece c.args.key.now.first)) c.deref-dotted-items.result.now c.loop-dotted.dotted-index c.dotted-item.result c.loop-dotted-test.true c.dotted-item.is
+        c.args.self.now.nodes.items c.loop-dotted.self.nodes.items c.args.line c.loop-dotted.here (part_name (piece c.loop-dotted.part)) c.loop-dotted.invariant.passed
+        c.in-Some.found nowhere (c.in_ok-found.ensures.found nowhere ∙ c.in-Some.is);
+  });
+}
 
 pub mention-requires : goal.mention-requires
 mention-requires c =
