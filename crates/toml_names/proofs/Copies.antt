@@ -49,18 +49,9 @@ or_part (Some d) p = Some d
 abbrev pub Completes : Members → List Entry → Members → Type 0
 Completes copies left all = (name : List ℕ) → AreSameIn (or_part (get_by_text copies name) (found name left)) (get_by_text all name)
 
-pub completes_none : (copies all : Members) (left : List Entry) → copies.entries ≡ [] → left ≡ all.entries → Completes copies left all
-completes_none copies all left none is name at = ap (λ es. kind_in (or_part (found name es) (found name left)) at) none ∙ ap (λ es. kind_in (found name es) at) is
-
 or_none : (o : Option Datum) → or_part o None ≡ o
 or_none None = refl
 or_none (Some d) = refl
-
-pub completes_all : (copies all : Members) (left : List Entry) → left ≡ [] → Completes copies left all → (name : List ℕ) → AreSameIn (get_by_text copies name) (get_by_text all name)
-completes_all copies all left none completes name at =
-    ap (λ (o : Option Datum). kind_in o at) (sym (or_none (get_by_text copies name)))
-    ∙ ap (λ es. kind_in (or_part (get_by_text copies name) (found name es)) at) (sym none)
-    ∙ completes name at
 
 apart : (k q : List ℕ) → bytes_eq k q ≡ false → bytes_eq q k ≡ false
 apart k q h = by (bytes_eq q k) refl

@@ -1,6 +1,6 @@
 -- What holds of each, of every two and of some of a list, by recursion.
 use Rattle.std.proofs.Common.{◌≡◌, zero, suc, ◌⊎◌, inl, inr, List, [], ◌∷◌, ◌++◌, All, Any, AllPairs, refl, sym, subst, arith}
-use Rattle.std.proofs.lemmas.List.Elements.{All-head, All-tail, All-nil, All-cons}
+use Rattle.std.proofs.lemmas.List.Elements.{All-head, All-tail}
 use Rattle.toml_tree.specs.Spells.{EachIs}
 
 -- ---- each
@@ -24,10 +24,6 @@ each_weaker P Q w (x ∷ xs) h = (w x h.0, each_weaker P Q w xs h.1)
 pub each_of_all : {A : Type 0} (P : A → Type 0) (xs : List A) → All P xs → EachIs P xs
 each_of_all P [] h = tt
 each_of_all P (x ∷ xs) h = (All-head P x xs h, each_of_all P xs (All-tail P x xs h))
-
-pub all_of_each : {A : Type 0} (P : A → Type 0) (xs : List A) → EachIs P xs → All P xs
-all_of_each P [] h = All-nil P
-all_of_each P (x ∷ xs) h = All-cons P x xs h.0 (all_of_each P xs h.1)
 
 -- ---- every two
 

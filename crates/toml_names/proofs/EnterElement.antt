@@ -1,22 +1,17 @@
 -- What entering the next element of an array in a value leaves.
-use Rattle.std.proofs.Common.{◌≡◌, ℕ, ◌+◌, ◌<◌, ◌&&◌, Bool, true, false, cond, List, [], ◌∷◌, ◌++◌, length, Some, refl, sym, ap, ◌∙◌, slice_index_or, arith}
+use Rattle.std.proofs.Common.{◌≡◌, ℕ, ◌+◌, ◌<◌, ◌&&◌, Bool, true, false, cond, List, [], ◌∷◌, ◌++◌, length, Some, None, refl, sym, ap, ◌∙◌, slice_index_or, arith}
 use Rattle.std.proofs.lemmas.Bool.{cond-false}
-use Rattle.std.proofs.lemmas.Option.{none-some}
-use Rattle.toml_names.specs.declared.address.Step.TheVariants.{Name, Index}
+use Rattle.std.proofs.lemmas.Option.{none-some, slice_get_past}
+use Rattle.toml_names.specs.declared.address.Step.TheVariants.{Index}
 use Rattle.toml_names.specs.declared.named.Role.{Role}
 use Rattle.toml_names.specs.declared.named.Role.TheVariants.{Passed, Header, Dotted, Valued, Tables, Element, Bare}
 use Rattle.toml_names.specs.Addresses.{Address, same_address, element}
 use Rattle.toml_names.specs.Mentions.{Kind, Named, is_tables, is_tables_at, count_tables}
-use Rattle.toml_names.specs.NameTree.{IsTree, IsTreeOf, Enters, LeadsTo, KeepsOthers}
-use Rattle.toml_names.specs.Nodes.{Spot, address_at, grown}
+use Rattle.toml_names.specs.NameTree.{IsTree, IsTreeOf, LeadsTo, KeepsOthers}
+use Rattle.toml_names.specs.Nodes.{Spot, addresses, address_at, place_of, grown}
 use Rattle.toml_names.specs.Places.{same_role, first_line}
-use Rattle.toml_names.proofs.CountsKept.{IsTreeOf-grown}
-use Rattle.toml_names.proofs.CountsOfTables.{fresh_element}
 use Rattle.toml_names.proofs.Counting.{count_cons}
-use Rattle.toml_names.proofs.Fitting.{but_counts, fits-no_node}
-use Rattle.toml_names.proofs.Misfits.{misfit-later}
-use Rattle.toml_names.proofs.NodeCounts.{table_count-element}
-use Rattle.toml_names.proofs.TreeGrown.{length-grown, address-new, node-last, node-above, node-other, KeepsAddresses-grown, IsTree-grown}
+use Rattle.toml_names.proofs.TreeGrown.{length-grown, address-new, node-last, node-above, node-other}
 
 tables_role : (r : Role) → same_role r Tables ≡ is_tables r
 tables_role Passed = refl
@@ -66,6 +61,13 @@ count_from_lone nodes ms k d stands low lone = stands.counts k d low ∙ ap (λ 
     by true = refl
     by false = refl
 
+-- no element stands behind the last
+pub fresh_element : (nodes : List Spot) (id : ℕ) (d : Spot) → IsTree nodes → id < length nodes
+    → place_of (element (address_at nodes id) (length (slice_index_or nodes id d).elements)) (addresses nodes) ≡ None
+fresh_element nodes id d tree low =
+    sym (tree.indices id d (length (slice_index_or nodes id d).elements) low)
+    ∙ slice_get_past (slice_index_or nodes id d).elements (length (slice_index_or nodes id d).elements) (omega arith)
+
 module _ (nodes : List Spot) (tree : IsTree nodes) (id : ℕ) (low : id < length nodes) (d : Spot) (r : Role) (kind : Kind) (line : ℕ) where
   abbrev i : ℕ
   i = length (slice_index_or nodes id d).elements
@@ -75,23 +77,6 @@ module _ (nodes : List Spot) (tree : IsTree nodes) (id : ℕ) (low : id < length
 
   abbrev m : Named
   m = record { address = element (address_at nodes id) i; role = r; kind = kind; line = line }
-
-  next_index : (j : ℕ) → Index i ≡ Index j → j ≡ i
-  next_index j same = cc
-
-  no_name : (n : List ℕ) → Index i ≡ Name n → r ≡ Bare → ⊥
-  no_name n same = cc
-
-  -- the array is no array of tables in any list for which the nodes stand
-  pub Enters-element : is_tables r ≡ false → ((ms : List Named) → IsTreeOf nodes ms → is_tables (slice_index_or nodes id d).role ≡ false) → Enters nodes after (m ∷ [])
-  Enters-element plain array = record {
-    tree = IsTree-grown nodes id d (Index i) r kind line low tree (fresh_element nodes id d tree low) next_index no_name;
-    kept = KeepsAddresses-grown nodes id d (Index i) r kind line low;
-    stands = λ ms stands.
-        IsTreeOf-grown nodes id d (Index i) r kind line low plain (table_count-element (slice_index_or nodes id d) (Index i) (length nodes) (array ms stands))
-        (fresh_element nodes id d tree low) next_index no_name ms stands;
-    goes = λ ms stands. misfit-later ms [] m (fits-no_node nodes ms (but_counts nodes ms stands) m (fresh_element nodes id d tree low));
-  }
 
   pub LeadsTo-element : LeadsTo after (length nodes) (element (address_at nodes id) i)
   LeadsTo-element = record { within = let long = length-grown nodes id d (Index i) r kind line low in omega arith; address = address-new nodes id d (Index i) r kind line low (length nodes) refl }

@@ -1,17 +1,20 @@
 -- A dotted key's proper fronts, entered one by one.
-use Rattle.std.proofs.Common.{◌≡◌, ℕ, ◌+◌, ◌<◌, ◌≤◌, List, [], ◌∷◌, ◌++◌, length, map, take, drop, refl, sym, ap, subst, ◌∙◌, slice_index_or}
+use Rattle.std.proofs.Common.{◌≡◌, ℕ, ◌+◌, ◌<◌, ◌≤◌, List, [], ◌∷◌, ◌++◌, length, map, suc, take, drop, refl, sym, ap, subst, ◌∙◌, slice_index_or, arith}
 use Rattle.std.proofs.lemmas.List.{append_assoc, map-append, take_more, take_all, drop_more, take-append-drop, length-map}
 use Rattle.toml_tree.specs.declared.tree.Dotted.{Dotted as Part}
-use Rattle.toml_tree.specs.View.{piece, dotted}
+use Rattle.toml_tree.specs.declared.tree.Key.{Key as TreeKey}
+use Rattle.toml_tree.specs.View.{piece, dotted, key as tree_key}
 use Rattle.toml_names.specs.declared.address.Step.TheVariants.{Name}
 use Rattle.toml_names.specs.declared.named.Role.TheVariants.{Dotted}
 use Rattle.toml_names.specs.Addresses.{Address, child, below}
-use Rattle.toml_names.specs.Keys.{Key, part_name}
+use Rattle.toml_names.specs.Keys.{Key, part_name, key_names}
+use Rattle.toml_names.specs.LongKeys.{FollowedFronts}
 use Rattle.toml_names.specs.Mentions.{Named, a_table, table_at, fronts}
-use Rattle.toml_names.specs.NameTree.{Enters, Clashes, name_at}
+use Rattle.toml_names.specs.NameTree.{Enters, EntersTo, Clashes, name_at}
 use Rattle.toml_names.specs.Nodes.{Spot, address_at}
+use Rattle.toml_names.specs.Steps.{IsNode}
 use Rattle.toml_names.proofs.Along.{names_left}
-use Rattle.toml_names.proofs.EnterSteps.{Enters-append, Clashes-later, Clashes-front}
+use Rattle.toml_names.proofs.EnterSteps.{Enters-none, Enters-append, KeepsElements-same, KeepsElements-then, Clashes-later, Clashes-front}
 
 -- the fronts of a key up to a name, and those from there on
 pub fronts-append : (line : ℕ) (xs : Key) (at : Address) (n y : List ℕ) (ys : Key)
@@ -49,30 +52,43 @@ module _ (first : List ℕ) (rest : List Part) (i : ℕ) (d : Part) (low : i < l
       ap (λ ds. first ∷ names_left ds) (sym (take-append-drop i rest) ∙ ap (λ l. take i rest ++ l) (drop_more rest i d low ∙ ap (λ x. x ∷ drop (i + 1) rest) (sym is)))
       ∙ ap (λ l. first ∷ l) (left-append (take i rest) (d ∷ drop (i + 1) rest))
 
-  module _ (old now : List Spot) (at : Address) (line here : ℕ) (part : List ℕ) (done : Enters old now (fronts line at (first_names first rest i)))
-      (last : child (address_at now here) part ≡ below at (first_names first rest i)) where
-    front_is : name_at now here part Dotted a_table line ≡ table_at line Dotted (below at (first_names first rest i))
-    front_is = ap (table_at line Dotted) last
+  module _ (old now : List Spot) (line : ℕ) (at : Address) (here : ℕ) (part : List ℕ) (followed : FollowedFronts old now line at here part (first_names first rest i)) where
+    abbrev before : Key
+    before = first_names first rest i
 
-    made : fronts line at (first_names first rest (i + 1)) ≡ fronts line at (first_names first rest i) ++ name_at now here part Dotted a_table line ∷ []
-    made =
-        ap (fronts line at) one_more ∙ fronts-append line (names_left (take i rest)) at first n []
-        ∙ ap (λ m. fronts line at (first_names first rest i) ++ m ∷ []) (sym front_is)
+    abbrev front : Named
+    front = name_at now here part Dotted a_table line
 
-    pub Enters-front : (next : List Spot) → Enters now next (name_at now here part Dotted a_table line ∷ []) → Enters old next (fronts line at (first_names first rest (i + 1)))
-    Enters-front next enters = subst (Enters old next) (sym made) (Enters-append (fronts line at (first_names first rest i)) (name_at now here part Dotted a_table line ∷ []) done enters)
+    front_is : front ≡ table_at line Dotted (below at before)
+    front_is = ap (table_at line Dotted) followed.last
 
-    pub last-front : (a : Address) → a ≡ child (address_at now here) part → child a n ≡ below at (first_names first rest (i + 1))
-    last-front a led = ap (λ x. child x n) (led ∙ last) ∙ sym (ap (below at) one_more ∙ below-push at (first_names first rest i) n)
+    made : fronts line at (first_names first rest (i + 1)) ≡ fronts line at before ++ front ∷ []
+    made = ap (fronts line at) one_more ∙ fronts-append line (names_left (take i rest)) at first n [] ∙ ap (λ m. fronts line at before ++ m ∷ []) (sym front_is)
 
-    pub Clashes-fronts : (a : Address) → Clashes now (name_at now here part Dotted a_table line ∷ []) a → Clashes old (fronts line at (first ∷ names_left rest)) a
+    pub FollowedFronts-more : (next : List Spot) (id : ℕ) → EntersTo now next (front ∷ []) (child (address_at now here) part) id
+        → FollowedFronts old next line at id n (first_names first rest (i + 1))
+    FollowedFronts-more next id enters = record {
+      entered = subst (Enters old next) (sym made) (Enters-append (fronts line at before) (front ∷ []) followed.entered enters.enters);
+      within = enters.leads.within;
+      last = ap (λ x. child x n) (enters.leads.address ∙ followed.last) ∙ sym (ap (below at) one_more ∙ below-push at before n);
+      elements = KeepsElements-then old now next followed.entered.kept.longer followed.elements enters.elements;
+    }
+
+    pub Clashes-fronts : (a : Address) → Clashes now (front ∷ []) a → Clashes old (fronts line at (first ∷ names_left rest)) a
     Clashes-fronts a clash =
-        let behind : List Named = fronts line (below at (first_names first rest i)) (n ∷ names_left (drop (i + 1) rest)) in
+        let behind : List Named = fronts line (below at before) (n ∷ names_left (drop (i + 1) rest)) in
         subst (λ l. Clashes old l a)
         (sym (ap (fronts line at) all_names ∙ fronts-append line (names_left (take i rest)) at first n (names_left (drop (i + 1) rest))
-        ∙ ap (λ m. fronts line at (first_names first rest i) ++ (m ∷ behind)) (sym front_is)))
-        (Clashes-later (fronts line at (first_names first rest i)) (name_at now here part Dotted a_table line ∷ behind) a done
-        (Clashes-front (name_at now here part Dotted a_table line ∷ []) behind a clash))
+        ∙ ap (λ m. fronts line at before ++ (m ∷ behind)) (sym front_is)))
+        (Clashes-later (fronts line at before) (front ∷ behind) a followed.entered (Clashes-front (front ∷ []) behind a clash))
 
-pub length-left : (rest : List Part) → length (names_left rest) ≡ length rest
-length-left rest = length-map (map dotted rest) (λ d. part_name d.part) ∙ length-map rest dotted
+-- no front was entered yet
+pub FollowedFronts-first : (old : List Spot) (line at : ℕ) (first : List ℕ) → IsNode old at → FollowedFronts old old line (address_at old at) at first (first ∷ [])
+FollowedFronts-first old line at first there = record { entered = Enters-none old there.tree; within = there.within; last = refl; elements = KeepsElements-same old }
+
+-- a key has one part more than dots
+pub key-length : (k : TreeKey) → length (key_names (tree_key k)) ≡ length k.rest.items + 1
+key-length k =
+    let same = length-map (map dotted k.rest.items) (λ d. part_name d.part) ∙ length-map k.rest.items dotted in
+    let one : suc (length k.rest.items) ≡ length k.rest.items + 1 = omega arith in
+    ap suc same ∙ one

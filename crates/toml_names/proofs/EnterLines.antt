@@ -1,13 +1,13 @@
 -- What entering a line leaves, by what stands on it.
 use Rattle.std.proofs.Common.{◌≡◌, ℕ, ◌<◌, List, [], ◌++◌, length, Some, None, refl, sym, ap, subst, ◌∙◌, arith}
 use Rattle.toml_tree.specs.Tree.{Piece, Blank, Header, KeyVal, KeyValLine, TableLine, ArrayTableLine, Expr}
-use Rattle.toml_names.specs.Addresses.{Address, element, below}
-use Rattle.toml_names.specs.EnteringHeaders.{EntersHeader}
+use Rattle.toml_names.specs.Addresses.{Address, below}
+use Rattle.toml_names.specs.EnteringHeaders.{EntersHeader, table_names, tables_names, next_table}
 use Rattle.toml_names.specs.EnteringLines.{EntersLine}
 use Rattle.toml_names.specs.Keys.{key_names, part_name, rest_names}
-use Rattle.toml_names.specs.Mentions.{Named, named_by, section, pair_named, followed, ends_table, ends_tables, count_tables}
+use Rattle.toml_names.specs.Mentions.{Named, named_by, section, pair_named}
 use Rattle.toml_names.specs.Names.{header_end, own_address}
-use Rattle.toml_names.specs.NameTree.{IsTreeOf, Enters, LeadsTo}
+use Rattle.toml_names.specs.NameTree.{IsTreeOf, EntersTo}
 use Rattle.toml_names.specs.Nodes.{Spot, address_at}
 use Rattle.toml_names.specs.Rules.{misfit}
 use Rattle.toml_names.proofs.LineSections.{section_pair, section_table, section_tables}
@@ -29,26 +29,27 @@ module _ (old new : List Spot) (at line id : ℕ) where
   }
 
   pub table_entered : (ws : Piece) (header : Header) (tail : Blank)
-      → EntersHeader old new id (λ ms. followed line ms (ends_table line) [] (key_names header.key)) (λ ms. header_end ms [] (key_names header.key))
+      → EntersHeader old new id (table_names line (key_names header.key)) (λ ms. header_end ms [] (key_names header.key))
       → EntersLine old new at line (TableLine ws header tail) (record { own = Some id; section = id })
   table_entered ws header tail enters =
       header_entered (TableLine ws header tail) (λ ms. header_end ms [] (key_names header.key)) enters
       (λ ms. section_table ms line (part_name header.key.first) (rest_names header.key.rest)) (λ ms. refl)
 
   pub tables_entered : (ws : Piece) (header : Header) (tail : Blank)
-      → EntersHeader old new id (λ ms. followed line ms (ends_tables line ms) [] (key_names header.key))
-      (λ ms. element (header_end ms [] (key_names header.key)) (count_tables ms (header_end ms [] (key_names header.key))))
+      → EntersHeader old new id (tables_names line (key_names header.key)) (λ ms. next_table ms (key_names header.key))
       → EntersLine old new at line (ArrayTableLine ws header tail) (record { own = Some id; section = id })
   tables_entered ws header tail enters =
-      header_entered (ArrayTableLine ws header tail) (λ ms. element (header_end ms [] (key_names header.key)) (count_tables ms (header_end ms [] (key_names header.key)))) enters
+      header_entered (ArrayTableLine ws header tail) (λ ms. next_table ms (key_names header.key)) enters
       (λ ms. section_tables ms line (part_name header.key.first) (rest_names header.key.rest)) (λ ms. refl)
 
   -- a pair leaves it
   pub pair_entered : (ws : Piece) (pair : KeyVal) (tail : Blank) → at < length old
-      → Enters old new (pair_named line (address_at old at) pair.assign pair.value) → LeadsTo new id (below (address_at old at) (key_names pair.assign.key))
+      → EntersTo old new (pair_named line (address_at old at) pair.assign pair.value) (below (address_at old at) (key_names pair.assign.key)) id
       → EntersLine old new at line (KeyValLine ws pair tail) (record { own = Some id; section = at })
-  pair_entered ws pair tail low enters leads =
+  pair_entered ws pair tail low made_is =
       let made = λ (from : Address). pair_named line from pair.assign pair.value in
+      let enters = made_is.enters in
+      let leads = made_is.leads in
       record {
         tree = enters.tree;
         kept = enters.kept;

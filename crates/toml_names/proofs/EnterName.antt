@@ -12,8 +12,9 @@ use Rattle.toml_names.specs.declared.tree.Found.TheVariants.{New}
 use Rattle.toml_names.specs.Addresses.{Address, child}
 use Rattle.toml_names.specs.Mentions.{Kind, is_tables}
 use Rattle.toml_names.specs.Nodes.{Spot, nowhere, addresses, address_at, address_under, place_of, grown, noted}
-use Rattle.toml_names.specs.NameTree.{IsTree, IsFound, Enters, Clashes, LeadsTo, KeepsElements, name_at}
+use Rattle.toml_names.specs.NameTree.{IsTree, IsFound, Enters, EntersTo, Clashes, LeadsTo, KeepsElements, name_at}
 use Rattle.toml_names.specs.Rules.{may_follow}
+use Rattle.toml_names.specs.Steps.{IsBarred, IsNode, IsNoted}
 use Rattle.toml_names.proofs.CountsKept.{IsTreeOf-grown, IsTreeOf-noted}
 use Rattle.toml_names.proofs.Fitting.{but_counts, fits-at_node, fits-no_node}
 use Rattle.toml_names.proofs.Misfits.{misfit-here, misfit-later}
@@ -61,6 +62,10 @@ module _ (nodes : List Spot) (tree : IsTree nodes) (at : ℕ) (low : at < length
       pub LeadsTo-found : LeadsTo (noted nodes id (slice_index_or nodes id e) r line) id (child (address_at nodes at) n)
       LeadsTo-found = record { within = rw (length-noted nodes id e r line found-within) found-within; address = address-noted nodes id e r line found-within id ∙ found-address }
 
+      pub EntersTo-found : is_tables r ≡ false → may_follow (slice_index_or nodes id e).role r ≡ true
+          → EntersTo nodes (noted nodes id (slice_index_or nodes id e) r line) (name_at nodes at n r k line ∷ []) (child (address_at nodes at) n) id
+      EntersTo-found plain goes = record { enters = Enters-found plain goes; leads = LeadsTo-found; elements = KeepsElements-noted nodes id e r line found-within }
+
     -- a node that hangs by a name is named
     hangs_by : (e : Spot) (u : Option (ℕ × Step)) → (slice_index_or nodes id e).under ≡ u → (q : ℕ) × (u ≡ Some (q, Name n))
     hangs_by e u is = by u is (ap (address_under (addresses nodes)) (sym is) ∙ sym (address_at-under nodes id e found-within (λ q s. tree.rising id e q s found-within)) ∙ found-address)
@@ -107,57 +112,45 @@ module _ (nodes : List Spot) (tree : IsTree nodes) (at : ℕ) (low : at < length
         by (inl is) = ap (λ (s : Spot). s.elements) (node-above nodes at e (Name n) r k line low j f is) ∙ ap (λ (s : Spot). s.elements) (get_or_default nodes at e f low) ∙ ap (λ i. (slice_index_or nodes i f).elements) (sym is)
         by (inr apart) = ap (λ (s : Spot). s.elements) (node-other nodes at e (Name n) r k line low j f within apart)
 
--- a name was entered in the table of the node `at`, and leads to the node `id`
-pub record EntersName (old new : List Spot) (at : ℕ) (n : List ℕ) (r : Role) (k : Kind) (line id : ℕ) : Type 0 where
-  pub enters : Enters old new (name_at old at n r k line ∷ [])
-  pub leads : LeadsTo new id (child (address_at old at) n)
-  pub elements : KeepsElements old new
-
 -- what `IsFound` says where the name led to the node `id`, which was there
 abbrev pub IsKnown : List Spot → List Spot → ℕ → List ℕ → ℕ → Type 0
 IsKnown old new at n id = (new ≡ old) × ((d : Spot) → lookup (bytes_eq n) (slice_index_or old at d).children ≡ Some id)
 
-module _ (old new : List Spot) (tree : IsTree old) (at : ℕ) (low : at < length old) (n : List ℕ) (id : ℕ) where
+module _ (old new : List Spot) (at : ℕ) (there : IsNode old at) (n : List ℕ) (id : ℕ) where
   -- to a node that was there
   module _ (known : IsKnown old new at n id) where
-    pub known-within : id < length new
-    known-within = rw known.0 (found-within old tree at low n nowhere id (known.1 nowhere))
+    pub IsNode-known : IsNode new id
+    IsNode-known = record { tree = rw known.0 there.tree; within = rw known.0 (found-within old there.tree at there.within n nowhere id (known.1 nowhere)) }
 
     pub known-address : address_at new id ≡ child (address_at old at) n
-    known-address = rw known.0 (found-address old tree at low n nowhere id (known.1 nowhere))
+    known-address = rw known.0 (found-address old there.tree at there.within n nowhere id (known.1 nowhere))
 
     pub known-mentioned : (e : Spot) → (slice_index_or new id e).role ≡ Bare → ⊥
-    known-mentioned = rw known.0 (found-mentioned old tree at low n nowhere id (known.1 nowhere))
+    known-mentioned = rw known.0 (found-mentioned old there.tree at there.within n nowhere id (known.1 nowhere))
 
     pub Clashes-known_value : (k : Kind) (line : ℕ) (a : Address) → address_at new id ≡ a → Clashes old (name_at old at n Valued k line ∷ []) a
     Clashes-known_value k line a is =
-        subst (Clashes old (name_at old at n Valued k line ∷ [])) (rw known.0 at is) (Clashes-value old tree at low n nowhere id (known.1 nowhere) k line)
+        subst (Clashes old (name_at old at n Valued k line ∷ [])) (rw known.0 at is) (Clashes-value old there.tree at there.within n nowhere id (known.1 nowhere) k line)
 
     module _ (r : Role) (k : Kind) (line : ℕ) where
-      pub Clashes-known : (a : Address) → (may_follow (slice_index_or new id nowhere).role r ≡ false) × (address_at new id ≡ a) → Clashes old (name_at old at n r k line ∷ []) a
-      Clashes-known a clash =
-          let bad = rw known.0 at clash in
-          subst (Clashes old (name_at old at n r k line ∷ [])) bad.1 (Clashes-found old tree at low n nowhere id (known.1 nowhere) r k line nowhere bad.0)
+      pub Clashes-known : (a : Address) → IsBarred new id r a → Clashes old (name_at old at n r k line ∷ []) a
+      Clashes-known a barred =
+          subst (Clashes old (name_at old at n r k line ∷ [])) (rw known.0 at barred.address)
+          (Clashes-found old there.tree at there.within n nowhere id (known.1 nowhere) r k line nowhere (rw known.0 at (barred.bad nowhere)))
 
-      pub EntersName-known : is_tables r ≡ false → (then : List Spot)
-          → (may_follow (slice_index_or new id nowhere).role r ≡ true) × (then ≡ noted new id (slice_index_or new id nowhere) r line) → EntersName old then at n r k line id
-      EntersName-known plain then mentioned =
-          let goes = rw known.0 at mentioned in
-          rw goes.1 (record {
-            enters = Enters-found old tree at low n nowhere id (known.1 nowhere) r k line nowhere plain goes.0;
-            leads = LeadsTo-found old tree at low n nowhere id (known.1 nowhere) r k line nowhere;
-            elements = KeepsElements-noted old id nowhere r line (found-within old tree at low n nowhere id (known.1 nowhere));
-          })
+      pub EntersTo-known : is_tables r ≡ false → (then : List Spot) → IsNoted new then id r line → EntersTo old then (name_at old at n r k line ∷ []) (child (address_at old at) n) id
+      EntersTo-known plain then noted_is = rw (rw known.0 at (noted_is.nodes nowhere))
+          (EntersTo-found old there.tree at there.within n nowhere id (known.1 nowhere) r k line nowhere plain (rw known.0 at (noted_is.goes nowhere)))
 
   -- to a new node
   module _ (r : Role) (k : Kind) (line : ℕ) (led : IsFound old new at n r k line (New id)) where
-    pub EntersName-new : is_tables r ≡ false → (r ≡ Bare → ⊥) → EntersName old new at n r k line id
-    EntersName-new plain mention =
+    pub EntersTo-new : is_tables r ≡ false → (r ≡ Bare → ⊥) → EntersTo old new (name_at old at n r k line ∷ []) (child (address_at old at) n) id
+    EntersTo-new plain mention =
         rw (led.2 nowhere, led.0) (record {
-          enters = Enters-new old tree at low n nowhere (led.1 nowhere) r k line nowhere plain mention;
-          leads = LeadsTo-new old tree at low n nowhere (led.1 nowhere) r k line nowhere;
-          elements = KeepsElements-new old tree at low n nowhere (led.1 nowhere) r k line nowhere;
+          enters = Enters-new old there.tree at there.within n nowhere (led.1 nowhere) r k line nowhere plain mention;
+          leads = LeadsTo-new old there.tree at there.within n nowhere (led.1 nowhere) r k line nowhere;
+          elements = KeepsElements-new old there.tree at there.within n nowhere (led.1 nowhere) r k line nowhere;
         })
 
     pub lone-led : (e : Spot) → (slice_index_or new id e).elements ≡ []
-    lone-led = rw (led.2 nowhere, led.0) (lone-new old tree at low n nowhere (led.1 nowhere) r k line nowhere)
+    lone-led = rw (led.2 nowhere, led.0) (lone-new old there.tree at there.within n nowhere (led.1 nowhere) r k line nowhere)

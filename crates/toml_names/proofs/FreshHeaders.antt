@@ -1,19 +1,14 @@
 -- A header whose next name is new: all behind it is new too, so that nodes for it can be added.
-use Rattle.std.proofs.Common.{◌≡◌, ℕ, List, [], ◌∷◌, ◌++◌, length, None, refl, sym, subst, ◌∙◌, slice_index_or}
+use Rattle.std.proofs.Common.{ℕ, List, [], ◌∷◌, ◌++◌, length, refl, sym, subst, ◌∙◌, slice_index_or}
 use Rattle.std.proofs.lemmas.List.{append_assoc, append-nil}
 use Rattle.toml_names.specs.declared.address.Step.TheVariants.{Name, Index}
 use Rattle.toml_names.specs.declared.named.Role.TheVariants.{Header, Passed, Tables, Element}
-use Rattle.toml_names.specs.Addresses.{element}
 use Rattle.toml_names.specs.EnteringHeaders.{PassedFronts}
-use Rattle.toml_names.specs.Headers.{header_fronts}
 use Rattle.toml_names.specs.Keys.{Key}
-use Rattle.toml_names.specs.LongKeys.{CanEnterHeader}
-use Rattle.toml_names.specs.Mentions.{Named, a_table, an_array, followed, ends_table, ends_tables, count_tables}
-use Rattle.toml_names.specs.Names.{header_end}
-use Rattle.toml_names.specs.NameTree.{IsTreeOf}
+use Rattle.toml_names.specs.LongKeys.{CanEnterHeaders}
+use Rattle.toml_names.specs.Mentions.{a_table, an_array}
 use Rattle.toml_names.specs.Nodes.{Spot, grown}
-use Rattle.toml_names.specs.Rules.{misfit}
-use Rattle.toml_names.proofs.EnterName.{Enters-new, LeadsTo-new}
+use Rattle.toml_names.proofs.EnterName.{Enters-new, LeadsTo-new, KeepsElements-new}
 use Rattle.toml_names.proofs.FreshKeys.{IsAbsent, absent-new}
 use Rattle.toml_names.proofs.HeaderLines.{table_line, tables_line}
 use Rattle.toml_names.proofs.InnerNodes.{Passes-new}
@@ -55,28 +50,26 @@ module _ (old : List Spot) (line : ℕ) (e : Spot) where
     abbrev passed : PassedFronts old then line fresh.here fresh.part key
     passed = fresh.passed
 
-    both : (ms : List Named) → IsTreeOf old ms → IsTreeOf then (ms ++ header_fronts line ms [] key) × (misfit ms (header_fronts line ms [] key) ≡ None)
-    both ms stands = (passed.stands ms stands, passed.goes ms stands)
-
-    -- the end is a table
-    pub fresh_table : CanEnterHeader old (λ ms. followed line ms (ends_table line) [] key) (λ ms. header_end ms [] key)
-    fresh_table =
-        let enters = Enters-new then passed.tree fresh.here passed.within fresh.part e (fresh.absent e) Header a_table line e refl (λ h. cc) in
-        let leads = LeadsTo-new then passed.tree fresh.here passed.within fresh.part e (fresh.absent e) Header a_table line e in
-        let next = grown then fresh.here (slice_index_or then fresh.here e) (Name fresh.part) Header a_table line in
-        (next, length then, table_line old then line fresh.here fresh.part first xs passed.kept both passed.last next (length then) enters leads)
-
-    -- the end is an array of tables
-    pub fresh_tables : CanEnterHeader old (λ ms. followed line ms (ends_tables line ms) [] key)
-        (λ ms. element (header_end ms [] key) (count_tables ms (header_end ms [] key)))
-    fresh_tables =
+    -- the end is a table, or an array of tables
+    pub fresh_headers : CanEnterHeaders old line key
+    fresh_headers =
+        let table = grown then fresh.here (slice_index_or then fresh.here e) (Name fresh.part) Header a_table line in
         let array = grown then fresh.here (slice_index_or then fresh.here e) (Name fresh.part) Tables an_array line in
         let next = grown array (length then) (slice_index_or array (length then) e) (Index (length (slice_index_or array (length then) e).elements)) Element a_table line in
         let absent = sym (passed.tree.names fresh.here e fresh.part passed.within) ∙ fresh.absent e in
-        let adds = adds_first then fresh.here e fresh.part line passed.within absent passed.tree e in (
-          next,
-          length array,
-          tables_line old then line fresh.here fresh.part first xs passed.kept both passed.last next (length array) adds.tree adds.kept adds.within
-              (λ ms stands. (adds.stands ms stands, adds.goes ms stands))
-              (λ ms stands. record { within = adds.within; address = adds.leads ms stands }),
-        )
+        record {
+          table = (
+            table,
+            length then,
+            table_line old then line fresh.here fresh.part first xs passed table (length then) (record {
+              enters = Enters-new then passed.tree fresh.here passed.within fresh.part e (fresh.absent e) Header a_table line e refl (λ h. cc);
+              leads = LeadsTo-new then passed.tree fresh.here passed.within fresh.part e (fresh.absent e) Header a_table line e;
+              elements = KeepsElements-new then passed.tree fresh.here passed.within fresh.part e (fresh.absent e) Header a_table line e;
+            }),
+          );
+          tables = (
+            next,
+            length array,
+            tables_line old then line fresh.here fresh.part first xs passed next (length array) (adds_first then fresh.here e fresh.part line passed.within absent passed.tree e),
+          );
+        }

@@ -2,7 +2,7 @@
 use Rattle.std.proofs.Common.{◌≡◌, ℕ, ◌+◌, ◌<◌, List, [], ◌∷◌, ◌++◌, length, Some, ap, ◌∙◌, slice_index_or, slice_set}
 use Rattle.std.proofs.lemmas.List.{get_or_default}
 use Rattle.toml_names.specs.declared.address.Step.{Step}
-use Rattle.toml_names.specs.declared.address.Step.TheVariants.{Name, Index}
+use Rattle.toml_names.specs.declared.address.Step.TheVariants.{Index}
 use Rattle.toml_names.specs.declared.named.Role.{Role}
 use Rattle.toml_names.specs.Mentions.{Kind}
 use Rattle.toml_names.specs.Nodes.{Spot, leaf, linked, grown}
@@ -17,10 +17,6 @@ module _ (nodes : List Spot) (v : Spot) (p : ℕ) (low : p < length nodes) (read
 
     whatever : (d : Spot) → v ≡ slice_index_or nodes p d
     whatever d = read ∙ get_or_default nodes p v d low
-
-    pub grows-name : (n : List ℕ) → after ≡ linked v (Name n) id → m ≡ leaf (Some (p, Name n)) (depth + 1) r k line
-        → (d : Spot) → more ≡ grown nodes p (slice_index_or nodes p d) (Name n) r k line
-    grows-name n made new d = grows (Name n) made new ∙ ap (λ s. grown nodes p s (Name n) r k line) (whatever d)
 
     pub grows-element : (i : ℕ) → i ≡ length v.elements → after ≡ linked v (Index i) id → m ≡ leaf (Some (p, Index i)) (depth + 1) r k line
         → (d : Spot) → more ≡ grown nodes p (slice_index_or nodes p d) (Index (length (slice_index_or nodes p d).elements)) r k line

@@ -1,8 +1,8 @@
 -- Whether data are what stands in the tree of names, level by level.
-use Rattle.std.proofs.Common.{◌≡◌, ◌↔◌, ◌⊎◌, ◌==◌, Result, Ok, Err, IfOk, ℕ, ◌+◌, ◌<◌, ◌≤◌, Bool, true, false, List, [], ◌∷◌, ◌++◌, length, Option, Some, None, IsSome, IsTrue, is_some, option_map, String, Vec, BTreeMap, Global, string_bytes, string_cmp, slice_index_or, get_or, refl, sym, ap, subst, ⊎_elim, ◌∙◌, true≢false, arith}
+use Rattle.std.proofs.Common.{◌≡◌, ◌↔◌, ◌==◌, Result, Ok, Err, IfOk, ℕ, ◌<◌, ◌≤◌, Bool, true, List, [], ◌∷◌, ◌++◌, length, Option, Some, None, IsSome, IsTrue, is_some, option_map, String, Vec, BTreeMap, Global, string_cmp, slice_index_or, refl, sym, ap, subst, ⊎_elim, ◌∙◌, true≢false, arith}
 use Rattle.std.proofs.lemmas.Bool.{cases_lt, eqb-true}
 use Rattle.std.proofs.lemmas.List.{append_assoc, append-nil}
-use Rattle.std.proofs.lemmas.Option.{none-some, same_Some, slice_get_past, slice_get_within, slice_get-get_or}
+use Rattle.std.proofs.lemmas.Option.{none-some, slice_get_past, slice_get_within, slice_get-get_or}
 use Rattle.std.proofs.lemmas.Slice.Eq.{bytes_eq-Decides}
 use Rattle.std.specs.BTreeMap.{get_by_text, btree_map_len, IsOrdered}
 use Rattle.std.specs.Map.{lookup}
@@ -14,14 +14,14 @@ use Rattle.toml_names.specs.declared.address.Step.{Step}
 use Rattle.toml_names.specs.declared.address.Step.TheVariants.{Name, Index}
 use Rattle.toml_names.specs.declared.datum.Datum.{Datum, Scalar, Array, Table}
 use Rattle.toml_names.specs.Addresses.{Address}
-use Rattle.toml_names.specs.Data.{kind_at, kind_in, Kinds, fact_at}
+use Rattle.toml_names.specs.Data.{kind_at, kind_in, Kinds}
 use Rattle.toml_names.specs.Held.{Holds, below_node, node_kind}
-use Rattle.toml_names.specs.Mentions.{Kind, Named, a_table, an_array, a_scalar}
+use Rattle.toml_names.specs.Mentions.{Kind, a_table, an_array, a_scalar}
 use Rattle.toml_names.specs.NameMaps.{AreDistinct}
-use Rattle.toml_names.specs.NameTree.{IsTree, IsTreeOf}
+use Rattle.toml_names.specs.NameTree.{IsTree}
 use Rattle.toml_names.specs.Nodes.{Spot, addresses, address_at, nowhere, place_of}
 use Rattle.toml_names.proofs.Alike.{part_there, kind_there, Each, Entry, each_found}
-use Rattle.toml_names.proofs.Levels.{scalar-here, scalar-below, array-here, array-item, array-name, table-here, table-member, table-index, has_kind, scalar_from_kind, array_from_kind, table_from_kind}
+use Rattle.toml_names.proofs.Levels.{scalar-here, scalar-below, array-here, array-item, array-name, table-here, table-member, table-index, scalar_from_kind, array_from_kind, table_from_kind}
 use Rattle.toml_names.proofs.SameCount.{one_count, none_left}
 use Rattle.toml_names.proofs.Walking.{leads_to, nothing_below, own_place}
 

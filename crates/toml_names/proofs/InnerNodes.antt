@@ -10,9 +10,10 @@ use Rattle.toml_names.specs.declared.address.Step.TheVariants.{Name}
 use Rattle.toml_names.specs.declared.named.Role.TheVariants.{Passed, Tables}
 use Rattle.toml_names.specs.Addresses.{Address, child, element}
 use Rattle.toml_names.specs.Mentions.{Named, a_table, is_tables, count_tables, entered, table_at}
-use Rattle.toml_names.specs.NameTree.{IsTree, IsTreeOf, Passes}
+use Rattle.toml_names.specs.NameTree.{IsTree, IsTreeOf, ClashesAfter, Passes}
 use Rattle.toml_names.specs.Nodes.{Spot, nowhere, addresses, address_at, place_of, grown, noted}
 use Rattle.toml_names.specs.Rules.{may_follow, misfit}
+use Rattle.toml_names.specs.Steps.{IsBarred, IsNode, IsNoted}
 use Rattle.toml_names.proofs.CountsKept.{IsTreeOf-noted}
 use Rattle.toml_names.proofs.EnterName.{Enters-new, LeadsTo-new, IsKnown, known-address}
 use Rattle.toml_names.proofs.Fitting.{but_counts, fits-at_node}
@@ -113,22 +114,17 @@ module _ (nodes : List Spot) (tree : IsTree nodes) (at : ℕ) (n : List ℕ) (li
         }
 
 -- a name led to the node `found`, and the header goes on at `id`
-module _ (old new : List Spot) (tree : IsTree old) (at : ℕ) (low : at < length old) (n : List ℕ) (line found : ℕ) (known : IsKnown old new at n found)
+module _ (old new : List Spot) (at : ℕ) (there : IsNode old at) (n : List ℕ) (line found : ℕ) (known : IsKnown old new at n found)
     (id : ℕ) (within : id < length new) (goes_on : GoesOnAt new (address_at new found) id) where
   low_there : id < length old
   low_there = rw known.0 at within
 
   goes_there : GoesOnAt old (child (address_at old at) n) id
-  goes_there = subst (λ l. GoesOnAt l (child (address_at old at) n) id) known.0 (subst (λ a. GoesOnAt new a id) (known-address old new tree at low n found known) goes_on)
+  goes_there = subst (λ l. GoesOnAt l (child (address_at old at) n) id) known.0 (subst (λ a. GoesOnAt new a id) (known-address old new at there n found known) goes_on)
 
-  pub Passes-known : (then : List Spot) → (may_follow (slice_index_or new id nowhere).role Passed ≡ true) × (then ≡ noted new id (slice_index_or new id nowhere) Passed line)
-      → Passes old then id at line n
-  Passes-known then mentioned =
-      let goes = rw known.0 at mentioned in
-      rw goes.1 (Passes-found old tree at n line id nowhere low_there goes_there goes.0)
+  pub Passes-known : (then : List Spot) → IsNoted new then id Passed line → Passes old then id at line n
+  Passes-known then noted_is = rw (rw known.0 at (noted_is.nodes nowhere)) (Passes-found old there.tree at n line id nowhere low_there goes_there (rw known.0 at (noted_is.goes nowhere)))
 
-  pub clash-known : (a : Address) → (may_follow (slice_index_or new id nowhere).role Passed ≡ false) × (address_at new id ≡ a)
-      → (ms : List Named) → IsTreeOf old ms → misfit ms (table_at line Passed (entered ms (child (address_at old at) n)) ∷ []) ≡ Some a
-  clash-known a clash ms stands =
-      let bad = rw known.0 at clash in
-      clash-found old tree at n line id nowhere low_there goes_there bad.0 ms stands ∙ ap Some bad.1
+  pub clash-known : (a : Address) → IsBarred new id Passed a → ClashesAfter old (λ ms. table_at line Passed (entered ms (child (address_at old at) n)) ∷ []) a
+  clash-known a barred ms stands =
+      clash-found old there.tree at n line id nowhere low_there goes_there (rw known.0 at (barred.bad nowhere)) ms stands ∙ ap Some (rw known.0 at barred.address)

@@ -1,25 +1,20 @@
 -- What a value names inside it, by the lists of its items and of its pairs.
-use Rattle.std.proofs.Common.{◌≡◌, ℕ, ◌+◌, ◌≤◌, List, [], ◌∷◌, ◌++◌, length, map, drop, Option, Some, None, Box, Global, refl, sym, ap, ◌∙◌}
-use Rattle.std.proofs.lemmas.List.{append-nil, append_assoc, drop_all, map-append}
+use Rattle.std.proofs.Common.{◌≡◌, ℕ, ◌+◌, List, [], ◌∷◌, ◌++◌, map, Option, Some, None, Box, Global, refl, sym, ap, ◌∙◌}
+use Rattle.std.proofs.lemmas.List.{append-nil}
 use Rattle.std.specs.Prelude.{false, is_some, option_map}
 use Rattle.toml_tree.specs.declared.piece.Gap.{Gap}
 use Rattle.toml_tree.specs.declared.piece.Piece.{Piece}
 use Rattle.toml_tree.specs.declared.tree.Array.{Array}
 use Rattle.toml_tree.specs.declared.tree.InlineTable.{InlineTable}
-use Rattle.toml_tree.specs.declared.tree.Item.{Item}
-use Rattle.toml_tree.specs.declared.tree.Pair.{Pair}
-use Rattle.toml_tree.specs.declared.tree.Value.{Value}
 use Rattle.toml_tree.specs.declared.tree.Value.TheVariants as made
 use Rattle.toml_tree.specs.declared.tree.Value.TheViews.{out-Array, out-InlineTable}
 use Rattle.toml_tree.specs.Tree as tree
 use Rattle.toml_tree.specs.ReadingValues.{Element, Member, before_end, pairs_of, inline}
 use Rattle.toml_tree.specs.View.{piece, gap, value, element as tree_element, member, array_items, last_ends}
 use Rattle.toml_tree.proofs.Proved.{value_array, value_inline}
-use Rattle.toml_names.specs.declared.named.Named.{Named as Pushed}
 use Rattle.toml_names.specs.declared.named.Role.TheVariants.{Bare}
 use Rattle.toml_names.specs.Addresses.{Address, element}
 use Rattle.toml_names.specs.Mentions.{Named, value_named, inside, elements, members, pair_named}
-use Rattle.toml_names.specs.View.{named, all_named}
 
 -- an element at its index, and what is in it
 abbrev pub element_named : ℕ → Address → ℕ → tree.Value → List Named
@@ -65,32 +60,3 @@ module _ (line : ℕ) (at : Address) where
   inside-inline b none =
       let table = out-InlineTable b.value in
       ap (inside line at) (value_inline b) ∙ members-inline (piece table.whole) (map member table.pairs.items) table.ws none
-
-  -- all elements of the array were named
-  pub array-end : (b : Box Array Global) (v : Value) (items : List Item) (i : ℕ) (names start : List Named) →
-      v ≡ made.Array b → items ≡ (out-Array b.value).items.items → length items ≤ i
-      → names ++ elements_of line at i (map tree_element (drop i items)) ≡ start ++ elements_of line at 0 (map tree_element items) → names ≡ start ++ inside line at (value v)
-  array-end b v items i names start is are past before =
-      sym (append-nil names)
-      ∙ ap (λ l. names ++ elements_of line at i (map tree_element l)) (sym (drop_all i items past))
-      ∙ before
-      ∙ ap (λ l. start ++ elements_of line at 0 (map tree_element l)) are
-      ∙ ap (λ l. start ++ l) (sym (ap (λ x. inside line at (value x)) is ∙ inside-array b))
-
-  -- all pairs of the inline table were named
-  pub table-end : (b : Box InlineTable Global) (v : Value) (pairs : List Pair) (i : ℕ) (names start : List Named) →
-      v ≡ made.Inline b → pairs ≡ (out-InlineTable b.value).pairs.items → is_some (out-InlineTable b.value).ws ≡ false → length pairs ≤ i
-      → names ++ members_of line at (map member (drop i pairs)) ≡ start ++ members_of line at (map member pairs) → names ≡ start ++ inside line at (value v)
-  table-end b v pairs i names start is are no_ws past before =
-      sym (append-nil names)
-      ∙ ap (λ l. names ++ members_of line at (map member l)) (sym (drop_all i pairs past))
-      ∙ before
-      ∙ ap (λ l. start ++ members_of line at (map member l)) are
-      ∙ ap (λ l. start ++ l) (sym (ap (λ x. inside line at (value x)) is ∙ inside-inline b no_ws))
-
--- a name was pushed, and then what is within it
-pub named_with : (old mid : List Pushed) (n : Pushed) (m : Named) (names within : List Named) → mid ≡ old ++ n ∷ [] → named n ≡ m → names ≡ all_named mid ++ within → names ≡ all_named old ++ m ∷ within
-named_with old mid n m names within push is then =
-    then
-    ∙ ap (λ l. l ++ within) (ap all_named push ∙ map-append named old (n ∷ []) ∙ ap (λ x. all_named old ++ x ∷ []) is)
-    ∙ append_assoc (all_named old) (m ∷ []) within

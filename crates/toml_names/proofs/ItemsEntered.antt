@@ -9,9 +9,8 @@ use Rattle.toml_names.specs.NameTree.{IsTree, IsTreeOf, KeepsOthers, Enters, Cla
 use Rattle.toml_names.specs.Nodes.{Spot, addresses, address_at, place_of, grown}
 use Rattle.toml_names.specs.Rules.{misfit}
 use Rattle.toml_names.proofs.CountsKept.{IsTreeOf-grown}
-use Rattle.toml_names.proofs.CountsOfTables.{fresh_element}
 use Rattle.toml_names.proofs.ElementGrown.{index-next, index-no_name, tree-element}
-use Rattle.toml_names.proofs.EnterElement.{plain_from_count, count_from_lone, KeepsOthers-element, array-element}
+use Rattle.toml_names.proofs.EnterElement.{fresh_element, plain_from_count, count_from_lone, KeepsOthers-element, array-element}
 use Rattle.toml_names.proofs.EnterSteps.{misfit-append, KeepsAddresses-then, KeepsOthers-then, KeepsOthers-same, Enters-none, Enters-append, Clashes-later, Clashes-front}
 use Rattle.toml_names.proofs.Fitting.{but_counts, fits-no_node}
 use Rattle.toml_names.proofs.Misfits.{misfit-later}
@@ -35,13 +34,13 @@ entered-more start now next whole xs left entered more = record {
   is = append_assoc entered.made xs left ∙ entered.is;
 }
 
-pub entered-all : (start now : List Spot) (whole left : List Named) → IsEntered start now whole left → left ≡ [] → Enters start now whole
-entered-all start now whole left entered none =
-    subst (Enters start now) (sym (append-nil entered.made) ∙ ap (λ l. entered.made ++ l) (sym none) ∙ entered.is) entered.enters
-
 pub entered-clash : (start now : List Spot) (whole xs left : List Named) (at : Address) → IsEntered start now whole (xs ++ left) → Clashes now xs at → Clashes start whole at
 entered-clash start now whole xs left at entered clash =
     subst (λ l. Clashes start l at) entered.is (Clashes-later entered.made (xs ++ left) at entered.enters (Clashes-front xs left at clash))
+
+pub entered-all : (start now : List Spot) (whole left : List Named) → IsEntered start now whole left → left ≡ [] → Enters start now whole
+entered-all start now whole left entered none =
+    subst (Enters start now) (sym (append-nil entered.made) ∙ ap (λ l. entered.made ++ l) (sym none) ∙ entered.is) entered.enters
 
 -- the array at the node `id` has its first elements
 pub record HasElements (start now : List Spot) (id i : ℕ) : Type 0 where

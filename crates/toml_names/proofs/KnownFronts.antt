@@ -1,5 +1,5 @@
 -- A dotted key's fronts that are there already, one by one, up to the first name that is new.
-use Rattle.std.proofs.Common.{◌≡◌, ℕ, ◌+◌, ◌<◌, true, false, List, [], ◌∷◌, ◌++◌, length, map, take, drop, Some, refl, sym, ap, subst, ◌∙◌, slice_index_or}
+use Rattle.std.proofs.Common.{◌≡◌, ℕ, ◌+◌, ◌<◌, List, [], ◌∷◌, ◌++◌, length, map, take, drop, Some, refl, sym, ap, subst, ◌∙◌, slice_index_or}
 use Rattle.std.proofs.lemmas.List.{append_assoc, map-append}
 use Rattle.std.specs.Map.{lookup}
 use Rattle.std.specs.Str.{bytes_eq}
@@ -11,18 +11,14 @@ use Rattle.toml_names.specs.Addresses.{Address, below}
 use Rattle.toml_names.specs.Keys.{Key, part_name}
 use Rattle.toml_names.specs.LongKeys.{CanEnter, FollowedFronts, key_named}
 use Rattle.toml_names.specs.Mentions.{Kind, Named, a_table, table_at, fronts}
-use Rattle.toml_names.specs.NameTree.{IsTree, Enters, Clashes}
-use Rattle.toml_names.specs.Nodes.{Spot, address_at, noted}
-use Rattle.toml_names.specs.Rules.{may_follow}
+use Rattle.toml_names.specs.NameTree.{Enters, Clashes, name_at}
+use Rattle.toml_names.specs.Nodes.{Spot, address_at}
+use Rattle.toml_names.specs.Steps.{IsBarred, IsNoted}
 use Rattle.toml_names.proofs.Along.{names_left}
-use Rattle.toml_names.proofs.EnterFronts.{first_names, all_names, fronts-append, Enters-front, last-front, Clashes-fronts}
-use Rattle.toml_names.proofs.EnterName.{Clashes-found, Enters-found, LeadsTo-found, found-within}
-use Rattle.toml_names.proofs.EnterSteps.{Enters-append, Enters-none}
+use Rattle.toml_names.proofs.EnterFronts.{first_names, all_names, fronts-append, FollowedFronts-more, Clashes-fronts}
+use Rattle.toml_names.proofs.EnterName.{Clashes-found, EntersTo-found, found-within}
+use Rattle.toml_names.proofs.EnterSteps.{Enters-append}
 use Rattle.toml_names.proofs.FreshKeys.{IsAbsent, fresh_key, named-more}
-
--- no front was entered yet
-pub followed-first : (old : List Spot) (line at : ℕ) (first : List ℕ) → IsTree old → at < length old → FollowedFronts old old line (address_at old at) at first (first ∷ [])
-followed-first old line at first tree low = record { entered = Enters-none old tree; within = low; last = refl }
 
 -- a whole key's own name
 abbrev end : ℕ → Kind → Address → Named
@@ -47,22 +43,16 @@ module _ (first : List ℕ) (rest : List Part) (i : ℕ) (d : Part) (low : i < l
     pub followed-within : id < length now
     followed-within = found-within now followed.entered.tree here followed.within part e id found
 
-    pub followed-found : may_follow (slice_index_or now id e).role Dotted ≡ true
-        → FollowedFronts old (noted now id (slice_index_or now id e) Dotted line) line at id n (first_names first rest (i + 1))
-    followed-found goes =
-        let next = noted now id (slice_index_or now id e) Dotted line in
-        let leads = LeadsTo-found now followed.entered.tree here followed.within part e id found Dotted a_table line e in
-        record {
-          entered = Enters-front first rest i d low is old now at line here part followed.entered followed.last next
-              (Enters-found now followed.entered.tree here followed.within part e id found Dotted a_table line e refl goes);
-          within = leads.within;
-          last = last-front first rest i d low is old now at line here part followed.entered followed.last (address_at next id) leads.address;
-        }
+    pub followed-noted : (next : List Spot) → IsNoted now next id Dotted line → FollowedFronts old next line at id n (first_names first rest (i + 1))
+    followed-noted next noted_is =
+        FollowedFronts-more first rest i d low is old now line at here part followed next id
+        (rw (noted_is.nodes e) (EntersTo-found now followed.entered.tree here followed.within part e id found Dotted a_table line e refl (noted_is.goes e)))
 
-    pub followed-clash : may_follow (slice_index_or now id e).role Dotted ≡ false → Clashes old (fronts line at (first ∷ names_left rest)) (address_at now id)
-    followed-clash bad =
-        Clashes-fronts first rest i d low is old now at line here part followed.entered followed.last (address_at now id)
-        (Clashes-found now followed.entered.tree here followed.within part e id found Dotted a_table line e bad)
+    pub followed-barred : (a : Address) → IsBarred now id Dotted a → Clashes old (fronts line at (first ∷ names_left rest)) a
+    followed-barred a barred =
+        Clashes-fronts first rest i d low is old now line at here part followed a
+        (subst (Clashes now (name_at now here part Dotted a_table line ∷ [])) barred.address
+        (Clashes-found now followed.entered.tree here followed.within part e id found Dotted a_table line e (barred.bad e)))
 
   -- it leads nowhere
   pub followed-fresh : IsAbsent now here part → (e : Spot) (k : Kind) → CanEnter old (key_named line at (first ∷ names_left rest) k)

@@ -1,24 +1,24 @@
 -- A header's fronts that are there already, one by one, up to the first name that is new.
-use Rattle.std.proofs.Common.{◌≡◌, ℕ, ◌+◌, ◌<◌, true, false, List, [], ◌∷◌, length, take, drop, Some, sym, ap, subst, ◌∙◌, slice_index_or}
+use Rattle.std.proofs.Common.{◌≡◌, ℕ, ◌+◌, ◌<◌, List, [], ◌∷◌, length, take, drop, Some, sym, ap, subst, ◌∙◌, slice_index_or}
 use Rattle.std.specs.Map.{lookup}
 use Rattle.std.specs.Str.{bytes_eq}
 use Rattle.toml_tree.specs.declared.tree.Dotted.{Dotted as Part}
 use Rattle.toml_tree.specs.View.{piece}
 use Rattle.toml_names.specs.declared.named.Role.TheVariants.{Passed}
-use Rattle.toml_names.specs.Addresses.{child, element}
+use Rattle.toml_names.specs.Addresses.{Address, child}
 use Rattle.toml_names.specs.EnteringHeaders.{PassedFronts}
 use Rattle.toml_names.specs.Headers.{header_fronts}
 use Rattle.toml_names.specs.Keys.{part_name}
-use Rattle.toml_names.specs.LongKeys.{CanEnterHeader}
-use Rattle.toml_names.specs.Mentions.{Named, entered, followed, ends_table, ends_tables, count_tables}
-use Rattle.toml_names.specs.Names.{header_end}
-use Rattle.toml_names.specs.NameTree.{IsTreeOf}
-use Rattle.toml_names.specs.Nodes.{Spot, address_at, noted}
-use Rattle.toml_names.specs.Rules.{may_follow, misfit}
+use Rattle.toml_names.specs.LongKeys.{CanEnterHeaders}
+use Rattle.toml_names.specs.Mentions.{entered}
+use Rattle.toml_names.specs.NameTree.{ClashesAfter}
+use Rattle.toml_names.specs.Nodes.{Spot, address_at}
+use Rattle.toml_names.specs.Rules.{misfit}
+use Rattle.toml_names.specs.Steps.{IsBarred, IsNoted}
 use Rattle.toml_names.proofs.Along.{names_left}
 use Rattle.toml_names.proofs.EnterFronts.{first_names, one_more, all_names}
 use Rattle.toml_names.proofs.EnterName.{found-within, found-address}
-use Rattle.toml_names.proofs.FreshHeaders.{FreshEnd, fresh_end, fresh_table, fresh_tables}
+use Rattle.toml_names.proofs.FreshHeaders.{FreshEnd, fresh_end, fresh_headers}
 use Rattle.toml_names.proofs.FreshKeys.{IsAbsent}
 use Rattle.toml_names.proofs.InnerNodes.{GoesOnAt, Passes-found, clash-found}
 use Rattle.toml_names.proofs.PassedFronts.{PassedFronts-more, fronts_clash}
@@ -37,30 +37,22 @@ module _ (first : List ℕ) (rest : List Part) (i : ℕ) (d : Part) (low : i < l
       goes_there : GoesOnAt now (child (address_at now here) part) id
       goes_there ms stands = goes_on ms stands ∙ ap (entered ms) (found-address now passed.tree here passed.within part e found leads)
 
-      pub passed-found : may_follow (slice_index_or now id e).role Passed ≡ true
-          → PassedFronts old (noted now id (slice_index_or now id e) Passed line) line id n (first_names first rest (i + 1))
-      passed-found goes =
-          let next = noted now id (slice_index_or now id e) Passed line in
+      pub passed-noted : (next : List Spot) → IsNoted now next id Passed line → PassedFronts old next line id n (first_names first rest (i + 1))
+      passed-noted next noted_is =
           subst (PassedFronts old next line id n) (sym (one_more first rest i d low is))
-          (PassedFronts-more old now line here part first (names_left (take i rest)) passed n next id (Passes-found now passed.tree here part line id e within goes_there goes))
+          (PassedFronts-more old now line here part first (names_left (take i rest)) passed n next id
+          (rw (noted_is.nodes e) (Passes-found now passed.tree here part line id e within goes_there (noted_is.goes e))))
 
-      pub passed-clash : may_follow (slice_index_or now id e).role Passed ≡ false
-          → (ms : List Named) → IsTreeOf old ms → misfit ms (header_fronts line ms [] (first ∷ names_left rest)) ≡ Some (address_at now id)
-      passed-clash bad ms stands =
+      pub passed-barred : (a : Address) → IsBarred now id Passed a → ClashesAfter old (λ ms. header_fronts line ms [] (first ∷ names_left rest)) a
+      passed-barred a barred ms stands =
           ap (λ key. misfit ms (header_fronts line ms [] key)) (all_names first rest i d low is)
           ∙ fronts_clash old now line here part first (names_left (take i rest)) passed n (names_left (drop (i + 1) rest)) (address_at now id)
-          (clash-found now passed.tree here part line id e within goes_there bad) ms stands
+          (clash-found now passed.tree here part line id e within goes_there (barred.bad e)) ms stands
+          ∙ ap Some barred.address
 
   -- it leads nowhere
-  module _ (absent : IsAbsent now here part) (e : Spot) where
-    fresh : FreshEnd old line (first ∷ names_left rest)
-    fresh =
-        subst (FreshEnd old line) (sym (all_names first rest i d low is))
-        (fresh_end old line e (n ∷ names_left (drop (i + 1) rest)) (names_left (take i rest)) first now here part passed absent)
-
-    pub passed-fresh_table : CanEnterHeader old (λ ms. followed line ms (ends_table line) [] (first ∷ names_left rest)) (λ ms. header_end ms [] (first ∷ names_left rest))
-    passed-fresh_table = fresh_table old line e first (names_left rest) fresh
-
-    pub passed-fresh_tables : CanEnterHeader old (λ ms. followed line ms (ends_tables line ms) [] (first ∷ names_left rest))
-        (λ ms. element (header_end ms [] (first ∷ names_left rest)) (count_tables ms (header_end ms [] (first ∷ names_left rest))))
-    passed-fresh_tables = fresh_tables old line e first (names_left rest) fresh
+  pub passed-fresh : IsAbsent now here part → (e : Spot) → CanEnterHeaders old line (first ∷ names_left rest)
+  passed-fresh absent e =
+      fresh_headers old line e first (names_left rest)
+      (subst (FreshEnd old line) (sym (all_names first rest i d low is))
+      (fresh_end old line e (n ∷ names_left (drop (i + 1) rest)) (names_left (take i rest)) first now here part passed absent))

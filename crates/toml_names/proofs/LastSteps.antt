@@ -1,5 +1,5 @@
 -- Addresses by their last step.
-use Rattle.std.proofs.Common.{◌≡◌, ℕ, ◌+◌, ◌<◌, List, [], ◌∷◌, ◌++◌, length, ap, length-append, arith}
+use Rattle.std.proofs.Common.{◌≡◌, ℕ, ◌+◌, List, [], ◌∷◌, ◌++◌, length, length-append}
 use Rattle.std.proofs.lemmas.List.{same_from_push}
 use Rattle.toml_names.specs.declared.address.Step.{Step}
 use Rattle.toml_names.specs.declared.address.Step.TheVariants.{Name, Index}
@@ -19,7 +19,3 @@ element_parts p q i j h =
 
 pub one_longer : (p : Address) (s : Step) → length (p ++ s ∷ []) ≡ length p + 1
 one_longer p s = length-append p (s ∷ [])
-
--- addresses of other lengths differ
-pub longer_differs : (p q : Address) → length p < length q → ¬ (q ≡ p)
-longer_differs p q low same = let even : length q ≡ length p = ap length same in omega arith

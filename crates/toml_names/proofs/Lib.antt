@@ -5,7 +5,6 @@ pub mod Offences
 pub mod NextLine
 pub mod Refused
 pub mod OneRefusal
-pub mod Loop
 pub mod Above
 pub mod Along
 pub mod Inside
@@ -68,7 +67,6 @@ pub mod Ranks
 pub mod Walking
 pub mod LineRanks
 pub mod EnterFronts
-pub mod CountsOfTables
 pub mod EnterElement
 pub mod WholeDocument
 pub mod NoTables
@@ -108,3 +106,4 @@ pub mod PlaceFound
 pub mod Indices
 pub mod Proved
 pub mod Placeless
+pub mod Steps

@@ -6,10 +6,11 @@ use Rattle.toml_tree.specs.Tree.{Piece, Blank, Header, KeyVal, KeyValLine, Table
 use Rattle.toml_names.specs.declared.address.Step.TheVariants.{Name, Index}
 use Rattle.toml_names.specs.declared.named.Role.TheVariants.{Valued}
 use Rattle.toml_names.specs.Addresses.{Address, child, element, below}
+use Rattle.toml_names.specs.EnteringHeaders.{table_names, tables_names, next_table}
 use Rattle.toml_names.specs.EnteringLines.{EntersLine}
 use Rattle.toml_names.specs.Keys.{Key, key_names}
 use Rattle.toml_names.specs.LongKeys.{CanEnter, CanEnterHeader, IsLongKey, IsLongEntry}
-use Rattle.toml_names.specs.Mentions.{Named, named_by, section, fronts, inside, value_named, pair_named, followed, ends_table, ends_tables, entered, count_tables}
+use Rattle.toml_names.specs.Mentions.{Named, named_by, section, fronts, inside, value_named, pair_named, entered, count_tables}
 use Rattle.toml_names.specs.Names.{header_end, own_address}
 use Rattle.toml_names.specs.Nodes.{Spot, address_at}
 use Rattle.toml_names.specs.Rules.{max_steps, misfit}
@@ -65,15 +66,14 @@ module _ (old : List Spot) (at line : ℕ) (ws : Piece) (tail : Blank) where
   )
 
   pub long_table : (header : Header)
-      → CanEnterHeader old (λ ms. followed line ms (ends_table line) [] (key_names header.key)) (λ ms. header_end ms [] (key_names header.key))
+      → CanEnterHeader old (table_names line (key_names header.key)) (λ ms. header_end ms [] (key_names header.key))
       → IsLongKey [] (key_names header.key) → IsLongEntry old at line (TableLine ws header tail)
   long_table header (new, id, enters) long =
       long_entry old new at line id id (TableLine ws header tail) (λ ms. header_end ms [] (key_names header.key)) (table_entered old new at line id ws header tail enters) (λ ms. refl)
       (λ ms here. let more = end_longer ms (key_names header.key) [] in omega (arith, long, more))
 
   pub long_tables : (header : Header)
-      → CanEnterHeader old (λ ms. followed line ms (ends_tables line ms) [] (key_names header.key))
-      (λ ms. element (header_end ms [] (key_names header.key)) (count_tables ms (header_end ms [] (key_names header.key))))
+      → CanEnterHeader old (tables_names line (key_names header.key)) (λ ms. next_table ms (key_names header.key))
       → IsLongKey [] (key_names header.key) → IsLongEntry old at line (ArrayTableLine ws header tail)
   long_tables header (new, id, enters) long =
       long_entry old new at line id id (ArrayTableLine ws header tail) _ (tables_entered old new at line id ws header tail enters) (λ ms. refl)

@@ -6,10 +6,10 @@ use Rattle.toml_names.specs.Addresses.{Address, child, below}
 use Rattle.toml_names.specs.Keys.{Key, key_names}
 use Rattle.toml_names.specs.LongKeys.{CanEnter, FollowedFronts, IsLongKey, key_named}
 use Rattle.toml_names.specs.Mentions.{Kind, kind_of, inside, fronts, pair_named, value_named}
-use Rattle.toml_names.specs.NameTree.{IsTree, Enters, LeadsTo, name_at}
+use Rattle.toml_names.specs.NameTree.{IsTree, EntersTo, EntersInside, name_at}
 use Rattle.toml_names.specs.Nodes.{Spot, address_at}
-use Rattle.toml_names.proofs.EnterSteps.{Enters-none}
-use Rattle.toml_names.proofs.PairEntered.{Enters-pair}
+use Rattle.toml_names.proofs.EnterSteps.{EntersInside-none}
+use Rattle.toml_names.proofs.PairEntered.{EntersTo-pair}
 
 -- what the code read of the node: its key is too long
 pub long_key : (nodes : List Spot) (at : ℕ) (s : Spot) (depth : ℕ) (key : Key) → IsTree nodes → at < length nodes → s ≡ slice_index_or nodes at s → depth ≡ s.depth
@@ -27,10 +27,8 @@ module _ (line : ℕ) (at : Address) (a : Assign) (v : Value) (plain : (line : �
 
   -- its fronts are there
   pub pair_found : (old now next : List Spot) (here : ℕ) (part : List ℕ) (k : Kind) (id : ℕ) → FollowedFronts old now line at here part (key_names a.key) → k ≡ kind_of v
-      → Enters now next (name_at now here part Valued k line ∷ []) → LeadsTo next id (child (address_at now here) part)
-      → Enters old next (pair_named line at a v) × LeadsTo next id (below at (key_names a.key))
-  pair_found old now next here part k id followed is enters leads = (
-    Enters-pair old now next here line part k v (below at (key_names a.key)) (fronts line at (key_names a.key)) followed.last is followed.entered id enters leads next
-        (subst (Enters next next) (sym (plain line (address_at next id))) (Enters-none next enters.tree)),
-    subst (LeadsTo next id) followed.last leads,
-  )
+      → EntersTo now next (name_at now here part Valued k line ∷ []) (child (address_at now here) part) id → id ≡ length now
+      → EntersTo old next (pair_named line at a v) (below at (key_names a.key)) id
+  pair_found old now next here part k id followed is enters new =
+      EntersTo-pair old now next here line part k v at (key_names a.key) followed is id enters next new
+      (subst (λ l. EntersInside next next l id) (sym (plain line (address_at next id))) (EntersInside-none next id enters.enters.tree))

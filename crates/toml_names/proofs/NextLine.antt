@@ -2,7 +2,7 @@
 use Rattle.std.proofs.Common.{◌≡◌, ℕ, ◌+◌, ◌<◌, ◌≤◌, List, [], ◌∷◌, ◌++◌, length, take, Some, None, refl, ap, ◌∙◌, get_or, arith}
 use Rattle.std.specs.Prelude.{if◌then◌else◌}
 use Rattle.std.proofs.lemmas.List.{take_more, length-take-le}
-use Rattle.std.proofs.lemmas.List.Elements.{All-nil, All-cons, All-tail, All-append}
+use Rattle.std.proofs.lemmas.List.Elements.{All-tail, All-append}
 use Rattle.toml_tree.specs.Tree.{Line}
 use Rattle.toml_names.specs.Addresses.{Address}
 use Rattle.toml_names.specs.Alike.{SectionGoesOn}
@@ -10,7 +10,7 @@ use Rattle.toml_names.specs.Mentions.{Named, root, named, named_by, named_from, 
 use Rattle.toml_names.specs.Rules.{misfit, KeepsRules, IsShort, max_steps}
 use Rattle.toml_names.specs.Names.{AreGood, IsRedefined, IsLong}
 use Rattle.toml_names.proofs.Offences.{misfit_is_first}
-use Rattle.toml_names.proofs.Pairs.{KeepsRules-nil, KeepsRules-push, KeepsRules-from_misfit}
+use Rattle.toml_names.proofs.Pairs.{KeepsRules-from_misfit}
 
 pub KeepsRules-more : (earlier new : List Named) → misfit earlier new ≡ None → KeepsRules earlier → KeepsRules (earlier ++ new)
 KeepsRules-more earlier new none keeps = KeepsRules-from_misfit new earlier keeps none
@@ -35,10 +35,6 @@ pub named-more : (lines : List Line) (i : ℕ) (d : Line) → i < length lines
 named-more lines i d low =
     ap named (take_more lines i d low)
     ∙ named_from-push (take i lines) (root ∷ []) 0 i (get_or lines i d) (omega (arith, length-take-le i lines (omega arith)))
-
--- where nothing is read yet, all is good
-pub AreGood-none : (lines : List Line) → AreGood (take 0 lines)
-AreGood-none lines = (KeepsRules-push [] root KeepsRules-nil refl, All-cons (λ m. length m.address ≤ max_steps) root [] (omega arith) (All-nil _))
 
 module _ (lines : List Line) (i : ℕ) (d : Line) (low : i < length lines) (good : AreGood (take i lines)) where
   abbrev earlier : List Named

@@ -1,5 +1,5 @@
 -- A header of an array of tables: once the array is named, the counts of tables wait for its next element, which makes them right again.
-use Rattle.std.proofs.Common.{◌≡◌, ℕ, ◌+◌, ◌<◌, true, false, List, [], ◌∷◌, ◌++◌, length, Some, None, refl, sym, ap, subst, ◌∙◌, arith, slice_index_or, ◌⊎◌, inl, inr}
+use Rattle.std.proofs.Common.{◌≡◌, ℕ, ◌+◌, ◌<◌, true, List, [], ◌∷◌, ◌++◌, length, Some, None, refl, sym, ap, subst, ◌∙◌, arith, slice_index_or, ◌⊎◌, inl, inr}
 use Rattle.std.proofs.lemmas.List.{append_assoc, length_push}
 use Rattle.std.proofs.lemmas.Option.{slice_get_past}
 use Rattle.toml_names.specs.declared.address.Step.TheVariants.{Name, Index}
@@ -8,10 +8,11 @@ use Rattle.toml_names.specs.declared.tree.Found.TheVariants.{New}
 use Rattle.toml_names.specs.Addresses.{Address, child, element}
 use Rattle.toml_names.specs.Local.{role_after}
 use Rattle.toml_names.specs.Mentions.{Named, a_table, an_array, is_tables, count_tables, table_at, ends_tables}
-use Rattle.toml_names.specs.NameTree.{IsTree, IsTreeOf, IsFound, KeepsAddresses, table_count}
+use Rattle.toml_names.specs.NameTree.{IsTree, IsTreeOf, IsFound, KeepsAddresses, ClashesAfter, table_count}
 use Rattle.toml_names.specs.EnteringHeaders.{AddsTable}
 use Rattle.toml_names.specs.Nodes.{Spot, nowhere, addresses, address_at, place_of, linked, grown, noted}
 use Rattle.toml_names.specs.Rules.{may_follow, misfit}
+use Rattle.toml_names.specs.Steps.{Grows, IsBarred, IsNode, IsNoted}
 use Rattle.toml_names.proofs.Counting.{count_plain}
 use Rattle.toml_names.proofs.EnterSteps.{misfit-append, KeepsAddresses-then}
 use Rattle.toml_names.proofs.Fitting.{StandsButCounts, Counts, but_counts, with_counts, fits-at_node}
@@ -19,6 +20,7 @@ use Rattle.toml_names.proofs.Misfits.{misfit-here}
 use Rattle.toml_names.proofs.NodeCounts.{count_here, count_elsewhere, table_count-tables}
 use Rattle.toml_names.proofs.StandsGrown.{StandsButCounts-grown}
 use Rattle.toml_names.proofs.StandsNoted.{StandsButCounts-noted, other_node}
+use Rattle.toml_names.proofs.Suiting.{tables_before}
 use Rattle.toml_names.proofs.TablesJoin.{tables_at}
 use Rattle.toml_names.proofs.TreeGrown.{length-grown, address-old, address-new, node-last, node-above, node-other, node-parts, KeepsAddresses-grown, IsTree-grown}
 use Rattle.toml_names.proofs.TreeNoted.{length-noted, address-noted, node-noted, node-beside, KeepsAddresses-noted, IsTree-noted}
@@ -146,13 +148,6 @@ module _ (nodes : List Spot) (id : ℕ) (d : Spot) (line : ℕ) (low : id < leng
       adds_element noted_there id e line (rw (length-noted nodes id d Tables line low) low) (IsTree-noted nodes id d Tables line low tree) nodes (address_at nodes id)
       (KeepsAddresses-noted nodes id d Tables line low) (address-noted nodes id d Tables line low id) Opened-noted
 
--- something else that is there
-pub clash_next : (nodes : List Spot) (id : ℕ) (d : Spot) (line : ℕ) → id < length nodes → may_follow (slice_index_or nodes id d).role Tables ≡ false
-    → (ms : List Named) → IsTreeOf nodes ms → misfit ms (ends_tables line ms (address_at nodes id)) ≡ Some (address_at nodes id)
-clash_next nodes id d line low bad ms stands =
-    misfit-here ms (table_at line Element (element (address_at nodes id) (count_tables ms (address_at nodes id))) ∷ []) (tables_at line (address_at nodes id))
-    (fits-at_node nodes ms (but_counts nodes ms stands) id d (tables_at line (address_at nodes id)) low refl ∙ bad)
-
 -- a new array of tables
 module _ (nodes : List Spot) (p : ℕ) (d : Spot) (n : List ℕ) (line : ℕ) (low : p < length nodes) (fresh : place_of (address_at nodes p ++ Name n ∷ []) (addresses nodes) ≡ None) where
   abbrev parent : Spot
@@ -201,30 +196,36 @@ module _ (nodes : List Spot) (p : ℕ) (d : Spot) (n : List ℕ) (line : ℕ) (l
       (KeepsAddresses-grown nodes p d (Name n) Tables an_array line low) (address-new nodes p d (Name n) Tables an_array line low (length nodes) refl) Opened-new
 
 -- the array's name led nowhere before
-module _ (old new : List Spot) (tree : IsTree old) (at : ℕ) (low : at < length old) (n : List ℕ) (line id : ℕ) (led : IsFound old new at n Tables an_array line (New id)) where
+module _ (old new : List Spot) (at : ℕ) (there : IsNode old at) (n : List ℕ) (line id : ℕ) (led : IsFound old new at n Tables an_array line (New id)) where
   fresh_name : place_of (child (address_at old at) n) (addresses old) ≡ None
-  fresh_name = sym (tree.names at nowhere n low) ∙ led.1 nowhere
+  fresh_name = sym (there.tree.names at nowhere n there.within) ∙ led.1 nowhere
 
-  pub new_array-within : id < length new
-  new_array-within = let long = ap length (led.2 nowhere) ∙ length-grown old at nowhere (Name n) Tables an_array line low in let last = led.0 in omega arith
+  pub new_array-there : IsNode new id
+  new_array-there = record {
+    tree = rw (led.2 nowhere) (IsTree-array old at nowhere n line there.within fresh_name there.tree);
+    within = let long = ap length (led.2 nowhere) ∙ length-grown old at nowhere (Name n) Tables an_array line there.within in let last = led.0 in omega arith;
+  }
 
-  pub new_array-tree : IsTree new
-  new_array-tree = rw (led.2 nowhere) (IsTree-array old at nowhere n line low fresh_name tree)
-
-  pub new_array-adds : (then : List Spot) (last : ℕ) → last ≡ length new
-      → then ≡ grown new id (slice_index_or new id nowhere) (Index (length (slice_index_or new id nowhere).elements)) Element a_table line
-      → AddsTable old then last line (child (address_at old at) n)
-  new_array-adds then last is made = rw (made, is, led.0, led.2 nowhere) (adds_first old at nowhere n line low fresh_name tree nowhere)
+  pub new_array-adds : (then : List Spot) (last : ℕ) → Grows new then id Element a_table line last → AddsTable old then last line (child (address_at old at) n)
+  new_array-adds then last grows = rw (grows.grown_is nowhere, grows.last, led.0, led.2 nowhere) (adds_first old at nowhere n line there.within fresh_name there.tree nowhere)
 
 -- the array was named once more
-module _ (old mid : List Spot) (tree : IsTree old) (id : ℕ) (low : id < length old) (line : ℕ) (again : mid ≡ noted old id (slice_index_or old id nowhere) Tables line) where
-  pub noted_array-within : id < length mid
-  noted_array-within = rw (again, length-noted old id nowhere Tables line low) low
+module _ (old mid : List Spot) (id : ℕ) (there : IsNode old id) (line : ℕ) (again : IsNoted old mid id Tables line) where
+  pub noted_array-there : IsNode mid id
+  noted_array-there = rw (again.nodes nowhere) (record {
+    tree = IsTree-noted old id nowhere Tables line there.within there.tree;
+    within = rw (length-noted old id nowhere Tables line there.within) there.within;
+  })
 
-  pub noted_array-tree : IsTree mid
-  noted_array-tree = rw again (IsTree-noted old id nowhere Tables line low tree)
-
-  pub noted_array-adds : (slice_index_or old id nowhere).role ≡ Tables → (then : List Spot) (last : ℕ) → last ≡ length mid
-      → then ≡ grown mid id (slice_index_or mid id nowhere) (Index (length (slice_index_or mid id nowhere).elements)) Element a_table line
+  pub noted_array-adds : ((d : Spot) → (slice_index_or old id d).role ≡ Bare → ⊥) → (then : List Spot) (last : ℕ) → Grows mid then id Element a_table line last
       → AddsTable old then last line (address_at old id)
-  noted_array-adds role then last is made = rw (made, is, again) (adds_next old id nowhere line low role tree nowhere)
+  noted_array-adds mention then last grows =
+      rw (grows.grown_is nowhere, grows.last, again.nodes nowhere)
+      (adds_next old id nowhere line there.within (tables_before _ (again.goes nowhere) (mention nowhere)) there.tree nowhere)
+
+-- something else that is there
+pub clash_next : (nodes : List Spot) (id line : ℕ) → id < length nodes → (a : Address) → IsBarred nodes id Tables a → ClashesAfter nodes (λ ms. ends_tables line ms (address_at nodes id)) a
+clash_next nodes id line low a barred ms stands =
+    misfit-here ms (table_at line Element (element (address_at nodes id) (count_tables ms (address_at nodes id))) ∷ []) (tables_at line (address_at nodes id))
+    (fits-at_node nodes ms (but_counts nodes ms stands) id nowhere (tables_at line (address_at nodes id)) low refl ∙ barred.bad nowhere)
+    ∙ ap Some barred.address

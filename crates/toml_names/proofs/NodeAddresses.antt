@@ -66,8 +66,3 @@ pub address_at-under : (nodes : List Spot) (k : ℕ) (d : Spot) → k < length n
 address_at-under nodes k d low rising =
     let same : k ≡ 0 + k = omega arith in
     ap (λ i. slice_index_or (addresses nodes) i []) same ∙ from-under nodes k d low [] (λ p s is. let low = rising p s is in omega arith)
-
-pub address_at-push : (nodes : List Spot) (s : Spot) (k : ℕ) → k < length nodes → address_at (nodes ++ s ∷ []) k ≡ address_at nodes k
-address_at-push nodes s k low =
-    let long = length-addresses nodes in
-    ap (λ l. slice_index_or l k []) (addresses-push nodes s) ∙ get_or_append_left (addresses nodes) (address_under (addresses nodes) s.under ∷ []) [] k (omega arith)

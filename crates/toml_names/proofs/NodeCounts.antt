@@ -37,10 +37,6 @@ table_count-plain spot plain = ap (λ b. cond b (length spot.elements) 0) plain
 pub table_count-tables : (spot : Spot) → is_tables spot.role ≡ true → table_count spot ≡ length spot.elements
 table_count-tables spot tables = ap (λ b. cond b (length spot.elements) 0) tables
 
--- a name more adds no element, and an element more of what is no array of tables no table
-pub table_count-name : (parent : Spot) (n : List ℕ) (id : ℕ) → table_count (linked parent (Name n) id) ≡ table_count parent
-table_count-name parent n id = refl
-
 pub table_count-element : (parent : Spot) (s : Step) (id : ℕ) → is_tables parent.role ≡ false → table_count (linked parent s id) ≡ table_count parent
 table_count-element parent (Name n) id plain = refl
 table_count-element parent (Index i) id plain = ap (λ b. cond b (length (linked parent (Index i) id).elements) 0) plain ∙ sym (table_count-plain parent plain)

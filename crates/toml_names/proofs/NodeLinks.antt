@@ -86,17 +86,3 @@ module _ (parent : Spot) (s : Step) (id : ℕ) where
       by : (s : Step) → (linked parent s id).role ≡ parent.role
       by (Name n) = refl
       by (Index i) = refl
-
-  pub linked-kind : (linked parent s id).kind ≡ parent.kind
-  linked-kind = by s
-    where
-      by : (s : Step) → (linked parent s id).kind ≡ parent.kind
-      by (Name n) = refl
-      by (Index i) = refl
-
-  pub linked-line : (linked parent s id).line ≡ parent.line
-  linked-line = by s
-    where
-      by : (s : Step) → (linked parent s id).line ≡ parent.line
-      by (Name n) = refl
-      by (Index i) = refl

@@ -1,6 +1,6 @@
 -- What lines and values name does not depend on where their pieces stand.
 use Rattle.std.proofs.Common.{◌≡◌, ℕ, ◌+◌, List, [], ◌∷◌, ◌++◌, map, refl, sym, ap, ap₂, ◌∙◌}
-use Rattle.toml_tree.specs.Bare.{bare_dotted, bare_key, bare_assign, bare_value, bare_items, bare_pairs, bare_expr, bare_line, bare_lines}
+use Rattle.toml_tree.specs.Bare.{bare_dotted, bare_key, bare_assign, bare_value, bare_items, bare_pairs, bare_expr, bare_line}
 use Rattle.toml_tree.specs.Tree.{Dotted, Key, Assign, Value, Scalar, Array, Empty, Inline, Items, Close, Last, More, Pairs, LastPair, MorePairs, Expr, BlankLine, KeyValLine, TableLine, ArrayTableLine, Line}
 use Rattle.toml_names.specs.declared.named.Role.{Role}
 use Rattle.toml_names.specs.declared.named.Role.TheVariants.{Valued, Bare}

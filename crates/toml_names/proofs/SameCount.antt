@@ -1,5 +1,5 @@
 -- Names in a table of the tree and in a table of data: as many in both, where those of the one are those of the other.
-use Rattle.std.proofs.Common.{◌≡◌, ℕ, suc, ◌≤◌, Bool, true, false, cond, List, [], ◌∷◌, length, map, Option, Some, None, IsSome, IsTrue, is_some, String, BTreeMap, Global, string_bytes, string_cmp, refl, sym, ap, subst, ◌∙◌, true≢false, arith}
+use Rattle.std.proofs.Common.{◌≡◌, ℕ, suc, ◌≤◌, Bool, true, false, cond, List, [], ◌∷◌, length, map, Option, Some, None, IsSome, is_some, String, BTreeMap, Global, string_bytes, string_cmp, refl, sym, ap, subst, ◌∙◌, arith}
 use Rattle.std.proofs.lemmas.Map.Keys.{IsDistinct-cons, IsDistinct-head, IsDistinct-tail, IsDistinct-from_sorted}
 use Rattle.std.proofs.lemmas.Map.Made.{is_some-lookup}
 use Rattle.std.proofs.lemmas.Map.Steps.{length-le_from_keys}
@@ -9,7 +9,7 @@ use Rattle.std.specs.BTreeMap.{is_at, get_by_text, btree_map_len, IsOrdered}
 use Rattle.std.specs.Cmp.Lexicographic.{slice_cmp, nat_list_eq_equiv}
 use Rattle.std.specs.List.{IsDistinct, AllByRecursion, list_any}
 use Rattle.std.specs.Map.{lookup, keys_of}
-use Rattle.std.specs.Ordering.{nat_cmp, is_eq, eq_by_cmp}
+use Rattle.std.specs.Ordering.{nat_cmp, eq_by_cmp}
 use Rattle.std.specs.Str.{bytes_eq}
 use Rattle.toml_names.specs.declared.datum.Datum.{Datum}
 use Rattle.toml_names.specs.NameMaps.{AreDistinct}

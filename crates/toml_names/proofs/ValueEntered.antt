@@ -1,5 +1,5 @@
 -- The elements of an array, and the pairs of an inline table, entered as the code reads them.
-use Rattle.std.proofs.Common.{◌≡◌, ℕ, ◌+◌, ◌<◌, ◌≤◌, List, [], ◌++◌, length, map, drop, Box, Global, sym, ap, subst, ◌∙◌, slice_index_or, arith}
+use Rattle.std.proofs.Common.{◌≡◌, ℕ, ◌+◌, ◌<◌, List, [], ◌++◌, length, map, drop, Box, Global, sym, ap, subst, ◌∙◌, slice_index_or}
 use Rattle.std.proofs.lemmas.List.{at_drop_more}
 use Rattle.std.specs.Prelude.{false, is_some}
 use Rattle.toml_tree.specs.declared.tree.Array.{Array}
@@ -18,8 +18,9 @@ use Rattle.toml_names.specs.declared.named.Role.TheVariants.{Bare}
 use Rattle.toml_names.specs.Addresses.{Address, element}
 use Rattle.toml_names.specs.KeyParts.{value_key_parts, keyval_key_parts}
 use Rattle.toml_names.specs.Mentions.{Kind, Named, kind_of, inside, pair_named}
-use Rattle.toml_names.specs.NameTree.{IsTree, Enters, Clashes, KeepsOthers}
+use Rattle.toml_names.specs.NameTree.{IsTree, Enters, EntersInside, Clashes, KeepsOthers}
 use Rattle.toml_names.specs.Nodes.{Spot, address_at, grown, nowhere}
+use Rattle.toml_names.specs.Steps.{Grows}
 use Rattle.toml_names.proofs.Inside.{element_named, elements_of, members_of, inside-array, inside-inline}
 use Rattle.toml_names.proofs.ItemsEntered.{IsEntered, HasElements, entered-none, entered-more, entered-clash, entered-element, element-address, has-element}
 use Rattle.toml_names.proofs.NoTables.{no_tables-inside}
@@ -73,28 +74,25 @@ module _ (line : ℕ) (at : Address) where
       ∙ ap (λ (m : Member). pair_named line at m.pair.assign m.pair.value ++ members_of line at (map member (drop (i + 1) pairs))) (pair_is pair)
 
 -- before the first element
-pub array-begin : (start : List Spot) (id line lookups : ℕ) (b : Box Array Global) (v : Value) (items : List Item) → IsTree start
-    → v ≡ made.Array b → items ≡ (out-Array b.value).items.items
-    → IsEntered start start (inside line (address_at start id) (value v)) (elements_of line (address_at start id) 0 (map tree_element items))
-    × (lookups + parts_of_elements (map tree_element items) ≤ lookups + value_key_parts (value v))
-array-begin start id line lookups b v items tree is are =
-    let parts : parts_of_elements (map tree_element items) ≡ value_key_parts (value v) =
-    ap (λ l. parts_of_elements (map tree_element l)) are ∙ sym (ap (λ x. value_key_parts (value x)) is ∙ parts-array b) in
-    (entered-none start (inside line (address_at start id) (value v)) (elements_of line (address_at start id) 0 (map tree_element items)) tree (elements-all line (address_at start id) b v items is are), omega arith)
+module _ (start : List Spot) (id line : ℕ) (tree : IsTree start) (b : Box Array Global) (v : Value) (items : List Item) (is : v ≡ made.Array b) (are : items ≡ (out-Array b.value).items.items) where
+  pub array-begin : IsEntered start start (inside line (address_at start id) (value v)) (elements_of line (address_at start id) 0 (map tree_element items))
+  array-begin = entered-none start (inside line (address_at start id) (value v)) (elements_of line (address_at start id) 0 (map tree_element items)) tree (elements-all line (address_at start id) b v items is are)
+
+  pub array-parts : parts_of_elements (map tree_element items) ≡ value_key_parts (value v)
+  array-parts = ap (λ l. parts_of_elements (map tree_element l)) are ∙ sym (ap (λ x. value_key_parts (value x)) is ∙ parts-array b)
 
 -- before the first pair
-pub table-begin : (start : List Spot) (id line lookups : ℕ) (b : Box InlineTable Global) (v : Value) (pairs : List Pair) → IsTree start
-    → v ≡ made.Inline b → pairs ≡ (out-InlineTable b.value).pairs.items → is_some (out-InlineTable b.value).ws ≡ false
-    → IsEntered start start (inside line (address_at start id) (value v)) (members_of line (address_at start id) (map member pairs))
-    × (lookups + parts_of_members (map member pairs) ≤ lookups + value_key_parts (value v))
-table-begin start id line lookups b v pairs tree is are none =
-    let parts : parts_of_members (map member pairs) ≡ value_key_parts (value v) =
-    ap (λ l. parts_of_members (map member l)) are ∙ sym (ap (λ x. value_key_parts (value x)) is ∙ parts-inline_table b none) in
-    (entered-none start (inside line (address_at start id) (value v)) (members_of line (address_at start id) (map member pairs)) tree (members-all line (address_at start id) b v pairs is are none), omega arith)
+module _ (start : List Spot) (id line : ℕ) (tree : IsTree start) (b : Box InlineTable Global) (v : Value) (pairs : List Pair) (is : v ≡ made.Inline b) (are : pairs ≡ (out-InlineTable b.value).pairs.items)
+    (none : is_some (out-InlineTable b.value).ws ≡ false) where
+  pub table-begin : IsEntered start start (inside line (address_at start id) (value v)) (members_of line (address_at start id) (map member pairs))
+  table-begin = entered-none start (inside line (address_at start id) (value v)) (members_of line (address_at start id) (map member pairs)) tree (members-all line (address_at start id) b v pairs is are none)
+
+  pub table-parts : parts_of_members (map member pairs) ≡ value_key_parts (value v)
+  table-parts = ap (λ l. parts_of_members (map member l)) are ∙ sym (ap (λ x. value_key_parts (value x)) is ∙ parts-inline_table b none)
 
 module _ (start now mid : List Spot) (id i k line : ℕ) (v : Value) (items : List Item) (item : Item) (kind : Kind) (low : id < length start)
     (lone : (d : Spot) → (slice_index_or start id d).elements ≡ []) (before : i < length items) (is : item ≡ slice_index_or items i item) (kind_is : kind ≡ kind_of (value item.value))
-    (grows : (d : Spot) → mid ≡ grown now id (slice_index_or now id d) (Index (length (slice_index_or now id d).elements)) Bare kind line) (last : k ≡ length now)
+    (grows : Grows now mid id Bare kind line k)
     (entered : IsEntered start now (inside line (address_at start id) (value v)) (elements_of line (address_at start id) i (map tree_element (drop i items))))
     (has : HasElements start now id i) where
   abbrev whole : List Named
@@ -113,7 +111,7 @@ module _ (start now mid : List Spot) (id i k line : ℕ) (v : Value) (items : Li
   behind = inside line here (value item.value) ++ left
 
   mid_is : mid ≡ grown now id (slice_index_or now id nowhere) (Index (length (slice_index_or now id nowhere).elements)) Bare item_kind line
-  mid_is = grows nowhere ∙ ap (λ q. grown now id (slice_index_or now id nowhere) (Index (length (slice_index_or now id nowhere).elements)) Bare q line) kind_is
+  mid_is = grows.grown_is nowhere ∙ ap (λ q. grown now id (slice_index_or now id nowhere) (Index (length (slice_index_or now id nowhere).elements)) Bare q line) kind_is
 
   with_first : IsEntered start now whole (element_named line (address_at start id) i (value item.value) ++ left)
   with_first = subst (IsEntered start now whole) (elements-next line (address_at start id) items i item before is) entered
@@ -124,7 +122,7 @@ module _ (start now mid : List Spot) (id i k line : ℕ) (v : Value) (items : Li
 
   mid_address : address_at mid k ≡ here
   mid_address = ap (λ l. address_at l k) mid_is
-      ∙ element-address start now id i whole low (no_tables-inside line (value v) (address_at start id)) lone has nowhere item_kind line behind with_first k last
+      ∙ element-address start now id i whole low (no_tables-inside line (value v) (address_at start id)) lone has nowhere item_kind line behind with_first k grows.last
 
   -- an element that clashes
   pub element-clash : (a : Address) → Clashes mid (inside line (address_at mid k) (value item.value)) a → Clashes start whole a
@@ -132,13 +130,13 @@ module _ (start now mid : List Spot) (id i k line : ℕ) (v : Value) (items : Li
       (subst (λ (q : Address). Clashes mid (inside line q (value item.value)) a) mid_address clash)
 
   -- an element that was entered
-  pub element-more : (next : List Spot) → Enters mid next (inside line (address_at mid k) (value item.value)) → KeepsOthers k mid next
+  pub element-more : (next : List Spot) → EntersInside mid next (inside line (address_at mid k) (value item.value)) k
       → IsEntered start next whole left × HasElements start next id (i + 1)
-  element-more next enters kept = (
+  element-more next within = (
     entered-more start mid next whole (inside line here (value item.value)) left entered_mid
-        (subst (λ (q : Address). Enters mid next (inside line q (value item.value))) mid_address enters),
-    has-element start now id i whole low (no_tables-inside line (value v) (address_at start id)) lone has nowhere item_kind line behind with_first next k last
-        (subst (λ l. KeepsOthers k l next) mid_is kept),
+        (subst (λ (q : Address). Enters mid next (inside line q (value item.value))) mid_address within.enters),
+    has-element start now id i whole low (no_tables-inside line (value v) (address_at start id)) lone has nowhere item_kind line behind with_first next k grows.last
+        (subst (λ l. KeepsOthers k l next) mid_is within.elements),
   )
 
 module _ (start now : List Spot) (id i line : ℕ) (v : Value) (pairs : List Pair) (pair : Pair) (low : id < length start) (before : i < length pairs) (is : pair ≡ slice_index_or pairs i pair)

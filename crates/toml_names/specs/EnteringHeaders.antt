@@ -3,11 +3,23 @@ use Rattle.std.specs.Prelude.{ℕ, ◌≡◌, ◌<◌, List, [], ◌++◌, lengt
 use Rattle.toml_names.specs.Addresses.{Address, child, element}
 use Rattle.toml_names.specs.Headers.{header_fronts}
 use Rattle.toml_names.specs.Keys.{Key}
-use Rattle.toml_names.specs.Mentions.{Named, ends_tables, count_tables}
+use Rattle.toml_names.specs.Mentions.{Named, followed, ends_table, ends_tables, count_tables}
 use Rattle.toml_names.specs.Names.{header_end}
 use Rattle.toml_names.specs.NameTree.{IsTree, IsTreeOf, KeepsAddresses}
 use Rattle.toml_names.specs.Nodes.{Spot, address_at}
 use Rattle.toml_names.specs.Rules.{misfit}
+
+-- what a table's header names
+abbrev pub table_names : ℕ → Key → List Named → List Named
+table_names line key ms = followed line ms (ends_table line) [] key
+
+-- what a header of an array of tables names
+abbrev pub tables_names : ℕ → Key → List Named → List Named
+tables_names line key ms = followed line ms (ends_tables line ms) [] key
+
+-- the address of the element that such a header begins
+abbrev pub next_table : List Named → Key → Address
+next_table ms key = element (header_end ms [] key) (count_tables ms (header_end ms [] key))
 
 -- the nodes stand for what was named before, and now for what the header names after that, and the node has the address that the header
 -- has after that

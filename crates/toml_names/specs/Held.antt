@@ -1,9 +1,8 @@
 -- What stands in the tree of names, at an address and below it.
-use Rattle.std.specs.Prelude.{◌≡◌, ◌++◌, ℕ, List, Option, Some, None, option_map, slice_index_or}
+use Rattle.std.specs.Prelude.{◌≡◌, ◌++◌, ℕ, List, option_map, slice_index_or}
 use Rattle.toml_names.specs.declared.datum.Datum.{Datum}
 use Rattle.toml_names.specs.Addresses.{Address}
 use Rattle.toml_names.specs.Data.{Kinds, kind_at}
-use Rattle.toml_names.specs.Mentions.{Kind}
 use Rattle.toml_names.specs.Nodes.{Spot, addresses, address_at, nowhere, place_of}
 
 -- the kind of the node with the address, if there is one

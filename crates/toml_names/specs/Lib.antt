@@ -17,6 +17,7 @@ pub mod Placeless
 pub mod Levels
 pub mod Parts
 pub mod SameData
+pub mod Steps
 pub mod Values
 pub mod Building
 pub mod Local

@@ -3,10 +3,11 @@ use Rattle.std.specs.Prelude.{ℕ, ◌≡◌, ◌<◌, ◌+◌, List, ◌∷◌,
 use Rattle.toml_tree.specs.Tree.{Expr}
 use Rattle.toml_names.specs.declared.named.Role.TheVariants.{Valued}
 use Rattle.toml_names.specs.Addresses.{Address, child, below}
-use Rattle.toml_names.specs.EnteringHeaders.{EntersHeader}
+use Rattle.toml_names.specs.EnteringHeaders.{EntersHeader, table_names, tables_names, next_table}
 use Rattle.toml_names.specs.Keys.{Key}
 use Rattle.toml_names.specs.Mentions.{Named, Kind, fronts, named_by, section}
-use Rattle.toml_names.specs.NameTree.{IsTreeOf, Enters}
+use Rattle.toml_names.specs.Names.{header_end}
+use Rattle.toml_names.specs.NameTree.{IsTreeOf, KeepsElements, Enters}
 use Rattle.toml_names.specs.Nodes.{Spot, address_at}
 use Rattle.toml_names.specs.Rules.{IsShort, max_steps, misfit}
 
@@ -18,6 +19,11 @@ CanEnter old made = (new : List Spot) × Enters old new made
 abbrev pub CanEnterHeader : List Spot → (List Named → List Named) → (List Named → Address) → Type 0
 CanEnterHeader old made own = (new : List Spot) × (id : ℕ) × EntersHeader old new id made own
 
+-- nodes could be added that stand for what a table's header with the key names too, and one of tables
+pub record CanEnterHeaders (old : List Spot) (line : ℕ) (key : Key) : Type 0 where
+  pub table : CanEnterHeader old (table_names line key) (λ ms. header_end ms [] key)
+  pub tables : CanEnterHeader old (tables_names line key) (λ ms. next_table ms key)
+
 -- what a key names in the table at the address, with a value that names nothing inside
 abbrev pub key_named : ℕ → Address → Key → Kind → List Named
 key_named line at key k = fronts line at key ++ record { address = below at key; role = Valued; kind = k; line = line } ∷ []
@@ -27,6 +33,7 @@ pub record FollowedFronts (old now : List Spot) (line : ℕ) (at : Address) (her
   pub entered : Enters old now (fronts line at key)
   pub within : here < length now
   pub last : child (address_at now here) part ≡ below at key
+  pub elements : KeepsElements old now
 
 -- a key from the address has more parts than an address may have steps
 abbrev pub IsLongKey : Address → Key → Type 0

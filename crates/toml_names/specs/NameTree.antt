@@ -70,6 +70,10 @@ pub record Enters (old new : List Spot) (made : List Named) : Type 0 where
 abbrev pub Clashes : List Spot → List Named → Address → Type 0
 Clashes nodes made at = (ms : List Named) → IsTreeOf nodes ms → misfit ms made ≡ Some at
 
+-- the same of what would be made after what was named before
+abbrev pub ClashesAfter : List Spot → (List Named → List Named) → Address → Type 0
+ClashesAfter nodes made at = (ms : List Named) → IsTreeOf nodes ms → misfit ms (made ms) ≡ Some at
+
 -- Where a name leads from the node `above`: to a node that was there, among the same nodes; or nowhere, and then to a new one.
 abbrev pub IsFound : List Spot → List Spot → ℕ → List ℕ → Role → Kind → ℕ → Found → Type 0
 IsFound old new above n r k line (Known id) =
@@ -91,6 +95,17 @@ KeepsElements old new = (k : ℕ) (d : Spot) → k < length old → (slice_index
 -- the nodes that were there, but one, have the elements that they had
 abbrev pub KeepsOthers : ℕ → List Spot → List Spot → Type 0
 KeepsOthers id old new = (k : ℕ) (d : Spot) → k < length old → (k ≡ id → ⊥) → (slice_index_or new k d).elements ≡ (slice_index_or old k d).elements
+
+-- this was named, and the node has the address
+pub record EntersTo (old new : List Spot) (made : List Named) (at : Address) (id : ℕ) : Type 0 where
+  pub enters : Enters old new made
+  pub leads : LeadsTo new id at
+  pub elements : KeepsElements old new
+
+-- this was named inside the value of the node
+pub record EntersInside (old new : List Spot) (made : List Named) (id : ℕ) : Type 0 where
+  pub enters : Enters old new made
+  pub elements : KeepsOthers id old new
 
 -- what a name in the table of the node `at` is named as
 abbrev pub name_at : List Spot → ℕ → List ℕ → Role → Kind → ℕ → Named

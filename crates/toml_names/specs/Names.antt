@@ -1,5 +1,5 @@
 -- What the reading of a document's names answers.
-use Rattle.std.specs.Prelude.{◌≡◌, ◌<◌, ◌≤◌, ◌+◌, ◌++◌, ℕ, Bool, true, false, ◌&&◌, ◌==◌, if◌then◌else◌, List, [], ◌∷◌, length, take, slice_index_or, Option, Some, None, Result, Ok, Err}
+use Rattle.std.specs.Prelude.{◌≡◌, ◌<◌, ◌≤◌, ◌+◌, ◌++◌, ℕ, Bool, true, false, ◌&&◌, ◌==◌, if◌then◌else◌, List, [], ◌∷◌, length, take, slice_index_or, Option, Some, None}
 use Rattle.toml_tree.specs.Tree.{Expr, BlankLine, KeyValLine, TableLine, ArrayTableLine, Line}
 use Rattle.toml_names.specs.declared.fault.NameFault.{NameFault}
 use Rattle.toml_names.specs.declared.fault.NameFault.TheVariants as faults
@@ -7,8 +7,8 @@ use Rattle.toml_names.specs.declared.named.Role.{Role}
 use Rattle.toml_names.specs.declared.named.Role.TheVariants.{Header, Valued, Element}
 use Rattle.toml_names.specs.Addresses.{Address, child, element, below}
 use Rattle.toml_names.specs.Keys.{Key, key_names}
-use Rattle.toml_names.specs.Mentions.{Named, named, named_by, section, entered, count_tables}
-use Rattle.toml_names.specs.Rules.{KeepsRules, IsShort, IsFirstOffence, misfit}
+use Rattle.toml_names.specs.Mentions.{Named, named, section, entered, count_tables}
+use Rattle.toml_names.specs.Rules.{KeepsRules, IsShort, IsFirstOffence}
 
 -- the mentions of lines keep the table rules, and no address has more than 100 steps
 abbrev pub AreGood : List Line → Type 0
@@ -34,18 +34,6 @@ abbrev pub RefusesNames : List Line → NameFault → Type 0
 RefusesNames lines (faults.Redefined line at) = IsRedefined lines line at
 RefusesNames lines (faults.LongAddress line) = IsLong lines line
 RefusesNames lines faults.NoMemory = Unit {0}
-
--- what judging the new mentions of a line gives, by the plain functions
-abbrev pub Judges : {A : Type 0} → List Named → List Named → ℕ → Result A NameFault → Type 0
-Judges old new line (Ok a) = (misfit old new ≡ None) × IsShort new
-Judges old new line (Err (faults.Redefined l at)) = (l ≡ line) × (misfit old new ≡ Some at)
-Judges old new line (Err (faults.LongAddress l)) = (l ≡ line) × (misfit old new ≡ None) × ¬ IsShort new
-Judges old new line (Err faults.NoMemory) = Unit {0}
-
--- a line that was taken: the list so far, and the table of the last header
-pub record IsTaken (old new : List Named) (line : ℕ) (e : Expr) (at : Address) : Type 0 where
-  pub list : new ≡ old ++ named_by old line e
-  pub table : at ≡ section new
 
 -- where a header's key ends, followed from the address
 abbrev pub header_end : List Named → Address → Key → Address

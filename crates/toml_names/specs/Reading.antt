@@ -1,5 +1,5 @@
 -- What a reader of lines stands for, and what it answers to one more line.
-use Rattle.std.specs.Prelude.{◌≡◌, ◌<◌, ℕ, List, [], ◌∷◌, ◌++◌, length, map, Option, Some, None, option_map, slice_get, slice_index_or, refl}
+use Rattle.std.specs.Prelude.{◌≡◌, ◌<◌, ℕ, List, [], ◌∷◌, ◌++◌, length, map, Option, Some, None, option_map, slice_get, slice_index_or, Result, Ok, Err, refl}
 use denote.Ref.{NamedLft}
 use mir.Syntax.{static}
 use Rattle.std.specs.Coded.{Coded, code_by, coded×, coded_list, coded_ℕ}
@@ -10,9 +10,10 @@ use Rattle.toml_tree.specs.Tree as spelled
 use Rattle.toml_tree.specs.Tree.{Expr}
 use Rattle.toml_names.specs.declared.fault.NameFault.{NameFault}
 use Rattle.toml_names.specs.declared.fault.NameFault.TheVariants as faults
+use Rattle.toml_names.specs.declared.headers.Entered.{Entered}
 use Rattle.toml_names.specs.Addresses.{Address}
 use Rattle.toml_names.specs.Data.{Kinds, IsDataOf}
-use Rattle.toml_names.specs.EnteringLines.{IsWithin, ClashesInLine}
+use Rattle.toml_names.specs.EnteringLines.{IsWithin, EntersLine, ClashesInLine}
 use Rattle.toml_names.specs.FirstMentions.{first_mentions}
 use Rattle.toml_names.specs.Mentions.{Named, named, named_by, section}
 use Rattle.toml_names.specs.Names.{IsRedefined, IsLong, line_address}
@@ -64,6 +65,11 @@ RefusesLine lines l faults.NoMemory = Unit {0}
 abbrev pub StaysShort : List Spot → ℕ → ℕ → Expr → Type 0
 StaysShort nodes at line e = (ms : List Named) → IsTreeOf nodes ms → address_at nodes at ≡ section ms → IsShort ms → IsShort (ms ++ named_by ms line e)
 
+-- the line was entered, and has no address that is too long
+pub record EntersShort (old new : List Spot) (at line : ℕ) (e : Expr) (result : Entered) : Type 0 where
+  pub enters : EntersLine old new at line e result
+  pub short : StaysShort old at line e
+
 -- why a line was not entered
 abbrev pub RefusesEntry : List Spot → ℕ → ℕ → Expr → NameFault → Type 0
 RefusesEntry nodes at line e (faults.Redefined n a) = (n ≡ line) × ClashesInLine nodes at line e a
@@ -71,6 +77,11 @@ RefusesEntry nodes at line e (faults.LongAddress n) =
     (n ≡ line) × ((ms : List Named) → IsTreeOf nodes ms → address_at nodes at ≡ section ms
     → (misfit ms (named_by ms line e) ≡ None) × ¬ IsShort (ms ++ named_by ms line e))
 RefusesEntry nodes at line e faults.NoMemory = Unit {0}
+
+-- a line was entered whole, or else the nodes are as they were
+abbrev pub TakesEntry : List Spot → List Spot → ℕ → ℕ → Expr → Result Entered NameFault → Type 0
+TakesEntry old new at line e (Ok result) = EntersShort old new at line e result
+TakesEntry old new at line e (Err fault) = RefusesEntry old at line e fault × (new ≡ old)
 
 -- the address of a rank, if there is one
 abbrev pub ranked : List Address → Option ℕ → Option Address

@@ -1,16 +1,15 @@
 //! Keys and values entered into the tree of names.
-ghost use Rattle.std.specs.Prelude.{◌∷◌, ◌≡◌, false, ◌+◌, ◌<◌, ◌≤◌, ℕ, length, OnOk, IfOk, IfErr, slice_index_or, vec_len, []};
+ghost use Rattle.std.specs.Prelude.{◌∷◌, ◌≡◌, false, length, IfOk, slice_index_or, []};
 ghost use Rattle.toml_tree.specs.View.{piece, key as tree_key, value, keyval as tree_keyval};
-ghost use Rattle.toml_names.specs.declared.address.Step.TheVariants as steps;
-ghost use Rattle.toml_names.specs.declared.named.Role.{Role as Mark};
 ghost use Rattle.toml_names.specs.declared.named.Role.TheVariants.{Bare, Valued};
-ghost use Rattle.toml_names.specs.declared.tree.EnterFault.TheVariants.{Clash};
 ghost use Rattle.toml_names.specs.Addresses.{Address, below, child};
 ghost use Rattle.toml_names.specs.Keys.{part_name, key_names};
 ghost use Rattle.toml_names.specs.KeyParts.{value_key_parts, keyval_key_parts};
 ghost use Rattle.toml_names.specs.Mentions.{fronts, inside, is_tables, pair_named};
-ghost use Rattle.toml_names.specs.NameTree.{IsTree, Enters, Clashes, LeadsTo, KeepsElements, KeepsOthers, name_at};
-ghost use Rattle.toml_names.specs.Nodes.{Spot, address_at, grown, undone};
+ghost use Rattle.toml_names.specs.LongKeys.{FollowedFronts};
+ghost use Rattle.toml_names.specs.NameTree.{Clashes, EntersInside, EntersTo, name_at};
+ghost use Rattle.toml_names.specs.Nodes.{Spot, address_at};
+ghost use Rattle.toml_names.specs.Steps.{GoesOn, Grows, IsNode, Steps};
 ghost use Rattle.toml_names.specs.View.{kind as kind_of};
 
 use crate::named::{Kind, Role};
@@ -29,17 +28,13 @@ impl<'t> NameTree<'t> {
         kind: Kind<'t>,
         line: usize,
     ) -> Result<usize, EnterFault>
-        requires within { at < vec_len self.old.nodes }
-        requires tree { IsTree self.old.nodes.items }
+        requires there { IsNode self.old.nodes.items at }
         requires mention { role ≡ Bare → ⊥ }
         requires plain { is_tables role ≡ false }
-        ensures enters { OnOk result (Enters self.old.nodes.items self.new.nodes.items (name_at self.old.nodes.items at (part_name (piece part.entry)) role (kind_of kind.entry) line ∷ [])) }
-        ensures leads { IfOk result (λ id. LeadsTo self.new.nodes.items id (child (address_at self.old.nodes.items at) (part_name (piece part.entry)))) }
-        ensures elements { OnOk result (KeepsElements self.old.nodes.items self.new.nodes.items) }
-        ensures clash { IfErr result (λ e. (a : Address) → e ≡ Clash a → Clashes self.old.nodes.items (name_at self.old.nodes.items at (part_name (piece part.entry)) role (kind_of kind.entry) line ∷ []) a) }
-        ensures can_undo { undone self.new.changes.items self.new.nodes.items ≡ undone self.old.changes.items self.old.nodes.items }
-        ensures lookups { self.new.lookups ≤ self.old.lookups + 1 }
-        ensures rises { self.old.lookups ≤ self.new.lookups }
+        ensures { let entry = name_at self.old.nodes.items at (part_name (piece part.entry)) role (kind_of kind.entry) line ∷ [] in
+            Steps 1 self.old self.new result
+            (EntersTo self.old.nodes.items self.new.nodes.items entry (child (address_at self.old.nodes.items at) (part_name (piece part.entry))))
+            (Clashes self.old.nodes.items entry) }
     {
         match self.find_or_grow(at, part, role, kind, line)? {
             Found::Known(id) => {
@@ -58,16 +53,12 @@ impl<'t> NameTree<'t> {
         kind: Kind<'t>,
         line: usize,
     ) -> Result<usize, EnterFault>
-        requires within { at < vec_len self.old.nodes }
-        requires tree { IsTree self.old.nodes.items }
-        ensures enters { OnOk result (Enters self.old.nodes.items self.new.nodes.items (name_at self.old.nodes.items at (part_name (piece part.entry)) Valued (kind_of kind.entry) line ∷ [])) }
-        ensures leads { IfOk result (λ id. LeadsTo self.new.nodes.items id (child (address_at self.old.nodes.items at) (part_name (piece part.entry)))) }
+        requires there { IsNode self.old.nodes.items at }
+        ensures enters { let entry = name_at self.old.nodes.items at (part_name (piece part.entry)) Valued (kind_of kind.entry) line ∷ [] in
+            Steps 1 self.old self.new result
+            (EntersTo self.old.nodes.items self.new.nodes.items entry (child (address_at self.old.nodes.items at) (part_name (piece part.entry))))
+            (Clashes self.old.nodes.items entry) }
         ensures lone { IfOk result (λ id. (id ≡ length self.old.nodes.items) × ((d : Spot) → (slice_index_or self.new.nodes.items id d).elements ≡ [])) }
-        ensures elements { OnOk result (KeepsElements self.old.nodes.items self.new.nodes.items) }
-        ensures clash { IfErr result (λ e. (a : Address) → e ≡ Clash a → Clashes self.old.nodes.items (name_at self.old.nodes.items at (part_name (piece part.entry)) Valued (kind_of kind.entry) line ∷ []) a) }
-        ensures can_undo { undone self.new.changes.items self.new.nodes.items ≡ undone self.old.changes.items self.old.nodes.items }
-        ensures lookups { self.new.lookups ≤ self.old.lookups + 1 }
-        ensures rises { self.old.lookups ≤ self.new.lookups }
     {
         match self.find_or_grow(at, part, Role::Valued, kind, line)? {
             Found::Known(id) => Err(EnterFault::Clash(self.address(id)?)),
@@ -83,16 +74,12 @@ impl<'t> NameTree<'t> {
         key: &Key<'t>,
         line: usize,
     ) -> Result<(usize, Piece<'t>), EnterFault>
-        requires within { at < vec_len self.old.nodes }
-        requires tree { IsTree self.old.nodes.items }
-        ensures enters { OnOk result (Enters self.old.nodes.items self.new.nodes.items (fronts line (address_at self.old.nodes.items at) (key_names (tree_key key.now)))) }
-        ensures within { IfOk result (λ r. r.0 < length self.new.nodes.items) }
-        ensures last { IfOk result (λ r. child (address_at self.new.nodes.items r.0) (part_name (piece r.1)) ≡ below (address_at self.old.nodes.items at) (key_names (tree_key key.now))) }
-        ensures elements { OnOk result (KeepsElements self.old.nodes.items self.new.nodes.items) }
-        ensures clash { IfErr result (λ e. (a : Address) → e ≡ Clash a → Clashes self.old.nodes.items (fronts line (address_at self.old.nodes.items at) (key_names (tree_key key.now))) a) }
-        ensures can_undo { undone self.new.changes.items self.new.nodes.items ≡ undone self.old.changes.items self.old.nodes.items }
-        ensures lookups { self.new.lookups + 1 ≤ self.old.lookups + length (key_names (tree_key key.now)) }
-        ensures rises { self.old.lookups ≤ self.new.lookups }
+        requires there { IsNode self.old.nodes.items at }
+        ensures { let here = address_at self.old.nodes.items at in
+            let names = key_names (tree_key key.now) in
+            Steps (length key.now.rest.items) self.old self.new result
+            (λ r. FollowedFronts self.old.nodes.items self.new.nodes.items line here r.0 (part_name (piece r.1)) names)
+            (Clashes self.old.nodes.items (fronts line here names)) }
     {
         let mut here = at;
         let mut part = key.first;
@@ -111,15 +98,13 @@ impl<'t> NameTree<'t> {
         pair: &KeyVal<'t>,
         line: usize,
     ) -> Result<usize, EnterFault>
-        requires within { at < vec_len self.old.nodes }
-        requires tree { IsTree self.old.nodes.items }
-        ensures enters { OnOk result (Enters self.old.nodes.items self.new.nodes.items (pair_named line (address_at self.old.nodes.items at) (tree_keyval pair.now).assign (tree_keyval pair.now).value)) }
-        ensures leads { IfOk result (λ id. LeadsTo self.new.nodes.items id (below (address_at self.old.nodes.items at) (key_names (tree_keyval pair.now).assign.key))) }
-        ensures elements { OnOk result (KeepsElements self.old.nodes.items self.new.nodes.items) }
-        ensures clash { IfErr result (λ e. (a : Address) → e ≡ Clash a → Clashes self.old.nodes.items (pair_named line (address_at self.old.nodes.items at) (tree_keyval pair.now).assign (tree_keyval pair.now).value) a) }
-        ensures can_undo { undone self.new.changes.items self.new.nodes.items ≡ undone self.old.changes.items self.old.nodes.items }
-        ensures lookups { self.new.lookups ≤ self.old.lookups + keyval_key_parts (tree_keyval pair.now).assign (tree_keyval pair.now).value }
-        ensures rises { self.old.lookups ≤ self.new.lookups }
+        requires there { IsNode self.old.nodes.items at }
+        ensures { let p = tree_keyval pair.now in
+            let here = address_at self.old.nodes.items at in
+            let names = pair_named line here p.assign p.value in
+            Steps (keyval_key_parts p.assign p.value) self.old self.new result
+            (EntersTo self.old.nodes.items self.new.nodes.items names (below here (key_names p.assign.key)))
+            (Clashes self.old.nodes.items names) }
     {
         let (here, part) = self.enter_fronts(at, &pair.assign.key, line)?;
         let id = self.enter_valued(here, part, kind_of(&pair.value), line)?;
@@ -130,15 +115,12 @@ impl<'t> NameTree<'t> {
     /// Enters what the value of a node names inside it.
     #[cycle(entering)]
     pub fn enter_inside(&mut self, id: usize, v: &Value<'t>, line: usize) -> Result<(), EnterFault>
-        requires within { id < vec_len self.old.nodes }
-        requires tree { IsTree self.old.nodes.items }
+        requires there { IsNode self.old.nodes.items id }
         requires lone { (d : Spot) → (slice_index_or self.old.nodes.items id d).elements ≡ [] }
-        ensures enters { OnOk result (Enters self.old.nodes.items self.new.nodes.items (inside line (address_at self.old.nodes.items id) (value v.now))) }
-        ensures elements { OnOk result (KeepsOthers id self.old.nodes.items self.new.nodes.items) }
-        ensures clash { IfErr result (λ e. (a : Address) → e ≡ Clash a → Clashes self.old.nodes.items (inside line (address_at self.old.nodes.items id) (value v.now)) a) }
-        ensures can_undo { undone self.new.changes.items self.new.nodes.items ≡ undone self.old.changes.items self.old.nodes.items }
-        ensures lookups { self.new.lookups ≤ self.old.lookups + value_key_parts (value v.now) }
-        ensures rises { self.old.lookups ≤ self.new.lookups }
+        ensures { let names = inside line (address_at self.old.nodes.items id) (value v.now) in
+            Steps (value_key_parts (value v.now)) self.old self.new result
+            (λ _. EntersInside self.old.nodes.items self.new.nodes.items names id)
+            (Clashes self.old.nodes.items names) }
     {
         match v {
             Value::Scalar(_, _) => Ok(()),
@@ -165,16 +147,11 @@ impl<'t> NameTree<'t> {
 
     /// A new node, for the next element of an array in a value.
     fn grow_item(&mut self, above: usize, kind: Kind<'t>, line: usize) -> Result<usize, AllocError>
-        requires within { above < vec_len self.old.nodes }
-        requires tree { IsTree self.old.nodes.items }
-        ensures grown { OnOk result ((d : Spot) → self.new.nodes.items ≡ grown self.old.nodes.items above (slice_index_or self.old.nodes.items above d)
-            (steps.Index (length (slice_index_or self.old.nodes.items above d).elements)) Bare (kind_of kind.entry) line) }
-        ensures tree { OnOk result (IsTree self.new.nodes.items) }
-        ensures id { IfOk result (λ id. id ≡ vec_len self.old.nodes) }
-        ensures within { IfOk result (λ id. id < vec_len self.new.nodes) }
+        requires there { IsNode self.old.nodes.items above }
+        ensures grown { IfOk result (Grows self.old.nodes.items self.new.nodes.items above Bare (kind_of kind.entry) line) }
+        ensures there { IfOk result (IsNode self.new.nodes.items) }
         ensures lone { IfOk result (λ id. (d : Spot) → (slice_index_or self.new.nodes.items id d).elements ≡ []) }
-        ensures can_undo { undone self.new.changes.items self.new.nodes.items ≡ undone self.old.changes.items self.old.nodes.items }
-        ensures lookups { self.new.lookups ≡ self.old.lookups }
+        ensures goes_on { GoesOn 0 self.old self.new }
     {
         self.grow_element(above, Role::Bare, kind, line)
     }

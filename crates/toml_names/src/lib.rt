@@ -22,7 +22,6 @@ mod node;
 mod parts;
 mod place;
 mod placing;
-mod plain;
 mod reader;
 mod rules;
 mod tree;

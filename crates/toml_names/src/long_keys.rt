@@ -1,20 +1,20 @@
 //! Lines whose key alone is too long for an address. Where a name of the key is new, so is all behind it: nothing there
 //! can clash, and the line is refused with no node for each of its parts.
-ghost use Rattle.std.specs.Prelude.{◌≡◌, ◌+◌, ◌<◌, ◌≤◌, ℕ, List, length, IfOk, IfErr, IfSome, IfNone, IsTrue, slice_index_or, vec_len, []};
+ghost use Rattle.std.specs.Prelude.{◌≡◌, ◌+◌, ◌<◌, ℕ, length, IsTrue, MatchOption, []};
 ghost use Rattle.toml_tree.specs.View.{piece, key as tree_key, value, keyval as tree_keyval};
-ghost use Rattle.toml_names.specs.declared.tree.EnterFault.TheVariants.{Clash};
-ghost use Rattle.toml_names.specs.Addresses.{Address, element, below};
-ghost use Rattle.toml_names.specs.EnteringHeaders.{EntersHeader, PassedFronts};
+ghost use Rattle.toml_names.specs.Addresses.{Address, below};
+ghost use Rattle.toml_names.specs.EnteringHeaders.{EntersHeader, PassedFronts, table_names, tables_names, next_table};
 ghost use Rattle.toml_names.specs.Headers.{header_fronts};
 ghost use Rattle.toml_names.specs.Keys.{part_name, key_names};
 ghost use Rattle.toml_names.specs.KeyParts.{keyval_key_parts};
-ghost use Rattle.toml_names.specs.LongKeys.{CanEnter, CanEnterHeader, FollowedFronts, IsLongKey, key_named};
+ghost use Rattle.toml_names.specs.LongKeys.{CanEnter, CanEnterHeader, CanEnterHeaders, FollowedFronts, IsLongKey, key_named};
 ghost use Rattle.toml_names.specs.Mentions as mentions;
-ghost use Rattle.toml_names.specs.Mentions.{fronts, followed, ends_table, ends_tables, count_tables, pair_named};
+ghost use Rattle.toml_names.specs.Mentions.{fronts, pair_named};
 ghost use Rattle.toml_names.specs.Names.{header_end};
-ghost use Rattle.toml_names.specs.NameTree.{IsTree, IsTreeOf, Enters, Clashes, LeadsTo};
-ghost use Rattle.toml_names.specs.Nodes.{address_at, undone};
-ghost use Rattle.toml_names.specs.Rules.{max_steps, misfit};
+ghost use Rattle.toml_names.specs.NameTree.{IsTree, Clashes, ClashesAfter, EntersTo};
+ghost use Rattle.toml_names.specs.Nodes.{address_at};
+ghost use Rattle.toml_names.specs.Rules.{max_steps};
+ghost use Rattle.toml_names.specs.Steps.{IsNode, Steps};
 
 use crate::named::{Kind, Role};
 use crate::naming::{kind_of, spelled_name};
@@ -31,15 +31,13 @@ impl<'t> NameTree<'t> {
         key: &Key<'t>,
         line: usize,
     ) -> Result<Option<(usize, Piece<'t>)>, EnterFault>
-        requires within { at < vec_len self.old.nodes }
-        requires tree { IsTree self.old.nodes.items }
-        ensures known { IfOk result (λ r. IfSome r (λ w.
-            FollowedFronts self.old.nodes.items self.new.nodes.items line (address_at self.old.nodes.items at) w.0 (part_name (piece w.1)) (key_names (tree_key key.now)))) }
-        ensures fresh { IfOk result (λ r. IfNone r ((k : mentions.Kind) → CanEnter self.old.nodes.items (key_named line (address_at self.old.nodes.items at) (key_names (tree_key key.now)) k))) }
-        ensures clash { IfErr result (λ e. (a : Address) → e ≡ Clash a → Clashes self.old.nodes.items (fronts line (address_at self.old.nodes.items at) (key_names (tree_key key.now))) a) }
-        ensures can_undo { undone self.new.changes.items self.new.nodes.items ≡ undone self.old.changes.items self.old.nodes.items }
-        ensures lookups { self.new.lookups + 1 ≤ self.old.lookups + length (key_names (tree_key key.now)) }
-        ensures rises { self.old.lookups ≤ self.new.lookups }
+        requires there { IsNode self.old.nodes.items at }
+        ensures { let here = address_at self.old.nodes.items at in
+            let names = key_names (tree_key key.now) in
+            Steps (length key.now.rest.items) self.old self.new result
+            (λ r. MatchOption r ((k : mentions.Kind) → CanEnter self.old.nodes.items (key_named line here names k))
+            (λ w. FollowedFronts self.old.nodes.items self.new.nodes.items line here w.0 (part_name (piece w.1)) names))
+            (Clashes self.old.nodes.items (fronts line here names)) }
     {
         let mut here = at;
         let mut part = key.first;
@@ -62,17 +60,11 @@ impl<'t> NameTree<'t> {
         line: usize,
     ) -> Result<Option<(usize, Piece<'t>)>, EnterFault>
         requires tree { IsTree self.old.nodes.items }
-        ensures known { IfOk result (λ r. IfSome r (λ w. PassedFronts self.old.nodes.items self.new.nodes.items line w.0 (part_name (piece w.1)) (key_names (tree_key key.now)))) }
-        ensures fresh_table { IfOk result (λ r. IfNone r (CanEnterHeader self.old.nodes.items
-            (λ ms. followed line ms (ends_table line) [] (key_names (tree_key key.now))) (λ ms. header_end ms [] (key_names (tree_key key.now))))) }
-        ensures fresh_tables { IfOk result (λ r. IfNone r (CanEnterHeader self.old.nodes.items
-            (λ ms. followed line ms (ends_tables line ms) [] (key_names (tree_key key.now)))
-            (λ ms. element (header_end ms [] (key_names (tree_key key.now))) (count_tables ms (header_end ms [] (key_names (tree_key key.now))))))) }
-        ensures clash { IfErr result (λ e. (a : Address) → e ≡ Clash a → (ms : List mentions.Named) → IsTreeOf self.old.nodes.items ms
-            → misfit ms (header_fronts line ms [] (key_names (tree_key key.now))) ≡ Some a) }
-        ensures can_undo { undone self.new.changes.items self.new.nodes.items ≡ undone self.old.changes.items self.old.nodes.items }
-        ensures lookups { self.new.lookups + 1 ≤ self.old.lookups + length (key_names (tree_key key.now)) }
-        ensures rises { self.old.lookups ≤ self.new.lookups }
+        ensures { let names = key_names (tree_key key.now) in
+            Steps (length key.now.rest.items) self.old self.new result
+            (λ r. MatchOption r (CanEnterHeaders self.old.nodes.items line names)
+            (λ w. PassedFronts self.old.nodes.items self.new.nodes.items line w.0 (part_name (piece w.1)) names))
+            (ClashesAfter self.old.nodes.items (λ ms. header_fronts line ms [] names)) }
     {
         let mut here = 0;
         let mut part = key.first;
@@ -95,18 +87,14 @@ impl<'t> NameTree<'t> {
         pair: &KeyVal<'t>,
         line: usize,
     ) -> Result<Option<usize>, EnterFault>
-        requires within { at < vec_len self.old.nodes }
-        requires tree { IsTree self.old.nodes.items }
-        ensures enters { IfOk result (λ r. IfSome r (λ id.
-            Enters self.old.nodes.items self.new.nodes.items (pair_named line (address_at self.old.nodes.items at) (tree_keyval pair.now).assign (tree_keyval pair.now).value)
-            × LeadsTo self.new.nodes.items id (below (address_at self.old.nodes.items at) (key_names (tree_keyval pair.now).assign.key)))) }
-        ensures long { IfOk result (λ r. IfNone r (
-            CanEnter self.old.nodes.items (pair_named line (address_at self.old.nodes.items at) (tree_keyval pair.now).assign (tree_keyval pair.now).value)
-            × IsLongKey (address_at self.old.nodes.items at) (key_names (tree_keyval pair.now).assign.key))) }
-        ensures clash { IfErr result (λ e. (a : Address) → e ≡ Clash a → Clashes self.old.nodes.items (pair_named line (address_at self.old.nodes.items at) (tree_keyval pair.now).assign (tree_keyval pair.now).value) a) }
-        ensures can_undo { undone self.new.changes.items self.new.nodes.items ≡ undone self.old.changes.items self.old.nodes.items }
-        ensures lookups { self.new.lookups ≤ self.old.lookups + keyval_key_parts (tree_keyval pair.now).assign (tree_keyval pair.now).value }
-        ensures rises { self.old.lookups ≤ self.new.lookups }
+        requires there { IsNode self.old.nodes.items at }
+        ensures { let p = tree_keyval pair.now in
+            let here = address_at self.old.nodes.items at in
+            let names = pair_named line here p.assign p.value in
+            Steps (keyval_key_parts p.assign p.value) self.old self.new result
+            (λ r. MatchOption r (CanEnter self.old.nodes.items names × IsLongKey here (key_names p.assign.key))
+            (EntersTo self.old.nodes.items self.new.nodes.items names (below here (key_names p.assign.key))))
+            (Clashes self.old.nodes.items names) }
     {
         let key = &pair.assign.key;
         if !is_scalar(&pair.value) || !is_long(self.nodes[at].depth(), key) {
@@ -130,16 +118,11 @@ impl<'t> NameTree<'t> {
         line: usize,
     ) -> Result<Option<usize>, EnterFault>
         requires tree { IsTree self.old.nodes.items }
-        ensures enters { IfOk result (λ r. IfSome r (λ id. EntersHeader self.old.nodes.items self.new.nodes.items id
-            (λ ms. followed line ms (ends_table line) [] (key_names (tree_key key.now))) (λ ms. header_end ms [] (key_names (tree_key key.now))))) }
-        ensures long { IfOk result (λ r. IfNone r (CanEnterHeader self.old.nodes.items
-            (λ ms. followed line ms (ends_table line) [] (key_names (tree_key key.now))) (λ ms. header_end ms [] (key_names (tree_key key.now)))
-            × IsLongKey [] (key_names (tree_key key.now)))) }
-        ensures clash { IfErr result (λ e. (a : Address) → e ≡ Clash a → (ms : List mentions.Named) → IsTreeOf self.old.nodes.items ms
-            → misfit ms (followed line ms (ends_table line) [] (key_names (tree_key key.now))) ≡ Some a) }
-        ensures can_undo { undone self.new.changes.items self.new.nodes.items ≡ undone self.old.changes.items self.old.nodes.items }
-        ensures lookups { self.new.lookups ≤ self.old.lookups + length (key_names (tree_key key.now)) }
-        ensures rises { self.old.lookups ≤ self.new.lookups }
+        ensures { let names = key_names (tree_key key.now) in
+            Steps (length names) self.old self.new result
+            (λ r. MatchOption r (CanEnterHeader self.old.nodes.items (table_names line names) (λ ms. header_end ms [] names) × IsLongKey [] names)
+            (λ id. EntersHeader self.old.nodes.items self.new.nodes.items id (table_names line names) (λ ms. header_end ms [] names)))
+            (ClashesAfter self.old.nodes.items (table_names line names)) }
     {
         if !is_long(0, key) {
             return Ok(Some(self.enter_table_header(key, line)?));
@@ -164,18 +147,11 @@ impl<'t> NameTree<'t> {
         line: usize,
     ) -> Result<Option<usize>, EnterFault>
         requires tree { IsTree self.old.nodes.items }
-        ensures enters { IfOk result (λ r. IfSome r (λ id. EntersHeader self.old.nodes.items self.new.nodes.items id
-            (λ ms. followed line ms (ends_tables line ms) [] (key_names (tree_key key.now)))
-            (λ ms. element (header_end ms [] (key_names (tree_key key.now))) (count_tables ms (header_end ms [] (key_names (tree_key key.now))))))) }
-        ensures long { IfOk result (λ r. IfNone r (CanEnterHeader self.old.nodes.items
-            (λ ms. followed line ms (ends_tables line ms) [] (key_names (tree_key key.now)))
-            (λ ms. element (header_end ms [] (key_names (tree_key key.now))) (count_tables ms (header_end ms [] (key_names (tree_key key.now)))))
-            × IsLongKey [] (key_names (tree_key key.now)))) }
-        ensures clash { IfErr result (λ e. (a : Address) → e ≡ Clash a → (ms : List mentions.Named) → IsTreeOf self.old.nodes.items ms
-            → misfit ms (followed line ms (ends_tables line ms) [] (key_names (tree_key key.now))) ≡ Some a) }
-        ensures can_undo { undone self.new.changes.items self.new.nodes.items ≡ undone self.old.changes.items self.old.nodes.items }
-        ensures lookups { self.new.lookups ≤ self.old.lookups + length (key_names (tree_key key.now)) }
-        ensures rises { self.old.lookups ≤ self.new.lookups }
+        ensures { let names = key_names (tree_key key.now) in
+            Steps (length names) self.old self.new result
+            (λ r. MatchOption r (CanEnterHeader self.old.nodes.items (tables_names line names) (λ ms. next_table ms names) × IsLongKey [] names)
+            (λ id. EntersHeader self.old.nodes.items self.new.nodes.items id (tables_names line names) (λ ms. next_table ms names)))
+            (ClashesAfter self.old.nodes.items (tables_names line names)) }
     {
         if !is_long(0, key) {
             return Ok(Some(self.enter_array_header(key, line)?));

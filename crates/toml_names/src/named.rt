@@ -1,4 +1,4 @@
-use crate::address::Address;
+//! In what role a line names an address, and what stands there.
 use toml_scalar::ScalarKind;
 
 /// What a mention says of its address.
@@ -26,13 +26,4 @@ pub enum Kind<'t> {
     Table,
     Array,
     Scalar(ScalarKind, &'t str),
-}
-
-/// An address that a line names, and how; lines are counted from 0.
-#[derive(Drop)]
-pub struct Named<'t> {
-    pub address: Address,
-    pub role: Role,
-    pub kind: Kind<'t>,
-    pub line: usize,
 }

@@ -1,13 +1,11 @@
 //! The reader of names, one line after another (TOML v1.0.0, Keys, Table, Inline Table, Array of Tables).
-ghost use Rattle.std.specs.Prelude.{◌≡◌, ◌<◌, ◌≤◌, ◌+◌, ◌++◌, ◌∷◌, [], OnOk, OnErr, IfOk, IfErr, map, length, vec_len};
+ghost use Rattle.std.specs.Prelude.{◌≡◌, ◌≤◌, ◌+◌, ◌++◌, ◌∷◌, [], OnOk, OnErr, IfOk, IfErr, map};
 ghost use Rattle.toml_tree.specs.Lines.{line as tree_line};
-ghost use Rattle.toml_names.specs.EnteringLines.{EntersLine};
 ghost use Rattle.toml_names.specs.KeyParts.{expr_key_parts};
 ghost use Rattle.toml_names.specs.Mentions.{named};
 ghost use Rattle.toml_names.specs.Names.{AreGood};
-ghost use Rattle.toml_names.specs.NameTree.{IsTree};
-ghost use Rattle.toml_names.specs.Nodes.{undone};
-ghost use Rattle.toml_names.specs.Reading.{lines_of, RefusesLine, StaysShort, RefusesEntry};
+ghost use Rattle.toml_names.specs.Reading.{lines_of, EntersShort, RefusesLine, RefusesEntry, TakesEntry};
+ghost use Rattle.toml_names.specs.Steps.{GoesOn, IsNode, RisesBy};
 
 use crate::fault::NameFault;
 use crate::hashing::NameHashing;
@@ -48,14 +46,10 @@ impl<'t> NameTree<'t> {
     /// Enters a line, if what it names keeps the rules and has no address of more than 100 steps. After a fault part of it
     /// may be entered, until the changes are undone.
     fn try_line(&mut self, at: usize, number: usize, line: &Line<'t>) -> Result<Entered, NameFault>
-        requires within { at < vec_len self.old.nodes }
-        requires tree { IsTree self.old.nodes.items }
-        ensures enters { IfOk result (EntersLine self.old.nodes.items self.new.nodes.items at number (tree_line line.now).expr) }
-        ensures short { OnOk result (StaysShort self.old.nodes.items at number (tree_line line.now).expr) }
+        requires there { IsNode self.old.nodes.items at }
+        ensures entered { IfOk result (EntersShort self.old.nodes.items self.new.nodes.items at number (tree_line line.now).expr) }
         ensures refused { IfErr result (RefusesEntry self.old.nodes.items at number (tree_line line.now).expr) }
-        ensures can_undo { undone self.new.changes.items self.new.nodes.items ≡ undone self.old.changes.items self.old.nodes.items }
-        ensures lookups { self.new.lookups ≤ self.old.lookups + expr_key_parts (tree_line line.now).expr }
-        ensures rises { self.old.lookups ≤ self.new.lookups }
+        ensures goes_on { GoesOn (expr_key_parts (tree_line line.now).expr) self.old self.new }
     {
         let start = self.nodes.len();
         match self.enter_line(at, number, line) {
@@ -77,16 +71,11 @@ impl<'t> NameTree<'t> {
 
     /// Takes a line whole or leaves the nodes as they were.
     fn take_line(&mut self, at: usize, number: usize, line: &Line<'t>) -> Result<Entered, NameFault>
-        requires within { at < vec_len self.old.nodes }
-        requires tree { IsTree self.old.nodes.items }
+        requires there { IsNode self.old.nodes.items at }
         requires settled { self.old.changes.items ≡ [] }
-        ensures enters { IfOk result (EntersLine self.old.nodes.items self.new.nodes.items at number (tree_line line.now).expr) }
-        ensures short { OnOk result (StaysShort self.old.nodes.items at number (tree_line line.now).expr) }
-        ensures refused { IfErr result (RefusesEntry self.old.nodes.items at number (tree_line line.now).expr) }
-        ensures kept { OnErr result (self.new.nodes.items ≡ self.old.nodes.items) }
+        ensures taken { TakesEntry self.old.nodes.items self.new.nodes.items at number (tree_line line.now).expr result }
         ensures settled { self.new.changes.items ≡ [] }
-        ensures lookups { self.new.lookups ≤ self.old.lookups + expr_key_parts (tree_line line.now).expr }
-        ensures rises { self.old.lookups ≤ self.new.lookups }
+        ensures lookups { RisesBy (expr_key_parts (tree_line line.now).expr) self.old.lookups self.new.lookups }
     {
         match self.try_line(at, number, line) {
             Ok(entered) => {

@@ -1,19 +1,17 @@
 //! The tree of names, and the changes that a line makes in it.
-ghost use Rattle.std.specs.Prelude.{◌∷◌, ◌≡◌, ◌+◌, ◌<◌, ◌≤◌, ℕ, List, length, min, true, false, None, Some, OnOk, OnErr, IfOk, IfErr, slice_index_or, vec_len, []};
+ghost use Rattle.std.specs.Prelude.{◌∷◌, ◌≡◌, ◌+◌, ◌<◌, ◌≤◌, length, min, false, OnOk, OnErr, IfOk, slice_index_or, vec_len, []};
 ghost use Rattle.std.specs.Map.{lookup};
 ghost use Rattle.std.specs.Str.{bytes_eq};
 ghost use Rattle.toml_tree.specs.View.{piece};
-ghost use Rattle.toml_names.specs.declared.address.Step.TheVariants as steps;
 ghost use Rattle.toml_names.specs.declared.named.Role.TheVariants.{Bare};
 ghost use Rattle.toml_names.specs.Addresses.{Address};
-ghost use Rattle.toml_names.specs.declared.tree.EnterFault.TheVariants.{Clash};
 ghost use Rattle.toml_names.specs.Keys.{part_name};
 ghost use Rattle.toml_names.specs.Local.{role_after};
 ghost use Rattle.toml_names.specs.Mentions as mentions;
 ghost use Rattle.toml_names.specs.Mentions.{is_tables};
 ghost use Rattle.toml_names.specs.NameTree.{IsTree, IsTreeOf, IsFound};
-ghost use Rattle.toml_names.specs.Nodes.{Spot, AreSteps, address_at, last_step, grown, noted, reverted, undone};
-ghost use Rattle.toml_names.specs.Rules.{may_follow};
+ghost use Rattle.toml_names.specs.Nodes.{Spot, AreSteps, address_at, last_step, noted, reverted, undone};
+ghost use Rattle.toml_names.specs.Steps.{GoesOn, Grows, IsBarred, IsNode, IsNoted, Steps};
 ghost use Rattle.toml_names.specs.View.{kind as kind_of};
 
 use crate::address::{Address, Step};
@@ -114,10 +112,8 @@ impl<'t> NameTree<'t> {
         requires within { at < vec_len self.old.nodes }
         ensures found { IfOk result (λ to. (d : Spot) → lookup (bytes_eq (part_name (piece part.now))) (slice_index_or self.old.nodes.items at d).children ≡ to) }
         ensures nodes { self.new.nodes ≡ self.old.nodes }
-        ensures changes { self.new.changes ≡ self.old.changes }
         ensures counted { OnOk result (self.new.lookups ≡ min (self.old.lookups + 1) 18446744073709551615) }
-        ensures lookups { self.new.lookups ≤ self.old.lookups + 1 }
-        ensures rises { self.old.lookups ≤ self.new.lookups }
+        ensures goes_on { GoesOn 1 self.old self.new }
     {
         let name = spelled_name(self.alloc, part.text)?;
         self.count_lookup();
@@ -196,14 +192,11 @@ impl<'t> NameTree<'t> {
         kind: Kind<'t>,
         line: usize,
     ) -> Result<Found, AllocError>
-        requires within { above < vec_len self.old.nodes }
-        requires tree { IsTree self.old.nodes.items }
+        requires there { IsNode self.old.nodes.items above }
         ensures found { IfOk result (IsFound self.old.nodes.items self.new.nodes.items above (part_name (piece part.entry)) role (kind_of kind.entry) line) }
         ensures kept { OnErr result (self.new.nodes.items ≡ self.old.nodes.items) }
-        ensures can_undo { undone self.new.changes.items self.new.nodes.items ≡ undone self.old.changes.items self.old.nodes.items }
         ensures counted { OnOk result (self.new.lookups ≡ min (self.old.lookups + 1) 18446744073709551615) }
-        ensures lookups { self.new.lookups ≤ self.old.lookups + 1 }
-        ensures rises { self.old.lookups ≤ self.new.lookups }
+        ensures goes_on { GoesOn 1 self.old self.new }
     {
         let name = spelled_name(self.alloc, part.text)?;
         self.count_lookup();
@@ -229,14 +222,10 @@ impl<'t> NameTree<'t> {
         kind: Kind<'t>,
         line: usize,
     ) -> Result<usize, AllocError>
-        requires within { above < vec_len self.old.nodes }
-        requires tree { IsTree self.old.nodes.items }
-        ensures grown { OnOk result ((d : Spot) → self.new.nodes.items ≡ grown self.old.nodes.items above (slice_index_or self.old.nodes.items above d)
-            (steps.Index (length (slice_index_or self.old.nodes.items above d).elements)) role (kind_of kind.entry) line) }
-        ensures id { IfOk result (λ id. id ≡ vec_len self.old.nodes) }
+        requires there { IsNode self.old.nodes.items above }
+        ensures grown { IfOk result (Grows self.old.nodes.items self.new.nodes.items above role (kind_of kind.entry) line) }
         ensures kept { OnErr result (self.new.nodes.items ≡ self.old.nodes.items) }
-        ensures can_undo { undone self.new.changes.items self.new.nodes.items ≡ undone self.old.changes.items self.old.nodes.items }
-        ensures lookups { self.new.lookups ≡ self.old.lookups }
+        ensures goes_on { GoesOn 0 self.old self.new }
     {
         self.changes.reserve(1)?;
         self.nodes.reserve(1)?;
@@ -256,8 +245,7 @@ impl<'t> NameTree<'t> {
         requires { at < vec_len self.old.nodes }
         ensures noted { OnOk result ((d : Spot) → self.new.nodes.items ≡ noted self.old.nodes.items at (slice_index_or self.old.nodes.items at d) role line) }
         ensures kept { OnErr result (self.new.nodes.items ≡ self.old.nodes.items) }
-        ensures can_undo { undone self.new.changes.items self.new.nodes.items ≡ undone self.old.changes.items self.old.nodes.items }
-        ensures lookups { self.new.lookups ≡ self.old.lookups }
+        ensures goes_on { GoesOn 0 self.old self.new }
     {
         let node = &self.nodes[at];
         let before = node.role();
@@ -276,14 +264,10 @@ impl<'t> NameTree<'t> {
 
     /// Names a node once more, if that goes with its mark.
     pub fn mention(&mut self, id: usize, role: Role, line: usize) -> Result<(), EnterFault>
-        requires within { id < vec_len self.old.nodes }
-        requires tree { IsTree self.old.nodes.items }
-        ensures noted { OnOk result ((d : Spot) → (may_follow (slice_index_or self.old.nodes.items id d).role role ≡ true)
-            × (self.new.nodes.items ≡ noted self.old.nodes.items id (slice_index_or self.old.nodes.items id d) role line)) }
-        ensures clash { IfErr result (λ e. (a : Address) → e ≡ Clash a → (d : Spot) → (may_follow (slice_index_or self.old.nodes.items id d).role role ≡ false)
-            × (address_at self.old.nodes.items id ≡ a)) }
-        ensures can_undo { undone self.new.changes.items self.new.nodes.items ≡ undone self.old.changes.items self.old.nodes.items }
-        ensures lookups { self.new.lookups ≡ self.old.lookups }
+        requires there { IsNode self.old.nodes.items id }
+        ensures { Steps 0 self.old self.new result
+            (λ _. IsNoted self.old.nodes.items self.new.nodes.items id role line)
+            (IsBarred self.old.nodes.items id role) }
     {
         if !may_follow(self.nodes[id].role(), role) {
             return Err(EnterFault::Clash(self.address(id)?));

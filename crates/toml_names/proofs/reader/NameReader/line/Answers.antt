@@ -14,7 +14,7 @@ returns-in_err-entered-clause-refused c =
     let counted : c.len-number.result ≡ length lines = omega (arith, c.len-number.ensures, ap length c.in_ok-reserve.ensures.items, count-lines r.taken.items) in
     rw (p.1, p.2, ← c.self.view_is)
     (refuses-line r.tree.nodes.items lines r.own.items r.section (tree_line c.args.line.now) c.in_err-entered.field-0.0 c.self.invariant.0
-    (subst (λ n. RefusesEntry r.tree.nodes.items r.section n (tree_line c.args.line.now).expr c.in_err-entered.field-0.0) counted c.in_err-entered.ensures.refused))
+    (subst (λ n. RefusesEntry r.tree.nodes.items r.section n (tree_line c.args.line.now).expr c.in_err-entered.field-0.0) counted c.in_err-entered.ensures.taken.0))
 
 pub invariant_of-self-2 : goal.invariant_of-self-2
 invariant_of-self-2 c =
@@ -23,7 +23,7 @@ invariant_of-self-2 c =
     let counted : c.len-number.result ≡ length lines = omega (arith, c.len-number.ensures, ap length c.in_ok-reserve.ensures.items, count-lines r.taken.items) in
     let taken : c.push-2.new.self.items ≡ r.taken.items ++ c.args.line ∷ [] = c.in_ok-push-2.ensures.items ∙ ap (λ (xs : List (Bor TreeLine)). xs ++ c.args.line ∷ []) c.in_ok-reserve.ensures.items in (
       took r.tree.nodes.items c.take_line.new.self.nodes.items lines _ r.own.items _ r.section c.len-number.result (tree_line c.args.line.now) c.in_ok-entered.entered
-          c.self.invariant.0 counted c.in_ok-entered.ensures.enters c.in_ok-entered.ensures.short (lines-push r.taken.items c.push-2.new.self.items c.args.line taken)
+          c.self.invariant.0 counted c.in_ok-entered.ensures.taken.enters c.in_ok-entered.ensures.taken.short (lines-push r.taken.items c.push-2.new.self.items c.args.line taken)
           (c.in_ok-push.ensures.items ∙ ap (λ xs. xs ++ c.in_ok-entered.entered.own ∷ []) c.in_ok-reserve-2.ensures.items),
       c.in_ok-entered.ensures.settled,
     )
@@ -35,4 +35,4 @@ returns-clause-good c =
     let counted : c.len-number.result ≡ length lines = omega (arith, c.len-number.ensures, ap length c.in_ok-reserve.ensures.items, count-lines r.taken.items) in
     let taken : c.push-2.new.self.items ≡ r.taken.items ++ c.args.line ∷ [] = c.in_ok-push-2.ensures.items ∙ ap (λ (xs : List (Bor TreeLine)). xs ++ c.args.line ∷ []) c.in_ok-reserve.ensures.items in
     took_good r.tree.nodes.items c.take_line.new.self.nodes.items lines _ r.own.items r.own.items r.section c.len-number.result (tree_line c.args.line.now) c.in_ok-entered.entered
-    c.self.invariant.0 counted c.in_ok-entered.ensures.enters c.in_ok-entered.ensures.short (lines-push r.taken.items c.push-2.new.self.items c.args.line taken)
+    c.self.invariant.0 counted c.in_ok-entered.ensures.taken.enters c.in_ok-entered.ensures.taken.short (lines-push r.taken.items c.push-2.new.self.items c.args.line taken)

@@ -1,7 +1,6 @@
-use Rattle.std.proofs.Common.{◌≡◌, ◌∙◌, Bor, Global, List, Option, Vec, ap, map, option_map, subst, sym}
+use Rattle.std.proofs.Common.{◌≡◌, ◌∙◌, Bor, ap, map, option_map, subst}
 use Rattle.toml_tree.specs.declared.line.Line.{Line as TreeLine}
 use Rattle.toml_tree.specs.Lines.{line as tree_line}
-use Rattle.toml_names.specs.Addresses.{Address}
 use Rattle.toml_names.specs.Names.{AreOwnAddresses}
 use Rattle.toml_names.specs.Nodes.{address_at}
 use Rattle.toml_names.specs.Reading.{ReaderState, lines_of}

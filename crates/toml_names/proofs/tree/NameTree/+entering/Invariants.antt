@@ -1,12 +1,13 @@
-use Rattle.std.proofs.Common.{◌≡◌, ◌+◌, ◌≤◌, map, drop}
+use Rattle.std.proofs.Common.{map, drop}
 use Rattle.toml_tree.specs.View.{element, member, value}
 use Rattle.toml_names.specs.KeyParts.{value_key_parts}
 use Rattle.toml_names.specs.Mentions.{inside}
 use Rattle.toml_names.specs.NameTree.{KeepsElements}
-use Rattle.toml_names.specs.Nodes.{address_at, undone}
+use Rattle.toml_names.specs.Nodes.{address_at}
 use Rattle.toml_names.proofs.Inside.{elements_of, members_of}
 use Rattle.toml_names.proofs.ItemsEntered.{IsEntered, HasElements}
 use Rattle.toml_names.proofs.PartsInside.{parts_of_elements, parts_of_members}
+use Rattle.toml_names.proofs.Steps.{GoesOnTo}
 use Rattle.toml_names.proofs.tree.NameTree.+entering.Given as goal
 
 abbrev pub decreases-enter_inside : goal.decreases-enter_inside
@@ -20,9 +21,7 @@ invariant-enter_inside-loop-item l = record {
   entered : IsEntered l.initial.self.nodes.items l.self.nodes.items (inside l.line (address_at l.initial.self.nodes.items l.id) (value l.v))
       (elements_of l.line (address_at l.initial.self.nodes.items l.id) l.item-index (map element (drop l.item-index l.item-items)));
   has : HasElements l.initial.self.nodes.items l.self.nodes.items l.id l.item-index;
-  can_undo : undone l.self.changes.items l.self.nodes.items ≡ undone l.initial.self.changes.items l.initial.self.nodes.items;
-  lookups : l.self.lookups + parts_of_elements (map element (drop l.item-index l.item-items)) ≤ l.initial.self.lookups + value_key_parts (value l.v);
-  rises : l.initial.self.lookups ≤ l.self.lookups;
+  goes_on : GoesOnTo (parts_of_elements (map element (drop l.item-index l.item-items))) (value_key_parts (value l.v)) l.initial.self l.self;
 }
 
 abbrev pub invariant-enter_inside-loop-pair : goal.invariant-enter_inside-loop-pair
@@ -30,7 +29,5 @@ invariant-enter_inside-loop-pair l = record {
   entered : IsEntered l.initial.self.nodes.items l.self.nodes.items (inside l.line (address_at l.initial.self.nodes.items l.id) (value l.v))
       (members_of l.line (address_at l.initial.self.nodes.items l.id) (map member (drop l.pair-index l.pair-items)));
   kept : KeepsElements l.initial.self.nodes.items l.self.nodes.items;
-  can_undo : undone l.self.changes.items l.self.nodes.items ≡ undone l.initial.self.changes.items l.initial.self.nodes.items;
-  lookups : l.self.lookups + parts_of_members (map member (drop l.pair-index l.pair-items)) ≤ l.initial.self.lookups + value_key_parts (value l.v);
-  rises : l.initial.self.lookups ≤ l.self.lookups;
+  goes_on : GoesOnTo (parts_of_members (map member (drop l.pair-index l.pair-items))) (value_key_parts (value l.v)) l.initial.self l.self;
 }

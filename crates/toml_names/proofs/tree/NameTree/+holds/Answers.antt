@@ -1,7 +1,7 @@
-use Rattle.std.proofs.Common.{◌≡◌, ◌<◌, ◌+◌, ◌==◌, ℕ, [], List, length, is_some, Some, None, IsSome, IsTrue, string_bytes, string_cmp, slice_index_or, below_more, sym, ap, subst, ◌∙◌, refl, true≢false, arith}
+use Rattle.std.proofs.Common.{◌≡◌, ◌<◌, ◌+◌, ◌==◌, ℕ, [], List, length, is_some, Some, IsSome, string_bytes, string_cmp, slice_index_or, below_more, sym, ap, subst, ◌∙◌, refl, true≢false, arith}
 use Rattle.std.proofs.lemmas.Map.Views.{All-turn}
 use Rattle.std.proofs.lemmas.Option.{slice_get-get_or, slice_get_read}
-use Rattle.std.specs.BTreeMap.{get, get_by_text}
+use Rattle.std.specs.BTreeMap.{get}
 use Rattle.std.specs.Map.{lookup}
 use Rattle.std.specs.Map.Iter.{deref_pair}
 use Rattle.std.specs.Prelude.{slice_get}

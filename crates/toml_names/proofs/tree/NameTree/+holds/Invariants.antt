@@ -1,4 +1,4 @@
-use Rattle.std.proofs.Common.{◌+◌, ◌-◌, ◌*◌, ◌<◌, ℕ, slice_index_or, vec_len}
+use Rattle.std.proofs.Common.{◌+◌, ◌-◌, ◌*◌, ◌<◌, ℕ, vec_len}
 use Rattle.std.specs.Prelude.{slice_get}
 use Rattle.toml_names.proofs.Held.{HeldEach, IsHeldIn}
 use Rattle.toml_names.proofs.tree.NameTree.+holds.Given as goal

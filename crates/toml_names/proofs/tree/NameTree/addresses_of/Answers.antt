@@ -1,7 +1,6 @@
-use Rattle.std.proofs.Common.{◌≡◌, ◌∙◌, ◌++◌, ◌∷◌, [], List, Option, ap, sym, subst, map, take}
+use Rattle.std.proofs.Common.{◌∙◌, ◌++◌, ◌∷◌, [], List, Option, ap, map, take}
 use Rattle.std.specs.Prelude.{option_map}
 use Rattle.toml_names.specs.Addresses.{Address}
-use Rattle.toml_names.specs.EnteringLines.{IsWithin}
 use Rattle.toml_names.specs.Nodes.{address_at}
 use Rattle.toml_names.proofs.LineRanks.{mapped-more}
 use Rattle.toml_names.proofs.tree.NameTree.addresses_of.Goals as goal

@@ -1,78 +1,88 @@
-use Rattle.std.proofs.Common.{rules, ◌≡◌, ◌<◌, ◌∷◌, ◌∙◌, true, false, length, ap, subst, refl, arith, slice_index_or, Vec, Global}
+use Rattle.std.proofs.Common.{◌≡◌, ◌+◌, ◌∷◌, ◌∙◌, ap, subst, length, arith, Vec, Global}
 use Rattle.std.proofs.lemmas.Result.{err_from_is_err_and}
 use Rattle.toml_tree.specs.View.{piece}
 use Rattle.toml_names.specs.declared.named.Role.TheVariants.{Dotted}
 use Rattle.toml_names.specs.declared.node.Node.{Node}
 use Rattle.toml_names.specs.Keys.{part_name}
-use Rattle.toml_names.specs.LongKeys.{CanEnter, key_named}
+use Rattle.toml_names.specs.LongKeys.{CanEnter, FollowedFronts, key_named}
 use Rattle.toml_names.specs.Mentions.{fronts}
 use Rattle.toml_names.specs.NameTree.{Clashes}
-use Rattle.toml_names.specs.Nodes.{nowhere, address_at, noted}
-use Rattle.toml_names.specs.Rules.{may_follow}
+use Rattle.toml_names.specs.Nodes.{nowhere, address_at}
+use Rattle.toml_names.specs.Steps.{IsBarred, IsNoted}
 use Rattle.toml_names.proofs.Along.{names_left}
-use Rattle.toml_names.proofs.KnownFronts.{followed-first, followed-found, followed-within, followed-clash, followed-fresh}
+use Rattle.toml_names.proofs.EnterFronts.{first_names-all, FollowedFronts-first}
+use Rattle.toml_names.proofs.KnownFronts.{followed-noted, followed-within, followed-barred, followed-fresh}
+use Rattle.toml_names.proofs.Steps.{GoesOn-same, GoesOn-within, GoesOn-then, refuses}
 use Rattle.toml_names.proofs.tree.NameTree.enter_known.Goals as goal
 
 pub loop-dotted-init : goal.loop-dotted-init
 loop-dotted-init c = record {
-  followed = followed-first c.args.self.now.nodes.items c.args.line c.args.at (part_name (piece c.args.key.now.first)) c.requires.tree (omega (arith, c.requires.within));
-  can_undo = refl;
-  lookups = omega arith;
-  rises = omega arith;
+  followed = FollowedFronts-first c.args.self.now.nodes.items c.args.line c.args.at (part_name (piece c.args.key.now.first)) c.requires.there;
+  goes_on = GoesOn-same c.args.self.now;
 }
 
-pub returns-in-None-clause-fresh : goal.returns-in-None-clause-fresh
-returns-in-None-clause-fresh c = λ k.
+pub returns-in-None : goal.returns-in-None
+returns-in-None c =
     let first = part_name (piece c.args.key.now.first) in
     let old = c.args.self.now.nodes.items in
     let at = address_at old c.args.at in
-    subst (λ ds. CanEnter old (key_named c.args.line at (first ∷ names_left ds) k)) c.deref-dotted-items.ensures.value
-    (followed-fresh first c.deref-dotted-items.result.now c.loop-dotted.dotted-index c.dotted-item.result c.loop-dotted-test.true c.dotted-item.is
-    old c.loop-dotted.self.nodes.items c.args.line at c.loop-dotted.here (part_name (piece c.loop-dotted.part)) c.loop-dotted.invariant.followed
-    (λ d. c.in_ok-id.ensures.found d ∙ c.in-None.is) nowhere k)
+    let items : length c.deref-dotted-items.result.now ≡ length c.args.key.now.rest.items = ap length c.deref-dotted-items.ensures.value in
+    record {
+      made = λ k. subst (λ ds. CanEnter old (key_named c.args.line at (first ∷ names_left ds) k)) c.deref-dotted-items.ensures.value
+          (followed-fresh first c.deref-dotted-items.result.now c.loop-dotted.dotted-index c.dotted-item.result c.loop-dotted-test.true c.dotted-item.is
+          old c.loop-dotted.self.nodes.items c.args.line at c.loop-dotted.here (part_name (piece c.loop-dotted.part)) c.loop-dotted.invariant.followed
+          (λ d. c.in_ok-id.ensures.found d ∙ c.in-None.is) nowhere k);
+      clash = tt;
+      goes_on = GoesOn-then c.loop-dotted.invariant.goes_on c.find.ensures.goes_on (length c.args.key.now.rest.items) (omega (arith, items, c.loop-dotted-test.true));
+    }
 
-pub mention-requires-clause-within : goal.mention-requires-clause-within
-mention-requires-clause-within c =
-    let now = c.loop-dotted.self.nodes.items in
-    let low : c.in-Some.id < length now =
-    followed-within (part_name (piece c.args.key.now.first)) c.deref-dotted-items.result.now c.loop-dotted.dotted-index c.dotted-item.result c.loop-dotted-test.true c.dotted-item.is
-    c.args.self.now.nodes.items now c.args.line (address_at c.args.self.now.nodes.items c.args.at) c.loop-dotted.here (part_name (piece c.loop-dotted.part)) c.loop-dotted.invariant.followed
-    c.in-Some.id nowhere (c.in_ok-id.ensures.found nowhere ∙ c.in-Some.is) in
-    rw c.find.ensures.nodes (omega arith)
+pub mention-requires : goal.mention-requires
+mention-requires c = record {
+  there = rw c.find.ensures.nodes (record {
+    tree = c.loop-dotted.invariant.followed.entered.tree;
+    within = followed-within (part_name (piece c.args.key.now.first)) c.deref-dotted-items.result.now c.loop-dotted.dotted-index c.dotted-item.result c.loop-dotted-test.true c.dotted-item.is
+        c.args.self.now.nodes.items c.loop-dotted.self.nodes.items c.args.line (address_at c.args.self.now.nodes.items c.args.at) c.loop-dotted.here (part_name (piece c.loop-dotted.part)) c.loop-dotted.invariant.followed
+        c.in-Some.id nowhere (c.in_ok-id.ensures.found nowhere ∙ c.in-Some.is);
+  });
+}
 
-pub returns-in_err-mention-clause-clash : goal.returns-in_err-mention-clause-clash
-returns-in_err-mention-clause-clash c =
-    let p = err_from_is_err_and c.from_residual-in_err-mention.result c.from_residual-in_err-mention.ensures.1 in
+pub returns-in_err-mention : goal.returns-in_err-mention
+returns-in_err-mention c =
     let first = part_name (piece c.args.key.now.first) in
     let old = c.args.self.now.nodes.items in
     let now = c.loop-dotted.self.nodes.items in
     let at = address_at old c.args.at in
     let same : c.find.new.self.nodes.items ≡ now = ap (λ (w : Vec Node Global). w.items) c.find.ensures.nodes in
-    rw (p.1, p.2)
-    (λ a is.
-    let step = subst (λ l. (may_follow (slice_index_or l c.in-Some.id nowhere).role Dotted ≡ false) × (address_at l c.in-Some.id ≡ a)) same (c.in_err-mention.ensures.clash a is nowhere) in
-    subst (λ ds. Clashes old (fronts c.args.line at (first ∷ names_left ds)) a) c.deref-dotted-items.ensures.value
-    (subst (Clashes old (fronts c.args.line at (first ∷ names_left c.deref-dotted-items.result.now))) step.1
-    (followed-clash first c.deref-dotted-items.result.now c.loop-dotted.dotted-index c.dotted-item.result c.loop-dotted-test.true c.dotted-item.is
+    let items : length c.deref-dotted-items.result.now ≡ length c.args.key.now.rest.items = ap length c.deref-dotted-items.ensures.value in
+    refuses (GoesOn-then c.loop-dotted.invariant.goes_on c.find.ensures.goes_on (c.loop-dotted.dotted-index + 1) (omega arith)) c.in_err-mention.ensures
+    (err_from_is_err_and c.from_residual-in_err-mention.result c.from_residual-in_err-mention.ensures.1) (omega (arith, items, c.loop-dotted-test.true))
+    (λ a barred. subst (λ ds. Clashes old (fronts c.args.line at (first ∷ names_left ds)) a) c.deref-dotted-items.ensures.value
+    (followed-barred first c.deref-dotted-items.result.now c.loop-dotted.dotted-index c.dotted-item.result c.loop-dotted-test.true c.dotted-item.is
     old now c.args.line at c.loop-dotted.here (part_name (piece c.loop-dotted.part)) c.loop-dotted.invariant.followed
-    c.in-Some.id nowhere (c.in_ok-id.ensures.found nowhere ∙ c.in-Some.is) step.0)))
+    c.in-Some.id nowhere (c.in_ok-id.ensures.found nowhere ∙ c.in-Some.is) a (subst (λ l. IsBarred l c.in-Some.id Dotted a) same barred)))
 
 pub loop-dotted-preserved : goal.loop-dotted-preserved
 loop-dotted-preserved c =
-    let first = part_name (piece c.args.key.now.first) in
     let old = c.args.self.now.nodes.items in
     let now = c.loop-dotted.self.nodes.items in
-    let then = c.mention.new.self.nodes.items in
-    let id = c.in-Some.id in
-    let at = address_at old c.args.at in
     let same : c.find.new.self.nodes.items ≡ now = ap (λ (w : Vec Node Global). w.items) c.find.ensures.nodes in
-    let step = subst (λ l. (may_follow (slice_index_or l id nowhere).role Dotted ≡ true) × (then ≡ noted l id (slice_index_or l id nowhere) Dotted c.args.line)) same (c.in_ok-mention.ensures.noted nowhere) in
     record {
-      followed = rw step.1
-          (followed-found first c.deref-dotted-items.result.now c.loop-dotted.dotted-index c.dotted-item.result c.loop-dotted-test.true c.dotted-item.is
-          old now c.args.line at c.loop-dotted.here (part_name (piece c.loop-dotted.part)) c.loop-dotted.invariant.followed
-          id nowhere (c.in_ok-id.ensures.found nowhere ∙ c.in-Some.is) step.0);
-      can_undo = search rules;
-      lookups = omega (arith, c.mention.ensures.lookups, c.find.ensures.lookups, c.loop-dotted.invariant.lookups);
-      rises = omega (arith, c.mention.ensures.lookups, c.find.ensures.rises, c.loop-dotted.invariant.rises);
+      followed = followed-noted (part_name (piece c.args.key.now.first)) c.deref-dotted-items.result.now c.loop-dotted.dotted-index c.dotted-item.result c.loop-dotted-test.true c.dotted-item.is
+          old now c.args.line (address_at old c.args.at) c.loop-dotted.here (part_name (piece c.loop-dotted.part)) c.loop-dotted.invariant.followed
+          c.in-Some.id nowhere (c.in_ok-id.ensures.found nowhere ∙ c.in-Some.is) c.mention.new.self.nodes.items
+          (subst (λ l. IsNoted l c.mention.new.self.nodes.items c.in-Some.id Dotted c.args.line) same c.in_ok-mention.ensures.made);
+      goes_on = GoesOn-then c.loop-dotted.invariant.goes_on (GoesOn-then c.find.ensures.goes_on c.mention.ensures.goes_on 1 (omega arith)) (c.loop-dotted.dotted-index + 1) (omega arith);
+    }
+
+pub returns : goal.returns
+returns c =
+    let first = part_name (piece c.args.key.now.first) in
+    let old = c.args.self.now.nodes.items in
+    let items : length c.deref-dotted-items.result.now ≡ length c.args.key.now.rest.items = ap length c.deref-dotted-items.ensures.value in
+    record {
+      made = subst (FollowedFronts old c.loop-dotted.self.nodes.items c.args.line (address_at old c.args.at) c.loop-dotted.here (part_name (piece c.loop-dotted.part)))
+          (first_names-all first c.deref-dotted-items.result.now c.loop-dotted.dotted-index c.loop-dotted-test.false ∙ ap (λ ds. first ∷ names_left ds) c.deref-dotted-items.ensures.value)
+          c.loop-dotted.invariant.followed;
+      clash = tt;
+      goes_on = GoesOn-within c.loop-dotted.invariant.goes_on (length c.args.key.now.rest.items) (omega (arith, items, c.loop-dotted.auto.dotted-index-end));
     }

@@ -1,24 +1,27 @@
-use Rattle.std.proofs.lemmas.Result.{err_from_is_err_and, IfOk-weaker, IfErr-weaker}
+use Rattle.std.proofs.Common.{arith}
+use Rattle.std.proofs.lemmas.Result.{err_from_is_err_and}
 use Rattle.toml_tree.specs.View.{piece, key as tree_key}
 use Rattle.toml_names.specs.Keys.{part_name, rest_names}
 use Rattle.toml_names.specs.Mentions.{ends_table}
-use Rattle.toml_names.proofs.Clauses.{if_and}
+use Rattle.toml_names.proofs.EnterFronts.{key-length}
 use Rattle.toml_names.proofs.HeaderLines.{clash_in_fronts, table_line, table_clash}
+use Rattle.toml_names.proofs.Steps.{GoesOn-same, refuses, follows}
 use Rattle.toml_names.proofs.tree.NameTree.enter_table_header.Goals as goal
 
-pub returns-in_err-here-clause-clash : goal.returns-in_err-here-clause-clash
-returns-in_err-here-clause-clash c =
-    let p = err_from_is_err_and c.from_residual.result c.from_residual.ensures.1 in
-    rw (p.1, p.2) (λ a same ms stands. clash_in_fronts c.args.line ms (ends_table c.args.line) (part_name (piece c.args.key.now.first)) (rest_names (tree_key c.args.key.now).rest) a (c.in_err-here.ensures.clash a same ms stands))
+pub returns-in_err-here : goal.returns-in_err-here
+returns-in_err-here c =
+    let parts = key-length c.args.key.now in
+    refuses (GoesOn-same c.args.self.now) c.in_err-here.ensures (err_from_is_err_and c.from_residual.result c.from_residual.ensures.1) (omega (arith, parts))
+    (clash_in_fronts c.args.self.now.nodes.items c.args.line (λ ms. ends_table c.args.line) (part_name (piece c.args.key.now.first)) (rest_names (tree_key c.args.key.now).rest))
 
-pub returns-clause-enters : goal.returns-clause-enters
-returns-clause-enters c =
-    IfOk-weaker c.enter.result _ _
-    (λ id made. table_line c.args.self.now.nodes.items c.pass_fronts.new.self.nodes.items c.args.line c.in_ok-here.here (part_name (piece c.in_ok-here.part)) (part_name (piece c.args.key.now.first)) (rest_names (tree_key c.args.key.now).rest) c.in_ok-here.ensures.kept c.in_ok-here.ensures.stands c.in_ok-here.ensures.last c.enter.new.self.nodes.items id made.0 made.1)
-    (if_and c.enter.result _ _ c.enter.ensures.enters c.enter.ensures.leads)
+pub enter-requires-clause-there : goal.enter-requires-clause-there
+enter-requires-clause-there c = record { tree = c.in_ok-here.ensures.made.tree; within = c.in_ok-here.ensures.made.within }
 
-pub returns-clause-clash : goal.returns-clause-clash
-returns-clause-clash c =
-    IfErr-weaker c.enter.result _ _
-    (λ e clash a is. table_clash c.args.self.now.nodes.items c.pass_fronts.new.self.nodes.items c.args.line c.in_ok-here.here (part_name (piece c.in_ok-here.part)) (part_name (piece c.args.key.now.first)) (rest_names (tree_key c.args.key.now).rest) c.in_ok-here.ensures.kept c.in_ok-here.ensures.stands c.in_ok-here.ensures.last a (clash a is))
-    c.enter.ensures.clash
+pub returns : goal.returns
+returns c =
+    let parts = key-length c.args.key.now in
+    follows c.pass_fronts.ensures.goes_on c.enter.ensures (omega (arith, parts))
+    (table_line c.args.self.now.nodes.items c.pass_fronts.new.self.nodes.items c.args.line c.in_ok-here.here (part_name (piece c.in_ok-here.part)) (part_name (piece c.args.key.now.first)) (rest_names (tree_key c.args.key.now).rest)
+    c.in_ok-here.ensures.made c.enter.new.self.nodes.items)
+    (table_clash c.args.self.now.nodes.items c.pass_fronts.new.self.nodes.items c.args.line c.in_ok-here.here (part_name (piece c.in_ok-here.part)) (part_name (piece c.args.key.now.first)) (rest_names (tree_key c.args.key.now).rest)
+    c.in_ok-here.ensures.made)

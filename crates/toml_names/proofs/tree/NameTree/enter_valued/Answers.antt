@@ -3,38 +3,34 @@ use Rattle.toml_tree.specs.View.{piece}
 use Rattle.toml_names.specs.declared.named.Role.TheVariants.{Valued}
 use Rattle.toml_names.specs.Keys.{part_name}
 use Rattle.toml_names.specs.View.{kind as kind_of}
-use Rattle.toml_names.proofs.EnterName.{EntersName, known-within, Clashes-known_value, EntersName-new, lone-led}
+use Rattle.toml_names.proofs.EnterName.{IsNode-known, Clashes-known_value, EntersTo-new, lone-led}
 use Rattle.toml_names.proofs.tree.NameTree.enter_valued.Goals as goal
 
 pub address-requires-clause-within : goal.address-requires-clause-within
 address-requires-clause-within c =
     let h : c.in-Known.id < length c.find_or_grow.new.self.nodes.items =
-    known-within c.args.self.now.nodes.items c.find_or_grow.new.self.nodes.items c.requires.tree c.args.at (omega arith) (part_name (piece c.args.part))
-    c.in-Known.id (rw c.in-Known.is at c.in_ok-id.ensures.found) in
+    (IsNode-known c.args.self.now.nodes.items c.find_or_grow.new.self.nodes.items c.args.at c.requires.there (part_name (piece c.args.part)) c.in-Known.id (rw c.in-Known.is at c.in_ok-id.ensures.found)).within in
     omega arith
 
-pub returns-in_ok-address-in-Known-clause-clash : goal.returns-in_ok-address-in-Known-clause-clash
-returns-in_ok-address-in-Known-clause-clash c = λ a same.
-    let is : c.in_ok-address-in-Known.field-0 ≡ a = cc in
-    Clashes-known_value c.args.self.now.nodes.items c.find_or_grow.new.self.nodes.items c.requires.tree c.args.at (omega arith) (part_name (piece c.args.part))
-    c.in-Known.id (rw c.in-Known.is at c.in_ok-id.ensures.found) (kind_of c.args.kind) c.args.line a (sym c.in_ok-address-in-Known.ensures ∙ is)
-
--- the name of a new node
-new : (c : goal.In-New) → EntersName c.args.self.now.nodes.items c.find_or_grow.new.self.nodes.items c.args.at (part_name (piece c.args.part)) Valued (kind_of c.args.kind) c.args.line c.in-New.id
-new c =
-    EntersName-new c.args.self.now.nodes.items c.find_or_grow.new.self.nodes.items c.requires.tree c.args.at (omega arith) (part_name (piece c.args.part))
-    c.in-New.id Valued (kind_of c.args.kind) c.args.line (rw c.in-New.is at c.in_ok-id.ensures.found) refl (λ e. cc)
+pub returns-in_ok-address-in-Known-clause-enters : goal.returns-in_ok-address-in-Known-clause-enters
+returns-in_ok-address-in-Known-clause-enters c = record {
+  made = tt;
+  clash = λ a same.
+      let is : c.in_ok-address-in-Known.field-0 ≡ a = cc in
+      Clashes-known_value c.args.self.now.nodes.items c.find_or_grow.new.self.nodes.items c.args.at c.requires.there (part_name (piece c.args.part))
+      c.in-Known.id (rw c.in-Known.is at c.in_ok-id.ensures.found) (kind_of c.args.kind) c.args.line a (sym c.in_ok-address-in-Known.ensures ∙ is);
+  goes_on = c.find_or_grow.ensures.goes_on;
+}
 
 pub returns-in-New-clause-enters : goal.returns-in-New-clause-enters
-returns-in-New-clause-enters c = (new c).enters
-
-pub returns-in-New-clause-leads : goal.returns-in-New-clause-leads
-returns-in-New-clause-leads c = (new c).leads
+returns-in-New-clause-enters c = record {
+  made = EntersTo-new c.args.self.now.nodes.items c.find_or_grow.new.self.nodes.items c.args.at c.requires.there (part_name (piece c.args.part))
+      c.in-New.id Valued (kind_of c.args.kind) c.args.line (rw c.in-New.is at c.in_ok-id.ensures.found) refl (λ e. cc);
+  clash = tt;
+  goes_on = c.find_or_grow.ensures.goes_on;
+}
 
 pub returns-in-New-clause-lone : goal.returns-in-New-clause-lone
 returns-in-New-clause-lone c =
     let led = rw c.in-New.is at c.in_ok-id.ensures.found in
-    (led.0, lone-led c.args.self.now.nodes.items c.find_or_grow.new.self.nodes.items c.requires.tree c.args.at (omega arith) (part_name (piece c.args.part)) c.in-New.id Valued (kind_of c.args.kind) c.args.line led)
-
-pub returns-in-New-clause-elements : goal.returns-in-New-clause-elements
-returns-in-New-clause-elements c = (new c).elements
+    (led.0, lone-led c.args.self.now.nodes.items c.find_or_grow.new.self.nodes.items c.args.at c.requires.there (part_name (piece c.args.part)) c.in-New.id Valued (kind_of c.args.kind) c.args.line led)

@@ -1,90 +1,96 @@
-use Rattle.std.proofs.Common.{rules, ◌≡◌, ◌<◌, [], ◌∷◌, ◌∙◌, Some, true, false, length, ap, subst, refl, arith, slice_index_or, Vec, Global}
+use Rattle.std.proofs.Common.{◌≡◌, ◌+◌, ◌<◌, [], ◌∷◌, ◌∙◌, sym, ap, subst, length, arith, Vec, Global}
 use Rattle.std.proofs.lemmas.Result.{err_from_is_err_and}
 use Rattle.toml_tree.specs.View.{piece}
 use Rattle.toml_names.specs.declared.named.Role.TheVariants.{Passed}
 use Rattle.toml_names.specs.declared.node.Node.{Node}
-use Rattle.toml_names.specs.Addresses.{element}
+use Rattle.toml_names.specs.EnteringHeaders.{PassedFronts}
 use Rattle.toml_names.specs.Headers.{header_fronts}
 use Rattle.toml_names.specs.Keys.{part_name}
-use Rattle.toml_names.specs.LongKeys.{CanEnterHeader}
-use Rattle.toml_names.specs.Mentions.{followed, ends_table, ends_tables, count_tables}
-use Rattle.toml_names.specs.Names.{header_end}
-use Rattle.toml_names.specs.Nodes.{nowhere, address_at, noted}
-use Rattle.toml_names.specs.Rules.{may_follow, misfit}
+use Rattle.toml_names.specs.LongKeys.{CanEnterHeaders}
+use Rattle.toml_names.specs.NameTree.{IsTree, ClashesAfter}
+use Rattle.toml_names.specs.Nodes.{nowhere, address_at}
+use Rattle.toml_names.specs.Steps.{IsBarred, IsNoted}
 use Rattle.toml_names.proofs.Along.{names_left}
+use Rattle.toml_names.proofs.EnterFronts.{first_names-all}
 use Rattle.toml_names.proofs.InnerNodes.{GoesOnAt}
-use Rattle.toml_names.proofs.KnownHeaders.{passed-found, passed-within, passed-clash, passed-fresh_table, passed-fresh_tables}
+use Rattle.toml_names.proofs.KnownHeaders.{passed-noted, passed-within, passed-barred, passed-fresh}
 use Rattle.toml_names.proofs.PassedFronts.{PassedFronts-first}
+use Rattle.toml_names.proofs.Steps.{GoesOn-same, GoesOn-within, GoesOn-then, refuses}
 use Rattle.toml_names.proofs.tree.NameTree.pass_known.Goals as goal
 
 pub loop-dotted-init : goal.loop-dotted-init
 loop-dotted-init c = record {
   passed = PassedFronts-first c.args.self.now.nodes.items c.args.line (part_name (piece c.args.key.now.first)) c.requires.tree;
-  can_undo = refl;
-  lookups = omega arith;
-  rises = omega arith;
+  goes_on = GoesOn-same c.args.self.now;
 }
 
-pub inner-here-requires-clause-within : goal.inner-here-requires-clause-within
-inner-here-requires-clause-within c =
-    let now = c.loop-dotted.self.nodes.items in
-    let low : c.in-Some.found < length now =
-    passed-within (part_name (piece c.args.key.now.first)) c.deref-dotted-items.result.now c.loop-dotted.dotted-index c.dotted-item.result c.loop-dotted-test.true c.dotted-item.is
-    c.args.self.now.nodes.items now c.args.line c.loop-dotted.here (part_name (piece c.loop-dotted.part)) c.loop-dotted.invariant.passed
-    c.in-Some.found nowhere (c.in_ok-found.ensures.found nowhere ∙ c.in-Some.is) in
-    rw c.find.ensures.nodes (omega arith)
-
-pub returns-in-None-clause-fresh_table : goal.returns-in-None-clause-fresh_table
-returns-in-None-clause-fresh_table c =
+pub returns-in-None : goal.returns-in-None
+returns-in-None c =
     let first = part_name (piece c.args.key.now.first) in
     let old = c.args.self.now.nodes.items in
-    subst (λ ds. CanEnterHeader old (λ ms. followed c.args.line ms (ends_table c.args.line) [] (first ∷ names_left ds)) (λ ms. header_end ms [] (first ∷ names_left ds))) c.deref-dotted-items.ensures.value
-    (passed-fresh_table first c.deref-dotted-items.result.now c.loop-dotted.dotted-index c.dotted-item.result c.loop-dotted-test.true c.dotted-item.is
-    old c.loop-dotted.self.nodes.items c.args.line c.loop-dotted.here (part_name (piece c.loop-dotted.part)) c.loop-dotted.invariant.passed
-    (λ d. c.in_ok-found.ensures.found d ∙ c.in-None.is) nowhere)
+    let items : length c.deref-dotted-items.result.now ≡ length c.args.key.now.rest.items = ap length c.deref-dotted-items.ensures.value in
+    record {
+      made = subst (λ ds. CanEnterHeaders old c.args.line (first ∷ names_left ds)) c.deref-dotted-items.ensures.value
+          (passed-fresh first c.deref-dotted-items.result.now c.loop-dotted.dotted-index c.dotted-item.result c.loop-dotted-test.true c.dotted-item.is
+          old c.loop-dotted.self.nodes.items c.args.line c.loop-dotted.here (part_name (piece c.loop-dotted.part)) c.loop-dotted.invariant.passed
+          (λ d. c.in_ok-found.ensures.found d ∙ c.in-None.is) nowhere);
+      clash = tt;
+      goes_on = GoesOn-then c.loop-dotted.invariant.goes_on c.find.ensures.goes_on (length c.args.key.now.rest.items) (omega (arith, items, c.loop-dotted-test.true));
+    }
 
-pub returns-in-None-clause-fresh_tables : goal.returns-in-None-clause-fresh_tables
-returns-in-None-clause-fresh_tables c =
+pub inner-here-requires : goal.inner-here-requires
+inner-here-requires c = record {
+  there = rw c.find.ensures.nodes (record {
+    tree = c.loop-dotted.invariant.passed.tree;
+    within = passed-within (part_name (piece c.args.key.now.first)) c.deref-dotted-items.result.now c.loop-dotted.dotted-index c.dotted-item.result c.loop-dotted-test.true c.dotted-item.is
+        c.args.self.now.nodes.items c.loop-dotted.self.nodes.items c.args.line c.loop-dotted.here (part_name (piece c.loop-dotted.part)) c.loop-dotted.invariant.passed
+        c.in-Some.found nowhere (c.in_ok-found.ensures.found nowhere ∙ c.in-Some.is);
+  });
+}
+
+pub mention-requires : goal.mention-requires
+mention-requires c =
+    let same : c.loop-dotted.self.nodes.items ≡ c.find.new.self.nodes.items = ap (λ (w : Vec Node Global). w.items) (sym c.find.ensures.nodes) in
+    record { there = record { tree = subst IsTree same c.loop-dotted.invariant.passed.tree; within = c.inner-here.ensures.within } }
+
+pub returns-in_err-mention : goal.returns-in_err-mention
+returns-in_err-mention c =
     let first = part_name (piece c.args.key.now.first) in
     let old = c.args.self.now.nodes.items in
-    subst (λ ds. CanEnterHeader old (λ ms. followed c.args.line ms (ends_tables c.args.line ms) [] (first ∷ names_left ds))
-    (λ ms. element (header_end ms [] (first ∷ names_left ds)) (count_tables ms (header_end ms [] (first ∷ names_left ds))))) c.deref-dotted-items.ensures.value
-    (passed-fresh_tables first c.deref-dotted-items.result.now c.loop-dotted.dotted-index c.dotted-item.result c.loop-dotted-test.true c.dotted-item.is
-    old c.loop-dotted.self.nodes.items c.args.line c.loop-dotted.here (part_name (piece c.loop-dotted.part)) c.loop-dotted.invariant.passed
-    (λ d. c.in_ok-found.ensures.found d ∙ c.in-None.is) nowhere)
-
-pub returns-in_err-mention-clause-clash : goal.returns-in_err-mention-clause-clash
-returns-in_err-mention-clause-clash c =
-    let p = err_from_is_err_and c.from_residual-in_err-mention.result c.from_residual-in_err-mention.ensures.1 in
-    let first = part_name (piece c.args.key.now.first) in
     let now = c.loop-dotted.self.nodes.items in
     let id = c.inner-here.result in
     let same : c.find.new.self.nodes.items ≡ now = ap (λ (w : Vec Node Global). w.items) c.find.ensures.nodes in
     let inside = subst (λ l. (id < length l) × GoesOnAt l (address_at l c.in-Some.found) id) same (c.inner-here.ensures.within, c.inner-here.ensures.entered) in
-    rw (p.1, p.2)
-    (λ a is ms stands.
-    let step = subst (λ l. (may_follow (slice_index_or l id nowhere).role Passed ≡ false) × (address_at l id ≡ a)) same (c.in_err-mention.ensures.clash a is nowhere) in
-    subst (λ ds. misfit ms (header_fronts c.args.line ms [] (first ∷ names_left ds)) ≡ Some a) c.deref-dotted-items.ensures.value
-    (passed-clash first c.deref-dotted-items.result.now c.loop-dotted.dotted-index c.dotted-item.result c.loop-dotted-test.true c.dotted-item.is
-    c.args.self.now.nodes.items now c.args.line c.loop-dotted.here (part_name (piece c.loop-dotted.part)) c.loop-dotted.invariant.passed
-    c.in-Some.found nowhere (c.in_ok-found.ensures.found nowhere ∙ c.in-Some.is) id inside.0 inside.1 step.0 ms stands
-    ∙ ap Some step.1))
+    let items : length c.deref-dotted-items.result.now ≡ length c.args.key.now.rest.items = ap length c.deref-dotted-items.ensures.value in
+    refuses (GoesOn-then c.loop-dotted.invariant.goes_on c.find.ensures.goes_on (c.loop-dotted.dotted-index + 1) (omega arith)) c.in_err-mention.ensures
+    (err_from_is_err_and c.from_residual-in_err-mention.result c.from_residual-in_err-mention.ensures.1) (omega (arith, items, c.loop-dotted-test.true))
+    (λ a barred. subst (λ ds. ClashesAfter old (λ ms. header_fronts c.args.line ms [] (first ∷ names_left ds)) a) c.deref-dotted-items.ensures.value
+    (passed-barred first c.deref-dotted-items.result.now c.loop-dotted.dotted-index c.dotted-item.result c.loop-dotted-test.true c.dotted-item.is
+    old now c.args.line c.loop-dotted.here (part_name (piece c.loop-dotted.part)) c.loop-dotted.invariant.passed
+    c.in-Some.found nowhere (c.in_ok-found.ensures.found nowhere ∙ c.in-Some.is) id inside.0 inside.1 a (subst (λ l. IsBarred l id Passed a) same barred)))
 
 pub loop-dotted-preserved : goal.loop-dotted-preserved
 loop-dotted-preserved c =
-    let first = part_name (piece c.args.key.now.first) in
     let now = c.loop-dotted.self.nodes.items in
     let then = c.mention.new.self.nodes.items in
     let id = c.inner-here.result in
     let same : c.find.new.self.nodes.items ≡ now = ap (λ (w : Vec Node Global). w.items) c.find.ensures.nodes in
     let inside = subst (λ l. (id < length l) × GoesOnAt l (address_at l c.in-Some.found) id) same (c.inner-here.ensures.within, c.inner-here.ensures.entered) in
-    let step = subst (λ l. (may_follow (slice_index_or l id nowhere).role Passed ≡ true) × (then ≡ noted l id (slice_index_or l id nowhere) Passed c.args.line)) same (c.in_ok-mention.ensures.noted nowhere) in
     record {
-      passed = rw step.1
-          (passed-found first c.deref-dotted-items.result.now c.loop-dotted.dotted-index c.dotted-item.result c.loop-dotted-test.true c.dotted-item.is
+      passed = passed-noted (part_name (piece c.args.key.now.first)) c.deref-dotted-items.result.now c.loop-dotted.dotted-index c.dotted-item.result c.loop-dotted-test.true c.dotted-item.is
           c.args.self.now.nodes.items now c.args.line c.loop-dotted.here (part_name (piece c.loop-dotted.part)) c.loop-dotted.invariant.passed
-          c.in-Some.found nowhere (c.in_ok-found.ensures.found nowhere ∙ c.in-Some.is) id inside.0 inside.1 step.0);
-      can_undo = search rules;
-      lookups = omega (arith, c.mention.ensures.lookups, c.find.ensures.lookups, c.loop-dotted.invariant.lookups);
-      rises = omega (arith, c.mention.ensures.lookups, c.find.ensures.rises, c.loop-dotted.invariant.rises);
+          c.in-Some.found nowhere (c.in_ok-found.ensures.found nowhere ∙ c.in-Some.is) id inside.0 inside.1 then (subst (λ l. IsNoted l then id Passed c.args.line) same c.in_ok-mention.ensures.made);
+      goes_on = GoesOn-then c.loop-dotted.invariant.goes_on (GoesOn-then c.find.ensures.goes_on c.mention.ensures.goes_on 1 (omega arith)) (c.loop-dotted.dotted-index + 1) (omega arith);
+    }
+
+pub returns : goal.returns
+returns c =
+    let first = part_name (piece c.args.key.now.first) in
+    let items : length c.deref-dotted-items.result.now ≡ length c.args.key.now.rest.items = ap length c.deref-dotted-items.ensures.value in
+    record {
+      made = subst (PassedFronts c.args.self.now.nodes.items c.loop-dotted.self.nodes.items c.args.line c.loop-dotted.here (part_name (piece c.loop-dotted.part)))
+          (first_names-all first c.deref-dotted-items.result.now c.loop-dotted.dotted-index c.loop-dotted-test.false ∙ ap (λ ds. first ∷ names_left ds) c.deref-dotted-items.ensures.value)
+          c.loop-dotted.invariant.passed;
+      clash = tt;
+      goes_on = GoesOn-within c.loop-dotted.invariant.goes_on (length c.args.key.now.rest.items) (omega (arith, items, c.loop-dotted.auto.dotted-index-end));
     }
