@@ -3,9 +3,9 @@ use Rattle.std.proofs.Common.{◌≡◌, ℕ, List, Option, Some, Bool, true, fa
 use Rattle.std.specs.BTreeMap.{BTreeMap, get_by}
 use Rattle.std.specs.Cmp.Lexicographic.{slice_cmp}
 use Rattle.std.specs.Prelude.{is_some}
-use Rattle.toml_names.specs.declared.address.Step.{Step}
-use Rattle.toml_names.specs.declared.address.Step.TheVariants.{Name, Index}
-use Rattle.toml_names.specs.Addresses.{same_step}
+use Rattle.toml_names.specs.declared.model.address.Step.{Step}
+use Rattle.toml_names.specs.declared.model.address.Step.TheVariants.{Name, Index}
+use Rattle.toml_names.specs.model.Addresses.{same_step}
 use Rattle.toml_checker.specs.declared.steps.Steps.{Steps}
 use Rattle.toml_checker.specs.Steps.{has}
 

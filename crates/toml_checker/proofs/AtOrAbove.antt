@@ -1,7 +1,7 @@
 -- Addresses at or above others.
 use Rattle.std.proofs.Common.{◌≡◌, true, false, [], ◌∷◌, sym, ◌∙◌}
 use Rattle.std.proofs.lemmas.List.{append-nil}
-use Rattle.toml_names.specs.Addresses.{Address, same_address, is_above}
+use Rattle.toml_names.specs.model.Addresses.{Address, same_address, is_above}
 use Rattle.toml_names.proofs.Proved.{same_address-decides, above_is_above}
 use Rattle.toml_checker.specs.CarriedTo.{IsAtOrAbove}
 

@@ -3,7 +3,7 @@ use Rattle.std.proofs.Common.{◌≡◌, ℕ, zero, suc, Bool, ◌+◌, ◌<◌,
 use Rattle.std.proofs.Math.Seq.{drop-cons}
 use Rattle.std.proofs.lemmas.Option.{same_Some}
 use Rattle.std.specs.Prelude.{◌↔◌, IsTrue}
-use Rattle.toml_names.specs.Addresses.{Address, same_address}
+use Rattle.toml_names.specs.model.Addresses.{Address, same_address}
 use Rattle.toml_names.proofs.Proved.{same_address-decides}
 
 -- what is left of a list, and its next element

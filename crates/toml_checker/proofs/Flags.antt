@@ -5,7 +5,7 @@ use Rattle.std.proofs.lemmas.List.{append-nil}
 use Rattle.std.proofs.lemmas.Option.{same_Some}
 use Rattle.std.specs.Bool.{nat_lt}
 use Rattle.std.specs.Prelude.{slice_get, option_map, option_and_then}
-use Rattle.toml_names.specs.Addresses.{Address, IsAbove}
+use Rattle.toml_names.specs.model.Addresses.{Address, IsAbove}
 use Rattle.toml_edits.specs.Carry.{carry}
 use Rattle.toml_edits.specs.Edits.{Change, set, insert, rename, remove, place}
 use Rattle.toml_units.specs.declared.unit.UnitKind.{UnitKind}

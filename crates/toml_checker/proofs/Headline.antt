@@ -5,12 +5,12 @@ use Rattle.std.specs.Prelude.{option_map, IfSome, IsSome, slice_get, ◌↔◌}
 use Rattle.toml_text.specs.Limit.{IsText}
 use Rattle.toml_tree.specs.Spells.{EachIs, Spells}
 use Rattle.toml_tree.specs.Tree.{Doc}
-use Rattle.toml_names.specs.declared.datum.Datum.{Datum}
-use Rattle.toml_names.specs.Addresses.{Address}
-use Rattle.toml_names.specs.Data.{kind_at, IsDataOf}
-use Rattle.toml_names.specs.Mentions.{named}
-use Rattle.toml_names.specs.Names.{AreGood}
-use Rattle.toml_names.specs.Rules.{KeepsRules}
+use Rattle.toml_names.specs.declared.model.datum.Datum.{Datum}
+use Rattle.toml_names.specs.model.Addresses.{Address}
+use Rattle.toml_names.specs.model.Data.{kind_at, IsDataOf}
+use Rattle.toml_names.specs.mentions.Mentions.{named}
+use Rattle.toml_names.specs.reader.Names.{AreGood}
+use Rattle.toml_names.specs.mentions.Rules.{KeepsRules}
 use Rattle.toml_edits.specs.Edits.{Change}
 use Rattle.toml_edits.specs.Lists.{carried, Lead}
 use Rattle.toml_units.specs.declared.unit.UnitKind.{UnitKind}

@@ -1,16 +1,16 @@
 -- Edits one after the other: one more edit, the first that has a fault, and data that are the same.
 use Rattle.std.proofs.Common.{◌≡◌, List, [], ◌∷◌, ◌++◌, length, Option, Some, None, refl, sym, ap, ◌∙◌, subst}
 use Rattle.std.proofs.Math.Path.{fun_ext}
-use Rattle.toml_names.specs.declared.datum.Datum.{Datum}
-use Rattle.toml_names.specs.Addresses.{Address}
-use Rattle.toml_names.specs.Data.{Kinds, kind_at}
+use Rattle.toml_names.specs.declared.model.datum.Datum.{Datum}
+use Rattle.toml_names.specs.model.Addresses.{Address}
+use Rattle.toml_names.specs.model.Data.{Kinds, kind_at}
 use Rattle.toml_edits.specs.declared.fault.EditFault.{EditFault}
 use Rattle.toml_edits.specs.After.{IsAfter}
 use Rattle.toml_edits.specs.Edits.{Change}
 use Rattle.toml_edits.specs.Faults.{IsFault}
 use Rattle.toml_edits.specs.Lists.{Lead, IsFirstFault}
 use Rattle.toml_edits.proofs.Proved.{fault_or_lead}
-use Rattle.toml_names.specs.declared.datum.Data.{Data}
+use Rattle.toml_names.specs.declared.model.datum.Data.{Data}
 use Rattle.toml_checker.specs.After.{GivesData}
 use Rattle.toml_checker.specs.Documents.{AreDefined}
 

@@ -2,10 +2,10 @@
 use Rattle.std.proofs.Common.{◌≡◌, ℕ, zero, suc, ◌≤◌, ◌^◌, List, [], ◌∷◌, length, Option, Some, None, IsSome, is_some, true≢false, refl, sym, ap, subst, ◌∙◌, arith}
 use Rattle.std.specs.Prelude.{IfSome}
 use Rattle.toml_tree.specs.Spells.{EachIs}
-use Rattle.toml_names.specs.Addresses.{Address}
-use Rattle.toml_names.specs.Data.{Kinds, IsFact, IsDataOf, fact_at}
-use Rattle.toml_names.specs.Indices.{IsLow}
-use Rattle.toml_names.specs.Mentions.{Kind, Named, named}
+use Rattle.toml_names.specs.model.Addresses.{Address}
+use Rattle.toml_names.specs.model.Data.{Kinds, IsFact, IsDataOf, fact_at}
+use Rattle.toml_names.specs.model.Indices.{IsLow}
+use Rattle.toml_names.specs.mentions.Mentions.{Kind, Named, named}
 use Rattle.toml_names.proofs.Proved.{lines_join, first_is_data, indices_are_low}
 use Rattle.toml_units.specs.Units.{TextUnit, units}
 use Rattle.toml_units.proofs.Proved.{units_are_named}

@@ -5,11 +5,11 @@ use Rattle.toml_tree.specs.Document.{document}
 use Rattle.toml_tree.specs.Spells.{Spells}
 use Rattle.toml_tree.specs.Tree.{Doc}
 use Rattle.toml_tree.proofs.Proved.{one_tree}
-use Rattle.toml_names.specs.declared.datum.Data.{Data}
-use Rattle.toml_names.specs.declared.datum.Datum.{Datum}
-use Rattle.toml_names.specs.Data.{IsDataOf, kind_at}
-use Rattle.toml_names.specs.Documents.{IsDocument}
-use Rattle.toml_names.specs.Mentions.{named}
+use Rattle.toml_names.specs.declared.model.datum.Data.{Data}
+use Rattle.toml_names.specs.declared.model.datum.Datum.{Datum}
+use Rattle.toml_names.specs.model.Data.{IsDataOf, kind_at}
+use Rattle.toml_names.specs.model.Documents.{IsDocument}
+use Rattle.toml_names.specs.mentions.Mentions.{named}
 use Rattle.toml_names.proofs.Proved.{one_data}
 use Rattle.toml_edits.specs.Edits.{Change}
 use Rattle.toml_edits.specs.Lists.{Lead}

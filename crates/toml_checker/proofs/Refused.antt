@@ -11,8 +11,8 @@ use Rattle.toml_tree.specs.Document.{Refuses}
 use Rattle.toml_tree.specs.Spells.{Spells}
 use Rattle.toml_tree.specs.Tree.{Doc}
 use Rattle.toml_tree.proofs.Proved.{one_tree}
-use Rattle.toml_names.specs.Documents.{IsDocument}
-use Rattle.toml_names.specs.Names.{AreGood, RefusesNames}
+use Rattle.toml_names.specs.model.Documents.{IsDocument}
+use Rattle.toml_names.specs.reader.Names.{AreGood, RefusesNames}
 use Rattle.toml_names.specs.declared.fault.NameFault.{NameFault}
 use Rattle.toml_names.specs.declared.fault.NameFault.TheVariants as names
 use Rattle.toml_names.proofs.Proved.{refused_are_bad}

@@ -1,8 +1,8 @@
 -- How a place and an address lie to each other.
 use Rattle.std.proofs.Common.{◌≡◌, [], ◌∷◌, ◌++◌, Bool, true, false, cond, refl, sym, ap, subst, ◌∙◌}
 use Rattle.std.proofs.lemmas.List.{append-nil}
-use Rattle.toml_names.specs.declared.address.Step.{Step}
-use Rattle.toml_names.specs.Addresses.{Address, IsAbove, same_step}
+use Rattle.toml_names.specs.declared.model.address.Step.{Step}
+use Rattle.toml_names.specs.model.Addresses.{Address, IsAbove, same_step}
 use Rattle.toml_names.proofs.Proved.{same_step-equal, same_step-self}
 use Rattle.toml_checker.specs.declared.side.Side.{Side}
 use Rattle.toml_checker.specs.declared.side.Side.TheVariants.{Apart, Above, At, Below}

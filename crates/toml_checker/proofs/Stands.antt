@@ -6,9 +6,9 @@ use Rattle.std.specs.Bool.{nat_le}
 use Rattle.std.specs.Prelude.{slice_get, map, ◌↔◌}
 use Rattle.toml_tree.specs.Tree.{Doc}
 use Rattle.toml_tree.proofs.Proved.{one_tree}
-use Rattle.toml_names.specs.Addresses.{Address}
-use Rattle.toml_names.specs.Data.{kind_at, IsDataOf}
-use Rattle.toml_names.specs.Mentions.{named}
+use Rattle.toml_names.specs.model.Addresses.{Address}
+use Rattle.toml_names.specs.model.Data.{kind_at, IsDataOf}
+use Rattle.toml_names.specs.mentions.Mentions.{named}
 use Rattle.toml_edits.specs.Edits.{Change}
 use Rattle.toml_units.specs.declared.unit.UnitKind.{UnitKind}
 use Rattle.toml_units.specs.declared.unit.UnitKind.TheVariants as kinds

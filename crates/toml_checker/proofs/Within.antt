@@ -2,8 +2,8 @@
 use Rattle.std.proofs.Common.{◌≡◌, ◌⊎◌, inl, inr, ℕ, ◌+◌, ◌<◌, ◌≤◌, ◌^◌, List, [], ◌∷◌, ◌++◌, length, Option, Some, None, refl, sym, ap, subst, ◌∙◌, arith, append_assoc, length-append}
 use Rattle.std.proofs.lemmas.List.{append-nil}
 use Rattle.std.specs.Prelude.{option_map, option_and_then}
-use Rattle.toml_names.specs.Addresses.{Address, IsAbove}
-use Rattle.toml_names.specs.Indices.{IsLow}
+use Rattle.toml_names.specs.model.Addresses.{Address, IsAbove}
+use Rattle.toml_names.specs.model.Indices.{IsLow}
 use Rattle.toml_edits.specs.Carry.{carry}
 use Rattle.toml_edits.specs.Edits.{Change, set, insert, rename, remove, place}
 use Rattle.toml_edits.specs.Laws.{IsNotSet, Front}

@@ -4,7 +4,7 @@ use Rattle.std.specs.List.{filter, flat_map}
 use Rattle.std.specs.Prelude.{Contains}
 use Rattle.std.proofs.lemmas.List.{append-nil}
 use Rattle.toml_tree.proofs.Proved.{one_value}
-use Rattle.toml_names.specs.Addresses.{Address}
+use Rattle.toml_names.specs.model.Addresses.{Address}
 use Rattle.toml_edits.specs.Edits.{Change, set, insert, rename, remove, place}
 use Rattle.toml_edits.specs.Lists.{carried}
 use Rattle.toml_units.specs.Units.{TextUnit, inside}

@@ -1,6 +1,6 @@
 -- What a list of edits makes of data.
 use Rattle.std.specs.Prelude.{ℕ, List, Option, MatchOption}
-use Rattle.toml_names.specs.declared.datum.Data.{Data}
+use Rattle.toml_names.specs.declared.model.datum.Data.{Data}
 use Rattle.toml_edits.specs.Edits.{Change}
 use Rattle.toml_edits.specs.Lists.{Lead}
 use Rattle.toml_checker.specs.Documents.{OfData, AreDefined}

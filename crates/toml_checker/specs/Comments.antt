@@ -6,7 +6,7 @@ use Rattle.toml_tree.specs.Spells.{EachIs, SpellsValue}
 use Rattle.toml_tree.specs.Tree.{Doc, Value}
 use Rattle.toml_edits.specs.Edits.{Change, set, insert, rename, remove, place}
 use Rattle.toml_edits.specs.Lists.{carried}
-use Rattle.toml_names.specs.Addresses.{Address}
+use Rattle.toml_names.specs.model.Addresses.{Address}
 use Rattle.toml_units.specs.declared.unit.UnitKind.{UnitKind}
 use Rattle.toml_units.specs.declared.unit.UnitKind.TheVariants as kinds
 use Rattle.toml_units.specs.Places.{LiesInside}

@@ -1,6 +1,6 @@
 -- What edits owe, as the code holds it.
 use Rattle.std.specs.Prelude.{◌≡◌, ◌⊎◌, ◌+◌, ◌==◌, ◌&&◌, ℕ, Bool, true, false, List, [], ◌∷◌, take, count_by, Option, Some, slice_get, slice_index_or, MatchOption}
-use Rattle.toml_names.specs.Addresses.{Address}
+use Rattle.toml_names.specs.model.Addresses.{Address}
 use Rattle.toml_edits.specs.Edits.{Change}
 use Rattle.toml_edits.specs.Lists.{carried}
 use Rattle.toml_units.specs.declared.unit.UnitKind.TheVariants as kinds

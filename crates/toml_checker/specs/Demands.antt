@@ -1,6 +1,6 @@
 -- When pairs of units certify that a text is what edits make of another: the demands, in the order in which they are asked.
 use Rattle.std.specs.Prelude.{◌<◌, ℕ, List}
-use Rattle.toml_names.specs.Documents.{IsDocument}
+use Rattle.toml_names.specs.model.Documents.{IsDocument}
 use Rattle.toml_edits.specs.Edits.{Change}
 use Rattle.toml_edits.specs.Lists.{Lead}
 use Rattle.toml_checker.specs.declared.verdict.Reason.{Reason}

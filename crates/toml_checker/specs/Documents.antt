@@ -2,9 +2,9 @@
 use Rattle.std.specs.Prelude.{ℕ, List}
 use Rattle.toml_tree.specs.Spells.{Spells}
 use Rattle.toml_tree.specs.Tree.{Doc}
-use Rattle.toml_names.specs.declared.datum.Datum.{Datum}
-use Rattle.toml_names.specs.Data.{kind_at, IsDataOf}
-use Rattle.toml_names.specs.Mentions.{named}
+use Rattle.toml_names.specs.declared.model.datum.Datum.{Datum}
+use Rattle.toml_names.specs.model.Data.{kind_at, IsDataOf}
+use Rattle.toml_names.specs.mentions.Mentions.{named}
 use Rattle.toml_edits.specs.Edits.{Change}
 use Rattle.toml_edits.specs.Lists.{Lead}
 

@@ -1,7 +1,7 @@
 -- What the first two steps of areas show of an address.
 use Rattle.std.specs.Prelude.{◌≡◌, Bool, true, false, not, ◌&&◌, ◌||◌, List, [], ◌∷◌}
-use Rattle.toml_names.specs.declared.address.Step.{Step}
-use Rattle.toml_names.specs.Addresses.{Address}
+use Rattle.toml_names.specs.declared.model.address.Step.{Step}
+use Rattle.toml_names.specs.model.Addresses.{Address}
 use Rattle.toml_edits.specs.Edits.{Change}
 use Rattle.toml_checker.specs.declared.fronts.Fronts.{Fronts}
 use Rattle.toml_checker.specs.declared.side.Side.TheVariants.{Apart}

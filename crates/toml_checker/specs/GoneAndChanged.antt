@@ -1,7 +1,7 @@
 -- What an edit takes away and what it changes: by the edit's address, the unit's, and of a keyval line or a pair the number of
 -- steps of the table's in which it stands.
 use Rattle.std.specs.Prelude.{◌≡◌, ◌⊎◌, ◌<◌, ℕ, length, Option, Some, None}
-use Rattle.toml_names.specs.Addresses.{Address, IsAbove}
+use Rattle.toml_names.specs.model.Addresses.{Address, IsAbove}
 use Rattle.toml_edits.specs.Edits.{Change, set, rename, remove, place}
 use Rattle.toml_units.specs.declared.unit.UnitKind.{UnitKind}
 use Rattle.toml_units.specs.declared.unit.UnitKind.TheVariants as kinds

@@ -2,7 +2,7 @@
 use Rattle.std.specs.Prelude.{◌≡◌, ◌⊎◌, ◌<◌, ◌^◌, ℕ, List, [], length, Some, slice_get}
 use Rattle.toml_tree.specs.Spells.{mark_of}
 use Rattle.toml_tree.specs.Tree.{Doc}
-use Rattle.toml_names.specs.Documents.{IsDocument}
+use Rattle.toml_names.specs.model.Documents.{IsDocument}
 use Rattle.toml_edits.specs.Edits.{Change}
 use Rattle.toml_edits.specs.Lists.{Lead}
 use Rattle.toml_units.specs.declared.unit.UnitKind.TheVariants as kinds

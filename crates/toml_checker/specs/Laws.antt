@@ -1,9 +1,9 @@
 -- Laws of what is protected, and of the demands.
 use Rattle.std.specs.Prelude.{◌≡◌, ◌↔◌, ◌<◌, ◌^◌, ◌++◌, ℕ, List, length, Option, Some, None, IfSome, option_map}
 use Rattle.toml_tree.specs.Spells.{EachIs}
-use Rattle.toml_names.specs.Addresses.{Address}
-use Rattle.toml_names.specs.Documents.{IsDocument}
-use Rattle.toml_names.specs.Indices.{IsLow}
+use Rattle.toml_names.specs.model.Addresses.{Address}
+use Rattle.toml_names.specs.model.Documents.{IsDocument}
+use Rattle.toml_names.specs.model.Indices.{IsLow}
 use Rattle.toml_edits.specs.Edits.{Change}
 use Rattle.toml_edits.specs.Lists.{carried}
 use Rattle.toml_units.specs.Places.{LiesInside}

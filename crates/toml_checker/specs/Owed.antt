@@ -1,6 +1,6 @@
 -- Which addresses edits owe.
 use Rattle.std.specs.Prelude.{◌≡◌, ◌⊎◌, List, [], ◌∷◌, Option, Some, option_map}
-use Rattle.toml_names.specs.Addresses.{Address, child}
+use Rattle.toml_names.specs.model.Addresses.{Address, child}
 use Rattle.toml_edits.specs.Carry.{parted}
 use Rattle.toml_edits.specs.Edits.{Change, set, insert, rename, remove}
 use Rattle.toml_edits.specs.Lists.{carried}

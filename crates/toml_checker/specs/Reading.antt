@@ -4,10 +4,10 @@ use Rattle.toml_text.specs.Limit.{IsText}
 use Rattle.toml_tree.specs.declared.document.Doc.{Doc}
 use Rattle.toml_tree.specs.Document.{document}
 use Rattle.toml_tree.specs.Spells.{Spells}
-use Rattle.toml_names.specs.Data.{IsDataOf, kind_at}
-use Rattle.toml_names.specs.Documents.{IsDocument}
-use Rattle.toml_names.specs.Mentions.{named}
-use Rattle.toml_names.specs.Reading.{ReaderState, lines_of}
+use Rattle.toml_names.specs.model.Data.{IsDataOf, kind_at}
+use Rattle.toml_names.specs.model.Documents.{IsDocument}
+use Rattle.toml_names.specs.mentions.Mentions.{named}
+use Rattle.toml_names.specs.reader.Reading.{ReaderState, lines_of}
 use Rattle.toml_checker.specs.declared.documents.Document.{Document}
 use Rattle.toml_checker.specs.declared.documents.Rest.{Rest}
 use Rattle.toml_units.specs.declared.unit.Unit.{Unit as Made}

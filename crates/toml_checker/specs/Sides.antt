@@ -1,6 +1,6 @@
 -- The plain function of how the place of an edit and an address lie to each other.
 use Rattle.std.specs.Prelude.{◌≡◌, ◌↔◌, [], ◌∷◌, if◌then◌else◌}
-use Rattle.toml_names.specs.Addresses.{Address, IsAbove, same_step}
+use Rattle.toml_names.specs.model.Addresses.{Address, IsAbove, same_step}
 use Rattle.toml_checker.specs.declared.side.Side.{Side}
 use Rattle.toml_checker.specs.declared.side.Side.TheVariants.{Apart, Above, At, Below}
 

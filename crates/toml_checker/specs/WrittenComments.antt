@@ -1,6 +1,6 @@
 -- The comments that edits write, as the code holds them.
 use Rattle.std.specs.Prelude.{◌≡◌, ◌⊎◌, ◌<◌, ℕ, List, [], ◌∷◌, Option}
-use Rattle.toml_names.specs.Addresses.{Address}
+use Rattle.toml_names.specs.model.Addresses.{Address}
 use Rattle.toml_edits.specs.Edits.{Change, set, insert, place}
 use Rattle.toml_edits.specs.Lists.{carried}
 use Rattle.toml_edits.specs.ValueTexts.{IsBadValue}

@@ -4,7 +4,7 @@ ghost use Rattle.toml_checker.specs.Debts.{Covers, AnyCovers, MayCover, IsOwedBy
 ghost use Rattle.toml_checker.specs.Owed as owed;
 ghost use Rattle.toml_edits.specs.Edits.{change};
 ghost use Rattle.toml_edits.specs.Carry.{parted};
-ghost use Rattle.toml_names.specs.Addresses.{Address as Steps, child};
+ghost use Rattle.toml_names.specs.model.Addresses.{Address as Steps, child};
 
 use crate::above::is_at_or_above;
 use crate::along::carried_along;

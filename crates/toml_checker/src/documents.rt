@@ -4,8 +4,8 @@ ghost use Rattle.toml_names.specs.declared.fault.NameFault.TheVariants as names;
 ghost use Rattle.toml_text.specs.Limit.{IsText};
 ghost use Rattle.toml_tree.specs.Document.{document};
 ghost use Rattle.toml_tree.specs.Spells.{Spells};
-ghost use Rattle.toml_names.specs.Names.{AreOwnAddresses};
-ghost use Rattle.toml_names.specs.Reading.{lines_of};
+ghost use Rattle.toml_names.specs.reader.Names.{AreOwnAddresses};
+ghost use Rattle.toml_names.specs.reader.Reading.{lines_of};
 ghost use Rattle.toml_checker.specs.Reading.{AreUnitsOf, FindsDocument, FindsLines, FindsTree, FindsRest, IsRest};
 
 use std::alloc::{AllocError, Global};

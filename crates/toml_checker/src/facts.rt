@@ -1,8 +1,8 @@
 //! The data after edits.
 ghost use Rattle.std.specs.Prelude.{◌≡◌, ◌↔◌, IsTrue, IfOk, OnOk, map};
-ghost use Rattle.toml_names.specs.Data.{IsDataOf, kind_at};
-ghost use Rattle.toml_names.specs.Mentions.{named};
-ghost use Rattle.toml_names.specs.Reading.{lines_of};
+ghost use Rattle.toml_names.specs.model.Data.{IsDataOf, kind_at};
+ghost use Rattle.toml_names.specs.mentions.Mentions.{named};
+ghost use Rattle.toml_names.specs.reader.Reading.{lines_of};
 ghost use Rattle.toml_edits.specs.declared.fault.EditFault.TheVariants as faults;
 ghost use Rattle.toml_edits.specs.Edits.{change};
 ghost use Rattle.toml_checker.specs.After.{GivesData};

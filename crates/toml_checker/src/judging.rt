@@ -1,7 +1,7 @@
 //! The judge: the demands, one after the other.
 ghost use Rattle.std.specs.Prelude.{◌≡◌, ◌↔◌, IsTrue, IfOk, map};
 ghost use Rattle.toml_tree.specs.Document.{document};
-ghost use Rattle.toml_names.specs.Documents.{IsDocument};
+ghost use Rattle.toml_names.specs.model.Documents.{IsDocument};
 ghost use Rattle.toml_edits.specs.Edits.{change};
 ghost use Rattle.toml_checker.specs.After.{GivesMade, IsMadeOf};
 ghost use Rattle.toml_checker.specs.Demands.{IsVerdict};

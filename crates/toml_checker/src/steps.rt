@@ -1,7 +1,7 @@
 //! Sets of steps.
 ghost use Rattle.std.specs.Prelude.{◌≡◌, ◌||◌, OnOk, false};
-ghost use Rattle.toml_names.specs.Addresses.{same_step};
-ghost use Rattle.toml_names.specs.declared.address.Step.{Step as AnyStep};
+ghost use Rattle.toml_names.specs.model.Addresses.{same_step};
+ghost use Rattle.toml_names.specs.declared.model.address.Step.{Step as AnyStep};
 ghost use Rattle.toml_checker.specs.Steps.{has};
 
 use std::alloc::{AllocError, Global};

@@ -3,10 +3,10 @@ use Rattle.std.proofs.Common.{◌≡◌, inl, inr, ℕ, List, [], ◌∷◌, len
 use Rattle.std.proofs.lemmas.Bool.Decides.{nat_tests}
 use Rattle.std.specs.Bool.{nat_eq}
 use Rattle.std.specs.Prelude.{IsTrue, slice_get, vec_len}
-use Rattle.toml_names.specs.declared.datum.Datum.{Datum}
-use Rattle.toml_names.specs.declared.datum.Datum.TheVariants.{Array, Table}
-use Rattle.toml_names.specs.Data.{kind_in}
-use Rattle.toml_names.specs.Levels.{Elements, Members}
+use Rattle.toml_names.specs.declared.model.datum.Datum.{Datum}
+use Rattle.toml_names.specs.declared.model.datum.Datum.TheVariants.{Array, Table}
+use Rattle.toml_names.specs.model.Data.{kind_in}
+use Rattle.toml_names.specs.model.Levels.{Elements, Members}
 use Rattle.toml_names.proofs.Proved.{array-here, array-item, has_kind, table-here}
 use Rattle.toml_editor.specs.Making.{HasOne, IsMany}
 

@@ -3,12 +3,12 @@ use Rattle.std.specs.Prelude.{◌≡◌, ◌⊎◌, ◌↔◌, ℕ, List, take, 
 use Rattle.toml_text.specs.Limit.{IsText}
 use Rattle.toml_text.specs.Source.{IsFaultOf}
 use Rattle.toml_tree.specs.Document.{Refuses}
-use Rattle.toml_names.specs.declared.datum.Datum.{Datum}
-use Rattle.toml_names.specs.Addresses.{Address, element}
-use Rattle.toml_names.specs.Data.{Kinds, kind_at}
-use Rattle.toml_names.specs.Documents.{IsDocument}
-use Rattle.toml_names.specs.Mentions.{a_table, an_array}
-use Rattle.toml_names.specs.Names.{RefusesNames}
+use Rattle.toml_names.specs.declared.model.datum.Datum.{Datum}
+use Rattle.toml_names.specs.model.Addresses.{Address, element}
+use Rattle.toml_names.specs.model.Data.{Kinds, kind_at}
+use Rattle.toml_names.specs.model.Documents.{IsDocument}
+use Rattle.toml_names.specs.mentions.Mentions.{a_table, an_array}
+use Rattle.toml_names.specs.reader.Names.{RefusesNames}
 use Rattle.toml_edits.specs.Edits.{Change, set, insert, remove}
 use Rattle.toml_edits.specs.Faults.{IsFault}
 use Rattle.toml_edits.specs.Lists.{Lead}

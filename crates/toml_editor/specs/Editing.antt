@@ -3,8 +3,8 @@ use Rattle.std.specs.Prelude.{◌≡◌, ℕ, List, Bool}
 use Rattle.toml_text.specs.Limit.{IsText}
 use Rattle.toml_tree.specs.Spells.{Spells}
 use Rattle.toml_tree.specs.Tree.{Doc, Line}
-use Rattle.toml_names.specs.declared.datum.Data.{Data}
-use Rattle.toml_names.specs.Documents.{IsDocument}
+use Rattle.toml_names.specs.declared.model.datum.Data.{Data}
+use Rattle.toml_names.specs.model.Documents.{IsDocument}
 use Rattle.toml_edits.specs.Edits.{Change}
 use Rattle.toml_units.specs.declared.piece.Piece.{Piece}
 use Rattle.toml_units.specs.Units.{units}

@@ -1,10 +1,10 @@
 -- What the making of edits tells, one after the other.
 use Rattle.std.specs.Prelude.{◌≡◌, ◌⊎◌, ℕ, List, [], ◌∷◌, Option, Some, None, IsSome}
-use Rattle.toml_names.specs.declared.datum.Datum.{Datum}
-use Rattle.toml_names.specs.Addresses.{Address, element}
-use Rattle.toml_names.specs.Data.{Kinds, kind_at, kind_in}
-use Rattle.toml_names.specs.Mentions.{a_table, an_array}
-use Rattle.toml_names.specs.declared.address.Step.TheVariants.{Index}
+use Rattle.toml_names.specs.declared.model.datum.Datum.{Datum}
+use Rattle.toml_names.specs.model.Addresses.{Address, element}
+use Rattle.toml_names.specs.model.Data.{Kinds, kind_at, kind_in}
+use Rattle.toml_names.specs.mentions.Mentions.{a_table, an_array}
+use Rattle.toml_names.specs.declared.model.address.Step.TheVariants.{Index}
 use Rattle.toml_edits.specs.After.{IsAfter}
 use Rattle.toml_edits.specs.Edits.{Change, insert}
 use Rattle.toml_edits.specs.Faults.{IsFault}

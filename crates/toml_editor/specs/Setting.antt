@@ -1,9 +1,9 @@
 -- `set`: the value at the address becomes the new one.
 use Rattle.std.specs.Prelude.{ℕ, ◌+◌, List, [], ◌∷◌, if◌then◌else◌}
 use Rattle.toml_tree.specs.Tree.{Value, Scalar, Array, Empty, Inline, Items, Close, Last, More, Pairs, LastPair, MorePairs, Expr, BlankLine, KeyValLine, TableLine, ArrayTableLine, Line}
-use Rattle.toml_names.specs.Addresses.{Address, same_address, element, below}
-use Rattle.toml_names.specs.Keys.{key_names}
-use Rattle.toml_names.specs.Mentions.{Named, section}
+use Rattle.toml_names.specs.model.Addresses.{Address, same_address, element, below}
+use Rattle.toml_names.specs.mentions.Keys.{key_names}
+use Rattle.toml_names.specs.mentions.Mentions.{Named, section}
 use Rattle.toml_editor.specs.Lines.{array_of, inline_of, each_line}
 
 -- a value that stands at `at`, or the new one where that is `p`

@@ -2,11 +2,11 @@
 use Rattle.std.specs.Prelude.{◌≡◌, true, ℕ, List, [], ◌∷◌, ◌++◌, Any, length, ◌==◌, if◌then◌else◌}
 use Rattle.toml_tree.specs.Spells.{Spells, SpellsValue, joined, lines_parts}
 use Rattle.toml_tree.specs.Tree.{Value, Line, Doc}
-use Rattle.toml_names.specs.Addresses.{Address}
-use Rattle.toml_names.specs.Joining.{is_lone}
-use Rattle.toml_names.specs.Mentions.{named}
-use Rattle.toml_names.specs.declared.address.Step.TheVariants.{Name}
-use Rattle.toml_names.specs.declared.named.Role.TheVariants.{Valued}
+use Rattle.toml_names.specs.model.Addresses.{Address}
+use Rattle.toml_names.specs.mentions.Joining.{is_lone}
+use Rattle.toml_names.specs.mentions.Mentions.{named}
+use Rattle.toml_names.specs.declared.model.address.Step.TheVariants.{Name}
+use Rattle.toml_names.specs.declared.mentions.mention.Role.TheVariants.{Valued}
 use Rattle.toml_edits.specs.Edits.{Change, set, insert, rename, remove}
 use Rattle.toml_editor.specs.Setting.{set_lines}
 use Rattle.toml_editor.specs.Inserting.{insert_lines}

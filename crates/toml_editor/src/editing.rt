@@ -2,8 +2,8 @@
 ghost use Rattle.std.specs.Prelude.{◌≡◌, IfOk, IfErr, OnOk, length, map, string_bytes};
 ghost use Rattle.toml_text.specs.Source.{text_of};
 ghost use Rattle.toml_tree.specs.Document.{document};
-ghost use Rattle.toml_names.specs.Documents.{IsDocument};
-ghost use Rattle.toml_names.specs.Reading.{lines_of};
+ghost use Rattle.toml_names.specs.model.Documents.{IsDocument};
+ghost use Rattle.toml_names.specs.reader.Reading.{lines_of};
 ghost use Rattle.toml_edits.specs.Edits.{change};
 ghost use Rattle.toml_checker.specs.Reading.{AreUnitsOf};
 ghost use Rattle.toml_editor.specs.Edited.{IsEdited, ArePieces, IsEditedInPieces, RefusesText, Tells};

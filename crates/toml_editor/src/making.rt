@@ -1,6 +1,6 @@
 //! One edit after the other, on the data and on the working tree.
 ghost use Rattle.std.specs.Prelude.{◌≡◌, IfErr, IsTrue, OnOk, Some, length, map, option_copied};
-ghost use Rattle.toml_names.specs.Data.{kind_at};
+ghost use Rattle.toml_names.specs.model.Data.{kind_at};
 ghost use Rattle.toml_edits.specs.Edits.{change, remove};
 ghost use Rattle.toml_edits.specs.Lists.{Lead};
 ghost use Rattle.toml_editor.specs.Edited.{MayBeSpread, TakesLastElement};

@@ -4,13 +4,13 @@ use Rattle.std.specs.Prelude.{option_map}
 use Rattle.std.specs.Bool.{nat_lt, nat_eq}
 use Rattle.std.proofs.lemmas.Bool.Decides.{nat_tests}
 use Rattle.std.specs.Cmp.Lexicographic.{bytes_decides}
-use Rattle.toml_names.specs.declared.address.Step.{Step}
-use Rattle.toml_names.specs.declared.address.Step.TheVariants.{Name, Index}
-use Rattle.toml_names.specs.declared.datum.Datum.{Datum}
-use Rattle.toml_names.specs.Addresses.{Address, same_step, child}
-use Rattle.toml_names.specs.Data.{Kinds, kind_at, kind_in, IsClosed}
-use Rattle.toml_names.specs.Mentions.{Kind}
-use Rattle.toml_names.specs.Parts.{HasPart}
+use Rattle.toml_names.specs.declared.model.address.Step.{Step}
+use Rattle.toml_names.specs.declared.model.address.Step.TheVariants.{Name, Index}
+use Rattle.toml_names.specs.declared.model.datum.Datum.{Datum}
+use Rattle.toml_names.specs.model.Addresses.{Address, same_step, child}
+use Rattle.toml_names.specs.model.Data.{Kinds, kind_at, kind_in, IsClosed}
+use Rattle.toml_names.specs.mentions.Mentions.{Kind}
+use Rattle.toml_names.specs.model.Parts.{HasPart}
 use Rattle.toml_names.proofs.Proved.{has_part, has_kind, same_step-equal}
 use Rattle.toml_edits.specs.declared.fault.EditFault.TheVariants.{AlreadyThere}
 use Rattle.toml_edits.specs.Carry.{Carrier, carry_below, emptied, nowhere, up_from, down_above, to_name, setting, inserting, renaming, removing}

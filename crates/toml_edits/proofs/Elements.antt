@@ -5,10 +5,10 @@ use Rattle.std.specs.Bool.{nat_eq, nat_lt}
 use Rattle.std.specs.BTreeMap.{get_by_text}
 use Rattle.std.specs.List.{insert as inserted, remove as removed}
 use Rattle.std.specs.Prelude.{slice_get}
-use Rattle.toml_names.specs.declared.address.Step.TheVariants.{Name, Index}
-use Rattle.toml_names.specs.declared.datum.Datum.{Datum, Array, Table}
-use Rattle.toml_names.specs.Addresses.{Address}
-use Rattle.toml_names.specs.Data.{kind_at, kind_in}
+use Rattle.toml_names.specs.declared.model.address.Step.TheVariants.{Name, Index}
+use Rattle.toml_names.specs.declared.model.datum.Datum.{Datum, Array, Table}
+use Rattle.toml_names.specs.model.Addresses.{Address}
+use Rattle.toml_names.specs.model.Data.{kind_at, kind_in}
 use Rattle.toml_names.proofs.Proved.{array-within, array-here, array-item, array-name, table-here, table-member, table-index, has_kind}
 use Rattle.toml_edits.specs.Changed.{below, shifted_in, shifted_out, renamed}
 

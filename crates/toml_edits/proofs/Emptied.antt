@@ -1,6 +1,6 @@
 -- What is set at a place, and what is below it.
 use Rattle.std.proofs.Common.{◌≡◌, Bool, true, false, cond, [], ◌∷◌, Some, option_map, refl, sym, ap, ◌∙◌}
-use Rattle.toml_names.specs.Addresses.{Address, same_step}
+use Rattle.toml_names.specs.model.Addresses.{Address, same_step}
 use Rattle.toml_names.proofs.Proved.{same_step-equal}
 use Rattle.toml_edits.specs.Carry.{carry_below, nowhere, emptied}
 use Rattle.toml_edits.specs.Laws.{SetCarries}

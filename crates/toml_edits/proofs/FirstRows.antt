@@ -2,12 +2,12 @@
 use Rattle.std.proofs.Common.{◌≡◌, ◌⊎◌, inl, inr, ℕ, suc, ◌<◌, ◌≤◌, List, [], ◌∷◌, ◌++◌, append-nil, Option, Some, None, IsSome, Result, Ok, Err, refl, sym, ap, subst, ◌∙◌, arith}
 use Rattle.std.proofs.lemmas.Bool.{cases_lt}
 use Rattle.std.specs.Prelude.{slice_get}
-use Rattle.toml_names.specs.declared.address.Step.{Step}
-use Rattle.toml_names.specs.declared.address.Step.TheVariants.{Name, Index}
-use Rattle.toml_names.specs.declared.datum.Datum.{Datum}
-use Rattle.toml_names.specs.Addresses.{Address, child}
-use Rattle.toml_names.specs.Data.{Kinds}
-use Rattle.toml_names.specs.Mentions.{a_table, an_array}
+use Rattle.toml_names.specs.declared.model.address.Step.{Step}
+use Rattle.toml_names.specs.declared.model.address.Step.TheVariants.{Name, Index}
+use Rattle.toml_names.specs.declared.model.datum.Datum.{Datum}
+use Rattle.toml_names.specs.model.Addresses.{Address, child}
+use Rattle.toml_names.specs.model.Data.{Kinds}
+use Rattle.toml_names.specs.mentions.Mentions.{a_table, an_array}
 use Rattle.toml_edits.specs.declared.fault.EditFault.{EditFault}
 use Rattle.toml_edits.specs.declared.fault.EditFault.TheVariants.{RootNamed, BadValue, NoSuchPlace, NotATable, IndexOutside, NotAName, AlreadyThere, AddressLength, NoMemory}
 use Rattle.toml_edits.specs.Edits.{Change, set, insert, rename, remove, place}

@@ -1,10 +1,10 @@
 -- A value of which no address is too long.
 use Rattle.std.proofs.Common.{◌≡◌, inl, inr, ℕ, ◌-◌, List, length, Option, Some, None, IsSome, is_some, refl, ap, subst, sym, true≢false, arith}
 use Rattle.toml_tree.proofs.Proved.{one_value}
-use Rattle.toml_names.specs.Addresses.{Address}
-use Rattle.toml_names.specs.Data.{Kinds, IsFact}
-use Rattle.toml_names.specs.Mentions.{Kind, value_facts}
-use Rattle.toml_names.specs.Rules.{IsShort}
+use Rattle.toml_names.specs.model.Addresses.{Address}
+use Rattle.toml_names.specs.model.Data.{Kinds, IsFact}
+use Rattle.toml_names.specs.mentions.Mentions.{Kind, value_facts}
+use Rattle.toml_names.specs.mentions.Rules.{IsShort}
 use Rattle.toml_edits.specs.Faults.{IsTooDeep}
 use Rattle.toml_edits.specs.Reach.{Reaches}
 use Rattle.toml_edits.specs.ValueTexts.{IsLongValue, IsGoodValue}

@@ -1,7 +1,7 @@
 -- What was found, and what was not.
 use Rattle.std.proofs.Common.{◌≡◌, ◌↔◌, ◌==◌, Bool, true, false, not, [], length, Option, Some, None, IsSome, is_some, refl, sym, ap, ◌∙◌, true≢false}
-use Rattle.toml_names.specs.Addresses.{Address}
-use Rattle.toml_names.specs.Mentions.{Kind}
+use Rattle.toml_names.specs.model.Addresses.{Address}
+use Rattle.toml_names.specs.mentions.Mentions.{Kind}
 
 pub not_empty : (at : Address) → false ≡ (length at == 0) → ¬ (at ≡ [])
 not_empty at h is = true≢false (sym (h ∙ ap (λ (a : Address). length a == 0) is))

@@ -2,9 +2,9 @@
 use Rattle.std.proofs.Common.{◌≡◌, ℕ, suc, ◌+◌, ◌-◌, ◌^◌, List, [], ◌∷◌, ◌++◌, Option, Some, None, Bool, true, false, cond, bytes_eq, refl, ap, ◌∙◌}
 use Rattle.std.specs.Prelude.{option_map}
 use Rattle.std.specs.Bool.{nat_lt, nat_eq}
-use Rattle.toml_names.specs.declared.address.Step.{Step}
-use Rattle.toml_names.specs.declared.address.Step.TheVariants.{Name, Index}
-use Rattle.toml_names.specs.Addresses.{Address, same_step}
+use Rattle.toml_names.specs.declared.model.address.Step.{Step}
+use Rattle.toml_names.specs.declared.model.address.Step.TheVariants.{Name, Index}
+use Rattle.toml_names.specs.model.Addresses.{Address, same_step}
 use Rattle.toml_edits.specs.Carry.{Carrier, carry_below, emptied, nowhere, up_from, down_above, to_name, setting, inserting, renaming, removing}
 use Rattle.toml_edits.specs.Edits.{set, insert, rename, remove}
 use Rattle.toml_edits.specs.Laws.{Front, CarriedFront}

@@ -1,15 +1,15 @@
 -- An index in data is below the length of an array, and that below 2^63.
 use Rattle.std.proofs.Common.{◌≡◌, ◌⊎◌, inl, inr, ℕ, ◌<◌, ◌^◌, List, [], ◌∷◌, length, Option, Some, None, IsSome, is_some, true≢false, Vec, Global, refl, sym, ap, subst, ◌∙◌, arith}
-use Rattle.toml_names.specs.declared.address.Step.{Step}
-use Rattle.toml_names.specs.declared.address.Step.TheVariants.{Name, Index}
-use Rattle.toml_names.specs.declared.datum.Datum.{Datum, Scalar, Array, Table}
+use Rattle.toml_names.specs.declared.model.address.Step.{Step}
+use Rattle.toml_names.specs.declared.model.address.Step.TheVariants.{Name, Index}
+use Rattle.toml_names.specs.declared.model.datum.Datum.{Datum, Scalar, Array, Table}
 use Rattle.toml_scalar.specs.declared.scalar.Scalar.{Scalar as Token}
-use Rattle.toml_names.specs.Addresses.{Address}
-use Rattle.toml_names.specs.Data.{kind_at, kind_in}
-use Rattle.toml_names.specs.Mentions.{Kind}
-use Rattle.toml_names.specs.Indices.{IsLow}
-use Rattle.toml_names.specs.Levels.{Elements, Members}
-use Rattle.toml_names.specs.Parts.{HasPart}
+use Rattle.toml_names.specs.model.Addresses.{Address}
+use Rattle.toml_names.specs.model.Data.{kind_at, kind_in}
+use Rattle.toml_names.specs.mentions.Mentions.{Kind}
+use Rattle.toml_names.specs.model.Indices.{IsLow}
+use Rattle.toml_names.specs.model.Levels.{Elements, Members}
+use Rattle.toml_names.specs.model.Parts.{HasPart}
 use Rattle.toml_names.proofs.Proved.{has_part, step_there, datum_is, array-within, scalar-below, table-index}
 use Rattle.toml_edits.specs.ListLaws.{DataIndicesAreLow}
 

@@ -2,12 +2,12 @@
 use Rattle.std.proofs.Common.{◌≡◌, inl, inr, ℕ, ◌^◌, ◌<◌, List, [], ◌∷◌, ◌++◌, append_assoc, append-nil, length, Option, Some, None, IsSome, is_some, Bool, true, false, cond, Vec, Global, refl, sym, ap, subst, ◌∙◌, true≢false, arith}
 use mathlib.Core.Path.{fun_ext}
 use Rattle.std.specs.Prelude.{option_map}
-use Rattle.toml_names.specs.declared.address.Step.{Step}
-use Rattle.toml_names.specs.declared.address.Step.TheVariants.{Name, Index}
-use Rattle.toml_names.specs.declared.datum.Datum.{Datum, Array}
-use Rattle.toml_names.specs.Addresses.{Address, same_step, child, element}
-use Rattle.toml_names.specs.Data.{Kinds, kind_at, kind_in}
-use Rattle.toml_names.specs.Mentions.{Kind, a_table, an_array, a_scalar}
+use Rattle.toml_names.specs.declared.model.address.Step.{Step}
+use Rattle.toml_names.specs.declared.model.address.Step.TheVariants.{Name, Index}
+use Rattle.toml_names.specs.declared.model.datum.Datum.{Datum, Array}
+use Rattle.toml_names.specs.model.Addresses.{Address, same_step, child, element}
+use Rattle.toml_names.specs.model.Data.{Kinds, kind_at, kind_in}
+use Rattle.toml_names.specs.mentions.Mentions.{Kind, a_table, an_array, a_scalar}
 use Rattle.toml_names.proofs.Proved.{array-within, has_part, step_there, datum_is, scalar-below, array-name, table-here, table-index, has_kind}
 use Rattle.toml_edits.specs.declared.fault.EditFault.TheVariants.{NotATable, IndexOutside, AlreadyThere}
 use Rattle.toml_edits.specs.After.{Moves, Comes, IsAfter, nothing}

@@ -4,11 +4,11 @@ use Rattle.std.specs.Prelude.{option_map}
 use Rattle.std.specs.Bool.{nat_lt}
 use Rattle.std.proofs.lemmas.Bool.Decides.{nat_tests}
 use Rattle.std.proofs.lemmas.Slice.Eq.{bytes_eq-Decides}
-use Rattle.toml_names.specs.declared.address.Step.{Step}
-use Rattle.toml_names.specs.declared.address.Step.TheVariants.{Name, Index}
-use Rattle.toml_names.specs.Addresses.{Address, same_step}
-use Rattle.toml_names.specs.Data.{Kinds}
-use Rattle.toml_names.specs.Mentions.{Kind}
+use Rattle.toml_names.specs.declared.model.address.Step.{Step}
+use Rattle.toml_names.specs.declared.model.address.Step.TheVariants.{Name, Index}
+use Rattle.toml_names.specs.model.Addresses.{Address, same_step}
+use Rattle.toml_names.specs.model.Data.{Kinds}
+use Rattle.toml_names.specs.mentions.Mentions.{Kind}
 use Rattle.toml_names.proofs.Proved.{same_step-equal, same_step-self}
 use Rattle.toml_edits.specs.After.{Comes, Moves, nothing}
 use Rattle.toml_edits.specs.Carry.{Carrier, carry_below, nowhere, up_from, down_above, to_name}

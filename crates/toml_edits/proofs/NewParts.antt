@@ -3,10 +3,10 @@ use Rattle.std.proofs.Common.{◌≡◌, ◌↔◌, inr, ℕ, zero, suc, ◌<◌
 use Rattle.std.proofs.lemmas.Option.{slice_get_past}
 use Rattle.std.specs.BTreeMap.{get_by_text}
 use Rattle.std.specs.Prelude.{slice_get}
-use Rattle.toml_names.specs.declared.address.Step.TheVariants.{Name, Index}
-use Rattle.toml_names.specs.declared.datum.Datum.{Datum, Array, Table}
-use Rattle.toml_names.specs.Data.{kind_at, kind_in}
-use Rattle.toml_names.specs.Mentions.{a_table, an_array}
+use Rattle.toml_names.specs.declared.model.address.Step.TheVariants.{Name, Index}
+use Rattle.toml_names.specs.declared.model.datum.Datum.{Datum, Array, Table}
+use Rattle.toml_names.specs.model.Data.{kind_at, kind_in}
+use Rattle.toml_names.specs.mentions.Mentions.{a_table, an_array}
 use Rattle.toml_names.proofs.Proved.{table-has, array-here, array-item, table-here, table-member, has_kind}
 use Rattle.toml_edits.specs.Faults.{HasFewer}
 use Rattle.toml_edits.proofs.Found.{none_of}

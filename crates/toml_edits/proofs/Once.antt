@@ -2,9 +2,9 @@
 use Rattle.std.proofs.Common.{◌≡◌, inl, inr, List, ℕ, Option, Some, None, refl, sym, ap, subst, ◌∙◌}
 use Rattle.toml_tree.proofs.Proved.{one_value}
 use Rattle.toml_tree.specs.Tree.{Value}
-use Rattle.toml_names.specs.Addresses.{Address}
-use Rattle.toml_names.specs.Data.{Kinds, IsDataOf}
-use Rattle.toml_names.specs.Mentions.{Kind, Named, value_facts}
+use Rattle.toml_names.specs.model.Addresses.{Address}
+use Rattle.toml_names.specs.model.Data.{Kinds, IsDataOf}
+use Rattle.toml_names.specs.mentions.Mentions.{Kind, Named, value_facts}
 use Rattle.toml_edits.specs.After.{Comes, Moves, nothing}
 use Rattle.toml_edits.specs.Carry.{Carrier, carry, carry_below, nowhere}
 use Rattle.toml_edits.specs.Edits.{set, insert, rename, remove}

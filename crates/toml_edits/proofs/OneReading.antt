@@ -4,8 +4,8 @@ use Rattle.toml_text.specs.Limit.{IsText}
 use Rattle.toml_tree.specs.Spells.{SpellsValue}
 use Rattle.toml_tree.specs.Tree.{Value}
 use Rattle.toml_tree.proofs.Proved.{one_value}
-use Rattle.toml_names.specs.Mentions.{value_facts}
-use Rattle.toml_names.specs.Rules.{KeepsRules}
+use Rattle.toml_names.specs.mentions.Mentions.{value_facts}
+use Rattle.toml_names.specs.mentions.Rules.{KeepsRules}
 use Rattle.toml_edits.specs.declared.value.Reading.{Reading}
 use Rattle.toml_edits.specs.declared.value.Reading.TheVariants.{Good, Bad, Long}
 use Rattle.toml_edits.specs.Readings.{IsReading, IsTreeReading}

@@ -5,10 +5,10 @@ use Rattle.std.specs.Cmp.Lexicographic.{slice_cmp}
 use Rattle.std.specs.Map.{lookup}
 use Rattle.std.specs.Prelude.{slice_get}
 use Rattle.toml_scalar.specs.declared.scalar.Scalar.{Scalar as Value}
-use Rattle.toml_names.specs.declared.address.Step.TheVariants.{Name, Index}
-use Rattle.toml_names.specs.declared.datum.Datum.{Datum, Scalar, Array, Table}
-use Rattle.toml_names.specs.Data.{kind_at, kind_in}
-use Rattle.toml_names.specs.Mentions.{Kind}
+use Rattle.toml_names.specs.declared.model.address.Step.TheVariants.{Name, Index}
+use Rattle.toml_names.specs.declared.model.datum.Datum.{Datum, Scalar, Array, Table}
+use Rattle.toml_names.specs.model.Data.{kind_at, kind_in}
+use Rattle.toml_names.specs.mentions.Mentions.{Kind}
 use Rattle.toml_names.proofs.Proved.{scalar-below, array-item, array-name, table-member, table-index, has_kind}
 use Rattle.toml_edits.specs.Reach.{Reaches}
 

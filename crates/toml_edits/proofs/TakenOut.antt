@@ -1,12 +1,12 @@
 -- A part that was taken out, changed and put back.
 use Rattle.std.proofs.Common.{◌≡◌, [], ◌∷◌, ◌++◌, length, Option, Some, IsSome, is_some, Bool, true, false, cond, refl, ap, ◌∙◌, arith}
 use mathlib.Core.Path.{fun_ext}
-use Rattle.toml_names.specs.declared.address.Step.{Step}
-use Rattle.toml_names.specs.declared.datum.Datum.{Datum}
-use Rattle.toml_names.specs.Addresses.{Address, same_step}
-use Rattle.toml_names.specs.Building.{with_child}
-use Rattle.toml_names.specs.Data.{Kinds, kind_at}
-use Rattle.toml_names.specs.Mentions.{Kind}
+use Rattle.toml_names.specs.declared.model.address.Step.{Step}
+use Rattle.toml_names.specs.declared.model.datum.Datum.{Datum}
+use Rattle.toml_names.specs.model.Addresses.{Address, same_step}
+use Rattle.toml_names.specs.model.Building.{with_child}
+use Rattle.toml_names.specs.model.Data.{Kinds, kind_at}
+use Rattle.toml_names.specs.mentions.Mentions.{Kind}
 use Rattle.toml_names.proofs.Proved.{step_there, same_step-equal}
 use Rattle.toml_edits.specs.declared.change.DatumChange.{DatumChange}
 use Rattle.toml_edits.specs.declared.change.DatumChange.TheVariants.{Put, AddMember, AddElement, Rename, DropMember, DropElement}

@@ -5,9 +5,9 @@ use Rattle.std.specs.Bool.{nat_lt, nat_eq}
 use Rattle.std.specs.Str.{bytes_eq}
 use Rattle.std.proofs.lemmas.Bool.Decides.{nat_tests}
 use Rattle.std.proofs.lemmas.List.{take_more, take-append-drop}
-use Rattle.toml_names.specs.declared.address.Step.{Step}
-use Rattle.toml_names.specs.declared.address.Step.TheVariants.{Name, Index}
-use Rattle.toml_names.specs.Addresses.{Address, same_step}
+use Rattle.toml_names.specs.declared.model.address.Step.{Step}
+use Rattle.toml_names.specs.declared.model.address.Step.TheVariants.{Name, Index}
+use Rattle.toml_names.specs.model.Addresses.{Address, same_step}
 use Rattle.toml_names.proofs.Proved.{same_step-equal, same_step-self}
 use Rattle.toml_edits.specs.Carry.{Carrier, carry_below, setting, emptied, up_from, down_above, to_name, parted}
 

@@ -1,8 +1,8 @@
 -- The data after an edit: a set of facts moved at once. The tree of the data is not mentioned.
 use Rattle.std.specs.Prelude.{◌≡◌, ◌⊎◌, ◌++◌, [], Some, None}
-use Rattle.toml_names.specs.Addresses.{Address}
-use Rattle.toml_names.specs.Data.{Kinds}
-use Rattle.toml_names.specs.Mentions.{Kind}
+use Rattle.toml_names.specs.model.Addresses.{Address}
+use Rattle.toml_names.specs.model.Data.{Kinds}
+use Rattle.toml_names.specs.mentions.Mentions.{Kind}
 use Rattle.toml_edits.specs.Carry.{Carrier, carry, carry_below, nowhere}
 use Rattle.toml_edits.specs.Edits.{Change, set, insert, rename, remove}
 use Rattle.toml_edits.specs.ValueTexts.{IsGoodValue}

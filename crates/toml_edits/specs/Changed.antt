@@ -3,10 +3,10 @@
 use Rattle.std.specs.Prelude.{◌≡◌, ◌<◌, ◌+◌, ◌-◌, ◌==◌, ℕ, List, [], ◌∷◌, Some, None, IsSome, if◌then◌else◌}
 use Rattle.std.specs.Bool.{nat_lt}
 use Rattle.std.specs.Str.{bytes_eq}
-use Rattle.toml_names.specs.declared.address.Step.TheVariants.{Name, Index}
-use Rattle.toml_names.specs.Addresses.{Address, same_step}
-use Rattle.toml_names.specs.Data.{Kinds, kind_at}
-use Rattle.toml_names.specs.Mentions.{a_table, an_array}
+use Rattle.toml_names.specs.declared.model.address.Step.TheVariants.{Name, Index}
+use Rattle.toml_names.specs.model.Addresses.{Address, same_step}
+use Rattle.toml_names.specs.model.Data.{Kinds, kind_at}
+use Rattle.toml_names.specs.mentions.Mentions.{a_table, an_array}
 use Rattle.toml_edits.specs.declared.change.DatumChange.{DatumChange}
 use Rattle.toml_edits.specs.declared.change.DatumChange.TheVariants.{Put, AddMember, AddElement, Rename, DropMember, DropElement}
 use Rattle.toml_edits.specs.After.{nothing}

@@ -1,6 +1,6 @@
 -- What an edit is, its texts as their bytes.
 use Rattle.std.specs.Prelude.{ℕ, List, string_bytes}
-use Rattle.toml_names.specs.Addresses.{Address}
+use Rattle.toml_names.specs.model.Addresses.{Address}
 use Rattle.toml_edits.specs.declared.edit.Edit.{Edit}
 use Rattle.toml_edits.specs.declared.edit.Edit.TheVariants as edits
 

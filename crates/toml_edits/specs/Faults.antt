@@ -1,10 +1,10 @@
 -- When an edit is refused, and why: the first row that holds.
 use Rattle.std.specs.Prelude.{◌≡◌, ◌⊎◌, ◌+◌, ◌<◌, ℕ, List, [], ◌∷◌, ◌++◌, length, Option, Some, None, IsSome, MatchOption}
-use Rattle.toml_names.specs.declared.address.Step.{Step}
-use Rattle.toml_names.specs.Addresses.{Address, child, element}
-use Rattle.toml_names.specs.Data.{Kinds}
-use Rattle.toml_names.specs.Mentions.{a_table, an_array}
-use Rattle.toml_names.specs.Rules.{max_steps}
+use Rattle.toml_names.specs.declared.model.address.Step.{Step}
+use Rattle.toml_names.specs.model.Addresses.{Address, child, element}
+use Rattle.toml_names.specs.model.Data.{Kinds}
+use Rattle.toml_names.specs.mentions.Mentions.{a_table, an_array}
+use Rattle.toml_names.specs.mentions.Rules.{max_steps}
 use Rattle.toml_edits.specs.declared.fault.EditFault.{EditFault}
 use Rattle.toml_edits.specs.declared.fault.EditFault.TheVariants.{RootNamed, BadValue, NoSuchPlace, NotATable, IndexOutside, NotAName, AlreadyThere, AddressLength, NoMemory}
 use Rattle.toml_edits.specs.Edits.{Change, set, insert, rename, remove, place}

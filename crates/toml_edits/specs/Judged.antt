@@ -1,11 +1,11 @@
 -- What an edit's value and its place are found to be, before anything is changed.
 use Rattle.std.specs.Prelude.{◌≡◌, ◌⊎◌, ◌<◌, ℕ, List, [], ◌∷◌, Option, Some, None, IsSome, Result, Ok, Err}
-use Rattle.toml_names.specs.declared.address.Step.{Step}
-use Rattle.toml_names.specs.declared.address.Step.TheVariants.{Name, Index}
-use Rattle.toml_names.specs.declared.datum.Datum.{Datum}
-use Rattle.toml_names.specs.Addresses.{Address}
-use Rattle.toml_names.specs.Data.{Kinds, kind_at}
-use Rattle.toml_names.specs.Mentions.{a_table, an_array}
+use Rattle.toml_names.specs.declared.model.address.Step.{Step}
+use Rattle.toml_names.specs.declared.model.address.Step.TheVariants.{Name, Index}
+use Rattle.toml_names.specs.declared.model.datum.Datum.{Datum}
+use Rattle.toml_names.specs.model.Addresses.{Address}
+use Rattle.toml_names.specs.model.Data.{Kinds, kind_at}
+use Rattle.toml_names.specs.mentions.Mentions.{a_table, an_array}
 use Rattle.toml_edits.specs.declared.fault.EditFault.{EditFault}
 use Rattle.toml_edits.specs.declared.fault.EditFault.TheVariants.{BadValue, NotATable, IndexOutside, AlreadyThere, AddressLength, NoMemory}
 use Rattle.toml_edits.specs.Edits.{Change}

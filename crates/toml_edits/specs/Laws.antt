@@ -1,9 +1,9 @@
 -- Laws of edits, over the definitions alone.
 use Rattle.std.specs.Prelude.{◌≡◌, ℕ, List, ◌∷◌, ◌++◌, length, Some, None, IsSome, option_map}
-use Rattle.toml_names.specs.declared.address.Step.{Step}
-use Rattle.toml_names.specs.declared.datum.Datum.{Datum}
-use Rattle.toml_names.specs.Addresses.{Address, IsAbove}
-use Rattle.toml_names.specs.Data.{Kinds, kind_at, IsClosed}
+use Rattle.toml_names.specs.declared.model.address.Step.{Step}
+use Rattle.toml_names.specs.declared.model.datum.Datum.{Datum}
+use Rattle.toml_names.specs.model.Addresses.{Address, IsAbove}
+use Rattle.toml_names.specs.model.Data.{Kinds, kind_at, IsClosed}
 use Rattle.toml_edits.specs.After.{IsAfter}
 use Rattle.toml_edits.specs.Carry.{Carrier, carry, carry_below, nowhere}
 use Rattle.toml_edits.specs.Edits.{Change, set, place}

@@ -1,9 +1,9 @@
 -- What reading the text of an edit's value answers.
 use Rattle.std.specs.Prelude.{List, ℕ}
 use Rattle.toml_tree.specs.Tree.{Value}
-use Rattle.toml_names.specs.Data.{kind_at, IsDataOf}
-use Rattle.toml_names.specs.Mentions.{value_facts}
-use Rattle.toml_names.specs.Rules.{KeepsRules, IsShort}
+use Rattle.toml_names.specs.model.Data.{kind_at, IsDataOf}
+use Rattle.toml_names.specs.mentions.Mentions.{value_facts}
+use Rattle.toml_names.specs.mentions.Rules.{KeepsRules, IsShort}
 use Rattle.toml_edits.specs.declared.value.Reading.{Reading}
 use Rattle.toml_edits.specs.declared.value.Reading.TheVariants.{Good, Bad, Long}
 use Rattle.toml_edits.specs.ValueTexts.{IsBadValue, IsLongValue, IsGoodValue}

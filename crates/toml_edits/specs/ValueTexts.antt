@@ -3,9 +3,9 @@ use Rattle.std.specs.Prelude.{List, ℕ}
 use Rattle.toml_text.specs.Limit.{IsText}
 use Rattle.toml_tree.specs.Spells.{SpellsValue}
 use Rattle.toml_tree.specs.Tree.{Value}
-use Rattle.toml_names.specs.Data.{Kinds, IsDataOf}
-use Rattle.toml_names.specs.Mentions.{value_facts}
-use Rattle.toml_names.specs.Rules.{KeepsRules, IsShort}
+use Rattle.toml_names.specs.model.Data.{Kinds, IsDataOf}
+use Rattle.toml_names.specs.mentions.Mentions.{value_facts}
+use Rattle.toml_names.specs.mentions.Rules.{KeepsRules, IsShort}
 
 -- the text is one value of the profile, within the limit of a text, and the mentions in it keep the table rules
 pub record IsValueText (text : List ℕ) : Type 0 where

@@ -1,8 +1,8 @@
 //! Edits applied to data.
 ghost use Rattle.std.specs.Prelude.{◌≡◌, ◌⊎◌, ◌↔◌, ◌∷◌, [], Some, None, IsSome, IsTrue, IfErr, OnOk, OnErr, ℕ, List};
-ghost use Rattle.toml_names.specs.declared.address.Step.TheVariants.{Name};
-ghost use Rattle.toml_names.specs.Addresses.{Address, child};
-ghost use Rattle.toml_names.specs.Data.{kind_at};
+ghost use Rattle.toml_names.specs.declared.model.address.Step.TheVariants.{Name};
+ghost use Rattle.toml_names.specs.model.Addresses.{Address, child};
+ghost use Rattle.toml_names.specs.model.Data.{kind_at};
 ghost use Rattle.toml_edits.specs.After.{IsAfter};
 ghost use Rattle.toml_edits.specs.declared.fault.EditFault.TheVariants.{NoMemory};
 ghost use Rattle.toml_edits.specs.Edits.{change, set, insert, rename, remove};

@@ -1,7 +1,7 @@
 //! Where the thing at an address stands after an edit.
 ghost use Rattle.std.specs.Prelude.{◌≡◌, ◌≢◌, ◌++◌, ◌∷◌, List, Some, IfOk, OnOk, MatchOption};
-ghost use Rattle.toml_names.specs.declared.address.Step.{Step as PlainStep};
-ghost use Rattle.toml_names.specs.declared.address.Step.TheVariants as steps;
+ghost use Rattle.toml_names.specs.declared.model.address.Step.{Step as PlainStep};
+ghost use Rattle.toml_names.specs.declared.model.address.Step.TheVariants as steps;
 ghost use Rattle.toml_edits.specs.Carry.{setting, inserting, renaming, removing, parted, carry_below, nowhere, up_from, down_above, to_name};
 ghost use Rattle.toml_edits.specs.Carry as moves;
 ghost use Rattle.toml_edits.specs.Edits.{change};

@@ -3,8 +3,8 @@ ghost use Rattle.std.specs.BTreeMap.{get_by_text};
 ghost use Rattle.std.specs.List.{insert as inserted};
 ghost use Rattle.std.specs.Prelude.{◌≡◌, ◌≤◌, ◌++◌, [], List, ℕ, Some, None, IsSome, OnOk, OnErr, IfErr, cond, vec_len};
 ghost use Rattle.std.specs.Str.{bytes_eq};
-ghost use Rattle.toml_names.specs.Addresses.{Address};
-ghost use Rattle.toml_names.specs.Data.{kind_at};
+ghost use Rattle.toml_names.specs.model.Addresses.{Address};
+ghost use Rattle.toml_names.specs.model.Data.{kind_at};
 ghost use Rattle.toml_edits.specs.declared.fault.EditFault.TheVariants.{NoMemory};
 ghost use Rattle.toml_edits.specs.Changed.{below, changed, IsApplicable};
 

@@ -1,7 +1,7 @@
 //! How deep data reach; no memory is taken.
 ghost use Rattle.std.specs.BTreeMap.{get_by_text};
 ghost use Rattle.std.specs.Prelude.{◌≡◌, ◌↔◌, ◌∷◌, ◌++◌, ℕ, List, slice_get, IsTrue, IsSome};
-ghost use Rattle.toml_names.specs.Data.{kind_at, kind_in};
+ghost use Rattle.toml_names.specs.model.Data.{kind_at, kind_in};
 ghost use Rattle.toml_edits.specs.Reach.{Reaches};
 
 use std::collections::BTreeMap;

@@ -2,7 +2,7 @@ ghost use Rattle.std.specs.Prelude.{◌≡◌};
 ghost use Rattle.toml_names.specs.declared.fault.NameFault.TheVariants as names;
 ghost use Rattle.toml_names.specs.declared.fault.ValueFault.TheVariants as values;
 
-use crate::address::Address;
+use crate::model::address::Address;
 use std::alloc::{AllocError, AllocFailed};
 
 /// Why the names of a document are refused. Lines are counted from 0, as the tree has them.

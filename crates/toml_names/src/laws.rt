@@ -1,21 +1,21 @@
 //! Laws over the definitions: nothing is run.
-ghost use Rattle.toml_names.specs.Addresses.{SameStepIsEqual, StepIsSame, SameIsEqual, AboveIsAbove};
-ghost use Rattle.toml_names.specs.Alike.{SectionGoesOn, CountsAdd, AlikeNameTheSame, AlikeStayAlike, PairsLeaveAlike};
-ghost use Rattle.toml_names.specs.Clear.{NotNamedIsClear};
-ghost use Rattle.toml_names.specs.DataLaws.{LinesHaveOneKind, LineValuesStandAlone, ValuesHaveOneKind, InnerValuesStandAlone, OneData, LinesAreClosed, ValuesAreClosed};
-ghost use Rattle.toml_names.specs.FirstMentions.{FirstMentionsAreThese, OneListOfFirstMentions};
-ghost use Rattle.toml_names.specs.Indices.{IndicesAreLow, ValueIndicesAreLow};
-ghost use Rattle.toml_names.specs.Inside.{InsideIsBelow, InsideMoves, BelowIsOfItsLine};
-ghost use Rattle.toml_names.specs.Joining.{LinesJoin, ValuesJoin, OneKind, FirstIsData, ValuesStandAlone};
-ghost use Rattle.toml_names.specs.Levels.{ScalarLevel, ArrayLevel, TableLevel, DatumIsOneOfThree, DatumHasRoot, ArrayAtRoot, ArrayAtIndex, ArrayAtName, IndexIsWithin, TableAtRoot, TableAtName, TableAtIndex, NameHasMember, NothingBelowScalar};
-ghost use Rattle.toml_names.specs.Local.{LastRoleDecides};
-ghost use Rattle.toml_names.specs.Names.{RefusedAreBad, OneRefusal, LineAddresses, NoLineAddress};
-ghost use Rattle.toml_names.specs.OwnAddresses.{LineIsNamed, NamedHasLine, ThemselvesDiffer, OwnAddressesDiffer, OwnAddressIsNamed, OwnAddressHasFact};
-ghost use Rattle.toml_names.specs.Parts.{DatumHasPart, StepIsThere, PartIsThere};
-ghost use Rattle.toml_names.specs.Placeless.{PlacesAreNotNamed, ValuePlacesAreNotNamed};
-ghost use Rattle.toml_names.specs.Places.{PlacesAreFound, NoPlace, PlaceIsFound};
-ghost use Rattle.toml_names.specs.Rules.{NoMisfit, MisfitIsFirst, RulesAreOfMentions};
-ghost use Rattle.toml_names.specs.SameData.{SameScalars, SameArrays, SameTables};
+ghost use Rattle.toml_names.specs.model.Addresses.{SameStepIsEqual, StepIsSame, SameIsEqual, AboveIsAbove};
+ghost use Rattle.toml_names.specs.mentions.Alike.{SectionGoesOn, CountsAdd, AlikeNameTheSame, AlikeStayAlike, PairsLeaveAlike};
+ghost use Rattle.toml_names.specs.mentions.Clear.{NotNamedIsClear};
+ghost use Rattle.toml_names.specs.model.DataLaws.{LinesHaveOneKind, LineValuesStandAlone, ValuesHaveOneKind, InnerValuesStandAlone, OneData, LinesAreClosed, ValuesAreClosed};
+ghost use Rattle.toml_names.specs.mentions.FirstMentions.{FirstMentionsAreThese, OneListOfFirstMentions};
+ghost use Rattle.toml_names.specs.model.Indices.{IndicesAreLow, ValueIndicesAreLow};
+ghost use Rattle.toml_names.specs.mentions.Inside.{InsideIsBelow, InsideMoves, BelowIsOfItsLine};
+ghost use Rattle.toml_names.specs.mentions.Joining.{LinesJoin, ValuesJoin, OneKind, FirstIsData, ValuesStandAlone};
+ghost use Rattle.toml_names.specs.model.Levels.{ScalarLevel, ArrayLevel, TableLevel, DatumIsOneOfThree, DatumHasRoot, ArrayAtRoot, ArrayAtIndex, ArrayAtName, IndexIsWithin, TableAtRoot, TableAtName, TableAtIndex, NameHasMember, NothingBelowScalar};
+ghost use Rattle.toml_names.specs.mentions.Local.{LastRoleDecides};
+ghost use Rattle.toml_names.specs.reader.Names.{RefusedAreBad, OneRefusal, LineAddresses, NoLineAddress};
+ghost use Rattle.toml_names.specs.mentions.OwnAddresses.{LineIsNamed, NamedHasLine, ThemselvesDiffer, OwnAddressesDiffer, OwnAddressIsNamed, OwnAddressHasFact};
+ghost use Rattle.toml_names.specs.model.Parts.{DatumHasPart, StepIsThere, PartIsThere};
+ghost use Rattle.toml_names.specs.mentions.Placeless.{PlacesAreNotNamed, ValuePlacesAreNotNamed};
+ghost use Rattle.toml_names.specs.model.Places.{PlacesAreFound, NoPlace, PlaceIsFound};
+ghost use Rattle.toml_names.specs.mentions.Rules.{NoMisfit, MisfitIsFirst, RulesAreOfMentions};
+ghost use Rattle.toml_names.specs.model.SameData.{SameScalars, SameArrays, SameTables};
 
 /// Steps that are the same are equal, and so are addresses, and equal ones are the same; an address is above those of
 /// which it is a beginning.

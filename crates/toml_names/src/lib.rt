@@ -2,38 +2,22 @@
 //! at each address.
 #![tactic(auto)]
 
-mod address;
-mod datum;
-mod entering;
 mod fault;
-mod finishing;
-mod hashing;
-mod headers;
-mod holding;
-mod keying;
 pub mod laws;
-mod long_keys;
-mod name;
-mod name_map;
-mod named;
+mod meaning;
+mod mentions;
+mod model;
 mod names;
-mod naming;
-mod node;
-mod parts;
-mod place;
-mod placing;
 mod reader;
-mod rules;
 mod tree;
-mod value;
 
-pub use address::{Address, Step};
-pub use datum::{Data, Datum, same};
 pub use fault::{NameFault, ValueFault};
-pub use name::Name;
+pub use meaning::keys::key_address;
+pub use meaning::values::read_value;
+pub use mentions::rules::MAX_STEPS;
+pub use model::address::{Address, Step};
+pub use model::datum::{Data, Datum, same};
+pub use model::name::Name;
+pub use model::place::Place;
 pub use names::{Names, read_lines, read_names};
-pub use naming::key_address;
-pub use place::Place;
 pub use reader::NameReader;
-pub use rules::MAX_STEPS;
-pub use value::read_value;

@@ -2,21 +2,21 @@
 ghost use Rattle.std.specs.Prelude.{◌≡◌, ◌↔◌, ◌≤◌, ◌+◌, IsTrue, option_map, option_and_then, slice_get, map, IfOk, IfErr, OnOk};
 ghost use Rattle.toml_tree.specs.Document.{document};
 ghost use Rattle.toml_tree.specs.Lines.{line as tree_line};
-ghost use Rattle.toml_names.specs.Data.{IsDataOf, kind_at};
-ghost use Rattle.toml_names.specs.FirstMentions.{first_mentions};
-ghost use Rattle.toml_names.specs.KeyParts.{all_key_parts};
-ghost use Rattle.toml_names.specs.Mentions.{named as named_of};
-ghost use Rattle.toml_names.specs.Names.{AreGood, AreOwnAddresses, RefusesNames, line_address};
-ghost use Rattle.toml_names.specs.Places.{place};
-ghost use Rattle.toml_names.specs.Reading.{lines_of, rank_in};
+ghost use Rattle.toml_names.specs.model.Data.{IsDataOf, kind_at};
+ghost use Rattle.toml_names.specs.mentions.FirstMentions.{first_mentions};
+ghost use Rattle.toml_names.specs.mentions.KeyParts.{all_key_parts};
+ghost use Rattle.toml_names.specs.mentions.Mentions.{named as named_of};
+ghost use Rattle.toml_names.specs.reader.Names.{AreGood, AreOwnAddresses, RefusesNames, line_address};
+ghost use Rattle.toml_names.specs.model.Places.{place};
+ghost use Rattle.toml_names.specs.reader.Reading.{lines_of, rank_in};
 
-use crate::address::Address;
-use crate::datum::Data;
+use crate::model::address::Address;
+use crate::model::datum::Data;
 use crate::fault::NameFault;
-use crate::keying::key_of;
-use crate::place::Place;
+use crate::tree::hash_key::key_of;
+use crate::model::place::Place;
 use crate::reader::NameReader;
-use crate::tree::NameTree;
+use crate::tree::name_tree::NameTree;
 use std::alloc::{AllocError, Global};
 use std::marker::Model;
 use toml_tree::{Doc, Line};
@@ -37,9 +37,9 @@ pub struct Names<'d, 't> {
 impl<'d, 't> Model for Names<'d, 't> {
     ghost use Rattle.std.specs.Prelude.{map};
     ghost use Rattle.toml_tree.specs.Lines.{line as tree_line};
-    ghost use Rattle.toml_names.specs.Data.{kind_at};
-    ghost use Rattle.toml_names.specs.Mentions.{named as named_of};
-    ghost use Rattle.toml_names.specs.Reading.{Known, AreNames};
+    ghost use Rattle.toml_names.specs.model.Data.{kind_at};
+    ghost use Rattle.toml_names.specs.mentions.Mentions.{named as named_of};
+    ghost use Rattle.toml_names.specs.reader.Reading.{Known, AreNames};
 
     ghost Value = { Known };
 

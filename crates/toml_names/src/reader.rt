@@ -1,17 +1,17 @@
 //! The reader of names, one line after another (TOML v1.0.0, Keys, Table, Inline Table, Array of Tables).
 ghost use Rattle.std.specs.Prelude.{◌≡◌, ◌≤◌, ◌+◌, ◌++◌, ◌∷◌, [], OnOk, OnErr, IfOk, IfErr, map};
 ghost use Rattle.toml_tree.specs.Lines.{line as tree_line};
-ghost use Rattle.toml_names.specs.KeyParts.{expr_key_parts};
-ghost use Rattle.toml_names.specs.Mentions.{named};
-ghost use Rattle.toml_names.specs.Names.{AreGood};
-ghost use Rattle.toml_names.specs.Reading.{lines_of, EntersShort, RefusesLine, RefusesEntry, TakesEntry};
-ghost use Rattle.toml_names.specs.Steps.{GoesOn, IsNode, RisesBy};
+ghost use Rattle.toml_names.specs.mentions.KeyParts.{expr_key_parts};
+ghost use Rattle.toml_names.specs.mentions.Mentions.{named};
+ghost use Rattle.toml_names.specs.reader.Names.{AreGood};
+ghost use Rattle.toml_names.specs.reader.Reading.{lines_of, EntersShort, RefusesLine, RefusesEntry, TakesEntry};
+ghost use Rattle.toml_names.specs.tree.Steps.{GoesOn, IsNode, RisesBy};
 
 use crate::fault::NameFault;
-use crate::hashing::NameHashing;
-use crate::headers::Entered;
-use crate::named::{Kind, Role};
-use crate::tree::{EnterFault, NameTree};
+use crate::tree::hashing::NameHashing;
+use crate::tree::headers::Entered;
+use crate::mentions::mention::{Kind, Role};
+use crate::tree::name_tree::{EnterFault, NameTree};
 use std::alloc::{AllocError, Global};
 use std::marker::Model;
 use toml_tree::Line;
@@ -31,7 +31,7 @@ pub struct NameReader<'d, 't> {
 impl<'d, 't> Model for NameReader<'d, 't> {
     ghost use Rattle.std.specs.Prelude.{◌≡◌, [], map};
     ghost use Rattle.toml_tree.specs.Lines.{line as tree_line};
-    ghost use Rattle.toml_names.specs.Reading.{ReaderState, reader_code, IsReader};
+    ghost use Rattle.toml_names.specs.reader.Reading.{ReaderState, reader_code, IsReader};
 
     ghost Value = { ReaderState };
 

@@ -5,9 +5,9 @@ use Rattle.std.proofs.Props.{props}
 use Rattle.std.proofs.lemmas.List.{append-nil, drop_all, drop_more, take_more, length-take-le, take-append-drop}
 use Rattle.toml_tree.specs.Spells.{Spells}
 use Rattle.toml_tree.specs.Tree.{Expr, Line, Doc}
-use Rattle.toml_names.specs.Addresses.{Address}
-use Rattle.toml_names.specs.Mentions.{Named, root, named, named_by, named_from}
-use Rattle.toml_names.specs.Names.{own_address, line_address}
+use Rattle.toml_names.specs.model.Addresses.{Address}
+use Rattle.toml_names.specs.mentions.Mentions.{Named, root, named, named_by, named_from}
+use Rattle.toml_names.specs.reader.Names.{own_address, line_address}
 use Rattle.toml_names.proofs.Proved.{line_addresses}
 use Rattle.toml_units.specs.Plain.{line_spans, plain_from, plain_units}
 use Rattle.toml_units.specs.View.{Spanned, spanned}

@@ -4,10 +4,10 @@ use Rattle.std.proofs.lemmas.Option.{same_Some}
 use Rattle.toml_tree.specs.Spells.{EachIs}
 use Rattle.toml_tree.specs.Tree.{Piece, GapLine, Gap, Value, Scalar, Array, Empty, Inline, Items, Close, Last, More, Pairs, LastPair, MorePairs, KeyVal, Expr, BlankLine, KeyValLine, TableLine, ArrayTableLine, Line}
 use Rattle.toml_tree.specs.Tree as tree
-use Rattle.toml_names.specs.Addresses.{Address, element}
-use Rattle.toml_names.specs.Keys.{key_names}
-use Rattle.toml_names.specs.Mentions.{Named, root, section, named_by}
-use Rattle.toml_names.specs.Names.{own_address}
+use Rattle.toml_names.specs.model.Addresses.{Address, element}
+use Rattle.toml_names.specs.mentions.Keys.{key_names}
+use Rattle.toml_names.specs.mentions.Mentions.{Named, root, section, named_by}
+use Rattle.toml_names.specs.reader.Names.{own_address}
 use Rattle.toml_units.specs.declared.unit.UnitKind.{UnitKind}
 use Rattle.toml_units.specs.declared.unit.UnitKind.TheVariants as kinds
 use Rattle.toml_units.specs.Bases.{IsBased, UnitsAreBased, lines_of, HasBase, AreLines, LinesAreUnits}

@@ -6,11 +6,11 @@ use Rattle.toml_tree.specs.Tree.{Value, Scalar, Array, Empty, Inline, Items, Clo
 use Rattle.toml_tree.specs.Pieces.{expr_start}
 use Rattle.toml_tree.specs.Parts.{size}
 use Rattle.toml_tree.proofs.Proved.{placed_front, placed_back}
-use Rattle.toml_names.specs.declared.address.Step.TheVariants.{Name}
-use Rattle.toml_names.specs.Addresses.{Address, element, below}
-use Rattle.toml_names.specs.Keys.{key_names}
-use Rattle.toml_names.specs.Mentions.{Named, root, section, named_by}
-use Rattle.toml_names.specs.Names.{own_address}
+use Rattle.toml_names.specs.declared.model.address.Step.TheVariants.{Name}
+use Rattle.toml_names.specs.model.Addresses.{Address, element, below}
+use Rattle.toml_names.specs.mentions.Keys.{key_names}
+use Rattle.toml_names.specs.mentions.Mentions.{Named, root, section, named_by}
+use Rattle.toml_names.specs.reader.Names.{own_address}
 use Rattle.toml_units.specs.declared.unit.UnitKind.TheVariants as kinds
 use Rattle.toml_units.specs.Plain.{spanned, pair_span, plain_inside, plain_elements, plain_members, plain_value, plain_line, own_base, line_spans, plain_from, PlainIsUnits, PlainIsInside}
 use Rattle.toml_units.specs.Units.{gap_units, element_unit, pair_unit, pair_address, inside, elements, members, value_units, tail_units, inside_line, line_base, line_units, units_from}

@@ -4,9 +4,9 @@ use Rattle.std.proofs.lemmas.List.{append-nil}
 use Rattle.toml_tree.specs.Spells.{Part, symbol, piece, begin, EachIs, joined, all_parts, comment_parts, blank_parts, gap_line_parts, gap_parts, header_parts, array_header_parts, assign_parts, value_parts, items_parts, pairs_parts, keyval_parts, expr_parts, line_parts, lines_parts, IsValue, AreItems, ArePairs, IsExpr, AreLines, mark_of}
 use Rattle.toml_tree.specs.Tree.{Piece, Blank, GapLine, Gap, Value, Scalar, Array, Empty, Inline, Items, Close, Last, More, Pairs, LastPair, MorePairs, KeyVal, Expr, BlankLine, KeyValLine, TableLine, ArrayTableLine, Line}
 use Rattle.toml_tree.proofs.Proved.{value_start}
-use Rattle.toml_names.specs.Addresses.{Address, element}
-use Rattle.toml_names.specs.Mentions.{Named, root, named_by}
-use Rattle.toml_names.specs.Names.{own_address}
+use Rattle.toml_names.specs.model.Addresses.{Address, element}
+use Rattle.toml_names.specs.mentions.Mentions.{Named, root, named_by}
+use Rattle.toml_names.specs.reader.Names.{own_address}
 use Rattle.toml_units.specs.declared.unit.UnitKind.{UnitKind}
 use Rattle.toml_units.specs.declared.unit.UnitKind.TheVariants as kinds
 use Rattle.toml_units.specs.Texts.{ReadsIn, UnitsReadTheText, InsideReadsTheText}

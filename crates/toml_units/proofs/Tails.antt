@@ -2,9 +2,9 @@
 use Rattle.std.proofs.Common.{◌≡◌, ℕ, ◌+◌, List, [], ◌∷◌, ◌++◌, Option, Some, None, refl, sym, subst, append_assoc}
 use Rattle.toml_tree.specs.Spells.{EachIs}
 use Rattle.toml_tree.specs.Tree.{Piece, Expr, BlankLine, KeyValLine, TableLine, ArrayTableLine, Line}
-use Rattle.toml_names.specs.Addresses.{Address}
-use Rattle.toml_names.specs.Mentions.{Named, root, named_by}
-use Rattle.toml_names.specs.Names.{own_address}
+use Rattle.toml_names.specs.model.Addresses.{Address}
+use Rattle.toml_names.specs.mentions.Mentions.{Named, root, named_by}
+use Rattle.toml_names.specs.reader.Names.{own_address}
 use Rattle.toml_units.specs.declared.unit.UnitKind.TheVariants as kinds
 use Rattle.toml_units.specs.Tails.{BeginsWithLine, TailsEnd, TailsEndLines}
 use Rattle.toml_units.specs.Units.{TextUnit, comment_units, value_units, tail_units, inside_line, units_from}

@@ -4,9 +4,9 @@ use Rattle.std.specs.Prelude.{slice_get, IsSome}
 use Rattle.std.proofs.lemmas.Option.{same_Some}
 use Rattle.toml_tree.specs.Spells.{EachIs}
 use Rattle.toml_tree.specs.Tree.{Piece, GapLine, Gap, Value, Scalar, Array, Empty, Inline, Items, Close, Last, More, Pairs, LastPair, MorePairs, Expr, BlankLine, KeyValLine, TableLine, ArrayTableLine, Line}
-use Rattle.toml_names.specs.Addresses.{Address, element}
-use Rattle.toml_names.specs.Mentions.{Named, root, named_by}
-use Rattle.toml_names.specs.Names.{own_address}
+use Rattle.toml_names.specs.model.Addresses.{Address, element}
+use Rattle.toml_names.specs.mentions.Mentions.{Named, root, named_by}
+use Rattle.toml_names.specs.reader.Names.{own_address}
 use Rattle.toml_units.specs.declared.unit.UnitKind.{UnitKind}
 use Rattle.toml_units.specs.declared.unit.UnitKind.TheVariants as kinds
 use Rattle.toml_units.specs.Blocks.{IsUnder}

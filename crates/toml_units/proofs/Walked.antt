@@ -15,7 +15,7 @@ use Rattle.toml_tree.specs.Tree as tree
 use Rattle.toml_tree.specs.ReadingValues.{Element, Member, before_end, pairs_of, inline}
 use Rattle.toml_tree.specs.View.{piece, gap, value, element as tree_element, member, array_items, last_ends}
 use Rattle.toml_tree.proofs.Proved.{value_array, value_inline}
-use Rattle.toml_names.specs.Addresses.{Address, element}
+use Rattle.toml_names.specs.model.Addresses.{Address, element}
 use Rattle.toml_units.specs.Plain.{Spanned, spanned, plain_inside, plain_elements, plain_members, element_units, pair_units}
 use Rattle.toml_units.specs.Units.{gap_units, element_unit}
 

@@ -3,8 +3,8 @@ use Rattle.std.specs.Prelude.{◌≡◌, ◌<◌, ◌⊎◌, ℕ, List, [], ◌�
 use Rattle.toml_tree.specs.Pieces.{expr_piece}
 use Rattle.toml_tree.specs.Spells.{EachIs}
 use Rattle.toml_tree.specs.Tree.{Expr, BlankLine, KeyValLine, TableLine, ArrayTableLine, Line}
-use Rattle.toml_names.specs.Addresses.{Address, below}
-use Rattle.toml_names.specs.Keys.{Key}
+use Rattle.toml_names.specs.model.Addresses.{Address, below}
+use Rattle.toml_names.specs.mentions.Keys.{Key}
 use Rattle.toml_units.specs.declared.unit.UnitKind.TheVariants as kinds
 use Rattle.toml_units.specs.Places.{is_line}
 use Rattle.toml_units.specs.Units.{TextUnit, units}

@@ -4,10 +4,10 @@ use Rattle.toml_tree.specs.Spells.{Spells, SpellsValue}
 use Rattle.toml_tree.specs.Tree.{Value, Scalar, Array, Empty, Inline, Items, Close, Last, More, Pairs, LastPair, MorePairs, KeyVal, Expr, BlankLine, KeyValLine, TableLine, ArrayTableLine, Line, Doc}
 use Rattle.toml_tree.specs.ReadingValues.{Element as ArrayElement}
 use Rattle.toml_tree.specs.Pieces.{piece_of, expr_start}
-use Rattle.toml_names.specs.Addresses.{Address, element}
-use Rattle.toml_names.specs.Keys.{key_names}
-use Rattle.toml_names.specs.Mentions.{Named, root, named_by}
-use Rattle.toml_names.specs.Names.{own_address}
+use Rattle.toml_names.specs.model.Addresses.{Address, element}
+use Rattle.toml_names.specs.mentions.Keys.{key_names}
+use Rattle.toml_names.specs.mentions.Mentions.{Named, root, named_by}
+use Rattle.toml_names.specs.reader.Names.{own_address}
 use Rattle.toml_units.specs.declared.unit.UnitKind.TheVariants as kinds
 use Rattle.toml_units.specs.Ends.{piece_end, expr_end}
 use Rattle.toml_units.specs.Units.{gap_units, element_unit, pair_address, tail_units, inside, units}

@@ -2,7 +2,7 @@
 use Rattle.std.specs.Prelude.{◌≡◌, ℕ, ◌+◌, ◌++◌, [], map, Option, Some, None, option_map}
 use Rattle.toml_tree.specs.Moved.{moved_piece, moved}
 use Rattle.toml_tree.specs.Tree.{Value}
-use Rattle.toml_names.specs.Addresses.{Address}
+use Rattle.toml_names.specs.model.Addresses.{Address}
 use Rattle.toml_units.specs.Alike.{steps}
 use Rattle.toml_units.specs.Units.{TextUnit, inside}
 

@@ -2,7 +2,7 @@
 use Rattle.std.specs.Prelude.{◌≡◌, ◌≤◌, ℕ, List, length, slice_range}
 use Rattle.toml_tree.specs.Spells.{EachIs, Spells, SpellsValue}
 use Rattle.toml_tree.specs.Tree.{Value, Doc}
-use Rattle.toml_names.specs.Addresses.{Address}
+use Rattle.toml_names.specs.model.Addresses.{Address}
 use Rattle.toml_units.specs.Blocks.{end}
 use Rattle.toml_units.specs.Units.{TextUnit, inside, units}
 

@@ -2,10 +2,10 @@
 ghost use Rattle.std.specs.Prelude.{◌≡◌, ◌<◌, ◌∷◌, ◌++◌, [], ℕ, Option, None, IsTrue, slice_index_or, length, map, option_map, OnOk, IfOk};
 ghost use Rattle.toml_tree.specs.Document.{document};
 ghost use Rattle.toml_tree.specs.View.{blank, key as tree_key, expr};
-ghost use Rattle.toml_names.specs.Keys.{key_names};
-ghost use Rattle.toml_names.specs.Addresses.{Address as Steps};
-ghost use Rattle.toml_names.specs.Mentions.{named};
-ghost use Rattle.toml_names.specs.Names.{AreOwnAddresses};
+ghost use Rattle.toml_names.specs.mentions.Keys.{key_names};
+ghost use Rattle.toml_names.specs.model.Addresses.{Address as Steps};
+ghost use Rattle.toml_names.specs.mentions.Mentions.{named};
+ghost use Rattle.toml_names.specs.reader.Names.{AreOwnAddresses};
 ghost use Rattle.toml_units.specs.Ends.{blank_end, expr_end};
 ghost use Rattle.toml_units.specs.Plain.{own_base, line_span, line_spans};
 ghost use Rattle.toml_units.specs.View.{spanned, all_units};

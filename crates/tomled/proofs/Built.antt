@@ -5,8 +5,8 @@ use Rattle.std.specs.Map.{keys_of}
 use Rattle.serde_json.specs.Data.{array, object, put}
 use Rattle.serde_json.specs.View.{view, items_view, members_view}
 use Rattle.serde_json.specs.declared.value.Value.{Value}
-use Rattle.toml_names.specs.declared.datum.Datum.{Datum}
-use Rattle.toml_names.specs.Data.{kind_at, in_array, in_table}
+use Rattle.toml_names.specs.declared.model.datum.Datum.{Datum}
+use Rattle.toml_names.specs.model.Data.{kind_at, in_array, in_table}
 use Rattle.tomled.specs.Tagged.{IsTagged, kinds_of}
 use Rattle.tomled.proofs.Tagging.{AreSorted, Entry, TagItems, TagItems-push, TagMembers, TagMembers-put, array_tagged, keys_of-kinds, table_tagged}
 

@@ -10,7 +10,7 @@ use Rattle.toml_tree.specs.Parts.{size}
 use Rattle.toml_tree.specs.Spells.{AreLines, Spells, expr_parts, line_parts, lines_parts, mark_of, piece}
 use Rattle.toml_tree.specs.Tree.{Doc, Line}
 use Rattle.toml_tree.proofs.Proved.{sizes_add}
-use Rattle.toml_names.specs.Names.{RefusesNames}
+use Rattle.toml_names.specs.reader.Names.{RefusesNames}
 use Rattle.toml_names.specs.declared.fault.NameFault.{NameFault}
 use Rattle.toml_names.specs.declared.fault.NameFault.TheVariants as names
 use Rattle.toml_edits.specs.EditList.{IsEditList}

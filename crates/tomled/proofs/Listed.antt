@@ -2,8 +2,8 @@
 use Rattle.std.proofs.Common.{◌≡◌, false, map, [], ◌∷◌, refl}
 use Rattle.serde_json.specs.View.{items_of}
 use Rattle.serde_json.specs.Written.{has_float, items_have_float}
-use Rattle.toml_names.specs.declared.address.Step.TheVariants.{Name, Index}
-use Rattle.toml_names.specs.Addresses.{Address}
+use Rattle.toml_names.specs.declared.model.address.Step.TheVariants.{Name, Index}
+use Rattle.toml_names.specs.model.Addresses.{Address}
 use Rattle.tomled.specs.Listing.{address_json, step_json}
 
 steps_have_no_float : (at : Address) → items_have_float (items_of (map step_json at)) ≡ false

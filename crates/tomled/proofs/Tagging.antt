@@ -11,8 +11,8 @@ use Rattle.std.specs.Map.{keys_of, lookup}
 use Rattle.std.specs.Ordering.{ordering_reverse}
 use Rattle.serde_json.specs.Data.{Data, array, object, Items, no_items, item, Members, no_members, member, put}
 use Rattle.serde_json.specs.View.{items_of}
-use Rattle.toml_names.specs.declared.datum.Datum.{Datum}
-use Rattle.toml_names.specs.Data.{Kinds, within, in_array, in_table}
+use Rattle.toml_names.specs.declared.model.datum.Datum.{Datum}
+use Rattle.toml_names.specs.model.Data.{Kinds, within, in_array, in_table}
 use Rattle.tomled.specs.Tagged.{IsTagged, AreItems, AreMembers, keys, kinds_of}
 
 -- item for item, the JSON stands for the data

@@ -2,8 +2,8 @@
 use Rattle.std.proofs.Common.{◌≡◌, ◌+◌, ℕ, Bool, false, ◌||◌, refl, ap, ◌∙◌, inl, inr}
 use Rattle.serde_json.specs.Data.{Data, null, boolean, number, string, array, object, Items, no_items, item, Members, no_members, member}
 use Rattle.serde_json.specs.Written.{has_float, items_have_float, members_have_float}
-use Rattle.toml_names.specs.declared.address.Step.TheVariants.{Name, Index}
-use Rattle.toml_names.specs.Data.{Kinds}
+use Rattle.toml_names.specs.declared.model.address.Step.TheVariants.{Name, Index}
+use Rattle.toml_names.specs.model.Data.{Kinds}
 use Rattle.tomled.specs.Tagged.{IsTagged, AreItems, AreMembers, part}
 
 neither : (b c : Bool) → b ≡ false → c ≡ false → (b || c) ≡ false

@@ -12,10 +12,10 @@ use Rattle.serde_json.specs.Data.{Data, null, boolean, number, string, array, ob
 use Rattle.serde_json.specs.Written.{compact_text}
 use Rattle.toml_tree.specs.Tree.{Doc}
 use Rattle.toml_tree.proofs.Proved.{one_tree}
-use Rattle.toml_names.specs.declared.address.Step.TheVariants.{Name, Index}
-use Rattle.toml_names.specs.Data.{Kinds, IsDataOf}
-use Rattle.toml_names.specs.FirstMentions.{first_mentions}
-use Rattle.toml_names.specs.Mentions.{Kind, Named, named, a_table, an_array, a_scalar}
+use Rattle.toml_names.specs.declared.model.address.Step.TheVariants.{Name, Index}
+use Rattle.toml_names.specs.model.Data.{Kinds, IsDataOf}
+use Rattle.toml_names.specs.mentions.FirstMentions.{first_mentions}
+use Rattle.toml_names.specs.mentions.Mentions.{Kind, Named, named, a_table, an_array, a_scalar}
 use Rattle.tomled.specs.Listing.{ListsAddresses, lines_of}
 use Rattle.tomled.specs.Show.{ShowsData}
 use Rattle.tomled.specs.Tagged.{IsTagged, AreItems, AreMembers, HasKeys, TellsScalar, keys, part, tag_of, text_of, told}

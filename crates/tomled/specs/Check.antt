@@ -1,6 +1,6 @@
 -- What `check` answers.
 use Rattle.std.specs.Prelude.{◌⊎◌, ℕ, List, codes}
-use Rattle.toml_names.specs.Documents.{IsDocument}
+use Rattle.toml_names.specs.model.Documents.{IsDocument}
 use Rattle.tomled.specs.Outcomes.{Prints, Refuses}
 use Rattle.tomled.specs.declared.outcome.Outcome.{Outcome}
 

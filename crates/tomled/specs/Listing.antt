@@ -7,12 +7,12 @@ use Rattle.serde_json.specs.Written.{compact_text}
 use Rattle.toml_text.specs.Limit.{IsText}
 use Rattle.toml_tree.specs.Spells.{Spells}
 use Rattle.toml_tree.specs.Tree.{Doc}
-use Rattle.toml_names.specs.declared.address.Step.{Step}
-use Rattle.toml_names.specs.declared.address.Step.TheVariants.{Name, Index}
-use Rattle.toml_names.specs.Addresses.{Address}
-use Rattle.toml_names.specs.FirstMentions.{first_mentions}
-use Rattle.toml_names.specs.Mentions.{named}
-use Rattle.toml_names.specs.Names.{AreGood}
+use Rattle.toml_names.specs.declared.model.address.Step.{Step}
+use Rattle.toml_names.specs.declared.model.address.Step.TheVariants.{Name, Index}
+use Rattle.toml_names.specs.model.Addresses.{Address}
+use Rattle.toml_names.specs.mentions.FirstMentions.{first_mentions}
+use Rattle.toml_names.specs.mentions.Mentions.{named}
+use Rattle.toml_names.specs.reader.Names.{AreGood}
 use Rattle.tomled.specs.Outcomes.{Prints, Refuses}
 use Rattle.tomled.specs.declared.outcome.Outcome.{Outcome}
 

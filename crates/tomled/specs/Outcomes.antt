@@ -1,7 +1,7 @@
 -- What a run of the program comes to.
 use Rattle.std.specs.Prelude.{◌≡◌, ℕ, List, [], map, Result, Ok, Err, Vec}
 use Rattle.std.specs.declared.alloc.Global.{Global}
-use Rattle.toml_names.specs.Documents.{IsDocument}
+use Rattle.toml_names.specs.model.Documents.{IsDocument}
 use Rattle.tomled.specs.Refusals.{IsRefusalOf, refusal_line}
 use Rattle.tomled.specs.declared.ending.Ending.{Ending}
 use Rattle.tomled.specs.declared.ending.Ending.TheVariants.{Refused, NoMemory}

@@ -7,8 +7,8 @@ use Rattle.toml_scalar.specs.Faults.{place_of}
 use Rattle.toml_scalar.specs.declared.fault.SyntaxFault.{SyntaxFault}
 use Rattle.toml_scalar.specs.declared.fault.SyntaxFault.TheVariants as faults
 use Rattle.toml_tree.specs.Tree.{Line}
-use Rattle.toml_names.specs.Addresses.{Address}
-use Rattle.toml_names.specs.Names.{IsRedefined, IsLong}
+use Rattle.toml_names.specs.model.Addresses.{Address}
+use Rattle.toml_names.specs.reader.Names.{IsRedefined, IsLong}
 use Rattle.toml_names.specs.declared.fault.NameFault.{NameFault}
 use Rattle.toml_names.specs.declared.fault.NameFault.TheVariants as names
 use Rattle.tomled.specs.declared.ending.Ending.{Ending}

@@ -5,8 +5,8 @@ use Rattle.std.specs.Str.{IsUtf8, IsValidUpTo}
 use Rattle.toml_text.specs.Limit.{IsText, max_len}
 use Rattle.toml_tree.specs.Spells.{Spells, SpelledByNone}
 use Rattle.toml_tree.specs.Tree.{Doc}
-use Rattle.toml_names.specs.Addresses.{Address}
-use Rattle.toml_names.specs.Names.{IsRedefined, IsLong}
+use Rattle.toml_names.specs.model.Addresses.{Address}
+use Rattle.toml_names.specs.reader.Names.{IsRedefined, IsLong}
 use Rattle.tomled.specs.declared.refusal.Refusal.{Refusal}
 
 -- `refused CODE PLACE` and LF

@@ -5,9 +5,9 @@ use Rattle.serde_json.specs.Written.{compact_text}
 use Rattle.toml_text.specs.Limit.{IsText}
 use Rattle.toml_tree.specs.Spells.{Spells}
 use Rattle.toml_tree.specs.Tree.{Doc}
-use Rattle.toml_names.specs.Data.{Kinds, IsDataOf}
-use Rattle.toml_names.specs.Mentions.{named}
-use Rattle.toml_names.specs.Names.{AreGood}
+use Rattle.toml_names.specs.model.Data.{Kinds, IsDataOf}
+use Rattle.toml_names.specs.mentions.Mentions.{named}
+use Rattle.toml_names.specs.reader.Names.{AreGood}
 use Rattle.tomled.specs.Outcomes.{Prints, Refuses}
 use Rattle.tomled.specs.Tagged.{IsTagged}
 use Rattle.tomled.specs.declared.outcome.Outcome.{Outcome}

@@ -9,11 +9,11 @@ use Rattle.serde_json.specs.Data.{Data, null, boolean, number, string, array, ob
 use Rattle.toml_scalar.specs.Values.{ScalarValue, Text, Integer, Float, Boolean, Moment}
 use Rattle.toml_scalar.specs.declared.kind.MomentKind.{MomentKind}
 use Rattle.toml_scalar.specs.declared.kind.MomentKind.TheVariants.{Offset, Local, Date, Time}
-use Rattle.toml_names.specs.declared.address.Step.{Step}
-use Rattle.toml_names.specs.declared.address.Step.TheVariants.{Name, Index}
-use Rattle.toml_names.specs.declared.datum.Datum.{Datum}
-use Rattle.toml_names.specs.Data.{Kinds, kind_at}
-use Rattle.toml_names.specs.Mentions.{a_table, an_array, a_scalar}
+use Rattle.toml_names.specs.declared.model.address.Step.{Step}
+use Rattle.toml_names.specs.declared.model.address.Step.TheVariants.{Name, Index}
+use Rattle.toml_names.specs.declared.model.datum.Datum.{Datum}
+use Rattle.toml_names.specs.model.Data.{Kinds, kind_at}
+use Rattle.toml_names.specs.mentions.Mentions.{a_table, an_array, a_scalar}
 
 -- the type that is told of a date or a time
 abbrev pub moment_tag : MomentKind → List ℕ

@@ -1,6 +1,6 @@
 //! `check`: whether a file is a document.
 ghost use Rattle.std.specs.Prelude.{◌≡◌, codes, IfErr, IfOk};
-ghost use Rattle.toml_names.specs.Documents.{IsDocument};
+ghost use Rattle.toml_names.specs.model.Documents.{IsDocument};
 ghost use Rattle.tomled.specs.Check.{Checks};
 ghost use Rattle.tomled.specs.Outcomes.{Ends, IsRefused};
 

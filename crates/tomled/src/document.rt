@@ -3,9 +3,9 @@ ghost use Rattle.std.specs.Prelude.{◌≡◌, ◌+◌, ◌<◌, IfErr, IfOk, On
 ghost use Rattle.toml_text.specs.Limit.{IsText};
 ghost use Rattle.toml_tree.specs.Document.{document};
 ghost use Rattle.toml_tree.specs.Spells.{Spells};
-ghost use Rattle.toml_names.specs.Data.{IsDataOf, kind_at};
-ghost use Rattle.toml_names.specs.Mentions.{named};
-ghost use Rattle.toml_names.specs.Names.{AreGood};
+ghost use Rattle.toml_names.specs.model.Data.{IsDataOf, kind_at};
+ghost use Rattle.toml_names.specs.mentions.Mentions.{named};
+ghost use Rattle.toml_names.specs.reader.Names.{AreGood};
 ghost use Rattle.tomled.specs.Outcomes.{Ends, IsRefused};
 ghost use Rattle.tomled.specs.Reading.{HasNumber, IsNameEnding, IsSyntaxEnding, IsTextRefusal, RefusesLines};
 

@@ -1,6 +1,6 @@
 //! `show`: the data of a document as tagged JSON.
 ghost use Rattle.std.specs.Prelude.{IfErr, IfOk};
-ghost use Rattle.toml_names.specs.Data.{kind_at};
+ghost use Rattle.toml_names.specs.model.Data.{kind_at};
 ghost use Rattle.tomled.specs.Outcomes.{Ends, IsRefused};
 ghost use Rattle.tomled.specs.Show.{IsLineOf, Shows, ShowsData};
 

@@ -4,7 +4,7 @@ ghost use Rattle.serde_json.specs.Data.{array, object};
 ghost use Rattle.serde_json.specs.View.{view, items_view, members_view};
 ghost use Rattle.serde_json.specs.Written.{has_float};
 ghost use Rattle.toml_scalar.specs.Values.{scalar_value};
-ghost use Rattle.toml_names.specs.Data.{in_array, in_table, kind_at};
+ghost use Rattle.toml_names.specs.model.Data.{in_array, in_table, kind_at};
 ghost use Rattle.tomled.specs.Tagged.{IsTagged, kinds_of, moment_tag, tag_of, text_of, told};
 
 use serde_json::{Map, Value, json, put};

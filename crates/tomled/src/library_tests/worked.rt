@@ -1,6 +1,6 @@
 //! What worked rows are written in: addresses, texts that are documents, their names, and lists of edits.
 ghost use Rattle.std.specs.Prelude.{◌≡◌, IfOk};
-ghost use Rattle.toml_names.specs.Mentions.{named as named_of};
+ghost use Rattle.toml_names.specs.mentions.Mentions.{named as named_of};
 ghost use Rattle.toml_tree.specs.Document.{document};
 
 use std::alloc::Global;

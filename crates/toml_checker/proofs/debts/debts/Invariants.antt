@@ -1,6 +1,6 @@
 use Rattle.std.proofs.Common.{◌↔◌, ◌⊎◌, map, length}
 use Rattle.toml_edits.specs.Edits.{change}
-use Rattle.toml_names.specs.Addresses.{Address}
+use Rattle.toml_names.specs.model.Addresses.{Address}
 use Rattle.toml_checker.specs.Debts.{AnyCovers}
 use Rattle.toml_checker.specs.Owed.{IsOwed}
 use Rattle.toml_checker.proofs.debts.debts.Given as goal

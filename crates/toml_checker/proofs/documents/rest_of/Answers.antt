@@ -1,7 +1,7 @@
 use Rattle.std.proofs.Common.{List, subst}
 use Rattle.toml_tree.specs.Tree.{Line}
-use Rattle.toml_names.specs.Data.{IsDataOf, kind_at}
-use Rattle.toml_names.specs.Mentions.{named}
+use Rattle.toml_names.specs.model.Data.{IsDataOf, kind_at}
+use Rattle.toml_names.specs.mentions.Mentions.{named}
 use Rattle.toml_checker.proofs.documents.rest_of.Goals as goal
 
 pub returns : goal.returns

@@ -1,5 +1,5 @@
 use Rattle.std.proofs.Common.{◌≡◌, true, map, drop}
-use Rattle.toml_names.specs.Addresses.{Address}
+use Rattle.toml_names.specs.model.Addresses.{Address}
 use Rattle.toml_edits.specs.Edits.{change}
 use Rattle.toml_checker.specs.Areas.{IsApart}
 use Rattle.toml_checker.specs.Fronts.{is_far}

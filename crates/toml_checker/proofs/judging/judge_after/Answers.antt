@@ -1,8 +1,8 @@
 use Rattle.std.proofs.Common.{List, map, subst, sym, ◌∙◌, true≢false}
 use Rattle.toml_tree.specs.Document.{document}
 use Rattle.toml_tree.specs.Tree.{Line}
-use Rattle.toml_names.specs.Data.{IsDataOf, kind_at}
-use Rattle.toml_names.specs.Mentions.{named}
+use Rattle.toml_names.specs.model.Data.{IsDataOf, kind_at}
+use Rattle.toml_names.specs.mentions.Mentions.{named}
 use Rattle.toml_edits.specs.Edits.{change}
 use Rattle.toml_checker.specs.After.{GivesMade}
 use Rattle.toml_checker.specs.Reading.{FindsTree, FindsLines}

@@ -2,8 +2,8 @@ use Rattle.std.proofs.Common.{List, map, subst}
 use Rattle.toml_text.specs.Source.{text_of}
 use Rattle.toml_tree.specs.Document.{document}
 use Rattle.toml_tree.specs.Tree.{Line}
-use Rattle.toml_names.specs.Data.{IsDataOf, kind_at}
-use Rattle.toml_names.specs.Mentions.{named}
+use Rattle.toml_names.specs.model.Data.{IsDataOf, kind_at}
+use Rattle.toml_names.specs.mentions.Mentions.{named}
 use Rattle.toml_edits.specs.Edits.{change}
 use Rattle.toml_editor.proofs.Judgements.{any_tells}
 use Rattle.toml_editor.proofs.editing.make_text.Goals as goal

@@ -1,5 +1,5 @@
 use Rattle.std.proofs.Common.{subst}
-use Rattle.toml_names.specs.Data.{kind_at}
+use Rattle.toml_names.specs.model.Data.{kind_at}
 use Rattle.toml_edits.specs.Readings.{IsReading}
 use Rattle.toml_edits.proofs.Fitting.{fits}
 use Rattle.toml_edits.proofs.Reaching.{refuted}

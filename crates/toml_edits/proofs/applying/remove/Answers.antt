@@ -1,8 +1,8 @@
 use Rattle.std.proofs.Common.{◌≡◌, ◌++◌, ◌∷◌, [], sym, ap, ◌∙◌}
 use Rattle.std.proofs.lemmas.Result.{on_ok_weaker}
-use Rattle.toml_names.specs.declared.address.Step.{Step}
-use Rattle.toml_names.specs.declared.address.Step.TheVariants.{Name}
-use Rattle.toml_names.specs.Data.{kind_at}
+use Rattle.toml_names.specs.declared.model.address.Step.{Step}
+use Rattle.toml_names.specs.declared.model.address.Step.TheVariants.{Name}
+use Rattle.toml_names.specs.model.Data.{kind_at}
 use Rattle.toml_edits.proofs.FirstRows.{remove_free}
 use Rattle.toml_edits.proofs.Found.{found_there}
 use Rattle.toml_edits.proofs.Made.{removes_member, removes_element}

@@ -1,6 +1,6 @@
 use Rattle.std.proofs.Common.{sym, ap, append-nil, subst, IsSome}
 use Rattle.std.proofs.lemmas.Result.{on_ok_weaker}
-use Rattle.toml_names.specs.Data.{kind_at}
+use Rattle.toml_names.specs.model.Data.{kind_at}
 use Rattle.toml_edits.specs.declared.fault.EditFault.TheVariants.{NoSuchPlace}
 use Rattle.toml_edits.proofs.Found.{some_of}
 use Rattle.toml_edits.proofs.Made.{sets}

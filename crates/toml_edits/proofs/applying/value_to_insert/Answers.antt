@@ -1,6 +1,6 @@
 use Rattle.std.proofs.Common.{inr, None, Some, refl, sym, subst, true≢false}
 use mathlib.Core.Path.{fun_ext}
-use Rattle.toml_names.specs.Data.{Kinds, kind_at}
+use Rattle.toml_names.specs.model.Data.{Kinds, kind_at}
 use Rattle.toml_edits.specs.Judged.{IsStepFault}
 use Rattle.toml_edits.specs.Readings.{IsReading}
 use Rattle.toml_edits.proofs.FirstRows.{insert_bad, insert_nowhere, insert_step, insert_room}

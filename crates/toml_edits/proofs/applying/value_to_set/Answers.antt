@@ -1,5 +1,5 @@
 use Rattle.std.proofs.Common.{inr, subst, sym, ◌∙◌}
-use Rattle.toml_names.specs.Data.{kind_at}
+use Rattle.toml_names.specs.model.Data.{kind_at}
 use Rattle.toml_edits.specs.Readings.{IsReading}
 use Rattle.toml_edits.proofs.FirstRows.{set_bad, set_nowhere, set_judged}
 use Rattle.toml_edits.proofs.Found.{not_empty, nowhere_found, found_there}

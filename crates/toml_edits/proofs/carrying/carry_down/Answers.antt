@@ -1,5 +1,5 @@
 use Rattle.std.proofs.Common.{◌-◌, ◌∷◌, ◌<◌, Some, None, refl, sym, arith}
-use Rattle.toml_names.specs.declared.address.Step.TheVariants.{Name, Index}
+use Rattle.toml_names.specs.declared.model.address.Step.TheVariants.{Name, Index}
 use Rattle.toml_edits.specs.Carry.{down_above}
 use Rattle.toml_edits.proofs.Ways.{carry_elsewhere, carried_step, kept_step, down_low, down_here, down_high}
 use Rattle.toml_edits.proofs.carrying.carry_down.Goals as goal

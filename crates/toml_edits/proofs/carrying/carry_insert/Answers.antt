@@ -1,4 +1,4 @@
-use Rattle.toml_names.specs.declared.address.Step.TheVariants.{Name, Index}
+use Rattle.toml_names.specs.declared.model.address.Step.TheVariants.{Name, Index}
 use Rattle.toml_edits.proofs.Ways.{parted_of}
 use Rattle.toml_edits.proofs.carrying.carry_insert.Goals as goal
 

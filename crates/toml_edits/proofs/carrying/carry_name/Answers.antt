@@ -1,5 +1,5 @@
 use Rattle.std.proofs.Common.{◌∷◌, Some, refl, sym}
-use Rattle.toml_names.specs.declared.address.Step.TheVariants.{Name, Index}
+use Rattle.toml_names.specs.declared.model.address.Step.TheVariants.{Name, Index}
 use Rattle.toml_edits.specs.Carry.{to_name}
 use Rattle.toml_edits.proofs.Ways.{carry_elsewhere, carried_step, kept_step, name_new, name_other}
 use Rattle.toml_edits.proofs.carrying.carry_name.Goals as goal

@@ -1,5 +1,5 @@
 use Rattle.std.proofs.Common.{[], ◌∷◌, ◌++◌, ◌∙◌, ap, sym}
-use Rattle.toml_names.specs.declared.address.Step.TheVariants.{Name, Index}
+use Rattle.toml_names.specs.declared.model.address.Step.TheVariants.{Name, Index}
 use Rattle.toml_edits.specs.Carry.{nowhere}
 use Rattle.toml_edits.proofs.Ways.{parted_of, carry_joined}
 use Rattle.toml_edits.proofs.carrying.carry_remove.Goals as goal

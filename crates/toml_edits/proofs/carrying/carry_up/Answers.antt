@@ -1,5 +1,5 @@
 use Rattle.std.proofs.Common.{◌+◌, ◌^◌, ◌∷◌, ◌≤◌, ◌<◌, Some, None, refl, sym, arith}
-use Rattle.toml_names.specs.declared.address.Step.TheVariants.{Name, Index}
+use Rattle.toml_names.specs.declared.model.address.Step.TheVariants.{Name, Index}
 use Rattle.toml_edits.specs.Carry.{up_from}
 use Rattle.toml_edits.proofs.Ways.{carry_elsewhere, carried_step, kept_step, up_low, up_high, up_end}
 use Rattle.toml_edits.proofs.carrying.carry_up.Goals as goal

@@ -1,8 +1,8 @@
 use Rattle.std.proofs.Common.{rules, ◌≡◌, [], ◌∷◌, IsSome, ◌++◌, sym, ap, ◌∙◌, subst}
 use Rattle.std.proofs.lemmas.Result.{on_ok_weaker, on_err_weaker}
 use mathlib.Core.Path.{fun_ext}
-use Rattle.toml_names.specs.Addresses.{Address}
-use Rattle.toml_names.specs.Data.{kind_at}
+use Rattle.toml_names.specs.model.Addresses.{Address}
+use Rattle.toml_names.specs.model.Data.{kind_at}
 use Rattle.toml_names.proofs.Proved.{hole_there}
 use Rattle.toml_edits.specs.Changed.{IsApplicable, changed, below}
 use Rattle.toml_edits.proofs.TakenOut.{put_back, put_back_same, no_steps, first_there}

@@ -4,8 +4,8 @@ use Rattle.std.proofs.lemmas.Option.{slice_get_read}
 use Rattle.std.specs.Prelude.{slice_get}
 use Rattle.std.specs.BTreeMap.{get}
 use Rattle.std.specs.Map.Iter.{deref_pair}
-use Rattle.toml_names.specs.declared.datum.Datum.{Datum}
-use Rattle.toml_names.specs.Data.{kind_in}
+use Rattle.toml_names.specs.declared.model.datum.Datum.{Datum}
+use Rattle.toml_names.specs.model.Data.{kind_in}
 use Rattle.toml_edits.specs.Reach.{Reaches}
 use Rattle.toml_edits.proofs.Reaching.{accepted, refused, array_reaches, table_reaches, none_past, none_found, through, refuted, none_more, none_left}
 use Rattle.toml_edits.proofs.reach.+reaches.Goals as goal

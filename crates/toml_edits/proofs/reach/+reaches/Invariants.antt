@@ -1,6 +1,6 @@
 use Rattle.std.proofs.Common.{ℕ, ◌<◌}
 use Rattle.std.specs.Prelude.{slice_get}
-use Rattle.toml_names.specs.Data.{kind_in}
+use Rattle.toml_names.specs.model.Data.{kind_in}
 use Rattle.toml_edits.specs.Reach.{Reaches}
 use Rattle.toml_edits.proofs.Reaching.{NoneReaches}
 use Rattle.toml_edits.proofs.reach.+reaches.Given as goal

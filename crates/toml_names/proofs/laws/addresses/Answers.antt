@@ -1,5 +1,5 @@
-use Rattle.toml_names.proofs.PlacesFound.{above_is_above}
-use Rattle.toml_names.proofs.Equal.{same_step-equal, same_step-self, same_address-decides}
+use Rattle.toml_names.proofs.lemmas.mentions.PlacesFound.{above_is_above}
+use Rattle.toml_names.proofs.lemmas.model.Equal.{same_step-equal, same_step-self, same_address-decides}
 use Rattle.toml_names.proofs.laws.addresses.Goals as goal
 
 pub returns-clause-equal_steps : goal.returns-clause-equal_steps

@@ -1,6 +1,6 @@
-use Rattle.toml_names.proofs.AlikeNames.{alike_name_the_same, alike_stay_alike, pairs_leave_alike}
-use Rattle.toml_names.proofs.NextLine.{section_from-append}
-use Rattle.toml_names.proofs.NoTables.{count-append}
+use Rattle.toml_names.proofs.lemmas.mentions.AlikeNames.{alike_name_the_same, alike_stay_alike, pairs_leave_alike}
+use Rattle.toml_names.proofs.lemmas.mentions.NextLine.{section_from-append}
+use Rattle.toml_names.proofs.lemmas.mentions.NoTables.{count-append}
 use Rattle.toml_names.proofs.laws.alike_lists.Goals as goal
 
 pub returns-clause-section : goal.returns-clause-section

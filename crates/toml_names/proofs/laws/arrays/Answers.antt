@@ -1,5 +1,5 @@
-use Rattle.toml_names.proofs.Changes.{array-within}
-use Rattle.toml_names.proofs.Levels.{array-here, array-item, array-name}
+use Rattle.toml_names.proofs.lemmas.model.Changes.{array-within}
+use Rattle.toml_names.proofs.lemmas.model.Levels.{array-here, array-item, array-name}
 use Rattle.toml_names.proofs.laws.arrays.Goals as goal
 
 pub returns-clause-here : goal.returns-clause-here

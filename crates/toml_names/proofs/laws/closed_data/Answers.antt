@@ -1,4 +1,4 @@
-use Rattle.toml_names.proofs.Closed.{one_data, lines_are_closed, values_are_closed}
+use Rattle.toml_names.proofs.lemmas.model.Closed.{one_data, lines_are_closed, values_are_closed}
 use Rattle.toml_names.proofs.laws.closed_data.Goals as goal
 
 pub returns-clause-one : goal.returns-clause-one

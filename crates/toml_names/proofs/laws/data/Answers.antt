@@ -1,4 +1,4 @@
-use Rattle.toml_names.proofs.UnderRules.{lines_have_one_kind, line_values_stand_alone, values_have_one_kind, inner_values_stand_alone}
+use Rattle.toml_names.proofs.lemmas.mentions.UnderRules.{lines_have_one_kind, line_values_stand_alone, values_have_one_kind, inner_values_stand_alone}
 use Rattle.toml_names.proofs.laws.data.Goals as goal
 
 pub returns-clause-kinds : goal.returns-clause-kinds

@@ -1,4 +1,4 @@
-use Rattle.toml_names.proofs.Indices.{indices_are_low, value_indices_are_low}
+use Rattle.toml_names.proofs.lemmas.model.Indices.{indices_are_low, value_indices_are_low}
 use Rattle.toml_names.proofs.laws.indices.Goals as goal
 
 pub returns-clause-lines : goal.returns-clause-lines

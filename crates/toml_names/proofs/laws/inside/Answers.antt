@@ -1,6 +1,6 @@
-use Rattle.toml_names.proofs.InsideMoves.{inside_moves}
-use Rattle.toml_names.proofs.PlaceFound.{below_is_of_its_line}
-use Rattle.toml_names.proofs.PlacesNone.{inside_is_below}
+use Rattle.toml_names.proofs.lemmas.mentions.InsideMoves.{inside_moves}
+use Rattle.toml_names.proofs.lemmas.mentions.PlaceFound.{below_is_of_its_line}
+use Rattle.toml_names.proofs.lemmas.mentions.PlacesNone.{inside_is_below}
 use Rattle.toml_names.proofs.laws.inside.Goals as goal
 
 pub returns-clause-below : goal.returns-clause-below

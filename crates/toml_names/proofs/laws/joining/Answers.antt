@@ -1,6 +1,6 @@
-use Rattle.toml_names.proofs.AllLines.{lines_join}
-use Rattle.toml_names.proofs.FirstNamed.{values_join}
-use Rattle.toml_names.proofs.OfOneKind.{one_kind, first_is_data, values_stand_alone}
+use Rattle.toml_names.proofs.lemmas.mentions.AllLines.{lines_join}
+use Rattle.toml_names.proofs.lemmas.mentions.FirstNamed.{values_join}
+use Rattle.toml_names.proofs.lemmas.mentions.OfOneKind.{one_kind, first_is_data, values_stand_alone}
 use Rattle.toml_names.proofs.laws.joining.Goals as goal
 
 pub returns-clause-lines : goal.returns-clause-lines

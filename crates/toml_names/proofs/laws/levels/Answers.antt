@@ -1,4 +1,4 @@
-use Rattle.toml_names.proofs.Levels.{kind_at-scalar, kind_at-array, kind_at-table, datum_is, has_kind}
+use Rattle.toml_names.proofs.lemmas.model.Levels.{kind_at-scalar, kind_at-array, kind_at-table, datum_is, has_kind}
 use Rattle.toml_names.proofs.laws.levels.Goals as goal
 
 pub returns-clause-scalars : goal.returns-clause-scalars

@@ -1,4 +1,4 @@
-use Rattle.toml_names.proofs.LineAddresses.{line_addresses, no_line_address}
+use Rattle.toml_names.proofs.lemmas.mentions.LineAddresses.{line_addresses, no_line_address}
 use Rattle.toml_names.proofs.laws.line_addresses.Goals as goal
 
 pub returns-clause-of_lines : goal.returns-clause-of_lines

@@ -1,5 +1,5 @@
-use Rattle.toml_names.proofs.LineAddresses.{named_has_line}
-use Rattle.toml_names.proofs.OwnAddresses.{line_is_named}
+use Rattle.toml_names.proofs.lemmas.mentions.LineAddresses.{named_has_line}
+use Rattle.toml_names.proofs.lemmas.mentions.OwnAddresses.{line_is_named}
 use Rattle.toml_names.proofs.laws.named_lines.Goals as goal
 
 pub returns-clause-there : goal.returns-clause-there

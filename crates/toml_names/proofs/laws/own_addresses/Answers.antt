@@ -1,4 +1,4 @@
-use Rattle.toml_names.proofs.OwnAddresses.{themselves_differ, own_addresses_differ, own_address_is_named, own_address_has_fact}
+use Rattle.toml_names.proofs.lemmas.mentions.OwnAddresses.{themselves_differ, own_addresses_differ, own_address_is_named, own_address_has_fact}
 use Rattle.toml_names.proofs.laws.own_addresses.Goals as goal
 
 pub returns-clause-themselves : goal.returns-clause-themselves

@@ -1,5 +1,5 @@
-use Rattle.toml_names.proofs.Changes.{has_part, step_there, hole_there}
-use Rattle.toml_names.proofs.Levels.{scalar-below}
+use Rattle.toml_names.proofs.lemmas.model.Changes.{has_part, step_there, hole_there}
+use Rattle.toml_names.proofs.lemmas.model.Levels.{scalar-below}
 use Rattle.toml_names.proofs.laws.parts.Goals as goal
 
 pub returns-clause-part : goal.returns-clause-part

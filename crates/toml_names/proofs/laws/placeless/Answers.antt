@@ -1,4 +1,4 @@
-use Rattle.toml_names.proofs.Placeless.{places_are_not_named, value_places_are_not_named}
+use Rattle.toml_names.proofs.lemmas.mentions.Placeless.{places_are_not_named, value_places_are_not_named}
 use Rattle.toml_names.proofs.laws.placeless.Goals as goal
 
 pub returns-clause-lines : goal.returns-clause-lines

@@ -1,6 +1,6 @@
-use Rattle.toml_names.proofs.PlaceFound.{place_is_found}
-use Rattle.toml_names.proofs.PlacesFound.{places_are_found}
-use Rattle.toml_names.proofs.PlacesNone.{no_place}
+use Rattle.toml_names.proofs.lemmas.mentions.PlaceFound.{place_is_found}
+use Rattle.toml_names.proofs.lemmas.mentions.PlacesFound.{places_are_found}
+use Rattle.toml_names.proofs.lemmas.mentions.PlacesNone.{no_place}
 use Rattle.toml_names.proofs.laws.places.Goals as goal
 
 pub returns-clause-found : goal.returns-clause-found

@@ -1,5 +1,5 @@
-use Rattle.toml_names.proofs.OneRefusal.{one_refusal}
-use Rattle.toml_names.proofs.Refused.{refused_are_bad}
+use Rattle.toml_names.proofs.lemmas.mentions.OneRefusal.{one_refusal}
+use Rattle.toml_names.proofs.lemmas.mentions.Refused.{refused_are_bad}
 use Rattle.toml_names.proofs.laws.refusals.Goals as goal
 
 pub returns-clause-bad : goal.returns-clause-bad

@@ -1,5 +1,5 @@
-use Rattle.toml_names.proofs.Offences.{no_misfit, misfit_is_first}
-use Rattle.toml_names.proofs.Filtered.{rules_are_of_mentions}
+use Rattle.toml_names.proofs.lemmas.mentions.Offences.{no_misfit, misfit_is_first}
+use Rattle.toml_names.proofs.lemmas.mentions.Filtered.{rules_are_of_mentions}
 use Rattle.toml_names.proofs.laws.rules.Goals as goal
 
 pub returns-clause-none : goal.returns-clause-none

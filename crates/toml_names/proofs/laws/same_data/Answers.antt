@@ -1,4 +1,4 @@
-use Rattle.toml_names.proofs.Alike.{scalars_alike, arrays_alike, tables_same}
+use Rattle.toml_names.proofs.lemmas.model.Alike.{scalars_alike, arrays_alike, tables_same}
 use Rattle.toml_names.proofs.laws.same_data.Goals as goal
 
 pub returns-clause-scalars : goal.returns-clause-scalars

@@ -1,5 +1,5 @@
-use Rattle.toml_names.proofs.Changes.{table-has}
-use Rattle.toml_names.proofs.Levels.{table-here, table-member, table-index}
+use Rattle.toml_names.proofs.lemmas.model.Changes.{table-has}
+use Rattle.toml_names.proofs.lemmas.model.Levels.{table-here, table-member, table-index}
 use Rattle.toml_names.proofs.laws.tables.Goals as goal
 
 pub returns-clause-here : goal.returns-clause-here

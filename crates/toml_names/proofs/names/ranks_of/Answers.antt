@@ -1,6 +1,6 @@
 use Rattle.std.proofs.Common.{◌∙◌, ◌++◌, ◌∷◌, [], ap, map, take, List, Option, ℕ}
-use Rattle.toml_names.specs.Reading.{rank_in}
-use Rattle.toml_names.proofs.LineRanks.{ranks-more}
+use Rattle.toml_names.specs.reader.Reading.{rank_in}
+use Rattle.toml_names.proofs.lemmas.tree.LineRanks.{ranks-more}
 use Rattle.toml_names.proofs.names.ranks_of.Goals as goal
 
 pub loop-node-preserved : goal.loop-node-preserved

@@ -1,5 +1,5 @@
 use Rattle.std.proofs.Common.{◌≡◌, map, take}
-use Rattle.toml_names.specs.Reading.{rank_in}
+use Rattle.toml_names.specs.reader.Reading.{rank_in}
 use Rattle.toml_names.proofs.names.ranks_of.Given as goal
 
 abbrev pub invariant-loop-node : goal.invariant-loop-node

@@ -3,8 +3,8 @@ use Rattle.std.proofs.lemmas.List.{length-map, map-append}
 use Rattle.std.proofs.lemmas.Result.{err_from_is_err_and}
 use Rattle.std.proofs.Math.ListN.{get_or-map}
 use Rattle.toml_tree.specs.Lines.{line}
-use Rattle.toml_names.specs.Names.{RefusesNames}
-use Rattle.toml_names.proofs.WholeDocument.{refused-at, took-one}
+use Rattle.toml_names.specs.reader.Names.{RefusesNames}
+use Rattle.toml_names.proofs.lemmas.reader.WholeDocument.{refused-at, took-one}
 use Rattle.toml_names.proofs.names.read_lines.Goals as goal
 
 pub returns-in_err-line-clause-refused : goal.returns-in_err-line-clause-refused

@@ -4,9 +4,9 @@ use Rattle.std.proofs.Math.ListN.{get_or-map}
 use Rattle.toml_tree.specs.Document.{document}
 use Rattle.toml_tree.specs.Lines.{line}
 use Rattle.toml_tree.specs.View.{expr}
-use Rattle.toml_names.specs.Addresses.{Address}
-use Rattle.toml_names.specs.Mentions.{named}
-use Rattle.toml_names.specs.Names.{line_address}
+use Rattle.toml_names.specs.model.Addresses.{Address}
+use Rattle.toml_names.specs.mentions.Mentions.{named}
+use Rattle.toml_names.specs.reader.Names.{line_address}
 use Rattle.toml_units.specs.View.{all_units}
 use Rattle.toml_units.proofs.AllLines.{IsTaken, took_line, took_all}
 use Rattle.toml_units.proofs.lines.units.Goals as goal

@@ -1,7 +1,7 @@
 use Rattle.std.proofs.Common.{◌≡◌, ◌≤◌, ℕ, Option, map}
 use Rattle.std.specs.Prelude.{slice_index_or}
 use Rattle.toml_tree.specs.Lines.{line}
-use Rattle.toml_names.specs.Addresses.{Address}
+use Rattle.toml_names.specs.model.Addresses.{Address}
 use Rattle.toml_units.specs.View.{all_units}
 use Rattle.toml_units.proofs.AllLines.{IsTaken}
 use Rattle.toml_units.proofs.lines.units_at.Given as goal

@@ -1,6 +1,6 @@
 use Rattle.std.proofs.Common.{take, map}
 use Rattle.serde_json.specs.View.{items_view}
-use Rattle.toml_names.specs.Data.{kind_at}
+use Rattle.toml_names.specs.model.Data.{kind_at}
 use Rattle.tomled.proofs.Built.{AreDone}
 use Rattle.tomled.proofs.Tagging.{TagItems}
 use Rattle.tomled.proofs.tagged.+tagged.Given as goal

@@ -1,6 +1,6 @@
 use Rattle.std.proofs.lemmas.Result.{IfOk-weaker}
 use Rattle.serde_json.specs.View.{view}
-use Rattle.toml_names.specs.Data.{kind_at}
+use Rattle.toml_names.specs.model.Data.{kind_at}
 use Rattle.tomled.proofs.Texts.{no_float}
 use Rattle.tomled.proofs.tagged.tagged.Goals as goal
 

@@ -1,6 +1,6 @@
 use Rattle.std.proofs.Common.{Some, ap, sym, ◌∙◌}
 use Rattle.std.proofs.lemmas.Map.Text.{btree_map_updates_str}
-use Rattle.toml_names.specs.declared.address.Step.TheVariants.{Name}
+use Rattle.toml_names.specs.declared.model.address.Step.TheVariants.{Name}
 use Rattle.toml_checker.proofs.AddedSteps.{name_added}
 use Rattle.toml_checker.proofs.steps.Steps.add.Goals as goal
 

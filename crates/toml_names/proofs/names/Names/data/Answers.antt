@@ -1,6 +1,6 @@
 use Rattle.std.proofs.Common.{subst}
-use Rattle.toml_names.specs.Data.{IsDataOf, kind_at}
-use Rattle.toml_names.specs.Reading.{Known}
+use Rattle.toml_names.specs.model.Data.{IsDataOf, kind_at}
+use Rattle.toml_names.specs.reader.Reading.{Known}
 use Rattle.toml_names.proofs.names.Names.data.Goals as goal
 
 pub returns : goal.returns

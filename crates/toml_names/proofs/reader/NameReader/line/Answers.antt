@@ -2,8 +2,8 @@ use Rattle.std.proofs.Common.{◌≡◌, ◌++◌, ◌∷◌, [], List, Bor, len
 use Rattle.std.proofs.lemmas.Result.{err_from_is_err_and}
 use Rattle.toml_tree.specs.declared.line.Line.{Line as TreeLine}
 use Rattle.toml_tree.specs.Lines.{line as tree_line}
-use Rattle.toml_names.specs.Reading.{RefusesEntry}
-use Rattle.toml_names.proofs.OneMoreLine.{took, took_good, refuses-line, lines-push, count-lines}
+use Rattle.toml_names.specs.reader.Reading.{RefusesEntry}
+use Rattle.toml_names.proofs.lemmas.reader.OneMoreLine.{took, took_good, refuses-line, lines-push, count-lines}
 use Rattle.toml_names.proofs.reader.NameReader.line.Goals as goal
 
 pub returns-in_err-entered-clause-refused : goal.returns-in_err-entered-clause-refused

@@ -1,7 +1,7 @@
 use Rattle.std.proofs.Common.{subst}
-use Rattle.toml_names.specs.Names.{AreGood}
-use Rattle.toml_names.specs.Reading.{ReaderState, lines_of}
-use Rattle.toml_names.proofs.OneMoreLine.{reader_good}
+use Rattle.toml_names.specs.reader.Names.{AreGood}
+use Rattle.toml_names.specs.reader.Reading.{ReaderState, lines_of}
+use Rattle.toml_names.proofs.lemmas.reader.OneMoreLine.{reader_good}
 use Rattle.toml_names.proofs.reader.NameReader.taken.Goals as goal
 
 pub returns-clause-good : goal.returns-clause-good

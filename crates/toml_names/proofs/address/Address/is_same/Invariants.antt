@@ -1,6 +1,0 @@
-use Rattle.std.proofs.Common.{◌≡◌, drop}
-use Rattle.toml_names.specs.Addresses.{same_address}
-use Rattle.toml_names.proofs.address.Address.is_same.Given as goal
-
-abbrev pub invariant-loop-index : goal.invariant-loop-index
-invariant-loop-index l = same_address (drop l.index l.fn.self) (drop l.index l.fn.other) ≡ same_address l.fn.self l.fn.other

@@ -1,0 +1,4 @@
+pub mod mentions
+pub mod model
+pub mod reader
+pub mod tree

@@ -1,0 +1,175 @@
+-- The plain list of first mentions has each address that is mentioned, once, in order: one more mention at a time.
+use Rattle.std.proofs.Common.{◌≡◌, ◌⊎◌, inl, inr, ℕ, zero, suc, ◌<◌, ◌↔◌, get_or, Bool, true, false, cond, ◌||◌, List, [], ◌∷◌, ◌++◌, length, filter, Any, AllPairs, Contains, refl, sym, ap, subst, ◌∙◌, true≢false, arith}
+use Rattle.std.proofs.lemmas.Bool.{cond-true, cond-false}
+use Rattle.std.proofs.lemmas.List.{append_assoc, append-nil}
+use Rattle.std.proofs.lemmas.List.Elements.{Contains-get_or, Contains-append_left, Contains-push, Contains-push_cases, filter-append}
+use Rattle.std.proofs.lemmas.List.Quantifiers.{all_pairs_push}
+use Rattle.toml_names.specs.model.Addresses.{Address, same_address}
+use Rattle.toml_names.specs.mentions.FirstMentions.{is_named, first_named, first_mentions, IsMentioned, ComesFirst, IsFirstMentions, FirstMentionsAreThese}
+use Rattle.toml_names.specs.mentions.Mentions.{Named, is_mention}
+use Rattle.toml_names.proofs.lemmas.model.Equal.{same_address-equal, same_address-self}
+use Rattle.toml_names.proofs.lemmas.mentions.FactAt.{any_here, any_later}
+use Rattle.toml_names.proofs.lemmas.mentions.FirstMore.{first_push}
+
+module _ (P : Named → Type 0) where
+  pub any_cases : (m : Named) (ms : List Named) → Any P (m ∷ ms) → P m ⊎ Any P ms
+  any_cases m ms (zero, x, low, is, p) = inl (subst P (sym is) p)
+  any_cases m ms (suc k, x, low, is, p) = inr (k, x, omega (arith, low), is, p)
+
+  any_left : (ms more : List Named) → Any P ms → Any P (ms ++ more)
+  any_left ms more (k, x, low, is, p) = let c = Contains-append_left ms more x (k, low, is) in (c.0, x, c.1, c.2, p)
+
+  any_push : (ms : List Named) (m : Named) → P m → Any P (ms ++ m ∷ [])
+  any_push ms m p = let c = Contains-push ms m in (c.0, m, c.1, c.2, p)
+
+  any_push_cases : (ms : List Named) (m : Named) → Any P (ms ++ m ∷ []) → Any P ms ⊎ P m
+  any_push_cases ms m (k, x, low, is, p) = by (Contains-push_cases ms m x (k, low, is))
+    where
+      by : Contains ms x ⊎ (m ≡ x) → Any P ms ⊎ P m
+      by (inl c) = inl (c.0, x, c.1, c.2, p)
+      by (inr same) = inr (subst P (sym same) p)
+
+  any_split : (before behind : List Named) (m : Named) → P m → Any P (before ++ m ∷ behind)
+  any_split [] behind m p = any_here P m behind p
+  any_split (x ∷ before) behind m p = any_later P x (before ++ m ∷ behind) (any_split before behind m p)
+
+-- where one more is split, it is at the last, or before it
+split_push : (ms : List Named) (m : Named) (before : List Named) (x : Named) (behind : List Named) → ms ++ m ∷ [] ≡ before ++ x ∷ behind
+    → (ms ≡ before) ⊎ ((rest : List Named) × (ms ≡ before ++ x ∷ rest))
+split_push [] m [] x behind is = inl refl
+split_push [] m (y ∷ before) x behind is = let none : [] ≡ before ++ x ∷ behind = cc in inl (absurd (no_end before x behind none))
+  where
+    no_end : (before : List Named) (x : Named) (behind : List Named) → ¬ ([] ≡ before ++ x ∷ behind)
+    no_end [] x behind e = cc
+    no_end (y ∷ before) x behind e = cc
+split_push (z ∷ ms) m [] x behind is = let same : z ≡ x = cc in inr (ms, ap (λ h. h ∷ ms) same)
+split_push (z ∷ ms) m (y ∷ before) x behind is =
+    let same : z ≡ y = cc in
+    let rest : ms ++ m ∷ [] ≡ before ++ x ∷ behind = cc in
+    by same (split_push ms m before x behind rest)
+  where
+    by : z ≡ y → (ms ≡ before) ⊎ ((rest : List Named) × (ms ≡ before ++ x ∷ rest)) → (z ∷ ms ≡ y ∷ before) ⊎ ((rest : List Named) × (z ∷ ms ≡ y ∷ (before ++ x ∷ rest)))
+    by same (inl e) = inl (λ k. same k ∷ e k)
+    by same (inr r) = inr (r.0, λ k. same k ∷ r.1 k)
+
+abbrev pub Mentions : Address → Named → Type 0
+Mentions at m = (m.address ≡ at) × (is_mention m ≡ true)
+
+-- what is found among the mentions
+mentioned : (ms : List Named) (at : Address) → is_named (filter is_mention ms) at ≡ true → IsMentioned ms at
+mentioned [] at found = absurd (true≢false (sym found))
+mentioned (m ∷ ms) at found = by (is_mention m) refl (same_address m.address at) refl (mentioned ms at)
+  where
+    by : (b : Bool) → is_mention m ≡ b → (c : Bool) → same_address m.address at ≡ c → (is_named (filter is_mention ms) at ≡ true → IsMentioned ms at) → IsMentioned (m ∷ ms) at
+    by true role true same ih = any_here (Mentions at) m ms (same_address-equal m.address at same, role)
+    by true role false apart ih = any_later (Mentions at) m ms (ih (sym (ap (λ l. is_named l at) (cond-true _ _ _ role) ∙ ap (λ b. b || is_named (filter is_mention ms) at) apart) ∙ found))
+    by false bare c e ih = any_later (Mentions at) m ms (ih (sym (ap (λ l. is_named l at) (cond-false _ _ _ bare)) ∙ found))
+
+or_right : (b : Bool) → (b || true) ≡ true
+or_right true = refl
+or_right false = refl
+
+found : (ms : List Named) (at : Address) → IsMentioned ms at → is_named (filter is_mention ms) at ≡ true
+found [] at (k, x, low, is, p) = absurd (omega (arith, low))
+found (m ∷ ms) at any = by (is_mention m) refl (any_cases (Mentions at) m ms any) (found ms at)
+  where
+    here : Bool
+    here = same_address m.address at
+
+    by : (b : Bool) → is_mention m ≡ b → Mentions at m ⊎ IsMentioned ms at → (IsMentioned ms at → is_named (filter is_mention ms) at ≡ true) → is_named (filter is_mention (m ∷ ms)) at ≡ true
+    by true role (inl h) ih =
+        let same : here ≡ true = subst (λ a. same_address m.address a ≡ true) h.0 (same_address-self m.address) in
+        ap (λ l. is_named l at) (cond-true _ _ _ role) ∙ ap (λ b. b || is_named (filter is_mention ms) at) same
+    by true role (inr later) ih = ap (λ l. is_named l at) (cond-true _ _ _ role) ∙ ap (λ b. here || b) (ih later) ∙ or_right here
+    by false bare (inl h) ih = absurd (true≢false (sym h.1 ∙ bare))
+    by false bare (inr later) ih = ap (λ l. is_named l at) (cond-false _ _ _ bare) ∙ ih later
+
+-- an order of mentions stays, as the first has one
+first_stays : (ms : List Named) (m : Named) (at other : Address) → ComesFirst ms at other → IsMentioned ms at → ComesFirst (ms ++ m ∷ []) at other
+first_stays ms m at other first there before behind x is same role = by (split_push ms m before x behind is)
+  where
+    by : (ms ≡ before) ⊎ ((rest : List Named) × (ms ≡ before ++ x ∷ rest)) → IsMentioned before at
+    by (inl e) = subst (λ l. IsMentioned l at) e there
+    by (inr r) = first before r.0 x r.1 same role
+
+module _ (ms : List Named) (list : List Address) (h : IsFirstMentions ms list) (m : Named) where
+  listed : (k : ℕ) (d : Address) → k < length list → IsMentioned ms (get_or list k d)
+  listed k d low = (h.all (get_or list k d)).0 (Contains-get_or list k d low)
+
+  order_stays : AllPairs (ComesFirst (ms ++ m ∷ [])) list
+  order_stays i j d before low = first_stays ms m (get_or list i d) (get_or list j d) (h.order i j d before low) (listed i d (omega arith))
+
+  same_list : (is_mention m ≡ true → IsMentioned ms m.address) → IsFirstMentions (ms ++ m ∷ []) list
+  same_list again = record {
+    all = λ at. (
+      (λ c. any_left (Mentions at) ms (m ∷ []) ((h.all at).0 c)),
+      (λ any. (h.all at).1 (by at (any_push_cases (Mentions at) ms m any))),
+    );
+    once = h.once;
+    order = order_stays;
+  }
+    where
+      by : (at : Address) → IsMentioned ms at ⊎ Mentions at m → IsMentioned ms at
+      by at (inl any) = any
+      by at (inr p) = subst (IsMentioned ms) p.0 (again p.1)
+
+  module _ (role : is_mention m ≡ true) (none : ¬ IsMentioned ms m.address) where
+    behind_all : (at : Address) → IsMentioned ms at → ComesFirst (ms ++ m ∷ []) at m.address
+    behind_all at there = first_stays ms m at m.address
+        (λ before rest x is same role. absurd (none (subst (λ l. IsMentioned l m.address) (sym is) (any_split (Mentions m.address) before rest x (same, role))))) there
+
+    all_more : (at : Address) → Contains (list ++ m.address ∷ []) at ↔ IsMentioned (ms ++ m ∷ []) at
+    all_more at = (
+      (λ c. there (Contains-push_cases list m.address at c)),
+      (λ any. back (any_push_cases (Mentions at) ms m any)),
+    )
+      where
+        there : Contains list at ⊎ (m.address ≡ at) → IsMentioned (ms ++ m ∷ []) at
+        there (inl c) = any_left (Mentions at) ms (m ∷ []) ((h.all at).0 c)
+        there (inr same) = any_push (Mentions at) ms m (same, role)
+
+        back : IsMentioned ms at ⊎ Mentions at m → Contains (list ++ m.address ∷ []) at
+        back (inl any) = Contains-append_left list (m.address ∷ []) at ((h.all at).1 any)
+        back (inr p) = subst (Contains (list ++ m.address ∷ [])) p.0 (Contains-push list m.address)
+
+    longer_list : IsFirstMentions (ms ++ m ∷ []) (list ++ m.address ∷ [])
+    longer_list = record {
+      all = all_more;
+      once = all_pairs_push (λ at other. ¬ (at ≡ other)) list m.address h.once (λ k d low same. none (subst (IsMentioned ms) same (listed k d low)));
+      order = all_pairs_push (ComesFirst (ms ++ m ∷ [])) list m.address order_stays (λ k d low. behind_all (get_or list k d) (listed k d low));
+    }
+
+one_more : (ms : List Named) (m : Named) → IsFirstMentions ms (first_mentions ms) → IsFirstMentions (ms ++ m ∷ []) (first_mentions (ms ++ m ∷ []))
+one_more ms m h = by (is_mention m) refl (is_named left m.address) refl
+  where
+    left : List Named
+    left = filter is_mention ms
+
+    by : (b : Bool) → is_mention m ≡ b → (c : Bool) → is_named left m.address ≡ c → IsFirstMentions (ms ++ m ∷ []) (first_mentions (ms ++ m ∷ []))
+    by false bare c e =
+        let is : filter is_mention (ms ++ m ∷ []) ≡ left = filter-append is_mention ms (m ∷ []) ∙ ap (λ l. left ++ l) (cond-false _ _ _ bare) ∙ append-nil left in
+        subst (IsFirstMentions (ms ++ m ∷ [])) (ap (first_named []) (sym is)) (same_list ms (first_mentions ms) h m (λ role. absurd (true≢false (sym role ∙ bare))))
+    by true role true again =
+        let is : filter is_mention (ms ++ m ∷ []) ≡ left ++ m ∷ [] = filter-append is_mention ms (m ∷ []) ∙ ap (λ l. left ++ l) (cond-true _ _ _ role) in
+        let list : first_mentions (ms ++ m ∷ []) ≡ first_mentions ms =
+        ap (first_named []) is ∙ first_push left [] m ∙ ap (λ b. first_named [] left ++ cond b [] (m.address ∷ [])) again ∙ append-nil (first_mentions ms) in
+        subst (IsFirstMentions (ms ++ m ∷ [])) (sym list) (same_list ms (first_mentions ms) h m (λ _. mentioned ms m.address again))
+    by true role false new =
+        let is : filter is_mention (ms ++ m ∷ []) ≡ left ++ m ∷ [] = filter-append is_mention ms (m ∷ []) ∙ ap (λ l. left ++ l) (cond-true _ _ _ role) in
+        let list : first_mentions (ms ++ m ∷ []) ≡ first_mentions ms ++ m.address ∷ [] =
+        ap (first_named []) is ∙ first_push left [] m ∙ ap (λ b. first_named [] left ++ cond b [] (m.address ∷ [])) new in
+        subst (IsFirstMentions (ms ++ m ∷ [])) (sym list) (longer_list ms (first_mentions ms) h m role (λ any. true≢false (sym (found ms m.address any) ∙ new)))
+
+all_more_mentions : (ms earlier : List Named) → IsFirstMentions earlier (first_mentions earlier) → IsFirstMentions (earlier ++ ms) (first_mentions (earlier ++ ms))
+all_more_mentions [] earlier h = rw append-nil h
+all_more_mentions (m ∷ ms) earlier h = subst (λ l. IsFirstMentions l (first_mentions l)) (append_assoc earlier (m ∷ []) ms) (all_more_mentions ms (earlier ++ m ∷ []) (one_more earlier m h))
+
+no_mentions : IsFirstMentions [] []
+no_mentions = record {
+  all = λ at. ((λ c. absurd (omega (arith, c.1))), (λ any. absurd (omega (arith, any.2))));
+  once = λ i j d before low. absurd (omega arith);
+  order = λ i j d before low. absurd (omega arith);
+}
+
+pub first_mentions_are_these : FirstMentionsAreThese
+first_mentions_are_these ms = all_more_mentions ms [] no_mentions

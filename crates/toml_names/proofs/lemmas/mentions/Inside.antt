@@ -1,0 +1,62 @@
+-- What a value names inside it, by the lists of its items and of its pairs.
+use Rattle.std.proofs.Common.{◌≡◌, ℕ, ◌+◌, List, [], ◌∷◌, ◌++◌, map, Option, Some, None, Box, Global, refl, sym, ap, ◌∙◌}
+use Rattle.std.proofs.lemmas.List.{append-nil}
+use Rattle.std.specs.Prelude.{false, is_some, option_map}
+use Rattle.toml_tree.specs.declared.piece.Gap.{Gap}
+use Rattle.toml_tree.specs.declared.piece.Piece.{Piece}
+use Rattle.toml_tree.specs.declared.tree.Array.{Array}
+use Rattle.toml_tree.specs.declared.tree.InlineTable.{InlineTable}
+use Rattle.toml_tree.specs.declared.tree.Value.TheVariants as made
+use Rattle.toml_tree.specs.declared.tree.Value.TheViews.{out-Array, out-InlineTable}
+use Rattle.toml_tree.specs.Tree as tree
+use Rattle.toml_tree.specs.ReadingValues.{Element, Member, before_end, pairs_of, inline}
+use Rattle.toml_tree.specs.View.{piece, gap, value, element as tree_element, member, array_items, last_ends}
+use Rattle.toml_tree.proofs.Proved.{value_array, value_inline}
+use Rattle.toml_names.specs.declared.mentions.mention.Role.TheVariants.{Bare}
+use Rattle.toml_names.specs.model.Addresses.{Address, element}
+use Rattle.toml_names.specs.mentions.Mentions.{Named, value_named, inside, elements, members, pair_named}
+
+-- an element at its index, and what is in it
+abbrev pub element_named : ℕ → Address → ℕ → tree.Value → List Named
+element_named line at i v = value_named line Bare (element at i) v ∷ inside line (element at i) v
+
+-- elements from the index on, whatever ends them
+abbrev pub elements_of : ℕ → Address → ℕ → List Element → List Named
+elements_of line at i [] = []
+elements_of line at i (e ∷ es) = element_named line at i e.value ++ elements_of line at (i + 1) es
+
+abbrev pub members_of : ℕ → Address → List Member → List Named
+members_of line at [] = []
+members_of line at (m ∷ ms) = pair_named line at m.pair.assign m.pair.value ++ members_of line at ms
+
+module _ (line : ℕ) (at : Address) where
+  elements-before_end : (es : List Element) (i : ℕ) (g : tree.Gap) → elements line at i (before_end es (tree.Close g)) ≡ elements_of line at i es
+  elements-before_end [] i g = refl
+  elements-before_end (e ∷ es) i g = ap (λ l. element_named line at i e.value ++ l) (elements-before_end es (i + 1) g)
+
+  elements-last_ends : (es : List Element) (i : ℕ) → elements line at i (last_ends es) ≡ elements_of line at i es
+  elements-last_ends [] i = refl
+  elements-last_ends (e ∷ []) i = sym (append-nil (element_named line at i e.value))
+  elements-last_ends (e ∷ f ∷ es) i = ap (λ l. element_named line at i e.value ++ l) (elements-last_ends (f ∷ es) (i + 1))
+
+  elements-array_items : (es : List Element) (end : Option Gap) → elements line at 0 (array_items es end) ≡ elements_of line at 0 es
+  elements-array_items es (Some g) = elements-before_end es 0 (gap g)
+  elements-array_items es None = elements-last_ends es 0
+
+  pub inside-array : (b : Box Array Global) → inside line at (value (made.Array b)) ≡ elements_of line at 0 (map tree_element (out-Array b.value).items.items)
+  inside-array b = ap (inside line at) (value_array b) ∙ elements-array_items (map tree_element (out-Array b.value).items.items) (out-Array b.value).end
+
+  members-pairs_of : (ms : List Member) (m : Member) → members line at (pairs_of m ms) ≡ members_of line at (m ∷ ms)
+  members-pairs_of [] m = sym (append-nil (pair_named line at m.pair.assign m.pair.value))
+  members-pairs_of (n ∷ ms) m = ap (λ l. pair_named line at m.pair.assign m.pair.value ++ l) (members-pairs_of ms n)
+
+  members-inline : (whole : tree.Piece) (ms : List Member) (ws : Option Piece) → is_some ws ≡ false → inside line at (inline whole ms (option_map piece ws)) ≡ members_of line at ms
+  members-inline whole [] None h = refl
+  members-inline whole (m ∷ ms) None h = members-pairs_of ms m
+  members-inline whole ms (Some ws) h = cc
+
+  -- an inline table without whitespace for no pair names what its pairs name
+  pub inside-inline : (b : Box InlineTable Global) → is_some (out-InlineTable b.value).ws ≡ false → inside line at (value (made.Inline b)) ≡ members_of line at (map member (out-InlineTable b.value).pairs.items)
+  inside-inline b none =
+      let table = out-InlineTable b.value in
+      ap (inside line at) (value_inline b) ∙ members-inline (piece table.whole) (map member table.pairs.items) table.ws none

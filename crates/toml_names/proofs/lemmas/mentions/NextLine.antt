@@ -1,0 +1,68 @@
+-- What one more line names, and what a reader of lines has after it.
+use Rattle.std.proofs.Common.{◌≡◌, ℕ, ◌+◌, ◌<◌, ◌≤◌, List, [], ◌∷◌, ◌++◌, length, take, Some, None, refl, ap, ◌∙◌, get_or, arith}
+use Rattle.std.specs.Prelude.{if◌then◌else◌}
+use Rattle.std.proofs.lemmas.List.{take_more, length-take-le}
+use Rattle.std.proofs.lemmas.List.Elements.{All-tail, All-append}
+use Rattle.toml_tree.specs.Tree.{Line}
+use Rattle.toml_names.specs.model.Addresses.{Address}
+use Rattle.toml_names.specs.mentions.Alike.{SectionGoesOn}
+use Rattle.toml_names.specs.mentions.Mentions.{Named, root, named, named_by, named_from, is_section}
+use Rattle.toml_names.specs.mentions.Rules.{misfit, KeepsRules, IsShort, max_steps}
+use Rattle.toml_names.specs.reader.Names.{AreGood, IsRedefined, IsLong}
+use Rattle.toml_names.proofs.lemmas.mentions.Offences.{misfit_is_first}
+use Rattle.toml_names.proofs.lemmas.mentions.Pairs.{KeepsRules-from_misfit}
+
+pub KeepsRules-more : (earlier new : List Named) → misfit earlier new ≡ None → KeepsRules earlier → KeepsRules (earlier ++ new)
+KeepsRules-more earlier new none keeps = KeepsRules-from_misfit new earlier keeps none
+
+pub IsShort-append : (earlier new : List Named) → IsShort earlier → IsShort new → IsShort (earlier ++ new)
+IsShort-append earlier new = All-append (λ m. length m.address ≤ max_steps) earlier new
+
+pub IsShort-behind : (earlier new : List Named) → IsShort (earlier ++ new) → IsShort new
+IsShort-behind [] new short = short
+IsShort-behind (m ∷ ms) new short = IsShort-behind ms new (All-tail (λ m. length m.address ≤ max_steps) m (ms ++ new) short)
+
+named_from-push : (ls : List Line) (earlier : List Named) (n at : ℕ) (l : Line) → n + length ls ≡ at
+    → named_from earlier n (ls ++ l ∷ []) ≡ named_from earlier n ls ++ named_by (named_from earlier n ls) at l.expr
+named_from-push [] earlier n at l is =
+    let same : n ≡ at = omega arith in
+    ap (λ k. earlier ++ named_by earlier k l.expr) same
+named_from-push (k ∷ ls) earlier n at l is = named_from-push ls (earlier ++ named_by earlier n k.expr) (n + 1) at l (omega arith)
+
+-- what one more line names
+pub named-more : (lines : List Line) (i : ℕ) (d : Line) → i < length lines
+    → named (take (i + 1) lines) ≡ named (take i lines) ++ named_by (named (take i lines)) i (get_or lines i d).expr
+named-more lines i d low =
+    ap named (take_more lines i d low)
+    ∙ named_from-push (take i lines) (root ∷ []) 0 i (get_or lines i d) (omega (arith, length-take-le i lines (omega arith)))
+
+module _ (lines : List Line) (i : ℕ) (d : Line) (low : i < length lines) (good : AreGood (take i lines)) where
+  abbrev earlier : List Named
+  earlier = named (take i lines)
+
+  abbrev new : List Named
+  new = named_by earlier i (get_or lines i d).expr
+
+  pub AreGood-more : misfit earlier new ≡ None → IsShort new → AreGood (take (i + 1) lines)
+  AreGood-more none short = rw (named-more lines i d low) (KeepsRules-more earlier new none good.0, IsShort-append earlier new good.1 short)
+
+  pub IsRedefined-at : (at : Address) → misfit earlier new ≡ Some at → IsRedefined lines i at
+  IsRedefined-at at found = record {
+    there = low;
+    good = good;
+    new = new;
+    is = named-more lines i d low;
+    offence = misfit_is_first earlier new at good.0 found;
+  }
+
+  pub IsLong-at : misfit earlier new ≡ None → ¬ IsShort new → IsLong lines i
+  IsLong-at none long = record {
+    there = low;
+    good = good;
+    keeps = rw (named-more lines i d low) (KeepsRules-more earlier new none good.0);
+    long = λ short. long (IsShort-behind earlier new (rw (named-more lines i d low) at short));
+  }
+
+pub section_from-append : SectionGoesOn
+section_from-append [] ys at = refl
+section_from-append (x ∷ xs) ys at = section_from-append xs ys (if is_section x.role then x.address else at)

@@ -1,0 +1,82 @@
+-- Why the names of lines are refused is one fault: one line, and its first offence or a long address.
+use Rattle.std.proofs.Common.{◌≡◌, ◌<◌, ℕ, ◌+◌, ◌⊎◌, inl, inr, Bool, true, false, List, [], ◌∷◌, ◌++◌, take, Some, refl, sym, ap, subst, ◌∙◌, arith}
+use Rattle.std.proofs.lemmas.Bool.{cases_order}
+use Rattle.std.proofs.lemmas.List.{append_assoc, append-nil, append_cancel_left, take-take}
+use Rattle.toml_tree.specs.Tree.{Line}
+use Rattle.toml_names.specs.declared.fault.NameFault.TheVariants as faults
+use Rattle.toml_names.specs.model.Addresses.{Address}
+use Rattle.toml_names.specs.mentions.Mentions.{Named, named}
+use Rattle.toml_names.specs.reader.Names.{AreGood, IsRedefined, IsLong, OneRefusal}
+use Rattle.toml_names.specs.mentions.Rules.{fits, misfit, KeepsRules, IsFirstOffence}
+use Rattle.toml_names.proofs.lemmas.mentions.Misfits.{misfit-here, misfit-later}
+use Rattle.toml_names.proofs.lemmas.mentions.Pairs.{KeepsRules-push, fits-from_KeepsRules}
+use Rattle.toml_names.proofs.lemmas.mentions.Refused.{good_front, redefined_breaks}
+
+-- behind mentions that go with all before them, the first that does not is the misfit
+misfit_behind : (before earlier behind : List Named) (m : Named) → KeepsRules (earlier ++ before) → fits (earlier ++ before) m ≡ false → misfit earlier (before ++ m ∷ behind) ≡ Some m.address
+misfit_behind [] earlier behind m keeps bad = misfit-here earlier behind m (rw append-nil at bad)
+misfit_behind (x ∷ before) earlier behind m keeps bad =
+    misfit-later earlier (before ++ m ∷ behind) x (fits-from_KeepsRules earlier before x keeps)
+    ∙ misfit_behind before (earlier ++ x ∷ []) behind m (subst KeepsRules (sym (append_assoc earlier (x ∷ []) before)) keeps) (ap (λ l. fits l m) (append_assoc earlier (x ∷ []) before) ∙ bad)
+
+-- a mention that breaks kept rules does not go with those before it
+offender : (ms : List Named) (m : Named) → KeepsRules ms → ¬ KeepsRules (ms ++ m ∷ []) → fits ms m ≡ false
+offender ms m keeps offends = by (fits ms m) refl
+  where
+    by : (b : Bool) → fits ms m ≡ b → b ≡ false
+    by true good = absurd (offends (KeepsRules-push ms m keeps good))
+    by false bad = refl
+
+offence_misfit : (earlier new : List Named) (at : Address) → IsFirstOffence earlier new at → misfit earlier new ≡ Some at
+offence_misfit earlier new at o =
+    ap (misfit earlier) o.is
+    ∙ misfit_behind o.before earlier o.behind o.mention o.good (offender (earlier ++ o.before) o.mention o.good o.offends)
+    ∙ ap Some (sym o.address)
+
+one_offence : (earlier new more : List Named) (at other : Address) → IsFirstOffence earlier new at → IsFirstOffence earlier more other → new ≡ more → at ≡ other
+one_offence earlier new more at other a b same =
+    let found : Some at ≡ Some other = sym (offence_misfit earlier new at a) ∙ ap (misfit earlier) same ∙ offence_misfit earlier more other b in
+    cc
+
+one_redefined : (lines : List Line) (line : ℕ) (at other : Address) → IsRedefined lines line at → IsRedefined lines line other → at ≡ other
+one_redefined lines line at other a b = one_offence (named (take line lines)) a.new b.new at other a.offence b.offence (append_cancel_left (named (take line lines)) a.new b.new (sym a.is ∙ b.is))
+
+-- up to the line all is good, with it no more
+record IsFirstBad (lines : List Line) (line : ℕ) : Type 0 where
+  good : AreGood (take line lines)
+  bad : ¬ AreGood (take (line + 1) lines)
+
+redefined_first : (lines : List Line) (line : ℕ) (at : Address) → IsRedefined lines line at → IsFirstBad lines line
+redefined_first lines line at h = record { good = h.good; bad = λ good. redefined_breaks lines line at h good.0 }
+
+long_first : (lines : List Line) (line : ℕ) → IsLong lines line → IsFirstBad lines line
+long_first lines line h = record { good = h.good; bad = λ good. h.long good.1 }
+
+none_below : (lines : List Line) (i j : ℕ) → IsFirstBad lines i → IsFirstBad lines j → ¬ (i < j)
+none_below lines i j a b low = a.bad (subst AreGood (take-take (i + 1) j lines (omega arith)) (good_front (take j lines) (i + 1) b.good))
+
+one_line : (lines : List Line) (i j : ℕ) → IsFirstBad lines i → IsFirstBad lines j → i ≡ j
+one_line lines i j a b = by (cases_order i j)
+  where
+    by : (i ≡ j) ⊎ ((i < j) ⊎ (j < i)) → i ≡ j
+    by (inl same) = same
+    by (inr (inl low)) = absurd (none_below lines i j a b low)
+    by (inr (inr high)) = absurd (none_below lines j i b a high)
+
+-- one line is not redefined and too long at once
+not_both : (lines : List Line) (i j : ℕ) (at : Address) → IsRedefined lines i at → IsLong lines j → ⊥
+not_both lines i j at a b =
+    let same = one_line lines i j (redefined_first lines i at a) (long_first lines j b) in
+    redefined_breaks lines i at a (subst (λ k. KeepsRules (named (take (k + 1) lines))) (sym same) b.keeps)
+
+pub one_refusal : OneRefusal
+one_refusal lines (faults.Redefined i at) (faults.Redefined j other) a b memory more =
+    let same = one_line lines i j (redefined_first lines i at a) (redefined_first lines j other b) in
+    let one : at ≡ other = one_redefined lines i at other a (subst (λ k. IsRedefined lines k other) (sym same) b) in
+    λ k. faults.Redefined (same k) (one k)
+one_refusal lines (faults.Redefined i at) (faults.LongAddress j) a b memory more = absurd (not_both lines i j at a b)
+one_refusal lines (faults.LongAddress i) (faults.Redefined j other) a b memory more = absurd (not_both lines j i other b a)
+one_refusal lines (faults.LongAddress i) (faults.LongAddress j) a b memory more = ap faults.LongAddress (one_line lines i j (long_first lines i a) (long_first lines j b))
+one_refusal lines faults.NoMemory g a b memory more = absurd (memory refl)
+one_refusal lines (faults.Redefined i at) faults.NoMemory a b memory more = absurd (more refl)
+one_refusal lines (faults.LongAddress i) faults.NoMemory a b memory more = absurd (more refl)

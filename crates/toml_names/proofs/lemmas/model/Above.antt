@@ -1,0 +1,28 @@
+-- Which address is strictly above which.
+use Rattle.std.proofs.Common.{◌≡◌, ℕ, zero, suc, ◌<◌, ◌≤◌, true, false, ◌&&◌, [], ◌∷◌, length, drop, refl, ap, ◌∙◌, arith}
+use Rattle.std.specs.Prelude.{Bool}
+use Rattle.std.proofs.lemmas.List.{drop_all}
+use Rattle.toml_names.specs.model.Addresses.{Address, same_step, is_above}
+
+pub and_false : (b : Bool) → (b && false) ≡ false
+and_false true = refl
+and_false false = refl
+
+pub above_short : (a b : Address) → length b ≤ length a → is_above a b ≡ false
+above_short [] [] h = refl
+above_short [] (t ∷ b) h = absurd (omega arith)
+above_short (s ∷ a) [] h = refl
+above_short (s ∷ a) (t ∷ b) h = ap (λ r. same_step s t && r) (above_short a b (omega arith)) ∙ and_false (same_step s t)
+
+above_nil : (b : Address) → 0 < length b → is_above [] b ≡ true
+above_nil [] h = absurd (omega arith)
+above_nil (t ∷ b) h = refl
+
+drop_some : (b : Address) (i : ℕ) → i < length b → 0 < length (drop i b)
+drop_some [] i h = absurd (omega arith)
+drop_some (t ∷ b) zero h = omega arith
+drop_some (t ∷ b) (suc i) h = drop_some b i (omega arith)
+
+-- the shorter one was gone through
+pub above_end : (a b : Address) (i : ℕ) → length a < length b → length a ≤ i → i ≤ length a → is_above (drop i a) (drop i b) ≡ true
+above_end a b i low past within = ap (λ l. is_above l (drop i b)) (drop_all i a past) ∙ above_nil (drop i b) (drop_some b i (omega arith))

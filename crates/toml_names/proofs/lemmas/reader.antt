@@ -1,0 +1,4 @@
+pub mod HeldData
+pub mod OneMoreLine
+pub mod WholeDocument
+pub mod WholeValue

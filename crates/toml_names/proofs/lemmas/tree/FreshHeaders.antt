@@ -1,0 +1,75 @@
+-- A header whose next name is new: all behind it is new too, so that nodes for it can be added.
+use Rattle.std.proofs.Common.{ℕ, List, [], ◌∷◌, ◌++◌, length, refl, sym, subst, ◌∙◌, slice_index_or}
+use Rattle.std.proofs.lemmas.List.{append_assoc, append-nil}
+use Rattle.toml_names.specs.declared.model.address.Step.TheVariants.{Name, Index}
+use Rattle.toml_names.specs.declared.mentions.mention.Role.TheVariants.{Header, Passed, Tables, Element}
+use Rattle.toml_names.specs.tree.EnteringHeaders.{PassedFronts}
+use Rattle.toml_names.specs.mentions.Keys.{Key}
+use Rattle.toml_names.specs.tree.LongKeys.{CanEnterHeaders}
+use Rattle.toml_names.specs.mentions.Mentions.{a_table, an_array}
+use Rattle.toml_names.specs.tree.Nodes.{Spot, grown}
+use Rattle.toml_names.proofs.lemmas.tree.EnterName.{Enters-new, LeadsTo-new, KeepsElements-new}
+use Rattle.toml_names.proofs.lemmas.tree.FreshKeys.{IsAbsent, absent-new}
+use Rattle.toml_names.proofs.lemmas.tree.HeaderLines.{table_line, tables_line}
+use Rattle.toml_names.proofs.lemmas.tree.InnerNodes.{Passes-new}
+use Rattle.toml_names.proofs.lemmas.tree.NextTables.{adds_first}
+use Rattle.toml_names.proofs.lemmas.tree.PassedFronts.{PassedFronts-more}
+
+-- all fronts of a key can be passed, and its end is new
+pub record FreshEnd (old : List Spot) (line : ℕ) (key : Key) : Type 0 where
+  then : List Spot
+  here : ℕ
+  part : List ℕ
+  passed : PassedFronts old then line here part key
+  absent : IsAbsent then here part
+
+module _ (old : List Spot) (line : ℕ) (e : Spot) where
+  pub fresh_end : (ns xs : Key) (first : List ℕ) (now : List Spot) (here : ℕ) (part : List ℕ) → PassedFronts old now line here part (first ∷ xs) → IsAbsent now here part
+      → FreshEnd old line (first ∷ xs ++ ns)
+  fresh_end [] xs first now here part passed absent = record {
+    then = now;
+    here = here;
+    part = part;
+    passed = subst (λ l. PassedFronts old now line here part (first ∷ l)) (sym (append-nil xs)) passed;
+    absent = absent;
+  }
+  fresh_end (n ∷ ns) xs first now here part passed absent =
+      let then = grown now here (slice_index_or now here e) (Name part) Passed a_table line in
+      let passes = Passes-new now passed.tree here part line passed.within e (absent e) e in
+      subst (λ l. FreshEnd old line (first ∷ l)) (append_assoc xs (n ∷ []) ns)
+      (fresh_end ns (xs ++ n ∷ []) first then (length now) n
+      (PassedFronts-more old now line here part first xs passed n then (length now) passes) (absent-new now here e part n Passed a_table line passed.within))
+
+  module _ (first : List ℕ) (xs : Key) (fresh : FreshEnd old line (first ∷ xs)) where
+    abbrev key : Key
+    key = first ∷ xs
+
+    abbrev then : List Spot
+    then = fresh.then
+
+    abbrev passed : PassedFronts old then line fresh.here fresh.part key
+    passed = fresh.passed
+
+    -- the end is a table, or an array of tables
+    pub fresh_headers : CanEnterHeaders old line key
+    fresh_headers =
+        let table = grown then fresh.here (slice_index_or then fresh.here e) (Name fresh.part) Header a_table line in
+        let array = grown then fresh.here (slice_index_or then fresh.here e) (Name fresh.part) Tables an_array line in
+        let next = grown array (length then) (slice_index_or array (length then) e) (Index (length (slice_index_or array (length then) e).elements)) Element a_table line in
+        let absent = sym (passed.tree.names fresh.here e fresh.part passed.within) ∙ fresh.absent e in
+        record {
+          table = (
+            table,
+            length then,
+            table_line old then line fresh.here fresh.part first xs passed table (length then) (record {
+              enters = Enters-new then passed.tree fresh.here passed.within fresh.part e (fresh.absent e) Header a_table line e refl (λ h. cc);
+              leads = LeadsTo-new then passed.tree fresh.here passed.within fresh.part e (fresh.absent e) Header a_table line e;
+              elements = KeepsElements-new then passed.tree fresh.here passed.within fresh.part e (fresh.absent e) Header a_table line e;
+            }),
+          );
+          tables = (
+            next,
+            length array,
+            tables_line old then line fresh.here fresh.part first xs passed next (length array) (adds_first then fresh.here e fresh.part line passed.within absent passed.tree e),
+          );
+        }

@@ -1,0 +1,82 @@
+-- Where an address stands among addresses, before and after one more.
+use Rattle.std.proofs.Common.{◌≡◌, ℕ, ◌+◌, ◌<◌, Bool, true, false, cond, List, [], ◌∷◌, ◌++◌, length, Option, Some, None, refl, sym, ap, ◌∙◌, add-one, slice_index_or, true≢false, ◌⊎◌, inl, inr, arith}
+use Rattle.std.proofs.lemmas.Bool.{false_from_ne_true}
+use Rattle.std.specs.Option.{option_map}
+use Rattle.toml_names.specs.declared.model.address.Step.{Step}
+use Rattle.toml_names.specs.model.Addresses.{Address, same_step, same_address}
+use Rattle.toml_names.specs.tree.Nodes.{place_of}
+use Rattle.toml_names.proofs.lemmas.model.Equal.{same_step-decides, same_address-decides, same_address-equal}
+
+pub none_is_some : (k : ℕ) → ◌≡◌ {A = Option ℕ} None (Some k) → ⊥
+none_is_some k h = cc
+
+pub same_address-apart : (a b : Address) → (a ≡ b → ⊥) → same_address a b ≡ false
+same_address-apart a b apart = false_from_ne_true _ (λ h. apart (same_address-equal a b h))
+
+pub apart-same_address : (a b : Address) → same_address a b ≡ false → a ≡ b → ⊥
+apart-same_address a b h e = true≢false (sym ((same_address-decides a b).1 e) ∙ h)
+
+pub same_address-here : (a b : Address) → a ≡ b → same_address a b ≡ true
+same_address-here a b e = (same_address-decides a b).1 e
+
+pub is_step : (s t : Step) → (s ≡ t) ⊎ (s ≡ t → ⊥)
+is_step s t = by (same_step s t) refl
+  where
+    by : (b : Bool) → same_step s t ≡ b → (s ≡ t) ⊎ (s ≡ t → ⊥)
+    by true e = inl ((same_step-decides s t).0 e)
+    by false e = inr (λ h. true≢false (sym ((same_step-decides s t).1 h) ∙ e))
+
+pub is_address : (a b : Address) → (a ≡ b) ⊎ (a ≡ b → ⊥)
+is_address a b = by (same_address a b) refl
+  where
+    by : (x : Bool) → same_address a b ≡ x → (a ≡ b) ⊎ (a ≡ b → ⊥)
+    by true e = inl (same_address-equal a b e)
+    by false e = inr (apart-same_address a b e)
+
+none_below : (o : Option ℕ) → option_map (λ i. i + 1) o ≡ None → o ≡ None
+none_below None h = refl
+none_below (Some i) h = cc
+
+some_below : (o : Option ℕ) (k : ℕ) → option_map (λ i. i + 1) o ≡ Some k → (i : ℕ) × (o ≡ Some i) × (k ≡ i + 1)
+some_below None k h = absurd (none_is_some k h)
+some_below (Some i) k h = (i, refl, cc)
+
+-- a place that is none, at the first address and at the rest
+none_parts : (b : Bool) (o : Option ℕ) → cond b (Some 0) (option_map (λ i. i + 1) o) ≡ None → (b ≡ false) × (o ≡ None)
+none_parts true o h = absurd (none_is_some 0 (sym h))
+none_parts false o h = (refl, none_below o h)
+
+pub place_of-push : (ats : List Address) (b at : Address) → place_of b ats ≡ None → place_of at (ats ++ b ∷ []) ≡ cond (same_address b at) (Some (length ats)) (place_of at ats)
+place_of-push [] b at none = refl
+place_of-push (a ∷ ats) b at none =
+    let (apart, rest) = none_parts (same_address a b) (place_of b ats) none in
+    by apart (place_of-push ats b at rest) (same_address a at) refl (same_address b at) refl
+  where
+    by : same_address a b ≡ false → place_of at (ats ++ b ∷ []) ≡ cond (same_address b at) (Some (length ats)) (place_of at ats)
+        → (x : Bool) → same_address a at ≡ x → (y : Bool) → same_address b at ≡ y
+        → cond x (Some 0) (option_map (λ i. i + 1) (place_of at (ats ++ b ∷ []))) ≡ cond y (Some (length (a ∷ ats))) (cond x (Some 0) (option_map (λ i. i + 1) (place_of at ats)))
+    by apart ih true e true f = absurd (apart-same_address a b apart (same_address-equal a at e ∙ sym (same_address-equal b at f)))
+    by apart ih true e false f = refl
+    by apart ih false e true f = ap (option_map (λ i. i + 1)) (ih ∙ ap (λ t. cond t (Some (length ats)) (place_of at ats)) f) ∙ ap Some (add-one (length ats))
+    by apart ih false e false f = ap (option_map (λ i. i + 1)) (ih ∙ ap (λ t. cond t (Some (length ats)) (place_of at ats)) f)
+
+-- an address that has a place stands there
+pub place_of-at : (ats : List Address) (at d : Address) (k : ℕ) → place_of at ats ≡ Some k → (k < length ats) × (slice_index_or ats k d ≡ at)
+place_of-at [] at d k h = absurd (none_is_some k h)
+place_of-at (a ∷ ats) at d k h = by (place_of-at ats at d) (same_address a at) refl h
+  where
+    by : ((i : ℕ) → place_of at ats ≡ Some i → (i < length ats) × (slice_index_or ats i d ≡ at))
+        → (x : Bool) → same_address a at ≡ x → cond x (Some 0) (option_map (λ i. i + 1) (place_of at ats)) ≡ Some k → (k < length (a ∷ ats)) × (slice_index_or (a ∷ ats) k d ≡ at)
+    by ih true e h = let z : 0 ≡ k = cc in rw (← z) (omega arith, same_address-equal a at e)
+    by ih false e h =
+        let (i, found, is) = some_below (place_of at ats) k h in
+        let (low, same) = ih i found in
+        rw (is, add-one) (omega arith, same)
+
+-- an address that has no place after one more had none, and is another
+pub none_before : (ats : List Address) (b at : Address) → place_of b ats ≡ None → place_of at (ats ++ b ∷ []) ≡ None → (b ≡ at → ⊥) × (place_of at ats ≡ None)
+none_before ats b at fresh none = by (same_address b at) refl (sym (place_of-push ats b at fresh) ∙ none)
+  where
+    by : (x : Bool) → same_address b at ≡ x → cond x (Some (length ats)) (place_of at ats) ≡ None → (b ≡ at → ⊥) × (place_of at ats ≡ None)
+    by true e h = absurd (none_is_some (length ats) (sym h))
+    by false e h = (apart-same_address b at e, h)

@@ -1,0 +1,68 @@
+-- Steps of the tree of names, one after the other.
+use Rattle.std.proofs.Common.{◌≡◌, ℕ, ◌+◌, ◌≤◌, Result, Err, refl, ◌∙◌, arith}
+use Rattle.std.proofs.lemmas.Result.{IfOk-weaker, IfErr-weaker}
+use Rattle.toml_names.specs.declared.tree.name_tree.EnterFault.{EnterFault}
+use Rattle.toml_names.specs.declared.tree.name_tree.EnterFault.TheVariants.{NoMemory}
+use Rattle.toml_names.specs.declared.tree.name_tree.NameTree.{NameTree as Tree}
+use Rattle.toml_names.specs.model.Addresses.{Address}
+use Rattle.toml_names.specs.tree.Steps.{GoesOn, Steps}
+
+pub GoesOn-same : (t : Tree) → GoesOn 0 t t
+GoesOn-same t = record { can_undo = refl; lookups = record { most = omega arith; least = omega arith } }
+
+pub GoesOn-within : {m : ℕ} {a b : Tree} → GoesOn m a b → (k : ℕ) → m ≤ k → GoesOn k a b
+GoesOn-within goes k few = record {
+  can_undo = goes.can_undo;
+  lookups = record { most = omega (arith, goes.lookups.most, few); least = goes.lookups.least };
+}
+
+pub GoesOn-then : {m n : ℕ} {a b c : Tree} → GoesOn m a b → GoesOn n b c → (k : ℕ) → m + n ≤ k → GoesOn k a c
+GoesOn-then first then k few = record {
+  can_undo = then.can_undo ∙ first.can_undo;
+  lookups = record { most = omega (arith, first.lookups.most, then.lookups.most, few); least = omega (arith, first.lookups.least, then.lookups.least) };
+}
+
+-- a step is refused after others, and `?` hands its fault on
+pub refuses : {A B : Type 0} {m n k : ℕ} {old mid new : Tree} {e : EnterFault} {Makes : A → Type 0} {Refuses : Address → Type 0}
+    {r : Result B EnterFault} {All : B → Type 0} {Bars : Address → Type 0}
+    → GoesOn m old mid → Steps n mid new (Err e) Makes Refuses → (f : EnterFault) × (r ≡ Err f) × (f ≡ e) → m + n ≤ k → ((a : Address) → Refuses a → Bars a)
+    → Steps k old new r All Bars
+refuses {k = k} before step (f, is, same) few bars = rw (is, same) (record {
+  made = tt;
+  clash = λ a at. bars a (step.clash a at);
+  goes_on = GoesOn-then before step.goes_on k few;
+})
+
+-- the last step's answer is that of all
+pub follows : {A : Type 0} {m n k : ℕ} {old mid new : Tree} {r : Result A EnterFault} {Makes All : A → Type 0} {Refuses Bars : Address → Type 0}
+    → GoesOn m old mid → Steps n mid new r Makes Refuses → m + n ≤ k → ((x : A) → Makes x → All x) → ((a : Address) → Refuses a → Bars a)
+    → Steps k old new r All Bars
+follows {k = k} {r = r} before step few all bars = record {
+  made = IfOk-weaker r _ _ all step.made;
+  clash = IfErr-weaker r _ _ (λ e clash a at. bars a (clash a at)) step.clash;
+  goes_on = GoesOn-then before step.goes_on k few;
+}
+
+-- want of memory says nothing
+pub no_memory : {B : Type 0} {k : ℕ} {old new : Tree} {r : Result B EnterFault} {All : B → Type 0} {Bars : Address → Type 0}
+    → GoesOn k old new → (f : EnterFault) × (r ≡ Err f) × (f ≡ NoMemory) → Steps k old new r All Bars
+no_memory goes (f, is, same) = rw (is, same) (record { made = tt; clash = λ a at. cc; goes_on = goes })
+
+-- some of the key parts of a whole were looked up, and the others are left
+pub record GoesOnTo (left whole : ℕ) (old new : Tree) : Type 0 where
+  pub done : ℕ
+  pub is : done + left ≡ whole
+  pub goes_on : GoesOn done old new
+
+pub GoesOnTo-begin : (t : Tree) (left whole : ℕ) → left ≡ whole → GoesOnTo left whole t t
+GoesOnTo-begin t left whole is = record { done = 0; is = omega (arith, is); goes_on = GoesOn-same t }
+
+pub GoesOnTo-within : {old new : Tree} {left whole : ℕ} → GoesOnTo left whole old new → GoesOn whole old new
+GoesOnTo-within {whole = whole} before = GoesOn-within before.goes_on whole (let all = before.is in omega (arith, all))
+
+pub GoesOnTo-more : {old now next : Tree} {left whole n rest : ℕ} → GoesOnTo left whole old now → left ≡ n + rest → GoesOn n now next → GoesOnTo rest whole old next
+GoesOnTo-more {n = n} before is then = record {
+  done = before.done + n;
+  is = let all = before.is in omega (arith, all, is);
+  goes_on = GoesOn-then before.goes_on then (before.done + n) (omega arith);
+}

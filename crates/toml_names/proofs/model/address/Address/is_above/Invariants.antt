@@ -1,0 +1,6 @@
+use Rattle.std.proofs.Common.{◌≡◌, drop}
+use Rattle.toml_names.specs.model.Addresses.{is_above}
+use Rattle.toml_names.proofs.model.address.Address.is_above.Given as goal
+
+abbrev pub invariant-loop-index : goal.invariant-loop-index
+invariant-loop-index l = is_above (drop l.index l.fn.self) (drop l.index l.fn.other) ≡ is_above l.fn.self l.fn.other

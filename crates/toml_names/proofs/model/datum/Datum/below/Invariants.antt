@@ -1,0 +1,7 @@
+use Rattle.std.proofs.Common.{◌≡◌, ◌++◌, drop}
+use Rattle.toml_names.specs.model.Addresses.{Address}
+use Rattle.toml_names.specs.model.Data.{kind_at}
+use Rattle.toml_names.proofs.model.datum.Datum.below.Given as goal
+
+abbrev pub invariant-loop-step : goal.invariant-loop-step
+invariant-loop-step l = (rest : Address) → kind_at l.here (drop l.step-index l.steps ++ rest) ≡ kind_at l.fn.self (l.steps ++ rest)

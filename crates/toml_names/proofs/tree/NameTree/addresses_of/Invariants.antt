@@ -1,7 +1,0 @@
-use Rattle.std.proofs.Common.{◌≡◌, map, take}
-use Rattle.std.specs.Prelude.{option_map}
-use Rattle.toml_names.specs.Nodes.{address_at}
-use Rattle.toml_names.proofs.tree.NameTree.addresses_of.Given as goal
-
-abbrev pub invariant-loop-node : goal.invariant-loop-node
-invariant-loop-node l = l.list.items ≡ map (option_map (address_at l.self.nodes.items)) (take l.node-index l.nodes)

@@ -1,6 +1,0 @@
-use Rattle.std.proofs.Common.{◌≡◌}
-use Rattle.toml_names.proofs.Ranks.{mentioned_upto}
-use Rattle.toml_names.proofs.tree.NameTree.first_mentions.Given as goal
-
-abbrev pub invariant-loop-id : goal.invariant-loop-id
-invariant-loop-id l = l.list.items ≡ mentioned_upto l.self.nodes.items l.id

@@ -1,9 +1,0 @@
-use Rattle.std.proofs.Common.{◌≡◌, length}
-use Rattle.toml_names.specs.Nodes.{AreSteps}
-use Rattle.toml_names.proofs.tree.NameTree.last_steps.Given as goal
-
-abbrev pub invariant-loop-id : goal.invariant-loop-id
-invariant-loop-id l = record {
-  each : length l.steps.items ≡ l.id;
-  shared : AreSteps l.self.nodes.items l.steps.items;
-}

@@ -1,0 +1,174 @@
+use Rattle.std.proofs.Common.{◌+◌, ◌∷◌, sym, ap, subst, ◌∙◌, map, length, arith}
+use Rattle.std.proofs.lemmas.List.{drop_all}
+use Rattle.std.proofs.lemmas.Result.{err_from_is_err_and}
+use Rattle.std.specs.Prelude.{is_some}
+use Rattle.toml_tree.specs.declared.tree.Value.TheViews.{out-Array, out-InlineTable}
+use Rattle.toml_tree.specs.View.{piece, key, value, keyval, element, member}
+use Rattle.toml_tree.specs.Tree.{KeyVal}
+use Rattle.toml_tree.proofs.Proved.{keyval_is}
+use Rattle.toml_names.specs.mentions.Keys.{part_name, key_names}
+use Rattle.toml_names.specs.mentions.KeyParts.{value_key_parts, keyval_key_parts}
+use Rattle.toml_names.specs.model.Addresses.{below}
+use Rattle.toml_names.specs.mentions.Mentions.{fronts, value_named, inside, pair_named}
+use Rattle.toml_names.specs.declared.mentions.mention.Role.TheVariants.{Valued}
+use Rattle.toml_names.specs.tree.NameTree.{Clashes, EntersTo}
+use Rattle.toml_names.specs.tree.Nodes.{address_at}
+use Rattle.toml_names.specs.mentions.View.{kind}
+use Rattle.toml_names.proofs.lemmas.tree.EnterSteps.{Clashes-front, KeepsElements-same, KeepsElements-then}
+use Rattle.toml_names.proofs.lemmas.mentions.Inside.{elements_of, members_of}
+use Rattle.toml_names.proofs.lemmas.tree.ItemsEntered.{no_elements, entered-all}
+use Rattle.toml_names.proofs.lemmas.tree.PairEntered.{pair-parts, own-clash, within-clash, EntersTo-pair}
+use Rattle.toml_names.proofs.lemmas.mentions.PartsInside.{parts_of_elements, parts_of_members}
+use Rattle.toml_names.proofs.lemmas.tree.Steps.{GoesOn-same, GoesOn-then, GoesOnTo-begin, GoesOnTo-more, GoesOnTo-within, refuses}
+use Rattle.toml_names.proofs.lemmas.tree.ValueEntered.{parts-next_element, parts-next_pair, array-begin, array-parts, table-begin, table-parts, element-clash, element-more, pair-clash, pair-more}
+use Rattle.toml_names.proofs.tree.name_tree.NameTree.+entering.Goals as goal
+
+pub enter_inside-loop-item-init : goal.enter_inside-loop-item-init
+enter_inside-loop-item-init t c =
+    let start = c.args.self.now.nodes.items in
+    let items = c.deref-item-items.result.now in
+    let items_are = c.deref-item-items.ensures.value ∙ ap (λ a. (out-Array a).items.items) c.deref.ensures in
+    record {
+      entered = array-begin start c.args.id c.args.line c.requires.there.tree c.in-Array.array c.args.v.now items c.in-Array.is items_are;
+      has = no_elements start c.args.id c.requires.lone;
+      goes_on = GoesOnTo-begin c.args.self.now (parts_of_elements (map element items)) (value_key_parts (value c.args.v.now))
+          (array-parts start c.args.id c.args.line c.requires.there.tree c.in-Array.array c.args.v.now items c.in-Array.is items_are);
+    }
+
+pub enter_inside-returns-in_err-enter_inside-in-Array : goal.enter_inside-returns-in_err-enter_inside-in-Array
+enter_inside-returns-in_err-enter_inside-in-Array t c =
+    let parts = parts-next_element c.deref-item-items.result.now c.loop-item.item-index c.item-item.result c.loop-item-test.true c.item-item.is in
+    let before = c.loop-item.invariant.goes_on in
+    refuses (GoesOn-then before.goes_on c.grow_item.ensures.goes_on before.done (omega arith)) c.in_err-enter_inside-in-Array.ensures
+    (err_from_is_err_and c.from_residual-in_err-enter_inside-in-Array.result c.from_residual-in_err-enter_inside-in-Array.ensures.1) (let all = before.is in omega (arith, parts, all))
+    (element-clash c.args.self.now.nodes.items c.loop-item.self.nodes.items c.grow_item.new.self.nodes.items c.args.id c.loop-item.item-index c.in_ok-element-in-Array.element c.args.line
+    c.args.v.now c.deref-item-items.result.now c.item-item.result (kind c.kind_of-what.result) c.requires.there.within c.requires.lone c.loop-item-test.true c.item-item.is c.kind_of-what.ensures
+    c.in_ok-element-in-Array.ensures.grown c.loop-item.invariant.entered c.loop-item.invariant.has)
+
+pub enter_inside-loop-item-preserved : goal.enter_inside-loop-item-preserved
+enter_inside-loop-item-preserved t c =
+    let parts = parts-next_element c.deref-item-items.result.now c.loop-item.item-index c.item-item.result c.loop-item-test.true c.item-item.is in
+    let more = element-more c.args.self.now.nodes.items c.loop-item.self.nodes.items c.grow_item.new.self.nodes.items c.args.id c.loop-item.item-index c.in_ok-element-in-Array.element c.args.line
+    c.args.v.now c.deref-item-items.result.now c.item-item.result (kind c.kind_of-what.result) c.requires.there.within c.requires.lone c.loop-item-test.true c.item-item.is c.kind_of-what.ensures
+    c.in_ok-element-in-Array.ensures.grown c.loop-item.invariant.entered c.loop-item.invariant.has
+    c.enter_inside.new.self.nodes.items c.in_ok-enter_inside-in-Array.ensures.made in
+    record {
+      entered = more.0;
+      has = more.1;
+      goes_on = GoesOnTo-more c.loop-item.invariant.goes_on parts (GoesOn-then c.grow_item.ensures.goes_on c.enter_inside.ensures.goes_on (value_key_parts (value c.item-item.result.value)) (omega arith));
+    }
+
+pub enter_inside-returns-after-loop-item : goal.enter_inside-returns-after-loop-item
+enter_inside-returns-after-loop-item t c =
+    let at = address_at c.args.self.now.nodes.items c.args.id in
+    let i = c.loop-item.item-index in
+    record {
+      made = record {
+        enters = entered-all c.args.self.now.nodes.items c.loop-item.self.nodes.items _ _ c.loop-item.invariant.entered
+            (ap (λ l. elements_of c.args.line at i (map element l)) (drop_all i c.deref-item-items.result.now c.loop-item-test.false));
+        elements = c.loop-item.invariant.has.others;
+      };
+      clash = tt;
+      goes_on = GoesOnTo-within c.loop-item.invariant.goes_on;
+    }
+
+pub enter_inside-loop-pair-init : goal.enter_inside-loop-pair-init
+enter_inside-loop-pair-init t c =
+    let start = c.args.self.now.nodes.items in
+    let pairs = c.deref-pair-items.result.now in
+    let pairs_are = c.deref-pair-items.ensures.value ∙ ap (λ t. (out-InlineTable t).pairs.items) c.deref-in-Inline-2.ensures in
+    let no_ws = ap (λ t. is_some (out-InlineTable t).ws) (sym c.deref-in-Inline.ensures) ∙ sym c.is_some.ensures ∙ c.if-is_some.false in
+    record {
+      entered = table-begin start c.args.id c.args.line c.requires.there.tree c.in-Inline.table c.args.v.now pairs c.in-Inline.is pairs_are no_ws;
+      kept = KeepsElements-same start;
+      goes_on = GoesOnTo-begin c.args.self.now (parts_of_members (map member pairs)) (value_key_parts (value c.args.v.now))
+          (table-parts start c.args.id c.args.line c.requires.there.tree c.in-Inline.table c.args.v.now pairs c.in-Inline.is pairs_are no_ws);
+    }
+
+pub enter_inside-returns-in_err-enter_pair-in-Inline : goal.enter_inside-returns-in_err-enter_pair-in-Inline
+enter_inside-returns-in_err-enter_pair-in-Inline t c =
+    let parts = parts-next_pair c.deref-pair-items.result.now c.loop-pair.pair-index c.pair-item.result c.loop-pair-test.true c.pair-item.is in
+    let before = c.loop-pair.invariant.goes_on in
+    refuses before.goes_on c.in_err-enter_pair-in-Inline.ensures
+    (err_from_is_err_and c.from_residual-in_err-enter_pair-in-Inline.result c.from_residual-in_err-enter_pair-in-Inline.ensures.1) (let all = before.is in omega (arith, parts, all))
+    (pair-clash c.args.self.now.nodes.items c.loop-pair.self.nodes.items c.args.id c.loop-pair.pair-index c.args.line c.args.v.now c.deref-pair-items.result.now c.pair-item.result
+    c.requires.there.within c.loop-pair-test.true c.pair-item.is c.loop-pair.invariant.entered)
+
+pub enter_inside-loop-pair-preserved : goal.enter_inside-loop-pair-preserved
+enter_inside-loop-pair-preserved t c =
+    let start = c.args.self.now.nodes.items in
+    let now = c.loop-pair.self.nodes.items in
+    let next = c.enter_pair.new.self.nodes.items in
+    let entered = c.loop-pair.invariant.entered in
+    let parts = parts-next_pair c.deref-pair-items.result.now c.loop-pair.pair-index c.pair-item.result c.loop-pair-test.true c.pair-item.is in
+    record {
+      entered = pair-more start now c.args.id c.loop-pair.pair-index c.args.line c.args.v.now c.deref-pair-items.result.now c.pair-item.result
+          c.requires.there.within c.loop-pair-test.true c.pair-item.is entered next c.in_ok-enter_pair-in-Inline.ensures.made.enters;
+      kept = KeepsElements-then start now next entered.enters.kept.longer c.loop-pair.invariant.kept c.in_ok-enter_pair-in-Inline.ensures.made.elements;
+      goes_on = GoesOnTo-more c.loop-pair.invariant.goes_on parts c.enter_pair.ensures.goes_on;
+    }
+
+pub enter_inside-returns-after-loop-pair : goal.enter_inside-returns-after-loop-pair
+enter_inside-returns-after-loop-pair t c =
+    let at = address_at c.args.self.now.nodes.items c.args.id in
+    record {
+      made = record {
+        enters = entered-all c.args.self.now.nodes.items c.loop-pair.self.nodes.items _ _ c.loop-pair.invariant.entered
+            (ap (λ l. members_of c.args.line at (map member l)) (drop_all c.loop-pair.pair-index c.deref-pair-items.result.now c.loop-pair-test.false));
+        elements = λ k d low apart. c.loop-pair.invariant.kept k d low;
+      };
+      clash = tt;
+      goes_on = GoesOnTo-within c.loop-pair.invariant.goes_on;
+    }
+
+pub enter_pair-returns-in_err-here : goal.enter_pair-returns-in_err-here
+enter_pair-returns-in_err-here t c =
+    let start = c.args.self.now.nodes.items in
+    let names = key_names (key c.args.pair.now.assign.key) in
+    let at = address_at start c.args.at in
+    let v = value c.args.pair.now.value in
+    let parts = pair-parts c.args.pair.now in
+    refuses (GoesOn-same c.args.self.now) c.in_err-here.ensures (err_from_is_err_and c.from_residual.result c.from_residual.ensures.1) (omega (arith, parts)) (λ a clash.
+    subst (λ (k : KeyVal). Clashes start (pair_named c.args.line at k.assign k.value) a) (sym (keyval_is c.args.pair.now))
+    (Clashes-front (fronts c.args.line at names) (value_named c.args.line Valued (below at names) v ∷ inside c.args.line (below at names) v) a clash))
+
+pub enter_pair-returns-in_err-id : goal.enter_pair-returns-in_err-id
+enter_pair-returns-in_err-id t c =
+    let start = c.args.self.now.nodes.items in
+    let names = key_names (key c.args.pair.now.assign.key) in
+    let at = address_at start c.args.at in
+    let parts = pair-parts c.args.pair.now in
+    refuses c.enter_fronts.ensures.goes_on c.in_err-id.ensures.enters (err_from_is_err_and c.from_residual-in_err-id.result c.from_residual-in_err-id.ensures.1) (omega (arith, parts)) (λ a clash.
+    subst (λ (k : KeyVal). Clashes start (pair_named c.args.line at k.assign k.value) a) (sym (keyval_is c.args.pair.now))
+    (own-clash start c.enter_fronts.new.self.nodes.items c.enter_valued.new.self.nodes.items c.in_ok-here.here c.args.line (part_name (piece c.in_ok-here.part))
+    (kind c.kind_of.result) (value c.args.pair.now.value) at names c.in_ok-here.ensures.made c.kind_of.ensures a clash))
+
+pub enter_pair-returns-in_err-enter_inside : goal.enter_pair-returns-in_err-enter_inside
+enter_pair-returns-in_err-enter_inside t c =
+    let start = c.args.self.now.nodes.items in
+    let names = key_names (key c.args.pair.now.assign.key) in
+    let at = address_at start c.args.at in
+    let parts = pair-parts c.args.pair.now in
+    refuses (GoesOn-then c.enter_fronts.ensures.goes_on c.enter_valued.ensures.enters.goes_on (length c.args.pair.now.assign.key.rest.items + 1) (omega arith)) c.in_err-enter_inside.ensures
+    (err_from_is_err_and c.from_residual-in_err-enter_inside.result c.from_residual-in_err-enter_inside.ensures.1) (omega (arith, parts)) (λ a clash.
+    subst (λ (k : KeyVal). Clashes start (pair_named c.args.line at k.assign k.value) a) (sym (keyval_is c.args.pair.now))
+    (within-clash start c.enter_fronts.new.self.nodes.items c.enter_valued.new.self.nodes.items c.in_ok-here.here c.args.line (part_name (piece c.in_ok-here.part))
+    (kind c.kind_of.result) (value c.args.pair.now.value) at names c.in_ok-here.ensures.made c.kind_of.ensures
+    c.in_ok-id.id c.in_ok-id.ensures.enters.made a clash))
+
+pub enter_pair-returns : goal.enter_pair-returns
+enter_pair-returns t c =
+    let start = c.args.self.now.nodes.items in
+    let last = c.enter_inside.new.self.nodes.items in
+    let names = key_names (key c.args.pair.now.assign.key) in
+    let at = address_at start c.args.at in
+    let parts = pair-parts c.args.pair.now in
+    let own = GoesOn-then c.enter_fronts.ensures.goes_on c.enter_valued.ensures.enters.goes_on (length c.args.pair.now.assign.key.rest.items + 1) (omega arith) in
+    record {
+      made = subst (λ (k : KeyVal). EntersTo start last (pair_named c.args.line at k.assign k.value) (below at (key_names k.assign.key)) c.in_ok-id.id) (sym (keyval_is c.args.pair.now))
+          (EntersTo-pair start c.enter_fronts.new.self.nodes.items c.enter_valued.new.self.nodes.items c.in_ok-here.here c.args.line (part_name (piece c.in_ok-here.part))
+          (kind c.kind_of.result) (value c.args.pair.now.value) at names c.in_ok-here.ensures.made c.kind_of.ensures
+          c.in_ok-id.id c.in_ok-id.ensures.enters.made last c.in_ok-id.ensures.lone.0 c.in_ok-enter_inside.ensures.made);
+      clash = tt;
+      goes_on = GoesOn-then own c.enter_inside.ensures.goes_on (keyval_key_parts (keyval c.args.pair.now).assign (keyval c.args.pair.now).value) (omega (arith, parts));
+    }

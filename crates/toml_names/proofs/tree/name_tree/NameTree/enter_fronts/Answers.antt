@@ -1,0 +1,55 @@
+use Rattle.std.proofs.Common.{◌≡◌, ◌+◌, ◌∷◌, ◌∙◌, ap, subst, length, arith}
+use Rattle.std.proofs.lemmas.Result.{err_from_is_err_and}
+use Rattle.toml_tree.specs.View.{piece}
+use Rattle.toml_names.specs.mentions.Keys.{part_name}
+use Rattle.toml_names.specs.tree.LongKeys.{FollowedFronts}
+use Rattle.toml_names.specs.mentions.Mentions.{fronts}
+use Rattle.toml_names.specs.tree.NameTree.{Clashes}
+use Rattle.toml_names.specs.tree.Nodes.{address_at}
+use Rattle.toml_names.proofs.lemmas.mentions.Along.{names_left}
+use Rattle.toml_names.proofs.lemmas.tree.EnterFronts.{first_names-all, FollowedFronts-first, FollowedFronts-more, Clashes-fronts}
+use Rattle.toml_names.proofs.lemmas.tree.Steps.{GoesOn-same, GoesOn-within, GoesOn-then, refuses}
+use Rattle.toml_names.proofs.tree.name_tree.NameTree.enter_fronts.Goals as goal
+
+pub loop-dotted-init : goal.loop-dotted-init
+loop-dotted-init c = record {
+  followed = FollowedFronts-first c.args.self.now.nodes.items c.args.line c.args.at (part_name (piece c.args.key.now.first)) c.requires.there;
+  goes_on = GoesOn-same c.args.self.now;
+}
+
+pub enter-requires-clause-there : goal.enter-requires-clause-there
+enter-requires-clause-there c = record { tree = c.loop-dotted.invariant.followed.entered.tree; within = c.loop-dotted.invariant.followed.within }
+
+pub returns-in_err-here : goal.returns-in_err-here
+returns-in_err-here c =
+    let first = part_name (piece c.args.key.now.first) in
+    let old = c.args.self.now.nodes.items in
+    let at = address_at old c.args.at in
+    let items : length c.deref-dotted-items.result.now ≡ length c.args.key.now.rest.items = ap length c.deref-dotted-items.ensures.value in
+    refuses c.loop-dotted.invariant.goes_on c.in_err-here.ensures (err_from_is_err_and c.from_residual.result c.from_residual.ensures.1) (omega (arith, items, c.loop-dotted-test.true))
+    (λ a clash. subst (λ ds. Clashes old (fronts c.args.line at (first ∷ names_left ds)) a) c.deref-dotted-items.ensures.value
+    (Clashes-fronts first c.deref-dotted-items.result.now c.loop-dotted.dotted-index c.dotted-item.result c.loop-dotted-test.true c.dotted-item.is
+    old c.loop-dotted.self.nodes.items c.args.line at c.loop-dotted.here (part_name (piece c.loop-dotted.part)) c.loop-dotted.invariant.followed a clash))
+
+pub loop-dotted-preserved : goal.loop-dotted-preserved
+loop-dotted-preserved c =
+    let old = c.args.self.now.nodes.items in
+    record {
+      followed = FollowedFronts-more (part_name (piece c.args.key.now.first)) c.deref-dotted-items.result.now c.loop-dotted.dotted-index c.dotted-item.result c.loop-dotted-test.true c.dotted-item.is
+          old c.loop-dotted.self.nodes.items c.args.line (address_at old c.args.at) c.loop-dotted.here (part_name (piece c.loop-dotted.part)) c.loop-dotted.invariant.followed
+          c.enter.new.self.nodes.items c.in_ok-here.here c.in_ok-here.ensures.made;
+      goes_on = GoesOn-then c.loop-dotted.invariant.goes_on c.enter.ensures.goes_on (c.loop-dotted.dotted-index + 1) (omega arith);
+    }
+
+pub returns : goal.returns
+returns c =
+    let first = part_name (piece c.args.key.now.first) in
+    let old = c.args.self.now.nodes.items in
+    let items : length c.deref-dotted-items.result.now ≡ length c.args.key.now.rest.items = ap length c.deref-dotted-items.ensures.value in
+    record {
+      made = subst (FollowedFronts old c.loop-dotted.self.nodes.items c.args.line (address_at old c.args.at) c.loop-dotted.here (part_name (piece c.loop-dotted.part)))
+          (first_names-all first c.deref-dotted-items.result.now c.loop-dotted.dotted-index c.loop-dotted-test.false ∙ ap (λ ds. first ∷ names_left ds) c.deref-dotted-items.ensures.value)
+          c.loop-dotted.invariant.followed;
+      clash = tt;
+      goes_on = GoesOn-within c.loop-dotted.invariant.goes_on (length c.args.key.now.rest.items) (omega (arith, items, c.loop-dotted.auto.dotted-index-end));
+    }

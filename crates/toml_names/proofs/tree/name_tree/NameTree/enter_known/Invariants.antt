@@ -1,0 +1,13 @@
+use Rattle.toml_tree.specs.View.{piece}
+use Rattle.toml_names.specs.mentions.Keys.{part_name}
+use Rattle.toml_names.specs.tree.LongKeys.{FollowedFronts}
+use Rattle.toml_names.specs.tree.Nodes.{address_at}
+use Rattle.toml_names.specs.tree.Steps.{GoesOn}
+use Rattle.toml_names.proofs.lemmas.tree.EnterFronts.{first_names}
+use Rattle.toml_names.proofs.tree.name_tree.NameTree.enter_known.Given as goal
+
+abbrev pub invariant-loop-dotted : goal.invariant-loop-dotted
+invariant-loop-dotted l = record {
+  followed : FollowedFronts l.initial.self.nodes.items l.self.nodes.items l.line (address_at l.initial.self.nodes.items l.at) l.here (part_name (piece l.part)) (first_names (part_name (piece l.key.first)) l.dotted-items l.dotted-index);
+  goes_on : GoesOn l.dotted-index l.initial.self l.self;
+}

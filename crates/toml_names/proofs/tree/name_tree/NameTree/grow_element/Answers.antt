@@ -1,0 +1,36 @@
+use Rattle.std.proofs.Common.{ap, ◌∙◌, List, length, slice_index_or, arith, rules}
+use Rattle.toml_names.specs.declared.model.address.Step.TheVariants.{Index}
+use Rattle.toml_names.specs.declared.tree.name_tree.Change.{Change}
+use Rattle.toml_names.specs.tree.Nodes.{grown, undone}
+use Rattle.toml_names.specs.mentions.View.{kind as kind_of}
+use Rattle.toml_names.proofs.lemmas.tree.Depths.{depth_read}
+use Rattle.toml_names.proofs.lemmas.tree.Grows.{grows-element}
+use Rattle.toml_names.proofs.lemmas.tree.Undo.{undone-grown_element}
+use Rattle.toml_names.proofs.tree.name_tree.NameTree.grow_element.Goals as goal
+
+pub overflow_add-depth : goal.overflow_add-depth
+overflow_add-depth c =
+    let read = c.index_mut-node.ensures.value ∙ ap (λ l. slice_index_or l c.args.above c.index_mut-node.result.now) c.reserve-2.ensures.items in
+    let low = depth_read c.args.self.now.nodes.items c.requires.there.tree c.args.above c.index_mut-node.result.now (omega arith) read in
+    let fits = c.ranges.above.fits in
+    let is = c.depth-depth.ensures in
+    omega (arith, low, fits, is)
+
+pub returns-clause-grown : goal.returns-clause-grown
+returns-clause-grown c = record {
+  grown_is = λ d. grows-element c.reserve-2.new.self.items c.index_mut-node.result.now c.args.above (omega arith) c.index_mut-node.ensures.value c.args.role (kind_of c.args.kind) c.args.line
+      c.leaf.result c.link_element.new.self c.len-id.result c.depth-depth.result (omega arith) c.depth-depth.ensures c.push.new.self.items c.in_ok-push.ensures.items
+      (length c.elements.result.now) (ap length c.elements.ensures) (c.in_ok-link_element.ensures.linked (length c.elements.result.now)) c.leaf.ensures d
+      ∙ ap (λ l. grown l c.args.above (slice_index_or l c.args.above d) (Index (length (slice_index_or l c.args.above d).elements)) c.args.role (kind_of c.args.kind) c.args.line) c.reserve-2.ensures.items;
+  last = search rules;
+}
+
+pub returns-clause-goes_on : goal.returns-clause-goes_on
+returns-clause-goes_on c = record {
+  can_undo = undone-grown_element c.reserve-2.new.self.items c.index_mut-node.result.now c.args.above (omega arith) c.index_mut-node.ensures.value c.reserve.new.self.items
+      c.push-2.new.self.items 0 c.leaf.result c.link_element.new.self c.len-id.result (c.in_ok-link_element.ensures.linked 0) (omega arith) c.in_ok-push-2.ensures.items
+      c.push.new.self.items c.in_ok-push.ensures.items
+      ∙ ap (λ (cs : List Change). undone cs c.reserve-2.new.self.items) c.reserve.ensures.items
+      ∙ ap (undone c.args.self.now.changes.items) c.reserve-2.ensures.items;
+  lookups = search rules;
+}

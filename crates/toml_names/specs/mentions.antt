@@ -1,0 +1,13 @@
+pub mod Alike
+pub mod Clear
+pub mod FirstMentions
+pub mod Inside
+pub mod Joining
+pub mod KeyParts
+pub mod Keys
+pub mod Local
+pub mod Mentions
+pub mod OwnAddresses
+pub mod Placeless
+pub mod Rules
+pub mod View

@@ -1,0 +1,10 @@
+pub mod Addresses
+pub mod Building
+pub mod Data
+pub mod DataLaws
+pub mod Documents
+pub mod Indices
+pub mod Levels
+pub mod Parts
+pub mod Places
+pub mod SameData

@@ -1,0 +1,11 @@
+pub mod EnteringHeaders
+pub mod EnteringLines
+pub mod Finished
+pub mod Headers
+pub mod Held
+pub mod LongKeys
+pub mod NameMaps
+pub mod NameTree
+pub mod Nodes
+pub mod Placing
+pub mod Steps

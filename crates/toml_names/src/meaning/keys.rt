@@ -1,0 +1,59 @@
+//! What a key part, a key and a value stand for (TOML v1.0.0, Keys).
+ghost use Rattle.std.specs.Cow.{cow_str_bytes};
+ghost use Rattle.std.specs.Prelude.{◌≡◌, IfOk};
+ghost use Rattle.toml_tree.specs.View.{key as tree_key, value};
+ghost use Rattle.toml_names.specs.model.Addresses.{below};
+ghost use Rattle.toml_names.specs.mentions.Keys.{spelled_name, key_names};
+ghost use Rattle.toml_names.specs.mentions.Mentions.{kind_of};
+ghost use Rattle.toml_names.specs.mentions.View.{kind};
+
+use crate::model::address::Address;
+use crate::model::name::Name;
+use crate::mentions::mention::Kind;
+use std::alloc::{AllocError, Global};
+use std::borrow::CowStr;
+use toml_scalar::name_of;
+use toml_tree::{Key, Value};
+
+/// What a value is.
+pub fn kind_of<'t>(v: &Value<'t>) -> Kind<'t>
+    ensures { kind result ≡ kind_of (value v.now) }
+{
+    match v {
+        Value::Scalar(kind, token) => Kind::Scalar(*kind, token.text),
+        Value::Array(_) => Kind::Array,
+        Value::Inline(_) => Kind::Table,
+    }
+}
+
+/// The name that the text of a key part spells, lent where it is the text itself; an empty one for a text that is no key
+/// part.
+pub fn spelled_name<'t>(alloc: Global, text: &'t str) -> Result<CowStr<'t>, AllocError>
+    ensures { IfOk result (λ name. cow_str_bytes name ≡ spelled_name text.now) }
+{
+    match name_of(alloc, text)? {
+        Some(name) => Ok(name),
+        None => Ok(CowStr::Borrowed("")),
+    }
+}
+
+/// The name that the text of a key part spells, as a name of its own.
+pub fn own_name(alloc: Global, text: &str) -> Result<Name, AllocError>
+    ensures { IfOk result (λ name. name ≡ spelled_name text.now) }
+{
+    let name = spelled_name(alloc, text)?;
+    Name::of(name.into_owned(alloc)?)
+}
+
+/// The address of a whole key in the table at the address (TOML v1.0.0, Keys).
+pub fn key_address(alloc: Global, at: &Address, key: &Key) -> Result<Address, AllocError>
+    ensures { IfOk result (λ here. here ≡ below at.now (key_names (tree_key key.now))) }
+{
+    let first = own_name(alloc, key.first.text)?;
+    let mut here = at.child(alloc, first)?;
+    for dotted in &key.rest {
+        let name = own_name(alloc, dotted.part.text)?;
+        here = here.child(alloc, name)?;
+    }
+    Ok(here)
+}

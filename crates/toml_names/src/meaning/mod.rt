@@ -1,0 +1,4 @@
+//! What a key part and a value mean by themselves.
+
+pub mod keys;
+pub mod values;

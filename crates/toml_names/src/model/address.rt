@@ -1,0 +1,153 @@
+ghost use Rattle.std.specs.Prelude.{◌≡◌, [], length, IfOk};
+ghost use Rattle.toml_names.specs.model.Addresses.{same_step};
+
+use crate::model::name::Name;
+use std::alloc::{AllocError, Global};
+use std::marker::Model;
+
+/// A step of an address: a name in a table, or an index in an array, from 0.
+#[derive(Drop)]
+pub enum Step {
+    Name(Name),
+    Index(u64),
+}
+
+/// Where something stands in the data: the steps from the root to it. The root's address has none.
+#[derive(Drop)]
+pub struct Address {
+    steps: Vec<Step>,
+}
+
+impl Model for Address {
+    ghost use Rattle.std.specs.Prelude.{List};
+    ghost use Rattle.toml_names.specs.declared.model.address.Step.{Step};
+
+    ghost Value = { List Step };
+
+    ghost view = { λ a. a.steps.items };
+}
+
+impl Step {
+    /// The same step. It takes no memory.
+    pub fn copy(&self) -> Result<Step, AllocError>
+        ensures { IfOk result (λ s. s ≡ self.now) }
+    {
+        match self {
+            Step::Name(name) => Ok(Step::Name(name.copy()?)),
+            Step::Index(index) => Ok(Step::Index(*index)),
+        }
+    }
+
+    /// Whether it is the other step.
+    pub fn is_same(&self, other: &Step) -> bool
+        ensures { result ≡ same_step self.now other.now }
+    {
+        match (self, other) {
+            (Step::Name(one), Step::Name(two)) => one.as_str() == two.as_str(),
+            (Step::Index(one), Step::Index(two)) => *one == *two,
+            _ => false,
+        }
+    }
+}
+
+impl Address {
+    ghost use Rattle.toml_names.specs.model.Addresses.{child, element, is_above, same_address};
+
+    /// The steps from the root.
+    pub fn steps(&self) -> &[Step]
+        ensures { result.now ≡ self.now }
+    {
+        &self.steps
+    }
+
+    /// The address of the root.
+    pub fn root(alloc: Global) -> Address
+        ensures { result ≡ [] }
+    {
+        Address {
+            steps: Vec::new(alloc),
+        }
+    }
+
+    /// The address with these steps. It takes no memory.
+    pub fn of(steps: Vec<Step>) -> Address
+        ensures { result ≡ steps.items }
+    {
+        Address { steps }
+    }
+
+    /// The steps themselves. It takes no memory.
+    pub fn into_steps(self) -> Vec<Step>
+        ensures { result.items ≡ self }
+    {
+        self.steps
+    }
+
+    /// An address of its own that is the same; its names are shared.
+    pub fn copy(&self, alloc: Global) -> Result<Address, AllocError>
+        ensures { IfOk result (λ a. a ≡ self.now) }
+    {
+        Ok(Address {
+            steps: self.copy_steps(alloc, 0)?,
+        })
+    }
+
+    /// The steps copied, with room for so many more.
+    fn copy_steps(&self, alloc: Global, more: usize) -> Result<Vec<Step>, AllocError>
+        ensures { IfOk result (λ steps. steps.items ≡ self.now) }
+    {
+        let mut steps = Vec::with_capacity(alloc, self.steps.len().saturating_add(more))?;
+        for step in &self.steps {
+            steps.push(step.copy()?)?;
+        }
+        Ok(steps)
+    }
+
+    /// The address of an element of the array at this one.
+    pub fn element(&self, alloc: Global, index: u64) -> Result<Address, AllocError>
+        ensures { IfOk result (λ a. a ≡ element self.now index) }
+    {
+        let mut steps = self.copy_steps(alloc, 1)?;
+        steps.push(Step::Index(index))?;
+        Ok(Address { steps })
+    }
+
+    /// The address of a name in the table at this one.
+    pub fn child(&self, alloc: Global, name: Name) -> Result<Address, AllocError>
+        ensures { IfOk result (λ a. a ≡ child self.now name) }
+    {
+        let mut steps = self.copy_steps(alloc, 1)?;
+        steps.push(Step::Name(name))?;
+        Ok(Address { steps })
+    }
+
+    /// Whether it is the other address.
+    pub fn is_same(&self, other: &Address) -> bool
+        ensures { result ≡ same_address self.now other.now }
+    {
+        if self.steps.len() != other.steps.len() {
+            return false;
+        }
+        for (index, step) in self.steps.iter().enumerate() {
+            if !step.is_same(&other.steps[index]) {
+                return false;
+            }
+        }
+        true
+    }
+
+    /// Whether it is strictly above the other: a beginning of it, and shorter.
+    pub fn is_above(&self, other: &Address) -> bool
+        ensures { result ≡ is_above self.now other.now }
+    {
+        if self.steps.len() >= other.steps.len() {
+            return false;
+        }
+        for (index, step) in self.steps.iter().enumerate() {
+            if !step.is_same(&other.steps[index]) {
+                return false;
+            }
+        }
+        true
+    }
+}

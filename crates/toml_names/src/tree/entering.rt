@@ -1,0 +1,158 @@
+//! Keys and values entered into the tree of names.
+ghost use Rattle.std.specs.Prelude.{◌∷◌, ◌≡◌, false, length, IfOk, slice_index_or, []};
+ghost use Rattle.toml_tree.specs.View.{piece, key as tree_key, value, keyval as tree_keyval};
+ghost use Rattle.toml_names.specs.declared.mentions.mention.Role.TheVariants.{Bare, Valued};
+ghost use Rattle.toml_names.specs.model.Addresses.{Address, below, child};
+ghost use Rattle.toml_names.specs.mentions.Keys.{part_name, key_names};
+ghost use Rattle.toml_names.specs.mentions.KeyParts.{value_key_parts, keyval_key_parts};
+ghost use Rattle.toml_names.specs.mentions.Mentions.{fronts, inside, is_tables, pair_named};
+ghost use Rattle.toml_names.specs.tree.LongKeys.{FollowedFronts};
+ghost use Rattle.toml_names.specs.tree.NameTree.{Clashes, EntersInside, EntersTo, name_at};
+ghost use Rattle.toml_names.specs.tree.Nodes.{Spot, address_at};
+ghost use Rattle.toml_names.specs.tree.Steps.{GoesOn, Grows, IsNode, Steps};
+ghost use Rattle.toml_names.specs.mentions.View.{kind as kind_of};
+
+use crate::mentions::mention::{Kind, Role};
+use crate::meaning::keys::kind_of;
+use crate::tree::name_tree::{EnterFault, Found, NameTree};
+use std::alloc::AllocError;
+use toml_tree::{Key, KeyVal, Piece, Value};
+
+impl<'t> NameTree<'t> {
+    /// Enters a name of the table of a node in a role other than a value's or that of an array of tables.
+    pub fn enter(
+        &mut self,
+        at: usize,
+        part: Piece<'t>,
+        role: Role,
+        kind: Kind<'t>,
+        line: usize,
+    ) -> Result<usize, EnterFault>
+        requires there { IsNode self.old.nodes.items at }
+        requires mention { role ≡ Bare → ⊥ }
+        requires plain { is_tables role ≡ false }
+        ensures { let entry = name_at self.old.nodes.items at (part_name (piece part.entry)) role (kind_of kind.entry) line ∷ [] in
+            Steps 1 self.old self.new result
+            (EntersTo self.old.nodes.items self.new.nodes.items entry (child (address_at self.old.nodes.items at) (part_name (piece part.entry))))
+            (Clashes self.old.nodes.items entry) }
+    {
+        match self.find_or_grow(at, part, role, kind, line)? {
+            Found::Known(id) => {
+                self.mention(id, role, line)?;
+                Ok(id)
+            }
+            Found::New(id) => Ok(id),
+        }
+    }
+
+    /// Enters a value's own name: nothing may stand there.
+    pub fn enter_valued(
+        &mut self,
+        at: usize,
+        part: Piece<'t>,
+        kind: Kind<'t>,
+        line: usize,
+    ) -> Result<usize, EnterFault>
+        requires there { IsNode self.old.nodes.items at }
+        ensures enters { let entry = name_at self.old.nodes.items at (part_name (piece part.entry)) Valued (kind_of kind.entry) line ∷ [] in
+            Steps 1 self.old self.new result
+            (EntersTo self.old.nodes.items self.new.nodes.items entry (child (address_at self.old.nodes.items at) (part_name (piece part.entry))))
+            (Clashes self.old.nodes.items entry) }
+        ensures lone { IfOk result (λ id. (id ≡ length self.old.nodes.items) × ((d : Spot) → (slice_index_or self.new.nodes.items id d).elements ≡ [])) }
+    {
+        match self.find_or_grow(at, part, Role::Valued, kind, line)? {
+            Found::Known(id) => Err(EnterFault::Clash(self.address(id)?)),
+            Found::New(id) => Ok(id),
+        }
+    }
+
+    /// Enters the proper fronts of a key as tables of dotted keys, and gives the table of the last of them and the
+    /// key's last part.
+    fn enter_fronts(
+        &mut self,
+        at: usize,
+        key: &Key<'t>,
+        line: usize,
+    ) -> Result<(usize, Piece<'t>), EnterFault>
+        requires there { IsNode self.old.nodes.items at }
+        ensures { let here = address_at self.old.nodes.items at in
+            let names = key_names (tree_key key.now) in
+            Steps (length key.now.rest.items) self.old self.new result
+            (λ r. FollowedFronts self.old.nodes.items self.new.nodes.items line here r.0 (part_name (piece r.1)) names)
+            (Clashes self.old.nodes.items (fronts line here names)) }
+    {
+        let mut here = at;
+        let mut part = key.first;
+        for dotted in &key.rest {
+            here = self.enter(here, part, Role::Dotted, Kind::Table, line)?;
+            part = dotted.part;
+        }
+        Ok((here, part))
+    }
+
+    /// Enters what a pair names in the table of a node, and gives the node of its value.
+    #[cycle(entering)]
+    pub fn enter_pair(
+        &mut self,
+        at: usize,
+        pair: &KeyVal<'t>,
+        line: usize,
+    ) -> Result<usize, EnterFault>
+        requires there { IsNode self.old.nodes.items at }
+        ensures { let p = tree_keyval pair.now in
+            let here = address_at self.old.nodes.items at in
+            let names = pair_named line here p.assign p.value in
+            Steps (keyval_key_parts p.assign p.value) self.old self.new result
+            (EntersTo self.old.nodes.items self.new.nodes.items names (below here (key_names p.assign.key)))
+            (Clashes self.old.nodes.items names) }
+    {
+        let (here, part) = self.enter_fronts(at, &pair.assign.key, line)?;
+        let id = self.enter_valued(here, part, kind_of(&pair.value), line)?;
+        self.enter_inside(id, &pair.value, line)?;
+        Ok(id)
+    }
+
+    /// Enters what the value of a node names inside it.
+    #[cycle(entering)]
+    pub fn enter_inside(&mut self, id: usize, v: &Value<'t>, line: usize) -> Result<(), EnterFault>
+        requires there { IsNode self.old.nodes.items id }
+        requires lone { (d : Spot) → (slice_index_or self.old.nodes.items id d).elements ≡ [] }
+        ensures { let names = inside line (address_at self.old.nodes.items id) (value v.now) in
+            Steps (value_key_parts (value v.now)) self.old self.new result
+            (λ _. EntersInside self.old.nodes.items self.new.nodes.items names id)
+            (Clashes self.old.nodes.items names) }
+    {
+        match v {
+            Value::Scalar(_, _) => Ok(()),
+            Value::Array(array) => {
+                for item in &array.items {
+                    let what = kind_of(&item.value);
+                    let element = self.grow_item(id, what, line)?;
+                    self.enter_inside(element, &item.value, line)?;
+                }
+                Ok(())
+            }
+            Value::Inline(table) => {
+                // whitespace alone between the braces: no pair
+                if table.ws.is_some() {
+                    return Ok(());
+                }
+                for pair in &table.pairs {
+                    self.enter_pair(id, &pair.keyval, line)?;
+                }
+                Ok(())
+            }
+        }
+    }
+
+    /// A new node, for the next element of an array in a value.
+    fn grow_item(&mut self, above: usize, kind: Kind<'t>, line: usize) -> Result<usize, AllocError>
+        requires there { IsNode self.old.nodes.items above }
+        ensures grown { IfOk result (Grows self.old.nodes.items self.new.nodes.items above Bare (kind_of kind.entry) line) }
+        ensures there { IfOk result (IsNode self.new.nodes.items) }
+        ensures lone { IfOk result (λ id. (d : Spot) → (slice_index_or self.new.nodes.items id d).elements ≡ []) }
+        ensures goes_on { GoesOn 0 self.old self.new }
+    {
+        self.grow_element(above, Role::Bare, kind, line)
+    }
+}

@@ -1,0 +1,181 @@
+//! Headers and whole lines entered into the tree of names.
+ghost use Rattle.std.specs.Prelude.{◌∷◌, ◌≡◌, ◌<◌, List, length, MatchOption, slice_index_or, []};
+ghost use Rattle.toml_tree.specs.Lines.{line as tree_line};
+ghost use Rattle.toml_tree.specs.View.{piece, key as tree_key};
+ghost use Rattle.toml_names.specs.declared.mentions.mention.Role.TheVariants.{Passed, Bare};
+ghost use Rattle.toml_names.specs.model.Addresses.{child};
+ghost use Rattle.toml_names.specs.tree.EnteringLines.{EntersLine, ClashesInLine};
+ghost use Rattle.toml_names.specs.tree.Headers.{header_fronts};
+ghost use Rattle.toml_names.specs.mentions.Keys.{part_name, key_names};
+ghost use Rattle.toml_names.specs.mentions.KeyParts.{expr_key_parts};
+ghost use Rattle.toml_names.specs.tree.LongKeys.{IsLongEntry};
+ghost use Rattle.toml_names.specs.mentions.Mentions as mentions;
+ghost use Rattle.toml_names.specs.mentions.Mentions.{table_at, entered, ends_tables};
+ghost use Rattle.toml_names.specs.reader.Names.{header_end};
+ghost use Rattle.toml_names.specs.tree.NameTree.{IsTree, IsTreeOf, ClashesAfter, Passes};
+ghost use Rattle.toml_names.specs.tree.EnteringHeaders.{EntersHeader, AddsTable, PassedFronts, table_names, tables_names, next_table};
+ghost use Rattle.toml_names.specs.tree.Nodes.{Spot, address_at};
+ghost use Rattle.toml_names.specs.tree.Steps.{IsNode, Steps};
+
+use crate::mentions::mention::{Kind, Role};
+use crate::tree::name_tree::{EnterFault, Found, NameTree};
+use toml_tree::{Expr, Key, Line, Piece};
+
+/// What a line leaves: the node of its value, table or element, if it is not blank, and that of the last header's
+/// table.
+#[derive(Clone, Copy, Drop)]
+pub struct Entered {
+    pub own: Option<usize>,
+    pub section: usize,
+}
+
+impl<'t> NameTree<'t> {
+    /// Where a header goes on at a node: in the last table of an array, or in the table itself.
+    pub fn inner(&self, id: usize) -> usize
+        requires there { IsNode self.now.nodes.items id }
+        ensures within { result < length self.now.nodes.items }
+        ensures entered { (ms : List mentions.Named) → IsTreeOf self.now.nodes.items ms → address_at self.now.nodes.items result ≡ entered ms (address_at self.now.nodes.items id) }
+    {
+        match self.nodes[id].role() {
+            Role::Tables => self.nodes[id].elements().last().copied().unwrap_or(id),
+            _ => id,
+        }
+    }
+
+    /// Passes through a name of the table of a node, into the last table of an array.
+    fn pass(&mut self, at: usize, part: Piece<'t>, line: usize) -> Result<usize, EnterFault>
+        requires there { IsNode self.old.nodes.items at }
+        ensures { let here = child (address_at self.old.nodes.items at) (part_name (piece part.entry)) in
+            Steps 1 self.old self.new result
+            (λ id. Passes self.old.nodes.items self.new.nodes.items id at line (part_name (piece part.entry)))
+            (ClashesAfter self.old.nodes.items (λ ms. table_at line Passed (entered ms here) ∷ [])) }
+    {
+        match self.find_or_grow(at, part, Role::Passed, Kind::Table, line)? {
+            Found::Known(found) => {
+                let id = self.inner(found);
+                self.mention(id, Role::Passed, line)?;
+                Ok(id)
+            }
+            Found::New(id) => Ok(id),
+        }
+    }
+
+    /// Passes through the proper fronts of a header's key, from the root, and gives the table of the last of them and
+    /// the key's last part.
+    fn pass_fronts(&mut self, key: &Key<'t>, line: usize) -> Result<(usize, Piece<'t>), EnterFault>
+        requires tree { IsTree self.old.nodes.items }
+        ensures { let names = key_names (tree_key key.now) in
+            Steps (length key.now.rest.items) self.old self.new result
+            (λ r. PassedFronts self.old.nodes.items self.new.nodes.items line r.0 (part_name (piece r.1)) names)
+            (ClashesAfter self.old.nodes.items (λ ms. header_fronts line ms [] names)) }
+    {
+        let mut here = 0;
+        let mut part = key.first;
+        for dotted in &key.rest {
+            here = self.pass(here, part, line)?;
+            part = dotted.part;
+        }
+        Ok((here, part))
+    }
+
+    /// Enters a header of an array of tables under a name of the table of a node: the array, and its next element, whose
+    /// node it gives.
+    pub fn enter_tables(
+        &mut self,
+        at: usize,
+        part: Piece<'t>,
+        line: usize,
+    ) -> Result<usize, EnterFault>
+        requires there { IsNode self.old.nodes.items at }
+        ensures { let here = child (address_at self.old.nodes.items at) (part_name (piece part.entry)) in
+            Steps 1 self.old self.new result
+            (λ id. AddsTable self.old.nodes.items self.new.nodes.items id line here)
+            (ClashesAfter self.old.nodes.items (λ ms. ends_tables line ms here)) }
+    {
+        match self.find_or_grow(at, part, Role::Tables, Kind::Array, line)? {
+            Found::Known(array) => self.enter_next_table(array, line),
+            Found::New(array) => Ok(self.grow_element(array, Role::Element, Kind::Table, line)?),
+        }
+    }
+
+    /// Enters one more header of an array of tables that is there: the array, and its next element, whose node it gives.
+    fn enter_next_table(&mut self, array: usize, line: usize) -> Result<usize, EnterFault>
+        requires there { IsNode self.old.nodes.items array }
+        requires mention { (d : Spot) → (slice_index_or self.old.nodes.items array d).role ≡ Bare → ⊥ }
+        ensures { let here = address_at self.old.nodes.items array in
+            Steps 0 self.old self.new result
+            (λ id. AddsTable self.old.nodes.items self.new.nodes.items id line here)
+            (ClashesAfter self.old.nodes.items (λ ms. ends_tables line ms here)) }
+    {
+        self.mention(array, Role::Tables, line)?;
+        Ok(self.grow_element(array, Role::Element, Kind::Table, line)?)
+    }
+
+    /// Enters a table's header: the fronts that it passes, and the table, whose node it gives.
+    pub fn enter_table_header(&mut self, key: &Key<'t>, line: usize) -> Result<usize, EnterFault>
+        requires tree { IsTree self.old.nodes.items }
+        ensures { let names = key_names (tree_key key.now) in
+            Steps (length names) self.old self.new result
+            (λ id. EntersHeader self.old.nodes.items self.new.nodes.items id (table_names line names) (λ ms. header_end ms [] names))
+            (ClashesAfter self.old.nodes.items (table_names line names)) }
+    {
+        let (here, part) = self.pass_fronts(key, line)?;
+        self.enter(here, part, Role::Header, Kind::Table, line)
+    }
+
+    /// Enters a header of an array of tables: the fronts that it passes, the array, and its next element, whose node it
+    /// gives.
+    pub fn enter_array_header(&mut self, key: &Key<'t>, line: usize) -> Result<usize, EnterFault>
+        requires tree { IsTree self.old.nodes.items }
+        ensures { let names = key_names (tree_key key.now) in
+            Steps (length names) self.old self.new result
+            (λ id. EntersHeader self.old.nodes.items self.new.nodes.items id (tables_names line names) (λ ms. next_table ms names))
+            (ClashesAfter self.old.nodes.items (tables_names line names)) }
+    {
+        let (here, part) = self.pass_fronts(key, line)?;
+        self.enter_tables(here, part, line)
+    }
+
+    /// Enters what a line names, the last header's table being at a node; none where it goes and its key alone is too
+    /// long.
+    pub fn enter_line(
+        &mut self,
+        at: usize,
+        number: usize,
+        line: &Line<'t>,
+    ) -> Result<Option<Entered>, EnterFault>
+        requires there { IsNode self.old.nodes.items at }
+        ensures { let e = (tree_line line.now).expr in
+            Steps (expr_key_parts e) self.old self.new result
+            (λ r. MatchOption r (IsLongEntry self.old.nodes.items at number e) (EntersLine self.old.nodes.items self.new.nodes.items at number e))
+            (ClashesInLine self.old.nodes.items at number e) }
+    {
+        match line.expr() {
+            Expr::Blank(_) => Ok(Some(Entered {
+                own: None,
+                section: at,
+            })),
+            Expr::KeyVal { keyval, .. } => match self.pair_unless_long(at, keyval, number)? {
+                Some(id) => Ok(Some(Entered {
+                    own: Some(id),
+                    section: at,
+                })),
+                None => Ok(None),
+            },
+            Expr::Std { header, .. } => match self.table_unless_long(&header.key, number)? {
+                Some(id) => Ok(Some(Entered {
+                    own: Some(id),
+                    section: id,
+                })),
+                None => Ok(None),
+            },
+            Expr::Array { header, .. } => match self.tables_unless_long(&header.key, number)? {
+                Some(id) => Ok(Some(Entered {
+                    own: Some(id),
+                    section: id,
+                })),
+                None => Ok(None),
+            },
+        }
+    }
+}

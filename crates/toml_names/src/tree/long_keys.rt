@@ -1,0 +1,178 @@
+//! Lines whose key alone is too long for an address. Where a name of the key is new, so is all behind it: nothing there
+//! can clash, and the line is refused with no node for each of its parts.
+ghost use Rattle.std.specs.Prelude.{◌≡◌, ◌+◌, ◌<◌, ℕ, length, IsTrue, MatchOption, []};
+ghost use Rattle.toml_tree.specs.View.{piece, key as tree_key, value, keyval as tree_keyval};
+ghost use Rattle.toml_names.specs.model.Addresses.{Address, below};
+ghost use Rattle.toml_names.specs.tree.EnteringHeaders.{EntersHeader, PassedFronts, table_names, tables_names, next_table};
+ghost use Rattle.toml_names.specs.tree.Headers.{header_fronts};
+ghost use Rattle.toml_names.specs.mentions.Keys.{part_name, key_names};
+ghost use Rattle.toml_names.specs.mentions.KeyParts.{keyval_key_parts};
+ghost use Rattle.toml_names.specs.tree.LongKeys.{CanEnter, CanEnterHeader, CanEnterHeaders, FollowedFronts, IsLongKey, key_named};
+ghost use Rattle.toml_names.specs.mentions.Mentions as mentions;
+ghost use Rattle.toml_names.specs.mentions.Mentions.{fronts, pair_named};
+ghost use Rattle.toml_names.specs.reader.Names.{header_end};
+ghost use Rattle.toml_names.specs.tree.NameTree.{IsTree, Clashes, ClashesAfter, EntersTo};
+ghost use Rattle.toml_names.specs.tree.Nodes.{address_at};
+ghost use Rattle.toml_names.specs.mentions.Rules.{max_steps};
+ghost use Rattle.toml_names.specs.tree.Steps.{IsNode, Steps};
+
+use crate::mentions::mention::{Kind, Role};
+use crate::meaning::keys::{kind_of, spelled_name};
+use crate::mentions::rules::MAX_STEPS;
+use crate::tree::name_tree::{EnterFault, NameTree};
+use toml_tree::{Key, KeyVal, Piece, Value};
+
+impl<'t> NameTree<'t> {
+    /// Enters the proper fronts of a dotted key that are there, and gives the table of the last of them and the key's
+    /// last part; none where one of them is new.
+    fn enter_known(
+        &mut self,
+        at: usize,
+        key: &Key<'t>,
+        line: usize,
+    ) -> Result<Option<(usize, Piece<'t>)>, EnterFault>
+        requires there { IsNode self.old.nodes.items at }
+        ensures { let here = address_at self.old.nodes.items at in
+            let names = key_names (tree_key key.now) in
+            Steps (length key.now.rest.items) self.old self.new result
+            (λ r. MatchOption r ((k : mentions.Kind) → CanEnter self.old.nodes.items (key_named line here names k))
+            (λ w. FollowedFronts self.old.nodes.items self.new.nodes.items line here w.0 (part_name (piece w.1)) names))
+            (Clashes self.old.nodes.items (fronts line here names)) }
+    {
+        let mut here = at;
+        let mut part = key.first;
+        for dotted in &key.rest {
+            match self.find(here, &part)? {
+                Some(id) => here = id,
+                None => return Ok(None),
+            }
+            self.mention(here, Role::Dotted, line)?;
+            part = dotted.part;
+        }
+        Ok(Some((here, part)))
+    }
+
+    /// Passes through the proper fronts of a header's key that are there, from the root, and gives the table of the last
+    /// of them and the key's last part; none where one of them is new.
+    fn pass_known(
+        &mut self,
+        key: &Key<'t>,
+        line: usize,
+    ) -> Result<Option<(usize, Piece<'t>)>, EnterFault>
+        requires tree { IsTree self.old.nodes.items }
+        ensures { let names = key_names (tree_key key.now) in
+            Steps (length key.now.rest.items) self.old self.new result
+            (λ r. MatchOption r (CanEnterHeaders self.old.nodes.items line names)
+            (λ w. PassedFronts self.old.nodes.items self.new.nodes.items line w.0 (part_name (piece w.1)) names))
+            (ClashesAfter self.old.nodes.items (λ ms. header_fronts line ms [] names)) }
+    {
+        let mut here = 0;
+        let mut part = key.first;
+        for dotted in &key.rest {
+            match self.find(here, &part)? {
+                Some(found) => here = self.inner(found),
+                None => return Ok(None),
+            }
+            self.mention(here, Role::Passed, line)?;
+            part = dotted.part;
+        }
+        Ok(Some((here, part)))
+    }
+
+    /// Enters a pair in the table of a node, and gives the node of its value; none where it goes, its value is a scalar
+    /// and its address is too long.
+    pub fn pair_unless_long(
+        &mut self,
+        at: usize,
+        pair: &KeyVal<'t>,
+        line: usize,
+    ) -> Result<Option<usize>, EnterFault>
+        requires there { IsNode self.old.nodes.items at }
+        ensures { let p = tree_keyval pair.now in
+            let here = address_at self.old.nodes.items at in
+            let names = pair_named line here p.assign p.value in
+            Steps (keyval_key_parts p.assign p.value) self.old self.new result
+            (λ r. MatchOption r (CanEnter self.old.nodes.items names × IsLongKey here (key_names p.assign.key))
+            (EntersTo self.old.nodes.items self.new.nodes.items names (below here (key_names p.assign.key))))
+            (Clashes self.old.nodes.items names) }
+    {
+        let key = &pair.assign.key;
+        if !is_scalar(&pair.value) || !is_long(self.nodes[at].depth(), key) {
+            return Ok(Some(self.enter_pair(at, pair, line)?));
+        }
+        match self.enter_known(at, key, line)? {
+            Some((here, part)) => Ok(Some(self.enter_valued(
+                here,
+                part,
+                kind_of(&pair.value),
+                line,
+            )?)),
+            None => Ok(None),
+        }
+    }
+
+    /// Enters a table's header, and gives the table's node; none where it goes and its address is too long.
+    pub fn table_unless_long(
+        &mut self,
+        key: &Key<'t>,
+        line: usize,
+    ) -> Result<Option<usize>, EnterFault>
+        requires tree { IsTree self.old.nodes.items }
+        ensures { let names = key_names (tree_key key.now) in
+            Steps (length names) self.old self.new result
+            (λ r. MatchOption r (CanEnterHeader self.old.nodes.items (table_names line names) (λ ms. header_end ms [] names) × IsLongKey [] names)
+            (λ id. EntersHeader self.old.nodes.items self.new.nodes.items id (table_names line names) (λ ms. header_end ms [] names)))
+            (ClashesAfter self.old.nodes.items (table_names line names)) }
+    {
+        if !is_long(0, key) {
+            return Ok(Some(self.enter_table_header(key, line)?));
+        }
+        match self.pass_known(key, line)? {
+            Some((here, part)) => Ok(Some(self.enter(
+                here,
+                part,
+                Role::Header,
+                Kind::Table,
+                line,
+            )?)),
+            None => Ok(None),
+        }
+    }
+
+    /// Enters a header of an array of tables, and gives the node of the array's next element; none where it goes and its
+    /// address is too long.
+    pub fn tables_unless_long(
+        &mut self,
+        key: &Key<'t>,
+        line: usize,
+    ) -> Result<Option<usize>, EnterFault>
+        requires tree { IsTree self.old.nodes.items }
+        ensures { let names = key_names (tree_key key.now) in
+            Steps (length names) self.old self.new result
+            (λ r. MatchOption r (CanEnterHeader self.old.nodes.items (tables_names line names) (λ ms. next_table ms names) × IsLongKey [] names)
+            (λ id. EntersHeader self.old.nodes.items self.new.nodes.items id (tables_names line names) (λ ms. next_table ms names)))
+            (ClashesAfter self.old.nodes.items (tables_names line names)) }
+    {
+        if !is_long(0, key) {
+            return Ok(Some(self.enter_array_header(key, line)?));
+        }
+        match self.pass_known(key, line)? {
+            Some((here, part)) => Ok(Some(self.enter_tables(here, part, line)?)),
+            None => Ok(None),
+        }
+    }
+}
+
+/// Whether a key, from an address of so many steps, is too long for an address.
+fn is_long(depth: usize, key: &Key<'_>) -> bool
+    ensures { IsTrue result → max_steps < depth + length (key_names (tree_key key.now)) }
+{
+    depth.saturating_add(key.rest.len()) >= MAX_STEPS
+}
+
+/// Whether a value is a scalar.
+fn is_scalar(v: &Value<'_>) -> bool
+    ensures { IsTrue result → (line : ℕ) (at : Address) → mentions.inside line at (value v.now) ≡ [] }
+{
+    matches!(v, Value::Scalar(_, _))
+}

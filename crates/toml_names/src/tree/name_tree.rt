@@ -1,0 +1,331 @@
+//! The tree of names, and the changes that a line makes in it.
+ghost use Rattle.std.specs.Prelude.{◌∷◌, ◌≡◌, ◌+◌, ◌<◌, ◌≤◌, length, min, false, OnOk, OnErr, IfOk, slice_index_or, vec_len, []};
+ghost use Rattle.std.specs.Map.{lookup};
+ghost use Rattle.std.specs.Str.{bytes_eq};
+ghost use Rattle.toml_tree.specs.View.{piece};
+ghost use Rattle.toml_names.specs.declared.mentions.mention.Role.TheVariants.{Bare};
+ghost use Rattle.toml_names.specs.model.Addresses.{Address};
+ghost use Rattle.toml_names.specs.mentions.Keys.{part_name};
+ghost use Rattle.toml_names.specs.mentions.Local.{role_after};
+ghost use Rattle.toml_names.specs.mentions.Mentions as mentions;
+ghost use Rattle.toml_names.specs.mentions.Mentions.{is_tables};
+ghost use Rattle.toml_names.specs.tree.NameTree.{IsTree, IsTreeOf, IsFound};
+ghost use Rattle.toml_names.specs.tree.Nodes.{Spot, AreSteps, address_at, last_step, noted, reverted, undone};
+ghost use Rattle.toml_names.specs.tree.Steps.{GoesOn, Grows, IsBarred, IsNode, IsNoted, Steps};
+ghost use Rattle.toml_names.specs.mentions.View.{kind as kind_of};
+
+use crate::model::address::{Address, Step};
+use crate::tree::hashing::NameHashing;
+use crate::mentions::mention::{Kind, Role};
+use crate::meaning::keys::{own_name, spelled_name};
+use crate::tree::node::{Node, Under};
+use crate::model::place::same_role;
+use crate::mentions::rules::may_follow;
+use std::alloc::{AllocError, Global};
+use toml_tree::Piece;
+
+/// A change of the nodes.
+#[derive(Clone, Copy, Drop)]
+pub enum Change {
+    /// The last node was made, and a name of this node leads to it.
+    NameLinked(usize),
+    /// The last node was made, as the last element of this node.
+    ElementLinked(usize),
+    /// This node had that mark, of that line.
+    RoleNoted(usize, Role, usize),
+}
+
+/// Where a name leads from a node.
+#[derive(Clone, Copy, Drop)]
+pub enum Found {
+    /// To a node that was there.
+    Known(usize),
+    /// Nowhere before: to a new node.
+    New(usize),
+}
+
+/// Why a mention was not entered.
+#[derive(Drop)]
+pub enum EnterFault {
+    /// It does not go with an earlier one of this address.
+    Clash(Address),
+    NoMemory,
+}
+
+impl From<AllocError> for EnterFault {
+    ghost use Rattle.toml_names.specs.declared.tree.name_tree.EnterFault.TheVariants.{NoMemory};
+
+    ghost from_gives = { λ _ f. f ≡ NoMemory };
+
+    fn from(_: AllocError) -> Self {
+        EnterFault::NoMemory
+    }
+}
+
+/// The tree, with the changes of the line that is being read.
+#[derive(Drop)]
+pub struct NameTree<'t> {
+    pub(crate) alloc: Global,
+    pub(crate) hashing: NameHashing,
+    pub(crate) nodes: Vec<Node<'t>>,
+    pub(crate) changes: Vec<Change>,
+    pub(crate) lookups: u64,
+}
+
+impl<'t> NameTree<'t> {
+    /// A tree of one node, the root: it is of this kind, and named in this role.
+    pub fn new(
+        alloc: Global,
+        hashing: NameHashing,
+        role: Role,
+        kind: Kind<'t>,
+    ) -> Result<NameTree<'t>, AllocError>
+        requires { is_tables role ≡ false }
+        ensures root { IfOk result (λ t. IsTreeOf t.nodes.items (record { address = []; role = role; kind = kind_of kind.entry; line = 0 } ∷ [])) }
+        ensures lone { IfOk result (λ t. (length t.nodes.items ≡ 1) × ((d : Spot) → (slice_index_or t.nodes.items 0 d).elements ≡ [])) }
+        ensures changes { IfOk result (λ t. t.changes.items ≡ []) }
+        ensures lookups { IfOk result (λ t. t.lookups ≡ 0) }
+    {
+        let mut nodes = Vec::new(alloc);
+        nodes.push(Node::leaf(Under::Root, 0, role, kind, 0))?;
+        Ok(NameTree {
+            alloc,
+            hashing,
+            nodes,
+            changes: Vec::new(alloc),
+            lookups: 0,
+        })
+    }
+
+    /// One look-up more, up to the greatest `u64`.
+    fn count_lookup(&mut self)
+        ensures nodes { self.new.nodes ≡ self.old.nodes }
+        ensures changes { self.new.changes ≡ self.old.changes }
+        ensures counted { self.new.lookups ≡ min (self.old.lookups + 1) 18446744073709551615 }
+        ensures rises { self.old.lookups ≤ self.new.lookups }
+    {
+        self.lookups = self.lookups.saturating_add(1);
+    }
+
+    /// The node that a key part's name leads to from a node: a look-up, which is counted.
+    pub fn find(&mut self, at: usize, part: &Piece<'t>) -> Result<Option<usize>, AllocError>
+        requires within { at < vec_len self.old.nodes }
+        ensures found { IfOk result (λ to. (d : Spot) → lookup (bytes_eq (part_name (piece part.now))) (slice_index_or self.old.nodes.items at d).children ≡ to) }
+        ensures nodes { self.new.nodes ≡ self.old.nodes }
+        ensures counted { OnOk result (self.new.lookups ≡ min (self.old.lookups + 1) 18446744073709551615) }
+        ensures goes_on { GoesOn 1 self.old self.new }
+    {
+        let name = spelled_name(self.alloc, part.text)?;
+        self.count_lookup();
+        Ok(self.nodes[at].child(name.as_str()))
+    }
+
+    /// The address of a node.
+    pub fn address(&self, id: usize) -> Result<Address, AllocError>
+        requires within { id < vec_len self.now.nodes }
+        requires tree { IsTree self.now.nodes.items }
+        ensures { IfOk result (λ a. a ≡ address_at self.now.nodes.items id) }
+    {
+        self.address_by(&[], id)
+    }
+
+    /// The address of a node, of which these steps are the last ones of the first nodes: it shares their names.
+    pub fn address_by(&self, steps: &[Step], id: usize) -> Result<Address, AllocError>
+        requires within { id < vec_len self.now.nodes }
+        requires tree { IsTree self.now.nodes.items }
+        requires steps { AreSteps self.now.nodes.items steps.now }
+        ensures { IfOk result (λ a. a ≡ address_at self.now.nodes.items id) }
+    {
+        let mut way = Vec::with_capacity(self.alloc, self.nodes[id].depth())?;
+        let mut here = id;
+        while let Some((above, step)) = self.above(steps, here)? {
+            way.push(step)?;
+            here = above;
+        }
+        way.reverse();
+        Ok(Address::of(way))
+    }
+
+    /// The node above a node, and the step from there; none for the root.
+    fn above(&self, steps: &[Step], id: usize) -> Result<Option<(usize, Step)>, AllocError>
+        requires within { id < vec_len self.now.nodes }
+        requires steps { AreSteps self.now.nodes.items steps.now }
+        ensures { IfOk result (λ above. (d : Spot) → above ≡ (slice_index_or self.now.nodes.items id d).under) }
+    {
+        match self.nodes[id].under() {
+            Under::Root => Ok(None),
+            Under::Name(above, _) => Ok(Some((above, self.step_by(steps, id)?))),
+            Under::Index(above, _) => Ok(Some((above, self.step_by(steps, id)?))),
+        }
+    }
+
+    /// The step from the node above a node to it, shared where it is among the steps.
+    fn step_by(&self, steps: &[Step], id: usize) -> Result<Step, AllocError>
+        requires within { id < vec_len self.now.nodes }
+        requires steps { AreSteps self.now.nodes.items steps.now }
+        ensures { IfOk result (λ step. (d : Spot) → step ≡ last_step (slice_index_or self.now.nodes.items id d)) }
+    {
+        match steps.get(id) {
+            Some(step) => step.copy(),
+            None => self.last_step(id),
+        }
+    }
+
+    /// The step from the node above a node to it; of the root, which has none, some step.
+    pub fn last_step(&self, id: usize) -> Result<Step, AllocError>
+        requires { id < vec_len self.now.nodes }
+        ensures { IfOk result (λ step. (d : Spot) → step ≡ last_step (slice_index_or self.now.nodes.items id d)) }
+    {
+        match self.nodes[id].under() {
+            Under::Root => Ok(Step::Index(0)),
+            Under::Name(_, text) => Ok(Step::Name(own_name(self.alloc, text)?)),
+            Under::Index(_, index) => Ok(Step::Index(index)),
+        }
+    }
+
+    /// The node that a key part's name leads to, or else a new one for it: a look-up, which is counted.
+    pub fn find_or_grow(
+        &mut self,
+        above: usize,
+        part: Piece<'t>,
+        role: Role,
+        kind: Kind<'t>,
+        line: usize,
+    ) -> Result<Found, AllocError>
+        requires there { IsNode self.old.nodes.items above }
+        ensures found { IfOk result (IsFound self.old.nodes.items self.new.nodes.items above (part_name (piece part.entry)) role (kind_of kind.entry) line) }
+        ensures kept { OnErr result (self.new.nodes.items ≡ self.old.nodes.items) }
+        ensures counted { OnOk result (self.new.lookups ≡ min (self.old.lookups + 1) 18446744073709551615) }
+        ensures goes_on { GoesOn 1 self.old self.new }
+    {
+        let name = spelled_name(self.alloc, part.text)?;
+        self.count_lookup();
+        self.changes.reserve(1)?;
+        self.nodes.reserve(1)?;
+        let id = self.nodes.len();
+        let node = &mut self.nodes[above];
+        let depth = node.depth() + 1;
+        if let Some(known) = node.find_or_link(self.alloc, self.hashing, name, id)? {
+            return Ok(Found::Known(known));
+        }
+        let under = Under::Name(above, part.text);
+        self.nodes.push(Node::leaf(under, depth, role, kind, line))?;
+        self.changes.push(Change::NameLinked(above))?;
+        Ok(Found::New(id))
+    }
+
+    /// A new node, for the next element of an array.
+    pub fn grow_element(
+        &mut self,
+        above: usize,
+        role: Role,
+        kind: Kind<'t>,
+        line: usize,
+    ) -> Result<usize, AllocError>
+        requires there { IsNode self.old.nodes.items above }
+        ensures grown { IfOk result (Grows self.old.nodes.items self.new.nodes.items above role (kind_of kind.entry) line) }
+        ensures kept { OnErr result (self.new.nodes.items ≡ self.old.nodes.items) }
+        ensures goes_on { GoesOn 0 self.old self.new }
+    {
+        self.changes.reserve(1)?;
+        self.nodes.reserve(1)?;
+        let id = self.nodes.len();
+        let node = &mut self.nodes[above];
+        let depth = node.depth() + 1;
+        let index = node.elements().len() as u64;
+        node.link_element(self.alloc, id)?;
+        let under = Under::Index(above, index);
+        self.nodes.push(Node::leaf(under, depth, role, kind, line))?;
+        self.changes.push(Change::ElementLinked(above))?;
+        Ok(id)
+    }
+
+    /// A node is named once more.
+    pub fn note(&mut self, at: usize, role: Role, line: usize) -> Result<(), AllocError>
+        requires { at < vec_len self.old.nodes }
+        ensures noted { OnOk result ((d : Spot) → self.new.nodes.items ≡ noted self.old.nodes.items at (slice_index_or self.old.nodes.items at d) role line) }
+        ensures kept { OnErr result (self.new.nodes.items ≡ self.old.nodes.items) }
+        ensures goes_on { GoesOn 0 self.old self.new }
+    {
+        let node = &self.nodes[at];
+        let before = node.role();
+        let of_line = node.line();
+        let after = role_after(before, role);
+        let line = if same_role(after, before) {
+            of_line
+        } else {
+            line
+        };
+        self.changes.push(Change::RoleNoted(at, before, of_line))?;
+        let node = &mut self.nodes[at];
+        node.remark(after, line);
+        Ok(())
+    }
+
+    /// Names a node once more, if that goes with its mark.
+    pub fn mention(&mut self, id: usize, role: Role, line: usize) -> Result<(), EnterFault>
+        requires there { IsNode self.old.nodes.items id }
+        ensures { Steps 0 self.old self.new result
+            (λ _. IsNoted self.old.nodes.items self.new.nodes.items id role line)
+            (IsBarred self.old.nodes.items id role) }
+    {
+        if !may_follow(self.nodes[id].role(), role) {
+            return Err(EnterFault::Clash(self.address(id)?));
+        }
+        self.note(id, role, line)?;
+        Ok(())
+    }
+
+    /// The nodes as they were before the changes.
+    pub fn undo(&mut self)
+        ensures nodes { self.new.nodes.items ≡ undone self.old.changes.items self.old.nodes.items }
+        ensures changes { self.new.changes.items ≡ [] }
+        ensures lookups { self.new.lookups ≡ self.old.lookups }
+    {
+        while let Some(change) = self.changes.pop() {
+            self.revert(change);
+        }
+    }
+
+    /// The nodes as they were before the change. A change of a node that is not there changes nothing; the journal has
+    /// none.
+    fn revert(&mut self, change: Change)
+        ensures nodes { self.new.nodes.items ≡ reverted change self.old.nodes.items }
+        ensures changes { self.new.changes ≡ self.old.changes }
+        ensures lookups { self.new.lookups ≡ self.old.lookups }
+    {
+        match change {
+            Change::NameLinked(above) => {
+                let _ = self.nodes.pop();
+                if above < self.nodes.len() {
+                    let node = &mut self.nodes[above];
+                    node.unlink_name();
+                }
+            }
+            Change::ElementLinked(above) => {
+                let _ = self.nodes.pop();
+                if above < self.nodes.len() {
+                    let node = &mut self.nodes[above];
+                    node.unlink_element();
+                }
+            }
+            Change::RoleNoted(at, role, line) => {
+                if at < self.nodes.len() {
+                    let node = &mut self.nodes[at];
+                    node.remark(role, line);
+                }
+            }
+        }
+    }
+}
+
+/// What is left of two roles of one node.
+fn role_after(first: Role, then: Role) -> Role
+    ensures { result ≡ role_after first then }
+{
+    match (first, then) {
+        (Role::Bare, _) => then,
+        (_, Role::Bare) | (_, Role::Passed) => first,
+        _ => then,
+    }
+}
