@@ -1,9 +1,8 @@
 #!/usr/bin/env bash
 # Refused memory: each command on some texts, where each allocation of the run is refused in turn, until a run has none
-# left to refuse. Each run before that ends with status 4, `no memory` and no file, or gives the whole answer where it can
-# do without; the last one gives the answer.
-# With the tests as they are built, so too the edits of data and the reader of names: memory that is refused leaves both as
-# they were, and they go on once there is some.
+# left to refuse. Each run before that ends with status 4, `no memory` and no file; the last one gives the answer.
+# So too the edits of data and the reader of names, by a test as it is built: memory that is refused leaves both as they
+# were, and they go on once there is some.
 #   tests/memory.sh crates/tomled/out/tomled crates/tomled/out/tomled_tests
 set -u
 program=$(realpath "$1")
@@ -13,7 +12,6 @@ trap 'rm -rf "$folder"' EXIT
 cd "$folder"
 failed=0
 refusals=0
-spared=0
 
 # The allocation with the number REFUSE, from 1, answers that there is no memory, and says so on descriptor 9.
 cat >refuse.c <<'C'
@@ -90,9 +88,7 @@ each() {
     refusing "$number" "$program" "$@"
     status=$?
     [ -s refused ] || break
-    if answers "${wanted[@]}"; then
-      spared=$((spared + 1))
-    elif ! answers 4 '' 'no memory\n' - -; then
+    if ! answers 4 '' 'no memory\n' - -; then
       fail "tomled $*: allocation $number: status $status"
       return
     fi
@@ -156,22 +152,29 @@ printf '[]' >edits
 refused '406 0' verify before edits before shown
 refused '330 0' verify before edits before edits
 
-# passes TEST: the test runs, and passes whichever of its allocations is refused
+"$program" --help >help
+each 0 "$(sed 's/\\/\\\\/g; s/%/%%/g' help)\n" '' - - --help
+
+# passes TEST SAID..: the test runs, and passes whichever of its allocations is refused. Each line is said by some run.
 passes() {
-  local number=0 status
+  local number=0 status said
   while :; do
     number=$((number + 1))
     refusing "$number" "$tests" "$1"
     status=$?
     [ "$status" -eq 0 ] || { fail "$1: allocation $number: status $status"; return; }
+    cat out >>all
     [ -s refused ] || break
   done
   grep -q '^1 passed' out || fail "$1: no such test"
   [ "$number" -gt 1 ] || fail "$1: no allocation was refused"
+  for said in "${@:2}"; do
+    grep -q "$said" all || fail "$1: never: $said"
+  done
   refusals=$((refusals + number - 1))
 }
 
-passes memory_tests::applies_and_takes_or_wants
-printf '%s allocations were refused, %s of them not needed\n' "$refusals" "$spared"
+passes memory_tests::applies_and_takes_or_wants 'an edit found no memory' 'a line found no memory'
+printf '%s allocations were refused\n' "$refusals"
 [ "$failed" -eq 0 ] && echo 'all passed'
 exit "$failed"

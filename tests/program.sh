@@ -41,6 +41,7 @@ run 2 - 'error:*' show
 run 2 - 'error:*' check good.toml twice.toml
 run 2 - 'error:*' unknown good.toml
 run 2 - 'error:*' check --unknown good.toml
+run 2 - 'bad words' check "$(printf '\377')"
 run 3 - 'file fault' check missing.toml
 run 3 - 'file fault' check .
 run 0 'Reads and edits TOML documents*' - --help
@@ -136,7 +137,28 @@ absent one.txt
 run 0 ok - edit before.toml edits.json one.txt one.txt
 holds one.txt 'kept 1\n1 1\n2 2\neep\n'
 
-# Outputs that take no byte.
+# The limit of a text, and a certificate that is longer.
+spaces() { head -c "$1" /dev/zero | tr '\0' ' '; }
+spaces 16777216 >limit.toml
+{ spaces 16777216; printf ' '; } >over.toml
+{ spaces 16777216; printf '\303\251'; } >cut.toml
+printf 'kept 1\n0 0\n' >kept.limit
+run 0 ok - check limit.toml
+run 0 yes - verify limit.toml none.json limit.toml kept.limit
+for command in check show; do
+  run 1 - 'refused 102 16777216' "$command" over.toml
+  run 1 - 'refused 101 16777216' "$command" cut.toml
+done
+run 1 - 'refused 401 0' verify over.toml none.json limit.toml kept.limit
+run 1 - 'refused 402 0' verify limit.toml none.json over.toml kept.limit
+{ printf 'kept 1\n'; yes '1 1' | head -c 16777216; } >long.txt
+run 1 - 'refused 405 0' verify good.toml none.json good.toml long.txt
+
+# Outputs that take no byte: nothing is written behind one.
+run 3 - 'file fault' edit before.toml edits.json /dev/full full.txt
+holds full.txt ''
+run 3 - 'file fault' edit before.toml edits.json full.toml /dev/full
+holds full.toml 'port = 0x1F # keep\n'
 "$program" check good.toml >/dev/full 2>err
 if [ $? -ne 3 ] || ! says err 'file fault'; then
   printf 'FAILED standard output is full\n'

@@ -1,4 +1,4 @@
--- The count of failed reads or writes, after a read or a write, and after reading or writing a whole text.
+-- The count of failed reads or writes, after a read or a write, and after writing a whole text.
 use Rattle.std.specs.Prelude.{ℕ, Bool, true, ◌+◌, ◌-◌, ◌^◌, ◌==◌, ◌&&◌, nat_lt, min, List, length}
 use Rattle.std.specs.Prelude.{take, if◌then◌else◌, Result, Ok, Err, ⊤}
 use Rattle.std.specs.declared.io.Error.{Error}

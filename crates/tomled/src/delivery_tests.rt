@@ -8,6 +8,7 @@ use crate::fault::RunFault;
 use crate::input::{TakeFault, take};
 use crate::outcome::Outcome;
 use std::alloc::{AllocError, Global};
+use std::io;
 use std::test::Fail;
 
 const FILE: &[u8] = b"port = 1_000 # keep\n";
@@ -177,16 +178,53 @@ fn each_write_of_a_refusal_fails(rt: HostRuntime) -> Result<(), Fail> {
 #[test]
 fn writes_that_take_no_byte(rt: HostRuntime) -> Result<(), Fail> {
     let alloc = rt.alloc();
-    let mut text = Keeper::new(alloc, 9, 0);
-    let mut cert = Keeper::new(alloc, 0, 0);
+    // Which writer takes none: OUT, CERT or standard output.
+    for none in 0..3usize {
+        let most = |writer: usize| if writer == none { 0 } else { 9 };
+        let mut text = Keeper::new(alloc, most(0), 0);
+        let mut cert = Keeper::new(alloc, most(1), 0);
+        let mut out = Keeper::new(alloc, most(2), 0);
+        let mut err = Keeper::new(alloc, 9, 0);
+        let status = delivered(alloc, &mut text, &mut cert, &mut out, &mut err)?;
+        assert_eq!(rt; status, 3, "{none}");
+        let (kept, certified) = if none == 0 {
+            (b"".as_slice(), 0)
+        } else {
+            (OUT, none / 2)
+        };
+        assert_eq!(rt; text.bytes.as_slice(), kept, "{none}");
+        assert_eq!(rt;
+            cert.bytes.as_slice(),
+            front(CERT, certified * 15),
+            "{none}"
+        );
+        assert_eq!(rt; out.bytes.len(), 0, "{none}");
+        assert_eq!(rt; out.writes, none / 2, "{none}");
+        assert_eq!(rt; err.bytes.as_slice(), FAULT, "{none}");
+    }
+    Ok(())
+}
+
+/// Standard error takes no byte: neither of the refusal nor of the one try to tell the fault.
+#[test]
+fn a_fault_that_is_not_told(rt: HostRuntime) -> Result<(), Fail> {
+    let alloc = rt.alloc();
+    let outcome = run_edit(alloc, FILE, b"[")?;
+    let mut files: Vec<Counting<Keeper>> = Vec::new(alloc);
+    if files.len() != outcome.files.len() {
+        return Err(Fail::from("files of a refusal"));
+    }
     let mut out = Keeper::new(alloc, 9, 0);
-    let mut err = Keeper::new(alloc, 9, 0);
-    let status = delivered(alloc, &mut text, &mut cert, &mut out, &mut err)?;
+    let mut err = Keeper::new(alloc, 0, 0);
+    let status = deliver(
+        files.as_mut_slice(),
+        &mut Counting::new(&mut out),
+        &mut Counting::new(&mut err),
+        &outcome,
+    );
     assert_eq!(rt; status, 3);
-    assert_eq!(rt; text.bytes.as_slice(), OUT);
-    assert_eq!(rt; cert.writes, 1);
-    assert_eq!(rt; out.writes, 0);
-    assert_eq!(rt; err.bytes.as_slice(), FAULT);
+    assert_eq!(rt; err.writes, 2);
+    assert_eq!(rt; err.bytes.len(), 0);
     Ok(())
 }
 
@@ -197,6 +235,16 @@ fn faults_of_a_run(rt: HostRuntime) {
         (RunFault::from(TakeFault::Device), 3, "file fault\n"),
         (RunFault::from(TakeFault::NoMemory), 4, "no memory\n"),
         (RunFault::from(AllocError), 4, "no memory\n"),
+        (
+            RunFault::from(io::Error::from(io::ErrorKind::NotFound)),
+            3,
+            "file fault\n",
+        ),
+        (
+            RunFault::from(io::Error::from(io::ErrorKind::OutOfMemory)),
+            4,
+            "no memory\n",
+        ),
     ];
     for (fault, status, told) in faults {
         let mut err = Keeper::new(rt.alloc(), 1, 0);

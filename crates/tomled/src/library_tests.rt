@@ -1,5 +1,6 @@
 //! The worked rows of the libraries below.
 
+mod ample;
 mod carrying;
 mod checker;
 mod edit_lists;

@@ -3,8 +3,6 @@
 
 ghost use Rattle.std.specs.Prelude.{◌≡◌, [], length, IfOk};
 
-#[cfg(test)]
-mod ample_tests;
 mod check;
 mod counting;
 mod delivery;
@@ -58,11 +56,12 @@ use std::io::Write;
 use std::process::ExitCode;
 use std::rt::{Env, Files};
 use std::{env, io};
+use toml_text::MAX_LEN;
 use verify::run_verify;
 use words::{Request, WordsFault, read_words};
 
 /// One byte more than the longest document has, so that a longer file shows.
-const MOST: usize = 16_777_217;
+const MOST: usize = MAX_LEN + 1;
 
 fn main(rt: HostRuntime) -> ExitCode {
     let mut out = Counting::new(rt.stdout());
@@ -81,7 +80,10 @@ fn run<R: Env + Files + AllocGlobal, O: Write, E: Write>(
     err: &mut Counting<E>,
 ) -> Result<u8, RunFault> {
     let owned = arguments(rt)?;
-    let words: Vec<&str> = owned.iter().map(|word| word.as_str()).collect(rt.alloc())?;
+    let mut words = Vec::with_capacity(rt.alloc(), owned.len())?;
+    for word in &owned {
+        words.push(word.as_str())?;
+    }
     let (outcome, mut files) = match read_words(rt.alloc(), words.as_slice()) {
         Ok(request) => {
             let outcome = answer(rt, &request)?;
@@ -122,7 +124,8 @@ fn answer<R: Files + AllocGlobal>(rt: &R, request: &Request<'_>) -> Result<Outco
 }
 
 /// The files that the outcome has bytes for, made or emptied. None of them is opened for a refusal. Their memory is taken
-/// before the first is opened.
+/// before the first is opened; one that can't be opened is a file fault, whatever the reason, since the one before it is
+/// emptied by then.
 fn outputs<R: Files + AllocGlobal>(
     rt: &R,
     request: &Request<'_>,
@@ -133,7 +136,10 @@ fn outputs<R: Files + AllocGlobal>(
     let mut files = Vec::with_capacity(rt.alloc(), outcome.files.len())?;
     if let Request::Edit { out, cert, .. } = *request {
         for (path, _) in [out, cert].iter().zip(&outcome.files) {
-            files.push(Counting::new(File::create(rt, *path)?))?;
+            let Ok(file) = File::create(rt, *path) else {
+                return Err(RunFault::File);
+            };
+            files.push(Counting::new(file))?;
         }
     }
     // No outcome has a file that the words do not name.
@@ -146,7 +152,13 @@ fn outputs<R: Files + AllocGlobal>(
 /// The words of the process. One that is no UTF-8 text makes no request.
 fn arguments<R: Env + AllocGlobal>(rt: &R) -> Result<Vec<String>, RunFault> {
     match env::args(rt) {
-        Ok(words) => Ok(words.collect(rt.alloc())?),
+        Ok(words) => {
+            let mut list = Vec::new(rt.alloc());
+            for word in words {
+                list.push(word)?;
+            }
+            Ok(list)
+        }
         Err(error) => match error.kind() {
             io::ErrorKind::InvalidData => Err(RunFault::Words),
             _ => Err(RunFault::from(error)),

@@ -1,6 +1,8 @@
 //! Hostile texts, and memory that is refused: tests/memory.sh runs those named `or_wants` with each allocation refused.
 
 use crate::check::run_check;
+use crate::counting::Counting;
+use crate::output::emit;
 use crate::rows::rows;
 use std::alloc::{AllocError, Global};
 use std::process::Abort;
@@ -52,9 +54,22 @@ fn wanting(rt: &impl Abort, wants: bool) -> AllocError {
     AllocError
 }
 
+/// How often an edit, and a line, found no memory.
+#[derive(Drop)]
+struct Wants {
+    edits: usize,
+    lines: usize,
+}
+
 /// The edits are made of the data of the text. One that finds no memory leaves them as they were, and is made once there
 /// is some. What comes before may want memory.
-fn applied(rt: &impl Abort, alloc: Global, text: &str, edits: &str) -> Result<(), AllocError> {
+fn applied(
+    rt: &impl Abort,
+    alloc: Global,
+    text: &str,
+    edits: &str,
+    wants: &mut Wants,
+) -> Result<(), AllocError> {
     let source = Source::new(text.as_bytes()).map_err(|_| wanting(rt, false))?;
     let doc = parse(alloc, source).map_err(|fault| wanting(
         rt,
@@ -73,6 +88,7 @@ fn applied(rt: &impl Abort, alloc: Global, text: &str, edits: &str) -> Result<()
         let before = data.copy(alloc)?;
         if let Err(fault) = apply(alloc, &mut data, edit) {
             assert!(rt; matches!(&fault, EditFault::NoMemory));
+            wants.edits = wants.edits.saturating_add(1);
             assert!(rt; same(&data.root, &before.root));
             assert!(rt; apply(alloc, &mut data, edit).is_ok());
         }
@@ -82,7 +98,7 @@ fn applied(rt: &impl Abort, alloc: Global, text: &str, edits: &str) -> Result<()
 }
 
 /// Each line is taken. One for which there is no memory is not, and is taken once there is some.
-fn taken(rt: &impl Abort, alloc: Global, text: &str) -> Result<(), AllocError> {
+fn taken(rt: &impl Abort, alloc: Global, text: &str, wants: &mut Wants) -> Result<(), AllocError> {
     let source = Source::new(text.as_bytes()).map_err(|_| wanting(rt, false))?;
     let doc = parse(alloc, source).map_err(|fault| wanting(
         rt,
@@ -93,6 +109,7 @@ fn taken(rt: &impl Abort, alloc: Global, text: &str) -> Result<(), AllocError> {
     for line in doc.lines() {
         if let Err(fault) = reader.line(line) {
             assert!(rt; matches!(&fault, NameFault::NoMemory));
+            wants.lines = wants.lines.saturating_add(1);
             assert_eq!(rt; reader.taken().len(), count);
             assert!(rt; reader.line(line).is_ok());
         }
@@ -102,24 +119,36 @@ fn taken(rt: &impl Abort, alloc: Global, text: &str) -> Result<(), AllocError> {
     Ok(())
 }
 
-fn apply_and_take(rt: &impl Abort, alloc: Global) -> Result<(), AllocError> {
+fn apply_and_take(rt: &impl Abort, alloc: Global, wants: &mut Wants) -> Result<(), AllocError> {
     for row in &rows(rt, alloc, EDITED, 11)? {
         assert_eq!(rt; row.len(), 2);
-        applied(rt, alloc, &row[0], &row[1])?;
-        taken(rt, alloc, &row[0])?;
+        applied(rt, alloc, &row[0], &row[1], wants)?;
+        taken(rt, alloc, &row[0], wants)?;
     }
     Ok(())
 }
 
 #[test]
 fn applies_and_takes(rt: HostRuntime) -> Result<(), Fail> {
-    apply_and_take(&rt, rt.alloc())?;
+    let mut wants = Wants { edits: 0, lines: 0 };
+    apply_and_take(&rt, rt.alloc(), &mut wants)?;
+    assert_eq!(rt; wants.edits, 0);
+    assert_eq!(rt; wants.lines, 0);
     Ok(())
 }
 
+/// tests/memory.sh looks for what it prints.
 #[test]
 fn applies_and_takes_or_wants(rt: HostRuntime) {
-    let _ = apply_and_take(&rt, rt.alloc());
+    let mut wants = Wants { edits: 0, lines: 0 };
+    let _ = apply_and_take(&rt, rt.alloc(), &mut wants);
+    let mut out = Counting::new(rt.stdout());
+    if wants.edits > 0 {
+        let _ = emit(&mut out, b"an edit found no memory\n");
+    }
+    if wants.lines > 0 {
+        let _ = emit(&mut out, b"a line found no memory\n");
+    }
 }
 
 /// The texts of the worked examples. A paragraph has those that belong together, as an edited one behind the one before.

@@ -1,5 +1,6 @@
 use super::{Counting, EmitFault, emit};
-use crate::devices::Keeper;
+use crate::devices::{Giver, Keeper};
+use std::io::ErrorKind;
 use std::test::Fail;
 
 #[test]
@@ -36,4 +37,29 @@ fn emits_nothing(rt: HostRuntime) {
     assert_eq!(rt; emit(&mut counting, b""), Ok(()));
     assert_eq!(rt; counting.failed(), 0);
     assert_eq!(rt; keeper.writes, 0);
+}
+
+/// The answer of the device is handed on.
+#[test]
+fn counts(rt: HostRuntime) {
+    let mut keeper = Keeper::new(rt.alloc(), 1, 2);
+    let mut writer = Counting::new(&mut keeper);
+    assert!(rt; matches!(writer.write(b"ab"), Ok(1)));
+    assert!(rt; matches!(writer.write(b"b"), Err(error) if error.kind() == ErrorKind::Other));
+    assert!(rt; matches!(writer.write(b""), Ok(0)));
+    assert_eq!(rt; writer.failed(), 1);
+    assert_eq!(rt; keeper.writes, 3);
+    let mut giver = Giver {
+        bytes: b"a",
+        failing: 3,
+        reads: 0,
+    };
+    let mut reader = Counting::new(&mut giver);
+    let mut room = [0u8; 2];
+    assert!(rt; matches!(reader.read(&mut room), Ok(1)));
+    assert!(rt; matches!(reader.read(&mut room), Ok(0)));
+    assert_eq!(rt; reader.failed(), 0);
+    assert!(rt; matches!(reader.read(&mut room), Err(error) if error.kind() == ErrorKind::Other));
+    assert_eq!(rt; reader.failed(), 1);
+    assert_eq!(rt; giver.reads, 3);
 }

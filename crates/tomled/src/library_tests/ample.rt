@@ -1,5 +1,7 @@
-//! Calls that no other test makes by themselves, with ample memory: each answers, and what is wanted.
+//! Calls that no other test makes by themselves, with ample memory: each answers, and what is wanted. `check_made` goes by
+//! `edit`.
 use crate::library_tests::worked;
+use crate::tagged::tagged;
 use std::test::Fail;
 use toml_checker::{Verdict, check, first_marks, outermost};
 use toml_editor::{edit, edit_pieces};
@@ -31,6 +33,11 @@ fn trees_and_names(rt: HostRuntime) -> Result<(), Fail> {
     assert!(rt; reader.has_data(&data)?);
     assert!(rt; reader.has_data(&data.copy(alloc)?)?);
     let names = reader.finish()?;
+    let json = tagged(alloc, names.data())?.to_vec(alloc)?;
+    assert_eq!(rt;
+        json.as_slice(),
+        b"{\"3\":{\"14\":{\"type\":\"integer\",\"value\":\"3735928559\"}}}".as_slice()
+    );
     let all = units(alloc, &doc, &names)?;
     assert_eq!(rt; all.len(), 2);
     assert_eq!(rt; units_at(alloc, &doc, own)?.len(), 2);
