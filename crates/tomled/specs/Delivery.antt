@@ -26,7 +26,8 @@ abbrev pub IsTried : {W : Type 0} → (W → Option (List ℕ)) → Counted W �
 IsTried contents old new bytes = IsWhole contents old new bytes ⊎ IsPart contents old new bytes
 
 -- what the writer with the number `n` is given, where the one with the number `stop` is the first that fails: all before
--- it have their bytes, it a beginning of its own, and nothing is done with those behind it
+-- it have their bytes, it a beginning of its own, and nothing is done with those behind it. Of two files, where the second
+-- fails: `stop` is 1, the first file is `before`, the second `here`, both outputs (2 and 3) are `behind`
 pub record IsSent {W : Type 0} (contents : W → Option (List ℕ)) (stop n : ℕ) (old new : Counted W) (bytes : List ℕ) : Type 0 where
   pub before : n < stop → IsWhole contents old new bytes
   pub here : n ≡ stop → IsPart contents old new bytes
@@ -43,7 +44,7 @@ pub record IsTold {W : Type 0} (contents : W → Option (List ℕ)) (stop n : �
   pub between : Counted W
   pub sent : IsSent contents stop n old between bytes
   pub silent : n < stop → new ≡ between
-  pub told : stop ≤ n → IsTried contents between new message
+  pub tried : stop ≤ n → IsTried contents between new message
 
 -- there was a fault exactly where the number of the writer that failed is below `n`
 abbrev pub Stops : Result ⊤ EmitFault → ℕ → ℕ → Type 0

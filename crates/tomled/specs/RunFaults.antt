@@ -7,7 +7,7 @@ use Rattle.tomled.specs.declared.input.TakeFault.{TakeFault}
 use Rattle.tomled.specs.declared.input.TakeFault.TheVariants.{Device, NoMemory}
 use Rattle.tomled.specs.declared.fault.RunFault.TheVariants.{Words, File, Memory}
 
--- what a file that could not be opened comes to, by the kind of the error
+-- what a file that could not be opened, or words that could not be had, come to, by the kind of the error
 abbrev pub fault_of_kind : ErrorKind → RunFault
 fault_of_kind OutOfMemory = Memory
 fault_of_kind _ = File

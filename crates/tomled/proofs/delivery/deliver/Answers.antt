@@ -8,7 +8,7 @@ returns-in-Ok g c =
       stop = given.stop;
       files_sent = given.files_sent;
       out_sent = given.out_sent;
-      err_told = record { between = c.emit_all.new.err; sent = given.err_sent; silent = λ low. refl; told = λ far. absurd (omega (arith, given.stops)) };
+      err_told = record { between = c.emit_all.new.err; sent = given.err_sent; silent = λ low. refl; tried = λ far. absurd (omega (arith, given.stops)) };
       good = λ low. refl;
       failed = λ far. absurd (omega (arith, given.stops));
     }
@@ -20,7 +20,7 @@ returns-in-Err g c =
       stop = given.stop;
       files_sent = given.files_sent;
       out_sent = given.out_sent;
-      err_told = record { between = c.emit_all.new.err; sent = given.err_sent; silent = λ low. absurd (omega (arith, given.stops)); told = λ far. c.tell.ensures.tried };
+      err_told = record { between = c.emit_all.new.err; sent = given.err_sent; silent = λ low. absurd (omega (arith, given.stops)); tried = λ far. c.tell.ensures.tried };
       good = λ low. absurd (omega (arith, given.stops));
       failed = λ far. c.tell.ensures.status;
     }
