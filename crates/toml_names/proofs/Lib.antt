@@ -1,4 +1,3 @@
-pub mod Clauses
 pub mod Each
 pub mod Proved
 pub mod lemmas

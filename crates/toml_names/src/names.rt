@@ -10,12 +10,12 @@ ghost use Rattle.toml_names.specs.reader.Names.{AreGood, AreOwnAddresses, Refuse
 ghost use Rattle.toml_names.specs.model.Places.{place};
 ghost use Rattle.toml_names.specs.reader.Reading.{lines_of, rank_in};
 
+use crate::fault::NameFault;
 use crate::model::address::Address;
 use crate::model::datum::Data;
-use crate::fault::NameFault;
-use crate::tree::hash_key::key_of;
 use crate::model::place::Place;
 use crate::reader::NameReader;
+use crate::tree::hash_key::key_of;
 use crate::tree::name_tree::NameTree;
 use std::alloc::{AllocError, Global};
 use std::marker::Model;

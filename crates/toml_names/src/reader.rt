@@ -8,9 +8,9 @@ ghost use Rattle.toml_names.specs.reader.Reading.{lines_of, EntersShort, Refuses
 ghost use Rattle.toml_names.specs.tree.Steps.{GoesOn, IsNode, RisesBy};
 
 use crate::fault::NameFault;
+use crate::mentions::mention::{Kind, Role};
 use crate::tree::hashing::NameHashing;
 use crate::tree::headers::Entered;
-use crate::mentions::mention::{Kind, Role};
 use crate::tree::name_tree::{EnterFault, NameTree};
 use std::alloc::{AllocError, Global};
 use std::marker::Model;
@@ -124,8 +124,7 @@ impl<'d, 't> NameReader<'d, 't> {
         ensures taken { OnOk result (self.new.taken ≡ self.old.taken ++ line.now ∷ []) }
         ensures refused { IfErr result (RefusesLine (lines_of self.old) (tree_line line.now)) }
         ensures kept { OnErr result (self.new.taken ≡ self.old.taken) }
-        ensures lookups { self.new.lookups ≤ self.old.lookups + expr_key_parts (tree_line line.now).expr }
-        ensures rises { self.old.lookups ≤ self.new.lookups }
+        ensures lookups { RisesBy (expr_key_parts (tree_line line.now).expr) self.old.lookups self.new.lookups }
     {
         self.taken.reserve(1)?;
         self.own.reserve(1)?;

@@ -7,9 +7,9 @@ ghost use Rattle.toml_names.specs.mentions.Keys.{spelled_name, key_names};
 ghost use Rattle.toml_names.specs.mentions.Mentions.{kind_of};
 ghost use Rattle.toml_names.specs.mentions.View.{kind};
 
+use crate::mentions::mention::Kind;
 use crate::model::address::Address;
 use crate::model::name::Name;
-use crate::mentions::mention::Kind;
 use std::alloc::{AllocError, Global};
 use std::borrow::CowStr;
 use toml_scalar::name_of;

@@ -6,12 +6,12 @@ ghost use Rattle.toml_names.specs.mentions.Mentions.{value_facts};
 ghost use Rattle.toml_names.specs.tree.NameTree.{IsTreeOf};
 ghost use Rattle.toml_names.specs.reader.Values.{AreGoodFacts, RefusesFacts};
 
-use crate::model::datum::Datum;
 use crate::fault::ValueFault;
-use crate::tree::hashing::NameHashing;
-use crate::tree::hash_key::key_in;
-use crate::mentions::mention::Role;
 use crate::meaning::keys::kind_of;
+use crate::mentions::mention::Role;
+use crate::model::datum::Datum;
+use crate::tree::hash_key::key_in;
+use crate::tree::hashing::NameHashing;
 use crate::tree::name_tree::{EnterFault, NameTree};
 use std::alloc::Global;
 use toml_tree::Value;

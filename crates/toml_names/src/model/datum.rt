@@ -60,7 +60,7 @@ impl Datum {
     }
 
     /// The part at the steps, if anything stands there. It takes no memory.
-    #[tactic(auto, using(crate::proofs::Levels::part_found))]
+    #[tactic(auto, using(crate::proofs::lemmas::model::Levels::part_found))]
     pub fn part(&self, steps: &[Step]) -> Option<&Datum>
         ensures part { (rest : Address) → kind_in (option_copied result) rest ≡ kind_at self.now (steps.now ++ rest) }
         ensures found { IsSome result ↔ IsSome (kind_at self.now steps.now) }

@@ -12,8 +12,8 @@ ghost use Rattle.toml_names.specs.tree.Nodes.{Spot, address_at};
 ghost use Rattle.toml_names.specs.tree.Steps.{GoesOn, Grows, IsNode, Steps};
 ghost use Rattle.toml_names.specs.mentions.View.{kind as kind_of};
 
-use crate::mentions::mention::{Kind, Role};
 use crate::meaning::keys::kind_of;
+use crate::mentions::mention::{Kind, Role};
 use crate::tree::name_tree::{EnterFault, Found, NameTree};
 use std::alloc::AllocError;
 use toml_tree::{Key, KeyVal, Piece, Value};
@@ -31,10 +31,13 @@ impl<'t> NameTree<'t> {
         requires there { IsNode self.old.nodes.items at }
         requires mention { role ≡ Bare → ⊥ }
         requires plain { is_tables role ≡ false }
-        ensures { let entry = name_at self.old.nodes.items at (part_name (piece part.entry)) role (kind_of kind.entry) line ∷ [] in
+        ensures { let before = self.old.nodes.items in
+            let after = self.new.nodes.items in
+            let name = part_name (piece part.entry) in
+            let entry = name_at before at name role (kind_of kind.entry) line ∷ [] in
             Steps 1 self.old self.new result
-            (EntersTo self.old.nodes.items self.new.nodes.items entry (child (address_at self.old.nodes.items at) (part_name (piece part.entry))))
-            (Clashes self.old.nodes.items entry) }
+            (EntersTo before after entry (child (address_at before at) name))
+            (Clashes before entry) }
     {
         match self.find_or_grow(at, part, role, kind, line)? {
             Found::Known(id) => {
@@ -54,10 +57,13 @@ impl<'t> NameTree<'t> {
         line: usize,
     ) -> Result<usize, EnterFault>
         requires there { IsNode self.old.nodes.items at }
-        ensures enters { let entry = name_at self.old.nodes.items at (part_name (piece part.entry)) Valued (kind_of kind.entry) line ∷ [] in
+        ensures enters { let before = self.old.nodes.items in
+            let after = self.new.nodes.items in
+            let name = part_name (piece part.entry) in
+            let entry = name_at before at name Valued (kind_of kind.entry) line ∷ [] in
             Steps 1 self.old self.new result
-            (EntersTo self.old.nodes.items self.new.nodes.items entry (child (address_at self.old.nodes.items at) (part_name (piece part.entry))))
-            (Clashes self.old.nodes.items entry) }
+            (EntersTo before after entry (child (address_at before at) name))
+            (Clashes before entry) }
         ensures lone { IfOk result (λ id. (id ≡ length self.old.nodes.items) × ((d : Spot) → (slice_index_or self.new.nodes.items id d).elements ≡ [])) }
     {
         match self.find_or_grow(at, part, Role::Valued, kind, line)? {
@@ -75,11 +81,13 @@ impl<'t> NameTree<'t> {
         line: usize,
     ) -> Result<(usize, Piece<'t>), EnterFault>
         requires there { IsNode self.old.nodes.items at }
-        ensures { let here = address_at self.old.nodes.items at in
+        ensures { let before = self.old.nodes.items in
+            let after = self.new.nodes.items in
+            let here = address_at before at in
             let names = key_names (tree_key key.now) in
             Steps (length key.now.rest.items) self.old self.new result
-            (λ r. FollowedFronts self.old.nodes.items self.new.nodes.items line here r.0 (part_name (piece r.1)) names)
-            (Clashes self.old.nodes.items (fronts line here names)) }
+            (λ r. FollowedFronts before after line here r.0 (part_name (piece r.1)) names)
+            (Clashes before (fronts line here names)) }
     {
         let mut here = at;
         let mut part = key.first;
@@ -99,12 +107,14 @@ impl<'t> NameTree<'t> {
         line: usize,
     ) -> Result<usize, EnterFault>
         requires there { IsNode self.old.nodes.items at }
-        ensures { let p = tree_keyval pair.now in
-            let here = address_at self.old.nodes.items at in
+        ensures { let before = self.old.nodes.items in
+            let after = self.new.nodes.items in
+            let p = tree_keyval pair.now in
+            let here = address_at before at in
             let names = pair_named line here p.assign p.value in
             Steps (keyval_key_parts p.assign p.value) self.old self.new result
-            (EntersTo self.old.nodes.items self.new.nodes.items names (below here (key_names p.assign.key)))
-            (Clashes self.old.nodes.items names) }
+            (EntersTo before after names (below here (key_names p.assign.key)))
+            (Clashes before names) }
     {
         let (here, part) = self.enter_fronts(at, &pair.assign.key, line)?;
         let id = self.enter_valued(here, part, kind_of(&pair.value), line)?;
@@ -117,10 +127,12 @@ impl<'t> NameTree<'t> {
     pub fn enter_inside(&mut self, id: usize, v: &Value<'t>, line: usize) -> Result<(), EnterFault>
         requires there { IsNode self.old.nodes.items id }
         requires lone { (d : Spot) → (slice_index_or self.old.nodes.items id d).elements ≡ [] }
-        ensures { let names = inside line (address_at self.old.nodes.items id) (value v.now) in
+        ensures { let before = self.old.nodes.items in
+            let after = self.new.nodes.items in
+            let names = inside line (address_at before id) (value v.now) in
             Steps (value_key_parts (value v.now)) self.old self.new result
-            (λ _. EntersInside self.old.nodes.items self.new.nodes.items names id)
-            (Clashes self.old.nodes.items names) }
+            (λ _. EntersInside before after names id)
+            (Clashes before names) }
     {
         match v {
             Value::Scalar(_, _) => Ok(()),

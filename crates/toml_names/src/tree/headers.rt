@@ -45,10 +45,13 @@ impl<'t> NameTree<'t> {
     /// Passes through a name of the table of a node, into the last table of an array.
     fn pass(&mut self, at: usize, part: Piece<'t>, line: usize) -> Result<usize, EnterFault>
         requires there { IsNode self.old.nodes.items at }
-        ensures { let here = child (address_at self.old.nodes.items at) (part_name (piece part.entry)) in
+        ensures { let before = self.old.nodes.items in
+            let after = self.new.nodes.items in
+            let name = part_name (piece part.entry) in
+            let here = child (address_at before at) name in
             Steps 1 self.old self.new result
-            (λ id. Passes self.old.nodes.items self.new.nodes.items id at line (part_name (piece part.entry)))
-            (ClashesAfter self.old.nodes.items (λ ms. table_at line Passed (entered ms here) ∷ [])) }
+            (λ id. Passes before after id at line name)
+            (ClashesAfter before (λ ms. table_at line Passed (entered ms here) ∷ [])) }
     {
         match self.find_or_grow(at, part, Role::Passed, Kind::Table, line)? {
             Found::Known(found) => {
@@ -62,12 +65,18 @@ impl<'t> NameTree<'t> {
 
     /// Passes through the proper fronts of a header's key, from the root, and gives the table of the last of them and
     /// the key's last part.
-    fn pass_fronts(&mut self, key: &Key<'t>, line: usize) -> Result<(usize, Piece<'t>), EnterFault>
+    pub fn pass_fronts(
+        &mut self,
+        key: &Key<'t>,
+        line: usize,
+    ) -> Result<(usize, Piece<'t>), EnterFault>
         requires tree { IsTree self.old.nodes.items }
-        ensures { let names = key_names (tree_key key.now) in
+        ensures { let before = self.old.nodes.items in
+            let after = self.new.nodes.items in
+            let names = key_names (tree_key key.now) in
             Steps (length key.now.rest.items) self.old self.new result
-            (λ r. PassedFronts self.old.nodes.items self.new.nodes.items line r.0 (part_name (piece r.1)) names)
-            (ClashesAfter self.old.nodes.items (λ ms. header_fronts line ms [] names)) }
+            (λ r. PassedFronts before after line r.0 (part_name (piece r.1)) names)
+            (ClashesAfter before (λ ms. header_fronts line ms [] names)) }
     {
         let mut here = 0;
         let mut part = key.first;
@@ -87,10 +96,13 @@ impl<'t> NameTree<'t> {
         line: usize,
     ) -> Result<usize, EnterFault>
         requires there { IsNode self.old.nodes.items at }
-        ensures { let here = child (address_at self.old.nodes.items at) (part_name (piece part.entry)) in
+        ensures { let before = self.old.nodes.items in
+            let after = self.new.nodes.items in
+            let name = part_name (piece part.entry) in
+            let here = child (address_at before at) name in
             Steps 1 self.old self.new result
-            (λ id. AddsTable self.old.nodes.items self.new.nodes.items id line here)
-            (ClashesAfter self.old.nodes.items (λ ms. ends_tables line ms here)) }
+            (λ id. AddsTable before after id line here)
+            (ClashesAfter before (λ ms. ends_tables line ms here)) }
     {
         match self.find_or_grow(at, part, Role::Tables, Kind::Array, line)? {
             Found::Known(array) => self.enter_next_table(array, line),
@@ -102,38 +114,15 @@ impl<'t> NameTree<'t> {
     fn enter_next_table(&mut self, array: usize, line: usize) -> Result<usize, EnterFault>
         requires there { IsNode self.old.nodes.items array }
         requires mention { (d : Spot) → (slice_index_or self.old.nodes.items array d).role ≡ Bare → ⊥ }
-        ensures { let here = address_at self.old.nodes.items array in
+        ensures { let before = self.old.nodes.items in
+            let after = self.new.nodes.items in
+            let here = address_at before array in
             Steps 0 self.old self.new result
-            (λ id. AddsTable self.old.nodes.items self.new.nodes.items id line here)
-            (ClashesAfter self.old.nodes.items (λ ms. ends_tables line ms here)) }
+            (λ id. AddsTable before after id line here)
+            (ClashesAfter before (λ ms. ends_tables line ms here)) }
     {
         self.mention(array, Role::Tables, line)?;
         Ok(self.grow_element(array, Role::Element, Kind::Table, line)?)
-    }
-
-    /// Enters a table's header: the fronts that it passes, and the table, whose node it gives.
-    pub fn enter_table_header(&mut self, key: &Key<'t>, line: usize) -> Result<usize, EnterFault>
-        requires tree { IsTree self.old.nodes.items }
-        ensures { let names = key_names (tree_key key.now) in
-            Steps (length names) self.old self.new result
-            (λ id. EntersHeader self.old.nodes.items self.new.nodes.items id (table_names line names) (λ ms. header_end ms [] names))
-            (ClashesAfter self.old.nodes.items (table_names line names)) }
-    {
-        let (here, part) = self.pass_fronts(key, line)?;
-        self.enter(here, part, Role::Header, Kind::Table, line)
-    }
-
-    /// Enters a header of an array of tables: the fronts that it passes, the array, and its next element, whose node it
-    /// gives.
-    pub fn enter_array_header(&mut self, key: &Key<'t>, line: usize) -> Result<usize, EnterFault>
-        requires tree { IsTree self.old.nodes.items }
-        ensures { let names = key_names (tree_key key.now) in
-            Steps (length names) self.old self.new result
-            (λ id. EntersHeader self.old.nodes.items self.new.nodes.items id (tables_names line names) (λ ms. next_table ms names))
-            (ClashesAfter self.old.nodes.items (tables_names line names)) }
-    {
-        let (here, part) = self.pass_fronts(key, line)?;
-        self.enter_tables(here, part, line)
     }
 
     /// Enters what a line names, the last header's table being at a node; none where it goes and its key alone is too
@@ -145,10 +134,12 @@ impl<'t> NameTree<'t> {
         line: &Line<'t>,
     ) -> Result<Option<Entered>, EnterFault>
         requires there { IsNode self.old.nodes.items at }
-        ensures { let e = (tree_line line.now).expr in
+        ensures { let before = self.old.nodes.items in
+            let after = self.new.nodes.items in
+            let e = (tree_line line.now).expr in
             Steps (expr_key_parts e) self.old self.new result
-            (λ r. MatchOption r (IsLongEntry self.old.nodes.items at number e) (EntersLine self.old.nodes.items self.new.nodes.items at number e))
-            (ClashesInLine self.old.nodes.items at number e) }
+            (λ r. MatchOption r (IsLongEntry before at number e) (EntersLine before after at number e))
+            (ClashesInLine before at number e) }
     {
         match line.expr() {
             Expr::Blank(_) => Ok(Some(Entered {

@@ -9,8 +9,8 @@ ghost use Rattle.toml_names.specs.tree.Held.{Holds};
 ghost use Rattle.toml_names.specs.mentions.Mentions.{a_table, an_array, value_or_empty};
 ghost use Rattle.toml_names.specs.tree.NameTree.{IsTree};
 
-use crate::model::datum::Datum;
 use crate::mentions::mention::Kind;
+use crate::model::datum::Datum;
 use crate::tree::name_tree::NameTree;
 use std::alloc::{AllocError, Global};
 use std::collections::BTreeMap;

@@ -16,8 +16,8 @@ ghost use Rattle.toml_names.specs.tree.Nodes.{address_at};
 ghost use Rattle.toml_names.specs.mentions.Rules.{max_steps};
 ghost use Rattle.toml_names.specs.tree.Steps.{IsNode, Steps};
 
-use crate::mentions::mention::{Kind, Role};
 use crate::meaning::keys::{kind_of, spelled_name};
+use crate::mentions::mention::{Kind, Role};
 use crate::mentions::rules::MAX_STEPS;
 use crate::tree::name_tree::{EnterFault, NameTree};
 use toml_tree::{Key, KeyVal, Piece, Value};
@@ -32,12 +32,14 @@ impl<'t> NameTree<'t> {
         line: usize,
     ) -> Result<Option<(usize, Piece<'t>)>, EnterFault>
         requires there { IsNode self.old.nodes.items at }
-        ensures { let here = address_at self.old.nodes.items at in
+        ensures { let before = self.old.nodes.items in
+            let after = self.new.nodes.items in
+            let here = address_at before at in
             let names = key_names (tree_key key.now) in
             Steps (length key.now.rest.items) self.old self.new result
-            (λ r. MatchOption r ((k : mentions.Kind) → CanEnter self.old.nodes.items (key_named line here names k))
-            (λ w. FollowedFronts self.old.nodes.items self.new.nodes.items line here w.0 (part_name (piece w.1)) names))
-            (Clashes self.old.nodes.items (fronts line here names)) }
+            (λ r. MatchOption r ((k : mentions.Kind) → CanEnter before (key_named line here names k))
+            (λ w. FollowedFronts before after line here w.0 (part_name (piece w.1)) names))
+            (Clashes before (fronts line here names)) }
     {
         let mut here = at;
         let mut part = key.first;
@@ -60,11 +62,13 @@ impl<'t> NameTree<'t> {
         line: usize,
     ) -> Result<Option<(usize, Piece<'t>)>, EnterFault>
         requires tree { IsTree self.old.nodes.items }
-        ensures { let names = key_names (tree_key key.now) in
+        ensures { let before = self.old.nodes.items in
+            let after = self.new.nodes.items in
+            let names = key_names (tree_key key.now) in
             Steps (length key.now.rest.items) self.old self.new result
-            (λ r. MatchOption r (CanEnterHeaders self.old.nodes.items line names)
-            (λ w. PassedFronts self.old.nodes.items self.new.nodes.items line w.0 (part_name (piece w.1)) names))
-            (ClashesAfter self.old.nodes.items (λ ms. header_fronts line ms [] names)) }
+            (λ r. MatchOption r (CanEnterHeaders before line names)
+            (λ w. PassedFronts before after line w.0 (part_name (piece w.1)) names))
+            (ClashesAfter before (λ ms. header_fronts line ms [] names)) }
     {
         let mut here = 0;
         let mut part = key.first;
@@ -88,13 +92,15 @@ impl<'t> NameTree<'t> {
         line: usize,
     ) -> Result<Option<usize>, EnterFault>
         requires there { IsNode self.old.nodes.items at }
-        ensures { let p = tree_keyval pair.now in
-            let here = address_at self.old.nodes.items at in
+        ensures { let before = self.old.nodes.items in
+            let after = self.new.nodes.items in
+            let p = tree_keyval pair.now in
+            let here = address_at before at in
             let names = pair_named line here p.assign p.value in
             Steps (keyval_key_parts p.assign p.value) self.old self.new result
-            (λ r. MatchOption r (CanEnter self.old.nodes.items names × IsLongKey here (key_names p.assign.key))
-            (EntersTo self.old.nodes.items self.new.nodes.items names (below here (key_names p.assign.key))))
-            (Clashes self.old.nodes.items names) }
+            (λ r. MatchOption r (CanEnter before names × IsLongKey here (key_names p.assign.key))
+            (EntersTo before after names (below here (key_names p.assign.key))))
+            (Clashes before names) }
     {
         let key = &pair.assign.key;
         if !is_scalar(&pair.value) || !is_long(self.nodes[at].depth(), key) {
@@ -111,6 +117,28 @@ impl<'t> NameTree<'t> {
         }
     }
 
+    /// Passes through the proper fronts of a header's key, from the root, and gives the table of the last of them and the
+    /// key's last part; none where the key is too long and one of the fronts is new.
+    fn pass_header(
+        &mut self,
+        key: &Key<'t>,
+        line: usize,
+    ) -> Result<Option<(usize, Piece<'t>)>, EnterFault>
+        requires tree { IsTree self.old.nodes.items }
+        ensures { let before = self.old.nodes.items in
+            let after = self.new.nodes.items in
+            let names = key_names (tree_key key.now) in
+            Steps (length key.now.rest.items) self.old self.new result
+            (λ r. MatchOption r (CanEnterHeaders before line names × IsLongKey [] names)
+            (λ w. PassedFronts before after line w.0 (part_name (piece w.1)) names))
+            (ClashesAfter before (λ ms. header_fronts line ms [] names)) }
+    {
+        if !is_long(0, key) {
+            return Ok(Some(self.pass_fronts(key, line)?));
+        }
+        self.pass_known(key, line)
+    }
+
     /// Enters a table's header, and gives the table's node; none where it goes and its address is too long.
     pub fn table_unless_long(
         &mut self,
@@ -118,16 +146,15 @@ impl<'t> NameTree<'t> {
         line: usize,
     ) -> Result<Option<usize>, EnterFault>
         requires tree { IsTree self.old.nodes.items }
-        ensures { let names = key_names (tree_key key.now) in
+        ensures { let before = self.old.nodes.items in
+            let after = self.new.nodes.items in
+            let names = key_names (tree_key key.now) in
             Steps (length names) self.old self.new result
-            (λ r. MatchOption r (CanEnterHeader self.old.nodes.items (table_names line names) (λ ms. header_end ms [] names) × IsLongKey [] names)
-            (λ id. EntersHeader self.old.nodes.items self.new.nodes.items id (table_names line names) (λ ms. header_end ms [] names)))
-            (ClashesAfter self.old.nodes.items (table_names line names)) }
+            (λ r. MatchOption r (CanEnterHeader before (table_names line names) (λ ms. header_end ms [] names) × IsLongKey [] names)
+            (λ id. EntersHeader before after id (table_names line names) (λ ms. header_end ms [] names)))
+            (ClashesAfter before (table_names line names)) }
     {
-        if !is_long(0, key) {
-            return Ok(Some(self.enter_table_header(key, line)?));
-        }
-        match self.pass_known(key, line)? {
+        match self.pass_header(key, line)? {
             Some((here, part)) => Ok(Some(self.enter(
                 here,
                 part,
@@ -147,16 +174,15 @@ impl<'t> NameTree<'t> {
         line: usize,
     ) -> Result<Option<usize>, EnterFault>
         requires tree { IsTree self.old.nodes.items }
-        ensures { let names = key_names (tree_key key.now) in
+        ensures { let before = self.old.nodes.items in
+            let after = self.new.nodes.items in
+            let names = key_names (tree_key key.now) in
             Steps (length names) self.old self.new result
-            (λ r. MatchOption r (CanEnterHeader self.old.nodes.items (tables_names line names) (λ ms. next_table ms names) × IsLongKey [] names)
-            (λ id. EntersHeader self.old.nodes.items self.new.nodes.items id (tables_names line names) (λ ms. next_table ms names)))
-            (ClashesAfter self.old.nodes.items (tables_names line names)) }
+            (λ r. MatchOption r (CanEnterHeader before (tables_names line names) (λ ms. next_table ms names) × IsLongKey [] names)
+            (λ id. EntersHeader before after id (tables_names line names) (λ ms. next_table ms names)))
+            (ClashesAfter before (tables_names line names)) }
     {
-        if !is_long(0, key) {
-            return Ok(Some(self.enter_array_header(key, line)?));
-        }
-        match self.pass_known(key, line)? {
+        match self.pass_header(key, line)? {
             Some((here, part)) => Ok(Some(self.enter_tables(here, part, line)?)),
             None => Ok(None),
         }

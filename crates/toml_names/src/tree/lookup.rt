@@ -7,8 +7,8 @@ ghost use Rattle.toml_names.specs.tree.Nodes.{Spot, address_at, addresses, place
 ghost use Rattle.toml_names.specs.model.Places.{place};
 ghost use Rattle.toml_names.specs.tree.Placing.{IsWalked, first_of, own_place, value_line};
 
-use crate::model::address::{Address, Step};
 use crate::mentions::mention::Role;
+use crate::model::address::{Address, Step};
 use crate::model::place::Place;
 use crate::tree::name_tree::NameTree;
 

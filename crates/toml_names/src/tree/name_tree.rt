@@ -14,13 +14,13 @@ ghost use Rattle.toml_names.specs.tree.Nodes.{Spot, AreSteps, address_at, last_s
 ghost use Rattle.toml_names.specs.tree.Steps.{GoesOn, Grows, IsBarred, IsNode, IsNoted, Steps};
 ghost use Rattle.toml_names.specs.mentions.View.{kind as kind_of};
 
-use crate::model::address::{Address, Step};
-use crate::tree::hashing::NameHashing;
-use crate::mentions::mention::{Kind, Role};
 use crate::meaning::keys::{own_name, spelled_name};
-use crate::tree::node::{Node, Under};
-use crate::model::place::same_role;
+use crate::mentions::mention::{Kind, Role};
 use crate::mentions::rules::may_follow;
+use crate::model::address::{Address, Step};
+use crate::model::place::same_role;
+use crate::tree::hashing::NameHashing;
+use crate::tree::node::{Node, Under};
 use std::alloc::{AllocError, Global};
 use toml_tree::Piece;
 

@@ -4,9 +4,9 @@ ghost use Rattle.std.specs.Prelude.{◌≡◌, ◌↔◌, ℕ, IsTrue, OnOk, OnE
 ghost use Rattle.std.specs.Map.{lookup};
 ghost use Rattle.std.specs.Str.{bytes_eq};
 
+use crate::mentions::mention::{Kind, Role};
 use crate::tree::hashing::NameHashing;
 use crate::tree::name_map::NameMap;
-use crate::mentions::mention::{Kind, Role};
 use std::alloc::{AllocError, Global};
 use std::borrow::CowStr;
 use std::marker::Model;

@@ -14,10 +14,10 @@ ghost use Rattle.toml_names.specs.tree.NameTree.{IsTree, IsTreeOf};
 ghost use Rattle.toml_names.specs.tree.Nodes.{Spot, AreSteps, address_at};
 ghost use Rattle.toml_names.specs.mentions.Rules.{max_steps};
 
-use crate::model::address::{Address, Step};
-use crate::model::datum::{Datum, add_member};
 use crate::mentions::mention::{Kind, Role};
 use crate::mentions::rules::MAX_STEPS;
+use crate::model::address::{Address, Step};
+use crate::model::datum::{Datum, add_member};
 use crate::tree::name_tree::NameTree;
 use std::alloc::{AllocError, Global};
 use std::collections::BTreeMap;

@@ -35,7 +35,7 @@ left-append xs ys = ap (map (λ d. part_name d.part)) (map-append dotted xs ys) 
 abbrev pub first_names : List ℕ → List Part → ℕ → Key
 first_names first rest i = first ∷ names_left (take i rest)
 
-pub first_names-all : (first : List ℕ) (rest : List Part) (i : ℕ) → length rest ≤ i → first_names first rest i ≡ first ∷ names_left rest
+first_names-all : (first : List ℕ) (rest : List Part) (i : ℕ) → length rest ≤ i → first_names first rest i ≡ first ∷ names_left rest
 first_names-all first rest i past = ap (λ ds. first ∷ names_left ds) (take_all i rest past)
 
 module _ (first : List ℕ) (rest : List Part) (i : ℕ) (d : Part) (low : i < length rest) (is : d ≡ slice_index_or rest i d) where
@@ -81,6 +81,11 @@ module _ (first : List ℕ) (rest : List Part) (i : ℕ) (d : Part) (low : i < l
         (sym (ap (fronts line at) all_names ∙ fronts-append line (names_left (take i rest)) at first n (names_left (drop (i + 1) rest))
         ∙ ap (λ m. fronts line at before ++ (m ∷ behind)) (sym front_is)))
         (Clashes-later (fronts line at before) (front ∷ behind) a followed.entered (Clashes-front (front ∷ []) behind a clash))
+
+-- all names of the key, as the code reads it
+pub all-named : (P : Key → Type 0) (k : TreeKey) (items : List Part) (i : ℕ) → items ≡ k.rest.items → length items ≤ i → P (first_names (part_name (piece k.first)) items i) → P (key_names (tree_key k))
+all-named P k items i are past =
+    subst P (first_names-all (part_name (piece k.first)) items i past ∙ ap (λ ds. part_name (piece k.first) ∷ names_left ds) are)
 
 -- no front was entered yet
 pub FollowedFronts-first : (old : List Spot) (line at : ℕ) (first : List ℕ) → IsNode old at → FollowedFronts old old line (address_at old at) at first (first ∷ [])

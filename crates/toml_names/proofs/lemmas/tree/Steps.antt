@@ -2,7 +2,6 @@
 use Rattle.std.proofs.Common.{◌≡◌, ℕ, ◌+◌, ◌≤◌, Result, Err, refl, ◌∙◌, arith}
 use Rattle.std.proofs.lemmas.Result.{IfOk-weaker, IfErr-weaker}
 use Rattle.toml_names.specs.declared.tree.name_tree.EnterFault.{EnterFault}
-use Rattle.toml_names.specs.declared.tree.name_tree.EnterFault.TheVariants.{NoMemory}
 use Rattle.toml_names.specs.declared.tree.name_tree.NameTree.{NameTree as Tree}
 use Rattle.toml_names.specs.model.Addresses.{Address}
 use Rattle.toml_names.specs.tree.Steps.{GoesOn, Steps}
@@ -42,11 +41,6 @@ follows {k = k} {r = r} before step few all bars = record {
   clash = IfErr-weaker r _ _ (λ e clash a at. bars a (clash a at)) step.clash;
   goes_on = GoesOn-then before step.goes_on k few;
 }
-
--- want of memory says nothing
-pub no_memory : {B : Type 0} {k : ℕ} {old new : Tree} {r : Result B EnterFault} {All : B → Type 0} {Bars : Address → Type 0}
-    → GoesOn k old new → (f : EnterFault) × (r ≡ Err f) × (f ≡ NoMemory) → Steps k old new r All Bars
-no_memory goes (f, is, same) = rw (is, same) (record { made = tt; clash = λ a at. cc; goes_on = goes })
 
 -- some of the key parts of a whole were looked up, and the others are left
 pub record GoesOnTo (left whole : ℕ) (old new : Tree) : Type 0 where

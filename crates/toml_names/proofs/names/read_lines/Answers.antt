@@ -25,4 +25,4 @@ loop-line-preserved c =
     let low : i < length (map line xs) = omega (arith, length-map xs line, c.loop-line-test.true) in
     let is = get_or-map line xs i c.line-item.result ∙ ap line (sym c.line-item.is) in
     took-one (map line xs) i (line c.line-item.result) (line c.line-item.result) low is c.loop-line.reader c.line.new.self c.loop-line.invariant
-    (ap (map line) c.in_ok-line.ensures.taken ∙ map-append line c.loop-line.reader.taken (c.line-item.result ∷ [])) c.in_ok-line.ensures.good c.line.ensures.lookups
+    (ap (map line) c.in_ok-line.ensures.taken ∙ map-append line c.loop-line.reader.taken (c.line-item.result ∷ [])) c.in_ok-line.ensures.good c.line.ensures.lookups.most

@@ -10,7 +10,7 @@ use Rattle.toml_names.specs.tree.NameTree.{Clashes}
 use Rattle.toml_names.specs.tree.Nodes.{nowhere, address_at}
 use Rattle.toml_names.specs.tree.Steps.{IsBarred, IsNoted}
 use Rattle.toml_names.proofs.lemmas.mentions.Along.{names_left}
-use Rattle.toml_names.proofs.lemmas.tree.EnterFronts.{first_names-all, FollowedFronts-first}
+use Rattle.toml_names.proofs.lemmas.tree.EnterFronts.{all-named, FollowedFronts-first}
 use Rattle.toml_names.proofs.lemmas.tree.KnownFronts.{followed-noted, followed-within, followed-barred, followed-fresh}
 use Rattle.toml_names.proofs.lemmas.tree.Steps.{GoesOn-same, GoesOn-within, GoesOn-then, refuses}
 use Rattle.toml_names.proofs.tree.name_tree.NameTree.enter_known.Goals as goal
@@ -76,13 +76,10 @@ loop-dotted-preserved c =
 
 pub returns : goal.returns
 returns c =
-    let first = part_name (piece c.args.key.now.first) in
-    let old = c.args.self.now.nodes.items in
     let items : length c.deref-dotted-items.result.now ≡ length c.args.key.now.rest.items = ap length c.deref-dotted-items.ensures.value in
     record {
-      made = subst (FollowedFronts old c.loop-dotted.self.nodes.items c.args.line (address_at old c.args.at) c.loop-dotted.here (part_name (piece c.loop-dotted.part)))
-          (first_names-all first c.deref-dotted-items.result.now c.loop-dotted.dotted-index c.loop-dotted-test.false ∙ ap (λ ds. first ∷ names_left ds) c.deref-dotted-items.ensures.value)
-          c.loop-dotted.invariant.followed;
+      made = all-named (FollowedFronts c.args.self.now.nodes.items c.loop-dotted.self.nodes.items c.args.line (address_at c.args.self.now.nodes.items c.args.at) c.loop-dotted.here (part_name (piece c.loop-dotted.part)))
+          c.args.key.now c.deref-dotted-items.result.now c.loop-dotted.dotted-index c.deref-dotted-items.ensures.value c.loop-dotted-test.false c.loop-dotted.invariant.followed;
       clash = tt;
       goes_on = GoesOn-within c.loop-dotted.invariant.goes_on (length c.args.key.now.rest.items) (omega (arith, items, c.loop-dotted.auto.dotted-index-end));
     }

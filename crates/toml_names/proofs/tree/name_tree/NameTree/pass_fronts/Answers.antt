@@ -6,7 +6,7 @@ use Rattle.toml_names.specs.tree.Headers.{header_fronts}
 use Rattle.toml_names.specs.mentions.Keys.{part_name}
 use Rattle.toml_names.specs.mentions.Rules.{misfit}
 use Rattle.toml_names.proofs.lemmas.mentions.Along.{names_left}
-use Rattle.toml_names.proofs.lemmas.tree.EnterFronts.{first_names-all, one_more, all_names}
+use Rattle.toml_names.proofs.lemmas.tree.EnterFronts.{all-named, one_more, all_names}
 use Rattle.toml_names.proofs.lemmas.tree.PassedFronts.{PassedFronts-first, PassedFronts-more, fronts_clash}
 use Rattle.toml_names.proofs.lemmas.tree.Steps.{GoesOn-same, GoesOn-within, GoesOn-then, refuses}
 use Rattle.toml_names.proofs.tree.name_tree.NameTree.pass_fronts.Goals as goal
@@ -51,12 +51,10 @@ loop-dotted-preserved c =
 
 pub returns : goal.returns
 returns c =
-    let first = part_name (piece c.args.key.now.first) in
     let items : length c.deref-dotted-items.result.now ≡ length c.args.key.now.rest.items = ap length c.deref-dotted-items.ensures.value in
     record {
-      made = subst (PassedFronts c.args.self.now.nodes.items c.loop-dotted.self.nodes.items c.args.line c.loop-dotted.here (part_name (piece c.loop-dotted.part)))
-          (first_names-all first c.deref-dotted-items.result.now c.loop-dotted.dotted-index c.loop-dotted-test.false ∙ ap (λ ds. first ∷ names_left ds) c.deref-dotted-items.ensures.value)
-          c.loop-dotted.invariant.passed;
+      made = all-named (PassedFronts c.args.self.now.nodes.items c.loop-dotted.self.nodes.items c.args.line c.loop-dotted.here (part_name (piece c.loop-dotted.part)))
+          c.args.key.now c.deref-dotted-items.result.now c.loop-dotted.dotted-index c.deref-dotted-items.ensures.value c.loop-dotted-test.false c.loop-dotted.invariant.passed;
       clash = tt;
       goes_on = GoesOn-within c.loop-dotted.invariant.goes_on (length c.args.key.now.rest.items) (omega (arith, items, c.loop-dotted.auto.dotted-index-end));
     }
