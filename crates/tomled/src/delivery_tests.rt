@@ -46,6 +46,19 @@ fn each_read_fails(rt: HostRuntime) -> Result<(), Fail> {
     Ok(())
 }
 
+/// Whether so many reads are made to take the file up to the limit, and give so many bytes.
+fn is_taken(alloc: Global, limit: usize, taken: usize, reads: usize) -> Result<bool, Fail> {
+    let mut giver = Giver {
+        bytes: FILE,
+        failing: 0,
+        reads: 0,
+    };
+    let mut reader = Counting::new(&mut giver);
+    let bytes = take(alloc, &mut reader, limit).map_err(|_| "not taken")?;
+    let failed = reader.failed();
+    Ok(bytes.as_slice() == front(FILE, taken) && failed == 0 && giver.reads == reads)
+}
+
 #[test]
 fn takes_up_to_the_limit(rt: HostRuntime) -> Result<(), Fail> {
     // The limit, and how many bytes are taken in how many reads.
@@ -56,20 +69,7 @@ fn takes_up_to_the_limit(rt: HostRuntime) -> Result<(), Fail> {
         (21, 20, 21),
         (99, 20, 21),
     ] {
-        let mut giver = Giver {
-            bytes: FILE,
-            failing: 0,
-            reads: 0,
-        };
-        let mut reader = Counting::new(&mut giver);
-        let bytes = take(rt.alloc(), &mut reader, limit).map_err(|_| "not taken")?;
-        assert_eq!(rt;
-            bytes.as_slice(),
-            &FILE[..FILE.len().min(taken)],
-            "limit {limit}"
-        );
-        assert_eq!(rt; reader.failed(), 0, "limit {limit}");
-        assert_eq!(rt; giver.reads, reads, "limit {limit}");
+        assert!(rt; is_taken(rt.alloc(), limit, taken, reads)?, "limit {limit}");
     }
     Ok(())
 }
@@ -104,9 +104,9 @@ fn delivered(
 
 #[test]
 fn each_write_fails(rt: HostRuntime) -> Result<(), Fail> {
+    let alloc = rt.alloc();
     // One byte a write: 19 of the text, 15 of the certificate, 3 on standard output; at 0 none fails.
     for failing in 0..38usize {
-        let alloc = rt.alloc();
         let mut text = Keeper::new(alloc, 1, failing);
         let mut cert = Keeper::new(alloc, 1, failing.saturating_sub(19));
         let mut out = Keeper::new(alloc, 1, failing.saturating_sub(34));
@@ -117,90 +117,50 @@ fn each_write_fails(rt: HostRuntime) -> Result<(), Fail> {
         } else {
             (3, failing - 1, FAULT)
         };
-        assert_eq!(rt; status, wanted, "write {failing}");
-        assert_eq!(rt;
-            text.bytes.as_slice(),
-            front(OUT, accepted),
-            "write {failing}"
-        );
-        assert_eq!(rt;
-            cert.bytes.as_slice(),
-            front(CERT, accepted.saturating_sub(19)),
-            "write {failing}"
-        );
-        assert_eq!(rt;
-            out.bytes.as_slice(),
-            front(b"ok\n", accepted.saturating_sub(34)),
-            "write {failing}"
-        );
-        assert_eq!(rt; err.bytes.as_slice(), told, "write {failing}");
+        let good = status == wanted
+            && text.bytes.as_slice() == front(OUT, accepted)
+            && cert.bytes.as_slice() == front(CERT, accepted.saturating_sub(19))
+            && out.bytes.as_slice() == front(b"ok\n", accepted.saturating_sub(34))
+            && err.bytes.as_slice() == told;
+        assert!(rt; good, "write {failing}");
     }
     Ok(())
 }
 
+/// What is handed to writers of both outputs of a refusal, and the status.
+fn refused(alloc: Global, out: &mut Keeper, err: &mut Keeper) -> Result<u8, Fail> {
+    let outcome = run_edit(alloc, FILE, b"[")?;
+    let mut files: Vec<Counting<Keeper>> = Vec::new(alloc);
+    if files.len() != outcome.files.len() {
+        return Err(Fail::from("files of a refusal"));
+    }
+    Ok(deliver(
+        files.as_mut_slice(),
+        &mut Counting::new(out),
+        &mut Counting::new(err),
+        &outcome,
+    ))
+}
+
 #[test]
 fn each_write_of_a_refusal_fails(rt: HostRuntime) -> Result<(), Fail> {
-    let alloc = rt.alloc();
-    let outcome = run_edit(alloc, FILE, b"[")?;
-    assert_eq!(rt; outcome.err.as_slice(), b"refused 321 0\n".as_slice());
-    // One byte a write: 14 of the refusal; at 0 none fails.
+    let refusal = b"refused 321 0\n".as_slice();
+    // One byte a write; at 0 none fails.
     for failing in 0..15usize {
-        let mut files: Vec<Counting<Keeper>> = Vec::new(alloc);
-        if files.len() != outcome.files.len() {
-            return Err(Fail::from("files of a refusal"));
-        }
-        let mut out = Keeper::new(alloc, 1, 0);
-        let mut err = Keeper::new(alloc, 1, failing);
-        let status = deliver(
-            files.as_mut_slice(),
-            &mut Counting::new(&mut out),
-            &mut Counting::new(&mut err),
-            &outcome,
-        );
+        let mut out = Keeper::new(rt.alloc(), 1, 0);
+        let mut err = Keeper::new(rt.alloc(), 1, failing);
+        let status = refused(rt.alloc(), &mut out, &mut err)?;
         let (wanted, accepted, told) = if failing == 0 {
             (1, 14, b"".as_slice())
         } else {
             (3, failing - 1, FAULT)
         };
-        assert_eq!(rt; status, wanted, "write {failing}");
-        assert_eq!(rt; out.writes, 0, "write {failing}");
         let taken = accepted.min(err.bytes.len());
-        assert_eq!(rt;
-            &err.bytes[..taken],
-            front(&outcome.err, accepted),
-            "write {failing}"
-        );
-        assert_eq!(rt; &err.bytes[taken..], told, "write {failing}");
-    }
-    Ok(())
-}
-
-#[test]
-fn writes_that_take_no_byte(rt: HostRuntime) -> Result<(), Fail> {
-    let alloc = rt.alloc();
-    // Which writer takes none: OUT, CERT or standard output.
-    for none in 0..3usize {
-        let most = |writer: usize| if writer == none { 0 } else { 9 };
-        let mut text = Keeper::new(alloc, most(0), 0);
-        let mut cert = Keeper::new(alloc, most(1), 0);
-        let mut out = Keeper::new(alloc, most(2), 0);
-        let mut err = Keeper::new(alloc, 9, 0);
-        let status = delivered(alloc, &mut text, &mut cert, &mut out, &mut err)?;
-        assert_eq!(rt; status, 3, "{none}");
-        let (kept, certified) = if none == 0 {
-            (b"".as_slice(), 0)
-        } else {
-            (OUT, none / 2)
-        };
-        assert_eq!(rt; text.bytes.as_slice(), kept, "{none}");
-        assert_eq!(rt;
-            cert.bytes.as_slice(),
-            front(CERT, certified * 15),
-            "{none}"
-        );
-        assert_eq!(rt; out.bytes.len(), 0, "{none}");
-        assert_eq!(rt; out.writes, none / 2, "{none}");
-        assert_eq!(rt; err.bytes.as_slice(), FAULT, "{none}");
+        let good = status == wanted
+            && out.writes == 0
+            && &err.bytes[..taken] == front(refusal, accepted)
+            && &err.bytes[taken..] == told;
+        assert!(rt; good, "write {failing}");
     }
     Ok(())
 }
@@ -208,23 +168,33 @@ fn writes_that_take_no_byte(rt: HostRuntime) -> Result<(), Fail> {
 /// Standard error takes no byte: neither of the refusal nor of the one try to tell the fault.
 #[test]
 fn a_fault_that_is_not_told(rt: HostRuntime) -> Result<(), Fail> {
-    let alloc = rt.alloc();
-    let outcome = run_edit(alloc, FILE, b"[")?;
-    let mut files: Vec<Counting<Keeper>> = Vec::new(alloc);
-    if files.len() != outcome.files.len() {
-        return Err(Fail::from("files of a refusal"));
+    let mut out = Keeper::new(rt.alloc(), 9, 0);
+    let mut err = Keeper::new(rt.alloc(), 0, 0);
+    let status = refused(rt.alloc(), &mut out, &mut err)?;
+    assert!(rt; status == 3 && err.writes == 2 && err.bytes.is_empty());
+    Ok(())
+}
+
+#[test]
+fn writes_that_take_no_byte(rt: HostRuntime) -> Result<(), Fail> {
+    // How many bytes the writers of OUT, of CERT and of standard output take at most, and what each of them then has.
+    for (most, kept) in [
+        ([0, 9, 9], [b"".as_slice(), b"", b""]),
+        ([9, 0, 9], [OUT, b"", b""]),
+        ([9, 9, 0], [OUT, CERT, b""]),
+    ] {
+        let mut text = Keeper::new(rt.alloc(), most[0], 0);
+        let mut cert = Keeper::new(rt.alloc(), most[1], 0);
+        let mut out = Keeper::new(rt.alloc(), most[2], 0);
+        let mut err = Keeper::new(rt.alloc(), 9, 0);
+        let status = delivered(rt.alloc(), &mut text, &mut cert, &mut out, &mut err)?;
+        let good = status == 3
+            && text.bytes.as_slice() == kept[0]
+            && cert.bytes.as_slice() == kept[1]
+            && out.bytes.as_slice() == kept[2]
+            && err.bytes.as_slice() == FAULT;
+        assert!(rt; good, "{most:?}");
     }
-    let mut out = Keeper::new(alloc, 9, 0);
-    let mut err = Keeper::new(alloc, 0, 0);
-    let status = deliver(
-        files.as_mut_slice(),
-        &mut Counting::new(&mut out),
-        &mut Counting::new(&mut err),
-        &outcome,
-    );
-    assert_eq!(rt; status, 3);
-    assert_eq!(rt; err.writes, 2);
-    assert_eq!(rt; err.bytes.len(), 0);
     Ok(())
 }
 

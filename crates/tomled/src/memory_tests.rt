@@ -7,10 +7,10 @@ use crate::rows::rows;
 use std::alloc::{AllocError, Global};
 use std::process::Abort;
 use std::test::Fail;
-use toml_edits::{EditFault, EditsFault, apply, read_edits};
-use toml_names::{NameFault, NameReader, read_names, same};
+use toml_edits::{Edit, EditFault, EditsFault, apply, read_edits};
+use toml_names::{Data, NameFault, NameReader, read_names, same};
 use toml_text::Source;
-use toml_tree::{SyntaxFault, parse};
+use toml_tree::{Doc, Line, SyntaxFault, parse};
 
 /// A text and its edits.
 const EDITED: &str = r#"
@@ -61,60 +61,88 @@ struct Wants {
     lines: usize,
 }
 
-/// The edits are made of the data of the text. One that finds no memory leaves them as they were, and is made once there
-/// is some. What comes before may want memory.
-fn applied(
+/// The document of a text; without one there was no memory.
+fn document<'t>(rt: &impl Abort, alloc: Global, text: &'t str) -> Result<Doc<'t>, AllocError> {
+    let source = Source::new(text.as_bytes()).map_err(|_| wanting(rt, false))?;
+    parse(alloc, source).map_err(|fault| wanting(rt, matches!(&fault, SyntaxFault::NoMemory)))
+}
+
+/// The data of a text; without them there was no memory.
+fn data_of(rt: &impl Abort, alloc: Global, text: &str) -> Result<Data, AllocError> {
+    let doc = document(rt, alloc, text)?;
+    let names = read_names(alloc, &doc).map_err(|fault| wanting(
+        rt,
+        matches!(&fault, NameFault::NoMemory),
+    ))?;
+    names.data().copy(alloc)
+}
+
+/// An edit that finds no memory leaves the data as they were, and is made once there is some.
+fn make(
+    rt: &impl Abort,
+    alloc: Global,
+    data: &mut Data,
+    edit: &Edit,
+    wants: &mut Wants,
+) -> Result<(), AllocError> {
+    let before = data.copy(alloc)?;
+    if let Err(fault) = apply(alloc, data, edit) {
+        assert!(rt; matches!(&fault, EditFault::NoMemory));
+        wants.edits = wants.edits.saturating_add(1);
+        assert!(rt; same(&data.root, &before.root));
+        assert!(rt; apply(alloc, data, edit).is_ok());
+    }
+    assert!(rt; !same(&data.root, &before.root));
+    Ok(())
+}
+
+/// The edits are made of the data of the text. What comes before may want memory.
+fn apply_all(
     rt: &impl Abort,
     alloc: Global,
     text: &str,
     edits: &str,
     wants: &mut Wants,
 ) -> Result<(), AllocError> {
-    let source = Source::new(text.as_bytes()).map_err(|_| wanting(rt, false))?;
-    let doc = parse(alloc, source).map_err(|fault| wanting(
-        rt,
-        matches!(&fault, SyntaxFault::NoMemory),
-    ))?;
-    let names = read_names(alloc, &doc).map_err(|fault| wanting(
-        rt,
-        matches!(&fault, NameFault::NoMemory),
-    ))?;
-    let mut data = names.data().copy(alloc)?;
+    let mut data = data_of(rt, alloc, text)?;
     let edits = read_edits(alloc, edits.as_bytes()).map_err(|fault| wanting(
         rt,
         matches!(&fault, EditsFault::NoMemory),
     ))?;
     for edit in &edits {
-        let before = data.copy(alloc)?;
-        if let Err(fault) = apply(alloc, &mut data, edit) {
-            assert!(rt; matches!(&fault, EditFault::NoMemory));
-            wants.edits = wants.edits.saturating_add(1);
-            assert!(rt; same(&data.root, &before.root));
-            assert!(rt; apply(alloc, &mut data, edit).is_ok());
-        }
-        assert!(rt; !same(&data.root, &before.root));
+        make(rt, alloc, &mut data, edit, wants)?;
     }
     Ok(())
 }
 
-/// Each line is taken. One for which there is no memory is not, and is taken once there is some.
-fn taken(rt: &impl Abort, alloc: Global, text: &str, wants: &mut Wants) -> Result<(), AllocError> {
-    let source = Source::new(text.as_bytes()).map_err(|_| wanting(rt, false))?;
-    let doc = parse(alloc, source).map_err(|fault| wanting(
-        rt,
-        matches!(&fault, SyntaxFault::NoMemory),
-    ))?;
-    let mut reader = NameReader::new(alloc)?;
-    let mut count = 0usize;
-    for line in doc.lines() {
-        if let Err(fault) = reader.line(line) {
-            assert!(rt; matches!(&fault, NameFault::NoMemory));
-            wants.lines = wants.lines.saturating_add(1);
-            assert_eq!(rt; reader.taken().len(), count);
-            assert!(rt; reader.line(line).is_ok());
-        }
-        count = count.saturating_add(1);
+/// A line for which there is no memory is not taken, and is taken once there is some.
+fn take_line<'d, 't>(
+    rt: &impl Abort,
+    reader: &mut NameReader<'d, 't>,
+    line: &'d Line<'t>,
+    wants: &mut Wants,
+) {
+    let count = reader.taken().len();
+    if let Err(fault) = reader.line(line) {
+        assert!(rt; matches!(&fault, NameFault::NoMemory));
+        wants.lines = wants.lines.saturating_add(1);
         assert_eq!(rt; reader.taken().len(), count);
+        assert!(rt; reader.line(line).is_ok());
+    }
+    assert_eq!(rt; reader.taken().len(), count.saturating_add(1));
+}
+
+/// Each line is taken. What comes before may want memory.
+fn take_all(
+    rt: &impl Abort,
+    alloc: Global,
+    text: &str,
+    wants: &mut Wants,
+) -> Result<(), AllocError> {
+    let doc = document(rt, alloc, text)?;
+    let mut reader = NameReader::new(alloc)?;
+    for line in doc.lines() {
+        take_line(rt, &mut reader, line, wants);
     }
     Ok(())
 }
@@ -122,8 +150,8 @@ fn taken(rt: &impl Abort, alloc: Global, text: &str, wants: &mut Wants) -> Resul
 fn apply_and_take(rt: &impl Abort, alloc: Global, wants: &mut Wants) -> Result<(), AllocError> {
     for row in &rows(rt, alloc, EDITED, 11)? {
         assert_eq!(rt; row.len(), 2);
-        applied(rt, alloc, &row[0], &row[1], wants)?;
-        taken(rt, alloc, &row[0], wants)?;
+        apply_all(rt, alloc, &row[0], &row[1], wants)?;
+        take_all(rt, alloc, &row[0], wants)?;
     }
     Ok(())
 }
