@@ -1,8 +1,7 @@
 //! The reader of names, one line after another (TOML v1.0.0, Keys, Table, Inline Table, Array of Tables).
-ghost use Rattle.std.specs.Prelude.{◌≡◌, ◌≤◌, ◌+◌, ◌++◌, ◌∷◌, [], OnOk, OnErr, IfOk, IfErr, map};
+ghost use Rattle.std.specs.Prelude.{◌≡◌, ◌+◌, ◌++◌, ◌∷◌, [], OnOk, OnErr, IfOk, IfErr, map};
 ghost use Rattle.toml_tree.specs.Lines.{line as tree_line};
 ghost use Rattle.toml_names.specs.mentions.KeyParts.{expr_key_parts};
-ghost use Rattle.toml_names.specs.mentions.Mentions.{named};
 ghost use Rattle.toml_names.specs.reader.Names.{AreGood};
 ghost use Rattle.toml_names.specs.reader.Reading.{lines_of, EntersShort, RefusesLine, RefusesEntry, TakesEntry};
 ghost use Rattle.toml_names.specs.tree.Steps.{GoesOn, IsNode, RisesBy};

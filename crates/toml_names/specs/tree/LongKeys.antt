@@ -28,6 +28,10 @@ pub record CanEnterHeaders (old : List Spot) (line : ℕ) (key : Key) : Type 0 w
 abbrev pub key_named : ℕ → Address → Key → Kind → List Named
 key_named line at key k = fronts line at key ++ record { address = below at key; role = Valued; kind = k; line = line } ∷ []
 
+-- nodes could be added that stand for what the key names with such a value, whatever it is
+abbrev pub CanEnterKey : List Spot → ℕ → Address → Key → Type 0
+CanEnterKey old line at key = (k : Kind) → CanEnter old (key_named line at key k)
+
 -- the fronts of a dotted key were entered, and a name in the table of the node is the whole key
 pub record FollowedFronts (old now : List Spot) (line : ℕ) (at : Address) (here : ℕ) (part : List ℕ) (key : Key) : Type 0 where
   pub entered : Enters old now (fronts line at key)

@@ -83,6 +83,10 @@ IsFound old new above n r k line (New id) =
     × ((d : Spot) → lookup (bytes_eq n) (slice_index_or old above d).children ≡ None)
     × ((d : Spot) → new ≡ grown old above (slice_index_or old above d) (Name n) r k line)
 
+-- the name leads nowhere from the node
+abbrev pub IsAbsent : List Spot → ℕ → List ℕ → Type 0
+IsAbsent nodes at n = (d : Spot) → lookup (bytes_eq n) (slice_index_or nodes at d).children ≡ None
+
 -- the node has the address
 pub record LeadsTo (nodes : List Spot) (id : ℕ) (at : Address) : Type 0 where
   pub within : id < length nodes

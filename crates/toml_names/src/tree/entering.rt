@@ -1,13 +1,13 @@
 //! Keys and values entered into the tree of names.
-ghost use Rattle.std.specs.Prelude.{◌∷◌, ◌≡◌, false, length, IfOk, slice_index_or, []};
+ghost use Rattle.std.specs.Prelude.{◌∷◌, ◌≡◌, true, false, MatchOption, length, IfOk, slice_index_or, []};
 ghost use Rattle.toml_tree.specs.View.{piece, key as tree_key, value, keyval as tree_keyval};
 ghost use Rattle.toml_names.specs.declared.mentions.mention.Role.TheVariants.{Bare, Valued};
-ghost use Rattle.toml_names.specs.model.Addresses.{Address, below, child};
+ghost use Rattle.toml_names.specs.model.Addresses.{below, child};
 ghost use Rattle.toml_names.specs.mentions.Keys.{part_name, key_names};
 ghost use Rattle.toml_names.specs.mentions.KeyParts.{value_key_parts, keyval_key_parts};
 ghost use Rattle.toml_names.specs.mentions.Mentions.{fronts, inside, is_tables, pair_named};
-ghost use Rattle.toml_names.specs.tree.LongKeys.{FollowedFronts};
-ghost use Rattle.toml_names.specs.tree.NameTree.{Clashes, EntersInside, EntersTo, name_at};
+ghost use Rattle.toml_names.specs.tree.LongKeys.{CanEnterKey, FollowedFronts};
+ghost use Rattle.toml_names.specs.tree.NameTree.{IsAbsent, Clashes, EntersInside, EntersTo, name_at};
 ghost use Rattle.toml_names.specs.tree.Nodes.{Spot, address_at};
 ghost use Rattle.toml_names.specs.tree.Steps.{GoesOn, Grows, IsNode, Steps};
 ghost use Rattle.toml_names.specs.mentions.View.{kind as kind_of};
@@ -19,15 +19,17 @@ use std::alloc::AllocError;
 use toml_tree::{Key, KeyVal, Piece, Value};
 
 impl<'t> NameTree<'t> {
-    /// Enters a name of the table of a node in a role other than a value's or that of an array of tables.
+    /// Enters a name of the table of a node in a role other than a value's or that of an array of tables; none where the
+    /// name is new and only names that are there are followed.
     pub fn enter(
         &mut self,
+        known: bool,
         at: usize,
         part: Piece<'t>,
         role: Role,
         kind: Kind<'t>,
         line: usize,
-    ) -> Result<usize, EnterFault>
+    ) -> Result<Option<usize>, EnterFault>
         requires there { IsNode self.old.nodes.items at }
         requires mention { role ≡ Bare → ⊥ }
         requires plain { is_tables role ≡ false }
@@ -36,15 +38,19 @@ impl<'t> NameTree<'t> {
             let name = part_name (piece part.entry) in
             let entry = name_at before at name role (kind_of kind.entry) line ∷ [] in
             Steps 1 self.old self.new result
-            (EntersTo before after entry (child (address_at before at) name))
+            (λ r. MatchOption r ((known ≡ true) × IsAbsent before at name) (EntersTo before after entry (child (address_at before at) name)))
             (Clashes before entry) }
     {
-        match self.find_or_grow(at, part, role, kind, line)? {
+        let found = match self.follow(known, at, part, role, kind, line)? {
+            Some(found) => found,
+            None => return Ok(None),
+        };
+        match found {
             Found::Known(id) => {
                 self.mention(id, role, line)?;
-                Ok(id)
+                Ok(Some(id))
             }
-            Found::New(id) => Ok(id),
+            Found::New(id) => Ok(Some(id)),
         }
     }
 
@@ -73,39 +79,46 @@ impl<'t> NameTree<'t> {
     }
 
     /// Enters the proper fronts of a key as tables of dotted keys, and gives the table of the last of them and the
-    /// key's last part.
+    /// key's last part; none where one of them is new and only names that are there are followed.
     fn enter_fronts(
         &mut self,
+        known: bool,
         at: usize,
         key: &Key<'t>,
         line: usize,
-    ) -> Result<(usize, Piece<'t>), EnterFault>
+    ) -> Result<Option<(usize, Piece<'t>)>, EnterFault>
         requires there { IsNode self.old.nodes.items at }
         ensures { let before = self.old.nodes.items in
             let after = self.new.nodes.items in
             let here = address_at before at in
             let names = key_names (tree_key key.now) in
             Steps (length key.now.rest.items) self.old self.new result
-            (λ r. FollowedFronts before after line here r.0 (part_name (piece r.1)) names)
+            (λ r. MatchOption r ((known ≡ true) × CanEnterKey before line here names)
+            (λ w. FollowedFronts before after line here w.0 (part_name (piece w.1)) names))
             (Clashes before (fronts line here names)) }
     {
         let mut here = at;
         let mut part = key.first;
         for dotted in &key.rest {
-            here = self.enter(here, part, Role::Dotted, Kind::Table, line)?;
+            match self.enter(known, here, part, Role::Dotted, Kind::Table, line)? {
+                Some(id) => here = id,
+                None => return Ok(None),
+            }
             part = dotted.part;
         }
-        Ok((here, part))
+        Ok(Some((here, part)))
     }
 
-    /// Enters what a pair names in the table of a node, and gives the node of its value.
+    /// Enters what a pair names in the table of a node, and gives the node of its value; none where a front of its key is
+    /// new and only names that are there are followed.
     #[cycle(entering)]
     pub fn enter_pair(
         &mut self,
+        known: bool,
         at: usize,
         pair: &KeyVal<'t>,
         line: usize,
-    ) -> Result<usize, EnterFault>
+    ) -> Result<Option<usize>, EnterFault>
         requires there { IsNode self.old.nodes.items at }
         ensures { let before = self.old.nodes.items in
             let after = self.new.nodes.items in
@@ -113,13 +126,18 @@ impl<'t> NameTree<'t> {
             let here = address_at before at in
             let names = pair_named line here p.assign p.value in
             Steps (keyval_key_parts p.assign p.value) self.old self.new result
-            (EntersTo before after names (below here (key_names p.assign.key)))
+            (λ r. MatchOption r ((known ≡ true) × CanEnterKey before line here (key_names p.assign.key))
+            (EntersTo before after names (below here (key_names p.assign.key))))
             (Clashes before names) }
     {
-        let (here, part) = self.enter_fronts(at, &pair.assign.key, line)?;
-        let id = self.enter_valued(here, part, kind_of(&pair.value), line)?;
-        self.enter_inside(id, &pair.value, line)?;
-        Ok(id)
+        match self.enter_fronts(known, at, &pair.assign.key, line)? {
+            Some((here, part)) => {
+                let id = self.enter_valued(here, part, kind_of(&pair.value), line)?;
+                self.enter_inside(id, &pair.value, line)?;
+                Ok(Some(id))
+            }
+            None => Ok(None),
+        }
     }
 
     /// Enters what the value of a node names inside it.
@@ -150,7 +168,7 @@ impl<'t> NameTree<'t> {
                     return Ok(());
                 }
                 for pair in &table.pairs {
-                    self.enter_pair(id, &pair.keyval, line)?;
+                    self.enter_pair(false, id, &pair.keyval, line)?;
                 }
                 Ok(())
             }

@@ -1,5 +1,5 @@
 //! Headers and whole lines entered into the tree of names.
-ghost use Rattle.std.specs.Prelude.{◌∷◌, ◌≡◌, ◌<◌, List, length, MatchOption, slice_index_or, []};
+ghost use Rattle.std.specs.Prelude.{◌∷◌, ◌≡◌, ◌<◌, List, length, MatchOption, slice_index_or, true, []};
 ghost use Rattle.toml_tree.specs.Lines.{line as tree_line};
 ghost use Rattle.toml_tree.specs.View.{piece, key as tree_key};
 ghost use Rattle.toml_names.specs.declared.mentions.mention.Role.TheVariants.{Passed, Bare};
@@ -8,16 +8,16 @@ ghost use Rattle.toml_names.specs.tree.EnteringLines.{EntersLine, ClashesInLine}
 ghost use Rattle.toml_names.specs.tree.Headers.{header_fronts};
 ghost use Rattle.toml_names.specs.mentions.Keys.{part_name, key_names};
 ghost use Rattle.toml_names.specs.mentions.KeyParts.{expr_key_parts};
-ghost use Rattle.toml_names.specs.tree.LongKeys.{IsLongEntry};
+ghost use Rattle.toml_names.specs.tree.LongKeys.{CanEnterHeaders, IsLongEntry, IsLongKey};
 ghost use Rattle.toml_names.specs.mentions.Mentions as mentions;
 ghost use Rattle.toml_names.specs.mentions.Mentions.{table_at, entered, ends_tables};
-ghost use Rattle.toml_names.specs.reader.Names.{header_end};
-ghost use Rattle.toml_names.specs.tree.NameTree.{IsTree, IsTreeOf, ClashesAfter, Passes};
-ghost use Rattle.toml_names.specs.tree.EnteringHeaders.{EntersHeader, AddsTable, PassedFronts, table_names, tables_names, next_table};
+ghost use Rattle.toml_names.specs.tree.NameTree.{IsAbsent, IsTree, IsTreeOf, ClashesAfter, Passes};
+ghost use Rattle.toml_names.specs.tree.EnteringHeaders.{AddsTable, PassedFronts};
 ghost use Rattle.toml_names.specs.tree.Nodes.{Spot, address_at};
 ghost use Rattle.toml_names.specs.tree.Steps.{IsNode, Steps};
 
 use crate::mentions::mention::{Kind, Role};
+use crate::tree::long_keys::is_long;
 use crate::tree::name_tree::{EnterFault, Found, NameTree};
 use toml_tree::{Expr, Key, Line, Piece};
 
@@ -42,49 +42,65 @@ impl<'t> NameTree<'t> {
         }
     }
 
-    /// Passes through a name of the table of a node, into the last table of an array.
-    fn pass(&mut self, at: usize, part: Piece<'t>, line: usize) -> Result<usize, EnterFault>
+    /// Passes through a name of the table of a node, into the last table of an array; none where the name is new and only
+    /// names that are there are followed.
+    fn pass(
+        &mut self,
+        known: bool,
+        at: usize,
+        part: Piece<'t>,
+        line: usize,
+    ) -> Result<Option<usize>, EnterFault>
         requires there { IsNode self.old.nodes.items at }
         ensures { let before = self.old.nodes.items in
             let after = self.new.nodes.items in
             let name = part_name (piece part.entry) in
             let here = child (address_at before at) name in
             Steps 1 self.old self.new result
-            (λ id. Passes before after id at line name)
+            (λ r. MatchOption r ((known ≡ true) × IsAbsent before at name) (λ id. Passes before after id at line name))
             (ClashesAfter before (λ ms. table_at line Passed (entered ms here) ∷ [])) }
     {
-        match self.find_or_grow(at, part, Role::Passed, Kind::Table, line)? {
-            Found::Known(found) => {
-                let id = self.inner(found);
+        let found = match self.follow(known, at, part, Role::Passed, Kind::Table, line)? {
+            Some(found) => found,
+            None => return Ok(None),
+        };
+        match found {
+            Found::Known(there) => {
+                let id = self.inner(there);
                 self.mention(id, Role::Passed, line)?;
-                Ok(id)
+                Ok(Some(id))
             }
-            Found::New(id) => Ok(id),
+            Found::New(id) => Ok(Some(id)),
         }
     }
 
-    /// Passes through the proper fronts of a header's key, from the root, and gives the table of the last of them and
-    /// the key's last part.
+    /// Passes through the proper fronts of a header's key, from the root, and gives the table of the last of them and the
+    /// key's last part; none where the key is too long and one of the fronts is new.
     pub fn pass_fronts(
         &mut self,
         key: &Key<'t>,
         line: usize,
-    ) -> Result<(usize, Piece<'t>), EnterFault>
+    ) -> Result<Option<(usize, Piece<'t>)>, EnterFault>
         requires tree { IsTree self.old.nodes.items }
         ensures { let before = self.old.nodes.items in
             let after = self.new.nodes.items in
             let names = key_names (tree_key key.now) in
             Steps (length key.now.rest.items) self.old self.new result
-            (λ r. PassedFronts before after line r.0 (part_name (piece r.1)) names)
+            (λ r. MatchOption r (CanEnterHeaders before line names × IsLongKey [] names)
+            (λ w. PassedFronts before after line w.0 (part_name (piece w.1)) names))
             (ClashesAfter before (λ ms. header_fronts line ms [] names)) }
     {
+        let long = is_long(0, key);
         let mut here = 0;
         let mut part = key.first;
         for dotted in &key.rest {
-            here = self.pass(here, part, line)?;
+            match self.pass(long, here, part, line)? {
+                Some(id) => here = id,
+                None => return Ok(None),
+            }
             part = dotted.part;
         }
-        Ok((here, part))
+        Ok(Some((here, part)))
     }
 
     /// Enters a header of an array of tables under a name of the table of a node: the array, and its next element, whose

@@ -1,88 +1,26 @@
-//! Lines whose key alone is too long for an address. Where a name of the key is new, so is all behind it: nothing there
-//! can clash, and the line is refused with no node for each of its parts.
+//! Lines whose key alone may be too long for an address. Where a name of such a key is new, so is all behind it: nothing
+//! there can clash, and the line is refused with no node for each of its parts.
 ghost use Rattle.std.specs.Prelude.{◌≡◌, ◌+◌, ◌<◌, ℕ, length, IsTrue, MatchOption, []};
-ghost use Rattle.toml_tree.specs.View.{piece, key as tree_key, value, keyval as tree_keyval};
+ghost use Rattle.toml_tree.specs.View.{key as tree_key, value, keyval as tree_keyval};
 ghost use Rattle.toml_names.specs.model.Addresses.{Address, below};
-ghost use Rattle.toml_names.specs.tree.EnteringHeaders.{EntersHeader, PassedFronts, table_names, tables_names, next_table};
-ghost use Rattle.toml_names.specs.tree.Headers.{header_fronts};
-ghost use Rattle.toml_names.specs.mentions.Keys.{part_name, key_names};
+ghost use Rattle.toml_names.specs.tree.EnteringHeaders.{EntersHeader, table_names, tables_names, next_table};
+ghost use Rattle.toml_names.specs.mentions.Keys.{key_names};
 ghost use Rattle.toml_names.specs.mentions.KeyParts.{keyval_key_parts};
-ghost use Rattle.toml_names.specs.tree.LongKeys.{CanEnter, CanEnterHeader, CanEnterHeaders, FollowedFronts, IsLongKey, key_named};
+ghost use Rattle.toml_names.specs.tree.LongKeys.{CanEnter, CanEnterHeader, IsLongKey};
 ghost use Rattle.toml_names.specs.mentions.Mentions as mentions;
-ghost use Rattle.toml_names.specs.mentions.Mentions.{fronts, pair_named};
+ghost use Rattle.toml_names.specs.mentions.Mentions.{pair_named};
 ghost use Rattle.toml_names.specs.reader.Names.{header_end};
 ghost use Rattle.toml_names.specs.tree.NameTree.{IsTree, Clashes, ClashesAfter, EntersTo};
 ghost use Rattle.toml_names.specs.tree.Nodes.{address_at};
 ghost use Rattle.toml_names.specs.mentions.Rules.{max_steps};
 ghost use Rattle.toml_names.specs.tree.Steps.{IsNode, Steps};
 
-use crate::meaning::keys::{kind_of, spelled_name};
 use crate::mentions::mention::{Kind, Role};
 use crate::mentions::rules::MAX_STEPS;
 use crate::tree::name_tree::{EnterFault, NameTree};
-use toml_tree::{Key, KeyVal, Piece, Value};
+use toml_tree::{Key, KeyVal, Value};
 
 impl<'t> NameTree<'t> {
-    /// Enters the proper fronts of a dotted key that are there, and gives the table of the last of them and the key's
-    /// last part; none where one of them is new.
-    fn enter_known(
-        &mut self,
-        at: usize,
-        key: &Key<'t>,
-        line: usize,
-    ) -> Result<Option<(usize, Piece<'t>)>, EnterFault>
-        requires there { IsNode self.old.nodes.items at }
-        ensures { let before = self.old.nodes.items in
-            let after = self.new.nodes.items in
-            let here = address_at before at in
-            let names = key_names (tree_key key.now) in
-            Steps (length key.now.rest.items) self.old self.new result
-            (λ r. MatchOption r ((k : mentions.Kind) → CanEnter before (key_named line here names k))
-            (λ w. FollowedFronts before after line here w.0 (part_name (piece w.1)) names))
-            (Clashes before (fronts line here names)) }
-    {
-        let mut here = at;
-        let mut part = key.first;
-        for dotted in &key.rest {
-            match self.find(here, &part)? {
-                Some(id) => here = id,
-                None => return Ok(None),
-            }
-            self.mention(here, Role::Dotted, line)?;
-            part = dotted.part;
-        }
-        Ok(Some((here, part)))
-    }
-
-    /// Passes through the proper fronts of a header's key that are there, from the root, and gives the table of the last
-    /// of them and the key's last part; none where one of them is new.
-    fn pass_known(
-        &mut self,
-        key: &Key<'t>,
-        line: usize,
-    ) -> Result<Option<(usize, Piece<'t>)>, EnterFault>
-        requires tree { IsTree self.old.nodes.items }
-        ensures { let before = self.old.nodes.items in
-            let after = self.new.nodes.items in
-            let names = key_names (tree_key key.now) in
-            Steps (length key.now.rest.items) self.old self.new result
-            (λ r. MatchOption r (CanEnterHeaders before line names)
-            (λ w. PassedFronts before after line w.0 (part_name (piece w.1)) names))
-            (ClashesAfter before (λ ms. header_fronts line ms [] names)) }
-    {
-        let mut here = 0;
-        let mut part = key.first;
-        for dotted in &key.rest {
-            match self.find(here, &part)? {
-                Some(found) => here = self.inner(found),
-                None => return Ok(None),
-            }
-            self.mention(here, Role::Passed, line)?;
-            part = dotted.part;
-        }
-        Ok(Some((here, part)))
-    }
-
     /// Enters a pair in the table of a node, and gives the node of its value; none where it goes, its value is a scalar
     /// and its address is too long.
     pub fn pair_unless_long(
@@ -104,39 +42,9 @@ impl<'t> NameTree<'t> {
     {
         let key = &pair.assign.key;
         if !is_scalar(&pair.value) || !is_long(self.nodes[at].depth(), key) {
-            return Ok(Some(self.enter_pair(at, pair, line)?));
+            return self.enter_pair(false, at, pair, line);
         }
-        match self.enter_known(at, key, line)? {
-            Some((here, part)) => Ok(Some(self.enter_valued(
-                here,
-                part,
-                kind_of(&pair.value),
-                line,
-            )?)),
-            None => Ok(None),
-        }
-    }
-
-    /// Passes through the proper fronts of a header's key, from the root, and gives the table of the last of them and the
-    /// key's last part; none where the key is too long and one of the fronts is new.
-    fn pass_header(
-        &mut self,
-        key: &Key<'t>,
-        line: usize,
-    ) -> Result<Option<(usize, Piece<'t>)>, EnterFault>
-        requires tree { IsTree self.old.nodes.items }
-        ensures { let before = self.old.nodes.items in
-            let after = self.new.nodes.items in
-            let names = key_names (tree_key key.now) in
-            Steps (length key.now.rest.items) self.old self.new result
-            (λ r. MatchOption r (CanEnterHeaders before line names × IsLongKey [] names)
-            (λ w. PassedFronts before after line w.0 (part_name (piece w.1)) names))
-            (ClashesAfter before (λ ms. header_fronts line ms [] names)) }
-    {
-        if !is_long(0, key) {
-            return Ok(Some(self.pass_fronts(key, line)?));
-        }
-        self.pass_known(key, line)
+        self.enter_pair(true, at, pair, line)
     }
 
     /// Enters a table's header, and gives the table's node; none where it goes and its address is too long.
@@ -154,14 +62,8 @@ impl<'t> NameTree<'t> {
             (λ id. EntersHeader before after id (table_names line names) (λ ms. header_end ms [] names)))
             (ClashesAfter before (table_names line names)) }
     {
-        match self.pass_header(key, line)? {
-            Some((here, part)) => Ok(Some(self.enter(
-                here,
-                part,
-                Role::Header,
-                Kind::Table,
-                line,
-            )?)),
+        match self.pass_fronts(key, line)? {
+            Some((here, part)) => self.enter(false, here, part, Role::Header, Kind::Table, line),
             None => Ok(None),
         }
     }
@@ -182,7 +84,7 @@ impl<'t> NameTree<'t> {
             (λ id. EntersHeader before after id (tables_names line names) (λ ms. next_table ms names)))
             (ClashesAfter before (tables_names line names)) }
     {
-        match self.pass_header(key, line)? {
+        match self.pass_fronts(key, line)? {
             Some((here, part)) => Ok(Some(self.enter_tables(here, part, line)?)),
             None => Ok(None),
         }
@@ -190,7 +92,7 @@ impl<'t> NameTree<'t> {
 }
 
 /// Whether a key, from an address of so many steps, is too long for an address.
-fn is_long(depth: usize, key: &Key<'_>) -> bool
+pub fn is_long(depth: usize, key: &Key<'_>) -> bool
     ensures { IsTrue result → max_steps < depth + length (key_names (tree_key key.now)) }
 {
     depth.saturating_add(key.rest.len()) >= MAX_STEPS

@@ -1,5 +1,5 @@
 //! The tree of names, and the changes that a line makes in it.
-ghost use Rattle.std.specs.Prelude.{◌∷◌, ◌≡◌, ◌+◌, ◌<◌, ◌≤◌, length, min, false, OnOk, OnErr, IfOk, slice_index_or, vec_len, []};
+ghost use Rattle.std.specs.Prelude.{◌∷◌, ◌≡◌, ◌+◌, ◌<◌, ◌≤◌, length, min, true, false, MatchOption, OnOk, OnErr, IfOk, slice_index_or, vec_len, []};
 ghost use Rattle.std.specs.Map.{lookup};
 ghost use Rattle.std.specs.Str.{bytes_eq};
 ghost use Rattle.toml_tree.specs.View.{piece};
@@ -9,7 +9,7 @@ ghost use Rattle.toml_names.specs.mentions.Keys.{part_name};
 ghost use Rattle.toml_names.specs.mentions.Local.{role_after};
 ghost use Rattle.toml_names.specs.mentions.Mentions as mentions;
 ghost use Rattle.toml_names.specs.mentions.Mentions.{is_tables};
-ghost use Rattle.toml_names.specs.tree.NameTree.{IsTree, IsTreeOf, IsFound};
+ghost use Rattle.toml_names.specs.tree.NameTree.{IsAbsent, IsTree, IsTreeOf, IsFound};
 ghost use Rattle.toml_names.specs.tree.Nodes.{Spot, AreSteps, address_at, last_step, noted, reverted, undone};
 ghost use Rattle.toml_names.specs.tree.Steps.{GoesOn, Grows, IsBarred, IsNode, IsNoted, Steps};
 ghost use Rattle.toml_names.specs.mentions.View.{kind as kind_of};
@@ -212,6 +212,33 @@ impl<'t> NameTree<'t> {
         self.nodes.push(Node::leaf(under, depth, role, kind, line))?;
         self.changes.push(Change::NameLinked(above))?;
         Ok(Found::New(id))
+    }
+
+    /// The node that a key part's name leads to, or else a new one for it; none where it leads nowhere and only names that
+    /// are there are followed. A look-up, which is counted.
+    pub fn follow(
+        &mut self,
+        known: bool,
+        above: usize,
+        part: Piece<'t>,
+        role: Role,
+        kind: Kind<'t>,
+        line: usize,
+    ) -> Result<Option<Found>, AllocError>
+        requires there { IsNode self.old.nodes.items above }
+        ensures found { let before = self.old.nodes.items in
+            let name = part_name (piece part.entry) in
+            IfOk result (λ r. MatchOption r ((known ≡ true) × IsAbsent before above name)
+            (IsFound before self.new.nodes.items above name role (kind_of kind.entry) line)) }
+        ensures goes_on { GoesOn 1 self.old self.new }
+    {
+        if !known {
+            return Ok(Some(self.find_or_grow(above, part, role, kind, line)?));
+        }
+        match self.find(above, &part)? {
+            Some(id) => Ok(Some(Found::Known(id))),
+            None => Ok(None),
+        }
     }
 
     /// A new node, for the next element of an array.

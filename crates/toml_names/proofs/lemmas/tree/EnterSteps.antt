@@ -3,7 +3,7 @@ use Rattle.std.proofs.Common.{◌≡◌, ℕ, ◌≤◌, Bool, true, false, List
 use Rattle.std.proofs.lemmas.List.{append_assoc, append-nil}
 use Rattle.toml_names.specs.model.Addresses.{Address}
 use Rattle.toml_names.specs.mentions.Mentions.{Named}
-use Rattle.toml_names.specs.tree.NameTree.{IsTree, IsTreeOf, KeepsAddresses, KeepsElements, KeepsOthers, Enters, EntersInside, Clashes}
+use Rattle.toml_names.specs.tree.NameTree.{IsTree, IsTreeOf, KeepsAddresses, KeepsElements, KeepsOthers, Enters, Clashes}
 use Rattle.toml_names.specs.tree.Nodes.{Spot}
 use Rattle.toml_names.specs.mentions.Rules.{fits, misfit}
 use Rattle.toml_names.proofs.lemmas.mentions.Misfits.{misfit-here, misfit-later, fits-from_misfit}
@@ -57,9 +57,6 @@ Enters-none a tree = record {
   stands = λ ms stands. subst (IsTreeOf a) (sym (append-nil ms)) stands;
   goes = λ ms stands. refl;
 }
-
-pub EntersInside-none : (a : List Spot) (id : ℕ) → IsTree a → EntersInside a a [] id
-EntersInside-none a id tree = record { enters = Enters-none a tree; elements = KeepsOthers-same id a }
 
 -- one part and then another
 pub Enters-append : {a b c : List Spot} (xs ys : List Named) → Enters a b xs → Enters b c ys → Enters a c (xs ++ ys)

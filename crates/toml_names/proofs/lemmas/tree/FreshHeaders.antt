@@ -7,9 +7,10 @@ use Rattle.toml_names.specs.tree.EnteringHeaders.{PassedFronts}
 use Rattle.toml_names.specs.mentions.Keys.{Key}
 use Rattle.toml_names.specs.tree.LongKeys.{CanEnterHeaders}
 use Rattle.toml_names.specs.mentions.Mentions.{a_table, an_array}
+use Rattle.toml_names.specs.tree.NameTree.{IsAbsent}
 use Rattle.toml_names.specs.tree.Nodes.{Spot, grown}
 use Rattle.toml_names.proofs.lemmas.tree.EnterName.{Enters-new, LeadsTo-new, KeepsElements-new}
-use Rattle.toml_names.proofs.lemmas.tree.FreshKeys.{IsAbsent, absent-new}
+use Rattle.toml_names.proofs.lemmas.tree.FreshKeys.{absent-new}
 use Rattle.toml_names.proofs.lemmas.tree.HeaderLines.{table_line, tables_line}
 use Rattle.toml_names.proofs.lemmas.tree.InnerNodes.{Passes-new}
 use Rattle.toml_names.proofs.lemmas.tree.NextTables.{adds_first}

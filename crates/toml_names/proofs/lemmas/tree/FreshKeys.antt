@@ -1,5 +1,5 @@
 -- A dotted key whose next name is new: all behind it is new too, so that nodes for it can be added.
-use Rattle.std.proofs.Common.{◌≡◌, ℕ, ◌<◌, List, [], ◌∷◌, ◌++◌, length, map, None, refl, sym, ap, subst, ◌∙◌, slice_index_or}
+use Rattle.std.proofs.Common.{◌≡◌, ℕ, ◌<◌, List, [], ◌∷◌, ◌++◌, length, map, refl, sym, ap, subst, ◌∙◌, slice_index_or}
 use Rattle.std.proofs.lemmas.List.{append_assoc}
 use Rattle.std.specs.Map.{lookup}
 use Rattle.std.specs.Str.{bytes_eq}
@@ -10,15 +10,11 @@ use Rattle.toml_names.specs.model.Addresses.{Address, child}
 use Rattle.toml_names.specs.mentions.Keys.{Key}
 use Rattle.toml_names.specs.tree.LongKeys.{CanEnter, key_named}
 use Rattle.toml_names.specs.mentions.Mentions.{Kind, a_table, table_at, fronts}
-use Rattle.toml_names.specs.tree.NameTree.{IsTree, Enters, name_at}
+use Rattle.toml_names.specs.tree.NameTree.{IsTree, IsAbsent, Enters, name_at}
 use Rattle.toml_names.specs.tree.Nodes.{Spot, address_at, grown}
 use Rattle.toml_names.proofs.lemmas.tree.EnterName.{Enters-new, LeadsTo-new}
 use Rattle.toml_names.proofs.lemmas.tree.EnterSteps.{Enters-append}
 use Rattle.toml_names.proofs.lemmas.tree.TreeGrown.{node-last}
-
--- the name leads nowhere from the node
-abbrev pub IsAbsent : List Spot → ℕ → List ℕ → Type 0
-IsAbsent nodes at n = (d : Spot) → lookup (bytes_eq n) (slice_index_or nodes at d).children ≡ None
 
 -- from a node that was just made no name leads anywhere
 pub absent-new : (nodes : List Spot) (at : ℕ) (e : Spot) (n m : List ℕ) (r : Role) (k : Kind) (line : ℕ) → at < length nodes

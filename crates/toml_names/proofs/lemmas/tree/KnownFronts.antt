@@ -1,8 +1,6 @@
 -- A dotted key's fronts that are there already, one by one, up to the first name that is new.
-use Rattle.std.proofs.Common.{◌≡◌, ℕ, ◌+◌, ◌<◌, List, [], ◌∷◌, ◌++◌, length, map, take, drop, Some, refl, sym, ap, subst, ◌∙◌, slice_index_or}
+use Rattle.std.proofs.Common.{◌≡◌, ℕ, ◌+◌, ◌<◌, List, [], ◌∷◌, ◌++◌, length, map, take, drop, sym, ap, subst, ◌∙◌, slice_index_or}
 use Rattle.std.proofs.lemmas.List.{append_assoc, map-append}
-use Rattle.std.specs.Map.{lookup}
-use Rattle.std.specs.Str.{bytes_eq}
 use Rattle.toml_tree.specs.declared.tree.Dotted.{Dotted as Part}
 use Rattle.toml_tree.specs.View.{piece}
 use Rattle.toml_names.specs.declared.model.address.Step.TheVariants.{Name}
@@ -10,15 +8,13 @@ use Rattle.toml_names.specs.declared.mentions.mention.Role.TheVariants.{Dotted, 
 use Rattle.toml_names.specs.model.Addresses.{Address, below}
 use Rattle.toml_names.specs.mentions.Keys.{Key, part_name}
 use Rattle.toml_names.specs.tree.LongKeys.{CanEnter, FollowedFronts, key_named}
-use Rattle.toml_names.specs.mentions.Mentions.{Kind, Named, a_table, table_at, fronts}
-use Rattle.toml_names.specs.tree.NameTree.{Enters, Clashes, name_at}
+use Rattle.toml_names.specs.mentions.Mentions.{Kind, Named, table_at, fronts}
+use Rattle.toml_names.specs.tree.NameTree.{IsAbsent, Enters}
 use Rattle.toml_names.specs.tree.Nodes.{Spot, address_at}
-use Rattle.toml_names.specs.tree.Steps.{IsBarred, IsNoted}
 use Rattle.toml_names.proofs.lemmas.mentions.Along.{names_left}
-use Rattle.toml_names.proofs.lemmas.tree.EnterFronts.{first_names, all_names, fronts-append, FollowedFronts-more, Clashes-fronts}
-use Rattle.toml_names.proofs.lemmas.tree.EnterName.{Clashes-found, EntersTo-found, found-within}
+use Rattle.toml_names.proofs.lemmas.tree.EnterFronts.{first_names, all_names, fronts-append}
 use Rattle.toml_names.proofs.lemmas.tree.EnterSteps.{Enters-append}
-use Rattle.toml_names.proofs.lemmas.tree.FreshKeys.{IsAbsent, fresh_key, named-more}
+use Rattle.toml_names.proofs.lemmas.tree.FreshKeys.{fresh_key, named-more}
 
 -- a whole key's own name
 abbrev end : ℕ → Kind → Address → Named
@@ -37,22 +33,6 @@ module _ (first : List ℕ) (rest : List Part) (i : ℕ) (d : Part) (low : i < l
     (old now : List Spot) (line : ℕ) (at : Address) (here : ℕ) (part : List ℕ) (followed : FollowedFronts old now line at here part (first_names first rest i)) where
   abbrev n : List ℕ
   n = part_name (piece d.part)
-
-  -- the next name leads to a node
-  module _ (id : ℕ) (e : Spot) (found : lookup (bytes_eq part) (slice_index_or now here e).children ≡ Some id) where
-    pub followed-within : id < length now
-    followed-within = found-within now followed.entered.tree here followed.within part e id found
-
-    pub followed-noted : (next : List Spot) → IsNoted now next id Dotted line → FollowedFronts old next line at id n (first_names first rest (i + 1))
-    followed-noted next noted_is =
-        FollowedFronts-more first rest i d low is old now line at here part followed next id
-        (rw (noted_is.nodes e) (EntersTo-found now followed.entered.tree here followed.within part e id found Dotted a_table line e refl (noted_is.goes e)))
-
-    pub followed-barred : (a : Address) → IsBarred now id Dotted a → Clashes old (fronts line at (first ∷ names_left rest)) a
-    followed-barred a barred =
-        Clashes-fronts first rest i d low is old now line at here part followed a
-        (subst (Clashes now (name_at now here part Dotted a_table line ∷ [])) barred.address
-        (Clashes-found now followed.entered.tree here followed.within part e id found Dotted a_table line e (barred.bad e)))
 
   -- it leads nowhere
   pub followed-fresh : IsAbsent now here part → (e : Spot) (k : Kind) → CanEnter old (key_named line at (first ∷ names_left rest) k)

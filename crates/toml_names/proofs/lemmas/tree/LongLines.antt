@@ -1,5 +1,5 @@
 -- A line whose own address is too long.
-use Rattle.std.proofs.Common.{◌≡◌, ℕ, ◌+◌, ◌<◌, ◌≤◌, ◌-◌, ◌==◌, Bool, true, false, cond, List, [], ◌∷◌, ◌++◌, length, map, Option, Some, None, MatchOption, refl, ap, subst, ◌∙◌, arith}
+use Rattle.std.proofs.Common.{◌≡◌, ℕ, ◌+◌, ◌<◌, ◌≤◌, ◌-◌, ◌==◌, Bool, true, false, cond, List, [], ◌∷◌, ◌++◌, length, map, Some, None, refl, ap, subst, ◌∙◌, arith}
 use Rattle.std.proofs.lemmas.List.Elements.{All-head}
 use Rattle.std.proofs.lemmas.List.{length-append, length-map, length_push}
 use Rattle.toml_tree.specs.Tree.{Piece, Blank, Header, KeyVal, KeyValLine, TableLine, ArrayTableLine, Expr}
@@ -17,11 +17,6 @@ use Rattle.toml_names.specs.mentions.Rules.{max_steps, misfit}
 use Rattle.toml_names.proofs.lemmas.tree.EnterLines.{table_entered, tables_entered}
 use Rattle.toml_names.proofs.lemmas.mentions.NextLine.{IsShort-behind}
 use Rattle.toml_names.proofs.lemmas.tree.ShortNodes.{OfShort, short_nodes}
-
--- where nothing was found, the key is too long
-pub or_too_long : {A L : Type 0} (N : Type 0) (Finds : A → Type 0) → L → (r : Option A) → MatchOption r N Finds → MatchOption r (N × L) Finds
-or_too_long N Finds long None none = (none, long)
-or_too_long N Finds long (Some x) found = found
 
 -- a header's end has as many steps as its key has names, and more
 entered_longer : (ms : List Named) (at : Address) → length at ≤ length (entered ms at)

@@ -1,5 +1,6 @@
 -- Steps of the tree of names, one after the other.
-use Rattle.std.proofs.Common.{◌≡◌, ℕ, ◌+◌, ◌≤◌, Result, Err, refl, ◌∙◌, arith}
+use Rattle.std.proofs.Common.{Option, Some, None, MatchOption, true, false, ◌≡◌, ℕ, ◌+◌, ◌≤◌, Result, Err, refl, ◌∙◌, arith}
+use Rattle.std.proofs.lemmas.Bool.{false≢true}
 use Rattle.std.proofs.lemmas.Result.{IfOk-weaker, IfErr-weaker}
 use Rattle.toml_names.specs.declared.tree.name_tree.EnterFault.{EnterFault}
 use Rattle.toml_names.specs.declared.tree.name_tree.NameTree.{NameTree as Tree}
@@ -41,6 +42,15 @@ follows {k = k} {r = r} before step few all bars = record {
   clash = IfErr-weaker r _ _ (λ e clash a at. bars a (clash a at)) step.clash;
   goes_on = GoesOn-then before step.goes_on k few;
 }
+
+-- where new names are wanted too, something is found
+pub found_by : {A : Type 0} (N M : Type 0) (S T : A → Type 0) → ((x : A) → S x → T x) → (r : Option A) → MatchOption r ((false ≡ true) × N) S → MatchOption r M T
+found_by N M S T more None none = absurd (false≢true none.0)
+found_by N M S T more (Some x) found = more x found
+
+pub surely : {A : Type 0} (N : Type 0) (S : A → Type 0) (r : Option A) → MatchOption r ((false ≡ true) × N) S → (x : A) × S x
+surely N S None none = absurd (false≢true none.0)
+surely N S (Some x) found = (x, found)
 
 -- some of the key parts of a whole were looked up, and the others are left
 pub record GoesOnTo (left whole : ℕ) (old new : Tree) : Type 0 where

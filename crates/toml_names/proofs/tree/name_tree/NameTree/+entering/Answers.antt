@@ -1,4 +1,4 @@
-use Rattle.std.proofs.Common.{◌+◌, ◌∷◌, sym, ap, subst, ◌∙◌, map, length, arith}
+use Rattle.std.proofs.Common.{◌≡◌, ℕ, true, ◌+◌, ◌∷◌, sym, ap, subst, ◌∙◌, map, length, arith}
 use Rattle.std.proofs.lemmas.List.{drop_all}
 use Rattle.std.proofs.lemmas.Result.{err_from_is_err_and}
 use Rattle.std.specs.Prelude.{is_some}
@@ -9,6 +9,7 @@ use Rattle.toml_tree.proofs.Proved.{keyval_is}
 use Rattle.toml_names.specs.mentions.Keys.{part_name, key_names}
 use Rattle.toml_names.specs.mentions.KeyParts.{value_key_parts, keyval_key_parts}
 use Rattle.toml_names.specs.model.Addresses.{below}
+use Rattle.toml_names.specs.tree.LongKeys.{CanEnterKey}
 use Rattle.toml_names.specs.mentions.Mentions.{fronts, value_named, inside, pair_named}
 use Rattle.toml_names.specs.declared.mentions.mention.Role.TheVariants.{Valued}
 use Rattle.toml_names.specs.tree.NameTree.{Clashes, EntersTo}
@@ -19,7 +20,7 @@ use Rattle.toml_names.proofs.lemmas.mentions.Inside.{elements_of, members_of}
 use Rattle.toml_names.proofs.lemmas.tree.ItemsEntered.{no_elements, entered-all}
 use Rattle.toml_names.proofs.lemmas.tree.PairEntered.{pair-parts, own-clash, within-clash, EntersTo-pair}
 use Rattle.toml_names.proofs.lemmas.mentions.PartsInside.{parts_of_elements, parts_of_members}
-use Rattle.toml_names.proofs.lemmas.tree.Steps.{GoesOn-same, GoesOn-then, GoesOnTo-begin, GoesOnTo-more, GoesOnTo-within, refuses}
+use Rattle.toml_names.proofs.lemmas.tree.Steps.{GoesOn-same, GoesOn-then, GoesOnTo-begin, GoesOnTo-more, GoesOnTo-within, GoesOn-within, surely, refuses}
 use Rattle.toml_names.proofs.lemmas.tree.ValueEntered.{parts-next_element, parts-next_pair, array-begin, array-parts, table-begin, table-parts, element-clash, element-more, pair-clash, pair-more}
 use Rattle.toml_names.proofs.tree.name_tree.NameTree.+entering.Goals as goal
 
@@ -101,10 +102,13 @@ enter_inside-loop-pair-preserved t c =
     let next = c.enter_pair.new.self.nodes.items in
     let entered = c.loop-pair.invariant.entered in
     let parts = parts-next_pair c.deref-pair-items.result.now c.loop-pair.pair-index c.pair-item.result c.loop-pair-test.true c.pair-item.is in
+    let from = address_at now c.args.id in
+    let pair = keyval c.pair-item.result.keyval in
+    let made : (id : ℕ) × EntersTo now next (pair_named c.args.line from pair.assign pair.value) (below from (key_names pair.assign.key)) id = surely _ _ _ c.in_ok-enter_pair-in-Inline.ensures.made in
     record {
       entered = pair-more start now c.args.id c.loop-pair.pair-index c.args.line c.args.v.now c.deref-pair-items.result.now c.pair-item.result
-          c.requires.there.within c.loop-pair-test.true c.pair-item.is entered next c.in_ok-enter_pair-in-Inline.ensures.made.enters;
-      kept = KeepsElements-then start now next entered.enters.kept.longer c.loop-pair.invariant.kept c.in_ok-enter_pair-in-Inline.ensures.made.elements;
+          c.requires.there.within c.loop-pair-test.true c.pair-item.is entered next made.1.enters;
+      kept = KeepsElements-then start now next entered.enters.kept.longer c.loop-pair.invariant.kept made.1.elements;
       goes_on = GoesOnTo-more c.loop-pair.invariant.goes_on parts c.enter_pair.ensures.goes_on;
     }
 
@@ -132,32 +136,32 @@ enter_pair-returns-in_err-here t c =
     subst (λ (k : KeyVal). Clashes start (pair_named c.args.line at k.assign k.value) a) (sym (keyval_is c.args.pair.now))
     (Clashes-front (fronts c.args.line at names) (value_named c.args.line Valued (below at names) v ∷ inside c.args.line (below at names) v) a clash))
 
-pub enter_pair-returns-in_err-id : goal.enter_pair-returns-in_err-id
-enter_pair-returns-in_err-id t c =
+pub enter_pair-returns-in_err-id-in-Some : goal.enter_pair-returns-in_err-id-in-Some
+enter_pair-returns-in_err-id-in-Some t c =
     let start = c.args.self.now.nodes.items in
     let names = key_names (key c.args.pair.now.assign.key) in
     let at = address_at start c.args.at in
     let parts = pair-parts c.args.pair.now in
-    refuses c.enter_fronts.ensures.goes_on c.in_err-id.ensures.enters (err_from_is_err_and c.from_residual-in_err-id.result c.from_residual-in_err-id.ensures.1) (omega (arith, parts)) (λ a clash.
+    refuses c.enter_fronts.ensures.goes_on c.in_err-id-in-Some.ensures.enters (err_from_is_err_and c.from_residual-in_err-id-in-Some.result c.from_residual-in_err-id-in-Some.ensures.1) (omega (arith, parts)) (λ a clash.
     subst (λ (k : KeyVal). Clashes start (pair_named c.args.line at k.assign k.value) a) (sym (keyval_is c.args.pair.now))
-    (own-clash start c.enter_fronts.new.self.nodes.items c.enter_valued.new.self.nodes.items c.in_ok-here.here c.args.line (part_name (piece c.in_ok-here.part))
-    (kind c.kind_of.result) (value c.args.pair.now.value) at names c.in_ok-here.ensures.made c.kind_of.ensures a clash))
+    (own-clash start c.enter_fronts.new.self.nodes.items c.enter_valued.new.self.nodes.items c.in-Some.here c.args.line (part_name (piece c.in-Some.part))
+    (kind c.kind_of.result) (value c.args.pair.now.value) at names (rw c.in-Some.is at c.in_ok-here.ensures.made) c.kind_of.ensures a clash))
 
-pub enter_pair-returns-in_err-enter_inside : goal.enter_pair-returns-in_err-enter_inside
-enter_pair-returns-in_err-enter_inside t c =
+pub enter_pair-returns-in_err-enter_inside-in-Some : goal.enter_pair-returns-in_err-enter_inside-in-Some
+enter_pair-returns-in_err-enter_inside-in-Some t c =
     let start = c.args.self.now.nodes.items in
     let names = key_names (key c.args.pair.now.assign.key) in
     let at = address_at start c.args.at in
     let parts = pair-parts c.args.pair.now in
-    refuses (GoesOn-then c.enter_fronts.ensures.goes_on c.enter_valued.ensures.enters.goes_on (length c.args.pair.now.assign.key.rest.items + 1) (omega arith)) c.in_err-enter_inside.ensures
-    (err_from_is_err_and c.from_residual-in_err-enter_inside.result c.from_residual-in_err-enter_inside.ensures.1) (omega (arith, parts)) (λ a clash.
+    refuses (GoesOn-then c.enter_fronts.ensures.goes_on c.enter_valued.ensures.enters.goes_on (length c.args.pair.now.assign.key.rest.items + 1) (omega arith)) c.in_err-enter_inside-in-Some.ensures
+    (err_from_is_err_and c.from_residual-in_err-enter_inside-in-Some.result c.from_residual-in_err-enter_inside-in-Some.ensures.1) (omega (arith, parts)) (λ a clash.
     subst (λ (k : KeyVal). Clashes start (pair_named c.args.line at k.assign k.value) a) (sym (keyval_is c.args.pair.now))
-    (within-clash start c.enter_fronts.new.self.nodes.items c.enter_valued.new.self.nodes.items c.in_ok-here.here c.args.line (part_name (piece c.in_ok-here.part))
-    (kind c.kind_of.result) (value c.args.pair.now.value) at names c.in_ok-here.ensures.made c.kind_of.ensures
-    c.in_ok-id.id c.in_ok-id.ensures.enters.made a clash))
+    (within-clash start c.enter_fronts.new.self.nodes.items c.enter_valued.new.self.nodes.items c.in-Some.here c.args.line (part_name (piece c.in-Some.part))
+    (kind c.kind_of.result) (value c.args.pair.now.value) at names (rw c.in-Some.is at c.in_ok-here.ensures.made) c.kind_of.ensures
+    c.in_ok-id-in-Some.id c.in_ok-id-in-Some.ensures.enters.made a clash))
 
-pub enter_pair-returns : goal.enter_pair-returns
-enter_pair-returns t c =
+pub enter_pair-returns-in_ok-enter_inside-in-Some : goal.enter_pair-returns-in_ok-enter_inside-in-Some
+enter_pair-returns-in_ok-enter_inside-in-Some t c =
     let start = c.args.self.now.nodes.items in
     let last = c.enter_inside.new.self.nodes.items in
     let names = key_names (key c.args.pair.now.assign.key) in
@@ -165,10 +169,20 @@ enter_pair-returns t c =
     let parts = pair-parts c.args.pair.now in
     let own = GoesOn-then c.enter_fronts.ensures.goes_on c.enter_valued.ensures.enters.goes_on (length c.args.pair.now.assign.key.rest.items + 1) (omega arith) in
     record {
-      made = subst (λ (k : KeyVal). EntersTo start last (pair_named c.args.line at k.assign k.value) (below at (key_names k.assign.key)) c.in_ok-id.id) (sym (keyval_is c.args.pair.now))
-          (EntersTo-pair start c.enter_fronts.new.self.nodes.items c.enter_valued.new.self.nodes.items c.in_ok-here.here c.args.line (part_name (piece c.in_ok-here.part))
-          (kind c.kind_of.result) (value c.args.pair.now.value) at names c.in_ok-here.ensures.made c.kind_of.ensures
-          c.in_ok-id.id c.in_ok-id.ensures.enters.made last c.in_ok-id.ensures.lone.0 c.in_ok-enter_inside.ensures.made);
+      made = subst (λ (k : KeyVal). EntersTo start last (pair_named c.args.line at k.assign k.value) (below at (key_names k.assign.key)) c.in_ok-id-in-Some.id) (sym (keyval_is c.args.pair.now))
+          (EntersTo-pair start c.enter_fronts.new.self.nodes.items c.enter_valued.new.self.nodes.items c.in-Some.here c.args.line (part_name (piece c.in-Some.part))
+          (kind c.kind_of.result) (value c.args.pair.now.value) at names (rw c.in-Some.is at c.in_ok-here.ensures.made) c.kind_of.ensures
+          c.in_ok-id-in-Some.id c.in_ok-id-in-Some.ensures.enters.made last c.in_ok-id-in-Some.ensures.lone.0 c.in_ok-enter_inside-in-Some.ensures.made);
       clash = tt;
       goes_on = GoesOn-then own c.enter_inside.ensures.goes_on (keyval_key_parts (keyval c.args.pair.now).assign (keyval c.args.pair.now).value) (omega (arith, parts));
+    }
+
+pub enter_pair-returns-in-None : goal.enter_pair-returns-in-None
+enter_pair-returns-in-None t c =
+    let parts = pair-parts c.args.pair.now in
+    record {
+      made = subst (λ (k : KeyVal). (c.args.known ≡ true) × CanEnterKey c.args.self.now.nodes.items c.args.line (address_at c.args.self.now.nodes.items c.args.at) (key_names k.assign.key)) (sym (keyval_is c.args.pair.now))
+          (rw c.in-None.is at c.in_ok-here.ensures.made);
+      clash = tt;
+      goes_on = GoesOn-within c.enter_fronts.ensures.goes_on (keyval_key_parts (keyval c.args.pair.now).assign (keyval c.args.pair.now).value) (omega (arith, parts));
     }

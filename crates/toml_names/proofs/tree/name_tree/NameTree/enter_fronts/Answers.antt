@@ -1,13 +1,14 @@
-use Rattle.std.proofs.Common.{◌≡◌, ◌+◌, ◌∷◌, ap, subst, length, arith}
+use Rattle.std.proofs.Common.{◌≡◌, ◌+◌, ◌∷◌, ap, subst, length, true, arith}
 use Rattle.std.proofs.lemmas.Result.{err_from_is_err_and}
 use Rattle.toml_tree.specs.View.{piece}
 use Rattle.toml_names.specs.mentions.Keys.{part_name}
-use Rattle.toml_names.specs.tree.LongKeys.{FollowedFronts}
+use Rattle.toml_names.specs.tree.LongKeys.{CanEnter, FollowedFronts, key_named}
 use Rattle.toml_names.specs.mentions.Mentions.{fronts}
-use Rattle.toml_names.specs.tree.NameTree.{Clashes}
-use Rattle.toml_names.specs.tree.Nodes.{address_at}
+use Rattle.toml_names.specs.tree.NameTree.{Clashes, IsAbsent}
+use Rattle.toml_names.specs.tree.Nodes.{nowhere, address_at}
 use Rattle.toml_names.proofs.lemmas.mentions.Along.{names_left}
 use Rattle.toml_names.proofs.lemmas.tree.EnterFronts.{all-named, FollowedFronts-first, FollowedFronts-more, Clashes-fronts}
+use Rattle.toml_names.proofs.lemmas.tree.KnownFronts.{followed-fresh}
 use Rattle.toml_names.proofs.lemmas.tree.Steps.{GoesOn-same, GoesOn-within, GoesOn-then, refuses}
 use Rattle.toml_names.proofs.tree.name_tree.NameTree.enter_fronts.Goals as goal
 
@@ -20,16 +21,34 @@ loop-dotted-init c = record {
 pub enter-requires-clause-there : goal.enter-requires-clause-there
 enter-requires-clause-there c = record { tree = c.loop-dotted.invariant.followed.entered.tree; within = c.loop-dotted.invariant.followed.within }
 
-pub returns-in_err-here : goal.returns-in_err-here
-returns-in_err-here c =
+pub returns-in_err-id : goal.returns-in_err-id
+returns-in_err-id c =
     let first = part_name (piece c.args.key.now.first) in
     let old = c.args.self.now.nodes.items in
     let at = address_at old c.args.at in
     let items : length c.deref-dotted-items.result.now ≡ length c.args.key.now.rest.items = ap length c.deref-dotted-items.ensures.value in
-    refuses c.loop-dotted.invariant.goes_on c.in_err-here.ensures (err_from_is_err_and c.from_residual.result c.from_residual.ensures.1) (omega (arith, items, c.loop-dotted-test.true))
+    refuses c.loop-dotted.invariant.goes_on c.in_err-id.ensures (err_from_is_err_and c.from_residual.result c.from_residual.ensures.1) (omega (arith, items, c.loop-dotted-test.true))
     (λ a clash. subst (λ ds. Clashes old (fronts c.args.line at (first ∷ names_left ds)) a) c.deref-dotted-items.ensures.value
     (Clashes-fronts first c.deref-dotted-items.result.now c.loop-dotted.dotted-index c.dotted-item.result c.loop-dotted-test.true c.dotted-item.is
     old c.loop-dotted.self.nodes.items c.args.line at c.loop-dotted.here (part_name (piece c.loop-dotted.part)) c.loop-dotted.invariant.followed a clash))
+
+pub returns-in-None : goal.returns-in-None
+returns-in-None c =
+    let first = part_name (piece c.args.key.now.first) in
+    let old = c.args.self.now.nodes.items in
+    let at = address_at old c.args.at in
+    let items : length c.deref-dotted-items.result.now ≡ length c.args.key.now.rest.items = ap length c.deref-dotted-items.ensures.value in
+    let none : (c.args.known ≡ true) × IsAbsent c.loop-dotted.self.nodes.items c.loop-dotted.here (part_name (piece c.loop-dotted.part)) = rw c.in-None.is at c.in_ok-id.ensures.made in
+    record {
+      made = (
+        none.0,
+        λ k. subst (λ ds. CanEnter old (key_named c.args.line at (first ∷ names_left ds) k)) c.deref-dotted-items.ensures.value
+            (followed-fresh first c.deref-dotted-items.result.now c.loop-dotted.dotted-index c.dotted-item.result c.loop-dotted-test.true c.dotted-item.is
+            old c.loop-dotted.self.nodes.items c.args.line at c.loop-dotted.here (part_name (piece c.loop-dotted.part)) c.loop-dotted.invariant.followed none.1 nowhere k),
+      );
+      clash = tt;
+      goes_on = GoesOn-then c.loop-dotted.invariant.goes_on c.enter.ensures.goes_on (length c.args.key.now.rest.items) (omega (arith, items, c.loop-dotted-test.true));
+    }
 
 pub loop-dotted-preserved : goal.loop-dotted-preserved
 loop-dotted-preserved c =
@@ -37,7 +56,7 @@ loop-dotted-preserved c =
     record {
       followed = FollowedFronts-more (part_name (piece c.args.key.now.first)) c.deref-dotted-items.result.now c.loop-dotted.dotted-index c.dotted-item.result c.loop-dotted-test.true c.dotted-item.is
           old c.loop-dotted.self.nodes.items c.args.line (address_at old c.args.at) c.loop-dotted.here (part_name (piece c.loop-dotted.part)) c.loop-dotted.invariant.followed
-          c.enter.new.self.nodes.items c.in_ok-here.here c.in_ok-here.ensures.made;
+          c.enter.new.self.nodes.items c.in-Some.id (rw c.in-Some.is at c.in_ok-id.ensures.made);
       goes_on = GoesOn-then c.loop-dotted.invariant.goes_on c.enter.ensures.goes_on (c.loop-dotted.dotted-index + 1) (omega arith);
     }
 

@@ -7,7 +7,7 @@ use Rattle.toml_names.specs.tree.LongKeys.{CanEnterHeaders, IsLongKey}
 use Rattle.toml_names.specs.mentions.Mentions.{ends_table}
 use Rattle.toml_names.proofs.lemmas.tree.EnterFronts.{key-length}
 use Rattle.toml_names.proofs.lemmas.tree.HeaderLines.{clash_in_fronts, table_line, table_clash}
-use Rattle.toml_names.proofs.lemmas.tree.Steps.{GoesOn-same, GoesOn-within, GoesOn-then, refuses}
+use Rattle.toml_names.proofs.lemmas.tree.Steps.{GoesOn-same, GoesOn-within, follows, found_by, refuses}
 use Rattle.toml_names.proofs.tree.name_tree.NameTree.table_unless_long.Goals as goal
 
 pub returns-in_err-here : goal.returns-in_err-here
@@ -18,29 +18,18 @@ returns-in_err-here c =
 
 pub enter-requires-clause-there : goal.enter-requires-clause-there
 enter-requires-clause-there c =
-    let passed : PassedFronts c.args.self.now.nodes.items c.pass_header.new.self.nodes.items c.args.line c.in-Some.here (part_name (piece c.in-Some.part)) (key_names (tree_key c.args.key.now)) =
+    let passed : PassedFronts c.args.self.now.nodes.items c.pass_fronts.new.self.nodes.items c.args.line c.in-Some.here (part_name (piece c.in-Some.part)) (key_names (tree_key c.args.key.now)) =
     rw c.in-Some.is at c.in_ok-here.ensures.made in
     record { tree = passed.tree; within = passed.within }
 
-pub returns-in_err-enter-in-Some : goal.returns-in_err-enter-in-Some
-returns-in_err-enter-in-Some c =
-    let passed : PassedFronts c.args.self.now.nodes.items c.pass_header.new.self.nodes.items c.args.line c.in-Some.here (part_name (piece c.in-Some.part)) (key_names (tree_key c.args.key.now)) =
+pub returns-in-Some : goal.returns-in-Some
+returns-in-Some c =
+    let passed : PassedFronts c.args.self.now.nodes.items c.pass_fronts.new.self.nodes.items c.args.line c.in-Some.here (part_name (piece c.in-Some.part)) (key_names (tree_key c.args.key.now)) =
     rw c.in-Some.is at c.in_ok-here.ensures.made in
     let parts = key-length c.args.key.now in
-    refuses c.pass_header.ensures.goes_on c.in_err-enter-in-Some.ensures (err_from_is_err_and c.from_residual-in_err-enter-in-Some.result c.from_residual-in_err-enter-in-Some.ensures.1) (omega (arith, parts))
-    (table_clash c.args.self.now.nodes.items c.pass_header.new.self.nodes.items c.args.line c.in-Some.here (part_name (piece c.in-Some.part)) (part_name (piece c.args.key.now.first)) (rest_names (tree_key c.args.key.now).rest) passed)
-
-pub returns-in_ok-enter-in-Some : goal.returns-in_ok-enter-in-Some
-returns-in_ok-enter-in-Some c =
-    let passed : PassedFronts c.args.self.now.nodes.items c.pass_header.new.self.nodes.items c.args.line c.in-Some.here (part_name (piece c.in-Some.part)) (key_names (tree_key c.args.key.now)) =
-    rw c.in-Some.is at c.in_ok-here.ensures.made in
-    let parts = key-length c.args.key.now in
-    record {
-      made = table_line c.args.self.now.nodes.items c.pass_header.new.self.nodes.items c.args.line c.in-Some.here (part_name (piece c.in-Some.part)) (part_name (piece c.args.key.now.first)) (rest_names (tree_key c.args.key.now).rest) passed
-          c.enter.new.self.nodes.items c.in_ok-enter-in-Some.field-0 c.in_ok-enter-in-Some.ensures.made;
-      clash = tt;
-      goes_on = GoesOn-then c.pass_header.ensures.goes_on c.enter.ensures.goes_on _ (omega (arith, parts));
-    }
+    follows c.pass_fronts.ensures.goes_on c.enter.ensures (omega (arith, parts))
+    (found_by _ _ _ _ (table_line c.args.self.now.nodes.items c.pass_fronts.new.self.nodes.items c.args.line c.in-Some.here (part_name (piece c.in-Some.part)) (part_name (piece c.args.key.now.first)) (rest_names (tree_key c.args.key.now).rest) passed c.enter.new.self.nodes.items))
+    (table_clash c.args.self.now.nodes.items c.pass_fronts.new.self.nodes.items c.args.line c.in-Some.here (part_name (piece c.in-Some.part)) (part_name (piece c.args.key.now.first)) (rest_names (tree_key c.args.key.now).rest) passed)
 
 pub returns-in-None : goal.returns-in-None
 returns-in-None c =
@@ -49,5 +38,5 @@ returns-in-None c =
     record {
       made = (fresh.0.table, fresh.1);
       clash = tt;
-      goes_on = GoesOn-within c.pass_header.ensures.goes_on _ (omega (arith, parts));
+      goes_on = GoesOn-within c.pass_fronts.ensures.goes_on _ (omega (arith, parts));
     }

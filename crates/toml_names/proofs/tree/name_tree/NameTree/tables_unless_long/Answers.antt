@@ -18,28 +18,28 @@ returns-in_err-here c =
 
 pub enter_tables-requires : goal.enter_tables-requires
 enter_tables-requires c =
-    let passed : PassedFronts c.args.self.now.nodes.items c.pass_header.new.self.nodes.items c.args.line c.in-Some.here (part_name (piece c.in-Some.part)) (key_names (tree_key c.args.key.now)) =
+    let passed : PassedFronts c.args.self.now.nodes.items c.pass_fronts.new.self.nodes.items c.args.line c.in-Some.here (part_name (piece c.in-Some.part)) (key_names (tree_key c.args.key.now)) =
     rw c.in-Some.is at c.in_ok-here.ensures.made in
     record { there = record { tree = passed.tree; within = passed.within } }
 
 pub returns-in_err-enter_tables-in-Some : goal.returns-in_err-enter_tables-in-Some
 returns-in_err-enter_tables-in-Some c =
-    let passed : PassedFronts c.args.self.now.nodes.items c.pass_header.new.self.nodes.items c.args.line c.in-Some.here (part_name (piece c.in-Some.part)) (key_names (tree_key c.args.key.now)) =
+    let passed : PassedFronts c.args.self.now.nodes.items c.pass_fronts.new.self.nodes.items c.args.line c.in-Some.here (part_name (piece c.in-Some.part)) (key_names (tree_key c.args.key.now)) =
     rw c.in-Some.is at c.in_ok-here.ensures.made in
     let parts = key-length c.args.key.now in
-    refuses c.pass_header.ensures.goes_on c.in_err-enter_tables-in-Some.ensures (err_from_is_err_and c.from_residual-in_err-enter_tables-in-Some.result c.from_residual-in_err-enter_tables-in-Some.ensures.1) (omega (arith, parts))
-    (tables_clash c.args.self.now.nodes.items c.pass_header.new.self.nodes.items c.args.line c.in-Some.here (part_name (piece c.in-Some.part)) (part_name (piece c.args.key.now.first)) (rest_names (tree_key c.args.key.now).rest) passed)
+    refuses c.pass_fronts.ensures.goes_on c.in_err-enter_tables-in-Some.ensures (err_from_is_err_and c.from_residual-in_err-enter_tables-in-Some.result c.from_residual-in_err-enter_tables-in-Some.ensures.1) (omega (arith, parts))
+    (tables_clash c.args.self.now.nodes.items c.pass_fronts.new.self.nodes.items c.args.line c.in-Some.here (part_name (piece c.in-Some.part)) (part_name (piece c.args.key.now.first)) (rest_names (tree_key c.args.key.now).rest) passed)
 
 pub returns-in_ok-enter_tables-in-Some : goal.returns-in_ok-enter_tables-in-Some
 returns-in_ok-enter_tables-in-Some c =
-    let passed : PassedFronts c.args.self.now.nodes.items c.pass_header.new.self.nodes.items c.args.line c.in-Some.here (part_name (piece c.in-Some.part)) (key_names (tree_key c.args.key.now)) =
+    let passed : PassedFronts c.args.self.now.nodes.items c.pass_fronts.new.self.nodes.items c.args.line c.in-Some.here (part_name (piece c.in-Some.part)) (key_names (tree_key c.args.key.now)) =
     rw c.in-Some.is at c.in_ok-here.ensures.made in
     let parts = key-length c.args.key.now in
     record {
-      made = tables_line c.args.self.now.nodes.items c.pass_header.new.self.nodes.items c.args.line c.in-Some.here (part_name (piece c.in-Some.part)) (part_name (piece c.args.key.now.first)) (rest_names (tree_key c.args.key.now).rest) passed
+      made = tables_line c.args.self.now.nodes.items c.pass_fronts.new.self.nodes.items c.args.line c.in-Some.here (part_name (piece c.in-Some.part)) (part_name (piece c.args.key.now.first)) (rest_names (tree_key c.args.key.now).rest) passed
           c.enter_tables.new.self.nodes.items c.in_ok-enter_tables-in-Some.field-0 c.in_ok-enter_tables-in-Some.ensures.made;
       clash = tt;
-      goes_on = GoesOn-then c.pass_header.ensures.goes_on c.enter_tables.ensures.goes_on _ (omega (arith, parts));
+      goes_on = GoesOn-then c.pass_fronts.ensures.goes_on c.enter_tables.ensures.goes_on _ (omega (arith, parts));
     }
 
 pub returns-in-None : goal.returns-in-None
@@ -49,5 +49,5 @@ returns-in-None c =
     record {
       made = (fresh.0.tables, fresh.1);
       clash = tt;
-      goes_on = GoesOn-within c.pass_header.ensures.goes_on _ (omega (arith, parts));
+      goes_on = GoesOn-within c.pass_fronts.ensures.goes_on _ (omega (arith, parts));
     }
