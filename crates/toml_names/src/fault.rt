@@ -1,3 +1,4 @@
+//! Why names are refused.
 ghost use Rattle.std.specs.Prelude.{◌≡◌};
 ghost use Rattle.toml_names.specs.declared.fault.NameFault.TheVariants as names;
 ghost use Rattle.toml_names.specs.declared.fault.ValueFault.TheVariants as values;

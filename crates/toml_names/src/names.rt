@@ -1,5 +1,6 @@
-//! The names of a document, read.
-ghost use Rattle.std.specs.Prelude.{◌≡◌, ◌↔◌, ◌≤◌, ◌+◌, IsTrue, option_map, option_and_then, slice_get, map, IfOk, IfErr, OnOk};
+//! The names of a document: all at once (`read_names`, `read_lines`), and what a reader of its lines then tells: its data, places
+//! and addresses.
+ghost use Rattle.std.specs.Prelude.{◌≡◌, ◌↔◌, ◌≤◌, IsTrue, option_map, option_and_then, slice_get, map, IfOk, IfErr, OnOk};
 ghost use Rattle.toml_tree.specs.Document.{document};
 ghost use Rattle.toml_tree.specs.Lines.{line as tree_line};
 ghost use Rattle.toml_names.specs.model.Data.{IsDataOf, kind_at};

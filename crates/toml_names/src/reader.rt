@@ -1,5 +1,6 @@
-//! The reader of names, one line after another (TOML v1.0.0, Keys, Table, Inline Table, Array of Tables).
-ghost use Rattle.std.specs.Prelude.{◌≡◌, ◌+◌, ◌++◌, ◌∷◌, [], OnOk, OnErr, IfOk, IfErr, map};
+//! The reader of names, one line after another (TOML v1.0.0, Keys, Table, Inline Table, Array of Tables). What it tells of the
+//! lines that it took stands in `names.rt`.
+ghost use Rattle.std.specs.Prelude.{◌≡◌, ◌++◌, ◌∷◌, [], OnOk, OnErr, IfOk, IfErr, map};
 ghost use Rattle.toml_tree.specs.Lines.{line as tree_line};
 ghost use Rattle.toml_names.specs.mentions.KeyParts.{expr_key_parts};
 ghost use Rattle.toml_names.specs.reader.Names.{AreGood};

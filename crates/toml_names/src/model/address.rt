@@ -1,4 +1,5 @@
-ghost use Rattle.std.specs.Prelude.{◌≡◌, [], length, IfOk};
+//! Addresses: where a thing stands in the data, as a list of steps.
+ghost use Rattle.std.specs.Prelude.{◌≡◌, [], IfOk};
 ghost use Rattle.toml_names.specs.model.Addresses.{same_step};
 
 use crate::model::name::Name;

@@ -1,3 +1,4 @@
+//! Names in tables, whose copies share one text.
 ghost use Rattle.std.specs.Prelude.{◌≡◌, IfOk};
 
 use std::alloc::AllocError;

@@ -14,8 +14,11 @@ use std::marker::Model;
 /// Where a node hangs: under another node, by the text of a key part or by an index.
 #[derive(Clone, Copy, Drop)]
 pub enum Under<'t> {
+    /// Under none: it is the root.
     Root,
+    /// A name in the table of that node.
     Name(usize, &'t str),
+    /// An element of the array of that node.
     Index(usize, u64),
 }
 

@@ -1,9 +1,8 @@
 //! What the finished tree of names tells: the data, the first mentions, and whether addresses are short.
-ghost use Rattle.std.specs.Prelude.{◌≡◌, ◌++◌, ◌<◌, ◌≤◌, ◌↔◌, ℕ, List, Option, IsTrue, IfOk, Some, map, option_map, slice_get, slice_index_or, length, vec_len};
+ghost use Rattle.std.specs.Prelude.{◌≡◌, ◌<◌, ◌≤◌, ◌↔◌, ℕ, List, Option, IsTrue, IfOk, Some, map, option_map, slice_get, slice_index_or, length, vec_len};
 ghost use Rattle.toml_names.specs.declared.mentions.mention.Role.TheVariants.{Bare};
 ghost use Rattle.toml_names.specs.model.Addresses.{Address};
 ghost use Rattle.toml_names.specs.model.Building.{IsOnly};
-ghost use Rattle.toml_names.specs.model.Data.{kind_at, fact_at};
 ghost use Rattle.toml_names.specs.tree.EnteringLines.{IsWithin};
 ghost use Rattle.toml_names.specs.tree.Finished.{IsDatumAt, IsOfKind};
 ghost use Rattle.toml_names.specs.mentions.FirstMentions.{first_mentions};

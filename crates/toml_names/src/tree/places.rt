@@ -1,5 +1,5 @@
 //! Where the things of the data stand in the text, by the finished tree of names.
-ghost use Rattle.std.specs.Prelude.{◌≡◌, ◌∷◌, ◌++◌, ◌<◌, [], ℕ, List, slice_index_or, vec_len};
+ghost use Rattle.std.specs.Prelude.{◌≡◌, ◌∷◌, ◌++◌, ◌<◌, [], List, slice_index_or, vec_len};
 ghost use Rattle.toml_tree.specs.Tree as spelled;
 ghost use Rattle.toml_names.specs.mentions.Mentions as mentions;
 ghost use Rattle.toml_names.specs.tree.NameTree.{IsTree, IsTreeOf};
