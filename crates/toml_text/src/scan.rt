@@ -18,7 +18,8 @@ pub fn ws_len(bytes: &[u8]) -> usize
     bytes.len()
 }
 
-/// The length of the newline at the front, or 0.
+/// The length of the newline at the front, or 0: LF or CR LF. A bare CR is none. As a control character it may not stand
+/// in a comment or a string either, so it is refused wherever it stands (TOML, section Spec; `newline`).
 pub fn newline_len(bytes: &[u8]) -> usize
     ensures value { result ≡ newline_len bytes.now }
     ensures within { result ≤ length bytes.now }

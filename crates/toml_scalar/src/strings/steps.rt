@@ -58,6 +58,7 @@ fn multi_line_basic(bytes: &[u8]) -> Option<Advance>
         b'"' => Some(marks(mark_len(b'"', bytes))),
         b'\\' => Some(Advance::More(1 + multi_line_escape_len(rest)?)),
         b'\n' => Some(Advance::More(1)),
+        // A bare CR is no newline, so no string goes on over it.
         b'\r' => more(newline_len(bytes)),
         _ => more(basic_len(bytes)),
     }
@@ -86,6 +87,7 @@ fn multi_line_literal(bytes: &[u8]) -> Option<Advance>
     match *first {
         b'\'' => Some(marks(mark_len(b'\'', bytes))),
         b'\n' => Some(Advance::More(1)),
+        // A bare CR is no newline, so no string goes on over it.
         b'\r' => more(newline_len(bytes)),
         _ => more(literal_len(bytes)),
     }
