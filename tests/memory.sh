@@ -181,7 +181,7 @@ passes() {
     cat out >>all
     [ -s refused ] || break
   done
-  grep -q 'ok. 1 passed' out || fail "$1: no such test"
+  grep -q '^test result: ok' out || fail "$1: no such test"
   [ "$number" -gt 1 ] || fail "$1: no allocation was refused"
   for said in "${@:2}"; do
     grep -q "$said" all || fail "$1: never: $said"
