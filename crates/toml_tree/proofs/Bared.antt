@@ -2,7 +2,7 @@
 use Rattle.std.proofs.Common.{◌≡◌, List, [], ◌∷◌, ◌++◌, map, Option, Some, None, refl, sym, ap, ap₂, ◌∙◌}
 use Rattle.toml_tree.specs.Bare.{bare_comment, bare_blank, bare_dotted, bare_key, bare_assign, bare_gap_line, bare_gap, bare_value, bare_keyval, bare_header, bare_expr, bare_line, BareValueText, BareItemsText, BarePairsText, BareLinesText}
 use Rattle.toml_tree.specs.Spells.{Part, piece, symbol, joined, comment_parts, key_parts, dotted_parts, equals_parts, assign_parts, blank_parts, gap_parts, gap_line_parts, all_parts, value_parts, items_parts, pairs_parts, header_parts, keyval_parts, expr_parts, line_parts}
-use Rattle.toml_tree.specs.Tree.{Piece, Blank, Key, Assign, GapLine, Gap, Scalar, Array, Empty, Inline, Close, Last, More, LastPair, MorePairs, KeyVal, Header, Expr, BlankLine, KeyValLine, TableLine, ArrayTableLine, Line}
+use Rattle.toml_tree.specs.Tree.{Piece, Blank, Key, Assign, GapLine, Gap, Scalar, Array, Inline, Close, Last, More, LastPair, MorePairs, KeyVal, Header, Expr, BlankLine, KeyValLine, TableLine, ArrayTableLine, Line}
 use Rattle.toml_tree.proofs.Texts.{joined_append}
 
 both : (xs xs' ys ys' : List Part) → joined xs ≡ joined xs' → joined ys ≡ joined ys' → joined (xs ++ ys) ≡ joined (xs' ++ ys')

@@ -3,7 +3,7 @@ use Rattle.std.proofs.Common.{◌≡◌, ◌⊎◌, ◌<◌, ◌≤◌, ℕ, zer
 use Rattle.std.proofs.lemmas.Bool.Decides.{leb_tells}
 use Rattle.toml_tree.specs.Laws.{IsItemOf, IsPairOf, IsIn, Nests, DepthIsNesting}
 use Rattle.toml_tree.specs.Spells.{depth, items_depth, pairs_depth}
-use Rattle.toml_tree.specs.Tree.{Value, Scalar, Array, Empty, Inline, Items, Close, Last, More, Pairs, LastPair, MorePairs}
+use Rattle.toml_tree.specs.Tree.{Value, Scalar, Array, Inline, Items, Close, Last, More, Pairs, ClosePairs, LastPair, MorePairs}
 
 item_depth : (v : Value) (is : Items) → IsItemOf v is → depth v ≤ items_depth is
 item_depth v (Close g) h = absurd h

@@ -8,7 +8,7 @@ use Rattle.toml_tree.specs.Laws.{IsItemOf, IsPairOf}
 use Rattle.toml_tree.specs.Parts.{size}
 use Rattle.toml_tree.specs.Pieces.{ValuePieceIsText, ValueHasByte, ValueStartsThere, KeyValStartsThere, ExprStartsThere}
 use Rattle.toml_tree.specs.Spells.{Part, piece, symbol, Placed, EachIs, assign_parts, blank_parts, gap_parts, value_parts, items_parts, pairs_parts, keyval_parts, expr_parts, line_parts, lines_parts, IsValue, AreItems, ArePairs, IsKeyVal, IsExpr, AreLines, depth, items_depth, pairs_depth, max_depth}
-use Rattle.toml_tree.specs.Tree.{Value, Scalar, Array, Empty, Inline, Items, Close, Last, More, Pairs, LastPair, MorePairs, Assign, KeyVal, Expr, BlankLine, KeyValLine, TableLine, ArrayTableLine, Line}
+use Rattle.toml_tree.specs.Tree.{Value, Scalar, Array, Inline, Items, Close, Last, More, Pairs, ClosePairs, LastPair, MorePairs, Assign, KeyVal, Expr, BlankLine, KeyValLine, TableLine, ArrayTableLine, Line}
 use Rattle.toml_tree.proofs.Parts.{placed_front, placed_back, placed_both}
 use Rattle.toml_tree.proofs.Texts.{text_of_value}
 

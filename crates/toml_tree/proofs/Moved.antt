@@ -4,7 +4,7 @@ use Rattle.std.specs.Prelude.{max, option_map}
 use Rattle.std.proofs.lemmas.List.{map-append}
 use Rattle.toml_tree.specs.Moved.{moved_piece, moved_blank, moved_dotted, moved_key, moved_assign, moved_gap_line, moved_gap, moved, moved_items, moved_pairs, moved_keyval, moved_header, moved_expr, MovedValueText, MovedKeyValText, MovedExprText}
 use Rattle.toml_tree.specs.Spells.{Part, piece, symbol, begin, part_text, joined, StartsAt, Placed, all_parts, EachIs, comment_parts, blank_parts, dotted_parts, key_parts, equals_parts, assign_parts, gap_line_parts, gap_parts, value_parts, items_parts, pairs_parts, keyval_parts, header_parts, array_header_parts, expr_parts, IsCommentOrNone, IsBlank, IsDotted, IsKey, IsAssign, IsGapLine, IsGap, IsValue, AreItems, ArePairs, depth, items_depth, pairs_depth, IsKeyVal, IsHeader, IsExpr, SpellsValue, SpellsKeyVal, SpellsExpr}
-use Rattle.toml_tree.specs.Tree.{Piece, Blank, Key, Assign, GapLine, Gap, Value, Scalar, Array, Empty, Inline, Items, Close, Last, More, Pairs, LastPair, MorePairs, KeyVal, Header, Expr, BlankLine, KeyValLine, TableLine, ArrayTableLine}
+use Rattle.toml_tree.specs.Tree.{Piece, Blank, Key, Assign, GapLine, Gap, Value, Scalar, Array, Inline, Items, Close, Last, More, Pairs, ClosePairs, LastPair, MorePairs, KeyVal, Header, Expr, BlankLine, KeyValLine, TableLine, ArrayTableLine}
 
 module _ (n : ℕ) where
   -- ---- parts

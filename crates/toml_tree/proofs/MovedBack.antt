@@ -3,7 +3,7 @@ use Rattle.std.proofs.Common.{◌≡◌, ℕ, ◌+◌, ◌≤◌, List, [], ◌�
 use Rattle.std.specs.Prelude.{option_map}
 use Rattle.toml_tree.specs.Moved.{moved_piece, moved_blank, moved_dotted, moved_key, moved_assign, moved_gap_line, moved_gap, moved, moved_items, moved_pairs, moved_keyval, moved_header, moved_expr, MovedValueSpells, MovedKeyValSpells, MovedExprSpells}
 use Rattle.toml_tree.specs.Spells.{Part, piece, symbol, begin, part_text, joined, StartsAt, Placed, EachIs, value_parts, items_parts, pairs_parts, keyval_parts, expr_parts, IsCommentOrNone, IsBlank, IsDotted, IsKey, IsAssign, IsGapLine, IsGap, IsValue, AreItems, ArePairs, max_depth, depth, IsKeyVal, IsHeader, IsExpr, SpellsValue, SpellsKeyVal, SpellsExpr}
-use Rattle.toml_tree.specs.Tree.{Piece, Blank, Key, Assign, Gap, Value, Scalar, Array, Empty, Inline, Items, Close, Last, More, Pairs, LastPair, MorePairs, KeyVal, Header, Expr, BlankLine, KeyValLine, TableLine, ArrayTableLine}
+use Rattle.toml_tree.specs.Tree.{Piece, Blank, Key, Assign, Gap, Value, Scalar, Array, Inline, Items, Close, Last, More, Pairs, ClosePairs, LastPair, MorePairs, KeyVal, Header, Expr, BlankLine, KeyValLine, TableLine, ArrayTableLine}
 use Rattle.toml_tree.proofs.Moved.{moved_part, moved_parts, part_same, joined_same, value_moved, items_moved, pairs_moved, keyval_moved, expr_moved, value_text, keyval_text, expr_text, depth_same, spells_value, spells_keyval, spells_expr}
 
 module _ (n : ℕ) where

@@ -3,7 +3,7 @@ use Rattle.std.proofs.Common.{◌≡◌, ℕ, ◌+◌, ◌≤◌, max, List, [],
 use Rattle.toml_tree.specs.Bare.{bare_items, bare_pairs}
 use Rattle.toml_tree.specs.Places.{behind, put_comment, put_blank, put_dotted, put_each, put_key, put_assign, put_gap_line, put_gap, put_value, put_items, put_pairs, put_expr, put_lines}
 use Rattle.toml_tree.specs.Spells.{Part, dotted_parts, assign_parts, gap_parts, gap_line_parts, value_parts, items_parts, pairs_parts, header_parts, array_header_parts, keyval_parts, line_parts, EachIs, IsCommentOrNone, IsBlank, IsDotted, IsKey, IsAssign, IsGapLine, IsGap, IsValue, AreItems, ArePairs, IsExpr, AreLines, depth, items_depth, pairs_depth, max_depth}
-use Rattle.toml_tree.specs.Tree.{Piece, Blank, Key, Assign, Gap, Value, Scalar, Array, Empty, Inline, Items, Close, Last, More, Pairs, LastPair, MorePairs, Expr, BlankLine, KeyValLine, TableLine, ArrayTableLine, Line}
+use Rattle.toml_tree.specs.Tree.{Piece, Blank, Key, Assign, Gap, Value, Scalar, Array, Inline, Items, Close, Last, More, Pairs, ClosePairs, LastPair, MorePairs, Expr, BlankLine, KeyValLine, TableLine, ArrayTableLine, Line}
 use Rattle.toml_tree.proofs.Bared.{same_text, bare_items_text, bare_pairs_text}
 use Rattle.toml_tree.proofs.PutSame.{items_same, pairs_same}
 

@@ -3,7 +3,7 @@ use Rattle.std.proofs.Common.{◌≡◌, ℕ, ◌+◌, List, [], ◌∷◌, ◌+
 use Rattle.toml_tree.specs.Bare.{bare_blank, bare_key, bare_assign, bare_gap_line, bare_gap, bare_value, bare_keyval, bare_header, bare_expr, bare_line}
 use Rattle.toml_tree.specs.Places.{behind, put_comment, put_blank, put_dotted, put_each, put_key, put_assign, put_gap_line, put_gap, put_value, put_items, put_pairs, put_keyval, put_header, put_expr, put_line, put_lines}
 use Rattle.toml_tree.specs.Spells.{Part, symbol, joined, comment_parts, key_parts, dotted_parts, assign_parts, blank_parts, gap_parts, gap_line_parts, all_parts, value_parts, items_parts, pairs_parts, header_parts, array_header_parts, keyval_parts, expr_parts, line_parts, lines_parts, Placed}
-use Rattle.toml_tree.specs.Tree.{Piece, Blank, Key, Assign, GapLine, Gap, Value, Scalar, Array, Empty, Inline, Items, Close, Last, More, Pairs, LastPair, MorePairs, KeyVal, Header, Expr, BlankLine, KeyValLine, TableLine, ArrayTableLine, Line}
+use Rattle.toml_tree.specs.Tree.{Piece, Blank, Key, Assign, GapLine, Gap, Value, Scalar, Array, Inline, Items, Close, Last, More, Pairs, ClosePairs, LastPair, MorePairs, KeyVal, Header, Expr, BlankLine, KeyValLine, TableLine, ArrayTableLine, Line}
 use Rattle.toml_tree.proofs.Bared.{same_text, each, blank_text, key_text, assign_text, gap_line_text, gap_text, bare_value_text, header_text, keyval_text, expr_text, line_text}
 use Rattle.toml_tree.proofs.PutSame.{bare_each, blank_same, key_same, assign_same, gap_line_same, gap_same, put_value_same, keyval_same, header_same, expr_same, line_same}
 use Rattle.toml_tree.proofs.Parts.{placed_both}

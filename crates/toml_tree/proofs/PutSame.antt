@@ -3,7 +3,7 @@ use Rattle.std.proofs.Common.{◌≡◌, ℕ, ◌+◌, List, [], ◌∷◌, map,
 use Rattle.toml_tree.specs.Bare.{bare, bare_comment, bare_blank, bare_dotted, bare_key, bare_assign, bare_gap_line, bare_gap, bare_value, bare_items, bare_pairs, bare_keyval, bare_header, bare_expr, bare_line}
 use Rattle.toml_tree.specs.Places.{behind, put_comment, put_blank, put_dotted, put_each, put_key, put_assign, put_gap_line, put_gap, put_value, put_items, put_pairs, put_keyval, put_header, put_expr, put_line, PutValueIsSame, PutLinesAreSame}
 use Rattle.toml_tree.specs.Spells.{Part, dotted_parts, assign_parts, gap_parts, gap_line_parts, value_parts, header_parts, array_header_parts, keyval_parts, line_parts}
-use Rattle.toml_tree.specs.Tree.{Piece, Blank, Dotted, Key, Assign, GapLine, Gap, Scalar, Array, Empty, Inline, Items, Close, Last, More, Pairs, LastPair, MorePairs, KeyVal, Header, Expr, BlankLine, KeyValLine, TableLine, ArrayTableLine, Line}
+use Rattle.toml_tree.specs.Tree.{Piece, Blank, Dotted, Key, Assign, GapLine, Gap, Scalar, Array, Inline, Items, Close, Last, More, Pairs, ClosePairs, LastPair, MorePairs, KeyVal, Header, Expr, BlankLine, KeyValLine, TableLine, ArrayTableLine, Line}
 
 pub bare_each : {A : Type 0} (b : A → A) (f : ℕ → A → A) (parts : A → List Part) → ((at : ℕ) (x : A) → b (f at x) ≡ b x) → (xs : List A) (at : ℕ) → map b (put_each f parts at xs) ≡ map b xs
 bare_each b f parts same [] at = refl

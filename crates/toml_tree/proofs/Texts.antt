@@ -4,7 +4,7 @@ use Rattle.std.proofs.lemmas.List.{take-append-drop}
 use Rattle.toml_tree.specs.Pieces.{piece_of}
 use Rattle.toml_tree.specs.ReadingValues.{Member, inline}
 use Rattle.toml_tree.specs.Spells.{Part, part_text, joined, all_parts, value_parts, IsValue, mark_of, Spells, doc_parts}
-use Rattle.toml_tree.specs.Tree.{Piece, Value, Scalar, Array, Empty, Inline, Doc}
+use Rattle.toml_tree.specs.Tree.{Piece, Value, Scalar, Array, Inline, Doc}
 use Rattle.toml_tree.proofs.Marks.{mark_front}
 use Rattle.toml_tree.proofs.Many.{append-nil}
 

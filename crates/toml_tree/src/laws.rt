@@ -1,5 +1,5 @@
 //! Laws over the definitions: each function's contract is one or a few, and nothing is run.
-ghost use Rattle.toml_tree.specs.Laws.{OneTree, OneValue, OneKeyVal, OneExpr, DepthIsNesting, ReaderIsSound, ReaderIsComplete, ValueReaderIsSound, ValueReaderIsComplete};
+ghost use Rattle.toml_tree.specs.Laws.{OneTree, OneTreeIn, OneIsInTwo, OneValue, OneKeyVal, OneExpr, DepthIsNesting, ReaderIsSound, ReaderIsComplete, ValueReaderIsSound, ValueReaderIsComplete};
 ghost use Rattle.toml_tree.specs.Pieces.{ValuePieceIsText, ValueHasByte, ValueStartsThere, KeyValStartsThere, ExprStartsThere};
 ghost use Rattle.toml_tree.specs.Parts.{PartsJoin, SizesAdd, FrontIsPlaced, BackIsPlaced, BothArePlaced};
 ghost use Rattle.toml_tree.specs.Moved.{MovedValueSpells, MovedKeyValSpells, MovedExprSpells, MovedValueText, MovedKeyValText, MovedExprText};
@@ -8,9 +8,15 @@ ghost use Rattle.toml_tree.specs.Bare.{BareValueText, BareItemsText, BarePairsTe
 ghost use Rattle.toml_tree.specs.Places.{PutValueIsSame, PutLinesAreSame, PutValueSpells, PutLinesSpell, LinesHaveNoMark, PutDocSpells};
 ghost use Rattle.toml_tree.specs.ViewLaws.{ViewOfScalar, ViewOfArray, ViewOfInline, ViewOfKeyVal};
 
-/// A text has at most one tree.
+/// A text has at most one tree, in either profile.
 pub fn one_tree()
-    ensures { OneTree }
+    ensures one { OneTree }
+    ensures of_profile { OneTreeIn }
+{}
+
+/// What spells a text in profile 1 spells it in profile 2.
+pub fn profiles()
+    ensures wider { OneIsInTwo }
 {}
 
 /// A text is at most one value, at most one key/value pair, and at most one expression.
@@ -25,7 +31,7 @@ pub fn depths()
     ensures { DepthIsNesting }
 {}
 
-/// The plain reader reads a tree exactly where one spells the text, and reads that tree.
+/// The plain reader reads a tree exactly where one of the profile spells the text, and reads that tree.
 pub fn plain_reader()
     ensures sound { ReaderIsSound }
     ensures complete { ReaderIsComplete }
