@@ -31,13 +31,13 @@ abbrev pub decreases-value : goal.decreases-value
 decreases-value l = 5 * l.deep
 
 abbrev pub invariant-items-loop-items : goal.invariant-items-loop-items
-invariant-items-loop-items l = Loop (item_step (value_at l.deep)) (map element l.items.items) (cursor l.self) (cursor l.initial.self)
+invariant-items-loop-items l = Loop (item_step (value_at l.profile l.deep)) (map element l.items.items) (cursor l.self) (cursor l.initial.self)
 
 abbrev pub decreases-items-loop-items : goal.decreases-items-loop-items
 decreases-items-loop-items l = length (cursor l.self).rest
 
 abbrev pub invariant-pairs-loop-pairs : goal.invariant-pairs-loop-pairs
-invariant-pairs-loop-pairs l = Loop (pair_step (value_at l.deep)) (map member l.pairs.items) (cursor l.self) (cursor l.initial.self)
+invariant-pairs-loop-pairs l = Loop (pair_step l.profile (value_at l.profile l.deep)) (map member l.pairs.items) (cursor l.self) (cursor l.initial.self)
 
 abbrev pub decreases-pairs-loop-pairs : goal.decreases-pairs-loop-pairs
 decreases-pairs-loop-pairs l = length (cursor l.self).rest
