@@ -10,7 +10,7 @@ use Rattle.toml_text.proofs.Proved.{begins_other}
 use Rattle.toml_tree.specs.Profiles.{ExprHasPlainTables, Asks, IsValueOfProfile, IsExprOfProfile}
 use Rattle.toml_tree.specs.Tree.{Piece, Blank, Header, KeyVal, Expr, BlankLine, KeyValLine, TableLine, ArrayTableLine, Line}
 use Rattle.toml_tree.specs.Spells.{Part, piece, symbol, EachIs, all_parts, comment_parts, blank_parts, key_parts, keyval_parts, header_parts, array_header_parts, expr_parts, line_parts, lines_parts, IsBlank, IsHeader, IsKeyVal, IsExpr, AreLines, max_depth}
-use Rattle.toml_tree.specs.Reading.{Cursor, ahead, all_of}
+use Rattle.toml_tree.specs.Reading.{Cursor, ahead, all_of, blank_at, ◌>>=◌}
 use Rattle.toml_tree.specs.ReadingLines.{named_at, header_at, array_header_at, header_line_at, keyval_line_at, expr_at, line_step, lines_at}
 use Rattle.toml_tree.specs.declared.profile.Profile.{Profile}
 use Rattle.toml_tree.specs.declared.step.Step.TheVariants.{Next, Done}
@@ -91,7 +91,8 @@ keyval_line_complete : (p : Profile) (ws : Piece) (k : KeyVal) (b : Blank) (c d 
 unfolding keyval_line_at
 keyval_line_complete p ws k b c d h plain blank s e =
     let i = spans_split (keyval_parts k) (blank_parts b) c d s in
-    rw (keyval_complete k p max_depth c i.0 h.0 h.1 h.2 plain i.1 (blank_closes b i.0 d blank i.2 e)) (rw (blank_ends b i.0 d blank i.2 e) refl)
+    ap (λ o. o >>= λ r. let x = blank_at r.1 in Some (KeyValLine ws r.0 x.0, x.1)) (keyval_complete k p max_depth c i.0 h.0 h.1 h.2 plain i.1 (blank_closes b i.0 d blank i.2 e))
+    ∙ rw (blank_ends b i.0 d blank i.2 e) refl
 
 newline_no_bracket : (b : ℕ) → is_newline_byte b ≡ true → is_byte 0x5B b ≡ false
 newline_no_bracket b h = grind (arith, nat_tests)

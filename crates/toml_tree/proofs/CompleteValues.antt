@@ -14,7 +14,7 @@ use Rattle.toml_tree.specs.Tree.{Piece, Blank, Assign, GapLine, Gap, Value, Scal
 use Rattle.toml_tree.specs.Profiles.{IsPlainGap, ItemsHavePlainTables, ArePlainPairs, Asks, IsValueOfProfile}
 use Rattle.toml_tree.specs.Spells.{Part, piece, symbol, begin, joined, EachIs, all_parts, blank_parts, gap_line_parts, gap_parts, assign_parts, value_parts, items_parts, pairs_parts, keyval_parts, IsGapLine, IsGap, IsAssign, IsValue, AreItems, ArePairs, depth, items_depth, pairs_depth}
 use Rattle.toml_tree.specs.Reading.{Cursor, ahead, up_to, many, run_at}
-use Rattle.toml_tree.specs.ReadingValues.{scalar_at, gap_step, gap_at, Element, before_end, after_element, item_step, items_at, array_at, keyval_at, Member, pairs_before_end, pair_gap_at, after_member, pair_step, pairs_at, may_end, inline_at, value_at}
+use Rattle.toml_tree.specs.ReadingValues.{scalar_at, gap_step, gap_at, Element, before_end, after_element, item_step, items_at, array_at, keyval_at, Member, pairs_before_end, pair_gap_at, after_member, pair_at, pair_step, pairs_at, may_end, inline_at, value_at}
 use Rattle.toml_tree.specs.declared.profile.Profile.{Profile}
 use Rattle.toml_tree.specs.declared.profile.Profile.TheVariants.{One, Two}
 use Rattle.toml_tree.specs.declared.step.Step.TheVariants.{Next, Done}
@@ -264,7 +264,7 @@ pair_gap_complete : (p : Profile) (g : Gap) (c d : Cursor) → IsGap g → Asks 
 unfolding pair_gap_at
 pair_gap_complete One g c d h plain s e =
     let only : Spans (piece g.ws ∷ []) c d = subst (λ ls. Spans (all_parts gap_line_parts ls ++ piece g.ws ∷ []) c d) plain s in
-    rw (run_complete is_ws g.ws c d h.1 only (begins_less is_ws is_gap_byte d.rest other_no_ws e)) (λ i. Some (record { lines = plain (~ i); ws = g.ws }, d))
+    rw (run_complete is_ws g.ws c d h.1 only (begins_less is_ws is_gap_byte d.rest other_no_ws e)) (λ i. Some (record { lines = sym plain i; ws = g.ws }, d))
 pair_gap_complete Two g c d h plain s e = gap_complete g c d h s e
 
 -- what is known of a pair before it is read
@@ -280,7 +280,7 @@ record Known (p : Profile) (n : ℕ) (m : Member) : Type 0 where
 -- a pair of an inline table is read, up to the symbol behind it
 member_reads : (p : Profile) (n : ℕ) (m : Member) (b : ℕ) (ps : List Part) (c d : Cursor) → Known p n m → is_gap_byte b ≡ false → ((rest : List ℕ) → Closes (b ∷ rest)) → Spans (gap_parts m.before ++ (assign_parts m.pair.assign ++ (value_parts m.pair.value ++ (gap_parts m.after ++ symbol (b ∷ []) ∷ ps)))) c d →
     UpTo b ps (λ x. pair_step p (value_at p n) c ≡ after_member m x) c d
-unfolding pair_step
+unfolding pair_step pair_at
 member_reads p n m b ps c d known no_gap closes s =
     let i = spans_split (gap_parts m.before) (assign_parts m.pair.assign ++ (value_parts m.pair.value ++ (gap_parts m.after ++ symbol (b ∷ []) ∷ ps))) c d s in
     let j = spans_split (assign_parts m.pair.assign) (value_parts m.pair.value ++ (gap_parts m.after ++ symbol (b ∷ []) ∷ ps)) i.0 d i.2 in

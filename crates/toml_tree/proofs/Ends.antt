@@ -1,14 +1,15 @@
 -- An array or an inline table by what was read of it and its end.
-use Rattle.std.proofs.Common.{◌≡◌, Bool, not, List, [], ◌∷◌, ◌++◌, map, length, Option, Some, None, refl, ap, sym, ◌∙◌}
-use Rattle.std.specs.Prelude.{◌||◌, ◌==◌, is_none}
+use Rattle.std.proofs.Common.{◌≡◌, Bool, true, false, not, List, [], ◌∷◌, ◌++◌, map, length, ◌==◌, Option, Some, None, refl, sym, ap, ◌∙◌, arith}
 use Rattle.toml_tree.specs.Tree as tree
-use Rattle.toml_tree.specs.ReadingValues.{Element, Member, before_end, pairs_before_end, ends_in_comma}
+use Rattle.toml_tree.specs.ReadingValues.{Element, Member, before_end, pairs_before_end, ends_in_comma, may_end}
 use Rattle.toml_tree.specs.View.{gap, element, member, last_ends, last_pairs, array_items, table_pairs, array_end, table_end, Ended}
 use Rattle.toml_tree.specs.declared.piece.Gap.{Gap}
+use Rattle.toml_tree.specs.declared.profile.Profile.TheVariants.{One}
 use Rattle.toml_tree.specs.declared.step.End.{End}
 use Rattle.toml_tree.specs.declared.step.End.TheVariants as ends
 use Rattle.toml_tree.specs.declared.tree.Item.{Item}
 use Rattle.toml_tree.specs.declared.tree.Pair.{Pair}
+use Rattle.toml_tree.proofs.Complete.{positive}
 use Rattle.toml_tree.proofs.Many.{map_push}
 
 last_ends_push : (es : List Element) (e : Element) → last_ends (es ++ e ∷ []) ≡ before_end es (tree.Last e.before e.value e.after)
@@ -34,3 +35,20 @@ pairs_ended xs (ends.Last x) all end (same, is) =
     (λ i. table_pairs (map member (same i)) (is i))
     ∙ ap last_pairs (map_push member xs x)
     ∙ last_pairs_push (map member xs) (member x)
+
+-- a gap behind a comma ends an inline table of profile 1 only where no pair stands before it
+ends_behind : (ms : List Member) (g : tree.Gap) → ends_in_comma true (pairs_before_end ms (tree.ClosePairs g)) ≡ true
+ends_behind [] g = refl
+ends_behind (m ∷ ms) g = ends_behind ms g
+
+pub closed_so : (ps : List Pair) (g : Gap) → may_end One (table_pairs (map member ps) (Some g)) ≡ (length ps == 0)
+closed_so [] g = refl
+closed_so (p ∷ ps) g = ap not (ends_behind (map member ps) (gap g)) ∙ sym (positive (length (p ∷ ps)) (omega arith))
+
+last_so : (comma : Bool) (p : Pair) (ps : List Pair) → ends_in_comma comma (last_pairs (map member (p ∷ ps))) ≡ false
+last_so comma p [] = refl
+last_so comma p (q ∷ ps) = last_so true q ps
+
+pub lasts_so : (ps : List Pair) → may_end One (table_pairs (map member ps) None) ≡ true
+lasts_so [] = refl
+lasts_so (p ∷ ps) = ap not (last_so false p ps)

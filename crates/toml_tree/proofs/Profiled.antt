@@ -1,5 +1,5 @@
 -- What profile 1 asks of a tree, handled alike in either profile.
-use Rattle.std.proofs.Common.{◌≡◌, Bool, true, false, not, refl, true≢false}
+use Rattle.std.proofs.Common.{◌≡◌, Bool, true, false, not, refl, sym, true≢false}
 use Rattle.toml_tree.specs.Laws.{OneIsInTwo}
 use Rattle.toml_tree.specs.Profiles.{HasPair, HasNoLastComma, Asks}
 use Rattle.toml_tree.specs.ReadingValues.{ends_in_comma, may_end}
@@ -14,9 +14,17 @@ pub asked : {A B : Type 0} (p : Profile) → (A → B) → Asks p A → Asks p B
 asked One f h = f h
 asked Two f h = tt
 
-pub asked_both : {A B : Type 0} (p : Profile) → Asks p A → Asks p B → Asks p (A × B)
-asked_both One h k = (h, k)
-asked_both Two h k = tt
+pub asked_both : (p : Profile) (A B : Type 0) → Asks p A → Asks p B → Asks p (A × B)
+asked_both One A B h k = (h, k)
+asked_both Two A B h k = tt
+
+pub asked_three : (p : Profile) (A B C : Type 0) → Asks p A → Asks p B → Asks p C → Asks p (A × B × C)
+asked_three One A B C h k l = (h, k, l)
+asked_three Two A B C h k l = tt
+
+pub asked_four : (p : Profile) (A B C D : Type 0) → Asks p A → Asks p B → Asks p C → Asks p D → Asks p (A × B × C × D)
+asked_four One A B C D h k l m = (h, k, l, m)
+asked_four Two A B C D h k l m = tt
 
 pub asks_nothing : (p : Profile) → Asks p (Unit {0})
 asks_nothing One = tt
@@ -39,7 +47,7 @@ no_last_comma (LastPair g a v h) e = tt
 no_last_comma (MorePairs g a v h ps) e = by (ends_in_comma true ps) refl e
   where
     by : (t : Bool) → ends_in_comma true ps ≡ t → not t ≡ true → HasPair ps × HasNoLastComma ps
-    by true is e = absurd (true≢false (λ i. e (~ i)))
+    by true is e = absurd (true≢false (sym e))
     by false is e = pairs_behind_comma ps is
 
 ends_in_none : (ps : Pairs) → HasNoLastComma ps → ends_in_comma false ps ≡ false

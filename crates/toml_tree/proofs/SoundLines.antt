@@ -122,9 +122,9 @@ abbrev pub AreLinesOf : Profile → List Line → Type 0
 AreLinesOf p ls = AreLines ls × Asks p (EachIs (λ l. ExprHasPlainTables l.expr) ls)
 
 ended_lines : (p : Profile) (ls : List Line) (l : Line) (d : Cursor) → EachIs (IsEndedLine p) ls → IsLastLine p l d → AreLinesOf p (ls ++ l ∷ [])
-ended_lines p [] l d h k = ((k.0, k.1), asked_both p k.3 (asks_nothing p))
-ended_lines p (m ∷ []) l d h k = ((h.0.0, h.0.1, (k.0, k.1)), asked_both p h.0.2 (asked_both p k.3 (asks_nothing p)))
-ended_lines p (m ∷ o ∷ ls) l d h k = let r = ended_lines p (o ∷ ls) l d h.1 k in ((h.0.0, h.0.1, r.0), asked_both p h.0.2 r.1)
+ended_lines p [] l d h k = ((k.0, k.1), asked_both p _ _ k.3 (asks_nothing p))
+ended_lines p (m ∷ []) l d h k = ((h.0.0, h.0.1, (k.0, k.1)), asked_both p _ _ h.0.2 (asked_both p _ _ k.3 (asks_nothing p)))
+ended_lines p (m ∷ o ∷ ls) l d h k = let r = ended_lines p (o ∷ ls) l d h.1 k in ((h.0.0, h.0.1, r.0), asked_both p _ _ h.0.2 r.1)
 
 pub lines_sound : (p : Profile) (c : Cursor) → IfSome (lines_at p c) (λ r. AreLinesOf p r.0 × Spans (lines_parts r.0) c r.1 × (r.1.rest ≡ []))
 unfolding lines_at

@@ -13,11 +13,11 @@ use Rattle.toml_tree.specs.Profiles.{IsPlainGap, HasPlainTables, ItemsHavePlainT
 use Rattle.toml_tree.specs.Tree.{Piece, Value, Items, Pairs, KeyVal}
 use Rattle.toml_tree.specs.Spells.{Part, piece, symbol, begin, joined, EachIs, all_parts, comment_parts, blank_parts, assign_parts, gap_line_parts, gap_parts, value_parts, items_parts, pairs_parts, keyval_parts, IsAssign, IsGapLine, IsGap, IsValue, AreItems, ArePairs, depth, items_depth, pairs_depth}
 use Rattle.toml_tree.specs.Reading.{Cursor, here, ahead, up_to, all_of, run_at, blank_at, assign_at}
-use Rattle.toml_tree.specs.ReadingValues.{Element, Member, scalar_at, gap_end, gap_step, gap_at, before_end, after_element, item_step, items_at, array_at, keyval_at, pairs_before_end, pair_gap_at, after_member, pair_step, pairs_at, may_end, inline_at, value_at}
+use Rattle.toml_tree.specs.ReadingValues.{Element, Member, scalar_at, gap_end, gap_step, gap_at, before_end, after_element, item_step, items_at, array_at, keyval_at, pairs_before_end, pair_gap_at, after_member, pair_at, pair_step, pairs_at, may_end, inline_at, value_at}
 use Rattle.toml_tree.specs.declared.profile.Profile.{Profile}
 use Rattle.toml_tree.specs.declared.profile.Profile.TheVariants.{One, Two}
 use Rattle.toml_tree.proofs.Spans.{Spans, spans_append, spans_joined, behind_take}
-use Rattle.toml_tree.proofs.Profiled.{asked_both, asks_nothing, ends_well}
+use Rattle.toml_tree.proofs.Profiled.{asked_both, asked_three, asked_four, asks_nothing, ends_well}
 use Rattle.toml_tree.proofs.Sound.{sound_bind, sound_map, sound_cond, if_some, spans_here, spans_symbol, run_sound, run_then, symbol_then, newline_form, blank_sound, StepIs, many_sound, assign_sound}
 
 -- gaps
@@ -98,7 +98,7 @@ IsEnd p n is d = AreItemsOf p n is
 
 before_end_form : (p : Profile) (n : ℕ) (es : List Element) (end : Items) → EachIs (IsElement p n) es → AreItemsOf p n end → AreItemsOf p n (before_end es end)
 before_end_form p n [] end h k = k
-before_end_form p n (e ∷ es) end h k = let r = before_end_form p n es end h.1 k in ((h.0.0, h.0.1, h.0.3, r.0), omega (arith, h.0.2, r.1), asked_both p h.0.4 r.2)
+before_end_form p n (e ∷ es) end h k = let r = before_end_form p n es end h.1 k in ((h.0.0, h.0.1, h.0.3, r.0), omega (arith, h.0.2, r.1), asked_both p _ _ h.0.4 r.2)
 
 element_append : (e : Element) (ps qs : List Part) → element_then e ps ++ qs ≡ element_then e (ps ++ qs)
 element_append e ps qs =
@@ -130,15 +130,11 @@ ArePairsOf p n ps = ArePairs ps × (pairs_depth ps ≤ n) × Asks p (ArePlainPai
 abbrev IsLastOfPairs : Profile → ℕ → Pairs → Cursor → Type 0
 IsLastOfPairs p n ps d = ArePairsOf p n ps
 
--- what is asked of a pair and of those behind it
-plain_before : (p : Profile) (n : ℕ) (m : Member) {A : Type 0} → IsMember p n m → Asks p A → Asks p (IsPlainGap m.before × HasPlainTables m.pair.value × IsPlainGap m.after × A)
-plain_before p n m h k = asked_both p h.5 (asked_both p h.6 (asked_both p h.7 k))
-
 pairs_before_end_form : (p : Profile) (n : ℕ) (ms : List Member) (end : Pairs) → EachIs (IsMember p n) ms → ArePairsOf p n end → ArePairsOf p n (pairs_before_end ms end)
 pairs_before_end_form p n [] end h k = k
 pairs_before_end_form p n (m ∷ ms) end h k =
     let r = pairs_before_end_form p n ms end h.1 k in
-    ((h.0.0, h.0.1, h.0.2, h.0.4, r.0), omega (arith, h.0.3, r.1), plain_before p n m h.0 r.2)
+    ((h.0.0, h.0.1, h.0.2, h.0.4, r.0), omega (arith, h.0.3, r.1), asked_four p _ _ _ _ h.0.5 h.0.6 h.0.7 r.2)
 
 member_append : (m : Member) (ps qs : List Part) → member_then m ps ++ qs ≡ member_then m (ps ++ qs)
 member_append m ps qs =
@@ -202,11 +198,11 @@ module _ (p : Profile) (n : ℕ) (value : (c : Cursor) → IfSome (value_at p n 
   after_member_sound m c d h whole = sound_cond (begins (is_byte 0x2C) d.rest) _ _ _
       (λ is. (h, whole 0x2C is))
       (λ _. sound_cond (begins (is_byte 0x7D) d.rest) _ _ _
-      (λ is. (((h.0, h.1, h.2, h.4), h.3, asked_both p h.5 (asked_both p h.6 h.7)), whole 0x7D is))
+      (λ is. (((h.0, h.1, h.2, h.4), h.3, asked_three p _ _ _ h.5 h.6 h.7), whole 0x7D is))
       (λ _. tt))
 
   pair_step_sound : (c : Cursor) → IfSome (pair_step p (value_at p n) c) (StepIs (IsMember p n) member_parts (IsLastOfPairs p n) pairs_parts c)
-  unfolding pair_step
+  unfolding pair_step pair_at
   pair_step_sound c = sound_bind (pair_gap_at p c) _ _ _ (pair_gap_sound p c) (λ g gs. sound_cond (begins (is_byte 0x7D) g.1.rest) _ _ _
       (λ is. ((gs.0, omega arith, gs.2), spans_append (gap_parts g.0) (symbol (0x7D ∷ []) ∷ []) c g.1 (ahead 1 g.1) gs.1 (spans_symbol 0x7D g.1 is)))
       (λ _. sound_bind (keyval_at (value_at p n) g.1) _ _ _ (keyval_from g.1) (λ k ks. sound_bind (pair_gap_at p k.1) _ _ _ (pair_gap_sound p k.1) (λ h hs.
@@ -230,7 +226,7 @@ module _ (p : Profile) (n : ℕ) (value : (c : Cursor) → IfSome (value_at p n 
       (λ ends.
       let parts : List Part = symbol (0x7B ∷ []) ∷ pairs_parts r.0 in
       let s = symbol_then 0x7B (pairs_parts r.0) c r.1 e k.1 in
-      ((up_to_text parts c r.1 s, k.0.0), omega (arith, k.0.1), spans_begin r.1 parts c r.1 s, asked_both p (ends_well p r.0 ends) k.0.2))
+      ((up_to_text parts c r.1 s, k.0.0), omega (arith, k.0.1), spans_begin r.1 parts c r.1 s, asked_both p _ _ (ends_well p r.0 ends) k.0.2))
       (λ _. tt)))
       (λ _. tt)
 
