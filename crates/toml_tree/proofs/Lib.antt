@@ -1,6 +1,7 @@
 pub mod Many
 pub mod Spans
 pub mod Sound
+pub mod Profiled
 pub mod SoundValues
 pub mod SoundLines
 pub mod Complete
@@ -24,6 +25,7 @@ pub mod MovedBack
 pub mod Inner
 pub mod Bared
 pub mod PutSame
+pub mod PlainTables
 pub mod PutPlaced
 pub mod PutFormed
 pub mod Unmarked

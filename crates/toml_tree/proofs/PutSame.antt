@@ -3,7 +3,7 @@ use Rattle.std.proofs.Common.{◌≡◌, ℕ, ◌+◌, List, [], ◌∷◌, map,
 use Rattle.toml_tree.specs.Bare.{bare, bare_comment, bare_blank, bare_dotted, bare_key, bare_assign, bare_gap_line, bare_gap, bare_value, bare_items, bare_pairs, bare_keyval, bare_header, bare_expr, bare_line}
 use Rattle.toml_tree.specs.Places.{behind, put_comment, put_blank, put_dotted, put_each, put_key, put_assign, put_gap_line, put_gap, put_value, put_items, put_pairs, put_keyval, put_header, put_expr, put_line, PutValueIsSame, PutLinesAreSame}
 use Rattle.toml_tree.specs.Spells.{Part, dotted_parts, assign_parts, gap_parts, gap_line_parts, value_parts, header_parts, array_header_parts, keyval_parts, line_parts}
-use Rattle.toml_tree.specs.Tree.{Piece, Blank, Dotted, Key, Assign, GapLine, Gap, Scalar, Array, Empty, Inline, Items, Close, Last, More, Pairs, LastPair, MorePairs, KeyVal, Header, Expr, BlankLine, KeyValLine, TableLine, ArrayTableLine, Line}
+use Rattle.toml_tree.specs.Tree.{Piece, Blank, Dotted, Key, Assign, GapLine, Gap, Scalar, Array, Inline, Items, Close, Last, More, Pairs, ClosePairs, LastPair, MorePairs, KeyVal, Header, Expr, BlankLine, KeyValLine, TableLine, ArrayTableLine, Line}
 
 pub bare_each : {A : Type 0} (b : A → A) (f : ℕ → A → A) (parts : A → List Part) → ((at : ℕ) (x : A) → b (f at x) ≡ b x) → (xs : List A) (at : ℕ) → map b (put_each f parts at xs) ≡ map b xs
 bare_each b f parts same [] at = refl
@@ -32,7 +32,6 @@ mutual
   pub put_value_same : PutValueIsSame
   put_value_same (Scalar kind p) at = refl
   put_value_same (Array whole items) at = ap (Array (bare whole)) (items_same items (at + 1))
-  put_value_same (Empty whole ws) at = refl
   put_value_same (Inline whole pairs) at = ap (Inline (bare whole)) (pairs_same pairs (at + 1))
 
   pub items_same : (items : Items) (at : ℕ) → bare_items (put_items at items) ≡ bare_items items
@@ -49,14 +48,20 @@ mutual
       ∙ ap (More (bare_gap g) (bare_value v) (bare_gap h)) (items_same is (behind b (gap_parts h) + 1))
 
   pub pairs_same : (pairs : Pairs) (at : ℕ) → bare_pairs (put_pairs at pairs) ≡ bare_pairs pairs
-  pairs_same (LastPair ws a v after) at =
-      let key = at + length ws.text in
-      ap₂ (λ x y. LastPair (bare ws) x y (bare after)) (assign_same key a) (put_value_same v (behind key (assign_parts a)))
-  pairs_same (MorePairs ws a v after ps) at =
-      let key = at + length ws.text in
-      let more = behind (behind key (assign_parts a)) (value_parts v) + length after.text + 1 in
-      ap₂ (λ x y. MorePairs (bare ws) x y (bare after) (bare_pairs (put_pairs more ps))) (assign_same key a) (put_value_same v (behind key (assign_parts a)))
-      ∙ ap (MorePairs (bare ws) (bare_assign a) (bare_value v) (bare after)) (pairs_same ps more)
+  pairs_same (ClosePairs g) at = ap ClosePairs (gap_same at g)
+  pairs_same (LastPair g a v h) at =
+      let key = behind at (gap_parts g) in
+      let val = behind key (assign_parts a) in
+      ap₂ (λ x y. LastPair x y (bare_value (put_value val v)) (bare_gap (put_gap (behind val (value_parts v)) h))) (gap_same at g) (assign_same key a)
+      ∙ ap₂ (λ x y. LastPair (bare_gap g) (bare_assign a) x y) (put_value_same v val) (gap_same (behind val (value_parts v)) h)
+  pairs_same (MorePairs g a v h ps) at =
+      let key = behind at (gap_parts g) in
+      let val = behind key (assign_parts a) in
+      let gap = behind val (value_parts v) in
+      let more = behind gap (gap_parts h) + 1 in
+      ap₂ (λ x y. MorePairs x y (bare_value (put_value val v)) (bare_gap (put_gap gap h)) (bare_pairs (put_pairs more ps))) (gap_same at g) (assign_same key a)
+      ∙ ap₂ (λ x y. MorePairs (bare_gap g) (bare_assign a) x y (bare_pairs (put_pairs more ps))) (put_value_same v val) (gap_same gap h)
+      ∙ ap (MorePairs (bare_gap g) (bare_assign a) (bare_value v) (bare_gap h)) (pairs_same ps more)
 
 pub header_same : (at : ℕ) (h : Header) → bare_header (put_header at h) ≡ bare_header h
 header_same at h = ap (λ (k : Key). record { before = bare h.before; key = k; after = bare h.after }) (key_same (at + 1 + length h.before.text) h.key)

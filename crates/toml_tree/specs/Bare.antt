@@ -1,7 +1,9 @@
 -- A tree without places: each piece is as if it stood at 0. Two trees that differ in their places alone are one without them.
-use Rattle.std.specs.Prelude.{◌≡◌, ℕ, List, map, Option, Some, None}
+use Rattle.std.specs.Prelude.{◌≡◌, ◌↔◌, ℕ, List, map, Option, Some, None}
+use Rattle.toml_tree.specs.Profiles.{IsValueOfProfile, AreLinesOfProfile}
 use Rattle.toml_tree.specs.Spells.{joined, items_parts, pairs_parts, value_parts, lines_parts}
-use Rattle.toml_tree.specs.Tree.{Piece, Blank, Dotted, Key, Assign, GapLine, Gap, Value, Scalar, Array, Empty, Inline, Items, Close, Last, More, Pairs, LastPair, MorePairs, KeyVal, Header, Expr, BlankLine, KeyValLine, TableLine, ArrayTableLine, Line}
+use Rattle.toml_tree.specs.Tree.{Piece, Blank, Dotted, Key, Assign, GapLine, Gap, Value, Scalar, Array, Inline, Items, Close, Last, More, Pairs, ClosePairs, LastPair, MorePairs, KeyVal, Header, Expr, BlankLine, KeyValLine, TableLine, ArrayTableLine, Line}
+use Rattle.toml_tree.specs.declared.profile.Profile.{Profile}
 
 -- a piece of a text, without its place
 abbrev pub fresh : List ℕ → Piece
@@ -37,7 +39,6 @@ abbrev mutual
   pub bare_value : Value → Value
   bare_value (Scalar kind p) = Scalar kind (bare p)
   bare_value (Array whole items) = Array (bare whole) (bare_items items)
-  bare_value (Empty whole ws) = Empty (bare whole) (bare ws)
   bare_value (Inline whole pairs) = Inline (bare whole) (bare_pairs pairs)
 
   pub bare_items : Items → Items
@@ -46,8 +47,9 @@ abbrev mutual
   bare_items (More g v h is) = More (bare_gap g) (bare_value v) (bare_gap h) (bare_items is)
 
   pub bare_pairs : Pairs → Pairs
-  bare_pairs (LastPair ws a v after) = LastPair (bare ws) (bare_assign a) (bare_value v) (bare after)
-  bare_pairs (MorePairs ws a v after ps) = MorePairs (bare ws) (bare_assign a) (bare_value v) (bare after) (bare_pairs ps)
+  bare_pairs (ClosePairs g) = ClosePairs (bare_gap g)
+  bare_pairs (LastPair g a v h) = LastPair (bare_gap g) (bare_assign a) (bare_value v) (bare_gap h)
+  bare_pairs (MorePairs g a v h ps) = MorePairs (bare_gap g) (bare_assign a) (bare_value v) (bare_gap h) (bare_pairs ps)
 
 abbrev pub bare_keyval : KeyVal → KeyVal
 bare_keyval k = record { assign = bare_assign k.assign; value = bare_value k.value }
@@ -79,3 +81,10 @@ BarePairsText = (pairs : Pairs) → joined (pairs_parts (bare_pairs pairs)) ≡ 
 
 abbrev pub BareLinesText : Type 0
 BareLinesText = (lines : List Line) → joined (lines_parts (bare_lines lines)) ≡ joined (lines_parts lines)
+
+-- a tree is of a profile exactly where it is without its places
+abbrev pub BareValueOfProfile : Type 0
+BareValueOfProfile = (profile : Profile) (v : Value) → IsValueOfProfile profile v ↔ IsValueOfProfile profile (bare_value v)
+
+abbrev pub BareLinesOfProfile : Type 0
+BareLinesOfProfile = (profile : Profile) (lines : List Line) → AreLinesOfProfile profile lines ↔ AreLinesOfProfile profile (bare_lines lines)

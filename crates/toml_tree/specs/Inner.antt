@@ -3,7 +3,7 @@ use Rattle.std.specs.Prelude.{◌≡◌, ◌⊎◌, ℕ, List}
 use Rattle.toml_tree.specs.Laws.{IsIn}
 use Rattle.toml_tree.specs.Pieces.{piece_of, keyval_piece, expr_piece}
 use Rattle.toml_tree.specs.Spells.{EachIs, SpellLines, SpellsValue, SpellsKeyVal, SpellsExpr}
-use Rattle.toml_tree.specs.Tree.{Piece, Blank, Value, Scalar, Array, Empty, Inline, Pairs, LastPair, MorePairs, KeyVal, Expr, KeyValLine, Line}
+use Rattle.toml_tree.specs.Tree.{Piece, Blank, Value, Scalar, Array, Inline, Pairs, ClosePairs, LastPair, MorePairs, KeyVal, Expr, KeyValLine, Line}
 
 -- a value spells the text of its piece, from where the piece begins
 abbrev pub SpellsItself : Value → Type 0
@@ -18,13 +18,13 @@ ExprSpellsItself e = SpellsExpr e (expr_piece e).start (expr_piece e).text
 
 -- a pair of an inline table
 abbrev pub IsKeyValOf : KeyVal → Pairs → Type 0
-IsKeyValOf k (LastPair ws a v after) = k ≡ record { assign = a; value = v }
-IsKeyValOf k (MorePairs ws a v after ps) = (k ≡ record { assign = a; value = v }) ⊎ IsKeyValOf k ps
+IsKeyValOf k (ClosePairs g) = ⊥
+IsKeyValOf k (LastPair g a v h) = k ≡ record { assign = a; value = v }
+IsKeyValOf k (MorePairs g a v h ps) = (k ≡ record { assign = a; value = v }) ⊎ IsKeyValOf k ps
 
 abbrev pub IsKeyValIn : KeyVal → Value → Type 0
 IsKeyValIn k (Scalar kind p) = ⊥
 IsKeyValIn k (Array whole is) = ⊥
-IsKeyValIn k (Empty whole ws) = ⊥
 IsKeyValIn k (Inline whole ps) = IsKeyValOf k ps
 
 -- each line's expression spells itself

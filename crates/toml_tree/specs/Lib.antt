@@ -1,6 +1,7 @@
 -- trees, the texts that they spell, and what is said of them
 pub mod Tree
 pub mod Spells
+pub mod Profiles
 pub mod View
 pub mod Lines
 pub mod Document

@@ -1,7 +1,7 @@
 -- A tree that stands further behind by some bytes: the same, at another place.
 use Rattle.std.specs.Prelude.{◌≡◌, ◌↔◌, ℕ, ◌+◌, List, map, option_map}
 use Rattle.toml_tree.specs.Spells.{joined, value_parts, keyval_parts, expr_parts, SpellsValue, SpellsKeyVal, SpellsExpr}
-use Rattle.toml_tree.specs.Tree.{Piece, Blank, Dotted, Key, Assign, GapLine, Gap, Value, Scalar, Array, Empty, Inline, Items, Close, Last, More, Pairs, LastPair, MorePairs, KeyVal, Header, Expr, BlankLine, KeyValLine, TableLine, ArrayTableLine}
+use Rattle.toml_tree.specs.Tree.{Piece, Blank, Dotted, Key, Assign, GapLine, Gap, Value, Scalar, Array, Inline, Items, Close, Last, More, Pairs, ClosePairs, LastPair, MorePairs, KeyVal, Header, Expr, BlankLine, KeyValLine, TableLine, ArrayTableLine}
 
 -- a piece that starts n further behind, and what is made of such pieces
 module _ (n : ℕ) where
@@ -30,7 +30,6 @@ module _ (n : ℕ) where
     pub moved : Value → Value
     moved (Scalar kind p) = Scalar kind (moved_piece p)
     moved (Array whole items) = Array (moved_piece whole) (moved_items items)
-    moved (Empty whole ws) = Empty (moved_piece whole) (moved_piece ws)
     moved (Inline whole pairs) = Inline (moved_piece whole) (moved_pairs pairs)
 
     pub moved_items : Items → Items
@@ -39,8 +38,9 @@ module _ (n : ℕ) where
     moved_items (More g v h is) = More (moved_gap g) (moved v) (moved_gap h) (moved_items is)
 
     pub moved_pairs : Pairs → Pairs
-    moved_pairs (LastPair ws a v after) = LastPair (moved_piece ws) (moved_assign a) (moved v) (moved_piece after)
-    moved_pairs (MorePairs ws a v after ps) = MorePairs (moved_piece ws) (moved_assign a) (moved v) (moved_piece after) (moved_pairs ps)
+    moved_pairs (ClosePairs g) = ClosePairs (moved_gap g)
+    moved_pairs (LastPair g a v h) = LastPair (moved_gap g) (moved_assign a) (moved v) (moved_gap h)
+    moved_pairs (MorePairs g a v h ps) = MorePairs (moved_gap g) (moved_assign a) (moved v) (moved_gap h) (moved_pairs ps)
 
   abbrev pub moved_keyval : KeyVal → KeyVal
   moved_keyval k = record { assign = moved_assign k.assign; value = moved k.value }

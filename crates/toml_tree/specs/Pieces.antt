@@ -1,13 +1,12 @@
 -- The piece that a value, a pair or an expression takes: where it begins, and its text.
 use Rattle.std.specs.Prelude.{◌≡◌, ◌<◌, ℕ, length}
 use Rattle.toml_tree.specs.Spells.{Placed, joined, value_parts, keyval_parts, expr_parts, IsValue}
-use Rattle.toml_tree.specs.Tree.{Piece, Value, Scalar, Array, Empty, Inline, KeyVal, Expr, BlankLine, KeyValLine, TableLine, ArrayTableLine}
+use Rattle.toml_tree.specs.Tree.{Piece, Value, Scalar, Array, Inline, KeyVal, Expr, BlankLine, KeyValLine, TableLine, ArrayTableLine}
 
 -- the piece that a value is written by
 abbrev pub piece_of : Value → Piece
 piece_of (Scalar kind p) = p
 piece_of (Array whole items) = whole
-piece_of (Empty whole ws) = whole
 piece_of (Inline whole pairs) = whole
 
 -- a pair begins with the first part of its key

@@ -1,9 +1,11 @@
 -- A tree with each piece at its place, whatever places it had before, so that it spells its own text.
-use Rattle.std.specs.Prelude.{◌≡◌, ◌≤◌, ℕ, ◌+◌, List, [], ◌∷◌, ◌++◌, length, Option, Some, None}
+use Rattle.std.specs.Prelude.{◌≡◌, ◌↔◌, ◌≤◌, ℕ, ◌+◌, List, [], ◌∷◌, ◌++◌, length, Option, Some, None}
 use Rattle.toml_tree.specs.Bare.{fresh, bare_value, bare_lines}
 use Rattle.toml_tree.specs.Parts.{size}
+use Rattle.toml_tree.specs.Profiles.{IsValueOfProfile, AreLinesOfProfile}
 use Rattle.toml_tree.specs.Spells.{Part, joined, key_parts, dotted_parts, assign_parts, blank_parts, gap_parts, gap_line_parts, all_parts, value_parts, header_parts, array_header_parts, keyval_parts, expr_parts, line_parts, lines_parts, max_depth, depth, IsValue, AreLines, SpellsValue, SpellLines, Spells, mark_of}
-use Rattle.toml_tree.specs.Tree.{Piece, Blank, Dotted, Key, Assign, GapLine, Gap, Value, Scalar, Array, Empty, Inline, Items, Close, Last, More, Pairs, LastPair, MorePairs, KeyVal, Header, Expr, BlankLine, KeyValLine, TableLine, ArrayTableLine, Line, Doc}
+use Rattle.toml_tree.specs.Tree.{Piece, Blank, Dotted, Key, Assign, GapLine, Gap, Value, Scalar, Array, Inline, Items, Close, Last, More, Pairs, ClosePairs, LastPair, MorePairs, KeyVal, Header, Expr, BlankLine, KeyValLine, TableLine, ArrayTableLine, Line, Doc}
+use Rattle.toml_tree.specs.declared.profile.Profile.{Profile}
 
 -- where the parts end that stand at the place
 abbrev pub behind : ℕ → List Part → ℕ
@@ -53,7 +55,6 @@ abbrev mutual
   pub put_value : ℕ → Value → Value
   put_value at (Scalar kind p) = Scalar kind (put at p)
   put_value at (Array whole items) = Array (put at whole) (put_items (at + 1) items)
-  put_value at (Empty whole ws) = Empty (put at whole) (put (at + 1) ws)
   put_value at (Inline whole pairs) = Inline (put at whole) (put_pairs (at + 1) pairs)
 
   pub put_items : ℕ → Items → Items
@@ -64,13 +65,14 @@ abbrev mutual
       (put_items (behind (behind (behind at (gap_parts g)) (value_parts v)) (gap_parts h) + 1) is)
 
   pub put_pairs : ℕ → Pairs → Pairs
-  put_pairs at (LastPair ws a v after) =
-      LastPair (put at ws) (put_assign (at + length ws.text) a) (put_value (behind (at + length ws.text) (assign_parts a)) v)
-      (put (behind (behind (at + length ws.text) (assign_parts a)) (value_parts v)) after)
-  put_pairs at (MorePairs ws a v after ps) =
-      MorePairs (put at ws) (put_assign (at + length ws.text) a) (put_value (behind (at + length ws.text) (assign_parts a)) v)
-      (put (behind (behind (at + length ws.text) (assign_parts a)) (value_parts v)) after)
-      (put_pairs (behind (behind (at + length ws.text) (assign_parts a)) (value_parts v) + length after.text + 1) ps)
+  put_pairs at (ClosePairs g) = ClosePairs (put_gap at g)
+  put_pairs at (LastPair g a v h) =
+      LastPair (put_gap at g) (put_assign (behind at (gap_parts g)) a) (put_value (behind (behind at (gap_parts g)) (assign_parts a)) v)
+      (put_gap (behind (behind (behind at (gap_parts g)) (assign_parts a)) (value_parts v)) h)
+  put_pairs at (MorePairs g a v h ps) =
+      MorePairs (put_gap at g) (put_assign (behind at (gap_parts g)) a) (put_value (behind (behind at (gap_parts g)) (assign_parts a)) v)
+      (put_gap (behind (behind (behind at (gap_parts g)) (assign_parts a)) (value_parts v)) h)
+      (put_pairs (behind (behind (behind (behind at (gap_parts g)) (assign_parts a)) (value_parts v)) (gap_parts h) + 1) ps)
 
 abbrev pub put_keyval : ℕ → KeyVal → KeyVal
 put_keyval at k = record { assign = put_assign at k.assign; value = put_value (behind at (assign_parts k.assign)) k.value }
@@ -102,6 +104,13 @@ PutValueIsSame = (v : Value) (at : ℕ) → bare_value (put_value at v) ≡ bare
 
 abbrev pub PutLinesAreSame : Type 0
 PutLinesAreSame = (lines : List Line) (at : ℕ) → bare_lines (put_lines at lines) ≡ bare_lines lines
+
+-- and it is of the profiles that it was of
+abbrev pub PutValueOfProfile : Type 0
+PutValueOfProfile = (profile : Profile) (v : Value) (at : ℕ) → IsValueOfProfile profile v ↔ IsValueOfProfile profile (put_value at v)
+
+abbrev pub PutLinesOfProfile : Type 0
+PutLinesOfProfile = (profile : Profile) (lines : List Line) (at : ℕ) → AreLinesOfProfile profile lines ↔ AreLinesOfProfile profile (put_lines at lines)
 
 -- a value in its form, put at a place, spells its text there
 abbrev pub PutValueSpells : Type 0

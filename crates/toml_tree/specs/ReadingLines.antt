@@ -7,6 +7,7 @@ use Rattle.toml_tree.specs.Reading.{Cursor, here, ahead, all_of, run_at, comment
 use Rattle.toml_tree.specs.ReadingValues.{keyval_at, value_at}
 use Rattle.toml_tree.specs.Spells.{max_depth, mark_of}
 use Rattle.toml_tree.specs.Tree.{Piece, Header, Expr, BlankLine, KeyValLine, TableLine, ArrayTableLine, Line, Doc}
+use Rattle.toml_tree.specs.declared.profile.Profile.{Profile}
 use Rattle.toml_tree.specs.declared.step.Step.{Step}
 use Rattle.toml_tree.specs.declared.step.Step.TheVariants.{Next, Done}
 
@@ -35,29 +36,29 @@ header_line_at ws c =
     then (array_header_at c >>= λ h. let b = blank_at h.1 in Some (ArrayTableLine ws h.0 b.0, b.1))
     else (header_at c >>= λ h. let b = blank_at h.1 in Some (TableLine ws h.0 b.0, b.1))
 
-unfoldable pub keyval_line_at : Piece → Cursor → Option (Expr × Cursor)
-keyval_line_at ws c = keyval_at (value_at max_depth) c >>= λ k. let b = blank_at k.1 in Some (KeyValLine ws k.0 b.0, b.1)
+unfoldable pub keyval_line_at : Profile → Piece → Cursor → Option (Expr × Cursor)
+keyval_line_at profile ws c = keyval_at (value_at profile max_depth) c >>= λ k. let b = blank_at k.1 in Some (KeyValLine ws k.0 b.0, b.1)
 
-unfoldable pub expr_at : Cursor → Option (Expr × Cursor)
-expr_at c =
+unfoldable pub expr_at : Profile → Cursor → Option (Expr × Cursor)
+expr_at profile c =
     let w = run_at is_ws c in
-    if begins is_key_start w.1.rest then keyval_line_at w.0 w.1
+    if begins is_key_start w.1.rest then keyval_line_at profile w.0 w.1
     else (if begins (is_byte 0x5B) w.1.rest then header_line_at w.0 w.1
     else (let m = comment_at w.1 in Some (BlankLine (record { ws = w.0; comment = m.0 }), m.1)))
 
-unfoldable pub line_step : Cursor → Option (Step Line Line × Cursor)
-line_step c =
-    expr_at c >>= λ e.
+unfoldable pub line_step : Profile → Cursor → Option (Step Line Line × Cursor)
+line_step profile c =
+    expr_at profile c >>= λ e.
     let n = newline_len e.1.rest in
     let line : Line = record { expr = e.0; newline = here n e.1 } in
     if n == 0 then (if length e.1.rest == 0 then Some (Done line, ahead n e.1) else None)
     else Some (Next line, ahead n e.1)
 
-unfoldable pub lines_at : Cursor → Option (List Line × Cursor)
-lines_at c = all_of line_step c >>= λ r. Some (r.0 ++ r.1 ∷ [], r.2)
+unfoldable pub lines_at : Profile → Cursor → Option (List Line × Cursor)
+lines_at profile c = all_of (line_step profile) c >>= λ r. Some (r.0 ++ r.1 ∷ [], r.2)
 
-unfoldable pub document_at : List ℕ → Option Doc
-document_at text =
+unfoldable pub document_at : Profile → List ℕ → Option Doc
+document_at profile text =
     let n = length (mark_of text) in
     let start : Cursor = record { at = 0; rest = text } in
-    lines_at (ahead n start) >>= λ r. Some (record { mark = here n start; lines = r.0 })
+    lines_at profile (ahead n start) >>= λ r. Some (record { mark = here n start; lines = r.0 })

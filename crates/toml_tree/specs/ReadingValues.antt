@@ -1,10 +1,12 @@
 -- The plain reader of values and of key/value pairs.
-use Rattle.std.specs.Prelude.{ℕ, zero, suc, List, [], ◌∷◌, ◌++◌, Option, Some, None, if◌then◌else◌, ◌==◌}
+use Rattle.std.specs.Prelude.{ℕ, zero, suc, Bool, true, false, not, List, [], ◌∷◌, Option, Some, None, if◌then◌else◌, ◌==◌}
 use Rattle.toml_text.specs.Bytes.{is_ws}
 use Rattle.toml_text.specs.Runs.{begins, is_byte, newline_len}
 use Rattle.toml_scalar.specs.Scanning.{scan_at}
 use Rattle.toml_tree.specs.Reading.{Cursor, here, ahead, up_to, all_of, run_at, blank_at, assign_at, ◌>>=◌}
-use Rattle.toml_tree.specs.Tree.{Piece, GapLine, Gap, Value, Scalar, Array, Empty, Inline, Items, Close, Last, More, Pairs, LastPair, MorePairs, KeyVal}
+use Rattle.toml_tree.specs.Tree.{Piece, GapLine, Gap, Value, Scalar, Array, Inline, Items, Close, Last, More, Pairs, ClosePairs, LastPair, MorePairs, KeyVal}
+use Rattle.toml_tree.specs.declared.profile.Profile.{Profile}
+use Rattle.toml_tree.specs.declared.profile.Profile.TheVariants.{One, Two}
 use Rattle.toml_tree.specs.declared.step.Step.{Step}
 use Rattle.toml_tree.specs.declared.step.Step.TheVariants.{Next, Done}
 
@@ -61,58 +63,64 @@ keyval_at value c =
     value a.1 >>= λ v.
     Some (record { assign = a.0; value = v.0 }, v.1)
 
--- a pair of an inline table between its whitespace
+-- a pair of an inline table between its gaps
 pub record Member : Type 0 where
-  pub before : Piece
+  pub before : Gap
   pub pair : KeyVal
-  pub after : Piece
+  pub after : Gap
 
--- a pair, and those behind it
-abbrev pub pairs_of : Member → List Member → Pairs
-pairs_of m [] = LastPair m.before m.pair.assign m.pair.value m.after
-pairs_of m (n ∷ ms) = MorePairs m.before m.pair.assign m.pair.value m.after (pairs_of n ms)
+-- pairs that a comma follows, and then the end
+abbrev pub pairs_before_end : List Member → Pairs → Pairs
+pairs_before_end [] end = end
+pairs_before_end (m ∷ ms) end = MorePairs m.before m.pair.assign m.pair.value m.after (pairs_before_end ms end)
 
--- An inline table by its pairs, and the whitespace in one with no pair. With neither or both it is none that stands in a text:
--- there the whitespace has no place before the first byte behind `{`.
-abbrev pub inline : Piece → List Member → Option Piece → Value
-inline whole [] (Some ws) = Empty whole ws
-inline whole (m ∷ ms) None = Inline whole (pairs_of m ms)
-inline whole ms ws = Empty whole (record { start = 0; text = [] })
+-- a gap beside a pair: in profile 1 whitespace alone
+unfoldable pub pair_gap_at : Profile → Cursor → Option (Gap × Cursor)
+pair_gap_at One c = let w = run_at is_ws c in Some (record { lines = []; ws = w.0 }, w.1)
+pair_gap_at Two c = gap_at c
 
 -- behind a pair: a comma, or the end of the inline table
-unfoldable pub after_member : Member → Cursor → Option (Step Member Member × Cursor)
+unfoldable pub after_member : Member → Cursor → Option (Step Member Pairs × Cursor)
 after_member m c =
     if begins (is_byte 0x2C) c.rest then Some (Next m, ahead 1 c)
-    else (if begins (is_byte 0x7D) c.rest then Some (Done m, ahead 1 c) else None)
+    else (if begins (is_byte 0x7D) c.rest then Some (Done (LastPair m.before m.pair.assign m.pair.value m.after), ahead 1 c) else None)
 
-unfoldable pub pair_step : (Cursor → Option (Value × Cursor)) → Cursor → Option (Step Member Member × Cursor)
-pair_step value c =
-    let b = run_at is_ws c in
-    keyval_at value b.1 >>= λ k.
-    let a = run_at is_ws k.1 in
-    after_member (record { before = b.0; pair = k.0; after = a.0 }) a.1
+-- a pair behind its first gap, and what stands behind it
+unfoldable pub pair_at : Profile → (Cursor → Option (Value × Cursor)) → Gap → Cursor → Option (Step Member Pairs × Cursor)
+pair_at profile value before c =
+    keyval_at value c >>= λ k.
+    pair_gap_at profile k.1 >>= λ h.
+    after_member (record { before = before; pair = k.0; after = h.0 }) h.1
 
-unfoldable pub pairs_at : (Cursor → Option (Value × Cursor)) → Cursor → Option (List Member × Cursor)
-pairs_at value c = all_of (pair_step value) c >>= λ r. Some (r.0 ++ r.1 ∷ [], r.2)
+unfoldable pub pair_step : Profile → (Cursor → Option (Value × Cursor)) → Cursor → Option (Step Member Pairs × Cursor)
+pair_step profile value c =
+    pair_gap_at profile c >>= λ g.
+    if begins (is_byte 0x7D) g.1.rest then Some (Done (ClosePairs g.0), ahead 1 g.1)
+    else pair_at profile value g.0 g.1
 
--- the whitespace up to `}`, if nothing else stands before it
-unfoldable pub closed_at : Cursor → Option Piece × Cursor
-closed_at c = let w = run_at is_ws c in if begins (is_byte 0x7D) w.1.rest then (Some w.0, ahead 1 w.1) else (None, c)
+unfoldable pub pairs_at : Profile → (Cursor → Option (Value × Cursor)) → Cursor → Option (Pairs × Cursor)
+pairs_at profile value c = all_of (pair_step profile value) c >>= λ r. Some (pairs_before_end r.0 r.1, r.2)
 
--- the pairs, where there are some
-abbrev pub pairs_or_none : (Cursor → Option (Value × Cursor)) → Option Piece → Cursor → Option (List Member × Cursor)
-pairs_or_none value (Some ws) c = Some ([], c)
-pairs_or_none value None c = pairs_at value c
+-- whether `}` closes behind a comma, one standing before these pairs or not
+abbrev pub ends_in_comma : Bool → Pairs → Bool
+ends_in_comma comma (ClosePairs g) = comma
+ends_in_comma comma (LastPair g a v h) = false
+ends_in_comma comma (MorePairs g a v h ps) = ends_in_comma true ps
 
-unfoldable pub inline_at : (Cursor → Option (Value × Cursor)) → Cursor → Option (Value × Cursor)
-inline_at value c =
+-- whether the pairs may end so: in profile 1 not with a comma
+abbrev pub may_end : Profile → Pairs → Bool
+may_end One ps = not (ends_in_comma false ps)
+may_end Two ps = true
+
+unfoldable pub inline_at : Profile → (Cursor → Option (Value × Cursor)) → Cursor → Option (Value × Cursor)
+inline_at profile value c =
     if begins (is_byte 0x7B) c.rest
-    then (let ws = closed_at (ahead 1 c) in pairs_or_none value ws.0 ws.1 >>= λ r. Some (inline (up_to r.1 c) r.0 ws.0, r.1))
+    then (pairs_at profile value (ahead 1 c) >>= λ r. if may_end profile r.0 then Some (Inline (up_to r.1 c) r.0, r.1) else None)
     else None
 
 -- a value that nests at most so deep
-abbrev pub value_at : ℕ → Cursor → Option (Value × Cursor)
-value_at zero c = None
-value_at (suc deep) c =
-    if begins (is_byte 0x5B) c.rest then array_at (value_at deep) c
-    else (if begins (is_byte 0x7B) c.rest then inline_at (value_at deep) c else scalar_at c)
+abbrev pub value_at : Profile → ℕ → Cursor → Option (Value × Cursor)
+value_at profile zero c = None
+value_at profile (suc deep) c =
+    if begins (is_byte 0x5B) c.rest then array_at (value_at profile deep) c
+    else (if begins (is_byte 0x7B) c.rest then inline_at profile (value_at profile deep) c else scalar_at c)

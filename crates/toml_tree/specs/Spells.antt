@@ -1,9 +1,10 @@
--- Which text a tree spells: its parts, joined in order, are the text; each piece is in its form and has its place.
+-- Which text a tree spells: its parts, joined in order, are the text; each piece is in its form and has its place. The
+-- forms are those of profile 2, the wider one; what profile 1 asks beyond them `Profiles` has.
 use Rattle.std.specs.Prelude.{◌≡◌, ◌≤◌, ℕ, ◌+◌, max, List, [], ◌∷◌, ◌++◌, length, drop, ◌&&◌, ◌==◌, if◌then◌else◌, Option, Some, None}
 use Rattle.toml_text.specs.Forms.{IsWs, IsNewline, IsComment}
 use Rattle.toml_scalar.specs.Names.{IsKeyPart}
 use Rattle.toml_scalar.specs.Tokens.{IsToken}
-use Rattle.toml_tree.specs.Tree.{Piece, Blank, Dotted, Key, Assign, GapLine, Gap, Value, Scalar, Array, Empty, Inline, Items, Close, Last, More, Pairs, LastPair, MorePairs, KeyVal, Header, Expr, BlankLine, KeyValLine, TableLine, ArrayTableLine, Line, Doc}
+use Rattle.toml_tree.specs.Tree.{Piece, Blank, Dotted, Key, Assign, GapLine, Gap, Value, Scalar, Array, Inline, Items, Close, Last, More, Pairs, ClosePairs, LastPair, MorePairs, KeyVal, Header, Expr, BlankLine, KeyValLine, TableLine, ArrayTableLine, Line, Doc}
 
 -- A tree is read off as its parts in text order: pieces, and the symbols between them. Where a value has parts of its
 -- own, its piece begins with the first of them.
@@ -73,7 +74,6 @@ abbrev mutual
   pub value_parts : Value → List Part
   value_parts (Scalar kind p) = piece p ∷ []
   value_parts (Array whole items) = begin whole ∷ symbol (0x5B ∷ []) ∷ items_parts items
-  value_parts (Empty whole ws) = begin whole ∷ symbol (0x7B ∷ []) ∷ piece ws ∷ symbol (0x7D ∷ []) ∷ []
   value_parts (Inline whole pairs) = begin whole ∷ symbol (0x7B ∷ []) ∷ pairs_parts pairs
 
   pub items_parts : Items → List Part
@@ -82,8 +82,9 @@ abbrev mutual
   items_parts (More g v h is) = gap_parts g ++ (value_parts v ++ (gap_parts h ++ symbol (0x2C ∷ []) ∷ items_parts is))
 
   pub pairs_parts : Pairs → List Part
-  pairs_parts (LastPair ws a v after) = piece ws ∷ (assign_parts a ++ (value_parts v ++ (piece after ∷ symbol (0x7D ∷ []) ∷ [])))
-  pairs_parts (MorePairs ws a v after ps) = piece ws ∷ (assign_parts a ++ (value_parts v ++ (piece after ∷ symbol (0x2C ∷ []) ∷ pairs_parts ps)))
+  pairs_parts (ClosePairs g) = gap_parts g ++ symbol (0x7D ∷ []) ∷ []
+  pairs_parts (LastPair g a v h) = gap_parts g ++ (assign_parts a ++ (value_parts v ++ (gap_parts h ++ symbol (0x7D ∷ []) ∷ [])))
+  pairs_parts (MorePairs g a v h ps) = gap_parts g ++ (assign_parts a ++ (value_parts v ++ (gap_parts h ++ symbol (0x2C ∷ []) ∷ pairs_parts ps)))
 
 abbrev pub keyval_parts : KeyVal → List Part
 keyval_parts k = assign_parts k.assign ++ value_parts k.value
@@ -131,7 +132,7 @@ IsKey k = IsKeyPart k.first.text × EachIs IsDotted k.rest
 abbrev pub IsAssign : Assign → Type 0
 IsAssign a = IsKey a.key × IsWs a.before_equals.text × IsWs a.after_equals.text
 
--- `[ comment ] newline` in an array
+-- `[ comment ] newline` in an array or an inline table
 abbrev pub IsGapLine : GapLine → Type 0
 IsGapLine l = IsBlank l.blank × IsNewline l.newline.text
 
@@ -144,7 +145,6 @@ abbrev mutual
   pub IsValue : Value → Type 0
   IsValue (Scalar kind p) = IsToken kind p.text
   IsValue (Array whole items) = (whole.text ≡ joined (symbol (0x5B ∷ []) ∷ items_parts items)) × AreItems items
-  IsValue (Empty whole ws) = (whole.text ≡ joined (symbol (0x7B ∷ []) ∷ piece ws ∷ symbol (0x7D ∷ []) ∷ [])) × IsWs ws.text
   IsValue (Inline whole pairs) = (whole.text ≡ joined (symbol (0x7B ∷ []) ∷ pairs_parts pairs)) × ArePairs pairs
 
   -- `array-values`: a comma may follow the last value
@@ -153,17 +153,17 @@ abbrev mutual
   AreItems (Last g v h) = IsGap g × IsValue v × IsGap h
   AreItems (More g v h is) = IsGap g × IsValue v × IsGap h × AreItems is
 
-  -- `inline-table-keyvals`: no newline, and no comma behind the last pair
+  -- `inline-table-keyvals` with gaps and a last comma as in an array, which profile 2 has
   pub ArePairs : Pairs → Type 0
-  ArePairs (LastPair ws a v after) = IsWs ws.text × IsAssign a × IsValue v × IsWs after.text
-  ArePairs (MorePairs ws a v after ps) = IsWs ws.text × IsAssign a × IsValue v × IsWs after.text × ArePairs ps
+  ArePairs (ClosePairs g) = IsGap g
+  ArePairs (LastPair g a v h) = IsGap g × IsAssign a × IsValue v × IsGap h
+  ArePairs (MorePairs g a v h ps) = IsGap g × IsAssign a × IsValue v × IsGap h × ArePairs ps
 
 -- How deep values nest: a scalar has depth 1, and what stands in an array or an inline table is one deeper than it.
 abbrev mutual
   pub depth : Value → ℕ
   depth (Scalar kind p) = 1
   depth (Array whole items) = items_depth items + 1
-  depth (Empty whole ws) = 1
   depth (Inline whole pairs) = pairs_depth pairs + 1
 
   pub items_depth : Items → ℕ
@@ -172,10 +172,11 @@ abbrev mutual
   items_depth (More g v h is) = max (depth v) (items_depth is)
 
   pub pairs_depth : Pairs → ℕ
-  pairs_depth (LastPair ws a v after) = depth v
-  pairs_depth (MorePairs ws a v after ps) = max (depth v) (pairs_depth ps)
+  pairs_depth (ClosePairs g) = 0
+  pairs_depth (LastPair g a v h) = depth v
+  pairs_depth (MorePairs g a v h ps) = max (depth v) (pairs_depth ps)
 
--- the greatest depth of a value in this profile
+-- the greatest depth of a value, in either profile
 abbrev pub max_depth : ℕ
 max_depth = 100
 
@@ -206,7 +207,7 @@ pub record SpellLines (ls : List Line) (at : ℕ) (text : List ℕ) : Type 0 whe
   pub text_is : joined (lines_parts ls) ≡ text
   pub placed : Placed at (lines_parts ls)
 
--- the mark U+FEFF at the front of a text, or nothing: this profile lets it stand once
+-- the mark U+FEFF at the front of a text, or nothing: both profiles let it stand once
 abbrev pub mark_of : List ℕ → List ℕ
 mark_of (a ∷ b ∷ c ∷ bs) = if a == 0xEF && b == 0xBB && c == 0xBF then a ∷ b ∷ c ∷ [] else []
 mark_of _ = []
@@ -233,11 +234,3 @@ pub record SpellsExpr (e : Expr) (at : ℕ) (text : List ℕ) : Type 0 where
   pub form : IsExpr e
   pub text_is : joined (expr_parts e) ≡ text
   pub placed : Placed at (expr_parts e)
-
--- no tree spells the text
-abbrev pub SpelledByNone : List ℕ → Type 0
-SpelledByNone text = (d : Doc) → ¬ Spells d text
-
--- the text is no value
-abbrev pub IsNoValue : List ℕ → Type 0
-IsNoValue text = (v : Value) → ¬ SpellsValue v 0 text

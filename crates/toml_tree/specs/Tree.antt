@@ -28,12 +28,12 @@ pub record Assign : Type 0 where
   pub before_equals : Piece
   pub after_equals : Piece
 
--- a line inside an array
+-- a line inside an array or an inline table
 pub record GapLine : Type 0 where
   pub blank : Blank
   pub newline : Piece
 
--- what may stand before and behind a value of an array
+-- what may stand before and behind a value of an array, or a pair of an inline table
 pub record Gap : Type 0 where
   pub lines : List GapLine
   pub ws : Piece
@@ -43,8 +43,6 @@ mutual
   pub data Value : Type 0 where
     Scalar : ScalarKind → Piece → Value
     Array : Piece → Items → Value
-    -- an inline table with no pair, and the whitespace in it
-    Empty : Piece → Piece → Value
     Inline : Piece → Pairs → Value
 
   -- what stands behind `[`, or behind a comma
@@ -55,8 +53,9 @@ mutual
 
   -- what stands behind `{`, or behind a comma
   pub data Pairs : Type 0 where
-    LastPair : Piece → Assign → Value → Piece → Pairs
-    MorePairs : Piece → Assign → Value → Piece → Pairs → Pairs
+    ClosePairs : Gap → Pairs
+    LastPair : Gap → Assign → Value → Gap → Pairs
+    MorePairs : Gap → Assign → Value → Gap → Pairs → Pairs
 
 pub record KeyVal : Type 0 where
   pub assign : Assign

@@ -1,5 +1,5 @@
 -- What the code's tree is as a tree of the definitions: all but where it lies in memory.
-use Rattle.std.specs.Prelude.{◌≡◌, ◌⊎◌, List, [], ◌∷◌, map, Option, Some, None, option_map}
+use Rattle.std.specs.Prelude.{◌≡◌, ◌⊎◌, List, [], ◌∷◌, ◌++◌, map, Option, Some, None, option_map}
 use Rattle.toml_text.specs.Forms.{IsNewline}
 use Rattle.toml_tree.specs.Spells.{IsExpr}
 use Rattle.toml_tree.specs.declared.piece.Piece.{Piece}
@@ -17,9 +17,9 @@ use Rattle.toml_tree.specs.declared.tree.Item.{Item}
 use Rattle.toml_tree.specs.declared.tree.Pair.{Pair}
 use Rattle.toml_tree.specs.declared.tree.KeyVal.{KeyVal}
 use Rattle.toml_tree.specs.declared.tree.Header.{Header}
-use Rattle.toml_tree.specs.declared.step.ArrayEnd.{ArrayEnd}
-use Rattle.toml_tree.specs.declared.step.ArrayEnd.TheVariants as ends
-use Rattle.toml_tree.specs.ReadingValues.{Element, Member, before_end, inline}
+use Rattle.toml_tree.specs.declared.step.End.{End}
+use Rattle.toml_tree.specs.declared.step.End.TheVariants as ends
+use Rattle.toml_tree.specs.ReadingValues.{Element, Member, before_end, pairs_before_end}
 use Rattle.toml_tree.specs.declared.tree.Expr.{Expr}
 use Rattle.toml_tree.specs.declared.tree.Expr.TheVariants as exprs
 use Rattle.toml_tree.specs.Tree as tree
@@ -57,6 +57,16 @@ abbrev pub array_items : List Element → Option Gap → tree.Items
 array_items es (Some g) = before_end es (tree.Close (gap g))
 array_items es None = last_ends es
 
+-- the same of the pairs of an inline table
+abbrev pub last_pairs : List Member → tree.Pairs
+last_pairs [] = tree.ClosePairs (record { lines = []; ws = record { start = 0; text = [] } })
+last_pairs (m ∷ []) = tree.LastPair m.before m.pair.assign m.pair.value m.after
+last_pairs (m ∷ n ∷ ms) = tree.MorePairs m.before m.pair.assign m.pair.value m.after (last_pairs (n ∷ ms))
+
+abbrev pub table_pairs : List Member → Option Gap → tree.Pairs
+table_pairs ms (Some g) = pairs_before_end ms (tree.ClosePairs (gap g))
+table_pairs ms None = last_pairs ms
+
 -- one level of a value, the levels below it being trees already
 abbrev pub array_step : Array-F tree.Value tree.Value tree.Value Element tree.KeyVal Member → tree.Value
 array_step a = tree.Array (piece a.whole) (array_items a.items.items a.end)
@@ -65,10 +75,10 @@ abbrev pub item_step : Item-F tree.Value tree.Value tree.Value Element tree.KeyV
 item_step i = record { before = gap i.before; value = i.value; after = gap i.after }
 
 abbrev pub inline_step : InlineTable-F tree.Value tree.Value tree.Value Element tree.KeyVal Member → tree.Value
-inline_step t = inline (piece t.whole) t.pairs.items (option_map piece t.ws)
+inline_step t = tree.Inline (piece t.whole) (table_pairs t.pairs.items t.end)
 
 abbrev pub pair_step : Pair-F tree.Value tree.Value tree.Value Element tree.KeyVal Member → Member
-pair_step p = record { before = piece p.before; pair = p.keyval; after = piece p.after }
+pair_step p = record { before = gap p.before; pair = p.keyval; after = gap p.after }
 
 abbrev pub keyval_step : KeyVal-F tree.Value tree.Value tree.Value Element tree.KeyVal Member → tree.KeyVal
 keyval_step k = record { assign = assign k.assign; value = k.value }
@@ -91,9 +101,19 @@ abbrev pub keyval : KeyVal → tree.KeyVal
 keyval = fold-KeyVal tree.Value tree.Value tree.Value Element tree.KeyVal Member value_step array_step inline_step item_step keyval_step pair_step
 
 -- what ends the items of an array: a gap, or an element that no comma follows
-abbrev pub array_end : ArrayEnd → tree.Items
+abbrev pub array_end : End Item → tree.Items
 array_end (ends.Gap g) = tree.Close (gap g)
-array_end (ends.Item i) = last_ends (element i ∷ [])
+array_end (ends.Last i) = last_ends (element i ∷ [])
+
+-- the same of an inline table
+abbrev pub table_end : End Pair → tree.Pairs
+table_end (ends.Gap g) = tree.ClosePairs (gap g)
+table_end (ends.Last p) = last_pairs (member p ∷ [])
+
+-- what was read of an array or an inline table, and its end, in one list and the gap behind a last comma
+abbrev pub Ended : {T : Type 0} → List T → End T → List T → Option Gap → Type 0
+Ended xs (ends.Gap g) all end = (all ≡ xs) × (end ≡ Some g)
+Ended xs (ends.Last x) all end = (all ≡ xs ++ x ∷ []) × (end ≡ None)
 
 abbrev pub header : Header → tree.Header
 header h = record { before = piece h.before; key = key h.key; after = piece h.after }

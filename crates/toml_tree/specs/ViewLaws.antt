@@ -1,10 +1,9 @@
 -- The tree of a parsed value and of a parsed pair, by what the code's value holds.
-use Rattle.std.specs.Prelude.{◌≡◌, map, option_map}
+use Rattle.std.specs.Prelude.{◌≡◌, map}
 use Rattle.std.specs.Global.{Box}
 use Rattle.toml_scalar.specs.declared.kind.ScalarKind.{ScalarKind}
-use Rattle.toml_tree.specs.ReadingValues.{inline}
 use Rattle.toml_tree.specs.Tree as tree
-use Rattle.toml_tree.specs.View.{piece, assign, value, element, member, keyval, array_items}
+use Rattle.toml_tree.specs.View.{piece, assign, value, element, member, keyval, array_items, table_pairs}
 use Rattle.toml_tree.specs.declared.piece.Piece.{Piece}
 use Rattle.toml_tree.specs.declared.tree.Array.{Array}
 use Rattle.toml_tree.specs.declared.tree.InlineTable.{InlineTable}
@@ -20,9 +19,9 @@ ViewOfScalar = (kind : ScalarKind) (p : Piece) → value (made.Scalar kind p) �
 abbrev pub ViewOfArray : Type 0
 ViewOfArray = (b : Box Array) → value (made.Array b) ≡ tree.Array (piece (out-Array b.value).whole) (array_items (map element (out-Array b.value).items.items) (out-Array b.value).end)
 
--- an inline table by its piece, its pairs, or where there is none the whitespace
+-- an inline table by its piece, its pairs and what stands behind the last
 abbrev pub ViewOfInline : Type 0
-ViewOfInline = (b : Box InlineTable) → value (made.Inline b) ≡ inline (piece (out-InlineTable b.value).whole) (map member (out-InlineTable b.value).pairs.items) (option_map piece (out-InlineTable b.value).ws)
+ViewOfInline = (b : Box InlineTable) → value (made.Inline b) ≡ tree.Inline (piece (out-InlineTable b.value).whole) (table_pairs (map member (out-InlineTable b.value).pairs.items) (out-InlineTable b.value).end)
 
 -- a pair by its key and its value
 abbrev pub ViewOfKeyVal : Type 0

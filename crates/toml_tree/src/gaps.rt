@@ -1,11 +1,12 @@
-//! Gaps: what may stand before and behind a value of an array.
+//! Gaps: what may stand before and behind a value of an array, or a pair of an inline table.
 ghost use Rattle.std.specs.Prelude.{IfOk};
-ghost use Rattle.toml_tree.specs.ReadingValues.{gap_step, gap_at};
+ghost use Rattle.toml_tree.specs.ReadingValues.{gap_step, gap_at, pair_gap_at};
 ghost use Rattle.toml_tree.specs.Reads.{cursor, Moves, Reads, step};
 ghost use Rattle.toml_tree.specs.View.{piece, gap_line, gap};
 
 use crate::growing::push_sparing;
 use crate::piece::{Gap, GapLine, Piece};
+use crate::profile::Profile;
 use crate::reader::Reader;
 use crate::step::Step;
 use std::alloc::Global;
@@ -42,6 +43,22 @@ impl<'t> Reader<'t> {
                     return Ok(Gap { lines, ws });
                 }
             }
+        }
+    }
+
+    /// The gap before or behind a pair: whitespace alone in profile 1, which takes no memory.
+    #[inline]
+    #[tactic(auto, unfolding(crate::specs::ReadingValues::pair_gap_at))]
+    pub fn pair_gap(&mut self, alloc: Global, profile: Profile) -> Result<Gap<'t>, SyntaxFault>
+        ensures { Reads gap (cursor self.old) (cursor self.new) result (pair_gap_at profile (cursor self.old)) }
+    {
+        match profile {
+            Profile::One => {
+                let ws = self.ws();
+                let lines = Vec::new(alloc);
+                Ok(Gap { lines, ws })
+            }
+            Profile::Two => self.gap(alloc),
         }
     }
 }

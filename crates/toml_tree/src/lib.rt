@@ -11,6 +11,7 @@ mod line;
 mod lines;
 mod parsing;
 mod piece;
+mod profile;
 mod reader;
 mod reading;
 mod step;
@@ -20,7 +21,8 @@ mod values;
 
 pub use document::Doc;
 pub use line::Line;
-pub use parsing::{parse, parse_value};
+pub use parsing::{parse, parse_in, parse_value, parse_value_in};
 pub use piece::{Blank, Gap, GapLine, Piece};
+pub use profile::Profile;
 pub use toml_scalar::{MomentKind, ScalarKind, SyntaxFault};
 pub use tree::{Array, Assign, Dotted, Expr, Header, InlineTable, Item, Key, KeyVal, Pair, Value};

@@ -7,6 +7,7 @@ ghost use Rattle.toml_tree.specs.View.{piece, expr};
 
 use crate::line::Line;
 use crate::piece::{Blank, Piece};
+use crate::profile::Profile;
 use crate::reader::Reader;
 use crate::step::Step;
 use crate::tree::Expr;
@@ -17,22 +18,27 @@ use toml_scalar::SyntaxFault;
 impl<'t> Reader<'t> {
     /// `keyval ws [ comment ]`, behind whitespace
     #[tactic(auto, unfolding(crate::specs::ReadingLines::keyval_line_at))]
-    fn keyval_line(&mut self, alloc: Global, ws: Piece<'t>) -> Result<Expr<'t>, SyntaxFault>
-        ensures { Reads expr (cursor self.old) (cursor self.new) result (keyval_line_at (piece ws.entry) (cursor self.old)) }
+    fn keyval_line(
+        &mut self,
+        alloc: Global,
+        profile: Profile,
+        ws: Piece<'t>,
+    ) -> Result<Expr<'t>, SyntaxFault>
+        ensures { Reads expr (cursor self.old) (cursor self.new) result (keyval_line_at profile (piece ws.entry) (cursor self.old)) }
     {
-        let keyval = self.keyval(alloc, MAX_DEPTH)?;
+        let keyval = self.keyval(alloc, MAX_DEPTH, profile)?;
         let tail = self.blank();
         Ok(Expr::KeyVal { ws, keyval, tail })
     }
 
     /// `expression`
     #[tactic(auto, unfolding(crate::specs::ReadingLines::expr_at))]
-    fn expr(&mut self, alloc: Global) -> Result<Expr<'t>, SyntaxFault>
-        ensures { Reads expr (cursor self.old) (cursor self.new) result (expr_at (cursor self.old)) }
+    fn expr(&mut self, alloc: Global, profile: Profile) -> Result<Expr<'t>, SyntaxFault>
+        ensures { Reads expr (cursor self.old) (cursor self.new) result (expr_at profile (cursor self.old)) }
     {
         let ws = self.ws();
         if self.is_at_key() {
-            return self.keyval_line(alloc, ws);
+            return self.keyval_line(alloc, profile, ws);
         }
         if self.begins(b'[') {
             return self.header_line(alloc, ws);
@@ -43,11 +49,15 @@ impl<'t> Reader<'t> {
 
     /// An expression and the newline behind it, or the last expression.
     #[tactic(auto, unfolding(crate::specs::ReadingLines::line_step))]
-    fn line_step(&mut self, alloc: Global) -> Result<Step<Line<'t>, Line<'t>>, SyntaxFault>
-        ensures reads { Reads (step line line) (cursor self.old) (cursor self.new) result (line_step (cursor self.old)) }
+    fn line_step(
+        &mut self,
+        alloc: Global,
+        profile: Profile,
+    ) -> Result<Step<Line<'t>, Line<'t>>, SyntaxFault>
+        ensures reads { Reads (step line line) (cursor self.old) (cursor self.new) result (line_step profile (cursor self.old)) }
         ensures moves { IfOk result (Moves (cursor self.old) (cursor self.new)) }
     {
-        let expr = self.expr(alloc)?;
+        let expr = self.expr(alloc, profile)?;
         let newline = self.newline();
         if !newline.text.is_empty() {
             return Ok(Step::Next(Line { expr, newline }));
@@ -59,12 +69,12 @@ impl<'t> Reader<'t> {
     }
 
     /// All lines.
-    pub fn lines(&mut self, alloc: Global) -> Result<Vec<Line<'t>>, SyntaxFault>
-        ensures { Reads (λ v. map line v.items) (cursor self.old) (cursor self.new) result (lines_at (cursor self.old)) }
+    pub fn lines(&mut self, alloc: Global, profile: Profile) -> Result<Vec<Line<'t>>, SyntaxFault>
+        ensures { Reads (λ v. map line v.items) (cursor self.old) (cursor self.new) result (lines_at profile (cursor self.old)) }
     {
         let mut lines = Vec::new(alloc);
         loop {
-            match self.line_step(alloc)? {
+            match self.line_step(alloc, profile)? {
                 Step::Next(line) => lines.push(line)?,
                 Step::Done(line) => {
                     lines.push(line)?;

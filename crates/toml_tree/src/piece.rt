@@ -19,7 +19,7 @@ pub struct Blank<'t> {
     pub comment: Option<Piece<'t>>,
 }
 
-/// A line inside an array: whitespace, a comment or none, and a newline.
+/// A line inside an array or an inline table: whitespace, a comment or none, and a newline.
 #[derive(Clone, Copy)]
 pub struct GapLine<'t> {
     pub blank: Blank<'t>,
@@ -27,7 +27,8 @@ pub struct GapLine<'t> {
 }
 
 /// What may stand before and behind a value of an array (TOML v1.0.0, Array; `ws-comment-newline`): whitespace,
-/// newlines, and comments that a newline follows.
+/// newlines, and comments that a newline follows. The same may stand before and behind a pair of an inline table, in
+/// profile 1 without newlines and comments.
 #[derive(Drop)]
 pub struct Gap<'t> {
     pub lines: Vec<GapLine<'t>>,

@@ -1,5 +1,4 @@
 use crate::piece::Gap;
-use crate::tree::Item;
 
 /// What a step of a reading loop gives: one more, or the last.
 #[derive(Drop)]
@@ -8,9 +7,9 @@ pub enum Step<A, B> {
     Done(B),
 }
 
-/// How an array ends: with a gap, or with an item that no comma follows.
+/// How an array or an inline table ends: with a gap, or with a last that no comma follows.
 #[derive(Drop)]
-pub enum ArrayEnd<'t> {
+pub enum End<'t, T> {
     Gap(Gap<'t>),
-    Item(Item<'t>),
+    Last(T),
 }

@@ -61,17 +61,18 @@ pub struct InlineTable<'t> {
     /// From `{` to `}`.
     pub whole: Piece<'t>,
     pub pairs: Vec<Pair<'t>>,
-    /// What stands in one of no pair.
-    pub ws: Option<Piece<'t>>,
+    /// What stands behind the last comma, where one follows the last pair (profile 2); of an inline table of no pair
+    /// all that stands in it.
+    pub end: Option<Gap<'t>>,
 }
 
-/// A pair of an inline table, and the whitespace around it up to the brace or the comma.
+/// A pair of an inline table, and what stands around it up to the brace or the comma: in profile 1 whitespace alone.
 #[derive(Drop)]
 #[cycle(value)]
 pub struct Pair<'t> {
-    pub before: Piece<'t>,
+    pub before: Gap<'t>,
     pub keyval: KeyVal<'t>,
-    pub after: Piece<'t>,
+    pub after: Gap<'t>,
 }
 
 /// A key/value pair (TOML v1.0.0, Key/Value Pair).
