@@ -2,7 +2,7 @@
 use Rattle.std.specs.Prelude.{ℕ, ◌+◌, ◌-◌, ◌==◌, Bool, true, false, ◌&&◌, if◌then◌else◌, List, [], ◌∷◌, ◌++◌, filter, count_by, Option, Some, None}
 use Rattle.toml_scalar.specs.Values.{ScalarValue, Text, scalar_of}
 use Rattle.toml_scalar.specs.declared.kind.ScalarKind.{ScalarKind}
-use Rattle.toml_tree.specs.Tree.{Assign, Value, Scalar, Array, Empty, Inline, Items, Close, Last, More, Pairs, LastPair, MorePairs, Expr, BlankLine, KeyValLine, TableLine, ArrayTableLine, Line}
+use Rattle.toml_tree.specs.Tree.{Assign, Value, Scalar, Array, Inline, Items, Close, Last, More, Pairs, ClosePairs, LastPair, MorePairs, Expr, BlankLine, KeyValLine, TableLine, ArrayTableLine, Line}
 use Rattle.toml_names.specs.declared.mentions.mention.Role.{Role}
 use Rattle.toml_names.specs.declared.mentions.mention.Role.TheVariants.{Passed, Header, Dotted, Valued, Tables, Element, Bare}
 use Rattle.toml_names.specs.model.Addresses.{Address, same_address, child, element, below}
@@ -32,7 +32,6 @@ token_kind kind text = a_scalar (value_or_empty (scalar_of kind text))
 abbrev pub kind_of : Value → Kind
 kind_of (Scalar kind p) = token_kind kind p.text
 kind_of (Array whole items) = an_array
-kind_of (Empty whole ws) = a_table
 kind_of (Inline whole pairs) = a_table
 
 abbrev pub table_at : ℕ → Role → Address → Named
@@ -53,7 +52,6 @@ abbrev mutual
   pub inside : ℕ → Address → Value → List Named
   inside line at (Scalar kind p) = []
   inside line at (Array whole items) = elements line at 0 items
-  inside line at (Empty whole ws) = []
   inside line at (Inline whole pairs) = members line at pairs
 
   -- the elements of an array, from the index on
@@ -64,8 +62,9 @@ abbrev mutual
 
   -- the pairs of an inline table
   pub members : ℕ → Address → Pairs → List Named
-  members line at (LastPair ws a v after) = fronts line at (key_names a.key) ++ (value_named line Valued (below at (key_names a.key)) v ∷ inside line (below at (key_names a.key)) v)
-  members line at (MorePairs ws a v after ps) = (fronts line at (key_names a.key) ++ (value_named line Valued (below at (key_names a.key)) v ∷ inside line (below at (key_names a.key)) v)) ++ members line at ps
+  members line at (ClosePairs g) = []
+  members line at (LastPair g a v h) = fronts line at (key_names a.key) ++ (value_named line Valued (below at (key_names a.key)) v ∷ inside line (below at (key_names a.key)) v)
+  members line at (MorePairs g a v h ps) = (fronts line at (key_names a.key) ++ (value_named line Valued (below at (key_names a.key)) v ∷ inside line (below at (key_names a.key)) v)) ++ members line at ps
 
 -- what a pair names in the table at the address
 abbrev pub pair_named : ℕ → Address → Assign → Value → List Named

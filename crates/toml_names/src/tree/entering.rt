@@ -163,10 +163,6 @@ impl<'t> NameTree<'t> {
                 Ok(())
             }
             Value::Inline(table) => {
-                // whitespace alone between the braces: no pair
-                if table.ws.is_some() {
-                    return Ok(());
-                }
                 for pair in &table.pairs {
                     self.enter_pair(false, id, &pair.keyval, line)?;
                 }

@@ -2,7 +2,7 @@
 use Rattle.std.proofs.Common.{◌≡◌, ◌⊎◌, inl, inr, ℕ, ◌+◌, ◌-◌, ◌==◌, ◌&&◌, Bool, true, false, cond, List, [], ◌∷◌, ◌++◌, map, refl, sym, ap, ap₂, ◌∙◌, subst, true≢false, append_assoc, arith}
 use Rattle.std.proofs.lemmas.Bool.{cond-false}
 use Rattle.toml_tree.specs.Spells.{EachIs}
-use Rattle.toml_tree.specs.Tree.{Assign, Value, Scalar, Array, Empty, Inline, Items, Close, Last, More, Pairs, LastPair, MorePairs, Expr, BlankLine, KeyValLine, TableLine, ArrayTableLine, Line}
+use Rattle.toml_tree.specs.Tree.{Assign, Value, Scalar, Array, Inline, Items, Close, Last, More, Pairs, ClosePairs, LastPair, MorePairs, Expr, BlankLine, KeyValLine, TableLine, ArrayTableLine, Line}
 use Rattle.toml_names.specs.declared.model.address.Step.TheVariants.{Name, Index}
 use Rattle.toml_names.specs.declared.mentions.mention.Role.{Role}
 use Rattle.toml_names.specs.declared.mentions.mention.Role.TheVariants.{Passed, Header, Dotted, Valued, Tables, Element, Bare}
@@ -123,7 +123,6 @@ module _ (p : Address) where
     inside_clear : (v : Value) (line : ℕ) (at : Address) → IsClear p at → NoneAt (inside line at v) → AllClear (inside line at v)
     inside_clear (Scalar kind text) line at clear none = tt
     inside_clear (Array whole items) line at clear none = elements_clear items line at 0 clear none
-    inside_clear (Empty whole ws) line at clear none = tt
     inside_clear (Inline whole pairs) line at clear none = members_clear pairs line at clear none
 
     elements_clear : (items : Items) (line : ℕ) (at : Address) (i : ℕ) → IsClear p at → NoneAt (elements line at i items) → AllClear (elements line at i items)
@@ -138,8 +137,9 @@ module _ (p : Address) where
         (here, each_append (λ m. IsClear p m.address) (inside line (element at i) v) (elements line at (i + 1) is) (inside_clear v line (element at i) here first) (elements_clear is line at (i + 1) clear later))
 
     members_clear : (pairs : Pairs) (line : ℕ) (at : Address) → IsClear p at → NoneAt (members line at pairs) → AllClear (members line at pairs)
-    members_clear (LastPair ws a v after) line at clear none = pair_clear a v line at clear none (λ to c n. inside_clear v line to c n)
-    members_clear (MorePairs ws a v after ps) line at clear none =
+    members_clear (ClosePairs g) line at clear none = tt
+    members_clear (LastPair g a v h) line at clear none = pair_clear a v line at clear none (λ to c n. inside_clear v line to c n)
+    members_clear (MorePairs g a v h ps) line at clear none =
         each_append (λ m. IsClear p m.address) (pair_named line at a v) (members line at ps)
         (pair_clear a v line at clear (each_left _ (pair_named line at a v) (members line at ps) none) (λ to c n. inside_clear v line to c n))
         (members_clear ps line at clear (each_right _ (pair_named line at a v) (members line at ps) none))

@@ -1,16 +1,14 @@
 -- What a value names inside it, by the lists of its items and of its pairs.
 use Rattle.std.proofs.Common.{◌≡◌, ℕ, ◌+◌, List, [], ◌∷◌, ◌++◌, map, Option, Some, None, Box, Global, refl, sym, ap, ◌∙◌}
 use Rattle.std.proofs.lemmas.List.{append-nil}
-use Rattle.std.specs.Prelude.{false, is_some, option_map}
 use Rattle.toml_tree.specs.declared.piece.Gap.{Gap}
-use Rattle.toml_tree.specs.declared.piece.Piece.{Piece}
 use Rattle.toml_tree.specs.declared.tree.Array.{Array}
 use Rattle.toml_tree.specs.declared.tree.InlineTable.{InlineTable}
 use Rattle.toml_tree.specs.declared.tree.Value.TheVariants as made
 use Rattle.toml_tree.specs.declared.tree.Value.TheViews.{out-Array, out-InlineTable}
 use Rattle.toml_tree.specs.Tree as tree
-use Rattle.toml_tree.specs.ReadingValues.{Element, Member, before_end, pairs_of, inline}
-use Rattle.toml_tree.specs.View.{piece, gap, value, element as tree_element, member, array_items, last_ends}
+use Rattle.toml_tree.specs.ReadingValues.{Element, Member, before_end, pairs_before_end}
+use Rattle.toml_tree.specs.View.{gap, value, element as tree_element, member, array_items, last_ends, table_pairs, last_pairs}
 use Rattle.toml_tree.proofs.Proved.{value_array, value_inline}
 use Rattle.toml_names.specs.declared.mentions.mention.Role.TheVariants.{Bare}
 use Rattle.toml_names.specs.model.Addresses.{Address, element}
@@ -46,17 +44,18 @@ module _ (line : ℕ) (at : Address) where
   pub inside-array : (b : Box Array Global) → inside line at (value (made.Array b)) ≡ elements_of line at 0 (map tree_element (out-Array b.value).items.items)
   inside-array b = ap (inside line at) (value_array b) ∙ elements-array_items (map tree_element (out-Array b.value).items.items) (out-Array b.value).end
 
-  members-pairs_of : (ms : List Member) (m : Member) → members line at (pairs_of m ms) ≡ members_of line at (m ∷ ms)
-  members-pairs_of [] m = sym (append-nil (pair_named line at m.pair.assign m.pair.value))
-  members-pairs_of (n ∷ ms) m = ap (λ l. pair_named line at m.pair.assign m.pair.value ++ l) (members-pairs_of ms n)
+  members-before_end : (ms : List Member) (g : tree.Gap) → members line at (pairs_before_end ms (tree.ClosePairs g)) ≡ members_of line at ms
+  members-before_end [] g = refl
+  members-before_end (m ∷ ms) g = ap (λ l. pair_named line at m.pair.assign m.pair.value ++ l) (members-before_end ms g)
 
-  members-inline : (whole : tree.Piece) (ms : List Member) (ws : Option Piece) → is_some ws ≡ false → inside line at (inline whole ms (option_map piece ws)) ≡ members_of line at ms
-  members-inline whole [] None h = refl
-  members-inline whole (m ∷ ms) None h = members-pairs_of ms m
-  members-inline whole ms (Some ws) h = cc
+  members-last_pairs : (ms : List Member) → members line at (last_pairs ms) ≡ members_of line at ms
+  members-last_pairs [] = refl
+  members-last_pairs (m ∷ []) = sym (append-nil (pair_named line at m.pair.assign m.pair.value))
+  members-last_pairs (m ∷ n ∷ ms) = ap (λ l. pair_named line at m.pair.assign m.pair.value ++ l) (members-last_pairs (n ∷ ms))
 
-  -- an inline table without whitespace for no pair names what its pairs name
-  pub inside-inline : (b : Box InlineTable Global) → is_some (out-InlineTable b.value).ws ≡ false → inside line at (value (made.Inline b)) ≡ members_of line at (map member (out-InlineTable b.value).pairs.items)
-  inside-inline b none =
-      let table = out-InlineTable b.value in
-      ap (inside line at) (value_inline b) ∙ members-inline (piece table.whole) (map member table.pairs.items) table.ws none
+  members-table_pairs : (ms : List Member) (end : Option Gap) → members line at (table_pairs ms end) ≡ members_of line at ms
+  members-table_pairs ms (Some g) = members-before_end ms (gap g)
+  members-table_pairs ms None = members-last_pairs ms
+
+  pub inside-inline : (b : Box InlineTable Global) → inside line at (value (made.Inline b)) ≡ members_of line at (map member (out-InlineTable b.value).pairs.items)
+  inside-inline b = ap (inside line at) (value_inline b) ∙ members-table_pairs (map member (out-InlineTable b.value).pairs.items) (out-InlineTable b.value).end

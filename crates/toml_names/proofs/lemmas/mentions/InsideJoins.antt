@@ -2,7 +2,7 @@
 use Rattle.std.proofs.Common.{◌≡◌, ℕ, ◌+◌, ◌<◌, ◌≤◌, false, List, [], ◌∷◌, ◌++◌, map, length, IsSome, Some, None, refl, sym, ap, ◌∙◌, subst, inl, arith, le_refl, below_more}
 use Rattle.std.proofs.lemmas.List.{append_assoc}
 use Rattle.std.proofs.lemmas.Option.{none-some}
-use Rattle.toml_tree.specs.Tree.{Value, Scalar, Array, Empty, Inline, Items, Close, Last, More, Pairs, LastPair, MorePairs}
+use Rattle.toml_tree.specs.Tree.{Value, Scalar, Array, Inline, Items, Close, Last, More, Pairs, ClosePairs, LastPair, MorePairs}
 use Rattle.toml_names.specs.declared.model.address.Step.{Step}
 use Rattle.toml_names.specs.declared.model.address.Step.TheVariants.{Name, Index}
 use Rattle.toml_names.specs.declared.mentions.mention.Role.{Role}
@@ -129,7 +129,6 @@ mutual
   pub inside_puts : (line : ℕ) (v : Value) → InsidePuts line v
   inside_puts line (Scalar kind p) ms at grown fresh = λ none. IsPut-nil (NotLonger at) ms grown
   inside_puts line (Array whole is) ms at grown fresh = elements_put line is 0 ms at grown (filled_none ms at fresh.is fresh.empty fresh.alone)
-  inside_puts line (Empty whole ws) ms at grown fresh = λ none. IsPut-nil (NotLonger at) ms grown
   inside_puts line (Inline whole ps) ms at grown fresh = members_put line ps ms at grown fresh.is
 
   elements_put : (line : ℕ) (is : Items) (i : ℕ) (ms : List Named) (at : Address) → IsGrown ms → IsFilled ms at i → Puts (NotLonger at) ms (elements line at i is)
@@ -145,9 +144,10 @@ mutual
       (λ put. elements_put line is (i + 1) (ms ++ (m ∷ within)) at put.added.grown (filled_more ms within m at i refl filled put))
 
   members_put : (line : ℕ) (ps : Pairs) (ms : List Named) (at : Address) → IsGrown ms → fact_at ms at ≡ Some a_table → Puts (NotLonger at) ms (members line at ps)
-  members_put line (LastPair ws a v after) ms at grown table =
+  members_put line (ClosePairs g) ms at grown table = λ none. IsPut-nil (NotLonger at) ms grown
+  members_put line (LastPair g a v h) ms at grown table =
       pair_puts line v (inside_puts line v) (rest_names a.key.rest) (part_name a.key.first) (NotLonger at) ms at (λ q k. k) grown table
-  members_put line (MorePairs ws a v after ps) ms at grown table =
+  members_put line (MorePairs g a v h ps) ms at grown table =
       let pair = pair_named line at a v in
       Puts-append (NotLonger at) (NotLonger at) ms pair (members line at ps) (λ q k. k)
       (pair_puts line v (inside_puts line v) (rest_names a.key.rest) (part_name a.key.first) (NotLonger at) ms at (λ q k. k) grown table)

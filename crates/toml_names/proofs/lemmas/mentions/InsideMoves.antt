@@ -1,7 +1,7 @@
 -- What a value names at an address is what it names alone, put there.
 use Rattle.std.proofs.Common.{◌≡◌, ℕ, ◌+◌, List, [], ◌∷◌, ◌++◌, map, refl, sym, ap, ap₂, ◌∙◌, append_assoc}
 use Rattle.std.proofs.lemmas.List.{map-append}
-use Rattle.toml_tree.specs.Tree.{Assign, Value, Scalar, Array, Empty, Inline, Items, Close, Last, More, Pairs, LastPair, MorePairs}
+use Rattle.toml_tree.specs.Tree.{Assign, Value, Scalar, Array, Inline, Items, Close, Last, More, Pairs, ClosePairs, LastPair, MorePairs}
 use Rattle.toml_names.specs.declared.model.address.Step.TheVariants.{Name, Index}
 use Rattle.toml_names.specs.declared.mentions.mention.Role.TheVariants.{Dotted, Valued, Bare}
 use Rattle.toml_names.specs.model.Addresses.{Address, child, element, below}
@@ -32,7 +32,6 @@ module _ (line old : ℕ) (p : Address) where
     inside_moved : (v : Value) (at : Address) → inside line (p ++ at) v ≡ map (shifted line p) (inside old at v)
     inside_moved (Scalar kind text) at = refl
     inside_moved (Array whole items) at = elements_moved items at 0
-    inside_moved (Empty whole ws) at = refl
     inside_moved (Inline whole pairs) at = members_moved pairs at
 
     elements_moved : (items : Items) (at : Address) (i : ℕ) → elements line (p ++ at) i items ≡ map (shifted line p) (elements old at i items)
@@ -45,8 +44,9 @@ module _ (line old : ℕ) (p : Address) where
         (elements_moved is at (i + 1))
 
     members_moved : (pairs : Pairs) (at : Address) → members line (p ++ at) pairs ≡ map (shifted line p) (members old at pairs)
-    members_moved (LastPair ws a v after) at = pair_moved a v at (λ to. inside_moved v to)
-    members_moved (MorePairs ws a v after ps) at = both (pair_named old at a v) (members old at ps) _ _ (pair_moved a v at (λ to. inside_moved v to)) (members_moved ps at)
+    members_moved (ClosePairs g) at = refl
+    members_moved (LastPair g a v h) at = pair_moved a v at (λ to. inside_moved v to)
+    members_moved (MorePairs g a v h ps) at = both (pair_named old at a v) (members old at ps) _ _ (pair_moved a v at (λ to. inside_moved v to)) (members_moved ps at)
 
 pub inside_moves : InsideMoves
 inside_moves line old v p at = inside_moved line old p v at

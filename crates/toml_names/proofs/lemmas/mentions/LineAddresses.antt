@@ -3,7 +3,7 @@ use Rattle.std.proofs.Common.{◌≡◌, ◌⊎◌, inl, inr, ℕ, ◌+◌, ◌<
 use Rattle.std.proofs.lemmas.Bool.{eq-eqb, ne_eqb}
 use Rattle.std.proofs.lemmas.List.{append_assoc, append-nil}
 use Rattle.toml_tree.specs.Spells.{EachIs}
-use Rattle.toml_tree.specs.Tree.{Value, Scalar, Array, Empty, Inline, Items, Close, Last, More, Pairs, LastPair, MorePairs, Expr, BlankLine, KeyValLine, TableLine, ArrayTableLine, Line}
+use Rattle.toml_tree.specs.Tree.{Value, Scalar, Array, Inline, Items, Close, Last, More, Pairs, ClosePairs, LastPair, MorePairs, Expr, BlankLine, KeyValLine, TableLine, ArrayTableLine, Line}
 use Rattle.toml_names.specs.declared.mentions.mention.Role.TheVariants.{Valued}
 use Rattle.toml_names.specs.model.Addresses.{Address, child, element, below}
 use Rattle.toml_names.specs.mentions.Keys.{Key, part_name, rest_names, key_names}
@@ -45,7 +45,6 @@ mutual
   inside_of : (line : ℕ) (v : Value) (at : Address) → AreOf line (inside line at v)
   inside_of line (Scalar kind p) at = tt
   inside_of line (Array whole items) at = elements_of line items at 0
-  inside_of line (Empty whole ws) at = tt
   inside_of line (Inline whole pairs) at = members_of line pairs at
 
   elements_of : (line : ℕ) (items : Items) (at : Address) (i : ℕ) → AreOf line (elements line at i items)
@@ -54,8 +53,9 @@ mutual
   elements_of line (More g v h is) at i = (refl, of-append line (inside line (element at i) v) (elements line at (i + 1) is) (inside_of line v (element at i)) (elements_of line is at (i + 1)))
 
   members_of : (line : ℕ) (pairs : Pairs) (at : Address) → AreOf line (members line at pairs)
-  members_of line (LastPair ws a v after) at = of-append line (fronts line at (key_names a.key)) _ (fronts_of line (key_names a.key) at) (refl, inside_of line v (below at (key_names a.key)))
-  members_of line (MorePairs ws a v after ps) at =
+  members_of line (ClosePairs g) at = tt
+  members_of line (LastPair g a v h) at = of-append line (fronts line at (key_names a.key)) _ (fronts_of line (key_names a.key) at) (refl, inside_of line v (below at (key_names a.key)))
+  members_of line (MorePairs g a v h ps) at =
       of-append line _ (members line at ps)
       (of-append line (fronts line at (key_names a.key)) _ (fronts_of line (key_names a.key) at) (refl, inside_of line v (below at (key_names a.key))))
       (members_of line ps at)

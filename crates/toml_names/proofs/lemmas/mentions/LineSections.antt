@@ -1,6 +1,6 @@
 -- The table of the last header, once a line more names: the header's own, or the one that it was.
 use Rattle.std.proofs.Common.{◌≡◌, ℕ, ◌+◌, List, [], ◌∷◌, ◌++◌, refl, ap, ◌∙◌}
-use Rattle.toml_tree.specs.Tree.{Assign, Value, Scalar, Array, Empty, Inline, Items, Close, Last, More, Pairs, LastPair, MorePairs}
+use Rattle.toml_tree.specs.Tree.{Assign, Value, Scalar, Array, Inline, Items, Close, Last, More, Pairs, ClosePairs, LastPair, MorePairs}
 use Rattle.toml_names.specs.declared.mentions.mention.Role.TheVariants.{Valued}
 use Rattle.toml_names.specs.model.Addresses.{Address, child, element, below}
 use Rattle.toml_names.specs.mentions.Keys.{Key, key_names}
@@ -26,7 +26,6 @@ mutual
   inside_stays : (v : Value) (line : ℕ) (from at : Address) → section_from at (inside line from v) ≡ at
   inside_stays (Scalar kind p) line from at = refl
   inside_stays (Array whole items) line from at = elements_stay items line from 0 at
-  inside_stays (Empty whole ws) line from at = refl
   inside_stays (Inline whole pairs) line from at = members_stay pairs line from at
 
   elements_stay : (items : Items) (line : ℕ) (from : Address) (i : ℕ) (at : Address) → section_from at (elements line from i items) ≡ at
@@ -36,8 +35,9 @@ mutual
       two_parts (inside line (element from i) v) (elements line from (i + 1) is) at (inside_stays v line (element from i) at) (elements_stay is line from (i + 1) at)
 
   members_stay : (pairs : Pairs) (line : ℕ) (from at : Address) → section_from at (members line from pairs) ≡ at
-  members_stay (LastPair ws a v after) line from at = pair_stays line from a v at (inside_stays v line (below from (key_names a.key)) at)
-  members_stay (MorePairs ws a v after ps) line from at =
+  members_stay (ClosePairs g) line from at = refl
+  members_stay (LastPair g a v h) line from at = pair_stays line from a v at (inside_stays v line (below from (key_names a.key)) at)
+  members_stay (MorePairs g a v h ps) line from at =
       two_parts (pair_named line from a v) (members line from ps) at (pair_stays line from a v at (inside_stays v line (below from (key_names a.key)) at)) (members_stay ps line from at)
 
 -- a pair leaves it

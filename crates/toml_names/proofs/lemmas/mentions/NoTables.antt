@@ -7,7 +7,7 @@ use Rattle.toml_names.specs.mentions.Alike.{CountsAdd}
 use Rattle.toml_names.specs.mentions.Keys.{Key, key_names}
 use Rattle.toml_names.specs.mentions.Mentions.{Named, table_at, value_named, is_tables, count_tables, fronts, inside, elements, members, pair_named}
 use Rattle.toml_names.proofs.lemmas.mentions.Counting.{adds, count_plain}
-use Rattle.toml_tree.specs.Tree.{Assign, Value, Scalar, Array, Empty, Inline, Items, Close, Last, More, Pairs, LastPair, MorePairs}
+use Rattle.toml_tree.specs.Tree.{Assign, Value, Scalar, Array, Inline, Items, Close, Last, More, Pairs, ClosePairs, LastPair, MorePairs}
 
 -- no array of tables is named
 abbrev pub HasNoTables : List Named → Type 0
@@ -35,7 +35,6 @@ mutual
   pub no_tables-inside : (line : ℕ) (v : Value) (at : Address) → HasNoTables (inside line at v)
   no_tables-inside line (Scalar kind p) at = λ q. refl
   no_tables-inside line (Array whole is) at = no_tables-elements line is at 0
-  no_tables-inside line (Empty whole ws) at = λ q. refl
   no_tables-inside line (Inline whole ps) at = no_tables-members line ps at
 
   no_tables-elements : (line : ℕ) (is : Items) (at : Address) (i : ℕ) → HasNoTables (elements line at i is)
@@ -47,11 +46,12 @@ mutual
       (no_tables-append (inside line (element at i) v) (elements line at (i + 1) is) (no_tables-inside line v (element at i)) (no_tables-elements line is at (i + 1)))
 
   no_tables-members : (line : ℕ) (ps : Pairs) (at : Address) → HasNoTables (members line at ps)
-  no_tables-members line (LastPair ws a v after) at =
+  no_tables-members line (ClosePairs g) at = λ q. refl
+  no_tables-members line (LastPair g a v h) at =
       let here = below at (key_names a.key) in
       no_tables-append (fronts line at (key_names a.key)) (value_named line Valued here v ∷ inside line here v) (no_tables-fronts line (key_names a.key) at)
       (no_tables-cons (value_named line Valued here v) (inside line here v) refl (no_tables-inside line v here))
-  no_tables-members line (MorePairs ws a v after ps) at =
+  no_tables-members line (MorePairs g a v h ps) at =
       let here = below at (key_names a.key) in
       no_tables-append (fronts line at (key_names a.key) ++ (value_named line Valued here v ∷ inside line here v)) (members line at ps)
       (no_tables-append (fronts line at (key_names a.key)) (value_named line Valued here v ∷ inside line here v) (no_tables-fronts line (key_names a.key) at)

@@ -1,15 +1,13 @@
 -- The key parts in a value, by the lists of its items and of its pairs.
 use Rattle.std.proofs.Common.{◌≡◌, ℕ, ◌+◌, List, [], ◌∷◌, map, Option, Some, None, Box, Global, refl, ap, ◌∙◌, arith}
-use Rattle.std.specs.Prelude.{false, is_some, option_map}
 use Rattle.toml_tree.specs.declared.piece.Gap.{Gap}
-use Rattle.toml_tree.specs.declared.piece.Piece.{Piece}
 use Rattle.toml_tree.specs.declared.tree.Array.{Array}
 use Rattle.toml_tree.specs.declared.tree.InlineTable.{InlineTable}
 use Rattle.toml_tree.specs.declared.tree.Value.TheVariants as made
 use Rattle.toml_tree.specs.declared.tree.Value.TheViews.{out-Array, out-InlineTable}
 use Rattle.toml_tree.specs.Tree as tree
-use Rattle.toml_tree.specs.ReadingValues.{Element, Member, before_end, pairs_of, inline}
-use Rattle.toml_tree.specs.View.{piece, gap, value, element as tree_element, member, array_items, last_ends}
+use Rattle.toml_tree.specs.ReadingValues.{Element, Member, before_end, pairs_before_end}
+use Rattle.toml_tree.specs.View.{gap, value, element as tree_element, member, array_items, last_ends, table_pairs, last_pairs}
 use Rattle.toml_tree.proofs.Proved.{value_array, value_inline}
 use Rattle.toml_names.specs.mentions.KeyParts.{value_key_parts, item_key_parts, pair_key_parts, keyval_key_parts}
 
@@ -37,17 +35,18 @@ parts-array_items es None = parts-last_ends es
 pub parts-array : (b : Box Array Global) → value_key_parts (value (made.Array b)) ≡ parts_of_elements (map tree_element (out-Array b.value).items.items)
 parts-array b = ap value_key_parts (value_array b) ∙ parts-array_items (map tree_element (out-Array b.value).items.items) (out-Array b.value).end
 
-parts-pairs_of : (ms : List Member) (m : Member) → pair_key_parts (pairs_of m ms) ≡ parts_of_members (m ∷ ms)
-parts-pairs_of [] m = omega arith
-parts-pairs_of (n ∷ ms) m = ap (λ k. keyval_key_parts m.pair.assign m.pair.value + k) (parts-pairs_of ms n)
+parts-pairs_before_end : (ms : List Member) (g : tree.Gap) → pair_key_parts (pairs_before_end ms (tree.ClosePairs g)) ≡ parts_of_members ms
+parts-pairs_before_end [] g = refl
+parts-pairs_before_end (m ∷ ms) g = ap (λ n. keyval_key_parts m.pair.assign m.pair.value + n) (parts-pairs_before_end ms g)
 
-parts-inline : (whole : tree.Piece) (ms : List Member) (ws : Option Piece) → is_some ws ≡ false → value_key_parts (inline whole ms (option_map piece ws)) ≡ parts_of_members ms
-parts-inline whole [] None h = refl
-parts-inline whole (m ∷ ms) None h = parts-pairs_of ms m
-parts-inline whole ms (Some ws) h = cc
+parts-last_pairs : (ms : List Member) → pair_key_parts (last_pairs ms) ≡ parts_of_members ms
+parts-last_pairs [] = refl
+parts-last_pairs (m ∷ []) = omega arith
+parts-last_pairs (m ∷ n ∷ ms) = ap (λ k. keyval_key_parts m.pair.assign m.pair.value + k) (parts-last_pairs (n ∷ ms))
 
-pub parts-inline_table : (b : Box InlineTable Global) → is_some (out-InlineTable b.value).ws ≡ false
-    → value_key_parts (value (made.Inline b)) ≡ parts_of_members (map member (out-InlineTable b.value).pairs.items)
-parts-inline_table b none =
-    let table = out-InlineTable b.value in
-    ap value_key_parts (value_inline b) ∙ parts-inline (piece table.whole) (map member table.pairs.items) table.ws none
+parts-table_pairs : (ms : List Member) (end : Option Gap) → pair_key_parts (table_pairs ms end) ≡ parts_of_members ms
+parts-table_pairs ms (Some g) = parts-pairs_before_end ms (gap g)
+parts-table_pairs ms None = parts-last_pairs ms
+
+pub parts-inline_table : (b : Box InlineTable Global) → value_key_parts (value (made.Inline b)) ≡ parts_of_members (map member (out-InlineTable b.value).pairs.items)
+parts-inline_table b = ap value_key_parts (value_inline b) ∙ parts-table_pairs (map member (out-InlineTable b.value).pairs.items) (out-InlineTable b.value).end

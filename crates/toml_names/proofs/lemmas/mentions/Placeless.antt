@@ -1,7 +1,7 @@
 -- What lines and values name does not depend on where their pieces stand.
 use Rattle.std.proofs.Common.{◌≡◌, ℕ, ◌+◌, List, [], ◌∷◌, ◌++◌, map, refl, sym, ap, ap₂, ◌∙◌}
 use Rattle.toml_tree.specs.Bare.{bare_dotted, bare_key, bare_assign, bare_value, bare_items, bare_pairs, bare_expr, bare_line}
-use Rattle.toml_tree.specs.Tree.{Dotted, Key, Assign, Value, Scalar, Array, Empty, Inline, Items, Close, Last, More, Pairs, LastPair, MorePairs, Expr, BlankLine, KeyValLine, TableLine, ArrayTableLine, Line}
+use Rattle.toml_tree.specs.Tree.{Dotted, Key, Assign, Value, Scalar, Array, Inline, Items, Close, Last, More, Pairs, ClosePairs, LastPair, MorePairs, Expr, BlankLine, KeyValLine, TableLine, ArrayTableLine, Line}
 use Rattle.toml_names.specs.declared.mentions.mention.Role.{Role}
 use Rattle.toml_names.specs.declared.mentions.mention.Role.TheVariants.{Valued, Bare}
 use Rattle.toml_names.specs.model.Addresses.{Address, element, below}
@@ -19,7 +19,6 @@ key_bared k = ap (λ r. part_name k.first ∷ r) (by k.rest)
 kind_bared : (v : Value) → kind_of (bare_value v) ≡ kind_of v
 kind_bared (Scalar kind p) = refl
 kind_bared (Array whole items) = refl
-kind_bared (Empty whole ws) = refl
 kind_bared (Inline whole pairs) = refl
 
 block_bared : (v : Value) (line : ℕ) (role : Role) (at : Address) → inside line at (bare_value v) ≡ inside line at v → value_named line role at (bare_value v) ∷ inside line at (bare_value v) ≡ value_named line role at v ∷ inside line at v
@@ -34,7 +33,6 @@ mutual
   inside_bared : (v : Value) (line : ℕ) (at : Address) → inside line at (bare_value v) ≡ inside line at v
   inside_bared (Scalar kind p) line at = refl
   inside_bared (Array whole items) line at = elements_bared items line at 0
-  inside_bared (Empty whole ws) line at = refl
   inside_bared (Inline whole pairs) line at = members_bared pairs line at
 
   elements_bared : (items : Items) (line : ℕ) (at : Address) (i : ℕ) → elements line at i (bare_items items) ≡ elements line at i items
@@ -43,8 +41,9 @@ mutual
   elements_bared (More g v h is) line at i = ap₂ (λ s t. s ++ t) (block_bared v line Bare (element at i) (inside_bared v line (element at i))) (elements_bared is line at (i + 1))
 
   members_bared : (pairs : Pairs) (line : ℕ) (at : Address) → members line at (bare_pairs pairs) ≡ members line at pairs
-  members_bared (LastPair ws a v after) line at = pair_bared a v line at (λ here. inside_bared v line here)
-  members_bared (MorePairs ws a v after ps) line at = ap₂ (λ s t. s ++ t) (pair_bared a v line at (λ here. inside_bared v line here)) (members_bared ps line at)
+  members_bared (ClosePairs g) line at = refl
+  members_bared (LastPair g a v h) line at = pair_bared a v line at (λ here. inside_bared v line here)
+  members_bared (MorePairs g a v h ps) line at = ap₂ (λ s t. s ++ t) (pair_bared a v line at (λ here. inside_bared v line here)) (members_bared ps line at)
 
 line_bared : (ms : List Named) (line : ℕ) (e : Expr) → named_by ms line (bare_expr e) ≡ named_by ms line e
 line_bared ms line (BlankLine b) = refl

@@ -4,7 +4,7 @@ use Rattle.std.specs.Prelude.{All}
 use Rattle.std.proofs.lemmas.List.{append_assoc}
 use Rattle.std.proofs.lemmas.List.Elements.{All-nil, All-cons}
 use Rattle.toml_tree.specs.Spells.{EachIs}
-use Rattle.toml_tree.specs.Tree.{Value, Scalar, Array, Empty, Inline, Items, Close, Last, More, Pairs, LastPair, MorePairs, Expr, BlankLine, KeyValLine, TableLine, ArrayTableLine, Line}
+use Rattle.toml_tree.specs.Tree.{Value, Scalar, Array, Inline, Items, Close, Last, More, Pairs, ClosePairs, LastPair, MorePairs, Expr, BlankLine, KeyValLine, TableLine, ArrayTableLine, Line}
 use Rattle.toml_names.specs.declared.model.address.Step.{Step}
 use Rattle.toml_names.specs.declared.model.address.Step.TheVariants.{Name, Index}
 use Rattle.toml_names.specs.declared.mentions.mention.Role.{Role}
@@ -49,7 +49,6 @@ mutual
   inside_below : (line : ℕ) (v : Value) (at : Address) → AreBelow at (inside line at v)
   inside_below line (Scalar kind p) at = tt
   inside_below line (Array whole items) at = elements_below line items at 0
-  inside_below line (Empty whole ws) at = tt
   inside_below line (Inline whole pairs) at = members_below line pairs at
 
   elements_below : (line : ℕ) (items : Items) (at : Address) (i : ℕ) → AreBelow at (elements line at i items)
@@ -63,11 +62,12 @@ mutual
   )
 
   members_below : (line : ℕ) (pairs : Pairs) (at : Address) → AreBelow at (members line at pairs)
-  members_below line (LastPair ws a v after) at =
+  members_below line (ClosePairs g) at = tt
+  members_below line (LastPair g a v h) at =
       let w = below at (key_names a.key) in
       let deeper : IsAbove at w = (Name (part_name a.key.first), _, refl) in
       below-append at (fronts line at (key_names a.key)) _ (fronts_below line (key_names a.key) at) (deeper, below-deeper at w (inside line w v) deeper (inside_below line v w))
-  members_below line (MorePairs ws a v after ps) at =
+  members_below line (MorePairs g a v h ps) at =
       let w = below at (key_names a.key) in
       let deeper : IsAbove at w = (Name (part_name a.key.first), _, refl) in
       below-append at _ (members line at ps)

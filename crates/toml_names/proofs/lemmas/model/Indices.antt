@@ -4,7 +4,7 @@ use Rattle.std.proofs.lemmas.Bool.{eqb-false}
 use Rattle.std.proofs.lemmas.List.{length-drop}
 use Rattle.toml_tree.specs.Spells.{EachIs, Part, joined, value_parts, items_parts, pairs_parts, gap_parts, assign_parts, blank_parts, header_parts, array_header_parts, expr_parts, lines_parts, line_parts, piece, symbol, mark_of}
 use Rattle.toml_tree.specs.Tree as spelled
-use Rattle.toml_tree.specs.Tree.{Piece, Blank, Assign, Value, Scalar, Array, Empty, Inline, Items, Close, Last, More, Pairs, LastPair, MorePairs, Expr, BlankLine, KeyValLine, TableLine, ArrayTableLine, Line}
+use Rattle.toml_tree.specs.Tree.{Piece, Blank, Assign, Value, Scalar, Array, Inline, Items, Close, Last, More, Pairs, ClosePairs, LastPair, MorePairs, Expr, BlankLine, KeyValLine, TableLine, ArrayTableLine, Line}
 use Rattle.toml_names.specs.declared.model.address.Step.TheVariants.{Name, Index}
 use Rattle.toml_names.specs.declared.mentions.mention.Role.TheVariants.{Passed, Header, Tables, Element, Valued}
 use Rattle.toml_names.specs.model.Addresses.{Address, child, element, below}
@@ -49,7 +49,6 @@ module _ (n : ℕ) where
     inside_low : (line : ℕ) (v : Value) (at : Address) → IsLow n at → size (value_parts v) ≤ n → AllLow (inside line at v)
     inside_low line (Scalar kind p) at low fits = tt
     inside_low line (Array whole items) at low fits = elements_low line items at 0 low (omega arith)
-    inside_low line (Empty whole ws) at low fits = tt
     inside_low line (Inline whole pairs) at low fits = members_low line pairs at low (omega arith)
 
     elements_low : (line : ℕ) (items : Items) (at : Address) (i : ℕ) → IsLow n at → i + size (items_parts items) ≤ n → AllLow (elements line at i items)
@@ -70,21 +69,21 @@ module _ (n : ℕ) where
         (here, each_append (λ m. IsLow n m.address) (inside line (element at i) v) (elements line at (i + 1) is) (inside_low line v (element at i) here (omega (arith, one, two, three))) (elements_low line is at (i + 1) low (omega (arith, one, two, three))))
 
     members_low : (line : ℕ) (pairs : Pairs) (at : Address) → IsLow n at → size (pairs_parts pairs) ≤ n → AllLow (members line at pairs)
-    members_low line (LastPair ws a v after) at low fits =
-        let end = piece after ∷ symbol (0x7D ∷ []) ∷ [] in
-        let none = length-append ws.text (joined (assign_parts a ++ (value_parts v ++ end))) in
-        let one = sizes_add (assign_parts a) (value_parts v ++ end) in
-        let two = sizes_add (value_parts v) end in
-        let fit : size (value_parts v) ≤ n = omega (arith, none, one, two) in
-        pair_low line a v at low (λ to at_low. inside_low line v to at_low fit)
-    members_low line (MorePairs ws a v after ps) at low fits =
-        let end = piece after ∷ symbol (0x2C ∷ []) ∷ pairs_parts ps in
-        let none = length-append ws.text (joined (assign_parts a ++ (value_parts v ++ end))) in
-        let one = sizes_add (assign_parts a) (value_parts v ++ end) in
-        let two = sizes_add (value_parts v) end in
-        let last = length-append after.text (joined (symbol (0x2C ∷ []) ∷ pairs_parts ps)) in
-        let fit : size (value_parts v) ≤ n = omega (arith, none, one, two) in
-        let rest : size (pairs_parts ps) ≤ n = omega (arith, none, one, two, last) in
+    members_low line (ClosePairs g) at low fits = tt
+    members_low line (LastPair g a v h) at low fits =
+        let end = symbol (0x7D ∷ []) ∷ [] in
+        let one = sizes_add (gap_parts g) (assign_parts a ++ (value_parts v ++ (gap_parts h ++ end))) in
+        let two = sizes_add (assign_parts a) (value_parts v ++ (gap_parts h ++ end)) in
+        let three = sizes_add (value_parts v) (gap_parts h ++ end) in
+        pair_low line a v at low (λ to at_low. inside_low line v to at_low (omega (arith, one, two, three)))
+    members_low line (MorePairs g a v h ps) at low fits =
+        let end = symbol (0x2C ∷ []) ∷ pairs_parts ps in
+        let one = sizes_add (gap_parts g) (assign_parts a ++ (value_parts v ++ (gap_parts h ++ end))) in
+        let two = sizes_add (assign_parts a) (value_parts v ++ (gap_parts h ++ end)) in
+        let three = sizes_add (value_parts v) (gap_parts h ++ end) in
+        let four = sizes_add (gap_parts h) end in
+        let fit : size (value_parts v) ≤ n = omega (arith, one, two, three) in
+        let rest : size (pairs_parts ps) ≤ n = omega (arith, one, two, three, four) in
         each_append (λ m. IsLow n m.address) (pair_named line at a v) (members line at ps) (pair_low line a v at low (λ to at_low. inside_low line v to at_low fit)) (members_low line ps at low rest)
 
   -- ---- headers

@@ -1,7 +1,6 @@
 -- The elements of an array, and the pairs of an inline table, entered as the code reads them.
 use Rattle.std.proofs.Common.{◌≡◌, ℕ, ◌+◌, ◌<◌, List, [], ◌++◌, length, map, drop, Box, Global, sym, ap, subst, ◌∙◌, slice_index_or}
 use Rattle.std.proofs.lemmas.List.{at_drop_more}
-use Rattle.std.specs.Prelude.{false, is_some}
 use Rattle.toml_tree.specs.declared.tree.Array.{Array}
 use Rattle.toml_tree.specs.declared.tree.InlineTable.{InlineTable}
 use Rattle.toml_tree.specs.declared.tree.Item.{Item}
@@ -30,7 +29,7 @@ use Rattle.toml_names.proofs.lemmas.mentions.PartsInside.{parts_of_elements, par
 item_is : (x : Item) → tree_element x ≡ record { before = gap (out-Item x).before; value = value (out-Item x).value; after = gap (out-Item x).after }
 item_is = fold_out-Item tree.Value tree.Value tree.Value Element tree.KeyVal Member value_step array_step inline_step item_step keyval_step pair_step
 
-pair_is : (x : Pair) → member x ≡ record { before = piece (out-Pair x).before; pair = keyval (out-Pair x).keyval; after = piece (out-Pair x).after }
+pair_is : (x : Pair) → member x ≡ record { before = gap (out-Pair x).before; pair = keyval (out-Pair x).keyval; after = gap (out-Pair x).after }
 pair_is = fold_out-Pair tree.Value tree.Value tree.Value Element tree.KeyVal Member value_step array_step inline_step item_step keyval_step pair_step
 
 -- the key parts from an index on
@@ -61,10 +60,10 @@ module _ (line : ℕ) (at : Address) where
       ∙ ap (λ (x : Item). element_named line at i (tree_element x).value ++ elements_of line at (i + 1) (map tree_element (drop (i + 1) items))) (sym is)
       ∙ ap (λ (e : Element). element_named line at i e.value ++ elements_of line at (i + 1) (map tree_element (drop (i + 1) items))) (item_is item)
 
-  members-all : (b : Box InlineTable Global) (v : Value) (pairs : List Pair) → v ≡ made.Inline b → pairs ≡ (out-InlineTable b.value).pairs.items → is_some (out-InlineTable b.value).ws ≡ false
+  members-all : (b : Box InlineTable Global) (v : Value) (pairs : List Pair) → v ≡ made.Inline b → pairs ≡ (out-InlineTable b.value).pairs.items
       → members_of line at (map member pairs) ≡ inside line at (value v)
-  members-all b v pairs is are none =
-      ap (λ l. members_of line at (map member l)) are ∙ sym (ap (λ x. inside line at (value x)) is ∙ inside-inline line at b none)
+  members-all b v pairs is are =
+      ap (λ l. members_of line at (map member l)) are ∙ sym (ap (λ x. inside line at (value x)) is ∙ inside-inline line at b)
 
   members-next : (pairs : List Pair) (i : ℕ) (pair : Pair) → i < length pairs → pair ≡ slice_index_or pairs i pair
       → members_of line at (map member (drop i pairs)) ≡ pair_named line at (keyval pair.keyval).assign (keyval pair.keyval).value ++ members_of line at (map member (drop (i + 1) pairs))
@@ -82,13 +81,12 @@ module _ (start : List Spot) (id line : ℕ) (tree : IsTree start) (b : Box Arra
   array-parts = ap (λ l. parts_of_elements (map tree_element l)) are ∙ sym (ap (λ x. value_key_parts (value x)) is ∙ parts-array b)
 
 -- before the first pair
-module _ (start : List Spot) (id line : ℕ) (tree : IsTree start) (b : Box InlineTable Global) (v : Value) (pairs : List Pair) (is : v ≡ made.Inline b) (are : pairs ≡ (out-InlineTable b.value).pairs.items)
-    (none : is_some (out-InlineTable b.value).ws ≡ false) where
+module _ (start : List Spot) (id line : ℕ) (tree : IsTree start) (b : Box InlineTable Global) (v : Value) (pairs : List Pair) (is : v ≡ made.Inline b) (are : pairs ≡ (out-InlineTable b.value).pairs.items) where
   pub table-begin : IsEntered start start (inside line (address_at start id) (value v)) (members_of line (address_at start id) (map member pairs))
-  table-begin = entered-none start (inside line (address_at start id) (value v)) (members_of line (address_at start id) (map member pairs)) tree (members-all line (address_at start id) b v pairs is are none)
+  table-begin = entered-none start (inside line (address_at start id) (value v)) (members_of line (address_at start id) (map member pairs)) tree (members-all line (address_at start id) b v pairs is are)
 
   pub table-parts : parts_of_members (map member pairs) ≡ value_key_parts (value v)
-  table-parts = ap (λ l. parts_of_members (map member l)) are ∙ sym (ap (λ x. value_key_parts (value x)) is ∙ parts-inline_table b none)
+  table-parts = ap (λ l. parts_of_members (map member l)) are ∙ sym (ap (λ x. value_key_parts (value x)) is ∙ parts-inline_table b)
 
 module _ (start now mid : List Spot) (id i k line : ℕ) (v : Value) (items : List Item) (item : Item) (kind : Kind) (low : id < length start)
     (lone : (d : Spot) → (slice_index_or start id d).elements ≡ []) (before : i < length items) (is : item ≡ slice_index_or items i item) (kind_is : kind ≡ kind_of (value item.value))

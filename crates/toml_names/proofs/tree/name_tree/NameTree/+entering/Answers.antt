@@ -1,7 +1,6 @@
 use Rattle.std.proofs.Common.{◌≡◌, ℕ, true, ◌+◌, ◌∷◌, sym, ap, subst, ◌∙◌, map, length, arith}
 use Rattle.std.proofs.lemmas.List.{drop_all}
 use Rattle.std.proofs.lemmas.Result.{err_from_is_err_and}
-use Rattle.std.specs.Prelude.{is_some}
 use Rattle.toml_tree.specs.declared.tree.Value.TheViews.{out-Array, out-InlineTable}
 use Rattle.toml_tree.specs.View.{piece, key, value, keyval, element, member}
 use Rattle.toml_tree.specs.Tree.{KeyVal}
@@ -77,13 +76,12 @@ pub enter_inside-loop-pair-init : goal.enter_inside-loop-pair-init
 enter_inside-loop-pair-init t c =
     let start = c.args.self.now.nodes.items in
     let pairs = c.deref-pair-items.result.now in
-    let pairs_are = c.deref-pair-items.ensures.value ∙ ap (λ t. (out-InlineTable t).pairs.items) c.deref-in-Inline-2.ensures in
-    let no_ws = ap (λ t. is_some (out-InlineTable t).ws) (sym c.deref-in-Inline.ensures) ∙ sym c.is_some.ensures ∙ c.if-is_some.false in
+    let pairs_are = c.deref-pair-items.ensures.value ∙ ap (λ t. (out-InlineTable t).pairs.items) c.deref-in-Inline.ensures in
     record {
-      entered = table-begin start c.args.id c.args.line c.requires.there.tree c.in-Inline.table c.args.v.now pairs c.in-Inline.is pairs_are no_ws;
+      entered = table-begin start c.args.id c.args.line c.requires.there.tree c.in-Inline.table c.args.v.now pairs c.in-Inline.is pairs_are;
       kept = KeepsElements-same start;
       goes_on = GoesOnTo-begin c.args.self.now (parts_of_members (map member pairs)) (value_key_parts (value c.args.v.now))
-          (table-parts start c.args.id c.args.line c.requires.there.tree c.in-Inline.table c.args.v.now pairs c.in-Inline.is pairs_are no_ws);
+          (table-parts start c.args.id c.args.line c.requires.there.tree c.in-Inline.table c.args.v.now pairs c.in-Inline.is pairs_are);
     }
 
 pub enter_inside-returns-in_err-enter_pair-in-Inline : goal.enter_inside-returns-in_err-enter_pair-in-Inline
