@@ -50,7 +50,7 @@ impl<'t> Reader<'t> {
     #[inline]
     #[tactic(auto, unfolding(crate::specs::ReadingValues::pair_gap_at))]
     pub fn pair_gap(&mut self, alloc: Global, profile: Profile) -> Result<Gap<'t>, SyntaxFault>
-        ensures { Reads gap (cursor self.old) (cursor self.new) result (pair_gap_at profile.entry (cursor self.old)) }
+        ensures { Reads gap (cursor self.old) (cursor self.new) result (pair_gap_at profile (cursor self.old)) }
     {
         match profile {
             Profile::One => {

@@ -18,8 +18,13 @@ use toml_scalar::SyntaxFault;
 impl<'t> Reader<'t> {
     /// `keyval ws [ comment ]`, behind whitespace
     #[tactic(auto, unfolding(crate::specs::ReadingLines::keyval_line_at))]
-    fn keyval_line(&mut self, alloc: Global, profile: Profile, ws: Piece<'t>) -> Result<Expr<'t>, SyntaxFault>
-        ensures { Reads expr (cursor self.old) (cursor self.new) result (keyval_line_at profile.entry (piece ws.entry) (cursor self.old)) }
+    fn keyval_line(
+        &mut self,
+        alloc: Global,
+        profile: Profile,
+        ws: Piece<'t>,
+    ) -> Result<Expr<'t>, SyntaxFault>
+        ensures { Reads expr (cursor self.old) (cursor self.new) result (keyval_line_at profile (piece ws.entry) (cursor self.old)) }
     {
         let keyval = self.keyval(alloc, MAX_DEPTH, profile)?;
         let tail = self.blank();
@@ -29,7 +34,7 @@ impl<'t> Reader<'t> {
     /// `expression`
     #[tactic(auto, unfolding(crate::specs::ReadingLines::expr_at))]
     fn expr(&mut self, alloc: Global, profile: Profile) -> Result<Expr<'t>, SyntaxFault>
-        ensures { Reads expr (cursor self.old) (cursor self.new) result (expr_at profile.entry (cursor self.old)) }
+        ensures { Reads expr (cursor self.old) (cursor self.new) result (expr_at profile (cursor self.old)) }
     {
         let ws = self.ws();
         if self.is_at_key() {
@@ -44,8 +49,12 @@ impl<'t> Reader<'t> {
 
     /// An expression and the newline behind it, or the last expression.
     #[tactic(auto, unfolding(crate::specs::ReadingLines::line_step))]
-    fn line_step(&mut self, alloc: Global, profile: Profile) -> Result<Step<Line<'t>, Line<'t>>, SyntaxFault>
-        ensures reads { Reads (step line line) (cursor self.old) (cursor self.new) result (line_step profile.entry (cursor self.old)) }
+    fn line_step(
+        &mut self,
+        alloc: Global,
+        profile: Profile,
+    ) -> Result<Step<Line<'t>, Line<'t>>, SyntaxFault>
+        ensures reads { Reads (step line line) (cursor self.old) (cursor self.new) result (line_step profile (cursor self.old)) }
         ensures moves { IfOk result (Moves (cursor self.old) (cursor self.new)) }
     {
         let expr = self.expr(alloc, profile)?;
@@ -61,7 +70,7 @@ impl<'t> Reader<'t> {
 
     /// All lines.
     pub fn lines(&mut self, alloc: Global, profile: Profile) -> Result<Vec<Line<'t>>, SyntaxFault>
-        ensures { Reads (λ v. map line v.items) (cursor self.old) (cursor self.new) result (lines_at profile.entry (cursor self.old)) }
+        ensures { Reads (λ v. map line v.items) (cursor self.old) (cursor self.new) result (lines_at profile (cursor self.old)) }
     {
         let mut lines = Vec::new(alloc);
         loop {

@@ -39,8 +39,8 @@ pub fn parse_in<'t>(
     profile: Profile,
 ) -> Result<Doc<'t>, SyntaxFault>
     ensures spelled { IfOk result (λ doc. Spells (document doc) (text_of source.entry)) }
-    ensures of_profile { IfOk result (λ doc. IsOfProfile profile.entry (document doc)) }
-    ensures refused { IfErr result (Refuses profile.entry (text_of source.entry)) }
+    ensures of_profile { IfOk result (λ doc. IsOfProfile profile (document doc)) }
+    ensures refused { IfErr result (Refuses profile (text_of source.entry)) }
 {
     let mut reader = Reader { source, at: 0 };
     let mark = reader.mark();
@@ -65,8 +65,8 @@ pub fn parse_value_in<'t>(
     profile: Profile,
 ) -> Result<Value<'t>, SyntaxFault>
     ensures spelled { IfOk result (λ v. SpellsValue (value v) 0 (text_of source.entry)) }
-    ensures of_profile { IfOk result (λ v. IsValueOfProfile profile.entry (value v)) }
-    ensures refused { IfErr result (RefusesValue profile.entry (text_of source.entry)) }
+    ensures of_profile { IfOk result (λ v. IsValueOfProfile profile (value v)) }
+    ensures refused { IfErr result (RefusesValue profile (text_of source.entry)) }
 {
     let mut reader = Reader { source, at: 0 };
     let value = reader.value(alloc, MAX_DEPTH, profile)?;

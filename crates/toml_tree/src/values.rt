@@ -21,7 +21,7 @@ fn ended<'t, T: Drop>(
     mut list: Vec<T>,
     end: End<'t, T>,
 ) -> Result<(Vec<T>, Option<Gap<'t>>), AllocError>
-    ensures { IfOk result (λ r. Ended list.entry.items end.entry r.0.items r.1) }
+    ensures { IfOk result (λ r. Ended list.items end.entry r.0.items r.1) }
 {
     match end {
         End::Gap(gap) => {
@@ -38,7 +38,7 @@ fn ended<'t, T: Drop>(
 
 /// Whether the pairs of an inline table may end so: in profile 1 not with a comma.
 fn may_end(profile: Profile, pairs: &[Pair<'_>], end: &Option<Gap<'_>>) -> bool
-    ensures { result ≡ may_end profile.entry (table_pairs (map member pairs.now) end.now) }
+    ensures { result ≡ may_end profile (table_pairs (map member pairs.now) end.now) }
 {
     match profile {
         Profile::One => pairs.is_empty() || end.is_none(),
@@ -67,8 +67,13 @@ impl<'t> Reader<'t> {
 
     /// `val`, nesting at most so deep.
     #[cycle(value)]
-    pub fn value(&mut self, alloc: Global, deep: usize, profile: Profile) -> Result<Value<'t>, SyntaxFault>
-        ensures { Reads value (cursor self.old) (cursor self.new) result (value_at profile.entry deep (cursor self.old)) }
+    pub fn value(
+        &mut self,
+        alloc: Global,
+        deep: usize,
+        profile: Profile,
+    ) -> Result<Value<'t>, SyntaxFault>
+        ensures { Reads value (cursor self.old) (cursor self.new) result (value_at profile deep (cursor self.old)) }
     {
         if deep == 0 {
             return Err(self.refuse_depth());
@@ -85,8 +90,13 @@ impl<'t> Reader<'t> {
     /// `array`, its values nesting at most so deep.
     #[cycle(value)]
     #[tactic(auto, unfolding(crate::specs::ReadingValues::array_at))]
-    fn array(&mut self, alloc: Global, deep: usize, profile: Profile) -> Result<Value<'t>, SyntaxFault>
-        ensures { Reads value (cursor self.old) (cursor self.new) result (array_at (value_at profile.entry deep) (cursor self.old)) }
+    fn array(
+        &mut self,
+        alloc: Global,
+        deep: usize,
+        profile: Profile,
+    ) -> Result<Value<'t>, SyntaxFault>
+        ensures { Reads value (cursor self.old) (cursor self.new) result (array_at (value_at profile deep) (cursor self.old)) }
     {
         let start = *self;
         if !self.eat(b'[') {
@@ -106,7 +116,7 @@ impl<'t> Reader<'t> {
         deep: usize,
         profile: Profile,
     ) -> Result<(Vec<Item<'t>>, Option<Gap<'t>>), SyntaxFault>
-        ensures { Reads (λ r. array_items (map element r.0.items) r.1) (cursor self.old) (cursor self.new) result (items_at (value_at profile.entry deep) (cursor self.old)) }
+        ensures { Reads (λ r. array_items (map element r.0.items) r.1) (cursor self.old) (cursor self.new) result (items_at (value_at profile deep) (cursor self.old)) }
     {
         let mut items = Vec::new(alloc);
         loop {
@@ -126,7 +136,7 @@ impl<'t> Reader<'t> {
         deep: usize,
         profile: Profile,
     ) -> Result<Step<Item<'t>, End<'t, Item<'t>>>, SyntaxFault>
-        ensures reads { Reads (step element array_end) (cursor self.old) (cursor self.new) result (item_step (value_at profile.entry deep) (cursor self.old)) }
+        ensures reads { Reads (step element array_end) (cursor self.old) (cursor self.new) result (item_step (value_at profile deep) (cursor self.old)) }
         ensures moves { IfOk result (Moves (cursor self.old) (cursor self.new)) }
     {
         let before = self.gap(alloc)?;
@@ -144,7 +154,10 @@ impl<'t> Reader<'t> {
 
     /// The comma behind an item, or the end of its array.
     #[tactic(auto, unfolding(crate::specs::ReadingValues::after_element))]
-    fn after_item(&mut self, item: Item<'t>) -> Result<Step<Item<'t>, End<'t, Item<'t>>>, SyntaxFault>
+    fn after_item(
+        &mut self,
+        item: Item<'t>,
+    ) -> Result<Step<Item<'t>, End<'t, Item<'t>>>, SyntaxFault>
         ensures reads { Reads (step element array_end) (cursor self.old) (cursor self.new) result (after_element (element item.entry) (cursor self.old)) }
         ensures moves { IfOk result (Moves (cursor self.old) (cursor self.new)) }
     {
@@ -166,7 +179,7 @@ impl<'t> Reader<'t> {
         deep: usize,
         profile: Profile,
     ) -> Result<Value<'t>, SyntaxFault>
-        ensures { Reads value (cursor self.old) (cursor self.new) result (inline_at profile.entry (value_at profile.entry deep) (cursor self.old)) }
+        ensures { Reads value (cursor self.old) (cursor self.new) result (inline_at profile (value_at profile deep) (cursor self.old)) }
     {
         let start = *self;
         if !self.eat(b'{') {
@@ -190,7 +203,7 @@ impl<'t> Reader<'t> {
         deep: usize,
         profile: Profile,
     ) -> Result<(Vec<Pair<'t>>, Option<Gap<'t>>), SyntaxFault>
-        ensures { Reads (λ r. table_pairs (map member r.0.items) r.1) (cursor self.old) (cursor self.new) result (pairs_at profile.entry (value_at profile.entry deep) (cursor self.old)) }
+        ensures { Reads (λ r. table_pairs (map member r.0.items) r.1) (cursor self.old) (cursor self.new) result (pairs_at profile (value_at profile deep) (cursor self.old)) }
     {
         let mut pairs = Vec::new(alloc);
         loop {
@@ -210,7 +223,7 @@ impl<'t> Reader<'t> {
         deep: usize,
         profile: Profile,
     ) -> Result<Step<Pair<'t>, End<'t, Pair<'t>>>, SyntaxFault>
-        ensures reads { Reads (step member table_end) (cursor self.old) (cursor self.new) result (pair_step profile.entry (value_at profile.entry deep) (cursor self.old)) }
+        ensures reads { Reads (step member table_end) (cursor self.old) (cursor self.new) result (pair_step profile (value_at profile deep) (cursor self.old)) }
         ensures moves { IfOk result (Moves (cursor self.old) (cursor self.new)) }
     {
         let before = self.pair_gap(alloc, profile)?;
@@ -247,8 +260,13 @@ impl<'t> Reader<'t> {
     /// `keyval`, its value nesting at most so deep.
     #[cycle(value)]
     #[tactic(auto, unfolding(crate::specs::ReadingValues::keyval_at))]
-    pub fn keyval(&mut self, alloc: Global, deep: usize, profile: Profile) -> Result<KeyVal<'t>, SyntaxFault>
-        ensures { Reads keyval (cursor self.old) (cursor self.new) result (keyval_at (value_at profile.entry deep) (cursor self.old)) }
+    pub fn keyval(
+        &mut self,
+        alloc: Global,
+        deep: usize,
+        profile: Profile,
+    ) -> Result<KeyVal<'t>, SyntaxFault>
+        ensures { Reads keyval (cursor self.old) (cursor self.new) result (keyval_at (value_at profile deep) (cursor self.old)) }
     {
         let assign = self.assign(alloc)?;
         let value = self.value(alloc, deep, profile)?;
