@@ -78,7 +78,7 @@ module _ (at : Address) where
   inside-inline : (b : Box InlineTable Global) → plain_inside at (value (made.Inline b)) ≡ members_of at (map member (out-InlineTable b.value).pairs.items) ++ end_units at (option_map gap (out-InlineTable b.value).end)
   inside-inline b = ap (plain_inside at) (value_inline b) ∙ members-table_pairs (map member (out-InlineTable b.value).pairs.items) (out-InlineTable b.value).end
 
-  -- all was walked, up to the gap behind a last comma
+  -- all was walked but the gap behind a last comma
   all-walked : (now left start all last whole : List Spanned) → left ≡ [] → now ++ left ≡ start ++ all → whole ≡ all ++ last → now ++ last ≡ start ++ whole
   all-walked now left start all last whole none before is =
       ap (λ l. l ++ last) (sym (append-nil now) ∙ ap (λ l. now ++ l) (sym none) ∙ before) ∙ append_assoc start all last ∙ ap (λ l. start ++ l) (sym is)
