@@ -2,7 +2,7 @@
 use Rattle.std.proofs.Common.{◌≡◌, List, [], ◌∷◌, ◌++◌, map, Option, Some, None, refl, sym, ap, ap₂, ◌∙◌}
 use Rattle.toml_tree.specs.Bare.{bare_comment, bare_blank, bare_dotted, bare_key, bare_assign, bare_gap_line, bare_gap, bare_value, bare_keyval, bare_header, bare_expr, bare_line, BareValueText, BareItemsText, BarePairsText, BareLinesText}
 use Rattle.toml_tree.specs.Spells.{Part, piece, symbol, joined, comment_parts, key_parts, dotted_parts, equals_parts, assign_parts, blank_parts, gap_parts, gap_line_parts, all_parts, value_parts, items_parts, pairs_parts, header_parts, keyval_parts, expr_parts, line_parts}
-use Rattle.toml_tree.specs.Tree.{Piece, Blank, Key, Assign, GapLine, Gap, Scalar, Array, Inline, Close, Last, More, LastPair, MorePairs, KeyVal, Header, Expr, BlankLine, KeyValLine, TableLine, ArrayTableLine, Line}
+use Rattle.toml_tree.specs.Tree.{Piece, Blank, Key, Assign, GapLine, Gap, Scalar, Array, Inline, Close, Last, More, ClosePairs, LastPair, MorePairs, KeyVal, Header, Expr, BlankLine, KeyValLine, TableLine, ArrayTableLine, Line}
 use Rattle.toml_tree.proofs.Texts.{joined_append}
 
 both : (xs xs' ys ys' : List Part) → joined xs ≡ joined xs' → joined ys ≡ joined ys' → joined (xs ++ ys) ≡ joined (xs' ++ ys')
@@ -35,7 +35,6 @@ mutual
   pub bare_value_text : BareValueText
   bare_value_text (Scalar kind p) = refl
   bare_value_text (Array whole items) = ap (λ r. 0x5B ∷ r) (bare_items_text items)
-  bare_value_text (Empty whole ws) = refl
   bare_value_text (Inline whole pairs) = ap (λ r. 0x7B ∷ r) (bare_pairs_text pairs)
 
   pub bare_items_text : BareItemsText
@@ -49,12 +48,16 @@ mutual
       (both (gap_parts (bare_gap h)) (gap_parts h) _ (symbol (0x2C ∷ []) ∷ items_parts is) (gap_text h) (ap (λ r. 0x2C ∷ r) (bare_items_text is))))
 
   pub bare_pairs_text : BarePairsText
-  bare_pairs_text (LastPair ws a v after) =
-      ap (λ r. ws.text ++ r) (both (assign_parts (bare_assign a)) (assign_parts a) _ _ (assign_text a)
-      (both (value_parts (bare_value v)) (value_parts v) _ (piece after ∷ symbol (0x7D ∷ []) ∷ []) (bare_value_text v) refl))
-  bare_pairs_text (MorePairs ws a v after ps) =
-      ap (λ r. ws.text ++ r) (both (assign_parts (bare_assign a)) (assign_parts a) _ _ (assign_text a)
-      (both (value_parts (bare_value v)) (value_parts v) _ (piece after ∷ symbol (0x2C ∷ []) ∷ pairs_parts ps) (bare_value_text v) (ap (λ r. after.text ++ 0x2C ∷ r) (bare_pairs_text ps))))
+  bare_pairs_text (ClosePairs g) = both (gap_parts (bare_gap g)) (gap_parts g) _ (symbol (0x7D ∷ []) ∷ []) (gap_text g) refl
+  bare_pairs_text (LastPair g a v h) =
+      both (gap_parts (bare_gap g)) (gap_parts g) _ _ (gap_text g)
+      (both (assign_parts (bare_assign a)) (assign_parts a) _ _ (assign_text a)
+      (both (value_parts (bare_value v)) (value_parts v) _ _ (bare_value_text v) (both (gap_parts (bare_gap h)) (gap_parts h) _ (symbol (0x7D ∷ []) ∷ []) (gap_text h) refl)))
+  bare_pairs_text (MorePairs g a v h ps) =
+      both (gap_parts (bare_gap g)) (gap_parts g) _ _ (gap_text g)
+      (both (assign_parts (bare_assign a)) (assign_parts a) _ _ (assign_text a)
+      (both (value_parts (bare_value v)) (value_parts v) _ _ (bare_value_text v)
+      (both (gap_parts (bare_gap h)) (gap_parts h) _ (symbol (0x2C ∷ []) ∷ pairs_parts ps) (gap_text h) (ap (λ r. 0x2C ∷ r) (bare_pairs_text ps)))))
 
 pub header_text : (h : Header) → joined (header_parts (bare_header h)) ≡ joined (header_parts h)
 header_text h = ap (λ r. 0x5B ∷ h.before.text ++ r) (both (key_parts (bare_key h.key)) (key_parts h.key) _ (piece h.after ∷ symbol (0x5D ∷ []) ∷ []) (key_text h.key) refl)

@@ -183,12 +183,6 @@ ws_symbol b w ps c d other h s =
       shorter = omega (arith, spans_length (piece w ∷ []) c i.0 i.1, ap length j.1);
     }
 
-pub symbol_closes : (b : ℕ) (w : Piece) (ps : List Part) (c d : Cursor) → ((rest : List ℕ) → Closes (b ∷ rest)) → IsWs w.text → Spans (piece w ∷ symbol (b ∷ []) ∷ ps) c d → Closes c.rest
-symbol_closes b w ps c d closes h s =
-    let i = spans_split (piece w ∷ []) (symbol (b ∷ []) ∷ ps) c d s in
-    let j = symbol_ahead b ps i.0 d i.2 in
-    subst Closes (sym (rest_of (piece w) c i.0 i.1)) (ws_closes w.text i.0.rest h (subst Closes (sym j.1) (closes j.0.rest)))
-
 -- what stands in front of whitespace and a symbol
 pub before_symbol : (q : ℕ → Bool) (b : ℕ) (w : Piece) (ps : List Part) (c d : Cursor) → ((x : ℕ) → is_ws x ≡ true → q x ≡ false) → q b ≡ false → IsWs w.text → Spans (piece w ∷ symbol (b ∷ []) ∷ ps) c d → begins q c.rest ≡ false
 before_symbol q b w ps c d apart other h s =

@@ -11,12 +11,16 @@ use Rattle.toml_scalar.specs.declared.kind.ScalarKind.{ScalarKind}
 use Rattle.toml_text.proofs.Proved.{begins_other, begins_more}
 use Rattle.toml_scalar.proofs.Proved.{scan_complete, token_first}
 use Rattle.toml_tree.specs.Tree.{Piece, Blank, Assign, GapLine, Gap, Value, Scalar, Array, Inline, Items, Close, Last, More, Pairs, ClosePairs, LastPair, MorePairs, KeyVal}
+use Rattle.toml_tree.specs.Profiles.{IsPlainGap, ItemsHavePlainTables, ArePlainPairs, Asks, IsValueOfProfile}
 use Rattle.toml_tree.specs.Spells.{Part, piece, symbol, begin, joined, EachIs, all_parts, blank_parts, gap_line_parts, gap_parts, assign_parts, value_parts, items_parts, pairs_parts, keyval_parts, IsGapLine, IsGap, IsAssign, IsValue, AreItems, ArePairs, depth, items_depth, pairs_depth}
 use Rattle.toml_tree.specs.Reading.{Cursor, ahead, up_to, many, run_at}
-use Rattle.toml_tree.specs.ReadingValues.{scalar_at, gap_step, gap_at, Element, before_end, after_element, item_step, items_at, array_at, keyval_at, Member, pairs_of, inline, after_member, pair_step, pairs_at, closed_at, inline_at, value_at}
+use Rattle.toml_tree.specs.ReadingValues.{scalar_at, gap_step, gap_at, Element, before_end, after_element, item_step, items_at, array_at, keyval_at, Member, pairs_before_end, pair_gap_at, after_member, pair_at, pair_step, pairs_at, may_end, inline_at, value_at}
+use Rattle.toml_tree.specs.declared.profile.Profile.{Profile}
+use Rattle.toml_tree.specs.declared.profile.Profile.TheVariants.{One, Two}
 use Rattle.toml_tree.specs.declared.step.Step.TheVariants.{Next, Done}
+use Rattle.toml_tree.proofs.Profiled.{asked, may_end_so}
 use Rattle.toml_tree.proofs.Spans.{Spans, spans_split, spans_joined, behind_take}
-use Rattle.toml_tree.proofs.Complete.{piece_here, rest_of, symbol_begins, symbol_ahead, spans_length, run_complete, each_first, positive, blank_complete, blank_first, is_newline_byte, newline_front, newline_stops, blank_ends, ws_closes, blank_closes, UpTo, ws_symbol, symbol_closes, many_complete, as_long, start_not_ws, assign_complete, assign_first}
+use Rattle.toml_tree.proofs.Complete.{piece_here, rest_of, symbol_begins, symbol_ahead, spans_length, run_complete, each_first, positive, blank_complete, blank_first, is_newline_byte, newline_front, newline_stops, blank_ends, ws_closes, blank_closes, UpTo, many_complete, as_long, assign_complete, assign_first}
 
 -- gaps
 abbrev pub is_gap_byte : ℕ → Bool
@@ -139,12 +143,11 @@ opened b p ps c d s = symbol_ahead b ps c d (begin_here p (symbol (b ∷ []) ∷
 pub value_first : (v : Value) (c d : Cursor) → IsValue v → Spans (value_parts v) c d → begins is_value_start c.rest ≡ true
 value_first (Scalar k p) c d h s = begins_more is_scalar_start is_value_start c.rest scalar_starts (scalar_first k p c d h s)
 value_first (Array whole is) c d h s = ap (begins is_value_start) (s.2.rest ∙ s.3.2.rest)
-value_first (Empty whole ws) c d h s = ap (begins is_value_start) (s.2.rest ∙ s.3.2.rest)
 value_first (Inline whole ps) c d h s = ap (begins is_value_start) (s.2.rest ∙ s.3.2.rest)
 
 -- A value that nests at most so deep is read, where something follows that closes it.
-abbrev pub ReadsValue : ℕ → Value → Type 0
-ReadsValue n v = (c d : Cursor) → Spans (value_parts v) c d → Closes d.rest → value_at n c ≡ Some (v, d)
+abbrev pub ReadsValue : Profile → ℕ → Value → Type 0
+ReadsValue p n v = (c d : Cursor) → Spans (value_parts v) c d → Closes d.rest → value_at p n c ≡ Some (v, d)
 
 scalar_complete : (k : ScalarKind) (p : Piece) (c d : Cursor) → IsToken k p.text → Spans (piece p ∷ []) c d → Closes d.rest → scalar_at c ≡ Some (Scalar k p, d)
 unfolding scalar_at
@@ -173,10 +176,10 @@ inline_closes : (rest : List ℕ) → Closes (0x7D ∷ rest)
 inline_closes rest = inr (inr (inr (inr (inr (inr refl)))))
 
 -- an element is read, up to the symbol behind it
-element_reads : (n : ℕ) (e : Element) (b : ℕ) (ps : List Part) (c d : Cursor) → IsGap e.before → IsValue e.value → IsGap e.after → ReadsValue n e.value → is_gap_byte b ≡ false → ((rest : List ℕ) → Closes (b ∷ rest)) → Spans (gap_parts e.before ++ (value_parts e.value ++ (gap_parts e.after ++ symbol (b ∷ []) ∷ ps))) c d →
-    UpTo b ps (λ m. item_step (value_at n) c ≡ after_element e m) c d
+element_reads : (p : Profile) (n : ℕ) (e : Element) (b : ℕ) (ps : List Part) (c d : Cursor) → IsGap e.before → IsValue e.value → IsGap e.after → ReadsValue p n e.value → is_gap_byte b ≡ false → ((rest : List ℕ) → Closes (b ∷ rest)) → Spans (gap_parts e.before ++ (value_parts e.value ++ (gap_parts e.after ++ symbol (b ∷ []) ∷ ps))) c d →
+    UpTo b ps (λ m. item_step (value_at p n) c ≡ after_element e m) c d
 unfolding item_step
-element_reads n e b ps c d before is_value after reads no_gap closes s =
+element_reads p n e b ps c d before is_value after reads no_gap closes s =
     let i = spans_split (gap_parts e.before) (value_parts e.value ++ (gap_parts e.after ++ symbol (b ∷ []) ∷ ps)) c d s in
     let j = spans_split (value_parts e.value) (gap_parts e.after ++ symbol (b ∷ []) ∷ ps) i.0 d i.2 in
     let k = spans_split (gap_parts e.after) (symbol (b ∷ []) ∷ ps) j.0 d j.2 in
@@ -228,190 +231,203 @@ front_final (Last g v h) = refl
 front_final (More g v h is) = ap (λ r. More g v h r) (front_final is)
 
 -- the loop reads the items
-abbrev ReadsItems : ℕ → Items → Type 0
-ReadsItems n is = (fuel : ℕ) (c d : Cursor) → Spans (items_parts is) c d → length c.rest < fuel → many (item_step (value_at n)) fuel c ≡ Some (front is, final is, d)
+abbrev ReadsItems : Profile → ℕ → Items → Type 0
+ReadsItems p n is = (fuel : ℕ) (c d : Cursor) → Spans (items_parts is) c d → length c.rest < fuel → many (item_step (value_at p n)) fuel c ≡ Some (front is, final is, d)
 
-items_read : (is : Items) (n : ℕ) (c d : Cursor) → Spans (items_parts is) c d → ReadsItems n is → items_at (value_at n) c ≡ Some (is, d)
+items_read : (is : Items) (p : Profile) (n : ℕ) (c d : Cursor) → Spans (items_parts is) c d → ReadsItems p n is → items_at (value_at p n) c ≡ Some (is, d)
 unfolding items_at
-items_read is n c d s reads = rw (reads (length c.rest + 1) c d s (omega arith)) (ap (λ r. Some (r, d)) (front_final is))
+items_read is p n c d s reads = rw (reads (length c.rest + 1) c d s (omega arith)) (ap (λ r. Some (r, d)) (front_final is))
 
-array_reads : (whole : Piece) (is : Items) (n : ℕ) (c d : Cursor) → whole.text ≡ joined (symbol (0x5B ∷ []) ∷ items_parts is) → Spans (value_parts (Array whole is)) c d → ReadsItems n is → value_at (suc n) c ≡ Some (Array whole is, d)
+array_reads : (whole : Piece) (is : Items) (p : Profile) (n : ℕ) (c d : Cursor) → whole.text ≡ joined (symbol (0x5B ∷ []) ∷ items_parts is) → Spans (value_parts (Array whole is)) c d → ReadsItems p n is → value_at p (suc n) c ≡ Some (Array whole is, d)
 unfolding array_at
-array_reads whole is n c d text s reads =
+array_reads whole is p n c d text s reads =
     let k = opened 0x5B whole (items_parts is) c d s in
     let bracket : begins (is_byte 0x5B) c.rest ≡ true = ap (begins (is_byte 0x5B)) k.1 in
-    let inside : items_at (value_at n) (ahead 1 c) ≡ Some (is, d) = ap (items_at (value_at n)) k.2 ∙ items_read is n k.0 d k.3 reads in
+    let inside : items_at (value_at p n) (ahead 1 c) ≡ Some (is, d) = ap (items_at (value_at p n)) k.2 ∙ items_read is p n k.0 d k.3 reads in
     cond-true _ _ _ bracket ∙ cond-true _ _ _ bracket ∙ rw inside (ap (λ p. Some (Array p is, d)) (whole_complete whole (symbol (0x5B ∷ []) ∷ items_parts is) c d text s))
 
 -- pairs
-keyval_reads : (k : KeyVal) (n : ℕ) (c m d : Cursor) → IsAssign k.assign → IsValue k.value → ReadsValue n k.value → Spans (assign_parts k.assign) c m → Spans (value_parts k.value) m d → Closes d.rest → keyval_at (value_at n) c ≡ Some (k, d)
+keyval_reads : (k : KeyVal) (p : Profile) (n : ℕ) (c m d : Cursor) → IsAssign k.assign → IsValue k.value → ReadsValue p n k.value → Spans (assign_parts k.assign) c m → Spans (value_parts k.value) m d → Closes d.rest → keyval_at (value_at p n) c ≡ Some (k, d)
 unfolding keyval_at
-keyval_reads k n c m d assigns is_value reads s t closes =
+keyval_reads k p n c m d assigns is_value reads s t closes =
     let e1 = assign_complete k.assign c m assigns s (begins_other is_value_start is_ws m.rest value_no_ws (value_first k.value m d is_value t)) in
     rw e1 (rw (reads m d t closes) refl)
 
 start_no_end : (b : ℕ) → is_key_start b ≡ true → is_byte 0x7D b ≡ false
 start_no_end b h = grind (arith, nat_tests)
 
--- whitespace before a pair
-ws_assign : (w : Piece) (a : Assign) (ps : List Part) (c d : Cursor) → IsWs w.text → IsAssign a → Spans (piece w ∷ (assign_parts a ++ ps)) c d → (m : Cursor) × (run_at is_ws c ≡ (w, m)) × (begins is_key_start m.rest ≡ true) × Spans (piece w ∷ []) c m × Spans (assign_parts a ++ ps) m d
-ws_assign w a ps c d h assigns s =
-    let i = spans_split (piece w ∷ []) (assign_parts a ++ ps) c d s in
-    let j = spans_split (assign_parts a) ps i.0 d i.2 in
-    let first = assign_first a i.0 j.0 assigns j.1 in
-    (i.0, run_complete is_ws w c i.0 h i.1 (begins_other is_key_start is_ws i.0.rest start_not_ws first), first, i.1, i.2)
+start_no_gap : (b : ℕ) → is_key_start b ≡ true → is_gap_byte b ≡ false
+start_no_gap b h = grind (arith, nat_tests)
+
+-- the gap of a pair
+pair_gap_complete : (p : Profile) (g : Gap) (c d : Cursor) → IsGap g → Asks p (IsPlainGap g) → Spans (gap_parts g) c d → begins is_gap_byte d.rest ≡ false → pair_gap_at p c ≡ Some (g, d)
+unfolding pair_gap_at
+pair_gap_complete One g c d h plain s e =
+    let only : Spans (piece g.ws ∷ []) c d = subst (λ ls. Spans (all_parts gap_line_parts ls ++ piece g.ws ∷ []) c d) plain s in
+    rw (run_complete is_ws g.ws c d h.1 only (begins_less is_ws is_gap_byte d.rest other_no_ws e)) (λ i. Some (record { lines = sym plain i; ws = g.ws }, d))
+pair_gap_complete Two g c d h plain s e = gap_complete g c d h s e
+
+-- what is known of a pair before it is read
+record Known (p : Profile) (n : ℕ) (m : Member) : Type 0 where
+  pub before : IsGap m.before
+  pub assigns : IsAssign m.pair.assign
+  pub is_value : IsValue m.pair.value
+  pub after : IsGap m.after
+  pub plain_before : Asks p (IsPlainGap m.before)
+  pub plain_after : Asks p (IsPlainGap m.after)
+  pub reads : ReadsValue p n m.pair.value
 
 -- a pair of an inline table is read, up to the symbol behind it
-member_reads : (n : ℕ) (p : Member) (b : ℕ) (ps : List Part) (c d : Cursor) → IsWs p.before.text → IsAssign p.pair.assign → IsValue p.pair.value → IsWs p.after.text → ReadsValue n p.pair.value → is_ws b ≡ false → ((rest : List ℕ) → Closes (b ∷ rest)) → Spans (piece p.before ∷ (assign_parts p.pair.assign ++ (value_parts p.pair.value ++ (piece p.after ∷ symbol (b ∷ []) ∷ ps)))) c d →
-    UpTo b ps (λ m. pair_step (value_at n) c ≡ after_member p m) c d
-unfolding pair_step
-member_reads n p b ps c d before assigns is_value after reads no_ws closes s =
-    let i = ws_assign p.before p.pair.assign (value_parts p.pair.value ++ (piece p.after ∷ symbol (b ∷ []) ∷ ps)) c d before assigns s in
-    let j = spans_split (assign_parts p.pair.assign) (value_parts p.pair.value ++ (piece p.after ∷ symbol (b ∷ []) ∷ ps)) i.0 d i.4 in
-    let k = spans_split (value_parts p.pair.value) (piece p.after ∷ symbol (b ∷ []) ∷ ps) j.0 d j.2 in
-    let r = ws_symbol b p.after ps k.0 d no_ws after k.2 in
-    let e2 = keyval_reads p.pair n i.0 j.0 k.0 assigns is_value reads j.1 k.1 (symbol_closes b p.after ps k.0 d closes after k.2) in
+member_reads : (p : Profile) (n : ℕ) (m : Member) (b : ℕ) (ps : List Part) (c d : Cursor) → Known p n m → is_gap_byte b ≡ false → ((rest : List ℕ) → Closes (b ∷ rest)) → Spans (gap_parts m.before ++ (assign_parts m.pair.assign ++ (value_parts m.pair.value ++ (gap_parts m.after ++ symbol (b ∷ []) ∷ ps)))) c d →
+    UpTo b ps (λ x. pair_step p (value_at p n) c ≡ after_member m x) c d
+unfolding pair_step pair_at
+member_reads p n m b ps c d known no_gap closes s =
+    let i = spans_split (gap_parts m.before) (assign_parts m.pair.assign ++ (value_parts m.pair.value ++ (gap_parts m.after ++ symbol (b ∷ []) ∷ ps))) c d s in
+    let j = spans_split (assign_parts m.pair.assign) (value_parts m.pair.value ++ (gap_parts m.after ++ symbol (b ∷ []) ∷ ps)) i.0 d i.2 in
+    let k = spans_split (value_parts m.pair.value) (gap_parts m.after ++ symbol (b ∷ []) ∷ ps) j.0 d j.2 in
+    let r = gap_symbol p m.after b ps k.0 d known.after known.plain_after no_gap k.2 in
+    let start = assign_first m.pair.assign i.0 j.0 known.assigns j.1 in
+    let e1 = pair_gap_complete p m.before c i.0 known.before known.plain_before i.1 (begins_other is_key_start is_gap_byte i.0.rest start_no_gap start) in
+    let e2 : begins (is_byte 0x7D) i.0.rest ≡ false = begins_other is_key_start (is_byte 0x7D) i.0.rest start_no_end start in
+    let e3 = keyval_reads m.pair p n i.0 j.0 k.0 known.assigns known.is_value known.reads j.1 k.1 (gap_symbol_closes m.after b ps k.0 d known.after closes k.2) in
     record {
       before = r.before;
       behind = r.behind;
-      read = rw i.1 (rw e2 (rw r.read refl));
+      read = rw e1 (cond-false _ _ _ e2 ∙ rw e3 (rw r.read refl));
       first = r.first;
       step = r.step;
       rest = r.rest;
-      shorter = omega (arith, spans_length (piece p.before ∷ []) c i.0 i.3, spans_length (assign_parts p.pair.assign) i.0 j.0 j.1, spans_length (value_parts p.pair.value) j.0 k.0 k.1, r.shorter);
+      shorter = omega (arith, spans_length (gap_parts m.before) c i.0 i.1, spans_length (assign_parts m.pair.assign) i.0 j.0 j.1, spans_length (value_parts m.pair.value) j.0 k.0 k.1, r.shorter);
     }
+  where
+    -- the gap before a symbol
+    gap_symbol : (p : Profile) (g : Gap) (b : ℕ) (ps : List Part) (c d : Cursor) → IsGap g → Asks p (IsPlainGap g) → is_gap_byte b ≡ false → Spans (gap_parts g ++ symbol (b ∷ []) ∷ ps) c d → UpTo b ps (λ x. pair_gap_at p c ≡ Some (g, x)) c d
+    gap_symbol p g b ps c d h plain no_gap s =
+        let i = spans_split (gap_parts g) (symbol (b ∷ []) ∷ ps) c d s in
+        let j = symbol_ahead b ps i.0 d i.2 in
+        record {
+          before = i.0;
+          behind = j.0;
+          read = pair_gap_complete p g c i.0 h plain i.1 (ap (begins is_gap_byte) j.1 ∙ no_gap);
+          first = j.1;
+          step = j.2;
+          rest = j.3;
+          shorter = omega (arith, spans_length (gap_parts g) c i.0 i.1, ap length j.1);
+        }
 
-member_next : (value : Cursor → Option (Value × Cursor)) (p : Member) (ps : List Part) (c d : Cursor) (r : UpTo 0x2C ps (λ m. pair_step value c ≡ after_member p m) c d) → pair_step value c ≡ Some (Next p, r.behind)
+    gap_symbol_closes : (g : Gap) (b : ℕ) (ps : List Part) (c d : Cursor) → IsGap g → ((rest : List ℕ) → Closes (b ∷ rest)) → Spans (gap_parts g ++ symbol (b ∷ []) ∷ ps) c d → Closes c.rest
+    gap_symbol_closes g b ps c d h closes s =
+        let i = spans_split (gap_parts g) (symbol (b ∷ []) ∷ ps) c d s in
+        let j = symbol_ahead b ps i.0 d i.2 in
+        gap_closes g c i.0 h i.1 (subst Closes (sym j.1) (closes j.0.rest))
+
+member_next : (p : Profile) (value : Cursor → Option (Value × Cursor)) (m : Member) (ps : List Part) (c d : Cursor) (r : UpTo 0x2C ps (λ x. pair_step p value c ≡ after_member m x) c d) → pair_step p value c ≡ Some (Next m, r.behind)
 unfolding after_member
-member_next value p ps c d r = r.read ∙ cond-true _ _ _ (ap (begins (is_byte 0x2C)) r.first) ∙ ap (λ x. Some (Next p, x)) r.step
+member_next p value m ps c d r = r.read ∙ cond-true _ _ _ (ap (begins (is_byte 0x2C)) r.first) ∙ ap (λ x. Some (Next m, x)) r.step
 
-member_last : (value : Cursor → Option (Value × Cursor)) (p : Member) (c d : Cursor) → UpTo 0x7D [] (λ m. pair_step value c ≡ after_member p m) c d → pair_step value c ≡ Some (Done p, d)
+member_last : (p : Profile) (value : Cursor → Option (Value × Cursor)) (m : Member) (c d : Cursor) → UpTo 0x7D [] (λ x. pair_step p value c ≡ after_member m x) c d → pair_step p value c ≡ Some (Done (LastPair m.before m.pair.assign m.pair.value m.after), d)
 unfolding after_member
-member_last value p c d r = r.read ∙ cond-false _ _ _ (ap (begins (is_byte 0x2C)) r.first) ∙ cond-true _ _ _ (ap (begins (is_byte 0x7D)) r.first) ∙ ap (λ x. Some (Done p, x)) (r.step ∙ r.rest)
+member_last p value m c d r =
+    r.read
+    ∙ cond-false _ _ _ (ap (begins (is_byte 0x2C)) r.first)
+    ∙ cond-true _ _ _ (ap (begins (is_byte 0x7D)) r.first)
+    ∙ ap (λ x. Some (Done (LastPair m.before m.pair.assign m.pair.value m.after), x)) (r.step ∙ r.rest)
 
-abbrev member : Piece → Assign → Value → Piece → Member
-member ws a v after = record { before = ws; pair = record { assign = a; value = v }; after = after }
+pairs_close : (p : Profile) (value : Cursor → Option (Value × Cursor)) (g : Gap) (c d : Cursor) → IsGap g → Asks p (IsPlainGap g) → Spans (gap_parts g ++ symbol (0x7D ∷ []) ∷ []) c d → pair_step p value c ≡ Some (Done (ClosePairs g), d)
+unfolding pair_step
+pairs_close p value g c d h plain s =
+    let i = spans_split (gap_parts g) (symbol (0x7D ∷ []) ∷ []) c d s in
+    let at_symbol = symbol_begins 0x7D i.0 d i.2 in
+    rw (pair_gap_complete p g c i.0 h plain i.1 (ap (begins is_gap_byte) at_symbol.0)) (cond-true _ _ _ (ap (begins (is_byte 0x7D)) at_symbol.0) ∙ ap (λ x. Some (Done (ClosePairs g), x)) at_symbol.1)
 
--- the pairs that a comma follows, the last, and all
+abbrev member : Gap → Assign → Value → Gap → Member
+member g a v h = record { before = g; pair = record { assign = a; value = v }; after = h }
+
+-- the pairs that a comma follows, and the end
 abbrev front_pairs : Pairs → List Member
-front_pairs (LastPair ws a v after) = []
-front_pairs (MorePairs ws a v after ps) = member ws a v after ∷ front_pairs ps
+front_pairs (ClosePairs g) = []
+front_pairs (LastPair g a v h) = []
+front_pairs (MorePairs g a v h ps) = member g a v h ∷ front_pairs ps
 
-abbrev last_pair : Pairs → Member
-last_pair (LastPair ws a v after) = member ws a v after
-last_pair (MorePairs ws a v after ps) = last_pair ps
+abbrev final_pairs : Pairs → Pairs
+final_pairs (ClosePairs g) = ClosePairs g
+final_pairs (LastPair g a v h) = LastPair g a v h
+final_pairs (MorePairs g a v h ps) = final_pairs ps
 
-abbrev members : Pairs → List Member
-members (LastPair ws a v after) = member ws a v after ∷ []
-members (MorePairs ws a v after ps) = member ws a v after ∷ members ps
-
-front_last : (ps : Pairs) → front_pairs ps ++ last_pair ps ∷ [] ≡ members ps
-front_last (LastPair ws a v after) = refl
-front_last (MorePairs ws a v after ps) = ap (λ ms. member ws a v after ∷ ms) (front_last ps)
-
-more_members : (m : Member) (ps : Pairs) → pairs_of m (members ps) ≡ MorePairs m.before m.pair.assign m.pair.value m.after ps
-more_members m (LastPair ws a v after) = refl
-more_members m (MorePairs ws a v after ps) = ap (λ r. MorePairs m.before m.pair.assign m.pair.value m.after r) (more_members (member ws a v after) ps)
-
-inline_members : (whole : Piece) (ps : Pairs) → inline whole (members ps) None ≡ Inline whole ps
-inline_members whole (LastPair ws a v after) = refl
-inline_members whole (MorePairs ws a v after ps) = ap (λ r. Inline whole r) (more_members (member ws a v after) ps)
+front_final_pairs : (ps : Pairs) → pairs_before_end (front_pairs ps) (final_pairs ps) ≡ ps
+front_final_pairs (ClosePairs g) = refl
+front_final_pairs (LastPair g a v h) = refl
+front_final_pairs (MorePairs g a v h ps) = ap (λ r. MorePairs g a v h r) (front_final_pairs ps)
 
 -- the loop reads the pairs
-abbrev ReadsPairs : ℕ → Pairs → Type 0
-ReadsPairs n ps = (fuel : ℕ) (c d : Cursor) → Spans (pairs_parts ps) c d → length c.rest < fuel → many (pair_step (value_at n)) fuel c ≡ Some (front_pairs ps, last_pair ps, d)
+abbrev ReadsPairs : Profile → ℕ → Pairs → Type 0
+ReadsPairs p n ps = (fuel : ℕ) (c d : Cursor) → Spans (pairs_parts ps) c d → length c.rest < fuel → many (pair_step p (value_at p n)) fuel c ≡ Some (front_pairs ps, final_pairs ps, d)
 
-pairs_read : (ps : Pairs) (n : ℕ) (c d : Cursor) → Spans (pairs_parts ps) c d → ReadsPairs n ps → pairs_at (value_at n) c ≡ Some (members ps, d)
+pairs_read : (ps : Pairs) (p : Profile) (n : ℕ) (c d : Cursor) → Spans (pairs_parts ps) c d → ReadsPairs p n ps → pairs_at p (value_at p n) c ≡ Some (ps, d)
 unfolding pairs_at
-pairs_read ps n c d s reads = rw (reads (length c.rest + 1) c d s (omega arith)) (ap (λ ms. Some (ms, d)) (front_last ps))
+pairs_read ps p n c d s reads = rw (reads (length c.rest + 1) c d s (omega arith)) (ap (λ r. Some (r, d)) (front_final_pairs ps))
 
--- inline tables
-closed_complete : (w : Piece) (c d : Cursor) → IsWs w.text → Spans (piece w ∷ symbol (0x7D ∷ []) ∷ []) c d → closed_at c ≡ (Some w, d)
-unfolding closed_at
-closed_complete w c d h s =
-    let r = ws_symbol 0x7D w [] c d refl h s in
-    rw r.read (cond-true _ _ _ (ap (begins (is_byte 0x7D)) r.first) ∙ ap (λ x. (Some w, x)) (r.step ∙ r.rest))
-
--- where a key stands, the inline table is not closed
-key_opens : (w : Piece) (a : Assign) (ps : List Part) (c d : Cursor) → IsWs w.text → IsAssign a → Spans (piece w ∷ (assign_parts a ++ ps)) c d → closed_at c ≡ (None, c)
-unfolding closed_at
-key_opens w a ps c d h assigns s =
-    let r = ws_assign w a ps c d h assigns s in
-    rw r.1 (cond-false _ _ _ (begins_other is_key_start (is_byte 0x7D) r.0.rest start_no_end r.2))
-
-pairs_open : (ps : Pairs) (c d : Cursor) → ArePairs ps → Spans (pairs_parts ps) c d → closed_at c ≡ (None, c)
-pairs_open (LastPair ws a v after) c d h s = key_opens ws a (value_parts v ++ (piece after ∷ symbol (0x7D ∷ []) ∷ [])) c d h.0 h.1 s
-pairs_open (MorePairs ws a v after ps) c d h s = key_opens ws a (value_parts v ++ (piece after ∷ symbol (0x2C ∷ []) ∷ pairs_parts ps)) c d h.0 h.1 s
-
--- an inline table is read where `{` stands
-inline_value : (n : ℕ) (c : Cursor) (rest : List ℕ) → c.rest ≡ 0x7B ∷ rest → value_at (suc n) c ≡ inline_at (value_at n) c
-inline_value n c rest e = cond-false _ _ _ (ap (begins (is_byte 0x5B)) e) ∙ cond-true _ _ _ (ap (begins (is_byte 0x7B)) e)
-
-empty_reads : (whole ws : Piece) (n : ℕ) (c d : Cursor) → whole.text ≡ joined (symbol (0x7B ∷ []) ∷ piece ws ∷ symbol (0x7D ∷ []) ∷ []) → IsWs ws.text → Spans (value_parts (Empty whole ws)) c d → value_at (suc n) c ≡ Some (Empty whole ws, d)
+inline_reads : (whole : Piece) (ps : Pairs) (p : Profile) (n : ℕ) (c d : Cursor) → whole.text ≡ joined (symbol (0x7B ∷ []) ∷ pairs_parts ps) → Spans (value_parts (Inline whole ps)) c d → may_end p ps ≡ true → ReadsPairs p n ps → value_at p (suc n) c ≡ Some (Inline whole ps, d)
 unfolding inline_at
-empty_reads whole ws n c d text h s =
-    let k = opened 0x7B whole (piece ws ∷ symbol (0x7D ∷ []) ∷ []) c d s in
-    let closed : closed_at (ahead 1 c) ≡ (Some ws, d) = ap closed_at k.2 ∙ closed_complete ws k.0 d h k.3 in
-    inline_value n c k.0.rest k.1
-    ∙ cond-true _ _ _ (ap (begins (is_byte 0x7B)) k.1)
-    ∙ rw closed (ap (λ p. Some (Empty p ws, d)) (whole_complete whole (symbol (0x7B ∷ []) ∷ piece ws ∷ symbol (0x7D ∷ []) ∷ []) c d text s))
-
-inline_reads : (whole : Piece) (ps : Pairs) (n : ℕ) (c d : Cursor) → whole.text ≡ joined (symbol (0x7B ∷ []) ∷ pairs_parts ps) → ArePairs ps → Spans (value_parts (Inline whole ps)) c d → ReadsPairs n ps → value_at (suc n) c ≡ Some (Inline whole ps, d)
-unfolding inline_at
-inline_reads whole ps n c d text h s reads =
+inline_reads whole ps p n c d text s ends reads =
     let k = opened 0x7B whole (pairs_parts ps) c d s in
-    let still_open : closed_at (ahead 1 c) ≡ (None, k.0) = ap closed_at k.2 ∙ pairs_open ps k.0 d h k.3 in
-    inline_value n c k.0.rest k.1
-    ∙ cond-true _ _ _ (ap (begins (is_byte 0x7B)) k.1)
-    ∙ rw still_open (rw (pairs_read ps n k.0 d k.3 reads) (ap (λ v. Some (v, d)) (inline_members (up_to d c) ps ∙ ap (λ p. Inline p ps) (whole_complete whole (symbol (0x7B ∷ []) ∷ pairs_parts ps) c d text s))))
+    let brace : begins (is_byte 0x7B) c.rest ≡ true = ap (begins (is_byte 0x7B)) k.1 in
+    let inside : pairs_at p (value_at p n) (ahead 1 c) ≡ Some (ps, d) = ap (pairs_at p (value_at p n)) k.2 ∙ pairs_read ps p n k.0 d k.3 reads in
+    cond-false _ _ _ (ap (begins (is_byte 0x5B)) k.1)
+    ∙ cond-true _ _ _ brace
+    ∙ cond-true _ _ _ brace
+    ∙ rw inside (cond-true _ _ _ ends ∙ ap (λ w. Some (Inline w ps, d)) (whole_complete whole (symbol (0x7B ∷ []) ∷ pairs_parts ps) c d text s))
 
 -- values
 shallow : (v : Value) → depth v ≤ 0 → ⊥
 shallow (Scalar k p) l = omega arith
 shallow (Array whole is) l = omega arith
-shallow (Empty whole ws) l = omega arith
 shallow (Inline whole ps) l = omega arith
 
-scalar_reads : (k : ScalarKind) (p : Piece) (n : ℕ) (c d : Cursor) → IsToken k p.text → Spans (piece p ∷ []) c d → Closes d.rest → value_at (suc n) c ≡ Some (Scalar k p, d)
-scalar_reads k p n c d h s closes =
-    let first = scalar_first k p c d h s in
+scalar_reads : (k : ScalarKind) (t : Piece) (p : Profile) (n : ℕ) (c d : Cursor) → IsToken k t.text → Spans (piece t ∷ []) c d → Closes d.rest → value_at p (suc n) c ≡ Some (Scalar k t, d)
+scalar_reads k t p n c d h s closes =
+    let first = scalar_first k t c d h s in
     cond-false _ _ _ (begins_other is_scalar_start (is_byte 0x5B) c.rest scalar_no_array first)
     ∙ cond-false _ _ _ (begins_other is_scalar_start (is_byte 0x7B) c.rest scalar_no_inline first)
-    ∙ scalar_complete k p c d h s closes
+    ∙ scalar_complete k t c d h s closes
 
 mutual
-  pub value_complete : (v : Value) (n : ℕ) → IsValue v → depth v ≤ n → ReadsValue n v
-  value_complete v zero h l c d s closes = absurd (shallow v l)
-  value_complete (Scalar k p) (suc n) h l c d s closes = scalar_reads k p n c d h s closes
-  value_complete (Array whole is) (suc n) h l c d s closes = array_reads whole is n c d h.0 s (items_complete is n h.1 (omega arith))
-  value_complete (Empty whole ws) (suc n) h l c d s closes = empty_reads whole ws n c d h.0 h.1 s
-  value_complete (Inline whole ps) (suc n) h l c d s closes = inline_reads whole ps n c d h.0 h.1 s (pairs_complete ps n h.1 (omega arith))
+  pub value_complete : (v : Value) (p : Profile) (n : ℕ) → IsValue v → depth v ≤ n → IsValueOfProfile p v → ReadsValue p n v
+  value_complete v p zero h l plain c d s closes = absurd (shallow v l)
+  value_complete (Scalar k t) p (suc n) h l plain c d s closes = scalar_reads k t p n c d h s closes
+  value_complete (Array whole is) p (suc n) h l plain c d s closes = array_reads whole is p n c d h.0 s (items_complete is p n h.1 (omega arith) plain)
+  value_complete (Inline whole ps) p (suc n) h l plain c d s closes =
+      inline_reads whole ps p n c d h.0 s (may_end_so p ps (asked p (λ k. k.0) plain)) (pairs_complete ps p n h.1 (omega arith) (asked p (λ k. k.1) plain))
 
-  items_complete : (is : Items) (n : ℕ) → AreItems is → items_depth is ≤ n → ReadsItems n is
-  items_complete is n h l zero c d s f = absurd (omega arith)
-  items_complete (Close g) n h l (suc fuel) c d s f = rw (close_reads (value_at n) g c d h s) refl
-  items_complete (Last g v k) n h l (suc fuel) c d s f =
+  items_complete : (is : Items) (p : Profile) (n : ℕ) → AreItems is → items_depth is ≤ n → Asks p (ItemsHavePlainTables is) → ReadsItems p n is
+  items_complete is p n h l plain zero c d s f = absurd (omega arith)
+  items_complete (Close g) p n h l plain (suc fuel) c d s f = rw (close_reads (value_at p n) g c d h s) refl
+  items_complete (Last g v k) p n h l plain (suc fuel) c d s f =
       let e : Element = record { before = g; value = v; after = k } in
-      let r = element_reads n e 0x5D [] c d h.0 h.1 h.2 (value_complete v n h.1 l) refl array_closes s in
-      rw (element_last (value_at n) e c d r) refl
-  items_complete (More g v k is) n h l (suc fuel) c d s f =
+      let r = element_reads p n e 0x5D [] c d h.0 h.1 h.2 (value_complete v p n h.1 l plain) refl array_closes s in
+      rw (element_last (value_at p n) e c d r) refl
+  items_complete (More g v k is) p n h l plain (suc fuel) c d s f =
       let e : Element = record { before = g; value = v; after = k } in
-      let r = element_reads n e 0x2C (items_parts is) c d h.0 h.1 h.2 (value_complete v n h.1 (omega arith)) refl comma_closes s in
-      rw (element_next (value_at n) e (items_parts is) c d r, items_complete is n h.3 (omega arith) fuel r.behind d r.rest (omega (arith, r.shorter))) refl
+      let r = element_reads p n e 0x2C (items_parts is) c d h.0 h.1 h.2 (value_complete v p n h.1 (omega arith) (asked p (λ q. q.0) plain)) refl comma_closes s in
+      rw (element_next (value_at p n) e (items_parts is) c d r, items_complete is p n h.3 (omega arith) (asked p (λ q. q.1) plain) fuel r.behind d r.rest (omega (arith, r.shorter))) refl
 
-  pairs_complete : (ps : Pairs) (n : ℕ) → ArePairs ps → pairs_depth ps ≤ n → ReadsPairs n ps
-  pairs_complete ps n h l zero c d s f = absurd (omega arith)
-  pairs_complete (LastPair ws a v after) n h l (suc fuel) c d s f =
-      let r = member_reads n (member ws a v after) 0x7D [] c d h.0 h.1 h.2 h.3 (value_complete v n h.2 l) refl inline_closes s in
-      rw (member_last (value_at n) (member ws a v after) c d r) refl
-  pairs_complete (MorePairs ws a v after ps) n h l (suc fuel) c d s f =
-      let r = member_reads n (member ws a v after) 0x2C (pairs_parts ps) c d h.0 h.1 h.2 h.3 (value_complete v n h.2 (omega arith)) refl comma_closes s in
-      rw (member_next (value_at n) (member ws a v after) (pairs_parts ps) c d r, pairs_complete ps n h.4 (omega arith) fuel r.behind d r.rest (omega (arith, r.shorter))) refl
+  pairs_complete : (ps : Pairs) (p : Profile) (n : ℕ) → ArePairs ps → pairs_depth ps ≤ n → Asks p (ArePlainPairs ps) → ReadsPairs p n ps
+  pairs_complete ps p n h l plain zero c d s f = absurd (omega arith)
+  pairs_complete (ClosePairs g) p n h l plain (suc fuel) c d s f = rw (pairs_close p (value_at p n) g c d h plain s) refl
+  pairs_complete (LastPair g a v k) p n h l plain (suc fuel) c d s f =
+      let m = member g a v k in
+      let known : Known p n m = record { before = h.0; assigns = h.1; is_value = h.2; after = h.3; plain_before = asked p (λ q. q.0) plain; plain_after = asked p (λ q. q.2) plain; reads = value_complete v p n h.2 l (asked p (λ q. q.1) plain) } in
+      rw (member_last p (value_at p n) m c d (member_reads p n m 0x7D [] c d known refl inline_closes s)) refl
+  pairs_complete (MorePairs g a v k ps) p n h l plain (suc fuel) c d s f =
+      let m = member g a v k in
+      let known : Known p n m = record { before = h.0; assigns = h.1; is_value = h.2; after = h.3; plain_before = asked p (λ q. q.0) plain; plain_after = asked p (λ q. q.2) plain; reads = value_complete v p n h.2 (omega arith) (asked p (λ q. q.1) plain) } in
+      let r = member_reads p n m 0x2C (pairs_parts ps) c d known refl comma_closes s in
+      rw (member_next p (value_at p n) m (pairs_parts ps) c d r, pairs_complete ps p n h.4 (omega arith) (asked p (λ q. q.3) plain) fuel r.behind d r.rest (omega (arith, r.shorter))) refl
 
-pub keyval_complete : (k : KeyVal) (n : ℕ) (c d : Cursor) → IsAssign k.assign → IsValue k.value → depth k.value ≤ n → Spans (keyval_parts k) c d → Closes d.rest → keyval_at (value_at n) c ≡ Some (k, d)
-keyval_complete k n c d assigns is_value l s closes =
+pub keyval_complete : (k : KeyVal) (p : Profile) (n : ℕ) (c d : Cursor) → IsAssign k.assign → IsValue k.value → depth k.value ≤ n → IsValueOfProfile p k.value → Spans (keyval_parts k) c d → Closes d.rest → keyval_at (value_at p n) c ≡ Some (k, d)
+keyval_complete k p n c d assigns is_value l plain s closes =
     let i = spans_split (assign_parts k.assign) (value_parts k.value) c d s in
-    keyval_reads k n c i.0 d assigns is_value (value_complete k.value n is_value l) i.1 i.2 closes
+    keyval_reads k p n c i.0 d assigns is_value (value_complete k.value p n is_value l plain) i.1 i.2 closes
 
 pub keyval_first : (k : KeyVal) (c d : Cursor) → IsAssign k.assign → Spans (keyval_parts k) c d → begins is_key_start c.rest ≡ true
 keyval_first k c d assigns s =

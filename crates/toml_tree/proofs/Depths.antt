@@ -12,21 +12,20 @@ item_depth v (More g w k is) (inl h) = omega (arith, ap depth h)
 item_depth v (More g w k is) (inr h) = omega (arith, item_depth v is h)
 
 pair_depth : (v : Value) (ps : Pairs) → IsPairOf v ps → depth v ≤ pairs_depth ps
-pair_depth v (LastPair ws a w k) h = omega (arith, ap depth h)
-pair_depth v (MorePairs ws a w k ps) (inl h) = omega (arith, ap depth h)
-pair_depth v (MorePairs ws a w k ps) (inr h) = omega (arith, pair_depth v ps h)
+pair_depth v (ClosePairs g) h = absurd h
+pair_depth v (LastPair g a w k) h = omega (arith, ap depth h)
+pair_depth v (MorePairs g a w k ps) (inl h) = omega (arith, ap depth h)
+pair_depth v (MorePairs g a w k ps) (inr h) = omega (arith, pair_depth v ps h)
 
 -- what stands in a value is less deep
 in_depth : (v w : Value) → IsIn v w → depth v < depth w
 in_depth v (Scalar kind p) h = absurd h
 in_depth v (Array whole is) h = omega (arith, item_depth v is h)
-in_depth v (Empty whole ws) h = absurd h
 in_depth v (Inline whole ps) h = omega (arith, pair_depth v ps h)
 
 depth_some : (v : Value) → 1 ≤ depth v
 depth_some (Scalar kind p) = omega arith
 depth_some (Array whole is) = omega arith
-depth_some (Empty whole ws) = omega arith
 depth_some (Inline whole ps) = omega arith
 
 nests_depth : (n : ℕ) (v : Value) → Nests n v → n ≤ depth v
@@ -45,13 +44,13 @@ deep_item (Last g v k) n h = (v, refl, h)
 deep_item (More g v k is) n h = ⊎_elim (λ (l : suc n ≤ depth v). (v, inl refl, l)) (λ (l : suc n ≤ items_depth is). let d = deep_item is n l in (d.0, inr d.1, d.2)) (one_of_two (suc n) (depth v) (items_depth is) h)
 
 deep_pair : (ps : Pairs) (n : ℕ) → suc n ≤ pairs_depth ps → (v : Value) × IsPairOf v ps × (suc n ≤ depth v)
-deep_pair (LastPair ws a v k) n h = (v, refl, h)
-deep_pair (MorePairs ws a v k ps) n h = ⊎_elim (λ (l : suc n ≤ depth v). (v, inl refl, l)) (λ (l : suc n ≤ pairs_depth ps). let d = deep_pair ps n l in (d.0, inr d.1, d.2)) (one_of_two (suc n) (depth v) (pairs_depth ps) h)
+deep_pair (ClosePairs g) n h = absurd (omega arith)
+deep_pair (LastPair g a v k) n h = (v, refl, h)
+deep_pair (MorePairs g a v k ps) n h = ⊎_elim (λ (l : suc n ≤ depth v). (v, inl refl, l)) (λ (l : suc n ≤ pairs_depth ps). let d = deep_pair ps n l in (d.0, inr d.1, d.2)) (one_of_two (suc n) (depth v) (pairs_depth ps) h)
 
 deep_inside : (v : Value) (n : ℕ) → suc (suc n) ≤ depth v → (w : Value) × IsIn w v × (suc n ≤ depth w)
 deep_inside (Scalar kind p) n h = absurd (omega arith)
 deep_inside (Array whole is) n h = deep_item is n (omega arith)
-deep_inside (Empty whole ws) n h = absurd (omega arith)
 deep_inside (Inline whole ps) n h = deep_pair ps n (omega arith)
 
 depth_nests : (n : ℕ) (v : Value) → n ≤ depth v → Nests n v

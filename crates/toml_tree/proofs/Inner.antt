@@ -24,13 +24,11 @@ token_byte kind (b ∷ bs) h = omega arith
 pub value_byte : ValueHasByte
 value_byte (Scalar kind p) h = token_byte kind p.text h
 value_byte (Array whole items) h = omega (arith, ap length h.0)
-value_byte (Empty whole ws) h = omega (arith, ap length h.0)
 value_byte (Inline whole pairs) h = omega (arith, ap length h.0)
 
 pub value_start : ValueStartsThere
 value_start (Scalar kind p) at h = h.0
 value_start (Array whole items) at h = h.0
-value_start (Empty whole ws) at h = h.0
 value_start (Inline whole pairs) at h = h.0
 
 pub keyval_start : KeyValStartsThere
@@ -101,37 +99,42 @@ first k a v more at form placed h =
     subst KeyValSpellsItself (sym h) (keyval_itself (record { assign = a; value = v }) at form (placed_both (assign_parts a) (value_parts v) at front back))
 
 pair_itself : (k : KeyVal) (pairs : Pairs) (at : ℕ) → ArePairs pairs → pairs_depth pairs ≤ max_depth → Placed at (pairs_parts pairs) → IsKeyValOf k pairs → KeyValSpellsItself k
-pair_itself k (LastPair ws a v after) at form shallow placed h = first k a v (piece after ∷ symbol (0x7D ∷ []) ∷ []) (at + length ws.text) (form.1, form.2, shallow) placed.1 h
-pair_itself k (MorePairs ws a v after ps) at form shallow placed (inl h) =
+pair_itself k (ClosePairs g) at form shallow placed h = absurd h
+pair_itself k (LastPair g a v j) at form shallow placed h =
+    let more : List Part = gap_parts j ++ symbol (0x7D ∷ []) ∷ [] in
+    first k a v more (at + size (gap_parts g)) (form.1, form.2, shallow) (placed_back (gap_parts g) (assign_parts a ++ (value_parts v ++ more)) at placed) h
+pair_itself k (MorePairs g a v j ps) at form shallow placed (inl h) =
+    let more : List Part = gap_parts j ++ symbol (0x2C ∷ []) ∷ pairs_parts ps in
     let low : depth v ≤ max_depth = omega arith in
-    first k a v (piece after ∷ symbol (0x2C ∷ []) ∷ pairs_parts ps) (at + length ws.text) (form.1, form.2, low) placed.1 h
-pair_itself k (MorePairs ws a v after ps) at form shallow placed (inr h) =
-    let key = at + length ws.text in
-    let more : List Part = piece after ∷ symbol (0x2C ∷ []) ∷ pairs_parts ps in
+    first k a v more (at + size (gap_parts g)) (form.1, form.2, low) (placed_back (gap_parts g) (assign_parts a ++ (value_parts v ++ more)) at placed) h
+pair_itself k (MorePairs g a v j ps) at form shallow placed (inr h) =
+    let key = at + size (gap_parts g) in
+    let val = key + size (assign_parts a) in
+    let more : List Part = gap_parts j ++ symbol (0x2C ∷ []) ∷ pairs_parts ps in
     let low : pairs_depth ps ≤ max_depth = omega arith in
-    let behind = placed_back (value_parts v) more (key + size (assign_parts a)) (placed_back (assign_parts a) (value_parts v ++ more) key placed.1) in
-    pair_itself k ps _ form.4 low behind.1.1 h
+    let pair = placed_back (gap_parts g) (assign_parts a ++ (value_parts v ++ more)) at placed in
+    let gap = placed_back (value_parts v) more val (placed_back (assign_parts a) (value_parts v ++ more) key pair) in
+    pair_itself k ps _ form.4 low (placed_back (gap_parts j) (symbol (0x2C ∷ []) ∷ pairs_parts ps) (val + size (value_parts v)) gap).1 h
 
 pub keyvals_inside : KeyValsInside
 keyvals_inside (Scalar kind p) k at text h is = absurd is
 keyvals_inside (Array whole items) k at text h is = absurd is
-keyvals_inside (Empty whole ws) k at text h is = absurd is
 keyvals_inside (Inline whole pairs) k at text h is =
     let low : pairs_depth pairs ≤ max_depth = omega (arith, h.shallow) in
     pair_itself k pairs _ h.form.1 low h.placed.1.1 is
 
 -- a value in an inline table is that of a pair
 has_keyval : (w : Value) (pairs : Pairs) → IsPairOf w pairs → (k : KeyVal) × IsKeyValOf k pairs × (w ≡ k.value)
-has_keyval w (LastPair ws a v after) h = (record { assign = a; value = v }, refl, h)
-has_keyval w (MorePairs ws a v after ps) (inl h) = (record { assign = a; value = v }, inl refl, h)
-has_keyval w (MorePairs ws a v after ps) (inr h) = let r = has_keyval w ps h in (r.0, inr r.1, r.2)
+has_keyval w (ClosePairs g) h = absurd h
+has_keyval w (LastPair g a v j) h = (record { assign = a; value = v }, refl, h)
+has_keyval w (MorePairs g a v j ps) (inl h) = (record { assign = a; value = v }, inl refl, h)
+has_keyval w (MorePairs g a v j ps) (inr h) = let r = has_keyval w ps h in (r.0, inr r.1, r.2)
 
 pub values_inside : ValuesInside
 values_inside (Scalar kind p) w at text h is = absurd is
 values_inside (Array whole items) w at text h is =
     let low : items_depth items ≤ max_depth = omega (arith, h.shallow) in
     item_itself w items _ h.form.1 low h.placed.1.1 is
-values_inside (Empty whole ws) w at text h is = absurd is
 values_inside (Inline whole pairs) w at text h is =
     let r = has_keyval w pairs is in
     subst SpellsItself (sym r.2) (value_of_keyval r.0 _ _ (keyvals_inside (Inline whole pairs) r.0 at text h r.1))

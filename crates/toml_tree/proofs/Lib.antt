@@ -1,6 +1,7 @@
 pub mod Many
 pub mod Spans
 pub mod Sound
+pub mod Profiled
 pub mod SoundValues
 pub mod SoundLines
 pub mod Complete

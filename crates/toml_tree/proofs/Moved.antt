@@ -67,7 +67,6 @@ module _ (n : ℕ) where
     pub value_moved : (v : Value) → value_parts (moved n v) ≡ moved_parts (value_parts v)
     value_moved (Scalar kind p) = refl
     value_moved (Array whole items) = ap (λ ps. begin (moved_piece n whole) ∷ symbol (0x5B ∷ []) ∷ ps) (items_moved items)
-    value_moved (Empty whole ws) = refl
     value_moved (Inline whole pairs) = ap (λ ps. begin (moved_piece n whole) ∷ symbol (0x7B ∷ []) ∷ ps) (pairs_moved pairs)
 
     pub items_moved : (items : Items) → items_parts (moved_items n items) ≡ moved_parts (items_parts items)
@@ -82,15 +81,17 @@ module _ (n : ℕ) where
         (both _ _ (gap_parts h) (symbol (0x2C ∷ []) ∷ items_parts is) (gap_moved h) (ap (λ ps. symbol (0x2C ∷ []) ∷ ps) (items_moved is))))
 
     pub pairs_moved : (pairs : Pairs) → pairs_parts (moved_pairs n pairs) ≡ moved_parts (pairs_parts pairs)
-    pairs_moved (LastPair ws a v after) =
-        ap (λ ps. piece (moved_piece n ws) ∷ ps)
-        (both _ _ (assign_parts a) (value_parts v ++ (piece after ∷ symbol (0x7D ∷ []) ∷ [])) (assign_moved a)
-        (both _ _ (value_parts v) (piece after ∷ symbol (0x7D ∷ []) ∷ []) (value_moved v) refl))
-    pairs_moved (MorePairs ws a v after ps) =
-        ap (λ qs. piece (moved_piece n ws) ∷ qs)
-        (both _ _ (assign_parts a) (value_parts v ++ (piece after ∷ symbol (0x2C ∷ []) ∷ pairs_parts ps)) (assign_moved a)
-        (both _ _ (value_parts v) (piece after ∷ symbol (0x2C ∷ []) ∷ pairs_parts ps) (value_moved v)
-        (ap (λ qs. piece (moved_piece n after) ∷ symbol (0x2C ∷ []) ∷ qs) (pairs_moved ps))))
+    pairs_moved (ClosePairs g) = both _ _ (gap_parts g) (symbol (0x7D ∷ []) ∷ []) (gap_moved g) refl
+    pairs_moved (LastPair g a v h) =
+        both _ _ (gap_parts g) (assign_parts a ++ (value_parts v ++ (gap_parts h ++ symbol (0x7D ∷ []) ∷ []))) (gap_moved g)
+        (both _ _ (assign_parts a) (value_parts v ++ (gap_parts h ++ symbol (0x7D ∷ []) ∷ [])) (assign_moved a)
+        (both _ _ (value_parts v) (gap_parts h ++ symbol (0x7D ∷ []) ∷ []) (value_moved v)
+        (both _ _ (gap_parts h) (symbol (0x7D ∷ []) ∷ []) (gap_moved h) refl)))
+    pairs_moved (MorePairs g a v h ps) =
+        both _ _ (gap_parts g) (assign_parts a ++ (value_parts v ++ (gap_parts h ++ symbol (0x2C ∷ []) ∷ pairs_parts ps))) (gap_moved g)
+        (both _ _ (assign_parts a) (value_parts v ++ (gap_parts h ++ symbol (0x2C ∷ []) ∷ pairs_parts ps)) (assign_moved a)
+        (both _ _ (value_parts v) (gap_parts h ++ symbol (0x2C ∷ []) ∷ pairs_parts ps) (value_moved v)
+        (both _ _ (gap_parts h) (symbol (0x2C ∷ []) ∷ pairs_parts ps) (gap_moved h) (ap (λ qs. symbol (0x2C ∷ []) ∷ qs) (pairs_moved ps)))))
 
   pub keyval_moved : (k : KeyVal) → keyval_parts (moved_keyval n k) ≡ moved_parts (keyval_parts k)
   keyval_moved k = both _ _ (assign_parts k.assign) (value_parts k.value) (assign_moved k.assign) (value_moved k.value)
@@ -140,7 +141,6 @@ module _ (n : ℕ) where
     value_form : (v : Value) → IsValue v → IsValue (moved n v)
     value_form (Scalar kind p) h = h
     value_form (Array whole items) h = (h.0 ∙ ap (λ bs. 0x5B ∷ bs) (sym (ap joined (items_moved items) ∙ joined_same (items_parts items))), items_form items h.1)
-    value_form (Empty whole ws) h = h
     value_form (Inline whole pairs) h = (h.0 ∙ ap (λ bs. 0x7B ∷ bs) (sym (ap joined (pairs_moved pairs) ∙ joined_same (pairs_parts pairs))), pairs_form pairs h.1)
 
     items_form : (items : Items) → AreItems items → AreItems (moved_items n items)
@@ -149,14 +149,14 @@ module _ (n : ℕ) where
     items_form (More g v k is) h = (gap_form g h.0, value_form v h.1, gap_form k h.2, items_form is h.3)
 
     pairs_form : (pairs : Pairs) → ArePairs pairs → ArePairs (moved_pairs n pairs)
-    pairs_form (LastPair ws a v after) h = (h.0, assign_form a h.1, value_form v h.2, h.3)
-    pairs_form (MorePairs ws a v after ps) h = (h.0, assign_form a h.1, value_form v h.2, h.3, pairs_form ps h.4)
+    pairs_form (ClosePairs g) h = gap_form g h
+    pairs_form (LastPair g a v k) h = (gap_form g h.0, assign_form a h.1, value_form v h.2, gap_form k h.3)
+    pairs_form (MorePairs g a v k ps) h = (gap_form g h.0, assign_form a h.1, value_form v h.2, gap_form k h.3, pairs_form ps h.4)
 
   mutual
     pub depth_same : (v : Value) → depth (moved n v) ≡ depth v
     depth_same (Scalar kind p) = refl
     depth_same (Array whole items) = ap (λ k. k + 1) (items_depth_same items)
-    depth_same (Empty whole ws) = refl
     depth_same (Inline whole pairs) = ap (λ k. k + 1) (pairs_depth_same pairs)
 
     items_depth_same : (items : Items) → items_depth (moved_items n items) ≡ items_depth items
@@ -165,8 +165,9 @@ module _ (n : ℕ) where
     items_depth_same (More g v h is) = λ i. max (depth_same v i) (items_depth_same is i)
 
     pairs_depth_same : (pairs : Pairs) → pairs_depth (moved_pairs n pairs) ≡ pairs_depth pairs
-    pairs_depth_same (LastPair ws a v after) = depth_same v
-    pairs_depth_same (MorePairs ws a v after ps) = λ i. max (depth_same v i) (pairs_depth_same ps i)
+    pairs_depth_same (ClosePairs g) = refl
+    pairs_depth_same (LastPair g a v h) = depth_same v
+    pairs_depth_same (MorePairs g a v h ps) = λ i. max (depth_same v i) (pairs_depth_same ps i)
 
   keyval_form : (k : KeyVal) → IsKeyVal k → IsKeyVal (moved_keyval n k)
   keyval_form k h = (assign_form k.assign h.0, value_form k.value h.1, rw (depth_same k.value) h.2)

@@ -46,7 +46,6 @@ module _ (n : ℕ) where
     value_back : (v : Value) → IsValue (moved n v) → IsValue v
     value_back (Scalar kind p) h = h
     value_back (Array whole items) h = (h.0 ∙ ap (λ bs. 0x5B ∷ bs) (ap joined (items_moved n items) ∙ joined_same n (items_parts items)), items_back items h.1)
-    value_back (Empty whole ws) h = h
     value_back (Inline whole pairs) h = (h.0 ∙ ap (λ bs. 0x7B ∷ bs) (ap joined (pairs_moved n pairs) ∙ joined_same n (pairs_parts pairs)), pairs_back pairs h.1)
 
     items_back : (items : Items) → AreItems (moved_items n items) → AreItems items
@@ -55,8 +54,9 @@ module _ (n : ℕ) where
     items_back (More g v k is) h = (gap_back g h.0, value_back v h.1, gap_back k h.2, items_back is h.3)
 
     pairs_back : (pairs : Pairs) → ArePairs (moved_pairs n pairs) → ArePairs pairs
-    pairs_back (LastPair ws a v after) h = (h.0, assign_back a h.1, value_back v h.2, h.3)
-    pairs_back (MorePairs ws a v after ps) h = (h.0, assign_back a h.1, value_back v h.2, h.3, pairs_back ps h.4)
+    pairs_back (ClosePairs g) h = gap_back g h
+    pairs_back (LastPair g a v k) h = (gap_back g h.0, assign_back a h.1, value_back v h.2, gap_back k h.3)
+    pairs_back (MorePairs g a v k ps) h = (gap_back g h.0, assign_back a h.1, value_back v h.2, gap_back k h.3, pairs_back ps h.4)
 
   shallow_back : (v : Value) → depth (moved n v) ≤ max_depth → depth v ≤ max_depth
   shallow_back v h = subst (λ d. d ≤ max_depth) (depth_same n v) h

@@ -32,7 +32,6 @@ mutual
   value_formed (Scalar kind p) at is = is
   value_formed (Array whole items) at is =
       (is.0 ∙ ap (λ r. 0x5B ∷ r) (sym (same_text items_parts bare_items bare_items_text (put_items (at + 1) items) items (items_same items (at + 1)))), items_formed items (at + 1) is.1)
-  value_formed (Empty whole ws) at is = is
   value_formed (Inline whole pairs) at is =
       (is.0 ∙ ap (λ r. 0x7B ∷ r) (sym (same_text pairs_parts bare_pairs bare_pairs_text (put_pairs (at + 1) pairs) pairs (pairs_same pairs (at + 1)))), pairs_formed pairs (at + 1) is.1)
 
@@ -45,16 +44,21 @@ mutual
       (gap_formed at g is.0, value_formed v a is.1, gap_formed b h is.2, items_formed more (behind b (gap_parts h) + 1) is.3)
 
   pub pairs_formed : (pairs : Pairs) (at : ℕ) → ArePairs pairs → ArePairs (put_pairs at pairs)
-  pairs_formed (LastPair ws a v after) at is = let key = at + length ws.text in (is.0, assign_formed key a is.1, value_formed v (behind key (assign_parts a)) is.2, is.3)
-  pairs_formed (MorePairs ws a v after ps) at is =
-      let key = at + length ws.text in
-      (is.0, assign_formed key a is.1, value_formed v (behind key (assign_parts a)) is.2, is.3, pairs_formed ps (behind (behind key (assign_parts a)) (value_parts v) + length after.text + 1) is.4)
+  pairs_formed (ClosePairs g) at is = gap_formed at g is
+  pairs_formed (LastPair g a v h) at is =
+      let key = behind at (gap_parts g) in
+      let val = behind key (assign_parts a) in
+      (gap_formed at g is.0, assign_formed key a is.1, value_formed v val is.2, gap_formed (behind val (value_parts v)) h is.3)
+  pairs_formed (MorePairs g a v h ps) at is =
+      let key = behind at (gap_parts g) in
+      let val = behind key (assign_parts a) in
+      let b = behind val (value_parts v) in
+      (gap_formed at g is.0, assign_formed key a is.1, value_formed v val is.2, gap_formed b h is.3, pairs_formed ps (behind b (gap_parts h) + 1) is.4)
 
 mutual
   pub same_depth : (v : Value) (at : ℕ) → depth (put_value at v) ≡ depth v
   same_depth (Scalar kind p) at = refl
   same_depth (Array whole items) at = ap (λ d. d + 1) (items_depth_same items (at + 1))
-  same_depth (Empty whole ws) at = refl
   same_depth (Inline whole pairs) at = ap (λ d. d + 1) (pairs_depth_same pairs (at + 1))
 
   pub items_depth_same : (items : Items) (at : ℕ) → items_depth (put_items at items) ≡ items_depth items
@@ -63,9 +67,10 @@ mutual
   items_depth_same (More g v h is) at = let a = behind at (gap_parts g) in ap₂ max (same_depth v a) (items_depth_same is (behind (behind a (value_parts v)) (gap_parts h) + 1))
 
   pub pairs_depth_same : (pairs : Pairs) (at : ℕ) → pairs_depth (put_pairs at pairs) ≡ pairs_depth pairs
-  pairs_depth_same (LastPair ws a v after) at = same_depth v (behind (at + length ws.text) (assign_parts a))
-  pairs_depth_same (MorePairs ws a v after ps) at =
-      let val = behind (at + length ws.text) (assign_parts a) in ap₂ max (same_depth v val) (pairs_depth_same ps (behind val (value_parts v) + length after.text + 1))
+  pairs_depth_same (ClosePairs g) at = refl
+  pairs_depth_same (LastPair g a v h) at = same_depth v (behind (behind at (gap_parts g)) (assign_parts a))
+  pairs_depth_same (MorePairs g a v h ps) at =
+      let val = behind (behind at (gap_parts g)) (assign_parts a) in ap₂ max (same_depth v val) (pairs_depth_same ps (behind (behind val (value_parts v)) (gap_parts h) + 1))
 
 pub expr_formed : (at : ℕ) (e : Expr) → IsExpr e → IsExpr (put_expr at e)
 expr_formed at (BlankLine b) is = blank_formed at b is

@@ -64,7 +64,6 @@ mutual
   pub value_placed : (v : Value) (at : ℕ) → Placed at (value_parts (put_value at v))
   value_placed (Scalar kind p) at = (refl, tt)
   value_placed (Array whole items) at = let e : at + 1 ≡ at + 0 + 1 = omega arith in (refl, (tt, subst (λ a. Placed a (items_parts (put_items (at + 1) items))) e (items_placed items (at + 1))))
-  value_placed (Empty whole ws) at = let e : at + 1 ≡ at + 0 + 1 = omega arith in (refl, (tt, (e, (tt, tt))))
   value_placed (Inline whole pairs) at = let e : at + 1 ≡ at + 0 + 1 = omega arith in (refl, (tt, subst (λ a. Placed a (pairs_parts (put_pairs (at + 1) pairs))) e (pairs_placed pairs (at + 1))))
 
   pub items_placed : (items : Items) (at : ℕ) → Placed at (items_parts (put_items at items))
@@ -83,20 +82,23 @@ mutual
       (joins b (gap_parts (put_gap b h)) (gap_parts h) _ (gap_reads b h) (gap_placed b h) (tt, items_placed is (behind b (gap_parts h) + 1))))
 
   pub pairs_placed : (pairs : Pairs) (at : ℕ) → Placed at (pairs_parts (put_pairs at pairs))
-  pairs_placed (LastPair ws a v after) at =
-      let key = at + length ws.text in
-      let val = behind key (assign_parts a) in (
-        refl,
-        joins key (assign_parts (put_assign key a)) (assign_parts a) _ (assign_reads key a) (assign_placed key a)
-            (joins val (value_parts (put_value val v)) (value_parts v) _ (value_reads val v) (value_placed v val) (refl, (tt, tt))),
-      )
-  pairs_placed (MorePairs ws a v after ps) at =
-      let key = at + length ws.text in
-      let val = behind key (assign_parts a) in (
-        refl,
-        joins key (assign_parts (put_assign key a)) (assign_parts a) _ (assign_reads key a) (assign_placed key a)
-            (joins val (value_parts (put_value val v)) (value_parts v) _ (value_reads val v) (value_placed v val) (refl, (tt, pairs_placed ps (behind val (value_parts v) + length after.text + 1)))),
-      )
+  pairs_placed (ClosePairs g) at = joins at (gap_parts (put_gap at g)) (gap_parts g) _ (gap_reads at g) (gap_placed at g) (tt, tt)
+  pairs_placed (LastPair g a v h) at =
+      let key = behind at (gap_parts g) in
+      let val = behind key (assign_parts a) in
+      let b = behind val (value_parts v) in
+      joins at (gap_parts (put_gap at g)) (gap_parts g) _ (gap_reads at g) (gap_placed at g)
+      (joins key (assign_parts (put_assign key a)) (assign_parts a) _ (assign_reads key a) (assign_placed key a)
+      (joins val (value_parts (put_value val v)) (value_parts v) _ (value_reads val v) (value_placed v val)
+      (joins b (gap_parts (put_gap b h)) (gap_parts h) _ (gap_reads b h) (gap_placed b h) (tt, tt))))
+  pairs_placed (MorePairs g a v h ps) at =
+      let key = behind at (gap_parts g) in
+      let val = behind key (assign_parts a) in
+      let b = behind val (value_parts v) in
+      joins at (gap_parts (put_gap at g)) (gap_parts g) _ (gap_reads at g) (gap_placed at g)
+      (joins key (assign_parts (put_assign key a)) (assign_parts a) _ (assign_reads key a) (assign_placed key a)
+      (joins val (value_parts (put_value val v)) (value_parts v) _ (value_reads val v) (value_placed v val)
+      (joins b (gap_parts (put_gap b h)) (gap_parts h) _ (gap_reads b h) (gap_placed b h) (tt, pairs_placed ps (behind b (gap_parts h) + 1)))))
 
 pub header_placed : (at : ℕ) (h : Header) → Placed at (header_parts (put_header at h))
 header_placed at h =

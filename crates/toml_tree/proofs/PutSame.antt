@@ -32,7 +32,6 @@ mutual
   pub put_value_same : PutValueIsSame
   put_value_same (Scalar kind p) at = refl
   put_value_same (Array whole items) at = ap (Array (bare whole)) (items_same items (at + 1))
-  put_value_same (Empty whole ws) at = refl
   put_value_same (Inline whole pairs) at = ap (Inline (bare whole)) (pairs_same pairs (at + 1))
 
   pub items_same : (items : Items) (at : ℕ) → bare_items (put_items at items) ≡ bare_items items
@@ -49,14 +48,20 @@ mutual
       ∙ ap (More (bare_gap g) (bare_value v) (bare_gap h)) (items_same is (behind b (gap_parts h) + 1))
 
   pub pairs_same : (pairs : Pairs) (at : ℕ) → bare_pairs (put_pairs at pairs) ≡ bare_pairs pairs
-  pairs_same (LastPair ws a v after) at =
-      let key = at + length ws.text in
-      ap₂ (λ x y. LastPair (bare ws) x y (bare after)) (assign_same key a) (put_value_same v (behind key (assign_parts a)))
-  pairs_same (MorePairs ws a v after ps) at =
-      let key = at + length ws.text in
-      let more = behind (behind key (assign_parts a)) (value_parts v) + length after.text + 1 in
-      ap₂ (λ x y. MorePairs (bare ws) x y (bare after) (bare_pairs (put_pairs more ps))) (assign_same key a) (put_value_same v (behind key (assign_parts a)))
-      ∙ ap (MorePairs (bare ws) (bare_assign a) (bare_value v) (bare after)) (pairs_same ps more)
+  pairs_same (ClosePairs g) at = ap ClosePairs (gap_same at g)
+  pairs_same (LastPair g a v h) at =
+      let key = behind at (gap_parts g) in
+      let val = behind key (assign_parts a) in
+      ap₂ (λ x y. LastPair x y (bare_value (put_value val v)) (bare_gap (put_gap (behind val (value_parts v)) h))) (gap_same at g) (assign_same key a)
+      ∙ ap₂ (λ x y. LastPair (bare_gap g) (bare_assign a) x y) (put_value_same v val) (gap_same (behind val (value_parts v)) h)
+  pairs_same (MorePairs g a v h ps) at =
+      let key = behind at (gap_parts g) in
+      let val = behind key (assign_parts a) in
+      let gap = behind val (value_parts v) in
+      let more = behind gap (gap_parts h) + 1 in
+      ap₂ (λ x y. MorePairs x y (bare_value (put_value val v)) (bare_gap (put_gap gap h)) (bare_pairs (put_pairs more ps))) (gap_same at g) (assign_same key a)
+      ∙ ap₂ (λ x y. MorePairs (bare_gap g) (bare_assign a) x y (bare_pairs (put_pairs more ps))) (put_value_same v val) (gap_same gap h)
+      ∙ ap (MorePairs (bare_gap g) (bare_assign a) (bare_value v) (bare_gap h)) (pairs_same ps more)
 
 pub header_same : (at : ℕ) (h : Header) → bare_header (put_header at h) ≡ bare_header h
 header_same at h = ap (λ (k : Key). record { before = bare h.before; key = k; after = bare h.after }) (key_same (at + 1 + length h.before.text) h.key)

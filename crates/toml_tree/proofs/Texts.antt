@@ -1,10 +1,9 @@
 -- Writing the parts of a tree one after the other.
-use Rattle.std.proofs.Common.{◌≡◌, ℕ, zero, suc, ◌+◌, ◌<◌, ◌≤◌, List, [], ◌∷◌, ◌++◌, length, get_or, map, take, drop, sym, ap, ◌∙◌, arith, append_assoc, add-one, drop-cons, refl, Option, Some, None}
+use Rattle.std.proofs.Common.{◌≡◌, ℕ, zero, suc, ◌+◌, ◌<◌, ◌≤◌, List, [], ◌∷◌, ◌++◌, length, get_or, map, take, drop, sym, ap, ◌∙◌, arith, append_assoc, add-one, drop-cons, refl}
 use Rattle.std.proofs.lemmas.List.{take-append-drop}
 use Rattle.toml_tree.specs.Pieces.{piece_of}
-use Rattle.toml_tree.specs.ReadingValues.{Member, inline}
 use Rattle.toml_tree.specs.Spells.{Part, part_text, joined, all_parts, value_parts, IsValue, mark_of, Spells, doc_parts}
-use Rattle.toml_tree.specs.Tree.{Piece, Value, Scalar, Array, Inline, Doc}
+use Rattle.toml_tree.specs.Tree.{Value, Scalar, Array, Inline, Doc}
 use Rattle.toml_tree.proofs.Marks.{mark_front}
 use Rattle.toml_tree.proofs.Many.{append-nil}
 
@@ -41,17 +40,10 @@ module _ {X A : Type 0} (g : X → A) (f : A → List Part) where
   pub text_all : (xs : List X) (i : ℕ) (out all : List ℕ) → length xs ≤ i → out ++ joined (all_parts f (map g (drop i xs))) ≡ all → out ≡ all
   text_all xs i out all le before = sym (append-nil out) ∙ ap (λ l. out ++ joined (all_parts f (map g l))) (sym (drop_past xs i le)) ∙ before
 
-pub piece_of_inline : (whole : Piece) (ms : List Member) (ws : Option Piece) → piece_of (inline whole ms ws) ≡ whole
-piece_of_inline whole [] None = refl
-piece_of_inline whole [] (Some ws) = refl
-piece_of_inline whole (m ∷ ms) None = refl
-piece_of_inline whole (m ∷ ms) (Some ws) = refl
-
 -- a value's piece has the text of its parts
 pub text_of_value : (v : Value) → IsValue v → (piece_of v).text ≡ joined (value_parts v)
 text_of_value (Scalar kind p) h = sym (append-nil p.text)
 text_of_value (Array whole items) h = h.0
-text_of_value (Empty whole ws) h = h.0
 text_of_value (Inline whole pairs) h = h.0
 
 -- the parts of a tree that spells a text are the text

@@ -85,11 +85,18 @@ after_member m c =
     if begins (is_byte 0x2C) c.rest then Some (Next m, ahead 1 c)
     else (if begins (is_byte 0x7D) c.rest then Some (Done (LastPair m.before m.pair.assign m.pair.value m.after), ahead 1 c) else None)
 
+-- a pair behind its first gap, and what stands behind it
+unfoldable pub pair_at : Profile → (Cursor → Option (Value × Cursor)) → Gap → Cursor → Option (Step Member Pairs × Cursor)
+pair_at profile value before c =
+    keyval_at value c >>= λ k.
+    pair_gap_at profile k.1 >>= λ h.
+    after_member (record { before = before; pair = k.0; after = h.0 }) h.1
+
 unfoldable pub pair_step : Profile → (Cursor → Option (Value × Cursor)) → Cursor → Option (Step Member Pairs × Cursor)
 pair_step profile value c =
     pair_gap_at profile c >>= λ g.
     if begins (is_byte 0x7D) g.1.rest then Some (Done (ClosePairs g.0), ahead 1 g.1)
-    else (keyval_at value g.1 >>= λ k. pair_gap_at profile k.1 >>= λ h. after_member (record { before = g.0; pair = k.0; after = h.0 }) h.1)
+    else pair_at profile value g.0 g.1
 
 unfoldable pub pairs_at : Profile → (Cursor → Option (Value × Cursor)) → Cursor → Option (Pairs × Cursor)
 pairs_at profile value c = all_of (pair_step profile value) c >>= λ r. Some (pairs_before_end r.0 r.1, r.2)

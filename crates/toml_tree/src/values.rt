@@ -1,9 +1,9 @@
 //! Values: scalars, arrays and inline tables, each nesting at most so deep.
 ghost use Rattle.std.specs.Prelude.{◌≡◌, map, IfOk};
 ghost use Rattle.toml_scalar.specs.Faults.{IsAt};
-ghost use Rattle.toml_tree.specs.ReadingValues.{scalar_at, item_step, after_element, items_at, array_at, keyval_at, pair_step, after_member, pairs_at, may_end, inline_at, value_at};
+ghost use Rattle.toml_tree.specs.ReadingValues.{scalar_at, item_step, after_element, items_at, array_at, keyval_at, pair_step, pair_at, after_member, pairs_at, may_end, inline_at, value_at};
 ghost use Rattle.toml_tree.specs.Reads.{cursor, Moves, Reads, step};
-ghost use Rattle.toml_tree.specs.View.{value, element, array_items, array_end, keyval, member, table_pairs, table_end, Ended};
+ghost use Rattle.toml_tree.specs.View.{value, gap, element, array_items, array_end, keyval, member, table_pairs, table_end, Ended};
 
 use crate::piece::Gap;
 use crate::profile::Profile;
@@ -41,7 +41,10 @@ fn may_end(profile: Profile, pairs: &[Pair<'_>], end: &Option<Gap<'_>>) -> bool
     ensures { result ≡ may_end profile (table_pairs (map member pairs.now) end.now) }
 {
     match profile {
-        Profile::One => pairs.is_empty() || end.is_none(),
+        Profile::One => match end {
+            Some(_) => pairs.is_empty(),
+            None => true,
+        },
         Profile::Two => true,
     }
 }
@@ -230,6 +233,22 @@ impl<'t> Reader<'t> {
         if self.eat(b'}') {
             return Ok(Step::Done(End::Gap(before)));
         }
+        self.pair(alloc, deep, profile, before)
+    }
+
+    /// A pair behind its first gap, and the comma behind it or the end of its inline table.
+    #[cycle(value)]
+    #[tactic(auto, unfolding(crate::specs::ReadingValues::pair_at))]
+    fn pair(
+        &mut self,
+        alloc: Global,
+        deep: usize,
+        profile: Profile,
+        before: Gap<'t>,
+    ) -> Result<Step<Pair<'t>, End<'t, Pair<'t>>>, SyntaxFault>
+        ensures reads { Reads (step member table_end) (cursor self.old) (cursor self.new) result (pair_at profile (value_at profile deep) (gap before.entry) (cursor self.old)) }
+        ensures moves { IfOk result (Moves (cursor self.old) (cursor self.new)) }
+    {
         let keyval = self.keyval(alloc, deep, profile)?;
         let after = self.pair_gap(alloc, profile)?;
         self.after_pair(Pair {

@@ -3,7 +3,7 @@ use Rattle.std.proofs.Math.Logic.{∥∥₁_elim}
 use Rattle.std.proofs.Props.{props}
 use Rattle.toml_tree.specs.View.{piece, value}
 use Rattle.toml_tree.specs.declared.tree.Value.TheViews.{out-Array, out-InlineTable}
-use Rattle.toml_tree.proofs.Texts.{piece_of_inline, text_of_value}
+use Rattle.toml_tree.proofs.Texts.{text_of_value}
 use Rattle.toml_tree.specs.Pieces.{piece_of}
 use Rattle.toml_tree.proofs.Views.{value_scalar, value_array, value_inline}
 use Rattle.toml_tree.proofs.text.push_value.Goals as goal
@@ -19,7 +19,7 @@ pushed c =
           ∙ sym (ap piece_of (ap value w.in-Array.is ∙ value_array w.in-Array.array))
       | in-Inline w ↦
           ap piece (w.piece-is ∙ ap (λ t. (out-InlineTable t).whole) w.deref-in-Inline.ensures)
-          ∙ sym (ap piece_of (ap value w.in-Inline.is ∙ value_inline w.in-Inline.table) ∙ piece_of_inline _ _ _)
+          ∙ sym (ap piece_of (ap value w.in-Inline.is ∙ value_inline w.in-Inline.table))
     ]
 
 pub returns : goal.returns

@@ -6,7 +6,7 @@ use Rattle.toml_tree.proofs.Many.{Loop}
 use Rattle.toml_tree.proofs.reader.Reader.lines.Given as goal
 
 abbrev pub invariant-loop-lines : goal.invariant-loop-lines
-invariant-loop-lines l = Loop line_step (map line l.lines.items) (cursor l.self) (cursor l.initial.self)
+invariant-loop-lines l = Loop (line_step l.profile) (map line l.lines.items) (cursor l.self) (cursor l.initial.self)
 
 abbrev pub decreases-loop-lines : goal.decreases-loop-lines
 decreases-loop-lines l = length (cursor l.self).rest
