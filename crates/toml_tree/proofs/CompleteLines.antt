@@ -7,7 +7,7 @@ use Rattle.toml_text.specs.Forms.{IsWs}
 use Rattle.toml_text.specs.Runs.{begins, is_byte, newline_len}
 use Rattle.toml_scalar.specs.Scanning.{is_key_start}
 use Rattle.toml_text.proofs.Proved.{begins_other}
-use Rattle.toml_tree.specs.Profiles.{ExprHasPlainTables, Asks, IsValueOfProfile, IsExprOfProfile}
+use Rattle.toml_tree.specs.Profiles.{AreLinesOfProfile, IsValueOfProfile, IsExprOfProfile}
 use Rattle.toml_tree.specs.Tree.{Piece, Blank, Header, KeyVal, Expr, BlankLine, KeyValLine, TableLine, ArrayTableLine, Line}
 use Rattle.toml_tree.specs.Spells.{Part, piece, symbol, EachIs, all_parts, comment_parts, blank_parts, key_parts, keyval_parts, header_parts, array_header_parts, expr_parts, line_parts, lines_parts, IsBlank, IsHeader, IsKeyVal, IsExpr, AreLines, max_depth}
 use Rattle.toml_tree.specs.Reading.{Cursor, ahead, all_of, blank_at, ◌>>=◌}
@@ -156,7 +156,7 @@ line_grows p l c d h s =
 abbrev Unended : Profile → List Line → Type 0
 Unended p ls = (front : List Line) × (l : Line) × (ls ≡ front ++ l ∷ []) × EachIs (IsEndedLine p) front × IsExpr l.expr × (l.newline.text ≡ []) × IsExprOfProfile p l.expr
 
-unended : (p : Profile) (ls : List Line) → AreLines ls → Asks p (EachIs (λ l. ExprHasPlainTables l.expr) ls) → Unended p ls
+unended : (p : Profile) (ls : List Line) → AreLines ls → AreLinesOfProfile p ls → Unended p ls
 unended p [] h plain = absurd h
 unended p (l ∷ []) h plain = ([], l, refl, tt, h.0, h.1, asked p (λ k. k.0) plain)
 unended p (l ∷ m ∷ ls) h plain =

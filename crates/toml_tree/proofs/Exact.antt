@@ -3,13 +3,13 @@ use Rattle.std.proofs.Common.{◌≡◌, ℕ, ◌+◌, ◌≤◌, List, [], ◌+
 use Rattle.std.specs.Prelude.{IfSome}
 use Rattle.std.proofs.lemmas.Option.{none-some, some_pair_parts, same_Some, option_and_then_some}
 use Rattle.toml_tree.specs.Tree.{Piece, Line}
-use Rattle.toml_tree.specs.Profiles.{ExprHasPlainTables, Asks, SpellsIn, SpelledByNone}
-use Rattle.toml_tree.specs.Spells.{joined, lines_parts, EachIs, SpellLines, Spells, mark_of}
+use Rattle.toml_tree.specs.Profiles.{AreLinesOfProfile, SpellsIn, SpelledByNone, OneTreeIn}
+use Rattle.toml_tree.specs.Spells.{joined, lines_parts, SpellLines, Spells, mark_of}
 use Rattle.toml_tree.specs.Reading.{Cursor, here, ahead}
 use Rattle.toml_tree.specs.ReadingLines.{lines_at, document_at}
 use Rattle.toml_scalar.specs.Faults.{place_of}
 use Rattle.toml_tree.specs.Document.{Refuses}
-use Rattle.toml_tree.specs.Laws.{OneTree, OneTreeIn, ReaderIsSound, ReaderIsComplete}
+use Rattle.toml_tree.specs.Laws.{OneTree, ReaderIsSound, ReaderIsComplete}
 use Rattle.toml_tree.specs.Reads.{Fails, end}
 use Rattle.toml_scalar.specs.declared.fault.SyntaxFault.{SyntaxFault}
 use Rattle.toml_tree.specs.declared.profile.Profile.{Profile}
@@ -19,10 +19,6 @@ use Rattle.toml_tree.proofs.SoundLines.{AreLinesOf, lines_sound}
 use Rattle.toml_tree.proofs.CompleteLines.{lines_complete}
 use Rattle.toml_tree.proofs.Many.{append-nil}
 use Rattle.toml_tree.proofs.Marks.{mark_front}
-
--- what profile 1 asks of lines
-abbrev pub AreLinesOfProfile : Profile → List Line → Type 0
-AreLinesOfProfile p ls = Asks p (EachIs (λ l. ExprHasPlainTables l.expr) ls)
 
 -- what is read from a place is spelled from there on
 lines_found : (p : Profile) (ls : List Line) (c d : Cursor) → lines_at p c ≡ Some (ls, d) → SpellLines ls c.at c.rest × AreLinesOfProfile p ls

@@ -25,6 +25,7 @@ pub mod MovedBack
 pub mod Inner
 pub mod Bared
 pub mod PutSame
+pub mod PlainTables
 pub mod PutPlaced
 pub mod PutFormed
 pub mod Unmarked

@@ -1,7 +1,6 @@
 -- What profile 1 asks of a tree, handled alike in either profile.
 use Rattle.std.proofs.Common.{◌≡◌, Bool, true, false, not, refl, sym, true≢false}
-use Rattle.toml_tree.specs.Laws.{OneIsInTwo}
-use Rattle.toml_tree.specs.Profiles.{HasPair, HasNoLastComma, Asks}
+use Rattle.toml_tree.specs.Profiles.{HasPair, HasNoLastComma, Asks, OneIsInTwo}
 use Rattle.toml_tree.specs.ReadingValues.{ends_in_comma, may_end}
 use Rattle.toml_tree.specs.Tree.{Pairs, ClosePairs, LastPair, MorePairs}
 use Rattle.toml_tree.specs.declared.profile.Profile.{Profile}

@@ -1,6 +1,7 @@
 -- The proofs of the laws of src/laws.rt, for the crates above.
 pub use Rattle.toml_tree.proofs.Exact.{one_tree, one_tree_in, reader_sound, reader_complete}
 pub use Rattle.toml_tree.proofs.Profiled.{one_is_in_two}
+pub use Rattle.toml_tree.proofs.PlainTables.{inside_of_profile, bare_value_of_profile, bare_lines_of_profile, put_value_of_profile, put_lines_of_profile}
 pub use Rattle.toml_tree.proofs.ExactValues.{one_value, one_keyval, one_expr, value_found, value_is_read}
 pub use Rattle.toml_tree.proofs.Depths.{depth_is_nesting}
 pub use Rattle.toml_tree.proofs.Inner.{value_piece, value_byte, value_start, keyval_start, expr_starts, lines_inside, keyval_inside, value_of_keyval, values_inside, keyvals_inside}

@@ -9,7 +9,7 @@ use Rattle.toml_text.specs.Forms.{IsNewline}
 use Rattle.toml_text.specs.Runs.{begins, is_byte, newline_len}
 use Rattle.toml_text.proofs.Proved.{newlines_piece}
 use Rattle.toml_scalar.specs.Scanning.{is_key_start}
-use Rattle.toml_tree.specs.Profiles.{ExprHasPlainTables, Asks, IsExprOfProfile}
+use Rattle.toml_tree.specs.Profiles.{AreLinesOfProfile, IsExprOfProfile}
 use Rattle.toml_tree.specs.Tree.{Header, Expr, Line}
 use Rattle.toml_tree.specs.Spells.{Part, piece, symbol, EachIs, comment_parts, blank_parts, key_parts, keyval_parts, header_parts, array_header_parts, expr_parts, line_parts, lines_parts, max_depth, IsHeader, IsExpr, AreLines}
 use Rattle.toml_tree.specs.Reading.{Cursor, here, ahead, all_of, run_at, comment_at, blank_at, key_at}
@@ -119,7 +119,7 @@ line_step_sound p c = sound_bind (expr_at p c) _ _ _ (expr_sound p c) (λ e es.
     drop-nil (suc n) = refl
 
 abbrev pub AreLinesOf : Profile → List Line → Type 0
-AreLinesOf p ls = AreLines ls × Asks p (EachIs (λ l. ExprHasPlainTables l.expr) ls)
+AreLinesOf p ls = AreLines ls × AreLinesOfProfile p ls
 
 ended_lines : (p : Profile) (ls : List Line) (l : Line) (d : Cursor) → EachIs (IsEndedLine p) ls → IsLastLine p l d → AreLinesOf p (ls ++ l ∷ [])
 ended_lines p [] l d h k = ((k.0, k.1), asked_both p _ _ k.3 (asks_nothing p))

@@ -1,7 +1,9 @@
 -- A tree without places: each piece is as if it stood at 0. Two trees that differ in their places alone are one without them.
-use Rattle.std.specs.Prelude.{◌≡◌, ℕ, List, map, Option, Some, None}
+use Rattle.std.specs.Prelude.{◌≡◌, ◌↔◌, ℕ, List, map, Option, Some, None}
+use Rattle.toml_tree.specs.Profiles.{IsValueOfProfile, AreLinesOfProfile}
 use Rattle.toml_tree.specs.Spells.{joined, items_parts, pairs_parts, value_parts, lines_parts}
 use Rattle.toml_tree.specs.Tree.{Piece, Blank, Dotted, Key, Assign, GapLine, Gap, Value, Scalar, Array, Inline, Items, Close, Last, More, Pairs, ClosePairs, LastPair, MorePairs, KeyVal, Header, Expr, BlankLine, KeyValLine, TableLine, ArrayTableLine, Line}
+use Rattle.toml_tree.specs.declared.profile.Profile.{Profile}
 
 -- a piece of a text, without its place
 abbrev pub fresh : List ℕ → Piece
@@ -79,3 +81,10 @@ BarePairsText = (pairs : Pairs) → joined (pairs_parts (bare_pairs pairs)) ≡ 
 
 abbrev pub BareLinesText : Type 0
 BareLinesText = (lines : List Line) → joined (lines_parts (bare_lines lines)) ≡ joined (lines_parts lines)
+
+-- a tree is of a profile exactly where it is without its places
+abbrev pub BareValueOfProfile : Type 0
+BareValueOfProfile = (profile : Profile) (v : Value) → IsValueOfProfile profile v ↔ IsValueOfProfile profile (bare_value v)
+
+abbrev pub BareLinesOfProfile : Type 0
+BareLinesOfProfile = (profile : Profile) (lines : List Line) → AreLinesOfProfile profile lines ↔ AreLinesOfProfile profile (bare_lines lines)

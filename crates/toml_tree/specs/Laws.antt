@@ -7,7 +7,6 @@ use Rattle.toml_tree.specs.ReadingValues.{value_at}
 use Rattle.toml_tree.specs.Spells.{depth, max_depth, Spells, SpellsValue, SpellsKeyVal, SpellsExpr}
 use Rattle.toml_tree.specs.Tree.{Value, Scalar, Array, Inline, Items, Close, Last, More, Pairs, ClosePairs, LastPair, MorePairs, KeyVal, Expr, Doc}
 use Rattle.toml_tree.specs.declared.profile.Profile.{Profile}
-use Rattle.toml_tree.specs.declared.profile.Profile.TheVariants.{One, Two}
 
 -- a text has at most one tree
 abbrev pub OneTree : Type 0
@@ -24,14 +23,6 @@ OneKeyVal = (k l : KeyVal) (at : ℕ) (text : List ℕ) → SpellsKeyVal k at te
 -- a text is at most one expression
 abbrev pub OneExpr : Type 0
 OneExpr = (e f : Expr) (at : ℕ) (text : List ℕ) → SpellsExpr e at text → SpellsExpr f at text → e ≡ f
-
--- what spells a text in profile 1 spells it in profile 2
-abbrev pub OneIsInTwo : Type 0
-OneIsInTwo = (d : Doc) (text : List ℕ) → SpellsIn One d text → SpellsIn Two d text
-
--- in either profile a text has at most one tree
-abbrev pub OneTreeIn : Type 0
-OneTreeIn = (profile : Profile) (d e : Doc) (text : List ℕ) → SpellsIn profile d text → SpellsIn profile e text → d ≡ e
 
 -- the plain reader of a profile reads the tree that spells the text in it, and reads each tree that spells one
 abbrev pub ReaderIsSound : Type 0
@@ -62,6 +53,10 @@ abbrev pub IsIn : Value → Value → Type 0
 IsIn v (Scalar kind p) = ⊥
 IsIn v (Array whole is) = IsItemOf v is
 IsIn v (Inline whole ps) = IsPairOf v ps
+
+-- what stands in a value of a profile is of it
+abbrev pub InsideIsOfProfile : Type 0
+InsideIsOfProfile = (profile : Profile) (v w : Value) → IsIn w v → IsValueOfProfile profile v → IsValueOfProfile profile w
 
 -- values stand in one another, so many deep, this one being the outermost
 abbrev pub Nests : ℕ → Value → Type 0

@@ -1,9 +1,11 @@
 -- A tree with each piece at its place, whatever places it had before, so that it spells its own text.
-use Rattle.std.specs.Prelude.{◌≡◌, ◌≤◌, ℕ, ◌+◌, List, [], ◌∷◌, ◌++◌, length, Option, Some, None}
+use Rattle.std.specs.Prelude.{◌≡◌, ◌↔◌, ◌≤◌, ℕ, ◌+◌, List, [], ◌∷◌, ◌++◌, length, Option, Some, None}
 use Rattle.toml_tree.specs.Bare.{fresh, bare_value, bare_lines}
 use Rattle.toml_tree.specs.Parts.{size}
+use Rattle.toml_tree.specs.Profiles.{IsValueOfProfile, AreLinesOfProfile}
 use Rattle.toml_tree.specs.Spells.{Part, joined, key_parts, dotted_parts, assign_parts, blank_parts, gap_parts, gap_line_parts, all_parts, value_parts, header_parts, array_header_parts, keyval_parts, expr_parts, line_parts, lines_parts, max_depth, depth, IsValue, AreLines, SpellsValue, SpellLines, Spells, mark_of}
 use Rattle.toml_tree.specs.Tree.{Piece, Blank, Dotted, Key, Assign, GapLine, Gap, Value, Scalar, Array, Inline, Items, Close, Last, More, Pairs, ClosePairs, LastPair, MorePairs, KeyVal, Header, Expr, BlankLine, KeyValLine, TableLine, ArrayTableLine, Line, Doc}
+use Rattle.toml_tree.specs.declared.profile.Profile.{Profile}
 
 -- where the parts end that stand at the place
 abbrev pub behind : ℕ → List Part → ℕ
@@ -102,6 +104,13 @@ PutValueIsSame = (v : Value) (at : ℕ) → bare_value (put_value at v) ≡ bare
 
 abbrev pub PutLinesAreSame : Type 0
 PutLinesAreSame = (lines : List Line) (at : ℕ) → bare_lines (put_lines at lines) ≡ bare_lines lines
+
+-- and it is of the profiles that it was of
+abbrev pub PutValueOfProfile : Type 0
+PutValueOfProfile = (profile : Profile) (v : Value) (at : ℕ) → IsValueOfProfile profile v ↔ IsValueOfProfile profile (put_value at v)
+
+abbrev pub PutLinesOfProfile : Type 0
+PutLinesOfProfile = (profile : Profile) (lines : List Line) (at : ℕ) → AreLinesOfProfile profile lines ↔ AreLinesOfProfile profile (put_lines at lines)
 
 -- a value in its form, put at a place, spells its text there
 abbrev pub PutValueSpells : Type 0

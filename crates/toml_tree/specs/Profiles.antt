@@ -3,7 +3,7 @@
 -- spells a text holds in either profile.
 use Rattle.std.specs.Prelude.{◌≡◌, ℕ, List, []}
 use Rattle.toml_tree.specs.Spells.{EachIs, Spells, SpellsValue}
-use Rattle.toml_tree.specs.Tree.{Gap, Value, Scalar, Array, Inline, Items, Close, Last, More, Pairs, ClosePairs, LastPair, MorePairs, KeyVal, Expr, BlankLine, KeyValLine, TableLine, ArrayTableLine, Doc}
+use Rattle.toml_tree.specs.Tree.{Gap, Value, Scalar, Array, Inline, Items, Close, Last, More, Pairs, ClosePairs, LastPair, MorePairs, KeyVal, Expr, BlankLine, KeyValLine, TableLine, ArrayTableLine, Line, Doc}
 use Rattle.toml_tree.specs.declared.profile.Profile.{Profile}
 use Rattle.toml_tree.specs.declared.profile.Profile.TheVariants.{One, Two}
 
@@ -51,7 +51,7 @@ abbrev pub Asks : Profile → Type 0 → Type 0
 Asks One A = A
 Asks Two A = Unit {0}
 
--- a value, a pair, an expression and a document of the profile
+-- a value, a pair, an expression, lines and a document of the profile
 abbrev pub IsValueOfProfile : Profile → Value → Type 0
 IsValueOfProfile profile v = Asks profile (HasPlainTables v)
 
@@ -61,8 +61,11 @@ IsKeyValOfProfile profile k = Asks profile (HasPlainTables k.value)
 abbrev pub IsExprOfProfile : Profile → Expr → Type 0
 IsExprOfProfile profile e = Asks profile (ExprHasPlainTables e)
 
+abbrev pub AreLinesOfProfile : Profile → List Line → Type 0
+AreLinesOfProfile profile lines = Asks profile (EachIs (λ l. ExprHasPlainTables l.expr) lines)
+
 abbrev pub IsOfProfile : Profile → Doc → Type 0
-IsOfProfile profile d = Asks profile (EachIs (λ l. ExprHasPlainTables l.expr) d.lines)
+IsOfProfile profile d = AreLinesOfProfile profile d.lines
 
 -- the tree spells the text in the profile
 abbrev pub SpellsIn : Profile → Doc → List ℕ → Type 0
@@ -79,3 +82,11 @@ SpelledByNone profile text = (d : Doc) → ¬ SpellsIn profile d text
 -- the text is no value
 abbrev pub IsNoValue : Profile → List ℕ → Type 0
 IsNoValue profile text = (v : Value) → ¬ IsValueIn profile v text
+
+-- Laws: what spells a text in profile 1 spells it in profile 2
+abbrev pub OneIsInTwo : Type 0
+OneIsInTwo = (d : Doc) (text : List ℕ) → SpellsIn One d text → SpellsIn Two d text
+
+-- in either profile a text has at most one tree
+abbrev pub OneTreeIn : Type 0
+OneTreeIn = (profile : Profile) (d e : Doc) (text : List ℕ) → SpellsIn profile d text → SpellsIn profile e text → d ≡ e

@@ -1,11 +1,12 @@
 //! Laws over the definitions: each function's contract is one or a few, and nothing is run.
-ghost use Rattle.toml_tree.specs.Laws.{OneTree, OneTreeIn, OneIsInTwo, OneValue, OneKeyVal, OneExpr, DepthIsNesting, ReaderIsSound, ReaderIsComplete, ValueReaderIsSound, ValueReaderIsComplete};
+ghost use Rattle.toml_tree.specs.Laws.{OneTree, InsideIsOfProfile, OneValue, OneKeyVal, OneExpr, DepthIsNesting, ReaderIsSound, ReaderIsComplete, ValueReaderIsSound, ValueReaderIsComplete};
+ghost use Rattle.toml_tree.specs.Profiles.{OneTreeIn, OneIsInTwo};
 ghost use Rattle.toml_tree.specs.Pieces.{ValuePieceIsText, ValueHasByte, ValueStartsThere, KeyValStartsThere, ExprStartsThere};
 ghost use Rattle.toml_tree.specs.Parts.{PartsJoin, SizesAdd, FrontIsPlaced, BackIsPlaced, BothArePlaced};
 ghost use Rattle.toml_tree.specs.Moved.{MovedValueSpells, MovedKeyValSpells, MovedExprSpells, MovedValueText, MovedKeyValText, MovedExprText};
 ghost use Rattle.toml_tree.specs.Inner.{LinesInside, KeyValInside, ValueOfKeyVal, ValuesInside, KeyValsInside};
-ghost use Rattle.toml_tree.specs.Bare.{BareValueText, BareItemsText, BarePairsText, BareLinesText};
-ghost use Rattle.toml_tree.specs.Places.{PutValueIsSame, PutLinesAreSame, PutValueSpells, PutLinesSpell, LinesHaveNoMark, PutDocSpells};
+ghost use Rattle.toml_tree.specs.Bare.{BareValueText, BareItemsText, BarePairsText, BareLinesText, BareValueOfProfile, BareLinesOfProfile};
+ghost use Rattle.toml_tree.specs.Places.{PutValueIsSame, PutLinesAreSame, PutValueSpells, PutLinesSpell, LinesHaveNoMark, PutDocSpells, PutValueOfProfile, PutLinesOfProfile};
 ghost use Rattle.toml_tree.specs.ViewLaws.{ViewOfScalar, ViewOfArray, ViewOfInline, ViewOfKeyVal};
 
 /// A text has at most one tree, in either profile.
@@ -14,9 +15,18 @@ pub fn one_tree()
     ensures of_profile { OneTreeIn }
 {}
 
-/// What spells a text in profile 1 spells it in profile 2.
+/// What spells a text in profile 1 spells it in profile 2. What stands in a value of a profile is of it.
 pub fn profiles()
     ensures wider { OneIsInTwo }
+    ensures inside { InsideIsOfProfile }
+{}
+
+/// A tree is of a profile whatever places it has, or none.
+pub fn placeless_profiles()
+    ensures bare_value { BareValueOfProfile }
+    ensures bare_lines { BareLinesOfProfile }
+    ensures put_value { PutValueOfProfile }
+    ensures put_lines { PutLinesOfProfile }
 {}
 
 /// A text is at most one value, at most one key/value pair, and at most one expression.
