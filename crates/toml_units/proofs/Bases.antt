@@ -2,7 +2,7 @@
 use Rattle.std.proofs.Common.{◌≡◌, inl, inr, ℕ, ◌+◌, ◌<◌, List, [], ◌∷◌, ◌++◌, length, Option, Some, None, refl, sym, subst, arith}
 use Rattle.std.proofs.lemmas.Option.{same_Some}
 use Rattle.toml_tree.specs.Spells.{EachIs}
-use Rattle.toml_tree.specs.Tree.{Piece, GapLine, Gap, Value, Scalar, Array, Empty, Inline, Items, Close, Last, More, Pairs, LastPair, MorePairs, KeyVal, Expr, BlankLine, KeyValLine, TableLine, ArrayTableLine, Line}
+use Rattle.toml_tree.specs.Tree.{Piece, GapLine, Gap, Value, Scalar, Array, Inline, Items, Close, Last, More, Pairs, ClosePairs, LastPair, MorePairs, KeyVal, Expr, BlankLine, KeyValLine, TableLine, ArrayTableLine, Line}
 use Rattle.toml_tree.specs.Tree as tree
 use Rattle.toml_names.specs.model.Addresses.{Address, element}
 use Rattle.toml_names.specs.mentions.Keys.{key_names}
@@ -12,7 +12,7 @@ use Rattle.toml_units.specs.declared.unit.UnitKind.{UnitKind}
 use Rattle.toml_units.specs.declared.unit.UnitKind.TheVariants as kinds
 use Rattle.toml_units.specs.Bases.{IsBased, UnitsAreBased, lines_of, HasBase, AreLines, LinesAreUnits}
 use Rattle.toml_units.specs.Units.{TextUnit, comment_units, gap_units, gap_line_units, element_unit, pair_unit, pair_address, inside, elements, members, value_units, tail_units, inside_line, line_unit, units_from}
-use Rattle.toml_units.proofs.Each.{each_append}
+use Rattle.toml_units.proofs.Each.{each_append, each_between}
 use Rattle.toml_units.proofs.InLines.{line_no_lines}
 use Rattle.toml_units.proofs.UnitLines.{not_line}
 
@@ -53,21 +53,25 @@ mutual
   inside_based : (at : Address) (v : Value) → EachIs IsBased (inside at v)
   inside_based at (Scalar kind p) = tt
   inside_based at (Array whole items) = elements_based at 0 items
-  inside_based at (Empty whole ws) = tt
   inside_based at (Inline whole pairs) = members_based at pairs
 
   elements_based : (at : Address) (i : ℕ) (is : Items) → EachIs IsBased (elements at i is)
   elements_based at i (Close g) = gap_based at g
   elements_based at i (Last g v h) =
-      each_append IsBased (gap_units at g) _ (gap_based at g)
-      (element_based (element at i) v, each_append IsBased (inside (element at i) v) (gap_units at h) (inside_based (element at i) v) (gap_based at h))
+      each_between IsBased (gap_units at g) (element_unit (element at i) v ∷ inside (element at i) v) (gap_units at h) (gap_based at g) (element_based (element at i) v, inside_based (element at i) v) (gap_based at h)
   elements_based at i (More g v h is) =
-      each_append IsBased (gap_units at g) _ (gap_based at g)
-      (element_based (element at i) v, each_append IsBased (inside (element at i) v) (gap_units at h ++ elements at (i + 1) is) (inside_based (element at i) v) (each_append IsBased (gap_units at h) (elements at (i + 1) is) (gap_based at h) (elements_based at (i + 1) is)))
+      each_between IsBased (gap_units at g) (element_unit (element at i) v ∷ inside (element at i) v) (gap_units at h ++ elements at (i + 1) is) (gap_based at g) (element_based (element at i) v, inside_based (element at i) v)
+      (each_append IsBased (gap_units at h) (elements at (i + 1) is) (gap_based at h) (elements_based at (i + 1) is))
 
   members_based : (at : Address) (ps : Pairs) → EachIs IsBased (members at ps)
-  members_based at (LastPair ws a v after) = (pair_based at (record { assign = a; value = v }), inside_based (pair_address at a) v)
-  members_based at (MorePairs ws a v after ps) = (pair_based at (record { assign = a; value = v }), each_append IsBased (inside (pair_address at a) v) (members at ps) (inside_based (pair_address at a) v) (members_based at ps))
+  members_based at (ClosePairs g) = gap_based at g
+  members_based at (LastPair g a v h) =
+      let k : KeyVal = record { assign = a; value = v } in
+      each_between IsBased (gap_units at g) (pair_unit at k ∷ inside (pair_address at a) v) (gap_units at h) (gap_based at g) (pair_based at k, inside_based (pair_address at a) v) (gap_based at h)
+  members_based at (MorePairs g a v h ps) =
+      let k : KeyVal = record { assign = a; value = v } in
+      each_between IsBased (gap_units at g) (pair_unit at k ∷ inside (pair_address at a) v) (gap_units at h ++ members at ps) (gap_based at g) (pair_based at k, inside_based (pair_address at a) v)
+      (each_append IsBased (gap_units at h) (members at ps) (gap_based at h) (members_based at ps))
 
 value_based : (at : Option Address) (v : Value) → EachIs IsBased (value_units at v)
 value_based None v = tt

@@ -2,7 +2,7 @@
 use Rattle.std.proofs.Common.{◌≡◌, ℕ, ◌+◌, ◌-◌, ◌≤◌, List, [], ◌∷◌, ◌++◌, length, map, Option, Some, None, refl, sym, ap, subst, arith, append_assoc, length-append}
 use Rattle.std.proofs.lemmas.List.{length-map}
 use Rattle.toml_tree.specs.Spells.{Part, symbol, piece, Placed, joined, blank_parts, gap_parts, assign_parts, value_parts, items_parts, pairs_parts, keyval_parts, expr_parts, line_parts, lines_parts, IsAssign, IsValue, AreItems, ArePairs, depth, items_depth, pairs_depth, max_depth, IsExpr, AreLines}
-use Rattle.toml_tree.specs.Tree.{Value, Scalar, Array, Empty, Inline, Items, Close, Last, More, Pairs, LastPair, MorePairs, KeyVal, Expr, BlankLine, KeyValLine, TableLine, ArrayTableLine, Line}
+use Rattle.toml_tree.specs.Tree.{Gap, Value, Scalar, Array, Inline, Items, Close, Last, More, Pairs, ClosePairs, LastPair, MorePairs, KeyVal, Expr, BlankLine, KeyValLine, TableLine, ArrayTableLine, Line}
 use Rattle.toml_tree.specs.Pieces.{expr_start}
 use Rattle.toml_tree.specs.Parts.{size}
 use Rattle.toml_tree.proofs.Proved.{placed_front, placed_back}
@@ -15,18 +15,32 @@ use Rattle.toml_units.specs.declared.unit.UnitKind.TheVariants as kinds
 use Rattle.toml_units.specs.Plain.{spanned, pair_span, plain_inside, plain_elements, plain_members, plain_value, plain_line, own_base, line_spans, plain_from, PlainIsUnits, PlainIsInside}
 use Rattle.toml_units.specs.Units.{gap_units, element_unit, pair_unit, pair_address, inside, elements, members, value_units, tail_units, inside_line, line_base, line_units, units_from}
 use Rattle.toml_units.proofs.Ends.{pair_ends, line_ends}
-use Rattle.toml_units.proofs.MovedUnits.{both_images}
+use Rattle.toml_units.proofs.MovedUnits.{both_images, between_images}
 
 pair_plain : (k : KeyVal) (at : Address) (n : ℕ) → IsAssign k.assign → IsValue k.value → depth k.value ≤ max_depth → Placed n (keyval_parts k) → pair_span at k ≡ spanned (pair_unit at k)
 pair_plain k at n assign form deep placed =
     let e = pair_ends k n (joined (keyval_parts k)) at (record { form = (assign, form, deep); text_is = refl; placed = placed }) in
     λ i. record { kind = kinds.Pair; start = k.assign.key.first.start; stop = sym e i; address = Some (pair_address at k.assign); base = Some (length at) }
 
+-- a pair behind a gap
+pair_placed : (g : Gap) (k : KeyVal) (last : List Part) (n : ℕ) → Placed n (gap_parts g ++ (assign_parts k.assign ++ (value_parts k.value ++ last))) → Placed (n + size (gap_parts g)) (keyval_parts k ++ last)
+pair_placed g k last n placed =
+    subst (λ (ps : List Part). Placed (n + size (gap_parts g)) ps) (sym (append_assoc (assign_parts k.assign) (value_parts k.value) last))
+    (placed_back (gap_parts g) (assign_parts k.assign ++ (value_parts k.value ++ last)) n placed)
+
+pair_inside : (k : KeyVal) (at : Address) (last : List Part) (n : ℕ) → IsAssign k.assign → IsValue k.value → depth k.value ≤ max_depth → Placed n (keyval_parts k ++ last)
+    → ((m : ℕ) → Placed m (value_parts k.value) → plain_inside (pair_address at k.assign) k.value ≡ map spanned (inside (pair_address at k.assign) k.value))
+    → pair_span at k ∷ plain_inside (pair_address at k.assign) k.value ≡ map spanned (pair_unit at k ∷ inside (pair_address at k.assign) k.value)
+pair_inside k at last n assign form deep placed inner =
+    let pk = placed_front (keyval_parts k) last n placed in
+    let first = pair_plain k at n assign form deep pk in
+    let rest = inner (n + size (assign_parts k.assign)) (placed_back (assign_parts k.assign) (value_parts k.value) n pk) in
+    λ j. first j ∷ rest j
+
 mutual
   pub inside_plain : (v : Value) (at : Address) (n : ℕ) → IsValue v → depth v ≤ max_depth → Placed n (value_parts v) → plain_inside at v ≡ map spanned (inside at v)
   inside_plain (Scalar kind p) at n form deep placed = refl
   inside_plain (Array whole items) at n form deep placed = elements_plain items at 0 _ form.1 (omega arith) placed.1.1
-  inside_plain (Empty whole ws) at n form deep placed = refl
   inside_plain (Inline whole pairs) at n form deep placed = members_plain pairs at _ form.1 (omega arith) placed.1.1
 
   elements_plain : (items : Items) (at : Address) (i n : ℕ) → AreItems items → items_depth items ≤ max_depth → Placed n (items_parts items) → plain_elements at i items ≡ map spanned (elements at i items)
@@ -35,8 +49,7 @@ mutual
       let last : List Part = symbol (0x5D ∷ []) ∷ [] in
       let p1 = placed_back (gap_parts g) (value_parts v ++ (gap_parts h ++ last)) n placed in
       let rest = inside_plain v (element at i) (n + size (gap_parts g)) form.1 deep (placed_front (value_parts v) (gap_parts h ++ last) (n + size (gap_parts g)) p1) in
-      both_images spanned _ _ (gap_units at g) ((element_unit (element at i) v ∷ inside (element at i) v) ++ gap_units at h) refl
-      (both_images spanned _ _ (element_unit (element at i) v ∷ inside (element at i) v) (gap_units at h) (λ j. spanned (element_unit (element at i) v) ∷ rest j) refl)
+      between_images spanned _ _ _ (gap_units at g) (element_unit (element at i) v ∷ inside (element at i) v) (gap_units at h) refl (λ j. spanned (element_unit (element at i) v) ∷ rest j) refl
   elements_plain (More g v h is) at i n form deep placed =
       let last : List Part = symbol (0x2C ∷ []) ∷ items_parts is in
       let n1 = n + size (gap_parts g) in
@@ -46,32 +59,27 @@ mutual
       let shallow : depth v ≤ max_depth = omega arith in
       let low : items_depth is ≤ max_depth = omega arith in
       let rest = inside_plain v (element at i) n1 form.1 shallow (placed_front (value_parts v) (gap_parts h ++ last) n1 p1) in
-      both_images spanned _ _ (gap_units at g) ((element_unit (element at i) v ∷ inside (element at i) v) ++ (gap_units at h ++ elements at (i + 1) is)) refl
-      (both_images spanned _ _ (element_unit (element at i) v ∷ inside (element at i) v) (gap_units at h ++ elements at (i + 1) is) (λ j. spanned (element_unit (element at i) v) ∷ rest j)
-      (both_images spanned _ _ (gap_units at h) (elements at (i + 1) is) refl (elements_plain is at (i + 1) _ form.3 low p3.1)))
+      between_images spanned _ _ _ (gap_units at g) (element_unit (element at i) v ∷ inside (element at i) v) (gap_units at h ++ elements at (i + 1) is) refl (λ j. spanned (element_unit (element at i) v) ∷ rest j)
+      (both_images spanned _ _ (gap_units at h) (elements at (i + 1) is) refl (elements_plain is at (i + 1) _ form.3 low p3.1))
 
   members_plain : (pairs : Pairs) (at : Address) (n : ℕ) → ArePairs pairs → pairs_depth pairs ≤ max_depth → Placed n (pairs_parts pairs) → plain_members at pairs ≡ map spanned (members at pairs)
-  members_plain (LastPair ws a v after) at n form deep placed =
+  members_plain (ClosePairs g) at n form deep placed = refl
+  members_plain (LastPair g a v h) at n form deep placed =
       let k : KeyVal = record { assign = a; value = v } in
-      let last : List Part = piece after ∷ symbol (0x7D ∷ []) ∷ [] in
-      let n1 = n + length ws.text in
-      let p1 = subst (λ (ps : List Part). Placed n1 ps) (sym (append_assoc (assign_parts a) (value_parts v) last)) placed.1 in
-      let pk = placed_front (keyval_parts k) last n1 p1 in
-      let first = pair_plain k at n1 form.1 form.2 deep pk in
-      let rest = inside_plain v (pair_address at a) _ form.2 deep (placed_back (assign_parts a) (value_parts v) n1 pk) in
-      λ j. first j ∷ rest j
-  members_plain (MorePairs ws a v after ps) at n form deep placed =
+      let last : List Part = symbol (0x7D ∷ []) ∷ [] in
+      between_images spanned _ _ _ (gap_units at g) (pair_unit at k ∷ inside (pair_address at a) v) (gap_units at h) refl
+      (pair_inside k at (gap_parts h ++ last) (n + size (gap_parts g)) form.1 form.2 deep (pair_placed g k (gap_parts h ++ last) n placed) (λ m p. inside_plain v (pair_address at a) m form.2 deep p)) refl
+  members_plain (MorePairs g a v h ps) at n form deep placed =
       let k : KeyVal = record { assign = a; value = v } in
-      let last : List Part = piece after ∷ symbol (0x2C ∷ []) ∷ pairs_parts ps in
-      let n1 = n + length ws.text in
-      let p1 = subst (λ (qs : List Part). Placed n1 qs) (sym (append_assoc (assign_parts a) (value_parts v) last)) placed.1 in
-      let pk = placed_front (keyval_parts k) last n1 p1 in
-      let p2 = placed_back (keyval_parts k) last n1 p1 in
+      let last : List Part = symbol (0x2C ∷ []) ∷ pairs_parts ps in
+      let n1 = n + size (gap_parts g) in
+      let p1 = pair_placed g k (gap_parts h ++ last) n placed in
+      let p3 = placed_back (gap_parts h) last (n1 + size (keyval_parts k)) (placed_back (keyval_parts k) (gap_parts h ++ last) n1 p1) in
       let shallow : depth v ≤ max_depth = omega arith in
       let low : pairs_depth ps ≤ max_depth = omega arith in
-      let first = pair_plain k at n1 form.1 form.2 shallow pk in
-      let rest = inside_plain v (pair_address at a) _ form.2 shallow (placed_back (assign_parts a) (value_parts v) n1 pk) in
-      both_images spanned _ _ (pair_unit at k ∷ inside (pair_address at a) v) (members at ps) (λ j. first j ∷ rest j) (members_plain ps at _ form.4 low p2.1.1)
+      between_images spanned _ _ _ (gap_units at g) (pair_unit at k ∷ inside (pair_address at a) v) (gap_units at h ++ members at ps) refl
+      (pair_inside k at (gap_parts h ++ last) n1 form.1 form.2 shallow p1 (λ m p. inside_plain v (pair_address at a) m form.2 shallow p))
+      (both_images spanned _ _ (gap_units at h) (members at ps) refl (members_plain ps at _ form.4 low p3.1))
 
 value_plain : (at : Option Address) (v : Value) (n : ℕ) → IsValue v → depth v ≤ max_depth → Placed n (value_parts v) → plain_value at v ≡ map spanned (value_units at v)
 value_plain None v n form deep placed = refl

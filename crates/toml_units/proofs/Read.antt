@@ -2,7 +2,8 @@
 use Rattle.std.proofs.Common.{ℕ, ◌+◌, List, [], ◌∷◌, ◌++◌, length, Option, Some, None, refl, sym, ap, subst, ◌∙◌, append_assoc}
 use Rattle.std.proofs.lemmas.List.{append-nil}
 use Rattle.toml_tree.specs.Spells.{Part, symbol, piece, begin, EachIs, joined, all_parts, comment_parts, blank_parts, gap_line_parts, gap_parts, header_parts, array_header_parts, assign_parts, value_parts, items_parts, pairs_parts, keyval_parts, expr_parts, line_parts, lines_parts, IsValue, AreItems, ArePairs, IsExpr, AreLines, mark_of}
-use Rattle.toml_tree.specs.Tree.{Piece, Blank, GapLine, Gap, Value, Scalar, Array, Empty, Inline, Items, Close, Last, More, Pairs, LastPair, MorePairs, KeyVal, Expr, BlankLine, KeyValLine, TableLine, ArrayTableLine, Line}
+use Rattle.toml_tree.specs.Tree.{Piece, Blank, GapLine, Gap, Value, Scalar, Array, Inline, Items, Close, Last, More, Pairs, ClosePairs, LastPair, MorePairs, KeyVal, Expr, BlankLine, KeyValLine, TableLine, ArrayTableLine, Line}
+use Rattle.toml_tree.specs.Parts.{size}
 use Rattle.toml_tree.proofs.Proved.{value_start}
 use Rattle.toml_names.specs.model.Addresses.{Address, element}
 use Rattle.toml_names.specs.mentions.Mentions.{Named, root, named_by}
@@ -10,7 +11,7 @@ use Rattle.toml_names.specs.reader.Names.{own_address}
 use Rattle.toml_units.specs.declared.unit.UnitKind.{UnitKind}
 use Rattle.toml_units.specs.declared.unit.UnitKind.TheVariants as kinds
 use Rattle.toml_units.specs.Texts.{ReadsIn, UnitsReadTheText, InsideReadsTheText}
-use Rattle.toml_units.specs.Units.{comment_units, gap_line_units, gap_units, element_unit, pair_unit, pair_address, inside, elements, members, value_units, tail_units, inside_line, line_unit, line_units, units_from}
+use Rattle.toml_units.specs.Units.{TextUnit, comment_units, gap_line_units, gap_units, element_unit, pair_unit, pair_address, inside, elements, members, value_units, tail_units, inside_line, line_unit, line_units, units_from}
 use Rattle.toml_units.proofs.Each.{each_append}
 use Rattle.toml_units.proofs.InLines.{start_of}
 use Rattle.toml_units.proofs.Sizes.{value_text}
@@ -42,12 +43,26 @@ module _ (text : List ℕ) where
   pair_read : (at : Address) (k : KeyVal) (n : ℕ) → StandIn text n (keyval_parts k) → ReadsIn text (pair_unit at k)
   pair_read at k n h = reads text (keyval_parts k) n (pair_unit at k) h h.placed.0 refl
 
+  -- units of the first parts, and what comes behind them
+  first_read : (us ws : List TextUnit) (ps last : List Part) (n : ℕ) → StandIn text n (ps ++ last) → (StandIn text n ps → EachIs (ReadsIn text) us) → (StandIn text (n + size ps) last → EachIs (ReadsIn text) ws) → EachIs (ReadsIn text) (us ++ ws)
+  first_read us ws ps last n h first more = each_append (ReadsIn text) us ws (first (stand_front text ps last n h)) (more (stand_back text ps last n h))
+
+  gap_first : (at : Address) (g : Gap) (us : List TextUnit) (last : List Part) (n : ℕ) → StandIn text n (gap_parts g ++ last) → (StandIn text (n + size (gap_parts g)) last → EachIs (ReadsIn text) us) → EachIs (ReadsIn text) (gap_units at g ++ us)
+  gap_first at g us last n h more = first_read (gap_units at g) us (gap_parts g) last n h (λ s. gap_read at g n s) more
+
+  pair_first : (at : Address) (k : KeyVal) (us : List TextUnit) (last : List Part) (n : ℕ) → StandIn text n (assign_parts k.assign ++ (value_parts k.value ++ last))
+      → ((m : ℕ) → StandIn text m (value_parts k.value) → EachIs (ReadsIn text) (inside (pair_address at k.assign) k.value))
+      → (StandIn text (n + size (keyval_parts k)) last → EachIs (ReadsIn text) us) → EachIs (ReadsIn text) ((pair_unit at k ∷ inside (pair_address at k.assign) k.value) ++ us)
+  pair_first at k us last n h inner more =
+      first_read (pair_unit at k ∷ inside (pair_address at k.assign) k.value) us (keyval_parts k) last n
+      (subst (λ (ps : List Part). StandIn text n ps) (sym (append_assoc (assign_parts k.assign) (value_parts k.value) last)) h)
+      (λ s. (pair_read at k n s, inner (n + size (assign_parts k.assign)) (stand_back text (assign_parts k.assign) (value_parts k.value) n s))) more
+
   mutual
     inside_read : (v : Value) (at : Address) (n : ℕ) → IsValue v → StandIn text n (value_parts v) → EachIs (ReadsIn text) (inside at v)
     inside_read (Scalar kind p) at n form h = tt
     inside_read (Array whole items) at n form h =
         elements_read items at 0 _ form.1 (stand_behind text (symbol (0x5B ∷ [])) (items_parts items) _ (stand_behind text (begin whole) (symbol (0x5B ∷ []) ∷ items_parts items) n h))
-    inside_read (Empty whole ws) at n form h = tt
     inside_read (Inline whole pairs) at n form h =
         members_read pairs at _ form.1 (stand_behind text (symbol (0x7B ∷ [])) (pairs_parts pairs) _ (stand_behind text (begin whole) (symbol (0x7B ∷ []) ∷ pairs_parts pairs) n h))
 
@@ -55,39 +70,31 @@ module _ (text : List ℕ) where
     elements_read (Close g) at i n form h = gap_read at g n (stand_front text (gap_parts g) (symbol (0x5D ∷ []) ∷ []) n h)
     elements_read (Last g v h) at i n form s =
         let last : List Part = symbol (0x5D ∷ []) ∷ [] in
-        let s1 = stand_back text (gap_parts g) (value_parts v ++ (gap_parts h ++ last)) n s in
-        let sv = stand_front text (value_parts v) (gap_parts h ++ last) _ s1 in
-        let s2 = stand_back text (value_parts v) (gap_parts h ++ last) _ s1 in
-        each_append (ReadsIn text) (gap_units at g) _ (gap_read at g n (stand_front text (gap_parts g) (value_parts v ++ (gap_parts h ++ last)) n s))
-        (element_read (element at i) v _ form.1 sv, each_append (ReadsIn text) (inside (element at i) v) (gap_units at h) (inside_read v (element at i) _ form.1 sv) (gap_read at h _ (stand_front text (gap_parts h) last _ s2)))
+        gap_first at g ((element_unit (element at i) v ∷ inside (element at i) v) ++ gap_units at h) (value_parts v ++ (gap_parts h ++ last)) n s
+        (λ t. first_read (element_unit (element at i) v ∷ inside (element at i) v) (gap_units at h) (value_parts v) (gap_parts h ++ last) _ t
+        (λ q. (element_read (element at i) v _ form.1 q, inside_read v (element at i) _ form.1 q))
+        (λ q. gap_read at h _ (stand_front text (gap_parts h) last _ q)))
     elements_read (More g v h is) at i n form s =
         let last : List Part = symbol (0x2C ∷ []) ∷ items_parts is in
-        let s1 = stand_back text (gap_parts g) (value_parts v ++ (gap_parts h ++ last)) n s in
-        let sv = stand_front text (value_parts v) (gap_parts h ++ last) _ s1 in
-        let s2 = stand_back text (value_parts v) (gap_parts h ++ last) _ s1 in
-        let s3 = stand_back text (gap_parts h) last _ s2 in
-        each_append (ReadsIn text) (gap_units at g) _ (gap_read at g n (stand_front text (gap_parts g) (value_parts v ++ (gap_parts h ++ last)) n s)) (
-          element_read (element at i) v _ form.1 sv,
-          each_append (ReadsIn text) (inside (element at i) v) (gap_units at h ++ elements at (i + 1) is) (inside_read v (element at i) _ form.1 sv)
-              (each_append (ReadsIn text) (gap_units at h) (elements at (i + 1) is) (gap_read at h _ (stand_front text (gap_parts h) last _ s2))
-              (elements_read is at (i + 1) _ form.3 (stand_behind text (symbol (0x2C ∷ [])) (items_parts is) _ s3))),
-        )
+        gap_first at g ((element_unit (element at i) v ∷ inside (element at i) v) ++ (gap_units at h ++ elements at (i + 1) is)) (value_parts v ++ (gap_parts h ++ last)) n s
+        (λ t. first_read (element_unit (element at i) v ∷ inside (element at i) v) (gap_units at h ++ elements at (i + 1) is) (value_parts v) (gap_parts h ++ last) _ t
+        (λ q. (element_read (element at i) v _ form.1 q, inside_read v (element at i) _ form.1 q))
+        (λ q. gap_first at h (elements at (i + 1) is) last _ q (λ r. elements_read is at (i + 1) _ form.3 (stand_behind text (symbol (0x2C ∷ [])) (items_parts is) _ r))))
 
     members_read : (pairs : Pairs) (at : Address) (n : ℕ) → ArePairs pairs → StandIn text n (pairs_parts pairs) → EachIs (ReadsIn text) (members at pairs)
-    members_read (LastPair ws a v after) at n form s =
-        let k : KeyVal = record { assign = a; value = v } in
-        let last : List Part = piece after ∷ symbol (0x7D ∷ []) ∷ [] in
-        let s1 = subst (λ (ps : List Part). StandIn text (n + length ws.text) ps) (sym (append_assoc (assign_parts a) (value_parts v) last)) (stand_behind text (piece ws) (assign_parts a ++ (value_parts v ++ last)) n s) in
-        let sk = stand_front text (keyval_parts k) last _ s1 in
-        (pair_read at k _ sk, inside_read v (pair_address at a) _ form.2 (stand_back text (assign_parts a) (value_parts v) _ sk))
-    members_read (MorePairs ws a v after ps) at n form s =
-        let k : KeyVal = record { assign = a; value = v } in
-        let last : List Part = piece after ∷ symbol (0x2C ∷ []) ∷ pairs_parts ps in
-        let s1 = subst (λ (qs : List Part). StandIn text (n + length ws.text) qs) (sym (append_assoc (assign_parts a) (value_parts v) last)) (stand_behind text (piece ws) (assign_parts a ++ (value_parts v ++ last)) n s) in
-        let sk = stand_front text (keyval_parts k) last _ s1 in
-        let s2 = stand_back text (keyval_parts k) last _ s1 in
-        let s3 = stand_behind text (symbol (0x2C ∷ [])) (pairs_parts ps) _ (stand_behind text (piece after) (symbol (0x2C ∷ []) ∷ pairs_parts ps) _ s2) in
-        (pair_read at k _ sk, each_append (ReadsIn text) (inside (pair_address at a) v) (members at ps) (inside_read v (pair_address at a) _ form.2 (stand_back text (assign_parts a) (value_parts v) _ sk)) (members_read ps at _ form.4 s3))
+    members_read (ClosePairs g) at n form h = gap_read at g n (stand_front text (gap_parts g) (symbol (0x7D ∷ []) ∷ []) n h)
+    members_read (LastPair g a v h) at n form s =
+        let last : List Part = symbol (0x7D ∷ []) ∷ [] in
+        gap_first at g ((pair_unit at (record { assign = a; value = v }) ∷ inside (pair_address at a) v) ++ gap_units at h) (assign_parts a ++ (value_parts v ++ (gap_parts h ++ last))) n s
+        (λ t. pair_first at (record { assign = a; value = v }) (gap_units at h) (gap_parts h ++ last) _ t
+        (λ m q. inside_read v (pair_address at a) m form.2 q)
+        (λ q. gap_read at h _ (stand_front text (gap_parts h) last _ q)))
+    members_read (MorePairs g a v h ps) at n form s =
+        let last : List Part = symbol (0x2C ∷ []) ∷ pairs_parts ps in
+        gap_first at g ((pair_unit at (record { assign = a; value = v }) ∷ inside (pair_address at a) v) ++ (gap_units at h ++ members at ps)) (assign_parts a ++ (value_parts v ++ (gap_parts h ++ last))) n s
+        (λ t. pair_first at (record { assign = a; value = v }) (gap_units at h ++ members at ps) (gap_parts h ++ last) _ t
+        (λ m q. inside_read v (pair_address at a) m form.2 q)
+        (λ q. gap_first at h (members at ps) last _ q (λ r. members_read ps at _ form.4 (stand_behind text (symbol (0x2C ∷ [])) (pairs_parts ps) _ r))))
 
   value_read : (at : Option Address) (v : Value) (n : ℕ) → IsValue v → StandIn text n (value_parts v) → EachIs (ReadsIn text) (value_units at v)
   value_read None v n form h = tt

@@ -3,7 +3,7 @@ use Rattle.std.proofs.Common.{◌≡◌, ◌⊎◌, inl, inr, ℕ, zero, suc, �
 use Rattle.std.specs.Prelude.{slice_get, IsSome}
 use Rattle.std.proofs.lemmas.Option.{same_Some}
 use Rattle.toml_tree.specs.Spells.{EachIs}
-use Rattle.toml_tree.specs.Tree.{Piece, GapLine, Gap, Value, Scalar, Array, Empty, Inline, Items, Close, Last, More, Pairs, LastPair, MorePairs, Expr, BlankLine, KeyValLine, TableLine, ArrayTableLine, Line}
+use Rattle.toml_tree.specs.Tree.{Piece, Assign, GapLine, Gap, Value, Scalar, Array, Inline, Items, Close, Last, More, Pairs, ClosePairs, LastPair, MorePairs, Expr, BlankLine, KeyValLine, TableLine, ArrayTableLine, Line}
 use Rattle.toml_names.specs.model.Addresses.{Address, element}
 use Rattle.toml_names.specs.mentions.Mentions.{Named, root, named_by}
 use Rattle.toml_names.specs.reader.Names.{own_address}
@@ -12,8 +12,8 @@ use Rattle.toml_units.specs.declared.unit.UnitKind.TheVariants as kinds
 use Rattle.toml_units.specs.Blocks.{IsUnder}
 use Rattle.toml_units.specs.OfLines.{IsOfLine, UnitsAreOfLines}
 use Rattle.toml_units.specs.Places.{is_line, line_with, line_from}
-use Rattle.toml_units.specs.Units.{TextUnit, comment_units, gap_units, gap_line_units, inside, elements, members, value_units, tail_units, inside_line, line_unit, pair_address, units_from, units}
-use Rattle.toml_units.proofs.Each.{each_append, each_weaker, each_of_both}
+use Rattle.toml_units.specs.Units.{TextUnit, comment_units, gap_units, gap_line_units, element_unit, pair_unit, inside, elements, members, value_units, tail_units, inside_line, line_unit, pair_address, units_from, units}
+use Rattle.toml_units.proofs.Each.{each_append, each_between, each_weaker, each_of_both}
 use Rattle.toml_units.proofs.InLines.{line_under}
 
 -- the same, its address apart
@@ -56,23 +56,33 @@ gap_line_inner at (l ∷ ls) = each_append IsInner (comment_units kinds.InnerCom
 gap_inner : (at : Address) (g : Gap) → EachIs IsInner (gap_units at g)
 gap_inner at g = gap_line_inner at g.lines
 
+element_inner : (at : Address) (v : Value) → EachIs IsInner (inside at v) → EachIs IsInner (element_unit at v ∷ inside at v)
+element_inner at v h = (((λ e. cc), (λ e. cc), (λ e. absurd (no_element e))), h)
+
+pair_inner : (at : Address) (a : Assign) (v : Value) → EachIs IsInner (inside (pair_address at a) v) → EachIs IsInner (pair_unit at (record { assign = a; value = v }) ∷ inside (pair_address at a) v)
+pair_inner at a v h = (((λ e. cc), (λ e. cc), (λ e. refl)), h)
+
 mutual
   inner_inside : (at : Address) (v : Value) → EachIs IsInner (inside at v)
   inner_inside at (Scalar kind p) = tt
   inner_inside at (Array whole items) = inner_elements at 0 items
-  inner_inside at (Empty whole ws) = tt
   inner_inside at (Inline whole pairs) = inner_members at pairs
 
   inner_elements : (at : Address) (i : ℕ) (is : Items) → EachIs IsInner (elements at i is)
   inner_elements at i (Close g) = gap_inner at g
   inner_elements at i (Last g v h) =
-      each_append IsInner (gap_units at g) _ (gap_inner at g) (((λ e. cc), (λ e. cc), (λ e. absurd (no_element e))), each_append IsInner (inside (element at i) v) (gap_units at h) (inner_inside (element at i) v) (gap_inner at h))
+      each_between IsInner (gap_units at g) (element_unit (element at i) v ∷ inside (element at i) v) (gap_units at h) (gap_inner at g) (element_inner (element at i) v (inner_inside (element at i) v)) (gap_inner at h)
   inner_elements at i (More g v h is) =
-      each_append IsInner (gap_units at g) _ (gap_inner at g) (((λ e. cc), (λ e. cc), (λ e. absurd (no_element e))), each_append IsInner (inside (element at i) v) (gap_units at h ++ elements at (i + 1) is) (inner_inside (element at i) v) (each_append IsInner (gap_units at h) (elements at (i + 1) is) (gap_inner at h) (inner_elements at (i + 1) is)))
+      each_between IsInner (gap_units at g) (element_unit (element at i) v ∷ inside (element at i) v) (gap_units at h ++ elements at (i + 1) is) (gap_inner at g) (element_inner (element at i) v (inner_inside (element at i) v))
+      (each_append IsInner (gap_units at h) (elements at (i + 1) is) (gap_inner at h) (inner_elements at (i + 1) is))
 
   inner_members : (at : Address) (ps : Pairs) → EachIs IsInner (members at ps)
-  inner_members at (LastPair ws a v after) = (((λ e. cc), (λ e. cc), (λ e. refl)), inner_inside (pair_address at a) v)
-  inner_members at (MorePairs ws a v after ps) = (((λ e. cc), (λ e. cc), (λ e. refl)), each_append IsInner (inside (pair_address at a) v) (members at ps) (inner_inside (pair_address at a) v) (inner_members at ps))
+  inner_members at (ClosePairs g) = gap_inner at g
+  inner_members at (LastPair g a v h) =
+      each_between IsInner (gap_units at g) (pair_unit at (record { assign = a; value = v }) ∷ inside (pair_address at a) v) (gap_units at h) (gap_inner at g) (pair_inner at a v (inner_inside (pair_address at a) v)) (gap_inner at h)
+  inner_members at (MorePairs g a v h ps) =
+      each_between IsInner (gap_units at g) (pair_unit at (record { assign = a; value = v }) ∷ inside (pair_address at a) v) (gap_units at h ++ members at ps) (gap_inner at g) (pair_inner at a v (inner_inside (pair_address at a) v))
+      (each_append IsInner (gap_units at h) (members at ps) (gap_inner at h) (inner_members at ps))
 
 pub value_inner : (at : Option Address) (v : Value) → EachIs IsInner (value_units at v)
 value_inner None v = tt

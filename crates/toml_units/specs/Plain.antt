@@ -1,8 +1,8 @@
 -- The plain function of units: spans, read off the pieces.
 use Rattle.std.specs.Prelude.{◌≡◌, ◌+◌, ◌-◌, ℕ, List, [], ◌∷◌, ◌++◌, length, map, Option, Some, None}
 use Rattle.toml_tree.specs.Spells.{Spells, SpellsValue}
-use Rattle.toml_tree.specs.Tree.{Value, Scalar, Array, Empty, Inline, Items, Close, Last, More, Pairs, LastPair, MorePairs, KeyVal, Expr, BlankLine, KeyValLine, TableLine, ArrayTableLine, Line, Doc}
-use Rattle.toml_tree.specs.ReadingValues.{Element as ArrayElement}
+use Rattle.toml_tree.specs.Tree.{Gap, Value, Scalar, Array, Inline, Items, Close, Last, More, Pairs, ClosePairs, LastPair, MorePairs, KeyVal, Expr, BlankLine, KeyValLine, TableLine, ArrayTableLine, Line, Doc}
+use Rattle.toml_tree.specs.ReadingValues.{Element as ArrayElement, Member}
 use Rattle.toml_tree.specs.Pieces.{piece_of, expr_start}
 use Rattle.toml_names.specs.model.Addresses.{Address, element}
 use Rattle.toml_names.specs.mentions.Keys.{key_names}
@@ -21,7 +21,6 @@ abbrev mutual
   pub plain_inside : Address → Value → List Spanned
   plain_inside at (Scalar kind p) = []
   plain_inside at (Array whole items) = plain_elements at 0 items
-  plain_inside at (Empty whole ws) = []
   plain_inside at (Inline whole pairs) = plain_members at pairs
 
   pub plain_elements : Address → ℕ → Items → List Spanned
@@ -30,8 +29,9 @@ abbrev mutual
   plain_elements at i (More g v h is) = map spanned (gap_units at g) ++ ((spanned (element_unit (element at i) v) ∷ plain_inside (element at i) v) ++ (map spanned (gap_units at h) ++ plain_elements at (i + 1) is))
 
   pub plain_members : Address → Pairs → List Spanned
-  plain_members at (LastPair ws a v after) = pair_span at (record { assign = a; value = v }) ∷ plain_inside (pair_address at a) v
-  plain_members at (MorePairs ws a v after ps) = (pair_span at (record { assign = a; value = v }) ∷ plain_inside (pair_address at a) v) ++ plain_members at ps
+  plain_members at (ClosePairs g) = map spanned (gap_units at g)
+  plain_members at (LastPair g a v h) = map spanned (gap_units at g) ++ ((pair_span at (record { assign = a; value = v }) ∷ plain_inside (pair_address at a) v) ++ map spanned (gap_units at h))
+  plain_members at (MorePairs g a v h ps) = map spanned (gap_units at g) ++ ((pair_span at (record { assign = a; value = v }) ∷ plain_inside (pair_address at a) v) ++ (map spanned (gap_units at h) ++ plain_members at ps))
 
 -- what lies in a value, where it has an address
 abbrev pub plain_value : Option Address → Value → List Spanned
@@ -64,12 +64,17 @@ plain_from earlier n (l ∷ ls) = line_spans (own_address earlier l.expr) l.expr
 abbrev pub plain_units : List Line → List Spanned
 plain_units = plain_from (root ∷ []) 0
 
--- an element between its gaps, and a pair, with what lies in them
+-- an element between its gaps, and a pair between its own, with what lies in them
 abbrev pub element_units : Address → ℕ → ArrayElement → List Spanned
 element_units at i e = map spanned (gap_units at e.before) ++ ((spanned (element_unit (element at i) e.value) ∷ plain_inside (element at i) e.value) ++ map spanned (gap_units at e.after))
 
-abbrev pub pair_units : Address → KeyVal → List Spanned
-pair_units at k = pair_span at k ∷ plain_inside (pair_address at k.assign) k.value
+abbrev pub pair_units : Address → Member → List Spanned
+pair_units at m = map spanned (gap_units at m.before) ++ ((pair_span at m.pair ∷ plain_inside (pair_address at m.pair.assign) m.pair.value) ++ map spanned (gap_units at m.after))
+
+-- the gap behind a last comma
+abbrev pub end_units : Address → Option Gap → List Spanned
+end_units at None = []
+end_units at (Some g) = map spanned (gap_units at g)
 
 -- Law: of a document these are the units.
 abbrev pub PlainIsUnits : Type 0

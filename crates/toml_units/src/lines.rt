@@ -163,8 +163,8 @@ pub fn units_at(
 }
 
 /// The units of a document, in text order, an outer one before what lies in it: each line; behind it what lies in the
-/// value of its key, where it has one, that is the comments and elements of arrays and the pairs of inline tables at
-/// every depth; and then the comment at its end. The mark is in no unit, nor is a line's newline.
+/// value of its key, where it has one, that is the comments and elements of arrays and the comments and pairs of inline
+/// tables at every depth; and then the comment at its end. The mark is in no unit, nor is a line's newline.
 ///
 /// The names are those of the document.
 pub fn units(alloc: Global, doc: &Doc, names: &Names) -> Result<Vec<Unit>, AllocError>

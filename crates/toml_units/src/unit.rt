@@ -9,7 +9,8 @@ pub enum UnitKind {
     Line,
     /// A comment at the end of a line (TOML v1.0.0, Comment), also of a blank one; it has its line's address.
     TailComment,
-    /// A comment in an array (TOML v1.0.0, Array). Its address is that of the innermost array in which it stands.
+    /// A comment in an array (TOML v1.0.0, Array) or, in profile 2, in an inline table. Its address is that of the innermost
+    /// of these in which it stands.
     InnerComment,
     /// The value of an array's element, at its own address.
     Element,

@@ -1,7 +1,7 @@
 //! The units of values.
 ghost use Rattle.std.specs.Prelude.{ℕ, List, ◌≡◌, [], ◌∷◌, ◌++◌, Some, map, option_map, OnOk, IfOk};
-ghost use Rattle.toml_tree.specs.View.{piece, gap, value, element as tree_element, keyval as tree_keyval};
-ghost use Rattle.toml_units.specs.Plain.{spanned, plain_inside, element_units, pair_units};
+ghost use Rattle.toml_tree.specs.View.{piece, gap, value, element as tree_element, member};
+ghost use Rattle.toml_units.specs.Plain.{spanned, plain_inside, element_units, pair_units, end_units};
 ghost use Rattle.toml_tree.specs.Pieces.{piece_of};
 ghost use Rattle.toml_tree.specs.Spells.{SpellsValue};
 ghost use Rattle.toml_units.specs.Units.{comment_units, gap_units, inside};
@@ -11,7 +11,7 @@ use crate::unit::{Unit, UnitKind};
 use std::alloc::{AllocError, Global};
 use toml_names::{Address, key_address};
 use toml_text::Span;
-use toml_tree::{Gap, Item, KeyVal, Piece, Value};
+use toml_tree::{Gap, Item, Pair, Piece, Value};
 
 /// An address of its own that is the same, where there is one.
 pub fn copied(alloc: Global, at: Option<&Address>) -> Result<Option<Address>, AllocError>
@@ -44,7 +44,7 @@ pub fn push_comment(
     Ok(())
 }
 
-/// Adds the comments of a gap of the array at the address.
+/// Adds the comments of a gap of the array or inline table at the address.
 fn push_gap(alloc: Global, units: &mut Vec<Unit>, at: &Address, g: &Gap) -> Result<(), AllocError>
     ensures { OnOk result (all_units units.new.items ≡ all_units units.old.items ++ map spanned (gap_units at.now (gap g.now))) }
 {
@@ -58,6 +58,21 @@ fn push_gap(alloc: Global, units: &mut Vec<Unit>, at: &Address, g: &Gap) -> Resu
         )?;
     }
     Ok(())
+}
+
+/// Adds the comments behind a last comma, where there is one.
+fn push_end(
+    alloc: Global,
+    units: &mut Vec<Unit>,
+    at: &Address,
+    end: &Option<Gap>,
+) -> Result<(), AllocError>
+    ensures { OnOk result (all_units units.new.items ≡ all_units units.old.items ++ end_units at.now (option_map gap end.now)) }
+{
+    match end {
+        Some(g) => push_gap(alloc, units, at, g),
+        None => Ok(()),
+    }
 }
 
 /// The piece that a value is spelled by.
@@ -87,19 +102,13 @@ pub fn push_inside(
             for (index, item) in array.items.iter().enumerate() {
                 push_element(alloc, units, at, index as u64, item)?;
             }
-            if let Some(end) = &array.end {
-                push_gap(alloc, units, at, end)?;
-            }
-            Ok(())
+            push_end(alloc, units, at, &array.end)
         }
         Value::Inline(table) => {
-            if table.ws.is_some() {
-                return Ok(());
-            }
             for pair in &table.pairs {
-                push_pair(alloc, units, at, &pair.keyval)?;
+                push_pair(alloc, units, at, pair)?;
             }
-            Ok(())
+            push_end(alloc, units, at, &table.end)
         }
     }
 }
@@ -130,23 +139,34 @@ fn push_element(
     push_gap(alloc, units, at, &item.after)
 }
 
-/// Adds a pair of the table at the address.
+/// Adds a pair of the table at the address, with its gaps.
 #[cycle(inside)]
 fn push_pair(
     alloc: Global,
     units: &mut Vec<Unit>,
     at: &Address,
-    pair: &KeyVal,
+    pair: &Pair,
 ) -> Result<(), AllocError>
-    ensures { OnOk result (all_units units.new.items ≡ all_units units.old.items ++ pair_units at.now (tree_keyval pair.now)) }
+    ensures { OnOk result (all_units units.new.items ≡ all_units units.old.items ++ pair_units at.now (member pair.now)) }
 {
-    let here = key_address(alloc, at, &pair.assign.key)?;
+    push_gap(alloc, units, at, &pair.before)?;
+    let keyval = &pair.keyval;
+    let here = key_address(alloc, at, &keyval.assign.key)?;
     let span = Span {
-        start: pair.assign.key.first.start,
-        end: whole(&pair.value).span().end,
+        start: keyval.assign.key.first.start,
+        end: whole(&keyval.value).span().end,
     };
     let base = Some(at.steps().len());
-    push_valued(alloc, units, UnitKind::Pair, span, base, here, &pair.value)
+    push_valued(
+        alloc,
+        units,
+        UnitKind::Pair,
+        span,
+        base,
+        here,
+        &keyval.value,
+    )?;
+    push_gap(alloc, units, at, &pair.after)
 }
 
 /// Adds a unit that has a value, at the value's address, and what lies in the value.
