@@ -50,11 +50,11 @@ pub next_in_array : (v : Vec Datum Global) (i n : ℕ) → n ≡ length v.items 
 next_in_array v i n is = (
   λ yes. let same : i ≡ length v.items = eqb-true i n yes ∙ is in subst (Next v i) (sym (array-here v)) (refl, (room v i (omega (arith, same))).1, past_end v i (omega (arith, same))),
   λ next. eq-eqb i n (let at_end : Next v i (Some an_array) = subst (Next v i) (array-here v) next in
-    elim (cases_lt i (length v.items)) [
-      | inl low ↦ absurd (some_none _ ((room v (suc i) (omega (arith, low))).1 i (omega arith)) at_end.2)
-      | inr past ↦ elim (cases_lt (length v.items) i) [
+      elim (cases_lt i (length v.items)) [
+        | inl low ↦ absurd (some_none _ ((room v (suc i) (omega (arith, low))).1 i (omega arith)) at_end.2)
+        | inr past ↦ elim (cases_lt (length v.items) i) [
           | inl above ↦ absurd (some_none _ (at_end.1 (length v.items) above) (past_end v (length v.items) (omega arith)))
           | inr not_above ↦ omega (arith, past, not_above, is)
         ]
-    ]),
+      ]),
 )

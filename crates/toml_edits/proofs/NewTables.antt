@@ -38,9 +38,13 @@ makes_section d at q n v g is same empty made = subst (λ (p : Address). Moves S
 
 pub makes_array : (d : Datum) (at r : Address) (n : List ℕ) (i : ℕ) (v g : Kinds) → IsElementOf at r n i → ((p : Address) → v p ≡ one_empty_table p) → kind_at d (child r n) ≡ None
     → ((p : Address) → g p ≡ below r (below (Name n ∷ []) (λ part. v)) (kind_at d) p) → IsAfter (new_element at) (kind_at d) g
-makes_array d at r n i v g is same empty made =
-    (child r n, i, is, subst (λ (o : Option Kind). AddsElement (child r n) at o (kind_at d) g) (sym empty)
-    (adds_facts d r n v one_empty_table g same empty made))
+makes_array d at r n i v g is same empty made = (
+  child r n,
+  i,
+  is,
+  subst (λ (o : Option Kind). AddsElement (child r n) at o (kind_at d) g) (sym empty)
+      (adds_facts d r n v one_empty_table g same empty made),
+)
 
 -- ---- an element behind the last
 
@@ -89,12 +93,16 @@ keeps_low (s ∷ q) i f low (t ∷ b) k have = by (same_step s t) refl (λ same.
 
 pub makes_element : (d : Datum) (at q : Address) (i : ℕ) (v g : Kinds) → at ≡ element q i → ((p : Address) → v p ≡ an_empty_table p) → (k : Kind) → kind_at d q ≡ Some k → kind_at d (element q i) ≡ None
     → ((p : Address) → g p ≡ below q (shifted_in i v) (kind_at d) p) → IsAfter (new_element at) (kind_at d) g
-makes_element d at q i v g is same k there empty made =
-    (q, i, is, subst (λ (o : Option Kind). AddsElement q at o (kind_at d) g) (sym there)
-    (subst (λ (f : Kinds). Moves Some at f (kind_at d) g) (fun_ext same)
-    (moves_as Some Some at (element q i) v (kind_at d) _ g refl is made
-    (moves_alike (carry_below q (up_from i)) Some (element q i) v (kind_at d) _ (keeps_low q i (kind_at d) (ended_at q i d empty))
-    (moves_below q (up_from i) (Index i ∷ []) v (kind_at d) (shifted_in i v) (moves_in i v (λ r. kind_at d (q ++ r)) (indices_fit_at q d)))))))
+makes_element d at q i v g is same k there empty made = (
+  q,
+  i,
+  is,
+  subst (λ (o : Option Kind). AddsElement q at o (kind_at d) g) (sym there)
+      (subst (λ (f : Kinds). Moves Some at f (kind_at d) g) (fun_ext same)
+      (moves_as Some Some at (element q i) v (kind_at d) _ g refl is made
+      (moves_alike (carry_below q (up_from i)) Some (element q i) v (kind_at d) _ (keeps_low q i (kind_at d) (ended_at q i d empty))
+      (moves_below q (up_from i) (Index i ∷ []) v (kind_at d) (shifted_in i v) (moves_in i v (λ r. kind_at d (q ++ r)) (indices_fit_at q d)))))),
+)
 
 -- ---- where no fault holds
 

@@ -47,7 +47,12 @@ pub(crate) fn section(alloc: Global, root: &mut Datum, at: &[Step]) -> Result<()
         return Err(EditFault::NotAName);
     };
     let table = empty_table(alloc);
-    alter(alloc, root, parent, DatumChange::AddMember(name.as_str(), table))
+    alter(
+        alloc,
+        root,
+        parent,
+        DatumChange::AddMember(name.as_str(), table),
+    )
 }
 
 /// Why no section may be made there.
@@ -166,8 +171,18 @@ pub(crate) fn element(alloc: Global, root: &mut Datum, at: &[Step]) -> Result<()
     }
     if root.part(place.array).is_some() {
         let table = empty_table(alloc);
-        return alter(alloc, root, place.array, DatumChange::AddElement(place.index, table));
+        return alter(
+            alloc,
+            root,
+            place.array,
+            DatumChange::AddElement(place.index, table),
+        );
     }
     let array = one_empty_table(alloc)?;
-    alter(alloc, root, place.above, DatumChange::AddMember(place.name.as_str(), array))
+    alter(
+        alloc,
+        root,
+        place.above,
+        DatumChange::AddMember(place.name.as_str(), array),
+    )
 }

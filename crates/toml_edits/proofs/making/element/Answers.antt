@@ -29,9 +29,11 @@ returns-then-is_some-clause-ok c =
     let there = has (kind_at root) q (subst (λ (a : Address). IsSome (kind_at root a)) array (c.part.ensures.found.0 (sym c.if-is_some.ensures))) in
     let v = kind_at c.empty_table-table.result in
     on_ok_weaker c.alter.result
-    (λ made. (c.in_default-element_fault.ensures,
-    element_made root c.args.at.now p.above.now p.name.now p.index c.in-Some.ensures.whole c.in_default-element_fault.ensures there.0 there.1 v (kind_at c.alter.new.root) c.empty_table-table.ensures
-    (λ a. made a ∙ ap (λ (x : Address). below x (shifted_in p.index v) (kind_at root) a) array)))
+    (λ made. (
+      c.in_default-element_fault.ensures,
+      element_made root c.args.at.now p.above.now p.name.now p.index c.in-Some.ensures.whole c.in_default-element_fault.ensures there.0 there.1 v (kind_at c.alter.new.root) c.empty_table-table.ensures
+          (λ a. made a ∙ ap (λ (x : Address). below x (shifted_in p.index v) (kind_at root) a) array),
+    ))
     c.alter.ensures.ok
 
 pub alter-requires-2 : goal.alter-requires-2
@@ -48,7 +50,9 @@ returns-clause-ok c =
     let v = kind_at c.in_ok-array.array in
     let empty : kind_at root q ≡ None = none_of _ (λ some. true≢false (sym (c.part.ensures.found.1 (subst (λ (a : Address). IsSome (kind_at root a)) (sym array) some)) ∙ sym c.if-is_some.ensures)) in
     on_ok_weaker c.alter-2.result
-    (λ made. (c.in_default-element_fault.ensures,
-    array_made root c.args.at.now p.above.now p.name.now p.index c.in-Some.ensures.whole c.in_default-element_fault.ensures v (kind_at c.alter-2.new.root) empty c.in_ok-array.ensures
-    (λ a. made a ∙ ap (λ (n : List ℕ). below p.above.now (below (Name n ∷ []) (λ part. v)) (kind_at root) a) c.as_str.ensures)))
+    (λ made. (
+      c.in_default-element_fault.ensures,
+      array_made root c.args.at.now p.above.now p.name.now p.index c.in-Some.ensures.whole c.in_default-element_fault.ensures v (kind_at c.alter-2.new.root) empty c.in_ok-array.ensures
+          (λ a. made a ∙ ap (λ (n : List ℕ). below p.above.now (below (Name n ∷ []) (λ part. v)) (kind_at root) a) c.as_str.ensures),
+    ))
     c.alter-2.ensures.ok
