@@ -10,7 +10,7 @@ use Rattle.toml_names.specs.model.Data.{Kinds}
 use Rattle.toml_names.specs.mentions.Mentions.{a_table, an_array}
 use Rattle.toml_edits.specs.declared.fault.EditFault.{EditFault}
 use Rattle.toml_edits.specs.declared.fault.EditFault.TheVariants.{RootNamed, NotAnElement, BadValue, NoSuchPlace, NotATable, IndexOutside, NotAName, AlreadyThere, AddressLength, NoMemory}
-use Rattle.toml_edits.specs.Edits.{ValueText, Change, set, insert, rename, remove, place}
+use Rattle.toml_edits.specs.Edits.{Change, set, insert, rename, remove, place}
 use Rattle.toml_edits.specs.Faults.{rank, Row, IsFault, IsTooDeep, HasFewer}
 use Rattle.toml_edits.specs.Judged.{IsFitting, IsStepFault, IsJudged}
 use Rattle.toml_edits.specs.ValueTexts.{IsBadValue}
@@ -78,7 +78,7 @@ past_root c kinds not = past (Row c kinds) RootNamed not (start (Row c kinds))
 pub past_place : (c : Change) (kinds : Kinds) → ¬ (place c ≡ []) → ¬ Row c kinds NotAnElement → Past (Row c kinds) 2
 past_place c kinds not one = past (Row c kinds) NotAnElement one (past_root c kinds not)
 
-module _ (at : Address) (text : ValueText) (kinds : Kinds) (not : ¬ (at ≡ [])) where
+module _ (at : Address) (text : List ℕ) (kinds : Kinds) (not : ¬ (at ≡ [])) where
   pub set_bad : IsBadValue text → IsFault (set at text) kinds (Some BadValue)
   set_bad bad = (bad, past_place (set at text) kinds not (λ h. h))
 
@@ -102,7 +102,7 @@ module _ (at : Address) (text : ValueText) (kinds : Kinds) (not : ¬ (at ≡ [])
   set_free one some short =
       none (Row (set at text) kinds) (past (Row (set at text) kinds) NoMemory (λ h. h) (past (Row (set at text) kinds) AddressLength short (set_past_place one some)))
 
-pub set_judged : (at : Address) (text : ValueText) (kinds : Kinds) (r : Result Datum EditFault) → ¬ (at ≡ []) → ¬ IsBadValue text → IsSome (kinds at) → IsFitting at text r → IsJudged (set at text) text kinds r
+pub set_judged : (at : Address) (text : List ℕ) (kinds : Kinds) (r : Result Datum EditFault) → ¬ (at ≡ []) → ¬ IsBadValue text → IsSome (kinds at) → IsFitting at text r → IsJudged (set at text) text kinds r
 set_judged at text kinds (Ok d) root one some fits = (set_free at text kinds root one some fits.1, fits.0)
 set_judged at text kinds (Err BadValue) root one some fits = absurd (one fits)
 set_judged at text kinds (Err AddressLength) root one some fits = inr (set_too_deep at text kinds root one some fits.1)
@@ -117,7 +117,7 @@ apart n i is = cc
 pub same_index : (i j : ℕ) → Index i ≡ Index j → i ≡ j
 same_index i j is = cc
 
-module _ (at q : Address) (s : Step) (text : ValueText) (kinds : Kinds) (is : at ≡ q ++ s ∷ []) where
+module _ (at q : Address) (s : Step) (text : List ℕ) (kinds : Kinds) (is : at ≡ q ++ s ∷ []) where
   abbrev Holds : EditFault → Type 0
   Holds = Row (insert at text) kinds
 
@@ -188,7 +188,7 @@ enough_there : (kinds : Kinds) (q : Address) (i : ℕ) → part_at kinds q [] �
 enough_there kinds q i array each (inl other) = other (sym (here kinds q) ∙ array)
 enough_there kinds q i array each (inr (j, low, empty)) = some_none _ (each j low) empty
 
-pub insert_step : (at q : Address) (s : Step) (text : ValueText) (kinds : Kinds) (x : EditFault) → at ≡ q ++ s ∷ [] → ¬ IsBadValue text → IsSome (kinds q) → IsStepFault s (part_at kinds q) (Some x) → IsFault (insert at text) kinds (Some x)
+pub insert_step : (at q : Address) (s : Step) (text : List ℕ) (kinds : Kinds) (x : EditFault) → at ≡ q ++ s ∷ [] → ¬ IsBadValue text → IsSome (kinds q) → IsStepFault s (part_at kinds q) (Some x) → IsFault (insert at text) kinds (Some x)
 insert_step at q (Name n) text kinds NotATable is one some found = (not_table at q (Name n) text kinds is n refl (λ table. found (here kinds q ∙ table)), past_parent at q (Name n) text kinds is one some)
 insert_step at q (Name n) text kinds AlreadyThere is one some found = (
   (q, n, is, subst (λ p. IsSome (kinds p)) (sym is) found.1),
@@ -198,7 +198,7 @@ insert_step at q (Index i) text kinds IndexOutside is one some found =
     ((q, i, is, fewer_there kinds q i found), past_table at q (Index i) text kinds is one some (λ n e. absurd (apart n i (sym e))))
 insert_step at q _ text kinds _ is one some found = absurd found
 
-pub insert_room : (at q : Address) (s : Step) (text : ValueText) (kinds : Kinds) (r : Result Datum EditFault) → at ≡ q ++ s ∷ [] → ¬ IsBadValue text → IsSome (kinds q) → IsStepFault s (part_at kinds q) None → IsFitting at text r
+pub insert_room : (at q : Address) (s : Step) (text : List ℕ) (kinds : Kinds) (r : Result Datum EditFault) → at ≡ q ++ s ∷ [] → ¬ IsBadValue text → IsSome (kinds q) → IsStepFault s (part_at kinds q) None → IsFitting at text r
     → IsJudged (insert at text) text kinds r
 insert_room at q (Name n) text kinds r is one some found fits =
     insert_judged at q (Name n) text kinds is r one some (λ m e. (sym (here kinds q) ∙ found.0, ap kinds is ∙ found.1)) (λ i e. absurd (apart n i e)) fits

@@ -1,18 +1,15 @@
 -- JSON items and members read one after the other.
-use Rattle.std.proofs.Common.{◌≡◌, ℕ, suc, ◌+◌, ◌<◌, ◌≤◌, List, [], ◌∷◌, ◌++◌, length, take, drop, get_or, map, Option, Some, None, option_map, String, Global, Bool, true, false, refl, sym, ap, subst, ◌∙◌, arith}
-use Rattle.std.specs.Prelude.{codes}
-use Rattle.std.specs.Str.{bytes_eq}
+use Rattle.std.proofs.Common.{◌≡◌, ℕ, suc, ◌+◌, ◌<◌, ◌≤◌, List, [], ◌∷◌, ◌++◌, length, take, drop, get_or, map, Option, Some, None, option_map, String, Global, refl, sym, ap, subst, ◌∙◌, arith}
 use Rattle.std.proofs.lemmas.List.{drop_more, drop_all, take_more, take_all, append-nil, append_assoc, take-append-drop, length-take-le}
 use Rattle.serde_json.specs.Data.{Data, null, boolean, number, string, array, object, Members}
 use Rattle.serde_json.specs.Find.{as_object}
 use Rattle.serde_json.specs.View.{view, items_view, members_view}
 use Rattle.serde_json.specs.declared.value.Value.{Value}
-use Rattle.toml_tree.specs.declared.profile.Profile.{Profile}
 use Rattle.toml_names.specs.declared.model.address.Step.{Step}
 use Rattle.toml_names.specs.model.Addresses.{Address}
 use Rattle.toml_edits.specs.declared.edit.Edit.{Edit}
-use Rattle.toml_edits.specs.Edits.{Change, change, value_text, set, insert, rename}
-use Rattle.toml_edits.specs.EditList.{step_of, then_step, steps_of, size, count, text_at, edit_of, entry_of, AreEdits, IsFirstBad}
+use Rattle.toml_edits.specs.Edits.{Change, change}
+use Rattle.toml_edits.specs.EditList.{step_of, then_step, steps_of, size, count, entry_of, AreEdits, IsFirstBad}
 
 size_view : (es : List (String Global × Value)) → size (members_view es) ≡ length es
 size_view [] = refl
@@ -65,53 +62,36 @@ pub steps_all : (xs : List Value) (i : ℕ) (taken : Address) → length xs ≤ 
 steps_all xs i taken past before =
     ap Some (sym (append-nil taken)) ∙ ap (λ l. option_map (λ a. taken ++ a) (steps_of (items_view l))) (sym (drop_all i xs past)) ∙ before
 
--- edits that were read, their values in a profile
-module _ (profile : Profile) where
-  abbrev pub AreRead : List Value → ℕ → List Edit → Type 0
-  AreRead xs i es = AreEdits profile (items_view (take i xs)) (map (change profile) es)
+-- edits that were read
+abbrev pub AreRead : List Value → ℕ → List Edit → Type 0
+AreRead xs i es = AreEdits (items_view (take i xs)) (map change es)
 
-  one_more : (xs : List Value) (cs : List Change) (x : Value) (c : Change) → AreEdits profile (items_view xs) cs → entry_of profile (view x) ≡ Some c → AreEdits profile (items_view (xs ++ x ∷ [])) (cs ++ c ∷ [])
-  one_more [] [] x c are is = (is, tt)
-  one_more [] (d ∷ cs) x c are is = absurd are
-  one_more (y ∷ xs) [] x c are is = absurd are
-  one_more (y ∷ xs) (d ∷ cs) x c are is = (are.0, one_more xs cs x c are.1 is)
+one_more : (xs : List Value) (cs : List Change) (x : Value) (c : Change) → AreEdits (items_view xs) cs → entry_of (view x) ≡ Some c → AreEdits (items_view (xs ++ x ∷ [])) (cs ++ c ∷ [])
+one_more [] [] x c are is = (is, tt)
+one_more [] (d ∷ cs) x c are is = absurd are
+one_more (y ∷ xs) [] x c are is = absurd are
+one_more (y ∷ xs) (d ∷ cs) x c are is = (are.0, one_more xs cs x c are.1 is)
 
-  map_push : (es : List Edit) (e : Edit) → map (change profile) (es ++ e ∷ []) ≡ map (change profile) es ++ change profile e ∷ []
-  map_push [] e = refl
-  map_push (d ∷ es) e = ap (λ l. change profile d ∷ l) (map_push es e)
+map_push : (es : List Edit) (e : Edit) → map change (es ++ e ∷ []) ≡ map change es ++ change e ∷ []
+map_push [] e = refl
+map_push (d ∷ es) e = ap (λ l. change d ∷ l) (map_push es e)
 
-  first_bad : (xs ys : List Value) (cs : List Change) (x : Value) → AreEdits profile (items_view xs) cs → entry_of profile (view x) ≡ None → IsFirstBad profile (items_view (xs ++ x ∷ ys)) (length xs)
-  first_bad [] ys cs x are is = is
-  first_bad (y ∷ xs) ys [] x are is = absurd are
-  first_bad (y ∷ xs) ys (c ∷ cs) x are is = (c, are.0, first_bad xs ys cs x are.1 is)
+first_bad : (xs ys : List Value) (cs : List Change) (x : Value) → AreEdits (items_view xs) cs → entry_of (view x) ≡ None → IsFirstBad (items_view (xs ++ x ∷ ys)) (length xs)
+first_bad [] ys cs x are is = is
+first_bad (y ∷ xs) ys [] x are is = absurd are
+first_bad (y ∷ xs) ys (c ∷ cs) x are is = (c, are.0, first_bad xs ys cs x are.1 is)
 
-  module _ (xs : List Value) (i : ℕ) (x : Value) (low : i < length xs) (is : get_or xs i x ≡ x) (es : List Edit) (are : AreRead xs i es) where
-    pub edits_more : (e : Edit) → Some (change profile e) ≡ entry_of profile (view x) → AreRead xs (i + 1) (es ++ e ∷ [])
-    edits_more e entry =
-        subst (λ l. AreEdits profile (items_view l) (map (change profile) (es ++ e ∷ []))) (sym (take_more xs i x low ∙ ap (λ (y : Value). take i xs ++ y ∷ []) is))
-        (subst (AreEdits profile (items_view (take i xs ++ x ∷ []))) (sym (map_push es e)) (one_more (take i xs) (map (change profile) es) x (change profile e) are (sym entry)))
+module _ (xs : List Value) (i : ℕ) (x : Value) (low : i < length xs) (is : get_or xs i x ≡ x) (es : List Edit) (are : AreRead xs i es) where
+  pub edits_more : (e : Edit) → Some (change e) ≡ entry_of (view x) → AreRead xs (i + 1) (es ++ e ∷ [])
+  edits_more e entry =
+      subst (λ l. AreEdits (items_view l) (map change (es ++ e ∷ []))) (sym (take_more xs i x low ∙ ap (λ (y : Value). take i xs ++ y ∷ []) is))
+      (subst (AreEdits (items_view (take i xs ++ x ∷ []))) (sym (map_push es e)) (one_more (take i xs) (map change es) x (change e) are (sym entry)))
 
-    pub edits_stop : None ≡ entry_of profile (view x) → IsFirstBad profile (items_view xs) i
-    edits_stop none =
-        let whole : take i xs ++ x ∷ drop (i + 1) xs ≡ xs = ap (λ (y : Value). take i xs ++ y ∷ drop (i + 1) xs) (sym is) ∙ ap (λ l. take i xs ++ l) (sym (drop_more xs i x low)) ∙ take-append-drop i xs in
-        let long : length (take i xs) ≡ i = length-take-le i xs (omega arith) in
-        subst (λ l. IsFirstBad profile (items_view l) i) whole (subst (IsFirstBad profile (items_view (take i xs ++ x ∷ drop (i + 1) xs))) long (first_bad (take i xs) (drop (i + 1) xs) (map (change profile) es) x are (sym none)))
+  pub edits_stop : None ≡ entry_of (view x) → IsFirstBad (items_view xs) i
+  edits_stop none =
+      let whole : take i xs ++ x ∷ drop (i + 1) xs ≡ xs = ap (λ (y : Value). take i xs ++ y ∷ drop (i + 1) xs) (sym is) ∙ ap (λ l. take i xs ++ l) (sym (drop_more xs i x low)) ∙ take-append-drop i xs in
+      let long : length (take i xs) ≡ i = length-take-le i xs (omega arith) in
+      subst (λ l. IsFirstBad (items_view l) i) whole (subst (IsFirstBad (items_view (take i xs ++ x ∷ drop (i + 1) xs))) long (first_bad (take i xs) (drop (i + 1) xs) (map change es) x are (sym none)))
 
-  pub edits_all : (xs : List Value) (i : ℕ) (es : List Edit) → length xs ≤ i → AreRead xs i es → AreEdits profile (items_view xs) (map (change profile) es)
-  edits_all xs i es past are = subst (λ l. AreEdits profile (items_view l) (map (change profile) es)) (take_all i xs past) are
-
--- the same in any profile
-abbrev pub AreReadInAny : List Value → ℕ → List Edit → Type 0
-AreReadInAny xs i es = (profile : Profile) → AreRead profile xs i es
-
--- the edit by its operation
-pub set_chosen : (profile : Profile) (op : List ℕ) (at : Address) (d : Data) → bytes_eq op (codes "set") ≡ true → edit_of profile op at d ≡ option_map (λ text. set at (value_text profile text)) (text_at (codes "value") d)
-set_chosen profile op at d is = rw is refl
-
-pub insert_chosen : (profile : Profile) (op : List ℕ) (at : Address) (d : Data) → bytes_eq op (codes "set") ≡ false → bytes_eq op (codes "insert") ≡ true
-    → edit_of profile op at d ≡ option_map (λ text. insert at (value_text profile text)) (text_at (codes "value") d)
-insert_chosen profile op at d other is = rw (other, is) refl
-
-pub rename_chosen : (profile : Profile) (op : List ℕ) (at : Address) (d : Data) → bytes_eq op (codes "set") ≡ false → bytes_eq op (codes "insert") ≡ false → bytes_eq op (codes "rename") ≡ true
-    → edit_of profile op at d ≡ option_map (rename at) (text_at (codes "to") d)
-rename_chosen profile op at d other neither is = rw (other, neither, is) refl
+pub edits_all : (xs : List Value) (i : ℕ) (es : List Edit) → length xs ≤ i → AreRead xs i es → AreEdits (items_view xs) (map change es)
+edits_all xs i es past are = subst (λ l. AreEdits (items_view l) (map change es)) (take_all i xs past) are

@@ -13,7 +13,7 @@ use Rattle.toml_edits.specs.declared.fault.EditFault.TheVariants.{NotATable, Ind
 use Rattle.toml_edits.specs.After.{Moves, Comes, IsAfter, nothing}
 use Rattle.toml_edits.specs.Carry.{Carrier, carry_below, nowhere, inserting, renaming, removing, parted, up_from, down_above, to_name}
 use Rattle.toml_edits.specs.Changed.{below, shifted_in, shifted_out, renamed}
-use Rattle.toml_edits.specs.Edits.{ValueText, set, insert}
+use Rattle.toml_edits.specs.Edits.{set, insert}
 use Rattle.toml_edits.specs.Faults.{IsFault}
 use Rattle.toml_edits.specs.ValueTexts.{IsGoodValue}
 use Rattle.toml_edits.proofs.Found.{none_of, some_of, some_none}
@@ -126,7 +126,7 @@ may_rename d at q n to is some free =
 
 -- ---- set
 
-pub sets : (d : Datum) (at : Address) (text : ValueText) (v g : Kinds) → IsGoodValue text v → ((p : Address) → g p ≡ below at (λ part. v) (kind_at d) p) → IsAfter (set at text) (kind_at d) g
+pub sets : (d : Datum) (at : Address) (text : List ℕ) (v g : Kinds) → IsGoodValue text v → ((p : Address) → g p ≡ below at (λ part. v) (kind_at d) p) → IsAfter (set at text) (kind_at d) g
 sets d at text v g good made =
     (v, good, moves_as (carry_below at nowhere) (carry_below at nowhere) at (at ++ []) v (kind_at d) _ g refl (sym (append-nil at)) made (moves_below at nowhere [] v (kind_at d) (λ part. v) (moves_put v _)))
 
@@ -159,7 +159,7 @@ adds f v q s none =
     moves_alike (carry_below q Some) Some (q ++ s ∷ []) v f _ (λ b k have. stays q b)
     (moves_below q Some (s ∷ []) v f (below (s ∷ []) (λ part. v)) (moves_add s v (λ r. f (q ++ r)) none))
 
-module _ (d : Datum) (at q : Address) (text : ValueText) (v g : Kinds) (free : IsFault (insert at text) (kind_at d) None) where
+module _ (d : Datum) (at q : Address) (text : List ℕ) (v g : Kinds) (free : IsFault (insert at text) (kind_at d) None) where
   pub table_there : (n : List ℕ) → at ≡ child q n → kind_at d (q ++ []) ≡ Some a_table
   table_there n is = ap (kind_at d) (append-nil q) ∙ some_table _ (λ other. free NotATable (q, n, is, other))
 

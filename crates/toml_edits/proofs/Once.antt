@@ -8,7 +8,7 @@ use Rattle.toml_names.specs.model.Data.{Kinds, IsDataOf}
 use Rattle.toml_names.specs.mentions.Mentions.{Kind, Named, value_facts}
 use Rattle.toml_edits.specs.After.{Comes, Moves, AddsElement, nothing, an_empty_table, one_empty_table}
 use Rattle.toml_edits.specs.Carry.{Carrier, carry, carry_below, nowhere}
-use Rattle.toml_edits.specs.Edits.{ValueText, set, insert, rename, remove, new_section, new_element}
+use Rattle.toml_edits.specs.Edits.{set, insert, rename, remove, new_section, new_element}
 use Rattle.toml_edits.specs.Laws.{OneAfter}
 use Rattle.toml_edits.specs.ValueTexts.{IsGoodValue}
 use Rattle.toml_edits.proofs.LastStep.{same_parent}
@@ -26,9 +26,9 @@ data_once : (ms : List Named) (f g : Kinds) → IsDataOf ms f → IsDataOf ms g 
 data_once ms f g one two = same_facts f g (λ a k h. (two a k).1 ((one a k).0 h)) (λ a k h. (one a k).1 ((two a k).0 h))
 
 -- a text is one value, and that has one map
-good_once : (text : ValueText) (f g : Kinds) → IsGoodValue text f → IsGoodValue text g → (a : Address) → f a ≡ g a
+good_once : (text : List ℕ) (f g : Kinds) → IsGoodValue text f → IsGoodValue text g → (a : Address) → f a ≡ g a
 good_once text f g one two =
-    let same : one.value.tree ≡ two.value.tree = one_value one.value.tree two.value.tree 0 text.text one.value.spelled two.value.spelled in
+    let same : one.value.tree ≡ two.value.tree = one_value one.value.tree two.value.tree 0 text one.value.spelled two.value.spelled in
     data_once (value_facts two.value.tree) f g (subst (λ (v : Value). IsDataOf (value_facts v) f) same one.facts) two.facts
 
 -- what comes from somewhere stands in each map that the same moves make

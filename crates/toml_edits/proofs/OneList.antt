@@ -3,7 +3,6 @@ use Rattle.std.proofs.Common.{◌≡◌, ℕ, zero, suc, List, [], ◌∷◌, Op
 use Rattle.std.proofs.lemmas.Option.{same_Some, none-some}
 use Rattle.serde_json.specs.Data.{Data, array, Items, no_items, item}
 use Rattle.serde_json.specs.Read.{read}
-use Rattle.toml_tree.specs.declared.profile.Profile.{Profile}
 use Rattle.toml_edits.specs.EditList.{AreEdits, BadListIsNone, IsEditList, IsFirstBad, IsList, OneEditList, entry_of}
 use Rattle.toml_edits.specs.Edits.{Change}
 
@@ -13,25 +12,25 @@ same_array ds es e = cc
 same_items : (bytes : List ℕ) (ds es : Items) → IsList bytes ds → IsList bytes es → ds ≡ es
 same_items bytes ds es first second = same_array ds es (sym first.1 ∙ second.1)
 
-one_of : (profile : Profile) (ds : Items) (cs es : List Change) → AreEdits profile ds cs → AreEdits profile ds es → cs ≡ es
-one_of profile no_items [] [] h k = λ i. []
-one_of profile no_items [] (e ∷ es) h k = absurd k
-one_of profile no_items (c ∷ cs) es h k = absurd h
-one_of profile (item d ds) [] es h k = absurd h
-one_of profile (item d ds) (c ∷ cs) [] h k = absurd k
-one_of profile (item d ds) (c ∷ cs) (e ∷ es) h k =
+one_of : (ds : Items) (cs es : List Change) → AreEdits ds cs → AreEdits ds es → cs ≡ es
+one_of no_items [] [] h k = λ i. []
+one_of no_items [] (e ∷ es) h k = absurd k
+one_of no_items (c ∷ cs) es h k = absurd h
+one_of (item d ds) [] es h k = absurd h
+one_of (item d ds) (c ∷ cs) [] h k = absurd k
+one_of (item d ds) (c ∷ cs) (e ∷ es) h k =
     let same : c ≡ e = same_Some c e (sym h.0 ∙ k.0) in
-    let rest : cs ≡ es = one_of profile ds cs es h.1 k.1 in
+    let rest : cs ≡ es = one_of ds cs es h.1 k.1 in
     λ i. same i ∷ rest i
 
 pub one_edit_list : OneEditList
-one_edit_list profile bytes cs es (ds, list, are) (fs, other, them) = one_of profile fs cs es (subst (λ (x : Items). AreEdits profile x cs) (same_items bytes ds fs list other) are) them
+one_edit_list bytes cs es (ds, list, are) (fs, other, them) = one_of fs cs es (subst (λ (x : Items). AreEdits x cs) (same_items bytes ds fs list other) are) them
 
-bad_of : (profile : Profile) (ds : Items) (i : ℕ) (cs : List Change) → IsFirstBad profile ds i → AreEdits profile ds cs → ⊥
-bad_of profile no_items i cs bad are = bad
-bad_of profile (item d ds) i [] bad are = are
-bad_of profile (item d ds) zero (c ∷ cs) bad are = none-some c (sym bad ∙ are.0)
-bad_of profile (item d ds) (suc i) (c ∷ cs) (e, is, bad) are = bad_of profile ds i cs bad are.1
+bad_of : (ds : Items) (i : ℕ) (cs : List Change) → IsFirstBad ds i → AreEdits ds cs → ⊥
+bad_of no_items i cs bad are = bad
+bad_of (item d ds) i [] bad are = are
+bad_of (item d ds) zero (c ∷ cs) bad are = none-some c (sym bad ∙ are.0)
+bad_of (item d ds) (suc i) (c ∷ cs) (e, is, bad) are = bad_of ds i cs bad are.1
 
 pub bad_list_is_none : BadListIsNone
-bad_list_is_none profile bytes ds i cs list bad (es, other, are) = bad_of profile ds i cs bad (subst (λ (x : Items). AreEdits profile x cs) (sym (same_items bytes ds es list other)) are)
+bad_list_is_none bytes ds i cs list bad (es, other, are) = bad_of ds i cs bad (subst (λ (x : Items). AreEdits x cs) (sym (same_items bytes ds es list other)) are)

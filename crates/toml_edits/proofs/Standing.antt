@@ -13,7 +13,7 @@ use Rattle.toml_names.specs.declared.mentions.mention.Role.TheVariants.{Valued}
 use Rattle.toml_names.proofs.Proved.{same_address-decides}
 use Rattle.toml_edits.specs.After.{AddsElement, IsAfter}
 use Rattle.toml_edits.specs.Carry.{carry}
-use Rattle.toml_edits.specs.Edits.{ValueText, Change, set, insert, rename, remove, new_section, new_element}
+use Rattle.toml_edits.specs.Edits.{Change, set, insert, rename, remove, new_section, new_element}
 use Rattle.toml_edits.specs.Faults.{IsFault}
 use Rattle.toml_edits.specs.declared.fault.EditFault.TheVariants.{RootNamed}
 use Rattle.toml_edits.specs.ListLaws.{CarriedStands, ListsCarryApart}
@@ -38,7 +38,7 @@ pub some_of : (kinds : Kinds) (a : Address) → Has kinds a → IsSome (kinds a)
 some_of kinds a h = ap is_some h.1
 
 -- a value has something at its root
-pub good_root : (text : ValueText) (v : Kinds) → IsGoodValue text v → Has v []
+pub good_root : (text : List ℕ) (v : Kinds) → IsGoodValue text v → Has v []
 good_root text v g = (kind_of g.value.tree, (g.facts [] (kind_of g.value.tree)).1 (zero, value_named 0 Valued [] g.value.tree, omega arith, refl, (refl, refl)))
 
 not_zero : (s : Step) (p : Address) → (length (s ∷ p) == 0) ≡ false

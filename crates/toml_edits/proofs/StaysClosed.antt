@@ -11,7 +11,7 @@ use Rattle.toml_names.proofs.Proved.{values_are_closed}
 use Rattle.toml_edits.specs.declared.fault.EditFault.TheVariants.{NotAnElement, NoSuchPlace}
 use Rattle.toml_edits.specs.After.{Comes, Moves, AddsElement, nothing, an_empty_table, one_empty_table}
 use Rattle.toml_edits.specs.Carry.{Carrier, carry, carry_below, nowhere, up_from, inserting, parted}
-use Rattle.toml_edits.specs.Edits.{ValueText, Change, set, insert, rename, remove, new_section, new_element}
+use Rattle.toml_edits.specs.Edits.{Change, set, insert, rename, remove, new_section, new_element}
 use Rattle.toml_edits.specs.Faults.{IsFault}
 use Rattle.toml_edits.specs.ListLaws.{StaysClosed}
 use Rattle.toml_edits.specs.ValueTexts.{IsGoodValue}
@@ -97,11 +97,11 @@ nothing_closed a s none = refl
 no_parent : (new : Kinds) (q : Address) (s : Step) → [] ≡ q ++ s ∷ [] → Has new q
 no_parent new q s is = absurd (no_root q s (sym is))
 
-value_closed : (text : ValueText) (v : Kinds) → IsGoodValue text v → IsClosed v
+value_closed : (text : List ℕ) (v : Kinds) → IsGoodValue text v → IsClosed v
 value_closed text v good = values_are_closed good.value.tree v good.value.keeps good.facts
 
 -- the place above a `set` keeps what it has
-set_parent : (at : Address) (value : ValueText) (v old new : Kinds) → IsClosed old → IsFault (set at value) old None → Moves (carry_below at nowhere) at v old new → (q : Address) (s : Step) → at ≡ q ++ s ∷ [] → Has new q
+set_parent : (at : Address) (value : List ℕ) (v old new : Kinds) → IsClosed old → IsFault (set at value) old None → Moves (carry_below at nowhere) at v old new → (q : Address) (s : Step) → at ≡ q ++ s ∷ [] → Has new q
 set_parent at value v old new closed fault moves q s is = by (old at) refl
   where
     by : (o : Option Kind) → old at ≡ o → Has new q
@@ -116,7 +116,7 @@ insert_keeps : (q : Address) (s : Step) → inserting (Some (q, s)) q ≡ Some q
 insert_keeps q (Name n) = refl
 insert_keeps q (Index i) = carried q (up_from i) q [] (Some []) (sym (append-nil q)) refl ∙ ap Some (append-nil q)
 
-insert_parent : (at : Address) (value : ValueText) (v old new : Kinds) → IsFault (insert at value) old None → Moves (carry (insert at value)) at v old new → (q : Address) (s : Step) → at ≡ q ++ s ∷ [] → Has new q
+insert_parent : (at : Address) (value : List ℕ) (v old new : Kinds) → IsFault (insert at value) old None → Moves (carry (insert at value)) at v old new → (q : Address) (s : Step) → at ≡ q ++ s ∷ [] → Has new q
 insert_parent at value v old new fault moves q s is = by (old q) refl
   where
     by : (o : Option Kind) → old q ≡ o → Has new q

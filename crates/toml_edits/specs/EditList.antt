@@ -6,14 +6,13 @@ use Rattle.serde_json.specs.Data.{Data, number, string, array, object, unsigned,
 use Rattle.serde_json.specs.Find.{as_str, get}
 use Rattle.serde_json.specs.Read.{read}
 use Rattle.std.specs.declared.alloc.Global.{Global}
-use Rattle.toml_tree.specs.declared.profile.Profile.{Profile}
 use Rattle.toml_names.specs.declared.model.address.Step.{Step}
 use Rattle.toml_names.specs.declared.model.address.Step.TheVariants.{Name, Index}
 use Rattle.toml_names.specs.model.Addresses.{Address}
 use Rattle.toml_edits.specs.declared.fault.EditsFault.{EditsFault}
 use Rattle.toml_edits.specs.declared.fault.EditsFault.TheVariants as faults
 use Rattle.toml_edits.specs.declared.edit.Edit.{Edit}
-use Rattle.toml_edits.specs.Edits.{Change, value_text, set, insert, rename, remove, new_section, new_element, change}
+use Rattle.toml_edits.specs.Edits.{Change, set, insert, rename, remove, new_section, new_element, change}
 
 -- a step: a text is a name, a whole number from 0 an index
 abbrev pub step_of : Data → Option Step
@@ -57,57 +56,57 @@ has_no_text op = bytes_eq op (codes "remove") || bytes_eq op (codes "section") |
 abbrev pub members_of : List ℕ → ℕ
 members_of op = if has_no_text op then 2 else 3
 
-abbrev pub edit_of : Profile → List ℕ → Address → Data → Option Change
-edit_of profile op at d =
-    if bytes_eq op (codes "set") then option_map (λ text. set at (value_text profile text)) (text_at (codes "value") d)
-    else if bytes_eq op (codes "insert") then option_map (λ text. insert at (value_text profile text)) (text_at (codes "value") d)
+abbrev pub edit_of : List ℕ → Address → Data → Option Change
+edit_of op at d =
+    if bytes_eq op (codes "set") then option_map (set at) (text_at (codes "value") d)
+    else if bytes_eq op (codes "insert") then option_map (insert at) (text_at (codes "value") d)
     else if bytes_eq op (codes "rename") then option_map (rename at) (text_at (codes "to") d)
     else if bytes_eq op (codes "remove") then Some (remove at)
     else if bytes_eq op (codes "section") then Some (new_section at)
     else if bytes_eq op (codes "element") then Some (new_element at)
     else None
 
--- An entry, its value read in the profile, is an object with `at`, `op` and, where its operation has one, `value` or `to`, and no other member.
-abbrev pub entry_of : Profile → Data → Option Change
-entry_of profile d = option_and_then (λ op. option_and_then (λ at. if count d == members_of op then edit_of profile op at d else None) (address_at d)) (text_at (codes "op") d)
+-- An entry is an object with `at`, `op` and, where its operation has one, `value` or `to`, and no other member.
+abbrev pub entry_of : Data → Option Change
+entry_of d = option_and_then (λ op. option_and_then (λ at. if count d == members_of op then edit_of op at d else None) (address_at d)) (text_at (codes "op") d)
 
 -- the bytes are JSON with these items as a list
 abbrev pub IsList : List ℕ → Items → Type 0
 IsList bytes ds = IsUtf8 bytes × (read bytes ≡ Some (array ds))
 
 -- the items are these edits
-abbrev pub AreEdits : Profile → Items → List Change → Type 0
-AreEdits profile no_items [] = Unit {0}
-AreEdits profile (item d ds) (c ∷ cs) = (entry_of profile d ≡ Some c) × AreEdits profile ds cs
-AreEdits profile _ _ = ⊥
+abbrev pub AreEdits : Items → List Change → Type 0
+AreEdits no_items [] = Unit {0}
+AreEdits (item d ds) (c ∷ cs) = (entry_of d ≡ Some c) × AreEdits ds cs
+AreEdits _ _ = ⊥
 
 -- the bytes are the list of these edits
-abbrev pub IsEditList : Profile → List ℕ → List Change → Type 0
-IsEditList profile bytes cs = (ds : Items) × IsList bytes ds × AreEdits profile ds cs
+abbrev pub IsEditList : List ℕ → List Change → Type 0
+IsEditList bytes cs = (ds : Items) × IsList bytes ds × AreEdits ds cs
 
 -- the first item that is no edit, counted from 0
-abbrev pub IsFirstBad : Profile → Items → ℕ → Type 0
-IsFirstBad profile no_items i = ⊥
-IsFirstBad profile (item d ds) zero = entry_of profile d ≡ None
-IsFirstBad profile (item d ds) (suc i) = (c : Change) × (entry_of profile d ≡ Some c) × IsFirstBad profile ds i
+abbrev pub IsFirstBad : Items → ℕ → Type 0
+IsFirstBad no_items i = ⊥
+IsFirstBad (item d ds) zero = entry_of d ≡ None
+IsFirstBad (item d ds) (suc i) = (c : Change) × (entry_of d ≡ Some c) × IsFirstBad ds i
 
--- What the items are read as, in whatever profile their values are: a list says nothing of it. Want of memory says nothing of them.
+-- what the items are read as; want of memory says nothing of them
 abbrev pub ReadsItems : Items → Result (Vec Edit Global) EditsFault → Type 0
-ReadsItems ds (Ok es) = (profile : Profile) → AreEdits profile ds (map (change profile) es.items)
+ReadsItems ds (Ok es) = AreEdits ds (map change es.items)
 ReadsItems ds (Err faults.NotAList) = ⊥
-ReadsItems ds (Err (faults.BadEdits index)) = (profile : Profile) → IsFirstBad profile ds index
+ReadsItems ds (Err (faults.BadEdits index)) = IsFirstBad ds index
 ReadsItems ds (Err faults.NoMemory) = Unit {0}
 
 -- what bytes are read as
 abbrev pub ReadsEdits : List ℕ → Result (Vec Edit Global) EditsFault → Type 0
 ReadsEdits bytes (Ok es) = (ds : Items) × IsList bytes ds × ReadsItems ds (Ok es)
 ReadsEdits bytes (Err faults.NotAList) = (ds : Items) → ¬ IsList bytes ds
-ReadsEdits bytes (Err (faults.BadEdits index)) = (ds : Items) × IsList bytes ds × ReadsItems ds (Err (faults.BadEdits index))
+ReadsEdits bytes (Err (faults.BadEdits index)) = (ds : Items) × IsList bytes ds × IsFirstBad ds index
 ReadsEdits bytes (Err faults.NoMemory) = Unit {0}
 
 -- Laws: bytes are at most one list of edits; where the first entry that is none is found they are none.
 abbrev pub OneEditList : Type 0
-OneEditList = (profile : Profile) (bytes : List ℕ) (cs ds : List Change) → IsEditList profile bytes cs → IsEditList profile bytes ds → cs ≡ ds
+OneEditList = (bytes : List ℕ) (cs ds : List Change) → IsEditList bytes cs → IsEditList bytes ds → cs ≡ ds
 
 abbrev pub BadListIsNone : Type 0
-BadListIsNone = (profile : Profile) (bytes : List ℕ) (ds : Items) (i : ℕ) (cs : List Change) → IsList bytes ds → IsFirstBad profile ds i → ¬ IsEditList profile bytes cs
+BadListIsNone = (bytes : List ℕ) (ds : Items) (i : ℕ) (cs : List Change) → IsList bytes ds → IsFirstBad ds i → ¬ IsEditList bytes cs

@@ -7,7 +7,7 @@ use Rattle.toml_names.specs.mentions.Mentions.{a_table, an_array}
 use Rattle.toml_names.specs.mentions.Rules.{max_steps}
 use Rattle.toml_edits.specs.declared.fault.EditFault.{EditFault}
 use Rattle.toml_edits.specs.declared.fault.EditFault.TheVariants.{RootNamed, NotAnElement, BadValue, NoSuchPlace, NotATable, IndexOutside, NotAName, AlreadyThere, AddressLength, NoMemory}
-use Rattle.toml_edits.specs.Edits.{Change, set, insert, rename, remove, new_section, new_element, place, ValueText}
+use Rattle.toml_edits.specs.Edits.{Change, set, insert, rename, remove, new_section, new_element, place}
 use Rattle.toml_edits.specs.ValueTexts.{IsBadValue, IsLongValue, IsGoodValue}
 
 -- the order of the rows
@@ -24,7 +24,7 @@ rank AddressLength = 8
 rank NoMemory = 9
 
 -- an address of the value, placed at this one, would have more than 100 steps
-abbrev pub IsTooDeep : Address → ValueText → Type 0
+abbrev pub IsTooDeep : Address → List ℕ → Type 0
 IsTooDeep at value = IsLongValue value ⊎ ((v : Kinds) × IsGoodValue value v × (r : Address) × IsSome (v r) × (max_steps < length at + length r))
 
 -- the data have no array at the address that has so many elements

@@ -8,12 +8,12 @@ use Rattle.toml_names.specs.model.Data.{Kinds, kind_at}
 use Rattle.toml_names.specs.mentions.Mentions.{a_table, an_array}
 use Rattle.toml_edits.specs.declared.fault.EditFault.{EditFault}
 use Rattle.toml_edits.specs.declared.fault.EditFault.TheVariants.{BadValue, NotATable, IndexOutside, AlreadyThere, AddressLength, NoMemory}
-use Rattle.toml_edits.specs.Edits.{Change, ValueText}
+use Rattle.toml_edits.specs.Edits.{Change}
 use Rattle.toml_edits.specs.Faults.{IsTooDeep, IsFault, HasFewer}
 use Rattle.toml_edits.specs.ValueTexts.{IsBadValue, IsGoodValue}
 
 -- a text as a value at an address: its data, or why it is refused there
-abbrev pub IsFitting : Address → ValueText → Result Datum EditFault → Type 0
+abbrev pub IsFitting : Address → List ℕ → Result Datum EditFault → Type 0
 IsFitting at text (Ok d) = IsGoodValue text (kind_at d) × ¬ IsTooDeep at text
 IsFitting at text (Err BadValue) = IsBadValue text
 IsFitting at text (Err AddressLength) = (¬ IsBadValue text) × IsTooDeep at text
@@ -29,6 +29,6 @@ IsStepFault (Index i) kinds (Some IndexOutside) = HasFewer kinds [] i
 IsStepFault _ kinds (Some _) = ⊥
 
 -- an edit with a text for its value: the value's data where it has no fault, or the first one, or want of memory
-abbrev pub IsJudged : Change → ValueText → Kinds → Result Datum EditFault → Type 0
+abbrev pub IsJudged : Change → List ℕ → Kinds → Result Datum EditFault → Type 0
 IsJudged c text kinds (Ok d) = IsFault c kinds None × IsGoodValue text (kind_at d)
 IsJudged c text kinds (Err x) = (x ≡ NoMemory) ⊎ IsFault c kinds (Some x)

@@ -6,7 +6,7 @@ use Rattle.toml_names.specs.model.Addresses.{Address, IsAbove}
 use Rattle.toml_names.specs.model.Data.{Kinds, kind_at, IsClosed}
 use Rattle.toml_edits.specs.After.{IsAfter}
 use Rattle.toml_edits.specs.Carry.{Carrier, carry, carry_below, nowhere}
-use Rattle.toml_edits.specs.Edits.{Change, ValueText, set, place}
+use Rattle.toml_edits.specs.Edits.{Change, set, place}
 use Rattle.toml_edits.specs.Faults.{IsFault}
 
 -- for `set`, the address is not the edit's own
@@ -43,4 +43,4 @@ OneAfter = (c : Change) (old one two : Kinds) → IsAfter c old one → IsAfter 
 
 -- For `set`, the place's own old fact aside, the facts move as the edit carries them.
 abbrev pub SetCarries : Type 0
-SetCarries = (s : Step) (p a : Address) (value : ValueText) → ¬ (a ≡ s ∷ p) → carry_below (s ∷ p) nowhere a ≡ carry (set (s ∷ p) value) a
+SetCarries = (s : Step) (p a : Address) (value : List ℕ) → ¬ (a ≡ s ∷ p) → carry_below (s ∷ p) nowhere a ≡ carry (set (s ∷ p) value) a

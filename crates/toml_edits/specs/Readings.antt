@@ -1,14 +1,14 @@
 -- What reading the text of an edit's value answers.
+use Rattle.std.specs.Prelude.{List, ℕ}
 use Rattle.toml_tree.specs.Tree.{Value}
 use Rattle.toml_names.specs.model.Data.{kind_at, IsDataOf}
 use Rattle.toml_names.specs.mentions.Mentions.{value_facts}
 use Rattle.toml_names.specs.mentions.Rules.{KeepsRules, IsShort}
 use Rattle.toml_edits.specs.declared.value.Reading.{Reading}
 use Rattle.toml_edits.specs.declared.value.Reading.TheVariants.{Good, Bad, Long}
-use Rattle.toml_edits.specs.Edits.{ValueText}
 use Rattle.toml_edits.specs.ValueTexts.{IsBadValue, IsLongValue, IsGoodValue}
 
-abbrev pub IsReading : ValueText → Reading → Type 0
+abbrev pub IsReading : List ℕ → Reading → Type 0
 IsReading text (Good d) = IsGoodValue text (kind_at d)
 IsReading text Bad = IsBadValue text
 IsReading text Long = IsLongValue text

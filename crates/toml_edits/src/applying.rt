@@ -1,12 +1,11 @@
 //! Edits applied to data.
-ghost use Rattle.std.specs.Prelude.{◌≡◌, ◌⊎◌, ◌↔◌, ◌∷◌, [], Some, None, IsSome, IsTrue, IfErr, OnOk, OnErr};
+ghost use Rattle.std.specs.Prelude.{◌≡◌, ◌⊎◌, ◌↔◌, ◌∷◌, [], Some, None, IsSome, IsTrue, IfErr, OnOk, OnErr, ℕ, List};
 ghost use Rattle.toml_names.specs.declared.model.address.Step.TheVariants.{Name};
 ghost use Rattle.toml_names.specs.model.Addresses.{Address, child};
 ghost use Rattle.toml_names.specs.model.Data.{kind_at};
 ghost use Rattle.toml_edits.specs.After.{IsAfter};
 ghost use Rattle.toml_edits.specs.declared.fault.EditFault.TheVariants.{NoMemory};
-ghost use Rattle.toml_edits.specs.Edits.{ValueText, value_text, change, set, insert, rename, remove};
-ghost use Rattle.toml_tree.specs.declared.profile.Profile.TheVariants.{One};
+ghost use Rattle.toml_edits.specs.Edits.{change, set, insert, rename, remove};
 ghost use Rattle.toml_edits.specs.Faults.{IsFault};
 ghost use Rattle.toml_edits.specs.Judged.{IsFitting, IsStepFault, IsJudged};
 ghost use Rattle.toml_edits.specs.Readings.{IsReading};
@@ -19,18 +18,8 @@ use crate::reach::reaches;
 use crate::value::{Reading, read_text};
 use std::alloc::Global;
 use toml_names::{Data, Datum, MAX_STEPS, Step};
-use toml_tree::Profile;
 
-/// Applies an edit to data, its value read in profile 1: `apply_in` with `Profile::One`.
-pub fn apply(alloc: Global, data: &mut Data, edit: &Edit) -> Result<(), EditFault>
-    ensures fault { IfErr result (λ x. (x ≡ NoMemory) ⊎ IsFault (change One edit.now) (kind_at «data».old.root) (Some x)) }
-    ensures ok { OnOk result (IsFault (change One edit.now) (kind_at «data».old.root) None × IsAfter (change One edit.now) (kind_at «data».old.root) (kind_at «data».new.root)) }
-    ensures err { OnErr result ((at : Address) → kind_at «data».new.root at ≡ kind_at «data».old.root at) }
-{
-    apply_in(alloc, data, edit, Profile::One)
-}
-
-/// Applies an edit to data, its value read in the profile. It tells the first fault of this order, `NoMemory` aside, which may come in place of any
+/// Applies an edit to data. It tells the first fault of this order, `NoMemory` aside, which may come in place of any
 /// answer; after a fault the data are as before.
 ///
 /// | Fault | When |
@@ -47,20 +36,15 @@ pub fn apply(alloc: Global, data: &mut Data, edit: &Edit) -> Result<(), EditFaul
 /// | `NoMemory` | a growth was refused |
 ///
 /// A parent that loses its last child stays.
-pub fn apply_in(
-    alloc: Global,
-    data: &mut Data,
-    edit: &Edit,
-    profile: Profile,
-) -> Result<(), EditFault>
-    ensures fault { IfErr result (λ x. (x ≡ NoMemory) ⊎ IsFault (change profile edit.now) (kind_at «data».old.root) (Some x)) }
-    ensures ok { OnOk result (IsFault (change profile edit.now) (kind_at «data».old.root) None × IsAfter (change profile edit.now) (kind_at «data».old.root) (kind_at «data».new.root)) }
+pub fn apply(alloc: Global, data: &mut Data, edit: &Edit) -> Result<(), EditFault>
+    ensures fault { IfErr result (λ x. (x ≡ NoMemory) ⊎ IsFault (change edit.now) (kind_at «data».old.root) (Some x)) }
+    ensures ok { OnOk result (IsFault (change edit.now) (kind_at «data».old.root) None × IsAfter (change edit.now) (kind_at «data».old.root) (kind_at «data».new.root)) }
     ensures err { OnErr result ((at : Address) → kind_at «data».new.root at ≡ kind_at «data».old.root at) }
 {
     let root = &mut data.root;
     match edit {
-        Edit::Set { at, value } => set(alloc, root, at.steps(), value.as_str(), profile),
-        Edit::Insert { at, value } => insert(alloc, root, at.steps(), value.as_str(), profile),
+        Edit::Set { at, value } => set(alloc, root, at.steps(), value.as_str()),
+        Edit::Insert { at, value } => insert(alloc, root, at.steps(), value.as_str()),
         Edit::Rename { at, to } => rename(alloc, root, at.steps(), to.as_str()),
         Edit::Remove { at } => remove(alloc, root, at.steps()),
         Edit::Section { at } => section(alloc, root, at.steps()),
@@ -125,35 +109,23 @@ fn has_name(datum: &Datum, name: &str) -> bool
     }
 }
 
-fn set(
-    alloc: Global,
-    root: &mut Datum,
-    at: &[Step],
-    text: &str,
-    profile: Profile,
-) -> Result<(), EditFault>
-    ensures fault { IfErr result (λ x. (x ≡ NoMemory) ⊎ IsFault (set at.now (value_text profile text.now)) (kind_at root.old) (Some x)) }
-    ensures ok { OnOk result (IsFault (set at.now (value_text profile text.now)) (kind_at root.old) None × IsAfter (set at.now (value_text profile text.now)) (kind_at root.old) (kind_at root.new)) }
+fn set(alloc: Global, root: &mut Datum, at: &[Step], text: &str) -> Result<(), EditFault>
+    ensures fault { IfErr result (λ x. (x ≡ NoMemory) ⊎ IsFault (set at.now text.now) (kind_at root.old) (Some x)) }
+    ensures ok { OnOk result (IsFault (set at.now text.now) (kind_at root.old) None × IsAfter (set at.now text.now) (kind_at root.old) (kind_at root.new)) }
     ensures err { OnErr result ((p : Address) → kind_at root.new p ≡ kind_at root.old p) }
 {
-    let value = value_to_set(alloc, &*root, at, text, profile)?;
+    let value = value_to_set(alloc, &*root, at, text)?;
     alter(alloc, root, at, DatumChange::Put(value))
 }
 
 /// The data of the text, if they may be set at the steps.
-fn value_to_set(
-    alloc: Global,
-    root: &Datum,
-    at: &[Step],
-    text: &str,
-    profile: Profile,
-) -> Result<Datum, EditFault>
-    ensures { IsJudged (set at.now (value_text profile text.now)) (value_text profile text.now) (kind_at root.now) result }
+fn value_to_set(alloc: Global, root: &Datum, at: &[Step], text: &str) -> Result<Datum, EditFault>
+    ensures { IsJudged (set at.now text.now) text.now (kind_at root.now) result }
 {
     if at.is_empty() {
         return Err(EditFault::RootNamed);
     }
-    let reading = read_text(alloc, text, profile)?;
+    let reading = read_text(alloc, text)?;
     if reading.is_bad() {
         return Err(EditFault::BadValue);
     }
@@ -163,21 +135,15 @@ fn value_to_set(
     fitting(at, reading)
 }
 
-fn insert(
-    alloc: Global,
-    root: &mut Datum,
-    at: &[Step],
-    text: &str,
-    profile: Profile,
-) -> Result<(), EditFault>
-    ensures fault { IfErr result (λ x. (x ≡ NoMemory) ⊎ IsFault (insert at.now (value_text profile text.now)) (kind_at root.old) (Some x)) }
-    ensures ok { OnOk result (IsFault (insert at.now (value_text profile text.now)) (kind_at root.old) None × IsAfter (insert at.now (value_text profile text.now)) (kind_at root.old) (kind_at root.new)) }
+fn insert(alloc: Global, root: &mut Datum, at: &[Step], text: &str) -> Result<(), EditFault>
+    ensures fault { IfErr result (λ x. (x ≡ NoMemory) ⊎ IsFault (insert at.now text.now) (kind_at root.old) (Some x)) }
+    ensures ok { OnOk result (IsFault (insert at.now text.now) (kind_at root.old) None × IsAfter (insert at.now text.now) (kind_at root.old) (kind_at root.new)) }
     ensures err { OnErr result ((p : Address) → kind_at root.new p ≡ kind_at root.old p) }
 {
     let Some((last, parent)) = at.split_last() else {
         return Err(EditFault::RootNamed);
     };
-    let value = value_to_insert(alloc, &*root, at, text, profile)?;
+    let value = value_to_insert(alloc, &*root, at, text)?;
     match last {
         Step::Name(name) => alter(
             alloc,
@@ -190,19 +156,13 @@ fn insert(
 }
 
 /// The data of the text, if they may be inserted at the steps.
-fn value_to_insert(
-    alloc: Global,
-    root: &Datum,
-    at: &[Step],
-    text: &str,
-    profile: Profile,
-) -> Result<Datum, EditFault>
-    ensures { IsJudged (insert at.now (value_text profile text.now)) (value_text profile text.now) (kind_at root.now) result }
+fn value_to_insert(alloc: Global, root: &Datum, at: &[Step], text: &str) -> Result<Datum, EditFault>
+    ensures { IsJudged (insert at.now text.now) text.now (kind_at root.now) result }
 {
     let Some((last, above)) = at.split_last() else {
         return Err(EditFault::RootNamed);
     };
-    let reading = read_text(alloc, text, profile)?;
+    let reading = read_text(alloc, text)?;
     if reading.is_bad() {
         return Err(EditFault::BadValue);
     }
@@ -236,7 +196,7 @@ pub(crate) fn step_fault(parent: &Datum, step: &Step) -> Option<EditFault>
 
 /// The data of what was read, if no address in them is too long below the steps.
 fn fitting(at: &[Step], reading: Reading) -> Result<Datum, EditFault>
-    ensures { (text : ValueText) → IsReading text reading → IsFitting at.now text result }
+    ensures { (text : List ℕ) → IsReading text reading → IsFitting at.now text result }
 {
     match reading {
         Reading::Good(value) => {

@@ -5,7 +5,6 @@ ghost use Rattle.toml_names.specs.declared.model.address.Step.TheVariants as ste
 ghost use Rattle.toml_edits.specs.Carry.{setting, inserting, renaming, removing, parted, carry_below, nowhere, up_from, down_above, to_name};
 ghost use Rattle.toml_edits.specs.Carry as moves;
 ghost use Rattle.toml_edits.specs.Edits.{change};
-ghost use Rattle.toml_tree.specs.declared.profile.Profile.{Profile};
 
 use crate::edit::Edit;
 use std::alloc::{AllocError, Global};
@@ -235,9 +234,9 @@ fn carry_away(alloc: Global, place: &[Step], steps: &[Step]) -> Result<Option<Ad
 /// | remove `p` | nowhere if `a` is at or below `p`; if the last step of `p` is an index `i` and `a` is at or below an element `j > i` of that array, at `a` with `j - 1`; else at `a` |
 /// | section `p`, element `p` | at `a` |
 ///
-/// An edit at the root, and a rename of an element, move nothing. In which profile a value is read makes no difference. An index that would pass 64 bits stands nowhere.
+/// An edit at the root, and a rename of an element, move nothing. An index that would pass 64 bits stands nowhere.
 pub fn carry(alloc: Global, edit: &Edit, address: &Address) -> Result<Option<Address>, AllocError>
-    ensures { IfOk result (λ o. (profile : Profile) → o ≡ moves.carry (change profile edit.now) address.now) }
+    ensures { IfOk result (λ o. o ≡ moves.carry (change edit.now) address.now) }
 {
     let steps = address.steps();
     match edit {

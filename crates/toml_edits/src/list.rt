@@ -3,8 +3,7 @@ ghost use Rattle.std.specs.Prelude.{◌≡◌, codes, option_map, IfOk};
 ghost use Rattle.serde_json.specs.Find.{get};
 ghost use Rattle.serde_json.specs.View.{view, items_view};
 ghost use Rattle.toml_edits.specs.EditList.{ReadsEdits, ReadsItems, entry_of, edit_of, text_at, address_at, address_of, steps_of, step_of, count, has_no_text, members_of};
-ghost use Rattle.toml_edits.specs.Edits.{change, set, insert, rename, value_text};
-ghost use Rattle.toml_tree.specs.declared.profile.Profile.{Profile};
+ghost use Rattle.toml_edits.specs.Edits.{change, set, insert, rename};
 
 use crate::edit::Edit;
 use crate::fault::EditsFault;
@@ -18,7 +17,6 @@ use toml_names::{Address, Name, Step};
 /// (`"rename"`), or `op` and `at` (`"remove"`, `"section"`, `"element"`); `at` is a list of texts and of whole numbers from 0 to 2^64 - 1, `value`
 /// and `to` are texts. `NotAList` is told where the bytes are no JSON list, `BadEdits` with the first entry that is not
 /// of this form, counted from 0. JSON is what `serde_json` reads: of two equal members the last counts.
-/// A list says nothing of the profile in which its values are read: what is read is the same list in each.
 pub fn read_edits(alloc: Global, bytes: &[u8]) -> Result<Vec<Edit>, EditsFault>
     ensures { ReadsEdits bytes.now result }
 {
@@ -53,7 +51,7 @@ fn read_entries(alloc: Global, entries: &[Value]) -> Result<Vec<Edit>, EditsFaul
 
 /// The edit of an entry, or none where it is not of the form.
 fn read_entry(alloc: Global, entry: &Value) -> Result<Option<Edit>, AllocError>
-    ensures { IfOk result (λ edit. (profile : Profile) → option_map (change profile) edit ≡ entry_of profile (view entry.now)) }
+    ensures { IfOk result (λ edit. option_map change edit ≡ entry_of (view entry.now)) }
 {
     let Some(op) = text_at(entry, "op") else {
         return Ok(None);
@@ -145,7 +143,7 @@ fn members_of(op: &str) -> usize
 
 /// The edit by its operation.
 fn edit_of(alloc: Global, op: &str, at: Address, entry: &Value) -> Result<Option<Edit>, AllocError>
-    ensures { IfOk result (λ edit. (profile : Profile) → option_map (change profile) edit ≡ edit_of profile op.now at (view entry.now)) }
+    ensures { IfOk result (λ edit. option_map change edit ≡ edit_of op.now at (view entry.now)) }
 {
     if op == "set" {
         return set_of(alloc, at, entry);
@@ -169,7 +167,7 @@ fn edit_of(alloc: Global, op: &str, at: Address, entry: &Value) -> Result<Option
 }
 
 fn set_of(alloc: Global, at: Address, entry: &Value) -> Result<Option<Edit>, AllocError>
-    ensures { IfOk result (λ edit. (profile : Profile) → option_map (change profile) edit ≡ option_map (λ text. set at (value_text profile text)) (text_at (codes "value") (view entry.now))) }
+    ensures { IfOk result (λ edit. option_map change edit ≡ option_map (set at) (text_at (codes "value") (view entry.now))) }
 {
     let Some(text) = text_at(entry, "value") else {
         return Ok(None);
@@ -179,7 +177,7 @@ fn set_of(alloc: Global, at: Address, entry: &Value) -> Result<Option<Edit>, All
 }
 
 fn insert_of(alloc: Global, at: Address, entry: &Value) -> Result<Option<Edit>, AllocError>
-    ensures { IfOk result (λ edit. (profile : Profile) → option_map (change profile) edit ≡ option_map (λ text. insert at (value_text profile text)) (text_at (codes "value") (view entry.now))) }
+    ensures { IfOk result (λ edit. option_map change edit ≡ option_map (insert at) (text_at (codes "value") (view entry.now))) }
 {
     let Some(text) = text_at(entry, "value") else {
         return Ok(None);
@@ -189,7 +187,7 @@ fn insert_of(alloc: Global, at: Address, entry: &Value) -> Result<Option<Edit>, 
 }
 
 fn rename_of(alloc: Global, at: Address, entry: &Value) -> Result<Option<Edit>, AllocError>
-    ensures { IfOk result (λ edit. (profile : Profile) → option_map (change profile) edit ≡ option_map (rename at) (text_at (codes "to") (view entry.now))) }
+    ensures { IfOk result (λ edit. option_map change edit ≡ option_map (rename at) (text_at (codes "to") (view entry.now))) }
 {
     let Some(text) = text_at(entry, "to") else {
         return Ok(None);

@@ -1,14 +1,13 @@
 //! The text of an edit's value.
 ghost use Rattle.std.specs.Prelude.{◌≡◌, ◌↔◌, IfOk, IsTrue};
 ghost use Rattle.toml_edits.specs.declared.value.Reading.TheVariants.{Bad};
-ghost use Rattle.toml_edits.specs.Edits.{value_text};
 ghost use Rattle.toml_edits.specs.Readings.{IsReading, IsTreeReading};
 ghost use Rattle.toml_tree.specs.View.{value as tree_value};
 
 use std::alloc::{AllocError, Global};
 use toml_names::{Datum, ValueFault, read_value};
 use toml_text::Source;
-use toml_tree::{Profile, SyntaxFault, Value, parse_value_in};
+use toml_tree::{SyntaxFault, Value, parse_value};
 
 /// What the text of an edit's value is.
 #[derive(Drop)]
@@ -29,18 +28,14 @@ impl Reading {
     }
 }
 
-/// Reads the text of an edit's value in a profile.
-pub(crate) fn read_text(
-    alloc: Global,
-    text: &str,
-    profile: Profile,
-) -> Result<Reading, AllocError>
-    ensures { IfOk result (IsReading (value_text profile text.now)) }
+/// Reads the text of an edit's value.
+pub(crate) fn read_text(alloc: Global, text: &str) -> Result<Reading, AllocError>
+    ensures { IfOk result (IsReading text.now) }
 {
     let Ok(source) = Source::new(text.as_bytes()) else {
         return Ok(Reading::Bad);
     };
-    match parse_value_in(alloc, source, profile) {
+    match parse_value(alloc, source) {
         Ok(value) => Ok(read_tree(alloc, &value)?),
         Err(SyntaxFault::NoMemory) => Err(AllocError),
         Err(_) => Ok(Reading::Bad),

@@ -1,7 +1,6 @@
 use Rattle.std.proofs.Common.{sym, ap, append-nil, subst, IsSome}
 use Rattle.std.proofs.lemmas.Result.{on_ok_weaker}
 use Rattle.toml_names.specs.model.Data.{kind_at}
-use Rattle.toml_edits.specs.Edits.{value_text}
 use Rattle.toml_edits.specs.declared.fault.EditFault.TheVariants.{NoSuchPlace}
 use Rattle.toml_edits.proofs.Found.{some_of}
 use Rattle.toml_edits.proofs.Made.{sets}
@@ -13,5 +12,5 @@ alter-requires c = subst IsSome (ap (kind_at c.args.root.now) (sym (append-nil c
 pub returns-clause-ok : goal.returns-clause-ok
 returns-clause-ok c =
     on_ok_weaker c.alter.result
-    (λ made. (c.in_ok-value.ensures.0, sets c.args.root.now c.args.at.now (value_text c.args.profile c.args.text.now) (kind_at c.in_ok-value.value) (kind_at c.alter.new.root) c.in_ok-value.ensures.1 made))
+    (λ made. (c.in_ok-value.ensures.0, sets c.args.root.now c.args.at.now c.args.text.now (kind_at c.in_ok-value.value) (kind_at c.alter.new.root) c.in_ok-value.ensures.1 made))
     c.alter.ensures.ok
