@@ -4,7 +4,7 @@ ghost use Rattle.toml_names.specs.model.Data.{kind_at};
 ghost use Rattle.toml_edits.specs.Edits.{change, remove};
 ghost use Rattle.toml_edits.specs.Lists.{Lead};
 ghost use Rattle.toml_editor.specs.Edited.{MayBeSpread, TakesLastElement};
-ghost use Rattle.toml_editor.specs.Making.{EndsInIndex, HasOne, IsMade, IsMany, TellsAny, TellsOne};
+ghost use Rattle.toml_editor.specs.Making.{HasOne, IsMade, IsMany, TellsAny, TellsOne, TellsRow, places_of};
 
 use crate::fault::EditorFault;
 use crate::removing::parent_of;
@@ -34,7 +34,7 @@ pub(crate) fn make_all<'x>(
 ) -> Result<(), EditorFault>
     requires { length spelled.now ≡ length edits.now }
     ensures made { OnOk result (Lead (map change edits.now) «data».old.root «data».new.root) }
-    ensures told { IfErr result (TellsAny (map change edits.now) «data».old.root) }
+    ensures told { IfErr result (TellsAny (places_of read.entry.names.now) (map change edits.now) «data».old.root) }
 {
     for (index, edit) in edits.iter().enumerate() {
         if let Err(fault) = make(alloc, tree, read, data, edit, &spelled[index], index) {
@@ -55,13 +55,13 @@ fn make<'x>(
     index: usize,
 ) -> Result<(), EditorFault>
     ensures ok { OnOk result (IsMade (change edit.now) «data».old.root «data».new.root) }
-    ensures told { IfErr result (TellsOne index (change edit.now) (kind_at «data».old.root)) }
+    ensures told { IfErr result (TellsOne (places_of read.entry.names.now) index (change edit.now) (kind_at «data».old.root)) }
 {
-    let compound = is_compound(data, edit);
+    let spread = may_be_spread(data, read.names, edit, index);
     let only = is_only_element(data, edit);
     applied(alloc, data, edit, index)?;
     let done = write_edit(alloc, tree, read, edit, spelled)?;
-    if !done && (compound || is_index_inserted(edit)) {
+    if !done && spread {
         return Err(EditorFault::Spread { index });
     }
     if !done && only {
@@ -73,7 +73,7 @@ fn make<'x>(
 /// Makes the edit on the data.
 fn applied(alloc: Global, data: &mut Data, edit: &Edit, index: usize) -> Result<(), EditorFault>
     ensures ok { OnOk result (IsMade (change edit.now) «data».old.root «data».new.root) }
-    ensures told { IfErr result (TellsOne index (change edit.now) (kind_at «data».old.root)) }
+    ensures told { IfErr result (TellsRow index (change edit.now) (kind_at «data».old.root)) }
 {
     match apply(alloc, data, edit) {
         Ok(()) => Ok(()),
@@ -118,13 +118,14 @@ fn write_edit<'x>(
     }
 }
 
-/// Whether the edit sets what is a table or an array.
-fn is_compound(data: &Data, edit: &Edit) -> bool
-    ensures { IsTrue result → MayBeSpread (change edit.now) (kind_at «data».now.root) }
+/// Whether the place of the edit with this number may be spread over several expressions.
+fn may_be_spread(data: &Data, names: &NameReader, edit: &Edit, index: usize) -> bool
+    ensures { IsTrue result → MayBeSpread (places_of names.now) index (change edit.now) (kind_at «data».now.root) }
 {
     match edit {
         Edit::Set { at, .. } => is_many(data.root.at(at)),
-        _ => false,
+        Edit::Insert { at, .. } => matches!(at.steps().last(), Some(Step::Index(_))),
+        Edit::Rename { .. } | Edit::Remove { .. } => false,
     }
 }
 
@@ -137,16 +138,6 @@ fn is_many(found: Option<&Datum>) -> bool
         Some(Datum::Array(_)) => true,
         Some(Datum::Table(_)) => true,
         Some(Datum::Scalar(_)) | None => false,
-    }
-}
-
-/// Whether the edit inserts at an index.
-fn is_index_inserted(edit: &Edit) -> bool
-    ensures { IsTrue result → EndsInIndex (change edit.now) }
-{
-    match edit {
-        Edit::Insert { at, .. } => matches!(at.steps().last(), Some(Step::Index(_))),
-        _ => false,
     }
 }
 

@@ -1,9 +1,14 @@
 //! `section` and `element`: a header line of a new table, or of a new element of an array of tables.
+ghost use Rattle.std.specs.Prelude.{IfOk, IsTrue};
+ghost use Rattle.toml_editor.specs.Edited.{IsElementInValue, IsInValue, IsRightInValue};
+ghost use Rattle.toml_editor.specs.Making.{places_of};
+
 use crate::lines::{Line, Slot};
+use crate::removing::parent_of;
 use crate::tree::{Brackets, Expr, Header, Key, Leaf, OpenLine};
 use crate::working::{Position, Tree};
 use std::alloc::{AllocError, Global};
-use toml_names::{Address, Place, Step};
+use toml_names::{Address, NameReader, Place, Step};
 use toml_tree::Doc;
 
 /// A header line that is to be put in.
@@ -175,4 +180,42 @@ fn steps_to_index(steps: &[Step]) -> usize {
         }
     }
     count
+}
+
+/// Whether what stands right above the address is the value of a line of the document, or stands in one.
+pub(crate) fn is_right_in_value(
+    alloc: Global,
+    names: &NameReader,
+    at: &Address,
+) -> Result<bool, AllocError>
+    ensures { IfOk result (λ yes. IsTrue yes → IsRightInValue (places_of names.now) at.now) }
+{
+    if at.steps().is_empty() {
+        return Ok(false);
+    }
+    let above = parent_of(alloc, at)?;
+    Ok(is_in_value(names.place(&above)))
+}
+
+/// Whether the array whose element the address is, or the table in which the array stands, is the value of a line of the
+/// document, or stands in one.
+pub(crate) fn is_element_in_value(
+    alloc: Global,
+    names: &NameReader,
+    at: &Address,
+) -> Result<bool, AllocError>
+    ensures { IfOk result (λ yes. IsTrue yes → IsElementInValue (places_of names.now) at.now) }
+{
+    if at.steps().is_empty() {
+        return Ok(false);
+    }
+    let array = parent_of(alloc, at)?;
+    Ok(is_in_value(names.place(&array)) || is_right_in_value(alloc, names, &array)?)
+}
+
+/// Whether it is the value of a line, or stands in one.
+fn is_in_value(place: Option<Place>) -> bool
+    ensures { IsTrue result → IsInValue place }
+{
+    matches!(place, Some(Place::KeyVal(_)) | Some(Place::Inside(_)))
 }
