@@ -13,7 +13,7 @@ use Rattle.toml_names.specs.model.Documents.{IsDocument}
 use Rattle.toml_names.specs.model.Places.{place}
 use Rattle.toml_names.specs.mentions.Mentions.{a_table, an_array, named}
 use Rattle.toml_names.specs.reader.Names.{RefusesNames}
-use Rattle.toml_edits.specs.Edits.{Change, set, insert, remove}
+use Rattle.toml_edits.specs.Edits.{Change, set, insert, remove, new_section, new_element}
 use Rattle.toml_edits.specs.Faults.{IsFault}
 use Rattle.toml_edits.specs.Lists.{Lead}
 use Rattle.toml_units.specs.declared.piece.Piece.{Piece}
@@ -73,10 +73,12 @@ IsRightInValue places at = (q : Address) × (s : Step) × (at ≡ q ++ s ∷ [])
 abbrev pub IsElementInValue : Places → Address → Type 0
 IsElementInValue places at = (q : Address) × (s : Step) × (at ≡ q ++ s ∷ []) × (IsInValue (places q) ⊎ IsRightInValue places q)
 
--- a value for a table or an array, or an element more of an array
+-- a value for a table or an array, an element more of an array, or a header line, of the first edit only where it would stand in a value
 abbrev pub MayBeSpread : Places → ℕ → Change → Kinds → Type 0
 MayBeSpread places index (set at value) kinds = (kinds at ≡ Some a_table) ⊎ (kinds at ≡ Some an_array)
 MayBeSpread places index (insert at value) kinds = (q : Address) × (i : ℕ) × (at ≡ element q i)
+MayBeSpread places index (new_section at) kinds = index ≡ 0 → IsRightInValue places at
+MayBeSpread places index (new_element at) kinds = index ≡ 0 → IsElementInValue places at
 MayBeSpread places index _ kinds = ⊥
 
 -- the removal of the only element of an array
