@@ -7,7 +7,7 @@ use Rattle.toml_names.specs.declared.model.address.Step.TheVariants.{Name, Index
 use Rattle.toml_names.specs.model.Addresses.{Address, IsAbove, same_step}
 use Rattle.toml_names.proofs.Proved.{same_step-equal}
 use Rattle.toml_edits.specs.Carry.{Carrier, carry_below, emptied, nowhere, up_from, down_above, to_name, setting, inserting, renaming, removing, parted}
-use Rattle.toml_edits.specs.Edits.{set, insert, rename, remove}
+use Rattle.toml_edits.specs.Edits.{set, insert, rename, remove, new_section, new_element}
 use Rattle.toml_edits.specs.Laws.{CarriedAlong}
 use Rattle.toml_edits.proofs.Ways.{parted_at}
 
@@ -120,3 +120,5 @@ carried_along (set at value) a r n other = set_along at a r n other
 carried_along (insert at value) a r n other = by_parts (λ o p. ¬ IsAbove a p → GoesAlong (inserting o) a r) (λ h. refl) (insert_along a r) at n
 carried_along (rename at to) a r n other = by_parts (λ o p. ¬ IsAbove a p → GoesAlong (renaming o to) a r) (λ h. refl) (rename_along to a r) at n
 carried_along (remove at) a r n other = by_parts (λ o p. ¬ IsAbove a p → GoesAlong (removing o) a r) (λ h. refl) (remove_along a r) at n
+carried_along (new_section at) a r n other = refl
+carried_along (new_element at) a r n other = refl

@@ -14,7 +14,7 @@ use Rattle.toml_names.specs.model.Parts.{HasPart}
 use Rattle.toml_names.proofs.Proved.{has_part, has_kind, same_step-equal}
 use Rattle.toml_edits.specs.declared.fault.EditFault.TheVariants.{AlreadyThere}
 use Rattle.toml_edits.specs.Carry.{Carrier, carry_below, emptied, nowhere, up_from, down_above, to_name, setting, inserting, renaming, removing}
-use Rattle.toml_edits.specs.Edits.{set, insert, rename, remove}
+use Rattle.toml_edits.specs.Edits.{set, insert, rename, remove, new_section, new_element}
 use Rattle.toml_edits.specs.Laws.{DataAreClosed, CarriedApart}
 use Rattle.toml_edits.proofs.Along.{by_parts}
 use Rattle.toml_edits.proofs.Fronts.{onto}
@@ -237,3 +237,5 @@ carried_apart (rename at to) kinds closed sound = by_parts (λ o p. IsFreeOf kin
     free : IsFreeOf kinds to at
     free q n is = not_some _ (λ some. sound AlreadyThere (q, n, is, some))
 carried_apart (remove at) kinds closed sound = by_parts (λ o p. IsApart (λ a. IsSome (kinds a)) (removing o)) (same_apart _) (remove_apart _) at
+carried_apart (new_section at) kinds closed sound = same_apart _
+carried_apart (new_element at) kinds closed sound = same_apart _

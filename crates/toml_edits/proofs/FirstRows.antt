@@ -9,7 +9,7 @@ use Rattle.toml_names.specs.model.Addresses.{Address, child}
 use Rattle.toml_names.specs.model.Data.{Kinds}
 use Rattle.toml_names.specs.mentions.Mentions.{a_table, an_array}
 use Rattle.toml_edits.specs.declared.fault.EditFault.{EditFault}
-use Rattle.toml_edits.specs.declared.fault.EditFault.TheVariants.{RootNamed, BadValue, NoSuchPlace, NotATable, IndexOutside, NotAName, AlreadyThere, AddressLength, NoMemory}
+use Rattle.toml_edits.specs.declared.fault.EditFault.TheVariants.{RootNamed, NotAnElement, BadValue, NoSuchPlace, NotATable, IndexOutside, NotAName, AlreadyThere, AddressLength, NoMemory}
 use Rattle.toml_edits.specs.Edits.{Change, set, insert, rename, remove, place}
 use Rattle.toml_edits.specs.Faults.{rank, Row, IsFault, IsTooDeep, HasFewer}
 use Rattle.toml_edits.specs.Judged.{IsFitting, IsStepFault, IsJudged}
@@ -18,14 +18,15 @@ use Rattle.toml_edits.proofs.Found.{some_none}
 use Rattle.toml_edits.proofs.LastStep.{no_root, same_last, same_parent}
 
 -- no row of a lower rank holds
-abbrev Past : (EditFault → Type 0) → ℕ → Type 0
+abbrev pub Past : (EditFault → Type 0) → ℕ → Type 0
 Past Holds n = (y : EditFault) → rank y < n → ¬ Holds y
 
 abbrev in_order : List EditFault
-in_order = RootNamed ∷ BadValue ∷ NoSuchPlace ∷ NotATable ∷ IndexOutside ∷ NotAName ∷ AlreadyThere ∷ AddressLength ∷ NoMemory ∷ []
+in_order = RootNamed ∷ NotAnElement ∷ BadValue ∷ NoSuchPlace ∷ NotATable ∷ IndexOutside ∷ NotAName ∷ AlreadyThere ∷ AddressLength ∷ NoMemory ∷ []
 
 at_rank : (x : EditFault) → slice_get in_order (rank x) ≡ Some x
 at_rank RootNamed = refl
+at_rank NotAnElement = refl
 at_rank BadValue = refl
 at_rank NoSuchPlace = refl
 at_rank NotATable = refl
@@ -45,15 +46,16 @@ start : (Holds : EditFault → Type 0) → Past Holds 0
 start Holds y low = absurd (omega arith)
 
 -- one row more
-past : (Holds : EditFault → Type 0) (x : EditFault) → ¬ Holds x → Past Holds (rank x) → Past Holds (suc (rank x))
+pub past : (Holds : EditFault → Type 0) (x : EditFault) → ¬ Holds x → Past Holds (rank x) → Past Holds (suc (rank x))
 past Holds x not before y low = by (cases_lt (rank y) (rank x))
   where
     by : rank y < rank x ⊎ (rank x ≤ rank y) → ¬ Holds y
     by (inl lower) = before y lower
     by (inr at) = let same : rank x ≡ rank y = omega arith in subst (λ z. ¬ Holds z) (one_rank x y same) not
 
-low_rank : (x : EditFault) → rank x < 9
+low_rank : (x : EditFault) → rank x < 10
 low_rank RootNamed = omega arith
+low_rank NotAnElement = omega arith
 low_rank BadValue = omega arith
 low_rank NoSuchPlace = omega arith
 low_rank NotATable = omega arith
@@ -63,26 +65,30 @@ low_rank AlreadyThere = omega arith
 low_rank AddressLength = omega arith
 low_rank NoMemory = omega arith
 
-none : (Holds : EditFault → Type 0) → Past Holds 9 → (x : EditFault) → ¬ Holds x
+pub none : (Holds : EditFault → Type 0) → Past Holds 10 → (x : EditFault) → ¬ Holds x
 none Holds all x = all x (low_rank x)
 
 -- ---- set
 
 -- of an edit at an address that is not the root's
-past_root : (c : Change) (kinds : Kinds) → ¬ (place c ≡ []) → Past (Row c kinds) 1
+pub past_root : (c : Change) (kinds : Kinds) → ¬ (place c ≡ []) → Past (Row c kinds) 1
 past_root c kinds not = past (Row c kinds) RootNamed not (start (Row c kinds))
+
+-- nor one for which no place of an element is asked
+pub past_place : (c : Change) (kinds : Kinds) → ¬ (place c ≡ []) → ¬ Row c kinds NotAnElement → Past (Row c kinds) 2
+past_place c kinds not one = past (Row c kinds) NotAnElement one (past_root c kinds not)
 
 module _ (at : Address) (text : List ℕ) (kinds : Kinds) (not : ¬ (at ≡ [])) where
   pub set_bad : IsBadValue text → IsFault (set at text) kinds (Some BadValue)
-  set_bad bad = (bad, past_root (set at text) kinds not)
+  set_bad bad = (bad, past_place (set at text) kinds not (λ h. h))
 
-  set_past_value : ¬ IsBadValue text → Past (Row (set at text) kinds) 2
-  set_past_value one = past (Row (set at text) kinds) BadValue one (past_root (set at text) kinds not)
+  set_past_value : ¬ IsBadValue text → Past (Row (set at text) kinds) 3
+  set_past_value one = past (Row (set at text) kinds) BadValue one (past_place (set at text) kinds not (λ h. h))
 
   pub set_nowhere : ¬ IsBadValue text → kinds at ≡ None → IsFault (set at text) kinds (Some NoSuchPlace)
   set_nowhere one is = (is, set_past_value one)
 
-  set_past_place : ¬ IsBadValue text → IsSome (kinds at) → Past (Row (set at text) kinds) 7
+  set_past_place : ¬ IsBadValue text → IsSome (kinds at) → Past (Row (set at text) kinds) 8
   set_past_place one some =
       past (Row (set at text) kinds) AlreadyThere (λ h. h)
       (past (Row (set at text) kinds) NotAName (λ h. h)
@@ -105,23 +111,23 @@ set_judged at text kinds (Err _) root one some fits = absurd fits
 -- ---- insert
 
 -- a step is no name and an index
-apart : (n : List ℕ) (i : ℕ) → ¬ (Name n ≡ Index i)
+pub apart : (n : List ℕ) (i : ℕ) → ¬ (Name n ≡ Index i)
 apart n i is = cc
 
-same_index : (i j : ℕ) → Index i ≡ Index j → i ≡ j
+pub same_index : (i j : ℕ) → Index i ≡ Index j → i ≡ j
 same_index i j is = cc
 
 module _ (at q : Address) (s : Step) (text : List ℕ) (kinds : Kinds) (is : at ≡ q ++ s ∷ []) where
   abbrev Holds : EditFault → Type 0
   Holds = Row (insert at text) kinds
 
-  past_start : Past Holds 1
-  past_start = past_root (insert at text) kinds (λ e. no_root q s (sym is ∙ e))
+  past_start : Past Holds 2
+  past_start = past_place (insert at text) kinds (λ e. no_root q s (sym is ∙ e)) (λ h. h)
 
   pub insert_bad : IsBadValue text → IsFault (insert at text) kinds (Some BadValue)
   insert_bad bad = (bad, past_start)
 
-  past_value : ¬ IsBadValue text → Past Holds 2
+  past_value : ¬ IsBadValue text → Past Holds 3
   past_value one = past Holds BadValue one past_start
 
   pub insert_nowhere : ¬ IsBadValue text → kinds q ≡ None → IsFault (insert at text) kinds (Some NoSuchPlace)
@@ -134,22 +140,22 @@ module _ (at q : Address) (s : Step) (text : List ℕ) (kinds : Kinds) (is : at 
   of_last : (r : Address) (t : Step) → at ≡ r ++ t ∷ [] → s ≡ t
   of_last r t e = same_last q r s t (sym is ∙ e)
 
-  past_parent : ¬ IsBadValue text → IsSome (kinds q) → Past Holds 3
+  past_parent : ¬ IsBadValue text → IsSome (kinds q) → Past Holds 4
   past_parent one some = past Holds NoSuchPlace (λ (r, t, e, empty). some_none (kinds q) some (sym (of_parent r t e) ∙ empty)) (past_value one)
 
   not_table : (n : List ℕ) → s ≡ Name n → ¬ (kinds q ≡ Some a_table) → Holds NotATable
   not_table n last other = (q, n, is ∙ ap (λ t. q ++ t ∷ []) last, other)
 
-  past_table : ¬ IsBadValue text → IsSome (kinds q) → ((n : List ℕ) → s ≡ Name n → kinds q ≡ Some a_table) → Past Holds 4
+  past_table : ¬ IsBadValue text → IsSome (kinds q) → ((n : List ℕ) → s ≡ Name n → kinds q ≡ Some a_table) → Past Holds 5
   past_table one some table = past Holds NotATable (λ (r, n, e, other). other (of_parent r (Name n) e ∙ table n (of_last r (Name n) e))) (past_parent one some)
 
-  past_array : ¬ IsBadValue text → IsSome (kinds q) → ((n : List ℕ) → s ≡ Name n → kinds q ≡ Some a_table) → ((i : ℕ) → s ≡ Index i → ¬ HasFewer kinds q i) → Past Holds 6
+  past_array : ¬ IsBadValue text → IsSome (kinds q) → ((n : List ℕ) → s ≡ Name n → kinds q ≡ Some a_table) → ((i : ℕ) → s ≡ Index i → ¬ HasFewer kinds q i) → Past Holds 7
   past_array one some table array =
       past Holds NotAName (λ h. h)
       (past Holds IndexOutside (λ (r, i, e, fewer). array i (of_last r (Index i) e) (subst (λ p. HasFewer kinds p i) (sym (same_parent q r s (Index i) (sym is ∙ e))) fewer))
       (past_table one some table))
 
-  past_free : ¬ IsBadValue text → IsSome (kinds q) → ((n : List ℕ) → s ≡ Name n → (kinds q ≡ Some a_table) × (kinds at ≡ None)) → ((i : ℕ) → s ≡ Index i → ¬ HasFewer kinds q i) → Past Holds 7
+  past_free : ¬ IsBadValue text → IsSome (kinds q) → ((n : List ℕ) → s ≡ Name n → (kinds q ≡ Some a_table) × (kinds at ≡ None)) → ((i : ℕ) → s ≡ Index i → ¬ HasFewer kinds q i) → Past Holds 8
   past_free one some table array =
       past Holds AlreadyThere (λ (r, n, e, there). some_none (kinds at) there (table n (of_last r (Name n) e)).1)
       (past_array one some (λ n last. (table n last).0) array)
@@ -171,7 +177,7 @@ module _ (at q : Address) (s : Step) (text : List ℕ) (kinds : Kinds) (is : at 
 abbrev pub part_at : Kinds → Address → Kinds
 part_at kinds q r = kinds (q ++ r)
 
-here : (kinds : Kinds) (q : Address) → part_at kinds q [] ≡ kinds q
+pub here : (kinds : Kinds) (q : Address) → part_at kinds q [] ≡ kinds q
 here kinds q = ap kinds (append-nil q)
 
 fewer_there : (kinds : Kinds) (q : Address) (i : ℕ) → HasFewer (part_at kinds q) [] i → HasFewer kinds q i
@@ -204,6 +210,7 @@ insert_room at q (Index i) text kinds r is one some found fits =
 pub remove_free : (at q : Address) (s : Step) (kinds : Kinds) → at ≡ q ++ s ∷ [] → IsSome (kinds at) → IsFault (remove at) kinds None
 remove_free at q s kinds is some RootNamed h = no_root q s (sym is ∙ h)
 remove_free at q s kinds is some NoSuchPlace h = some_none (kinds at) some h
+remove_free at q s kinds is some NotAnElement h = h
 remove_free at q s kinds is some BadValue h = h
 remove_free at q s kinds is some NotATable h = h
 remove_free at q s kinds is some IndexOutside h = h
@@ -217,6 +224,7 @@ rename_free at q n to kinds is some free RootNamed h = no_root q (Name n) (sym i
 rename_free at q n to kinds is some free NoSuchPlace h = some_none (kinds at) some h
 rename_free at q n to kinds is some free NotAName (r, i, e) = apart n i (same_last q r (Name n) (Index i) (sym is ∙ e))
 rename_free at q n to kinds is some free AlreadyThere (r, m, e, there) = free (subst (λ p. IsSome (kinds (child p to))) (sym (same_parent q r (Name n) (Name m) (sym is ∙ e))) there)
+rename_free at q n to kinds is some free NotAnElement h = h
 rename_free at q n to kinds is some free BadValue h = h
 rename_free at q n to kinds is some free NotATable h = h
 rename_free at q n to kinds is some free IndexOutside h = h

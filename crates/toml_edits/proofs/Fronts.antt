@@ -6,7 +6,7 @@ use Rattle.toml_names.specs.declared.model.address.Step.{Step}
 use Rattle.toml_names.specs.declared.model.address.Step.TheVariants.{Name, Index}
 use Rattle.toml_names.specs.model.Addresses.{Address, same_step}
 use Rattle.toml_edits.specs.Carry.{Carrier, carry_below, emptied, nowhere, up_from, down_above, to_name, setting, inserting, renaming, removing}
-use Rattle.toml_edits.specs.Edits.{set, insert, rename, remove}
+use Rattle.toml_edits.specs.Edits.{set, insert, rename, remove, new_section, new_element}
 use Rattle.toml_edits.specs.Laws.{Front, CarriedFront}
 use Rattle.toml_edits.proofs.Along.{by_parts}
 
@@ -90,3 +90,5 @@ carried_front (set at value) = set_front at
 carried_front (insert at value) = by_parts (λ o p. IsFrontal (inserting o)) same_front insert_front at
 carried_front (rename at to) = by_parts (λ o p. IsFrontal (renaming o to)) same_front (rename_front to) at
 carried_front (remove at) = by_parts (λ o p. IsFrontal (removing o)) same_front remove_front at
+carried_front (new_section at) = same_front
+carried_front (new_element at) = same_front

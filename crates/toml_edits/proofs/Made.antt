@@ -22,7 +22,7 @@ use Rattle.toml_edits.proofs.Moved.{IndicesFit, moves_below, moves_put, moves_dr
 
 -- ---- the same moves, said otherwise
 
-moves_as : (c e : Carrier) (p r : Address) (v f h g : Kinds) → c ≡ e → p ≡ r → ((at : Address) → g at ≡ h at) → Moves e r v f h → Moves c p v f g
+pub moves_as : (c e : Carrier) (p r : Address) (v f h g : Kinds) → c ≡ e → p ≡ r → ((at : Address) → g at ≡ h at) → Moves e r v f h → Moves c p v f g
 moves_as c e p r v f h g same at made m =
     subst (λ (x : Carrier). Moves x p v f g) (sym same) (subst (λ (y : Address). Moves e y v f g) (sym at) (subst (λ (z : Kinds). Moves e r v f z) (sym (fun_ext made)) m))
 
@@ -52,7 +52,7 @@ pub front_there : (p : Address) (d : Datum) (at : Address) → IsSome (kind_at d
 front_there [] d at some = has_kind d
 front_there (s ∷ p) d at some = let part = has_part s d in part_above (kind_at d) s p at part.0 part.1 (λ e. front_there p e at) some
 
-none_below : (d : Datum) (q : Address) (s : Step) → kind_at d (q ++ s ∷ []) ≡ None → (at : Address) → kind_at d (q ++ s ∷ at) ≡ None
+pub none_below : (d : Datum) (q : Address) (s : Step) → kind_at d (q ++ s ∷ []) ≡ None → (at : Address) → kind_at d (q ++ s ∷ at) ≡ None
 none_below d q s empty at = none_of _ (λ some. some_none _ (front_there (q ++ s ∷ []) d at (subst (λ p. IsSome (kind_at d p)) (sym (append_assoc q (s ∷ []) at)) some)) empty)
 
 -- ---- what has a member is a table
@@ -132,13 +132,13 @@ sets d at text v g good made =
 
 -- ---- insert
 
-some_table : (o : Option Kind) → ¬ ¬ (o ≡ Some a_table) → o ≡ Some a_table
+pub some_table : (o : Option Kind) → ¬ ¬ (o ≡ Some a_table) → o ≡ Some a_table
 some_table (Some a_table) not = refl
 some_table (Some an_array) not = absurd (not (λ is. cc))
 some_table (Some (a_scalar x)) not = absurd (not (λ is. cc))
 some_table None not = absurd (not (λ is. cc))
 
-some_array : (o : Option Kind) → ¬ ¬ (o ≡ Some an_array) → o ≡ Some an_array
+pub some_array : (o : Option Kind) → ¬ ¬ (o ≡ Some an_array) → o ≡ Some an_array
 some_array (Some an_array) not = refl
 some_array (Some a_table) not = absurd (not (λ is. cc))
 some_array (Some (a_scalar x)) not = absurd (not (λ is. cc))
@@ -149,12 +149,12 @@ both : (b : Bool) (o : Option Address) → cond b o o ≡ o
 both true o = refl
 both false o = refl
 
-stays : (q at : Address) → carry_below q Some at ≡ Some at
+pub stays : (q at : Address) → carry_below q Some at ≡ Some at
 stays [] at = refl
 stays (s ∷ q) [] = refl
 stays (s ∷ q) (t ∷ at) = ap (λ o. cond (same_step s t) (option_map (λ r. t ∷ r) o) (Some (t ∷ at))) (stays q at) ∙ both (same_step s t) (Some (t ∷ at))
 
-adds : (f v : Kinds) (q : Address) (s : Step) → ((p : Address) → f (q ++ s ∷ p) ≡ None) → Moves Some (q ++ s ∷ []) v f (below q (below (s ∷ []) (λ part. v)) f)
+pub adds : (f v : Kinds) (q : Address) (s : Step) → ((p : Address) → f (q ++ s ∷ p) ≡ None) → Moves Some (q ++ s ∷ []) v f (below q (below (s ∷ []) (λ part. v)) f)
 adds f v q s none =
     moves_alike (carry_below q Some) Some (q ++ s ∷ []) v f _ (λ b k have. stays q b)
     (moves_below q Some (s ∷ []) v f (below (s ∷ []) (λ part. v)) (moves_add s v (λ r. f (q ++ r)) none))

@@ -2,14 +2,16 @@
 use Rattle.std.proofs.Common.{◌≡◌, inl, inr, List, ℕ, Option, Some, None, refl, sym, ap, subst, ◌∙◌}
 use Rattle.toml_tree.proofs.Proved.{one_value}
 use Rattle.toml_tree.specs.Tree.{Value}
+use Rattle.toml_names.specs.declared.model.address.Step.TheVariants.{Index}
 use Rattle.toml_names.specs.model.Addresses.{Address}
 use Rattle.toml_names.specs.model.Data.{Kinds, IsDataOf}
 use Rattle.toml_names.specs.mentions.Mentions.{Kind, Named, value_facts}
-use Rattle.toml_edits.specs.After.{Comes, Moves, nothing}
+use Rattle.toml_edits.specs.After.{Comes, Moves, AddsElement, nothing, an_empty_table, one_empty_table}
 use Rattle.toml_edits.specs.Carry.{Carrier, carry, carry_below, nowhere}
-use Rattle.toml_edits.specs.Edits.{set, insert, rename, remove}
+use Rattle.toml_edits.specs.Edits.{set, insert, rename, remove, new_section, new_element}
 use Rattle.toml_edits.specs.Laws.{OneAfter}
 use Rattle.toml_edits.specs.ValueTexts.{IsGoodValue}
+use Rattle.toml_edits.proofs.LastStep.{same_parent}
 
 -- maps that have the same facts are equal
 same_facts : (f g : Kinds) → ((a : Address) (k : Kind) → f a ≡ Some k → g a ≡ Some k) → ((a : Address) (k : Kind) → g a ≡ Some k → f a ≡ Some k) → (a : Address) → f a ≡ g a
@@ -38,8 +40,16 @@ moves_once : (c : Carrier) (p : Address) (v w old one two : Kinds) → ((a : Add
 moves_once c p v w old one two same m n =
     same_facts one two (λ a k h. comes_there c p v w old two same n a k (m.no_other a k h)) (λ a k h. comes_there c p w v old one (λ b. sym (same b)) m a k (n.no_other a k h))
 
+element_once : (q at : Address) (o : Option Kind) (old one two : Kinds) → AddsElement q at o old one → AddsElement q at o old two → (a : Address) → one a ≡ two a
+element_once q at None old one two m n = moves_once Some q one_empty_table one_empty_table old one two (λ a. refl) m n
+element_once q at (Some k) old one two m n = moves_once Some at an_empty_table an_empty_table old one two (λ a. refl) m n
+
 pub one_after : OneAfter
 one_after (set at value) old one two h i = moves_once (carry_below at nowhere) at h.0 i.0 old one two (good_once value h.0 i.0 h.1 i.1) h.2 i.2
 one_after (insert at value) old one two h i = moves_once (carry (insert at value)) at h.0 i.0 old one two (good_once value h.0 i.0 h.1 i.1) h.2 i.2
 one_after (rename at to) old one two h i = moves_once (carry (rename at to)) _ nothing nothing old one two (λ a. refl) h i
 one_after (remove at) old one two h i = moves_once (carry (remove at)) _ nothing nothing old one two (λ a. refl) h i
+one_after (new_section at) old one two h i = moves_once Some at an_empty_table an_empty_table old one two (λ a. refl) h i
+one_after (new_element at) old one two h i =
+    let same : i.0 ≡ h.0 = same_parent i.0 h.0 (Index i.1) (Index h.1) (sym i.2 ∙ h.2) in
+    element_once h.0 at (old h.0) old one two h.3 (subst (λ q. AddsElement q at (old q) old two) same i.3)

@@ -11,9 +11,9 @@ use Rattle.toml_names.specs.model.Data.{Kinds, kind_at}
 use Rattle.toml_names.specs.mentions.Mentions.{Kind, kind_of, value_named}
 use Rattle.toml_names.specs.declared.mentions.mention.Role.TheVariants.{Valued}
 use Rattle.toml_names.proofs.Proved.{same_address-decides}
-use Rattle.toml_edits.specs.After.{IsAfter}
+use Rattle.toml_edits.specs.After.{AddsElement, IsAfter}
 use Rattle.toml_edits.specs.Carry.{carry}
-use Rattle.toml_edits.specs.Edits.{Change, set, insert, rename, remove}
+use Rattle.toml_edits.specs.Edits.{Change, set, insert, rename, remove, new_section, new_element}
 use Rattle.toml_edits.specs.Faults.{IsFault}
 use Rattle.toml_edits.specs.declared.fault.EditFault.TheVariants.{RootNamed}
 use Rattle.toml_edits.specs.ListLaws.{CarriedStands, ListsCarryApart}
@@ -47,6 +47,10 @@ not_zero s p = grind (arith, nat_tests)
 differ : (x y : Address) → same_address x y ≡ false → ¬ (x ≡ y)
 differ x y e is = let f : same_address x y ≡ true = ap (same_address x) (sym is) ∙ (same_address-decides x x).1 refl in cc
 
+element_keeps : (q at : Address) (o : Option Kind) (old new : Kinds) → AddsElement q at o old new → (a b : Address) (k : Kind) → ◌≡◌ {A = Option Address} (Some a) (Some b) → old a ≡ Some k → new b ≡ Some k
+element_keeps q at None old new m a b k is have = m.carried b a k have is
+element_keeps q at (Some j) old new m a b k is have = m.carried b a k have is
+
 pub stands : (c : Change) (old new : Kinds) → IsFault c old None → IsAfter c old new → (a b : Address) → carry c a ≡ Some b → Has old a → Has new b
 stands (set [] value) old new fault after a b is h = absurd (fault RootNamed refl)
 stands (set (s ∷ p) value) old new fault after a b is h = by (same_address a (s ∷ p)) refl
@@ -61,6 +65,8 @@ stands (set (s ∷ p) value) old new fault after a b is h = by (same_address a (
 stands (insert at value) old new fault after a b is h = (h.0, after.2.carried b a h.0 h.1 is)
 stands (rename at to) old new fault after a b is h = (h.0, after.carried b a h.0 h.1 is)
 stands (remove at) old new fault after a b is h = (h.0, after.carried b a h.0 h.1 is)
+stands (new_section at) old new fault after a b is h = (h.0, after.carried b a h.0 h.1 is)
+stands (new_element at) old new fault after a b is h = (h.0, element_keeps after.0 at (old after.0) old new after.3 a b h.0 is h.1)
 
 pub carried_stands : CarriedStands
 carried_stands c old new fault after a to is some = some_of new to (stands c old new fault after a to is (has old a some))

@@ -1,23 +1,23 @@
 -- Data in which nothing stands below nothing stay so under an edit without a fault.
-use Rattle.std.proofs.Common.{◌≡◌, ◌⊎◌, inl, inr, ℕ, ◌+◌, List, [], ◌∷◌, ◌++◌, length, Option, Some, None, IsSome, is_some, refl, sym, ap, subst, ◌∙◌, append-nil, append_assoc, arith}
+use Rattle.std.proofs.Common.{◌≡◌, ◌⊎◌, inl, inr, ℕ, ◌+◌, List, [], ◌∷◌, ◌++◌, length, Option, Some, None, IsSome, is_some, Bool, true, false, cond, refl, sym, ap, subst, ◌∙◌, append-nil, append_assoc, arith}
 use Rattle.std.proofs.lemmas.List.{length-append}
 use Rattle.std.proofs.lemmas.Option.{same_Some, none-some}
 use Rattle.toml_names.specs.declared.model.address.Step.{Step}
 use Rattle.toml_names.specs.declared.model.address.Step.TheVariants.{Name, Index}
-use Rattle.toml_names.specs.model.Addresses.{Address}
+use Rattle.toml_names.specs.model.Addresses.{Address, child, element, same_step}
 use Rattle.toml_names.specs.model.Data.{Kinds, IsClosed}
 use Rattle.toml_names.specs.mentions.Mentions.{Kind}
 use Rattle.toml_names.proofs.Proved.{values_are_closed}
-use Rattle.toml_edits.specs.declared.fault.EditFault.TheVariants.{NoSuchPlace}
-use Rattle.toml_edits.specs.After.{Comes, Moves, nothing}
+use Rattle.toml_edits.specs.declared.fault.EditFault.TheVariants.{NotAnElement, NoSuchPlace}
+use Rattle.toml_edits.specs.After.{Comes, Moves, AddsElement, nothing, an_empty_table, one_empty_table}
 use Rattle.toml_edits.specs.Carry.{Carrier, carry, carry_below, nowhere, up_from, inserting, parted}
-use Rattle.toml_edits.specs.Edits.{Change, set, insert, rename, remove}
+use Rattle.toml_edits.specs.Edits.{Change, set, insert, rename, remove, new_section, new_element}
 use Rattle.toml_edits.specs.Faults.{IsFault}
 use Rattle.toml_edits.specs.ListLaws.{StaysClosed}
 use Rattle.toml_edits.specs.ValueTexts.{IsGoodValue}
 use Rattle.toml_edits.proofs.Along.{ends}
 use Rattle.toml_edits.proofs.Fronts.{IsFrontal, below_front, nowhere_front, carried_front}
-use Rattle.toml_edits.proofs.LastStep.{no_root, same_parent}
+use Rattle.toml_edits.proofs.LastStep.{no_root, same_last, same_parent}
 use Rattle.toml_edits.proofs.Standing.{Has, has, some_of}
 use Rattle.toml_edits.proofs.Ways.{carried, carry_joined, parted_at}
 
@@ -123,6 +123,46 @@ insert_parent at value v old new fault moves q s is = by (old q) refl
     by None e = absurd (fault NoSuchPlace (q, s, is, e))
     by (Some k) e = (k, moves.carried q q k e (ap (λ x. inserting x q) (ap parted is ∙ parted_at q s) ∙ insert_keeps q s))
 
+-- ---- new tables
+
+empty_closed : IsClosed an_empty_table
+empty_closed [] s none = cc
+empty_closed (t ∷ a) s none = refl
+
+one_closed : IsClosed one_empty_table
+one_closed [] s none = cc
+one_closed (t ∷ a) s none = by (same_step (Index 0) t) none
+  where
+    by : (b : Bool) → cond b (an_empty_table a) None ≡ None → cond b (an_empty_table (a ++ s ∷ [])) None ≡ None
+    by true e = empty_closed a s e
+    by false e = refl
+
+section_parent : (at : Address) (old new : Kinds) → IsFault (new_section at) old None → Moves Some at an_empty_table old new → (q : Address) (s : Step) → at ≡ q ++ s ∷ [] → Has new q
+section_parent at old new fault moves q s is = by (old q) refl
+  where
+    by : (o : Option Kind) → old q ≡ o → Has new q
+    by None e = absurd (fault NoSuchPlace (q, s, is, e))
+    by (Some k) e = (k, moves.carried q q k e refl)
+
+-- an array that is made stands in a table
+array_parent : (at q : Address) (i : ℕ) (old new : Kinds) → IsFault (new_element at) old None → at ≡ element q i → Moves Some q one_empty_table old new → (r : Address) (s : Step) → q ≡ r ++ s ∷ [] → Has new r
+array_parent at q i old new fault is moves r (Index j) here =
+    absurd (fault NotAnElement (λ p n k e. named n (same_last r p (Index j) (Name n) (sym here ∙ same_parent q (child p n) (Index i) (Index k) (sym is ∙ e)))))
+  where
+    named : (n : List ℕ) → ¬ (Index j ≡ Name n)
+    named n e = cc
+array_parent at q i old new fault is moves r (Name n) here = by (old r) refl
+  where
+    by : (o : Option Kind) → old r ≡ o → Has new r
+    by None e = absurd (fault NoSuchPlace (r, n, i, is ∙ ap (λ p. element p i) here, e))
+    by (Some k) e = (k, moves.carried r r k e refl)
+
+element_closed : (at q : Address) (i : ℕ) (old new : Kinds) → IsClosed old → IsFault (new_element at) old None → at ≡ element q i → (o : Option Kind) → old q ≡ o → AddsElement q at o old new → IsClosed new
+element_closed at q i old new closed fault is None here moves = moves_closed Some q one_empty_table old new moves (carried_front (new_section q)) closed one_closed (array_parent at q i old new fault is moves)
+element_closed at q i old new closed fault is (Some k) here moves =
+    moves_closed Some at an_empty_table old new moves (carried_front (new_section at)) closed empty_closed
+    (λ r s e. (k, ap new (same_parent r q s (Index i) (sym e ∙ is)) ∙ moves.carried q q k here refl))
+
 pub stays_closed : StaysClosed
 stays_closed (set at value) old new closed fault after =
     moves_closed (carry_below at nowhere) at after.0 old new after.2 (below_front at nowhere nowhere_front) closed (value_closed value after.0 after.1) (set_parent at value after.0 old new closed fault after.2)
@@ -130,3 +170,5 @@ stays_closed (insert at value) old new closed fault after =
     moves_closed (carry (insert at value)) at after.0 old new after.2 (carried_front (insert at value)) closed (value_closed value after.0 after.1) (insert_parent at value after.0 old new fault after.2)
 stays_closed (rename at to) old new closed fault after = moves_closed (carry (rename at to)) [] nothing old new after (carried_front (rename at to)) closed nothing_closed (no_parent new)
 stays_closed (remove at) old new closed fault after = moves_closed (carry (remove at)) [] nothing old new after (carried_front (remove at)) closed nothing_closed (no_parent new)
+stays_closed (new_section at) old new closed fault after = moves_closed Some at an_empty_table old new after (carried_front (new_section at)) closed empty_closed (section_parent at old new fault after)
+stays_closed (new_element at) old new closed fault after = element_closed at after.0 after.1 old new closed fault after.2 (old after.0) refl after.3

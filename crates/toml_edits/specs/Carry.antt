@@ -5,7 +5,7 @@ use Rattle.std.specs.Str.{bytes_eq}
 use Rattle.toml_names.specs.declared.model.address.Step.{Step}
 use Rattle.toml_names.specs.declared.model.address.Step.TheVariants.{Name, Index}
 use Rattle.toml_names.specs.model.Addresses.{Address, same_step}
-use Rattle.toml_edits.specs.Edits.{Change, set, insert, rename, remove}
+use Rattle.toml_edits.specs.Edits.{Change, set, insert, rename, remove, new_section, new_element}
 
 -- an address, or nowhere
 abbrev pub Carrier : Type 0
@@ -73,3 +73,5 @@ carry (set at value) = setting at
 carry (insert at value) = inserting (parted at)
 carry (rename at to) = renaming (parted at) to
 carry (remove at) = removing (parted at)
+carry (new_section at) = Some
+carry (new_element at) = Some

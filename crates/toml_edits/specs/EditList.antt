@@ -1,6 +1,6 @@
 -- The form of an edit list, over the JSON value that `serde_json` reads. Of two equal members it keeps the last, and members stand in
 -- the order of their names.
-use Rattle.std.specs.Prelude.{◌≡◌, ◌==◌, ℕ, zero, suc, List, [], ◌∷◌, codes, Option, Some, None, option_map, option_and_then, map, Vec, Result, Ok, Err, if◌then◌else◌}
+use Rattle.std.specs.Prelude.{◌≡◌, ◌==◌, Bool, ℕ, zero, suc, List, [], ◌∷◌, codes, Option, Some, None, option_map, option_and_then, map, Vec, Result, Ok, Err, ◌||◌, if◌then◌else◌}
 use Rattle.std.specs.Str.{IsUtf8, bytes_eq}
 use Rattle.serde_json.specs.Data.{Data, number, string, array, object, unsigned, Items, no_items, item, Members, no_members, member}
 use Rattle.serde_json.specs.Find.{as_str, get}
@@ -12,7 +12,7 @@ use Rattle.toml_names.specs.model.Addresses.{Address}
 use Rattle.toml_edits.specs.declared.fault.EditsFault.{EditsFault}
 use Rattle.toml_edits.specs.declared.fault.EditsFault.TheVariants as faults
 use Rattle.toml_edits.specs.declared.edit.Edit.{Edit}
-use Rattle.toml_edits.specs.Edits.{Change, set, insert, rename, remove, change}
+use Rattle.toml_edits.specs.Edits.{Change, set, insert, rename, remove, new_section, new_element, change}
 
 -- a step: a text is a name, a whole number from 0 an index
 abbrev pub step_of : Data → Option Step
@@ -48,9 +48,13 @@ abbrev pub count : Data → ℕ
 count (object ms) = size ms
 count _ = 0
 
--- how many members an entry has by its operation: `at` and `op`, and where it is no `remove` one more
+-- the operations that have no text
+abbrev pub has_no_text : List ℕ → Bool
+has_no_text op = bytes_eq op (codes "remove") || bytes_eq op (codes "section") || bytes_eq op (codes "element")
+
+-- how many members an entry has by its operation: `at` and `op`, and one more where it has a text
 abbrev pub members_of : List ℕ → ℕ
-members_of op = if bytes_eq op (codes "remove") then 2 else 3
+members_of op = if has_no_text op then 2 else 3
 
 abbrev pub edit_of : List ℕ → Address → Data → Option Change
 edit_of op at d =
@@ -58,6 +62,8 @@ edit_of op at d =
     else if bytes_eq op (codes "insert") then option_map (insert at) (text_at (codes "value") d)
     else if bytes_eq op (codes "rename") then option_map (rename at) (text_at (codes "to") d)
     else if bytes_eq op (codes "remove") then Some (remove at)
+    else if bytes_eq op (codes "section") then Some (new_section at)
+    else if bytes_eq op (codes "element") then Some (new_element at)
     else None
 
 -- An entry is an object with `at`, `op` and, where its operation has one, `value` or `to`, and no other member.

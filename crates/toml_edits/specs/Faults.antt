@@ -6,21 +6,22 @@ use Rattle.toml_names.specs.model.Data.{Kinds}
 use Rattle.toml_names.specs.mentions.Mentions.{a_table, an_array}
 use Rattle.toml_names.specs.mentions.Rules.{max_steps}
 use Rattle.toml_edits.specs.declared.fault.EditFault.{EditFault}
-use Rattle.toml_edits.specs.declared.fault.EditFault.TheVariants.{RootNamed, BadValue, NoSuchPlace, NotATable, IndexOutside, NotAName, AlreadyThere, AddressLength, NoMemory}
-use Rattle.toml_edits.specs.Edits.{Change, set, insert, rename, remove, place}
+use Rattle.toml_edits.specs.declared.fault.EditFault.TheVariants.{RootNamed, NotAnElement, BadValue, NoSuchPlace, NotATable, IndexOutside, NotAName, AlreadyThere, AddressLength, NoMemory}
+use Rattle.toml_edits.specs.Edits.{Change, set, insert, rename, remove, new_section, new_element, place}
 use Rattle.toml_edits.specs.ValueTexts.{IsBadValue, IsLongValue, IsGoodValue}
 
 -- the order of the rows
 abbrev pub rank : EditFault → ℕ
 rank RootNamed = 0
-rank BadValue = 1
-rank NoSuchPlace = 2
-rank NotATable = 3
-rank IndexOutside = 4
-rank NotAName = 5
-rank AlreadyThere = 6
-rank AddressLength = 7
-rank NoMemory = 8
+rank NotAnElement = 1
+rank BadValue = 2
+rank NoSuchPlace = 3
+rank NotATable = 4
+rank IndexOutside = 5
+rank NotAName = 6
+rank AlreadyThere = 7
+rank AddressLength = 8
+rank NoMemory = 9
 
 -- an address of the value, placed at this one, would have more than 100 steps
 abbrev pub IsTooDeep : Address → List ℕ → Type 0
@@ -30,22 +31,40 @@ IsTooDeep at value = IsLongValue value ⊎ ((v : Kinds) × IsGoodValue value v �
 abbrev pub HasFewer : Kinds → Address → ℕ → Type 0
 HasFewer kinds q i = ¬ (kinds q ≡ Some an_array) ⊎ ((j : ℕ) × (j < i) × (kinds (element q j) ≡ None))
 
+-- the address of an element of an array that a table may have: its last step is an index, and the one before it a name
+abbrev pub IsElementOf : Address → Address → List ℕ → ℕ → Type 0
+IsElementOf at r n i = at ≡ element (child r n) i
+
+-- the array at the address has just so many elements; one that is not there has none
+abbrev pub IsNextIndex : Kinds → Address → ℕ → Type 0
+IsNextIndex kinds q i = MatchOption (kinds q) (i ≡ 0) (λ k. (k ≡ an_array) × ((j : ℕ) → j < i → IsSome (kinds (element q j))) × (kinds (element q i) ≡ None))
+
 -- the rows of each edit; want of memory has none
 abbrev pub Row : Change → Kinds → EditFault → Type 0
 Row c kinds RootNamed = place c ≡ []
+Row (new_element at) kinds NotAnElement = (r : Address) (n : List ℕ) (i : ℕ) → ¬ IsElementOf at r n i
 Row (set at value) kinds BadValue = IsBadValue value
 Row (insert at value) kinds BadValue = IsBadValue value
 Row (set at value) kinds NoSuchPlace = kinds at ≡ None
 Row (insert at value) kinds NoSuchPlace = (q : Address) × (s : Step) × (at ≡ q ++ s ∷ []) × (kinds q ≡ None)
 Row (rename at to) kinds NoSuchPlace = kinds at ≡ None
 Row (remove at) kinds NoSuchPlace = kinds at ≡ None
+Row (new_section at) kinds NoSuchPlace = (q : Address) × (s : Step) × (at ≡ q ++ s ∷ []) × (kinds q ≡ None)
+Row (new_element at) kinds NoSuchPlace = (r : Address) × (n : List ℕ) × (i : ℕ) × IsElementOf at r n i × (kinds r ≡ None)
 Row (insert at value) kinds NotATable = (q : Address) × (n : List ℕ) × (at ≡ child q n) × ¬ (kinds q ≡ Some a_table)
+Row (new_section at) kinds NotATable = (q : Address) × (n : List ℕ) × (at ≡ child q n) × ¬ (kinds q ≡ Some a_table)
+Row (new_element at) kinds NotATable = (r : Address) × (n : List ℕ) × (i : ℕ) × IsElementOf at r n i × ¬ (kinds r ≡ Some a_table)
 Row (insert at value) kinds IndexOutside = (q : Address) × (i : ℕ) × (at ≡ element q i) × HasFewer kinds q i
+Row (new_element at) kinds IndexOutside = (q : Address) × (i : ℕ) × (at ≡ element q i) × ¬ IsNextIndex kinds q i
+Row (new_section at) kinds NotAName = (q : Address) × (i : ℕ) × (at ≡ element q i)
 Row (rename at to) kinds NotAName = (q : Address) × (i : ℕ) × (at ≡ element q i)
 Row (insert at value) kinds AlreadyThere = (q : Address) × (n : List ℕ) × (at ≡ child q n) × IsSome (kinds at)
 Row (rename at to) kinds AlreadyThere = (q : Address) × (n : List ℕ) × (at ≡ child q n) × IsSome (kinds (child q to))
+Row (new_section at) kinds AlreadyThere = (q : Address) × (n : List ℕ) × (at ≡ child q n) × IsSome (kinds at)
 Row (set at value) kinds AddressLength = IsTooDeep at value
 Row (insert at value) kinds AddressLength = IsTooDeep at value
+Row (new_section at) kinds AddressLength = max_steps < length at
+Row (new_element at) kinds AddressLength = max_steps < length at
 Row _ kinds _ = ⊥
 
 -- the first row that holds, or none

@@ -12,3 +12,4 @@ pub mod Readings
 pub mod Changed
 pub mod Reach
 pub mod Judged
+pub mod Making

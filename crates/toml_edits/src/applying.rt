@@ -13,6 +13,7 @@ ghost use Rattle.toml_edits.specs.Readings.{IsReading};
 use crate::change::{DatumChange, alter};
 use crate::edit::Edit;
 use crate::fault::EditFault;
+use crate::making::{element, section};
 use crate::reach::reaches;
 use crate::value::{Reading, read_text};
 use std::alloc::Global;
@@ -24,13 +25,14 @@ use toml_names::{Data, Datum, MAX_STEPS, Step};
 /// | Fault | When |
 /// |---|---|
 /// | `RootNamed` | the address is that of the root |
+/// | `NotAnElement` | `element`: the last step is a name, or no name stands directly before it |
 /// | `BadValue` | `set`, `insert`: the text is longer than a text may be, is not one value, or a key in it breaks the table rules |
-/// | `NoSuchPlace` | `set`, `rename`, `remove`: nothing stands at the address; `insert`: nothing at its parent |
-/// | `NotATable` | `insert` of a name: the parent is no table |
-/// | `IndexOutside` | `insert` at an index: the parent is no array, or the index is greater than its length |
-/// | `NotAName` | `rename`: the last step is an index |
-/// | `AlreadyThere` | `insert`: the table has the name; `rename`: it has the new name, which may be the old one |
-/// | `AddressLength` | `set`, `insert`: an address of the result would have more than 100 steps |
+/// | `NoSuchPlace` | `set`, `rename`, `remove`: nothing stands at the address; `insert`, `section`: nothing at its parent; `element`: nothing at the parent of the array |
+/// | `NotATable` | `insert`, `section` of a name: the parent is no table; `element`: the parent of the array is none |
+/// | `IndexOutside` | `insert` at an index: the parent is no array, or the index is greater than its length; `element`: the parent is there and is no array, or the index is not its length, 0 where it is not there |
+/// | `NotAName` | `rename`, `section`: the last step is an index |
+/// | `AlreadyThere` | `insert`, `section`: the table has the name; `rename`: it has the new name, which may be the old one |
+/// | `AddressLength` | an address of the result would have more than 100 steps |
 /// | `NoMemory` | a growth was refused |
 ///
 /// A parent that loses its last child stays.
@@ -45,6 +47,8 @@ pub fn apply(alloc: Global, data: &mut Data, edit: &Edit) -> Result<(), EditFaul
         Edit::Insert { at, value } => insert(alloc, root, at.steps(), value.as_str()),
         Edit::Rename { at, to } => rename(alloc, root, at.steps(), to.as_str()),
         Edit::Remove { at } => remove(alloc, root, at.steps()),
+        Edit::Section { at } => section(alloc, root, at.steps()),
+        Edit::Element { at } => element(alloc, root, at.steps()),
     }
 }
 
@@ -172,7 +176,7 @@ fn value_to_insert(alloc: Global, root: &Datum, at: &[Step], text: &str) -> Resu
 }
 
 /// Why nothing new may stand one step below.
-fn step_fault(parent: &Datum, step: &Step) -> Option<EditFault>
+pub(crate) fn step_fault(parent: &Datum, step: &Step) -> Option<EditFault>
     ensures { IsStepFault step.now (kind_at parent.now) result }
 {
     match step {

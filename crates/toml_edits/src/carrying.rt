@@ -232,6 +232,7 @@ fn carry_away(alloc: Global, place: &[Step], steps: &[Step]) -> Result<Option<Ad
 /// | insert `p`, its last step a name | at `a` |
 /// | rename `p` to `t` | if `a` is at or below `p`, at `a` with that step replaced by `t`; else at `a` |
 /// | remove `p` | nowhere if `a` is at or below `p`; if the last step of `p` is an index `i` and `a` is at or below an element `j > i` of that array, at `a` with `j - 1`; else at `a` |
+/// | section `p`, element `p` | at `a` |
 ///
 /// An edit at the root, and a rename of an element, move nothing. An index that would pass 64 bits stands nowhere.
 pub fn carry(alloc: Global, edit: &Edit, address: &Address) -> Result<Option<Address>, AllocError>
@@ -243,5 +244,6 @@ pub fn carry(alloc: Global, edit: &Edit, address: &Address) -> Result<Option<Add
         Edit::Insert { at, .. } => carry_insert(alloc, at.steps(), steps),
         Edit::Rename { at, to } => carry_rename(alloc, at.steps(), to.as_str(), steps),
         Edit::Remove { at } => carry_remove(alloc, at.steps(), steps),
+        Edit::Section { .. } | Edit::Element { .. } => kept(alloc, steps),
     }
 }

@@ -11,4 +11,8 @@ pub enum Edit {
     Rename { at: Address, to: String },
     /// What stands there goes.
     Remove { at: Address },
+    /// A new member of a table: an empty table.
+    Section { at: Address },
+    /// A new element at the end of an array of tables: an empty table. Where there is no such array, it is made too.
+    Element { at: Address },
 }

@@ -25,25 +25,30 @@ pub enum EditFault {
     /// The address is that of the root.
     #[error("the root can't be edited")]
     RootNamed,
+    /// `element`: the last step is a name, or no name stands directly before it.
+    #[error("not the place of an element of an array of tables")]
+    NotAnElement,
     /// `set`, `insert`: the text is longer than a text may be, is not one value, or a key in it breaks the table rules.
     #[error("not one TOML value")]
     BadValue,
-    /// `set`, `rename`, `remove`: nothing stands at the address; `insert`: nothing stands at its parent.
+    /// `set`, `rename`, `remove`: nothing stands at the address; `insert`, `section`: nothing stands at its parent;
+    /// `element`: nothing stands at the parent of the array.
     #[error("nothing stands there")]
     NoSuchPlace,
-    /// `insert` of a name: the parent is no table.
+    /// `insert` and `section` of a name: the parent is no table; `element`: the parent of the array is none.
     #[error("the parent is no table")]
     NotATable,
-    /// `insert` at an index: the parent is no array, or the index is greater than its length.
-    #[error("the parent is no array, or has fewer elements")]
+    /// `insert` at an index: the parent is no array, or the index is greater than its length; `element`: the parent is
+    /// there and is no array, or the index is not its length, 0 where it is not there.
+    #[error("the parent is no array, or has another number of elements")]
     IndexOutside,
-    /// `rename`: the last step is an index.
+    /// `rename`, `section`: the last step is an index.
     #[error("an element has no name")]
     NotAName,
-    /// `insert`: the table has the name; `rename`: it has the new name.
+    /// `insert`, `section`: the table has the name; `rename`: it has the new name.
     #[error("the name is there already")]
     AlreadyThere,
-    /// `set`, `insert`: an address of the result would have more than 100 steps.
+    /// An address of the result would have more than 100 steps (`rename` and `remove` make no longer ones).
     #[error("an address would have more than 100 steps")]
     AddressLength,
     /// A growth was refused.

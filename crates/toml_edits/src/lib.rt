@@ -8,6 +8,7 @@ mod edit;
 mod fault;
 pub mod laws;
 mod list;
+mod making;
 mod reach;
 mod value;
 

@@ -2,7 +2,7 @@
 ghost use Rattle.std.specs.Prelude.{◌≡◌, codes, option_map, IfOk};
 ghost use Rattle.serde_json.specs.Find.{get};
 ghost use Rattle.serde_json.specs.View.{view, items_view};
-ghost use Rattle.toml_edits.specs.EditList.{ReadsEdits, ReadsItems, entry_of, edit_of, text_at, address_at, address_of, steps_of, step_of, count, members_of};
+ghost use Rattle.toml_edits.specs.EditList.{ReadsEdits, ReadsItems, entry_of, edit_of, text_at, address_at, address_of, steps_of, step_of, count, has_no_text, members_of};
 ghost use Rattle.toml_edits.specs.Edits.{change, set, insert, rename};
 
 use crate::edit::Edit;
@@ -14,7 +14,7 @@ use toml_names::{Address, Name, Step};
 /// The edits of a JSON list, in its order.
 ///
 /// Each entry is an object with exactly the members `op`, `at` and `value` (`"set"`, `"insert"`), or `op`, `at` and `to`
-/// (`"rename"`), or `op` and `at` (`"remove"`); `at` is a list of texts and of whole numbers from 0 to 2^64 - 1, `value`
+/// (`"rename"`), or `op` and `at` (`"remove"`, `"section"`, `"element"`); `at` is a list of texts and of whole numbers from 0 to 2^64 - 1, `value`
 /// and `to` are texts. `NotAList` is told where the bytes are no JSON list, `BadEdits` with the first entry that is not
 /// of this form, counted from 0. JSON is what `serde_json` reads: of two equal members the last counts.
 pub fn read_edits(alloc: Global, bytes: &[u8]) -> Result<Vec<Edit>, EditsFault>
@@ -127,11 +127,18 @@ fn count(entry: &Value) -> usize
     }
 }
 
+/// Whether the operation has no text.
+fn has_no_text(op: &str) -> bool
+    ensures { result ≡ has_no_text op.now }
+{
+    op == "remove" || op == "section" || op == "element"
+}
+
 /// How many members an entry has by its operation.
 fn members_of(op: &str) -> usize
     ensures { result ≡ members_of op.now }
 {
-    if op == "remove" { 2 } else { 3 }
+    if has_no_text(op) { 2 } else { 3 }
 }
 
 /// The edit by its operation.
@@ -149,6 +156,12 @@ fn edit_of(alloc: Global, op: &str, at: Address, entry: &Value) -> Result<Option
     }
     if op == "remove" {
         return Ok(Some(Edit::Remove { at }));
+    }
+    if op == "section" {
+        return Ok(Some(Edit::Section { at }));
+    }
+    if op == "element" {
+        return Ok(Some(Edit::Element { at }));
     }
     Ok(None)
 }
