@@ -7,7 +7,7 @@ use Rattle.toml_names.specs.declared.model.address.Step.{Step}
 use Rattle.toml_names.specs.declared.model.address.Step.TheVariants.{Name, Index}
 use Rattle.toml_names.specs.model.Addresses.{Address, same_step, same_address}
 use Rattle.toml_edits.specs.Carry.{carry, inserting, renaming, removing, parted}
-use Rattle.toml_edits.specs.Edits.{Change, set, insert, rename, remove, place}
+use Rattle.toml_edits.specs.Edits.{Change, set, insert, rename, remove, new_section, new_element, place}
 use Rattle.toml_edits.specs.Lists.{carried}
 use Rattle.toml_checker.specs.declared.side.Side.TheVariants.{Apart}
 use Rattle.toml_checker.specs.declared.tables.Part.{Part}
@@ -48,6 +48,8 @@ place_apart (set at value) a h = h
 place_apart (insert at value) a h = whole_apart at a h
 place_apart (rename at to) a h = h
 place_apart (remove at) a h = whole_apart at a h
+place_apart (new_section at) a h = h
+place_apart (new_element at) a h = h
 
 before_apart : (q : Address) (i : ℕ) (a : Address) → side q a ≡ Apart → is_before q i a ≡ true
 before_apart q i a h = ap (λ x. not (is_above x) || step_is_before i (slice_get a (length q))) h
@@ -96,6 +98,8 @@ carry_apart (set at value) a h = set_leaves at a (ap is_above h)
 carry_apart (insert at value) a h = insert_apart at a h
 carry_apart (rename at to) a h = rename_apart at to a h
 carry_apart (remove at) a h = remove_apart at a h
+carry_apart (new_section at) a h = refl
+carry_apart (new_element at) a h = refl
 
 named_apart : (part : Part) (c : Change) (base : Option ℕ) → is_named part c base Apart ≡ false
 named_apart parts.Line (set at value) None = refl
@@ -106,6 +110,10 @@ named_apart parts.Line (rename at to) None = refl
 named_apart parts.Line (rename at to) (Some n) = refl
 named_apart parts.Line (remove at) None = refl
 named_apart parts.Line (remove at) (Some n) = refl
+named_apart parts.Line (new_section at) None = refl
+named_apart parts.Line (new_section at) (Some n) = refl
+named_apart parts.Line (new_element at) None = refl
+named_apart parts.Line (new_element at) (Some n) = refl
 named_apart parts.Home (set at value) None = refl
 named_apart parts.Home (set at value) (Some n) = refl
 named_apart parts.Home (insert at value) None = refl
@@ -114,14 +122,22 @@ named_apart parts.Home (rename at to) None = refl
 named_apart parts.Home (rename at to) (Some n) = refl
 named_apart parts.Home (remove at) None = refl
 named_apart parts.Home (remove at) (Some n) = refl
+named_apart parts.Home (new_section at) None = refl
+named_apart parts.Home (new_section at) (Some n) = refl
+named_apart parts.Home (new_element at) None = refl
+named_apart parts.Home (new_element at) (Some n) = refl
 named_apart parts.Element (set at value) base = refl
 named_apart parts.Element (insert at value) base = refl
 named_apart parts.Element (rename at to) base = refl
 named_apart parts.Element (remove at) base = refl
+named_apart parts.Element (new_section at) base = refl
+named_apart parts.Element (new_element at) base = refl
 named_apart parts.Comment (set at value) base = refl
 named_apart parts.Comment (insert at value) base = refl
 named_apart parts.Comment (rename at to) base = refl
 named_apart parts.Comment (remove at) base = refl
+named_apart parts.Comment (new_section at) base = refl
+named_apart parts.Comment (new_element at) base = refl
 
 -- no edit names what is apart from all their areas,
 pub stands_apart : (part : Part) (cs : List Change) (a : Address) (base : Option ℕ) → IsApart cs a → stands part cs (Some a) base ≡ true

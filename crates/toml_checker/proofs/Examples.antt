@@ -4,12 +4,13 @@
 --     [t] # head                      2, 3
 --     a.b = [1, {x = 2}, # inner      4: line; 5, 6: elements; 7: pair; 8: comment
 --       3] # tail                     9: element; 10: comment
-use Rattle.std.proofs.Common.{◌≡◌, ℕ, List, [], ◌∷◌, ◌++◌, length, Option, Some, None, Bool, true, false, inl, inr, refl, ap, ◌∙◌, arith, length-append}
+use Rattle.std.proofs.Common.{◌≡◌, ℕ, List, [], ◌∷◌, ◌++◌, length, Option, Some, None, Bool, true, false, inl, inr, ◌⊎◌, refl, sym, ap, ◌∙◌, arith, length-append}
 use Rattle.toml_names.specs.declared.model.address.Step.TheVariants.{Name, Index}
 use Rattle.toml_names.specs.model.Addresses.{Address}
-use Rattle.toml_edits.specs.Edits.{Change, set, insert, rename, remove}
+use Rattle.toml_edits.specs.Edits.{Change, set, insert, rename, remove, new_section, new_element}
 use Rattle.toml_units.specs.declared.unit.UnitKind.{UnitKind}
 use Rattle.toml_units.specs.declared.unit.UnitKind.TheVariants as kinds
+use Rattle.toml_checker.specs.CarriedTo.{IsAtOrAbove}
 use Rattle.toml_checker.specs.Owed.{IsOwed}
 use Rattle.toml_checker.specs.Plain.{Site, flags}
 
@@ -136,6 +137,57 @@ remove_element = refl
 remove_pair : Keeps (remove (member x) ∷ []) (Row y y n y n n y y y)
 remove_pair = refl
 
+-- ---- a new section
+
+-- below a header's address: its line stays, as all does
+section_below_header : Keeps (new_section (t ++ Name x ∷ []) ∷ []) (Row y y y y y y y y y)
+section_below_header = refl
+
+-- above a keyval line, or at it: the line stays
+section_above_line : Keeps (new_section ta ∷ []) (Row y y y y y y y y y)
+section_above_line = refl
+
+section_at_line : Keeps (new_section tab ∷ []) (Row y y y y y y y y y)
+section_at_line = refl
+
+-- below it, in no element: the line changes alone
+section_below_line : Keeps (new_section (tab ++ Name x ∷ []) ∷ []) (Row y y n y y y y y y)
+section_below_line = refl
+
+-- at an element's address, not below it
+section_at_element : Keeps (new_section (element 1) ∷ []) (Row y y n y y y y y y)
+section_at_element = refl
+
+-- below an element, whose pair stays,
+section_in_element : Keeps (new_section (member (0x7A ∷ [])) ∷ []) (Row y y n y n y y y y)
+section_in_element = refl
+
+-- and below the pair too
+section_in_pair : Keeps (new_section (member x ++ Name x ∷ []) ∷ []) (Row y y n y n n y y y)
+section_in_pair = refl
+
+-- ---- a new element
+
+element_below_header : Keeps (new_element (t ++ Name x ∷ Index 0 ∷ []) ∷ []) (Row y y y y y y y y y)
+element_below_header = refl
+
+-- of the table itself: its header line stays
+element_of_header : Keeps (new_element (t ++ Index 0 ∷ []) ∷ []) (Row y y y y y y y y y)
+element_of_header = refl
+
+-- of the array of a keyval line: its elements stay, and the comment in it
+element_of_line : Keeps (new_element (element 3) ∷ []) (Row y y n y y y y y y)
+element_of_line = refl
+
+element_at_element : Keeps (new_element (element 1) ∷ []) (Row y y n y y y y y y)
+element_at_element = refl
+
+element_in_element : Keeps (new_element (member (0x7A ∷ []) ++ Index 0 ∷ []) ∷ []) (Row y y n y n y y y y)
+element_in_element = refl
+
+element_in_pair : Keeps (new_element (member x ++ Index 0 ∷ []) ∷ []) (Row y y n y n n y y y)
+element_in_pair = refl
+
 -- ---- lists: each edit finds a unit where those before it have carried it
 
 -- the second edit finds the element that has moved up
@@ -145,6 +197,10 @@ element_moved_up = refl
 -- and here the one that was put there
 element_put_in : Keeps (insert (element 0) x ∷ remove (element 0) ∷ []) (Row y y n y y y y y y)
 element_put_in = refl
+
+-- a new element moves none: it is the first that is removed
+element_moves_none : Keeps (new_element (element 0) ∷ remove (element 0) ∷ []) (Row y y n n y y y y y)
+element_moves_none = refl
 
 -- nothing is there under the old name,
 old_name : Keeps (rename t x ∷ remove tab ∷ []) (Row n y y y y y y y y)
@@ -186,3 +242,45 @@ not_below r to e f rest is =
 
 not_owed_below_parent : ¬ (IsOwed (remove tab ∷ []) tab)
 not_owed_below_parent = λ w. elim w [ inl o ↦ not_below o.0 o.1 o.2 o.3 o.4.0 o.4.1 | inr o ↦ o ]
+
+-- a new section owes what is at it, above it and below it,
+owed_section : IsOwed (new_section ta ∷ []) ta
+owed_section = inl (ta, ta, refl, refl, inl ([], refl))
+
+owed_above_section : IsOwed (new_section ta ∷ []) t
+owed_above_section = inl (ta, ta, refl, refl, inl (Name (0x61 ∷ []) ∷ [], refl))
+
+owed_below_section : IsOwed (new_section ta ∷ []) tab
+owed_below_section = inl (ta, ta, refl, refl, inr (Name (0x62 ∷ []) ∷ [], refl))
+
+-- a new element too, which may have made its array,
+owed_element : IsOwed (new_element (element 3) ∷ []) (element 3)
+owed_element = inl (element 3, element 3, refl, refl, inl ([], refl))
+
+owed_array : IsOwed (new_element (element 3) ∷ []) tab
+owed_array = inl (element 3, element 3, refl, refl, inl (Index 3 ∷ [], refl))
+
+owed_below_element : IsOwed (new_element (element 3) ∷ []) (element 3 ++ Name x ∷ [])
+owed_below_element = inl (element 3, element 3, refl, refl, inr (Name x ∷ [], refl))
+
+-- where later edits have carried it,
+owed_element_carried : IsOwed (new_element (element 3) ∷ remove (element 0) ∷ []) (element 2)
+owed_element_carried = inl (element 3, element 2, refl, refl, inl ([], refl))
+
+-- and nothing beside it
+abbrev last_of : Address → ℕ
+last_of (u ∷ v ∷ w ∷ Index i ∷ rest) = i
+last_of _ = 0
+
+not_beside : (r to : Address) → Some (element 3) ≡ Some r → Some r ≡ Some to → IsAtOrAbove (element 2) to ⊎ IsAtOrAbove to (element 2) → ⊥
+not_beside r to e f w = by w
+  where
+    here : to ≡ element 3
+    here = cc
+
+    by : IsAtOrAbove (element 2) to ⊎ IsAtOrAbove to (element 2) → ⊥
+    by (inl (rest, is)) = let same : 3 ≡ 2 = ap last_of (sym here ∙ is) in omega (arith, same)
+    by (inr (rest, is)) = let same : 2 ≡ 3 = ap last_of (is ∙ ap (λ p. p ++ rest) here) in omega (arith, same)
+
+not_owed_beside : ¬ (IsOwed (new_element (element 3) ∷ []) (element 2))
+not_owed_beside = λ w. elim w [ inl o ↦ not_beside o.0 o.1 o.2 o.3 o.4 | inr o ↦ o ]

@@ -7,7 +7,7 @@ use Rattle.std.specs.Bool.{nat_lt}
 use Rattle.std.specs.Prelude.{slice_get, option_map, option_and_then}
 use Rattle.toml_names.specs.model.Addresses.{Address, IsAbove}
 use Rattle.toml_edits.specs.Carry.{carry}
-use Rattle.toml_edits.specs.Edits.{Change, set, insert, rename, remove, place}
+use Rattle.toml_edits.specs.Edits.{Change, set, insert, rename, remove, new_section, new_element, place}
 use Rattle.toml_units.specs.declared.unit.UnitKind.{UnitKind}
 use Rattle.toml_units.specs.declared.unit.UnitKind.TheVariants as kinds
 use Rattle.toml_units.specs.Places.{is_line, line_with, line_from}
@@ -104,36 +104,48 @@ removes (set at value) a = no (λ w. w)
 removes (insert at value) a = no (λ w. w)
 removes (rename at to) a = no (λ w. w)
 removes (remove at) a = front at a
+removes (new_section at) a = no (λ w. w)
+removes (new_element at) a = no (λ w. w)
 
 sets : (c : Change) (a : Address) → D (plain.sets c (side (place c) a)) (Sets c a)
 sets (set at value) a = front at a
 sets (insert at value) a = no (λ w. w)
 sets (rename at to) a = no (λ w. w)
 sets (remove at) a = no (λ w. w)
+sets (new_section at) a = no (λ w. w)
+sets (new_element at) a = no (λ w. w)
 
 sets_above : (c : Change) (a : Address) → D (plain.sets_above c (side (place c) a)) (SetsAbove c a)
 sets_above (set at value) a = above at a
 sets_above (insert at value) a = no (λ w. w)
 sets_above (rename at to) a = no (λ w. w)
 sets_above (remove at) a = no (λ w. w)
+sets_above (new_section at) a = no (λ w. w)
+sets_above (new_element at) a = no (λ w. w)
 
 sets_it : (c : Change) (a : Address) → D (plain.sets_it c (side (place c) a)) (SetsIt c a)
 sets_it (set at value) a = at_it at a
 sets_it (insert at value) a = no (λ w. w)
 sets_it (rename at to) a = no (λ w. w)
 sets_it (remove at) a = no (λ w. w)
+sets_it (new_section at) a = no (λ w. w)
+sets_it (new_element at) a = no (λ w. w)
 
 renames : (c : Change) (a : Address) → D (plain.renames c (side (place c) a)) (Renames c a)
 renames (set at value) a = no (λ w. w)
 renames (insert at value) a = no (λ w. w)
 renames (rename at to) a = front at a
 renames (remove at) a = no (λ w. w)
+renames (new_section at) a = no (λ w. w)
+renames (new_element at) a = no (λ w. w)
 
 renames_in : (c : Change) (n : ℕ) (a : Address) → D (plain.renames_in c n (side (place c) a)) (Renames c a × (n < length (place c)))
 renames_in (set at value) n a = no (λ w. w.0)
 renames_in (insert at value) n a = no (λ w. w.0)
 renames_in (rename at to) n a = d_and (plain.is_at_or_above (side at a)) (nat_lt n (length at)) (IsAtOrAbove at a) (n < length at) (front at a) (d_less n (length at))
 renames_in (remove at) n a = no (λ w. w.0)
+renames_in (new_section at) n a = no (λ w. w.0)
+renames_in (new_element at) n a = no (λ w. w.0)
 
 part_gone : (c : Change) (a : Address) → D (plain.part_is_gone c (side (place c) a)) (PartIsGone c a)
 part_gone c a = d_or (plain.removes c (side (place c) a)) (plain.sets c (side (place c) a)) (Removes c a) (Sets c a) (removes c a) (sets c a)

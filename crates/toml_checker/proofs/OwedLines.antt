@@ -12,7 +12,7 @@ use Rattle.toml_names.specs.model.Addresses.{Address, IsAbove, child, same_step}
 use Rattle.toml_names.specs.model.Data.{Kinds, kind_at}
 use Rattle.toml_names.proofs.Proved.{same_step-self}
 use Rattle.toml_edits.specs.Carry.{Carrier, carry, carry_below, emptied, nowhere, up_from, down_above, to_name, setting, inserting, renaming, removing, parted}
-use Rattle.toml_edits.specs.Edits.{Change, set, insert, rename, remove, place}
+use Rattle.toml_edits.specs.Edits.{Change, set, insert, rename, remove, new_section, new_element, place}
 use Rattle.toml_edits.specs.Faults.{IsFault}
 use Rattle.toml_edits.specs.Lists.{carried, Lead}
 use Rattle.toml_edits.specs.declared.fault.EditFault.TheVariants.{RootNamed, NotAName}
@@ -35,6 +35,8 @@ IsApt (set at value) = ¬ (at ≡ [])
 IsApt (insert at value) = ¬ (at ≡ [])
 IsApt (rename at to) = (q : Address) × (n : List ℕ) × (at ≡ child q n)
 IsApt (remove at) = ¬ (at ≡ [])
+IsApt (new_section at) = ¬ (at ≡ [])
+IsApt (new_element at) = ¬ (at ≡ [])
 
 abbrev pub AreApt : List Change → Type 0
 AreApt [] = Unit {0}
@@ -44,6 +46,8 @@ apt : (c : Change) (kinds : Kinds) → IsFault c kinds None → IsApt c
 apt (set at value) kinds h = λ e. h RootNamed e
 apt (insert at value) kinds h = λ e. h RootNamed e
 apt (remove at) kinds h = λ e. h RootNamed e
+apt (new_section at) kinds h = λ e. h RootNamed e
+apt (new_element at) kinds h = λ e. h RootNamed e
 apt (rename at to) kinds h = by (ends at)
   where
     by : (at ≡ []) ⊎ ((q : Address) × (s : Step) × (at ≡ q ++ s ∷ [])) → IsApt (rename at to)
@@ -147,6 +151,8 @@ within_stays (remove at) a h w = by (ends at)
     by (inl e) = absurd (h e)
     by (inr (q, Name n, e)) = ap (λ o. removing o a) (ap parted e ∙ parted_at q (Name n)) ∙ above_stays q a (Name n) at (carry_below (Name n ∷ []) nowhere) refl e w
     by (inr (q, Index i, e)) = ap (λ o. removing o a) (ap parted e ∙ parted_at q (Index i)) ∙ above_stays q a (Index i) at (down_above i) refl e w
+within_stays (new_section at) a h w = refl
+within_stays (new_element at) a h w = refl
 
 -- ---- lists
 
@@ -206,6 +212,8 @@ set_owes (set at value) cs a b is e = owes_here (set at value) cs at b refl (sym
 set_owes (insert at value) cs a b is e = absurd is
 set_owes (rename at to) cs a b is e = absurd is
 set_owes (remove at) cs a b is e = absurd is
+set_owes (new_section at) cs a b is e = absurd is
+set_owes (new_element at) cs a b is e = absurd is
 
 -- a renaming at it or above it
 rename_owes : (c : Change) (cs : List Change) (a b : Address) → IsApt c → Renames c a → carried (c ∷ cs) a ≡ Some b → IsOwed (c ∷ cs) b
@@ -215,13 +223,19 @@ rename_owes (rename at to) cs a b (q, n, is) (rest, e) h =
 rename_owes (set at value) cs a b h w e = absurd w
 rename_owes (insert at value) cs a b h w e = absurd w
 rename_owes (remove at) cs a b h w e = absurd w
+rename_owes (new_section at) cs a b h w e = absurd w
+rename_owes (new_element at) cs a b h w e = absurd w
 
--- an edit strictly below it
+-- an edit strictly below it, whose result is at its place,
+place_owes : (c : Change) (cs : List Change) (n : ℕ) (a b : Address) (p : Option Address) (lb : Option ℕ) → result c ≡ Some (place c) → ((x : Address) → IsAtOrAbove b x → Owes c x b)
+    → IsAbove a (place c) → Stays cs (ln (Some a) (Some n) p lb) → carried cs a ≡ Some b → IsOwed (c ∷ cs) b
+place_owes c cs n a b p lb made owes (s, r, is) stays e =
+    inl (place c, b ++ s ∷ r, made, ap (carried cs) is ∙ along cs n (Some a) a b (s ∷ r) p lb refl stays e, owes (b ++ s ∷ r) (s ∷ r, refl))
+
+-- and any
 within_owes : (c : Change) (cs : List Change) (n : ℕ) (a b : Address) (p : Option Address) (lb : Option ℕ) → IsApt c → IsAbove a (place c) → Stays cs (ln (Some a) (Some n) p lb) → carried cs a ≡ Some b → IsOwed (c ∷ cs) b
-within_owes (set at value) cs n a b p lb h (s, r, is) stays e =
-    inl (at, b ++ s ∷ r, refl, ap (carried cs) is ∙ along cs n (Some a) a b (s ∷ r) p lb refl stays e, inl (s ∷ r, refl))
-within_owes (insert at value) cs n a b p lb h (s, r, is) stays e =
-    inl (at, b ++ s ∷ r, refl, ap (carried cs) is ∙ along cs n (Some a) a b (s ∷ r) p lb refl stays e, inl (s ∷ r, refl))
+within_owes (set at value) cs n a b p lb h w stays e = place_owes (set at value) cs n a b p lb refl (λ x v. inl v) w stays e
+within_owes (insert at value) cs n a b p lb h w stays e = place_owes (insert at value) cs n a b p lb refl (λ x v. inl v) w stays e
 within_owes (rename at to) cs n a b p lb (q, m, at_is) (s, r, is) stays e =
     let w = parent_below a q s (Name m) r (sym at_is ∙ is) in
     inl (
@@ -238,6 +252,8 @@ within_owes (remove at) cs n a b p lb h (s, r, is) stays e = by (ends at)
     by (inr (q, t, at_is)) =
         let w = parent_below a q s t r (sym at_is ∙ is) in
         inl (q, b ++ w.0, ap (option_map (λ (x : Address × Step). x.0)) (ap parted at_is ∙ parted_at q t), ap (carried cs) w.1 ∙ along cs n (Some a) a b w.0 p lb refl stays e, (w.0, refl))
+within_owes (new_section at) cs n a b p lb h w stays e = place_owes (new_section at) cs n a b p lb refl (λ x v. inl v) w stays e
+within_owes (new_element at) cs n a b p lb h w stays e = place_owes (new_element at) cs n a b p lb refl (λ x v. inl v) w stays e
 
 -- what takes a line away carries it nowhere, but for a `set` at a header line
 lost : (c : Change) (cs : List Change) (a b : Address) → carry c a ≡ None → carried (c ∷ cs) a ≡ Some b → ⊥
@@ -248,12 +264,16 @@ removed (remove at) cs a b h w e = lost (remove at) cs a b (remove_nowhere at a 
 removed (set at value) cs a b h w e = w
 removed (insert at value) cs a b h w e = w
 removed (rename at to) cs a b h w e = w
+removed (new_section at) cs a b h w e = w
+removed (new_element at) cs a b h w e = w
 
 set_above_it : (c : Change) (cs : List Change) (a b : Address) → IsApt c → SetsAbove c a → carried (c ∷ cs) a ≡ Some b → ⊥
 set_above_it (set at value) cs a b h w e = lost (set at value) cs a b (set_nowhere at a h w) e
 set_above_it (insert at value) cs a b h w e = w
 set_above_it (rename at to) cs a b h w e = w
 set_above_it (remove at) cs a b h w e = w
+set_above_it (new_section at) cs a b h w e = w
+set_above_it (new_element at) cs a b h w e = w
 
 sets_owes : (c : Change) (cs : List Change) (a b : Address) → IsApt c → Sets c a → carried (c ∷ cs) a ≡ Some b → IsOwed (c ∷ cs) b
 sets_owes (set at value) cs a b h w e = by (at_or_above at a w)
@@ -264,6 +284,8 @@ sets_owes (set at value) cs a b h w e = by (at_or_above at a w)
 sets_owes (insert at value) cs a b h w e = absurd w
 sets_owes (rename at to) cs a b h w e = absurd w
 sets_owes (remove at) cs a b h w e = absurd w
+sets_owes (new_section at) cs a b h w e = absurd w
+sets_owes (new_element at) cs a b h w e = absurd w
 
 gone_owes : (c : Change) (cs : List Change) (base : Option ℕ) (a b : Address) → IsApt c → LineIsGone c (Some a) base → carried (c ∷ cs) a ≡ Some b → IsOwed (c ∷ cs) b
 gone_owes c cs None a b h (inl w) e = absurd (removed c cs a b h w e)

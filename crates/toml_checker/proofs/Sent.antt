@@ -9,7 +9,7 @@ use Rattle.toml_names.specs.model.Addresses.{Address, IsAbove, same_step}
 use Rattle.toml_names.specs.model.Indices.{IsLow}
 use Rattle.toml_names.proofs.Proved.{same_step-equal}
 use Rattle.toml_edits.specs.Carry.{Carrier, carry, carry_below, emptied, nowhere, up_from, down_above, to_name, setting, inserting, renaming, removing}
-use Rattle.toml_edits.specs.Edits.{Change, set, insert, rename, remove}
+use Rattle.toml_edits.specs.Edits.{Change, set, insert, rename, remove, new_section, new_element}
 use Rattle.toml_checker.proofs.Parted.{by_parts}
 use Rattle.toml_checker.specs.CarriedTo.{IsAtOrAbove}
 use Rattle.toml_checker.specs.GoneAndChanged.{Removes, SetsAbove}
@@ -140,3 +140,5 @@ sent (remove at) n room a low = by (by_parts (λ o p. Arrives n (removing o a) �
     by : Arrives n (carry (remove at) a) ⊎ IsAtOrAbove at a → Sent (remove at) n a
     by (inl w) = inl w
     by (inr w) = inr (inl w)
+sent (new_section at) n room a low = inl (same_arrives n a low)
+sent (new_element at) n room a low = inl (same_arrives n a low)

@@ -2,7 +2,7 @@
 use Rattle.toml_names.specs.declared.model.datum.Datum.{Datum}
 use Rattle.toml_names.specs.model.Data.{Kinds, kind_at}
 use Rattle.toml_edits.specs.declared.fault.EditFault.TheVariants.{BadValue}
-use Rattle.toml_edits.specs.Edits.{Change, set, insert, rename, remove}
+use Rattle.toml_edits.specs.Edits.{Change, set, insert, rename, remove, new_section, new_element}
 use Rattle.toml_edits.specs.Faults.{IsFault}
 use Rattle.toml_edits.specs.Lists.{Lead}
 use Rattle.std.proofs.Common.{List, [], ◌∷◌, None}
@@ -13,6 +13,8 @@ value_of (set at value) old h = h BadValue
 value_of (insert at value) old h = h BadValue
 value_of (rename at to) old h = tt
 value_of (remove at) old h = tt
+value_of (new_section at) old h = tt
+value_of (new_element at) old h = tt
 
 pub values_of : (cs : List Change) (old new : Datum) → Lead cs old new → HaveValues cs
 values_of [] old new h = tt

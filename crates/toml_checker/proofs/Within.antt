@@ -5,7 +5,7 @@ use Rattle.std.specs.Prelude.{option_map, option_and_then}
 use Rattle.toml_names.specs.model.Addresses.{Address, IsAbove}
 use Rattle.toml_names.specs.model.Indices.{IsLow}
 use Rattle.toml_edits.specs.Carry.{carry}
-use Rattle.toml_edits.specs.Edits.{Change, set, insert, rename, remove, place}
+use Rattle.toml_edits.specs.Edits.{Change, set, insert, rename, remove, new_section, new_element, place}
 use Rattle.toml_edits.specs.Laws.{IsNotSet, Front}
 use Rattle.toml_edits.specs.Lists.{carried}
 use Rattle.toml_edits.proofs.Proved.{carried_along, carried_front}
@@ -59,12 +59,16 @@ sets_above (set at value) a w = above_at at a w
 sets_above (insert at value) a w = absurd w
 sets_above (rename at to) a w = absurd w
 sets_above (remove at) a w = absurd w
+sets_above (new_section at) a w = absurd w
+sets_above (new_element at) a w = absurd w
 
 sets_it : (c : Change) (a : Address) → SetsIt c a → Sets c a
 sets_it (set at value) a e = ([], sym (append-nil at ∙ e))
 sets_it (insert at value) a w = absurd w
 sets_it (rename at to) a w = absurd w
 sets_it (remove at) a w = absurd w
+sets_it (new_section at) a w = absurd w
+sets_it (new_element at) a w = absurd w
 
 sets_split : (c : Change) (a : Address) → ¬ SetsAbove c a → ¬ SetsIt c a → ¬ Sets c a
 sets_split (set at value) a n m w = by (at_or_above at a w)
@@ -75,24 +79,32 @@ sets_split (set at value) a n m w = by (at_or_above at a w)
 sets_split (insert at value) a n m w = w
 sets_split (rename at to) a n m w = w
 sets_split (remove at) a n m w = w
+sets_split (new_section at) a n m w = w
+sets_split (new_element at) a n m w = w
 
 pub not_set : (c : Change) (a : Address) → Safe c a → IsNotSet c a
 not_set (set at value) a s = λ e. s.unset (sets_it (set at value) a e)
 not_set (insert at value) a s = tt
 not_set (rename at to) a s = tt
 not_set (remove at) a s = tt
+not_set (new_section at) a s = tt
+not_set (new_element at) a s = tt
 
 removes_longer : (c : Change) (l q : Address) → Removes c l → Removes c (l ++ q)
 removes_longer (set at value) l q w = absurd w
 removes_longer (insert at value) l q w = absurd w
 removes_longer (rename at to) l q w = absurd w
 removes_longer (remove at) l q w = above_longer at l q w
+removes_longer (new_section at) l q w = absurd w
+removes_longer (new_element at) l q w = absurd w
 
 sets_longer : (c : Change) (l q : Address) → Sets c l → Sets c (l ++ q)
 sets_longer (set at value) l q w = above_longer at l q w
 sets_longer (insert at value) l q w = absurd w
 sets_longer (rename at to) l q w = absurd w
 sets_longer (remove at) l q w = absurd w
+sets_longer (new_section at) l q w = absurd w
+sets_longer (new_element at) l q w = absurd w
 
 -- above what is left alone all is
 pub safe_above : (c : Change) (l q : Address) → Safe c (l ++ q) → Safe c l
@@ -112,6 +124,8 @@ safe_below (remove at) a rest s n = record { kept = λ w. by (parts a rest at w)
     by : IsAtOrAbove at a ⊎ IsAbove a at → ⊥
     by (inl v) = s.kept v
     by (inr v) = n v
+safe_below (new_section at) a rest s n = record { kept = λ w. w; unset = λ w. w }
+safe_below (new_element at) a rest s n = record { kept = λ w. w; unset = λ w. w }
 
 line_safe : (c : Change) (l : Address) (base : Option ℕ) → Safe c l → ¬ LineIsGone c (Some l) base
 line_safe c l None s (inl w) = s.kept w
@@ -158,6 +172,8 @@ not_renamed : (c : Change) (a rest : Address) (n : ℕ) → length a ≤ n → �
 not_renamed (set at value) a rest n le apart w lt = w
 not_renamed (insert at value) a rest n le apart w lt = w
 not_renamed (remove at) a rest n le apart w lt = w
+not_renamed (new_section at) a rest n le apart w lt = w
+not_renamed (new_element at) a rest n le apart w lt = w
 not_renamed (rename at to) a rest n le apart w lt = by (parts a rest at w)
   where
     by : IsAtOrAbove at a ⊎ IsAbove a at → ⊥

@@ -5,7 +5,7 @@ use Rattle.std.specs.Prelude.{Contains}
 use Rattle.std.proofs.lemmas.List.{append-nil}
 use Rattle.toml_tree.proofs.Proved.{one_value}
 use Rattle.toml_names.specs.model.Addresses.{Address}
-use Rattle.toml_edits.specs.Edits.{Change, set, insert, rename, remove, place}
+use Rattle.toml_edits.specs.Edits.{Change, set, insert, rename, remove, new_section, new_element, place}
 use Rattle.toml_edits.specs.Lists.{carried}
 use Rattle.toml_units.specs.Units.{TextUnit, inside}
 use Rattle.toml_checker.specs.declared.written.Written.{Written}
@@ -29,6 +29,8 @@ in_once (set at value) ts us h k = comments_once value ts us h k
 in_once (insert at value) ts us h k = comments_once value ts us h k
 in_once (rename at to) ts us h k = h ∙ sym k
 in_once (remove at) ts us h k = h ∙ sym k
+in_once (new_section at) ts us h k = h ∙ sym k
+in_once (new_element at) ts us h k = h ∙ sym k
 
 pub written_once : (cs : List Change) (xs ys : List (List (List ℕ))) → AreWritten cs xs → AreWritten cs ys → xs ≡ ys
 written_once [] [] [] h k = refl

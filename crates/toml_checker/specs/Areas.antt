@@ -4,7 +4,7 @@ use Rattle.toml_names.specs.declared.model.address.Step.{Step}
 use Rattle.toml_names.specs.declared.model.address.Step.TheVariants.{Name, Index}
 use Rattle.toml_names.specs.model.Addresses.{Address}
 use Rattle.toml_edits.specs.Carry.{parted}
-use Rattle.toml_edits.specs.Edits.{Change, set, insert, rename, remove}
+use Rattle.toml_edits.specs.Edits.{Change, set, insert, rename, remove, new_section, new_element}
 use Rattle.toml_checker.specs.declared.side.Side.TheVariants.{Apart}
 use Rattle.toml_checker.specs.Sides.{side}
 
@@ -22,6 +22,8 @@ area (set at value) = at
 area (insert at value) = whole_of at
 area (rename at to) = at
 area (remove at) = whole_of at
+area (new_section at) = at
+area (new_element at) = at
 
 -- the address is neither at the area of one of the edits, nor below it, nor above it
 abbrev pub IsApart : List Change → Address → Type 0

@@ -4,7 +4,7 @@ use Rattle.std.specs.List.{filter, flat_map}
 use Rattle.std.specs.Str.{bytes_eq}
 use Rattle.toml_tree.specs.Spells.{EachIs, SpellsValue}
 use Rattle.toml_tree.specs.Tree.{Doc, Value}
-use Rattle.toml_edits.specs.Edits.{Change, set, insert, rename, remove, place}
+use Rattle.toml_edits.specs.Edits.{Change, set, insert, rename, remove, new_section, new_element, place}
 use Rattle.toml_edits.specs.Lists.{carried}
 use Rattle.toml_names.specs.model.Addresses.{Address}
 use Rattle.toml_units.specs.declared.unit.UnitKind.{UnitKind}
@@ -26,12 +26,14 @@ texts us = map (λ (u : TextUnit). u.piece.text) us
 abbrev pub AreCommentsOf : List ℕ → List (List ℕ) → Type 0
 AreCommentsOf value ts = (v : Value) × SpellsValue v 0 value × (ts ≡ texts (filter (λ (u : TextUnit). is_comment u.kind) (inside [] v)))
 
--- those in the value of an edit; a renaming and a removal have none
+-- those in the value of an edit; an edit without a value has none
 abbrev pub AreCommentsIn : Change → List (List ℕ) → Type 0
 AreCommentsIn (set at value) ts = AreCommentsOf value ts
 AreCommentsIn (insert at value) ts = AreCommentsOf value ts
 AreCommentsIn (rename at to) ts = ts ≡ []
 AreCommentsIn (remove at) ts = ts ≡ []
+AreCommentsIn (new_section at) ts = ts ≡ []
+AreCommentsIn (new_element at) ts = ts ≡ []
 
 -- those of each edit of a list
 abbrev pub AreWritten : List Change → List (List (List ℕ)) → Type 0

@@ -2,7 +2,7 @@
 use Rattle.std.specs.Prelude.{◌≡◌, ◌⊎◌, List, [], ◌∷◌, Option, Some, option_map}
 use Rattle.toml_names.specs.model.Addresses.{Address, child}
 use Rattle.toml_edits.specs.Carry.{parted}
-use Rattle.toml_edits.specs.Edits.{Change, set, insert, rename, remove}
+use Rattle.toml_edits.specs.Edits.{Change, set, insert, rename, remove, new_section, new_element}
 use Rattle.toml_edits.specs.Lists.{carried}
 use Rattle.toml_checker.specs.CarriedTo.{IsAtOrAbove}
 
@@ -12,6 +12,8 @@ result (set at value) = Some at
 result (insert at value) = Some at
 result (rename at to) = option_map (λ w. child w.0 to) (parted at)
 result (remove at) = option_map (λ w. w.0) (parted at)
+result (new_section at) = Some at
+result (new_element at) = Some at
 
 -- what an edit owes at its result: all at it and above it, and, but for a removal, all below it
 abbrev pub Owes : Change → Address → Address → Type 0

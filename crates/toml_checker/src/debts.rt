@@ -51,7 +51,7 @@ fn renamed(alloc: Global, at: &Address, to: &str) -> Result<Option<Address>, All
     Ok(Some(parent.child(alloc, name)?))
 }
 
-/// Where the result of an edit stands right behind it.
+/// Where the result of an edit stands right behind it; a new table stands at its place.
 fn result_of(alloc: Global, edit: &Edit) -> Result<Option<Address>, AllocError>
     ensures { IfOk result (λ r. r ≡ owed.result (change edit.now)) }
 {
@@ -60,6 +60,8 @@ fn result_of(alloc: Global, edit: &Edit) -> Result<Option<Address>, AllocError>
         Edit::Insert { at, .. } => Ok(Some(at.copy(alloc)?)),
         Edit::Rename { at, to } => renamed(alloc, at, to.as_str()),
         Edit::Remove { at } => parent(alloc, at),
+        Edit::Section { at } => Ok(Some(at.copy(alloc)?)),
+        Edit::Element { at } => Ok(Some(at.copy(alloc)?)),
     }
 }
 

@@ -23,7 +23,7 @@ fn whole_of<'x>(place: &'x [Step]) -> &'x [Step]
 }
 
 /// The address at which all stands, at it or below, that an edit takes away or moves: an edit that shifts elements has the
-/// whole array for its area. What it changes besides stands above.
+/// whole array for its area. What it changes besides stands above. A new table moves nothing: its area is its place.
 fn area<'x>(edit: &'x Edit) -> &'x [Step]
     ensures { result.now ≡ area (change edit.now) }
 {
@@ -32,6 +32,8 @@ fn area<'x>(edit: &'x Edit) -> &'x [Step]
         Edit::Rename { at, .. } => at.steps(),
         Edit::Insert { at, .. } => whole_of(at.steps()),
         Edit::Remove { at } => whole_of(at.steps()),
+        Edit::Section { at } => at.steps(),
+        Edit::Element { at } => at.steps(),
     }
 }
 

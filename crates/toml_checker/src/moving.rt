@@ -19,6 +19,8 @@ pub fn place(edit: &Edit) -> &Address
         Edit::Insert { at, .. } => at,
         Edit::Rename { at, .. } => at,
         Edit::Remove { at } => at,
+        Edit::Section { at } => at,
+        Edit::Element { at } => at,
     }
 }
 
@@ -109,6 +111,8 @@ fn leaves(edit: &Edit, at: &Address) -> bool
         Edit::Insert { at: place, .. } => insert_leaves(place.steps(), steps),
         Edit::Rename { at: place, .. } => rename_leaves(place.steps(), steps),
         Edit::Remove { at: place } => remove_leaves(place.steps(), steps),
+        Edit::Section { .. } => true,
+        Edit::Element { .. } => true,
     }
 }
 

@@ -119,6 +119,8 @@ fn next_line<'a>(line: Option<&'a Unit>, unit: &'a Unit) -> Option<&'a Unit>
 /// | comment at the end of a line | its line is taken away | never |
 /// | comment in an array | its line is taken away; remove or set with `p` at or above `a` | never |
 /// | blank line | never | never |
+///
+/// A new section or element takes nothing away, and is among the edits of any kind.
 pub fn protected(alloc: Global, units: &[Unit], edits: &[Edit]) -> Result<Vec<bool>, AllocError>
     ensures { IfOk result (λ flags. (us : List TextUnit) → all_units units.now ≡ map spanned us → TellProtected (map change edits.now) us flags.items) }
 {

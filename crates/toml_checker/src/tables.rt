@@ -34,7 +34,7 @@ fn removes(edit: &Edit, side: Side) -> bool
 {
     match edit {
         Edit::Remove { .. } => is_at_or_above(side),
-        Edit::Set { .. } | Edit::Insert { .. } | Edit::Rename { .. } => false,
+        _ => false,
     }
 }
 
@@ -44,7 +44,7 @@ fn sets(edit: &Edit, side: Side) -> bool
 {
     match edit {
         Edit::Set { .. } => is_at_or_above(side),
-        Edit::Insert { .. } | Edit::Rename { .. } | Edit::Remove { .. } => false,
+        _ => false,
     }
 }
 
@@ -54,7 +54,7 @@ fn sets_above(edit: &Edit, side: Side) -> bool
 {
     match edit {
         Edit::Set { .. } => side == Side::Above,
-        Edit::Insert { .. } | Edit::Rename { .. } | Edit::Remove { .. } => false,
+        _ => false,
     }
 }
 
@@ -64,7 +64,7 @@ fn sets_it(edit: &Edit, side: Side) -> bool
 {
     match edit {
         Edit::Set { .. } => side == Side::At,
-        Edit::Insert { .. } | Edit::Rename { .. } | Edit::Remove { .. } => false,
+        _ => false,
     }
 }
 
@@ -74,7 +74,7 @@ fn renames(edit: &Edit, side: Side) -> bool
 {
     match edit {
         Edit::Rename { .. } => is_at_or_above(side),
-        Edit::Set { .. } | Edit::Insert { .. } | Edit::Remove { .. } => false,
+        _ => false,
     }
 }
 
@@ -84,7 +84,7 @@ fn renames_in(edit: &Edit, steps: usize, side: Side) -> bool
 {
     match edit {
         Edit::Rename { at, .. } => is_at_or_above(side) && steps < at.steps().len(),
-        Edit::Set { .. } | Edit::Insert { .. } | Edit::Remove { .. } => false,
+        _ => false,
     }
 }
 

@@ -76,6 +76,8 @@ fn comments_in<'e>(alloc: Global, edit: &'e Edit) -> Result<Vec<&'e [u8]>, Alloc
         Edit::Insert { value, .. } => comments_of(alloc, value.as_str()),
         Edit::Rename { .. } => Ok(Vec::new(alloc)),
         Edit::Remove { .. } => Ok(Vec::new(alloc)),
+        Edit::Section { .. } => Ok(Vec::new(alloc)),
+        Edit::Element { .. } => Ok(Vec::new(alloc)),
     }
 }
 
