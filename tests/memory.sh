@@ -152,6 +152,10 @@ document 'x = [1, 2, 3]\n' "{\"x\":[$(integer 1),$(integer 2),$(integer 3)]}" '[
 edited '[{"op":"remove","at":["x",0]},{"op":"remove","at":["x",0]}]' 'x = [3]\n' 'kept 1\n3 1\n4 2\n'
 document '[a.b]\n' '{"a":{"b":{}}}' '["a"]\n["a","b"]'
 edited '[{"op":"insert","at":["a","x"],"value":"1"}]' '[a]\nx = 1\n[a.b]\n' 'kept 1\n0 2\n1 3\n'
+document '[[a]]\n[a.b]\n[[a]]\nx = 1' "{\"a\":[{\"b\":{}},{\"x\":$(integer 1)}]}" \
+  '["a"]\n["a",0]\n["a",0,"b"]\n["a",1]\n["a",1,"x"]'
+edited '[{"op":"section","at":["a",0,"c"]},{"op":"element","at":["a",2]}]' \
+  '[[a]]\n[a.b]\n[a.c]\n[[a]]\nx = 1\n[[a]]' 'kept 1\n0 0\n1 1\n2 3\n3 4\n'
 document 'f = +6.626_0E-34\nd = 1979-05-27 07:32:00.50z\n' \
   '{"d":{"type":"datetime","value":"1979-05-27T07:32:00.50Z"},"f":{"type":"float","value":"6.6260e-34"}}' '["f"]\n["d"]'
 printf '[a.b.c]\n[a]\nb.x = 1\n[a.b]\n' >before

@@ -21,6 +21,7 @@ use Rattle.toml_names.specs.declared.model.datum.Datum.{Datum}
 use Rattle.toml_names.specs.model.Addresses.{Address}
 use Rattle.toml_names.specs.model.Data.{Kinds, IsDataOf, IsFact, kind_at}
 use Rattle.toml_names.specs.model.Documents.{IsDocument}
+use Rattle.toml_names.specs.model.Places.{place}
 use Rattle.toml_names.specs.mentions.Mentions.{Named, named}
 use Rattle.toml_names.specs.reader.Names.{AreGood, RefusesNames}
 use Rattle.toml_names.proofs.Proved.{refused_are_bad}
@@ -76,9 +77,9 @@ data_copied ms ns k l is facts same = λ at kind. let e = facts at kind in (
 )
 
 -- what is told of the data of a text is told of the text
-pub any_tells : (before : List ℕ) (cs : List Change) (d : Doc) (old : Datum) (fault : EditorFault) → Spells d before → IsDataOf (named d.lines) (kind_at old) → TellsAny cs old fault → Tells before cs fault
+pub any_tells : (before : List ℕ) (cs : List Change) (d : Doc) (old : Datum) (fault : EditorFault) → Spells d before → IsDataOf (named d.lines) (kind_at old) → TellsAny (place (named d.lines)) cs old fault → Tells before cs fault
 any_tells before cs d old (faults.Edit i f) spelled facts h = (d, spelled, old, facts, h)
-any_tells before cs d old (faults.Spread i) spelled facts h = (d, spelled, old, facts, h)
+any_tells before cs d old (faults.Spread i) spelled facts h = (d, spelled, (d, spelled, old, facts, h))
 any_tells before cs d old (faults.LastElement i) spelled facts h = (d, spelled, old, facts, h)
 any_tells before cs d old faults.NoMemory spelled facts h = tt
 any_tells before cs d old (faults.Text f) spelled facts h = absurd h

@@ -10,7 +10,7 @@ use Rattle.toml_edits.specs.After.{IsAfter}
 use Rattle.toml_edits.specs.Edits.{Change, change}
 use Rattle.toml_edits.specs.Faults.{IsFault}
 use Rattle.toml_edits.specs.Lists.{Lead}
-use Rattle.toml_editor.specs.Edited.{SoFar, MayBeSpread, TakesLastElement}
+use Rattle.toml_editor.specs.Edited.{Places, SoFar, MayBeSpread, TakesLastElement}
 use Rattle.toml_editor.specs.Making.{IsMade, TellsOne, TellsAny}
 use Rattle.toml_editor.specs.declared.fault.EditorFault.{EditorFault}
 use Rattle.toml_editor.specs.declared.fault.EditorFault.TheVariants as faults
@@ -44,13 +44,13 @@ so_far : (es : List Given) (i j : ℕ) (e : Given) (old mid : Datum) (P : Change
 so_far es i j e old mid P low is lead same p =
     subst (λ n. SoFar (map change es) old n P) (sym same) (mid, subst (λ cs. Lead cs old mid) (sym (take_map i es)) lead, change e, get_map es i e low is, p)
 
-pub any_of_one : (es : List Given) (i : ℕ) (e : Given) (old mid : Datum) (fault : EditorFault) → i < length es → e ≡ get_or es i e → Lead (map change (take i es)) old mid → TellsOne i (change e) (kind_at mid) fault → TellsAny (map change es) old fault
-any_of_one es i e old mid (faults.Edit j f) low is lead h = so_far es i j e old mid (λ c kinds. IsFault c kinds (Some f)) low is lead h.0 h.1
-any_of_one es i e old mid (faults.Spread j) low is lead h = so_far es i j e old mid MayBeSpread low is lead h.0 h.1
-any_of_one es i e old mid (faults.LastElement j) low is lead h = so_far es i j e old mid TakesLastElement low is lead h.0 h.1
-any_of_one es i e old mid faults.NoMemory low is lead h = tt
-any_of_one es i e old mid (faults.Text f) low is lead h = absurd h
-any_of_one es i e old mid (faults.Syntax f) low is lead h = absurd h
-any_of_one es i e old mid (faults.Names f) low is lead h = absurd h
-any_of_one es i e old mid faults.TooLong low is lead h = absurd h
-any_of_one es i e old mid (faults.Unverified r) low is lead h = absurd h
+pub any_of_one : (places : Places) (es : List Given) (i : ℕ) (e : Given) (old mid : Datum) (fault : EditorFault) → i < length es → e ≡ get_or es i e → Lead (map change (take i es)) old mid → TellsOne places i (change e) (kind_at mid) fault → TellsAny places (map change es) old fault
+any_of_one places es i e old mid (faults.Edit j f) low is lead h = so_far es i j e old mid (λ c kinds. IsFault c kinds (Some f)) low is lead h.0 h.1
+any_of_one places es i e old mid (faults.Spread j) low is lead h = so_far es i j e old mid (MayBeSpread places j) low is lead h.0 h.1
+any_of_one places es i e old mid (faults.LastElement j) low is lead h = so_far es i j e old mid TakesLastElement low is lead h.0 h.1
+any_of_one places es i e old mid faults.NoMemory low is lead h = tt
+any_of_one places es i e old mid (faults.Text f) low is lead h = absurd h
+any_of_one places es i e old mid (faults.Syntax f) low is lead h = absurd h
+any_of_one places es i e old mid (faults.Names f) low is lead h = absurd h
+any_of_one places es i e old mid faults.TooLong low is lead h = absurd h
+any_of_one places es i e old mid (faults.Unverified r) low is lead h = absurd h

@@ -1,15 +1,19 @@
 -- What the editor answers.
-use Rattle.std.specs.Prelude.{◌≡◌, ◌⊎◌, ◌↔◌, ℕ, List, take, Some, None, IsSome, slice_get}
+use Rattle.std.specs.Prelude.{◌≡◌, ◌⊎◌, ◌↔◌, ℕ, List, [], ◌∷◌, ◌++◌, take, Option, Some, None, IsSome, slice_get}
 use Rattle.toml_text.specs.Limit.{IsText}
 use Rattle.toml_text.specs.Source.{IsFaultOf}
 use Rattle.toml_tree.specs.Document.{Refuses}
 use Rattle.toml_names.specs.declared.model.datum.Datum.{Datum}
+use Rattle.toml_names.specs.declared.model.address.Step.{Step}
+use Rattle.toml_names.specs.declared.model.place.Place.{Place}
+use Rattle.toml_names.specs.declared.model.place.Place.TheVariants.{KeyVal, Inside}
 use Rattle.toml_names.specs.model.Addresses.{Address, element}
 use Rattle.toml_names.specs.model.Data.{Kinds, kind_at}
 use Rattle.toml_names.specs.model.Documents.{IsDocument}
-use Rattle.toml_names.specs.mentions.Mentions.{a_table, an_array}
+use Rattle.toml_names.specs.model.Places.{place}
+use Rattle.toml_names.specs.mentions.Mentions.{a_table, an_array, named}
 use Rattle.toml_names.specs.reader.Names.{RefusesNames}
-use Rattle.toml_edits.specs.Edits.{Change, set, insert, remove}
+use Rattle.toml_edits.specs.Edits.{Change, set, insert, remove, new_section, new_element}
 use Rattle.toml_edits.specs.Faults.{IsFault}
 use Rattle.toml_edits.specs.Lists.{Lead}
 use Rattle.toml_units.specs.declared.piece.Piece.{Piece}
@@ -51,11 +55,31 @@ SoFar cs old index P = (mid : Datum) × Lead (take index cs) old mid × (c : Cha
 abbrev pub OnDataSoFar : List ℕ → List Change → ℕ → (Change → Kinds → Type 0) → Type 0
 OnDataSoFar before cs index P = OfData before (λ old. SoFar cs old index P)
 
--- a value for a table or an array, or an element more of an array
-abbrev pub MayBeSpread : Change → Kinds → Type 0
-MayBeSpread (set at value) kinds = (kinds at ≡ Some a_table) ⊎ (kinds at ≡ Some an_array)
-MayBeSpread (insert at value) kinds = (q : Address) × (i : ℕ) × (at ≡ element q i)
-MayBeSpread _ kinds = ⊥
+-- where the things of a text stand in it
+abbrev pub Places : Type 0
+Places = Address → Option Place
+
+-- it is the value of a line, or stands in one
+abbrev pub IsInValue : Option Place → Type 0
+IsInValue (Some (KeyVal line)) = Unit {0}
+IsInValue (Some (Inside line)) = Unit {0}
+IsInValue _ = ⊥
+
+-- what stands right above the address is the value of a line, or stands in one
+abbrev pub IsRightInValue : Places → Address → Type 0
+IsRightInValue places at = (q : Address) × (s : Step) × (at ≡ q ++ s ∷ []) × IsInValue (places q)
+
+-- the array whose element the address is, or the table in which the array stands, is the value of a line, or stands in one
+abbrev pub IsElementInValue : Places → Address → Type 0
+IsElementInValue places at = (q : Address) × (s : Step) × (at ≡ q ++ s ∷ []) × (IsInValue (places q) ⊎ IsRightInValue places q)
+
+-- a value for a table or an array, an element more of an array, or a header line, of the first edit only where it would stand in a value
+abbrev pub MayBeSpread : Places → ℕ → Change → Kinds → Type 0
+MayBeSpread places index (set at value) kinds = (kinds at ≡ Some a_table) ⊎ (kinds at ≡ Some an_array)
+MayBeSpread places index (insert at value) kinds = (q : Address) × (i : ℕ) × (at ≡ element q i)
+MayBeSpread places index (new_section at) kinds = index ≡ 0 → IsRightInValue places at
+MayBeSpread places index (new_element at) kinds = index ≡ 0 → IsElementInValue places at
+MayBeSpread places index _ kinds = ⊥
 
 -- the removal of the only element of an array
 abbrev pub TakesLastElement : Change → Kinds → Type 0
@@ -73,7 +97,7 @@ RefusesText before _ = ⊥
 -- what a fault of the editor tells; of a result that is too long or that the judge refuses, and of want of memory, it tells nothing
 abbrev pub Tells : List ℕ → List Change → EditorFault → Type 0
 Tells before cs (Edit index fault) = OnDataSoFar before cs index (λ c kinds. IsFault c kinds (Some fault))
-Tells before cs (Spread index) = OnDataSoFar before cs index MayBeSpread
+Tells before cs (Spread index) = OfTree before (λ d. OnDataSoFar before cs index (MayBeSpread (place (named d.lines)) index))
 Tells before cs (LastElement index) = OnDataSoFar before cs index TakesLastElement
 Tells before cs TooLong = Unit {0}
 Tells before cs (Unverified reason) = Unit {0}

@@ -1,25 +1,23 @@
 -- What the making of edits tells, one after the other.
-use Rattle.std.specs.Prelude.{◌≡◌, ◌⊎◌, ℕ, List, [], ◌∷◌, Option, Some, None, IsSome}
+use Rattle.std.specs.Prelude.{◌≡◌, ◌⊎◌, ℕ, List, [], ◌∷◌, ◌++◌, Option, Some, None, IsSome}
 use Rattle.toml_names.specs.declared.model.datum.Datum.{Datum}
-use Rattle.toml_names.specs.model.Addresses.{Address, element}
+use Rattle.toml_names.specs.declared.model.address.Step.{Step}
+use Rattle.toml_names.specs.model.Addresses.{Address}
 use Rattle.toml_names.specs.model.Data.{Kinds, kind_at, kind_in}
-use Rattle.toml_names.specs.mentions.Mentions.{a_table, an_array}
+use Rattle.toml_names.specs.model.Places.{place}
+use Rattle.toml_names.specs.mentions.Mentions.{a_table, an_array, named}
+use Rattle.toml_names.specs.reader.Reading.{ReaderState, lines_of}
 use Rattle.toml_names.specs.declared.model.address.Step.TheVariants.{Index}
 use Rattle.toml_edits.specs.After.{IsAfter}
-use Rattle.toml_edits.specs.Edits.{Change, insert}
+use Rattle.toml_edits.specs.Edits.{Change}
 use Rattle.toml_edits.specs.Faults.{IsFault}
-use Rattle.toml_editor.specs.Edited.{SoFar, MayBeSpread, TakesLastElement}
+use Rattle.toml_editor.specs.Edited.{Places, SoFar, MayBeSpread, TakesLastElement}
 use Rattle.toml_editor.specs.declared.fault.EditorFault.{EditorFault}
 use Rattle.toml_editor.specs.declared.fault.EditorFault.TheVariants.{Edit, Spread, LastElement, NoMemory}
 
 -- the edit has no fault on the one data, and makes the other of them
 abbrev pub IsMade : Change → Datum → Datum → Type 0
 IsMade c old new = IsFault c (kind_at old) None × IsAfter c (kind_at old) (kind_at new)
-
--- it inserts at an index
-abbrev pub EndsInIndex : Change → Type 0
-EndsInIndex (insert at value) = (q : Address) × (i : ℕ) × (at ≡ element q i)
-EndsInIndex _ = ⊥
 
 -- what was found is a table or an array
 abbrev pub IsMany : Option Datum → Type 0
@@ -29,18 +27,32 @@ IsMany found = (kind_in found [] ≡ Some a_table) ⊎ (kind_in found [] ≡ Som
 abbrev pub HasOne : Option Datum → Type 0
 HasOne found = IsSome (kind_in found (Index 0 ∷ [])) × (kind_in found (Index 1 ∷ []) ≡ None)
 
--- the edit with this number has such a fault on the data
-abbrev pub TellsOne : ℕ → Change → Kinds → EditorFault → Type 0
-TellsOne i c kinds (Edit j fault) = (j ≡ i) × IsFault c kinds (Some fault)
-TellsOne i c kinds (Spread j) = (j ≡ i) × MayBeSpread c kinds
-TellsOne i c kinds (LastElement j) = (j ≡ i) × TakesLastElement c kinds
-TellsOne i c kinds NoMemory = Unit {0}
-TellsOne i c kinds _ = ⊥
+-- the address without its last step, if it has one
+abbrev pub IsParent : Address → Address → Type 0
+IsParent at q = (at ≡ []) ⊎ ((s : Step) × (at ≡ q ++ s ∷ []))
+
+-- where the things of the lines taken stand
+abbrev pub places_of : ReaderState → Places
+places_of names = place (named (lines_of names))
+
+-- the edit with this number is not defined on the data
+abbrev pub TellsRow : ℕ → Change → Kinds → EditorFault → Type 0
+TellsRow i c kinds (Edit j fault) = (j ≡ i) × IsFault c kinds (Some fault)
+TellsRow i c kinds NoMemory = Unit {0}
+TellsRow i c kinds _ = ⊥
+
+-- the edit with this number has such a fault on the data, the things of the text before the edits being at these places
+abbrev pub TellsOne : Places → ℕ → Change → Kinds → EditorFault → Type 0
+TellsOne places i c kinds (Edit j fault) = (j ≡ i) × IsFault c kinds (Some fault)
+TellsOne places i c kinds (Spread j) = (j ≡ i) × MayBeSpread places j c kinds
+TellsOne places i c kinds (LastElement j) = (j ≡ i) × TakesLastElement c kinds
+TellsOne places i c kinds NoMemory = Unit {0}
+TellsOne places i c kinds _ = ⊥
 
 -- some edit has it on the data to which those before it lead
-abbrev pub TellsAny : List Change → Datum → EditorFault → Type 0
-TellsAny cs old (Edit i fault) = SoFar cs old i (λ c kinds. IsFault c kinds (Some fault))
-TellsAny cs old (Spread i) = SoFar cs old i MayBeSpread
-TellsAny cs old (LastElement i) = SoFar cs old i TakesLastElement
-TellsAny cs old NoMemory = Unit {0}
-TellsAny cs old _ = ⊥
+abbrev pub TellsAny : Places → List Change → Datum → EditorFault → Type 0
+TellsAny places cs old (Edit i fault) = SoFar cs old i (λ c kinds. IsFault c kinds (Some fault))
+TellsAny places cs old (Spread i) = SoFar cs old i (MayBeSpread places i)
+TellsAny places cs old (LastElement i) = SoFar cs old i TakesLastElement
+TellsAny places cs old NoMemory = Unit {0}
+TellsAny places cs old _ = ⊥

@@ -32,6 +32,7 @@ AreEdited (set p text) style old new = (v : Value) × SpellsValue v 0 text × Ha
 AreEdited (insert p text) style old new = (v : Value) × SpellsValue v 0 text × (name : List ℕ) × (p ≡ Name name ∷ []) × (new ≡ insert_lines name v style old)
 AreEdited (rename p to) style old new = new ≡ rename_lines p to old
 AreEdited (remove p) style old new = (name : List ℕ) × (p ≡ Name name ∷ []) × HasPair old p × (new ≡ remove_lines p old)
+AreEdited _ style old new = ⊥
 
 -- the text after it, the mark kept
 abbrev pub IsWritten : Change → List ℕ → List ℕ → List ℕ → Type 0

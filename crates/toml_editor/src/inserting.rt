@@ -1,8 +1,9 @@
 //! `insert`: an element of an array, a pair of an inline table, or a line with a key and a value.
 use crate::lines::{Line, below};
-use crate::tree::{Brackets, Expr, Header, Key, KeyVal, Leaf, Value};
+use crate::sections::NewHeader;
+use crate::tree::{Brackets, Expr, KeyVal, Leaf, Value};
 use crate::working::{Position, TablePlace, Tree};
-use std::alloc::{AllocError, Global};
+use std::alloc::AllocError;
 use toml_names::{Address, Place, Step};
 use toml_tree::Doc;
 
@@ -82,8 +83,7 @@ impl<'x> Tree<'x> {
         }
     }
 
-    /// Puts a line in behind another; its table's address has `base` steps. Where that was the last line of the text, it gets
-    /// the newline of new lines, and the new one has none.
+    /// Puts a line in behind another; its table's address has `base` steps.
     fn insert_behind(
         &mut self,
         doc: &Doc<'x>,
@@ -93,16 +93,26 @@ impl<'x> Tree<'x> {
         spelled: &'x [String],
         new: Value<'x>,
     ) -> Result<bool, AllocError> {
-        let (alloc, style) = (self.alloc(), self.style);
-        let mut newline = style;
-        if let Some(line) = self.line_mut(behind) {
-            if line.is_last() {
-                newline = Leaf::EMPTY;
-                line.end_in(alloc, doc, style)?;
-            }
-        }
+        let newline = self.newline_behind(doc, behind)?;
         let line = self.pair_line(at, base, spelled, new, newline)?;
         self.put(behind.next(), line)
+    }
+
+    /// The newline of a line that is put in behind another. Where this one was the last line of the text, it gets the newline
+    /// of new lines, and the new one has none.
+    pub(crate) fn newline_behind(
+        &mut self,
+        doc: &Doc<'x>,
+        behind: Position,
+    ) -> Result<Leaf<'x>, AllocError> {
+        let (alloc, style) = (self.alloc(), self.style);
+        if let Some(line) = self.line_mut(behind) {
+            if line.is_last() {
+                line.end_in(alloc, doc, style)?;
+                return Ok(Leaf::EMPTY);
+            }
+        }
+        Ok(style)
     }
 
     /// Puts a header line for the parent, and a line behind it, in before another.
@@ -116,14 +126,12 @@ impl<'x> Tree<'x> {
     ) -> Result<bool, AllocError> {
         let (alloc, style) = (self.alloc(), self.style);
         let line = self.pair_line(at, parent.steps().len(), spelled, new, style)?;
-        let key = names_key(alloc, &parent, spelled)?;
-        let header = Header {
+        let header = NewHeader {
+            at: &parent,
             brackets: Brackets::One,
-            before: Leaf::EMPTY,
-            key,
-            after: Leaf::EMPTY,
+            spelled,
         };
-        let above = Line::new(alloc, Some(parent), None, Expr::Header(header), style)?;
+        let above = header.line(alloc, style)?;
         Ok(self.put(before, line)? && self.put(before, above)?)
     }
 
@@ -146,7 +154,7 @@ impl<'x> Tree<'x> {
     }
 
     /// Puts a line in at a place.
-    fn put(&mut self, at: Position, line: Line<'x>) -> Result<bool, AllocError> {
+    pub(crate) fn put(&mut self, at: Position, line: Line<'x>) -> Result<bool, AllocError> {
         match self.slots.get_mut(at.slot) {
             Some(slot) => {
                 slot.put(at.index, line)?;
@@ -155,21 +163,4 @@ impl<'x> Tree<'x> {
             None => Ok(false),
         }
     }
-}
-
-/// The key of the names of an address, by the spellings of its steps; indices are left out.
-fn names_key<'t>(
-    alloc: Global,
-    at: &Address,
-    spelled: &'t [String],
-) -> Result<Key<'t>, AllocError> {
-    let mut key = Key::none(alloc);
-    let mut first = true;
-    for (step, text) in at.steps().iter().zip(spelled) {
-        if let Step::Name(_) = step {
-            key.push(first, text.as_str())?;
-            first = false;
-        }
-    }
-    Ok(key)
 }

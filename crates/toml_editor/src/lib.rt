@@ -14,6 +14,7 @@ mod pairing;
 mod pieces;
 mod removing;
 mod renaming;
+mod sections;
 mod setting;
 mod spelled;
 mod texts;

@@ -105,6 +105,14 @@ impl<'t> Line<'t> {
         }
     }
 
+    /// Whether it has no bytes, and ends in no newline.
+    pub(crate) fn has_no_bytes(&self) -> bool {
+        match &self.body {
+            Body::Kept(kept) => kept.span.start == kept.span.end,
+            Body::Open(line) => line.has_no_bytes(),
+        }
+    }
+
     /// Whether it stands at the address or below it.
     pub(crate) fn is_below(&self, at: &Address) -> bool {
         match self.at() {

@@ -1,14 +1,16 @@
 //! One edit after the other, on the data and on the working tree.
-ghost use Rattle.std.specs.Prelude.{◌≡◌, IfErr, IsTrue, OnOk, Some, length, map, option_copied};
+ghost use Rattle.std.specs.Prelude.{◌≡◌, IfErr, IfOk, IsTrue, OnOk, Some, length, map, option_copied};
 ghost use Rattle.toml_names.specs.model.Data.{kind_at};
 ghost use Rattle.toml_edits.specs.Edits.{change, remove};
 ghost use Rattle.toml_edits.specs.Lists.{Lead};
 ghost use Rattle.toml_editor.specs.Edited.{MayBeSpread, TakesLastElement};
-ghost use Rattle.toml_editor.specs.Making.{EndsInIndex, HasOne, IsMade, IsMany, TellsAny, TellsOne};
+ghost use Rattle.toml_editor.specs.Making.{HasOne, IsMade, IsMany, TellsAny, TellsOne, TellsRow, places_of};
 
 use crate::fault::EditorFault;
 use crate::removing::parent_of;
+use crate::sections::{NewHeader, is_element_in_value, is_right_in_value};
 use crate::spelled::{Spelled, open_value};
+use crate::tree::Brackets;
 use crate::working::Tree;
 use std::alloc::{AllocError, Global};
 use toml_edits::{Edit, EditFault, apply};
@@ -34,7 +36,7 @@ pub(crate) fn make_all<'x>(
 ) -> Result<(), EditorFault>
     requires { length spelled.now ≡ length edits.now }
     ensures made { OnOk result (Lead (map change edits.now) «data».old.root «data».new.root) }
-    ensures told { IfErr result (TellsAny (map change edits.now) «data».old.root) }
+    ensures told { IfErr result (TellsAny (places_of read.entry.names.now) (map change edits.now) «data».old.root) }
 {
     for (index, edit) in edits.iter().enumerate() {
         if let Err(fault) = make(alloc, tree, read, data, edit, &spelled[index], index) {
@@ -55,13 +57,13 @@ fn make<'x>(
     index: usize,
 ) -> Result<(), EditorFault>
     ensures ok { OnOk result (IsMade (change edit.now) «data».old.root «data».new.root) }
-    ensures told { IfErr result (TellsOne index (change edit.now) (kind_at «data».old.root)) }
+    ensures told { IfErr result (TellsOne (places_of read.entry.names.now) index (change edit.now) (kind_at «data».old.root)) }
 {
-    let compound = is_compound(data, edit);
+    let spread = may_be_spread(alloc, data, read.names, edit, index)?;
     let only = is_only_element(data, edit);
     applied(alloc, data, edit, index)?;
     let done = write_edit(alloc, tree, read, edit, spelled)?;
-    if !done && (compound || is_index_inserted(edit)) {
+    if !done && spread {
         return Err(EditorFault::Spread { index });
     }
     if !done && only {
@@ -73,7 +75,7 @@ fn make<'x>(
 /// Makes the edit on the data.
 fn applied(alloc: Global, data: &mut Data, edit: &Edit, index: usize) -> Result<(), EditorFault>
     ensures ok { OnOk result (IsMade (change edit.now) «data».old.root «data».new.root) }
-    ensures told { IfErr result (TellsOne index (change edit.now) (kind_at «data».old.root)) }
+    ensures told { IfErr result (TellsRow index (change edit.now) (kind_at «data».old.root)) }
 {
     match apply(alloc, data, edit) {
         Ok(()) => Ok(()),
@@ -115,17 +117,48 @@ fn write_edit<'x>(
             Ok(true)
         }
         Edit::Remove { at } => tree.remove(read.doc, read.names.place(at), at),
+        Edit::Section { at } => write_header(alloc, tree, read, at, Brackets::One, spelled),
+        Edit::Element { at } => write_header(alloc, tree, read, at, Brackets::Two, spelled),
     }
 }
 
-/// Whether the edit sets what is a table or an array.
-fn is_compound(data: &Data, edit: &Edit) -> bool
-    ensures { IsTrue result → MayBeSpread (change edit.now) (kind_at «data».now.root) }
+/// Puts the header line of a new table, or of a new element, in on the working tree. It answers `false` where it would stand
+/// in a value.
+fn write_header<'x>(
+    alloc: Global,
+    tree: &mut Tree<'x>,
+    read: Read<'_, '_, 'x>,
+    at: &Address,
+    brackets: Brackets,
+    spelled: &'x Spelled,
+) -> Result<bool, AllocError> {
+    let above = parent_of(alloc, at)?;
+    let named = read.names.place(&above);
+    let new = NewHeader {
+        at,
+        brackets,
+        spelled: &spelled.steps,
+    };
+    tree.add_header(read.doc, named, above, new)
+}
+
+/// Whether the place of the edit with this number may be spread over several expressions.
+fn may_be_spread(
+    alloc: Global,
+    data: &Data,
+    names: &NameReader,
+    edit: &Edit,
+    index: usize,
+) -> Result<bool, AllocError>
+    ensures { IfOk result (λ spread. IsTrue spread → MayBeSpread (places_of names.now) index (change edit.now) (kind_at «data».now.root)) }
 {
-    match edit {
+    Ok(match edit {
         Edit::Set { at, .. } => is_many(data.root.at(at)),
-        _ => false,
-    }
+        Edit::Insert { at, .. } => matches!(at.steps().last(), Some(Step::Index(_))),
+        Edit::Section { at } => index > 0 || is_right_in_value(alloc, names, at)?,
+        Edit::Element { at } => index > 0 || is_element_in_value(alloc, names, at)?,
+        Edit::Rename { .. } | Edit::Remove { .. } => false,
+    })
 }
 
 /// Whether it is a table or an array.
@@ -137,16 +170,6 @@ fn is_many(found: Option<&Datum>) -> bool
         Some(Datum::Array(_)) => true,
         Some(Datum::Table(_)) => true,
         Some(Datum::Scalar(_)) | None => false,
-    }
-}
-
-/// Whether the edit inserts at an index.
-fn is_index_inserted(edit: &Edit) -> bool
-    ensures { IsTrue result → EndsInIndex (change edit.now) }
-{
-    match edit {
-        Edit::Insert { at, .. } => matches!(at.steps().last(), Some(Step::Index(_))),
-        _ => false,
     }
 }
 

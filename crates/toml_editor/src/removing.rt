@@ -1,4 +1,7 @@
 //! `remove`: elements and pairs in a value, and lines.
+ghost use Rattle.std.specs.Prelude.{IfOk};
+ghost use Rattle.toml_editor.specs.Making.{IsParent};
+
 use crate::lines::{Line, Slot, below, changed, names_in};
 use crate::texts::Texts;
 use crate::tree::{Blank, Brackets, Expr, Header, Leaf, OpenLine};
@@ -220,7 +223,9 @@ impl Header<'_> {
 }
 
 /// The address without its last step.
-pub(crate) fn parent_of(alloc: Global, at: &Address) -> Result<Address, AllocError> {
+pub(crate) fn parent_of(alloc: Global, at: &Address) -> Result<Address, AllocError>
+    ensures { IfOk result (λ q. IsParent at.now q) }
+{
     let mut steps = at.copy(alloc)?.into_steps();
     let _ = steps.pop();
     Ok(Address::of(steps))

@@ -32,9 +32,11 @@ pub(crate) fn spell_all(alloc: Global, edits: &[Edit]) -> Result<Vec<Spelled>, A
 
 fn spell(alloc: Global, edit: &Edit) -> Result<Spelled, AllocError> {
     let (at, to) = match edit {
-        Edit::Set { at, .. } | Edit::Insert { at, .. } | Edit::Remove { at } => {
-            (at, String::new(alloc))
-        }
+        Edit::Set { at, .. }
+        | Edit::Insert { at, .. }
+        | Edit::Remove { at }
+        | Edit::Section { at }
+        | Edit::Element { at } => (at, String::new(alloc)),
         Edit::Rename { at, to } => (at, spell_key(alloc, to)?),
     };
     Ok(Spelled {

@@ -153,6 +153,23 @@ impl<'t> Leaf<'t> {
     }
 }
 
+impl OpenLine<'_> {
+    /// Whether it has no bytes, and ends in no newline.
+    pub(crate) fn has_no_bytes(&self) -> bool {
+        matches!(self.expr, Expr::Blank)
+            && self.ws.is_empty()
+            && self.tail.has_no_bytes()
+            && self.newline.is_empty()
+    }
+}
+
+impl Blank<'_> {
+    /// Whether nothing stands there.
+    fn has_no_bytes(&self) -> bool {
+        self.ws.is_empty() && self.comment.is_none()
+    }
+}
+
 impl<'t> Gap<'t> {
     /// A gap of nothing.
     pub(crate) fn empty(alloc: Global) -> Gap<'t> {

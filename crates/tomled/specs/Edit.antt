@@ -39,6 +39,7 @@ edit_code edits.NotAName = Some 305
 edit_code edits.BadValue = Some 306
 edit_code edits.RootNamed = Some 310
 edit_code edits.AddressLength = Some 312
+edit_code edits.NotAnElement = Some 313
 edit_code edits.NoMemory = None
 
 -- it is refused with this code and place

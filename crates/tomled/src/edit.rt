@@ -82,6 +82,7 @@ fn edit_ending(index: usize, fault: EditFault) -> Ending
         EditFault::BadValue => 306,
         EditFault::RootNamed => 310,
         EditFault::AddressLength => 312,
+        EditFault::NotAnElement => 313,
         EditFault::NoMemory => return Ending::NoMemory,
     };
     Ending::Refused(Refusal { code, place: index })

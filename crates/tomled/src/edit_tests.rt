@@ -2,7 +2,9 @@
 
 mod insert;
 mod refused;
+mod refused_sections;
 mod remove;
+mod sections;
 
 use crate::edit::run_edit;
 use crate::rows::{is_told, rows};

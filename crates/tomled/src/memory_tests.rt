@@ -44,6 +44,12 @@ x = [[1], [2, 3]]¶
 [[a]]¶[a.b]¶[[a]]¶[a.b]¶
 [{"op":"insert","at":["a",0,"c"],"value":"2"}]
 
+[[a]]¶[a.b]¶[[a]]¶x = 1
+[{"op":"section","at":["a",0,"c"]},{"op":"element","at":["a",2]}]
+
+[a.b]¶
+[{"op":"element","at":["a","a longer name",0]}]
+
 port = 1_000 # keep¶x = [1, # one¶ 2]¶[a.b]¶a.b = 1¶"\u0063" = 2¶d = 1979-05-27 07:32:00.50z¶
 [{"op":"set","at":["x"],"value":"1"}]
 "#;
@@ -148,7 +154,7 @@ fn take_all(
 }
 
 fn apply_and_take(rt: &impl Abort, alloc: Global, wants: &mut Wants) -> Result<(), AllocError> {
-    for row in &rows(rt, alloc, EDITED, 11)? {
+    for row in &rows(rt, alloc, EDITED, 13)? {
         assert_eq!(rt; row.len(), 2);
         apply_all(rt, alloc, &row[0], &row[1], wants)?;
         take_all(rt, alloc, &row[0], wants)?;
@@ -216,6 +222,9 @@ x = [3]¶
 [a.b]¶
 [a]¶x = 1¶[a.b]¶
 
+[[a]]¶[a.b]¶[a.c]¶[[a]]¶x = 1
+[[a]]¶[a.b]¶[[a]]¶x = 1¶[[a]]
+
 # c¶a = 1¶
 a = """¶# c"""¶
 
@@ -266,7 +275,7 @@ fn assert_fronts(rt: &impl Abort, alloc: Global, text: &[u8]) -> Result<(), Allo
 #[test]
 fn fronts_of_worked_texts(rt: HostRuntime) -> Result<(), Fail> {
     let alloc = rt.alloc();
-    for row in &rows(&rt, alloc, TEXTS, 23)? {
+    for row in &rows(&rt, alloc, TEXTS, 24)? {
         for text in row {
             assert_fronts(&rt, alloc, text.as_bytes())?;
         }

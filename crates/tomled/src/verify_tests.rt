@@ -208,11 +208,36 @@ x = [ # c¶ 1]¶
 [{"op":"set","at":["x"],"value":"[2]"}]
 x = [ # c¶ 2]¶
 kept 1¶1 1¶3 3¶
+
+// A new table has no one spelling and no one place.
+yes
+∅
+[{"op":"section","at":["s"]}]
+s = {}¶
+kept 1¶0 1¶
+
+yes
+[a]¶
+[{"op":"section","at":["b"]}]
+[b]¶[a]¶
+kept 1¶0 1¶1 2¶
+
+yes
+t = {}¶
+[{"op":"section","at":["t","s"]}]
+t = {s = {}}¶
+kept 1¶1 2¶
+
+yes
+∅
+[{"op":"element","at":["n",0]}]
+n = [{}]¶
+kept 1¶0 2¶
 "#;
 
 #[test]
 fn certified_texts(rt: HostRuntime) -> Result<(), Fail> {
-    assert_verdicts(&rt, rt.alloc(), CERTIFIED, 28)
+    assert_verdicts(&rt, rt.alloc(), CERTIFIED, 32)
 }
 
 /// The refusals, in the order in which the causes are judged.
@@ -385,6 +410,24 @@ a = 1
 a = 1¶
 kept 1¶0 0¶
 
+refused 407 0
+[s.u]¶[r.v]¶
+[{"op":"section","at":["s","t"]}]
+[s.u]¶[r.v]¶[r]¶[s.t]¶
+kept 1¶0 0¶1 1¶2 4¶
+
+refused 403 0
+∅
+[{"op":"element","at":["n",1]}]
+∅
+kept 1¶0 0¶
+
+refused 404 0
+∅
+[{"op":"element","at":["n",0]}]
+n = []¶
+kept 1¶0 1¶
+
 refused 408 0
 ∅
 [{"op":"insert","at":["a"],"value":"1"}]
@@ -418,5 +461,5 @@ kept 1¶
 
 #[test]
 fn refused_texts(rt: HostRuntime) -> Result<(), Fail> {
-    assert_verdicts(&rt, rt.alloc(), REFUSED, 33)
+    assert_verdicts(&rt, rt.alloc(), REFUSED, 36)
 }

@@ -22,7 +22,7 @@ fn assert_refused(
 }
 
 /// So many rows: the refusal, the text and the edits.
-fn assert_all_refused(
+pub fn assert_all_refused(
     rt: &impl Abort,
     alloc: Global,
     table: &str,
@@ -58,6 +58,14 @@ refused 320 0
 refused 320 0
 ∅
 [{"op":"remove","at":[1.0]}]
+
+refused 320 0
+∅
+[{"op":"section","at":["s"],"value":"1"}]
+
+refused 320 1
+∅
+[{"op":"element","at":["n",0]},{"op":"element"}]
 
 refused 103 3
 # a␀
@@ -110,7 +118,7 @@ a.a.a.a.a.a.a.a.a.a.a.a.a.a.a.a.a.a.a.a.a.a.a.a.a.a.a.a.a.a.a.a.a.a.a.a.a.a.a.a.
 
 #[test]
 fn refused_bytes(rt: HostRuntime) -> Result<(), Fail> {
-    assert_all_refused(&rt, rt.alloc(), UNREAD, 17)
+    assert_all_refused(&rt, rt.alloc(), UNREAD, 19)
 }
 
 /// The first edit that is not defined on the data so far, and why.

@@ -13,9 +13,11 @@ enum Op {
     Insert,
     Rename(&'static str),
     Remove,
+    Section,
+    Element,
 }
 
-use Op::{Insert, Remove, Rename, Set};
+use Op::{Element, Insert, Remove, Rename, Section, Set};
 
 const LAST: u64 = 18_446_744_073_709_551_615;
 
@@ -30,6 +32,8 @@ fn edit(alloc: Global, op: Op, steps: &[At]) -> Result<Edit, Fail> {
             to: String::from_str(alloc, to)?,
         },
         Op::Remove => Edit::Remove { at },
+        Op::Section => Edit::Section { at },
+        Op::Element => Edit::Element { at },
     })
 }
 
@@ -128,6 +132,23 @@ fn insert_and_remove_carry(rt: HostRuntime) -> Result<(), Fail> {
     ];
     for (op, place, from, wanted) in rows {
         assert!(rt; carries(rt.alloc(), op, place, from, wanted)?);
+    }
+    Ok(())
+}
+
+#[test]
+fn section_and_element_leave_all_where_it_is(rt: HostRuntime) -> Result<(), Fail> {
+    let x = Key("x");
+    let rows: [(Op, &[At], &[At]); 6] = [
+        (Section, &[x, Key("s")], &[x, Key("s")]),
+        (Section, &[x], &[x, Index(0)]),
+        (Section, &[], &[x]),
+        (Element, &[x, Index(0)], &[x, Index(LAST)]),
+        (Element, &[x, Index(1)], &[x, Index(1), Key("k")]),
+        (Element, &[x, Index(1)], &[x]),
+    ];
+    for (op, place, from) in rows {
+        assert!(rt; carries(rt.alloc(), op, place, from, Some(from))?);
     }
     Ok(())
 }

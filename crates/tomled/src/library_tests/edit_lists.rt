@@ -25,7 +25,7 @@ fn what_is_read(alloc: Global, bytes: &[u8]) -> Result<Read, Fail> {
 
 #[test]
 fn lists_have_their_form(rt: HostRuntime) -> Result<(), Fail> {
-    let rows: [(&[u8], Read); 17] = [
+    let rows: [(&[u8], Read); 21] = [
         (b"[]", Read::Edits(0)),
         (b"{}", Read::NotAList),
         (b"[", Read::NotAList),
@@ -61,6 +61,19 @@ fn lists_have_their_form(rt: HostRuntime) -> Result<(), Fail> {
             b"[{\"op\":\"set\",\"at\":[\"a\"],\"value\":1}]",
             Read::Bad(0),
         ),
+        (
+            b"[{\"op\":\"section\",\"at\":[]},{\"op\":\"element\",\"at\":[0]}]",
+            Read::Edits(2),
+        ),
+        (
+            b"[{\"op\":\"section\",\"at\":[\"a\"],\"value\":\"{}\"}]",
+            Read::Bad(0),
+        ),
+        (
+            b"[{\"op\":\"element\",\"at\":[0],\"to\":\"a\"}]",
+            Read::Bad(0),
+        ),
+        (b"[{\"op\":\"element\"}]", Read::Bad(0)),
     ];
     for (bytes, wanted) in &rows {
         assert!(rt; what_is_read(rt.alloc(), *bytes)? == *wanted);
@@ -80,7 +93,7 @@ fn is_at(steps: &[Step], index: Option<u64>) -> bool {
 #[test]
 fn entries_are_edits(rt: HostRuntime) -> Result<(), Fail> {
     let text =
-        "[{\"op\":\"set\",\"at\":[\"a\",0],\"value\":\"1\"},{\"value\":\"[]\",\"op\":\"insert\",\"at\":[\"a\"]},{\"op\":\"rename\",\"at\":[\"a\"],\"to\":\"\"},{\"op\":\"set\",\"op\":\"remove\",\"at\":[\"a\"]}]";
+        "[{\"op\":\"set\",\"at\":[\"a\",0],\"value\":\"1\"},{\"value\":\"[]\",\"op\":\"insert\",\"at\":[\"a\"]},{\"op\":\"rename\",\"at\":[\"a\"],\"to\":\"\"},{\"op\":\"set\",\"op\":\"remove\",\"at\":[\"a\"]},{\"at\":[\"a\"],\"op\":\"section\"},{\"op\":\"element\",\"at\":[\"a\",0]}]";
     let edits = worked::edits(rt.alloc(), text)?;
     let [
         Edit::Set {
@@ -93,6 +106,8 @@ fn entries_are_edits(rt: HostRuntime) -> Result<(), Fail> {
         },
         Edit::Rename { at: third, to },
         Edit::Remove { at: fourth },
+        Edit::Section { at: fifth },
+        Edit::Element { at: sixth },
     ] = edits.as_slice()
     else {
         return Err(Fail::from("other edits"));
@@ -101,5 +116,7 @@ fn entries_are_edits(rt: HostRuntime) -> Result<(), Fail> {
     assert!(rt; is_at(second.steps(), None) && two.as_str() == "[]");
     assert!(rt; is_at(third.steps(), None) && to.as_str() == "");
     assert!(rt; is_at(fourth.steps(), None));
+    assert!(rt; is_at(fifth.steps(), None));
+    assert!(rt; is_at(sixth.steps(), Some(0)));
     Ok(())
 }

@@ -14,7 +14,7 @@ use toml_units::{Piece, units};
 /// A text and edits.
 type Case = [&'static str; 2];
 
-const CASES: [Case; 10] = [
+const CASES: [Case; 12] = [
     [
         "port = 1_000 # keep\n",
         "[{\"op\":\"set\",\"at\":[\"port\"],\"value\":\"0x1F\"}]",
@@ -52,6 +52,11 @@ const CASES: [Case; 10] = [
         "[{\"op\":\"remove\",\"at\":[\"a\",0]}]",
     ],
     ["a = 1\nb = 2", "[{\"op\":\"remove\",\"at\":[\"b\"]}]"],
+    [
+        "[[a]]\nb = 1 # one\n[[a]] # second\n",
+        "[{\"op\":\"section\",\"at\":[\"a\",0,\"s\"]}]",
+    ],
+    ["[[a]]\n# last", "[{\"op\":\"element\",\"at\":[\"a\",1]}]"],
 ];
 
 /// The edits of a list that is one.

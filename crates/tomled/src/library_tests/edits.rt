@@ -15,6 +15,8 @@ enum Op {
     Insert,
     Rename,
     Remove,
+    Section,
+    Element,
 }
 
 /// What stands at an address.
@@ -45,6 +47,8 @@ fn edit(alloc: Global, op: Op, steps: &[At], text: &str) -> Result<Edit, Fail> {
         Op::Insert => Edit::Insert { at, value: text },
         Op::Rename => Edit::Rename { at, to: text },
         Op::Remove => Edit::Remove { at },
+        Op::Section => Edit::Section { at },
+        Op::Element => Edit::Element { at },
     })
 }
 
@@ -60,6 +64,7 @@ fn number(answer: Result<(), EditFault>) -> u16 {
         Err(EditFault::NotAName) => 305,
         Err(EditFault::AlreadyThere) => 302,
         Err(EditFault::AddressLength) => 312,
+        Err(EditFault::NotAnElement) => 313,
         Err(EditFault::NoMemory) => 311,
     }
 }
@@ -97,7 +102,7 @@ const UNCHANGED: [Fact; 8] = [
 
 #[test]
 fn faults_change_nothing(rt: HostRuntime) -> Result<(), Fail> {
-    let rows: [Row; 12] = [
+    let rows: [Row; 24] = [
         (Op::Insert, &[Key("a"), Key("k")], "1", 303),
         (Op::Insert, &[Key("q"), Key("k")], "1", 301),
         (Op::Insert, &[Key("x"), Index(3)], "1", 304),
@@ -110,6 +115,18 @@ fn faults_change_nothing(rt: HostRuntime) -> Result<(), Fail> {
         (Op::Set, &[Key("a")], "{k = 1, k = 2}", 306),
         (Op::Remove, &[Key("b")], "", 301),
         (Op::Remove, &[], "", 310),
+        (Op::Section, &[Key("a")], "", 302),
+        (Op::Section, &[Key("a"), Key("k")], "", 303),
+        (Op::Section, &[Key("q"), Key("k")], "", 301),
+        (Op::Section, &[Key("x"), Index(2)], "", 305),
+        (Op::Section, &[], "", 310),
+        (Op::Element, &[Key("x"), Index(1)], "", 304),
+        (Op::Element, &[Key("a"), Index(0)], "", 304),
+        (Op::Element, &[Key("q"), Index(1)], "", 304),
+        (Op::Element, &[Key("x")], "", 313),
+        (Op::Element, &[Key("x"), Index(0), Index(0)], "", 313),
+        (Op::Element, &[Key("a"), Key("n"), Index(0)], "", 303),
+        (Op::Element, &[Key("q"), Key("n"), Index(0)], "", 301),
     ];
     let mut data = data(rt.alloc(), BEFORE)?;
     for (op, steps, text, wanted) in rows {
@@ -151,7 +168,7 @@ fn addresses_have_a_hundred_steps(rt: HostRuntime) -> Result<(), Fail> {
 
 #[test]
 fn edits_make_their_data(rt: HostRuntime) -> Result<(), Fail> {
-    let rows: [(&str, Row, &[Fact]); 6] = [
+    let rows: [(&str, Row, &[Fact]); 9] = [
         (
             "port = 1_000 # keep\n",
             (Op::Set, &[Key("port")], "0x1F", 0),
@@ -196,6 +213,31 @@ fn edits_make_their_data(rt: HostRuntime) -> Result<(), Fail> {
             &[
                 (&[Key("x"), Index(1)], What::Integer(2)),
                 (&[Key("x"), Index(2)], What::Integer(3)),
+            ],
+        ),
+        (
+            "a.b = 1\n",
+            (Op::Section, &[Key("a"), Key("s")], "", 0),
+            &[
+                (&[Key("a"), Key("s")], What::Table),
+                (&[Key("a"), Key("b")], What::Integer(1)),
+            ],
+        ),
+        (
+            BEFORE,
+            (Op::Element, &[Key("x"), Index(2)], "", 0),
+            &[
+                (&[Key("x"), Index(1)], What::Integer(2)),
+                (&[Key("x"), Index(2)], What::Table),
+            ],
+        ),
+        (
+            BEFORE,
+            (Op::Element, &[Key("n"), Index(0)], "", 0),
+            &[
+                (&[Key("n")], What::Array),
+                (&[Key("n"), Index(0)], What::Table),
+                (&[Key("n"), Index(1)], What::Nothing),
             ],
         ),
     ];

@@ -3,8 +3,10 @@ use Rattle.toml_text.specs.Source.{text_of}
 use Rattle.toml_tree.specs.Document.{document}
 use Rattle.toml_tree.specs.Tree.{Line}
 use Rattle.toml_names.specs.model.Data.{IsDataOf, kind_at}
+use Rattle.toml_names.specs.model.Places.{place}
 use Rattle.toml_names.specs.mentions.Mentions.{named}
 use Rattle.toml_edits.specs.Edits.{change}
+use Rattle.toml_editor.specs.Making.{TellsAny}
 use Rattle.toml_editor.proofs.Judgements.{any_tells}
 use Rattle.toml_editor.proofs.editing.make_text.Goals as goal
 
@@ -12,7 +14,9 @@ pub returns-in-Err-clause-told : goal.returns-in-Err-clause-told
 returns-in-Err-clause-told c =
     let old = c.in_ok-data.«data».root in
     let facts = subst (λ (ls : List Line). IsDataOf (named ls) (kind_at old)) c.requires.read.taken c.in_ok-data.ensures in
-    any_tells (text_of c.args.source) (map change c.args.edits.now) (document c.args.doc.now) old c.in-Err.fault c.requires.read.spelled facts c.in-Err.ensures.told
+    let cs = map change c.args.edits.now in
+    let told = subst (λ (ls : List Line). TellsAny (place (named ls)) cs old c.in-Err.fault) c.requires.read.taken c.in-Err.ensures.told in
+    any_tells (text_of c.args.source) cs (document c.args.doc.now) old c.in-Err.fault c.requires.read.spelled facts told
 
 pub returns-clause-made : goal.returns-clause-made
 returns-clause-made c =

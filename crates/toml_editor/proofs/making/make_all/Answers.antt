@@ -2,6 +2,7 @@ use Rattle.std.proofs.Common.{arith, map, subst}
 use Rattle.std.proofs.lemmas.List.{take_all}
 use Rattle.toml_edits.specs.Edits.{change}
 use Rattle.toml_edits.specs.Lists.{Lead}
+use Rattle.toml_editor.specs.Making.{places_of}
 use Rattle.toml_editor.proofs.MadeEdits.{any_of_one, led_on}
 use Rattle.toml_editor.proofs.making.make_all.Goals as goal
 
@@ -12,7 +13,7 @@ loop-index-preserved c =
 pub returns-in-Err : goal.returns-in-Err
 returns-in-Err c = record {
   made = tt;
-  told = any_of_one c.args.edits.now c.loop-index.index c.index-edits-index.result c.args.data.now.root c.loop-index.«data».root c.in-Err.fault (omega arith) c.index-edits-index.is c.loop-index.invariant c.in-Err.ensures.told;
+  told = any_of_one (places_of c.args.read.names.now) c.args.edits.now c.loop-index.index c.index-edits-index.result c.args.data.now.root c.loop-index.«data».root c.in-Err.fault (omega arith) c.index-edits-index.is c.loop-index.invariant c.in-Err.ensures.told;
 }
 
 pub returns : goal.returns
