@@ -3,6 +3,8 @@ use Rattle.std.proofs.Common.{◌≡◌, ◌⊎◌, inl, inr, ℕ, suc, ◌+◌,
 use Rattle.std.proofs.lemmas.Option.{same_Some}
 use Rattle.std.specs.Prelude.{option_map, IfSome, IsSome, slice_get, ◌↔◌}
 use Rattle.toml_text.specs.Limit.{IsText}
+use Rattle.toml_tree.specs.declared.profile.Profile.TheVariants.{One}
+use Rattle.toml_tree.specs.Profiles.{IsOfProfile}
 use Rattle.toml_tree.specs.Spells.{EachIs, Spells}
 use Rattle.toml_tree.specs.Tree.{Doc}
 use Rattle.toml_names.specs.declared.model.datum.Datum.{Datum}
@@ -38,6 +40,7 @@ pub record Given (cs : List Change) (d e : Doc) (ps : List (ℕ × ℕ)) (flags 
   pub spelled : Spells e other
   pub within : IsText text
   pub good : AreGood d.lines
+  pub of_profile : IsOfProfile One d
   pub old : Datum
   pub new : Datum
   pub old_is : IsDataOf (named d.lines) (kind_at old)
@@ -102,7 +105,7 @@ inner_stands cs d e ps flags g i k f p m low =
     let l : LiesInside us i (i + suc m) = ((units_are_sized d g.text g.spells).0 i (i + suc m)).1 (omega arith, omega (arith, low)) in
     let u : l.outer ≡ f.first = same_Some l.outer f.first (sym l.outer_is ∙ f.first_is) in
     let w : l.inner ≡ unit_in f.first t.relative = same_Some l.inner (unit_in f.first t.relative) (sym l.inner_is ∙ t.first) in
-    let law = (inner_are_protected g.text (g.within, d, g.spells, g.good) cs g.few i (i + suc m) l p).1 in
+    let law = (inner_are_protected g.text (g.within, d, g.spells, g.good, g.of_profile) cs g.few i (i + suc m) l p).1 in
     let b = block_at us (units_nest d g.text g.spells).0 i (i + suc m) l.outer l.inner l.later l.outer_is l.inner_is l.lies in
     record {
       first = unit_in f.first t.relative;

@@ -7,6 +7,7 @@ use Rattle.toml_text.specs.declared.fault.TextFault.{TextFault}
 use Rattle.toml_text.specs.declared.fault.TextFault.TheVariants.{NotUtf8, TooLong}
 use Rattle.toml_scalar.specs.declared.fault.SyntaxFault.{SyntaxFault}
 use Rattle.toml_scalar.specs.declared.fault.SyntaxFault.TheVariants as faults
+use Rattle.toml_tree.specs.declared.profile.Profile.TheVariants.{One}
 use Rattle.toml_tree.specs.Document.{Refuses}
 use Rattle.toml_tree.specs.Spells.{Spells}
 use Rattle.toml_tree.specs.Tree.{Doc}
@@ -21,14 +22,14 @@ pub no_text : (text : List ℕ) (fault : TextFault) → IsFaultOf text fault →
 no_text text (NotUtf8 at) h = λ document. h.0 (IsUtf8-from_is_utf8 text document.0.utf8)
 no_text text TooLong h = λ document. let fits : length text ≤ max_len = document.0.fits in absurd (omega (arith, h.1))
 
-pub no_tree : (text : List ℕ) (fault : SyntaxFault) → (fault ≡ faults.NoMemory → ⊥) → Refuses text fault → ¬ IsDocument text
-no_tree text (faults.BadCharacter at) memory h = λ document. h.1 document.1 document.2
-no_tree text (faults.Expected at) memory h = λ document. h.1 document.1 document.2
-no_tree text (faults.BadString at) memory h = λ document. h.1 document.1 document.2
-no_tree text (faults.BadNumber at) memory h = λ document. h.1 document.1 document.2
-no_tree text (faults.IntegerRange at) memory h = λ document. h.1 document.1 document.2
-no_tree text (faults.BadDate at) memory h = λ document. h.1 document.1 document.2
-no_tree text (faults.TooDeep at) memory h = λ document. h.1 document.1 document.2
+pub no_tree : (text : List ℕ) (fault : SyntaxFault) → (fault ≡ faults.NoMemory → ⊥) → Refuses One text fault → ¬ IsDocument text
+no_tree text (faults.BadCharacter at) memory h = λ document. h.1 document.1 (document.2, document.4)
+no_tree text (faults.Expected at) memory h = λ document. h.1 document.1 (document.2, document.4)
+no_tree text (faults.BadString at) memory h = λ document. h.1 document.1 (document.2, document.4)
+no_tree text (faults.BadNumber at) memory h = λ document. h.1 document.1 (document.2, document.4)
+no_tree text (faults.IntegerRange at) memory h = λ document. h.1 document.1 (document.2, document.4)
+no_tree text (faults.BadDate at) memory h = λ document. h.1 document.1 (document.2, document.4)
+no_tree text (faults.TooDeep at) memory h = λ document. h.1 document.1 (document.2, document.4)
 no_tree text faults.NoMemory memory h = λ document. memory refl
 
 -- the lines of the one tree of the text are refused

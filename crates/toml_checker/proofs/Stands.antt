@@ -254,6 +254,7 @@ given before after cs ps c few =
       spelled = c.new.2;
       within = c.old.0;
       good = c.old.3;
+      of_profile = c.old.4;
       old = c.facts.2;
       new = c.facts.4.2;
       old_is = subst (λ (x : Doc). IsDataOf (named x.lines) (kind_at c.facts.2)) (one_tree c.facts.0 d before c.facts.1 c.old.2) c.facts.3;

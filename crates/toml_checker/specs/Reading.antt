@@ -3,6 +3,8 @@ use Rattle.std.specs.Prelude.{◌≡◌, List, ℕ, Option, MatchOption, map}
 use Rattle.toml_text.specs.Limit.{IsText}
 use Rattle.toml_tree.specs.declared.document.Doc.{Doc}
 use Rattle.toml_tree.specs.Document.{document}
+use Rattle.toml_tree.specs.declared.profile.Profile.TheVariants.{One}
+use Rattle.toml_tree.specs.Profiles.{IsOfProfile}
 use Rattle.toml_tree.specs.Spells.{Spells}
 use Rattle.toml_names.specs.model.Data.{IsDataOf, kind_at}
 use Rattle.toml_names.specs.model.Documents.{IsDocument}
@@ -17,7 +19,7 @@ use Rattle.toml_units.specs.View.{all_units}
 
 -- the tree of a text within the limit; without one it is no document
 abbrev pub FindsTree : List ℕ → Option Doc → Type 0
-FindsTree text found = MatchOption found (¬ IsDocument text) (λ doc. IsText text × Spells (document doc) text)
+FindsTree text found = MatchOption found (¬ IsDocument text) (λ doc. IsText text × Spells (document doc) text × IsOfProfile One (document doc))
 
 -- these are the units of the tree
 abbrev pub AreUnitsOf : Doc → List Made → Type 0

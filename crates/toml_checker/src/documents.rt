@@ -3,6 +3,8 @@ ghost use Rattle.std.specs.Prelude.{◌≡◌, IfOk, OnOk};
 ghost use Rattle.toml_names.specs.declared.fault.NameFault.TheVariants as names;
 ghost use Rattle.toml_text.specs.Limit.{IsText};
 ghost use Rattle.toml_tree.specs.Document.{document};
+ghost use Rattle.toml_tree.specs.declared.profile.Profile.TheVariants.{One};
+ghost use Rattle.toml_tree.specs.Profiles.{IsOfProfile};
 ghost use Rattle.toml_tree.specs.Spells.{Spells};
 ghost use Rattle.toml_names.specs.reader.Names.{AreOwnAddresses};
 ghost use Rattle.toml_names.specs.reader.Reading.{lines_of};
@@ -43,6 +45,7 @@ pub(crate) fn read_all_lines<'d, 't>(
 ) -> Result<Option<NameReader<'d, 't>>, AllocError>
     requires text { IsText text.now }
     requires tree { Spells (document doc.now) text.now }
+    requires of_profile { IsOfProfile One (document doc.now) }
     ensures { IfOk result (FindsLines text.now doc.now) }
 {
     match read_lines(alloc, doc) {
@@ -114,6 +117,7 @@ pub(crate) fn read_document<'t>(
 fn read_rest(alloc: Global, text: &[u8], doc: &Doc) -> Result<Option<Rest>, AllocError>
     requires text { IsText text.now }
     requires tree { Spells (document doc.now) text.now }
+    requires of_profile { IsOfProfile One (document doc.now) }
     ensures { IfOk result (FindsRest text.now doc.now) }
 {
     match read_all_lines(alloc, text, doc)? {
