@@ -11,6 +11,7 @@ use Rattle.toml_text.specs.declared.fault.TextFault.{TextFault}
 use Rattle.toml_text.specs.declared.fault.TextFault.TheVariants.{NotUtf8, TooLong}
 use Rattle.toml_scalar.specs.declared.fault.SyntaxFault.{SyntaxFault}
 use Rattle.toml_scalar.specs.declared.fault.SyntaxFault.TheVariants as syntax
+use Rattle.toml_tree.specs.declared.profile.Profile.TheVariants.{One}
 use Rattle.toml_tree.specs.Document.{Refuses}
 use Rattle.toml_tree.specs.Spells.{Spells}
 use Rattle.toml_tree.specs.Tree.{Doc}
@@ -49,14 +50,14 @@ no_text text TooLong h = λ document. let fits : length text ≤ max_len = docum
 pub text_refused : (text : List ℕ) (fault : TextFault) → IsFaultOf text fault → RefusesText text (Text fault)
 text_refused text fault h = (no_text text fault h, h)
 
-pub tree_refused : (text : List ℕ) (fault : SyntaxFault) → IsText text → Refuses text fault → RefusesText text (of_syntax fault)
-tree_refused text (syntax.BadCharacter at) is h = ((λ document. h.1 document.1 document.2), is, h)
-tree_refused text (syntax.Expected at) is h = ((λ document. h.1 document.1 document.2), is, h)
-tree_refused text (syntax.BadString at) is h = ((λ document. h.1 document.1 document.2), is, h)
-tree_refused text (syntax.BadNumber at) is h = ((λ document. h.1 document.1 document.2), is, h)
-tree_refused text (syntax.IntegerRange at) is h = ((λ document. h.1 document.1 document.2), is, h)
-tree_refused text (syntax.BadDate at) is h = ((λ document. h.1 document.1 document.2), is, h)
-tree_refused text (syntax.TooDeep at) is h = ((λ document. h.1 document.1 document.2), is, h)
+pub tree_refused : (text : List ℕ) (fault : SyntaxFault) → IsText text → Refuses One text fault → RefusesText text (of_syntax fault)
+tree_refused text (syntax.BadCharacter at) is h = ((λ document. h.1 document.1 (document.2, document.4)), is, h)
+tree_refused text (syntax.Expected at) is h = ((λ document. h.1 document.1 (document.2, document.4)), is, h)
+tree_refused text (syntax.BadString at) is h = ((λ document. h.1 document.1 (document.2, document.4)), is, h)
+tree_refused text (syntax.BadNumber at) is h = ((λ document. h.1 document.1 (document.2, document.4)), is, h)
+tree_refused text (syntax.IntegerRange at) is h = ((λ document. h.1 document.1 (document.2, document.4)), is, h)
+tree_refused text (syntax.BadDate at) is h = ((λ document. h.1 document.1 (document.2, document.4)), is, h)
+tree_refused text (syntax.TooDeep at) is h = ((λ document. h.1 document.1 (document.2, document.4)), is, h)
 tree_refused text syntax.NoMemory is h = tt
 
 no_names : (text : List ℕ) (d : Doc) (fault : NameFault) → Spells d text → (fault ≡ names.NoMemory → ⊥) → RefusesNames d.lines fault → ¬ IsDocument text

@@ -1,6 +1,8 @@
 -- What the steps of an edit hand on to each other.
 use Rattle.std.specs.Prelude.{◌≡◌, ℕ, List, Bool}
 use Rattle.toml_text.specs.Limit.{IsText}
+use Rattle.toml_tree.specs.declared.profile.Profile.TheVariants.{One}
+use Rattle.toml_tree.specs.Profiles.{IsOfProfile}
 use Rattle.toml_tree.specs.Spells.{Spells}
 use Rattle.toml_tree.specs.Tree.{Doc, Line}
 use Rattle.toml_names.specs.declared.model.datum.Data.{Data}
@@ -15,11 +17,12 @@ use Rattle.toml_checker.specs.Outer.{TellOuter}
 use Rattle.toml_checker.specs.Reading.{IsRead}
 use Rattle.toml_editor.specs.Edited.{ArePieces, IsEdited}
 
--- the bytes are read as this text, and this tree spells it
+-- the bytes are read as this text, and this tree, of profile 1, spells it
 pub record IsReadAs (before text : List ℕ) (d : Doc) : Type 0 where
   pub text_is : text ≡ before
   pub within : IsText before
   pub spelled : Spells d before
+  pub of_profile : IsOfProfile One d
 
 -- the tree spells the text, and these are its lines
 pub record HasLines (text : List ℕ) (d : Doc) (lines : List Line) : Type 0 where

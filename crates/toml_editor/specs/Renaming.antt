@@ -2,7 +2,7 @@
 -- with it, before an element's index is put on.
 use Rattle.std.specs.Prelude.{ℕ, ◌+◌, List, [], ◌∷◌, if◌then◌else◌}
 use Rattle.toml_scalar.specs.Spelling.{spelled}
-use Rattle.toml_tree.specs.Tree.{Piece, Dotted, Key, Assign, Value, Scalar, Array, Empty, Inline, Items, Close, Last, More, Pairs, LastPair, MorePairs, Header, Expr, BlankLine, KeyValLine, TableLine, ArrayTableLine, Line}
+use Rattle.toml_tree.specs.Tree.{Piece, Dotted, Key, Assign, Value, Scalar, Array, Inline, Items, Close, Last, More, Pairs, ClosePairs, LastPair, MorePairs, Header, Expr, BlankLine, KeyValLine, TableLine, ArrayTableLine, Line}
 use Rattle.toml_names.specs.model.Addresses.{Address, same_address, child, element, below}
 use Rattle.toml_names.specs.mentions.Keys.{part_name, key_names}
 use Rattle.toml_names.specs.mentions.Mentions.{Named, section, entered}
@@ -32,7 +32,6 @@ abbrev mutual
   pub rename_value : Address → List ℕ → Address → Value → Value
   rename_value p to at (Scalar kind text) = Scalar kind text
   rename_value p to at (Array whole items) = array_of (rename_items p to at 0 items)
-  rename_value p to at (Empty whole ws) = Empty whole ws
   rename_value p to at (Inline whole pairs) = inline_of (rename_pairs p to at pairs)
 
   pub rename_items : Address → List ℕ → Address → ℕ → Items → Items
@@ -41,8 +40,9 @@ abbrev mutual
   rename_items p to at i (More g v h is) = More g (rename_value p to (element at i) v) h (rename_items p to at (i + 1) is)
 
   pub rename_pairs : Address → List ℕ → Address → Pairs → Pairs
-  rename_pairs p to at (LastPair ws a v after) = LastPair ws (rename_assign p to at a) (rename_value p to (below at (key_names a.key)) v) after
-  rename_pairs p to at (MorePairs ws a v after ps) = MorePairs ws (rename_assign p to at a) (rename_value p to (below at (key_names a.key)) v) after (rename_pairs p to at ps)
+  rename_pairs p to at (ClosePairs g) = ClosePairs g
+  rename_pairs p to at (LastPair g a v h) = LastPair g (rename_assign p to at a) (rename_value p to (below at (key_names a.key)) v) h
+  rename_pairs p to at (MorePairs g a v h ps) = MorePairs g (rename_assign p to at a) (rename_value p to (below at (key_names a.key)) v) h (rename_pairs p to at ps)
 
 abbrev pub rename_header : Address → List ℕ → List Named → Header → Header
 rename_header p to earlier h = record { before = h.before; key = rename_key p to (entered earlier) [] h.key; after = h.after }

@@ -1,6 +1,6 @@
 -- `set`: the value at the address becomes the new one.
 use Rattle.std.specs.Prelude.{ℕ, ◌+◌, List, [], ◌∷◌, if◌then◌else◌}
-use Rattle.toml_tree.specs.Tree.{Value, Scalar, Array, Empty, Inline, Items, Close, Last, More, Pairs, LastPair, MorePairs, Expr, BlankLine, KeyValLine, TableLine, ArrayTableLine, Line}
+use Rattle.toml_tree.specs.Tree.{Value, Scalar, Array, Inline, Items, Close, Last, More, Pairs, ClosePairs, LastPair, MorePairs, Expr, BlankLine, KeyValLine, TableLine, ArrayTableLine, Line}
 use Rattle.toml_names.specs.model.Addresses.{Address, same_address, element, below}
 use Rattle.toml_names.specs.mentions.Keys.{key_names}
 use Rattle.toml_names.specs.mentions.Mentions.{Named, section}
@@ -15,7 +15,6 @@ abbrev mutual
   pub set_within : Address → Value → Address → Value → Value
   set_within p new at (Scalar kind text) = Scalar kind text
   set_within p new at (Array whole items) = array_of (set_items p new at 0 items)
-  set_within p new at (Empty whole ws) = Empty whole ws
   set_within p new at (Inline whole pairs) = inline_of (set_pairs p new at pairs)
 
   pub set_items : Address → Value → Address → ℕ → Items → Items
@@ -24,8 +23,9 @@ abbrev mutual
   set_items p new at i (More g v h is) = More g (set_at p new (element at i) (set_within p new (element at i) v)) h (set_items p new at (i + 1) is)
 
   pub set_pairs : Address → Value → Address → Pairs → Pairs
-  set_pairs p new at (LastPair ws a v after) = LastPair ws a (set_at p new (below at (key_names a.key)) (set_within p new (below at (key_names a.key)) v)) after
-  set_pairs p new at (MorePairs ws a v after ps) = MorePairs ws a (set_at p new (below at (key_names a.key)) (set_within p new (below at (key_names a.key)) v)) after (set_pairs p new at ps)
+  set_pairs p new at (ClosePairs g) = ClosePairs g
+  set_pairs p new at (LastPair g a v h) = LastPair g a (set_at p new (below at (key_names a.key)) (set_within p new (below at (key_names a.key)) v)) h
+  set_pairs p new at (MorePairs g a v h ps) = MorePairs g a (set_at p new (below at (key_names a.key)) (set_within p new (below at (key_names a.key)) v)) h (set_pairs p new at ps)
 
 abbrev pub set_value : Address → Value → Address → Value → Value
 set_value p new at v = set_at p new at (set_within p new at v)

@@ -147,10 +147,10 @@ impl Opener {
     ) -> Result<Entries<'t>, AllocError> {
         let mut list = Vec::with_capacity(self.alloc, table.pairs.len())?;
         for pair in &table.pairs {
-            let before = Gap::space(self.alloc, self.leaf(pair.before))?;
+            let before = self.gap(&pair.before)?;
             let origin = self.origin();
             let keyval = self.keyval(&pair.keyval)?;
-            let after = Gap::space(self.alloc, self.leaf(pair.after))?;
+            let after = self.gap(&pair.after)?;
             list.push(Entry {
                 origin,
                 before,
@@ -159,8 +159,8 @@ impl Opener {
                 after,
             })?;
         }
-        let end = match table.ws {
-            Some(ws) => Some(Gap::space(self.alloc, self.leaf(ws))?),
+        let end = match &table.end {
+            Some(gap) => Some(self.gap(gap)?),
             None => None,
         };
         Ok(Entries { list, end })
