@@ -106,6 +106,16 @@ impl<'t> Pieces<'t> {
         Ok(())
     }
 
+    /// Begins a line, or an element or a pair: a unit of the document, or a new one. Of a new one the symbols are new too, so
+    /// that they are not taken from what stands behind it.
+    pub(crate) fn begin(&mut self, origin: Option<usize>)
+        ensures { self.new ≡ self.old }
+    {
+        if origin.is_none() {
+            self.at = None;
+        }
+    }
+
     /// Writes a symbol between two pieces. It is kept where it stands in the text before the edits behind the piece that was
     /// written last.
     pub(crate) fn symbol(&mut self, text: &str) -> Result<(), AllocError>

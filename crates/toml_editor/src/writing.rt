@@ -45,6 +45,7 @@ impl<'t> Pieces<'t> {
     fn open_line(&mut self, line: &OpenLine<'t>) -> Result<(), AllocError>
         ensures { self.new ≡ self.old }
     {
+        self.begin(line.origin);
         self.leaf(line.ws)?;
         match &line.expr {
             Expr::Blank => {}
@@ -147,6 +148,7 @@ impl<'t> Pieces<'t> {
         ensures { self.new ≡ self.old }
     {
         self.gap(&entry.before)?;
+        self.begin(entry.origin);
         if let Some(assign) = &entry.assign {
             self.assign(assign)?;
         }

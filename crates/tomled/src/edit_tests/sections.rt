@@ -51,12 +51,12 @@ kept 1¶0 1¶
 a.b = 1 # c
 [{"op":"section","at":["a","c d"]}]
 a.b = 1 # c¶[a."c d"]
-kept 1¶0 0¶1 1¶
+kept 1¶0 0¶
 
 a = 1␍¶# end
 [{"op":"section","at":["s"]}]
 a = 1␍¶# end␍¶[s]
-kept 1¶0 0¶1 1¶2 2¶
+kept 1¶0 0¶1 1¶
 
 a = 1␍¶
 [{"op":"section","at":[""]}]
@@ -86,7 +86,7 @@ kept 1¶0 0¶1 1¶2 3¶
 a = [1]¶b = {c = 1}¶
 [{"op":"section","at":["c"]}]
 a = [1]¶b = {c = 1}¶[c]¶
-kept 1¶0 0¶1 1¶2 2¶3 3¶4 5¶
+kept 1¶0 0¶2 2¶4 5¶
 
 [[a]]
 [{"op":"section","at":["a",0,"s"]}]
@@ -96,7 +96,7 @@ kept 1¶0 0¶
 [[a]]¶k = 1¶# next¶[[a]]¶
 [{"op":"section","at":["a",0,"s"]}]
 [[a]]¶k = 1¶# next¶[a.s]¶[[a]]¶
-kept 1¶0 0¶1 1¶2 2¶3 3¶4 5¶5 6¶
+kept 1¶0 0¶1 1¶2 2¶4 5¶5 6¶
 
 [[a]]␍¶[b]¶[[a]]¶
 [{"op":"section","at":["a",0,"s"]}]
@@ -139,7 +139,7 @@ kept 1¶0 0¶1 2¶
 [[a]] # one¶x = 1¶[b]¶y = 2¶
 [{"op":"element","at":["a",1]}]
 [[a]] # one¶x = 1¶[b]¶y = 2¶[[a]]¶
-kept 1¶0 0¶1 1¶2 2¶3 3¶4 4¶5 6¶
+kept 1¶0 0¶2 2¶3 3¶4 4¶5 6¶
 
 [[a]]¶[[a]]¶
 [{"op":"element","at":["a",0,"n",0]}]
@@ -217,7 +217,7 @@ kept 1¶1 1¶2 4¶
 # c¶
 [{"op":"section","at":["s"]},{"op":"insert","at":["k"],"value":"1"}]
 k = 1¶# c¶[s]¶
-kept 1¶0 1¶1 2¶2 4¶
+kept 1¶0 1¶2 4¶
 
 a.b = 1¶
 [{"op":"section","at":["a","s"]},{"op":"insert","at":["a","c"],"value":"2"},{"op":"remove","at":["a","b"]},{"op":"remove","at":["a","c"]}]

@@ -14,7 +14,7 @@ use toml_units::{Piece, units};
 /// A text and edits.
 type Case = [&'static str; 2];
 
-const CASES: [Case; 12] = [
+const CASES: [Case; 14] = [
     [
         "port = 1_000 # keep\n",
         "[{\"op\":\"set\",\"at\":[\"port\"],\"value\":\"0x1F\"}]",
@@ -52,6 +52,14 @@ const CASES: [Case; 12] = [
         "[{\"op\":\"remove\",\"at\":[\"a\",0]}]",
     ],
     ["a = 1\nb = 2", "[{\"op\":\"remove\",\"at\":[\"b\"]}]"],
+    [
+        "# c\n[a.b] # d\n",
+        "[{\"op\":\"insert\",\"at\":[\"a\",\"x\"],\"value\":\"1\"}]",
+    ],
+    [
+        "x = [[1], {k = [2]}]\n",
+        "[{\"op\":\"insert\",\"at\":[\"x\",0],\"value\":\"[0]\"},{\"op\":\"insert\",\"at\":[\"x\",2],\"value\":\"{}\"}]",
+    ],
     [
         "[[a]]\nb = 1 # one\n[[a]] # second\n",
         "[{\"op\":\"section\",\"at\":[\"a\",0,\"s\"]}]",
