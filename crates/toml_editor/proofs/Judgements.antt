@@ -12,6 +12,7 @@ use Rattle.toml_text.specs.declared.fault.TextFault.TheVariants.{NotUtf8, TooLon
 use Rattle.toml_scalar.specs.declared.fault.SyntaxFault.{SyntaxFault}
 use Rattle.toml_scalar.specs.declared.fault.SyntaxFault.TheVariants as syntax
 use Rattle.toml_tree.specs.declared.profile.Profile.TheVariants.{One}
+use Rattle.toml_tree.specs.Profiles.{IsOfProfile}
 use Rattle.toml_tree.specs.Document.{Refuses}
 use Rattle.toml_tree.specs.Spells.{Spells}
 use Rattle.toml_tree.specs.Tree.{Doc}
@@ -65,10 +66,10 @@ no_names text d fault spelled memory refuses = λ document.
     let same : document.1 ≡ d = one_tree document.1 d text document.2 spelled in
     refused_are_bad d.lines fault refuses memory (subst (λ (e : Doc). AreGood e.lines) same document.3)
 
-pub names_refused : (text : List ℕ) (d : Doc) (fault : NameFault) → IsText text → Spells d text → RefusesNames d.lines fault → RefusesText text (of_names fault)
-names_refused text d (names.Redefined line at) is spelled h = (no_names text d (names.Redefined line at) spelled (λ e. cc) h, is, (d, spelled, h))
-names_refused text d (names.LongAddress line) is spelled h = (no_names text d (names.LongAddress line) spelled (λ e. cc) h, is, (d, spelled, h))
-names_refused text d names.NoMemory is spelled h = tt
+pub names_refused : (text : List ℕ) (d : Doc) (fault : NameFault) → IsText text → Spells d text → IsOfProfile One d → RefusesNames d.lines fault → RefusesText text (of_names fault)
+names_refused text d (names.Redefined line at) is spelled of h = (no_names text d (names.Redefined line at) spelled (λ e. cc) h, is, (d, spelled, (of, h)))
+names_refused text d (names.LongAddress line) is spelled of h = (no_names text d (names.LongAddress line) spelled (λ e. cc) h, is, (d, spelled, (of, h)))
+names_refused text d names.NoMemory is spelled of h = tt
 
 -- a copy of data is data of the same
 pub data_copied : (ms ns : List Named) (k l : Kinds) → ns ≡ ms → IsDataOf ns k → ((at : Address) → l at ≡ k at) → IsDataOf ms l

@@ -3,6 +3,7 @@ use Rattle.std.specs.Prelude.{◌≡◌, ◌⊎◌, ◌↔◌, ℕ, List, [], �
 use Rattle.toml_text.specs.Limit.{IsText}
 use Rattle.toml_text.specs.Source.{IsFaultOf}
 use Rattle.toml_tree.specs.declared.profile.Profile.TheVariants.{One}
+use Rattle.toml_tree.specs.Profiles.{IsOfProfile}
 use Rattle.toml_tree.specs.Document.{Refuses}
 use Rattle.toml_names.specs.declared.model.datum.Datum.{Datum}
 use Rattle.toml_names.specs.declared.model.address.Step.{Step}
@@ -91,7 +92,7 @@ TakesLastElement _ kinds = ⊥
 abbrev pub RefusesText : List ℕ → EditorFault → Type 0
 RefusesText before (Text fault) = (¬ IsDocument before) × IsFaultOf before fault
 RefusesText before (Syntax fault) = (¬ IsDocument before) × IsText before × Refuses One before fault
-RefusesText before (Names fault) = (¬ IsDocument before) × IsText before × OfTree before (λ d. RefusesNames d.lines fault)
+RefusesText before (Names fault) = (¬ IsDocument before) × IsText before × OfTree before (λ d. IsOfProfile One d × RefusesNames d.lines fault)
 RefusesText before NoMemory = Unit {0}
 RefusesText before _ = ⊥
 

@@ -12,7 +12,9 @@ use Rattle.toml_text.specs.declared.fault.TextFault.TheVariants.{NotUtf8, TooLon
 use Rattle.toml_scalar.specs.declared.fault.SyntaxFault.{SyntaxFault}
 use Rattle.toml_scalar.specs.declared.fault.SyntaxFault.TheVariants as faults
 use Rattle.toml_tree.specs.Document as trees
-use Rattle.toml_tree.specs.Spells.{Spells, SpelledByNone}
+use Rattle.toml_tree.specs.declared.profile.Profile.TheVariants.{One}
+use Rattle.toml_tree.specs.Profiles.{SpellsIn, SpelledByNone}
+use Rattle.toml_tree.specs.Spells.{Spells}
 use Rattle.toml_tree.specs.Tree.{Doc, Line}
 use Rattle.toml_tree.proofs.Proved.{one_tree}
 use Rattle.tomled.specs.Outcomes.{Ends, IsRefused}
@@ -47,14 +49,14 @@ coded (faults.BadDate at) = (omega arith, omega arith)
 coded (faults.TooDeep at) = (omega arith, omega arith)
 coded faults.NoMemory = tt
 
-told_tree : (bytes : List ℕ) (fault : SyntaxFault) (r : Refusal) → IsText bytes → trees.Refuses bytes fault → IsSyntaxRefusal fault r → IsRefused bytes r
+told_tree : (bytes : List ℕ) (fault : SyntaxFault) (r : Refusal) → IsText bytes → trees.Refuses One bytes fault → IsSyntaxRefusal fault r → IsRefused bytes r
 told_tree bytes fault r text h k =
-    let R : ℕ → Type 0 = λ at. (at ≤ length bytes) × SpelledByNone bytes in
+    let R : ℕ → Type 0 = λ at. (at ≤ length bytes) × SpelledByNone One bytes in
     let told : R r.place = subst (λ (o : Option ℕ). IfSome o R) k.1 h in
     let code : IsSyntaxCode r.code = subst (λ (o : Option ℕ). IfSome o IsSyntaxCode) k.0 (coded fault) in
-    ((λ document. told.1 document.1 document.2), inr (inr (inl (code, told.0, text, told.1))))
+    ((λ document. told.1 document.1 (document.2, document.4)), inr (inr (inl (code, told.0, text, told.1))))
 
-pub no_tree : (bytes : List ℕ) (fault : SyntaxFault) (e : Ending) → IsText bytes → trees.Refuses bytes fault → IsSyntaxEnding fault e → Ends (IsRefused bytes) e
+pub no_tree : (bytes : List ℕ) (fault : SyntaxFault) (e : Ending) → IsText bytes → trees.Refuses One bytes fault → IsSyntaxEnding fault e → Ends (IsRefused bytes) e
 no_tree bytes fault (ends.Refused r) text h k = told_tree bytes fault r text h k
 no_tree bytes fault ends.NoMemory text h k = tt
 
@@ -77,23 +79,23 @@ bad_names bytes d fault spelled refuses memory document =
     let same : document.1 ≡ d = one_tree document.1 d bytes document.2 spelled in
     refused_are_bad d.lines fault refuses memory (subst (λ (e : Doc). AreGood e.lines) same document.3)
 
-pub no_lines : (bytes : List ℕ) (d : Doc) (r : Refusal) → IsText bytes → Spells d bytes → RefusesLines d.lines r → IsRefused bytes r
+pub no_lines : (bytes : List ℕ) (d : Doc) (r : Refusal) → IsText bytes → SpellsIn One d bytes → RefusesLines d.lines r → IsRefused bytes r
 no_lines bytes d r text spelled (inl h) = (
-  bad_names bytes d (names.Redefined h.1 h.2) spelled h.4 (λ e. cc),
+  bad_names bytes d (names.Redefined h.1 h.2) spelled.0 h.4 (λ e. cc),
   inr (inr (inr (inl (h.0, text, d, h.1, h.2, h.3, spelled, h.4)))),
 )
 no_lines bytes d r text spelled (inr h) = (
-  bad_names bytes d (names.LongAddress h.1) spelled h.3 (λ e. cc),
+  bad_names bytes d (names.LongAddress h.1) spelled.0 h.3 (λ e. cc),
   inr (inr (inr (inr (h.0, text, d, h.1, h.2, spelled, h.3)))),
 )
 
 -- so are the bytes
-pub no_names : (bytes : List ℕ) (d : Doc) (e : Ending) → IsText bytes → Spells d bytes → Ends (RefusesLines d.lines) e → Ends (IsRefused bytes) e
+pub no_names : (bytes : List ℕ) (d : Doc) (e : Ending) → IsText bytes → SpellsIn One d bytes → Ends (RefusesLines d.lines) e → Ends (IsRefused bytes) e
 no_names bytes d (ends.Refused r) text spelled h = no_lines bytes d r text spelled h
 no_names bytes d ends.NoMemory text spelled h = tt
 
 -- a refusal of the names is handed on
-pub passed_up : {T : Type 0} (bytes : List ℕ) (d : Doc) (e : Ending) (result : Result T Ending) → IsErrAnd result (λ x. x ≡ e) → IsText bytes × Spells d bytes → Ends (RefusesLines d.lines) e
+pub passed_up : {T : Type 0} (bytes : List ℕ) (d : Doc) (e : Ending) (result : Result T Ending) → IsErrAnd result (λ x. x ≡ e) → IsText bytes × SpellsIn One d bytes → Ends (RefusesLines d.lines) e
     → IfErr result (Ends (IsRefused bytes))
 passed_up bytes d e (Ok x) same read h = tt
 passed_up bytes d e (Err x) same read h = subst (Ends (IsRefused bytes)) (sym same) (no_names bytes d e read.0 read.1 h)

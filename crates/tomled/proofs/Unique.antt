@@ -169,12 +169,12 @@ one_map ms f g h k = fun_ext (λ at. same_kind (f at) (g at) (λ kind is. (k at 
 
 pub one_line : (bytes l m : List ℕ) → ShowsData bytes l → ShowsData bytes m → l ≡ m
 one_line bytes l m h k =
-    let doc : h.doc ≡ k.doc = one_tree h.doc k.doc bytes h.spelled k.spelled in
+    let doc : h.doc ≡ k.doc = one_tree h.doc k.doc bytes h.spelled.0 k.spelled.0 in
     let map : h.kinds ≡ k.kinds = one_map (named k.doc.lines) h.kinds k.kinds (subst (λ (d : Doc). IsDataOf (named d.lines) h.kinds) doc h.facts) k.facts in
     let json : h.shown.json ≡ k.shown.json = one_tagged h.shown.json k.shown.json k.kinds (subst (λ (f : Kinds). IsTagged f h.shown.json) map h.shown.tagged) k.shown.tagged in
     h.shown.is ∙ (ap (λ j. compact_text j ++ 0x0A ∷ []) json ∙ sym k.shown.is)
 
 pub one_listing : (bytes l m : List ℕ) → ListsAddresses bytes l → ListsAddresses bytes m → l ≡ m
 one_listing bytes l m h k =
-    let doc : h.doc ≡ k.doc = one_tree h.doc k.doc bytes h.spelled k.spelled in
+    let doc : h.doc ≡ k.doc = one_tree h.doc k.doc bytes h.spelled.0 k.spelled.0 in
     h.listed ∙ (ap (λ (d : Doc). lines_of (first_mentions (named d.lines))) doc ∙ sym k.listed)

@@ -5,7 +5,8 @@ use Rattle.serde_json.specs.Data.{Data, array, number, string, unsigned}
 use Rattle.serde_json.specs.View.{items_of}
 use Rattle.serde_json.specs.Written.{compact_text}
 use Rattle.toml_text.specs.Limit.{IsText}
-use Rattle.toml_tree.specs.Spells.{Spells}
+use Rattle.toml_tree.specs.declared.profile.Profile.TheVariants.{One}
+use Rattle.toml_tree.specs.Profiles.{SpellsIn}
 use Rattle.toml_tree.specs.Tree.{Doc}
 use Rattle.toml_names.specs.declared.model.address.Step.{Step}
 use Rattle.toml_names.specs.declared.model.address.Step.TheVariants.{Name, Index}
@@ -37,7 +38,7 @@ lines_of = flat_map line_of
 pub record ListsAddresses (bytes text : List ℕ) : Type 0 where
   pub limit : IsText bytes
   pub doc : Doc
-  pub spelled : Spells doc bytes
+  pub spelled : SpellsIn One doc bytes
   pub good : AreGood doc.lines
   pub listed : text ≡ lines_of (first_mentions (named doc.lines))
 

@@ -3,7 +3,8 @@ use Rattle.std.specs.Prelude.{◌≡◌, ◌⊎◌, ◌++◌, ◌∷◌, ℕ, Li
 use Rattle.serde_json.specs.Data.{Data}
 use Rattle.serde_json.specs.Written.{compact_text}
 use Rattle.toml_text.specs.Limit.{IsText}
-use Rattle.toml_tree.specs.Spells.{Spells}
+use Rattle.toml_tree.specs.declared.profile.Profile.TheVariants.{One}
+use Rattle.toml_tree.specs.Profiles.{SpellsIn}
 use Rattle.toml_tree.specs.Tree.{Doc}
 use Rattle.toml_names.specs.model.Data.{Kinds, IsDataOf}
 use Rattle.toml_names.specs.mentions.Mentions.{named}
@@ -22,7 +23,7 @@ pub record IsLineOf (kinds : Kinds) (line : List ℕ) : Type 0 where
 pub record ShowsData (bytes line : List ℕ) : Type 0 where
   pub text : IsText bytes
   pub doc : Doc
-  pub spelled : Spells doc bytes
+  pub spelled : SpellsIn One doc bytes
   pub good : AreGood doc.lines
   pub kinds : Kinds
   pub facts : IsDataOf (named doc.lines) kinds

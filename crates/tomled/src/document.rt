@@ -2,7 +2,8 @@
 ghost use Rattle.std.specs.Prelude.{◌≡◌, ◌+◌, ◌<◌, IfErr, IfOk, OnOk};
 ghost use Rattle.toml_text.specs.Limit.{IsText};
 ghost use Rattle.toml_tree.specs.Document.{document};
-ghost use Rattle.toml_tree.specs.Spells.{Spells};
+ghost use Rattle.toml_tree.specs.declared.profile.Profile.TheVariants.{One};
+ghost use Rattle.toml_tree.specs.Profiles.{SpellsIn};
 ghost use Rattle.toml_names.specs.model.Data.{IsDataOf, kind_at};
 ghost use Rattle.toml_names.specs.mentions.Mentions.{named};
 ghost use Rattle.toml_names.specs.reader.Names.{AreGood};
@@ -19,7 +20,7 @@ use toml_tree::{Doc, SyntaxFault, parse};
 /// The tree of the text that the bytes are, or why no tree spells them.
 #[tactic(auto, using(crate::proofs::Judged::no_tree, crate::proofs::Judged::no_text))]
 pub fn read_tree<'t>(alloc: Global, file: &'t [u8]) -> Result<Doc<'t>, Ending>
-    ensures spelled { IfOk result (λ doc. IsText file.now × Spells (document doc) file.now) }
+    ensures spelled { IfOk result (λ doc. IsText file.now × SpellsIn One (document doc) file.now) }
     ensures refused { IfErr result (Ends (IsRefused file.now)) }
 {
     let source = match Source::new(file) {
