@@ -8,6 +8,7 @@ mod editor;
 mod edits;
 mod examples;
 mod names;
+mod profiles;
 mod reader;
 mod scalars;
 mod text;

@@ -1,16 +1,13 @@
 //! Calls that no other test makes by themselves, with ample memory: each answers, and what is wanted. `check_made` goes by
 //! `edit`.
 
-use crate::library_tests::worked;
+use crate::library_tests::worked::{data, doc, edits, names, source};
 use crate::tagged::tagged;
 use std::alloc::Global;
-use std::test::Fail;
 use toml_checker::{Verdict, check, first_marks, outermost};
 use toml_editor::{edit, edit_pieces};
-use toml_edits::Edit;
 use toml_names::{Address, NameReader, key_address, read_lines};
-use toml_text::Source;
-use toml_tree::{Doc, Expr, Line, parse_value};
+use toml_tree::{Expr, parse_value};
 use toml_units::{Certificate, certificate_text, join, units, units_at, units_inside};
 
 const FLOAT: &str = "3.14 = 0xdead_beef\n";
@@ -21,135 +18,138 @@ const EDITS: &str = r#"[{"op":"set","at":["port"],"value":"0x1F"}]"#;
 
 const OUT: &str = "port = 0x1F # keep\n";
 
-#[test]
-fn a_text_comes_back(rt: HostRuntime) -> Result<(), Fail> {
-    let doc = worked::doc(rt.alloc(), FLOAT)?;
-    assert_eq!(rt; doc.text(rt.alloc())?.as_str(), FLOAT);
-    Ok(())
+const PAIRS: [(u64, u64); 2] = [(1, 1), (2, 2)];
+
+fn comes_back(alloc: Global) -> Option<bool> {
+    let text = doc(alloc, FLOAT)?.text(alloc).ok()?;
+    Some(text.as_str() == FLOAT)
 }
 
-/// Whether the reader has its own data, and a copy of them.
-fn has_its_data(alloc: Global, reader: &NameReader<'_, '_>) -> Result<bool, Fail> {
-    let data = reader.data()?;
-    let copy = data.copy(alloc)?;
-    Ok(reader.has_data(&data)? && reader.has_data(&copy)?)
+#[test]
+fn a_text_comes_back(rt: HostRuntime) {
+    assert_eq!(rt; comes_back(rt.alloc()), Some(true));
 }
 
 /// How many units the document has, by the addresses that a reader of its lines tells.
-fn count_units(alloc: Global, doc: &Doc<'_>) -> Result<usize, Fail> {
-    let Ok(reader) = read_lines(alloc, doc) else {
-        return Err(Fail::from("refused"));
-    };
-    let own = reader.own_addresses()?;
-    Ok(units_at(alloc, doc, own)?.len())
+fn count_units(alloc: Global) -> Option<usize> {
+    let doc = doc(alloc, FLOAT)?;
+    let own = read_lines(alloc, &doc).ok()?.own_addresses().ok()?;
+    Some(units_at(alloc, &doc, own).ok()?.len())
+}
+
+/// Whether the reader has its own data, and a copy of them.
+fn has_its_data(alloc: Global, reader: &NameReader<'_, '_>) -> Option<bool> {
+    let data = reader.data().ok()?;
+    let copy = data.copy(alloc).ok()?;
+    Some(reader.has_data(&data).ok()? && reader.has_data(&copy).ok()?)
+}
+
+fn reader_has_its_data(alloc: Global) -> Option<bool> {
+    let doc = doc(alloc, FLOAT)?;
+    has_its_data(alloc, &read_lines(alloc, &doc).ok()?)
 }
 
 #[test]
-fn lines_are_read(rt: HostRuntime) -> Result<(), Fail> {
-    let doc = worked::doc(rt.alloc(), FLOAT)?;
-    assert_eq!(rt; count_units(rt.alloc(), &doc)?, 2);
-    let Ok(reader) = read_lines(rt.alloc(), &doc) else {
-        return Err(Fail::from("refused"));
-    };
-    assert!(rt; has_its_data(rt.alloc(), &reader)?);
-    Ok(())
+fn lines_are_read(rt: HostRuntime) {
+    assert_eq!(rt; count_units(rt.alloc()), Some(2));
+    assert_eq!(rt; reader_has_its_data(rt.alloc()), Some(true));
+}
+
+fn is_tagged(alloc: Global, wanted: &str) -> Option<bool> {
+    let json = tagged(alloc, &data(alloc, FLOAT)?).ok()?;
+    Some(json.to_vec(alloc).ok()?.as_slice() == wanted.as_bytes())
 }
 
 #[test]
-fn data_are_tagged(rt: HostRuntime) -> Result<(), Fail> {
-    let doc = worked::doc(rt.alloc(), FLOAT)?;
-    let names = worked::names(rt.alloc(), &doc)?;
-    let json = tagged(rt.alloc(), names.data())?.to_vec(rt.alloc())?;
+fn data_are_tagged(rt: HostRuntime) {
     let wanted = r#"{"3":{"14":{"type":"integer","value":"3735928559"}}}"#;
-    assert_eq!(rt; json.as_slice(), wanted.as_bytes());
-    Ok(())
+    assert_eq!(rt; is_tagged(rt.alloc(), wanted), Some(true));
 }
 
-/// How many steps the address of a header has, once it is copied.
-fn header_steps(alloc: Global, line: &Line<'_>) -> Result<usize, Fail> {
-    let Expr::Std { header, .. } = line.expr() else {
-        return Ok(0);
+/// How many steps the address of the first line's header has, once it is copied.
+fn header_steps(alloc: Global, text: &str) -> Option<usize> {
+    let doc = doc(alloc, text)?;
+    let Expr::Std { header, .. } = doc.lines().first()?.expr() else {
+        return None;
     };
-    let at = key_address(alloc, &Address::root(alloc), &header.key)?;
-    Ok(at.copy(alloc)?.steps().len())
+    let at = key_address(alloc, &Address::root(alloc), &header.key).ok()?;
+    Some(at.copy(alloc).ok()?.steps().len())
 }
 
 #[test]
-fn keys_have_addresses(rt: HostRuntime) -> Result<(), Fail> {
-    let doc = worked::doc(rt.alloc(), "[a.\"b\"]")?;
-    for line in doc.lines() {
-        assert_eq!(rt; header_steps(rt.alloc(), line)?, 2);
-    }
-    Ok(())
+fn keys_have_addresses(rt: HostRuntime) {
+    assert_eq!(rt; header_steps(rt.alloc(), "[a.\"b\"]"), Some(2));
+}
+
+fn count_inside(alloc: Global, text: &str) -> Option<usize> {
+    let value = parse_value(alloc, source(text)?).ok()?;
+    Some(units_inside(alloc, &value).ok()?.len())
 }
 
 #[test]
-fn values_have_units(rt: HostRuntime) -> Result<(), Fail> {
-    let value = parse_value(rt.alloc(), worked::source("[1, {a = 2}]")?)?;
+fn values_have_units(rt: HostRuntime) {
     // two elements and a pair
-    assert_eq!(rt; units_inside(rt.alloc(), &value)?.len(), 3);
-    Ok(())
+    assert_eq!(rt; count_inside(rt.alloc(), "[1, {a = 2}]"), Some(3));
+}
+
+/// Whether the edits make the text and the certificate.
+fn makes(alloc: Global, wanted: &str, pairs: &str) -> Option<bool> {
+    let (text, certificate) = edit(alloc, FILE.as_bytes(), &edits(alloc, EDITS)?).ok()?;
+    let certificate = certificate_text(alloc, &certificate).ok()?;
+    Some(text.as_str() == wanted && certificate.as_str() == pairs)
 }
 
 #[test]
-fn edits_make_a_text(rt: HostRuntime) -> Result<(), Fail> {
-    let edits = worked::edits(rt.alloc(), EDITS)?;
-    let Ok((text, certificate)) = edit(rt.alloc(), FILE.as_bytes(), &edits) else {
-        return Err(Fail::from("not edited"));
-    };
-    assert_eq!(rt; text.as_str(), OUT);
-    let certificate = certificate_text(rt.alloc(), &certificate)?;
-    assert_eq!(rt; certificate.as_str(), "kept 1\n1 1\n2 2\n");
-    Ok(())
+fn edits_make_a_text(rt: HostRuntime) {
+    assert_eq!(rt; makes(rt.alloc(), OUT, "kept 1\n1 1\n2 2\n"), Some(true));
 }
 
-/// The text of the pieces that edits make.
-fn joined(alloc: Global, edits: &[Edit]) -> Result<String, Fail> {
-    let Ok(source) = Source::new(FILE.as_bytes()) else {
-        return Err(Fail::from("no text"));
-    };
-    let Ok((pieces, _)) = edit_pieces(alloc, FILE.as_bytes(), edits) else {
-        return Err(Fail::from("not edited"));
-    };
-    Ok(join(alloc, source, &pieces)?)
+/// Whether the pieces that the edits make are those of the text.
+fn joins(alloc: Global, wanted: &str) -> Option<bool> {
+    let (pieces, _) = edit_pieces(alloc, FILE.as_bytes(), &edits(alloc, EDITS)?).ok()?;
+    Some(join(alloc, source(FILE)?, &pieces).ok()?.as_str() == wanted)
 }
 
 #[test]
-fn pieces_are_joined(rt: HostRuntime) -> Result<(), Fail> {
-    let edits = worked::edits(rt.alloc(), EDITS)?;
-    let text = joined(rt.alloc(), &edits)?;
-    assert_eq!(rt; text.as_str(), OUT);
-    Ok(())
+fn pieces_are_joined(rt: HostRuntime) {
+    assert_eq!(rt; joins(rt.alloc(), OUT), Some(true));
 }
 
 /// Which units of the file are outermost of those that the edits leave as they are.
-fn outer(alloc: Global, edits: &[Edit]) -> Result<Vec<bool>, Fail> {
-    let doc = worked::doc(alloc, FILE)?;
-    let names = worked::names(alloc, &doc)?;
-    let all = units(alloc, &doc, &names)?;
-    Ok(outermost(alloc, &all, edits)?)
+fn outer(alloc: Global) -> Option<Vec<bool>> {
+    let doc = doc(alloc, FILE)?;
+    let names = names(alloc, &doc)?;
+    let all = units(alloc, &doc, &names).ok()?;
+    outermost(alloc, &all, &edits(alloc, EDITS)?).ok()
+}
+
+/// Whether the marks are those of the comment and of the last line, of three units.
+fn are_marked(marks: &[bool]) -> bool {
+    matches!(marks, [false, true, true])
 }
 
 #[test]
-fn units_are_marked(rt: HostRuntime) -> Result<(), Fail> {
-    let edits = worked::edits(rt.alloc(), EDITS)?;
-    // the comment and the last line
-    let wanted = [false, true, true];
-    let marks = outer(rt.alloc(), &edits)?;
-    assert!(rt; marks.as_slice() == wanted.as_slice());
-    let marks = first_marks(rt.alloc(), 3, &[(1, 1), (2, 2)])?;
-    assert!(rt; marks.as_slice() == wanted.as_slice());
-    Ok(())
+fn units_are_marked(rt: HostRuntime) {
+    let marks = outer(rt.alloc());
+    assert!(rt; matches!(&marks, Some(marks) if are_marked(marks)));
+    let marks = first_marks(rt.alloc(), 3, &PAIRS);
+    assert!(rt; matches!(&marks, Ok(marks) if are_marked(marks)));
+}
+
+fn verdict(alloc: Global) -> Option<Verdict> {
+    let edits = edits(alloc, EDITS)?;
+    let pairs = Vec::from_array(alloc, PAIRS).ok()?;
+    check(
+        alloc,
+        FILE.as_bytes(),
+        &edits,
+        OUT.as_bytes(),
+        &Certificate { pairs },
+    )
+    .ok()
 }
 
 #[test]
-fn the_judge_says_yes(rt: HostRuntime) -> Result<(), Fail> {
-    let alloc = rt.alloc();
-    let edits = worked::edits(alloc, EDITS)?;
-    let certificate = Certificate {
-        pairs: vec![in alloc; (1, 1), (2, 2)]?,
-    };
-    let verdict = check(alloc, FILE.as_bytes(), &edits, OUT.as_bytes(), &certificate)?;
-    assert!(rt; matches!(&verdict, Verdict::Yes));
-    Ok(())
+fn the_judge_says_yes(rt: HostRuntime) {
+    assert_eq!(rt; verdict(rt.alloc()), Some(Verdict::Yes));
 }

@@ -1,154 +1,73 @@
 //! Where an edit carries an address.
 
-use crate::library_tests::worked::At::{self, Index, Name as Key};
-use crate::library_tests::worked::address;
+use crate::library_tests::worked::{address, assert_lines, edits, path};
 use std::alloc::Global;
 use std::test::Fail;
-use toml_edits::{Edit, carry};
+use toml_edits::carry;
 
-/// A worked edit.
-#[derive(Clone, Copy)]
-enum Op {
-    Set,
-    Insert,
-    Rename(&'static str),
-    Remove,
-    Section,
-    Element,
-}
-
-use Op::{Element, Insert, Remove, Rename, Section, Set};
-
-const LAST: u64 = 18_446_744_073_709_551_615;
-
-fn edit(alloc: Global, op: Op, steps: &[At]) -> Result<Edit, Fail> {
-    let at = address(alloc, steps)?;
-    let value = String::from_str(alloc, "1")?;
-    Ok(match op {
-        Op::Set => Edit::Set { at, value },
-        Op::Insert => Edit::Insert { at, value },
-        Op::Rename(to) => Edit::Rename {
-            at,
-            to: String::from_str(alloc, to)?,
-        },
-        Op::Remove => Edit::Remove { at },
-        Op::Section => Edit::Section { at },
-        Op::Element => Edit::Element { at },
-    })
-}
-
-/// Whether the edit at the place carries the address to the wanted one, or nowhere where none is.
-fn carries(
-    alloc: Global,
-    op: Op,
-    place: &[At],
-    from: &[At],
-    wanted: Option<&[At]>,
-) -> Result<bool, Fail> {
-    let edit = edit(alloc, op, place)?;
-    let found = carry(alloc, &edit, &address(alloc, from)?)?;
-    match (found, wanted) {
-        (Some(found), Some(steps)) => Ok(found.is_same(&address(alloc, steps)?)),
-        (found, wanted) => Ok(found.is_none() && wanted.is_none()),
+/// Where the first edit of a list carries an address.
+fn carried(alloc: Global, row: &str) -> Option<String> {
+    let (from, list) = row.split_once(" | ")?;
+    let edits = edits(alloc, list)?;
+    match carry(alloc, edits.first()?, &address(alloc, from)?).ok()? {
+        Some(at) => path(alloc, &at),
+        None => String::from_str(alloc, "nowhere").ok(),
     }
 }
+
+const SET_OR_RENAMED: &str = r#"
+nowhere | /a/b | [{"op":"set","at":["a"],"value":"1"}]
+/a | /a | [{"op":"set","at":["a"],"value":"1"}]
+/b | /b | [{"op":"set","at":["a"],"value":"1"}]
+/a | /a | [{"op":"set","at":["a",0],"value":"1"}]
+/a | /a | [{"op":"set","at":[],"value":"1"}]
+/b/c | /a/c | [{"op":"rename","at":["a"],"to":"b"}]
+/b | /a | [{"op":"rename","at":["a"],"to":"b"}]
+/c | /c | [{"op":"rename","at":["a"],"to":"b"}]
+/x | /x | [{"op":"rename","at":["x","a"],"to":"b"}]
+/a | /a | [{"op":"rename","at":["x","a"],"to":"b"}]
+/x/#0 | /x/#0 | [{"op":"rename","at":["x",0],"to":"b"}]
+/a | /a | [{"op":"rename","at":[],"to":"b"}]
+"#;
 
 #[test]
 fn set_and_rename_carry(rt: HostRuntime) -> Result<(), Fail> {
-    let rows: [(Op, &[At], &[At], Option<&[At]>); 12] = [
-        (Set, &[Key("a")], &[Key("a"), Key("b")], None),
-        (Set, &[Key("a")], &[Key("a")], Some(&[Key("a")])),
-        (Set, &[Key("a")], &[Key("b")], Some(&[Key("b")])),
-        (Set, &[Key("a"), Index(0)], &[Key("a")], Some(&[Key("a")])),
-        (Set, &[], &[Key("a")], Some(&[Key("a")])),
-        (
-            Rename("b"),
-            &[Key("a")],
-            &[Key("a"), Key("c")],
-            Some(&[Key("b"), Key("c")]),
-        ),
-        (Rename("b"), &[Key("a")], &[Key("a")], Some(&[Key("b")])),
-        (Rename("b"), &[Key("a")], &[Key("c")], Some(&[Key("c")])),
-        (
-            Rename("b"),
-            &[Key("x"), Key("a")],
-            &[Key("x")],
-            Some(&[Key("x")]),
-        ),
-        (
-            Rename("b"),
-            &[Key("x"), Key("a")],
-            &[Key("a")],
-            Some(&[Key("a")]),
-        ),
-        (
-            Rename("b"),
-            &[Key("x"), Index(0)],
-            &[Key("x"), Index(0)],
-            Some(&[Key("x"), Index(0)]),
-        ),
-        (Rename("b"), &[], &[Key("a")], Some(&[Key("a")])),
-    ];
-    for (op, place, from, wanted) in rows {
-        assert!(rt; carries(rt.alloc(), op, place, from, wanted)?);
-    }
-    Ok(())
+    assert_lines(&rt, rt.alloc(), SET_OR_RENAMED, 12, carried)
+}
+
+const INSERTED_OR_REMOVED: &str = r#"
+/x/#2 | /x/#1 | [{"op":"insert","at":["x",1],"value":"1"}]
+/x/#4/k | /x/#3/k | [{"op":"insert","at":["x",1],"value":"1"}]
+/x/#0 | /x/#0 | [{"op":"insert","at":["x",1],"value":"1"}]
+/x | /x | [{"op":"insert","at":["x",1],"value":"1"}]
+nowhere | /x/#18446744073709551615 | [{"op":"insert","at":["x",0],"value":"1"}]
+/x/n/#0 | /x/n/#0 | [{"op":"insert","at":["x","n"],"value":"1"}]
+/#0 | /#0 | [{"op":"insert","at":[],"value":"1"}]
+/x/#0/k | /x/#1/k | [{"op":"remove","at":["x",0]}]
+nowhere | /x/#0 | [{"op":"remove","at":["x",0]}]
+nowhere | /x/#0/k | [{"op":"remove","at":["x",0]}]
+/x/#0 | /x/#0 | [{"op":"remove","at":["x",1]}]
+/x | /x | [{"op":"remove","at":["x",1]}]
+nowhere | /x/#1 | [{"op":"remove","at":["x"]}]
+/y | /y | [{"op":"remove","at":["x"]}]
+/x | /x | [{"op":"remove","at":[]}]
+"#;
+
+const MADE: &str = r#"
+/x/s | /x/s | [{"op":"section","at":["x","s"]}]
+/x/#0 | /x/#0 | [{"op":"section","at":["x"]}]
+/x | /x | [{"op":"section","at":[]}]
+/x/#18446744073709551615 | /x/#18446744073709551615 | [{"op":"element","at":["x",0]}]
+/x/#1/k | /x/#1/k | [{"op":"element","at":["x",1]}]
+/x | /x | [{"op":"element","at":["x",1]}]
+"#;
+
+#[test]
+fn section_and_element_leave_all_where_it_is(rt: HostRuntime) -> Result<(), Fail> {
+    assert_lines(&rt, rt.alloc(), MADE, 6, carried)
 }
 
 #[test]
 fn insert_and_remove_carry(rt: HostRuntime) -> Result<(), Fail> {
-    let x = Key("x");
-    let rows: [(Op, &[At], &[At], Option<&[At]>); 15] = [
-        (Insert, &[x, Index(1)], &[x, Index(1)], Some(&[x, Index(2)])),
-        (
-            Insert,
-            &[x, Index(1)],
-            &[x, Index(3), Key("k")],
-            Some(&[x, Index(4), Key("k")]),
-        ),
-        (Insert, &[x, Index(1)], &[x, Index(0)], Some(&[x, Index(0)])),
-        (Insert, &[x, Index(1)], &[x], Some(&[x])),
-        (Insert, &[x, Index(0)], &[x, Index(LAST)], None),
-        (
-            Insert,
-            &[x, Key("n")],
-            &[x, Key("n"), Index(0)],
-            Some(&[x, Key("n"), Index(0)]),
-        ),
-        (Insert, &[], &[Index(0)], Some(&[Index(0)])),
-        (
-            Remove,
-            &[x, Index(0)],
-            &[x, Index(1), Key("k")],
-            Some(&[x, Index(0), Key("k")]),
-        ),
-        (Remove, &[x, Index(0)], &[x, Index(0)], None),
-        (Remove, &[x, Index(0)], &[x, Index(0), Key("k")], None),
-        (Remove, &[x, Index(1)], &[x, Index(0)], Some(&[x, Index(0)])),
-        (Remove, &[x, Index(1)], &[x], Some(&[x])),
-        (Remove, &[x], &[x, Index(1)], None),
-        (Remove, &[x], &[Key("y")], Some(&[Key("y")])),
-        (Remove, &[], &[x], Some(&[x])),
-    ];
-    for (op, place, from, wanted) in rows {
-        assert!(rt; carries(rt.alloc(), op, place, from, wanted)?);
-    }
-    Ok(())
-}
-
-#[test]
-fn section_and_element_leave_all_where_it_is(rt: HostRuntime) -> Result<(), Fail> {
-    let x = Key("x");
-    let rows: [(Op, &[At], &[At]); 6] = [
-        (Section, &[x, Key("s")], &[x, Key("s")]),
-        (Section, &[x], &[x, Index(0)]),
-        (Section, &[], &[x]),
-        (Element, &[x, Index(0)], &[x, Index(LAST)]),
-        (Element, &[x, Index(1)], &[x, Index(1), Key("k")]),
-        (Element, &[x, Index(1)], &[x]),
-    ];
-    for (op, place, from) in rows {
-        assert!(rt; carries(rt.alloc(), op, place, from, Some(from))?);
-    }
-    Ok(())
+    assert_lines(&rt, rt.alloc(), INSERTED_OR_REMOVED, 15, carried)
 }

@@ -1,129 +1,83 @@
 //! Which units edits leave as they are.
 
-use crate::library_tests::worked;
-use std::alloc::Global;
+use crate::library_tests::worked::{assert_lines, doc, edits, names};
+use std::alloc::{AllocError, Global};
 use std::test::Fail;
 use toml_checker::protected;
 use toml_units::units;
 
-/// Whether the edits protect of the text's units those that are marked by a `y`, and leave those marked by an `n`.
-fn protects(alloc: Global, text: &str, edits: &str, wanted: &str) -> Result<bool, Fail> {
-    let doc = worked::doc(alloc, text)?;
-    let names = worked::names(alloc, &doc)?;
-    let found = units(alloc, &doc, &names)?;
-    let edits = worked::edits(alloc, edits)?;
-    let flags = protected(alloc, &found, &edits)?;
-    if flags.len() != wanted.len() {
-        return Ok(false);
+/// `y` for each flag, or `n` where it is not set.
+fn marks(alloc: Global, flags: &[bool]) -> Result<String, AllocError> {
+    let mut text = String::new(alloc);
+    for flag in flags {
+        text.push(if *flag { 'y' } else { 'n' })?;
     }
-    for (flag, mark) in flags.iter().zip(wanted.as_bytes()) {
-        if *flag != (*mark == b'y') {
-            return Ok(false);
-        }
-    }
-    Ok(true)
+    Ok(text)
 }
 
-/// The number of the first row that is not as wanted, if there is one.
-fn first_other(alloc: Global, text: &str, rows: &[(&str, &str)]) -> Result<Option<usize>, Fail> {
-    for (index, (edits, wanted)) in rows.iter().enumerate() {
-        if !protects(alloc, text, edits, wanted)? {
-            return Ok(Some(index));
-        }
-    }
-    Ok(None)
+/// Which of the text's units the edits protect.
+fn protected_units(alloc: Global, text: &str, list: &str) -> Option<String> {
+    let doc = doc(alloc, text)?;
+    let names = names(alloc, &doc)?;
+    let units = units(alloc, &doc, &names).ok()?;
+    let flags = protected(alloc, &units, &edits(alloc, list)?).ok()?;
+    marks(alloc, &flags).ok()
 }
 
-/// A comment's line and its comment; a header's; a line of a key; two elements, a pair, a comment in the array, an element; the
-/// line's comment; the last line.
-const TEXT: &str = "# above\n[t] # head\na.b = [1, {x = 2}, # inner\n  3] # tail\n";
+/// Of this text: a comment's line and its comment; a header's; a line of a key; two elements, a pair, a comment in the array,
+/// an element; the line's comment; the last line.
+fn protected_lines(alloc: Global, list: &str) -> Option<String> {
+    let text = "# above\n[t] # head\na.b = [1, {x = 2}, # inner\n  3] # tail\n";
+    protected_units(alloc, text, list)
+}
+
+const SINGLE: &str = r#"
+yyyyyyyyyyyy | []
+yynnnnnnnnny | [{"op":"set","at":["t"],"value":"1"}]
+yyyynnnnnnny | [{"op":"set","at":["t","a"],"value":"1"}]
+yyyynnnnnnyy | [{"op":"set","at":["t","a","b"],"value":"1"}]
+yyyynynnyyyy | [{"op":"set","at":["t","a","b",1],"value":"1"}]
+yyyynynnyyyy | [{"op":"set","at":["t","a","b",1,"x"],"value":"1"}]
+yyyynyyyyyyy | [{"op":"insert","at":["t","a","b",1],"value":"1"}]
+yyyynynyyyyy | [{"op":"insert","at":["t","a","b",1,"z"],"value":"1"}]
+yyyyyyyyyyyy | [{"op":"insert","at":["t","z"],"value":"1"}]
+yynyyyyyyyyy | [{"op":"rename","at":["t"],"to":"u"}]
+yyyynyyyyyyy | [{"op":"rename","at":["t","a"],"to":"u"}]
+yyyynynnyyyy | [{"op":"rename","at":["t","a","b",1,"x"],"to":"u"}]
+yynnnnnnnnny | [{"op":"remove","at":["t"]}]
+yyyynnnnnnny | [{"op":"remove","at":["t","a","b"]}]
+yyyynynnyyyy | [{"op":"remove","at":["t","a","b",1]}]
+"#;
 
 #[test]
 fn single_edits(rt: HostRuntime) -> Result<(), Fail> {
-    let rows = [
-        ("[]", "yyyyyyyyyyyy"),
-        (r#"[{"op":"set","at":["t"],"value":"1"}]"#, "yynnnnnnnnny"),
-        (
-            r#"[{"op":"set","at":["t","a"],"value":"1"}]"#,
-            "yyyynnnnnnny",
-        ),
-        (
-            r#"[{"op":"set","at":["t","a","b"],"value":"1"}]"#,
-            "yyyynnnnnnyy",
-        ),
-        (
-            r#"[{"op":"set","at":["t","a","b",1],"value":"1"}]"#,
-            "yyyynynnyyyy",
-        ),
-        (
-            r#"[{"op":"set","at":["t","a","b",1,"x"],"value":"1"}]"#,
-            "yyyynynnyyyy",
-        ),
-        (
-            r#"[{"op":"insert","at":["t","a","b",1],"value":"1"}]"#,
-            "yyyynyyyyyyy",
-        ),
-        (
-            r#"[{"op":"insert","at":["t","a","b",1,"z"],"value":"1"}]"#,
-            "yyyynynyyyyy",
-        ),
-        (
-            r#"[{"op":"insert","at":["t","z"],"value":"1"}]"#,
-            "yyyyyyyyyyyy",
-        ),
-        (r#"[{"op":"rename","at":["t"],"to":"u"}]"#, "yynyyyyyyyyy"),
-        (
-            r#"[{"op":"rename","at":["t","a"],"to":"u"}]"#,
-            "yyyynyyyyyyy",
-        ),
-        (
-            r#"[{"op":"rename","at":["t","a","b",1,"x"],"to":"u"}]"#,
-            "yyyynynnyyyy",
-        ),
-        (r#"[{"op":"remove","at":["t"]}]"#, "yynnnnnnnnny"),
-        (r#"[{"op":"remove","at":["t","a","b"]}]"#, "yyyynnnnnnny"),
-        (r#"[{"op":"remove","at":["t","a","b",1]}]"#, "yyyynynnyyyy"),
-    ];
-    assert_eq!(rt; first_other(rt.alloc(), TEXT, &rows)?, None);
-    Ok(())
+    assert_lines(&rt, rt.alloc(), SINGLE, 15, protected_lines)
 }
+
+const LISTS: &str = r#"
+yyyynnnnyyyy | [{"op":"remove","at":["t","a","b",0]},{"op":"set","at":["t","a","b",0],"value":"1"}]
+yyyynyyyyyyy | [{"op":"insert","at":["t","a","b",0],"value":"1"},{"op":"remove","at":["t","a","b",0]}]
+yynyyyyyyyyy | [{"op":"rename","at":["t"],"to":"u"},{"op":"remove","at":["t","a","b"]}]
+yynynnnnnnny | [{"op":"rename","at":["t"],"to":"u"},{"op":"remove","at":["u","a"]}]
+"#;
 
 #[test]
 fn lists(rt: HostRuntime) -> Result<(), Fail> {
-    let rows = [
-        (
-            r#"[{"op":"remove","at":["t","a","b",0]},{"op":"set","at":["t","a","b",0],"value":"1"}]"#,
-            "yyyynnnnyyyy",
-        ),
-        (
-            r#"[{"op":"insert","at":["t","a","b",0],"value":"1"},{"op":"remove","at":["t","a","b",0]}]"#,
-            "yyyynyyyyyyy",
-        ),
-        (
-            r#"[{"op":"rename","at":["t"],"to":"u"},{"op":"remove","at":["t","a","b"]}]"#,
-            "yynyyyyyyyyy",
-        ),
-        (
-            r#"[{"op":"rename","at":["t"],"to":"u"},{"op":"remove","at":["u","a"]}]"#,
-            "yynynnnnnnny",
-        ),
-    ];
-    assert_eq!(rt; first_other(rt.alloc(), TEXT, &rows)?, None);
-    Ok(())
+    assert_lines(&rt, rt.alloc(), LISTS, 4, protected_lines)
 }
+
+fn protected_tables(alloc: Global, list: &str) -> Option<String> {
+    protected_units(alloc, "[[p]]\nx = 1\n[[p]] # two\nx = 2", list)
+}
+
+const TABLES: &str = r#"
+nnyyy | [{"op":"remove","at":["p",0]}]
+nnyyn | [{"op":"remove","at":["p",0]},{"op":"set","at":["p",0,"x"],"value":"3"}]
+yynnn | [{"op":"remove","at":["p",1]}]
+nynyy | [{"op":"rename","at":["p"],"to":"q"}]
+"#;
 
 #[test]
 fn tables_in_arrays(rt: HostRuntime) -> Result<(), Fail> {
-    let text = "[[p]]\nx = 1\n[[p]] # two\nx = 2";
-    let rows = [
-        (r#"[{"op":"remove","at":["p",0]}]"#, "nnyyy"),
-        (
-            r#"[{"op":"remove","at":["p",0]},{"op":"set","at":["p",0,"x"],"value":"3"}]"#,
-            "nnyyn",
-        ),
-        (r#"[{"op":"remove","at":["p",1]}]"#, "yynnn"),
-        (r#"[{"op":"rename","at":["p"],"to":"q"}]"#, "nynyy"),
-    ];
-    assert_eq!(rt; first_other(rt.alloc(), text, &rows)?, None);
-    Ok(())
+    assert_lines(&rt, rt.alloc(), TABLES, 4, protected_tables)
 }

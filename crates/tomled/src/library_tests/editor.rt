@@ -1,76 +1,13 @@
 //! Pieces of edited texts; their texts and certificates stand in `edit_tests`.
 
-use std::alloc::{AllocError, Global};
-use std::process::Abort;
+use crate::library_tests::worked::{assert_lines, doc, edits, names};
+use std::alloc::Global;
 use std::test::Fail;
 use toml_checker::outermost;
 use toml_editor::edit_pieces;
-use toml_edits::{Edit, read_edits};
-use toml_names::read_names;
-use toml_text::{Source, Span};
-use toml_tree::parse;
+use toml_edits::Edit;
+use toml_text::Span;
 use toml_units::{Piece, units};
-
-/// A text and edits.
-type Case = [&'static str; 2];
-
-const CASES: [Case; 14] = [
-    [
-        "port = 1_000 # keep\n",
-        "[{\"op\":\"set\",\"at\":[\"port\"],\"value\":\"0x1F\"}]",
-    ],
-    [
-        "x = [1, 2, 3]\n",
-        "[{\"op\":\"remove\",\"at\":[\"x\",0]},{\"op\":\"remove\",\"at\":[\"x\",0]}]",
-    ],
-    [
-        "x = [1, # one\n 2]\n",
-        "[{\"op\":\"remove\",\"at\":[\"x\",0]}]",
-    ],
-    [
-        "a.b = 1\n# c\n[c] # d\n",
-        "[{\"op\":\"insert\",\"at\":[\"a\",\"d\"],\"value\":\"2\"}]",
-    ],
-    [
-        "[a]\nb = 1 # one\n[a.c]\n",
-        "[{\"op\":\"rename\",\"at\":[\"a\"],\"to\":\"z z\"}]",
-    ],
-    [
-        "t = {x = 1, y.z = [2, # two\n{}]}\n",
-        "[{\"op\":\"remove\",\"at\":[\"t\",\"y\",\"z\",1]}]",
-    ],
-    [
-        "x = [1, [2, 3], {k = 4}]\n",
-        "[{\"op\":\"insert\",\"at\":[\"x\",0],\"value\":\"0\"}]",
-    ],
-    [
-        "x = [1, [2, 3], {k = 4}]\n",
-        "[{\"op\":\"rename\",\"at\":[\"x\",2,\"k\"],\"to\":\"m\"}]",
-    ],
-    [
-        "[[a]]\nb = 1\n[[a]] # second\nb = 2",
-        "[{\"op\":\"remove\",\"at\":[\"a\",0]}]",
-    ],
-    ["a = 1\nb = 2", "[{\"op\":\"remove\",\"at\":[\"b\"]}]"],
-    [
-        "# c\n[a.b] # d\n",
-        "[{\"op\":\"insert\",\"at\":[\"a\",\"x\"],\"value\":\"1\"}]",
-    ],
-    [
-        "x = [[1], {k = [2]}]\n",
-        "[{\"op\":\"insert\",\"at\":[\"x\",0],\"value\":\"[0]\"},{\"op\":\"insert\",\"at\":[\"x\",2],\"value\":\"{}\"}]",
-    ],
-    [
-        "[[a]]\nb = 1 # one\n[[a]] # second\n",
-        "[{\"op\":\"section\",\"at\":[\"a\",0,\"s\"]}]",
-    ],
-    ["[[a]]\n# last", "[{\"op\":\"element\",\"at\":[\"a\",1]}]"],
-];
-
-/// The edits of a list that is one.
-fn edits_of(rt: &impl Abort, alloc: Global, list: &str) -> Vec<Edit> {
-    read_edits(alloc, list.as_bytes()).expect(rt, "a list of edits")
-}
 
 /// Whether the span has no bytes or lies in one kept piece.
 fn is_kept(pieces: &[Piece], span: Span) -> bool {
@@ -85,47 +22,69 @@ fn holds(piece: &Piece, span: Span) -> bool {
     }
 }
 
-#[test]
-fn units_that_no_edit_names_lie_in_kept_pieces(rt: HostRuntime) -> Result<(), AllocError> {
-    let alloc = rt.alloc();
-    for [before, list] in CASES {
-        let edits = edits_of(&rt, alloc, list);
-        let (pieces, _) = edit_pieces(alloc, before.as_bytes(), &edits).expect(&rt, "an edit");
-        let source = Source::new(before.as_bytes()).expect(&rt, "a text");
-        let doc = parse(alloc, source).expect(&rt, "a tree");
-        let Ok(names) = read_names(alloc, &doc) else {
-            assert!(rt; false, "names");
-            return Ok(());
-        };
-        let units = units(alloc, &doc, &names)?;
-        let wanted = outermost(alloc, &units, &edits)?;
-        for (unit, flag) in units.iter().zip(&wanted) {
-            assert!(rt; !*flag || is_kept(&pieces, unit.span), "{before:?}");
+/// The spans of the units of a text that are outermost of those that the edits leave as they are.
+fn outermost_spans(alloc: Global, text: &str, edits: &[Edit]) -> Option<Vec<Span>> {
+    let doc = doc(alloc, text)?;
+    let names = names(alloc, &doc)?;
+    let units = units(alloc, &doc, &names).ok()?;
+    let mut spans = Vec::new(alloc);
+    for (unit, flag) in units.iter().zip(&outermost(alloc, &units, edits).ok()?) {
+        if *flag {
+            spans.push(unit.span).ok()?;
         }
     }
-    Ok(())
+    Some(spans)
 }
 
+/// Whether each unit that is outermost of those that the edits of a text leave as they are lies in a kept piece.
+fn kept_units(alloc: Global, row: &str) -> Option<String> {
+    let (list, text) = row.split_once(" | ")?;
+    let edits = edits(alloc, list)?;
+    let (pieces, _) = edit_pieces(alloc, text.as_bytes(), &edits).ok()?;
+    let spans = outermost_spans(alloc, text, &edits)?;
+    for span in &spans {
+        if !is_kept(&pieces, *span) {
+            return None;
+        }
+    }
+    String::from_str(alloc, "kept").ok()
+}
+
+const KEPT: &str = r#"
+kept | [{"op":"set","at":["port"],"value":"0x1F"}] | port = 1_000 # keep¶
+kept | [{"op":"remove","at":["x",0]},{"op":"remove","at":["x",0]}] | x = [1, 2, 3]¶
+kept | [{"op":"remove","at":["x",0]}] | x = [1, # one¶ 2]¶
+kept | [{"op":"insert","at":["a","d"],"value":"2"}] | a.b = 1¶# c¶[c] # d¶
+kept | [{"op":"rename","at":["a"],"to":"z z"}] | [a]¶b = 1 # one¶[a.c]¶
+kept | [{"op":"remove","at":["t","y","z",1]}] | t = {x = 1, y.z = [2, # two¶{}]}¶
+kept | [{"op":"insert","at":["x",0],"value":"0"}] | x = [1, [2, 3], {k = 4}]¶
+kept | [{"op":"rename","at":["x",2,"k"],"to":"m"}] | x = [1, [2, 3], {k = 4}]¶
+kept | [{"op":"remove","at":["a",0]}] | [[a]]¶b = 1¶[[a]] # second¶b = 2
+kept | [{"op":"remove","at":["b"]}] | a = 1¶b = 2
+kept | [{"op":"insert","at":["a","x"],"value":"1"}] | # c¶[a.b] # d¶
+kept | [{"op":"insert","at":["x",0],"value":"[0]"},{"op":"insert","at":["x",2],"value":"{}"}] | x = [[1], {k = [2]}]¶
+kept | [{"op":"section","at":["a",0,"s"]}] | [[a]]¶b = 1 # one¶[[a]] # second¶
+kept | [{"op":"element","at":["a",1]}] | [[a]]¶# last
+"#;
+
 #[test]
-fn pieces_of_edited_texts(rt: HostRuntime) -> Result<(), AllocError> {
-    let alloc = rt.alloc();
-    let [before, list] = CASES[0];
-    let edits = edits_of(&rt, alloc, list);
-    let (set, _) = edit_pieces(alloc, before.as_bytes(), &edits).expect(&rt, "an edit");
-    let new = Piece::New(String::from_str(alloc, "0x1F")?);
-    let wanted = vec![in alloc;
-        Piece::Kept(Span { start: 0, end: 7 }),
-        new,
-        Piece::Kept(Span { start: 12, end: 20 }),
-    ]?;
-    assert!(rt; set.as_slice() == wanted.as_slice());
-    let [before, list] = CASES[1];
-    let edits = edits_of(&rt, alloc, list);
-    let (removed, _) = edit_pieces(alloc, before.as_bytes(), &edits).expect(&rt, "an edit");
-    let wanted = vec![in alloc;
-        Piece::Kept(Span { start: 0, end: 5 }),
-        Piece::Kept(Span { start: 11, end: 14 }),
-    ]?;
-    assert!(rt; removed.as_slice() == wanted.as_slice());
-    Ok(())
+fn units_that_no_edit_names_lie_in_kept_pieces(rt: HostRuntime) -> Result<(), Fail> {
+    assert_lines(&rt, rt.alloc(), KEPT, 14, kept_units)
+}
+
+/// The pieces that the edits make of a text.
+fn pieces(alloc: Global, row: &str) -> Option<String> {
+    let (list, text) = row.split_once(" | ")?;
+    let (pieces, _) = edit_pieces(alloc, text.as_bytes(), &edits(alloc, list)?).ok()?;
+    format!(in alloc; "{pieces:?}").ok()
+}
+
+const PIECES: &str = r#"
+[Kept(Span { start: 0, end: 7 }), New("0x1F"), Kept(Span { start: 12, end: 20 })] | [{"op":"set","at":["port"],"value":"0x1F"}] | port = 1_000 # keep¶
+[Kept(Span { start: 0, end: 5 }), Kept(Span { start: 11, end: 14 })] | [{"op":"remove","at":["x",0]},{"op":"remove","at":["x",0]}] | x = [1, 2, 3]¶
+"#;
+
+#[test]
+fn pieces_of_edited_texts(rt: HostRuntime) -> Result<(), Fail> {
+    assert_lines(&rt, rt.alloc(), PIECES, 2, pieces)
 }

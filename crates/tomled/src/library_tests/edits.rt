@@ -1,251 +1,132 @@
 //! Edits on data: what they make of them, and which are refused.
 
-use crate::library_tests::worked::At::{self, Index, Name as Key};
-use crate::library_tests::worked::{self, address};
+use crate::library_tests::worked::{assert_lines, data, edits, what_stands, with_long_key};
 use std::alloc::Global;
-use std::process::Abort;
 use std::test::Fail;
-use toml_edits::{Edit, EditFault, apply};
-use toml_names::{Data, Datum};
-use toml_scalar::Scalar;
-
-#[derive(Clone, Copy)]
-enum Op {
-    Set,
-    Insert,
-    Rename,
-    Remove,
-    Section,
-    Element,
-}
-
-/// What stands at an address.
-#[derive(Clone, Copy, Debug, PartialEq, Eq)]
-enum What {
-    Nothing,
-    Table,
-    Array,
-    Integer(i64),
-    Other,
-}
-
-type Row = (Op, &'static [At], &'static str, u16);
-
-type Fact = (&'static [At], What);
-
-fn data(alloc: Global, text: &str) -> Result<Data, Fail> {
-    let doc = worked::doc(alloc, text)?;
-    let names = worked::names(alloc, &doc)?;
-    Ok(names.data().copy(alloc)?)
-}
-
-fn edit(alloc: Global, op: Op, steps: &[At], text: &str) -> Result<Edit, Fail> {
-    let at = address(alloc, steps)?;
-    let text = String::from_str(alloc, text)?;
-    Ok(match op {
-        Op::Set => Edit::Set { at, value: text },
-        Op::Insert => Edit::Insert { at, value: text },
-        Op::Rename => Edit::Rename { at, to: text },
-        Op::Remove => Edit::Remove { at },
-        Op::Section => Edit::Section { at },
-        Op::Element => Edit::Element { at },
-    })
-}
-
-/// The number of a fault, 0 for none.
-fn number(answer: Result<(), EditFault>) -> u16 {
-    match answer {
-        Ok(()) => 0,
-        Err(EditFault::RootNamed) => 310,
-        Err(EditFault::BadValue) => 306,
-        Err(EditFault::NoSuchPlace) => 301,
-        Err(EditFault::NotATable) => 303,
-        Err(EditFault::IndexOutside) => 304,
-        Err(EditFault::NotAName) => 305,
-        Err(EditFault::AlreadyThere) => 302,
-        Err(EditFault::AddressLength) => 312,
-        Err(EditFault::NotAnElement) => 313,
-        Err(EditFault::NoMemory) => 311,
-    }
-}
-
-fn stands(datum: Option<&Datum>) -> What {
-    match datum {
-        None => What::Nothing,
-        Some(Datum::Table(_)) => What::Table,
-        Some(Datum::Array(_)) => What::Array,
-        Some(Datum::Scalar(Scalar::Integer(number))) => What::Integer(*number),
-        Some(Datum::Scalar(_)) => What::Other,
-    }
-}
-
-fn assert_facts(rt: &impl Abort, alloc: Global, data: &Data, facts: &[Fact]) -> Result<(), Fail> {
-    for (steps, wanted) in facts {
-        let at = address(alloc, steps)?;
-        assert_eq!(rt; stands(data.root.at(&at)), *wanted);
-    }
-    Ok(())
-}
+use toml_edits::apply;
+use toml_names::same;
 
 const BEFORE: &str = "a = 1\nx = [1, 2]";
 
-const UNCHANGED: [Fact; 8] = [
-    (&[], What::Table),
-    (&[Key("a")], What::Integer(1)),
-    (&[Key("x")], What::Array),
-    (&[Key("x"), Index(0)], What::Integer(1)),
-    (&[Key("x"), Index(1)], What::Integer(2)),
-    (&[Key("x"), Index(2)], What::Nothing),
-    (&[Key("b")], What::Nothing),
-    (&[Key("q")], What::Nothing),
-];
+const UNCHANGED: &str = "
+table | /
+Integer(1) | /a
+array | /x
+Integer(1) | /x/#0
+Integer(2) | /x/#1
+nothing | /x/#2
+nothing | /b
+nothing | /q
+";
+
+fn stands_before(alloc: Global, path: &str) -> Option<String> {
+    what_stands(alloc, &data(alloc, BEFORE)?.root, path)
+}
+
+const FAULTS: &str = r#"
+NotATable | [{"op":"insert","at":["a","k"],"value":"1"}]
+NoSuchPlace | [{"op":"insert","at":["q","k"],"value":"1"}]
+IndexOutside | [{"op":"insert","at":["x",3],"value":"1"}]
+IndexOutside | [{"op":"insert","at":["a",0],"value":"1"}]
+AlreadyThere | [{"op":"insert","at":["a"],"value":"1"}]
+NotAName | [{"op":"rename","at":["x",0],"to":"b"}]
+AlreadyThere | [{"op":"rename","at":["a"],"to":"a"}]
+AlreadyThere | [{"op":"rename","at":["a"],"to":"x"}]
+BadValue | [{"op":"set","at":["a"],"value":"1 "}]
+BadValue | [{"op":"set","at":["a"],"value":"{k = 1, k = 2}"}]
+NoSuchPlace | [{"op":"remove","at":["b"]}]
+RootNamed | [{"op":"remove","at":[]}]
+AlreadyThere | [{"op":"section","at":["a"]}]
+NotATable | [{"op":"section","at":["a","k"]}]
+NoSuchPlace | [{"op":"section","at":["q","k"]}]
+NoSuchPlace | [{"op":"section","at":["q",0]}]
+NotAName | [{"op":"section","at":["x",2]}]
+NotAName | [{"op":"section","at":["a",0]}]
+RootNamed | [{"op":"section","at":[]}]
+IndexOutside | [{"op":"element","at":["x",1]}]
+IndexOutside | [{"op":"element","at":["x",3]}]
+IndexOutside | [{"op":"element","at":["a",0]}]
+IndexOutside | [{"op":"element","at":["q",1]}]
+NotAnElement | [{"op":"element","at":["x"]}]
+NotAnElement | [{"op":"element","at":[0]}]
+NotAnElement | [{"op":"element","at":["x",0,0]}]
+NotAnElement | [{"op":"element","at":["q",0,0]}]
+NotATable | [{"op":"element","at":["a","n",0]}]
+NoSuchPlace | [{"op":"element","at":["q","n",0]}]
+RootNamed | [{"op":"element","at":[]}]
+"#;
+
+/// Why the first edit is refused, where the data are then the same as before.
+fn fault(alloc: Global, list: &str) -> Option<String> {
+    let before = data(alloc, BEFORE)?;
+    let mut data = before.copy(alloc).ok()?;
+    let fault = apply(alloc, &mut data, edits(alloc, list)?.first()?).err()?;
+    if !same(&data.root, &before.root) {
+        return None;
+    }
+    format!(in alloc; "{fault:?}").ok()
+}
 
 #[test]
 fn faults_change_nothing(rt: HostRuntime) -> Result<(), Fail> {
-    let rows: [Row; 24] = [
-        (Op::Insert, &[Key("a"), Key("k")], "1", 303),
-        (Op::Insert, &[Key("q"), Key("k")], "1", 301),
-        (Op::Insert, &[Key("x"), Index(3)], "1", 304),
-        (Op::Insert, &[Key("a"), Index(0)], "1", 304),
-        (Op::Insert, &[Key("a")], "1", 302),
-        (Op::Rename, &[Key("x"), Index(0)], "b", 305),
-        (Op::Rename, &[Key("a")], "a", 302),
-        (Op::Rename, &[Key("a")], "x", 302),
-        (Op::Set, &[Key("a")], "1 ", 306),
-        (Op::Set, &[Key("a")], "{k = 1, k = 2}", 306),
-        (Op::Remove, &[Key("b")], "", 301),
-        (Op::Remove, &[], "", 310),
-        (Op::Section, &[Key("a")], "", 302),
-        (Op::Section, &[Key("a"), Key("k")], "", 303),
-        (Op::Section, &[Key("q"), Key("k")], "", 301),
-        (Op::Section, &[Key("x"), Index(2)], "", 305),
-        (Op::Section, &[], "", 310),
-        (Op::Element, &[Key("x"), Index(1)], "", 304),
-        (Op::Element, &[Key("a"), Index(0)], "", 304),
-        (Op::Element, &[Key("q"), Index(1)], "", 304),
-        (Op::Element, &[Key("x")], "", 313),
-        (Op::Element, &[Key("x"), Index(0), Index(0)], "", 313),
-        (Op::Element, &[Key("a"), Key("n"), Index(0)], "", 303),
-        (Op::Element, &[Key("q"), Key("n"), Index(0)], "", 301),
-    ];
-    let mut data = data(rt.alloc(), BEFORE)?;
-    for (op, steps, text, wanted) in rows {
-        let edit = edit(rt.alloc(), op, steps, text)?;
-        assert_eq!(rt; number(apply(rt.alloc(), &mut data, &edit)), wanted);
-        assert_facts(&rt, rt.alloc(), &data, &UNCHANGED)?;
-    }
-    Ok(())
+    assert_lines(&rt, rt.alloc(), FAULTS, 30, fault)?;
+    assert_lines(&rt, rt.alloc(), UNCHANGED, 8, stands_before)
 }
 
-/// The text of an inline table with one dotted key of so many names.
-fn nested(alloc: Global, names: usize) -> Result<String, Fail> {
-    let mut text = String::from_str(alloc, "{k")?;
-    for _ in 1..names {
-        text.push_str(".k")?;
-    }
-    text.push_str(" = 1}")?;
-    Ok(text)
+const LONG: &str = r#"
+Some(AddressLength) | 101 | [{"op":"set","at":["a"],"value":"{… = 1}"}]
+Some(AddressLength) | 100 | [{"op":"set","at":["a"],"value":"{… = 1}"}]
+Some(AlreadyThere) | 101 | [{"op":"insert","at":["a"],"value":"{… = 1}"}]
+Some(NoSuchPlace) | 101 | [{"op":"set","at":["q"],"value":"{… = 1}"}]
+Some(AddressLength) | 99 | [{"op":"insert","at":["x",2],"value":"{… = 1}"}]
+None | 99 | [{"op":"set","at":["a"],"value":"{… = 1}"}]
+"#;
+
+/// Why the first edit is refused, or none, of a list with a long key.
+fn fault_of_long(alloc: Global, row: &str) -> Option<String> {
+    let edits = edits(alloc, with_long_key(alloc, row)?.as_str())?;
+    let mut data = data(alloc, BEFORE)?;
+    let fault = apply(alloc, &mut data, edits.first()?).err();
+    format!(in alloc; "{fault:?}").ok()
 }
 
 #[test]
 fn addresses_have_a_hundred_steps(rt: HostRuntime) -> Result<(), Fail> {
-    let rows: [(Op, &[At], usize, u16); 6] = [
-        (Op::Set, &[Key("a")], 101, 312),
-        (Op::Set, &[Key("a")], 100, 312),
-        (Op::Insert, &[Key("a")], 101, 302),
-        (Op::Set, &[Key("q")], 101, 301),
-        (Op::Insert, &[Key("x"), Index(2)], 99, 312),
-        (Op::Set, &[Key("a")], 99, 0),
-    ];
-    let mut data = data(rt.alloc(), BEFORE)?;
-    for (op, steps, names, wanted) in rows {
-        let text = nested(rt.alloc(), names)?;
-        let edit = edit(rt.alloc(), op, steps, text.as_str())?;
-        assert_eq!(rt; number(apply(rt.alloc(), &mut data, &edit)), wanted);
-    }
-    Ok(())
+    assert_lines(&rt, rt.alloc(), LONG, 6, fault_of_long)
+}
+
+const MADE: &str = r#"
+Integer(31) | /port | [{"op":"set","at":["port"],"value":"0x1F"}] | port = 1_000 # keep¶
+table | /a | [{"op":"remove","at":["a","b"]}] | a.b = 1¶
+nothing | /a/b | [{"op":"remove","at":["a","b"]}] | a.b = 1¶
+Integer(2) | /x/#0 | [{"op":"remove","at":["x",0]}] | x = [1, # one¶ 2]¶
+nothing | /x/#1 | [{"op":"remove","at":["x",0]}] | x = [1, # one¶ 2]¶
+Integer(1) | /a/x | [{"op":"insert","at":["a","x"],"value":"1"}] | [a.b]¶
+table | /a/b | [{"op":"insert","at":["a","x"],"value":"1"}] | [a.b]¶
+nothing | /a | [{"op":"rename","at":["a"],"to":"z z"}] | [a]¶b = 1 # one¶[a.c]¶
+Integer(1) | /z z/b | [{"op":"rename","at":["a"],"to":"z z"}] | [a]¶b = 1 # one¶[a.c]¶
+table | /z z/c | [{"op":"rename","at":["a"],"to":"z z"}] | [a]¶b = 1 # one¶[a.c]¶
+Integer(2) | /x/#1 | [{"op":"insert","at":["x",2],"value":"3"}] | a = 1¶x = [1, 2]
+Integer(3) | /x/#2 | [{"op":"insert","at":["x",2],"value":"3"}] | a = 1¶x = [1, 2]
+table | /a/s | [{"op":"section","at":["a","s"]}] | a.b = 1¶
+Integer(1) | /a/b | [{"op":"section","at":["a","s"]}] | a.b = 1¶
+Integer(2) | /x/#1 | [{"op":"element","at":["x",2]}] | x = [1, 2]
+table | /x/#2 | [{"op":"element","at":["x",2]}] | x = [1, 2]
+array | /n | [{"op":"element","at":["n",0]}] | a = 1
+table | /n/#0 | [{"op":"element","at":["n",0]}] | a = 1
+nothing | /n/#1 | [{"op":"element","at":["n",0]}] | a = 1
+"#;
+
+/// What stands at a path once the first edit of a list is made on the data of a text.
+fn made(alloc: Global, row: &str) -> Option<String> {
+    let (path, rest) = row.split_once(" | ")?;
+    let (list, text) = rest.split_once(" | ")?;
+    let mut data = data(alloc, text)?;
+    apply(alloc, &mut data, edits(alloc, list)?.first()?).ok()?;
+    what_stands(alloc, &data.root, path)
 }
 
 #[test]
 fn edits_make_their_data(rt: HostRuntime) -> Result<(), Fail> {
-    let rows: [(&str, Row, &[Fact]); 9] = [
-        (
-            "port = 1_000 # keep\n",
-            (Op::Set, &[Key("port")], "0x1F", 0),
-            &[(&[Key("port")], What::Integer(31))],
-        ),
-        (
-            "a.b = 1\n",
-            (Op::Remove, &[Key("a"), Key("b")], "", 0),
-            &[
-                (&[Key("a")], What::Table),
-                (&[Key("a"), Key("b")], What::Nothing),
-            ],
-        ),
-        (
-            "x = [1, # one\n 2]\n",
-            (Op::Remove, &[Key("x"), Index(0)], "", 0),
-            &[
-                (&[Key("x"), Index(0)], What::Integer(2)),
-                (&[Key("x"), Index(1)], What::Nothing),
-            ],
-        ),
-        (
-            "[a.b]\n",
-            (Op::Insert, &[Key("a"), Key("x")], "1", 0),
-            &[
-                (&[Key("a"), Key("x")], What::Integer(1)),
-                (&[Key("a"), Key("b")], What::Table),
-            ],
-        ),
-        (
-            "[a]\nb = 1 # one\n[a.c]\n",
-            (Op::Rename, &[Key("a")], "z z", 0),
-            &[
-                (&[Key("a")], What::Nothing),
-                (&[Key("z z"), Key("b")], What::Integer(1)),
-                (&[Key("z z"), Key("c")], What::Table),
-            ],
-        ),
-        (
-            BEFORE,
-            (Op::Insert, &[Key("x"), Index(2)], "3", 0),
-            &[
-                (&[Key("x"), Index(1)], What::Integer(2)),
-                (&[Key("x"), Index(2)], What::Integer(3)),
-            ],
-        ),
-        (
-            "a.b = 1\n",
-            (Op::Section, &[Key("a"), Key("s")], "", 0),
-            &[
-                (&[Key("a"), Key("s")], What::Table),
-                (&[Key("a"), Key("b")], What::Integer(1)),
-            ],
-        ),
-        (
-            BEFORE,
-            (Op::Element, &[Key("x"), Index(2)], "", 0),
-            &[
-                (&[Key("x"), Index(1)], What::Integer(2)),
-                (&[Key("x"), Index(2)], What::Table),
-            ],
-        ),
-        (
-            BEFORE,
-            (Op::Element, &[Key("n"), Index(0)], "", 0),
-            &[
-                (&[Key("n")], What::Array),
-                (&[Key("n"), Index(0)], What::Table),
-                (&[Key("n"), Index(1)], What::Nothing),
-            ],
-        ),
-    ];
-    for (text, (op, steps, value, wanted), facts) in rows {
-        let mut data = data(rt.alloc(), text)?;
-        let edit = edit(rt.alloc(), op, steps, value)?;
-        assert_eq!(rt; number(apply(rt.alloc(), &mut data, &edit)), wanted);
-        assert_facts(&rt, rt.alloc(), &data, facts)?;
-    }
-    Ok(())
+    assert_lines(&rt, rt.alloc(), MADE, 19, made)
 }

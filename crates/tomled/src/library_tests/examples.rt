@@ -1,7 +1,7 @@
-//! Documents as people write them, for the tests.
+//! Documents as people write them, for the tests. A value over several physical lines is part of one line.
 
 /// A manifest.
-const MANIFEST: &str = r#"# The package itself.
+pub const MANIFEST: &str = r#"# The package itself.
 [package]
 name = "example"            # as on the registry
 version = "0.3.1"
@@ -36,7 +36,7 @@ panic = "abort"
 "#;
 
 /// A configuration with every kind of value, without a newline at its end.
-const SETTINGS: &str = r#"title = "Settings \u00e9\t\"quoted\""
+pub const SETTINGS: &str = r#"title = "Settings \u00e9\t\"quoted\""
 owner.name = "Tom"
 owner."born on" = 1979-05-27T07:32:00-08:00
 ports = [ 8_000, 0x1F90, 0o17500, 0b1000, ]
@@ -58,8 +58,5 @@ nested = [ [ 1, 2 ], [ "a", [ ] ], [{ x = 1 }, { x.y = 2 }] ]
   ip = "10.0.0.1"  # no newline behind"#;
 
 /// A lock file's lines, with CRLF.
-const LOCK: &str =
+pub const LOCK: &str =
     "version = 3\t\r\n\r\n[[package]]\r\nname = \"a\"\r\ndependencies = [\r\n \"b\",\r\n \"c 1.0\", # c\r\n]\r\n\r\n[[package]]\r\nname = \"b\"\r\n";
-
-/// Each document, and how many lines it has: a value over several physical lines is part of one.
-pub const ALL: [(&str, usize); 3] = [(MANIFEST, 29), (SETTINGS, 16), (LOCK, 9)];

@@ -1,367 +1,319 @@
 //! Names and data: the places and addresses of things, the first offence, and the data of documents and of values.
 
-use crate::library_tests::worked::At::{self, Index, Name as Key};
-use crate::library_tests::worked::{self, address, doc};
-use std::alloc::Global;
-use std::collections::BTreeMap;
-use std::process::Abort;
-use std::test::Fail;
-use toml_names::{
-    Address, Data, Datum, Name, NameFault, Place, ValueFault, read_names, read_value, same,
+use crate::library_tests::worked::{
+    address, assert_lines, data, doc, names, path, source, what_stands, with_long_key,
 };
-use toml_scalar::{ScalarKind, scalar_of};
+use std::alloc::{AllocError, Global};
+use std::test::Fail;
+use toml_names::{Address, Data, Datum, Name, NameFault, read_names, read_value, same};
 use toml_tree::parse_value;
 
 const TEXT: &str =
     "a.b = 1\n[x.y]\nz = [{k = 1}]\n[[t]]\n[[t]]\n# c\n[x]\nq.r = {s.t = 2}\nq.u = 3\n";
 
+const PLACES: &str = "
+Some(Root) | /
+Some(Dotted(0)) | /a
+Some(KeyVal(0)) | /a/b
+None | /a/b/c
+Some(Header(6)) | /x
+Some(Header(1)) | /x/y
+Some(KeyVal(2)) | /x/y/z
+Some(Inside(2)) | /x/y/z/#0
+None | /x/y/z/#1
+Some(Inside(2)) | /x/y/z/#0/k
+Some(Tables(3)) | /t
+Some(Header(4)) | /t/#1
+None | /t/#2
+Some(Dotted(7)) | /x/q
+Some(Inside(7)) | /x/q/r/s
+None | /q
+";
+
+/// The place in a document of what has the path.
+fn place_in(alloc: Global, text: &str, path: &str) -> Option<String> {
+    let doc = doc(alloc, text)?;
+    let names = names(alloc, &doc)?;
+    let place = names.place(&address(alloc, path)?);
+    format!(in alloc; "{place:?}").ok()
+}
+
+fn place(alloc: Global, path: &str) -> Option<String> {
+    place_in(alloc, TEXT, path)
+}
+
 #[test]
 fn things_have_their_places(rt: HostRuntime) -> Result<(), Fail> {
-    let doc = doc(rt.alloc(), TEXT)?;
-    let names = worked::names(rt.alloc(), &doc)?;
-    let rows: [(&[At], Option<Place>); 16] = [
-        (&[], Some(Place::Root)),
-        (&[Key("a")], Some(Place::Dotted(0))),
-        (&[Key("a"), Key("b")], Some(Place::KeyVal(0))),
-        (&[Key("a"), Key("b"), Key("c")], None),
-        (&[Key("x")], Some(Place::Header(6))),
-        (&[Key("x"), Key("y")], Some(Place::Header(1))),
-        (&[Key("x"), Key("y"), Key("z")], Some(Place::KeyVal(2))),
-        (
-            &[Key("x"), Key("y"), Key("z"), Index(0)],
-            Some(Place::Inside(2)),
-        ),
-        (&[Key("x"), Key("y"), Key("z"), Index(1)], None),
-        (
-            &[Key("x"), Key("y"), Key("z"), Index(0), Key("k")],
-            Some(Place::Inside(2)),
-        ),
-        (&[Key("t")], Some(Place::Tables(3))),
-        (&[Key("t"), Index(1)], Some(Place::Header(4))),
-        (&[Key("t"), Index(2)], None),
-        (&[Key("x"), Key("q")], Some(Place::Dotted(7))),
-        (
-            &[Key("x"), Key("q"), Key("r"), Key("s")],
-            Some(Place::Inside(7)),
-        ),
-        (&[Key("q")], None),
-    ];
-    for (steps, wanted) in rows {
-        let at = address(rt.alloc(), steps)?;
-        assert_eq!(rt; names.place(&at), wanted);
-    }
-    Ok(())
+    assert_lines(&rt, rt.alloc(), PLACES, 16, place)
+}
+
+const SEVERAL: &str = "
+Some(Implicit(0)) | /a | [a.b]¶[a.c]¶
+Some(Dotted(2)) | /a/b | [a.b.c]¶[a]¶b.x = 1
+Some(Header(0)) | /t/#0 | [[t]]¶[t.u]
+Some(Header(3)) | /a/#1/b/#0 | [[a]]¶[[a.b]]¶[[a]]¶[[a.b]]
+Some(KeyVal(3)) | /a/#1/k | [[a]]¶k = 1¶[[a]]¶k = 1
+";
+
+fn place_of_row(alloc: Global, row: &str) -> Option<String> {
+    let (path, text) = row.split_once(" | ")?;
+    place_in(alloc, text, path)
 }
 
 #[test]
 fn tables_that_several_lines_make(rt: HostRuntime) -> Result<(), Fail> {
-    let rows: [(&str, &[At], Option<Place>); 5] = [
-        ("[a.b]\n[a.c]\n", &[Key("a")], Some(Place::Implicit(0))),
-        (
-            "[a.b.c]\n[a]\nb.x = 1",
-            &[Key("a"), Key("b")],
-            Some(Place::Dotted(2)),
-        ),
-        (
-            "[[t]]\n[t.u]",
-            &[Key("t"), Index(0)],
-            Some(Place::Header(0)),
-        ),
-        (
-            "[[a]]\n[[a.b]]\n[[a]]\n[[a.b]]",
-            &[Key("a"), Index(1), Key("b"), Index(0)],
-            Some(Place::Header(3)),
-        ),
-        (
-            "[[a]]\nk = 1\n[[a]]\nk = 1",
-            &[Key("a"), Index(1), Key("k")],
-            Some(Place::KeyVal(3)),
-        ),
-    ];
-    for (text, steps, wanted) in rows {
-        let doc = doc(rt.alloc(), text)?;
-        let names = worked::names(rt.alloc(), &doc)?;
-        let at = address(rt.alloc(), steps)?;
-        assert_eq!(rt; names.place(&at), wanted);
+    assert_lines(&rt, rt.alloc(), SEVERAL, 5, place_of_row)
+}
+
+const ADDRESSES: &str = "
+/a/b | 0
+/x/y | 1
+/t/#1 | 4
+none | 5
+/x/q/r | 7
+none | 9
+none | 100
+";
+
+/// The address of the line that has the number.
+fn address_of_line(alloc: Global, number: &str) -> Option<String> {
+    let doc = doc(alloc, TEXT)?;
+    let names = names(alloc, &doc)?;
+    match names.address_of(number.parse::<usize>().ok()?) {
+        Some(at) => path(alloc, at),
+        None => String::from_str(alloc, "none").ok(),
     }
-    Ok(())
 }
 
 #[test]
 fn lines_have_their_addresses(rt: HostRuntime) -> Result<(), Fail> {
-    let doc = doc(rt.alloc(), TEXT)?;
-    let names = worked::names(rt.alloc(), &doc)?;
-    let rows: [(usize, Option<&[At]>); 7] = [
-        (0, Some(&[Key("a"), Key("b")])),
-        (1, Some(&[Key("x"), Key("y")])),
-        (4, Some(&[Key("t"), Index(1)])),
-        (5, None),
-        (7, Some(&[Key("x"), Key("q"), Key("r")])),
-        (9, None),
-        (100, None),
-    ];
-    for (line, wanted) in rows {
-        match (names.address_of(line), wanted) {
-            (Some(found), Some(steps)) => {
-                let at = address(rt.alloc(), steps)?;
-                assert!(rt; found.is_same(&at));
-            }
-            (found, wanted) => assert_eq!(rt; found.is_some(), wanted.is_some()),
-        }
-    }
-    Ok(())
+    assert_lines(&rt, rt.alloc(), ADDRESSES, 7, address_of_line)
 }
 
-/// The line and the address of a refusal, if names are told again.
-pub fn redefined(fault: NameFault) -> Option<(usize, Address)> {
+/// The line of a refusal, and the address of what is told again, or that one is too long.
+pub fn told(alloc: Global, fault: &NameFault) -> Option<String> {
     match fault {
-        NameFault::Redefined { line, address } => Some((line, address)),
-        _ => None,
+        NameFault::Redefined { line, address } => {
+            let path = path(alloc, address)?;
+            format!(in alloc; "{line} {}", path.as_str()).ok()
+        }
+        NameFault::LongAddress { line } => format!(in alloc; "{line} long").ok(),
+        NameFault::NoMemory => None,
     }
 }
+
+/// Why the names of a document are refused.
+fn offence(alloc: Global, text: &str) -> Option<String> {
+    let doc = doc(alloc, text)?;
+    match read_names(alloc, &doc) {
+        Ok(_) => String::from_str(alloc, "taken").ok(),
+        Err(fault) => told(alloc, &fault),
+    }
+}
+
+const OFFENCES: &str = "
+2 /a/b | [a]¶b = {c = 1}¶[a.b.d]¶[a]
+2 /fruit/apple | [fruit]¶apple.color = 1¶[fruit.apple]
+";
 
 #[test]
 fn the_first_offence_is_told(rt: HostRuntime) -> Result<(), Fail> {
-    let rows: [(&str, usize, &[At]); 2] = [
-        ("[a]\nb = {c = 1}\n[a.b.d]\n[a]", 2, &[Key("a"), Key("b")]),
-        (
-            "[fruit]\napple.color = 1\n[fruit.apple]",
-            2,
-            &[Key("fruit"), Key("apple")],
-        ),
-    ];
-    for (text, wanted, steps) in rows {
-        let doc = doc(rt.alloc(), text)?;
-        let fault = read_names(rt.alloc(), &doc).err().ok_or("no fault")?;
-        let (line, found) = redefined(fault).ok_or("another fault")?;
-        assert_eq!(rt; line, wanted, "{text:?}");
-        let at = address(rt.alloc(), steps)?;
-        assert!(rt; found.is_same(&at), "{text:?}");
-    }
-    Ok(())
+    assert_lines(&rt, rt.alloc(), OFFENCES, 2, offence)
 }
 
-/// A line of a key of so many parts `a`.
-fn line_of(alloc: Global, before: &str, parts: usize, after: &str) -> Result<String, Fail> {
-    let mut text = String::from_str(alloc, before)?;
-    for _ in 1..parts {
-        text.push_str("a.")?;
-    }
-    text.push_str("a")?;
-    text.push_str(after)?;
-    Ok(text)
+/// As `offence`, of a text with a long key.
+fn offence_of_long(alloc: Global, row: &str) -> Option<String> {
+    offence(alloc, with_long_key(alloc, row)?.as_str())
 }
 
-/// A start, a key of so many parts, what stands behind it, and whether it is refused as too long.
-type LongRow = (&'static str, usize, &'static str, bool);
-
-fn assert_long(rt: &impl Abort, alloc: Global, rows: &[LongRow]) -> Result<(), Fail> {
-    for (before, parts, after, wanted) in rows {
-        let text = line_of(alloc, before, *parts, after)?;
-        let doc = doc(alloc, text.as_str())?;
-        let long = matches!(read_names(alloc, &doc), Err(NameFault::LongAddress { .. }));
-        assert_eq!(rt; long, *wanted, "{before:?} {parts} {after}");
-    }
-    Ok(())
-}
+const LONG_KEYS: &str = "
+taken | 100 | … = 1
+0 long | 200000 | … = 1
+taken | 99 | [s]¶… = 1
+1 long | 100 | [s]¶… = 1
+1 long | 200000 | a.b = 1¶… = 1
+0 long | 101 | … = []
+";
 
 #[test]
 fn long_keys_are_refused(rt: HostRuntime) -> Result<(), Fail> {
-    let rows: [LongRow; 6] = [
-        ("", 100, " = 1", false),
-        ("", 200_000, " = 1", true),
-        ("[s]\n", 99, " = 1", false),
-        ("[s]\n", 100, " = 1", true),
-        ("a.b = 1\n", 200_000, " = 1", true),
-        ("", 101, " = []", true),
-    ];
-    assert_long(&rt, rt.alloc(), &rows)
+    assert_lines(&rt, rt.alloc(), LONG_KEYS, 6, offence_of_long)
 }
+
+const LONG_HEADERS: &str = "
+0 long | 200000 | […]
+1 long | 101 | [a.b]¶[…]
+1 long | 200000 | [[a]]¶[[…]]
+";
 
 #[test]
 fn long_headers_are_refused(rt: HostRuntime) -> Result<(), Fail> {
-    let rows: [LongRow; 3] = [
-        ("[", 200_000, "]", true),
-        ("[a.b]\n[", 101, "]", true),
-        ("[[a]]\n[[", 200_000, "]]", true),
-    ];
-    assert_long(&rt, rt.alloc(), &rows)
+    assert_lines(&rt, rt.alloc(), LONG_HEADERS, 3, offence_of_long)
 }
+
+const LONG_OFFENCES: &str = "
+1 /a | 101 | a = 1¶… = 1
+1 /a/a | 101 | a.a = 1¶[…]
+2 /a/#0/a | 101 | [[a]]¶a = 1¶[[…]]
+";
 
 #[test]
 fn long_keys_break_the_rules_first(rt: HostRuntime) -> Result<(), Fail> {
-    let rows: [(&str, &str, &[At]); 3] = [
-        ("a = 1\n", " = 1", &[Key("a")]),
-        ("a.a = 1\n[", "]", &[Key("a"), Key("a")]),
-        ("[[a]]\na = 1\n[[", "]]", &[Key("a"), Index(0), Key("a")]),
-    ];
-    for (before, after, steps) in rows {
-        let text = line_of(rt.alloc(), before, 101, after)?;
-        let doc = doc(rt.alloc(), text.as_str())?;
-        let fault = read_names(rt.alloc(), &doc).err().ok_or("no fault")?;
-        let (_, found) = redefined(fault).ok_or("another fault")?;
-        assert!(rt; found.is_same(&address(rt.alloc(), steps)?));
-    }
-    Ok(())
+    assert_lines(&rt, rt.alloc(), LONG_OFFENCES, 3, offence_of_long)
 }
 
-fn scalar(alloc: Global, kind: ScalarKind, token: &str) -> Result<Datum, Fail> {
-    let value = scalar_of(alloc, kind, token)?.ok_or("no token")?;
-    Ok(Datum::Scalar(value))
+/// The data of a text that is one value.
+fn value(alloc: Global, text: &str) -> Option<Datum> {
+    read_value(alloc, &parse_value(alloc, source(text)?).ok()?).ok()
 }
 
-/// `list = [1, {text = 'x'}]`, and a float's token as `number`.
-fn sample(alloc: Global, float: &str) -> Result<Datum, Fail> {
-    let mut inner = BTreeMap::new(alloc);
-    let text = scalar(alloc, ScalarKind::Text, "'x'")?;
-    inner.insert(String::from_str(alloc, "text")?, text)?;
-    let mut list = Vec::new(alloc);
-    list.push(scalar(alloc, ScalarKind::Integer, "1")?)?;
-    list.push(Datum::Table(inner))?;
-    let mut members = BTreeMap::new(alloc);
-    members.insert(String::from_str(alloc, "list")?, Datum::Array(list))?;
-    let number = scalar(alloc, ScalarKind::Float, float)?;
-    members.insert(String::from_str(alloc, "number")?, number)?;
-    Ok(Datum::Table(members))
+const SAMPLE: &str = "{list = [1, {text = 'x'}], number = 1.0}";
+
+const PARTS: &str = r#"
+table | /
+array | /list
+Integer(1) | /list/#0
+nothing | /list/#0/#0
+Text("x") | /list/#1/text
+nothing | /list/#1/text/x
+nothing | /list/#2
+nothing | /list/text
+nothing | /text
+Float(FloatText { text: "1.0" }) | /number
+"#;
+
+fn part(alloc: Global, path: &str) -> Option<String> {
+    what_stands(alloc, &value(alloc, SAMPLE)?, path)
 }
 
 #[test]
 fn parts_have_their_addresses(rt: HostRuntime) -> Result<(), Fail> {
-    let data = sample(rt.alloc(), "1.0")?;
-    let rows: [(&[At], bool); 9] = [
-        (&[], true),
-        (&[Key("list")], true),
-        (&[Key("list"), Index(0)], true),
-        (&[Key("list"), Index(0), Index(0)], false),
-        (&[Key("list"), Index(1), Key("text")], true),
-        (&[Key("list"), Index(1), Key("text"), Key("x")], false),
-        (&[Key("list"), Index(2)], false),
-        (&[Key("list"), Key("text")], false),
-        (&[Key("text")], false),
-    ];
-    for (steps, wanted) in rows {
-        let at = address(rt.alloc(), steps)?;
-        assert_eq!(rt; data.at(&at).is_some(), wanted);
-    }
-    let at = address(rt.alloc(), &[Key("number")])?;
-    let number = data.at(&at).ok_or("no number")?;
-    let wanted = scalar(rt.alloc(), ScalarKind::Float, "1.0")?;
-    assert!(rt; same(number, &wanted));
-    Ok(())
+    assert_lines(&rt, rt.alloc(), PARTS, 10, part)
+}
+
+const ALIKE: &str = "
+true | {list = [1, {text = 'x'}], number = 1.0} | {list = [1, {text = 'x'}], number = +1.0}
+false | {list = [1, {text = 'x'}], number = 1.0} | {list = [1, {text = 'x'}], number = 1.00}
+false | {list = [1, {text = 'x'}], number = 1.0} | {}
+false | {} | {list = [1, {text = 'x'}], number = 1.0}
+false | {} | []
+";
+
+/// Whether two values are the same data.
+fn alike(alloc: Global, row: &str) -> Option<String> {
+    let (one, other) = row.split_once(" | ")?;
+    let alike = same(&value(alloc, one)?, &value(alloc, other)?);
+    format!(in alloc; "{alike}").ok()
 }
 
 #[test]
 fn floats_are_the_same_as_they_are_spelled(rt: HostRuntime) -> Result<(), Fail> {
-    let one = sample(rt.alloc(), "1.0")?;
-    let again = sample(rt.alloc(), "+1.0")?;
-    let other = sample(rt.alloc(), "1.00")?;
-    assert!(rt; same(&one, &again));
-    assert!(rt; !same(&one, &other));
-    assert!(rt; !same(&one, &Datum::Table(BTreeMap::new(rt.alloc()))));
-    assert!(rt; !same(&Datum::Table(BTreeMap::new(rt.alloc())), &one));
-    assert!(rt;
-        !same(
-            &Datum::Table(BTreeMap::new(rt.alloc())),
-            &Datum::Array(Vec::new(rt.alloc()))
-        )
-    );
-    Ok(())
+    assert_lines(&rt, rt.alloc(), ALIKE, 5, alike)
+}
+
+/// Whether a copy of a value's data is the same.
+fn copied(alloc: Global, text: &str) -> Option<bool> {
+    let data = Data {
+        root: value(alloc, text)?,
+    };
+    let copy = data.copy(alloc).ok()?;
+    Some(same(&data.root, &copy.root))
 }
 
 #[test]
-fn copies_are_the_same(rt: HostRuntime) -> Result<(), Fail> {
-    let data = Data {
-        root: sample(rt.alloc(), "1.0")?,
-    };
-    let copy = data.copy(rt.alloc())?;
-    assert!(rt; same(&data.root, &copy.root));
-    Ok(())
+fn copies_are_the_same(rt: HostRuntime) {
+    assert_eq!(rt; copied(rt.alloc(), SAMPLE), Some(true));
+}
+
+const DATA: &str = "
+Integer(1) | /a/b
+Integer(1) | /x/y/z/#0/k
+Integer(2) | /x/q/r/s/t
+Integer(3) | /x/q/u
+nothing | /t/#2
+";
+
+fn stands(alloc: Global, path: &str) -> Option<String> {
+    what_stands(alloc, &data(alloc, TEXT)?.root, path)
 }
 
 #[test]
 fn documents_have_their_data(rt: HostRuntime) -> Result<(), Fail> {
-    let doc = doc(rt.alloc(), TEXT)?;
-    let names = worked::names(rt.alloc(), &doc)?;
-    let rows: [(&[At], &str); 4] = [
-        (&[Key("a"), Key("b")], "1"),
-        (&[Key("x"), Key("y"), Key("z"), Index(0), Key("k")], "1"),
-        (&[Key("x"), Key("q"), Key("r"), Key("s"), Key("t")], "2"),
-        (&[Key("x"), Key("q"), Key("u")], "3"),
-    ];
-    for (steps, token) in rows {
-        let at = address(rt.alloc(), steps)?;
-        let found = names.data().root.at(&at).ok_or("no data")?;
-        let wanted = scalar(rt.alloc(), ScalarKind::Integer, token)?;
-        assert!(rt; same(found, &wanted));
+    assert_lines(&rt, rt.alloc(), DATA, 5, stands)
+}
+
+/// The address by copies of its steps.
+fn of_copied_steps(alloc: Global, at: &Address) -> Result<Address, AllocError> {
+    let mut steps = Vec::new(alloc);
+    for step in at.steps() {
+        steps.push(step.copy()?)?;
     }
-    let behind = address(rt.alloc(), &[Key("t"), Index(2)])?;
-    assert!(rt; names.data().root.at(&behind).is_none());
-    Ok(())
+    Ok(Address::of(steps))
+}
+
+/// The path of a copy of the address, if others are the same.
+fn copied_address(alloc: Global, steps: &str) -> Option<String> {
+    let at = address(alloc, steps)?;
+    let copy = at.copy(alloc).ok()?;
+    if !copy.is_same(&at) || !of_copied_steps(alloc, &at).ok()?.is_same(&at) {
+        return None;
+    }
+    path(alloc, &Address::of(copy.into_steps()))
+}
+
+fn copied_name(alloc: Global, name: &str) -> Option<String> {
+    let name = Name::of(String::from_str(alloc, name).ok()?).ok()?;
+    String::from_str(alloc, name.copy().ok()?.as_str()).ok()
 }
 
 #[test]
 fn copies_of_addresses_are_the_same(rt: HostRuntime) -> Result<(), Fail> {
-    let at = address(rt.alloc(), &[Key("t"), Index(1), Key("u")])?;
-    assert!(rt; at.copy(rt.alloc())?.is_same(&at));
-    let mut steps = Vec::new(rt.alloc());
-    for step in at.steps() {
-        steps.push(step.copy()?)?;
-    }
-    assert!(rt; Address::of(steps).is_same(&at));
-    assert!(rt; Address::of(at.copy(rt.alloc())?.into_steps()).is_same(&at));
-    let name = Name::of(String::from_str(rt.alloc(), "u")?)?;
-    assert_eq!(rt; name.copy()?.as_str(), "u");
-    Ok(())
+    assert_lines(&rt, rt.alloc(), "/t/#1/u | /t/#1/u", 1, copied_address)?;
+    assert_lines(&rt, rt.alloc(), "u | u", 1, copied_name)
 }
 
-/// The data of a text that is one value, or why they are refused.
-fn data_of(alloc: Global, text: &str) -> Result<Result<Datum, ValueFault>, Fail> {
-    let value = parse_value(alloc, worked::source(text)?)?;
-    Ok(read_value(alloc, &value))
-}
+const VALUES: &str = "
+Integer(1) | /a/b
+Integer(2) | /a/c/#0
+";
 
-/// An inline table with a key of so many parts, and what stands behind the key.
-fn with_long_key(alloc: Global, parts: usize, rest: &str) -> Result<String, Fail> {
-    let mut text = String::from_str(alloc, "{a")?;
-    for _ in 1..parts {
-        text.push_str(".a")?;
-    }
-    text.push_str(rest)?;
-    Ok(text)
+fn value_stands(alloc: Global, path: &str) -> Option<String> {
+    what_stands(alloc, &value(alloc, "{a.b = 1, a.c = [2]}")?, path)
 }
 
 #[test]
 fn values_have_their_data(rt: HostRuntime) -> Result<(), Fail> {
-    let data = data_of(rt.alloc(), "{a.b = 1, a.c = [2]}")?
-        .ok()
-        .ok_or("refused")?;
-    let rows: [(&[At], &str); 2] = [
-        (&[Key("a"), Key("b")], "1"),
-        (&[Key("a"), Key("c"), Index(0)], "2"),
-    ];
-    for (steps, token) in rows {
-        let at = address(rt.alloc(), steps)?;
-        let found = data.at(&at).ok_or("no data")?;
-        let wanted = scalar(rt.alloc(), ScalarKind::Integer, token)?;
-        assert!(rt; same(found, &wanted));
-    }
-    Ok(())
+    assert_lines(&rt, rt.alloc(), VALUES, 2, value_stands)
 }
+
+/// Why the data of a value are refused.
+fn refused_value(alloc: Global, text: &str) -> Option<String> {
+    let value = parse_value(alloc, source(text)?).ok()?;
+    let fault = read_value(alloc, &value).err();
+    format!(in alloc; "{fault:?}").ok()
+}
+
+/// As `refused_value`, of a text with a long key.
+fn refused_long_value(alloc: Global, row: &str) -> Option<String> {
+    refused_value(alloc, with_long_key(alloc, row)?.as_str())
+}
+
+const LONG_VALUES: &str = "
+None | 100 | {… = []}
+Some(Long) | 100 | {… = [1]}
+Some(Long) | 101 | {… = []}
+Some(Rules) | 101 | {… = [], k = 1, k = 2}
+Some(Rules) | 100 | {… = [{k = 1, k = 2}]}
+";
 
 #[test]
 fn values_are_refused(rt: HostRuntime) -> Result<(), Fail> {
-    let twice = data_of(rt.alloc(), "{k = 1, k = 2}")?;
-    assert_eq!(rt; twice.err(), Some(ValueFault::Rules));
-    let rows: [(usize, &str, Option<ValueFault>); 5] = [
-        (100, " = []}", None),
-        (100, " = [1]}", Some(ValueFault::Long)),
-        (101, " = []}", Some(ValueFault::Long)),
-        (101, " = [], k = 1, k = 2}", Some(ValueFault::Rules)),
-        (100, " = [{k = 1, k = 2}]}", Some(ValueFault::Rules)),
-    ];
-    for (parts, rest, wanted) in rows {
-        let text = with_long_key(rt.alloc(), parts, rest)?;
-        assert_eq!(rt; data_of(rt.alloc(), text.as_str())?.err(), wanted);
-    }
-    Ok(())
+    assert_lines(
+        &rt,
+        rt.alloc(),
+        "Some(Rules) | {k = 1, k = 2}",
+        1,
+        refused_value,
+    )?;
+    assert_lines(&rt, rt.alloc(), LONG_VALUES, 5, refused_long_value)
 }

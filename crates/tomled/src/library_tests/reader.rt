@@ -1,116 +1,117 @@
 //! The reader of names, one line after another: lines that it takes, and lines that it refuses.
 
-use crate::library_tests::names::redefined;
-use crate::library_tests::worked::At::{self, Index, Name as Key};
-use crate::library_tests::worked::{self, address, doc};
+use crate::library_tests::names::told;
+use crate::library_tests::worked::{assert_paragraphs, doc, names, path};
 use std::alloc::Global;
 use std::test::Fail;
-use toml_names::{Address, NameFault, NameReader};
-use toml_tree::Doc;
+use toml_names::{Address, NameReader};
+use toml_tree::Line;
 
-const ROW_EIGHT: &str = "[[a]]\n[a.b]\n[[a]]\n[a.b]\n";
-
-/// Whether the addresses are those, one by one.
-fn are(alloc: Global, found: &[Address], wanted: &[&[At]]) -> Result<bool, Fail> {
-    if found.len() != wanted.len() {
-        return Ok(false);
+/// A line for each address.
+fn lines(alloc: Global, addresses: &[Address]) -> Option<String> {
+    let mut text = String::new(alloc);
+    for at in addresses {
+        text.push_str(path(alloc, at)?.as_str()).ok()?;
+        text.push('\n').ok()?;
     }
-    for (index, steps) in wanted.iter().enumerate() {
-        if !found[index].is_same(&address(alloc, steps)?) {
-            return Ok(false);
-        }
-    }
-    Ok(true)
+    Some(text)
 }
 
-/// A reader that was handed each line in turn, and the lines and addresses of the refusals.
+/// Hands in a line, and says why it is refused.
 fn hand_in<'d, 't>(
     alloc: Global,
-    doc: &'d Doc<'t>,
-) -> Result<(NameReader<'d, 't>, Vec<(usize, Address)>), Fail> {
-    let mut reader = NameReader::new(alloc)?;
-    let mut refused = Vec::new(alloc);
-    for line in doc.lines() {
-        if let Err(fault) = reader.line(line) {
-            refused.push(redefined(fault).ok_or("another fault")?)?;
-        }
+    reader: &mut NameReader<'d, 't>,
+    line: &'d Line<'t>,
+) -> Option<String> {
+    match reader.line(line) {
+        Ok(()) => Some(String::new(alloc)),
+        Err(fault) => format!(in alloc; "refused {}\n", told(alloc, &fault)?.as_str()).ok(),
     }
-    Ok((reader, refused))
 }
+
+/// Why lines are refused as each is handed in, by how many were taken before; how many are taken; and their addresses.
+fn read(alloc: Global, text: &str) -> Option<String> {
+    let doc = doc(alloc, text)?;
+    let mut reader = NameReader::new(alloc).ok()?;
+    let mut said = String::new(alloc);
+    for line in doc.lines() {
+        said.push_str(hand_in(alloc, &mut reader, line)?.as_str())
+            .ok()?;
+    }
+    let taken = format!(in alloc; "taken {}\n", reader.taken().len()).ok()?;
+    said.push_str(taken.as_str()).ok()?;
+    let names = reader.finish().ok()?;
+    said.push_str(lines(alloc, names.first_mentions())?.as_str())
+        .ok()?;
+    Some(said)
+}
+
+const REFUSED: &str = "
+[a]¶x.y = {z = 1, z = 2}¶x = 1
+refused 1 /a/x/y/z
+taken 2
+/a
+/a/x
+";
 
 #[test]
 fn a_refused_line_leaves_no_trace(rt: HostRuntime) -> Result<(), Fail> {
-    let text = "[a]\nx.y = {z = 1, z = 2}\nx = 1";
-    let doc = doc(rt.alloc(), text)?;
-    let (reader, refused) = hand_in(rt.alloc(), &doc)?;
-    assert_eq!(rt; refused.len(), 1);
-    assert_eq!(rt; refused[0].0, 1);
-    let at = address(rt.alloc(), &[Key("a"), Key("x"), Key("y"), Key("z")])?;
-    assert!(rt; refused[0].1.is_same(&at));
-    assert_eq!(rt; reader.taken().len(), 2);
-    let names = reader.finish()?;
-    let first: [&[At]; 2] = [&[Key("a")], &[Key("a"), Key("x")]];
-    assert!(rt; are(rt.alloc(), names.first_mentions(), &first)?);
-    Ok(())
+    assert_paragraphs(&rt, rt.alloc(), REFUSED, 1, read)
 }
 
-// eleven names, of which the last is led to, taken back and made anew
-const MANY_NAMES: &str =
-    "a = 0\nb = 1\nc = 2\nd = 3\ne = 4\nf = 5\ng = 6\nh = 7\ni = 8\nj = 9\nb = 1\ni = 8\nk = {x = 1, x = 2}\nk = 10\n";
+// eleven names, of which the last is led to, taken back and made anew; a blank line is taken too
+const MANY_NAMES: &str = "
+a = 0¶b = 1¶c = 2¶d = 3¶e = 4¶f = 5¶g = 6¶h = 7¶i = 8¶j = 9¶b = 1¶i = 8¶k = {x = 1, x = 2}¶k = 10¶
+refused 10 /b
+refused 10 /i
+refused 10 /k/x
+taken 12
+/a
+/b
+/c
+/d
+/e
+/f
+/g
+/h
+/i
+/j
+/k
+";
 
 #[test]
 fn a_table_of_many_names(rt: HostRuntime) -> Result<(), Fail> {
-    let doc = doc(rt.alloc(), MANY_NAMES)?;
-    let (reader, refused) = hand_in(rt.alloc(), &doc)?;
-    let wanted: [&[At]; 3] = [&[Key("b")], &[Key("i")], &[Key("k"), Key("x")]];
-    assert_eq!(rt; refused.len(), wanted.len());
-    for (index, steps) in wanted.iter().enumerate() {
-        assert!(rt; refused[index].1.is_same(&address(rt.alloc(), steps)?));
+    assert_paragraphs(&rt, rt.alloc(), MANY_NAMES, 1, read)
+}
+
+/// Each row begins with how many names are searched for at most.
+const LISTED: &str = "
+0 | ∅
+
+2 | x = [{y = 1}]
+/x
+/x/#0/y
+
+6 | [[a]]¶[a.b]¶[[a]]¶[a.b]¶
+/a
+/a/#0
+/a/#0/b
+/a/#1
+/a/#1/b
+";
+
+/// The addresses of a document of which no more names were searched for.
+fn listed(alloc: Global, row: &str) -> Option<String> {
+    let (most, text) = row.split_once(" | ")?;
+    let doc = doc(alloc, text)?;
+    let names = names(alloc, &doc)?;
+    if names.lookups() > most.parse::<u64>().ok()? {
+        return None;
     }
-    let names = reader.finish()?;
-    let first: [&[At]; 11] = [
-        &[Key("a")],
-        &[Key("b")],
-        &[Key("c")],
-        &[Key("d")],
-        &[Key("e")],
-        &[Key("f")],
-        &[Key("g")],
-        &[Key("h")],
-        &[Key("i")],
-        &[Key("j")],
-        &[Key("k")],
-    ];
-    assert!(rt; are(rt.alloc(), names.first_mentions(), &first)?);
-    Ok(())
+    lines(alloc, names.first_mentions())
 }
 
 #[test]
 fn addresses_are_listed_and_looked_up_once(rt: HostRuntime) -> Result<(), Fail> {
-    let rows: [(&str, u64, &[&[At]]); 3] = [
-        ("", 0, &[]),
-        (
-            "x = [{y = 1}]",
-            2,
-            &[&[Key("x")], &[Key("x"), Index(0), Key("y")]],
-        ),
-        (
-            ROW_EIGHT,
-            6,
-            &[
-                &[Key("a")],
-                &[Key("a"), Index(0)],
-                &[Key("a"), Index(0), Key("b")],
-                &[Key("a"), Index(1)],
-                &[Key("a"), Index(1), Key("b")],
-            ],
-        ),
-    ];
-    for (text, parts, wanted) in rows {
-        let doc = doc(rt.alloc(), text)?;
-        let names = worked::names(rt.alloc(), &doc)?;
-        assert!(rt; names.lookups() <= parts);
-        assert!(rt; are(rt.alloc(), names.first_mentions(), wanted)?);
-    }
-    Ok(())
+    assert_paragraphs(&rt, rt.alloc(), LISTED, 3, listed)
 }

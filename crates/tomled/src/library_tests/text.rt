@@ -1,21 +1,9 @@
 //! Texts: which bytes are one, which spans they hold, and where whitespace, newlines and comments end.
 
-use crate::library_tests::worked;
+use crate::library_tests::worked::{assert_lines, source};
+use std::alloc::Global;
 use std::test::Fail;
 use toml_text::{MAX_LEN, Source, Span, TextFault};
-
-/// The places where the whitespace, the newline and the comment at a place end.
-fn ends(text: &str, at: usize) -> Option<(usize, Option<usize>, Option<usize>)> {
-    let source = Source::new(text.as_bytes()).ok()?;
-    if !source.holds(Span { start: at, end: at }) {
-        return None;
-    }
-    Some((
-        source.ws_end(at),
-        source.newline_end(at),
-        source.comment_end(at),
-    ))
-}
 
 #[test]
 fn bytes_that_are_no_text(rt: HostRuntime) -> Result<(), Fail> {
@@ -34,27 +22,62 @@ fn bytes_that_are_no_text(rt: HostRuntime) -> Result<(), Fail> {
     Ok(())
 }
 
-#[test]
-fn spans(rt: HostRuntime) -> Result<(), Fail> {
-    let text = worked::source("a # \u{e9}\n")?;
-    assert_eq!(rt; text.len(), 7);
-    let character = Span { start: 4, end: 6 };
-    assert!(rt; text.holds(character));
-    assert_eq!(rt; text.slice(character), "\u{e9}");
-    for (start, end) in [(4, 5), (5, 6), (2, 1), (2, 8)] {
-        assert!(rt; !text.holds(Span { start, end }));
+/// Where a span begins and ends, and what stands there of a text of seven bytes.
+const SPANS: &str = "
+é | 4 | 6
+none | 4 | 5
+none | 5 | 6
+none | 2 | 1
+none | 2 | 8
+";
+
+fn slice(alloc: Global, row: &str) -> Option<String> {
+    let (start, end) = row.split_once(" | ")?;
+    let span = Span {
+        start: start.parse::<usize>().ok()?,
+        end: end.parse::<usize>().ok()?,
+    };
+    let text = source("a # é\n")?;
+    if text.len() != 7 {
+        return None;
     }
-    Ok(())
+    let found = if text.holds(span) {
+        text.slice(span)
+    } else {
+        "none"
+    };
+    String::from_str(alloc, found).ok()
 }
 
 #[test]
-fn scans(rt: HostRuntime) {
-    assert_eq!(rt; ends(" \t x", 0), Some((3, None, None)));
-    assert_eq!(rt; ends("# a\tb\r\n", 0), Some((0, None, Some(5))));
-    assert_eq!(rt; ends("#\u{85}\u{7f}\n", 0), Some((0, None, Some(3))));
-    assert_eq!(rt; ends("#\n#", 0), Some((0, None, Some(1))));
-    assert_eq!(rt; ends("\r\n", 0), Some((0, Some(2), None)));
-    assert_eq!(rt; ends("\ra", 0), Some((0, None, None)));
-    assert_eq!(rt; ends("\n", 0), Some((0, Some(1), None)));
-    assert_eq!(rt; ends("\n", 1), Some((1, None, None)));
+fn spans(rt: HostRuntime) -> Result<(), Fail> {
+    assert_lines(&rt, rt.alloc(), SPANS, 5, slice)
+}
+
+/// The places where the whitespace, the newline and the comment end that begin at a place.
+const ENDS: &str = "
+3 None None | 0 | ␣␉ x
+0 None Some(5) | 0 | # a␉b␍¶
+0 None Some(3) | 0 | #␤␡¶
+0 None Some(1) | 0 | #¶#
+0 Some(2) None | 0 | ␍¶
+0 None None | 0 | ␍a
+0 Some(1) None | 0 | ¶
+1 None None | 1 | ¶
+";
+
+fn ends(alloc: Global, row: &str) -> Option<String> {
+    let (at, text) = row.split_once(" | ")?;
+    let at = at.parse::<usize>().ok()?;
+    let text = source(text)?;
+    if !text.holds(Span { start: at, end: at }) {
+        return None;
+    }
+    let (newline, comment) = (text.newline_end(at), text.comment_end(at));
+    format!(in alloc; "{} {newline:?} {comment:?}", text.ws_end(at)).ok()
+}
+
+#[test]
+fn scans(rt: HostRuntime) -> Result<(), Fail> {
+    assert_lines(&rt, rt.alloc(), ENDS, 8, ends)
 }

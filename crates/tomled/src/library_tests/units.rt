@@ -1,406 +1,220 @@
 //! Units and certificates: the units of documents with their kinds, spans, addresses and bases, and which bytes are a
 //! certificate.
 
-use crate::library_tests::worked;
-use crate::library_tests::worked::At::{self, Index, Name};
+use crate::library_tests::worked::{assert_lines, assert_paragraphs, doc, names, path};
 use std::alloc::Global;
 use std::test::Fail;
-use toml_names::{Address, Step};
-use toml_units::UnitKind::{Element, InnerComment, Line, Pair, TailComment};
-use toml_units::{
-    Certificate, CertificateFault, Unit, UnitKind, certificate_text, read_certificate, units,
-};
+use toml_units::{Unit, certificate_text, read_certificate, units};
 
-/// A worked unit: what it is, where it begins and ends, its address and its base.
-type Row = (UnitKind, usize, usize, Option<&'static [At]>, Option<usize>);
-
-fn is_step(step: &Step, wanted: At) -> bool {
-    match (step, wanted) {
-        (Step::Name(name), Name(text)) => name.as_str() == text,
-        (Step::Index(index), Index(number)) => *index == number,
-        _ => false,
-    }
-}
-
-fn is_address(at: &Address, wanted: &[At]) -> bool {
-    let steps = at.steps();
-    if steps.len() != wanted.len() {
-        return false;
-    }
-    for (step, one) in steps.iter().zip(wanted) {
-        if !is_step(step, *one) {
-            return false;
-        }
-    }
-    true
-}
-
-fn is_unit(unit: &Unit, row: Row) -> bool {
-    let (kind, start, end, address, base) = row;
-    let there = match (&unit.address, address) {
-        (Some(at), Some(wanted)) => is_address(at, wanted),
-        (None, None) => true,
-        _ => false,
+/// A unit: what it is, where it begins and ends, its address, and its base; `-` where it has none.
+fn unit_text(alloc: Global, unit: &Unit) -> Option<String> {
+    let at = match &unit.address {
+        Some(at) => path(alloc, at)?,
+        None => String::from_str(alloc, "-").ok()?,
     };
-    there
-        && unit.kind == kind
-        && unit.span.start == start
-        && unit.span.end == end
-        && unit.base == base
-}
-
-/// The first of the text's units that is not the row's, or where there are more or fewer; none if all are as wanted.
-fn first_other(alloc: Global, text: &str, rows: &[Row]) -> Result<Option<usize>, Fail> {
-    let doc = worked::doc(alloc, text)?;
-    let names = worked::names(alloc, &doc)?;
-    let found = units(alloc, &doc, &names)?;
-    for (index, row) in rows.iter().enumerate() {
-        if index >= found.len() || !is_unit(&found[index], *row) {
-            return Ok(Some(index));
-        }
+    let (kind, start, end) = (unit.kind, unit.span.start, unit.span.end);
+    match unit.base {
+        Some(base) => format!(in alloc; "{kind:?} {start} {end} {} {base}\n", at.as_str()).ok(),
+        None => format!(in alloc; "{kind:?} {start} {end} {} -\n", at.as_str()).ok(),
     }
-    Ok((found.len() > rows.len()).then_some(rows.len()))
 }
 
-const LINES: [(&str, &[Row]); 8] = [
-    ("", &[(Line, 0, 0, None, None)]),
-    (
-        "\u{FEFF}a = 1",
-        &[(Line, 3, 8, Some(&[Name("a")]), Some(0))],
-    ),
-    (
-        "a = 1 # c\r\n# d\r\n",
-        &[
-            (Line, 0, 9, Some(&[Name("a")]), Some(0)),
-            (TailComment, 6, 9, Some(&[Name("a")]), None),
-            (Line, 11, 14, None, None),
-            (TailComment, 11, 14, None, None),
-            (Line, 16, 16, None, None),
-        ],
-    ),
-    (
-        "  \n\t# only\n",
-        &[
-            (Line, 0, 2, None, None),
-            (Line, 3, 10, None, None),
-            (TailComment, 4, 10, None, None),
-            (Line, 11, 11, None, None),
-        ],
-    ),
-    (
-        "[a.b]\nc.d = 1\n[[t]] # x\n[[t]]\nk = 2",
-        &[
-            (Line, 0, 5, Some(&[Name("a"), Name("b")]), None),
-            (
-                Line,
-                6,
-                13,
-                Some(&[Name("a"), Name("b"), Name("c"), Name("d")]),
-                Some(2),
-            ),
-            (Line, 14, 23, Some(&[Name("t"), Index(0)]), None),
-            (TailComment, 20, 23, Some(&[Name("t"), Index(0)]), None),
-            (Line, 24, 29, Some(&[Name("t"), Index(1)]), None),
-            (
-                Line,
-                30,
-                35,
-                Some(&[Name("t"), Index(1), Name("k")]),
-                Some(2),
-            ),
-        ],
-    ),
-    (
-        "a = \"\"\"\n# no comment\n\"\"\" # yes",
-        &[
-            (Line, 0, 30, Some(&[Name("a")]), Some(0)),
-            (TailComment, 25, 30, Some(&[Name("a")]), None),
-        ],
-    ),
-    (
-        "\u{FEFF}# c\na = 1",
-        &[
-            (Line, 3, 6, None, None),
-            (TailComment, 3, 6, None, None),
-            (Line, 7, 12, Some(&[Name("a")]), Some(0)),
-        ],
-    ),
-    (
-        "[[t]]\na.b = 1",
-        &[
-            (Line, 0, 5, Some(&[Name("t"), Index(0)]), None),
-            (
-                Line,
-                6,
-                13,
-                Some(&[Name("t"), Index(0), Name("a"), Name("b")]),
-                Some(2),
-            ),
-        ],
-    ),
-];
+/// A line for each of the units.
+pub fn lines(alloc: Global, units: &[Unit]) -> Option<String> {
+    let mut text = String::new(alloc);
+    for unit in units {
+        text.push_str(unit_text(alloc, unit)?.as_str()).ok()?;
+    }
+    Some(text)
+}
+
+/// The units of a document.
+fn units_of(alloc: Global, text: &str) -> Option<String> {
+    let doc = doc(alloc, text)?;
+    let names = names(alloc, &doc)?;
+    lines(alloc, &units(alloc, &doc, &names).ok()?)
+}
+
+const LINES: &str = "
+∅
+Line 0 0 - -
+
+□a = 1
+Line 3 8 /a 0
+
+a = 1 # c␍¶# d␍¶
+Line 0 9 /a 0
+TailComment 6 9 /a -
+Line 11 14 - -
+TailComment 11 14 - -
+Line 16 16 - -
+
+␣␣¶␉# only¶
+Line 0 2 - -
+Line 3 10 - -
+TailComment 4 10 - -
+Line 11 11 - -
+
+[a.b]¶c.d = 1¶[[t]] # x¶[[t]]¶k = 2
+Line 0 5 /a/b -
+Line 6 13 /a/b/c/d 2
+Line 14 23 /t/#0 -
+TailComment 20 23 /t/#0 -
+Line 24 29 /t/#1 -
+Line 30 35 /t/#1/k 2
+
+a = \"\"\"¶# no comment¶\"\"\" # yes
+Line 0 30 /a 0
+TailComment 25 30 /a -
+
+□# c¶a = 1
+Line 3 6 - -
+TailComment 3 6 - -
+Line 7 12 /a 0
+
+[[t]]¶a.b = 1
+Line 0 5 /t/#0 -
+Line 6 13 /t/#0/a/b 2
+";
 
 #[test]
 fn units_of_lines(rt: HostRuntime) -> Result<(), Fail> {
-    for (text, rows) in LINES {
-        assert_eq!(rt; first_other(rt.alloc(), text, rows)?, None, "{text}");
-    }
-    Ok(())
+    assert_paragraphs(&rt, rt.alloc(), LINES, 8, units_of)
 }
 
-const VALUES: [(&str, &[Row]); 11] = [
-    (
-        "a = []\nb = {}\n",
-        &[
-            (Line, 0, 6, Some(&[Name("a")]), Some(0)),
-            (Line, 7, 13, Some(&[Name("b")]), Some(0)),
-            (Line, 14, 14, None, None),
-        ],
-    ),
-    (
-        "x = [1, # one\n 2]\n",
-        &[
-            (Line, 0, 17, Some(&[Name("x")]), Some(0)),
-            (Element, 5, 6, Some(&[Name("x"), Index(0)]), None),
-            (InnerComment, 8, 13, Some(&[Name("x")]), None),
-            (Element, 15, 16, Some(&[Name("x"), Index(1)]), None),
-            (Line, 18, 18, None, None),
-        ],
-    ),
-    (
-        "a = [# x\n# y\n]\n",
-        &[
-            (Line, 0, 14, Some(&[Name("a")]), Some(0)),
-            (InnerComment, 5, 8, Some(&[Name("a")]), None),
-            (InnerComment, 9, 12, Some(&[Name("a")]), None),
-            (Line, 15, 15, None, None),
-        ],
-    ),
-    (
-        "x = [[1, # a\n2,# b\n], # c\n]",
-        &[
-            (Line, 0, 27, Some(&[Name("x")]), Some(0)),
-            (Element, 5, 20, Some(&[Name("x"), Index(0)]), None),
-            (Element, 6, 7, Some(&[Name("x"), Index(0), Index(0)]), None),
-            (InnerComment, 9, 12, Some(&[Name("x"), Index(0)]), None),
-            (
-                Element,
-                13,
-                14,
-                Some(&[Name("x"), Index(0), Index(1)]),
-                None,
-            ),
-            (InnerComment, 15, 18, Some(&[Name("x"), Index(0)]), None),
-            (InnerComment, 22, 25, Some(&[Name("x")]), None),
-        ],
-    ),
-    (
-        "p = {a.b = 1, c = {d = 2}}",
-        &[
-            (Line, 0, 26, Some(&[Name("p")]), Some(0)),
-            (
-                Pair,
-                5,
-                12,
-                Some(&[Name("p"), Name("a"), Name("b")]),
-                Some(1),
-            ),
-            (Pair, 14, 25, Some(&[Name("p"), Name("c")]), Some(1)),
-            (
-                Pair,
-                19,
-                24,
-                Some(&[Name("p"), Name("c"), Name("d")]),
-                Some(2),
-            ),
-        ],
-    ),
-    (
-        "\"\u{E9} b\" = [{x = 1}]",
-        &[
-            (Line, 0, 18, Some(&[Name("\u{E9} b")]), Some(0)),
-            (Element, 10, 17, Some(&[Name("\u{E9} b"), Index(0)]), None),
-            (
-                Pair,
-                11,
-                16,
-                Some(&[Name("\u{E9} b"), Index(0), Name("x")]),
-                Some(2),
-            ),
-        ],
-    ),
-    (
-        "x = [1 # c\n, 2]",
-        &[
-            (Line, 0, 15, Some(&[Name("x")]), Some(0)),
-            (Element, 5, 6, Some(&[Name("x"), Index(0)]), None),
-            (InnerComment, 7, 10, Some(&[Name("x")]), None),
-            (Element, 13, 14, Some(&[Name("x"), Index(1)]), None),
-        ],
-    ),
-    (
-        "x = [1 # c\n]",
-        &[
-            (Line, 0, 12, Some(&[Name("x")]), Some(0)),
-            (Element, 5, 6, Some(&[Name("x"), Index(0)]), None),
-            (InnerComment, 7, 10, Some(&[Name("x")]), None),
-        ],
-    ),
-    (
-        "x = [1, # c\r\n2]",
-        &[
-            (Line, 0, 15, Some(&[Name("x")]), Some(0)),
-            (Element, 5, 6, Some(&[Name("x"), Index(0)]), None),
-            (InnerComment, 8, 11, Some(&[Name("x")]), None),
-            (Element, 13, 14, Some(&[Name("x"), Index(1)]), None),
-        ],
-    ),
-    (
-        "p = {a = [ # c\n 1]}",
-        &[
-            (Line, 0, 19, Some(&[Name("p")]), Some(0)),
-            (Pair, 5, 18, Some(&[Name("p"), Name("a")]), Some(1)),
-            (InnerComment, 11, 14, Some(&[Name("p"), Name("a")]), None),
-            (
-                Element,
-                16,
-                17,
-                Some(&[Name("p"), Name("a"), Index(0)]),
-                None,
-            ),
-        ],
-    ),
-    (
-        "[[a.b]]\n[a.b.c]\nd = [1,\n2] # t",
-        &[
-            (Line, 0, 7, Some(&[Name("a"), Name("b"), Index(0)]), None),
-            (
-                Line,
-                8,
-                15,
-                Some(&[Name("a"), Name("b"), Index(0), Name("c")]),
-                None,
-            ),
-            (
-                Line,
-                16,
-                30,
-                Some(&[Name("a"), Name("b"), Index(0), Name("c"), Name("d")]),
-                Some(4),
-            ),
-            (
-                Element,
-                21,
-                22,
-                Some(&[
-                    Name("a"),
-                    Name("b"),
-                    Index(0),
-                    Name("c"),
-                    Name("d"),
-                    Index(0),
-                ]),
-                None,
-            ),
-            (
-                Element,
-                24,
-                25,
-                Some(&[
-                    Name("a"),
-                    Name("b"),
-                    Index(0),
-                    Name("c"),
-                    Name("d"),
-                    Index(1),
-                ]),
-                None,
-            ),
-            (
-                TailComment,
-                27,
-                30,
-                Some(&[Name("a"), Name("b"), Index(0), Name("c"), Name("d")]),
-                None,
-            ),
-        ],
-    ),
-];
+const VALUES: &str = r#"
+a = []¶b = {}¶
+Line 0 6 /a 0
+Line 7 13 /b 0
+Line 14 14 - -
+
+x = [1, # one¶ 2]¶
+Line 0 17 /x 0
+Element 5 6 /x/#0 -
+InnerComment 8 13 /x -
+Element 15 16 /x/#1 -
+Line 18 18 - -
+
+a = [# x¶# y¶]¶
+Line 0 14 /a 0
+InnerComment 5 8 /a -
+InnerComment 9 12 /a -
+Line 15 15 - -
+
+x = [[1, # a¶2,# b¶], # c¶]
+Line 0 27 /x 0
+Element 5 20 /x/#0 -
+Element 6 7 /x/#0/#0 -
+InnerComment 9 12 /x/#0 -
+Element 13 14 /x/#0/#1 -
+InnerComment 15 18 /x/#0 -
+InnerComment 22 25 /x -
+
+p = {a.b = 1, c = {d = 2}}
+Line 0 26 /p 0
+Pair 5 12 /p/a/b 1
+Pair 14 25 /p/c 1
+Pair 19 24 /p/c/d 2
+
+"é b" = [{x = 1}]
+Line 0 18 /é b 0
+Element 10 17 /é b/#0 -
+Pair 11 16 /é b/#0/x 2
+
+x = [1 # c¶, 2]
+Line 0 15 /x 0
+Element 5 6 /x/#0 -
+InnerComment 7 10 /x -
+Element 13 14 /x/#1 -
+
+x = [1 # c¶]
+Line 0 12 /x 0
+Element 5 6 /x/#0 -
+InnerComment 7 10 /x -
+
+x = [1, # c␍¶2]
+Line 0 15 /x 0
+Element 5 6 /x/#0 -
+InnerComment 8 11 /x -
+Element 13 14 /x/#1 -
+
+p = {a = [ # c¶ 1]}
+Line 0 19 /p 0
+Pair 5 18 /p/a 1
+InnerComment 11 14 /p/a -
+Element 16 17 /p/a/#0 -
+
+[[a.b]]¶[a.b.c]¶d = [1,¶2] # t
+Line 0 7 /a/b/#0 -
+Line 8 15 /a/b/#0/c -
+Line 16 30 /a/b/#0/c/d 4
+Element 21 22 /a/b/#0/c/d/#0 -
+Element 24 25 /a/b/#0/c/d/#1 -
+TailComment 27 30 /a/b/#0/c/d -
+"#;
 
 #[test]
 fn units_of_values(rt: HostRuntime) -> Result<(), Fail> {
-    for (text, rows) in VALUES {
-        assert_eq!(rt; first_other(rt.alloc(), text, rows)?, None, "{text}");
-    }
-    Ok(())
+    assert_paragraphs(&rt, rt.alloc(), VALUES, 11, units_of)
 }
 
-/// The certificate that bytes are read as; none where they are refused.
-fn what_is_read(alloc: Global, bytes: &[u8]) -> Result<Option<Certificate>, Fail> {
-    match read_certificate(alloc, bytes) {
-        Ok(certificate) => Ok(Some(certificate)),
-        Err(CertificateFault::BadCertificate) => Ok(None),
-        Err(CertificateFault::NoMemory) => Err(Fail::from("no memory")),
+const CERTIFICATES: &str = "
+[] | kept 1¶
+[(0, 0)] | kept 1¶0 0¶
+[(1, 1), (2, 2)] | kept 1¶1 1¶2 2¶
+[(0, 0), (0, 0)] | kept 1¶0 0¶0 0¶
+[(18446744073709551615, 10)] | kept 1¶18446744073709551615 10¶
+[(18446744073709551615, 0)] | kept 1¶18446744073709551615 0¶
+[(0, 0), (1, 1), (2, 0)] | kept 1¶0 0¶1 1¶2 0¶
+";
+
+/// The pairs of a certificate, of which the text is this one.
+fn pairs(alloc: Global, text: &str) -> Option<String> {
+    let certificate = read_certificate(alloc, text.as_bytes()).ok()?;
+    if certificate_text(alloc, &certificate).ok()?.as_str() != text {
+        return None;
     }
+    format!(in alloc; "{:?}", certificate.pairs).ok()
 }
 
 #[test]
 fn certificates_are_read_and_written(rt: HostRuntime) -> Result<(), Fail> {
-    let rows: [(&str, &[(u64, u64)]); 7] = [
-        ("kept 1\n", &[]),
-        ("kept 1\n0 0\n", &[(0, 0)]),
-        ("kept 1\n1 1\n2 2\n", &[(1, 1), (2, 2)]),
-        ("kept 1\n0 0\n0 0\n", &[(0, 0), (0, 0)]),
-        (
-            "kept 1\n18446744073709551615 10\n",
-            &[(18_446_744_073_709_551_615, 10)],
-        ),
-        (
-            "kept 1\n18446744073709551615 0\n",
-            &[(18_446_744_073_709_551_615, 0)],
-        ),
-        ("kept 1\n0 0\n1 1\n2 0\n", &[(0, 0), (1, 1), (2, 0)]),
-    ];
-    for (text, pairs) in rows {
-        let read = what_is_read(rt.alloc(), text.as_bytes())?.ok_or("refused")?;
-        assert!(rt; read.pairs.as_slice() == pairs, "{text}");
-        assert_eq!(rt; certificate_text(rt.alloc(), &read)?.as_str(), text);
-    }
-    Ok(())
+    assert_lines(&rt, rt.alloc(), CERTIFICATES, 7, pairs)
+}
+
+const NO_CERTIFICATES: &str = "
+BadCertificate | ∅
+BadCertificate | kept 1
+BadCertificate | kept 1␍¶
+BadCertificate | kept 2¶
+BadCertificate | kept 01¶
+BadCertificate | Kept 1¶
+BadCertificate | ␣kept 1¶
+BadCertificate | □kept 1¶
+BadCertificate | kept 1¶¶
+BadCertificate | kept 1¶0¶
+BadCertificate | kept 1¶0 0
+BadCertificate | kept 1¶0 0␍¶
+BadCertificate | kept 1␍¶0 0¶
+BadCertificate | kept 1¶00 0¶
+BadCertificate | kept 1¶0 01¶
+BadCertificate | kept 1¶0  0¶
+BadCertificate | kept 1¶ 0 0¶
+BadCertificate | kept 1¶0 0 ¶
+BadCertificate | kept 1¶0␉0¶
+BadCertificate | kept 1¶+1 0¶
+BadCertificate | kept 1¶-1 0¶
+BadCertificate | kept 1¶0 0¶x
+BadCertificate | kept 1¶0 18446744073709551616¶
+BadCertificate | kept 1¶99999999999999999999999999999999999999999 0¶
+";
+
+fn refused_certificate(alloc: Global, text: &str) -> Option<String> {
+    let fault = read_certificate(alloc, text.as_bytes()).err()?;
+    format!(in alloc; "{fault:?}").ok()
 }
 
 #[test]
 fn other_texts_are_refused(rt: HostRuntime) -> Result<(), Fail> {
-    for bytes in [
-        "",
-        "kept 1",
-        "kept 1\r\n",
-        "kept 2\n",
-        "kept 01\n",
-        "Kept 1\n",
-        " kept 1\n",
-        "\u{FEFF}kept 1\n",
-        "kept 1\n\n",
-        "kept 1\n0\n",
-        "kept 1\n0 0",
-        "kept 1\n0 0\r\n",
-        "kept 1\r\n0 0\n",
-        "kept 1\n00 0\n",
-        "kept 1\n0 01\n",
-        "kept 1\n0  0\n",
-        "kept 1\n 0 0\n",
-        "kept 1\n0 0 \n",
-        "kept 1\n0\t0\n",
-        "kept 1\n+1 0\n",
-        "kept 1\n-1 0\n",
-        "kept 1\n0 0\nx",
-        "kept 1\n0 18446744073709551616\n",
-        "kept 1\n99999999999999999999999999999999999999999 0\n",
-    ] {
-        assert!(rt;
-            what_is_read(rt.alloc(), bytes.as_bytes())?.is_none(),
-            "{bytes}"
-        );
-    }
-    Ok(())
+    assert_lines(&rt, rt.alloc(), NO_CERTIFICATES, 24, refused_certificate)
 }
