@@ -14,7 +14,7 @@ use toml_units::{Piece, units};
 /// A text and edits.
 type Case = [&'static str; 2];
 
-const CASES: [Case; 14] = [
+const CASES: [Case; 16] = [
     [
         "port = 1_000 # keep\n",
         "[{\"op\":\"set\",\"at\":[\"port\"],\"value\":\"0x1F\"}]",
@@ -59,6 +59,11 @@ const CASES: [Case; 14] = [
     [
         "x = [[1], {k = [2]}]\n",
         "[{\"op\":\"insert\",\"at\":[\"x\",0],\"value\":\"[0]\"},{\"op\":\"insert\",\"at\":[\"x\",2],\"value\":\"{}\"}]",
+    ],
+    ["x = [1, [2]]\n", "[{\"op\":\"remove\",\"at\":[\"x\",0]}]"],
+    [
+        "t = {a = 1, b = [3, {c = 4}]}\n",
+        "[{\"op\":\"remove\",\"at\":[\"t\",\"b\",0]},{\"op\":\"remove\",\"at\":[\"t\",\"a\"]}]",
     ],
     [
         "[[a]]\nb = 1 # one\n[[a]] # second\n",
