@@ -4,9 +4,10 @@ use std::alloc::{AllocError, Global};
 use std::mem;
 
 impl<'t> Entries<'t> {
-    /// Nothing between the brackets.
+    /// A new inline table with nothing in it.
     pub(crate) fn none(alloc: Global) -> Entries<'t> {
         Entries {
+            opening: Leaf::New("{"),
             list: Vec::new(alloc),
             end: Some(Gap::empty(alloc)),
         }

@@ -4,6 +4,7 @@ use crate::tree::{
     KeyVal, Leaf, OpenLine, Value,
 };
 use std::alloc::{AllocError, Global};
+use toml_text::Span;
 use toml_tree::{Line, Piece};
 
 /// Opens trees, a unit at a time.
@@ -32,6 +33,17 @@ impl Opener {
         match self.next {
             Some(_) => Leaf::Kept(piece.span()),
             None => Leaf::New(piece.text),
+        }
+    }
+
+    /// The bracket or the brace, of one byte, with which the value begins.
+    fn opening<'t>(self, whole: Piece<'t>, mark: &'static str) -> Leaf<'t> {
+        match self.next {
+            Some(_) => Leaf::Kept(Span {
+                start: whole.start,
+                end: whole.start.saturating_add(1),
+            }),
+            None => Leaf::New(mark),
         }
     }
 
@@ -137,7 +149,11 @@ impl Opener {
             Some(gap) => Some(self.gap(gap)?),
             None => None,
         };
-        Ok(Entries { list, end })
+        Ok(Entries {
+            opening: self.opening(array.whole, "["),
+            list,
+            end,
+        })
     }
 
     #[cycle(opening)]
@@ -163,7 +179,11 @@ impl Opener {
             Some(gap) => Some(self.gap(gap)?),
             None => None,
         };
-        Ok(Entries { list, end })
+        Ok(Entries {
+            opening: self.opening(table.whole, "{"),
+            list,
+            end,
+        })
     }
 
     #[cycle(opening)]

@@ -106,8 +106,8 @@ impl<'t> Pieces<'t> {
         Ok(())
     }
 
-    /// Begins a line, or an element or a pair: a unit of the document, or a new one. Of a new one the symbols are new too, so
-    /// that they are not taken from what stands behind it.
+    /// Begins a line of the document, or a new one. The brackets of a new header line are new too, so that they are not taken
+    /// from the header line behind it.
     pub(crate) fn begin(&mut self, origin: Option<usize>)
         ensures { self.new ≡ self.old }
     {

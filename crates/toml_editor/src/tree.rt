@@ -71,6 +71,9 @@ pub(crate) enum Value<'t> {
 #[derive(Drop)]
 #[cycle(value)]
 pub(crate) struct Entries<'t> {
+    /// The bracket or the brace with which it begins. What stands before an element may be new or taken out, so this tells
+    /// where the element is kept from.
+    pub(crate) opening: Leaf<'t>,
     pub(crate) list: Vec<Entry<'t>>,
     /// What stands behind the last comma, where one follows the last entry; without an entry all that stands there.
     pub(crate) end: Option<Gap<'t>>,

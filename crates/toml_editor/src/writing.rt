@@ -112,12 +112,12 @@ impl<'t> Pieces<'t> {
         match value {
             Value::Scalar(token) => self.leaf(*token),
             Value::Array(entries) => {
-                self.symbol("[")?;
+                self.leaf(entries.opening)?;
                 self.entries(entries)?;
                 self.symbol("]")
             }
             Value::Inline(entries) => {
-                self.symbol("{")?;
+                self.leaf(entries.opening)?;
                 self.entries(entries)?;
                 self.symbol("}")
             }
@@ -148,7 +148,6 @@ impl<'t> Pieces<'t> {
         ensures { self.new ≡ self.old }
     {
         self.gap(&entry.before)?;
-        self.begin(entry.origin);
         if let Some(assign) = &entry.assign {
             self.assign(assign)?;
         }

@@ -63,13 +63,15 @@ kept | [{"op":"remove","at":["a",0]}] | [[a]]¶b = 1¶[[a]] # second¶b = 2
 kept | [{"op":"remove","at":["b"]}] | a = 1¶b = 2
 kept | [{"op":"insert","at":["a","x"],"value":"1"}] | # c¶[a.b] # d¶
 kept | [{"op":"insert","at":["x",0],"value":"[0]"},{"op":"insert","at":["x",2],"value":"{}"}] | x = [[1], {k = [2]}]¶
+kept | [{"op":"remove","at":["x",0]}] | x = [1, [2]]¶
+kept | [{"op":"remove","at":["t","b",0]},{"op":"remove","at":["t","a"]}] | t = {a = 1, b = [3, {c = 4}]}¶
 kept | [{"op":"section","at":["a",0,"s"]}] | [[a]]¶b = 1 # one¶[[a]] # second¶
 kept | [{"op":"element","at":["a",1]}] | [[a]]¶# last
 "#;
 
 #[test]
 fn units_that_no_edit_names_lie_in_kept_pieces(rt: HostRuntime) -> Result<(), Fail> {
-    assert_lines(&rt, rt.alloc(), KEPT, 14, kept_units)
+    assert_lines(&rt, rt.alloc(), KEPT, 16, kept_units)
 }
 
 /// The pieces that the edits make of a text.
