@@ -14,9 +14,10 @@ use toml_names::{Address, Name, Step};
 /// The edits of a JSON list, in its order.
 ///
 /// Each entry is an object with exactly the members `op`, `at` and `value` (`"set"`, `"insert"`), or `op`, `at` and `to`
-/// (`"rename"`), or `op` and `at` (`"remove"`, `"section"`, `"element"`); `at` is a list of texts and of whole numbers from 0 to 2^64 - 1, `value`
-/// and `to` are texts. `NotAList` is told where the bytes are no JSON list, `BadEdits` with the first entry that is not
-/// of this form, counted from 0. JSON is what `serde_json` reads: of two equal members the last counts.
+/// (`"rename"`), or `op` and `at` (`"remove"`, `"section"`, `"element"`); `at` is a list of texts and of whole numbers
+/// from 0 to 2^64 - 1, `value` and `to` are texts. `NotAList` is told where the bytes are no JSON list, `BadEdits` with
+/// the first entry that is not of this form, counted from 0. JSON is what `serde_json` reads: of two equal members the
+/// last counts.
 pub fn read_edits(alloc: Global, bytes: &[u8]) -> Result<Vec<Edit>, EditsFault>
     ensures { ReadsEdits bytes.now result }
 {
