@@ -61,7 +61,7 @@ refused_line d names.NoMemory few refused = tt
 pub numbered : (before : List ℕ) (cs : List Change) (fault : EditorFault) → editor.Tells before cs fault → TellsNumber fault
 numbered before cs (faults.Text fault) told = tt
 numbered before cs (faults.Syntax fault) told = tt
-numbered before cs (faults.Names fault) told = refused_line told.2.0 fault (lines_are_few told.2.0 before told.1 told.2.1) told.2.2
+numbered before cs (faults.Names fault) told = refused_line told.2.0 fault (lines_are_few told.2.0 before told.1 told.2.1) told.2.2.1
 numbered before cs (faults.Edit index fault) told = tt
 numbered before cs (faults.Spread index) told = tt
 numbered before cs (faults.LastElement index) told = tt
