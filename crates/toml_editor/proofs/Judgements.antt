@@ -79,16 +79,16 @@ data_copied ms ns k l is facts same = λ at kind. let e = facts at kind in (
 )
 
 -- what is told of the data of a text is told of the text
-pub any_tells : (before : List ℕ) (cs : List Change) (d : Doc) (old : Datum) (fault : EditorFault) → Spells d before → IsDataOf (named d.lines) (kind_at old) → TellsAny (place (named d.lines)) cs old fault → Tells before cs fault
-any_tells before cs d old (faults.Edit i f) spelled facts h = (d, spelled, old, facts, h)
-any_tells before cs d old (faults.Spread i) spelled facts h = (d, spelled, (d, spelled, old, facts, h))
-any_tells before cs d old (faults.LastElement i) spelled facts h = (d, spelled, old, facts, h)
-any_tells before cs d old faults.NoMemory spelled facts h = tt
-any_tells before cs d old (faults.Text f) spelled facts h = absurd h
-any_tells before cs d old (faults.Syntax f) spelled facts h = absurd h
-any_tells before cs d old (faults.Names f) spelled facts h = absurd h
-any_tells before cs d old faults.TooLong spelled facts h = absurd h
-any_tells before cs d old (faults.Unverified r) spelled facts h = absurd h
+pub any_tells : (before : List ℕ) (cs : List Change) (d : Doc) (old : Datum) (fault : EditorFault) → IsDocument before → Spells d before → IsDataOf (named d.lines) (kind_at old) → TellsAny (place (named d.lines)) cs old fault → Tells before cs fault
+any_tells before cs d old (faults.Edit i f) document spelled facts h = (document, (d, spelled, old, facts, h))
+any_tells before cs d old (faults.Spread i) document spelled facts h = (document, (d, spelled, (d, spelled, old, facts, h)))
+any_tells before cs d old (faults.LastElement i) document spelled facts h = (document, (d, spelled, old, facts, h))
+any_tells before cs d old faults.NoMemory document spelled facts h = tt
+any_tells before cs d old (faults.Text f) document spelled facts h = absurd h
+any_tells before cs d old (faults.Syntax f) document spelled facts h = absurd h
+any_tells before cs d old (faults.Names f) document spelled facts h = absurd h
+any_tells before cs d old faults.TooLong document spelled facts h = absurd h
+any_tells before cs d old (faults.Unverified r) document spelled facts h = absurd h
 
 -- ---- which units are paired
 

@@ -96,11 +96,11 @@ RefusesText before (Names fault) = (¬ IsDocument before) × IsText before × Of
 RefusesText before NoMemory = Unit {0}
 RefusesText before _ = ⊥
 
--- what a fault of the editor tells; of a result that is too long or that the judge refuses, and of want of memory, it tells nothing
+-- what a fault of the editor tells: of an edit only where the text is a document; of a result that is too long or that the judge refuses, and of want of memory, it tells nothing
 abbrev pub Tells : List ℕ → List Change → EditorFault → Type 0
-Tells before cs (Edit index fault) = OnDataSoFar before cs index (λ c kinds. IsFault c kinds (Some fault))
-Tells before cs (Spread index) = OfTree before (λ d. OnDataSoFar before cs index (MayBeSpread (place (named d.lines)) index))
-Tells before cs (LastElement index) = OnDataSoFar before cs index TakesLastElement
+Tells before cs (Edit index fault) = IsDocument before × OnDataSoFar before cs index (λ c kinds. IsFault c kinds (Some fault))
+Tells before cs (Spread index) = IsDocument before × OfTree before (λ d. OnDataSoFar before cs index (MayBeSpread (place (named d.lines)) index))
+Tells before cs (LastElement index) = IsDocument before × OnDataSoFar before cs index TakesLastElement
 Tells before cs TooLong = Unit {0}
 Tells before cs (Unverified reason) = Unit {0}
 Tells before cs fault = RefusesText before fault

@@ -24,8 +24,9 @@ pub record IsReadAs (before text : List ℕ) (d : Doc) : Type 0 where
   pub spelled : Spells d before
   pub of_profile : IsOfProfile One d
 
--- the tree spells the text, and these are its lines
+-- the text is a document's, the tree spells it, and these are its lines
 pub record HasLines (text : List ℕ) (d : Doc) (lines : List Line) : Type 0 where
+  pub document : IsDocument text
   pub spelled : Spells d text
   pub taken : lines ≡ d.lines
 

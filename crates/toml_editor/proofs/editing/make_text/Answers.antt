@@ -16,7 +16,7 @@ returns-in-Err-clause-told c =
     let facts = subst (λ (ls : List Line). IsDataOf (named ls) (kind_at old)) c.requires.read.taken c.in_ok-data.ensures in
     let cs = map change c.args.edits.now in
     let told = subst (λ (ls : List Line). TellsAny (place (named ls)) cs old c.in-Err.fault) c.requires.read.taken c.in-Err.ensures.told in
-    any_tells (text_of c.args.source) cs (document c.args.doc.now) old c.in-Err.fault c.requires.read.spelled facts told
+    any_tells (text_of c.args.source) cs (document c.args.doc.now) old c.in-Err.fault c.requires.read.document c.requires.read.spelled facts told
 
 pub returns-clause-made : goal.returns-clause-made
 returns-clause-made c =
