@@ -7,6 +7,7 @@ use std::alloc::Global;
 use toml_checker::{Verdict, check, first_marks, outermost};
 use toml_editor::{edit, edit_pieces};
 use toml_names::{Address, NameReader, key_address, read_lines};
+use toml_text::Source;
 use toml_tree::{Expr, parse_value};
 use toml_units::{Certificate, certificate_text, join, units, units_at, units_inside};
 
@@ -106,8 +107,14 @@ fn edits_make_a_text(rt: HostRuntime) {
 
 /// Whether the pieces that the edits make are those of the text.
 fn joins(alloc: Global, wanted: &str) -> Option<bool> {
-    let (pieces, _) = edit_pieces(alloc, FILE.as_bytes(), &edits(alloc, EDITS)?).ok()?;
-    Some(join(alloc, source(FILE)?, &pieces).ok()?.as_str() == wanted)
+    let list = edits(alloc, EDITS)?;
+    let Ok(source) = Source::new(FILE.as_bytes()) else {
+        return None;
+    };
+    let Ok((pieces, _)) = edit_pieces(alloc, FILE.as_bytes(), &list) else {
+        return None;
+    };
+    Some(join(alloc, source, &pieces).ok()?.as_str() == wanted)
 }
 
 #[test]
