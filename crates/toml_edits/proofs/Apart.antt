@@ -230,12 +230,12 @@ rename_apart kinds closed to q (Name n) free = below_apart q (to_name n to) (λ 
     none a some = no_some _ (ap kinds (sym (append_assoc q (Name to ∷ []) a)) ∙ nothing_below kinds closed a (child q to) (free q n refl)) some
 
 pub carried_apart : CarriedApart
-carried_apart (set at value) kinds closed sound = set_apart at (λ a. IsSome (kinds a))
-carried_apart (insert at value) kinds closed sound = by_parts (λ o p. IsApart (λ a. IsSome (kinds a)) (inserting o)) (same_apart _) (insert_apart _) at
-carried_apart (rename at to) kinds closed sound = by_parts (λ o p. IsFreeOf kinds to p → IsApart (λ a. IsSome (kinds a)) (renaming o to)) (λ h. same_apart _) (rename_apart kinds closed to) at free
+carried_apart profile (set at value) kinds closed sound = set_apart at (λ a. IsSome (kinds a))
+carried_apart profile (insert at value) kinds closed sound = by_parts (λ o p. IsApart (λ a. IsSome (kinds a)) (inserting o)) (same_apart _) (insert_apart _) at
+carried_apart profile (rename at to) kinds closed sound = by_parts (λ o p. IsFreeOf kinds to p → IsApart (λ a. IsSome (kinds a)) (renaming o to)) (λ h. same_apart _) (rename_apart kinds closed to) at free
   where
     free : IsFreeOf kinds to at
     free q n is = not_some _ (λ some. sound AlreadyThere (q, n, is, some))
-carried_apart (remove at) kinds closed sound = by_parts (λ o p. IsApart (λ a. IsSome (kinds a)) (removing o)) (same_apart _) (remove_apart _) at
-carried_apart (new_section at) kinds closed sound = same_apart _
-carried_apart (new_element at) kinds closed sound = same_apart _
+carried_apart profile (remove at) kinds closed sound = by_parts (λ o p. IsApart (λ a. IsSome (kinds a)) (removing o)) (same_apart _) (remove_apart _) at
+carried_apart profile (new_section at) kinds closed sound = same_apart _
+carried_apart profile (new_element at) kinds closed sound = same_apart _

@@ -2,6 +2,7 @@
 use Rattle.std.proofs.Common.{◌≡◌, ◌⊎◌, inl, inr, ℕ, suc, ◌<◌, ◌≤◌, List, [], ◌∷◌, ◌++◌, append-nil, Option, Some, None, IsSome, Result, Ok, Err, refl, sym, ap, subst, ◌∙◌, arith}
 use Rattle.std.proofs.lemmas.Bool.{cases_lt}
 use Rattle.std.specs.Prelude.{slice_get}
+use Rattle.toml_tree.specs.declared.profile.Profile.{Profile}
 use Rattle.toml_names.specs.declared.model.address.Step.{Step}
 use Rattle.toml_names.specs.declared.model.address.Step.TheVariants.{Name, Index}
 use Rattle.toml_names.specs.declared.model.datum.Datum.{Datum}
@@ -71,42 +72,42 @@ none Holds all x = all x (low_rank x)
 -- ---- set
 
 -- of an edit at an address that is not the root's
-pub past_root : (c : Change) (kinds : Kinds) → ¬ (place c ≡ []) → Past (Row c kinds) 1
-past_root c kinds not = past (Row c kinds) RootNamed not (start (Row c kinds))
+pub past_root : (profile : Profile) (c : Change) (kinds : Kinds) → ¬ (place c ≡ []) → Past (Row profile c kinds) 1
+past_root profile c kinds not = past (Row profile c kinds) RootNamed not (start (Row profile c kinds))
 
 -- nor one for which no place of an element is asked
-pub past_place : (c : Change) (kinds : Kinds) → ¬ (place c ≡ []) → ¬ Row c kinds NotAnElement → Past (Row c kinds) 2
-past_place c kinds not one = past (Row c kinds) NotAnElement one (past_root c kinds not)
+pub past_place : (profile : Profile) (c : Change) (kinds : Kinds) → ¬ (place c ≡ []) → ¬ Row profile c kinds NotAnElement → Past (Row profile c kinds) 2
+past_place profile c kinds not one = past (Row profile c kinds) NotAnElement one (past_root profile c kinds not)
 
-module _ (at : Address) (text : List ℕ) (kinds : Kinds) (not : ¬ (at ≡ [])) where
-  pub set_bad : IsBadValue text → IsFault (set at text) kinds (Some BadValue)
-  set_bad bad = (bad, past_place (set at text) kinds not (λ h. h))
+module _ (profile : Profile) (at : Address) (text : List ℕ) (kinds : Kinds) (not : ¬ (at ≡ [])) where
+  pub set_bad : IsBadValue profile text → IsFault profile (set at text) kinds (Some BadValue)
+  set_bad bad = (bad, past_place profile (set at text) kinds not (λ h. h))
 
-  set_past_value : ¬ IsBadValue text → Past (Row (set at text) kinds) 3
-  set_past_value one = past (Row (set at text) kinds) BadValue one (past_place (set at text) kinds not (λ h. h))
+  set_past_value : ¬ IsBadValue profile text → Past (Row profile (set at text) kinds) 3
+  set_past_value one = past (Row profile (set at text) kinds) BadValue one (past_place profile (set at text) kinds not (λ h. h))
 
-  pub set_nowhere : ¬ IsBadValue text → kinds at ≡ None → IsFault (set at text) kinds (Some NoSuchPlace)
+  pub set_nowhere : ¬ IsBadValue profile text → kinds at ≡ None → IsFault profile (set at text) kinds (Some NoSuchPlace)
   set_nowhere one is = (is, set_past_value one)
 
-  set_past_place : ¬ IsBadValue text → IsSome (kinds at) → Past (Row (set at text) kinds) 8
+  set_past_place : ¬ IsBadValue profile text → IsSome (kinds at) → Past (Row profile (set at text) kinds) 8
   set_past_place one some =
-      past (Row (set at text) kinds) AlreadyThere (λ h. h)
-      (past (Row (set at text) kinds) NotAName (λ h. h)
-      (past (Row (set at text) kinds) IndexOutside (λ h. h)
-      (past (Row (set at text) kinds) NotATable (λ h. h) (past (Row (set at text) kinds) NoSuchPlace (some_none (kinds at) some) (set_past_value one)))))
+      past (Row profile (set at text) kinds) AlreadyThere (λ h. h)
+      (past (Row profile (set at text) kinds) NotAName (λ h. h)
+      (past (Row profile (set at text) kinds) IndexOutside (λ h. h)
+      (past (Row profile (set at text) kinds) NotATable (λ h. h) (past (Row profile (set at text) kinds) NoSuchPlace (some_none (kinds at) some) (set_past_value one)))))
 
-  pub set_too_deep : ¬ IsBadValue text → IsSome (kinds at) → IsTooDeep at text → IsFault (set at text) kinds (Some AddressLength)
+  pub set_too_deep : ¬ IsBadValue profile text → IsSome (kinds at) → IsTooDeep profile at text → IsFault profile (set at text) kinds (Some AddressLength)
   set_too_deep one some deep = (deep, set_past_place one some)
 
-  pub set_free : ¬ IsBadValue text → IsSome (kinds at) → ¬ IsTooDeep at text → IsFault (set at text) kinds None
+  pub set_free : ¬ IsBadValue profile text → IsSome (kinds at) → ¬ IsTooDeep profile at text → IsFault profile (set at text) kinds None
   set_free one some short =
-      none (Row (set at text) kinds) (past (Row (set at text) kinds) NoMemory (λ h. h) (past (Row (set at text) kinds) AddressLength short (set_past_place one some)))
+      none (Row profile (set at text) kinds) (past (Row profile (set at text) kinds) NoMemory (λ h. h) (past (Row profile (set at text) kinds) AddressLength short (set_past_place one some)))
 
-pub set_judged : (at : Address) (text : List ℕ) (kinds : Kinds) (r : Result Datum EditFault) → ¬ (at ≡ []) → ¬ IsBadValue text → IsSome (kinds at) → IsFitting at text r → IsJudged (set at text) text kinds r
-set_judged at text kinds (Ok d) root one some fits = (set_free at text kinds root one some fits.1, fits.0)
-set_judged at text kinds (Err BadValue) root one some fits = absurd (one fits)
-set_judged at text kinds (Err AddressLength) root one some fits = inr (set_too_deep at text kinds root one some fits.1)
-set_judged at text kinds (Err _) root one some fits = absurd fits
+pub set_judged : (profile : Profile) (at : Address) (text : List ℕ) (kinds : Kinds) (r : Result Datum EditFault) → ¬ (at ≡ []) → ¬ IsBadValue profile text → IsSome (kinds at) → IsFitting profile at text r → IsJudged profile (set at text) text kinds r
+set_judged profile at text kinds (Ok d) root one some fits = (set_free profile at text kinds root one some fits.1, fits.0)
+set_judged profile at text kinds (Err BadValue) root one some fits = absurd (one fits)
+set_judged profile at text kinds (Err AddressLength) root one some fits = inr (set_too_deep profile at text kinds root one some fits.1)
+set_judged profile at text kinds (Err _) root one some fits = absurd fits
 
 -- ---- insert
 
@@ -117,20 +118,20 @@ apart n i is = cc
 pub same_index : (i j : ℕ) → Index i ≡ Index j → i ≡ j
 same_index i j is = cc
 
-module _ (at q : Address) (s : Step) (text : List ℕ) (kinds : Kinds) (is : at ≡ q ++ s ∷ []) where
+module _ (profile : Profile) (at q : Address) (s : Step) (text : List ℕ) (kinds : Kinds) (is : at ≡ q ++ s ∷ []) where
   abbrev Holds : EditFault → Type 0
-  Holds = Row (insert at text) kinds
+  Holds = Row profile (insert at text) kinds
 
   past_start : Past Holds 2
-  past_start = past_place (insert at text) kinds (λ e. no_root q s (sym is ∙ e)) (λ h. h)
+  past_start = past_place profile (insert at text) kinds (λ e. no_root q s (sym is ∙ e)) (λ h. h)
 
-  pub insert_bad : IsBadValue text → IsFault (insert at text) kinds (Some BadValue)
+  pub insert_bad : IsBadValue profile text → IsFault profile (insert at text) kinds (Some BadValue)
   insert_bad bad = (bad, past_start)
 
-  past_value : ¬ IsBadValue text → Past Holds 3
+  past_value : ¬ IsBadValue profile text → Past Holds 3
   past_value one = past Holds BadValue one past_start
 
-  pub insert_nowhere : ¬ IsBadValue text → kinds q ≡ None → IsFault (insert at text) kinds (Some NoSuchPlace)
+  pub insert_nowhere : ¬ IsBadValue profile text → kinds q ≡ None → IsFault profile (insert at text) kinds (Some NoSuchPlace)
   insert_nowhere one empty = ((q, s, is, empty), past_value one)
 
   -- the parent is what another reading of the address has for it
@@ -140,32 +141,32 @@ module _ (at q : Address) (s : Step) (text : List ℕ) (kinds : Kinds) (is : at 
   of_last : (r : Address) (t : Step) → at ≡ r ++ t ∷ [] → s ≡ t
   of_last r t e = same_last q r s t (sym is ∙ e)
 
-  past_parent : ¬ IsBadValue text → IsSome (kinds q) → Past Holds 4
+  past_parent : ¬ IsBadValue profile text → IsSome (kinds q) → Past Holds 4
   past_parent one some = past Holds NoSuchPlace (λ (r, t, e, empty). some_none (kinds q) some (sym (of_parent r t e) ∙ empty)) (past_value one)
 
   not_table : (n : List ℕ) → s ≡ Name n → ¬ (kinds q ≡ Some a_table) → Holds NotATable
   not_table n last other = (q, n, is ∙ ap (λ t. q ++ t ∷ []) last, other)
 
-  past_table : ¬ IsBadValue text → IsSome (kinds q) → ((n : List ℕ) → s ≡ Name n → kinds q ≡ Some a_table) → Past Holds 5
+  past_table : ¬ IsBadValue profile text → IsSome (kinds q) → ((n : List ℕ) → s ≡ Name n → kinds q ≡ Some a_table) → Past Holds 5
   past_table one some table = past Holds NotATable (λ (r, n, e, other). other (of_parent r (Name n) e ∙ table n (of_last r (Name n) e))) (past_parent one some)
 
-  past_array : ¬ IsBadValue text → IsSome (kinds q) → ((n : List ℕ) → s ≡ Name n → kinds q ≡ Some a_table) → ((i : ℕ) → s ≡ Index i → ¬ HasFewer kinds q i) → Past Holds 7
+  past_array : ¬ IsBadValue profile text → IsSome (kinds q) → ((n : List ℕ) → s ≡ Name n → kinds q ≡ Some a_table) → ((i : ℕ) → s ≡ Index i → ¬ HasFewer kinds q i) → Past Holds 7
   past_array one some table array =
       past Holds NotAName (λ h. h)
       (past Holds IndexOutside (λ (r, i, e, fewer). array i (of_last r (Index i) e) (subst (λ p. HasFewer kinds p i) (sym (same_parent q r s (Index i) (sym is ∙ e))) fewer))
       (past_table one some table))
 
-  past_free : ¬ IsBadValue text → IsSome (kinds q) → ((n : List ℕ) → s ≡ Name n → (kinds q ≡ Some a_table) × (kinds at ≡ None)) → ((i : ℕ) → s ≡ Index i → ¬ HasFewer kinds q i) → Past Holds 8
+  past_free : ¬ IsBadValue profile text → IsSome (kinds q) → ((n : List ℕ) → s ≡ Name n → (kinds q ≡ Some a_table) × (kinds at ≡ None)) → ((i : ℕ) → s ≡ Index i → ¬ HasFewer kinds q i) → Past Holds 8
   past_free one some table array =
       past Holds AlreadyThere (λ (r, n, e, there). some_none (kinds at) there (table n (of_last r (Name n) e)).1)
       (past_array one some (λ n last. (table n last).0) array)
 
-  pub insert_free : ¬ IsBadValue text → IsSome (kinds q) → ((n : List ℕ) → s ≡ Name n → (kinds q ≡ Some a_table) × (kinds at ≡ None)) → ((i : ℕ) → s ≡ Index i → ¬ HasFewer kinds q i) → ¬ IsTooDeep at text
-      → IsFault (insert at text) kinds None
+  pub insert_free : ¬ IsBadValue profile text → IsSome (kinds q) → ((n : List ℕ) → s ≡ Name n → (kinds q ≡ Some a_table) × (kinds at ≡ None)) → ((i : ℕ) → s ≡ Index i → ¬ HasFewer kinds q i) → ¬ IsTooDeep profile at text
+      → IsFault profile (insert at text) kinds None
   insert_free one some table array short = none Holds (past Holds NoMemory (λ h. h) (past Holds AddressLength short (past_free one some table array)))
 
-  pub insert_judged : (r : Result Datum EditFault) → ¬ IsBadValue text → IsSome (kinds q) → ((n : List ℕ) → s ≡ Name n → (kinds q ≡ Some a_table) × (kinds at ≡ None)) → ((i : ℕ) → s ≡ Index i → ¬ HasFewer kinds q i)
-      → IsFitting at text r → IsJudged (insert at text) text kinds r
+  pub insert_judged : (r : Result Datum EditFault) → ¬ IsBadValue profile text → IsSome (kinds q) → ((n : List ℕ) → s ≡ Name n → (kinds q ≡ Some a_table) × (kinds at ≡ None)) → ((i : ℕ) → s ≡ Index i → ¬ HasFewer kinds q i)
+      → IsFitting profile at text r → IsJudged profile (insert at text) text kinds r
   insert_judged (Ok d) one some table array fits = (insert_free one some table array fits.1, fits.0)
   insert_judged (Err BadValue) one some table array fits = absurd (one fits)
   insert_judged (Err AddressLength) one some table array fits = inr (fits.1, past_free one some table array)
@@ -188,45 +189,45 @@ enough_there : (kinds : Kinds) (q : Address) (i : ℕ) → part_at kinds q [] �
 enough_there kinds q i array each (inl other) = other (sym (here kinds q) ∙ array)
 enough_there kinds q i array each (inr (j, low, empty)) = some_none _ (each j low) empty
 
-pub insert_step : (at q : Address) (s : Step) (text : List ℕ) (kinds : Kinds) (x : EditFault) → at ≡ q ++ s ∷ [] → ¬ IsBadValue text → IsSome (kinds q) → IsStepFault s (part_at kinds q) (Some x) → IsFault (insert at text) kinds (Some x)
-insert_step at q (Name n) text kinds NotATable is one some found = (not_table at q (Name n) text kinds is n refl (λ table. found (here kinds q ∙ table)), past_parent at q (Name n) text kinds is one some)
-insert_step at q (Name n) text kinds AlreadyThere is one some found = (
+pub insert_step : (profile : Profile) (at q : Address) (s : Step) (text : List ℕ) (kinds : Kinds) (x : EditFault) → at ≡ q ++ s ∷ [] → ¬ IsBadValue profile text → IsSome (kinds q) → IsStepFault s (part_at kinds q) (Some x) → IsFault profile (insert at text) kinds (Some x)
+insert_step profile at q (Name n) text kinds NotATable is one some found = (not_table profile at q (Name n) text kinds is n refl (λ table. found (here kinds q ∙ table)), past_parent profile at q (Name n) text kinds is one some)
+insert_step profile at q (Name n) text kinds AlreadyThere is one some found = (
   (q, n, is, subst (λ p. IsSome (kinds p)) (sym is) found.1),
-  past_array at q (Name n) text kinds is one some (λ m e. sym (here kinds q) ∙ found.0) (λ i e. absurd (apart n i e)),
+  past_array profile at q (Name n) text kinds is one some (λ m e. sym (here kinds q) ∙ found.0) (λ i e. absurd (apart n i e)),
 )
-insert_step at q (Index i) text kinds IndexOutside is one some found =
-    ((q, i, is, fewer_there kinds q i found), past_table at q (Index i) text kinds is one some (λ n e. absurd (apart n i (sym e))))
-insert_step at q _ text kinds _ is one some found = absurd found
+insert_step profile at q (Index i) text kinds IndexOutside is one some found =
+    ((q, i, is, fewer_there kinds q i found), past_table profile at q (Index i) text kinds is one some (λ n e. absurd (apart n i (sym e))))
+insert_step profile at q _ text kinds _ is one some found = absurd found
 
-pub insert_room : (at q : Address) (s : Step) (text : List ℕ) (kinds : Kinds) (r : Result Datum EditFault) → at ≡ q ++ s ∷ [] → ¬ IsBadValue text → IsSome (kinds q) → IsStepFault s (part_at kinds q) None → IsFitting at text r
-    → IsJudged (insert at text) text kinds r
-insert_room at q (Name n) text kinds r is one some found fits =
-    insert_judged at q (Name n) text kinds is r one some (λ m e. (sym (here kinds q) ∙ found.0, ap kinds is ∙ found.1)) (λ i e. absurd (apart n i e)) fits
-insert_room at q (Index i) text kinds r is one some found fits =
-    insert_judged at q (Index i) text kinds is r one some (λ n e. absurd (apart n i (sym e))) (λ j e. subst (λ k. ¬ HasFewer kinds q k) (same_index i j e) (enough_there kinds q i found.0 found.1)) fits
+pub insert_room : (profile : Profile) (at q : Address) (s : Step) (text : List ℕ) (kinds : Kinds) (r : Result Datum EditFault) → at ≡ q ++ s ∷ [] → ¬ IsBadValue profile text → IsSome (kinds q) → IsStepFault s (part_at kinds q) None → IsFitting profile at text r
+    → IsJudged profile (insert at text) text kinds r
+insert_room profile at q (Name n) text kinds r is one some found fits =
+    insert_judged profile at q (Name n) text kinds is r one some (λ m e. (sym (here kinds q) ∙ found.0, ap kinds is ∙ found.1)) (λ i e. absurd (apart n i e)) fits
+insert_room profile at q (Index i) text kinds r is one some found fits =
+    insert_judged profile at q (Index i) text kinds is r one some (λ n e. absurd (apart n i (sym e))) (λ j e. subst (λ k. ¬ HasFewer kinds q k) (same_index i j e) (enough_there kinds q i found.0 found.1)) fits
 
 -- ---- remove, rename
 
-pub remove_free : (at q : Address) (s : Step) (kinds : Kinds) → at ≡ q ++ s ∷ [] → IsSome (kinds at) → IsFault (remove at) kinds None
-remove_free at q s kinds is some RootNamed h = no_root q s (sym is ∙ h)
-remove_free at q s kinds is some NoSuchPlace h = some_none (kinds at) some h
-remove_free at q s kinds is some NotAnElement h = h
-remove_free at q s kinds is some BadValue h = h
-remove_free at q s kinds is some NotATable h = h
-remove_free at q s kinds is some IndexOutside h = h
-remove_free at q s kinds is some NotAName h = h
-remove_free at q s kinds is some AlreadyThere h = h
-remove_free at q s kinds is some AddressLength h = h
-remove_free at q s kinds is some NoMemory h = h
+pub remove_free : (profile : Profile) (at q : Address) (s : Step) (kinds : Kinds) → at ≡ q ++ s ∷ [] → IsSome (kinds at) → IsFault profile (remove at) kinds None
+remove_free profile at q s kinds is some RootNamed h = no_root q s (sym is ∙ h)
+remove_free profile at q s kinds is some NoSuchPlace h = some_none (kinds at) some h
+remove_free profile at q s kinds is some NotAnElement h = h
+remove_free profile at q s kinds is some BadValue h = h
+remove_free profile at q s kinds is some NotATable h = h
+remove_free profile at q s kinds is some IndexOutside h = h
+remove_free profile at q s kinds is some NotAName h = h
+remove_free profile at q s kinds is some AlreadyThere h = h
+remove_free profile at q s kinds is some AddressLength h = h
+remove_free profile at q s kinds is some NoMemory h = h
 
-pub rename_free : (at q : Address) (n to : List ℕ) (kinds : Kinds) → at ≡ child q n → IsSome (kinds at) → ¬ IsSome (kinds (child q to)) → IsFault (rename at to) kinds None
-rename_free at q n to kinds is some free RootNamed h = no_root q (Name n) (sym is ∙ h)
-rename_free at q n to kinds is some free NoSuchPlace h = some_none (kinds at) some h
-rename_free at q n to kinds is some free NotAName (r, i, e) = apart n i (same_last q r (Name n) (Index i) (sym is ∙ e))
-rename_free at q n to kinds is some free AlreadyThere (r, m, e, there) = free (subst (λ p. IsSome (kinds (child p to))) (sym (same_parent q r (Name n) (Name m) (sym is ∙ e))) there)
-rename_free at q n to kinds is some free NotAnElement h = h
-rename_free at q n to kinds is some free BadValue h = h
-rename_free at q n to kinds is some free NotATable h = h
-rename_free at q n to kinds is some free IndexOutside h = h
-rename_free at q n to kinds is some free AddressLength h = h
-rename_free at q n to kinds is some free NoMemory h = h
+pub rename_free : (profile : Profile) (at q : Address) (n to : List ℕ) (kinds : Kinds) → at ≡ child q n → IsSome (kinds at) → ¬ IsSome (kinds (child q to)) → IsFault profile (rename at to) kinds None
+rename_free profile at q n to kinds is some free RootNamed h = no_root q (Name n) (sym is ∙ h)
+rename_free profile at q n to kinds is some free NoSuchPlace h = some_none (kinds at) some h
+rename_free profile at q n to kinds is some free NotAName (r, i, e) = apart n i (same_last q r (Name n) (Index i) (sym is ∙ e))
+rename_free profile at q n to kinds is some free AlreadyThere (r, m, e, there) = free (subst (λ p. IsSome (kinds (child p to))) (sym (same_parent q r (Name n) (Name m) (sym is ∙ e))) there)
+rename_free profile at q n to kinds is some free NotAnElement h = h
+rename_free profile at q n to kinds is some free BadValue h = h
+rename_free profile at q n to kinds is some free NotATable h = h
+rename_free profile at q n to kinds is some free IndexOutside h = h
+rename_free profile at q n to kinds is some free AddressLength h = h
+rename_free profile at q n to kinds is some free NoMemory h = h

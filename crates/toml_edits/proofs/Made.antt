@@ -2,6 +2,7 @@
 use Rattle.std.proofs.Common.{◌≡◌, inl, inr, ℕ, ◌^◌, ◌<◌, List, [], ◌∷◌, ◌++◌, append_assoc, append-nil, length, Option, Some, None, IsSome, is_some, Bool, true, false, cond, Vec, Global, refl, sym, ap, subst, ◌∙◌, true≢false, arith}
 use mathlib.Core.Path.{fun_ext}
 use Rattle.std.specs.Prelude.{option_map}
+use Rattle.toml_tree.specs.declared.profile.Profile.{Profile}
 use Rattle.toml_names.specs.declared.model.address.Step.{Step}
 use Rattle.toml_names.specs.declared.model.address.Step.TheVariants.{Name, Index}
 use Rattle.toml_names.specs.declared.model.datum.Datum.{Datum, Array}
@@ -126,8 +127,8 @@ may_rename d at q n to is some free =
 
 -- ---- set
 
-pub sets : (d : Datum) (at : Address) (text : List ℕ) (v g : Kinds) → IsGoodValue text v → ((p : Address) → g p ≡ below at (λ part. v) (kind_at d) p) → IsAfter (set at text) (kind_at d) g
-sets d at text v g good made =
+pub sets : (profile : Profile) (d : Datum) (at : Address) (text : List ℕ) (v g : Kinds) → IsGoodValue profile text v → ((p : Address) → g p ≡ below at (λ part. v) (kind_at d) p) → IsAfter profile (set at text) (kind_at d) g
+sets profile d at text v g good made =
     (v, good, moves_as (carry_below at nowhere) (carry_below at nowhere) at (at ++ []) v (kind_at d) _ g refl (sym (append-nil at)) made (moves_below at nowhere [] v (kind_at d) (λ part. v) (moves_put v _)))
 
 -- ---- insert
@@ -159,7 +160,7 @@ adds f v q s none =
     moves_alike (carry_below q Some) Some (q ++ s ∷ []) v f _ (λ b k have. stays q b)
     (moves_below q Some (s ∷ []) v f (below (s ∷ []) (λ part. v)) (moves_add s v (λ r. f (q ++ r)) none))
 
-module _ (d : Datum) (at q : Address) (text : List ℕ) (v g : Kinds) (free : IsFault (insert at text) (kind_at d) None) where
+module _ (profile : Profile) (d : Datum) (at q : Address) (text : List ℕ) (v g : Kinds) (free : IsFault profile (insert at text) (kind_at d) None) where
   pub table_there : (n : List ℕ) → at ≡ child q n → kind_at d (q ++ []) ≡ Some a_table
   table_there n is = ap (kind_at d) (append-nil q) ∙ some_table _ (λ other. free NotATable (q, n, is, other))
 
@@ -169,12 +170,12 @@ module _ (d : Datum) (at q : Address) (text : List ℕ) (v g : Kinds) (free : Is
     λ j low. some_of _ (λ empty. free IndexOutside (q, i, is, inr (j, low, empty))),
   )
 
-  pub inserts_member : (n : List ℕ) → at ≡ child q n → IsGoodValue text v → ((p : Address) → g p ≡ below q (below (Name n ∷ []) (λ part. v)) (kind_at d) p) → IsAfter (insert at text) (kind_at d) g
+  pub inserts_member : (n : List ℕ) → at ≡ child q n → IsGoodValue profile text v → ((p : Address) → g p ≡ below q (below (Name n ∷ []) (λ part. v)) (kind_at d) p) → IsAfter profile (insert at text) (kind_at d) g
   inserts_member n is good made =
       let empty : kind_at d (q ++ Name n ∷ []) ≡ None = none_of _ (λ some. free AlreadyThere (q, n, is, subst (λ p. IsSome (kind_at d p)) (sym is) some)) in
       (v, good, moves_as (inserting (parted at)) Some at (q ++ Name n ∷ []) v (kind_at d) _ g (ap inserting (ap parted is ∙ parted_at q (Name n))) is made (adds (kind_at d) v q (Name n) (none_below d q (Name n) empty)))
 
-  pub inserts_element : (i : ℕ) → at ≡ element q i → IsGoodValue text v → ((p : Address) → g p ≡ below q (shifted_in i v) (kind_at d) p) → IsAfter (insert at text) (kind_at d) g
+  pub inserts_element : (i : ℕ) → at ≡ element q i → IsGoodValue profile text v → ((p : Address) → g p ≡ below q (shifted_in i v) (kind_at d) p) → IsAfter profile (insert at text) (kind_at d) g
   inserts_element i is good made = (
     v,
     good,

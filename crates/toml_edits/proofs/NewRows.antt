@@ -1,5 +1,6 @@
 -- Which row of a new table holds first.
 use Rattle.std.proofs.Common.{◌≡◌, ◌↔◌, ℕ, ◌<◌, List, [], ◌∷◌, ◌++◌, append-nil, Option, Some, None, IsSome, sym, ap, subst, ◌∙◌, arith}
+use Rattle.toml_tree.specs.declared.profile.Profile.{Profile}
 use Rattle.toml_names.specs.declared.model.address.Step.{Step}
 use Rattle.toml_names.specs.declared.model.address.Step.TheVariants.{Name, Index}
 use Rattle.toml_names.specs.model.Addresses.{Address, child, element}
@@ -18,14 +19,14 @@ use Rattle.toml_edits.proofs.LastStep.{no_root, same_last, same_parent}
 
 -- ---- a section
 
-module _ (at q : Address) (s : Step) (kinds : Kinds) (is : at ≡ q ++ s ∷ []) where
+module _ (profile : Profile) (at q : Address) (s : Step) (kinds : Kinds) (is : at ≡ q ++ s ∷ []) where
   abbrev Rows : EditFault → Type 0
-  Rows = Row (new_section at) kinds
+  Rows = Row profile (new_section at) kinds
 
   past_value : Past Rows 3
-  past_value = past Rows BadValue (λ h. h) (past_place (new_section at) kinds (λ e. no_root q s (sym is ∙ e)) (λ h. h))
+  past_value = past Rows BadValue (λ h. h) (past_place profile (new_section at) kinds (λ e. no_root q s (sym is ∙ e)) (λ h. h))
 
-  pub section_nowhere : kinds q ≡ None → IsFault (new_section at) kinds (Some NoSuchPlace)
+  pub section_nowhere : kinds q ≡ None → IsFault profile (new_section at) kinds (Some NoSuchPlace)
   section_nowhere empty = ((q, s, is, empty), past_value)
 
   -- the parent is what another reading of the address has for it
@@ -42,7 +43,7 @@ module _ (at q : Address) (s : Step) (kinds : Kinds) (is : at ≡ q ++ s ∷ [])
   past_table some table =
       past Rows IndexOutside (λ h. h) (past Rows NotATable (λ (r, n, e, other). other (of_parent r (Name n) e ∙ table n (of_last r (Name n) e))) (past_parent some))
 
-  pub section_index : (i : ℕ) → s ≡ Index i → IsSome (kinds q) → IsFault (new_section at) kinds (Some NotAName)
+  pub section_index : (i : ℕ) → s ≡ Index i → IsSome (kinds q) → IsFault profile (new_section at) kinds (Some NotAName)
   section_index i last some = ((q, i, is ∙ ap (λ t. q ++ t ∷ []) last), past_table some (λ n e. absurd (apart n i (sym e ∙ last))))
 
   module _ (n : List ℕ) (named : s ≡ Name n) where
@@ -52,7 +53,7 @@ module _ (at q : Address) (s : Step) (kinds : Kinds) (is : at ≡ q ++ s ∷ [])
     past_name : IsSome (kinds q) → kinds q ≡ Some a_table → Past Rows 7
     past_name some table = past Rows NotAName (λ (r, i, e). apart n i (sym named ∙ of_last r (Index i) e)) (past_table some (λ m e. table))
 
-    pub section_step : (x : EditFault) → IsSome (kinds q) → IsStepFault (Name n) (part_at kinds q) (Some x) → IsFault (new_section at) kinds (Some x)
+    pub section_step : (x : EditFault) → IsSome (kinds q) → IsStepFault (Name n) (part_at kinds q) (Some x) → IsFault profile (new_section at) kinds (Some x)
     section_step NotATable some found = ((q, n, is ∙ ap (λ t. q ++ t ∷ []) named, λ table. found (here kinds q ∙ table)), past_parent some)
     section_step AlreadyThere some found = (
       (q, n, is ∙ ap (λ t. q ++ t ∷ []) named, subst (λ p. IsSome (kinds p)) (sym (is ∙ ap (λ t. q ++ t ∷ []) named)) found.1),
@@ -64,30 +65,30 @@ module _ (at q : Address) (s : Step) (kinds : Kinds) (is : at ≡ q ++ s ∷ [])
     past_free some found =
         past Rows AlreadyThere (λ (r, m, e, there). some_none (kinds at) there (free_name found).1) (past_name some (free_name found).0)
 
-    pub section_long : IsSome (kinds q) → IsStepFault (Name n) (part_at kinds q) None → max_steps < length at → IsFault (new_section at) kinds (Some AddressLength)
+    pub section_long : IsSome (kinds q) → IsStepFault (Name n) (part_at kinds q) None → max_steps < length at → IsFault profile (new_section at) kinds (Some AddressLength)
     section_long some found long = (long, past_free some found)
 
-    pub section_free : IsSome (kinds q) → IsStepFault (Name n) (part_at kinds q) None → ¬ (max_steps < length at) → IsFault (new_section at) kinds None
+    pub section_free : IsSome (kinds q) → IsStepFault (Name n) (part_at kinds q) None → ¬ (max_steps < length at) → IsFault profile (new_section at) kinds None
     section_free some found short = none Rows (past Rows NoMemory (λ h. h) (past Rows AddressLength short (past_free some found)))
 
 -- ---- an element
 
-pub element_root : (kinds : Kinds) (at : Address) → at ≡ [] → IsFault (new_element at) kinds (Some RootNamed)
-element_root kinds at is = (is, λ y low. absurd (omega (arith, low)))
+pub element_root : (profile : Profile) (kinds : Kinds) (at : Address) → at ≡ [] → IsFault profile (new_element at) kinds (Some RootNamed)
+element_root profile kinds at is = (is, λ y low. absurd (omega (arith, low)))
 
 -- where it is not an element's address
-pub element_elsewhere : (kinds : Kinds) (at : Address) → ¬ (at ≡ []) → ((r : Address) (n : List ℕ) (i : ℕ) → ¬ IsElementOf at r n i) → IsFault (new_element at) kinds (Some NotAnElement)
-element_elsewhere kinds at root other = (other, past_root (new_element at) kinds root)
+pub element_elsewhere : (profile : Profile) (kinds : Kinds) (at : Address) → ¬ (at ≡ []) → ((r : Address) (n : List ℕ) (i : ℕ) → ¬ IsElementOf at r n i) → IsFault profile (new_element at) kinds (Some NotAnElement)
+element_elsewhere profile kinds at root other = (other, past_root profile (new_element at) kinds root)
 
-module _ (at r : Address) (n : List ℕ) (i : ℕ) (kinds : Kinds) (is : IsElementOf at r n i) where
+module _ (profile : Profile) (at r : Address) (n : List ℕ) (i : ℕ) (kinds : Kinds) (is : IsElementOf at r n i) where
   abbrev ElementRows : EditFault → Type 0
-  ElementRows = Row (new_element at) kinds
+  ElementRows = Row profile (new_element at) kinds
 
   past_place_there : Past ElementRows 3
   past_place_there =
-      past ElementRows BadValue (λ h. h) (past_place (new_element at) kinds (λ e. no_root (child r n) (Index i) (sym is ∙ e)) (λ other. other r n i is))
+      past ElementRows BadValue (λ h. h) (past_place profile (new_element at) kinds (λ e. no_root (child r n) (Index i) (sym is ∙ e)) (λ other. other r n i is))
 
-  pub element_nowhere : kinds r ≡ None → IsFault (new_element at) kinds (Some NoSuchPlace)
+  pub element_nowhere : kinds r ≡ None → IsFault profile (new_element at) kinds (Some NoSuchPlace)
   element_nowhere empty = ((r, n, i, is, empty), past_place_there)
 
   of_table : (p : Address) (m : List ℕ) (j : ℕ) → IsElementOf at p m j → kinds p ≡ kinds r
@@ -96,13 +97,13 @@ module _ (at r : Address) (n : List ℕ) (i : ℕ) (kinds : Kinds) (is : IsEleme
   past_above : IsSome (kinds r) → Past ElementRows 4
   past_above some = past ElementRows NoSuchPlace (λ (p, m, j, e, empty). some_none (kinds r) some (sym (of_table p m j e) ∙ empty)) past_place_there
 
-  pub element_no_table : IsSome (kinds r) → ¬ (kinds r ≡ Some a_table) → IsFault (new_element at) kinds (Some NotATable)
+  pub element_no_table : IsSome (kinds r) → ¬ (kinds r ≡ Some a_table) → IsFault profile (new_element at) kinds (Some NotATable)
   element_no_table some other = ((r, n, i, is, other), past_above some)
 
   past_members : IsSome (kinds r) → kinds r ≡ Some a_table → Past ElementRows 5
   past_members some table = past ElementRows NotATable (λ (p, m, j, e, other). other (of_table p m j e ∙ table)) (past_above some)
 
-  pub element_outside : IsSome (kinds r) → kinds r ≡ Some a_table → ¬ IsNextIndex kinds (child r n) i → IsFault (new_element at) kinds (Some IndexOutside)
+  pub element_outside : IsSome (kinds r) → kinds r ≡ Some a_table → ¬ IsNextIndex kinds (child r n) i → IsFault profile (new_element at) kinds (Some IndexOutside)
   element_outside some table other = ((child r n, i, is, other), past_members some table)
 
   past_index : IsSome (kinds r) → kinds r ≡ Some a_table → IsNextIndex kinds (child r n) i → Past ElementRows 8
@@ -114,10 +115,10 @@ module _ (at r : Address) (n : List ℕ) (i : ℕ) (kinds : Kinds) (is : IsEleme
       (subst (λ p. IsNextIndex kinds p i) (same_parent (child r n) q (Index i) (Index j) (sym is ∙ e)) next)))
       (past_members some table)))
 
-  pub element_long : IsSome (kinds r) → kinds r ≡ Some a_table → IsNextIndex kinds (child r n) i → max_steps < length at → IsFault (new_element at) kinds (Some AddressLength)
+  pub element_long : IsSome (kinds r) → kinds r ≡ Some a_table → IsNextIndex kinds (child r n) i → max_steps < length at → IsFault profile (new_element at) kinds (Some AddressLength)
   element_long some table next long = (long, past_index some table next)
 
-  pub element_free : IsSome (kinds r) → kinds r ≡ Some a_table → IsNextIndex kinds (child r n) i → ¬ (max_steps < length at) → IsFault (new_element at) kinds None
+  pub element_free : IsSome (kinds r) → kinds r ≡ Some a_table → IsNextIndex kinds (child r n) i → ¬ (max_steps < length at) → IsFault profile (new_element at) kinds None
   element_free some table next short = none ElementRows (past ElementRows NoMemory (λ h. h) (past ElementRows AddressLength short (past_index some table next)))
 
 -- the next index of a part is that at its address

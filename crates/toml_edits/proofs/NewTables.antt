@@ -5,6 +5,7 @@ use Rattle.std.proofs.lemmas.Bool.Decides.{nat_tests}
 use Rattle.std.specs.Bool.{nat_lt}
 use Rattle.std.proofs.lemmas.Option.{slice_get_cases}
 use Rattle.std.specs.Prelude.{cond, option_map}
+use Rattle.toml_tree.specs.declared.profile.Profile.{Profile}
 use Rattle.toml_names.specs.declared.model.address.Step.{Step}
 use Rattle.toml_names.specs.declared.model.address.Step.TheVariants.{Name, Index}
 use Rattle.toml_names.specs.declared.model.datum.Datum.{Datum, Array}
@@ -30,15 +31,15 @@ adds_facts d q n v w g same empty made =
     subst (λ (f : Kinds). Moves Some (child q n) f (kind_at d) g) (fun_ext same)
     (moves_as Some Some (child q n) (child q n) v (kind_at d) _ g refl refl made (adds (kind_at d) v q (Name n) (none_below d q (Name n) empty)))
 
-pub makes_section : (d : Datum) (at q : Address) (n : List ℕ) (v g : Kinds) → at ≡ child q n → ((p : Address) → v p ≡ an_empty_table p) → kind_at d (child q n) ≡ None
-    → ((p : Address) → g p ≡ below q (below (Name n ∷ []) (λ part. v)) (kind_at d) p) → IsAfter (new_section at) (kind_at d) g
-makes_section d at q n v g is same empty made = subst (λ (p : Address). Moves Some p an_empty_table (kind_at d) g) (sym is) (adds_facts d q n v an_empty_table g same empty made)
+pub makes_section : (profile : Profile) (d : Datum) (at q : Address) (n : List ℕ) (v g : Kinds) → at ≡ child q n → ((p : Address) → v p ≡ an_empty_table p) → kind_at d (child q n) ≡ None
+    → ((p : Address) → g p ≡ below q (below (Name n ∷ []) (λ part. v)) (kind_at d) p) → IsAfter profile (new_section at) (kind_at d) g
+makes_section profile d at q n v g is same empty made = subst (λ (p : Address). Moves Some p an_empty_table (kind_at d) g) (sym is) (adds_facts d q n v an_empty_table g same empty made)
 
 -- ---- an array is made with its element
 
-pub makes_array : (d : Datum) (at r : Address) (n : List ℕ) (i : ℕ) (v g : Kinds) → IsElementOf at r n i → ((p : Address) → v p ≡ one_empty_table p) → kind_at d (child r n) ≡ None
-    → ((p : Address) → g p ≡ below r (below (Name n ∷ []) (λ part. v)) (kind_at d) p) → IsAfter (new_element at) (kind_at d) g
-makes_array d at r n i v g is same empty made = (
+pub makes_array : (profile : Profile) (d : Datum) (at r : Address) (n : List ℕ) (i : ℕ) (v g : Kinds) → IsElementOf at r n i → ((p : Address) → v p ≡ one_empty_table p) → kind_at d (child r n) ≡ None
+    → ((p : Address) → g p ≡ below r (below (Name n ∷ []) (λ part. v)) (kind_at d) p) → IsAfter profile (new_element at) (kind_at d) g
+makes_array profile d at r n i v g is same empty made = (
   child r n,
   i,
   is,
@@ -91,9 +92,9 @@ keeps_low (s ∷ q) i f low (t ∷ b) k have = by (same_step s t) refl (λ same.
     by false other below = refl
     by true same below = ap (option_map (λ r. t ∷ r)) (below same)
 
-pub makes_element : (d : Datum) (at q : Address) (i : ℕ) (v g : Kinds) → at ≡ element q i → ((p : Address) → v p ≡ an_empty_table p) → (k : Kind) → kind_at d q ≡ Some k → kind_at d (element q i) ≡ None
-    → ((p : Address) → g p ≡ below q (shifted_in i v) (kind_at d) p) → IsAfter (new_element at) (kind_at d) g
-makes_element d at q i v g is same k there empty made = (
+pub makes_element : (profile : Profile) (d : Datum) (at q : Address) (i : ℕ) (v g : Kinds) → at ≡ element q i → ((p : Address) → v p ≡ an_empty_table p) → (k : Kind) → kind_at d q ≡ Some k → kind_at d (element q i) ≡ None
+    → ((p : Address) → g p ≡ below q (shifted_in i v) (kind_at d) p) → IsAfter profile (new_element at) (kind_at d) g
+makes_element profile d at q i v g is same k there empty made = (
   q,
   i,
   is,
@@ -106,20 +107,20 @@ makes_element d at q i v g is same k there empty made = (
 
 -- ---- where no fault holds
 
-module _ (d : Datum) (at q : Address) (n : List ℕ) (is : at ≡ child q n) (free : IsFault (new_section at) (kind_at d) None) where
+module _ (profile : Profile) (d : Datum) (at q : Address) (n : List ℕ) (is : at ≡ child q n) (free : IsFault profile (new_section at) (kind_at d) None) where
   pub section_there : kind_at d (q ++ []) ≡ Some a_table
   section_there = ap (kind_at d) (append-nil q) ∙ some_table _ (λ other. free NotATable (q, n, is, other))
 
-  pub section_made : (v g : Kinds) → ((p : Address) → v p ≡ an_empty_table p) → ((p : Address) → g p ≡ below q (below (Name n ∷ []) (λ part. v)) (kind_at d) p) → IsAfter (new_section at) (kind_at d) g
+  pub section_made : (v g : Kinds) → ((p : Address) → v p ≡ an_empty_table p) → ((p : Address) → g p ≡ below q (below (Name n ∷ []) (λ part. v)) (kind_at d) p) → IsAfter profile (new_section at) (kind_at d) g
   section_made v g same made =
-      makes_section d at q n v g is same (none_of _ (λ some. free AlreadyThere (q, n, is, subst (λ p. IsSome (kind_at d p)) (sym is) some))) made
+      makes_section profile d at q n v g is same (none_of _ (λ some. free AlreadyThere (q, n, is, subst (λ p. IsSome (kind_at d p)) (sym is) some))) made
 
-module _ (d : Datum) (at r : Address) (n : List ℕ) (i : ℕ) (is : IsElementOf at r n i) (free : IsFault (new_element at) (kind_at d) None) where
+module _ (profile : Profile) (d : Datum) (at r : Address) (n : List ℕ) (i : ℕ) (is : IsElementOf at r n i) (free : IsFault profile (new_element at) (kind_at d) None) where
   pub table_there : kind_at d (r ++ []) ≡ Some a_table
   table_there = ap (kind_at d) (append-nil r) ∙ some_table _ (λ other. free NotATable (r, n, i, is, other))
 
-  pub array_made : (v g : Kinds) → kind_at d (child r n) ≡ None → ((p : Address) → v p ≡ one_empty_table p) → ((p : Address) → g p ≡ below r (below (Name n ∷ []) (λ part. v)) (kind_at d) p) → IsAfter (new_element at) (kind_at d) g
-  array_made v g empty same made = makes_array d at r n i v g is same empty made
+  pub array_made : (v g : Kinds) → kind_at d (child r n) ≡ None → ((p : Address) → v p ≡ one_empty_table p) → ((p : Address) → g p ≡ below r (below (Name n ∷ []) (λ part. v)) (kind_at d) p) → IsAfter profile (new_element at) (kind_at d) g
+  array_made v g empty same made = makes_array profile d at r n i v g is same empty made
 
   module _ (k : Kind) (there : kind_at d (child r n) ≡ Some k) where
     is_next : ¬ ¬ IsNext (kind_at d) (child r n) i (Some k)
@@ -131,5 +132,5 @@ module _ (d : Datum) (at r : Address) (n : List ℕ) (i : ℕ) (is : IsElementOf
       λ j low. some_of _ (λ empty. is_next (λ next. some_none _ (next.1 j low) empty)),
     )
 
-    pub element_made : (v g : Kinds) → ((p : Address) → v p ≡ an_empty_table p) → ((p : Address) → g p ≡ below (child r n) (shifted_in i v) (kind_at d) p) → IsAfter (new_element at) (kind_at d) g
-    element_made v g same made = makes_element d at (child r n) i v g is same k there (none_of _ (λ some. is_next (λ next. some_none _ some next.2))) made
+    pub element_made : (v g : Kinds) → ((p : Address) → v p ≡ an_empty_table p) → ((p : Address) → g p ≡ below (child r n) (shifted_in i v) (kind_at d) p) → IsAfter profile (new_element at) (kind_at d) g
+    element_made v g same made = makes_element profile d at (child r n) i v g is same k there (none_of _ (λ some. is_next (λ next. some_none _ some next.2))) made

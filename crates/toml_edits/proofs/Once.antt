@@ -2,6 +2,7 @@
 use Rattle.std.proofs.Common.{◌≡◌, inl, inr, List, ℕ, Option, Some, None, refl, sym, ap, subst, ◌∙◌}
 use Rattle.toml_tree.proofs.Proved.{one_value}
 use Rattle.toml_tree.specs.Tree.{Value}
+use Rattle.toml_tree.specs.declared.profile.Profile.{Profile}
 use Rattle.toml_names.specs.declared.model.address.Step.TheVariants.{Index}
 use Rattle.toml_names.specs.model.Addresses.{Address}
 use Rattle.toml_names.specs.model.Data.{Kinds, IsDataOf}
@@ -26,9 +27,9 @@ data_once : (ms : List Named) (f g : Kinds) → IsDataOf ms f → IsDataOf ms g 
 data_once ms f g one two = same_facts f g (λ a k h. (two a k).1 ((one a k).0 h)) (λ a k h. (one a k).1 ((two a k).0 h))
 
 -- a text is one value, and that has one map
-good_once : (text : List ℕ) (f g : Kinds) → IsGoodValue text f → IsGoodValue text g → (a : Address) → f a ≡ g a
-good_once text f g one two =
-    let same : one.value.tree ≡ two.value.tree = one_value one.value.tree two.value.tree 0 text one.value.spelled two.value.spelled in
+good_once : (profile : Profile) (text : List ℕ) (f g : Kinds) → IsGoodValue profile text f → IsGoodValue profile text g → (a : Address) → f a ≡ g a
+good_once profile text f g one two =
+    let same : one.value.tree ≡ two.value.tree = one_value one.value.tree two.value.tree 0 text one.value.is_value.0 two.value.is_value.0 in
     data_once (value_facts two.value.tree) f g (subst (λ (v : Value). IsDataOf (value_facts v) f) same one.facts) two.facts
 
 -- what comes from somewhere stands in each map that the same moves make
@@ -45,11 +46,11 @@ element_once q at None old one two m n = moves_once Some q one_empty_table one_e
 element_once q at (Some k) old one two m n = moves_once Some at an_empty_table an_empty_table old one two (λ a. refl) m n
 
 pub one_after : OneAfter
-one_after (set at value) old one two h i = moves_once (carry_below at nowhere) at h.0 i.0 old one two (good_once value h.0 i.0 h.1 i.1) h.2 i.2
-one_after (insert at value) old one two h i = moves_once (carry (insert at value)) at h.0 i.0 old one two (good_once value h.0 i.0 h.1 i.1) h.2 i.2
-one_after (rename at to) old one two h i = moves_once (carry (rename at to)) _ nothing nothing old one two (λ a. refl) h i
-one_after (remove at) old one two h i = moves_once (carry (remove at)) _ nothing nothing old one two (λ a. refl) h i
-one_after (new_section at) old one two h i = moves_once Some at an_empty_table an_empty_table old one two (λ a. refl) h i
-one_after (new_element at) old one two h i =
+one_after profile (set at value) old one two h i = moves_once (carry_below at nowhere) at h.0 i.0 old one two (good_once profile value h.0 i.0 h.1 i.1) h.2 i.2
+one_after profile (insert at value) old one two h i = moves_once (carry (insert at value)) at h.0 i.0 old one two (good_once profile value h.0 i.0 h.1 i.1) h.2 i.2
+one_after profile (rename at to) old one two h i = moves_once (carry (rename at to)) _ nothing nothing old one two (λ a. refl) h i
+one_after profile (remove at) old one two h i = moves_once (carry (remove at)) _ nothing nothing old one two (λ a. refl) h i
+one_after profile (new_section at) old one two h i = moves_once Some at an_empty_table an_empty_table old one two (λ a. refl) h i
+one_after profile (new_element at) old one two h i =
     let same : i.0 ≡ h.0 = same_parent i.0 h.0 (Index i.1) (Index h.1) (sym i.2 ∙ h.2) in
     element_once h.0 at (old h.0) old one two h.3 (subst (λ q. AddsElement q at (old q) old two) same i.3)

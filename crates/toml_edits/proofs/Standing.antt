@@ -4,6 +4,7 @@ use Rattle.std.proofs.lemmas.Bool.Decides.{nat_tests}
 use Rattle.std.proofs.lemmas.List.{append-nil}
 use Rattle.std.proofs.lemmas.Option.{same_Some, none-some}
 use Rattle.std.specs.Prelude.{option_and_then}
+use Rattle.toml_tree.specs.declared.profile.Profile.{Profile}
 use Rattle.toml_names.specs.declared.model.datum.Datum.{Datum}
 use Rattle.toml_names.specs.declared.model.address.Step.{Step}
 use Rattle.toml_names.specs.model.Addresses.{Address, same_address}
@@ -38,8 +39,8 @@ pub some_of : (kinds : Kinds) (a : Address) → Has kinds a → IsSome (kinds a)
 some_of kinds a h = ap is_some h.1
 
 -- a value has something at its root
-pub good_root : (text : List ℕ) (v : Kinds) → IsGoodValue text v → Has v []
-good_root text v g = (kind_of g.value.tree, (g.facts [] (kind_of g.value.tree)).1 (zero, value_named 0 Valued [] g.value.tree, omega arith, refl, (refl, refl)))
+pub good_root : (profile : Profile) (text : List ℕ) (v : Kinds) → IsGoodValue profile text v → Has v []
+good_root profile text v g = (kind_of g.value.tree, (g.facts [] (kind_of g.value.tree)).1 (zero, value_named 0 Valued [] g.value.tree, omega arith, refl, (refl, refl)))
 
 not_zero : (s : Step) (p : Address) → (length (s ∷ p) == 0) ≡ false
 not_zero s p = grind (arith, nat_tests)
@@ -51,25 +52,25 @@ element_keeps : (q at : Address) (o : Option Kind) (old new : Kinds) → AddsEle
 element_keeps q at None old new m a b k is have = m.carried b a k have is
 element_keeps q at (Some j) old new m a b k is have = m.carried b a k have is
 
-pub stands : (c : Change) (old new : Kinds) → IsFault c old None → IsAfter c old new → (a b : Address) → carry c a ≡ Some b → Has old a → Has new b
-stands (set [] value) old new fault after a b is h = absurd (fault RootNamed refl)
-stands (set (s ∷ p) value) old new fault after a b is h = by (same_address a (s ∷ p)) refl
+pub stands : (profile : Profile) (c : Change) (old new : Kinds) → IsFault profile c old None → IsAfter profile c old new → (a b : Address) → carry c a ≡ Some b → Has old a → Has new b
+stands profile (set [] value) old new fault after a b is h = absurd (fault RootNamed refl)
+stands profile (set (s ∷ p) value) old new fault after a b is h = by (same_address a (s ∷ p)) refl
   where
     by : (t : Bool) → same_address a (s ∷ p) ≡ t → Has new b
     by false e = (h.0, after.2.carried b a h.0 h.1 (set_carries s p a value (differ a (s ∷ p) e) ∙ is))
     by true e =
         let same : a ≡ s ∷ p = (same_address-decides a (s ∷ p)).0 e in
-        let root = good_root value after.0 after.1 in
+        let root = good_root profile value after.0 after.1 in
         let here : a ≡ b = same_Some a b (sym (set_here (s ∷ p) a [] (not_zero s p) (same ∙ sym (append-nil (s ∷ p))) refl) ∙ is) in
         (root.0, ap new (sym here ∙ same ∙ sym (append-nil (s ∷ p))) ∙ after.2.placed [] root.0 root.1)
-stands (insert at value) old new fault after a b is h = (h.0, after.2.carried b a h.0 h.1 is)
-stands (rename at to) old new fault after a b is h = (h.0, after.carried b a h.0 h.1 is)
-stands (remove at) old new fault after a b is h = (h.0, after.carried b a h.0 h.1 is)
-stands (new_section at) old new fault after a b is h = (h.0, after.carried b a h.0 h.1 is)
-stands (new_element at) old new fault after a b is h = (h.0, element_keeps after.0 at (old after.0) old new after.3 a b h.0 is h.1)
+stands profile (insert at value) old new fault after a b is h = (h.0, after.2.carried b a h.0 h.1 is)
+stands profile (rename at to) old new fault after a b is h = (h.0, after.carried b a h.0 h.1 is)
+stands profile (remove at) old new fault after a b is h = (h.0, after.carried b a h.0 h.1 is)
+stands profile (new_section at) old new fault after a b is h = (h.0, after.carried b a h.0 h.1 is)
+stands profile (new_element at) old new fault after a b is h = (h.0, element_keeps after.0 at (old after.0) old new after.3 a b h.0 is h.1)
 
 pub carried_stands : CarriedStands
-carried_stands c old new fault after a to is some = some_of new to (stands c old new fault after a to is (has old a some))
+carried_stands profile c old new fault after a to is some = some_of new to (stands profile c old new fault after a to is (has old a some))
 
 -- what is carried through a list is carried by its first edit, and from there by the others
 pub through : (cs : List Change) (o : Option Address) (to : Address) → option_and_then (carried cs) o ≡ Some to → (b : Address) × (o ≡ Some b) × (carried cs b ≡ Some to)
@@ -77,10 +78,10 @@ through cs None to e = absurd (none-some to e)
 through cs (Some b) to e = (b, refl, e)
 
 pub lists_carry_apart : ListsCarryApart
-lists_carry_apart [] old new lead a b to h k e f = same_Some a b (e ∙ sym f)
-lists_carry_apart (c ∷ cs) old new (fault, mid, after, lead) a b to h k e f =
+lists_carry_apart profile [] old new lead a b to h k e f = same_Some a b (e ∙ sym f)
+lists_carry_apart profile (c ∷ cs) old new (fault, mid, after, lead) a b to h k e f =
     let x = through cs (carry c a) to e in
     let y = through cs (carry c b) to f in
     let same : x.0 ≡ y.0 =
-    lists_carry_apart cs mid new lead x.0 y.0 to (carried_stands c (kind_at old) (kind_at mid) fault after a x.0 x.1 h) (carried_stands c (kind_at old) (kind_at mid) fault after b y.0 y.1 k) x.2 y.2 in
-    carried_apart c (kind_at old) (data_are_closed old) fault a b x.0 h k x.1 (y.1 ∙ ap Some (sym same))
+    lists_carry_apart profile cs mid new lead x.0 y.0 to (carried_stands profile c (kind_at old) (kind_at mid) fault after a x.0 x.1 h) (carried_stands profile c (kind_at old) (kind_at mid) fault after b y.0 y.1 k) x.2 y.2 in
+    carried_apart profile c (kind_at old) (data_are_closed old) fault a b x.0 h k x.1 (y.1 ∙ ap Some (sym same))

@@ -2,6 +2,7 @@
 use Rattle.std.proofs.Common.{◌≡◌, ◌⊎◌, inl, inr, ℕ, ◌+◌, List, [], ◌∷◌, ◌++◌, length, Option, Some, None, IsSome, is_some, Bool, true, false, cond, refl, sym, ap, subst, ◌∙◌, append-nil, append_assoc, arith}
 use Rattle.std.proofs.lemmas.List.{length-append}
 use Rattle.std.proofs.lemmas.Option.{same_Some, none-some}
+use Rattle.toml_tree.specs.declared.profile.Profile.{Profile}
 use Rattle.toml_names.specs.declared.model.address.Step.{Step}
 use Rattle.toml_names.specs.declared.model.address.Step.TheVariants.{Name, Index}
 use Rattle.toml_names.specs.model.Addresses.{Address, child, element, same_step}
@@ -97,12 +98,12 @@ nothing_closed a s none = refl
 no_parent : (new : Kinds) (q : Address) (s : Step) → [] ≡ q ++ s ∷ [] → Has new q
 no_parent new q s is = absurd (no_root q s (sym is))
 
-value_closed : (text : List ℕ) (v : Kinds) → IsGoodValue text v → IsClosed v
-value_closed text v good = values_are_closed good.value.tree v good.value.keeps good.facts
+value_closed : (profile : Profile) (text : List ℕ) (v : Kinds) → IsGoodValue profile text v → IsClosed v
+value_closed profile text v good = values_are_closed good.value.tree v good.value.keeps good.facts
 
 -- the place above a `set` keeps what it has
-set_parent : (at : Address) (value : List ℕ) (v old new : Kinds) → IsClosed old → IsFault (set at value) old None → Moves (carry_below at nowhere) at v old new → (q : Address) (s : Step) → at ≡ q ++ s ∷ [] → Has new q
-set_parent at value v old new closed fault moves q s is = by (old at) refl
+set_parent : (profile : Profile) (at : Address) (value : List ℕ) (v old new : Kinds) → IsClosed old → IsFault profile (set at value) old None → Moves (carry_below at nowhere) at v old new → (q : Address) (s : Step) → at ≡ q ++ s ∷ [] → Has new q
+set_parent profile at value v old new closed fault moves q s is = by (old at) refl
   where
     by : (o : Option Kind) → old at ≡ o → Has new q
     by None e = absurd (fault NoSuchPlace e)
@@ -116,8 +117,8 @@ insert_keeps : (q : Address) (s : Step) → inserting (Some (q, s)) q ≡ Some q
 insert_keeps q (Name n) = refl
 insert_keeps q (Index i) = carried q (up_from i) q [] (Some []) (sym (append-nil q)) refl ∙ ap Some (append-nil q)
 
-insert_parent : (at : Address) (value : List ℕ) (v old new : Kinds) → IsFault (insert at value) old None → Moves (carry (insert at value)) at v old new → (q : Address) (s : Step) → at ≡ q ++ s ∷ [] → Has new q
-insert_parent at value v old new fault moves q s is = by (old q) refl
+insert_parent : (profile : Profile) (at : Address) (value : List ℕ) (v old new : Kinds) → IsFault profile (insert at value) old None → Moves (carry (insert at value)) at v old new → (q : Address) (s : Step) → at ≡ q ++ s ∷ [] → Has new q
+insert_parent profile at value v old new fault moves q s is = by (old q) refl
   where
     by : (o : Option Kind) → old q ≡ o → Has new q
     by None e = absurd (fault NoSuchPlace (q, s, is, e))
@@ -137,38 +138,38 @@ one_closed (t ∷ a) s none = by (same_step (Index 0) t) none
     by true e = empty_closed a s e
     by false e = refl
 
-section_parent : (at : Address) (old new : Kinds) → IsFault (new_section at) old None → Moves Some at an_empty_table old new → (q : Address) (s : Step) → at ≡ q ++ s ∷ [] → Has new q
-section_parent at old new fault moves q s is = by (old q) refl
+section_parent : (profile : Profile) (at : Address) (old new : Kinds) → IsFault profile (new_section at) old None → Moves Some at an_empty_table old new → (q : Address) (s : Step) → at ≡ q ++ s ∷ [] → Has new q
+section_parent profile at old new fault moves q s is = by (old q) refl
   where
     by : (o : Option Kind) → old q ≡ o → Has new q
     by None e = absurd (fault NoSuchPlace (q, s, is, e))
     by (Some k) e = (k, moves.carried q q k e refl)
 
 -- an array that is made stands in a table
-array_parent : (at q : Address) (i : ℕ) (old new : Kinds) → IsFault (new_element at) old None → at ≡ element q i → Moves Some q one_empty_table old new → (r : Address) (s : Step) → q ≡ r ++ s ∷ [] → Has new r
-array_parent at q i old new fault is moves r (Index j) here =
+array_parent : (profile : Profile) (at q : Address) (i : ℕ) (old new : Kinds) → IsFault profile (new_element at) old None → at ≡ element q i → Moves Some q one_empty_table old new → (r : Address) (s : Step) → q ≡ r ++ s ∷ [] → Has new r
+array_parent profile at q i old new fault is moves r (Index j) here =
     absurd (fault NotAnElement (λ p n k e. named n (same_last r p (Index j) (Name n) (sym here ∙ same_parent q (child p n) (Index i) (Index k) (sym is ∙ e)))))
   where
     named : (n : List ℕ) → ¬ (Index j ≡ Name n)
     named n e = cc
-array_parent at q i old new fault is moves r (Name n) here = by (old r) refl
+array_parent profile at q i old new fault is moves r (Name n) here = by (old r) refl
   where
     by : (o : Option Kind) → old r ≡ o → Has new r
     by None e = absurd (fault NoSuchPlace (r, n, i, is ∙ ap (λ p. element p i) here, e))
     by (Some k) e = (k, moves.carried r r k e refl)
 
-element_closed : (at q : Address) (i : ℕ) (old new : Kinds) → IsClosed old → IsFault (new_element at) old None → at ≡ element q i → (o : Option Kind) → old q ≡ o → AddsElement q at o old new → IsClosed new
-element_closed at q i old new closed fault is None here moves = moves_closed Some q one_empty_table old new moves (carried_front (new_section q)) closed one_closed (array_parent at q i old new fault is moves)
-element_closed at q i old new closed fault is (Some k) here moves =
+element_closed : (profile : Profile) (at q : Address) (i : ℕ) (old new : Kinds) → IsClosed old → IsFault profile (new_element at) old None → at ≡ element q i → (o : Option Kind) → old q ≡ o → AddsElement q at o old new → IsClosed new
+element_closed profile at q i old new closed fault is None here moves = moves_closed Some q one_empty_table old new moves (carried_front (new_section q)) closed one_closed (array_parent profile at q i old new fault is moves)
+element_closed profile at q i old new closed fault is (Some k) here moves =
     moves_closed Some at an_empty_table old new moves (carried_front (new_section at)) closed empty_closed
     (λ r s e. (k, ap new (same_parent r q s (Index i) (sym e ∙ is)) ∙ moves.carried q q k here refl))
 
 pub stays_closed : StaysClosed
-stays_closed (set at value) old new closed fault after =
-    moves_closed (carry_below at nowhere) at after.0 old new after.2 (below_front at nowhere nowhere_front) closed (value_closed value after.0 after.1) (set_parent at value after.0 old new closed fault after.2)
-stays_closed (insert at value) old new closed fault after =
-    moves_closed (carry (insert at value)) at after.0 old new after.2 (carried_front (insert at value)) closed (value_closed value after.0 after.1) (insert_parent at value after.0 old new fault after.2)
-stays_closed (rename at to) old new closed fault after = moves_closed (carry (rename at to)) [] nothing old new after (carried_front (rename at to)) closed nothing_closed (no_parent new)
-stays_closed (remove at) old new closed fault after = moves_closed (carry (remove at)) [] nothing old new after (carried_front (remove at)) closed nothing_closed (no_parent new)
-stays_closed (new_section at) old new closed fault after = moves_closed Some at an_empty_table old new after (carried_front (new_section at)) closed empty_closed (section_parent at old new fault after)
-stays_closed (new_element at) old new closed fault after = element_closed at after.0 after.1 old new closed fault after.2 (old after.0) refl after.3
+stays_closed profile (set at value) old new closed fault after =
+    moves_closed (carry_below at nowhere) at after.0 old new after.2 (below_front at nowhere nowhere_front) closed (value_closed profile value after.0 after.1) (set_parent profile at value after.0 old new closed fault after.2)
+stays_closed profile (insert at value) old new closed fault after =
+    moves_closed (carry (insert at value)) at after.0 old new after.2 (carried_front (insert at value)) closed (value_closed profile value after.0 after.1) (insert_parent profile at value after.0 old new fault after.2)
+stays_closed profile (rename at to) old new closed fault after = moves_closed (carry (rename at to)) [] nothing old new after (carried_front (rename at to)) closed nothing_closed (no_parent new)
+stays_closed profile (remove at) old new closed fault after = moves_closed (carry (remove at)) [] nothing old new after (carried_front (remove at)) closed nothing_closed (no_parent new)
+stays_closed profile (new_section at) old new closed fault after = moves_closed Some at an_empty_table old new after (carried_front (new_section at)) closed empty_closed (section_parent profile at old new fault after)
+stays_closed profile (new_element at) old new closed fault after = element_closed profile at after.0 after.1 old new closed fault after.2 (old after.0) refl after.3

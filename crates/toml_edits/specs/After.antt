@@ -1,5 +1,6 @@
 -- The data after an edit: a set of facts moved at once. The tree of the data is not mentioned.
 use Rattle.std.specs.Prelude.{◌≡◌, ◌⊎◌, ◌++◌, ◌∷◌, ℕ, [], Option, Some, None, MatchOption, if◌then◌else◌}
+use Rattle.toml_tree.specs.declared.profile.Profile.{Profile}
 use Rattle.toml_names.specs.declared.model.address.Step.TheVariants.{Index}
 use Rattle.toml_names.specs.model.Addresses.{Address, element, same_step}
 use Rattle.toml_names.specs.model.Data.{Kinds}
@@ -34,12 +35,12 @@ one_empty_table (s ∷ a) = if same_step (Index 0) s then an_empty_table a else 
 abbrev pub AddsElement : Address → Address → Option Kind → Kinds → Kinds → Type 0
 AddsElement q at there old new = MatchOption there (Moves Some q one_empty_table old new) (λ k. Moves Some at an_empty_table old new)
 
--- what an edit makes of data. A value that is set takes the place of what stood there, and of all below it. A new element
+-- what an edit makes of data, its value a text of the profile. A value that is set takes the place of what stood there, and of all below it. A new element
 -- of an array that is not there makes the array too.
-abbrev pub IsAfter : Change → Kinds → Kinds → Type 0
-IsAfter (set at value) old new = (v : Kinds) × IsGoodValue value v × Moves (carry_below at nowhere) at v old new
-IsAfter (insert at value) old new = (v : Kinds) × IsGoodValue value v × Moves (carry (insert at value)) at v old new
-IsAfter (rename at to) old new = Moves (carry (rename at to)) [] nothing old new
-IsAfter (remove at) old new = Moves (carry (remove at)) [] nothing old new
-IsAfter (new_section at) old new = Moves Some at an_empty_table old new
-IsAfter (new_element at) old new = (q : Address) × (i : ℕ) × (at ≡ element q i) × AddsElement q at (old q) old new
+abbrev pub IsAfter : Profile → Change → Kinds → Kinds → Type 0
+IsAfter profile (set at value) old new = (v : Kinds) × IsGoodValue profile value v × Moves (carry_below at nowhere) at v old new
+IsAfter profile (insert at value) old new = (v : Kinds) × IsGoodValue profile value v × Moves (carry (insert at value)) at v old new
+IsAfter profile (rename at to) old new = Moves (carry (rename at to)) [] nothing old new
+IsAfter profile (remove at) old new = Moves (carry (remove at)) [] nothing old new
+IsAfter profile (new_section at) old new = Moves Some at an_empty_table old new
+IsAfter profile (new_element at) old new = (q : Address) × (i : ℕ) × (at ≡ element q i) × AddsElement q at (old q) old new

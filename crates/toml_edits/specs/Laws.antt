@@ -1,5 +1,6 @@
 -- Laws of edits, over the definitions alone.
 use Rattle.std.specs.Prelude.{◌≡◌, ℕ, List, ◌∷◌, ◌++◌, length, Some, None, IsSome, option_map}
+use Rattle.toml_tree.specs.declared.profile.Profile.{Profile}
 use Rattle.toml_names.specs.declared.model.address.Step.{Step}
 use Rattle.toml_names.specs.declared.model.datum.Datum.{Datum}
 use Rattle.toml_names.specs.model.Addresses.{Address, IsAbove}
@@ -35,11 +36,11 @@ DataAreClosed = (d : Datum) → IsClosed (kind_at d)
 
 -- Two addresses of the data that an edit without a fault carries to one address are one.
 abbrev pub CarriedApart : Type 0
-CarriedApart = (c : Change) (kinds : Kinds) → IsClosed kinds → IsFault c kinds None → (a b to : Address) → IsSome (kinds a) → IsSome (kinds b) → carry c a ≡ Some to → carry c b ≡ Some to → a ≡ b
+CarriedApart = (profile : Profile) (c : Change) (kinds : Kinds) → IsClosed kinds → IsFault profile c kinds None → (a b to : Address) → IsSome (kinds a) → IsSome (kinds b) → carry c a ≡ Some to → carry c b ≡ Some to → a ≡ b
 
 -- An edit makes one thing of data: two maps that are what it makes are equal.
 abbrev pub OneAfter : Type 0
-OneAfter = (c : Change) (old one two : Kinds) → IsAfter c old one → IsAfter c old two → (a : Address) → one a ≡ two a
+OneAfter = (profile : Profile) (c : Change) (old one two : Kinds) → IsAfter profile c old one → IsAfter profile c old two → (a : Address) → one a ≡ two a
 
 -- For `set`, the place's own old fact aside, the facts move as the edit carries them.
 abbrev pub SetCarries : Type 0

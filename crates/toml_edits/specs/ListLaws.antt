@@ -1,5 +1,6 @@
 -- Laws of lists of edits.
 use Rattle.std.specs.Prelude.{◌≡◌, ◌^◌, ℕ, List, ◌++◌, Option, Some, None, IsSome, option_and_then}
+use Rattle.toml_tree.specs.declared.profile.Profile.{Profile}
 use Rattle.toml_names.specs.declared.model.datum.Datum.{Datum}
 use Rattle.toml_names.specs.model.Addresses.{Address}
 use Rattle.toml_names.specs.model.Indices.{IsLow}
@@ -17,26 +18,26 @@ CarriedOn = (cs ds : List Change) (a : Address) → carried (cs ++ ds) a ≡ opt
 
 -- The data after a list are one: two that edits lead to have the same at each address.
 abbrev pub OneLead : Type 0
-OneLead = (cs : List Change) (old one two : Datum) → Lead cs old one → Lead cs old two → (a : Address) → kind_at one a ≡ kind_at two a
+OneLead = (profile : Profile) (cs : List Change) (old one two : Datum) → Lead profile cs old one → Lead profile cs old two → (a : Address) → kind_at one a ≡ kind_at two a
 
 -- A list with a first fault leads nowhere, and has no other first fault.
 abbrev pub FaultOrLead : Type 0
-FaultOrLead = (cs : List Change) (old new : Datum) (i : ℕ) (fault : EditFault) → IsFirstFault cs old i fault → Lead cs old new → ⊥
+FaultOrLead = (profile : Profile) (cs : List Change) (old new : Datum) (i : ℕ) (fault : EditFault) → IsFirstFault profile cs old i fault → Lead profile cs old new → ⊥
 
 abbrev pub OneFirstFault : Type 0
-OneFirstFault = (cs : List Change) (old : Datum) (i j : ℕ) (fault other : EditFault) → IsFirstFault cs old i fault → IsFirstFault cs old j other → (i ≡ j) × (fault ≡ other)
+OneFirstFault = (profile : Profile) (cs : List Change) (old : Datum) (i j : ℕ) (fault other : EditFault) → IsFirstFault profile cs old i fault → IsFirstFault profile cs old j other → (i ≡ j) × (fault ≡ other)
 
 -- What stands somewhere, and is carried by an edit without a fault, stands where it is carried.
 abbrev pub CarriedStands : Type 0
-CarriedStands = (c : Change) (old new : Kinds) → IsFault c old None → IsAfter c old new → (a to : Address) → carry c a ≡ Some to → IsSome (old a) → IsSome (new to)
+CarriedStands = (profile : Profile) (c : Change) (old new : Kinds) → IsFault profile c old None → IsAfter profile c old new → (a to : Address) → carry c a ≡ Some to → IsSome (old a) → IsSome (new to)
 
 -- Two things of data that edits without a fault carry to one address are one.
 abbrev pub ListsCarryApart : Type 0
-ListsCarryApart = (cs : List Change) (old new : Datum) → Lead cs old new → (a b to : Address) → IsSome (kind_at old a) → IsSome (kind_at old b) → carried cs a ≡ Some to → carried cs b ≡ Some to → a ≡ b
+ListsCarryApart = (profile : Profile) (cs : List Change) (old new : Datum) → Lead profile cs old new → (a b to : Address) → IsSome (kind_at old a) → IsSome (kind_at old b) → carried cs a ≡ Some to → carried cs b ≡ Some to → a ≡ b
 
 -- Data in which nothing stands below nothing stay so under an edit without a fault.
 abbrev pub StaysClosed : Type 0
-StaysClosed = (c : Change) (old new : Kinds) → IsClosed old → IsFault c old None → IsAfter c old new → IsClosed new
+StaysClosed = (profile : Profile) (c : Change) (old new : Kinds) → IsClosed old → IsFault profile c old None → IsAfter profile c old new → IsClosed new
 
 -- Each index in data is below 2^63.
 abbrev pub DataIndicesAreLow : Type 0

@@ -9,6 +9,8 @@ ghost use Rattle.toml_edits.specs.Edits.{change, set, insert, rename, remove};
 ghost use Rattle.toml_edits.specs.Faults.{IsFault};
 ghost use Rattle.toml_edits.specs.Judged.{IsFitting, IsStepFault, IsJudged};
 ghost use Rattle.toml_edits.specs.Readings.{IsReading};
+ghost use Rattle.toml_tree.specs.declared.profile.Profile.{Profile};
+ghost use Rattle.toml_tree.specs.declared.profile.Profile.TheVariants.{One};
 
 use crate::change::{DatumChange, alter};
 use crate::edit::Edit;
@@ -18,15 +20,25 @@ use crate::reach::reaches;
 use crate::value::{Reading, read_text};
 use std::alloc::Global;
 use toml_names::{Data, Datum, MAX_STEPS, Step};
+use toml_tree::Profile;
 
-/// Applies an edit to data. It tells the first fault of this order, `NoMemory` aside, which may come in place of any
+/// Applies an edit to data, the text of its value read in profile 1: `apply_in` with `Profile::One`.
+pub fn apply(alloc: Global, data: &mut Data, edit: &Edit) -> Result<(), EditFault>
+    ensures fault { IfErr result (λ x. (x ≡ NoMemory) ⊎ IsFault One (change edit.now) (kind_at «data».old.root) (Some x)) }
+    ensures ok { OnOk result (IsFault One (change edit.now) (kind_at «data».old.root) None × IsAfter One (change edit.now) (kind_at «data».old.root) (kind_at «data».new.root)) }
+    ensures err { OnErr result ((at : Address) → kind_at «data».new.root at ≡ kind_at «data».old.root at) }
+{
+    apply_in(alloc, data, edit, Profile::One)
+}
+
+/// Applies an edit to data, the text of its value read in the profile. It tells the first fault of this order, `NoMemory` aside, which may come in place of any
 /// answer; after a fault the data are as before.
 ///
 /// | Fault | When |
 /// |---|---|
 /// | `RootNamed` | the address is that of the root |
 /// | `NotAnElement` | `element`: the last step is a name, or no name stands directly before it |
-/// | `BadValue` | `set`, `insert`: the text is longer than a text may be, is not one value, or a key in it breaks the table rules |
+/// | `BadValue` | `set`, `insert`: the text is longer than a text may be, is not one value of the profile, or a key in it breaks the table rules |
 /// | `NoSuchPlace` | `set`, `rename`, `remove`: nothing stands at the address; `insert`, `section`: nothing at its parent; `element`: nothing at the parent of the array |
 /// | `NotATable` | `insert`, `section` of a name: the parent is no table; `element`: the parent of the array is none |
 /// | `IndexOutside` | `insert` at an index: the parent is no array, or the index is greater than its length; `element`: the parent is there and is no array, or the index is not its length, 0 where it is not there |
@@ -36,15 +48,20 @@ use toml_names::{Data, Datum, MAX_STEPS, Step};
 /// | `NoMemory` | a growth was refused |
 ///
 /// A parent that loses its last child stays.
-pub fn apply(alloc: Global, data: &mut Data, edit: &Edit) -> Result<(), EditFault>
-    ensures fault { IfErr result (λ x. (x ≡ NoMemory) ⊎ IsFault (change edit.now) (kind_at «data».old.root) (Some x)) }
-    ensures ok { OnOk result (IsFault (change edit.now) (kind_at «data».old.root) None × IsAfter (change edit.now) (kind_at «data».old.root) (kind_at «data».new.root)) }
+pub fn apply_in(
+    alloc: Global,
+    data: &mut Data,
+    edit: &Edit,
+    profile: Profile,
+) -> Result<(), EditFault>
+    ensures fault { IfErr result (λ x. (x ≡ NoMemory) ⊎ IsFault profile (change edit.now) (kind_at «data».old.root) (Some x)) }
+    ensures ok { OnOk result (IsFault profile (change edit.now) (kind_at «data».old.root) None × IsAfter profile (change edit.now) (kind_at «data».old.root) (kind_at «data».new.root)) }
     ensures err { OnErr result ((at : Address) → kind_at «data».new.root at ≡ kind_at «data».old.root at) }
 {
     let root = &mut data.root;
     match edit {
-        Edit::Set { at, value } => set(alloc, root, at.steps(), value.as_str()),
-        Edit::Insert { at, value } => insert(alloc, root, at.steps(), value.as_str()),
+        Edit::Set { at, value } => set(alloc, root, at.steps(), value.as_str(), profile),
+        Edit::Insert { at, value } => insert(alloc, root, at.steps(), value.as_str(), profile),
         Edit::Rename { at, to } => rename(alloc, root, at.steps(), to.as_str()),
         Edit::Remove { at } => remove(alloc, root, at.steps()),
         Edit::Section { at } => section(alloc, root, at.steps()),
@@ -53,8 +70,8 @@ pub fn apply(alloc: Global, data: &mut Data, edit: &Edit) -> Result<(), EditFaul
 }
 
 fn remove(alloc: Global, root: &mut Datum, at: &[Step]) -> Result<(), EditFault>
-    ensures fault { IfErr result (λ x. (x ≡ NoMemory) ⊎ IsFault (remove at.now) (kind_at root.old) (Some x)) }
-    ensures ok { OnOk result (IsFault (remove at.now) (kind_at root.old) None × IsAfter (remove at.now) (kind_at root.old) (kind_at root.new)) }
+    ensures fault { (profile : Profile) → IfErr result (λ x. (x ≡ NoMemory) ⊎ IsFault profile (remove at.now) (kind_at root.old) (Some x)) }
+    ensures ok { (profile : Profile) → OnOk result (IsFault profile (remove at.now) (kind_at root.old) None × IsAfter profile (remove at.now) (kind_at root.old) (kind_at root.new)) }
     ensures err { OnErr result ((p : Address) → kind_at root.new p ≡ kind_at root.old p) }
 {
     let Some((last, parent)) = at.split_last() else {
@@ -70,8 +87,8 @@ fn remove(alloc: Global, root: &mut Datum, at: &[Step]) -> Result<(), EditFault>
 }
 
 fn rename(alloc: Global, root: &mut Datum, at: &[Step], to: &str) -> Result<(), EditFault>
-    ensures fault { IfErr result (λ x. (x ≡ NoMemory) ⊎ IsFault (rename at.now to.now) (kind_at root.old) (Some x)) }
-    ensures ok { OnOk result (IsFault (rename at.now to.now) (kind_at root.old) None × IsAfter (rename at.now to.now) (kind_at root.old) (kind_at root.new)) }
+    ensures fault { (profile : Profile) → IfErr result (λ x. (x ≡ NoMemory) ⊎ IsFault profile (rename at.now to.now) (kind_at root.old) (Some x)) }
+    ensures ok { (profile : Profile) → OnOk result (IsFault profile (rename at.now to.now) (kind_at root.old) None × IsAfter profile (rename at.now to.now) (kind_at root.old) (kind_at root.new)) }
     ensures err { OnErr result ((p : Address) → kind_at root.new p ≡ kind_at root.old p) }
 {
     let Some((last, parent)) = at.split_last() else {
@@ -109,23 +126,35 @@ fn has_name(datum: &Datum, name: &str) -> bool
     }
 }
 
-fn set(alloc: Global, root: &mut Datum, at: &[Step], text: &str) -> Result<(), EditFault>
-    ensures fault { IfErr result (λ x. (x ≡ NoMemory) ⊎ IsFault (set at.now text.now) (kind_at root.old) (Some x)) }
-    ensures ok { OnOk result (IsFault (set at.now text.now) (kind_at root.old) None × IsAfter (set at.now text.now) (kind_at root.old) (kind_at root.new)) }
+fn set(
+    alloc: Global,
+    root: &mut Datum,
+    at: &[Step],
+    text: &str,
+    profile: Profile,
+) -> Result<(), EditFault>
+    ensures fault { IfErr result (λ x. (x ≡ NoMemory) ⊎ IsFault profile (set at.now text.now) (kind_at root.old) (Some x)) }
+    ensures ok { OnOk result (IsFault profile (set at.now text.now) (kind_at root.old) None × IsAfter profile (set at.now text.now) (kind_at root.old) (kind_at root.new)) }
     ensures err { OnErr result ((p : Address) → kind_at root.new p ≡ kind_at root.old p) }
 {
-    let value = value_to_set(alloc, &*root, at, text)?;
+    let value = value_to_set(alloc, &*root, at, text, profile)?;
     alter(alloc, root, at, DatumChange::Put(value))
 }
 
 /// The data of the text, if they may be set at the steps.
-fn value_to_set(alloc: Global, root: &Datum, at: &[Step], text: &str) -> Result<Datum, EditFault>
-    ensures { IsJudged (set at.now text.now) text.now (kind_at root.now) result }
+fn value_to_set(
+    alloc: Global,
+    root: &Datum,
+    at: &[Step],
+    text: &str,
+    profile: Profile,
+) -> Result<Datum, EditFault>
+    ensures { IsJudged profile (set at.now text.now) text.now (kind_at root.now) result }
 {
     if at.is_empty() {
         return Err(EditFault::RootNamed);
     }
-    let reading = read_text(alloc, text)?;
+    let reading = read_text(alloc, text, profile)?;
     if reading.is_bad() {
         return Err(EditFault::BadValue);
     }
@@ -135,15 +164,21 @@ fn value_to_set(alloc: Global, root: &Datum, at: &[Step], text: &str) -> Result<
     fitting(at, reading)
 }
 
-fn insert(alloc: Global, root: &mut Datum, at: &[Step], text: &str) -> Result<(), EditFault>
-    ensures fault { IfErr result (λ x. (x ≡ NoMemory) ⊎ IsFault (insert at.now text.now) (kind_at root.old) (Some x)) }
-    ensures ok { OnOk result (IsFault (insert at.now text.now) (kind_at root.old) None × IsAfter (insert at.now text.now) (kind_at root.old) (kind_at root.new)) }
+fn insert(
+    alloc: Global,
+    root: &mut Datum,
+    at: &[Step],
+    text: &str,
+    profile: Profile,
+) -> Result<(), EditFault>
+    ensures fault { IfErr result (λ x. (x ≡ NoMemory) ⊎ IsFault profile (insert at.now text.now) (kind_at root.old) (Some x)) }
+    ensures ok { OnOk result (IsFault profile (insert at.now text.now) (kind_at root.old) None × IsAfter profile (insert at.now text.now) (kind_at root.old) (kind_at root.new)) }
     ensures err { OnErr result ((p : Address) → kind_at root.new p ≡ kind_at root.old p) }
 {
     let Some((last, parent)) = at.split_last() else {
         return Err(EditFault::RootNamed);
     };
-    let value = value_to_insert(alloc, &*root, at, text)?;
+    let value = value_to_insert(alloc, &*root, at, text, profile)?;
     match last {
         Step::Name(name) => alter(
             alloc,
@@ -156,13 +191,19 @@ fn insert(alloc: Global, root: &mut Datum, at: &[Step], text: &str) -> Result<()
 }
 
 /// The data of the text, if they may be inserted at the steps.
-fn value_to_insert(alloc: Global, root: &Datum, at: &[Step], text: &str) -> Result<Datum, EditFault>
-    ensures { IsJudged (insert at.now text.now) text.now (kind_at root.now) result }
+fn value_to_insert(
+    alloc: Global,
+    root: &Datum,
+    at: &[Step],
+    text: &str,
+    profile: Profile,
+) -> Result<Datum, EditFault>
+    ensures { IsJudged profile (insert at.now text.now) text.now (kind_at root.now) result }
 {
     let Some((last, above)) = at.split_last() else {
         return Err(EditFault::RootNamed);
     };
-    let reading = read_text(alloc, text)?;
+    let reading = read_text(alloc, text, profile)?;
     if reading.is_bad() {
         return Err(EditFault::BadValue);
     }
@@ -196,7 +237,7 @@ pub(crate) fn step_fault(parent: &Datum, step: &Step) -> Option<EditFault>
 
 /// The data of what was read, if no address in them is too long below the steps.
 fn fitting(at: &[Step], reading: Reading) -> Result<Datum, EditFault>
-    ensures { (text : List ℕ) → IsReading text reading → IsFitting at.now text result }
+    ensures { (profile : Profile) (text : List ℕ) → IsReading profile text reading → IsFitting profile at.now text result }
 {
     match reading {
         Reading::Good(value) => {

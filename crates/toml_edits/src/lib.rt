@@ -12,7 +12,7 @@ mod making;
 mod reach;
 mod value;
 
-pub use applying::apply;
+pub use applying::{apply, apply_in};
 pub use carrying::carry;
 pub use edit::Edit;
 pub use fault::{EditFault, EditsFault};

@@ -8,6 +8,7 @@ ghost use Rattle.toml_edits.specs.declared.fault.EditFault.TheVariants.{NoMemory
 ghost use Rattle.toml_edits.specs.Edits.{new_section, new_element};
 ghost use Rattle.toml_edits.specs.Faults.{IsFault, IsElementOf, IsNextIndex};
 ghost use Rattle.toml_edits.specs.Making.{IsPlaceOf};
+ghost use Rattle.toml_tree.specs.declared.profile.Profile.{Profile};
 
 use crate::applying::step_fault;
 use crate::change::{DatumChange, alter};
@@ -33,8 +34,8 @@ fn one_empty_table(alloc: Global) -> Result<Datum, AllocError>
 
 /// Makes an empty table that is a member of a table.
 pub(crate) fn section(alloc: Global, root: &mut Datum, at: &[Step]) -> Result<(), EditFault>
-    ensures fault { IfErr result (λ x. (x ≡ NoMemory) ⊎ IsFault (new_section at.now) (kind_at root.old) (Some x)) }
-    ensures ok { OnOk result (IsFault (new_section at.now) (kind_at root.old) None × IsAfter (new_section at.now) (kind_at root.old) (kind_at root.new)) }
+    ensures fault { (profile : Profile) → IfErr result (λ x. (x ≡ NoMemory) ⊎ IsFault profile (new_section at.now) (kind_at root.old) (Some x)) }
+    ensures ok { (profile : Profile) → OnOk result (IsFault profile (new_section at.now) (kind_at root.old) None × IsAfter profile (new_section at.now) (kind_at root.old) (kind_at root.new)) }
     ensures err { OnErr result ((p : Address) → kind_at root.new p ≡ kind_at root.old p) }
 {
     if let Some(fault) = section_fault(&*root, at) {
@@ -57,7 +58,7 @@ pub(crate) fn section(alloc: Global, root: &mut Datum, at: &[Step]) -> Result<()
 
 /// Why no section may be made there.
 fn section_fault(root: &Datum, at: &[Step]) -> Option<EditFault>
-    ensures { IsFault (new_section at.now) (kind_at root.now) result }
+    ensures { (profile : Profile) → IsFault profile (new_section at.now) (kind_at root.now) result }
 {
     let Some((last, above)) = at.split_last() else {
         return Some(EditFault::RootNamed);
@@ -137,7 +138,7 @@ fn has_length(datum: &Datum, length: u64) -> bool
 /// Why no element may be made there.
 fn element_fault(root: &Datum, at: &[Step], place: ElementPlace<'_>) -> Option<EditFault>
     requires { IsPlaceOf at.now place }
-    ensures { IsFault (new_element at.now) (kind_at root.now) result }
+    ensures { (profile : Profile) → IsFault profile (new_element at.now) (kind_at root.now) result }
 {
     let Some(parent) = root.part(place.above) else {
         return Some(EditFault::NoSuchPlace);
@@ -156,8 +157,8 @@ fn element_fault(root: &Datum, at: &[Step], place: ElementPlace<'_>) -> Option<E
 
 /// Makes an empty table that is the last element of an array, and the array where there is none.
 pub(crate) fn element(alloc: Global, root: &mut Datum, at: &[Step]) -> Result<(), EditFault>
-    ensures fault { IfErr result (λ x. (x ≡ NoMemory) ⊎ IsFault (new_element at.now) (kind_at root.old) (Some x)) }
-    ensures ok { OnOk result (IsFault (new_element at.now) (kind_at root.old) None × IsAfter (new_element at.now) (kind_at root.old) (kind_at root.new)) }
+    ensures fault { (profile : Profile) → IfErr result (λ x. (x ≡ NoMemory) ⊎ IsFault profile (new_element at.now) (kind_at root.old) (Some x)) }
+    ensures ok { (profile : Profile) → OnOk result (IsFault profile (new_element at.now) (kind_at root.old) None × IsAfter profile (new_element at.now) (kind_at root.old) (kind_at root.new)) }
     ensures err { OnErr result ((p : Address) → kind_at root.new p ≡ kind_at root.old p) }
 {
     if at.is_empty() {

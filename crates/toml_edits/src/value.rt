@@ -7,12 +7,12 @@ ghost use Rattle.toml_tree.specs.View.{value as tree_value};
 use std::alloc::{AllocError, Global};
 use toml_names::{Datum, ValueFault, read_value};
 use toml_text::Source;
-use toml_tree::{SyntaxFault, Value, parse_value};
+use toml_tree::{Profile, SyntaxFault, Value, parse_value_in};
 
 /// What the text of an edit's value is.
 #[derive(Drop)]
 pub(crate) enum Reading {
-    /// One value that keeps the table rules: its data.
+    /// One value of the profile that keeps the table rules: its data.
     Good(Datum),
     /// None.
     Bad,
@@ -28,14 +28,14 @@ impl Reading {
     }
 }
 
-/// Reads the text of an edit's value.
-pub(crate) fn read_text(alloc: Global, text: &str) -> Result<Reading, AllocError>
-    ensures { IfOk result (IsReading text.now) }
+/// Reads the text of an edit's value in the profile.
+pub(crate) fn read_text(alloc: Global, text: &str, profile: Profile) -> Result<Reading, AllocError>
+    ensures { IfOk result (IsReading profile text.now) }
 {
     let Ok(source) = Source::new(text.as_bytes()) else {
         return Ok(Reading::Bad);
     };
-    match parse_value(alloc, source) {
+    match parse_value_in(alloc, source, profile) {
         Ok(value) => Ok(read_tree(alloc, &value)?),
         Err(SyntaxFault::NoMemory) => Err(AllocError),
         Err(_) => Ok(Reading::Bad),

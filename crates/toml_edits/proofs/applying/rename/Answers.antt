@@ -18,12 +18,12 @@ alter-requires c =
     may_rename c.args.root.now c.args.at.now q n c.args.to.now is some (refuted c.has_member.ensures c.if-has_member.false)
 
 pub returns-clause-ok : goal.returns-clause-ok
-returns-clause-ok c =
+returns-clause-ok c = λ profile.
     let q = c.in-Some.parent.now in
     let n = c.as_str.result.now in
     let is : c.args.at.now ≡ q ++ Name n ∷ [] = c.in-Some.ensures.cases.0 ∙ ap (λ (s : Step). q ++ s ∷ []) (c.in-Name.is ∙ ap Name (sym c.as_str.ensures)) in
     let some = found_there c.part.result (kind_at c.args.root.now c.args.at.now) c.is_none.result c.part.ensures.found c.is_none.ensures c.if-is_none.false in
     let free = refuted c.has_member.ensures c.if-has_member.false in
     on_ok_weaker c.alter.result
-    (λ made. (rename_free c.args.at.now q n c.args.to.now (kind_at c.args.root.now) is some free, renames_member c.args.root.now c.args.at.now q n c.args.to.now (kind_at c.alter.new.root) is free made))
+    (λ made. (rename_free profile c.args.at.now q n c.args.to.now (kind_at c.args.root.now) is some free, renames_member c.args.root.now c.args.at.now q n c.args.to.now (kind_at c.alter.new.root) is free made))
     c.alter.ensures.ok

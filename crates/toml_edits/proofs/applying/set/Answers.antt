@@ -12,5 +12,5 @@ alter-requires c = subst IsSome (ap (kind_at c.args.root.now) (sym (append-nil c
 pub returns-clause-ok : goal.returns-clause-ok
 returns-clause-ok c =
     on_ok_weaker c.alter.result
-    (λ made. (c.in_ok-value.ensures.0, sets c.args.root.now c.args.at.now c.args.text.now (kind_at c.in_ok-value.value) (kind_at c.alter.new.root) c.in_ok-value.ensures.1 made))
+    (λ made. (c.in_ok-value.ensures.0, sets c.args.profile c.args.root.now c.args.at.now c.args.text.now (kind_at c.in_ok-value.value) (kind_at c.alter.new.root) c.in_ok-value.ensures.1 made))
     c.alter.ensures.ok

@@ -1,4 +1,4 @@
-use Rattle.std.proofs.Common.{◌≡◌, length, arith}
+use Rattle.std.proofs.Common.{arith}
 use Rattle.toml_edits.proofs.NewParts.{next_in_array}
 use Rattle.toml_edits.proofs.making.has_length.Goals as goal
 
