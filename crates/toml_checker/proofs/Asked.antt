@@ -1,4 +1,5 @@
 -- The demands, one after the other.
+use Rattle.toml_tree.specs.declared.profile.Profile.{Profile}
 use Rattle.std.proofs.Common.{◌≡◌, ◌⊎◌, inl, inr, ℕ, ◌+◌, ◌<◌, Bool, true, false, List, refl, sym, ◌∙◌, subst, true≢false, arith}
 use Rattle.std.proofs.lemmas.Bool.Decides.{nat_tests}
 use Rattle.std.specs.Bool.{nat_lt}
@@ -15,8 +16,8 @@ use Rattle.toml_checker.specs.Documents.{OfTree}
 use Rattle.toml_checker.specs.Judging.{HoldBelow}
 use Rattle.toml_checker.proofs.Verdicts.{certified_is_all_demands, same_rank}
 
-pub none_below : (before after : List ℕ) (cs : List Change) (ps : List (ℕ × ℕ)) → HoldBelow 0 before cs after ps
-none_below before after cs ps = λ r low. absurd (omega (arith, low))
+pub none_below : (profile : Profile) (before after : List ℕ) (cs : List Change) (ps : List (ℕ × ℕ)) → HoldBelow profile 0 before cs after ps
+none_below profile before after cs ps = λ r low. absurd (omega (arith, low))
 
 at_most : (m n : ℕ) → m < n + 1 → (m < n) ⊎ (n ≡ m)
 at_most m n h = by (nat_lt m n) refl
@@ -26,19 +27,19 @@ at_most m n h = by (nat_lt m n) refl
     by false e = let le : n ≡ m = grind (arith, nat_tests) in inr le
 
 -- one demand more holds
-pub holds : (r : Reason) (before after : List ℕ) (cs : List Change) (ps : List (ℕ × ℕ)) → HoldBelow (rank r) before cs after ps → Demand r before cs after ps → HoldBelow (rank r + 1) before cs after ps
-holds r before after cs ps h d = λ q low. by q (at_most (rank q) (rank r) low)
+pub holds : (profile : Profile) (r : Reason) (before after : List ℕ) (cs : List Change) (ps : List (ℕ × ℕ)) → HoldBelow profile (rank r) before cs after ps → Demand profile r before cs after ps → HoldBelow profile (rank r + 1) before cs after ps
+holds profile r before after cs ps h d = λ q low. by q (at_most (rank q) (rank r) low)
   where
-    by : (q : Reason) → (rank q < rank r) ⊎ (rank r ≡ rank q) → Demand q before cs after ps
+    by : (q : Reason) → (rank q < rank r) ⊎ (rank r ≡ rank q) → Demand profile q before cs after ps
     by q (inl lt) = h q lt
-    by q (inr e) = subst (λ (x : Reason). Demand x before cs after ps) (same_rank r q e) d
+    by q (inr e) = subst (λ (x : Reason). Demand profile x before cs after ps) (same_rank r q e) d
 
-pub passes : (r : Reason) (before after : List ℕ) (cs : List Change) (ps : List (ℕ × ℕ)) (found : Bool) → HoldBelow (rank r) before cs after ps → IsTrue found ↔ Demand r before cs after ps → found ≡ true → HoldBelow (rank r + 1) before cs after ps
-passes r before after cs ps found h test is = holds r before after cs ps h (test.0 is)
+pub passes : (profile : Profile) (r : Reason) (before after : List ℕ) (cs : List Change) (ps : List (ℕ × ℕ)) (found : Bool) → HoldBelow profile (rank r) before cs after ps → IsTrue found ↔ Demand profile r before cs after ps → found ≡ true → HoldBelow profile (rank r + 1) before cs after ps
+passes profile r before after cs ps found h test is = holds profile r before after cs ps h (test.0 is)
 
 -- or is the first that does not
-pub fails : (r : Reason) (before after : List ℕ) (cs : List Change) (ps : List (ℕ × ℕ)) (found : Bool) → HoldBelow (rank r) before cs after ps → IsTrue found ↔ Demand r before cs after ps → found ≡ false → IsVerdict before cs after ps (No r)
-fails r before after cs ps found h test is = ((λ d. absurd (true≢false (sym (test.1 d) ∙ is))), h)
+pub fails : (profile : Profile) (r : Reason) (before after : List ℕ) (cs : List Change) (ps : List (ℕ × ℕ)) (found : Bool) → HoldBelow profile (rank r) before cs after ps → IsTrue found ↔ Demand profile r before cs after ps → found ≡ false → IsVerdict profile before cs after ps (No r)
+fails profile r before after cs ps found h test is = ((λ d. absurd (true≢false (sym (test.1 d) ∙ is))), h)
 
 below_nine : (r : Reason) → rank r < 9
 below_nine BeforeRefused = omega arith
@@ -51,8 +52,8 @@ below_nine Unasked = omega arith
 below_nine NewComment = omega arith
 below_nine NotTheSame = omega arith
 
-pub all_hold : (before after : List ℕ) (cs : List Change) (ps : List (ℕ × ℕ)) → HoldBelow 9 before cs after ps → Certified before cs after ps
-all_hold before after cs ps h = (certified_is_all_demands before after cs ps).1 (λ r. h r (below_nine r))
+pub all_hold : (profile : Profile) (before after : List ℕ) (cs : List Change) (ps : List (ℕ × ℕ)) → HoldBelow profile 9 before cs after ps → Certified profile before cs after ps
+all_hold profile before after cs ps h = (certified_is_all_demands profile before after cs ps).1 (λ r. h r (below_nine r))
 
 -- what holds of a tree of a text holds of its one tree
 pub of_tree : (P : Doc → Type 0) (d : Doc) (text : List ℕ) (found : Bool) → Spells d text → IsTrue found ↔ P d → IsTrue found ↔ OfTree text P

@@ -34,17 +34,18 @@ use Rattle.toml_checker.proofs.ProtectedUnits.{inner_are_protected}
 
 -- what is certified, as far as partners go
 pub record Given (cs : List Change) (d e : Doc) (ps : List (ℕ × ℕ)) (flags : ℕ → Bool) : Type 0 where
+  pub profile : Profile
   pub text : List ℕ
   pub other : List ℕ
   pub spells : Spells d text
   pub spelled : Spells e other
   pub within : IsText text
   pub good : AreGood d.lines
-  pub of_profile : IsOfProfile One d
+  pub of_profile : IsOfProfile profile d
   pub old : Datum
   pub new : Datum
   pub old_is : IsDataOf (named d.lines) (kind_at old)
-  pub lead : Lead cs old new
+  pub lead : Lead profile cs old new
   pub rise : Rise ps
   pub fit : AllFit cs d e ps
   pub kept : AllKept cs d ps
@@ -105,7 +106,7 @@ inner_stands cs d e ps flags g i k f p m low =
     let l : LiesInside us i (i + suc m) = ((units_are_sized d g.text g.spells).0 i (i + suc m)).1 (omega arith, omega (arith, low)) in
     let u : l.outer ≡ f.first = same_Some l.outer f.first (sym l.outer_is ∙ f.first_is) in
     let w : l.inner ≡ unit_in f.first t.relative = same_Some l.inner (unit_in f.first t.relative) (sym l.inner_is ∙ t.first) in
-    let law = (inner_are_protected g.text (g.within, d, g.spells, g.good, g.of_profile) cs g.few i (i + suc m) l p).1 in
+    let law = (inner_are_protected g.profile g.text (g.within, d, g.spells, g.good, g.of_profile) cs g.few i (i + suc m) l p).1 in
     let b = block_at us (units_nest d g.text g.spells).0 i (i + suc m) l.outer l.inner l.later l.outer_is l.inner_is l.lies in
     record {
       first = unit_in f.first t.relative;

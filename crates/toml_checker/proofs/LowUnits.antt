@@ -29,7 +29,7 @@ some_low n ms h kinds are a some = by (kinds a) refl some
     by (Some k) is there = fact_low n ms h a k ((are a k).0 is)
 
 pub units_are_low : UnitsAreLow
-units_are_low text doc = each_weaker (λ (u : TextUnit). IfSome u.address (λ a. IsSome (fact_at (named doc.1.lines) a))) (λ (u : TextUnit). IfSome u.address (IsLow (2 ^ 63))) (λ u h. by u.address h) (units doc.1.lines) (units_are_named doc.1 text doc.2 (fact_at (named doc.1.lines)) are)
+units_are_low profile text doc = each_weaker (λ (u : TextUnit). IfSome u.address (λ a. IsSome (fact_at (named doc.1.lines) a))) (λ (u : TextUnit). IfSome u.address (IsLow (2 ^ 63))) (λ u h. by u.address h) (units doc.1.lines) (units_are_named doc.1 text doc.2 (fact_at (named doc.1.lines)) are)
   where
     are : IsDataOf (named doc.1.lines) (fact_at (named doc.1.lines))
     are = first_is_data (named doc.1.lines) (lines_join doc.1.lines doc.3.0)

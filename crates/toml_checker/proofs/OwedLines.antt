@@ -5,6 +5,7 @@ use Rattle.std.proofs.lemmas.List.{append-nil}
 use Rattle.std.proofs.lemmas.Option.{same_Some, none-some}
 use Rattle.std.specs.Bool.{nat_lt, nat_eq}
 use Rattle.std.specs.Prelude.{option_map, option_and_then}
+use Rattle.toml_tree.specs.declared.profile.Profile.{Profile}
 use Rattle.toml_names.specs.declared.model.address.Step.{Step}
 use Rattle.toml_names.specs.declared.model.address.Step.TheVariants.{Name, Index}
 use Rattle.toml_names.specs.declared.model.datum.Datum.{Datum}
@@ -42,22 +43,22 @@ abbrev pub AreApt : List Change → Type 0
 AreApt [] = Unit {0}
 AreApt (c ∷ cs) = IsApt c × AreApt cs
 
-apt : (c : Change) (kinds : Kinds) → IsFault c kinds None → IsApt c
-apt (set at value) kinds h = λ e. h RootNamed e
-apt (insert at value) kinds h = λ e. h RootNamed e
-apt (remove at) kinds h = λ e. h RootNamed e
-apt (new_section at) kinds h = λ e. h RootNamed e
-apt (new_element at) kinds h = λ e. h RootNamed e
-apt (rename at to) kinds h = by (ends at)
+apt : (profile : Profile) (c : Change) (kinds : Kinds) → IsFault profile c kinds None → IsApt c
+apt profile (set at value) kinds h = λ e. h RootNamed e
+apt profile (insert at value) kinds h = λ e. h RootNamed e
+apt profile (remove at) kinds h = λ e. h RootNamed e
+apt profile (new_section at) kinds h = λ e. h RootNamed e
+apt profile (new_element at) kinds h = λ e. h RootNamed e
+apt profile (rename at to) kinds h = by (ends at)
   where
     by : (at ≡ []) ⊎ ((q : Address) × (s : Step) × (at ≡ q ++ s ∷ [])) → IsApt (rename at to)
     by (inl e) = absurd (h RootNamed e)
     by (inr (q, Name n, e)) = (q, n, e)
     by (inr (q, Index i, e)) = absurd (h NotAName (q, i, e))
 
-pub all_apt : (cs : List Change) (old new : Datum) → Lead cs old new → AreApt cs
-all_apt [] old new h = tt
-all_apt (c ∷ cs) old new h = (apt c (kind_at old) h.0, all_apt cs h.1 new h.3)
+pub all_apt : (profile : Profile) (cs : List Change) (old new : Datum) → Lead profile cs old new → AreApt cs
+all_apt profile [] old new h = tt
+all_apt profile (c ∷ cs) old new h = (apt profile c (kind_at old) h.0, all_apt profile cs h.1 new h.3)
 
 -- ---- where an edit carries what is at its place, below it, and above it
 

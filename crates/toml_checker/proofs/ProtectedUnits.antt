@@ -155,11 +155,11 @@ at_address d text h cs room i j u w is are b hu hw same k stays None at under = 
         no_tail (inr (inr e)) = let f : kinds.TailComment ≡ kinds.Pair = sym other ∙ e in cc
 
 pub inner_are_protected : InnerAreProtected
-inner_are_protected text doc cs few i j l p =
+inner_are_protected profile text doc cs few i j l p =
     let d = doc.1 in
     let h = doc.2 in
     let us = units doc.1.lines in
-    let room : HasRoom us cs = record { indices = units_are_low text doc; edits = few } in
+    let room : HasRoom us cs = record { indices = units_are_low profile text doc; edits = few } in
     let u = l.outer in
     let w = l.inner in
     let b = in_block us (units_nest d text h).0 i j u w l.later l.outer_is l.inner_is l.lies in
@@ -216,4 +216,4 @@ carried_at d cs room i u is stays (Some a) at =
     (subst (λ x. Stays cs (record { kind = u.kind; address = x; base = u.base; line = option_and_then (λ (l : TextUnit). l.address) (line_of (units d.lines) i); line_base = option_and_then (λ (l : TextUnit). l.base) (line_of (units d.lines) i) })) at stays)
 
 pub protected_are_carried : ProtectedAreCarried
-protected_are_carried text doc cs few i p = carried_at doc.1 cs (record { indices = units_are_low text doc; edits = few }) i p.0 p.1 p.2 p.0.address refl
+protected_are_carried profile text doc cs few i p = carried_at doc.1 cs (record { indices = units_are_low profile text doc; edits = few }) i p.0 p.1 p.2 p.0.address refl

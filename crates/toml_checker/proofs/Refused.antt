@@ -12,28 +12,29 @@ use Rattle.toml_tree.specs.Document.{Refuses}
 use Rattle.toml_tree.specs.Spells.{Spells}
 use Rattle.toml_tree.specs.Tree.{Doc}
 use Rattle.toml_tree.proofs.Proved.{one_tree}
-use Rattle.toml_names.specs.model.Documents.{IsDocument}
+use Rattle.toml_tree.specs.declared.profile.Profile.{Profile}
+use Rattle.toml_names.specs.model.Documents.{IsDocumentIn}
 use Rattle.toml_names.specs.reader.Names.{AreGood, RefusesNames}
 use Rattle.toml_names.specs.declared.fault.NameFault.{NameFault}
 use Rattle.toml_names.specs.declared.fault.NameFault.TheVariants as names
 use Rattle.toml_names.proofs.Proved.{refused_are_bad}
 
-pub no_text : (text : List ℕ) (fault : TextFault) → IsFaultOf text fault → ¬ IsDocument text
-no_text text (NotUtf8 at) h = λ document. h.0 (IsUtf8-from_is_utf8 text document.0.utf8)
-no_text text TooLong h = λ document. let fits : length text ≤ max_len = document.0.fits in absurd (omega (arith, h.1))
+pub no_text : (profile : Profile) (text : List ℕ) (fault : TextFault) → IsFaultOf text fault → ¬ IsDocumentIn profile text
+no_text profile text (NotUtf8 at) h = λ document. h.0 (IsUtf8-from_is_utf8 text document.0.utf8)
+no_text profile text TooLong h = λ document. let fits : length text ≤ max_len = document.0.fits in absurd (omega (arith, h.1))
 
-pub no_tree : (text : List ℕ) (fault : SyntaxFault) → (fault ≡ faults.NoMemory → ⊥) → Refuses One text fault → ¬ IsDocument text
-no_tree text (faults.BadCharacter at) memory h = λ document. h.1 document.1 (document.2, document.4)
-no_tree text (faults.Expected at) memory h = λ document. h.1 document.1 (document.2, document.4)
-no_tree text (faults.BadString at) memory h = λ document. h.1 document.1 (document.2, document.4)
-no_tree text (faults.BadNumber at) memory h = λ document. h.1 document.1 (document.2, document.4)
-no_tree text (faults.IntegerRange at) memory h = λ document. h.1 document.1 (document.2, document.4)
-no_tree text (faults.BadDate at) memory h = λ document. h.1 document.1 (document.2, document.4)
-no_tree text (faults.TooDeep at) memory h = λ document. h.1 document.1 (document.2, document.4)
-no_tree text faults.NoMemory memory h = λ document. memory refl
+pub no_tree : (profile : Profile) (text : List ℕ) (fault : SyntaxFault) → (fault ≡ faults.NoMemory → ⊥) → Refuses profile text fault → ¬ IsDocumentIn profile text
+no_tree profile text (faults.BadCharacter at) memory h = λ document. h.1 document.1 (document.2, document.4)
+no_tree profile text (faults.Expected at) memory h = λ document. h.1 document.1 (document.2, document.4)
+no_tree profile text (faults.BadString at) memory h = λ document. h.1 document.1 (document.2, document.4)
+no_tree profile text (faults.BadNumber at) memory h = λ document. h.1 document.1 (document.2, document.4)
+no_tree profile text (faults.IntegerRange at) memory h = λ document. h.1 document.1 (document.2, document.4)
+no_tree profile text (faults.BadDate at) memory h = λ document. h.1 document.1 (document.2, document.4)
+no_tree profile text (faults.TooDeep at) memory h = λ document. h.1 document.1 (document.2, document.4)
+no_tree profile text faults.NoMemory memory h = λ document. memory refl
 
 -- the lines of the one tree of the text are refused
-pub no_names : (text : List ℕ) (d : Doc) (fault : NameFault) → Spells d text → (fault ≡ names.NoMemory → ⊥) → RefusesNames d.lines fault → ¬ IsDocument text
-no_names text d fault spelled memory refuses = λ document.
+pub no_names : (profile : Profile) (text : List ℕ) (d : Doc) (fault : NameFault) → Spells d text → (fault ≡ names.NoMemory → ⊥) → RefusesNames d.lines fault → ¬ IsDocumentIn profile text
+no_names profile text d fault spelled memory refuses = λ document.
     let same : document.1 ≡ d = one_tree document.1 d text document.2 spelled in
     refused_are_bad d.lines fault refuses memory (subst (λ (e : Doc). AreGood e.lines) same document.3)

@@ -3,6 +3,7 @@ use Rattle.std.proofs.Common.{◌≡◌, ◌⊎◌, inl, inr, ℕ, ◌<◌, ◌^
 use Rattle.std.proofs.lemmas.Option.{same_Some}
 use Rattle.std.specs.Prelude.{slice_get}
 use Rattle.toml_tree.specs.Tree.{Doc}
+use Rattle.toml_tree.specs.declared.profile.Profile.{Profile}
 use Rattle.toml_names.specs.model.Addresses.{Address}
 use Rattle.toml_edits.specs.Edits.{Change}
 use Rattle.toml_units.specs.declared.unit.UnitKind.TheVariants as kinds
@@ -46,7 +47,7 @@ line_asked cs apt d e i k f line = by f.first.address refl f.second.address f.ad
         either (inr w) = inr w
 
 pub certified_stand : CertifiedStand
-certified_stand before after cs ps c few = record {
+certified_stand profile before after cs ps c few = record {
   old = c.old;
   new = c.new;
   facts = c.facts;
@@ -59,10 +60,10 @@ certified_stand before after cs ps c few = record {
 }
   where
     g : Given cs c.old.1 c.new.1 ps (flag_of cs (units c.old.1.lines))
-    g = given before after cs ps c few
+    g = given profile before after cs ps c few
 
     r : Read before cs after ps c.old.1 c.new.1
-    r = read before after cs ps c
+    r = read profile before after cs ps c
 
     stand : AllStand cs c.old.1 c.new.1
     stand = all_stand cs c.old.1 c.new.1 ps (flag_of cs (units c.old.1.lines)) g
@@ -71,7 +72,7 @@ certified_stand before after cs ps c few = record {
     unasked k w is line = by (r.lines k w is line)
       where
         of_pair : (p : ℕ × ℕ) → IsPair p ps → p.1 ≡ k → IsPartner cs c.old.1 c.new.1 stand k ⊎ At w.address (IsOwed cs) ⊎ IsEmptyEnd cs c.new.1 k w
-        of_pair p m at = either (line_asked cs (all_apt cs c.facts.2 c.facts.4.2 c.facts.4.4) c.old.1 c.new.1 p.0 p.1 f first_line)
+        of_pair p m at = either (line_asked cs (all_apt profile cs c.facts.2 c.facts.4.2 c.facts.4.4) c.old.1 c.new.1 p.0 p.1 f first_line)
           where
             f : StandsAs cs c.old.1 c.new.1 p.0 p.1
             f = pair_is (λ q. StandsAs cs c.old.1 c.new.1 q.0 q.1) ps p g.fit m
@@ -90,6 +91,6 @@ certified_stand before after cs ps c few = record {
         by (inl s) = let p = second_pair ps k s in of_pair p.0 p.1 p.2
         by (inr h) = inr h
 
-pub yes_means : (before after : List ℕ) (cs : List Change) (ps : List (ℕ × ℕ)) (v : Verdict) → length cs < 2 ^ 63 → IsVerdict before cs after ps v → YesMeans before cs after ps v
-yes_means before after cs ps Yes few h = certified_stand before after cs ps h few
-yes_means before after cs ps (No r) few h = tt
+pub yes_means : (profile : Profile) (before after : List ℕ) (cs : List Change) (ps : List (ℕ × ℕ)) (v : Verdict) → length cs < 2 ^ 63 → IsVerdict profile before cs after ps v → YesMeans profile before cs after ps v
+yes_means profile before after cs ps Yes few h = certified_stand profile before after cs ps h few
+yes_means profile before after cs ps (No r) few h = tt

@@ -6,6 +6,7 @@ use Rattle.std.specs.Bool.{nat_le}
 use Rattle.std.specs.Prelude.{slice_get, map, ◌↔◌}
 use Rattle.toml_tree.specs.Tree.{Doc}
 use Rattle.toml_tree.proofs.Proved.{one_tree}
+use Rattle.toml_tree.specs.declared.profile.Profile.{Profile}
 use Rattle.toml_names.specs.model.Addresses.{Address}
 use Rattle.toml_names.specs.model.Data.{kind_at, IsDataOf}
 use Rattle.toml_names.specs.mentions.Mentions.{named}
@@ -123,7 +124,7 @@ apart cs d e ps flags g p q mp mq protected far near =
     by (Some a) x None y (Some t) h k = k
     by (Some a) x (Some b) y None h k = h
     by (Some a) x (Some b) y (Some t) h k =
-        let one : a ≡ b = lists_carry_apart cs g.old g.new g.lead a b t (named_at d g.text g.spells g.old g.old_is (p.0 + suc (q.1 - suc p.1)) f.first a f.first_is x) (named_at d g.text g.spells g.old g.old_is q.0 fq.first b fq.first_is y) h k in
+        let one : a ≡ b = lists_carry_apart g.profile cs g.old g.new g.lead a b t (named_at d g.text g.spells g.old g.old_is (p.0 + suc (q.1 - suc p.1)) f.first a f.first_is x) (named_at d g.text g.spells g.old g.old_is q.0 fq.first b fq.first_is y) h k in
         let in_it = same_place d g.text g.spells g.good.0 p.0 (p.0 + suc (q.1 - suc p.1)) q.0 f.first fq.first a (omega arith) (omega (arith, low)) (omega (arith, low)) f.first_is fq.first_is kind x (y ∙ ap Some (sym one)) in
         omega (arith, in_it)
 
@@ -235,19 +236,20 @@ pub record Read (before : List ℕ) (cs : List Change) (after : List ℕ) (ps : 
   pub lines : NoLinesAdded cs e ps
   pub comments : NoCommentsAdded cs e ps
 
-pub read : (before after : List ℕ) (cs : List Change) (ps : List (ℕ × ℕ)) (c : Certified before cs after ps) → Read before cs after ps c.old.1 c.new.1
-read before after cs ps c = record {
+pub read : (profile : Profile) (before after : List ℕ) (cs : List Change) (ps : List (ℕ × ℕ)) (c : Certified profile before cs after ps) → Read before cs after ps c.old.1 c.new.1
+read profile before after cs ps c = record {
   fit = subst (λ x. PairsFit cs x c.new.1 ps) (one_tree c.pairs.0 c.old.1 before c.pairs.1 c.old.2) (subst (λ x. PairsFit cs c.pairs.0 x ps) (one_tree c.pairs.2.0 c.new.1 after c.pairs.2.1 c.new.2) c.pairs.2.2);
   kept = subst (λ x. AllKept cs x ps) (one_tree c.kept.0 c.old.1 before c.kept.1 c.old.2) c.kept.2;
   lines = subst (λ x. NoLinesAdded cs x ps) (one_tree c.lines.0 c.new.1 after c.lines.1 c.new.2) c.lines.2;
   comments = subst (λ x. NoCommentsAdded cs x ps) (one_tree c.comments.0 c.new.1 after c.comments.1 c.new.2) c.comments.2;
 }
 
-pub given : (before after : List ℕ) (cs : List Change) (ps : List (ℕ × ℕ)) (c : Certified before cs after ps) → length cs < 2 ^ 63 → Given cs c.old.1 c.new.1 ps (flag_of cs (units c.old.1.lines))
-given before after cs ps c few =
+pub given : (profile : Profile) (before after : List ℕ) (cs : List Change) (ps : List (ℕ × ℕ)) (c : Certified profile before cs after ps) → length cs < 2 ^ 63 → Given cs c.old.1 c.new.1 ps (flag_of cs (units c.old.1.lines))
+given profile before after cs ps c few =
     let d = c.old.1 in
-    let r = read before after cs ps c in
+    let r = read profile before after cs ps c in
     record {
+      profile = profile;
       text = before;
       other = after;
       spells = c.old.2;

@@ -1,4 +1,5 @@
 -- All demands together, and that there is one verdict.
+use Rattle.toml_tree.specs.declared.profile.Profile.{Profile}
 use Rattle.std.proofs.Common.{◌≡◌, ◌⊎◌, inl, inr, ℕ, ◌<◌, Bool, true, false, List, [], ◌∷◌, Some, refl, sym, ap, ◌∙◌, arith}
 use Rattle.std.proofs.lemmas.Bool.Decides.{nat_tests}
 use Rattle.std.proofs.lemmas.Option.{same_Some}
@@ -11,20 +12,20 @@ use Rattle.toml_checker.specs.declared.verdict.Verdict.TheVariants.{Yes, No}
 use Rattle.toml_checker.specs.Demands.{Demand, Certified, rank}
 use Rattle.toml_checker.specs.Laws.{CertifiedIsAllDemands, OneVerdict}
 
-demanded : (before after : List ℕ) (cs : List Change) (ps : List (ℕ × ℕ)) → Certified before cs after ps → (r : Reason) → Demand r before cs after ps
-demanded before after cs ps c BeforeRefused = c.old
-demanded before after cs ps c AfterRefused = c.new
-demanded before after cs ps c EditsRefused = c.defined
-demanded before after cs ps c OtherData = c.facts
-demanded before after cs ps c BadPair = c.pairs
-demanded before after cs ps c Lost = c.kept
-demanded before after cs ps c Unasked = c.lines
-demanded before after cs ps c NewComment = c.comments
-demanded before after cs ps c NotTheSame = c.frame
+demanded : (profile : Profile) (before after : List ℕ) (cs : List Change) (ps : List (ℕ × ℕ)) → Certified profile before cs after ps → (r : Reason) → Demand profile r before cs after ps
+demanded profile before after cs ps c BeforeRefused = c.old
+demanded profile before after cs ps c AfterRefused = c.new
+demanded profile before after cs ps c EditsRefused = c.defined
+demanded profile before after cs ps c OtherData = c.facts
+demanded profile before after cs ps c BadPair = c.pairs
+demanded profile before after cs ps c Lost = c.kept
+demanded profile before after cs ps c Unasked = c.lines
+demanded profile before after cs ps c NewComment = c.comments
+demanded profile before after cs ps c NotTheSame = c.frame
 
 pub certified_is_all_demands : CertifiedIsAllDemands
-certified_is_all_demands before after cs ps = (
-  demanded before after cs ps,
+certified_is_all_demands profile before after cs ps = (
+  demanded profile before after cs ps,
   (λ h. record { old = h BeforeRefused; new = h AfterRefused; defined = h EditsRefused; facts = h OtherData; pairs = h BadPair; kept = h Lost; lines = h Unasked; comments = h NewComment; frame = h NotTheSame }),
 )
 
@@ -54,10 +55,10 @@ which m n = by (nat_lt m n) (nat_lt n m) refl refl
     by false false e f = inr (inr (grind (arith, nat_tests)))
 
 pub one_verdict : OneVerdict
-one_verdict before after cs ps Yes Yes v w = refl
-one_verdict before after cs ps Yes (No q) v w = absurd (w.0 (demanded before after cs ps v q))
-one_verdict before after cs ps (No r) Yes v w = absurd (v.0 (demanded before after cs ps w r))
-one_verdict before after cs ps (No r) (No q) v w = by (which (rank r) (rank q))
+one_verdict profile before after cs ps Yes Yes v w = refl
+one_verdict profile before after cs ps Yes (No q) v w = absurd (w.0 (demanded profile before after cs ps v q))
+one_verdict profile before after cs ps (No r) Yes v w = absurd (v.0 (demanded profile before after cs ps w r))
+one_verdict profile before after cs ps (No r) (No q) v w = by (which (rank r) (rank q))
   where
     by : (rank r < rank q) ⊎ (rank q < rank r) ⊎ (rank r ≡ rank q) → No r ≡ No q
     by (inl lt) = absurd (v.0 (w.1 r lt))

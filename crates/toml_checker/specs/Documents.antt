@@ -2,6 +2,7 @@
 use Rattle.std.specs.Prelude.{ℕ, List}
 use Rattle.toml_tree.specs.Spells.{Spells}
 use Rattle.toml_tree.specs.Tree.{Doc}
+use Rattle.toml_tree.specs.declared.profile.Profile.{Profile}
 use Rattle.toml_names.specs.declared.model.datum.Datum.{Datum}
 use Rattle.toml_names.specs.model.Data.{kind_at, IsDataOf}
 use Rattle.toml_names.specs.mentions.Mentions.{named}
@@ -17,5 +18,5 @@ abbrev pub OfData : List ℕ → (Datum → Type 0) → Type 0
 OfData text P = (d : Doc) × Spells d text × (data_of : Datum) × IsDataOf (named d.lines) (kind_at data_of) × P data_of
 
 -- each edit in turn is defined on the data so far
-abbrev pub AreDefined : List Change → Datum → Type 0
-AreDefined cs old = (new : Datum) × Lead cs old new
+abbrev pub AreDefined : Profile → List Change → Datum → Type 0
+AreDefined profile cs old = (new : Datum) × Lead profile cs old new

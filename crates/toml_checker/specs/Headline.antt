@@ -2,7 +2,8 @@
 use Rattle.std.specs.Prelude.{◌≡◌, ◌⊎◌, ◌<◌, ◌^◌, ℕ, List, [], length, Some, slice_get}
 use Rattle.toml_tree.specs.Spells.{mark_of}
 use Rattle.toml_tree.specs.Tree.{Doc}
-use Rattle.toml_names.specs.model.Documents.{IsDocument}
+use Rattle.toml_tree.specs.declared.profile.Profile.{Profile}
+use Rattle.toml_names.specs.model.Documents.{IsDocumentIn}
 use Rattle.toml_edits.specs.Edits.{Change}
 use Rattle.toml_edits.specs.Lists.{Lead}
 use Rattle.toml_units.specs.declared.unit.UnitKind.TheVariants as kinds
@@ -38,12 +39,12 @@ NothingUnasked cs before after standing = (k : ℕ) (w : TextUnit) → slice_get
 -- The headline: both texts are documents; the data of the second are what the edits make of those of the first, at every address;
 -- each comment, expression, element and inline pair that no edit names stands in the second text, byte for byte, in the same order
 -- and at its carried address; nothing unasked is added; and without an edit the two texts are equal.
-pub record Headline (before : List ℕ) (cs : List Change) (after : List ℕ) (ps : List (ℕ × ℕ)) : Type 0 where
+pub record Headline (profile : Profile) (before : List ℕ) (cs : List Change) (after : List ℕ) (ps : List (ℕ × ℕ)) : Type 0 where
   -- both are documents of the profile; what follows is about their trees
-  pub old : IsDocument before
-  pub new : IsDocument after
+  pub old : IsDocumentIn profile before
+  pub new : IsDocumentIn profile after
   -- the edits lead from the data of the one to those of the other
-  pub facts : OfData before (λ x. OfData after (λ y. Lead cs x y))
+  pub facts : OfData before (λ x. OfData after (λ y. Lead profile cs x y))
   -- what no edit names stands in the second
   pub standing : AllStand cs old.1 new.1
   -- and each pair of the certificate is of two units that are the same, at the carried address
@@ -56,10 +57,10 @@ pub record Headline (before : List ℕ) (cs : List Change) (after : List ℕ) (p
   pub same : cs ≡ [] → before ≡ after
 
 -- a yes means the headline; a no says nothing here
-abbrev pub YesMeans : List ℕ → List Change → List ℕ → List (ℕ × ℕ) → Verdict → Type 0
-YesMeans before cs after ps Yes = Headline before cs after ps
-YesMeans before cs after ps (No r) = Unit {0}
+abbrev pub YesMeans : Profile → List ℕ → List Change → List ℕ → List (ℕ × ℕ) → Verdict → Type 0
+YesMeans profile before cs after ps Yes = Headline profile before cs after ps
+YesMeans profile before cs after ps (No r) = Unit {0}
 
 -- Law: what is certified has the headline's meaning.
 abbrev pub CertifiedStand : Type 0
-CertifiedStand = (before after : List ℕ) (cs : List Change) (ps : List (ℕ × ℕ)) → Certified before cs after ps → length cs < 2 ^ 63 → Headline before cs after ps
+CertifiedStand = (profile : Profile) (before after : List ℕ) (cs : List Change) (ps : List (ℕ × ℕ)) → Certified profile before cs after ps → length cs < 2 ^ 63 → Headline profile before cs after ps

@@ -1,8 +1,9 @@
 -- Laws of what is protected, and of the demands.
 use Rattle.std.specs.Prelude.{◌≡◌, ◌↔◌, ◌<◌, ◌^◌, ◌++◌, ℕ, List, length, Option, Some, None, IfSome, option_map}
 use Rattle.toml_tree.specs.Spells.{EachIs}
+use Rattle.toml_tree.specs.declared.profile.Profile.{Profile}
 use Rattle.toml_names.specs.model.Addresses.{Address}
-use Rattle.toml_names.specs.model.Documents.{IsDocument}
+use Rattle.toml_names.specs.model.Documents.{IsDocumentIn}
 use Rattle.toml_names.specs.model.Indices.{IsLow}
 use Rattle.toml_edits.specs.Edits.{Change}
 use Rattle.toml_edits.specs.Lists.{carried}
@@ -15,7 +16,7 @@ use Rattle.toml_checker.specs.Protected.{IsProtected}
 
 -- Each index in the address of a unit of a document is far below the numbers that an index may be.
 abbrev pub UnitsAreLow : Type 0
-UnitsAreLow = (text : List ℕ) (doc : IsDocument text) → EachIs (λ (u : TextUnit). IfSome u.address (IsLow (2 ^ 63))) (units doc.1.lines)
+UnitsAreLow = (profile : Profile) (text : List ℕ) (doc : IsDocumentIn profile text) → EachIs (λ (u : TextUnit). IfSome u.address (IsLow (2 ^ 63))) (units doc.1.lines)
 
 -- the second address goes with the first one, wherever that is carried
 abbrev pub GoesWith : List Change → Option Address → Option Address → Type 0
@@ -24,18 +25,18 @@ GoesWith cs (Some a) w = (rest : Address) × (w ≡ Some (a ++ rest)) × (carrie
 
 -- What lies in a protected unit is protected, and is carried along with it.
 abbrev pub InnerAreProtected : Type 0
-InnerAreProtected = (text : List ℕ) (doc : IsDocument text) (cs : List Change) → length cs < 2 ^ 63 → (i j : ℕ) (l : LiesInside (units doc.1.lines) i j)
+InnerAreProtected = (profile : Profile) (text : List ℕ) (doc : IsDocumentIn profile text) (cs : List Change) → length cs < 2 ^ 63 → (i j : ℕ) (l : LiesInside (units doc.1.lines) i j)
     → IsProtected cs (units doc.1.lines) i → IsProtected cs (units doc.1.lines) j × GoesWith cs l.outer.address l.inner.address
 
 -- The address of a protected unit, where it has one, is carried to an address.
 abbrev pub ProtectedAreCarried : Type 0
-ProtectedAreCarried = (text : List ℕ) (doc : IsDocument text) (cs : List Change) → length cs < 2 ^ 63 → (i : ℕ) (p : IsProtected cs (units doc.1.lines) i)
+ProtectedAreCarried = (profile : Profile) (text : List ℕ) (doc : IsDocumentIn profile text) (cs : List Change) → length cs < 2 ^ 63 → (i : ℕ) (p : IsProtected cs (units doc.1.lines) i)
     → IfSome p.0.address (λ a. (b : Address) × (carried cs a ≡ Some b))
 
 -- A text is certified exactly where all demands hold.
 abbrev pub CertifiedIsAllDemands : Type 0
-CertifiedIsAllDemands = (before after : List ℕ) (cs : List Change) (ps : List (ℕ × ℕ)) → Certified before cs after ps ↔ ((r : Reason) → Demand r before cs after ps)
+CertifiedIsAllDemands = (profile : Profile) (before after : List ℕ) (cs : List Change) (ps : List (ℕ × ℕ)) → Certified profile before cs after ps ↔ ((r : Reason) → Demand profile r before cs after ps)
 
 -- There is one verdict.
 abbrev pub OneVerdict : Type 0
-OneVerdict = (before after : List ℕ) (cs : List Change) (ps : List (ℕ × ℕ)) (v w : Verdict) → IsVerdict before cs after ps v → IsVerdict before cs after ps w → v ≡ w
+OneVerdict = (profile : Profile) (before after : List ℕ) (cs : List Change) (ps : List (ℕ × ℕ)) (v w : Verdict) → IsVerdict profile before cs after ps v → IsVerdict profile before cs after ps w → v ≡ w

@@ -3,11 +3,11 @@ use Rattle.std.specs.Prelude.{◌≡◌, List, ℕ, Option, MatchOption, map}
 use Rattle.toml_text.specs.Limit.{IsText}
 use Rattle.toml_tree.specs.declared.document.Doc.{Doc}
 use Rattle.toml_tree.specs.Document.{document}
-use Rattle.toml_tree.specs.declared.profile.Profile.TheVariants.{One}
 use Rattle.toml_tree.specs.Profiles.{IsOfProfile}
 use Rattle.toml_tree.specs.Spells.{Spells}
+use Rattle.toml_tree.specs.declared.profile.Profile.{Profile}
 use Rattle.toml_names.specs.model.Data.{IsDataOf, kind_at}
-use Rattle.toml_names.specs.model.Documents.{IsDocument}
+use Rattle.toml_names.specs.model.Documents.{IsDocumentIn}
 use Rattle.toml_names.specs.mentions.Mentions.{named}
 use Rattle.toml_names.specs.reader.Reading.{ReaderState, lines_of}
 use Rattle.toml_checker.specs.declared.documents.Document.{Document}
@@ -18,8 +18,8 @@ use Rattle.toml_units.specs.Units.{units}
 use Rattle.toml_units.specs.View.{all_units}
 
 -- the tree of a text within the limit; without one it is no document
-abbrev pub FindsTree : List ℕ → Option Doc → Type 0
-FindsTree text found = MatchOption found (¬ IsDocument text) (λ doc. IsText text × Spells (document doc) text × IsOfProfile One (document doc))
+abbrev pub FindsTree : Profile → List ℕ → Option Doc → Type 0
+FindsTree profile text found = MatchOption found (¬ IsDocumentIn profile text) (λ doc. IsText text × Spells (document doc) text × IsOfProfile profile (document doc))
 
 -- these are the units of the tree
 abbrev pub AreUnitsOf : Doc → List Made → Type 0
@@ -30,12 +30,12 @@ abbrev pub IsRest : Doc → Rest → Type 0
 IsRest doc rest = IsDataOf (named (document doc).lines) (kind_at rest.«data».root) × AreUnitsOf doc rest.units.items
 
 -- a reader that took the lines of the tree, which is a document's; without one the text is no document
-abbrev pub FindsLines : List ℕ → Doc → Option ReaderState → Type 0
-FindsLines text doc found = MatchOption found (¬ IsDocument text) (λ reader. IsDocument text × (lines_of reader ≡ (document doc).lines))
+abbrev pub FindsLines : Profile → List ℕ → Doc → Option ReaderState → Type 0
+FindsLines profile text doc found = MatchOption found (¬ IsDocumentIn profile text) (λ reader. IsDocumentIn profile text × (lines_of reader ≡ (document doc).lines))
 
 -- the data and the units of a document; without them the text is none
-abbrev pub FindsRest : List ℕ → Doc → Option Rest → Type 0
-FindsRest text doc found = MatchOption found (¬ IsDocument text) (λ rest. IsDocument text × IsRest doc rest)
+abbrev pub FindsRest : Profile → List ℕ → Doc → Option Rest → Type 0
+FindsRest profile text doc found = MatchOption found (¬ IsDocumentIn profile text) (λ rest. IsDocumentIn profile text × IsRest doc rest)
 
 -- the tree is that of the text, and the units are those of the tree
 pub record IsRead (d : Document) : Type 0 where
@@ -43,5 +43,5 @@ pub record IsRead (d : Document) : Type 0 where
   pub units : AreUnitsOf d.doc.now d.units.now
 
 -- the tree, the data and the units of a document; without them the text is none
-abbrev pub FindsDocument : List ℕ → Option (Doc × Rest) → Type 0
-FindsDocument text found = MatchOption found (¬ IsDocument text) (λ r. IsDocument text × Spells (document r.0) text × IsRest r.0 r.1)
+abbrev pub FindsDocument : Profile → List ℕ → Option (Doc × Rest) → Type 0
+FindsDocument profile text found = MatchOption found (¬ IsDocumentIn profile text) (λ r. IsDocumentIn profile text × Spells (document r.0) text × IsRest r.0 r.1)

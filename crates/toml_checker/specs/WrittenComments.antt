@@ -1,5 +1,6 @@
 -- The comments that edits write, as the code holds them.
 use Rattle.std.specs.Prelude.{◌≡◌, ◌⊎◌, ◌<◌, ℕ, List, [], ◌∷◌, Option}
+use Rattle.toml_tree.specs.declared.profile.Profile.{Profile}
 use Rattle.toml_names.specs.model.Addresses.{Address}
 use Rattle.toml_edits.specs.Edits.{Change, set, insert, place}
 use Rattle.toml_edits.specs.Lists.{carried}
@@ -13,14 +14,14 @@ use Rattle.toml_checker.specs.Counts.{plain, seen, count_of}
 use Rattle.toml_checker.specs.UnmarkedComments.{text_at}
 
 -- the value of the edit, if it has one, is not refused
-abbrev pub HasValue : Change → Type 0
-HasValue (set at value) = ¬ (IsBadValue value)
-HasValue (insert at value) = ¬ (IsBadValue value)
-HasValue _ = Unit {0}
+abbrev pub HasValue : Profile → Change → Type 0
+HasValue profile (set at value) = ¬ (IsBadValue profile value)
+HasValue profile (insert at value) = ¬ (IsBadValue profile value)
+HasValue profile _ = Unit {0}
 
-abbrev pub HaveValues : List Change → Type 0
-HaveValues [] = Unit {0}
-HaveValues (c ∷ cs) = HasValue c × HaveValues cs
+abbrev pub HaveValues : Profile → List Change → Type 0
+HaveValues profile [] = Unit {0}
+HaveValues profile (c ∷ cs) = HasValue profile c × HaveValues profile cs
 
 -- the comments in the edit's value, how often each is there, and where the edit's place stands behind the edits that follow
 pub record IsWrittenBy (c : Change) (later : List Change) (w : Written) : Type 0 where

@@ -15,6 +15,7 @@ use crate::unmarked::{text_at, texts_of, unmarked};
 use crate::written::{Written, all_texts, all_written, any_writes};
 use std::alloc::{AllocError, Global};
 use toml_edits::Edit;
+use toml_tree::Profile;
 use toml_units::{Unit, UnitKind};
 
 /// Whether the unit is a comment of an array that one of the edits writes.
@@ -39,18 +40,19 @@ fn are_allowed(written: &[Written], text: &[u8], comments: &[&Unit]) -> bool
 
 /// Whether each comment of a document is paired, or lies inside a paired unit, or is a comment of an array that an edit
 /// has written; and of these last ones no text stands more often than in the values of all the edits. The units are those
-/// of the document, whose text it is, the pairs' second numbers count them, and no edit's value is refused.
+/// of the document, whose text it is, the pairs' second numbers count them, and no edit's value is refused in the profile.
 pub(crate) fn no_comments_added(
     alloc: Global,
     text: &[u8],
     units: &[Unit],
     edits: &[Edit],
     pairs: &[(u64, u64)],
+    profile: Profile,
 ) -> Result<bool, AllocError>
-    requires { HaveValues (map change edits.now) }
+    requires { HaveValues profile (map change edits.now) }
     ensures { IfOk result (λ holds. (e : Doc) → Spells e text.now → all_units units.now ≡ map spanned (units_of e.lines) → (IsTrue holds ↔ NoCommentsAdded (map change edits.now) e pairs.now)) }
 {
-    let written = all_written(alloc, edits)?;
+    let written = all_written(alloc, edits, profile)?;
     let paired = second_marks(alloc, units.len(), pairs)?;
     let covered = covered(alloc, units, &paired)?;
     let new = unmarked(alloc, units, &covered)?;

@@ -3,7 +3,7 @@ ghost use Rattle.std.specs.Prelude.{◌≡◌, IfOk, OnOk};
 ghost use Rattle.toml_names.specs.declared.fault.NameFault.TheVariants as names;
 ghost use Rattle.toml_text.specs.Limit.{IsText};
 ghost use Rattle.toml_tree.specs.Document.{document};
-ghost use Rattle.toml_tree.specs.declared.profile.Profile.TheVariants.{One};
+ghost use Rattle.toml_tree.specs.declared.profile.Profile.{Profile};
 ghost use Rattle.toml_tree.specs.Profiles.{IsOfProfile};
 ghost use Rattle.toml_tree.specs.Spells.{Spells};
 ghost use Rattle.toml_names.specs.reader.Names.{AreOwnAddresses};
@@ -13,7 +13,7 @@ ghost use Rattle.toml_checker.specs.Reading.{AreUnitsOf, FindsDocument, FindsLin
 use std::alloc::{AllocError, Global};
 use toml_names::{Address, Data, NameFault, NameReader, read_lines};
 use toml_text::Source;
-use toml_tree::{Doc, SyntaxFault, parse};
+use toml_tree::{Doc, Profile, SyntaxFault, parse_in};
 use toml_units::{Unit, units_at};
 
 /// What is read of a tree: the data and the units.
@@ -23,14 +23,18 @@ pub(crate) struct Rest {
     pub(crate) units: Vec<Unit>,
 }
 
-/// The tree of a text. Where there is none the text is no document.
-pub(crate) fn read_tree<'t>(alloc: Global, text: &'t [u8]) -> Result<Option<Doc<'t>>, AllocError>
-    ensures { IfOk result (FindsTree text.now) }
+/// The tree of a text in the profile. Where there is none the text is no document.
+pub(crate) fn read_tree<'t>(
+    alloc: Global,
+    text: &'t [u8],
+    profile: Profile,
+) -> Result<Option<Doc<'t>>, AllocError>
+    ensures { IfOk result (FindsTree profile text.now) }
 {
     let Ok(source) = Source::new(text) else {
         return Ok(None);
     };
-    match parse(alloc, source) {
+    match parse_in(alloc, source, profile) {
         Ok(doc) => Ok(Some(doc)),
         Err(SyntaxFault::NoMemory) => Err(AllocError),
         Err(_) => Ok(None),
@@ -45,8 +49,7 @@ pub(crate) fn read_all_lines<'d, 't>(
 ) -> Result<Option<NameReader<'d, 't>>, AllocError>
     requires text { IsText text.now }
     requires tree { Spells (document doc.now) text.now }
-    requires of_profile { IsOfProfile One (document doc.now) }
-    ensures { IfOk result (FindsLines text.now doc.now) }
+    ensures { (profile : Profile) → IsOfProfile profile (document doc.now) → IfOk result (FindsLines profile text.now doc.now) }
 {
     match read_lines(alloc, doc) {
         Ok(reader) => Ok(Some(reader)),
@@ -97,14 +100,15 @@ fn own_addresses(reader: NameReader) -> Result<Vec<Option<Address>>, AllocError>
     reader.own_addresses()
 }
 
-/// The tree, the data and the units of a text, if it is a document.
+/// The tree, the data and the units of a text, if it is a document of the profile.
 pub(crate) fn read_document<'t>(
     alloc: Global,
     text: &'t [u8],
+    profile: Profile,
 ) -> Result<Option<(Doc<'t>, Rest)>, AllocError>
-    ensures { IfOk result (FindsDocument text.now) }
+    ensures { IfOk result (FindsDocument profile text.now) }
 {
-    let Some(doc) = read_tree(alloc, text)? else {
+    let Some(doc) = read_tree(alloc, text, profile)? else {
         return Ok(None);
     };
     let Some(rest) = read_rest(alloc, text, &doc)? else {
@@ -117,8 +121,7 @@ pub(crate) fn read_document<'t>(
 fn read_rest(alloc: Global, text: &[u8], doc: &Doc) -> Result<Option<Rest>, AllocError>
     requires text { IsText text.now }
     requires tree { Spells (document doc.now) text.now }
-    requires of_profile { IsOfProfile One (document doc.now) }
-    ensures { IfOk result (FindsRest text.now doc.now) }
+    ensures { (profile : Profile) → IsOfProfile profile (document doc.now) → IfOk result (FindsRest profile text.now doc.now) }
 {
     match read_all_lines(alloc, text, doc)? {
         Some(reader) => Ok(Some(rest_of(alloc, doc, reader)?)),

@@ -8,20 +8,22 @@ ghost use Rattle.toml_edits.specs.Edits.{change};
 ghost use Rattle.toml_checker.specs.After.{GivesData};
 
 use std::alloc::{AllocError, Global};
-use toml_edits::{Edit, EditFault, apply};
+use toml_edits::{Edit, EditFault, apply_in};
 use toml_names::{Data, NameReader};
+use toml_tree::Profile;
 
 /// What the edits, one after the other, make of data; none where one is not defined on the data so far.
 pub(crate) fn data_after(
     alloc: Global,
     old: Data,
     edits: &[Edit],
+    profile: Profile,
 ) -> Result<Option<Data>, AllocError>
-    ensures { IfOk result (GivesData (map change edits.now) old) }
+    ensures { IfOk result (GivesData profile (map change edits.now) old) }
 {
     let mut data = old;
     for edit in edits {
-        if let Err(fault) = apply(alloc, &mut data, edit) {
+        if let Err(fault) = apply_in(alloc, &mut data, edit, profile) {
             told(fault)?;
             return Ok(None);
         }

@@ -1,7 +1,8 @@
 //! The judge: the demands, one after the other.
 ghost use Rattle.std.specs.Prelude.{◌≡◌, ◌↔◌, IsTrue, IfOk, map};
 ghost use Rattle.toml_tree.specs.Document.{document};
-ghost use Rattle.toml_names.specs.model.Documents.{IsDocument};
+ghost use Rattle.toml_tree.specs.declared.profile.Profile.TheVariants.{One};
+ghost use Rattle.toml_names.specs.model.Documents.{IsDocumentIn};
 ghost use Rattle.toml_edits.specs.Edits.{change};
 ghost use Rattle.toml_checker.specs.After.{GivesMade, IsMadeOf};
 ghost use Rattle.toml_checker.specs.Demands.{IsVerdict};
@@ -22,6 +23,7 @@ use crate::verdict::{Reason, Verdict};
 use std::alloc::{AllocError, Global};
 use toml_edits::Edit;
 use toml_names::Data;
+use toml_tree::Profile;
 use toml_units::Certificate;
 
 /// Whether no protected unit of a document is lost.
@@ -45,11 +47,12 @@ fn judge(
     edits: &[Edit],
     after: Document,
     pairs: &[(u64, u64)],
+    profile: Profile,
 ) -> Result<Verdict, AllocError>
     requires before { IsRead before }
     requires after { IsRead after }
-    requires so_far { HoldBelow 4 before.text.now (map change edits.now) after.text.now pairs.now }
-    ensures { IfOk result (IsVerdict before.entry.text.now (map change edits.now) after.entry.text.now pairs.now) }
+    requires so_far { HoldBelow profile 4 before.text.now (map change edits.now) after.text.now pairs.now }
+    ensures { IfOk result (IsVerdict profile before.entry.text.now (map change edits.now) after.entry.text.now pairs.now) }
 {
     if !pairs_fit(alloc, before, edits, after, pairs)? {
         return Ok(Verdict::No(Reason::BadPair));
@@ -60,7 +63,7 @@ fn judge(
     if !no_lines_added(alloc, after.doc, after.units, edits, pairs)? {
         return Ok(Verdict::No(Reason::Unasked));
     }
-    if !no_comments_added(alloc, after.text, after.units, edits, pairs)? {
+    if !no_comments_added(alloc, after.text, after.units, edits, pairs, profile)? {
         return Ok(Verdict::No(Reason::NewComment));
     }
     if !keeps_frame(before.text, before.doc, edits, after.text, after.doc) {
@@ -77,13 +80,14 @@ fn judge_after(
     made: Option<Data>,
     after: &[u8],
     pairs: &[(u64, u64)],
+    profile: Profile,
 ) -> Result<Verdict, AllocError>
     requires read { IsRead before }
-    requires document { IsDocument before.text.now }
-    requires made { GivesMade before.text.now (map change edits.now) made }
-    ensures { IfOk result (IsVerdict before.entry.text.now (map change edits.now) after.now pairs.now) }
+    requires document { IsDocumentIn profile before.text.now }
+    requires made { GivesMade profile before.text.now (map change edits.now) made }
+    ensures { IfOk result (IsVerdict profile before.entry.text.now (map change edits.now) after.now pairs.now) }
 {
-    let Some(doc) = read_tree(alloc, after)? else {
+    let Some(doc) = read_tree(alloc, after, profile)? else {
         return Ok(Verdict::No(Reason::AfterRefused));
     };
     let Some(reader) = read_all_lines(alloc, after, &doc)? else {
@@ -101,24 +105,11 @@ fn judge_after(
         doc: &doc,
         units: &units,
     };
-    judge(alloc, before, edits, after, pairs)
+    judge(alloc, before, edits, after, pairs, profile)
 }
 
-/// Whether the pairs of the certificate certify that the second text is what the edits make of the first, with all that
-/// no edit names in it as it was. Each text is read once.
-///
-/// The demands are asked in the order of the reasons, and the first that fails is told:
-///
-/// | Reason | What is demanded |
-/// |---|---|
-/// | `BeforeRefused`, `AfterRefused` | both texts are documents |
-/// | `EditsRefused` | each edit in turn is defined on the data so far |
-/// | `OtherData` | the data of the second text are the last ones |
-/// | `BadPair` | the numbers of the pairs rise, and each names two units that are the same at the carried address |
-/// | `Lost` | each protected unit is paired, or lies inside a paired one that is protected |
-/// | `Unasked` | each line is paired, or owed by an edit, or the last one, of no bytes, and there is an edit |
-/// | `NewComment` | each comment is paired, inside a paired unit, or written by an edit, and no more often than edits write it |
-/// | `NotTheSame` | the mark is in both texts or in neither, and without edits the texts are equal |
+/// Whether the pairs of the certificate certify, in profile 1, that the second text is what the edits make of the first:
+/// `check_in` with `Profile::One`.
 pub fn check(
     alloc: Global,
     before: &[u8],
@@ -126,24 +117,53 @@ pub fn check(
     after: &[u8],
     certificate: &Certificate,
 ) -> Result<Verdict, AllocError>
-    ensures verdict { IfOk result (IsVerdict before.now (map change edits.now) after.now certificate.now.pairs.items) }
-    ensures headline { IfOk result (YesMeans before.now (map change edits.now) after.now certificate.now.pairs.items) }
+    ensures verdict { IfOk result (IsVerdict One before.now (map change edits.now) after.now certificate.now.pairs.items) }
+    ensures headline { IfOk result (YesMeans One before.now (map change edits.now) after.now certificate.now.pairs.items) }
+{
+    check_in(alloc, before, edits, after, certificate, Profile::One)
+}
+
+/// Whether the pairs of the certificate certify that the second text is what the edits make of the first, with all that
+/// no edit names in it as it was, the texts and the values of the edits read in the profile. Each text is read once.
+///
+/// The demands are asked in the order of the reasons, and the first that fails is told:
+///
+/// | Reason | What is demanded |
+/// |---|---|
+/// | `BeforeRefused`, `AfterRefused` | both texts are documents of the profile |
+/// | `EditsRefused` | each edit in turn is defined on the data so far |
+/// | `OtherData` | the data of the second text are the last ones |
+/// | `BadPair` | the numbers of the pairs rise, and each names two units that are the same at the carried address |
+/// | `Lost` | each protected unit is paired, or lies inside a paired one that is protected |
+/// | `Unasked` | each line is paired, or owed by an edit, or the last one, of no bytes, and there is an edit |
+/// | `NewComment` | each comment is paired, inside a paired unit, or written by an edit, and no more often than edits write it |
+/// | `NotTheSame` | the mark is in both texts or in neither, and without edits the texts are equal |
+pub fn check_in(
+    alloc: Global,
+    before: &[u8],
+    edits: &[Edit],
+    after: &[u8],
+    certificate: &Certificate,
+    profile: Profile,
+) -> Result<Verdict, AllocError>
+    ensures verdict { IfOk result (IsVerdict profile before.now (map change edits.now) after.now certificate.now.pairs.items) }
+    ensures headline { IfOk result (YesMeans profile before.now (map change edits.now) after.now certificate.now.pairs.items) }
 {
     // each takes some bytes of memory
     prove!(edits.len() <= isize::MAX as usize);
-    let Some((doc, old)) = read_document(alloc, before)? else {
+    let Some((doc, old)) = read_document(alloc, before, profile)? else {
         return Ok(Verdict::No(Reason::BeforeRefused));
     };
-    let made = data_after(alloc, old.data, edits)?;
+    let made = data_after(alloc, old.data, edits, profile)?;
     let before = Document {
         text: before,
         doc: &doc,
         units: &old.units,
     };
-    judge_after(alloc, before, edits, made, after, &certificate.pairs)
+    judge_after(alloc, before, edits, made, after, &certificate.pairs, profile)
 }
 
-/// What `check` answers of a document that is read already, with the data that the edits make of its data: the same verdict,
+/// What `check_in` answers of a document that is read already, with the data that the edits make of its data: the same verdict,
 /// by the same code. The second text alone is read. What a yes means is the law of the headline.
 pub fn check_made(
     alloc: Global,
@@ -152,11 +172,12 @@ pub fn check_made(
     made: Data,
     after: &[u8],
     certificate: &Certificate,
+    profile: Profile,
 ) -> Result<Verdict, AllocError>
     requires read { IsRead before }
-    requires document { IsDocument before.text.now }
-    requires made { IsMadeOf before.text.now (map change edits.now) made }
-    ensures { IfOk result (IsVerdict before.entry.text.now (map change edits.now) after.now certificate.now.pairs.items) }
+    requires document { IsDocumentIn profile before.text.now }
+    requires made { IsMadeOf profile before.text.now (map change edits.now) made }
+    ensures { IfOk result (IsVerdict profile before.entry.text.now (map change edits.now) after.now certificate.now.pairs.items) }
 {
-    judge_after(alloc, before, edits, Some(made), after, &certificate.pairs)
+    judge_after(alloc, before, edits, Some(made), after, &certificate.pairs, profile)
 }

@@ -20,7 +20,7 @@ use std::collections::BTreeMap;
 use toml_edits::Edit;
 use toml_names::Address;
 use toml_text::Source;
-use toml_tree::{SyntaxFault, Value, parse_value};
+use toml_tree::{Profile, SyntaxFault, Value, parse_value_in};
 use toml_units::units_inside;
 
 /// The comments that an edit writes.
@@ -50,16 +50,16 @@ fn comments_inside<'v>(
     Ok(texts)
 }
 
-/// The comments in the text of a value.
-fn comments_of<'v>(alloc: Global, value: &'v str) -> Result<Vec<&'v [u8]>, AllocError>
-    requires { ¬ (IsBadValue value.now) }
+/// The comments in the text of a value of the profile.
+fn comments_of<'v>(alloc: Global, value: &'v str, profile: Profile) -> Result<Vec<&'v [u8]>, AllocError>
+    requires { ¬ (IsBadValue profile value.now) }
     ensures { IfOk result (λ ts. AreCommentsOf value.now (plain ts.items)) }
 {
     let bytes = value.as_bytes();
     let Ok(source) = Source::new(bytes) else {
         return Ok(Vec::new(alloc));
     };
-    match parse_value(alloc, source) {
+    match parse_value_in(alloc, source, profile) {
         Ok(tree) => comments_inside(alloc, bytes, &tree),
         Err(SyntaxFault::NoMemory) => Err(AllocError),
         Err(_) => Ok(Vec::new(alloc)),
@@ -67,13 +67,13 @@ fn comments_of<'v>(alloc: Global, value: &'v str) -> Result<Vec<&'v [u8]>, Alloc
 }
 
 /// The comments in the value of an edit.
-fn comments_in<'e>(alloc: Global, edit: &'e Edit) -> Result<Vec<&'e [u8]>, AllocError>
-    requires { HasValue (change edit.now) }
+fn comments_in<'e>(alloc: Global, edit: &'e Edit, profile: Profile) -> Result<Vec<&'e [u8]>, AllocError>
+    requires { HasValue profile (change edit.now) }
     ensures { IfOk result (λ ts. AreCommentsIn (change edit.now) (plain ts.items)) }
 {
     match edit {
-        Edit::Set { value, .. } => comments_of(alloc, value.as_str()),
-        Edit::Insert { value, .. } => comments_of(alloc, value.as_str()),
+        Edit::Set { value, .. } => comments_of(alloc, value.as_str(), profile),
+        Edit::Insert { value, .. } => comments_of(alloc, value.as_str(), profile),
         Edit::Rename { .. } => Ok(Vec::new(alloc)),
         Edit::Remove { .. } => Ok(Vec::new(alloc)),
         Edit::Section { .. } => Ok(Vec::new(alloc)),
@@ -82,11 +82,11 @@ fn comments_in<'e>(alloc: Global, edit: &'e Edit) -> Result<Vec<&'e [u8]>, Alloc
 }
 
 /// What an edit writes, where the others follow it.
-fn written_by<'e>(alloc: Global, edit: &'e Edit, later: &[Edit]) -> Result<Written<'e>, AllocError>
-    requires { HasValue (change edit.now) }
+fn written_by<'e>(alloc: Global, edit: &'e Edit, later: &[Edit], profile: Profile) -> Result<Written<'e>, AllocError>
+    requires { HasValue profile (change edit.now) }
     ensures { IfOk result (IsWrittenBy (change edit.now) (map change later.now)) }
 {
-    let texts = comments_in(alloc, edit)?;
+    let texts = comments_in(alloc, edit, profile)?;
     let counts = counted(alloc, &texts)?;
     let at = carried_along(alloc, later, place(edit).copy(alloc)?)?;
     Ok(Written { at, texts, counts })
@@ -96,14 +96,15 @@ fn written_by<'e>(alloc: Global, edit: &'e Edit, later: &[Edit]) -> Result<Writt
 pub(crate) fn all_written<'e>(
     alloc: Global,
     edits: &'e [Edit],
+    profile: Profile,
 ) -> Result<Vec<Written<'e>>, AllocError>
-    requires { HaveValues (map change edits.now) }
+    requires { HaveValues profile (map change edits.now) }
     ensures { IfOk result (λ ws. AreWrittenBy (map change edits.now) ws.items) }
 {
     let mut written = Vec::new(alloc);
     let mut left = edits;
     while let Some((edit, later)) = left.split_first() {
-        written.push(written_by(alloc, edit, later)?)?;
+        written.push(written_by(alloc, edit, later, profile)?)?;
         left = later;
     }
     Ok(written)

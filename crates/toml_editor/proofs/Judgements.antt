@@ -17,12 +17,13 @@ use Rattle.toml_tree.specs.Document.{Refuses}
 use Rattle.toml_tree.specs.Spells.{Spells}
 use Rattle.toml_tree.specs.Tree.{Doc}
 use Rattle.toml_tree.proofs.Proved.{one_tree}
+use Rattle.toml_tree.specs.declared.profile.Profile.{Profile}
 use Rattle.toml_names.specs.declared.fault.NameFault.{NameFault}
 use Rattle.toml_names.specs.declared.fault.NameFault.TheVariants as names
 use Rattle.toml_names.specs.declared.model.datum.Datum.{Datum}
 use Rattle.toml_names.specs.model.Addresses.{Address}
 use Rattle.toml_names.specs.model.Data.{Kinds, IsDataOf, IsFact, kind_at}
-use Rattle.toml_names.specs.model.Documents.{IsDocument}
+use Rattle.toml_names.specs.model.Documents.{IsDocumentIn}
 use Rattle.toml_names.specs.model.Places.{place}
 use Rattle.toml_names.specs.mentions.Mentions.{Named, named}
 use Rattle.toml_names.specs.reader.Names.{AreGood, RefusesNames}
@@ -44,32 +45,32 @@ use Rattle.toml_editor.specs.declared.fault.EditorFault.TheVariants.{Text}
 
 -- ---- refusals
 
-no_text : (text : List ℕ) (fault : TextFault) → IsFaultOf text fault → ¬ IsDocument text
-no_text text (NotUtf8 at) h = λ document. h.0 (IsUtf8-from_is_utf8 text document.0.utf8)
-no_text text TooLong h = λ document. let fits : length text ≤ max_len = document.0.fits in absurd (omega (arith, h.1))
+no_text : (profile : Profile) (text : List ℕ) (fault : TextFault) → IsFaultOf text fault → ¬ IsDocumentIn profile text
+no_text profile text (NotUtf8 at) h = λ document. h.0 (IsUtf8-from_is_utf8 text document.0.utf8)
+no_text profile text TooLong h = λ document. let fits : length text ≤ max_len = document.0.fits in absurd (omega (arith, h.1))
 
-pub text_refused : (text : List ℕ) (fault : TextFault) → IsFaultOf text fault → RefusesText text (Text fault)
-text_refused text fault h = (no_text text fault h, h)
+pub text_refused : (profile : Profile) (text : List ℕ) (fault : TextFault) → IsFaultOf text fault → RefusesText profile text (Text fault)
+text_refused profile text fault h = (no_text profile text fault h, h)
 
-pub tree_refused : (text : List ℕ) (fault : SyntaxFault) → IsText text → Refuses One text fault → RefusesText text (of_syntax fault)
-tree_refused text (syntax.BadCharacter at) is h = ((λ document. h.1 document.1 (document.2, document.4)), is, h)
-tree_refused text (syntax.Expected at) is h = ((λ document. h.1 document.1 (document.2, document.4)), is, h)
-tree_refused text (syntax.BadString at) is h = ((λ document. h.1 document.1 (document.2, document.4)), is, h)
-tree_refused text (syntax.BadNumber at) is h = ((λ document. h.1 document.1 (document.2, document.4)), is, h)
-tree_refused text (syntax.IntegerRange at) is h = ((λ document. h.1 document.1 (document.2, document.4)), is, h)
-tree_refused text (syntax.BadDate at) is h = ((λ document. h.1 document.1 (document.2, document.4)), is, h)
-tree_refused text (syntax.TooDeep at) is h = ((λ document. h.1 document.1 (document.2, document.4)), is, h)
-tree_refused text syntax.NoMemory is h = tt
+pub tree_refused : (profile : Profile) (text : List ℕ) (fault : SyntaxFault) → IsText text → Refuses profile text fault → RefusesText profile text (of_syntax fault)
+tree_refused profile text (syntax.BadCharacter at) is h = ((λ document. h.1 document.1 (document.2, document.4)), is, h)
+tree_refused profile text (syntax.Expected at) is h = ((λ document. h.1 document.1 (document.2, document.4)), is, h)
+tree_refused profile text (syntax.BadString at) is h = ((λ document. h.1 document.1 (document.2, document.4)), is, h)
+tree_refused profile text (syntax.BadNumber at) is h = ((λ document. h.1 document.1 (document.2, document.4)), is, h)
+tree_refused profile text (syntax.IntegerRange at) is h = ((λ document. h.1 document.1 (document.2, document.4)), is, h)
+tree_refused profile text (syntax.BadDate at) is h = ((λ document. h.1 document.1 (document.2, document.4)), is, h)
+tree_refused profile text (syntax.TooDeep at) is h = ((λ document. h.1 document.1 (document.2, document.4)), is, h)
+tree_refused profile text syntax.NoMemory is h = tt
 
-no_names : (text : List ℕ) (d : Doc) (fault : NameFault) → Spells d text → (fault ≡ names.NoMemory → ⊥) → RefusesNames d.lines fault → ¬ IsDocument text
-no_names text d fault spelled memory refuses = λ document.
+no_names : (profile : Profile) (text : List ℕ) (d : Doc) (fault : NameFault) → Spells d text → (fault ≡ names.NoMemory → ⊥) → RefusesNames d.lines fault → ¬ IsDocumentIn profile text
+no_names profile text d fault spelled memory refuses = λ document.
     let same : document.1 ≡ d = one_tree document.1 d text document.2 spelled in
     refused_are_bad d.lines fault refuses memory (subst (λ (e : Doc). AreGood e.lines) same document.3)
 
-pub names_refused : (text : List ℕ) (d : Doc) (fault : NameFault) → IsText text → Spells d text → IsOfProfile One d → RefusesNames d.lines fault → RefusesText text (of_names fault)
-names_refused text d (names.Redefined line at) is spelled of h = (no_names text d (names.Redefined line at) spelled (λ e. cc) h, is, (d, spelled, (of, h)))
-names_refused text d (names.LongAddress line) is spelled of h = (no_names text d (names.LongAddress line) spelled (λ e. cc) h, is, (d, spelled, (of, h)))
-names_refused text d names.NoMemory is spelled of h = tt
+pub names_refused : (profile : Profile) (text : List ℕ) (d : Doc) (fault : NameFault) → IsText text → Spells d text → IsOfProfile profile d → RefusesNames d.lines fault → RefusesText profile text (of_names fault)
+names_refused profile text d (names.Redefined line at) is spelled of h = (no_names profile text d (names.Redefined line at) spelled (λ e. cc) h, is, (d, spelled, (of, h)))
+names_refused profile text d (names.LongAddress line) is spelled of h = (no_names profile text d (names.LongAddress line) spelled (λ e. cc) h, is, (d, spelled, (of, h)))
+names_refused profile text d names.NoMemory is spelled of h = tt
 
 -- a copy of data is data of the same
 pub data_copied : (ms ns : List Named) (k l : Kinds) → ns ≡ ms → IsDataOf ns k → ((at : Address) → l at ≡ k at) → IsDataOf ms l
@@ -79,16 +80,16 @@ data_copied ms ns k l is facts same = λ at kind. let e = facts at kind in (
 )
 
 -- what is told of the data of a text is told of the text
-pub any_tells : (before : List ℕ) (cs : List Change) (d : Doc) (old : Datum) (fault : EditorFault) → IsDocument before → Spells d before → IsDataOf (named d.lines) (kind_at old) → TellsAny (place (named d.lines)) cs old fault → Tells before cs fault
-any_tells before cs d old (faults.Edit i f) document spelled facts h = (document, (d, spelled, old, facts, h))
-any_tells before cs d old (faults.Spread i) document spelled facts h = (document, (d, spelled, (d, spelled, old, facts, h)))
-any_tells before cs d old (faults.LastElement i) document spelled facts h = (document, (d, spelled, old, facts, h))
-any_tells before cs d old faults.NoMemory document spelled facts h = tt
-any_tells before cs d old (faults.Text f) document spelled facts h = absurd h
-any_tells before cs d old (faults.Syntax f) document spelled facts h = absurd h
-any_tells before cs d old (faults.Names f) document spelled facts h = absurd h
-any_tells before cs d old faults.TooLong document spelled facts h = absurd h
-any_tells before cs d old (faults.Unverified r) document spelled facts h = absurd h
+pub any_tells : (profile : Profile) (before : List ℕ) (cs : List Change) (d : Doc) (old : Datum) (fault : EditorFault) → IsDocumentIn profile before → Spells d before → IsDataOf (named d.lines) (kind_at old) → TellsAny profile (place (named d.lines)) cs old fault → Tells profile before cs fault
+any_tells profile before cs d old (faults.Edit i f) document spelled facts h = (document, (d, spelled, old, facts, h))
+any_tells profile before cs d old (faults.Spread i) document spelled facts h = (document, (d, spelled, (d, spelled, old, facts, h)))
+any_tells profile before cs d old (faults.LastElement i) document spelled facts h = (document, (d, spelled, old, facts, h))
+any_tells profile before cs d old faults.NoMemory document spelled facts h = tt
+any_tells profile before cs d old (faults.Text f) document spelled facts h = absurd h
+any_tells profile before cs d old (faults.Syntax f) document spelled facts h = absurd h
+any_tells profile before cs d old (faults.Names f) document spelled facts h = absurd h
+any_tells profile before cs d old faults.TooLong document spelled facts h = absurd h
+any_tells profile before cs d old (faults.Unverified r) document spelled facts h = absurd h
 
 -- ---- which units are paired
 
@@ -106,9 +107,9 @@ first_there cs d e [] i fit h = absurd h
 first_there cs d e (p ∷ ps) i fit (inl is) = subst (λ k. k < length (units d.lines)) is (slice_get_within (units d.lines) p.0 fit.0.first fit.0.first_is)
 first_there cs d e (p ∷ ps) i fit (inr h) = first_there cs d e ps i fit.1 h
 
-pub names_outer : (before after : List ℕ) (cs : List Change) (ps : List (ℕ × ℕ)) (wanted : List Bool) → Certified before cs after ps → TellsWanted before cs wanted
+pub names_outer : (profile : Profile) (before after : List ℕ) (cs : List Change) (ps : List (ℕ × ℕ)) (wanted : List Bool) → Certified profile before cs after ps → TellsWanted before cs wanted
     → ((i : ℕ) → i < length wanted → (slice_get wanted i ≡ Some true) ↔ IsFirst ps i) → NamesOuter before cs ps
-names_outer before after cs ps wanted c (d, spelled, told) all = (
+names_outer profile before after cs ps wanted c (d, spelled, told) all = (
   d,
   spelled,
   (λ i. (
@@ -139,10 +140,10 @@ marks_tell wanted marks ps n count same all i low =
     )
 
 -- a yes, and pairs that name the wanted units
-pub edited : (before after text : List ℕ) (cs : List Change) (ps pairs : List (ℕ × ℕ)) (wanted : List Bool) (v : Verdict) (all : Bool) → IsVerdict before cs after ps v → v ≡ Yes → after ≡ text → pairs ≡ ps → TellsWanted before cs wanted
-    → (IsTrue all → (i : ℕ) → i < length wanted → (slice_get wanted i ≡ Some true) ↔ IsFirst pairs i) → all ≡ true → IsEdited before cs text ps
-edited before after text cs ps pairs wanted v all verdict a_yes same same_pairs told names is =
-    let certified : Certified before cs after ps = subst (IsVerdict before cs after ps) a_yes verdict in
+pub edited : (profile : Profile) (before after text : List ℕ) (cs : List Change) (ps pairs : List (ℕ × ℕ)) (wanted : List Bool) (v : Verdict) (all : Bool) → IsVerdict profile before cs after ps v → v ≡ Yes → after ≡ text → pairs ≡ ps → TellsWanted before cs wanted
+    → (IsTrue all → (i : ℕ) → i < length wanted → (slice_get wanted i ≡ Some true) ↔ IsFirst pairs i) → all ≡ true → IsEdited profile before cs text ps
+edited profile before after text cs ps pairs wanted v all verdict a_yes same same_pairs told names is =
+    let certified : Certified profile before cs after ps = subst (IsVerdict profile before cs after ps) a_yes verdict in
     let first : (i : ℕ) → i < length wanted → (slice_get wanted i ≡ Some true) ↔ IsFirst ps i =
     subst (λ qs. (i : ℕ) → i < length wanted → (slice_get wanted i ≡ Some true) ↔ IsFirst qs i) same_pairs (names is) in
-    subst (λ t. IsEdited before cs t ps) same (record { certified = certified; outer = names_outer before after cs ps wanted certified told first })
+    subst (λ t. IsEdited profile before cs t ps) same (record { certified = certified; outer = names_outer profile before after cs ps wanted certified told first })

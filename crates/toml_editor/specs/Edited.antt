@@ -2,16 +2,16 @@
 use Rattle.std.specs.Prelude.{◌≡◌, ◌⊎◌, ◌↔◌, ℕ, List, [], ◌∷◌, ◌++◌, take, Option, Some, None, IsSome, slice_get}
 use Rattle.toml_text.specs.Limit.{IsText}
 use Rattle.toml_text.specs.Source.{IsFaultOf}
-use Rattle.toml_tree.specs.declared.profile.Profile.TheVariants.{One}
 use Rattle.toml_tree.specs.Profiles.{IsOfProfile}
 use Rattle.toml_tree.specs.Document.{Refuses}
+use Rattle.toml_tree.specs.declared.profile.Profile.{Profile}
 use Rattle.toml_names.specs.declared.model.datum.Datum.{Datum}
 use Rattle.toml_names.specs.declared.model.address.Step.{Step}
 use Rattle.toml_names.specs.declared.model.place.Place.{Place}
 use Rattle.toml_names.specs.declared.model.place.Place.TheVariants.{KeyVal, Inside}
 use Rattle.toml_names.specs.model.Addresses.{Address, element}
 use Rattle.toml_names.specs.model.Data.{Kinds, kind_at}
-use Rattle.toml_names.specs.model.Documents.{IsDocument}
+use Rattle.toml_names.specs.model.Documents.{IsDocumentIn}
 use Rattle.toml_names.specs.model.Places.{place}
 use Rattle.toml_names.specs.mentions.Mentions.{a_table, an_array, named}
 use Rattle.toml_names.specs.reader.Names.{RefusesNames}
@@ -34,8 +34,8 @@ abbrev pub NamesOuter : List ℕ → List Change → List (ℕ × ℕ) → Type 
 NamesOuter before cs ps = OfTree before (λ d. (i : ℕ) → IsFirst ps i ↔ IsOuter cs (units d.lines) i)
 
 -- the text is certified to be what the edits make of the first one, by pairs that name the outer protected units
-pub record IsEdited (before : List ℕ) (cs : List Change) (after : List ℕ) (ps : List (ℕ × ℕ)) : Type 0 where
-  pub certified : Certified before cs after ps
+pub record IsEdited (profile : Profile) (before : List ℕ) (cs : List Change) (after : List ℕ) (ps : List (ℕ × ℕ)) : Type 0 where
+  pub certified : Certified profile before cs after ps
   pub outer : NamesOuter before cs ps
 
 -- the pieces, which are tidy, are the text
@@ -44,18 +44,18 @@ pub record ArePieces (before after : List ℕ) (pieces : List Piece) : Type 0 wh
   pub tidy : AreTidy before pieces
 
 -- the same as pieces
-pub record IsEditedInPieces (before : List ℕ) (cs : List Change) (list : List Piece) (ps : List (ℕ × ℕ)) : Type 0 where
+pub record IsEditedInPieces (profile : Profile) (before : List ℕ) (cs : List Change) (list : List Piece) (ps : List (ℕ × ℕ)) : Type 0 where
   pub after : List ℕ
-  pub edited : IsEdited before cs after ps
+  pub edited : IsEdited profile before cs after ps
   pub pieces : ArePieces before after list
 
 -- so it is of the edit with this number and of the data to which the edits before it lead
-abbrev pub SoFar : List Change → Datum → ℕ → (Change → Kinds → Type 0) → Type 0
-SoFar cs old index P = (mid : Datum) × Lead (take index cs) old mid × (c : Change) × (slice_get cs index ≡ Some c) × P c (kind_at mid)
+abbrev pub SoFar : Profile → List Change → Datum → ℕ → (Change → Kinds → Type 0) → Type 0
+SoFar profile cs old index P = (mid : Datum) × Lead profile (take index cs) old mid × (c : Change) × (slice_get cs index ≡ Some c) × P c (kind_at mid)
 
 -- the same of the data of a text
-abbrev pub OnDataSoFar : List ℕ → List Change → ℕ → (Change → Kinds → Type 0) → Type 0
-OnDataSoFar before cs index P = OfData before (λ old. SoFar cs old index P)
+abbrev pub OnDataSoFar : Profile → List ℕ → List Change → ℕ → (Change → Kinds → Type 0) → Type 0
+OnDataSoFar profile before cs index P = OfData before (λ old. SoFar profile cs old index P)
 
 -- where the things of a text stand in it
 abbrev pub Places : Type 0
@@ -75,7 +75,8 @@ IsRightInValue places at = (q : Address) × (s : Step) × (at ≡ q ++ s ∷ [])
 abbrev pub IsElementInValue : Places → Address → Type 0
 IsElementInValue places at = (q : Address) × (s : Step) × (at ≡ q ++ s ∷ []) × (IsInValue (places q) ⊎ IsRightInValue places q)
 
--- a value for a table or an array, an element more of an array, or a header line, of the first edit only where it would stand in a value
+-- A value for a table or an array, or an element more of an array: it may be spread over lines. A section or an element of an array of tables: of the
+-- first edit only where its header line would stand in a value; what later ones stand in is not said.
 abbrev pub MayBeSpread : Places → ℕ → Change → Kinds → Type 0
 MayBeSpread places index (set at value) kinds = (kinds at ≡ Some a_table) ⊎ (kinds at ≡ Some an_array)
 MayBeSpread places index (insert at value) kinds = (q : Address) × (i : ℕ) × (at ≡ element q i)
@@ -88,19 +89,23 @@ abbrev pub TakesLastElement : Change → Kinds → Type 0
 TakesLastElement (remove at) kinds = (q : Address) × (at ≡ element q 0) × IsSome (kinds at) × (kinds (element q 1) ≡ None)
 TakesLastElement _ kinds = ⊥
 
+-- the edit is defined on the data, and so it is
+abbrev pub OfDefined : Profile → (Change → Kinds → Type 0) → Change → Kinds → Type 0
+OfDefined profile P c kinds = IsFault profile c kinds None × P c kinds
+
 -- why the text is no document; want of memory tells nothing of it
-abbrev pub RefusesText : List ℕ → EditorFault → Type 0
-RefusesText before (Text fault) = (¬ IsDocument before) × IsFaultOf before fault
-RefusesText before (Syntax fault) = (¬ IsDocument before) × IsText before × Refuses One before fault
-RefusesText before (Names fault) = (¬ IsDocument before) × IsText before × OfTree before (λ d. IsOfProfile One d × RefusesNames d.lines fault)
-RefusesText before NoMemory = Unit {0}
-RefusesText before _ = ⊥
+abbrev pub RefusesText : Profile → List ℕ → EditorFault → Type 0
+RefusesText profile before (Text fault) = (¬ IsDocumentIn profile before) × IsFaultOf before fault
+RefusesText profile before (Syntax fault) = (¬ IsDocumentIn profile before) × IsText before × Refuses profile before fault
+RefusesText profile before (Names fault) = (¬ IsDocumentIn profile before) × IsText before × OfTree before (λ d. IsOfProfile profile d × RefusesNames d.lines fault)
+RefusesText profile before NoMemory = Unit {0}
+RefusesText profile before _ = ⊥
 
 -- what a fault of the editor tells: of an edit only where the text is a document; of a result that is too long or that the judge refuses, and of want of memory, it tells nothing
-abbrev pub Tells : List ℕ → List Change → EditorFault → Type 0
-Tells before cs (Edit index fault) = IsDocument before × OnDataSoFar before cs index (λ c kinds. IsFault c kinds (Some fault))
-Tells before cs (Spread index) = IsDocument before × OfTree before (λ d. OnDataSoFar before cs index (MayBeSpread (place (named d.lines)) index))
-Tells before cs (LastElement index) = IsDocument before × OnDataSoFar before cs index TakesLastElement
-Tells before cs TooLong = Unit {0}
-Tells before cs (Unverified reason) = Unit {0}
-Tells before cs fault = RefusesText before fault
+abbrev pub Tells : Profile → List ℕ → List Change → EditorFault → Type 0
+Tells profile before cs (Edit index fault) = IsDocumentIn profile before × OnDataSoFar profile before cs index (λ c kinds. IsFault profile c kinds (Some fault))
+Tells profile before cs (Spread index) = IsDocumentIn profile before × OfTree before (λ d. OnDataSoFar profile before cs index (OfDefined profile (MayBeSpread (place (named d.lines)) index)))
+Tells profile before cs (LastElement index) = IsDocumentIn profile before × OnDataSoFar profile before cs index (OfDefined profile TakesLastElement)
+Tells profile before cs TooLong = Unit {0}
+Tells profile before cs (Unverified reason) = Unit {0}
+Tells profile before cs fault = RefusesText profile before fault

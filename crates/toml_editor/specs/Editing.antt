@@ -1,12 +1,12 @@
 -- What the steps of an edit hand on to each other.
 use Rattle.std.specs.Prelude.{◌≡◌, ℕ, List, Bool}
 use Rattle.toml_text.specs.Limit.{IsText}
-use Rattle.toml_tree.specs.declared.profile.Profile.TheVariants.{One}
 use Rattle.toml_tree.specs.Profiles.{IsOfProfile}
 use Rattle.toml_tree.specs.Spells.{Spells}
 use Rattle.toml_tree.specs.Tree.{Doc, Line}
+use Rattle.toml_tree.specs.declared.profile.Profile.{Profile}
 use Rattle.toml_names.specs.declared.model.datum.Data.{Data}
-use Rattle.toml_names.specs.model.Documents.{IsDocument}
+use Rattle.toml_names.specs.model.Documents.{IsDocumentIn}
 use Rattle.toml_edits.specs.Edits.{Change}
 use Rattle.toml_units.specs.declared.piece.Piece.{Piece}
 use Rattle.toml_units.specs.Units.{units}
@@ -17,32 +17,32 @@ use Rattle.toml_checker.specs.Outer.{TellOuter}
 use Rattle.toml_checker.specs.Reading.{IsRead}
 use Rattle.toml_editor.specs.Edited.{ArePieces, IsEdited}
 
--- the bytes are read as this text, and this tree, of profile 1, spells it
-pub record IsReadAs (before text : List ℕ) (d : Doc) : Type 0 where
+-- the bytes are read as this text, and this tree, of the profile, spells it
+pub record IsReadAs (profile : Profile) (before text : List ℕ) (d : Doc) : Type 0 where
   pub text_is : text ≡ before
   pub within : IsText before
   pub spelled : Spells d before
-  pub of_profile : IsOfProfile One d
+  pub of_profile : IsOfProfile profile d
 
 -- the text is a document's, the tree spells it, and these are its lines
-pub record HasLines (text : List ℕ) (d : Doc) (lines : List Line) : Type 0 where
-  pub document : IsDocument text
+pub record HasLines (profile : Profile) (text : List ℕ) (d : Doc) (lines : List Line) : Type 0 where
+  pub document : IsDocumentIn profile text
   pub spelled : Spells d text
   pub taken : lines ≡ d.lines
 
 -- the text is a document's, and the tree and the units are those of the text
-pub record IsKnown (d : Document) : Type 0 where
+pub record IsKnown (profile : Profile) (d : Document) : Type 0 where
   pub read : IsRead d
-  pub document : IsDocument d.text.now
+  pub document : IsDocumentIn profile d.text.now
 
 -- the data are what the edits make of those of the first text, and the pieces of that one are the second
-pub record IsMadeText (before : List ℕ) (cs : List Change) (new : Data) (after : List ℕ) (list : List Piece) : Type 0 where
-  pub made : IsMadeOf before cs new
+pub record IsMadeText (profile : Profile) (before : List ℕ) (cs : List Change) (new : Data) (after : List ℕ) (list : List Piece) : Type 0 where
+  pub made : IsMadeOf profile before cs new
   pub pieces : ArePieces before after list
 
 -- the text is certified to be what the edits make of the first one, and the pieces of that one are it
-pub record IsEditedText (before : List ℕ) (cs : List Change) (after : List ℕ) (list : List Piece) (ps : List (ℕ × ℕ)) : Type 0 where
-  pub edited : IsEdited before cs after ps
+pub record IsEditedText (profile : Profile) (before : List ℕ) (cs : List Change) (after : List ℕ) (list : List Piece) (ps : List (ℕ × ℕ)) : Type 0 where
+  pub edited : IsEdited profile before cs after ps
   pub pieces : ArePieces before after list
 
 -- the flags tell which units of the text are outer protected ones

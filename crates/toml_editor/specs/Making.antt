@@ -1,5 +1,6 @@
 -- What the making of edits tells, one after the other.
 use Rattle.std.specs.Prelude.{◌≡◌, ◌⊎◌, ℕ, List, [], ◌∷◌, ◌++◌, Option, Some, None, IsSome}
+use Rattle.toml_tree.specs.declared.profile.Profile.{Profile}
 use Rattle.toml_names.specs.declared.model.datum.Datum.{Datum}
 use Rattle.toml_names.specs.declared.model.address.Step.{Step}
 use Rattle.toml_names.specs.model.Addresses.{Address}
@@ -11,13 +12,13 @@ use Rattle.toml_names.specs.declared.model.address.Step.TheVariants.{Index}
 use Rattle.toml_edits.specs.After.{IsAfter}
 use Rattle.toml_edits.specs.Edits.{Change}
 use Rattle.toml_edits.specs.Faults.{IsFault}
-use Rattle.toml_editor.specs.Edited.{Places, SoFar, MayBeSpread, TakesLastElement}
+use Rattle.toml_editor.specs.Edited.{Places, SoFar, OfDefined, MayBeSpread, TakesLastElement}
 use Rattle.toml_editor.specs.declared.fault.EditorFault.{EditorFault}
 use Rattle.toml_editor.specs.declared.fault.EditorFault.TheVariants.{Edit, Spread, LastElement, NoMemory}
 
 -- the edit has no fault on the one data, and makes the other of them
-abbrev pub IsMade : Change → Datum → Datum → Type 0
-IsMade c old new = IsFault c (kind_at old) None × IsAfter c (kind_at old) (kind_at new)
+abbrev pub IsMade : Profile → Change → Datum → Datum → Type 0
+IsMade profile c old new = IsFault profile c (kind_at old) None × IsAfter profile c (kind_at old) (kind_at new)
 
 -- what was found is a table or an array
 abbrev pub IsMany : Option Datum → Type 0
@@ -36,23 +37,23 @@ abbrev pub places_of : ReaderState → Places
 places_of names = place (named (lines_of names))
 
 -- the edit with this number is not defined on the data
-abbrev pub TellsRow : ℕ → Change → Kinds → EditorFault → Type 0
-TellsRow i c kinds (Edit j fault) = (j ≡ i) × IsFault c kinds (Some fault)
-TellsRow i c kinds NoMemory = Unit {0}
-TellsRow i c kinds _ = ⊥
+abbrev pub TellsRow : Profile → ℕ → Change → Kinds → EditorFault → Type 0
+TellsRow profile i c kinds (Edit j fault) = (j ≡ i) × IsFault profile c kinds (Some fault)
+TellsRow profile i c kinds NoMemory = Unit {0}
+TellsRow profile i c kinds _ = ⊥
 
 -- the edit with this number has such a fault on the data, the things of the text before the edits being at these places
-abbrev pub TellsOne : Places → ℕ → Change → Kinds → EditorFault → Type 0
-TellsOne places i c kinds (Edit j fault) = (j ≡ i) × IsFault c kinds (Some fault)
-TellsOne places i c kinds (Spread j) = (j ≡ i) × MayBeSpread places j c kinds
-TellsOne places i c kinds (LastElement j) = (j ≡ i) × TakesLastElement c kinds
-TellsOne places i c kinds NoMemory = Unit {0}
-TellsOne places i c kinds _ = ⊥
+abbrev pub TellsOne : Profile → Places → ℕ → Change → Kinds → EditorFault → Type 0
+TellsOne profile places i c kinds (Edit j fault) = (j ≡ i) × IsFault profile c kinds (Some fault)
+TellsOne profile places i c kinds (Spread j) = (j ≡ i) × OfDefined profile (MayBeSpread places j) c kinds
+TellsOne profile places i c kinds (LastElement j) = (j ≡ i) × OfDefined profile TakesLastElement c kinds
+TellsOne profile places i c kinds NoMemory = Unit {0}
+TellsOne profile places i c kinds _ = ⊥
 
 -- some edit has it on the data to which those before it lead
-abbrev pub TellsAny : Places → List Change → Datum → EditorFault → Type 0
-TellsAny places cs old (Edit i fault) = SoFar cs old i (λ c kinds. IsFault c kinds (Some fault))
-TellsAny places cs old (Spread i) = SoFar cs old i (MayBeSpread places i)
-TellsAny places cs old (LastElement i) = SoFar cs old i TakesLastElement
-TellsAny places cs old NoMemory = Unit {0}
-TellsAny places cs old _ = ⊥
+abbrev pub TellsAny : Profile → Places → List Change → Datum → EditorFault → Type 0
+TellsAny profile places cs old (Edit i fault) = SoFar profile cs old i (λ c kinds. IsFault profile c kinds (Some fault))
+TellsAny profile places cs old (Spread i) = SoFar profile cs old i (OfDefined profile (MayBeSpread places i))
+TellsAny profile places cs old (LastElement i) = SoFar profile cs old i (OfDefined profile TakesLastElement)
+TellsAny profile places cs old NoMemory = Unit {0}
+TellsAny profile places cs old _ = ⊥

@@ -1,7 +1,9 @@
 -- The text after one plain edit.
 use Rattle.std.specs.Prelude.{◌≡◌, true, ℕ, List, [], ◌∷◌, ◌++◌, Any, length, ◌==◌, if◌then◌else◌}
-use Rattle.toml_tree.specs.Spells.{Spells, SpellsValue, joined, lines_parts}
+use Rattle.toml_tree.specs.Profiles.{SpellsIn, IsValueIn}
+use Rattle.toml_tree.specs.Spells.{joined, lines_parts}
 use Rattle.toml_tree.specs.Tree.{Value, Line, Doc}
+use Rattle.toml_tree.specs.declared.profile.Profile.{Profile}
 use Rattle.toml_names.specs.model.Addresses.{Address}
 use Rattle.toml_names.specs.mentions.Joining.{is_lone}
 use Rattle.toml_names.specs.mentions.Mentions.{named}
@@ -27,13 +29,13 @@ abbrev pub HasPair : List Line → Address → Type 0
 HasPair lines p = Any (λ m. (m.address ≡ p) × (m.role ≡ Valued)) (named lines)
 
 -- the lines after a plain edit; `style` is that of the text before all edits
-abbrev pub AreEdited : Change → List ℕ → List Line → List Line → Type 0
-AreEdited (set p text) style old new = (v : Value) × SpellsValue v 0 text × HasValue old p × (new ≡ set_lines p v old)
-AreEdited (insert p text) style old new = (v : Value) × SpellsValue v 0 text × (name : List ℕ) × (p ≡ Name name ∷ []) × (new ≡ insert_lines name v style old)
-AreEdited (rename p to) style old new = new ≡ rename_lines p to old
-AreEdited (remove p) style old new = (name : List ℕ) × (p ≡ Name name ∷ []) × HasPair old p × (new ≡ remove_lines p old)
-AreEdited _ style old new = ⊥
+abbrev pub AreEdited : Profile → Change → List ℕ → List Line → List Line → Type 0
+AreEdited profile (set p text) style old new = (v : Value) × IsValueIn profile v text × HasValue old p × (new ≡ set_lines p v old)
+AreEdited profile (insert p text) style old new = (v : Value) × IsValueIn profile v text × (name : List ℕ) × (p ≡ Name name ∷ []) × (new ≡ insert_lines name v style old)
+AreEdited profile (rename p to) style old new = new ≡ rename_lines p to old
+AreEdited profile (remove p) style old new = (name : List ℕ) × (p ≡ Name name ∷ []) × HasPair old p × (new ≡ remove_lines p old)
+AreEdited profile _ style old new = ⊥
 
 -- the text after it, the mark kept
-abbrev pub IsWritten : Change → List ℕ → List ℕ → List ℕ → Type 0
-IsWritten c style before after = (d : Doc) × Spells d before × (new : List Line) × AreEdited c style d.lines new × (after ≡ d.mark.text ++ joined (lines_parts new))
+abbrev pub IsWritten : Profile → Change → List ℕ → List ℕ → List ℕ → Type 0
+IsWritten profile c style before after = (d : Doc) × SpellsIn profile d before × (new : List Line) × AreEdited profile c style d.lines new × (after ≡ d.mark.text ++ joined (lines_parts new))

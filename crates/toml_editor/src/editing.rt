@@ -2,7 +2,9 @@
 ghost use Rattle.std.specs.Prelude.{◌≡◌, IfOk, IfErr, OnOk, length, map, string_bytes};
 ghost use Rattle.toml_text.specs.Source.{text_of};
 ghost use Rattle.toml_tree.specs.Document.{document};
-ghost use Rattle.toml_names.specs.model.Documents.{IsDocument};
+ghost use Rattle.toml_tree.specs.declared.profile.Profile.{Profile};
+ghost use Rattle.toml_tree.specs.declared.profile.Profile.TheVariants.{One};
+ghost use Rattle.toml_names.specs.model.Documents.{IsDocumentIn};
 ghost use Rattle.toml_names.specs.reader.Reading.{lines_of};
 ghost use Rattle.toml_edits.specs.Edits.{change};
 ghost use Rattle.toml_checker.specs.Reading.{AreUnitsOf};
@@ -20,7 +22,7 @@ use toml_checker::{Document, Reason, Verdict, check_made, outermost};
 use toml_edits::Edit;
 use toml_names::{Data, NameReader, read_lines};
 use toml_text::{MAX_LEN, Source};
-use toml_tree::{Doc, parse};
+use toml_tree::{Doc, Profile, parse_in};
 use toml_units::{Certificate, Piece, Unit, join, units_at};
 
 /// What the editor makes: the pieces of the edited text, the text, and its certificate.
@@ -31,43 +33,74 @@ struct Edited {
     certificate: Certificate,
 }
 
-/// The text that the edits make of a document, one after the other, and the certificate which shows that all else is kept:
-/// it pairs each unit that no edit names and that lies in no other such unit, and no others.
-///
-/// The text and the certificate are judged before they are handed out. Faults are told in the order of `EditorFault`.
+/// The text that the edits make of a document of profile 1, and its certificate: `edit_in` with `Profile::One`.
 pub fn edit(
     alloc: Global,
     before: &[u8],
     edits: &[Edit],
 ) -> Result<(String, Certificate), EditorFault>
-    ensures edited { IfOk result (λ r. IsEdited before.now (map change edits.now) (string_bytes r.0) r.1.pairs.items) }
-    ensures told { IfErr result (Tells before.now (map change edits.now)) }
+    ensures edited { IfOk result (λ r. IsEdited One before.now (map change edits.now) (string_bytes r.0) r.1.pairs.items) }
+    ensures told { IfErr result (Tells One before.now (map change edits.now)) }
 {
-    let edited = edit_document(alloc, before, edits)?;
+    edit_in(alloc, before, edits, Profile::One)
+}
+
+/// The text that the edits make of a document of the profile, one after the other, their values read in it, and the certificate which shows that all else is kept:
+/// it pairs each unit that no edit names and that lies in no other such unit, and no others.
+///
+/// The text and the certificate are judged before they are handed out. Faults are told in the order of `EditorFault`.
+pub fn edit_in(
+    alloc: Global,
+    before: &[u8],
+    edits: &[Edit],
+    profile: Profile,
+) -> Result<(String, Certificate), EditorFault>
+    ensures edited { IfOk result (λ r. IsEdited profile before.now (map change edits.now) (string_bytes r.0) r.1.pairs.items) }
+    ensures told { IfErr result (Tells profile before.now (map change edits.now)) }
+{
+    let edited = edit_document(alloc, before, edits, profile)?;
     Ok((edited.text, edited.certificate))
 }
 
-/// A text certified in the same way, in pieces: kept spans of the text before the edits, which rise and do not overlap, and
-/// new texts. No piece is empty; new texts that meet are one, and so are kept spans that touch.
+/// The same text in pieces: `edit_pieces_in` with `Profile::One`.
 pub fn edit_pieces(
     alloc: Global,
     before: &[u8],
     edits: &[Edit],
 ) -> Result<(Vec<Piece>, Certificate), EditorFault>
-    ensures edited { IfOk result (λ r. IsEditedInPieces before.now (map change edits.now) r.0.items r.1.pairs.items) }
-    ensures told { IfErr result (Tells before.now (map change edits.now)) }
+    ensures edited { IfOk result (λ r. IsEditedInPieces One before.now (map change edits.now) r.0.items r.1.pairs.items) }
+    ensures told { IfErr result (Tells One before.now (map change edits.now)) }
 {
-    let edited = edit_document(alloc, before, edits)?;
+    edit_pieces_in(alloc, before, edits, Profile::One)
+}
+
+/// A text certified in the same way, in pieces: kept spans of the text before the edits, which rise and do not overlap, and
+/// new texts. No piece is empty; new texts that meet are one, and so are kept spans that touch.
+pub fn edit_pieces_in(
+    alloc: Global,
+    before: &[u8],
+    edits: &[Edit],
+    profile: Profile,
+) -> Result<(Vec<Piece>, Certificate), EditorFault>
+    ensures edited { IfOk result (λ r. IsEditedInPieces profile before.now (map change edits.now) r.0.items r.1.pairs.items) }
+    ensures told { IfErr result (Tells profile before.now (map change edits.now)) }
+{
+    let edited = edit_document(alloc, before, edits, profile)?;
     Ok((edited.pieces, edited.certificate))
 }
 
 /// What the edits make of a document, where the judge certifies it.
-fn edit_document(alloc: Global, before: &[u8], edits: &[Edit]) -> Result<Edited, EditorFault>
-    ensures edited { IfOk result (λ e. IsEditedText before.now (map change edits.now) (string_bytes e.text) e.pieces.items e.certificate.pairs.items) }
-    ensures told { IfErr result (Tells before.now (map change edits.now)) }
+fn edit_document(
+    alloc: Global,
+    before: &[u8],
+    edits: &[Edit],
+    profile: Profile,
+) -> Result<Edited, EditorFault>
+    ensures edited { IfOk result (λ e. IsEditedText profile before.now (map change edits.now) (string_bytes e.text) e.pieces.items e.certificate.pairs.items) }
+    ensures told { IfErr result (Tells profile before.now (map change edits.now)) }
 {
     let spelled = spell_all(alloc, edits)?;
-    edit_with(alloc, before, edits, &spelled)
+    edit_with(alloc, before, edits, &spelled, profile)
 }
 
 /// The same with the spellings of the edits, which live as long as the text and the edits: new pieces are lent from all.
@@ -76,22 +109,23 @@ fn edit_with<'x>(
     before: &'x [u8],
     edits: &'x [Edit],
     spelled: &'x [Spelled],
+    profile: Profile,
 ) -> Result<Edited, EditorFault>
     requires { length spelled.now ≡ length edits.now }
-    ensures edited { IfOk result (λ e. IsEditedText before.now (map change edits.now) (string_bytes e.text) e.pieces.items e.certificate.pairs.items) }
-    ensures told { IfErr result (Tells before.now (map change edits.now)) }
+    ensures edited { IfOk result (λ e. IsEditedText profile before.now (map change edits.now) (string_bytes e.text) e.pieces.items e.certificate.pairs.items) }
+    ensures told { IfErr result (Tells profile before.now (map change edits.now)) }
 {
-    let (source, doc) = read(alloc, before)?;
+    let (source, doc) = read(alloc, before, profile)?;
     let reader = named_lines(alloc, before, &doc)?;
     let units = read_units(alloc, &doc, &reader)?;
     let wanted = outermost(alloc, &units, edits)?;
-    let (data, edited) = make_text(alloc, source, &doc, reader, &units, edits, spelled, &wanted)?;
+    let (data, edited) = make_text(alloc, source, &doc, reader, &units, edits, spelled, &wanted, profile)?;
     let known = Document {
         text: before,
         doc: &doc,
         units: &units,
     };
-    certify(alloc, known, edits, data, edited, &wanted)
+    certify(alloc, known, edits, data, edited, &wanted, profile)
 }
 
 /// The units of the tree of a text.
@@ -111,12 +145,13 @@ fn certify(
     data: Data,
     edited: Edited,
     wanted: &[bool],
+    profile: Profile,
 ) -> Result<Edited, EditorFault>
-    requires known { IsKnown before }
-    requires made { IsMadeText before.text.now (map change edits.now) «data» (string_bytes edited.text) edited.pieces.items }
+    requires known { IsKnown profile before }
+    requires made { IsMadeText profile before.text.now (map change edits.now) «data» (string_bytes edited.text) edited.pieces.items }
     requires wanted { TellsWanted before.text.now (map change edits.now) wanted.now }
-    ensures edited { IfOk result (λ e. IsEditedText before.entry.text.now (map change edits.now) (string_bytes e.text) e.pieces.items e.certificate.pairs.items) }
-    ensures told { IfErr result (Tells before.entry.text.now (map change edits.now)) }
+    ensures edited { IfOk result (λ e. IsEditedText profile before.entry.text.now (map change edits.now) (string_bytes e.text) e.pieces.items e.certificate.pairs.items) }
+    ensures told { IfErr result (Tells profile before.entry.text.now (map change edits.now)) }
 {
     if edited.text.len() > MAX_LEN {
         return Err(EditorFault::TooLong);
@@ -128,6 +163,7 @@ fn certify(
         data,
         edited.text.as_bytes(),
         &edited.certificate,
+        profile,
     )? {
         Verdict::No(reason) => Err(EditorFault::Unverified(reason)),
         Verdict::Yes => {
@@ -150,11 +186,12 @@ fn make_text<'x>(
     edits: &'x [Edit],
     spelled: &'x [Spelled],
     wanted: &[bool],
+    profile: Profile,
 ) -> Result<(Data, Edited), EditorFault>
-    requires read { HasLines (text_of source) (document doc.now) (lines_of reader) }
+    requires read { HasLines profile (text_of source) (document doc.now) (lines_of reader) }
     requires spelled { length spelled.now ≡ length edits.now }
-    ensures made { IfOk result (λ r. IsMadeText (text_of source.entry) (map change edits.now) r.0 (string_bytes r.1.text) r.1.pieces.items) }
-    ensures told { IfErr result (Tells (text_of source.entry) (map change edits.now)) }
+    ensures made { IfOk result (λ r. IsMadeText profile (text_of source.entry) (map change edits.now) r.0 (string_bytes r.1.text) r.1.pieces.items) }
+    ensures told { IfErr result (Tells profile (text_of source.entry) (map change edits.now)) }
 {
     let mut data = reader.data()?;
     let mut tree = Tree::of(Texts { alloc, source }, doc, units)?;
@@ -162,7 +199,7 @@ fn make_text<'x>(
     if let Err(fault) = make_all(
         alloc,
         &mut tree,
-        Read { doc, names },
+        Read { doc, names, profile },
         &mut data,
         edits,
         spelled,
@@ -195,15 +232,19 @@ fn write_out<'x>(
 
 /// The text and its tree, or why there is none.
 #[tactic(auto, using(crate::proofs::Judgements::text_refused, crate::proofs::Judgements::tree_refused))]
-fn read<'x>(alloc: Global, before: &'x [u8]) -> Result<(Source<'x>, Doc<'x>), EditorFault>
-    ensures read { IfOk result (λ r. IsReadAs before.now (text_of r.0) (document r.1)) }
-    ensures refused { IfErr result (RefusesText before.now) }
+fn read<'x>(
+    alloc: Global,
+    before: &'x [u8],
+    profile: Profile,
+) -> Result<(Source<'x>, Doc<'x>), EditorFault>
+    ensures read { IfOk result (λ r. IsReadAs profile before.now (text_of r.0) (document r.1)) }
+    ensures refused { IfErr result (RefusesText profile before.now) }
 {
     let source = match Source::new(before) {
         Ok(source) => source,
         Err(fault) => return Err(EditorFault::Text(fault)),
     };
-    match parse(alloc, source) {
+    match parse_in(alloc, source, profile) {
         Ok(doc) => Ok((source, doc)),
         Err(fault) => Err(EditorFault::from(fault)),
     }
@@ -215,10 +256,9 @@ fn named_lines<'d, 't>(
     before: &[u8],
     doc: &'d Doc<'t>,
 ) -> Result<NameReader<'d, 't>, EditorFault>
-    requires { IsReadAs before.now before.now (document doc.now) }
-    ensures document { OnOk result (IsDocument before.now) }
+    ensures document { (profile : Profile) → IsReadAs profile before.now before.now (document doc.now) → OnOk result (IsDocumentIn profile before.now) }
     ensures taken { IfOk result (λ reader. lines_of reader ≡ (document doc.now).lines) }
-    ensures refused { IfErr result (RefusesText before.now) }
+    ensures refused { (profile : Profile) → IsReadAs profile before.now before.now (document doc.now) → IfErr result (RefusesText profile before.now) }
 {
     match read_lines(alloc, doc) {
         Ok(reader) => Ok(reader),

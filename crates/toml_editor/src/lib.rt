@@ -23,5 +23,5 @@ mod values;
 mod working;
 mod writing;
 
-pub use editing::{edit, edit_pieces};
+pub use editing::{edit, edit_in, edit_pieces, edit_pieces_in};
 pub use fault::EditorFault;

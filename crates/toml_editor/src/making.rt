@@ -13,15 +13,16 @@ use crate::spelled::{Spelled, open_value};
 use crate::tree::Brackets;
 use crate::working::Tree;
 use std::alloc::{AllocError, Global};
-use toml_edits::{Edit, EditFault, apply};
+use toml_edits::{Edit, EditFault, apply_in};
 use toml_names::{Address, Data, Datum, Name, NameReader, Step};
-use toml_tree::Doc;
+use toml_tree::{Doc, Profile};
 
-/// What was read of the document, by which the edits are made on its working tree.
+/// What was read of the document, in the profile, by which the edits are made on its working tree.
 #[derive(Clone, Copy)]
 pub(crate) struct Read<'a, 'd, 't> {
     pub(crate) doc: &'a Doc<'t>,
     pub(crate) names: &'a NameReader<'d, 't>,
+    pub(crate) profile: Profile,
 }
 
 /// Makes the edits. The first one that is not defined on the data so far, or whose place is spread, or that would leave an
@@ -35,8 +36,8 @@ pub(crate) fn make_all<'x>(
     spelled: &'x [Spelled],
 ) -> Result<(), EditorFault>
     requires { length spelled.now ≡ length edits.now }
-    ensures made { OnOk result (Lead (map change edits.now) «data».old.root «data».new.root) }
-    ensures told { IfErr result (TellsAny (places_of read.entry.names.now) (map change edits.now) «data».old.root) }
+    ensures made { OnOk result (Lead read.entry.profile (map change edits.now) «data».old.root «data».new.root) }
+    ensures told { IfErr result (TellsAny read.entry.profile (places_of read.entry.names.now) (map change edits.now) «data».old.root) }
 {
     for (index, edit) in edits.iter().enumerate() {
         if let Err(fault) = make(alloc, tree, read, data, edit, &spelled[index], index) {
@@ -56,12 +57,12 @@ fn make<'x>(
     spelled: &'x Spelled,
     index: usize,
 ) -> Result<(), EditorFault>
-    ensures ok { OnOk result (IsMade (change edit.now) «data».old.root «data».new.root) }
-    ensures told { IfErr result (TellsOne (places_of read.entry.names.now) index (change edit.now) (kind_at «data».old.root)) }
+    ensures ok { OnOk result (IsMade read.entry.profile (change edit.now) «data».old.root «data».new.root) }
+    ensures told { IfErr result (TellsOne read.entry.profile (places_of read.entry.names.now) index (change edit.now) (kind_at «data».old.root)) }
 {
     let spread = may_be_spread(alloc, data, read.names, edit, index)?;
     let only = is_only_element(data, edit);
-    applied(alloc, data, edit, index)?;
+    applied(alloc, data, edit, index, read.profile)?;
     let done = write_edit(alloc, tree, read, edit, spelled)?;
     if !done && spread {
         return Err(EditorFault::Spread { index });
@@ -73,11 +74,17 @@ fn make<'x>(
 }
 
 /// Makes the edit on the data.
-fn applied(alloc: Global, data: &mut Data, edit: &Edit, index: usize) -> Result<(), EditorFault>
-    ensures ok { OnOk result (IsMade (change edit.now) «data».old.root «data».new.root) }
-    ensures told { IfErr result (TellsRow index (change edit.now) (kind_at «data».old.root)) }
+fn applied(
+    alloc: Global,
+    data: &mut Data,
+    edit: &Edit,
+    index: usize,
+    profile: Profile,
+) -> Result<(), EditorFault>
+    ensures ok { OnOk result (IsMade profile (change edit.now) «data».old.root «data».new.root) }
+    ensures told { IfErr result (TellsRow profile index (change edit.now) (kind_at «data».old.root)) }
 {
-    match apply(alloc, data, edit) {
+    match apply_in(alloc, data, edit, profile) {
         Ok(()) => Ok(()),
         Err(EditFault::NoMemory) => Err(EditorFault::NoMemory),
         Err(fault) => Err(EditorFault::Edit { index, fault }),
@@ -93,11 +100,11 @@ fn write_edit<'x>(
     spelled: &'x Spelled,
 ) -> Result<bool, AllocError> {
     match edit {
-        Edit::Set { at, value } => match open_value(alloc, value.as_str())? {
+        Edit::Set { at, value } => match open_value(alloc, value.as_str(), read.profile)? {
             Some(new) => tree.set(read.doc, read.names.place(at), at, new),
             None => Ok(true),
         },
-        Edit::Insert { at, value } => match open_value(alloc, value.as_str())? {
+        Edit::Insert { at, value } => match open_value(alloc, value.as_str(), read.profile)? {
             Some(new) => {
                 let parent = parent_of(alloc, at)?;
                 let named = read.names.place(&parent);

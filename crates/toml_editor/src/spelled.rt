@@ -8,7 +8,7 @@ use toml_edits::Edit;
 use toml_names::{Address, Step};
 use toml_scalar::{SyntaxFault, spell_key};
 use toml_text::Source;
-use toml_tree::parse_value;
+use toml_tree::{Profile, parse_value_in};
 
 /// The spellings of an edit's names.
 #[derive(Drop)]
@@ -45,15 +45,16 @@ fn spell(alloc: Global, edit: &Edit) -> Result<Spelled, AllocError> {
     })
 }
 
-/// The text of a value as a part of the working tree, if it is one.
+/// The text of a value of the profile as a part of the working tree, if it is one.
 pub(crate) fn open_value<'t>(
     alloc: Global,
     text: &'t str,
+    profile: Profile,
 ) -> Result<Option<Value<'t>>, AllocError> {
     let Ok(source) = Source::new(text.as_bytes()) else {
         return Ok(None);
     };
-    match parse_value(alloc, source) {
+    match parse_value_in(alloc, source, profile) {
         Ok(value) => Ok(Some(Opener::new(alloc).value(&value)?)),
         Err(SyntaxFault::NoMemory) => Err(AllocError),
         Err(_) => Ok(None),

@@ -1,11 +1,11 @@
 -- An index in data is below the length of an array, and that below 2^63.
-use Rattle.std.proofs.Common.{◌≡◌, ◌⊎◌, inl, inr, ℕ, ◌<◌, ◌^◌, List, [], ◌∷◌, length, Option, Some, None, IsSome, is_some, true≢false, Vec, Global, refl, sym, ap, subst, ◌∙◌, arith}
+use Rattle.std.proofs.Common.{◌≡◌, ◌⊎◌, inl, inr, ℕ, ◌<◌, ◌^◌, [], ◌∷◌, length, Option, Some, None, IsSome, is_some, true≢false, Vec, Global, sym, ap, subst, ◌∙◌, arith}
 use Rattle.toml_names.specs.declared.model.address.Step.{Step}
 use Rattle.toml_names.specs.declared.model.address.Step.TheVariants.{Name, Index}
 use Rattle.toml_names.specs.declared.model.datum.Datum.{Datum, Scalar, Array, Table}
 use Rattle.toml_scalar.specs.declared.scalar.Scalar.{Scalar as Token}
 use Rattle.toml_names.specs.model.Addresses.{Address}
-use Rattle.toml_names.specs.model.Data.{kind_at, kind_in}
+use Rattle.toml_names.specs.model.Data.{kind_at}
 use Rattle.toml_names.specs.mentions.Mentions.{Kind}
 use Rattle.toml_names.specs.model.Indices.{IsLow}
 use Rattle.toml_names.specs.model.Levels.{Elements, Members}

@@ -1,5 +1,5 @@
 -- What a new table makes of data.
-use Rattle.std.proofs.Common.{◌≡◌, ◌↔◌, ◌⊎◌, inl, inr, ℕ, zero, suc, ◌<◌, ◌≤◌, List, [], ◌∷◌, ◌++◌, append-nil, length, Option, Some, None, IsSome, IsTrue, is_some, Bool, true, false, Vec, Global, refl, sym, ap, subst, ◌∙◌, arith}
+use Rattle.std.proofs.Common.{◌≡◌, inl, inr, ℕ, ◌<◌, List, [], ◌∷◌, ◌++◌, append-nil, length, Option, Some, None, IsSome, is_some, Bool, true, false, Vec, Global, refl, sym, ap, subst, ◌∙◌, arith}
 use mathlib.Core.Path.{fun_ext}
 use Rattle.std.proofs.lemmas.Bool.Decides.{nat_tests}
 use Rattle.std.specs.Bool.{nat_lt}
@@ -20,7 +20,7 @@ use Rattle.toml_edits.specs.Edits.{new_section, new_element}
 use Rattle.toml_edits.specs.Faults.{IsFault, IsElementOf}
 use Rattle.toml_edits.specs.declared.fault.EditFault.TheVariants.{NotATable, IndexOutside, AlreadyThere}
 use Rattle.toml_edits.proofs.Found.{none_of, some_of, some_none}
-use Rattle.toml_edits.proofs.Made.{some_table, some_array, adds, moves_as, none_below, indices_fit_at, front_there, stays}
+use Rattle.toml_edits.proofs.Made.{some_table, some_array, adds, moves_as, none_below, indices_fit_at}
 use Rattle.toml_edits.proofs.NewRows.{IsNext}
 use Rattle.toml_edits.proofs.Moved.{moves_alike, moves_below, moves_in}
 

@@ -1,9 +1,8 @@
 -- Bytes are at most one list of edits.
-use Rattle.std.proofs.Common.{◌≡◌, ℕ, zero, suc, List, [], ◌∷◌, Option, Some, None, sym, ap, subst, ◌∙◌}
+use Rattle.std.proofs.Common.{◌≡◌, ℕ, zero, suc, List, [], ◌∷◌, Option, Some, sym, subst, ◌∙◌}
 use Rattle.std.proofs.lemmas.Option.{same_Some, none-some}
 use Rattle.serde_json.specs.Data.{Data, array, Items, no_items, item}
-use Rattle.serde_json.specs.Read.{read}
-use Rattle.toml_edits.specs.EditList.{AreEdits, BadListIsNone, IsEditList, IsFirstBad, IsList, OneEditList, entry_of}
+use Rattle.toml_edits.specs.EditList.{AreEdits, BadListIsNone, IsFirstBad, IsList, OneEditList}
 use Rattle.toml_edits.specs.Edits.{Change}
 
 same_array : (ds es : Items) → ◌≡◌ {A = Option Data} (Some (array ds)) (Some (array es)) → ds ≡ es

@@ -5,7 +5,6 @@ use Rattle.std.proofs.lemmas.List.{append-nil}
 use Rattle.std.proofs.lemmas.Option.{same_Some, none-some}
 use Rattle.std.specs.Prelude.{option_and_then}
 use Rattle.toml_tree.specs.declared.profile.Profile.{Profile}
-use Rattle.toml_names.specs.declared.model.datum.Datum.{Datum}
 use Rattle.toml_names.specs.declared.model.address.Step.{Step}
 use Rattle.toml_names.specs.model.Addresses.{Address, same_address}
 use Rattle.toml_names.specs.model.Data.{Kinds, kind_at}
@@ -18,7 +17,7 @@ use Rattle.toml_edits.specs.Edits.{Change, set, insert, rename, remove, new_sect
 use Rattle.toml_edits.specs.Faults.{IsFault}
 use Rattle.toml_edits.specs.declared.fault.EditFault.TheVariants.{RootNamed}
 use Rattle.toml_edits.specs.ListLaws.{CarriedStands, ListsCarryApart}
-use Rattle.toml_edits.specs.Lists.{carried, Lead}
+use Rattle.toml_edits.specs.Lists.{carried}
 use Rattle.toml_edits.specs.ValueTexts.{IsGoodValue}
 use Rattle.toml_edits.proofs.Apart.{carried_apart, data_are_closed}
 use Rattle.toml_edits.proofs.Emptied.{set_carries}

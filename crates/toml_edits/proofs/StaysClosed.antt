@@ -1,5 +1,5 @@
 -- Data in which nothing stands below nothing stay so under an edit without a fault.
-use Rattle.std.proofs.Common.{◌≡◌, ◌⊎◌, inl, inr, ℕ, ◌+◌, List, [], ◌∷◌, ◌++◌, length, Option, Some, None, IsSome, is_some, Bool, true, false, cond, refl, sym, ap, subst, ◌∙◌, append-nil, append_assoc, arith}
+use Rattle.std.proofs.Common.{◌≡◌, ◌⊎◌, inl, inr, ℕ, List, [], ◌∷◌, ◌++◌, length, Option, Some, None, Bool, true, false, cond, refl, sym, ap, ◌∙◌, append-nil, append_assoc, arith}
 use Rattle.std.proofs.lemmas.List.{length-append}
 use Rattle.std.proofs.lemmas.Option.{same_Some, none-some}
 use Rattle.toml_tree.specs.declared.profile.Profile.{Profile}
@@ -12,14 +12,14 @@ use Rattle.toml_names.proofs.Proved.{values_are_closed}
 use Rattle.toml_edits.specs.declared.fault.EditFault.TheVariants.{NotAnElement, NoSuchPlace}
 use Rattle.toml_edits.specs.After.{Comes, Moves, AddsElement, nothing, an_empty_table, one_empty_table}
 use Rattle.toml_edits.specs.Carry.{Carrier, carry, carry_below, nowhere, up_from, inserting, parted}
-use Rattle.toml_edits.specs.Edits.{Change, set, insert, rename, remove, new_section, new_element}
+use Rattle.toml_edits.specs.Edits.{set, insert, rename, remove, new_section, new_element}
 use Rattle.toml_edits.specs.Faults.{IsFault}
 use Rattle.toml_edits.specs.ListLaws.{StaysClosed}
 use Rattle.toml_edits.specs.ValueTexts.{IsGoodValue}
 use Rattle.toml_edits.proofs.Along.{ends}
 use Rattle.toml_edits.proofs.Fronts.{IsFrontal, below_front, nowhere_front, carried_front}
 use Rattle.toml_edits.proofs.LastStep.{no_root, same_last, same_parent}
-use Rattle.toml_edits.proofs.Standing.{Has, has, some_of}
+use Rattle.toml_edits.proofs.Standing.{Has}
 use Rattle.toml_edits.proofs.Ways.{carried, carry_joined, parted_at}
 
 prefix_same : (to rest a : Address) (s : Step) → a ++ s ∷ [] ≡ to ++ rest → length to ≡ length a → a ≡ to

@@ -1,5 +1,5 @@
 -- Words of the code that makes new tables.
-use Rattle.std.specs.Prelude.{◌≡◌, List, ℕ}
+use Rattle.std.specs.Prelude.{◌≡◌}
 use Rattle.toml_names.specs.model.Addresses.{Address, child}
 use Rattle.toml_edits.specs.declared.making.ElementPlace.{ElementPlace}
 use Rattle.toml_edits.specs.Faults.{IsElementOf}

@@ -4,4 +4,4 @@ use Rattle.toml_edits.specs.Lists.{Lead}
 use Rattle.toml_checker.proofs.facts.data_after.Given as goal
 
 abbrev pub invariant-loop-edit : goal.invariant-loop-edit
-invariant-loop-edit l = Lead (map change (take l.edit-index l.edits)) l.fn.old.root l.data.root
+invariant-loop-edit l = Lead l.fn.profile (map change (take l.edit-index l.edits)) l.fn.old.root l.data.root

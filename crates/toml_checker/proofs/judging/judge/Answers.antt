@@ -11,7 +11,7 @@ use Rattle.toml_checker.proofs.OfDocuments.{values_hold}
 use Rattle.toml_checker.proofs.judging.judge.Goals as goal
 
 pub no_comments_added-requires : goal.no_comments_added-requires
-no_comments_added-requires c = values_hold c.args.before.text.now c.args.after.text.now (map change c.args.edits.now) c.args.pairs.now c.requires.so_far
+no_comments_added-requires c = values_hold c.args.profile c.args.before.text.now c.args.after.text.now (map change c.args.edits.now) c.args.pairs.now c.requires.so_far
 
 pub returns-then-not-branch : goal.returns-then-not-branch
 returns-then-not-branch c =
@@ -21,7 +21,7 @@ returns-then-not-branch c =
     let after = c.args.after.text.now in
     let d = document c.args.before.doc.now in
     let e = document c.args.after.doc.now in
-    fails BadPair before after cs ps c.in_ok-pairs_fit.field-0 c.requires.so_far (of_trees (λ d e. PairsFit cs d e ps) d e before after c.in_ok-pairs_fit.field-0 c.requires.before.spelled c.requires.after.spelled c.in_ok-pairs_fit.ensures) c.if-not-branch.true
+    fails c.args.profile BadPair before after cs ps c.in_ok-pairs_fit.field-0 c.requires.so_far (of_trees (λ d e. PairsFit cs d e ps) d e before after c.in_ok-pairs_fit.field-0 c.requires.before.spelled c.requires.after.spelled c.in_ok-pairs_fit.ensures) c.if-not-branch.true
 
 pub returns-then-not-branch-2 : goal.returns-then-not-branch-2
 returns-then-not-branch-2 c =
@@ -31,8 +31,8 @@ returns-then-not-branch-2 c =
     let after = c.args.after.text.now in
     let d = document c.args.before.doc.now in
     let e = document c.args.after.doc.now in
-    let so_0 = passes BadPair before after cs ps c.in_ok-pairs_fit.field-0 c.requires.so_far (of_trees (λ d e. PairsFit cs d e ps) d e before after c.in_ok-pairs_fit.field-0 c.requires.before.spelled c.requires.after.spelled c.in_ok-pairs_fit.ensures) c.if-not-branch.false in
-    fails Lost before after cs ps c.in_ok-keeps_protected.field-0 so_0 (of_tree (λ d. AllKept cs d ps) d before c.in_ok-keeps_protected.field-0 c.requires.before.spelled c.in_ok-keeps_protected.ensures) c.if-not-branch-2.true
+    let so_0 = passes c.args.profile BadPair before after cs ps c.in_ok-pairs_fit.field-0 c.requires.so_far (of_trees (λ d e. PairsFit cs d e ps) d e before after c.in_ok-pairs_fit.field-0 c.requires.before.spelled c.requires.after.spelled c.in_ok-pairs_fit.ensures) c.if-not-branch.false in
+    fails c.args.profile Lost before after cs ps c.in_ok-keeps_protected.field-0 so_0 (of_tree (λ d. AllKept cs d ps) d before c.in_ok-keeps_protected.field-0 c.requires.before.spelled c.in_ok-keeps_protected.ensures) c.if-not-branch-2.true
 
 pub returns-then-not-branch-3 : goal.returns-then-not-branch-3
 returns-then-not-branch-3 c =
@@ -42,9 +42,9 @@ returns-then-not-branch-3 c =
     let after = c.args.after.text.now in
     let d = document c.args.before.doc.now in
     let e = document c.args.after.doc.now in
-    let so_0 = passes BadPair before after cs ps c.in_ok-pairs_fit.field-0 c.requires.so_far (of_trees (λ d e. PairsFit cs d e ps) d e before after c.in_ok-pairs_fit.field-0 c.requires.before.spelled c.requires.after.spelled c.in_ok-pairs_fit.ensures) c.if-not-branch.false in
-    let so_1 = passes Lost before after cs ps c.in_ok-keeps_protected.field-0 so_0 (of_tree (λ d. AllKept cs d ps) d before c.in_ok-keeps_protected.field-0 c.requires.before.spelled c.in_ok-keeps_protected.ensures) c.if-not-branch-2.false in
-    fails Unasked before after cs ps c.in_ok-no_lines_added.field-0 so_1 (of_tree (λ e. NoLinesAdded cs e ps) e after c.in_ok-no_lines_added.field-0 c.requires.after.spelled c.in_ok-no_lines_added.ensures) c.if-not-branch-3.true
+    let so_0 = passes c.args.profile BadPair before after cs ps c.in_ok-pairs_fit.field-0 c.requires.so_far (of_trees (λ d e. PairsFit cs d e ps) d e before after c.in_ok-pairs_fit.field-0 c.requires.before.spelled c.requires.after.spelled c.in_ok-pairs_fit.ensures) c.if-not-branch.false in
+    let so_1 = passes c.args.profile Lost before after cs ps c.in_ok-keeps_protected.field-0 so_0 (of_tree (λ d. AllKept cs d ps) d before c.in_ok-keeps_protected.field-0 c.requires.before.spelled c.in_ok-keeps_protected.ensures) c.if-not-branch-2.false in
+    fails c.args.profile Unasked before after cs ps c.in_ok-no_lines_added.field-0 so_1 (of_tree (λ e. NoLinesAdded cs e ps) e after c.in_ok-no_lines_added.field-0 c.requires.after.spelled c.in_ok-no_lines_added.ensures) c.if-not-branch-3.true
 
 pub returns-then-not-branch-4 : goal.returns-then-not-branch-4
 returns-then-not-branch-4 c =
@@ -54,10 +54,10 @@ returns-then-not-branch-4 c =
     let after = c.args.after.text.now in
     let d = document c.args.before.doc.now in
     let e = document c.args.after.doc.now in
-    let so_0 = passes BadPair before after cs ps c.in_ok-pairs_fit.field-0 c.requires.so_far (of_trees (λ d e. PairsFit cs d e ps) d e before after c.in_ok-pairs_fit.field-0 c.requires.before.spelled c.requires.after.spelled c.in_ok-pairs_fit.ensures) c.if-not-branch.false in
-    let so_1 = passes Lost before after cs ps c.in_ok-keeps_protected.field-0 so_0 (of_tree (λ d. AllKept cs d ps) d before c.in_ok-keeps_protected.field-0 c.requires.before.spelled c.in_ok-keeps_protected.ensures) c.if-not-branch-2.false in
-    let so_2 = passes Unasked before after cs ps c.in_ok-no_lines_added.field-0 so_1 (of_tree (λ e. NoLinesAdded cs e ps) e after c.in_ok-no_lines_added.field-0 c.requires.after.spelled c.in_ok-no_lines_added.ensures) c.if-not-branch-3.false in
-    fails NewComment before after cs ps c.in_ok-no_comments_added.field-0 so_2 (of_tree (λ e. NoCommentsAdded cs e ps) e after c.in_ok-no_comments_added.field-0 c.requires.after.spelled (c.in_ok-no_comments_added.ensures e c.requires.after.spelled c.requires.after.units)) c.if-not-branch-4.true
+    let so_0 = passes c.args.profile BadPair before after cs ps c.in_ok-pairs_fit.field-0 c.requires.so_far (of_trees (λ d e. PairsFit cs d e ps) d e before after c.in_ok-pairs_fit.field-0 c.requires.before.spelled c.requires.after.spelled c.in_ok-pairs_fit.ensures) c.if-not-branch.false in
+    let so_1 = passes c.args.profile Lost before after cs ps c.in_ok-keeps_protected.field-0 so_0 (of_tree (λ d. AllKept cs d ps) d before c.in_ok-keeps_protected.field-0 c.requires.before.spelled c.in_ok-keeps_protected.ensures) c.if-not-branch-2.false in
+    let so_2 = passes c.args.profile Unasked before after cs ps c.in_ok-no_lines_added.field-0 so_1 (of_tree (λ e. NoLinesAdded cs e ps) e after c.in_ok-no_lines_added.field-0 c.requires.after.spelled c.in_ok-no_lines_added.ensures) c.if-not-branch-3.false in
+    fails c.args.profile NewComment before after cs ps c.in_ok-no_comments_added.field-0 so_2 (of_tree (λ e. NoCommentsAdded cs e ps) e after c.in_ok-no_comments_added.field-0 c.requires.after.spelled (c.in_ok-no_comments_added.ensures e c.requires.after.spelled c.requires.after.units)) c.if-not-branch-4.true
 
 pub returns-then-not-keeps_frame : goal.returns-then-not-keeps_frame
 returns-then-not-keeps_frame c =
@@ -67,11 +67,11 @@ returns-then-not-keeps_frame c =
     let after = c.args.after.text.now in
     let d = document c.args.before.doc.now in
     let e = document c.args.after.doc.now in
-    let so_0 = passes BadPair before after cs ps c.in_ok-pairs_fit.field-0 c.requires.so_far (of_trees (λ d e. PairsFit cs d e ps) d e before after c.in_ok-pairs_fit.field-0 c.requires.before.spelled c.requires.after.spelled c.in_ok-pairs_fit.ensures) c.if-not-branch.false in
-    let so_1 = passes Lost before after cs ps c.in_ok-keeps_protected.field-0 so_0 (of_tree (λ d. AllKept cs d ps) d before c.in_ok-keeps_protected.field-0 c.requires.before.spelled c.in_ok-keeps_protected.ensures) c.if-not-branch-2.false in
-    let so_2 = passes Unasked before after cs ps c.in_ok-no_lines_added.field-0 so_1 (of_tree (λ e. NoLinesAdded cs e ps) e after c.in_ok-no_lines_added.field-0 c.requires.after.spelled c.in_ok-no_lines_added.ensures) c.if-not-branch-3.false in
-    let so_3 = passes NewComment before after cs ps c.in_ok-no_comments_added.field-0 so_2 (of_tree (λ e. NoCommentsAdded cs e ps) e after c.in_ok-no_comments_added.field-0 c.requires.after.spelled (c.in_ok-no_comments_added.ensures e c.requires.after.spelled c.requires.after.units)) c.if-not-branch-4.false in
-    fails NotTheSame before after cs ps c.keeps_frame.result so_3 (c.keeps_frame.ensures) c.if-not-keeps_frame.true
+    let so_0 = passes c.args.profile BadPair before after cs ps c.in_ok-pairs_fit.field-0 c.requires.so_far (of_trees (λ d e. PairsFit cs d e ps) d e before after c.in_ok-pairs_fit.field-0 c.requires.before.spelled c.requires.after.spelled c.in_ok-pairs_fit.ensures) c.if-not-branch.false in
+    let so_1 = passes c.args.profile Lost before after cs ps c.in_ok-keeps_protected.field-0 so_0 (of_tree (λ d. AllKept cs d ps) d before c.in_ok-keeps_protected.field-0 c.requires.before.spelled c.in_ok-keeps_protected.ensures) c.if-not-branch-2.false in
+    let so_2 = passes c.args.profile Unasked before after cs ps c.in_ok-no_lines_added.field-0 so_1 (of_tree (λ e. NoLinesAdded cs e ps) e after c.in_ok-no_lines_added.field-0 c.requires.after.spelled c.in_ok-no_lines_added.ensures) c.if-not-branch-3.false in
+    let so_3 = passes c.args.profile NewComment before after cs ps c.in_ok-no_comments_added.field-0 so_2 (of_tree (λ e. NoCommentsAdded cs e ps) e after c.in_ok-no_comments_added.field-0 c.requires.after.spelled (c.in_ok-no_comments_added.ensures e c.requires.after.spelled c.requires.after.units)) c.if-not-branch-4.false in
+    fails c.args.profile NotTheSame before after cs ps c.keeps_frame.result so_3 (c.keeps_frame.ensures) c.if-not-keeps_frame.true
 
 pub returns : goal.returns
 returns c =
@@ -81,9 +81,9 @@ returns c =
     let after = c.args.after.text.now in
     let d = document c.args.before.doc.now in
     let e = document c.args.after.doc.now in
-    let so_0 = passes BadPair before after cs ps c.in_ok-pairs_fit.field-0 c.requires.so_far (of_trees (λ d e. PairsFit cs d e ps) d e before after c.in_ok-pairs_fit.field-0 c.requires.before.spelled c.requires.after.spelled c.in_ok-pairs_fit.ensures) c.if-not-branch.false in
-    let so_1 = passes Lost before after cs ps c.in_ok-keeps_protected.field-0 so_0 (of_tree (λ d. AllKept cs d ps) d before c.in_ok-keeps_protected.field-0 c.requires.before.spelled c.in_ok-keeps_protected.ensures) c.if-not-branch-2.false in
-    let so_2 = passes Unasked before after cs ps c.in_ok-no_lines_added.field-0 so_1 (of_tree (λ e. NoLinesAdded cs e ps) e after c.in_ok-no_lines_added.field-0 c.requires.after.spelled c.in_ok-no_lines_added.ensures) c.if-not-branch-3.false in
-    let so_3 = passes NewComment before after cs ps c.in_ok-no_comments_added.field-0 so_2 (of_tree (λ e. NoCommentsAdded cs e ps) e after c.in_ok-no_comments_added.field-0 c.requires.after.spelled (c.in_ok-no_comments_added.ensures e c.requires.after.spelled c.requires.after.units)) c.if-not-branch-4.false in
-    let so_4 = passes NotTheSame before after cs ps c.keeps_frame.result so_3 (c.keeps_frame.ensures) c.if-not-keeps_frame.false in
-    all_hold before after cs ps so_4
+    let so_0 = passes c.args.profile BadPair before after cs ps c.in_ok-pairs_fit.field-0 c.requires.so_far (of_trees (λ d e. PairsFit cs d e ps) d e before after c.in_ok-pairs_fit.field-0 c.requires.before.spelled c.requires.after.spelled c.in_ok-pairs_fit.ensures) c.if-not-branch.false in
+    let so_1 = passes c.args.profile Lost before after cs ps c.in_ok-keeps_protected.field-0 so_0 (of_tree (λ d. AllKept cs d ps) d before c.in_ok-keeps_protected.field-0 c.requires.before.spelled c.in_ok-keeps_protected.ensures) c.if-not-branch-2.false in
+    let so_2 = passes c.args.profile Unasked before after cs ps c.in_ok-no_lines_added.field-0 so_1 (of_tree (λ e. NoLinesAdded cs e ps) e after c.in_ok-no_lines_added.field-0 c.requires.after.spelled c.in_ok-no_lines_added.ensures) c.if-not-branch-3.false in
+    let so_3 = passes c.args.profile NewComment before after cs ps c.in_ok-no_comments_added.field-0 so_2 (of_tree (λ e. NoCommentsAdded cs e ps) e after c.in_ok-no_comments_added.field-0 c.requires.after.spelled (c.in_ok-no_comments_added.ensures e c.requires.after.spelled c.requires.after.units)) c.if-not-branch-4.false in
+    let so_4 = passes c.args.profile NotTheSame before after cs ps c.keeps_frame.result so_3 (c.keeps_frame.ensures) c.if-not-keeps_frame.false in
+    all_hold c.args.profile before after cs ps so_4

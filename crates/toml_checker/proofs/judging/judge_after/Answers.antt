@@ -14,10 +14,10 @@ returns-then-not-branch c =
     let before = c.args.before.text.now in
     let after = c.args.after.now in
     let cs = map change c.args.edits.now in
-    let tree = subst (FindsTree after) c.in-Some.is c.in_ok-doc.ensures in
-    let lines = subst (FindsLines after c.in-Some.doc) c.in-Some-2.is c.in_ok-reader.ensures in
-    let made = subst (GivesMade before cs) c.in-Some-made.is c.requires.made in
-    other_data before after (document c.in-Some.doc) cs c.args.pairs.now c.in-Some-made.made c.requires.document lines.0 made tree.1
+    let tree = subst (FindsTree c.args.profile after) c.in-Some.is c.in_ok-doc.ensures in
+    let lines = subst (FindsLines c.args.profile after c.in-Some.doc) c.in-Some-2.is c.in_ok-reader.ensures in
+    let made = subst (GivesMade c.args.profile before cs) c.in-Some-made.is c.requires.made in
+    other_data c.args.profile before after (document c.in-Some.doc) cs c.args.pairs.now c.in-Some-made.made c.requires.document lines.0 made tree.1
     (λ are. true≢false (sym (c.in_ok-are_made.ensures.1 (subst (λ (ls : List Line). IsDataOf (named ls) (kind_at c.in-Some-made.made.root)) (sym lines.1) are)) ∙ c.if-not-branch.true))
 
 pub judge-requires-clause-so_far : goal.judge-requires-clause-so_far
@@ -25,8 +25,8 @@ judge-requires-clause-so_far c =
     let before = c.args.before.text.now in
     let after = c.args.after.now in
     let cs = map change c.args.edits.now in
-    let tree = subst (FindsTree after) c.in-Some.is c.in_ok-doc.ensures in
-    let lines = subst (FindsLines after c.in-Some.doc) c.in-Some-2.is c.in_ok-reader.ensures in
-    let made = subst (GivesMade before cs) c.in-Some-made.is c.requires.made in
-    data_hold before after (document c.in-Some.doc) cs c.args.pairs.now c.in-Some-made.made c.requires.document lines.0 made tree.1
+    let tree = subst (FindsTree c.args.profile after) c.in-Some.is c.in_ok-doc.ensures in
+    let lines = subst (FindsLines c.args.profile after c.in-Some.doc) c.in-Some-2.is c.in_ok-reader.ensures in
+    let made = subst (GivesMade c.args.profile before cs) c.in-Some-made.is c.requires.made in
+    data_hold c.args.profile before after (document c.in-Some.doc) cs c.args.pairs.now c.in-Some-made.made c.requires.document lines.0 made tree.1
     (subst (λ (ls : List Line). IsDataOf (named ls) (kind_at c.in-Some-made.made.root)) lines.1 (c.in_ok-are_made.ensures.0 c.if-not-branch.false))

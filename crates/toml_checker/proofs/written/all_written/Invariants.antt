@@ -6,7 +6,7 @@ use Rattle.toml_checker.proofs.written.all_written.Given as goal
 
 abbrev pub invariant-loop-edit : goal.invariant-loop-edit
 invariant-loop-edit l = record {
-  values : HaveValues (map change l.left);
+  values : HaveValues l.fn.profile (map change l.left);
   written : (rest : List Written) → AreWrittenBy (map change l.left) rest → AreWrittenBy (map change l.edits) (l.written.items ++ rest);
 }
 

@@ -4,4 +4,4 @@ use Rattle.toml_edits.specs.Lists.{Lead}
 use Rattle.toml_editor.proofs.making.make_all.Given as goal
 
 abbrev pub invariant-loop-index : goal.invariant-loop-index
-invariant-loop-index l = Lead (map change (take l.index l.edits)) l.initial.«data».root l.«data».root
+invariant-loop-index l = Lead l.read.profile (map change (take l.index l.edits)) l.initial.«data».root l.«data».root

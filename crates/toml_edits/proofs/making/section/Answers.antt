@@ -1,4 +1,4 @@
-use Rattle.std.proofs.Common.{◌≡◌, ◌++◌, ◌∷◌, [], sym, ap, ◌∙◌}
+use Rattle.std.proofs.Common.{inr, ◌++◌, ◌∷◌, [], sym, ap, ◌∙◌}
 use Rattle.std.proofs.lemmas.Result.{on_ok_weaker}
 use Rattle.toml_tree.specs.declared.profile.Profile.TheVariants.{One}
 use Rattle.toml_names.specs.declared.model.address.Step.{Step}
@@ -7,6 +7,9 @@ use Rattle.toml_names.specs.model.Data.{kind_at}
 use Rattle.toml_edits.specs.declared.fault.EditFault.TheVariants.{NotAName}
 use Rattle.toml_edits.proofs.NewTables.{section_there, section_made}
 use Rattle.toml_edits.proofs.making.section.Goals as goal
+
+pub returns-in-Some-clause-fault : goal.returns-in-Some-clause-fault
+returns-in-Some-clause-fault c = λ profile. inr (c.in-Some.ensures profile)
 
 pub returns-in_default-last-clause-fault : goal.returns-in_default-last-clause-fault
 returns-in_default-last-clause-fault c = λ profile.
