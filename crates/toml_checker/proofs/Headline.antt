@@ -3,7 +3,7 @@ use Rattle.std.proofs.Common.{◌≡◌, ◌⊎◌, inl, inr, ℕ, suc, ◌+◌,
 use Rattle.std.proofs.lemmas.Option.{same_Some}
 use Rattle.std.specs.Prelude.{option_map, IfSome, IsSome, slice_get, ◌↔◌}
 use Rattle.toml_text.specs.Limit.{IsText}
-use Rattle.toml_tree.specs.declared.profile.Profile.TheVariants.{One}
+use Rattle.toml_tree.specs.declared.profile.Profile.{Profile}
 use Rattle.toml_tree.specs.Profiles.{IsOfProfile}
 use Rattle.toml_tree.specs.Spells.{EachIs, Spells}
 use Rattle.toml_tree.specs.Tree.{Doc}

@@ -7,17 +7,13 @@ use Rattle.toml_text.specs.declared.fault.TextFault.{TextFault}
 use Rattle.toml_text.specs.declared.fault.TextFault.TheVariants.{NotUtf8, TooLong}
 use Rattle.toml_scalar.specs.declared.fault.SyntaxFault.{SyntaxFault}
 use Rattle.toml_scalar.specs.declared.fault.SyntaxFault.TheVariants as faults
-use Rattle.toml_tree.specs.declared.profile.Profile.TheVariants.{One}
 use Rattle.toml_tree.specs.Document.{Refuses}
 use Rattle.toml_tree.specs.Spells.{Spells}
 use Rattle.toml_tree.specs.Tree.{Doc}
 use Rattle.toml_tree.proofs.Proved.{one_tree}
 use Rattle.toml_tree.specs.declared.profile.Profile.{Profile}
 use Rattle.toml_names.specs.model.Documents.{IsDocumentIn}
-use Rattle.toml_names.specs.reader.Names.{AreGood, RefusesNames}
-use Rattle.toml_names.specs.declared.fault.NameFault.{NameFault}
-use Rattle.toml_names.specs.declared.fault.NameFault.TheVariants as names
-use Rattle.toml_names.proofs.Proved.{refused_are_bad}
+use Rattle.toml_names.specs.reader.Names.{AreGood}
 
 pub no_text : (profile : Profile) (text : List ℕ) (fault : TextFault) → IsFaultOf text fault → ¬ IsDocumentIn profile text
 no_text profile text (NotUtf8 at) h = λ document. h.0 (IsUtf8-from_is_utf8 text document.0.utf8)
@@ -33,8 +29,6 @@ no_tree profile text (faults.BadDate at) memory h = λ document. h.1 document.1 
 no_tree profile text (faults.TooDeep at) memory h = λ document. h.1 document.1 (document.2, document.4)
 no_tree profile text faults.NoMemory memory h = λ document. memory refl
 
--- the lines of the one tree of the text are refused
-pub no_names : (profile : Profile) (text : List ℕ) (d : Doc) (fault : NameFault) → Spells d text → (fault ≡ names.NoMemory → ⊥) → RefusesNames d.lines fault → ¬ IsDocumentIn profile text
-no_names profile text d fault spelled memory refuses = λ document.
-    let same : document.1 ≡ d = one_tree document.1 d text document.2 spelled in
-    refused_are_bad d.lines fault refuses memory (subst (λ (e : Doc). AreGood e.lines) same document.3)
+-- the names of the one tree of the text break the rules
+pub bad_names : (profile : Profile) (text : List ℕ) (d : Doc) → Spells d text → ¬ AreGood d.lines → ¬ IsDocumentIn profile text
+bad_names profile text d spelled bad = λ document. bad (subst (λ (e : Doc). AreGood e.lines) (one_tree document.1 d text document.2 spelled) document.3)

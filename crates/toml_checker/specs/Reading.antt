@@ -9,6 +9,7 @@ use Rattle.toml_tree.specs.declared.profile.Profile.{Profile}
 use Rattle.toml_names.specs.model.Data.{IsDataOf, kind_at}
 use Rattle.toml_names.specs.model.Documents.{IsDocumentIn}
 use Rattle.toml_names.specs.mentions.Mentions.{named}
+use Rattle.toml_names.specs.reader.Names.{AreGood}
 use Rattle.toml_names.specs.reader.Reading.{ReaderState, lines_of}
 use Rattle.toml_checker.specs.declared.documents.Document.{Document}
 use Rattle.toml_checker.specs.declared.documents.Rest.{Rest}
@@ -29,13 +30,13 @@ AreUnitsOf doc us = all_units us ≡ map spanned (units (document doc).lines)
 abbrev pub IsRest : Doc → Rest → Type 0
 IsRest doc rest = IsDataOf (named (document doc).lines) (kind_at rest.«data».root) × AreUnitsOf doc rest.units.items
 
--- a reader that took the lines of the tree, which is a document's; without one the text is no document
-abbrev pub FindsLines : Profile → List ℕ → Doc → Option ReaderState → Type 0
-FindsLines profile text doc found = MatchOption found (¬ IsDocumentIn profile text) (λ reader. IsDocumentIn profile text × (lines_of reader ≡ (document doc).lines))
+-- a reader that took the lines of the tree, whose names keep the rules; without one they don't
+abbrev pub FindsLines : Doc → Option ReaderState → Type 0
+FindsLines doc found = MatchOption found (¬ AreGood (document doc).lines) (λ reader. AreGood (document doc).lines × (lines_of reader ≡ (document doc).lines))
 
--- the data and the units of a document; without them the text is none
-abbrev pub FindsRest : Profile → List ℕ → Doc → Option Rest → Type 0
-FindsRest profile text doc found = MatchOption found (¬ IsDocumentIn profile text) (λ rest. IsDocumentIn profile text × IsRest doc rest)
+-- the data and the units of a tree whose names keep the rules; without them they don't
+abbrev pub FindsRest : Doc → Option Rest → Type 0
+FindsRest doc found = MatchOption found (¬ AreGood (document doc).lines) (λ rest. AreGood (document doc).lines × IsRest doc rest)
 
 -- the tree is that of the text, and the units are those of the tree
 pub record IsRead (d : Document) : Type 0 where

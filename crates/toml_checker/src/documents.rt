@@ -1,11 +1,7 @@
 //! The reading of a text, its tree first and then its names, data and units.
 ghost use Rattle.std.specs.Prelude.{◌≡◌, IfOk, OnOk};
 ghost use Rattle.toml_names.specs.declared.fault.NameFault.TheVariants as names;
-ghost use Rattle.toml_text.specs.Limit.{IsText};
 ghost use Rattle.toml_tree.specs.Document.{document};
-ghost use Rattle.toml_tree.specs.declared.profile.Profile.{Profile};
-ghost use Rattle.toml_tree.specs.Profiles.{IsOfProfile};
-ghost use Rattle.toml_tree.specs.Spells.{Spells};
 ghost use Rattle.toml_names.specs.reader.Names.{AreOwnAddresses};
 ghost use Rattle.toml_names.specs.reader.Reading.{lines_of};
 ghost use Rattle.toml_checker.specs.Reading.{AreUnitsOf, FindsDocument, FindsLines, FindsTree, FindsRest, IsRest};
@@ -41,15 +37,12 @@ pub(crate) fn read_tree<'t>(
     }
 }
 
-/// A reader of the lines of the tree of a text. Where there is none the text is no document.
+/// A reader of the lines of a tree. Where there is none their names break the rules.
 pub(crate) fn read_all_lines<'d, 't>(
     alloc: Global,
-    text: &[u8],
     doc: &'d Doc<'t>,
 ) -> Result<Option<NameReader<'d, 't>>, AllocError>
-    requires text { IsText text.now }
-    requires tree { Spells (document doc.now) text.now }
-    ensures { (profile : Profile) → IsOfProfile profile (document doc.now) → IfOk result (FindsLines profile text.now doc.now) }
+    ensures { IfOk result (FindsLines doc.now) }
 {
     match read_lines(alloc, doc) {
         Ok(reader) => Ok(Some(reader)),
@@ -111,19 +104,17 @@ pub(crate) fn read_document<'t>(
     let Some(doc) = read_tree(alloc, text, profile)? else {
         return Ok(None);
     };
-    let Some(rest) = read_rest(alloc, text, &doc)? else {
+    let Some(rest) = read_rest(alloc, &doc)? else {
         return Ok(None);
     };
     Ok(Some((doc, rest)))
 }
 
-/// The data and the units of the tree of a text. Where there are none the text is no document.
-fn read_rest(alloc: Global, text: &[u8], doc: &Doc) -> Result<Option<Rest>, AllocError>
-    requires text { IsText text.now }
-    requires tree { Spells (document doc.now) text.now }
-    ensures { (profile : Profile) → IsOfProfile profile (document doc.now) → IfOk result (FindsRest profile text.now doc.now) }
+/// The data and the units of a tree. Where there are none its names break the rules.
+fn read_rest(alloc: Global, doc: &Doc) -> Result<Option<Rest>, AllocError>
+    ensures { IfOk result (FindsRest doc.now) }
 {
-    match read_all_lines(alloc, text, doc)? {
+    match read_all_lines(alloc, doc)? {
         Some(reader) => Ok(Some(rest_of(alloc, doc, reader)?)),
         None => Ok(None),
     }

@@ -90,7 +90,7 @@ fn judge_after(
     let Some(doc) = read_tree(alloc, after, profile)? else {
         return Ok(Verdict::No(Reason::AfterRefused));
     };
-    let Some(reader) = read_all_lines(alloc, after, &doc)? else {
+    let Some(reader) = read_all_lines(alloc, &doc)? else {
         return Ok(Verdict::No(Reason::AfterRefused));
     };
     let Some(made) = made else {
@@ -160,7 +160,15 @@ pub fn check_in(
         doc: &doc,
         units: &old.units,
     };
-    judge_after(alloc, before, edits, made, after, &certificate.pairs, profile)
+    judge_after(
+        alloc,
+        before,
+        edits,
+        made,
+        after,
+        &certificate.pairs,
+        profile,
+    )
 }
 
 /// What `check_in` answers of a document that is read already, with the data that the edits make of its data: the same verdict,
@@ -179,5 +187,13 @@ pub fn check_made(
     requires made { IsMadeOf profile before.text.now (map change edits.now) made }
     ensures { IfOk result (IsVerdict profile before.entry.text.now (map change edits.now) after.now certificate.now.pairs.items) }
 {
-    judge_after(alloc, before, edits, Some(made), after, &certificate.pairs, profile)
+    judge_after(
+        alloc,
+        before,
+        edits,
+        Some(made),
+        after,
+        &certificate.pairs,
+        profile,
+    )
 }

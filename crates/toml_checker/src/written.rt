@@ -51,7 +51,11 @@ fn comments_inside<'v>(
 }
 
 /// The comments in the text of a value of the profile.
-fn comments_of<'v>(alloc: Global, value: &'v str, profile: Profile) -> Result<Vec<&'v [u8]>, AllocError>
+fn comments_of<'v>(
+    alloc: Global,
+    value: &'v str,
+    profile: Profile,
+) -> Result<Vec<&'v [u8]>, AllocError>
     requires { ¬ (IsBadValue profile value.now) }
     ensures { IfOk result (λ ts. AreCommentsOf value.now (plain ts.items)) }
 {
@@ -67,7 +71,11 @@ fn comments_of<'v>(alloc: Global, value: &'v str, profile: Profile) -> Result<Ve
 }
 
 /// The comments in the value of an edit.
-fn comments_in<'e>(alloc: Global, edit: &'e Edit, profile: Profile) -> Result<Vec<&'e [u8]>, AllocError>
+fn comments_in<'e>(
+    alloc: Global,
+    edit: &'e Edit,
+    profile: Profile,
+) -> Result<Vec<&'e [u8]>, AllocError>
     requires { HasValue profile (change edit.now) }
     ensures { IfOk result (λ ts. AreCommentsIn (change edit.now) (plain ts.items)) }
 {
@@ -82,7 +90,12 @@ fn comments_in<'e>(alloc: Global, edit: &'e Edit, profile: Profile) -> Result<Ve
 }
 
 /// What an edit writes, where the others follow it.
-fn written_by<'e>(alloc: Global, edit: &'e Edit, later: &[Edit], profile: Profile) -> Result<Written<'e>, AllocError>
+fn written_by<'e>(
+    alloc: Global,
+    edit: &'e Edit,
+    later: &[Edit],
+    profile: Profile,
+) -> Result<Written<'e>, AllocError>
     requires { HasValue profile (change edit.now) }
     ensures { IfOk result (IsWrittenBy (change edit.now) (map change later.now)) }
 {

@@ -119,7 +119,9 @@ fn edit_with<'x>(
     let reader = named_lines(alloc, before, &doc)?;
     let units = read_units(alloc, &doc, &reader)?;
     let wanted = outermost(alloc, &units, edits)?;
-    let (data, edited) = make_text(alloc, source, &doc, reader, &units, edits, spelled, &wanted, profile)?;
+    let (data, edited) = make_text(
+        alloc, source, &doc, reader, &units, edits, spelled, &wanted, profile,
+    )?;
     let known = Document {
         text: before,
         doc: &doc,
@@ -199,7 +201,11 @@ fn make_text<'x>(
     if let Err(fault) = make_all(
         alloc,
         &mut tree,
-        Read { doc, names, profile },
+        Read {
+            doc,
+            names,
+            profile,
+        },
         &mut data,
         edits,
         spelled,

@@ -8,4 +8,4 @@ returns-in-Err c =
 
 pub loop-edit-preserved : goal.loop-edit-preserved
 loop-edit-preserved c =
-    led_on c.args.profile c.args.edits.now c.loop-edit.edit-index c.edit-item.result c.args.old.root c.loop-edit.«data».root c.apply.new.«data».root (omega arith) c.edit-item.is c.loop-edit.invariant c.in_default.ensures.ok
+    led_on c.args.profile c.args.edits.now c.loop-edit.edit-index c.edit-item.result c.args.old.root c.loop-edit.«data».root c.apply_in.new.«data».root (omega arith) c.edit-item.is c.loop-edit.invariant c.in_default.ensures.ok
