@@ -10,6 +10,7 @@ use Rattle.toml_tree.specs.Parts.{size}
 use Rattle.toml_tree.specs.Spells.{AreLines, Spells, expr_parts, line_parts, lines_parts, mark_of, piece}
 use Rattle.toml_tree.specs.Tree.{Doc, Line}
 use Rattle.toml_tree.proofs.Proved.{sizes_add}
+use Rattle.toml_tree.specs.declared.profile.Profile.{Profile}
 use Rattle.toml_names.specs.reader.Names.{RefusesNames}
 use Rattle.toml_names.specs.declared.fault.NameFault.{NameFault}
 use Rattle.toml_names.specs.declared.fault.NameFault.TheVariants as names
@@ -58,31 +59,31 @@ refused_line d (names.LongAddress line) few refused = let there = refused.there 
 refused_line d names.NoMemory few refused = tt
 
 -- so the number of a line that the editor tells is a machine number
-pub numbered : (before : List ℕ) (cs : List Change) (fault : EditorFault) → editor.Tells before cs fault → TellsNumber fault
-numbered before cs (faults.Text fault) told = tt
-numbered before cs (faults.Syntax fault) told = tt
-numbered before cs (faults.Names fault) told = refused_line told.2.0 fault (lines_are_few told.2.0 before told.1 told.2.1) told.2.2.1
-numbered before cs (faults.Edit index fault) told = tt
-numbered before cs (faults.Spread index) told = tt
-numbered before cs (faults.LastElement index) told = tt
-numbered before cs faults.TooLong told = tt
-numbered before cs (faults.Unverified reason) told = tt
-numbered before cs faults.NoMemory told = tt
+pub numbered : (profile : Profile) (before : List ℕ) (cs : List Change) (fault : EditorFault) → editor.Tells profile before cs fault → TellsNumber fault
+numbered profile before cs (faults.Text fault) told = tt
+numbered profile before cs (faults.Syntax fault) told = tt
+numbered profile before cs (faults.Names fault) told = refused_line told.2.0 fault (lines_are_few told.2.0 before told.1 told.2.1) told.2.2.1
+numbered profile before cs (faults.Edit index fault) told = tt
+numbered profile before cs (faults.Spread index) told = tt
+numbered profile before cs (faults.LastElement index) told = tt
+numbered profile before cs faults.TooLong told = tt
+numbered profile before cs (faults.Unverified reason) told = tt
+numbered profile before cs faults.NoMemory told = tt
 
-module _ (before edits : List ℕ) where
+module _ (profile : Profile) (before edits : List ℕ) where
   -- the ending of an editor's fault is one of `edit`
-  pub unedited : (cs : List Change) (fault : EditorFault) (e : Ending) → IsEditList edits cs → editor.Tells before cs fault → IsEditorEnding fault e → Ends (IsUnedited before edits) e
+  pub unedited : (cs : List Change) (fault : EditorFault) (e : Ending) → IsEditList edits cs → editor.Tells profile before cs fault → IsEditorEnding fault e → Ends (IsUnedited profile before edits) e
   unedited cs fault (ends.Refused r) listed told stands = inr (record { changes = cs; listed = listed; fault = fault; told = told; stands = stands })
   unedited cs fault ends.NoMemory listed told stands = tt
 
-  pub edited : (cs : List Change) (text : List ℕ) (pairs : List (ℕ × ℕ)) (a : Answer) → IsEditList edits cs → editor.IsEdited before cs text pairs → a.out.items ≡ codes "ok\n" → texts_of a.files.items ≡ text ∷ certificate_of pairs ∷ []
-      → IsEditing before edits a
+  pub edited : (cs : List Change) (text : List ℕ) (pairs : List (ℕ × ℕ)) (a : Answer) → IsEditList edits cs → editor.IsEdited profile before cs text pairs → a.out.items ≡ codes "ok\n" → texts_of a.files.items ≡ text ∷ certificate_of pairs ∷ []
+      → IsEditing profile before edits a
   edited cs text pairs a listed is printed written = (printed, text, certificate_of pairs, written, record { changes = cs; listed = listed; pairs = pairs; edited = is; written = refl })
 
   -- what the command comes to
-  pub comes : (answer : Result Answer Ending) (result : Result Outcome AllocError) → IfOk answer (IsEditing before edits) → IfErr answer (Ends (IsUnedited before edits)) → IfOk result (Answers answer) → IfOk result (Edits before edits)
+  pub comes : (answer : Result Answer Ending) (result : Result Outcome AllocError) → IfOk answer (IsEditing profile before edits) → IfErr answer (Ends (IsUnedited profile before edits)) → IfOk result (Answers answer) → IfOk result (Edits profile before edits)
   comes (Ok a) result good bad =
-      IfOk-weaker result (Gives a.out.items (texts_of a.files.items)) (Edits before edits)
+      IfOk-weaker result (Gives a.out.items (texts_of a.files.items)) (Edits profile before edits)
       (λ o gives. inl (good.1, good.2, good.4, subst (λ (out : List ℕ). Gives out (good.1 ∷ good.2 ∷ []) o) good.0 (subst (λ (files : List (List ℕ)). Gives a.out.items files o) good.3 gives)))
-  comes (Err (ends.Refused r)) result good bad = IfOk-weaker result (Tells r) (Edits before edits) (λ o tells. inr (r, bad, tells))
-  comes (Err ends.NoMemory) result good bad = IfOk-weaker result (λ o. ⊥) (Edits before edits) (λ o none. absurd none)
+  comes (Err (ends.Refused r)) result good bad = IfOk-weaker result (Tells r) (Edits profile before edits) (λ o tells. inr (r, bad, tells))
+  comes (Err ends.NoMemory) result good bad = IfOk-weaker result (λ o. ⊥) (Edits profile before edits) (λ o none. absurd none)

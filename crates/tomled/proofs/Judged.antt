@@ -12,14 +12,14 @@ use Rattle.toml_text.specs.declared.fault.TextFault.TheVariants.{NotUtf8, TooLon
 use Rattle.toml_scalar.specs.declared.fault.SyntaxFault.{SyntaxFault}
 use Rattle.toml_scalar.specs.declared.fault.SyntaxFault.TheVariants as faults
 use Rattle.toml_tree.specs.Document as trees
-use Rattle.toml_tree.specs.declared.profile.Profile.TheVariants.{One}
 use Rattle.toml_tree.specs.Profiles.{SpellsIn, SpelledByNone}
 use Rattle.toml_tree.specs.Spells.{Spells}
 use Rattle.toml_tree.specs.Tree.{Doc, Line}
 use Rattle.toml_tree.proofs.Proved.{one_tree}
 use Rattle.tomled.specs.Outcomes.{Ends, IsRefused}
 use Rattle.tomled.specs.Reading.{IsNameEnding, IsNameRefusal, IsSyntaxEnding, IsTextRefusal, IsSyntaxRefusal, RefusesLines, code_of}
-use Rattle.toml_names.specs.model.Documents.{IsDocument}
+use Rattle.toml_tree.specs.declared.profile.Profile.{Profile}
+use Rattle.toml_names.specs.model.Documents.{IsDocumentIn}
 use Rattle.toml_names.specs.reader.Names.{AreGood, RefusesNames}
 use Rattle.toml_names.specs.declared.fault.NameFault.{NameFault}
 use Rattle.toml_names.specs.declared.fault.NameFault.TheVariants as names
@@ -29,12 +29,12 @@ use Rattle.tomled.specs.declared.ending.Ending.{Ending}
 use Rattle.tomled.specs.declared.ending.Ending.TheVariants as ends
 use Rattle.tomled.specs.declared.refusal.Refusal.{Refusal}
 
-pub no_text : (bytes : List ℕ) (fault : TextFault) (r : Refusal) → IsFaultOf bytes fault → IsTextRefusal fault r → IsRefused bytes r
-no_text bytes (NotUtf8 at) r h k = (
+pub no_text : (profile : Profile) (bytes : List ℕ) (fault : TextFault) (r : Refusal) → IsFaultOf bytes fault → IsTextRefusal fault r → IsRefused profile bytes r
+no_text profile bytes (NotUtf8 at) r h k = (
   (λ document. h.0 (IsUtf8-from_is_utf8 bytes document.0.utf8)),
   inl (k.0, h.0, subst (λ (at : ℕ). IsValidUpTo bytes at) (sym k.1) h.1),
 )
-no_text bytes TooLong r h k = (
+no_text profile bytes TooLong r h k = (
   (λ document. let fits : length bytes ≤ max_len = document.0.fits in absurd (omega (arith, h.1))),
   inr (inl (k.0, k.1, h.0, h.1)),
 )
@@ -49,16 +49,16 @@ coded (faults.BadDate at) = (omega arith, omega arith)
 coded (faults.TooDeep at) = (omega arith, omega arith)
 coded faults.NoMemory = tt
 
-told_tree : (bytes : List ℕ) (fault : SyntaxFault) (r : Refusal) → IsText bytes → trees.Refuses One bytes fault → IsSyntaxRefusal fault r → IsRefused bytes r
-told_tree bytes fault r text h k =
-    let R : ℕ → Type 0 = λ at. (at ≤ length bytes) × SpelledByNone One bytes in
+told_tree : (profile : Profile) (bytes : List ℕ) (fault : SyntaxFault) (r : Refusal) → IsText bytes → trees.Refuses profile bytes fault → IsSyntaxRefusal fault r → IsRefused profile bytes r
+told_tree profile bytes fault r text h k =
+    let R : ℕ → Type 0 = λ at. (at ≤ length bytes) × SpelledByNone profile bytes in
     let told : R r.place = subst (λ (o : Option ℕ). IfSome o R) k.1 h in
     let code : IsSyntaxCode r.code = subst (λ (o : Option ℕ). IfSome o IsSyntaxCode) k.0 (coded fault) in
     ((λ document. told.1 document.1 (document.2, document.4)), inr (inr (inl (code, told.0, text, told.1))))
 
-pub no_tree : (bytes : List ℕ) (fault : SyntaxFault) (e : Ending) → IsText bytes → trees.Refuses One bytes fault → IsSyntaxEnding fault e → Ends (IsRefused bytes) e
-no_tree bytes fault (ends.Refused r) text h k = told_tree bytes fault r text h k
-no_tree bytes fault ends.NoMemory text h k = tt
+pub no_tree : (profile : Profile) (bytes : List ℕ) (fault : SyntaxFault) (e : Ending) → IsText bytes → trees.Refuses profile bytes fault → IsSyntaxEnding fault e → Ends (IsRefused profile bytes) e
+no_tree profile bytes fault (ends.Refused r) text h k = told_tree profile bytes fault r text h k
+no_tree profile bytes fault ends.NoMemory text h k = tt
 
 -- a fault of the names refuses the lines
 some_same : (m n : ℕ) → ◌≡◌ {A = Option ℕ} (Some m) (Some n) → n ≡ m
@@ -74,28 +74,28 @@ names_end lines fault (ends.Refused r) h k = told_names lines fault r h k
 names_end lines fault ends.NoMemory h k = tt
 
 -- the lines of the one tree of the bytes are refused
-bad_names : (bytes : List ℕ) (d : Doc) (fault : NameFault) → Spells d bytes → RefusesNames d.lines fault → (fault ≡ names.NoMemory → ⊥) → ¬ IsDocument bytes
-bad_names bytes d fault spelled refuses memory document =
+bad_names : (profile : Profile) (bytes : List ℕ) (d : Doc) (fault : NameFault) → Spells d bytes → RefusesNames d.lines fault → (fault ≡ names.NoMemory → ⊥) → ¬ IsDocumentIn profile bytes
+bad_names profile bytes d fault spelled refuses memory document =
     let same : document.1 ≡ d = one_tree document.1 d bytes document.2 spelled in
     refused_are_bad d.lines fault refuses memory (subst (λ (e : Doc). AreGood e.lines) same document.3)
 
-pub no_lines : (bytes : List ℕ) (d : Doc) (r : Refusal) → IsText bytes → SpellsIn One d bytes → RefusesLines d.lines r → IsRefused bytes r
-no_lines bytes d r text spelled (inl h) = (
-  bad_names bytes d (names.Redefined h.1 h.2) spelled.0 h.4 (λ e. cc),
+pub no_lines : (profile : Profile) (bytes : List ℕ) (d : Doc) (r : Refusal) → IsText bytes → SpellsIn profile d bytes → RefusesLines d.lines r → IsRefused profile bytes r
+no_lines profile bytes d r text spelled (inl h) = (
+  bad_names profile bytes d (names.Redefined h.1 h.2) spelled.0 h.4 (λ e. cc),
   inr (inr (inr (inl (h.0, text, d, h.1, h.2, h.3, spelled, h.4)))),
 )
-no_lines bytes d r text spelled (inr h) = (
-  bad_names bytes d (names.LongAddress h.1) spelled.0 h.3 (λ e. cc),
+no_lines profile bytes d r text spelled (inr h) = (
+  bad_names profile bytes d (names.LongAddress h.1) spelled.0 h.3 (λ e. cc),
   inr (inr (inr (inr (h.0, text, d, h.1, h.2, spelled, h.3)))),
 )
 
 -- so are the bytes
-pub no_names : (bytes : List ℕ) (d : Doc) (e : Ending) → IsText bytes → SpellsIn One d bytes → Ends (RefusesLines d.lines) e → Ends (IsRefused bytes) e
-no_names bytes d (ends.Refused r) text spelled h = no_lines bytes d r text spelled h
-no_names bytes d ends.NoMemory text spelled h = tt
+pub no_names : (profile : Profile) (bytes : List ℕ) (d : Doc) (e : Ending) → IsText bytes → SpellsIn profile d bytes → Ends (RefusesLines d.lines) e → Ends (IsRefused profile bytes) e
+no_names profile bytes d (ends.Refused r) text spelled h = no_lines profile bytes d r text spelled h
+no_names profile bytes d ends.NoMemory text spelled h = tt
 
 -- a refusal of the names is handed on
-pub passed_up : {T : Type 0} (bytes : List ℕ) (d : Doc) (e : Ending) (result : Result T Ending) → IsErrAnd result (λ x. x ≡ e) → IsText bytes × SpellsIn One d bytes → Ends (RefusesLines d.lines) e
-    → IfErr result (Ends (IsRefused bytes))
-passed_up bytes d e (Ok x) same read h = tt
-passed_up bytes d e (Err x) same read h = subst (Ends (IsRefused bytes)) (sym same) (no_names bytes d e read.0 read.1 h)
+pub passed_up : (profile : Profile) → {T : Type 0} (bytes : List ℕ) (d : Doc) (e : Ending) (result : Result T Ending) → IsErrAnd result (λ x. x ≡ e) → IsText bytes × SpellsIn profile d bytes → Ends (RefusesLines d.lines) e
+    → IfErr result (Ends (IsRefused profile bytes))
+passed_up profile bytes d e (Ok x) same read h = tt
+passed_up profile bytes d e (Err x) same read h = subst (Ends (IsRefused profile bytes)) (sym same) (no_names profile bytes d e read.0 read.1 h)

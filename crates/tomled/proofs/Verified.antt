@@ -1,4 +1,5 @@
 -- What is refused by `verify` is not verified.
+use Rattle.toml_tree.specs.declared.profile.Profile.{Profile}
 use Rattle.std.proofs.Common.{◌≡◌, inl, inr, ℕ, List, Result, Ok, Err, Vec, Global, sym, subst, ◌∙◌}
 use Rattle.std.proofs.lemmas.Result.{IfOk-weaker}
 use Rattle.std.specs.Prelude.{IfErr, IfOk, codes}
@@ -22,30 +23,30 @@ use Rattle.tomled.specs.declared.refusal.Refusal.{Refusal}
 no_yes : (reason : Reason) → ◌≡◌ {A = Verdict} Yes (No reason) → ⊥
 no_yes reason e = cc
 
-module _ (before edits after cert : List ℕ) where
-  no_list : (r : Refusal) → IsListRefusal edits r → ¬ IsVerified before edits after cert
+module _ (profile : Profile) (before edits after cert : List ℕ) where
+  no_list : (r : Refusal) → IsListRefusal edits r → ¬ IsVerified profile before edits after cert
   no_list r (inl (code, place, none)) v = none v.listed.0 v.listed.1
   no_list r (inr (code, ds, list, bad)) v = bad_list_is_none edits ds r.place v.changes list bad v.listed
 
-  no_demand : (r : Refusal) → FailsDemand before edits after cert r → ¬ IsVerified before edits after cert
+  no_demand : (r : Refusal) → FailsDemand profile before edits after cert r → ¬ IsVerified profile before edits after cert
   no_demand r f v =
       let changes : f.changes ≡ v.changes = one_edit_list edits f.changes v.changes f.listed v.listed in
       let pairs : f.pairs ≡ v.pairs = one_certificate f.pairs v.pairs (sym f.certificate.1 ∙ v.certificate.1) in
-      let first : IsVerdict before v.changes after v.pairs (No f.reason) =
-      subst (λ (ps : List (ℕ × ℕ)). IsVerdict before v.changes after ps (No f.reason)) pairs (subst (λ (cs : List Change). IsVerdict before cs after f.pairs (No f.reason)) changes f.first) in
-      no_yes f.reason (one_verdict before after v.changes v.pairs Yes (No f.reason) v.certified first)
+      let first : IsVerdict profile before v.changes after v.pairs (No f.reason) =
+      subst (λ (ps : List (ℕ × ℕ)). IsVerdict profile before v.changes after ps (No f.reason)) pairs (subst (λ (cs : List Change). IsVerdict profile before cs after f.pairs (No f.reason)) changes f.first) in
+      no_yes f.reason (one_verdict profile before after v.changes v.pairs Yes (No f.reason) v.certified first)
 
-  pub unverified : (r : Refusal) → IsUnverified before edits after cert r → ¬ IsVerified before edits after cert
+  pub unverified : (r : Refusal) → IsUnverified profile before edits after cert r → ¬ IsVerified profile before edits after cert
   unverified r (inl h) = no_list r h
   unverified r (inr (inl (cs, listed, (code, place, none)))) = λ v. none v.pairs v.certificate
   unverified r (inr (inr h)) = no_demand r h
 
   -- what the command comes to
   pub comes : (answer : Result (Vec ℕ Global) Ending) (result : Result Outcome AllocError)
-      → IfOk answer (λ text. IsVerified before edits after cert × (text.items ≡ codes "yes\n")) → IfErr answer (Ends (IsUnverified before edits after cert))
-      → IfOk result (ComesTo answer) → IfOk result (Verifies before edits after cert)
+      → IfOk answer (λ text. IsVerified profile before edits after cert × (text.items ≡ codes "yes\n")) → IfErr answer (Ends (IsUnverified profile before edits after cert))
+      → IfOk result (ComesTo answer) → IfOk result (Verifies profile before edits after cert)
   comes (Ok text) result good bad =
-      IfOk-weaker result (Prints text.items) (Verifies before edits after cert) (λ o prints. inl (good.0, subst (λ (t : List ℕ). Prints t o) good.1 prints))
+      IfOk-weaker result (Prints text.items) (Verifies profile before edits after cert) (λ o prints. inl (good.0, subst (λ (t : List ℕ). Prints t o) good.1 prints))
   comes (Err (ends.Refused r)) result good bad =
-      IfOk-weaker result (Tells r) (Verifies before edits after cert) (λ o tells. inr (unverified r bad, r, bad, tells))
-  comes (Err ends.NoMemory) result good bad = IfOk-weaker result (λ o. ⊥) (Verifies before edits after cert) (λ o none. absurd none)
+      IfOk-weaker result (Tells r) (Verifies profile before edits after cert) (λ o tells. inr (unverified r bad, r, bad, tells))
+  comes (Err ends.NoMemory) result good bad = IfOk-weaker result (λ o. ⊥) (Verifies profile before edits after cert) (λ o none. absurd none)

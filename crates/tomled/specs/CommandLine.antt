@@ -1,9 +1,10 @@
 -- The definition of the command line: the subcommands and their arguments.
-use Rattle.std.specs.Prelude.{◌≡◌, codes, Some, true, false}
+use Rattle.std.specs.Prelude.{◌≡◌, [], ◌∷◌, codes, pos, Some, true, false}
 use Rattle.clap.specs.Words.{App, Rule, Text, app_of, new_app, new_rule, with_rule, with_subcommand}
 use Rattle.clap.specs.Simple.{on_top}
 use Rattle.clap.specs.declared.builder.action.ArgAction.TheVariants.{SetTrue}
 use Rattle.clap.specs.declared.builder.command.Command.{Command}
+use Rattle.clap.specs.declared.builder.value_parser.ValueParser.TheVariants.{Signed}
 use Rattle.clap.specs.declared.builder.command.Command.TheViews.{out-Command}
 
 -- an argument that has to be given
@@ -14,21 +15,29 @@ required_argument name = record (new_rule name) { required = true }
 abbrev pub flag : Text → Rule
 flag name = record (new_rule name) { long = Some name; action = Some SetTrue }
 
+-- `--profile N`, a number that is 1 or 2, and 1 where it is not given
+abbrev pub profile : Rule
+profile = record (new_rule (codes "profile")) { long = Some (codes "profile"); value_names = 1; defaults = codes "1" ∷ []; parser = Some (Signed (pos 1) (pos 2)) }
+
+-- each subcommand takes it, before or behind its paths
+abbrev pub with_profile : App → App
+with_profile app = with_rule app profile
+
 -- `show FILE`, and `--list` before or behind it
 abbrev pub show : App
-show = with_rule (with_rule (new_app (codes "show")) (required_argument (codes "FILE"))) (flag (codes "list"))
+show = with_profile (with_rule (with_rule (new_app (codes "show")) (required_argument (codes "FILE"))) (flag (codes "list")))
 
 -- `check FILE`
 abbrev pub check : App
-check = with_rule (new_app (codes "check")) (required_argument (codes "FILE"))
+check = with_profile (with_rule (new_app (codes "check")) (required_argument (codes "FILE")))
 
 -- `edit FILE EDITS OUT CERT`
 abbrev pub edit : App
-edit = with_rule (with_rule (with_rule (with_rule (new_app (codes "edit")) (required_argument (codes "FILE"))) (required_argument (codes "EDITS"))) (required_argument (codes "OUT"))) (required_argument (codes "CERT"))
+edit = with_profile (with_rule (with_rule (with_rule (with_rule (new_app (codes "edit")) (required_argument (codes "FILE"))) (required_argument (codes "EDITS"))) (required_argument (codes "OUT"))) (required_argument (codes "CERT")))
 
 -- `verify BEFORE EDITS AFTER CERT`
 abbrev pub verify : App
-verify = with_rule (with_rule (with_rule (with_rule (new_app (codes "verify")) (required_argument (codes "BEFORE"))) (required_argument (codes "EDITS"))) (required_argument (codes "AFTER"))) (required_argument (codes "CERT"))
+verify = with_profile (with_rule (with_rule (with_rule (with_rule (new_app (codes "verify")) (required_argument (codes "BEFORE"))) (required_argument (codes "EDITS"))) (required_argument (codes "AFTER"))) (required_argument (codes "CERT")))
 
 -- `tomled` before its subcommands are added: it wants one
 abbrev pub root : App

@@ -2,6 +2,7 @@
 use Rattle.std.specs.Prelude.{◌≡◌, ◌⊎◌, ℕ, List, [], ◌∷◌, codes, Option, Some, None}
 use Rattle.toml_text.specs.Limit.{max_len}
 use Rattle.toml_text.specs.declared.fault.TextFault.{TextFault}
+use Rattle.toml_tree.specs.declared.profile.Profile.{Profile}
 use Rattle.toml_edits.specs.EditList.{IsEditList}
 use Rattle.toml_edits.specs.Edits.{Change}
 use Rattle.toml_edits.specs.declared.fault.EditFault.{EditFault}
@@ -22,11 +23,11 @@ use Rattle.tomled.specs.declared.refusal.Refusal.{Refusal}
 
 -- the bytes are the list of some edits, and the files are a text and a certificate which shows that the text is what these
 -- edits make of the one before
-pub record AreEdited (before edits text certificate : List ℕ) : Type 0 where
+pub record AreEdited (profile : Profile) (before edits text certificate : List ℕ) : Type 0 where
   pub changes : List Change
   pub listed : IsEditList edits changes
   pub pairs : List (ℕ × ℕ)
-  pub edited : editor.IsEdited before changes text pairs
+  pub edited : editor.IsEdited profile before changes text pairs
   pub written : certificate ≡ certificate_of pairs
 
 -- the code of a fault of an edit; want of memory has none
@@ -76,22 +77,22 @@ TellsNumber (faults.Names fault) = HasNumber fault
 TellsNumber _ = Unit {0}
 
 -- the bytes are the list of some edits, and the refusal stands for what the editor tells of them and the document
-pub record IsEditorRefusal (before edits : List ℕ) (r : Refusal) : Type 0 where
+pub record IsEditorRefusal (profile : Profile) (before edits : List ℕ) (r : Refusal) : Type 0 where
   pub changes : List Change
   pub listed : IsEditList edits changes
   pub fault : EditorFault
-  pub told : editor.Tells before changes fault
+  pub told : editor.Tells profile before changes fault
   pub stands : IsEditorEnding fault (Refused r)
 
 -- the edit list is judged first
-abbrev pub IsUnedited : List ℕ → List ℕ → Refusal → Type 0
-IsUnedited before edits r = IsListRefusal edits r ⊎ IsEditorRefusal before edits r
+abbrev pub IsUnedited : Profile → List ℕ → List ℕ → Refusal → Type 0
+IsUnedited profile before edits r = IsListRefusal edits r ⊎ IsEditorRefusal profile before edits r
 
 -- the answer is `ok` and LF, and the edited text and its certificate as files
-abbrev pub IsEditing : List ℕ → List ℕ → Answer → Type 0
-IsEditing before edits a = (a.out.items ≡ codes "ok\n") × (text : List ℕ) × (certificate : List ℕ) × (texts_of a.files.items ≡ text ∷ certificate ∷ []) × AreEdited before edits text certificate
+abbrev pub IsEditing : Profile → List ℕ → List ℕ → Answer → Type 0
+IsEditing profile before edits a = (a.out.items ≡ codes "ok\n") × (text : List ℕ) × (certificate : List ℕ) × (texts_of a.files.items ≡ text ∷ certificate ∷ []) × AreEdited profile before edits text certificate
 
 -- `ok` and LF and two files, an edited text and its certificate; or a refusal, and no file
-abbrev pub Edits : List ℕ → List ℕ → Outcome → Type 0
-Edits before edits o =
-    ((text : List ℕ) × (certificate : List ℕ) × AreEdited before edits text certificate × Gives (codes "ok\n") (text ∷ certificate ∷ []) o) ⊎ ((r : Refusal) × IsUnedited before edits r × Tells r o)
+abbrev pub Edits : Profile → List ℕ → List ℕ → Outcome → Type 0
+Edits profile before edits o =
+    ((text : List ℕ) × (certificate : List ℕ) × AreEdited profile before edits text certificate × Gives (codes "ok\n") (text ∷ certificate ∷ []) o) ⊎ ((r : Refusal) × IsUnedited profile before edits r × Tells r o)

@@ -5,9 +5,9 @@ use Rattle.serde_json.specs.Data.{Data, array, number, string, unsigned}
 use Rattle.serde_json.specs.View.{items_of}
 use Rattle.serde_json.specs.Written.{compact_text}
 use Rattle.toml_text.specs.Limit.{IsText}
-use Rattle.toml_tree.specs.declared.profile.Profile.TheVariants.{One}
 use Rattle.toml_tree.specs.Profiles.{SpellsIn}
 use Rattle.toml_tree.specs.Tree.{Doc}
+use Rattle.toml_tree.specs.declared.profile.Profile.{Profile}
 use Rattle.toml_names.specs.declared.model.address.Step.{Step}
 use Rattle.toml_names.specs.declared.model.address.Step.TheVariants.{Name, Index}
 use Rattle.toml_names.specs.model.Addresses.{Address}
@@ -35,17 +35,17 @@ abbrev pub lines_of : List Address → List ℕ
 lines_of = flat_map line_of
 
 -- the bytes are a document, and the text lists the addresses of its mentions, each once, in the order of the first mentions
-pub record ListsAddresses (bytes text : List ℕ) : Type 0 where
+pub record ListsAddresses (profile : Profile) (bytes text : List ℕ) : Type 0 where
   pub limit : IsText bytes
   pub doc : Doc
-  pub spelled : SpellsIn One doc bytes
+  pub spelled : SpellsIn profile doc bytes
   pub good : AreGood doc.lines
   pub listed : text ≡ lines_of (first_mentions (named doc.lines))
 
 -- the addresses of a document, and a refusal of other bytes
-abbrev pub Lists : List ℕ → Outcome → Type 0
-Lists bytes o = ((text : List ℕ) × ListsAddresses bytes text × Prints text o) ⊎ Refuses bytes o
+abbrev pub Lists : Profile → List ℕ → Outcome → Type 0
+Lists profile bytes o = ((text : List ℕ) × ListsAddresses profile bytes text × Prints text o) ⊎ Refuses profile bytes o
 
 -- Law: a document has at most one such text.
 abbrev pub OneListing : Type 0
-OneListing = (bytes l m : List ℕ) → ListsAddresses bytes l → ListsAddresses bytes m → l ≡ m
+OneListing = (profile : Profile) (bytes l m : List ℕ) → ListsAddresses profile bytes l → ListsAddresses profile bytes m → l ≡ m

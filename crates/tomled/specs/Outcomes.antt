@@ -1,7 +1,8 @@
 -- What a run of the program comes to.
 use Rattle.std.specs.Prelude.{◌≡◌, ℕ, List, [], map, Result, Ok, Err, Vec}
 use Rattle.std.specs.declared.alloc.Global.{Global}
-use Rattle.toml_names.specs.model.Documents.{IsDocument}
+use Rattle.toml_tree.specs.declared.profile.Profile.{Profile}
+use Rattle.toml_names.specs.model.Documents.{IsDocumentIn}
 use Rattle.tomled.specs.Refusals.{IsRefusalOf, refusal_line}
 use Rattle.tomled.specs.declared.ending.Ending.{Ending}
 use Rattle.tomled.specs.declared.ending.Ending.TheVariants.{Refused, NoMemory}
@@ -48,9 +49,9 @@ Ends P (Refused r) = P r
 Ends P NoMemory = Unit {0}
 
 -- the bytes are no document, and the refusal says why
-abbrev pub IsRefused : List ℕ → Refusal → Type 0
-IsRefused bytes r = (¬ IsDocument bytes) × IsRefusalOf bytes r
+abbrev pub IsRefused : Profile → List ℕ → Refusal → Type 0
+IsRefused profile bytes r = (¬ IsDocumentIn profile bytes) × IsRefusalOf profile bytes r
 
 -- the bytes are no document, and the answer tells why
-abbrev pub Refuses : List ℕ → Outcome → Type 0
-Refuses bytes o = (r : Refusal) × IsRefused bytes r × Tells r o
+abbrev pub Refuses : Profile → List ℕ → Outcome → Type 0
+Refuses profile bytes o = (r : Refusal) × IsRefused profile bytes r × Tells r o

@@ -3,9 +3,9 @@ use Rattle.std.specs.Prelude.{◌≡◌, ◌<◌, ◌≤◌, ◌⊎◌, ◌+◌,
 use Rattle.std.specs.Fmt.{decimal}
 use Rattle.std.specs.Str.{IsUtf8, IsValidUpTo}
 use Rattle.toml_text.specs.Limit.{IsText, max_len}
-use Rattle.toml_tree.specs.declared.profile.Profile.TheVariants.{One}
 use Rattle.toml_tree.specs.Profiles.{SpellsIn, SpelledByNone}
 use Rattle.toml_tree.specs.Tree.{Doc}
+use Rattle.toml_tree.specs.declared.profile.Profile.{Profile}
 use Rattle.toml_names.specs.model.Addresses.{Address}
 use Rattle.toml_names.specs.reader.Names.{IsRedefined, IsLong}
 use Rattle.tomled.specs.declared.refusal.Refusal.{Refusal}
@@ -26,17 +26,17 @@ IsTooLong bytes r = (r.code ≡ 102) × (r.place ≡ max_len) × IsUtf8 bytes ×
 abbrev pub IsSyntaxCode : ℕ → Type 0
 IsSyntaxCode code = (103 ≤ code) × (code ≤ 109)
 
-abbrev pub IsNotSpelled : List ℕ → Refusal → Type 0
-IsNotSpelled bytes r = IsSyntaxCode r.code × (r.place ≤ length bytes) × IsText bytes × SpelledByNone One bytes
+abbrev pub IsNotSpelled : Profile → List ℕ → Refusal → Type 0
+IsNotSpelled profile bytes r = IsSyntaxCode r.code × (r.place ≤ length bytes) × IsText bytes × SpelledByNone profile bytes
 
 -- 201: the first line that breaks the table rules, all lines before it being good; the place is its number, from 1, lines
 -- counted as the tree has them
-abbrev pub IsRedefinition : List ℕ → Refusal → Type 0
-IsRedefinition bytes r = (r.code ≡ 201) × IsText bytes × (d : Doc) × (line : ℕ) × (at : Address) × (r.place ≡ line + 1) × SpellsIn One d bytes × IsRedefined d.lines line at
+abbrev pub IsRedefinition : Profile → List ℕ → Refusal → Type 0
+IsRedefinition profile bytes r = (r.code ≡ 201) × IsText bytes × (d : Doc) × (line : ℕ) × (at : Address) × (r.place ≡ line + 1) × SpellsIn profile d bytes × IsRedefined d.lines line at
 
 -- 203: the first line that keeps the rules and has a longer address, all lines before it being good
-abbrev pub IsLongAddress : List ℕ → Refusal → Type 0
-IsLongAddress bytes r = (r.code ≡ 203) × IsText bytes × (d : Doc) × (line : ℕ) × (r.place ≡ line + 1) × SpellsIn One d bytes × IsLong d.lines line
+abbrev pub IsLongAddress : Profile → List ℕ → Refusal → Type 0
+IsLongAddress profile bytes r = (r.code ≡ 203) × IsText bytes × (d : Doc) × (line : ℕ) × (r.place ≡ line + 1) × SpellsIn profile d bytes × IsLong d.lines line
 
-abbrev pub IsRefusalOf : List ℕ → Refusal → Type 0
-IsRefusalOf bytes r = IsNoUtf8 bytes r ⊎ (IsTooLong bytes r ⊎ (IsNotSpelled bytes r ⊎ (IsRedefinition bytes r ⊎ IsLongAddress bytes r)))
+abbrev pub IsRefusalOf : Profile → List ℕ → Refusal → Type 0
+IsRefusalOf profile bytes r = IsNoUtf8 bytes r ⊎ (IsTooLong bytes r ⊎ (IsNotSpelled profile bytes r ⊎ (IsRedefinition profile bytes r ⊎ IsLongAddress profile bytes r)))

@@ -4,6 +4,8 @@ use Rattle.std.specs.Prelude.{option_map, option_and_then}
 use Rattle.std.specs.Str.{bytes_eq}
 use Rattle.clap.specs.Words.{Row, Text, fault_of, first_of, kind_of, subcommand_of, takes, HasKind}
 use Rattle.clap.specs.declared.error.kind.ErrorKind.TheVariants.{OutOfMemory}
+use Rattle.toml_tree.specs.declared.profile.Profile.{Profile}
+use Rattle.toml_tree.specs.declared.profile.Profile.TheVariants.{One, Two}
 use Rattle.tomled.specs.CommandLine.{tool}
 use Rattle.tomled.specs.declared.words.Request.{Request}
 use Rattle.tomled.specs.declared.words.Request.TheVariants.{Show, Check, Edit, Verify}
@@ -12,44 +14,52 @@ use Rattle.tomled.specs.declared.words.WordsFault.TheVariants.{Parser, Missing}
 
 -- a request, with texts in place of references to them
 pub data Asked : Type 0 where
-  show : (file : Text) (list : Bool) → Asked
-  check : (file : Text) → Asked
-  edit : (file edits out cert : Text) → Asked
-  verify : (before edits after cert : Text) → Asked
+  show : (file : Text) (list : Bool) (profile : Profile) → Asked
+  check : (file : Text) (profile : Profile) → Asked
+  edit : (file edits out cert : Text) (profile : Profile) → Asked
+  verify : (before edits after cert : Text) (profile : Profile) → Asked
 
 -- what a request asks
 abbrev pub asked_by : Request → Asked
-asked_by (Show file list) = show file.now list
-asked_by (Check file) = check file.now
-asked_by (Edit file edits out cert) = edit file.now edits.now out.now cert.now
-asked_by (Verify before edits after cert) = verify before.now edits.now after.now cert.now
+asked_by (Show file list profile) = show file.now list profile
+asked_by (Check file profile) = check file.now profile
+asked_by (Edit file edits out cert profile) = edit file.now edits.now out.now cert.now profile
+asked_by (Verify before edits after cert profile) = verify before.now edits.now after.now cert.now profile
 
 -- the flag's first value is the text `true`
 abbrev pub is_true : Option Text → Bool
 is_true None = false
 is_true (Some text) = bytes_eq text (codes "true")
 
+-- the profile that the text of its number names
+abbrev pub profile_named : Text → Option Profile
+profile_named text = if bytes_eq text (codes "1") then Some One else if bytes_eq text (codes "2") then Some Two else None
+
+-- that of the option's first value
+abbrev pub profile_of : List Row → Option Profile
+profile_of rows = option_and_then profile_named (first_of (codes "profile") rows)
+
 -- what `show` asks with these values: each path is the first value of its argument
 abbrev pub show_of : List Row → Option Asked
-show_of rows = option_map (λ file. show file (is_true (first_of (codes "list") rows))) (first_of (codes "FILE") rows)
+show_of rows = option_and_then (λ file. option_map (show file (is_true (first_of (codes "list") rows))) (profile_of rows)) (first_of (codes "FILE") rows)
 
 -- what `check` asks with these values
 abbrev pub check_of : List Row → Option Asked
-check_of rows = option_map check (first_of (codes "FILE") rows)
+check_of rows = option_and_then (λ file. option_map (check file) (profile_of rows)) (first_of (codes "FILE") rows)
 
 -- what `edit` asks with these values
 abbrev pub edit_of : List Row → Option Asked
 edit_of rows =
-    option_and_then (λ file. option_and_then (λ edits. option_and_then (λ out. option_map (edit file edits out) (first_of (codes "CERT") rows))
-    (first_of (codes "OUT") rows)) (first_of (codes "EDITS") rows)) (first_of (codes "FILE") rows)
+    option_and_then (λ file. option_and_then (λ edits. option_and_then (λ out. option_and_then (λ cert. option_map (edit file edits out cert) (profile_of rows))
+    (first_of (codes "CERT") rows)) (first_of (codes "OUT") rows)) (first_of (codes "EDITS") rows)) (first_of (codes "FILE") rows)
 
 -- what `verify` asks with these values
 abbrev pub verify_of : List Row → Option Asked
 verify_of rows =
-    option_and_then (λ before. option_and_then (λ edits. option_and_then (λ after. option_map (verify before edits after) (first_of (codes "CERT") rows))
-    (first_of (codes "AFTER") rows)) (first_of (codes "EDITS") rows)) (first_of (codes "BEFORE") rows)
+    option_and_then (λ before. option_and_then (λ edits. option_and_then (λ after. option_and_then (λ cert. option_map (verify before edits after cert) (profile_of rows))
+    (first_of (codes "CERT") rows)) (first_of (codes "AFTER") rows)) (first_of (codes "EDITS") rows)) (first_of (codes "BEFORE") rows)
 
--- what a subcommand asks by its name and its values, or nothing where a path has no value
+-- what a subcommand asks by its name and its values, or nothing where a path has no value, or the profile none of its two numbers
 abbrev pub asked_of : Text × List Row → Option Asked
 asked_of met =
     if bytes_eq met.0 (codes "show") then show_of met.1 else (if bytes_eq met.0 (codes "check") then check_of met.1 else (if bytes_eq met.0 (codes "edit") then edit_of met.1 else (if bytes_eq met.0 (codes "verify") then verify_of met.1 else None)))

@@ -3,9 +3,9 @@ use Rattle.std.specs.Prelude.{◌≡◌, ◌⊎◌, ◌++◌, ◌∷◌, ℕ, Li
 use Rattle.serde_json.specs.Data.{Data}
 use Rattle.serde_json.specs.Written.{compact_text}
 use Rattle.toml_text.specs.Limit.{IsText}
-use Rattle.toml_tree.specs.declared.profile.Profile.TheVariants.{One}
 use Rattle.toml_tree.specs.Profiles.{SpellsIn}
 use Rattle.toml_tree.specs.Tree.{Doc}
+use Rattle.toml_tree.specs.declared.profile.Profile.{Profile}
 use Rattle.toml_names.specs.model.Data.{Kinds, IsDataOf}
 use Rattle.toml_names.specs.mentions.Mentions.{named}
 use Rattle.toml_names.specs.reader.Names.{AreGood}
@@ -20,19 +20,19 @@ pub record IsLineOf (kinds : Kinds) (line : List ℕ) : Type 0 where
   pub is : line ≡ compact_text json ++ 0x0A ∷ []
 
 -- the bytes are a document, and the line is that of its data
-pub record ShowsData (bytes line : List ℕ) : Type 0 where
+pub record ShowsData (profile : Profile) (bytes line : List ℕ) : Type 0 where
   pub text : IsText bytes
   pub doc : Doc
-  pub spelled : SpellsIn One doc bytes
+  pub spelled : SpellsIn profile doc bytes
   pub good : AreGood doc.lines
   pub kinds : Kinds
   pub facts : IsDataOf (named doc.lines) kinds
   pub shown : IsLineOf kinds line
 
 -- the data of a document, and a refusal of other bytes
-abbrev pub Shows : List ℕ → Outcome → Type 0
-Shows bytes o = ((line : List ℕ) × ShowsData bytes line × Prints line o) ⊎ Refuses bytes o
+abbrev pub Shows : Profile → List ℕ → Outcome → Type 0
+Shows profile bytes o = ((line : List ℕ) × ShowsData profile bytes line × Prints line o) ⊎ Refuses profile bytes o
 
 -- Law: a document has at most one line.
 abbrev pub OneLine : Type 0
-OneLine = (bytes l m : List ℕ) → ShowsData bytes l → ShowsData bytes m → l ≡ m
+OneLine = (profile : Profile) (bytes l m : List ℕ) → ShowsData profile bytes l → ShowsData profile bytes m → l ≡ m

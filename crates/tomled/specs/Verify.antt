@@ -1,5 +1,6 @@
 -- What `verify` answers.
 use Rattle.std.specs.Prelude.{◌≡◌, ◌⊎◌, ℕ, List, codes}
+use Rattle.toml_tree.specs.declared.profile.Profile.{Profile}
 use Rattle.toml_edits.specs.EditList.{IsEditList}
 use Rattle.toml_edits.specs.Edits.{Change}
 use Rattle.toml_units.specs.Certificates.{IsCertificate}
@@ -13,12 +14,12 @@ use Rattle.tomled.specs.declared.outcome.Outcome.{Outcome}
 use Rattle.tomled.specs.declared.refusal.Refusal.{Refusal}
 
 -- the bytes are an edit list and a certificate, and this certifies that the one text is what the edits make of the other
-pub record IsVerified (before edits after cert : List ℕ) : Type 0 where
+pub record IsVerified (profile : Profile) (before edits after cert : List ℕ) : Type 0 where
   pub changes : List Change
   pub listed : IsEditList edits changes
   pub pairs : List (ℕ × ℕ)
   pub certificate : IsCertificate cert pairs
-  pub certified : Certified before changes after pairs
+  pub certified : Certified profile before changes after pairs
 
 -- 330: no certificate
 abbrev pub IsCertificateRefusal : List ℕ → Refusal → Type 0
@@ -40,20 +41,20 @@ abbrev pub IsReasonRefusal : Reason → Refusal → Type 0
 IsReasonRefusal reason r = (r.code ≡ reason_code reason) × (r.place ≡ 0)
 
 -- both are there, and a demand fails
-pub record FailsDemand (before edits after cert : List ℕ) (r : Refusal) : Type 0 where
+pub record FailsDemand (profile : Profile) (before edits after cert : List ℕ) (r : Refusal) : Type 0 where
   pub changes : List Change
   pub listed : IsEditList edits changes
   pub pairs : List (ℕ × ℕ)
   pub certificate : IsCertificate cert pairs
   pub reason : Reason
-  pub first : IsVerdict before changes after pairs (No reason)
+  pub first : IsVerdict profile before changes after pairs (No reason)
   pub told : IsReasonRefusal reason r
 
 -- the edit list is judged first, then the certificate, and then the demands
-abbrev pub IsUnverified : List ℕ → List ℕ → List ℕ → List ℕ → Refusal → Type 0
-IsUnverified before edits after cert r = IsListRefusal edits r ⊎ (((changes : List Change) × IsEditList edits changes × IsCertificateRefusal cert r) ⊎ FailsDemand before edits after cert r)
+abbrev pub IsUnverified : Profile → List ℕ → List ℕ → List ℕ → List ℕ → Refusal → Type 0
+IsUnverified profile before edits after cert r = IsListRefusal edits r ⊎ (((changes : List Change) × IsEditList edits changes × IsCertificateRefusal cert r) ⊎ FailsDemand profile before edits after cert r)
 
 -- `yes` and LF exactly for what is verified, and else the refusal
-abbrev pub Verifies : List ℕ → List ℕ → List ℕ → List ℕ → Outcome → Type 0
-Verifies before edits after cert o =
-    (IsVerified before edits after cert × Prints (codes "yes\n") o) ⊎ ((¬ IsVerified before edits after cert) × (r : Refusal) × IsUnverified before edits after cert r × Tells r o)
+abbrev pub Verifies : Profile → List ℕ → List ℕ → List ℕ → List ℕ → Outcome → Type 0
+Verifies profile before edits after cert o =
+    (IsVerified profile before edits after cert × Prints (codes "yes\n") o) ⊎ ((¬ IsVerified profile before edits after cert) × (r : Refusal) × IsUnverified profile before edits after cert r × Tells r o)

@@ -1,6 +1,7 @@
 //! `check`: whether a file is a document.
 ghost use Rattle.std.specs.Prelude.{◌≡◌, codes, IfErr, IfOk};
-ghost use Rattle.toml_names.specs.model.Documents.{IsDocument};
+ghost use Rattle.toml_tree.specs.declared.profile.Profile.TheVariants.{One};
+ghost use Rattle.toml_names.specs.model.Documents.{IsDocumentIn};
 ghost use Rattle.tomled.specs.Check.{Checks};
 ghost use Rattle.tomled.specs.Outcomes.{Ends, IsRefused};
 
@@ -8,20 +9,28 @@ use crate::document::{judge, read_tree};
 use crate::ending::Ending;
 use crate::outcome::Outcome;
 use std::alloc::{AllocError, Global};
+use toml_tree::Profile;
 
-/// Prints `ok` for a document, and else its refusal.
+/// What `check` prints for a document of profile 1, and for other bytes: `run_check_in` with `Profile::One`.
 pub fn run_check(alloc: Global, file: &[u8]) -> Result<Outcome, AllocError>
-    ensures { IfOk result (Checks file.now) }
+    ensures { IfOk result (Checks One file.now) }
 {
-    Outcome::of_text(alloc, checked(alloc, file))
+    run_check_in(alloc, file, Profile::One)
+}
+
+/// Prints `ok` for a document of the profile, and else its refusal.
+pub fn run_check_in(alloc: Global, file: &[u8], profile: Profile) -> Result<Outcome, AllocError>
+    ensures { IfOk result (Checks profile file.now) }
+{
+    Outcome::of_text(alloc, checked(alloc, file, profile))
 }
 
 /// `ok` and LF, for a document.
-fn checked(alloc: Global, file: &[u8]) -> Result<Vec<u8>, Ending>
-    ensures good { IfOk result (λ text. IsDocument file.now × (text.items ≡ codes "ok\n")) }
-    ensures refused { IfErr result (Ends (IsRefused file.now)) }
+fn checked(alloc: Global, file: &[u8], profile: Profile) -> Result<Vec<u8>, Ending>
+    ensures good { IfOk result (λ text. IsDocumentIn profile file.now × (text.items ≡ codes "ok\n")) }
+    ensures refused { IfErr result (Ends (IsRefused profile file.now)) }
 {
-    let doc = read_tree(alloc, file)?;
+    let doc = read_tree(alloc, file, profile)?;
     judge(alloc, &doc)?;
     Ok("ok\n".to_string(alloc)?.into_bytes())
 }

@@ -2,7 +2,6 @@
 ghost use Rattle.std.specs.Prelude.{◌≡◌, ◌+◌, ◌<◌, IfErr, IfOk, OnOk};
 ghost use Rattle.toml_text.specs.Limit.{IsText};
 ghost use Rattle.toml_tree.specs.Document.{document};
-ghost use Rattle.toml_tree.specs.declared.profile.Profile.TheVariants.{One};
 ghost use Rattle.toml_tree.specs.Profiles.{SpellsIn};
 ghost use Rattle.toml_names.specs.model.Data.{IsDataOf, kind_at};
 ghost use Rattle.toml_names.specs.mentions.Mentions.{named};
@@ -15,19 +14,19 @@ use crate::refusal::Refusal;
 use std::alloc::Global;
 use toml_names::{Data, NameFault, Names, read_lines, read_names};
 use toml_text::{MAX_LEN, Source, TextFault};
-use toml_tree::{Doc, SyntaxFault, parse};
+use toml_tree::{Doc, Profile, SyntaxFault, parse_in};
 
-/// The tree of the text that the bytes are, or why no tree spells them.
+/// The tree of the text that the bytes are, in the profile, or why no tree spells them.
 #[tactic(auto, using(crate::proofs::Judged::no_tree, crate::proofs::Judged::no_text))]
-pub fn read_tree<'t>(alloc: Global, file: &'t [u8]) -> Result<Doc<'t>, Ending>
-    ensures spelled { IfOk result (λ doc. IsText file.now × SpellsIn One (document doc) file.now) }
-    ensures refused { IfErr result (Ends (IsRefused file.now)) }
+pub fn read_tree<'t>(alloc: Global, file: &'t [u8], profile: Profile) -> Result<Doc<'t>, Ending>
+    ensures spelled { IfOk result (λ doc. IsText file.now × SpellsIn profile (document doc) file.now) }
+    ensures refused { IfErr result (Ends (IsRefused profile file.now)) }
 {
     let source = match Source::new(file) {
         Ok(source) => source,
         Err(fault) => return Err(Ending::Refused(text_refusal(fault))),
     };
-    match parse(alloc, source) {
+    match parse_in(alloc, source, profile) {
         Ok(doc) => Ok(doc),
         Err(fault) => Err(syntax_ending(fault)),
     }

@@ -1,5 +1,6 @@
 //! `edit`: what edits make of a document, and the certificate which shows it.
 ghost use Rattle.std.specs.Prelude.{◌≡◌, [], ◌∷◌, codes, string_bytes, IfErr, IfOk};
+ghost use Rattle.toml_tree.specs.declared.profile.Profile.TheVariants.{One};
 ghost use Rattle.toml_units.specs.Certificates.{certificate_of};
 ghost use Rattle.tomled.specs.Edit.{Edits, IsEditEnding, IsEditing, IsEditorEnding, IsUnedited, TellsNumber};
 ghost use Rattle.tomled.specs.Outcomes.{Ends, texts_of};
@@ -11,28 +12,41 @@ use crate::outcome::{Answer, Outcome};
 use crate::refusal::Refusal;
 use crate::verify::reason_code;
 use std::alloc::{AllocError, Global};
-use toml_editor::{EditorFault, edit};
+use toml_editor::{EditorFault, edit_in};
 use toml_edits::EditFault;
 use toml_text::MAX_LEN;
+use toml_tree::Profile;
 use toml_units::{Certificate, certificate_text};
+
+/// What `edit` comes to in profile 1: `run_edit_in` with `Profile::One`.
+pub fn run_edit(alloc: Global, file: &[u8], edits: &[u8]) -> Result<Outcome, AllocError>
+    ensures { IfOk result (Edits One file.now edits.now) }
+{
+    run_edit_in(alloc, file, edits, Profile::One)
+}
 
 /// Prints `ok` where the edits can be made of the document, and has two files written: the edited text, and the text of the
 /// certificate which shows that it keeps all else. Otherwise the refusal, and no file. The edit list is judged before the
-/// document.
-pub fn run_edit(alloc: Global, file: &[u8], edits: &[u8]) -> Result<Outcome, AllocError>
-    ensures { IfOk result (Edits file.now edits.now) }
+/// document, and the document and the values of the edits are read in the profile.
+pub fn run_edit_in(
+    alloc: Global,
+    file: &[u8],
+    edits: &[u8],
+    profile: Profile,
+) -> Result<Outcome, AllocError>
+    ensures { IfOk result (Edits profile file.now edits.now) }
 {
-    Outcome::of(alloc, edited(alloc, file, edits))
+    Outcome::of(alloc, edited(alloc, file, edits, profile))
 }
 
 /// `ok` and LF, the edited text and its certificate.
 #[tactic(auto, using(crate::proofs::Edited::numbered, crate::proofs::Edited::unedited, crate::proofs::Edited::edited))]
-fn edited(alloc: Global, file: &[u8], edits: &[u8]) -> Result<Answer, Ending>
-    ensures good { IfOk result (IsEditing file.now edits.now) }
-    ensures refused { IfErr result (Ends (IsUnedited file.now edits.now)) }
+fn edited(alloc: Global, file: &[u8], edits: &[u8], profile: Profile) -> Result<Answer, Ending>
+    ensures good { IfOk result (IsEditing profile file.now edits.now) }
+    ensures refused { IfErr result (Ends (IsUnedited profile file.now edits.now)) }
 {
     let edits = edit_list(alloc, edits)?;
-    match edit(alloc, file, &edits) {
+    match edit_in(alloc, file, &edits, profile) {
         Ok((text, certificate)) => Ok(good(alloc, text, &certificate)?),
         Err(fault) => Err(editor_ending(fault)),
     }

@@ -1,6 +1,7 @@
 //! `show --list`: the addresses of a document's mentions.
 ghost use Rattle.std.specs.Prelude.{◌≡◌, IfErr, IfOk};
 ghost use Rattle.serde_json.specs.View.{view};
+ghost use Rattle.toml_tree.specs.declared.profile.Profile.TheVariants.{One};
 ghost use Rattle.tomled.specs.Listing.{Lists, ListsAddresses, address_json, line_of, lines_of, step_json};
 ghost use Rattle.tomled.specs.Outcomes.{Ends, IsRefused};
 
@@ -10,20 +11,29 @@ use crate::outcome::Outcome;
 use serde_json::Value;
 use std::alloc::{AllocError, Global};
 use toml_names::{Address, Step};
+use toml_tree::Profile;
 
-/// Prints the distinct addresses of a document's mentions in the order of their first mentions, and else its refusal.
+/// What `show --list` prints for a document of profile 1, and for other bytes: `run_list_in` with `Profile::One`.
 pub fn run_list(alloc: Global, file: &[u8]) -> Result<Outcome, AllocError>
-    ensures { IfOk result (Lists file.now) }
+    ensures { IfOk result (Lists One file.now) }
 {
-    Outcome::of_text(alloc, listed(alloc, file))
+    run_list_in(alloc, file, Profile::One)
+}
+
+/// Prints the distinct addresses of the mentions of a document of the profile in the order of their first mentions, and else
+/// its refusal.
+pub fn run_list_in(alloc: Global, file: &[u8], profile: Profile) -> Result<Outcome, AllocError>
+    ensures { IfOk result (Lists profile file.now) }
+{
+    Outcome::of_text(alloc, listed(alloc, file, profile))
 }
 
 /// The lines of a document's addresses.
-fn listed(alloc: Global, file: &[u8]) -> Result<Vec<u8>, Ending>
-    ensures good { IfOk result (λ text. ListsAddresses file.now text.items) }
-    ensures refused { IfErr result (Ends (IsRefused file.now)) }
+fn listed(alloc: Global, file: &[u8], profile: Profile) -> Result<Vec<u8>, Ending>
+    ensures good { IfOk result (λ text. ListsAddresses profile file.now text.items) }
+    ensures refused { IfErr result (Ends (IsRefused profile file.now)) }
 {
-    let doc = read_tree(alloc, file)?;
+    let doc = read_tree(alloc, file, profile)?;
     let names = read_all(alloc, &doc)?;
     Ok(lines(alloc, names.first_mentions())?)
 }

@@ -40,16 +40,16 @@ mod verify;
 mod verify_tests;
 mod words;
 
-use check::run_check;
+use check::run_check_in;
 use clap::error::ErrorKind;
 use counting::Counting;
 use delivery::{deliver, tell};
-use edit::run_edit;
+use edit::run_edit_in;
 use fault::RunFault;
 use input::take;
-use list::run_list;
+use list::run_list_in;
 use outcome::Outcome;
-use show::run_show;
+use show::run_show_in;
 use std::alloc::Global;
 use std::fs::File;
 use std::io::Write;
@@ -57,7 +57,7 @@ use std::process::ExitCode;
 use std::rt::{Env, Files};
 use std::{env, io};
 use toml_text::MAX_LEN;
-use verify::run_verify;
+use verify::run_verify_in;
 use words::{Request, WordsFault, read_words};
 
 /// One byte more than the longest document has, so that a longer file shows.
@@ -100,25 +100,41 @@ fn run<R: Env + Files + AllocGlobal, O: Write, E: Write>(
 fn answer<R: Files + AllocGlobal>(rt: &R, request: &Request<'_>) -> Result<Outcome, RunFault> {
     let alloc = rt.alloc();
     Ok(match *request {
-        Request::Show { file, list: true } => run_list(alloc, &read(rt, file, MOST)?)?,
-        Request::Show { file, list: false } => run_show(alloc, &read(rt, file, MOST)?)?,
-        Request::Check { file } => run_check(alloc, &read(rt, file, MOST)?)?,
-        Request::Edit { file, edits, .. } => {
+        Request::Show {
+            file,
+            list: true,
+            profile,
+        } => run_list_in(alloc, &read(rt, file, MOST)?, profile)?,
+        Request::Show {
+            file,
+            list: false,
+            profile,
+        } => run_show_in(alloc, &read(rt, file, MOST)?, profile)?,
+        Request::Check { file, profile } => {
+            run_check_in(alloc, &read(rt, file, MOST)?, profile)?
+        }
+        Request::Edit {
+            file,
+            edits,
+            profile,
+            ..
+        } => {
             let file = read(rt, file, MOST)?;
             let edits = read(rt, edits, usize::MAX)?;
-            run_edit(alloc, &file, &edits)?
+            run_edit_in(alloc, &file, &edits, profile)?
         }
         Request::Verify {
             before,
             edits,
             after,
             cert,
+            profile,
         } => {
             let before = read(rt, before, MOST)?;
             let edits = read(rt, edits, usize::MAX)?;
             let after = read(rt, after, MOST)?;
             let cert = read(rt, cert, usize::MAX)?;
-            run_verify(alloc, &before, &edits, &after, &cert)?
+            run_verify_in(alloc, &before, &edits, &after, &cert, profile)?
         }
     })
 }

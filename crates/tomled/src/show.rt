@@ -1,5 +1,6 @@
 //! `show`: the data of a document as tagged JSON.
 ghost use Rattle.std.specs.Prelude.{IfErr, IfOk};
+ghost use Rattle.toml_tree.specs.declared.profile.Profile.TheVariants.{One};
 ghost use Rattle.toml_names.specs.model.Data.{kind_at};
 ghost use Rattle.tomled.specs.Outcomes.{Ends, IsRefused};
 ghost use Rattle.tomled.specs.Show.{IsLineOf, Shows, ShowsData};
@@ -10,20 +11,28 @@ use crate::outcome::Outcome;
 use crate::tagged::tagged;
 use std::alloc::{AllocError, Global};
 use toml_names::Data;
+use toml_tree::Profile;
 
-/// Prints the data of a document, and else its refusal.
+/// What `show` prints for a document of profile 1, and for other bytes: `run_show_in` with `Profile::One`.
 pub fn run_show(alloc: Global, file: &[u8]) -> Result<Outcome, AllocError>
-    ensures { IfOk result (Shows file.now) }
+    ensures { IfOk result (Shows One file.now) }
 {
-    Outcome::of_text(alloc, shown(alloc, file))
+    run_show_in(alloc, file, Profile::One)
+}
+
+/// Prints the data of a document of the profile, and else its refusal.
+pub fn run_show_in(alloc: Global, file: &[u8], profile: Profile) -> Result<Outcome, AllocError>
+    ensures { IfOk result (Shows profile file.now) }
+{
+    Outcome::of_text(alloc, shown(alloc, file, profile))
 }
 
 /// The line of a document's data.
-fn shown(alloc: Global, file: &[u8]) -> Result<Vec<u8>, Ending>
-    ensures good { IfOk result (λ line. ShowsData file.now line.items) }
-    ensures refused { IfErr result (Ends (IsRefused file.now)) }
+fn shown(alloc: Global, file: &[u8], profile: Profile) -> Result<Vec<u8>, Ending>
+    ensures good { IfOk result (λ line. ShowsData profile file.now line.items) }
+    ensures refused { IfErr result (Ends (IsRefused profile file.now)) }
 {
-    let doc = read_tree(alloc, file)?;
+    let doc = read_tree(alloc, file, profile)?;
     let whole = read_data(alloc, &doc)?;
     Ok(data_line(alloc, &whole)?)
 }

@@ -1,5 +1,6 @@
 //! `verify`: whether a text is what edits make of another, and keeps all else.
 ghost use Rattle.std.specs.Prelude.{◌≡◌, codes, IfErr, IfOk};
+ghost use Rattle.toml_tree.specs.declared.profile.Profile.TheVariants.{One};
 ghost use Rattle.toml_units.specs.Certificates.{IsCertificate};
 ghost use Rattle.tomled.specs.Outcomes.{Ends};
 ghost use Rattle.tomled.specs.Verify.{IsCertificateRefusal, IsReasonRefusal, IsVerified, IsUnverified, Verifies, reason_code};
@@ -9,11 +10,11 @@ use crate::ending::Ending;
 use crate::outcome::Outcome;
 use crate::refusal::Refusal;
 use std::alloc::{AllocError, Global};
-use toml_checker::{Reason, Verdict, check};
+use toml_checker::{Reason, Verdict, check_in};
+use toml_tree::Profile;
 use toml_units::{Certificate, CertificateFault, read_certificate};
 
-/// Prints `yes` where the certificate shows that the text after is what the edits make of the one before, with all that
-/// no edit names; else the refusal. The edit list is judged first, then the certificate, and then both texts.
+/// What `verify` prints in profile 1: `run_verify_in` with `Profile::One`.
 pub fn run_verify(
     alloc: Global,
     before: &[u8],
@@ -21,9 +22,25 @@ pub fn run_verify(
     after: &[u8],
     cert: &[u8],
 ) -> Result<Outcome, AllocError>
-    ensures { IfOk result (Verifies before.now edits.now after.now cert.now) }
+    ensures { IfOk result (Verifies One before.now edits.now after.now cert.now) }
 {
-    Outcome::of_text(alloc, verified(alloc, before, edits, after, cert))
+    run_verify_in(alloc, before, edits, after, cert, Profile::One)
+}
+
+/// Prints `yes` where the certificate shows that the text after is what the edits make of the one before, with all that
+/// no edit names; else the refusal. The edit list is judged first, then the certificate, and then both texts,
+/// which are read in the profile, as are the values of the edits.
+pub fn run_verify_in(
+    alloc: Global,
+    before: &[u8],
+    edits: &[u8],
+    after: &[u8],
+    cert: &[u8],
+    profile: Profile,
+) -> Result<Outcome, AllocError>
+    ensures { IfOk result (Verifies profile before.now edits.now after.now cert.now) }
+{
+    Outcome::of_text(alloc, verified(alloc, before, edits, after, cert, profile))
 }
 
 /// `yes` and LF, where all demands hold.
@@ -33,13 +50,14 @@ fn verified(
     edits: &[u8],
     after: &[u8],
     cert: &[u8],
+    profile: Profile,
 ) -> Result<Vec<u8>, Ending>
-    ensures yes { IfOk result (λ text. IsVerified before.now edits.now after.now cert.now × (text.items ≡ codes "yes\n")) }
-    ensures no { IfErr result (Ends (IsUnverified before.now edits.now after.now cert.now)) }
+    ensures yes { IfOk result (λ text. IsVerified profile before.now edits.now after.now cert.now × (text.items ≡ codes "yes\n")) }
+    ensures no { IfErr result (Ends (IsUnverified profile before.now edits.now after.now cert.now)) }
 {
     let edits = edit_list(alloc, edits)?;
     let certificate = certificate(alloc, cert)?;
-    match check(alloc, before, &edits, after, &certificate)? {
+    match check_in(alloc, before, &edits, after, &certificate, profile)? {
         Verdict::Yes => Ok("yes\n".to_string(alloc)?.into_bytes()),
         Verdict::No(reason) => Err(Ending::Refused(reason_refusal(reason))),
     }

@@ -3,15 +3,16 @@ ghost use Rattle.std.specs.Prelude.{◌≡◌, IfErr, IfOk, false, option_and_th
 ghost use Rattle.clap.specs.Walk.{texts};
 ghost use Rattle.clap.specs.Words.{FailsBy, fault_of, first_of, found_of, kind_of, rows_of, rule_of};
 ghost use Rattle.clap.specs.Words.{subcommand_of, subcommand_rows_of, takes};
-ghost use Rattle.tomled.specs.CommandLine.{IsDefined, check, edit, flag, readers, required_argument, show, tool, verify};
-ghost use Rattle.tomled.specs.Request.{IsFaultIn, IsRequestIn, asked_by, asked_of, check_of, edit_of, is_true, show_of, verify_of};
+ghost use Rattle.tomled.specs.CommandLine.{IsDefined, check, edit, flag, profile, readers, required_argument, show, tool, verify};
+ghost use Rattle.tomled.specs.Request.{IsFaultIn, IsRequestIn, asked_by, asked_of, check_of, edit_of, is_true, profile_of, show_of, verify_of};
 
 #[cfg(test)]
 mod tests;
 
 use clap::error::ErrorKind;
-use clap::{Arg, ArgAction, ArgMatches, Command};
+use clap::{Arg, ArgAction, ArgMatches, Command, value_parser};
 use std::alloc::{AllocError, Global};
+use toml_tree::Profile;
 
 /// What the words ask for.
 #[derive(Debug, Drop, PartialEq, Eq)]
@@ -21,10 +22,12 @@ pub enum Request<'a> {
         file: &'a str,
         /// List the addresses in place of the data.
         list: bool,
+        profile: Profile,
     },
     /// Whether the file is a TOML document.
     Check {
         file: &'a str,
+        profile: Profile,
     },
     /// What edits make of the file, and the certificate which shows it.
     Edit {
@@ -34,6 +37,7 @@ pub enum Request<'a> {
         out: &'a str,
         /// Where its certificate is to be written.
         cert: &'a str,
+        profile: Profile,
     },
     /// Whether a text is what edits make of another, as a certificate has it.
     Verify {
@@ -41,6 +45,7 @@ pub enum Request<'a> {
         edits: &'a str,
         after: &'a str,
         cert: &'a str,
+        profile: Profile,
     },
 }
 
@@ -50,7 +55,7 @@ pub enum WordsFault {
     /// What the parser answers to the words: a mistake in them, the text for who asks for help, or
     /// want of memory.
     Parser(clap::Error),
-    /// The parser took the words, and gave no subcommand or no path.
+    /// The parser took the words, and gave no subcommand, no path or no profile.
     Missing,
 }
 
@@ -112,7 +117,8 @@ fn show_command<'a>(alloc: Global) -> Result<Command<'a>, AllocError>
     Command::new(alloc, "show")
         .about("Prints the data of a TOML document as tagged JSON")
         .arg(file)?
-        .arg(list)
+        .arg(list)?
+        .arg(profile_option(alloc))
 }
 
 fn check_command<'a>(alloc: Global) -> Result<Command<'a>, AllocError>
@@ -121,7 +127,8 @@ fn check_command<'a>(alloc: Global) -> Result<Command<'a>, AllocError>
     let file = path(alloc, "FILE", "The document");
     Command::new(alloc, "check")
         .about("Says whether a file is a TOML document")
-        .arg(file)
+        .arg(file)?
+        .arg(profile_option(alloc))
 }
 
 fn edit_command<'a>(alloc: Global) -> Result<Command<'a>, AllocError>
@@ -136,7 +143,8 @@ fn edit_command<'a>(alloc: Global) -> Result<Command<'a>, AllocError>
         .arg(file)?
         .arg(edits)?
         .arg(out)?
-        .arg(cert)
+        .arg(cert)?
+        .arg(profile_option(alloc))
 }
 
 fn verify_command<'a>(alloc: Global) -> Result<Command<'a>, AllocError>
@@ -151,7 +159,8 @@ fn verify_command<'a>(alloc: Global) -> Result<Command<'a>, AllocError>
         .arg(before)?
         .arg(edits)?
         .arg(after)?
-        .arg(cert)
+        .arg(cert)?
+        .arg(profile_option(alloc))
 }
 
 fn path<'a>(alloc: Global, name: &'a str, help: &'a str) -> Arg<'a>
@@ -171,6 +180,21 @@ fn flag<'a>(alloc: Global, name: &'a str, help: &'a str) -> Arg<'a>
         .long(name)
         .action(ArgAction::SetTrue)
         .help(help)
+}
+
+/// `--profile N`: which texts are TOML, 1 where it is not given.
+fn profile_option<'a>(alloc: Global) -> Arg<'a>
+    ensures rule { rule_of result ≡ profile }
+    ensures local { result.global ≡ false }
+{
+    Arg::new(alloc, "profile")
+        .long("profile")
+        .value_name("N")
+        .default_value("1")
+        .value_parser(value_parser!(u8).range(1..=2))
+        .help(
+            "1 is TOML 1.0; in 2 an inline table may stand on several lines, with comments and a last comma",
+        )
 }
 
 /// The request of the subcommand that was met, if it has its paths.
@@ -193,14 +217,20 @@ fn show_request<'a>(found: &ArgMatches<'a>) -> Option<Request<'a>>
 {
     let file = first_value(found, "FILE")?;
     let list = is_given(found, "list");
-    Some(Request::Show { file, list })
+    let profile = profile_given(found)?;
+    Some(Request::Show {
+        file,
+        list,
+        profile,
+    })
 }
 
 fn check_request<'a>(found: &ArgMatches<'a>) -> Option<Request<'a>>
     ensures { option_map asked_by result ≡ check_of (rows_of (found_of found.now)) }
 {
     let file = first_value(found, "FILE")?;
-    Some(Request::Check { file })
+    let profile = profile_given(found)?;
+    Some(Request::Check { file, profile })
 }
 
 fn edit_request<'a>(found: &ArgMatches<'a>) -> Option<Request<'a>>
@@ -210,11 +240,13 @@ fn edit_request<'a>(found: &ArgMatches<'a>) -> Option<Request<'a>>
     let edits = first_value(found, "EDITS")?;
     let out = first_value(found, "OUT")?;
     let cert = first_value(found, "CERT")?;
+    let profile = profile_given(found)?;
     Some(Request::Edit {
         file,
         edits,
         out,
         cert,
+        profile,
     })
 }
 
@@ -225,12 +257,25 @@ fn verify_request<'a>(found: &ArgMatches<'a>) -> Option<Request<'a>>
     let edits = first_value(found, "EDITS")?;
     let after = first_value(found, "AFTER")?;
     let cert = first_value(found, "CERT")?;
+    let profile = profile_given(found)?;
     Some(Request::Verify {
         before,
         edits,
         after,
         cert,
+        profile,
     })
+}
+
+/// The profile: the parser answers `1` where the option is not given.
+fn profile_given(found: &ArgMatches<'_>) -> Option<Profile>
+    ensures { result ≡ profile_of (rows_of (found_of found.now)) }
+{
+    match first_value(found, "profile")? {
+        "1" => Some(Profile::One),
+        "2" => Some(Profile::Two),
+        _ => None,
+    }
 }
 
 /// Whether the flag was given: the parser answers `true` or `false` for it.

@@ -1,10 +1,11 @@
 use super::{Request, WordsFault, read_words};
 use clap::error::ErrorKind;
+use toml_tree::Profile;
 
 #[test]
 fn check_has_its_path(rt: HostRuntime) {
     let request = read_words(rt.alloc(), ["tomled", "check", "a.toml"].as_slice());
-    assert!(rt; matches!(&request, Ok(Request::Check { file: "a.toml" })));
+    assert!(rt; matches!(&request, Ok(Request::Check { file: "a.toml", profile: Profile::One })));
 }
 
 #[test]
@@ -15,7 +16,8 @@ fn show_has_its_path(rt: HostRuntime) {
             &request,
             Ok(Request::Show {
                 file: "a.toml",
-                list: false
+                list: false,
+                profile: Profile::One
             })
         )
     );
@@ -33,7 +35,8 @@ fn show_lists_before_and_behind_its_path(rt: HostRuntime) {
                 &request,
                 Ok(Request::Show {
                     file: "a.toml",
-                    list: true
+                    list: true,
+                    profile: Profile::One
                 })
             )
         );
@@ -51,7 +54,8 @@ fn verify_has_its_paths(rt: HostRuntime) {
                 before: "a.toml",
                 edits: "e.json",
                 after: "b.toml",
-                cert: "c.txt"
+                cert: "c.txt",
+                profile: Profile::One
             })
         )
     );
@@ -68,7 +72,8 @@ fn edit_has_its_paths(rt: HostRuntime) {
                 file: "a.toml",
                 edits: "e.json",
                 out: "b.toml",
-                cert: "c.txt"
+                cert: "c.txt",
+                profile: Profile::One
             })
         )
     );
