@@ -1,5 +1,7 @@
 -- What the code's tree is as a tree of the definitions: all but where it lies in memory.
 use Rattle.std.specs.Prelude.{◌≡◌, ◌⊎◌, List, [], ◌∷◌, ◌++◌, map, Option, Some, None, option_map}
+use Rattle.std.specs.declared.vec.Vec.{Vec}
+use Rattle.std.specs.declared.alloc.Global.{Global}
 use Rattle.toml_text.specs.Forms.{IsNewline}
 use Rattle.toml_tree.specs.Spells.{IsExpr}
 use Rattle.toml_tree.specs.declared.piece.Piece.{Piece}
@@ -17,9 +19,10 @@ use Rattle.toml_tree.specs.declared.tree.Item.{Item}
 use Rattle.toml_tree.specs.declared.tree.Pair.{Pair}
 use Rattle.toml_tree.specs.declared.tree.KeyVal.{KeyVal}
 use Rattle.toml_tree.specs.declared.tree.Header.{Header}
-use Rattle.toml_tree.specs.declared.step.End.{End}
-use Rattle.toml_tree.specs.declared.step.End.TheVariants as ends
+use Rattle.toml_tree.specs.declared.step.Step.{Step}
+use Rattle.toml_tree.specs.Reading.{Cursor}
 use Rattle.toml_tree.specs.ReadingValues.{Element, Member, before_end, pairs_before_end}
+use Rattle.toml_tree.specs.Reads.{step, behind}
 use Rattle.toml_tree.specs.declared.tree.Expr.{Expr}
 use Rattle.toml_tree.specs.declared.tree.Expr.TheVariants as exprs
 use Rattle.toml_tree.specs.Tree as tree
@@ -100,20 +103,27 @@ member = fold-Pair tree.Value tree.Value tree.Value Element tree.KeyVal Member v
 abbrev pub keyval : KeyVal → tree.KeyVal
 keyval = fold-KeyVal tree.Value tree.Value tree.Value Element tree.KeyVal Member value_step array_step inline_step item_step keyval_step pair_step
 
--- what ends the items of an array: a gap, or an element that no comma follows
-abbrev pub array_end : End Item → tree.Items
-array_end (ends.Gap g) = tree.Close (gap g)
-array_end (ends.Last i) = last_ends (element i ∷ [])
+-- the items of an array, as they were read with the gap behind a last comma
+abbrev pub all_items : Vec Item Global × Option Gap → tree.Items
+all_items r = array_items (map element r.0.items) r.1
+
+-- the items so far, behind a step that adds to them: a comma follows, or the array ends
+abbrev pub items_so_far : List Item → Step (Unit {0}) (Option Gap) → Step (List Element) tree.Items
+items_so_far is = step (λ u. map element is) (array_items (map element is))
+
+-- the plain step behind these items
+abbrev pub items_behind : List Item → Option (Step Element tree.Items × Cursor) → Option (Step (List Element) tree.Items × Cursor)
+items_behind is = behind before_end (map element is)
 
 -- the same of an inline table
-abbrev pub table_end : End Pair → tree.Pairs
-table_end (ends.Gap g) = tree.ClosePairs (gap g)
-table_end (ends.Last p) = last_pairs (member p ∷ [])
+abbrev pub all_pairs : Vec Pair Global × Option Gap → tree.Pairs
+all_pairs r = table_pairs (map member r.0.items) r.1
 
--- what was read of an array or an inline table, and its end, in one list and the gap behind a last comma
-abbrev pub Ended : {T : Type 0} → List T → End T → List T → Option Gap → Type 0
-Ended xs (ends.Gap g) all end = (all ≡ xs) × (end ≡ Some g)
-Ended xs (ends.Last x) all end = (all ≡ xs ++ x ∷ []) × (end ≡ None)
+abbrev pub pairs_so_far : List Pair → Step (Unit {0}) (Option Gap) → Step (List Member) tree.Pairs
+pairs_so_far ps = step (λ u. map member ps) (table_pairs (map member ps))
+
+abbrev pub pairs_behind : List Pair → Option (Step Member tree.Pairs × Cursor) → Option (Step (List Member) tree.Pairs × Cursor)
+pairs_behind ps = behind pairs_before_end (map member ps)
 
 abbrev pub header : Header → tree.Header
 header h = record { before = piece h.before; key = key h.key; after = piece h.after }
