@@ -46,3 +46,7 @@ Fails last fault read = IfSome (place_of fault) (λ at. (at ≤ last) × (read �
 abbrev pub Reads : {X Y : Type 0} → (X → Y) → Cursor → Cursor → Result X SyntaxFault → Option (Y × Cursor) → Type 0
 Reads view old new (Ok x) read = (read ≡ Some (view x, new)) × Onward old new
 Reads view old new (Err e) read = Fails (end old) e read
+
+-- the same of a plain reader that begins where the reader stood
+abbrev pub ReadsAs : {X Y : Type 0} → (X → Y) → Reader → Reader → Result X SyntaxFault → (Cursor → Option (Y × Cursor)) → Type 0
+ReadsAs view old new result plain = Reads view (cursor old) (cursor new) result (plain (cursor old))

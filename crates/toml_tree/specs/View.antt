@@ -1,7 +1,8 @@
 -- What the code's tree is as a tree of the definitions: all but where it lies in memory.
-use Rattle.std.specs.Prelude.{◌≡◌, ◌⊎◌, List, [], ◌∷◌, ◌++◌, map, Option, Some, None, option_map}
+use Rattle.std.specs.Prelude.{◌≡◌, ◌⊎◌, List, [], ◌∷◌, ◌++◌, map, Option, Some, None, option_map, Result}
 use Rattle.std.specs.declared.vec.Vec.{Vec}
 use Rattle.std.specs.declared.alloc.Global.{Global}
+use Rattle.toml_scalar.specs.declared.fault.SyntaxFault.{SyntaxFault}
 use Rattle.toml_text.specs.Forms.{IsNewline}
 use Rattle.toml_tree.specs.Spells.{IsExpr}
 use Rattle.toml_tree.specs.declared.piece.Piece.{Piece}
@@ -22,7 +23,8 @@ use Rattle.toml_tree.specs.declared.tree.Header.{Header}
 use Rattle.toml_tree.specs.declared.step.Step.{Step}
 use Rattle.toml_tree.specs.Reading.{Cursor}
 use Rattle.toml_tree.specs.ReadingValues.{Element, Member, before_end, pairs_before_end}
-use Rattle.toml_tree.specs.Reads.{step, behind}
+use Rattle.toml_tree.specs.Reads.{step, behind, ReadsAs}
+use Rattle.toml_tree.specs.declared.reader.Reader.{Reader}
 use Rattle.toml_tree.specs.declared.tree.Expr.{Expr}
 use Rattle.toml_tree.specs.declared.tree.Expr.TheVariants as exprs
 use Rattle.toml_tree.specs.Tree as tree
@@ -111,9 +113,9 @@ all_items r = array_items (map element r.0.items) r.1
 abbrev pub items_so_far : List Item → Step (Unit {0}) (Option Gap) → Step (List Element) tree.Items
 items_so_far is = step (λ u. map element is) (array_items (map element is))
 
--- the plain step behind these items
-abbrev pub items_behind : List Item → Option (Step Element tree.Items × Cursor) → Option (Step (List Element) tree.Items × Cursor)
-items_behind is = behind before_end (map element is)
+-- a step of the reader adds to the items what the plain step reads behind them
+abbrev pub AddsItem : Vec Item Global → Vec Item Global → Reader → Reader → Result (Step (Unit {0}) (Option Gap)) SyntaxFault → (Cursor → Option (Step Element tree.Items × Cursor)) → Type 0
+AddsItem items all old new result plain = ReadsAs (items_so_far all.items) old new result (λ c. behind before_end (map element items.items) (plain c))
 
 -- the same of an inline table
 abbrev pub all_pairs : Vec Pair Global × Option Gap → tree.Pairs
@@ -122,8 +124,8 @@ all_pairs r = table_pairs (map member r.0.items) r.1
 abbrev pub pairs_so_far : List Pair → Step (Unit {0}) (Option Gap) → Step (List Member) tree.Pairs
 pairs_so_far ps = step (λ u. map member ps) (table_pairs (map member ps))
 
-abbrev pub pairs_behind : List Pair → Option (Step Member tree.Pairs × Cursor) → Option (Step (List Member) tree.Pairs × Cursor)
-pairs_behind ps = behind pairs_before_end (map member ps)
+abbrev pub AddsPair : Vec Pair Global → Vec Pair Global → Reader → Reader → Result (Step (Unit {0}) (Option Gap)) SyntaxFault → (Cursor → Option (Step Member tree.Pairs × Cursor)) → Type 0
+AddsPair pairs all old new result plain = ReadsAs (pairs_so_far all.items) old new result (λ c. behind pairs_before_end (map member pairs.items) (plain c))
 
 abbrev pub header : Header → tree.Header
 header h = record { before = piece h.before; key = key h.key; after = piece h.after }

@@ -2,8 +2,8 @@
 ghost use Rattle.std.specs.Prelude.{◌≡◌, map, IfOk};
 ghost use Rattle.toml_scalar.specs.Faults.{IsAt};
 ghost use Rattle.toml_tree.specs.ReadingValues.{scalar_at, item_step, after_element, items_at, array_at, keyval_at, pair_step, pair_at, after_member, pairs_at, may_end, inline_at, value_at};
-ghost use Rattle.toml_tree.specs.Reads.{cursor, Moves, Reads};
-ghost use Rattle.toml_tree.specs.View.{value, gap, element, keyval, member, table_pairs, all_items, items_so_far, items_behind, all_pairs, pairs_so_far, pairs_behind};
+ghost use Rattle.toml_tree.specs.Reads.{cursor, Moves, ReadsAs};
+ghost use Rattle.toml_tree.specs.View.{value, gap, element, keyval, member, table_pairs, all_items, AddsItem, all_pairs, AddsPair};
 
 use crate::piece::Gap;
 use crate::profile::Profile;
@@ -32,7 +32,7 @@ fn may_end(profile: Profile, pairs: &[Pair<'_>], end: &Option<Gap<'_>>) -> bool
 impl<'t> Reader<'t> {
     /// A scalar.
     fn scalar(&mut self) -> Result<Value<'t>, SyntaxFault>
-        ensures { Reads value (cursor self.old) (cursor self.new) result (scalar_at (cursor self.old)) }
+        ensures { ReadsAs value self.old self.new result scalar_at }
     {
         let (span, kind) = scan_scalar(self.source, self.at)?;
         Ok(Value::Scalar(kind, self.take_to(span.end)))
@@ -56,7 +56,7 @@ impl<'t> Reader<'t> {
         deep: usize,
         profile: Profile,
     ) -> Result<Value<'t>, SyntaxFault>
-        ensures { Reads value (cursor self.old) (cursor self.new) result (value_at profile deep (cursor self.old)) }
+        ensures { ReadsAs value self.old self.new result (value_at profile deep) }
     {
         if deep == 0 {
             return Err(self.refuse_depth());
@@ -79,7 +79,7 @@ impl<'t> Reader<'t> {
         deep: usize,
         profile: Profile,
     ) -> Result<Value<'t>, SyntaxFault>
-        ensures { Reads value (cursor self.old) (cursor self.new) result (array_at (value_at profile deep) (cursor self.old)) }
+        ensures { ReadsAs value self.old self.new result (array_at (value_at profile deep)) }
     {
         let start = *self;
         if !self.eat(b'[') {
@@ -99,7 +99,7 @@ impl<'t> Reader<'t> {
         deep: usize,
         profile: Profile,
     ) -> Result<(Vec<Item<'t>>, Option<Gap<'t>>), SyntaxFault>
-        ensures { Reads all_items (cursor self.old) (cursor self.new) result (items_at (value_at profile deep) (cursor self.old)) }
+        ensures { ReadsAs all_items self.old self.new result (items_at (value_at profile deep)) }
     {
         let mut items = Vec::new(alloc);
         loop {
@@ -123,7 +123,7 @@ impl<'t> Reader<'t> {
         profile: Profile,
         items: &mut Vec<Item<'t>>,
     ) -> Result<Step<(), Option<Gap<'t>>>, SyntaxFault>
-        ensures reads { Reads (items_so_far items.new.items) (cursor self.old) (cursor self.new) result (items_behind items.old.items (item_step (value_at profile deep) (cursor self.old))) }
+        ensures reads { AddsItem items.old items.new self.old self.new result (item_step (value_at profile deep)) }
         ensures moves { IfOk result (Moves (cursor self.old) (cursor self.new)) }
     {
         let before = self.gap(alloc)?;
@@ -147,7 +147,7 @@ impl<'t> Reader<'t> {
         items: &mut Vec<Item<'t>>,
         item: Item<'t>,
     ) -> Result<Step<(), Option<Gap<'t>>>, SyntaxFault>
-        ensures reads { Reads (items_so_far items.new.items) (cursor self.old) (cursor self.new) result (items_behind items.old.items (after_element (element item.entry) (cursor self.old))) }
+        ensures reads { AddsItem items.old items.new self.old self.new result (after_element (element item.entry)) }
         ensures moves { IfOk result (Moves (cursor self.old) (cursor self.new)) }
     {
         items.push(item)?;
@@ -169,7 +169,7 @@ impl<'t> Reader<'t> {
         deep: usize,
         profile: Profile,
     ) -> Result<Value<'t>, SyntaxFault>
-        ensures { Reads value (cursor self.old) (cursor self.new) result (inline_at profile (value_at profile deep) (cursor self.old)) }
+        ensures { ReadsAs value self.old self.new result (inline_at profile (value_at profile deep)) }
     {
         let start = *self;
         if !self.eat(b'{') {
@@ -193,7 +193,7 @@ impl<'t> Reader<'t> {
         deep: usize,
         profile: Profile,
     ) -> Result<(Vec<Pair<'t>>, Option<Gap<'t>>), SyntaxFault>
-        ensures { Reads all_pairs (cursor self.old) (cursor self.new) result (pairs_at profile (value_at profile deep) (cursor self.old)) }
+        ensures { ReadsAs all_pairs self.old self.new result (pairs_at profile (value_at profile deep)) }
     {
         let mut pairs = Vec::new(alloc);
         loop {
@@ -217,7 +217,7 @@ impl<'t> Reader<'t> {
         profile: Profile,
         pairs: &mut Vec<Pair<'t>>,
     ) -> Result<Step<(), Option<Gap<'t>>>, SyntaxFault>
-        ensures reads { Reads (pairs_so_far pairs.new.items) (cursor self.old) (cursor self.new) result (pairs_behind pairs.old.items (pair_step profile (value_at profile deep) (cursor self.old))) }
+        ensures reads { AddsPair pairs.old pairs.new self.old self.new result (pair_step profile (value_at profile deep)) }
         ensures moves { IfOk result (Moves (cursor self.old) (cursor self.new)) }
     {
         let before = self.pair_gap(alloc, profile)?;
@@ -238,7 +238,7 @@ impl<'t> Reader<'t> {
         pairs: &mut Vec<Pair<'t>>,
         before: Gap<'t>,
     ) -> Result<Step<(), Option<Gap<'t>>>, SyntaxFault>
-        ensures reads { Reads (pairs_so_far pairs.new.items) (cursor self.old) (cursor self.new) result (pairs_behind pairs.old.items (pair_at profile (value_at profile deep) (gap before.entry) (cursor self.old))) }
+        ensures reads { AddsPair pairs.old pairs.new self.old self.new result (pair_at profile (value_at profile deep) (gap before.entry)) }
         ensures moves { IfOk result (Moves (cursor self.old) (cursor self.new)) }
     {
         let keyval = self.keyval(alloc, deep, profile)?;
@@ -258,7 +258,7 @@ impl<'t> Reader<'t> {
         pairs: &mut Vec<Pair<'t>>,
         pair: Pair<'t>,
     ) -> Result<Step<(), Option<Gap<'t>>>, SyntaxFault>
-        ensures reads { Reads (pairs_so_far pairs.new.items) (cursor self.old) (cursor self.new) result (pairs_behind pairs.old.items (after_member (member pair.entry) (cursor self.old))) }
+        ensures reads { AddsPair pairs.old pairs.new self.old self.new result (after_member (member pair.entry)) }
         ensures moves { IfOk result (Moves (cursor self.old) (cursor self.new)) }
     {
         pairs.push(pair)?;
@@ -280,7 +280,7 @@ impl<'t> Reader<'t> {
         deep: usize,
         profile: Profile,
     ) -> Result<KeyVal<'t>, SyntaxFault>
-        ensures { Reads keyval (cursor self.old) (cursor self.new) result (keyval_at (value_at profile deep) (cursor self.old)) }
+        ensures { ReadsAs keyval self.old self.new result (keyval_at (value_at profile deep)) }
     {
         let assign = self.assign(alloc)?;
         let value = self.value(alloc, deep, profile)?;
