@@ -12,6 +12,7 @@ use Rattle.toml_tree.specs.declared.tree.Key.{Key}
 use Rattle.toml_tree.specs.declared.tree.Assign.{Assign}
 use Rattle.toml_tree.specs.declared.piece.GapLine.{GapLine}
 use Rattle.toml_tree.specs.declared.piece.Gap.{Gap}
+use Rattle.toml_tree.specs.declared.piece.Gap.TheVariants as gaps
 use Rattle.toml_tree.specs.declared.tree.Value.{Value}
 use Rattle.toml_tree.specs.declared.tree.Value.TheOpen as layer
 use Rattle.toml_tree.specs.declared.tree.Value.TheOpen.{Value-F, Array-F, Item-F, InlineTable-F, Pair-F, KeyVal-F}
@@ -47,8 +48,14 @@ assign a = record { key = key a.key; before_equals = piece a.before_equals; afte
 abbrev pub gap_line : GapLine → tree.GapLine
 gap_line l = record { blank = blank l.blank; newline = piece l.newline }
 
+-- lines, and the whitespace behind the last newline
+abbrev pub lines_before : List tree.GapLine → tree.Piece → tree.Gap
+lines_before ls ws = record { lines = ls; ws = ws }
+
 abbrev pub gap : Gap → tree.Gap
-gap g = record { lines = map gap_line g.lines.items; ws = piece g.ws }
+gap (gaps.Ws p) = lines_before [] (piece p)
+gap (gaps.Line b) = lines_before (gap_line b.value.line ∷ []) (piece b.value.ws)
+gap (gaps.Lines b) = lines_before (map gap_line b.value.lines.items) (piece b.value.ws)
 
 -- The items of an array with no comma behind the last. With no item and no gap it is none that stands in a text: there a gap's
 -- place is behind `[`.
