@@ -74,7 +74,7 @@ impl Opener {
 
     fn gap<'t>(&mut self, gap: &toml_tree::Gap<'t>) -> Result<Gap<'t>, AllocError> {
         let mut opened = Gap::empty(self.alloc);
-        for line in &gap.lines {
+        for line in gap.lines() {
             opened.push_ws(self.leaf(line.blank.ws))?;
             if let Some(comment) = line.blank.comment {
                 opened.parts.push(GapPart::Comment(self.comment(comment)))?;
@@ -83,7 +83,7 @@ impl Opener {
                 .parts
                 .push(GapPart::Newline(self.leaf(line.newline)))?;
         }
-        opened.push_ws(self.leaf(gap.ws))?;
+        opened.push_ws(self.leaf(gap.ws()))?;
         Ok(opened)
     }
 

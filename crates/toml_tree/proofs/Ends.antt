@@ -1,12 +1,10 @@
--- An array or an inline table by what was read of it and its end.
+-- An array or an inline table by what was read of it.
 use Rattle.std.proofs.Common.{◌≡◌, Bool, true, false, not, List, [], ◌∷◌, ◌++◌, map, length, ◌==◌, Option, Some, None, refl, sym, ap, ◌∙◌, arith}
 use Rattle.toml_tree.specs.Tree as tree
 use Rattle.toml_tree.specs.ReadingValues.{Element, Member, before_end, pairs_before_end, ends_in_comma, may_end}
-use Rattle.toml_tree.specs.View.{gap, element, member, last_ends, last_pairs, array_items, table_pairs, array_end, table_end, Ended}
+use Rattle.toml_tree.specs.View.{gap, element, member, last_ends, last_pairs, array_items, table_pairs}
 use Rattle.toml_tree.specs.declared.piece.Gap.{Gap}
 use Rattle.toml_tree.specs.declared.profile.Profile.TheVariants.{One}
-use Rattle.toml_tree.specs.declared.step.End.{End}
-use Rattle.toml_tree.specs.declared.step.End.TheVariants as ends
 use Rattle.toml_tree.specs.declared.tree.Item.{Item}
 use Rattle.toml_tree.specs.declared.tree.Pair.{Pair}
 use Rattle.toml_tree.proofs.Complete.{positive}
@@ -22,19 +20,19 @@ last_pairs_push [] m = refl
 last_pairs_push (l ∷ []) m = refl
 last_pairs_push (l ∷ k ∷ ms) m = ap (λ ps. tree.MorePairs l.before l.pair.assign l.pair.value l.after ps) (last_pairs_push (k ∷ ms) m)
 
-pub items_ended : (xs : List Item) (e : End Item) (all : List Item) (end : Option Gap) → Ended xs e all end → array_items (map element all) end ≡ before_end (map element xs) (array_end e)
-items_ended xs (ends.Gap g) all end (same, is) = λ i. array_items (map element (same i)) (is i)
-items_ended xs (ends.Last x) all end (same, is) =
-    (λ i. array_items (map element (same i)) (is i))
-    ∙ ap last_ends (map_push element xs x)
-    ∙ last_ends_push (map element xs) (element x)
+-- an item taken into the list
+pub item_taken : (is all : List Item) (i : Item) → all ≡ is ++ i ∷ [] → map element all ≡ map element is ++ element i ∷ []
+item_taken is all i same = ap (map element) same ∙ map_push element is i
 
-pub pairs_ended : (xs : List Pair) (e : End Pair) (all : List Pair) (end : Option Gap) → Ended xs e all end → table_pairs (map member all) end ≡ pairs_before_end (map member xs) (table_end e)
-pairs_ended xs (ends.Gap g) all end (same, is) = λ i. table_pairs (map member (same i)) (is i)
-pairs_ended xs (ends.Last x) all end (same, is) =
-    (λ i. table_pairs (map member (same i)) (is i))
-    ∙ ap last_pairs (map_push member xs x)
-    ∙ last_pairs_push (map member xs) (member x)
+pub last_item_taken : (is all : List Item) (i : Item) → all ≡ is ++ i ∷ [] → array_items (map element all) None ≡ before_end (map element is) (last_ends (element i ∷ []))
+last_item_taken is all i same = ap last_ends (item_taken is all i same) ∙ last_ends_push (map element is) (element i)
+
+-- a pair taken into the list
+pub pair_taken : (ps all : List Pair) (p : Pair) → all ≡ ps ++ p ∷ [] → map member all ≡ map member ps ++ member p ∷ []
+pair_taken ps all p same = ap (map member) same ∙ map_push member ps p
+
+pub last_pair_taken : (ps all : List Pair) (p : Pair) → all ≡ ps ++ p ∷ [] → table_pairs (map member all) None ≡ pairs_before_end (map member ps) (last_pairs (member p ∷ []))
+last_pair_taken ps all p same = ap last_pairs (pair_taken ps all p same) ∙ last_pairs_push (map member ps) (member p)
 
 -- a gap behind a comma ends an inline table of profile 1 only where no pair stands before it
 ends_behind : (ms : List Member) (g : tree.Gap) → ends_in_comma true (pairs_before_end ms (tree.ClosePairs g)) ≡ true

@@ -3,7 +3,7 @@ use Rattle.std.proofs.Common.{◌≡◌, ℕ, zero, suc, ◌+◌, ◌<◌, ◌�
 use Rattle.std.specs.Prelude.{IfSome}
 use Rattle.toml_tree.specs.Reading.{Cursor, many, all_of, ◌>>=◌}
 use Rattle.toml_scalar.specs.Faults.{place_of}
-use Rattle.toml_tree.specs.Reads.{end, Onward, Moves, Fails, step}
+use Rattle.toml_tree.specs.Reads.{end, Onward, Moves, Fails, step, behind, joined}
 use Rattle.toml_scalar.specs.declared.fault.SyntaxFault.{SyntaxFault}
 use Rattle.toml_tree.specs.declared.step.Step.{Step}
 use Rattle.toml_tree.specs.declared.step.Step.TheVariants.{Next, Done}
@@ -97,3 +97,33 @@ module _ {X Y A B : Type 0} (f : X → A) (g : Y → B) (spec : Cursor → Optio
 
   pub loop_failed : {Z : Type 0} (items : List X) (e : SyntaxFault) (now first : Cursor) (s : Option Z) → Loop spec (map f items) now first → Fails (end now) e (spec now) → (all_of spec first ≡ None → s ≡ None) → Fails (end first) e s
   loop_failed items e now first s l fails none = Fails_over e (end now) (end first) (spec now) s fails l.onward.total (λ n. none (loop_none spec (map f items) now first l n))
+
+-- The same where each step adds to the list of what was read, and the last has all of it.
+module _ {A B : Type 0} (join : List A → B → B) (spec : Cursor → Option (Step A B × Cursor)) where
+  behind_next : (o : Option (Step A B × Cursor)) (front more : List A) (now first next : Cursor) → spec now ≡ o → Loop spec front now first → behind join front o ≡ Some (Next more, next) → Onward now next → now.at < next.at → Loop spec more next first
+  behind_next None front more now first next is l e on moves = grind arith
+  behind_next (Some (Next a, c)) front more now first next is l e on moves = grind (arith, loop_next spec front now first next a l)
+  behind_next (Some (Done b, c)) front more now first next is l e on moves = grind arith
+
+  behind_done : (o : Option (Step A B × Cursor)) (front : List A) (all : B) (now first next : Cursor) → spec now ≡ o → Loop spec front now first → behind join front o ≡ Some (Done all, next) → (all_of spec first >>= λ r. Some (joined join r)) ≡ Some (all, next)
+  behind_done None front all now first next is l e = grind arith
+  behind_done (Some (Next a, c)) front all now first next is l e = grind arith
+  behind_done (Some (Done b, c)) front all now first next is l e = grind (arith, loop_done spec front now first next b l)
+
+  behind_none : (o : Option (Step A B × Cursor)) (front : List A) → behind join front o ≡ None → o ≡ None
+  behind_none None front e = refl
+  behind_none (Some s) front e = grind arith
+
+  pub behind_pushed : {R : Type 0} (g : R → B) (front more : List A) (u : Unit {0}) (r : Step (Unit {0}) R) (now first next : Cursor) → Loop spec front now first → (behind join front (spec now) ≡ Some (step (λ v. more) g r, next)) × Onward now next → Moves now next r → r ≡ Next u → Loop spec more next first
+  behind_pushed g front more u r now first next l reads moves is =
+      let moved : now.at < next.at = subst (Moves now next) is moves in
+      behind_next (spec now) front more now first next refl l (reads.0 ∙ ap (λ s. Some (step (λ v. more) g s, next)) is) reads.1 moved
+
+  pub behind_ended : {R : Type 0} (g : R → B) (front more : List A) (y : R) (r : Step (Unit {0}) R) (now first next : Cursor) → Loop spec front now first → (behind join front (spec now) ≡ Some (step (λ v. more) g r, next)) × Onward now next → r ≡ Done y → ((all_of spec first >>= λ r. Some (joined join r)) ≡ Some (g y, next)) × Onward first next
+  behind_ended g front more y r now first next l reads is = (
+    behind_done (spec now) front (g y) now first next refl l (reads.0 ∙ ap (λ s. Some (step (λ v. more) g s, next)) is),
+    record { total = reads.1.total ∙ l.onward.total; onward = omega (arith, reads.1, l.onward) },
+  )
+
+  pub behind_failed : {Z : Type 0} (front : List A) (e : SyntaxFault) (now first : Cursor) (s : Option Z) → Loop spec front now first → Fails (end now) e (behind join front (spec now)) → (all_of spec first ≡ None → s ≡ None) → Fails (end first) e s
+  behind_failed front e now first s l fails none = Fails_over e (end now) (end first) (behind join front (spec now)) s fails l.onward.total (λ n. none (loop_none spec front now first l (behind_none (spec now) front n)))

@@ -1,5 +1,8 @@
 -- What the code's tree is as a tree of the definitions: all but where it lies in memory.
-use Rattle.std.specs.Prelude.{◌≡◌, ◌⊎◌, List, [], ◌∷◌, ◌++◌, map, Option, Some, None, option_map}
+use Rattle.std.specs.Prelude.{◌≡◌, ◌⊎◌, List, [], ◌∷◌, ◌++◌, map, Option, Some, None, option_map, Result}
+use Rattle.std.specs.declared.vec.Vec.{Vec}
+use Rattle.std.specs.declared.alloc.Global.{Global}
+use Rattle.toml_scalar.specs.declared.fault.SyntaxFault.{SyntaxFault}
 use Rattle.toml_text.specs.Forms.{IsNewline}
 use Rattle.toml_tree.specs.Spells.{IsExpr}
 use Rattle.toml_tree.specs.declared.piece.Piece.{Piece}
@@ -9,6 +12,7 @@ use Rattle.toml_tree.specs.declared.tree.Key.{Key}
 use Rattle.toml_tree.specs.declared.tree.Assign.{Assign}
 use Rattle.toml_tree.specs.declared.piece.GapLine.{GapLine}
 use Rattle.toml_tree.specs.declared.piece.Gap.{Gap}
+use Rattle.toml_tree.specs.declared.piece.Gap.TheVariants as gaps
 use Rattle.toml_tree.specs.declared.tree.Value.{Value}
 use Rattle.toml_tree.specs.declared.tree.Value.TheOpen as layer
 use Rattle.toml_tree.specs.declared.tree.Value.TheOpen.{Value-F, Array-F, Item-F, InlineTable-F, Pair-F, KeyVal-F}
@@ -17,9 +21,11 @@ use Rattle.toml_tree.specs.declared.tree.Item.{Item}
 use Rattle.toml_tree.specs.declared.tree.Pair.{Pair}
 use Rattle.toml_tree.specs.declared.tree.KeyVal.{KeyVal}
 use Rattle.toml_tree.specs.declared.tree.Header.{Header}
-use Rattle.toml_tree.specs.declared.step.End.{End}
-use Rattle.toml_tree.specs.declared.step.End.TheVariants as ends
+use Rattle.toml_tree.specs.declared.step.Step.{Step}
+use Rattle.toml_tree.specs.Reading.{Cursor}
 use Rattle.toml_tree.specs.ReadingValues.{Element, Member, before_end, pairs_before_end}
+use Rattle.toml_tree.specs.Reads.{step, behind, ReadsAs}
+use Rattle.toml_tree.specs.declared.reader.Reader.{Reader}
 use Rattle.toml_tree.specs.declared.tree.Expr.{Expr}
 use Rattle.toml_tree.specs.declared.tree.Expr.TheVariants as exprs
 use Rattle.toml_tree.specs.Tree as tree
@@ -42,8 +48,14 @@ assign a = record { key = key a.key; before_equals = piece a.before_equals; afte
 abbrev pub gap_line : GapLine → tree.GapLine
 gap_line l = record { blank = blank l.blank; newline = piece l.newline }
 
+-- lines, and the whitespace behind the last newline
+abbrev pub lines_before : List tree.GapLine → tree.Piece → tree.Gap
+lines_before ls ws = record { lines = ls; ws = ws }
+
 abbrev pub gap : Gap → tree.Gap
-gap g = record { lines = map gap_line g.lines.items; ws = piece g.ws }
+gap (gaps.Ws p) = lines_before [] (piece p)
+gap (gaps.Line b) = lines_before (gap_line b.value.line ∷ []) (piece b.value.ws)
+gap (gaps.Lines b) = lines_before (map gap_line b.value.lines.items) (piece b.value.ws)
 
 -- The items of an array with no comma behind the last. With no item and no gap it is none that stands in a text: there a gap's
 -- place is behind `[`.
@@ -100,20 +112,27 @@ member = fold-Pair tree.Value tree.Value tree.Value Element tree.KeyVal Member v
 abbrev pub keyval : KeyVal → tree.KeyVal
 keyval = fold-KeyVal tree.Value tree.Value tree.Value Element tree.KeyVal Member value_step array_step inline_step item_step keyval_step pair_step
 
--- what ends the items of an array: a gap, or an element that no comma follows
-abbrev pub array_end : End Item → tree.Items
-array_end (ends.Gap g) = tree.Close (gap g)
-array_end (ends.Last i) = last_ends (element i ∷ [])
+-- the items of an array, as they were read with the gap behind a last comma
+abbrev pub all_items : Vec Item Global × Option Gap → tree.Items
+all_items r = array_items (map element r.0.items) r.1
+
+-- the items so far, behind a step that adds to them: a comma follows, or the array ends
+abbrev pub items_so_far : List Item → Step (Unit {0}) (Option Gap) → Step (List Element) tree.Items
+items_so_far is = step (λ u. map element is) (array_items (map element is))
+
+-- a step of the reader adds to the items what the plain step reads behind them
+abbrev pub AddsItem : Vec Item Global → Vec Item Global → Reader → Reader → Result (Step (Unit {0}) (Option Gap)) SyntaxFault → (Cursor → Option (Step Element tree.Items × Cursor)) → Type 0
+AddsItem items all old new result plain = ReadsAs (items_so_far all.items) old new result (λ c. behind before_end (map element items.items) (plain c))
 
 -- the same of an inline table
-abbrev pub table_end : End Pair → tree.Pairs
-table_end (ends.Gap g) = tree.ClosePairs (gap g)
-table_end (ends.Last p) = last_pairs (member p ∷ [])
+abbrev pub all_pairs : Vec Pair Global × Option Gap → tree.Pairs
+all_pairs r = table_pairs (map member r.0.items) r.1
 
--- what was read of an array or an inline table, and its end, in one list and the gap behind a last comma
-abbrev pub Ended : {T : Type 0} → List T → End T → List T → Option Gap → Type 0
-Ended xs (ends.Gap g) all end = (all ≡ xs) × (end ≡ Some g)
-Ended xs (ends.Last x) all end = (all ≡ xs ++ x ∷ []) × (end ≡ None)
+abbrev pub pairs_so_far : List Pair → Step (Unit {0}) (Option Gap) → Step (List Member) tree.Pairs
+pairs_so_far ps = step (λ u. map member ps) (table_pairs (map member ps))
+
+abbrev pub AddsPair : Vec Pair Global → Vec Pair Global → Reader → Reader → Result (Step (Unit {0}) (Option Gap)) SyntaxFault → (Cursor → Option (Step Member tree.Pairs × Cursor)) → Type 0
+AddsPair pairs all old new result plain = ReadsAs (pairs_so_far all.items) old new result (λ c. behind pairs_before_end (map member pairs.items) (plain c))
 
 abbrev pub header : Header → tree.Header
 header h = record { before = piece h.before; key = key h.key; after = piece h.after }

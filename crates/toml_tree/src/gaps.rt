@@ -1,16 +1,36 @@
 //! Gaps: what may stand before and behind a value of an array, or a pair of an inline table.
-ghost use Rattle.std.specs.Prelude.{IfOk};
+ghost use Rattle.std.specs.Prelude.{◌≡◌, map, IfOk};
 ghost use Rattle.toml_tree.specs.ReadingValues.{gap_step, gap_at, pair_gap_at};
 ghost use Rattle.toml_tree.specs.Reads.{cursor, Moves, Reads, step};
-ghost use Rattle.toml_tree.specs.View.{piece, gap_line, gap};
+ghost use Rattle.toml_tree.specs.View.{piece, gap_line, gap, lines_before};
 
 use crate::growing::push_sparing;
-use crate::piece::{Gap, GapLine, Piece};
+use crate::piece::{Gap, GapLine, LineGap, LinesGap, Piece};
 use crate::profile::Profile;
 use crate::reader::Reader;
 use crate::step::Step;
-use std::alloc::Global;
+use std::alloc::{AllocError, Global};
 use toml_scalar::SyntaxFault;
+
+/// The gap of these lines and of the whitespace behind them, in as much room as it needs.
+fn gap_of<'t>(
+    alloc: Global,
+    mut lines: Vec<GapLine<'t>>,
+    ws: Piece<'t>,
+) -> Result<Gap<'t>, AllocError>
+    ensures { IfOk result (λ g. gap g ≡ lines_before (map gap_line lines.entry.items) (piece ws.entry)) }
+{
+    if lines.is_empty() {
+        return Ok(Gap::Ws(ws));
+    }
+    if let [line] = lines.as_slice() {
+        let one = LineGap { line: *line, ws };
+        return Ok(Gap::Line(Box::new(alloc, one)?));
+    }
+    lines.shrink_to_fit();
+    let more = LinesGap { lines, ws };
+    Ok(Gap::Lines(Box::new(alloc, more)?))
+}
 
 impl<'t> Reader<'t> {
     /// A line of a gap, or its last whitespace.
@@ -38,10 +58,7 @@ impl<'t> Reader<'t> {
         loop {
             match self.gap_step()? {
                 Step::Next(line) => push_sparing(&mut lines, line)?,
-                Step::Done(ws) => {
-                    lines.shrink_to_fit();
-                    return Ok(Gap { lines, ws });
-                }
+                Step::Done(ws) => return Ok(gap_of(alloc, lines, ws)?),
             }
         }
     }
@@ -55,8 +72,7 @@ impl<'t> Reader<'t> {
         match profile {
             Profile::One => {
                 let ws = self.ws();
-                let lines = Vec::new(alloc);
-                Ok(Gap { lines, ws })
+                Ok(Gap::Ws(ws))
             }
             Profile::Two => self.gap(alloc),
         }

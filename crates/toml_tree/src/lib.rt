@@ -22,7 +22,7 @@ mod values;
 pub use document::Doc;
 pub use line::Line;
 pub use parsing::{parse, parse_in, parse_value, parse_value_in};
-pub use piece::{Blank, Gap, GapLine, Piece};
+pub use piece::{Blank, Gap, GapLine, LineGap, LinesGap, Piece};
 pub use profile::Profile;
 pub use toml_scalar::{MomentKind, ScalarKind, SyntaxFault};
 pub use tree::{Array, Assign, Dotted, Expr, Header, InlineTable, Item, Key, KeyVal, Pair, Value};

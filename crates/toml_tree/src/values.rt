@@ -2,39 +2,19 @@
 ghost use Rattle.std.specs.Prelude.{◌≡◌, map, IfOk};
 ghost use Rattle.toml_scalar.specs.Faults.{IsAt};
 ghost use Rattle.toml_tree.specs.ReadingValues.{scalar_at, item_step, after_element, items_at, array_at, keyval_at, pair_step, pair_at, after_member, pairs_at, may_end, inline_at, value_at};
-ghost use Rattle.toml_tree.specs.Reads.{cursor, Moves, Reads, step};
-ghost use Rattle.toml_tree.specs.View.{value, gap, element, array_items, array_end, keyval, member, table_pairs, table_end, Ended};
+ghost use Rattle.toml_tree.specs.Reads.{cursor, Moves, ReadsAs};
+ghost use Rattle.toml_tree.specs.View.{value, gap, element, keyval, member, table_pairs, all_items, AddsItem, all_pairs, AddsPair};
 
 use crate::piece::Gap;
 use crate::profile::Profile;
 use crate::reader::Reader;
-use crate::step::{End, Step};
+use crate::step::Step;
 use crate::tree::{Array, InlineTable, Item, KeyVal, Pair, Value};
-use std::alloc::{AllocError, Global};
+use std::alloc::Global;
 use toml_scalar::{SyntaxFault, begins_scalar, scan_scalar};
 
 /// How deep values nest at most: a scalar has depth 1, what stands in an array or an inline table is one deeper.
 pub const MAX_DEPTH: usize = 100;
-
-/// What was read of an array or an inline table, and the gap at its end, all in as much room as they need.
-fn ended<'t, T: Drop>(
-    mut list: Vec<T>,
-    end: End<'t, T>,
-) -> Result<(Vec<T>, Option<Gap<'t>>), AllocError>
-    ensures { IfOk result (λ r. Ended list.items end.entry r.0.items r.1) }
-{
-    match end {
-        End::Gap(gap) => {
-            list.shrink_to_fit();
-            Ok((list, Some(gap)))
-        }
-        End::Last(last) => {
-            list.push(last)?;
-            list.shrink_to_fit();
-            Ok((list, None))
-        }
-    }
-}
 
 /// Whether the pairs of an inline table may end so: in profile 1 not with a comma.
 fn may_end(profile: Profile, pairs: &[Pair<'_>], end: &Option<Gap<'_>>) -> bool
@@ -52,7 +32,7 @@ fn may_end(profile: Profile, pairs: &[Pair<'_>], end: &Option<Gap<'_>>) -> bool
 impl<'t> Reader<'t> {
     /// A scalar.
     fn scalar(&mut self) -> Result<Value<'t>, SyntaxFault>
-        ensures { Reads value (cursor self.old) (cursor self.new) result (scalar_at (cursor self.old)) }
+        ensures { ReadsAs value self.old self.new result scalar_at }
     {
         let (span, kind) = scan_scalar(self.source, self.at)?;
         Ok(Value::Scalar(kind, self.take_to(span.end)))
@@ -76,7 +56,7 @@ impl<'t> Reader<'t> {
         deep: usize,
         profile: Profile,
     ) -> Result<Value<'t>, SyntaxFault>
-        ensures { Reads value (cursor self.old) (cursor self.new) result (value_at profile deep (cursor self.old)) }
+        ensures { ReadsAs value self.old self.new result (value_at profile deep) }
     {
         if deep == 0 {
             return Err(self.refuse_depth());
@@ -99,7 +79,7 @@ impl<'t> Reader<'t> {
         deep: usize,
         profile: Profile,
     ) -> Result<Value<'t>, SyntaxFault>
-        ensures { Reads value (cursor self.old) (cursor self.new) result (array_at (value_at profile deep) (cursor self.old)) }
+        ensures { ReadsAs value self.old self.new result (array_at (value_at profile deep)) }
     {
         let start = *self;
         if !self.eat(b'[') {
@@ -119,13 +99,16 @@ impl<'t> Reader<'t> {
         deep: usize,
         profile: Profile,
     ) -> Result<(Vec<Item<'t>>, Option<Gap<'t>>), SyntaxFault>
-        ensures { Reads (λ r. array_items (map element r.0.items) r.1) (cursor self.old) (cursor self.new) result (items_at (value_at profile deep) (cursor self.old)) }
+        ensures { ReadsAs all_items self.old self.new result (items_at (value_at profile deep)) }
     {
         let mut items = Vec::new(alloc);
         loop {
-            match self.item_step(alloc, deep, profile)? {
-                Step::Next(item) => items.push(item)?,
-                Step::Done(end) => return Ok(ended(items, end)?),
+            match self.item_step(alloc, deep, profile, &mut items)? {
+                Step::Next(()) => {}
+                Step::Done(end) => {
+                    items.shrink_to_fit();
+                    return Ok((items, end));
+                }
             }
         }
     }
@@ -138,37 +121,41 @@ impl<'t> Reader<'t> {
         alloc: Global,
         deep: usize,
         profile: Profile,
-    ) -> Result<Step<Item<'t>, End<'t, Item<'t>>>, SyntaxFault>
-        ensures reads { Reads (step element array_end) (cursor self.old) (cursor self.new) result (item_step (value_at profile deep) (cursor self.old)) }
+        items: &mut Vec<Item<'t>>,
+    ) -> Result<Step<(), Option<Gap<'t>>>, SyntaxFault>
+        ensures reads { AddsItem items.old items.new self.old self.new result (item_step (value_at profile deep)) }
         ensures moves { IfOk result (Moves (cursor self.old) (cursor self.new)) }
     {
         let before = self.gap(alloc)?;
         if self.eat(b']') {
-            return Ok(Step::Done(End::Gap(before)));
+            return Ok(Step::Done(Some(before)));
         }
         let value = self.value(alloc, deep, profile)?;
         let after = self.gap(alloc)?;
-        self.after_item(Item {
+        let item = Item {
             before,
             value,
             after,
-        })
+        };
+        self.after_item(items, item)
     }
 
-    /// The comma behind an item, or the end of its array.
-    #[tactic(auto, unfolding(crate::specs::ReadingValues::after_element))]
+    /// Takes an item into the list, and the comma behind it or the end of its array.
+    #[tactic(auto, using(crate::proofs::Ends::last_item_taken), unfolding(crate::specs::ReadingValues::after_element))]
     fn after_item(
         &mut self,
+        items: &mut Vec<Item<'t>>,
         item: Item<'t>,
-    ) -> Result<Step<Item<'t>, End<'t, Item<'t>>>, SyntaxFault>
-        ensures reads { Reads (step element array_end) (cursor self.old) (cursor self.new) result (after_element (element item.entry) (cursor self.old)) }
+    ) -> Result<Step<(), Option<Gap<'t>>>, SyntaxFault>
+        ensures reads { AddsItem items.old items.new self.old self.new result (after_element (element item.entry)) }
         ensures moves { IfOk result (Moves (cursor self.old) (cursor self.new)) }
     {
+        items.push(item)?;
         if self.eat(b',') {
-            return Ok(Step::Next(item));
+            return Ok(Step::Next(()));
         }
         if self.eat(b']') {
-            return Ok(Step::Done(End::Last(item)));
+            return Ok(Step::Done(None));
         }
         Err(self.refuse())
     }
@@ -182,7 +169,7 @@ impl<'t> Reader<'t> {
         deep: usize,
         profile: Profile,
     ) -> Result<Value<'t>, SyntaxFault>
-        ensures { Reads value (cursor self.old) (cursor self.new) result (inline_at profile (value_at profile deep) (cursor self.old)) }
+        ensures { ReadsAs value self.old self.new result (inline_at profile (value_at profile deep)) }
     {
         let start = *self;
         if !self.eat(b'{') {
@@ -206,13 +193,16 @@ impl<'t> Reader<'t> {
         deep: usize,
         profile: Profile,
     ) -> Result<(Vec<Pair<'t>>, Option<Gap<'t>>), SyntaxFault>
-        ensures { Reads (λ r. table_pairs (map member r.0.items) r.1) (cursor self.old) (cursor self.new) result (pairs_at profile (value_at profile deep) (cursor self.old)) }
+        ensures { ReadsAs all_pairs self.old self.new result (pairs_at profile (value_at profile deep)) }
     {
         let mut pairs = Vec::new(alloc);
         loop {
-            match self.pair_step(alloc, deep, profile)? {
-                Step::Next(pair) => pairs.push(pair)?,
-                Step::Done(end) => return Ok(ended(pairs, end)?),
+            match self.pair_step(alloc, deep, profile, &mut pairs)? {
+                Step::Next(()) => {}
+                Step::Done(end) => {
+                    pairs.shrink_to_fit();
+                    return Ok((pairs, end));
+                }
             }
         }
     }
@@ -225,15 +215,16 @@ impl<'t> Reader<'t> {
         alloc: Global,
         deep: usize,
         profile: Profile,
-    ) -> Result<Step<Pair<'t>, End<'t, Pair<'t>>>, SyntaxFault>
-        ensures reads { Reads (step member table_end) (cursor self.old) (cursor self.new) result (pair_step profile (value_at profile deep) (cursor self.old)) }
+        pairs: &mut Vec<Pair<'t>>,
+    ) -> Result<Step<(), Option<Gap<'t>>>, SyntaxFault>
+        ensures reads { AddsPair pairs.old pairs.new self.old self.new result (pair_step profile (value_at profile deep)) }
         ensures moves { IfOk result (Moves (cursor self.old) (cursor self.new)) }
     {
         let before = self.pair_gap(alloc, profile)?;
         if self.eat(b'}') {
-            return Ok(Step::Done(End::Gap(before)));
+            return Ok(Step::Done(Some(before)));
         }
-        self.pair(alloc, deep, profile, before)
+        self.pair(alloc, deep, profile, pairs, before)
     }
 
     /// A pair behind its first gap, and the comma behind it or the end of its inline table.
@@ -244,34 +235,38 @@ impl<'t> Reader<'t> {
         alloc: Global,
         deep: usize,
         profile: Profile,
+        pairs: &mut Vec<Pair<'t>>,
         before: Gap<'t>,
-    ) -> Result<Step<Pair<'t>, End<'t, Pair<'t>>>, SyntaxFault>
-        ensures reads { Reads (step member table_end) (cursor self.old) (cursor self.new) result (pair_at profile (value_at profile deep) (gap before.entry) (cursor self.old)) }
+    ) -> Result<Step<(), Option<Gap<'t>>>, SyntaxFault>
+        ensures reads { AddsPair pairs.old pairs.new self.old self.new result (pair_at profile (value_at profile deep) (gap before.entry)) }
         ensures moves { IfOk result (Moves (cursor self.old) (cursor self.new)) }
     {
         let keyval = self.keyval(alloc, deep, profile)?;
         let after = self.pair_gap(alloc, profile)?;
-        self.after_pair(Pair {
+        let pair = Pair {
             before,
             keyval,
             after,
-        })
+        };
+        self.after_pair(pairs, pair)
     }
 
-    /// The comma behind a pair, or the end of its inline table.
-    #[tactic(auto, unfolding(crate::specs::ReadingValues::after_member))]
+    /// Takes a pair into the list, and the comma behind it or the end of its inline table.
+    #[tactic(auto, using(crate::proofs::Ends::last_pair_taken), unfolding(crate::specs::ReadingValues::after_member))]
     fn after_pair(
         &mut self,
+        pairs: &mut Vec<Pair<'t>>,
         pair: Pair<'t>,
-    ) -> Result<Step<Pair<'t>, End<'t, Pair<'t>>>, SyntaxFault>
-        ensures reads { Reads (step member table_end) (cursor self.old) (cursor self.new) result (after_member (member pair.entry) (cursor self.old)) }
+    ) -> Result<Step<(), Option<Gap<'t>>>, SyntaxFault>
+        ensures reads { AddsPair pairs.old pairs.new self.old self.new result (after_member (member pair.entry)) }
         ensures moves { IfOk result (Moves (cursor self.old) (cursor self.new)) }
     {
+        pairs.push(pair)?;
         if self.eat(b',') {
-            return Ok(Step::Next(pair));
+            return Ok(Step::Next(()));
         }
         if self.eat(b'}') {
-            return Ok(Step::Done(End::Last(pair)));
+            return Ok(Step::Done(None));
         }
         Err(self.refuse())
     }
@@ -285,7 +280,7 @@ impl<'t> Reader<'t> {
         deep: usize,
         profile: Profile,
     ) -> Result<KeyVal<'t>, SyntaxFault>
-        ensures { Reads keyval (cursor self.old) (cursor self.new) result (keyval_at (value_at profile deep) (cursor self.old)) }
+        ensures { ReadsAs keyval self.old self.new result (keyval_at (value_at profile deep)) }
     {
         let assign = self.assign(alloc)?;
         let value = self.value(alloc, deep, profile)?;

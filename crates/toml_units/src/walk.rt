@@ -48,7 +48,7 @@ pub fn push_comment(
 fn push_gap(alloc: Global, units: &mut Vec<Unit>, at: &Address, g: &Gap) -> Result<(), AllocError>
     ensures { OnOk result (all_units units.new.items ≡ all_units units.old.items ++ map spanned (gap_units at.now (gap g.now))) }
 {
-    for line in &g.lines {
+    for line in g.lines() {
         push_comment(
             alloc,
             units,

@@ -1,43 +1,42 @@
-use Rattle.std.proofs.Common.{Some, map, sym, refl, ap, ◌∙◌}
-use Rattle.std.proofs.lemmas.Result.{err_from_is_err_and}
-use Rattle.toml_tree.specs.ReadingValues.{items_at, item_step, pairs_at, pair_step, may_end, value_at}
-use Rattle.toml_tree.specs.Reads.{cursor}
-use Rattle.toml_tree.specs.View.{element, array_end, member, table_end, table_pairs}
-use Rattle.toml_tree.proofs.Many.{loop_pushed, loop_ended, loop_failed}
+use Rattle.std.proofs.Common.{Some, map, refl, sym, ap, ◌∙◌}
 use Rattle.std.proofs.lemmas.Bool.{cond-true}
+use Rattle.std.proofs.lemmas.Result.{err_from_is_err_and}
+use Rattle.toml_tree.specs.ReadingValues.{before_end, items_at, item_step, pairs_before_end, pairs_at, pair_step, may_end, value_at}
+use Rattle.toml_tree.specs.Reads.{cursor}
+use Rattle.toml_tree.specs.View.{element, array_items, member, table_pairs}
 use Rattle.toml_tree.proofs.Aheads.{array_ahead, inline_ahead}
-use Rattle.toml_tree.proofs.Ends.{items_ended, pairs_ended}
+use Rattle.toml_tree.proofs.Many.{behind_pushed, behind_ended, behind_failed}
 use Rattle.toml_tree.proofs.reader.Reader.+value.Goals as goal
 
-pub items-returns-in_err-item : goal.items-returns-in_err-item
+pub items-returns-in_err-item_step : goal.items-returns-in_err-item_step
 unfolding items_at
-items-returns-in_err-item t c =
+items-returns-in_err-item_step t c =
     let p = err_from_is_err_and c.from_residual.result c.from_residual.ensures.1 in
-    rw (p.1, p.2) (loop_failed element array_end (item_step (value_at c.args.profile c.args.deep)) _ _ _ _ _ c.loop-items.invariant c.in_err-item.ensures.reads (λ e. rw e refl))
+    rw (p.1, p.2) (behind_failed before_end (item_step (value_at c.args.profile c.args.deep)) _ _ _ _ _ c.loop-items.invariant c.in_err-item_step.ensures.reads (λ e. rw e refl))
 
 pub items-loop-items-preserved : goal.items-loop-items-preserved
-items-loop-items-preserved t c = loop_pushed element array_end (item_step (value_at c.args.profile c.args.deep)) _ _ _ _ _ _ _ c.loop-items.invariant c.in_ok-push-in-Next.ensures.items c.in_ok-item.ensures.reads c.in_ok-item.ensures.moves c.in-Next.is
+items-loop-items-preserved t c = behind_pushed before_end (item_step (value_at c.args.profile c.args.deep)) (array_items (map element c.item_step.new.items.items)) _ _ _ _ _ _ _ c.loop-items.invariant c.in_ok-item_step.ensures.reads c.in_ok-item_step.ensures.moves c.in-Next.is
 
 pub items-returns-in-Done : goal.items-returns-in-Done
 unfolding items_at
 items-returns-in-Done t c =
-    let all = loop_ended element array_end (item_step (value_at c.args.profile c.args.deep)) _ _ _ _ _ _ c.loop-items.invariant c.in_ok-item.ensures.reads c.in-Done.is in
-    (rw all.0 (ap (λ is. Some (is, cursor c.item_step.new.self)) (sym (items_ended c.loop-items.items.items _ _ _ c.in_ok-ended-in-Done.ensures))), all.1)
+    let all = behind_ended before_end (item_step (value_at c.args.profile c.args.deep)) (array_items (map element c.item_step.new.items.items)) _ (map element c.item_step.new.items.items) _ _ _ _ _ c.loop-items.invariant c.in_ok-item_step.ensures.reads c.in-Done.is in
+    (all.0 ∙ ap (λ is. Some (array_items (map element is) c.in-Done.end, cursor c.item_step.new.self)) (sym c.shrink_to_fit.ensures.items), all.1)
 
-pub pairs-returns-in_err-pair : goal.pairs-returns-in_err-pair
+pub pairs-returns-in_err-pair_step : goal.pairs-returns-in_err-pair_step
 unfolding pairs_at
-pairs-returns-in_err-pair t c =
+pairs-returns-in_err-pair_step t c =
     let p = err_from_is_err_and c.from_residual.result c.from_residual.ensures.1 in
-    rw (p.1, p.2) (loop_failed member table_end (pair_step c.args.profile (value_at c.args.profile c.args.deep)) _ _ _ _ _ c.loop-pairs.invariant c.in_err-pair.ensures.reads (λ e. rw e refl))
+    rw (p.1, p.2) (behind_failed pairs_before_end (pair_step c.args.profile (value_at c.args.profile c.args.deep)) _ _ _ _ _ c.loop-pairs.invariant c.in_err-pair_step.ensures.reads (λ e. rw e refl))
 
 pub pairs-loop-pairs-preserved : goal.pairs-loop-pairs-preserved
-pairs-loop-pairs-preserved t c = loop_pushed member table_end (pair_step c.args.profile (value_at c.args.profile c.args.deep)) _ _ _ _ _ _ _ c.loop-pairs.invariant c.in_ok-push-in-Next.ensures.items c.in_ok-pair.ensures.reads c.in_ok-pair.ensures.moves c.in-Next.is
+pairs-loop-pairs-preserved t c = behind_pushed pairs_before_end (pair_step c.args.profile (value_at c.args.profile c.args.deep)) (table_pairs (map member c.pair_step.new.pairs.items)) _ _ _ _ _ _ _ c.loop-pairs.invariant c.in_ok-pair_step.ensures.reads c.in_ok-pair_step.ensures.moves c.in-Next.is
 
 pub pairs-returns-in-Done : goal.pairs-returns-in-Done
 unfolding pairs_at
 pairs-returns-in-Done t c =
-    let all = loop_ended member table_end (pair_step c.args.profile (value_at c.args.profile c.args.deep)) _ _ _ _ _ _ c.loop-pairs.invariant c.in_ok-pair.ensures.reads c.in-Done.is in
-    (rw all.0 (ap (λ ps. Some (ps, cursor c.pair_step.new.self)) (sym (pairs_ended c.loop-pairs.pairs.items _ _ _ c.in_ok-ended-in-Done.ensures))), all.1)
+    let all = behind_ended pairs_before_end (pair_step c.args.profile (value_at c.args.profile c.args.deep)) (table_pairs (map member c.pair_step.new.pairs.items)) _ (map member c.pair_step.new.pairs.items) _ _ _ _ _ c.loop-pairs.invariant c.in_ok-pair_step.ensures.reads c.in-Done.is in
+    (all.0 ∙ ap (λ ps. Some (table_pairs (map member ps) c.in-Done.end, cursor c.pair_step.new.self)) (sym c.shrink_to_fit.ensures.items), all.1)
 
 pub array-up_to-whole-requires : goal.array-up_to-whole-requires
 array-up_to-whole-requires t c =

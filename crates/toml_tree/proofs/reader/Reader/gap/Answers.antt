@@ -19,4 +19,4 @@ pub returns-in-Done : goal.returns-in-Done
 unfolding gap_at
 returns-in-Done c =
     let all = loop_ended gap_line piece gap_step _ _ _ _ _ _ c.loop-lines.invariant c.in_ok-line.ensures.reads c.in-Done.is in
-    (rw all.0 (ap (λ l. Some (record { lines = map gap_line l; ws = piece c.in-Done.ws }, cursor c.gap_step.new.self)) (sym c.shrink_to_fit.ensures.items)), all.1)
+    (rw all.0 (ap (λ g. Some (g, cursor c.gap_step.new.self)) (sym c.in_ok-gap_of-in-Done.ensures)), all.1)
