@@ -31,12 +31,12 @@ abbrev pub one_empty_table : Kinds
 one_empty_table [] = Some an_array
 one_empty_table (s ∷ a) = if same_step (Index 0) s then an_empty_table a else None
 
--- with the element its array, where this one stands nowhere
+-- the element at the end of its array, and where this one stands nowhere the array with the element, whose index is 0 then
 abbrev pub AddsElement : Address → Address → Option Kind → Kinds → Kinds → Type 0
 AddsElement q at there old new = MatchOption there (Moves Some q one_empty_table old new) (λ k. Moves Some at an_empty_table old new)
 
--- what an edit makes of data, its value a text of the profile. A value that is set takes the place of what stood there, and of all below it. A new element
--- of an array that is not there makes the array too.
+-- what an edit makes of data, its value a text of the profile. A value that is set takes the place of what stood there, and of
+-- all below it. A new element of an array that is not there makes the array too.
 abbrev pub IsAfter : Profile → Change → Kinds → Kinds → Type 0
 IsAfter profile (set at value) old new = (v : Kinds) × IsGoodValue profile value v × Moves (carry_below at nowhere) at v old new
 IsAfter profile (insert at value) old new = (v : Kinds) × IsGoodValue profile value v × Moves (carry (insert at value)) at v old new
