@@ -32,12 +32,18 @@ abbrev pub check : App
 check = with_profile (with_rule (new_app (codes "check")) (required_argument (codes "FILE")))
 
 -- `edit FILE EDITS OUT CERT`
+abbrev pub edit_paths : App
+edit_paths = with_rule (with_rule (with_rule (with_rule (new_app (codes "edit")) (required_argument (codes "FILE"))) (required_argument (codes "EDITS"))) (required_argument (codes "OUT"))) (required_argument (codes "CERT"))
+
 abbrev pub edit : App
-edit = with_profile (with_rule (with_rule (with_rule (with_rule (new_app (codes "edit")) (required_argument (codes "FILE"))) (required_argument (codes "EDITS"))) (required_argument (codes "OUT"))) (required_argument (codes "CERT")))
+edit = with_profile edit_paths
 
 -- `verify BEFORE EDITS AFTER CERT`
+abbrev pub verify_paths : App
+verify_paths = with_rule (with_rule (with_rule (with_rule (new_app (codes "verify")) (required_argument (codes "BEFORE"))) (required_argument (codes "EDITS"))) (required_argument (codes "AFTER"))) (required_argument (codes "CERT"))
+
 abbrev pub verify : App
-verify = with_profile (with_rule (with_rule (with_rule (with_rule (new_app (codes "verify")) (required_argument (codes "BEFORE"))) (required_argument (codes "EDITS"))) (required_argument (codes "AFTER"))) (required_argument (codes "CERT")))
+verify = with_profile verify_paths
 
 -- `tomled` before its subcommands are added: it wants one
 abbrev pub root : App

@@ -3,7 +3,7 @@ ghost use Rattle.std.specs.Prelude.{◌≡◌, IfErr, IfOk, false, option_and_th
 ghost use Rattle.clap.specs.Walk.{texts};
 ghost use Rattle.clap.specs.Words.{FailsBy, fault_of, first_of, found_of, kind_of, rows_of, rule_of};
 ghost use Rattle.clap.specs.Words.{subcommand_of, subcommand_rows_of, takes};
-ghost use Rattle.tomled.specs.CommandLine.{IsDefined, check, edit, flag, profile, readers, required_argument, show, tool, verify};
+ghost use Rattle.tomled.specs.CommandLine.{IsDefined, check, edit, edit_paths, flag, profile, readers, required_argument, show, tool, verify, verify_paths};
 ghost use Rattle.tomled.specs.Request.{IsFaultIn, IsRequestIn, asked_by, asked_of, check_of, edit_of, is_true, profile_of, show_of, verify_of};
 
 #[cfg(test)]
@@ -134,6 +134,14 @@ fn check_command<'a>(alloc: Global) -> Result<Command<'a>, AllocError>
 fn edit_command<'a>(alloc: Global) -> Result<Command<'a>, AllocError>
     ensures { IfOk result (IsDefined edit) }
 {
+    let command = edit_paths(alloc)?;
+    command.arg(profile_option(alloc))
+}
+
+/// The command with its paths.
+fn edit_paths<'a>(alloc: Global) -> Result<Command<'a>, AllocError>
+    ensures { IfOk result (IsDefined edit_paths) }
+{
     let file = path(alloc, "FILE", "The document");
     let edits = path(alloc, "EDITS", "The edits, a JSON list");
     let out = path(alloc, "OUT", "The file to write the edited document to");
@@ -143,12 +151,19 @@ fn edit_command<'a>(alloc: Global) -> Result<Command<'a>, AllocError>
         .arg(file)?
         .arg(edits)?
         .arg(out)?
-        .arg(cert)?
-        .arg(profile_option(alloc))
+        .arg(cert)
 }
 
 fn verify_command<'a>(alloc: Global) -> Result<Command<'a>, AllocError>
     ensures { IfOk result (IsDefined verify) }
+{
+    let command = verify_paths(alloc)?;
+    command.arg(profile_option(alloc))
+}
+
+/// The command with its paths.
+fn verify_paths<'a>(alloc: Global) -> Result<Command<'a>, AllocError>
+    ensures { IfOk result (IsDefined verify_paths) }
 {
     let before = path(alloc, "BEFORE", "The document before the edits");
     let edits = path(alloc, "EDITS", "The edits, a JSON list");
@@ -159,8 +174,7 @@ fn verify_command<'a>(alloc: Global) -> Result<Command<'a>, AllocError>
         .arg(before)?
         .arg(edits)?
         .arg(after)?
-        .arg(cert)?
-        .arg(profile_option(alloc))
+        .arg(cert)
 }
 
 fn path<'a>(alloc: Global, name: &'a str, help: &'a str) -> Arg<'a>

@@ -5,7 +5,15 @@ use toml_tree::Profile;
 #[test]
 fn check_has_its_path(rt: HostRuntime) {
     let request = read_words(rt.alloc(), ["tomled", "check", "a.toml"].as_slice());
-    assert!(rt; matches!(&request, Ok(Request::Check { file: "a.toml", profile: Profile::One })));
+    assert!(rt;
+        matches!(
+            &request,
+            Ok(Request::Check {
+                file: "a.toml",
+                profile: Profile::One
+            })
+        )
+    );
 }
 
 #[test]
