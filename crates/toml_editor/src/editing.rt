@@ -237,7 +237,7 @@ fn write_out<'x>(
 }
 
 /// The text and its tree, or why there is none.
-#[tactic(auto, using(crate::proofs::Judgements::text_refused, crate::proofs::Judgements::tree_refused))]
+#[tactic(auto, using(crate::proofs::Judgements::tree_refused))]
 fn read<'x>(
     alloc: Global,
     before: &'x [u8],
