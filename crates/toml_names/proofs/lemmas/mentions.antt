@@ -46,3 +46,4 @@ pub mod TablesJoin
 pub mod UnderRules
 pub mod ValuesAbove
 pub mod Whole
+pub mod Within

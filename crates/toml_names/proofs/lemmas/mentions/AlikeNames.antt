@@ -1,11 +1,5 @@
 -- What a line names depends on what was named before by the last header's table, and by how many tables the arrays have.
-use Rattle.std.proofs.Common.{◌≡◌, ℕ, ◌+◌, ◌-◌, ◌==◌, cond, List, [], ◌∷◌, refl, sym, ap, ◌∙◌, arith}
-use Rattle.toml_tree.specs.Tree.{Expr, BlankLine, KeyValLine, TableLine, ArrayTableLine}
-use Rattle.toml_names.specs.declared.mentions.mention.Role.TheVariants.{Passed}
-use Rattle.toml_names.specs.model.Addresses.{Address, child, element}
-use Rattle.toml_names.specs.mentions.Alike.{AreAlike, AlikeNameTheSame, AlikeStayAlike, PairsLeaveAlike}
-use Rattle.toml_names.specs.mentions.Keys.{Key, key_names}
-use Rattle.toml_names.specs.mentions.Mentions.{Named, named_by, pair_named, section_from, count_tables, entered, followed, table_at, ends_table, ends_tables}
+use Rattle.toml_names.proofs.Common.{◌≡◌, ℕ, ◌+◌, ◌-◌, ◌==◌, cond, List, [], ◌∷◌, refl, sym, ap, ◌∙◌, arith, rules, Expr, BlankLine, KeyValLine, TableLine, ArrayTableLine, Passed, Address, child, element, AreAlike, AlikeNameTheSame, AlikeStayAlike, PairsLeaveAlike, Key, key_names, Named, named_by, pair_named, section_from, count_tables, entered, followed, table_at, ends_table, ends_tables}
 use Rattle.toml_names.proofs.lemmas.mentions.LineSections.{section_pair}
 use Rattle.toml_names.proofs.lemmas.mentions.NextLine.{section_from-append}
 use Rattle.toml_names.proofs.lemmas.mentions.NoTables.{count-append, no_tables-pair}
@@ -15,11 +9,7 @@ module _ (xs ys : List Named) (alike : AreAlike xs ys) where
   entered_alike at = ap (λ k. cond (k == 0) at (element at (k - 1))) (alike.counts at)
 
   followed_alike : (key : Key) (line : ℕ) (e f : Address → List Named) (at : Address) → ((here : Address) → e here ≡ f here) → followed line xs e at key ≡ followed line ys f at key
-  followed_alike [] line e f at same = refl
-  followed_alike (n ∷ []) line e f at same = same (child at n)
-  followed_alike (n ∷ m ∷ more) line e f at same =
-      ap (λ a. table_at line Passed a ∷ followed line xs e a (m ∷ more)) (entered_alike (child at n))
-      ∙ ap (λ l. table_at line Passed (entered ys (child at n)) ∷ l) (followed_alike (m ∷ more) line e f (entered ys (child at n)) same)
+  followed_alike key line e f at same = search (rules, entered_alike)
 
   tables_alike : (line : ℕ) (at : Address) → ends_tables line xs at ≡ ends_tables line ys at
   tables_alike line at = rw (alike.counts at) refl
@@ -40,7 +30,4 @@ alike_stay_alike xs ys new alike = record {
 }
 
 pub pairs_leave_alike : PairsLeaveAlike
-pairs_leave_alike ms line at a v = record {
-  sections = section_pair ms line at a v;
-  counts = λ q. let all = count-append ms (pair_named line at a v) q in let none = no_tables-pair line at a v q in omega (arith, all, none);
-}
+pairs_leave_alike ms line at a v = search (rules, section_pair, count-append, no_tables-pair)

@@ -1,17 +1,5 @@
 -- All that the lines of a document name joins.
-use Rattle.std.proofs.Common.{◌≡◌, ℕ, ◌+◌, Bool, true, false, List, [], ◌∷◌, ◌++◌, All, Some, refl, sym, ap, ◌∙◌, subst, true≢false}
-use Rattle.std.proofs.lemmas.List.{append_assoc, append-nil}
-use Rattle.std.proofs.lemmas.List.Elements.{All-head, All-tail}
-use Rattle.std.specs.Prelude.{if◌then◌else◌}
-use Rattle.toml_tree.specs.Tree.{Expr, BlankLine, KeyValLine, TableLine, ArrayTableLine, Line}
-use Rattle.toml_names.specs.declared.mentions.mention.Role.{Role}
-use Rattle.toml_names.specs.declared.mentions.mention.Role.TheVariants.{Header, Element}
-use Rattle.toml_names.specs.model.Addresses.{Address}
-use Rattle.toml_names.specs.model.Data.{fact_at}
-use Rattle.toml_names.specs.mentions.Joining.{Joined, LinesJoin}
-use Rattle.toml_names.specs.mentions.Keys.{part_name, rest_names}
-use Rattle.toml_names.specs.mentions.Mentions.{a_table, Named, named_by, named_from, root, is_section, section_from, section}
-use Rattle.toml_names.specs.mentions.Rules.{KeepsRules}
+use Rattle.toml_names.proofs.Common.{◌≡◌, ℕ, ◌+◌, Bool, true, false, List, [], ◌∷◌, ◌++◌, All, Some, refl, sym, ap, ◌∙◌, subst, true≢false, rules, append_assoc, append-nil, All-head, All-tail, if◌then◌else◌, Expr, BlankLine, KeyValLine, TableLine, ArrayTableLine, Line, Role, Header, Element, Address, fact_at, Joined, LinesJoin, part_name, rest_names, a_table, Named, named_by, named_from, root, is_section, section_from, section, KeepsRules}
 use Rattle.toml_names.proofs.lemmas.mentions.Adding.{Adds, IsAdded-nil, Adds-append, after_first}
 use Rattle.toml_names.proofs.lemmas.mentions.FactAt.{fact_kept}
 use Rattle.toml_names.proofs.lemmas.mentions.FirstNamed.{suited_root, IsGrown-first}
@@ -22,9 +10,7 @@ use Rattle.toml_names.proofs.lemmas.mentions.Pairs.{misfit-from_KeepsRules}
 use Rattle.toml_names.proofs.lemmas.mentions.Suiting.{role_kind}
 
 section_kind : (r : Role) → is_section r ≡ true → role_kind r ≡ Some a_table
-section_kind Header h = refl
-section_kind Element h = refl
-section_kind _ h = absurd (true≢false (sym h))
+section_kind r h = search rules
 
 -- the table of the last header is there
 abbrev IsSection : List Named → Named → Type 0
@@ -39,8 +25,7 @@ section_there all (m ∷ ms) at table sections = section_there all ms (if is_sec
     by false h = rw h table
 
 section_is_table : (ms : List Named) → IsGrown ms → fact_at ms [] ≡ Some a_table → fact_at ms (section ms) ≡ Some a_table
-section_is_table ms grown table =
-    section_there ms ms [] table (λ i d low is. grown.kinds i d low ∙ ap Some ((grown.suited i d low).kind a_table (section_kind _ is)))
+section_is_table ms grown table = search (rules, section_there, section_kind)
 
 line_adds : (ms : List Named) (line : ℕ) (e : Expr) → IsGrown ms → fact_at ms [] ≡ Some a_table → Adds ms (named_by ms line e)
 line_adds ms line (BlankLine b) grown table = λ none. IsAdded-nil ms grown

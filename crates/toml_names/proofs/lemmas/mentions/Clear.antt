@@ -1,11 +1,5 @@
 -- Addresses that another is neither at nor above.
-use Rattle.std.proofs.Common.{◌≡◌, Bool, true, false, cond, ◌⊎◌, inl, inr, [], ◌∷◌, ◌++◌, Option, Some, None, refl, sym, ap, ◌∙◌}
-use Rattle.std.proofs.lemmas.Option.{none-some}
-use Rattle.toml_names.specs.declared.model.address.Step.{Step}
-use Rattle.toml_names.specs.model.Addresses.{Address, IsAbove}
-use Rattle.toml_names.specs.mentions.Clear.{IsClear, NotNamedIsClear}
-use Rattle.toml_names.specs.model.Data.{fact_at}
-use Rattle.toml_names.specs.mentions.Mentions.{Kind, Named, named}
+use Rattle.toml_names.proofs.Common.{◌≡◌, Bool, true, false, cond, ◌⊎◌, inl, inr, [], ◌∷◌, ◌++◌, Option, Some, None, refl, sym, ap, ◌∙◌, rules, none-some, Step, Address, IsAbove, IsClear, NotNamedIsClear, fact_at, Kind, Named, named}
 use Rattle.toml_names.proofs.lemmas.mentions.AllLines.{lines_join}
 use Rattle.toml_names.proofs.lemmas.model.Closed.{closed_lines, closed_below}
 use Rattle.toml_names.proofs.Each.{Has, each_weaker, has_of_any, any_of_has, has_weaker, members_self}
@@ -39,12 +33,10 @@ pub clear_root : (p : Address) → ¬ (p ≡ []) → IsClear p []
 clear_root p apart = record { apart = apart; not_above = λ above. no_cons p above.0 above.1 above.2 }
 
 pub clear_cond : (p a b : Address) (t : Bool) → IsClear p a → IsClear p b → IsClear p (cond t a b)
-clear_cond p a b true x y = x
-clear_cond p a b false x y = y
+clear_cond p a b t x y = search rules
 
 absent : (o : Option Kind) → ((k : Kind) → o ≡ Some k → ⊥) → o ≡ None
-absent None h = refl
-absent (Some k) h = absurd (h k refl)
+absent o h = search rules
 
 pub not_named_is_clear : NotNamedIsClear
 not_named_is_clear lines p keeps free =

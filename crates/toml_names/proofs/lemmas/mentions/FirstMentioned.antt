@@ -1,20 +1,12 @@
 -- The plain list of first mentions has each address that is mentioned, once, in order: one more mention at a time.
-use Rattle.std.proofs.Common.{◌≡◌, ◌⊎◌, inl, inr, ℕ, zero, suc, ◌<◌, ◌↔◌, get_or, Bool, true, false, cond, ◌||◌, List, [], ◌∷◌, ◌++◌, length, filter, Any, AllPairs, Contains, refl, sym, ap, subst, ◌∙◌, true≢false, arith}
-use Rattle.std.proofs.lemmas.Bool.{cond-true, cond-false}
-use Rattle.std.proofs.lemmas.List.{append_assoc, append-nil}
-use Rattle.std.proofs.lemmas.List.Elements.{Contains-get_or, Contains-append_left, Contains-push, Contains-push_cases, filter-append}
-use Rattle.std.proofs.lemmas.List.Quantifiers.{all_pairs_push}
-use Rattle.toml_names.specs.model.Addresses.{Address, same_address}
-use Rattle.toml_names.specs.mentions.FirstMentions.{is_named, first_named, first_mentions, IsMentioned, ComesFirst, IsFirstMentions, FirstMentionsAreThese}
-use Rattle.toml_names.specs.mentions.Mentions.{Named, is_mention}
+use Rattle.toml_names.proofs.Common.{common_steps, ◌≡◌, ◌⊎◌, inl, inr, ℕ, zero, suc, ◌<◌, ◌↔◌, get_or, Bool, true, false, cond, ◌||◌, List, [], ◌∷◌, ◌++◌, length, filter, Any, AllPairs, Contains, refl, sym, ap, subst, ◌∙◌, true≢false, arith, rules, cond-true, cond-false, append_assoc, append-nil, Contains-get_or, Contains-append_left, Contains-push, Contains-push_cases, filter-append, all_pairs_push, Address, same_address, is_named, first_named, first_mentions, IsMentioned, ComesFirst, IsFirstMentions, FirstMentionsAreThese, Named, is_mention}
 use Rattle.toml_names.proofs.lemmas.model.Equal.{same_address-equal, same_address-self}
 use Rattle.toml_names.proofs.lemmas.mentions.FactAt.{any_here, any_later}
 use Rattle.toml_names.proofs.lemmas.mentions.FirstMore.{first_push}
 
 module _ (P : Named → Type 0) where
   pub any_cases : (m : Named) (ms : List Named) → Any P (m ∷ ms) → P m ⊎ Any P ms
-  any_cases m ms (zero, x, low, is, p) = inl (subst P (sym is) p)
-  any_cases m ms (suc k, x, low, is, p) = inr (k, x, omega (arith, low), is, p)
+  any_cases m ms h1 = search rules
 
   any_left : (ms more : List Named) → Any P ms → Any P (ms ++ more)
   any_left ms more (k, x, low, is, p) = let c = Contains-append_left ms more x (k, low, is) in (c.0, x, c.1, c.2, p)
@@ -23,11 +15,7 @@ module _ (P : Named → Type 0) where
   any_push ms m p = let c = Contains-push ms m in (c.0, m, c.1, c.2, p)
 
   any_push_cases : (ms : List Named) (m : Named) → Any P (ms ++ m ∷ []) → Any P ms ⊎ P m
-  any_push_cases ms m (k, x, low, is, p) = by (Contains-push_cases ms m x (k, low, is))
-    where
-      by : Contains ms x ⊎ (m ≡ x) → Any P ms ⊎ P m
-      by (inl c) = inl (c.0, x, c.1, c.2, p)
-      by (inr same) = inr (subst P (sym same) p)
+  any_push_cases ms m h1 = grind (arith, common_steps)
 
   any_split : (before behind : List Named) (m : Named) → P m → Any P (before ++ m ∷ behind)
   any_split [] behind m p = any_here P m behind p
@@ -66,8 +54,7 @@ mentioned (m ∷ ms) at found = by (is_mention m) refl (same_address m.address a
     by false bare c e ih = any_later (Mentions at) m ms (ih (sym (ap (λ l. is_named l at) (cond-false _ _ _ bare)) ∙ found))
 
 or_right : (b : Bool) → (b || true) ≡ true
-or_right true = refl
-or_right false = refl
+or_right b = search rules
 
 found : (ms : List Named) (at : Address) → IsMentioned ms at → is_named (filter is_mention ms) at ≡ true
 found [] at (k, x, low, is, p) = absurd (omega (arith, low))
@@ -86,11 +73,7 @@ found (m ∷ ms) at any = by (is_mention m) refl (any_cases (Mentions at) m ms a
 
 -- an order of mentions stays, as the first has one
 first_stays : (ms : List Named) (m : Named) (at other : Address) → ComesFirst ms at other → IsMentioned ms at → ComesFirst (ms ++ m ∷ []) at other
-first_stays ms m at other first there before behind x is same role = by (split_push ms m before x behind is)
-  where
-    by : (ms ≡ before) ⊎ ((rest : List Named) × (ms ≡ before ++ x ∷ rest)) → IsMentioned before at
-    by (inl e) = subst (λ l. IsMentioned l at) e there
-    by (inr r) = first before r.0 x r.1 same role
+first_stays ms m at other first there = search (rules, split_push)
 
 module _ (ms : List Named) (list : List Address) (h : IsFirstMentions ms list) (m : Named) where
   listed : (k : ℕ) (d : Address) → k < length list → IsMentioned ms (get_or list k d)
@@ -165,11 +148,7 @@ all_more_mentions [] earlier h = rw append-nil h
 all_more_mentions (m ∷ ms) earlier h = subst (λ l. IsFirstMentions l (first_mentions l)) (append_assoc earlier (m ∷ []) ms) (all_more_mentions ms (earlier ++ m ∷ []) (one_more earlier m h))
 
 no_mentions : IsFirstMentions [] []
-no_mentions = record {
-  all = λ at. ((λ c. absurd (omega (arith, c.1))), (λ any. absurd (omega (arith, any.2))));
-  once = λ i j d before low. absurd (omega arith);
-  order = λ i j d before low. absurd (omega arith);
-}
+no_mentions = search rules
 
 pub first_mentions_are_these : FirstMentionsAreThese
 first_mentions_are_these ms = all_more_mentions ms [] no_mentions

@@ -1,14 +1,5 @@
 -- What a header names joins: each table that it passes, and its end.
-use Rattle.std.proofs.Common.{◌≡◌, ◌⊎◌, ℕ, ◌-◌, ◌<◌, ◌==◌, Bool, true, false, List, [], ◌∷◌, ◌++◌, Some, refl, sym, ap, ◌∙◌, subst, inl, inr, arith}
-use Rattle.std.proofs.lemmas.Bool.{cond-true, cond-false, eqb-false}
-use Rattle.std.proofs.lemmas.Option.{none-some}
-use Rattle.toml_names.specs.declared.mentions.mention.Role.TheVariants.{Passed, Header, Element}
-use Rattle.toml_names.specs.model.Addresses.{Address, child, element}
-use Rattle.toml_names.specs.model.Data.{fact_at}
-use Rattle.toml_names.specs.mentions.Joining.{IsAgain}
-use Rattle.toml_names.specs.mentions.Keys.{Key}
-use Rattle.toml_names.specs.mentions.Mentions.{a_table, Named, table_at, count_tables, entered, followed, ends_table, ends_tables}
-use Rattle.toml_names.specs.mentions.Rules.{fits}
+use Rattle.toml_names.proofs.Common.{◌≡◌, ◌⊎◌, ℕ, ◌-◌, ◌<◌, ◌==◌, Bool, true, false, List, [], ◌∷◌, ◌++◌, Some, refl, sym, ap, ◌∙◌, subst, inl, inr, arith, rules, cond-true, cond-false, eqb-false, none-some, Passed, Header, Element, Address, child, element, fact_at, IsAgain, Key, a_table, Named, table_at, count_tables, entered, followed, ends_table, ends_tables, fits}
 use Rattle.toml_names.proofs.lemmas.mentions.Adding.{IsAdded, Adds, Adds-append, IsAdded-one, IsAdded-name}
 use Rattle.toml_names.proofs.lemmas.mentions.Counting.{count_plain}
 use Rattle.toml_names.proofs.lemmas.mentions.Growing.{IsGrown}
@@ -22,13 +13,7 @@ abbrev WayIn : List Named → Address → Address → Type 0
 WayIn ms at here = (here ≡ at) ⊎ ((j : ℕ) × (j < count_tables ms at) × (here ≡ element at j))
 
 way_in : (ms : List Named) (at : Address) → WayIn ms at (entered ms at)
-way_in ms at = by (count_tables ms at == 0) refl
-  where
-    by : (b : Bool) → (count_tables ms at == 0) ≡ b → WayIn ms at (entered ms at)
-    by true h = inl (cond-true _ _ _ h)
-    by false h =
-        let some = eqb-false (count_tables ms at) 0 h in
-        inr (count_tables ms at - 1, omega arith, cond-false _ _ _ h)
+way_in ms at = search rules
 
 -- both lists have the same arrays of tables
 abbrev pub AreCountedAlike : List Named → List Named → Type 0
@@ -46,11 +31,7 @@ module _ (line : ℕ) (ms : List Named) (at here : Address) (n : List ℕ) (grow
   suited = suited_mention passed refl (λ h. cc)
 
   again_in : (j : ℕ) → j < count_tables ms (child at n) → here ≡ element (child at n) j → IsAgain ms passed
-  again_in j low is = record {
-    there = ap (fact_at ms) is ∙ grown.counted.there (child at n) j low;
-    shared = refl;
-    others = λ i d within same. grown.counted.shared (child at n) j low i d within (same ∙ is);
-  }
+  again_in j low is = search rules
 
   passed_added : WayIn ms (child at n) here → IsAdded ms (passed ∷ [])
   passed_added (inl is) = IsAdded-name ms passed at n grown suited (λ h. cc) refl good is table

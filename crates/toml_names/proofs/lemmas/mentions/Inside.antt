@@ -1,18 +1,10 @@
 -- What a value names inside it, by the lists of its items and of its pairs.
-use Rattle.std.proofs.Common.{◌≡◌, ℕ, ◌+◌, List, [], ◌∷◌, ◌++◌, map, Option, Some, None, Box, Global, refl, sym, ap, ◌∙◌}
-use Rattle.std.proofs.lemmas.List.{append-nil}
-use Rattle.toml_tree.specs.declared.piece.Gap.{Gap}
+use Rattle.toml_names.proofs.Common.{◌≡◌, ℕ, ◌+◌, List, [], ◌∷◌, ◌++◌, map, Option, Some, None, Box, Global, refl, sym, ap, ◌∙◌, rules, append-nil, Gap, InlineTable, out-Array, out-InlineTable, Member, before_end, pairs_before_end, gap, value, member, array_items, last_ends, table_pairs, last_pairs, value_array, value_inline, Bare, Address, element, Named, value_named, inside, elements, members, pair_named}
 use Rattle.toml_tree.specs.declared.tree.Array.{Array}
-use Rattle.toml_tree.specs.declared.tree.InlineTable.{InlineTable}
 use Rattle.toml_tree.specs.declared.tree.Value.TheVariants as made
-use Rattle.toml_tree.specs.declared.tree.Value.TheViews.{out-Array, out-InlineTable}
 use Rattle.toml_tree.specs.Tree as tree
-use Rattle.toml_tree.specs.ReadingValues.{Element, Member, before_end, pairs_before_end}
-use Rattle.toml_tree.specs.View.{gap, value, element as tree_element, member, array_items, last_ends, table_pairs, last_pairs}
-use Rattle.toml_tree.proofs.Proved.{value_array, value_inline}
-use Rattle.toml_names.specs.declared.mentions.mention.Role.TheVariants.{Bare}
-use Rattle.toml_names.specs.model.Addresses.{Address, element}
-use Rattle.toml_names.specs.mentions.Mentions.{Named, value_named, inside, elements, members, pair_named}
+use Rattle.toml_tree.specs.ReadingValues.{Element}
+use Rattle.toml_tree.specs.View.{element as tree_element}
 
 -- an element at its index, and what is in it
 abbrev pub element_named : ℕ → Address → ℕ → tree.Value → List Named
@@ -38,8 +30,7 @@ module _ (line : ℕ) (at : Address) where
   elements-last_ends (e ∷ f ∷ es) i = ap (λ l. element_named line at i e.value ++ l) (elements-last_ends (f ∷ es) (i + 1))
 
   elements-array_items : (es : List Element) (end : Option Gap) → elements line at 0 (array_items es end) ≡ elements_of line at 0 es
-  elements-array_items es (Some g) = elements-before_end es 0 (gap g)
-  elements-array_items es None = elements-last_ends es 0
+  elements-array_items es end = search (rules, elements-before_end, elements-last_ends)
 
   pub inside-array : (b : Box Array Global) → inside line at (value (made.Array b)) ≡ elements_of line at 0 (map tree_element (out-Array b.value).items.items)
   inside-array b = ap (inside line at) (value_array b) ∙ elements-array_items (map tree_element (out-Array b.value).items.items) (out-Array b.value).end
@@ -54,8 +45,7 @@ module _ (line : ℕ) (at : Address) where
   members-last_pairs (m ∷ n ∷ ms) = ap (λ l. pair_named line at m.pair.assign m.pair.value ++ l) (members-last_pairs (n ∷ ms))
 
   members-table_pairs : (ms : List Member) (end : Option Gap) → members line at (table_pairs ms end) ≡ members_of line at ms
-  members-table_pairs ms (Some g) = members-before_end ms (gap g)
-  members-table_pairs ms None = members-last_pairs ms
+  members-table_pairs ms end = search (rules, members-before_end, members-last_pairs)
 
   pub inside-inline : (b : Box InlineTable Global) → inside line at (value (made.Inline b)) ≡ members_of line at (map member (out-InlineTable b.value).pairs.items)
   inside-inline b = ap (inside line at) (value_inline b) ∙ members-table_pairs (map member (out-InlineTable b.value).pairs.items) (out-InlineTable b.value).end

@@ -1,17 +1,5 @@
 -- Which of the addresses that are named are mentioned: the mark of an address tells, where each thing joins those before it.
-use Rattle.std.proofs.Common.{◌≡◌, Bool, true, false, cond, ◌||◌, filter, List, [], ◌∷◌, ◌++◌, get_or, All, Option, Some, None, refl, sym, ap, subst, ◌∙◌, inl, inr, true≢false}
-use Rattle.std.proofs.lemmas.Bool.{cond-true, cond-false}
-use Rattle.std.proofs.lemmas.List.{append_assoc, append-nil}
-use Rattle.std.proofs.lemmas.List.Elements.{All-nil, All-cons, All-head, All-tail, All-push, filter-append}
-use Rattle.std.proofs.lemmas.Option.{none-some}
-use Rattle.toml_names.specs.declared.mentions.mention.Role.{Role}
-use Rattle.toml_names.specs.declared.mentions.mention.Role.TheVariants.{Passed, Header, Dotted, Valued, Tables, Element, Bare}
-use Rattle.toml_names.specs.model.Addresses.{Address, same_address}
-use Rattle.toml_names.specs.model.Data.{fact_at}
-use Rattle.toml_names.specs.mentions.FirstMentions.{is_named, first_named, first_mentions}
-use Rattle.toml_names.specs.mentions.Joining.{is_lone, Joins, JoinAll, Joined}
-use Rattle.toml_names.specs.mentions.Local.{mark_after, mark_of}
-use Rattle.toml_names.specs.mentions.Mentions.{Named, is_mention, is_mentioned}
+use Rattle.toml_names.proofs.Common.{◌≡◌, Bool, true, false, cond, ◌||◌, filter, List, [], ◌∷◌, ◌++◌, get_or, All, Option, Some, None, refl, sym, ap, subst, ◌∙◌, inl, inr, true≢false, rules, cond-true, cond-false, append_assoc, append-nil, All-nil, All-cons, All-head, All-tail, All-push, filter-append, none-some, Role, Passed, Header, Dotted, Valued, Tables, Element, Bare, Address, same_address, fact_at, is_named, first_named, first_mentions, is_lone, Joins, JoinAll, Joined, mark_after, mark_of, Named, is_mention, is_mentioned}
 use Rattle.toml_names.proofs.lemmas.model.Equal.{same_address-equal, same_address-self}
 use Rattle.toml_names.proofs.lemmas.mentions.FactAt.{fact_here, fact_behind}
 use Rattle.toml_names.proofs.lemmas.mentions.Local.{mark_of-push}
@@ -26,28 +14,7 @@ is_marked (Some r) = is_mentioned r
 -- ---- the mark tells of each thing at the address
 
 shared_after : (q : Option Role) (r : Role) → is_lone r ≡ false → is_marked (mark_after q r) ≡ true
-shared_after None Passed h = refl
-shared_after None Header h = refl
-shared_after None Dotted h = refl
-shared_after None Tables h = refl
-shared_after None Element h = refl
-shared_after (Some Passed) Passed h = refl
-shared_after (Some Header) Passed h = refl
-shared_after (Some Dotted) Passed h = refl
-shared_after (Some Valued) Passed h = refl
-shared_after (Some Tables) Passed h = refl
-shared_after (Some Element) Passed h = refl
-shared_after (Some Bare) Passed h = refl
-shared_after (Some Bare) Header h = refl
-shared_after (Some Bare) Dotted h = refl
-shared_after (Some Bare) Tables h = refl
-shared_after (Some Bare) Element h = refl
-shared_after (Some _) Header h = refl
-shared_after (Some _) Dotted h = refl
-shared_after (Some _) Tables h = refl
-shared_after (Some _) Element h = refl
-shared_after _ Valued h = absurd (true≢false h)
-shared_after _ Bare h = absurd (true≢false h)
+shared_after q r h = search rules
 
 shared_mentioned : (r : Role) → is_lone r ≡ false → is_mentioned r ≡ true
 shared_mentioned r h = shared_after None r h
@@ -70,8 +37,7 @@ mark_other ms m at apart = mark_of-push ms m at ∙ cond-false _ _ _ apart
 
 module _ (ms : List Named) (m : Named) (tells : Tells ms) where
   told_new : Joins ms m → IsTold (ms ++ m ∷ []) m
-  told_new (inl free) = ap is_marked (mark_here ms m m.address refl) ∙ ap (λ q. is_marked (mark_after q m.role)) (tells.unmarked m.address free.absent)
-  told_new (inr again) = ap is_marked (mark_here ms m m.address refl) ∙ shared_after (mark_of ms m.address) m.role again.shared ∙ sym (shared_mentioned m.role again.shared)
+  told_new h1 = search (rules, mark_here, shared_after, shared_mentioned)
 
   told_all : Joins ms m → All (IsTold (ms ++ m ∷ [])) ms
   told_all joins i d low = by (same_address m.address (get_or ms i d).address) refl joins
@@ -86,18 +52,10 @@ module _ (ms : List Named) (m : Named) (tells : Tells ms) where
           ∙ sym (shared_mentioned (get_or ms i d).role (again.others i d low (sym at)))
 
 unmarked_push : (ms : List Named) (m : Named) → Tells ms → (at : Address) → fact_at (ms ++ m ∷ []) at ≡ None → mark_of (ms ++ m ∷ []) at ≡ None
-unmarked_push ms m tells at none = by (same_address m.address at) refl
-  where
-    by : (b : Bool) → same_address m.address at ≡ b → mark_of (ms ++ m ∷ []) at ≡ None
-    by true same = absurd (none-some m.kind (sym none ∙ fact_behind ms (m ∷ []) at (none_before ms (m ∷ []) at none) ∙ fact_here m [] at (same_address-equal m.address at same)))
-    by false apart = mark_other ms m at apart ∙ tells.unmarked at (none_before ms (m ∷ []) at none)
+unmarked_push ms m tells at none = search (rules, none-some, fact_behind, none_before, fact_here, same_address-equal, mark_other)
 
 Tells-push : (ms : List Named) (m : Named) → Tells ms → Joins ms m → Tells (ms ++ m ∷ [])
-Tells-push ms m tells joins = record {
-  kinds = AreOfOneKind-push ms m tells.kinds joins;
-  told = All-push (IsTold (ms ++ m ∷ [])) ms m (told_all ms m tells joins) (told_new ms m tells joins);
-  unmarked = unmarked_push ms m tells;
-}
+Tells-push ms m tells joins = search (rules, AreOfOneKind-push, All-push, told_all, told_new, unmarked_push)
 
 Tells-more : (more ms : List Named) → Tells ms → JoinAll ms more → Tells (ms ++ more)
 Tells-more [] ms tells join = subst Tells (sym (append-nil ms)) tells
@@ -138,12 +96,10 @@ named_filtered test (m ∷ ms) at tells here = by (is_mention m) refl (same_addr
 module _ (test : Address → Bool) (ms earlier : List Named) (m : Named) (before : All (Tells-by test) earlier) (head : Tells-by test m)
     (rest : filter test (first_named (earlier ++ m ∷ []) ms) ≡ first_named (filter is_mention (earlier ++ m ∷ [])) (filter is_mention ms)) where
   kept : (b c : Bool) → test m.address ≡ true → c ≡ b → (x y : List Address) → filter test x ≡ y → filter test (cond b x (m.address ∷ x)) ≡ cond c y (m.address ∷ y)
-  kept true c here same x y e = e ∙ sym (cond-true _ _ _ same)
-  kept false c here same x y e = cond-true _ _ _ here ∙ ap (λ l. m.address ∷ l) e ∙ sym (cond-false _ _ _ same)
+  kept b c here same x y e = search rules
 
   dropped : (b : Bool) (x : List Address) → test m.address ≡ false → filter test (cond b x (m.address ∷ x)) ≡ filter test x
-  dropped true x none = refl
-  dropped false x none = cond-false _ _ _ none
+  dropped b x none = search rules
 
   first_step : (b : Bool) → is_mention m ≡ b → filter test (first_named earlier (m ∷ ms)) ≡ first_named (filter is_mention earlier) (filter is_mention (m ∷ ms))
   first_step true is =
@@ -151,11 +107,7 @@ module _ (test : Address → Bool) (ms earlier : List Named) (m : Named) (before
       (first_named (earlier ++ m ∷ []) ms) (first_named (filter is_mention earlier ++ m ∷ []) (filter is_mention ms))
       (rest ∙ ap (λ l. first_named l (filter is_mention ms)) (filter-append is_mention earlier (m ∷ []) ∙ ap (λ l. filter is_mention earlier ++ l) (cond-true _ _ _ is)))
       ∙ ap (first_named (filter is_mention earlier)) (sym (cond-true _ _ _ is))
-  first_step false not =
-      dropped (is_named earlier m.address) (first_named (earlier ++ m ∷ []) ms) (head ∙ not)
-      ∙ rest
-      ∙ ap (λ l. first_named l (filter is_mention ms)) (filter-append is_mention earlier (m ∷ []) ∙ ap (λ l. filter is_mention earlier ++ l) (cond-false _ _ _ not) ∙ append-nil (filter is_mention earlier))
-      ∙ ap (first_named (filter is_mention earlier)) (sym (cond-false _ _ _ not))
+  first_step false not = search (rules, dropped, filter-append, cond-false, append-nil)
 
 first_filtered : (test : Address → Bool) (ms earlier : List Named) → All (Tells-by test) earlier → All (Tells-by test) ms
     → filter test (first_named earlier ms) ≡ first_named (filter is_mention earlier) (filter is_mention ms)

@@ -1,7 +1,5 @@
 -- What a misfit is, at the first of the mentions and after it.
-use Rattle.std.proofs.Common.{◌≡◌, Bool, true, false, List, [], ◌∷◌, ◌++◌, Some, None, refl, sym, ◌∙◌}
-use Rattle.toml_names.specs.mentions.Mentions.{Named}
-use Rattle.toml_names.specs.mentions.Rules.{fits, misfit}
+use Rattle.toml_names.proofs.Common.{◌≡◌, Bool, true, false, List, [], ◌∷◌, ◌++◌, Some, None, refl, sym, ◌∙◌, rules, Named, fits, misfit}
 
 pub misfit-here : (earlier ms : List Named) (m : Named) → fits earlier m ≡ false → misfit earlier (m ∷ ms) ≡ Some m.address
 misfit-here earlier ms m bad = rw bad
@@ -10,8 +8,4 @@ pub misfit-later : (earlier ms : List Named) (m : Named) → fits earlier m ≡ 
 misfit-later earlier ms m good = rw good
 
 pub fits-from_misfit : (earlier ms : List Named) (m : Named) → misfit earlier (m ∷ ms) ≡ None → fits earlier m ≡ true
-fits-from_misfit earlier ms m none = by (fits earlier m) refl
-  where
-    by : (b : Bool) → fits earlier m ≡ b → b ≡ true
-    by true e = refl
-    by false e = let h : Some m.address ≡ None = sym (misfit-here earlier ms m e) ∙ none in cc
+fits-from_misfit earlier ms m none = search rules

@@ -1,11 +1,5 @@
 -- One more address, below one that is there, keeps the addresses nested.
-use Rattle.std.proofs.Common.{◌≡◌, ℕ, ◌+◌, ◌<◌, cond, List, [], ◌∷◌, ◌++◌, length, Some, None, refl, sym, ap, ◌∙◌, slice_index_or, arith, ◌⊎◌, inl, inr, length-append}
-use Rattle.std.proofs.lemmas.Bool.{cases_eq}
-use Rattle.std.proofs.lemmas.List.{same_from_push, get_or_append_left, get_or_at, length_push}
-use Rattle.toml_names.specs.declared.model.address.Step.{Step}
-use Rattle.toml_names.specs.model.Addresses.{Address}
-use Rattle.toml_names.specs.tree.Nodes.{place_of}
-use Rattle.toml_names.specs.tree.NameTree.{AreNested}
+use Rattle.toml_names.proofs.Common.{◌≡◌, ℕ, ◌+◌, ◌<◌, cond, List, [], ◌∷◌, ◌++◌, length, Some, None, refl, sym, ap, ◌∙◌, slice_index_or, arith, ◌⊎◌, inl, inr, length-append, rules, cases_eq, same_from_push, get_or_append_left, get_or_at, length_push, Step, Address, place_of, AreNested}
 use Rattle.toml_names.proofs.lemmas.tree.NodePlaces.{place_of-push, none_is_some, same_address-apart, same_address-here}
 
 -- an address is not below itself
@@ -13,11 +7,7 @@ pub not_below : (at : Address) (s : Step) → at ++ s ∷ [] ≡ at → ⊥
 not_below at s e = let long : length (at ++ s ∷ []) ≡ length at = ap length e in omega (arith, length-append at (s ∷ []))
 
 pub last_index : (k n : ℕ) → k < n + 1 → (k < n) ⊎ (k ≡ n)
-last_index k n h = by (cases_eq k n)
-  where
-    by : (k ≡ n) ⊎ (k ≡ n → ⊥) → (k < n) ⊎ (k ≡ n)
-    by (inl e) = inr e
-    by (inr apart) = inl (omega arith)
+last_index k n h = search rules
 
 module _ (ats : List Address) (nested : AreNested ats) (a : Address) (s : Step) (p : ℕ) (there : place_of a ats ≡ Some p) (fresh : place_of (a ++ s ∷ []) ats ≡ None) where
   abbrev b : Address
@@ -46,20 +36,10 @@ module _ (ats : List Address) (nested : AreNested ats) (a : Address) (s : Step) 
   apart_from_place k c at apart e = apart (let h : Some k ≡ Some p = sym at ∙ ap (λ t. place_of t ats) (sym e) ∙ there in cc)
 
   own_more : (k : ℕ) (d : Address) → k < length (ats ++ b ∷ []) → place_of (slice_index_or (ats ++ b ∷ []) k d) (ats ++ b ∷ []) ≡ Some k
-  own_more k d high = by (last_index k (length ats) (let long = length_push ats b in omega arith))
-    where
-      by : (k < length ats) ⊎ (k ≡ length ats) → place_of (slice_index_or (ats ++ b ∷ []) k d) (ats ++ b ∷ []) ≡ Some k
-      by (inl low) =
-          rw (get_or_append_left ats (b ∷ []) d k low)
-          (place-old (slice_index_or ats k d) (λ e. none_is_some k (sym fresh ∙ ap (λ t. place_of t ats) e ∙ nested.own k d low)) ∙ nested.own k d low)
-      by (inr last) = rw (get_or_at ats b [] d k (sym last)) (place-new b refl ∙ ap Some (sym last))
+  own_more k d high = search (rules, last_index, length_push, get_or_append_left, place-old, none_is_some, get_or_at, place-new)
 
   above_more : (at : Address) (t : Step) → place_of at (ats ++ b ∷ []) ≡ None → place_of (at ++ t ∷ []) (ats ++ b ∷ []) ≡ None
-  above_more at t none =
-      let apart : b ≡ at → ⊥ = λ e. none_is_some (length ats) (sym none ∙ place-new at e) in
-      let before : place_of at ats ≡ None = sym (place-old at apart) ∙ none in
-      let other : a ≡ at → ⊥ = λ e. none_is_some p (sym before ∙ ap (λ x. place_of x ats) (sym e) ∙ there) in
-      place-elsewhere at t other ∙ nested.above at t before
+  above_more at t none = search (rules, none_is_some, place-new, place-old, place-elsewhere)
 
   pub AreNested-push : AreNested (ats ++ b ∷ [])
   AreNested-push = record { own = own_more; above = above_more }

@@ -1,14 +1,5 @@
 -- What one more line names, and what a reader of lines has after it.
-use Rattle.std.proofs.Common.{◌≡◌, ℕ, ◌+◌, ◌<◌, ◌≤◌, List, [], ◌∷◌, ◌++◌, length, take, Some, None, refl, ap, ◌∙◌, get_or, arith}
-use Rattle.std.specs.Prelude.{if◌then◌else◌}
-use Rattle.std.proofs.lemmas.List.{take_more, length-take-le}
-use Rattle.std.proofs.lemmas.List.Elements.{All-tail, All-append}
-use Rattle.toml_tree.specs.Tree.{Line}
-use Rattle.toml_names.specs.model.Addresses.{Address}
-use Rattle.toml_names.specs.mentions.Alike.{SectionGoesOn}
-use Rattle.toml_names.specs.mentions.Mentions.{Named, root, named, named_by, named_from, is_section}
-use Rattle.toml_names.specs.mentions.Rules.{misfit, KeepsRules, IsShort, max_steps}
-use Rattle.toml_names.specs.reader.Names.{AreGood, IsRedefined, IsLong}
+use Rattle.toml_names.proofs.Common.{◌≡◌, ℕ, ◌+◌, ◌<◌, ◌≤◌, List, [], ◌∷◌, ◌++◌, length, take, Some, None, refl, ap, ◌∙◌, get_or, arith, rules, if◌then◌else◌, take_more, length-take-le, All-tail, All-append, Line, Address, SectionGoesOn, Named, root, named, named_by, named_from, is_section, misfit, KeepsRules, IsShort, max_steps, AreGood, IsRedefined, IsLong}
 use Rattle.toml_names.proofs.lemmas.mentions.Offences.{misfit_is_first}
 use Rattle.toml_names.proofs.lemmas.mentions.Pairs.{KeepsRules-from_misfit}
 
@@ -24,17 +15,13 @@ IsShort-behind (m ∷ ms) new short = IsShort-behind ms new (All-tail (λ m. len
 
 named_from-push : (ls : List Line) (earlier : List Named) (n at : ℕ) (l : Line) → n + length ls ≡ at
     → named_from earlier n (ls ++ l ∷ []) ≡ named_from earlier n ls ++ named_by (named_from earlier n ls) at l.expr
-named_from-push [] earlier n at l is =
-    let same : n ≡ at = omega arith in
-    ap (λ k. earlier ++ named_by earlier k l.expr) same
+named_from-push [] earlier n at l is = search (rules)
 named_from-push (k ∷ ls) earlier n at l is = named_from-push ls (earlier ++ named_by earlier n k.expr) (n + 1) at l (omega arith)
 
 -- what one more line names
 pub named-more : (lines : List Line) (i : ℕ) (d : Line) → i < length lines
     → named (take (i + 1) lines) ≡ named (take i lines) ++ named_by (named (take i lines)) i (get_or lines i d).expr
-named-more lines i d low =
-    ap named (take_more lines i d low)
-    ∙ named_from-push (take i lines) (root ∷ []) 0 i (get_or lines i d) (omega (arith, length-take-le i lines (omega arith)))
+named-more lines i d low = search (rules, take_more, named_from-push, length-take-le)
 
 module _ (lines : List Line) (i : ℕ) (d : Line) (low : i < length lines) (good : AreGood (take i lines)) where
   abbrev earlier : List Named

@@ -1,13 +1,5 @@
 -- What is named at one address is of one kind, and values stand alone, where each thing joins those before it.
-use Rattle.std.proofs.Common.{◌≡◌, ℕ, ◌<◌, false, List, [], ◌∷◌, ◌++◌, length, get_or, All, AllPairs, Some, refl, sym, ap, ◌∙◌, subst, inl, inr, arith}
-use Rattle.std.proofs.lemmas.List.{append_assoc, append-nil}
-use Rattle.std.proofs.lemmas.List.Elements.{All-nil, All-cons, All-push, All-weaker}
-use Rattle.std.proofs.lemmas.List.Quantifiers.{all_pairs_push}
-use Rattle.std.proofs.lemmas.Option.{none-some, same_Some}
-use Rattle.toml_names.specs.model.Addresses.{Address}
-use Rattle.toml_names.specs.model.Data.{IsFact, fact_at}
-use Rattle.toml_names.specs.mentions.Joining.{is_lone, Joins, JoinAll, Joined, OneKind, FirstIsData, ValuesStandAlone}
-use Rattle.toml_names.specs.mentions.Mentions.{Kind, Named}
+use Rattle.toml_names.proofs.Common.{◌≡◌, ℕ, ◌<◌, false, List, [], ◌∷◌, ◌++◌, length, get_or, All, AllPairs, Some, refl, sym, ap, ◌∙◌, subst, inl, inr, arith, rules, append_assoc, append-nil, All-nil, All-cons, All-push, All-weaker, all_pairs_push, none-some, same_Some, Address, IsFact, fact_at, is_lone, Joins, JoinAll, Joined, OneKind, FirstIsData, ValuesStandAlone, Kind, Named}
 use Rattle.toml_names.proofs.lemmas.mentions.FactAt.{from_all, fact_here, found, fact_kept, fact_behind}
 
 -- it is of the kind that was named first at its address
@@ -30,8 +22,7 @@ abbrev Share : Named → Named → Type 0
 Share e l = e.address ≡ l.address → (is_lone e.role ≡ false) × (is_lone l.role ≡ false)
 
 shares : (ms : List Named) (m : Named) → AreOfOneKind ms → Joins ms m → (k : ℕ) (d : Named) → k < length ms → Share (get_or ms k d) m
-shares ms m all (inl free) k d low same = absurd (none-some _ (sym free.absent ∙ ap (fact_at ms) (sym same) ∙ all k d low))
-shares ms m all (inr again) k d low same = (again.others k d low same, again.shared)
+shares ms m all h2 k d low = search rules
 
 -- all that holds of what joined
 record Holds (ms : List Named) : Type 0 where
@@ -59,8 +50,7 @@ holds [] joined = record { kinds = All-nil _; alone = λ i j d low high. absurd 
 holds (m ∷ ms) joined = Holds-more ms (m ∷ []) (Holds-one m) joined
 
 is_first : (ms : List Named) → Joined ms → (at : Address) (k : Kind) → IsFact ms at k → fact_at ms at ≡ Some k
-is_first ms joined at k fact =
-    from_all _ _ _ ms (holds ms joined).kinds fact (λ e first is. ap (fact_at ms) (sym is.0) ∙ first ∙ ap Some is.1)
+is_first ms joined at k fact = search (rules, from_all, holds)
 
 pub one_kind : OneKind
 one_kind ms joined at k l one two = same_Some k l (sym (is_first ms joined at k one) ∙ is_first ms joined at l two)

@@ -1,9 +1,5 @@
 -- Mentions keep the rules exactly where no misfit is found among them, and what is found is the first offence.
-use Rattle.std.proofs.Common.{◌≡◌, Bool, true, false, List, [], ◌∷◌, ◌++◌, Some, refl, sym, ap, subst, ◌∙◌, true≢false}
-use Rattle.std.proofs.lemmas.List.{append_assoc, append-nil}
-use Rattle.toml_names.specs.model.Addresses.{Address}
-use Rattle.toml_names.specs.mentions.Mentions.{Named}
-use Rattle.toml_names.specs.mentions.Rules.{fits, misfit, KeepsRules, IsFirstOffence, NoMisfit, MisfitIsFirst}
+use Rattle.toml_names.proofs.Common.{◌≡◌, Bool, true, false, List, [], ◌∷◌, ◌++◌, Some, refl, sym, ap, subst, ◌∙◌, true≢false, append_assoc, append-nil, Address, Named, fits, misfit, KeepsRules, IsFirstOffence, NoMisfit, MisfitIsFirst}
 use Rattle.toml_names.proofs.lemmas.mentions.Misfits.{misfit-here, misfit-later, fits-from_misfit}
 use Rattle.toml_names.proofs.lemmas.mentions.Pairs.{KeepsRules-nil, KeepsRules-push, KeepsRules-from_misfit, misfit-from_KeepsRules}
 

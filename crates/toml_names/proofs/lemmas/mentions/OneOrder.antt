@@ -1,10 +1,5 @@
 -- There is one list of first mentions: no two addresses come each before the other, and lists in one order are one.
-use Rattle.std.proofs.Common.{◌≡◌, ◌⊎◌, inl, inr, ◌↔◌, ℕ, zero, suc, ◌+◌, ◌<◌, List, [], ◌∷◌, ◌++◌, length, length-append, Any, AllPairs, Contains, refl, sym, ap, subst, ◌∙◌, get_or, arith}
-use Rattle.std.proofs.lemmas.List.{append_assoc}
-use Rattle.std.proofs.lemmas.List.Elements.{Contains-get_or, Contains-append_right}
-use Rattle.toml_names.specs.model.Addresses.{Address}
-use Rattle.toml_names.specs.mentions.FirstMentions.{IsMentioned, ComesFirst, IsFirstMentions, OneListOfFirstMentions}
-use Rattle.toml_names.specs.mentions.Mentions.{Named}
+use Rattle.toml_names.proofs.Common.{◌≡◌, ◌⊎◌, inl, inr, ◌↔◌, ℕ, zero, suc, ◌+◌, ◌<◌, List, [], ◌∷◌, ◌++◌, length, length-append, Any, AllPairs, Contains, refl, sym, ap, subst, ◌∙◌, get_or, arith, rules, append_assoc, Contains-get_or, Contains-append_right, Address, IsMentioned, ComesFirst, IsFirstMentions, OneListOfFirstMentions, Named}
 use Rattle.toml_names.proofs.lemmas.mentions.FirstMentioned.{Mentions, any_cases}
 
 -- where the one that has it stands
@@ -43,8 +38,7 @@ never_both ms at other a b =
     descent (suc (length s.before)) ms at other a.1 b.1 s.before s.behind s.it (omega arith) s.is s.has
 
 contains_cases : (x : Address) (xs : List Address) (y : Address) → Contains (x ∷ xs) y → (x ≡ y) ⊎ Contains xs y
-contains_cases x xs y (zero, low, is) = inl is
-contains_cases x xs y (suc k, low, is) = inr (k, omega (arith, low), is)
+contains_cases x xs y h1 = search rules
 
 contains_here : (x : Address) (xs : List Address) → Contains (x ∷ xs) x
 contains_here x xs = (zero, omega arith, refl)

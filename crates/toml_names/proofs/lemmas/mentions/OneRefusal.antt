@@ -1,13 +1,6 @@
 -- Why the names of lines are refused is one fault: one line, and its first offence or a long address.
-use Rattle.std.proofs.Common.{◌≡◌, ◌<◌, ℕ, ◌+◌, ◌⊎◌, inl, inr, Bool, true, false, List, [], ◌∷◌, ◌++◌, take, Some, refl, sym, ap, subst, ◌∙◌, arith}
-use Rattle.std.proofs.lemmas.Bool.{cases_order}
-use Rattle.std.proofs.lemmas.List.{append_assoc, append-nil, append_cancel_left, take-take}
-use Rattle.toml_tree.specs.Tree.{Line}
+use Rattle.toml_names.proofs.Common.{◌≡◌, ◌<◌, ℕ, ◌+◌, ◌⊎◌, inl, inr, Bool, true, false, List, [], ◌∷◌, ◌++◌, take, Some, refl, sym, ap, subst, ◌∙◌, arith, rules, cases_order, append_assoc, append-nil, append_cancel_left, take-take, Line, Address, Named, named, AreGood, IsRedefined, IsLong, OneRefusal, fits, misfit, KeepsRules, IsFirstOffence}
 use Rattle.toml_names.specs.declared.fault.NameFault.TheVariants as faults
-use Rattle.toml_names.specs.model.Addresses.{Address}
-use Rattle.toml_names.specs.mentions.Mentions.{Named, named}
-use Rattle.toml_names.specs.reader.Names.{AreGood, IsRedefined, IsLong, OneRefusal}
-use Rattle.toml_names.specs.mentions.Rules.{fits, misfit, KeepsRules, IsFirstOffence}
 use Rattle.toml_names.proofs.lemmas.mentions.Misfits.{misfit-here, misfit-later}
 use Rattle.toml_names.proofs.lemmas.mentions.Pairs.{KeepsRules-push, fits-from_KeepsRules}
 use Rattle.toml_names.proofs.lemmas.mentions.Refused.{good_front, redefined_breaks}
@@ -21,17 +14,10 @@ misfit_behind (x ∷ before) earlier behind m keeps bad =
 
 -- a mention that breaks kept rules does not go with those before it
 offender : (ms : List Named) (m : Named) → KeepsRules ms → ¬ KeepsRules (ms ++ m ∷ []) → fits ms m ≡ false
-offender ms m keeps offends = by (fits ms m) refl
-  where
-    by : (b : Bool) → fits ms m ≡ b → b ≡ false
-    by true good = absurd (offends (KeepsRules-push ms m keeps good))
-    by false bad = refl
+offender ms m keeps offends = search (rules, KeepsRules-push)
 
 offence_misfit : (earlier new : List Named) (at : Address) → IsFirstOffence earlier new at → misfit earlier new ≡ Some at
-offence_misfit earlier new at o =
-    ap (misfit earlier) o.is
-    ∙ misfit_behind o.before earlier o.behind o.mention o.good (offender (earlier ++ o.before) o.mention o.good o.offends)
-    ∙ ap Some (sym o.address)
+offence_misfit earlier new at o = search (rules, misfit_behind, offender)
 
 one_offence : (earlier new more : List Named) (at other : Address) → IsFirstOffence earlier new at → IsFirstOffence earlier more other → new ≡ more → at ≡ other
 one_offence earlier new more at other a b same =

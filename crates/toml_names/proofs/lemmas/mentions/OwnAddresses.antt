@@ -1,15 +1,5 @@
 -- What is named by itself is so named once, and each line's own address is named and has a fact.
-use Rattle.std.proofs.Common.{◌≡◌, ℕ, ◌+◌, ◌==◌, Bool, true, false, cond, ◌&&◌, List, [], ◌∷◌, ◌++◌, length, Any, Option, Some, None, IfSome, IsSome, is_some, refl, sym, ap, ◌∙◌, inl, inr, arith}
-use Rattle.std.proofs.lemmas.Bool.{eqb-true}
-use Rattle.std.proofs.lemmas.Option.{none-some, same_Some}
-use Rattle.toml_names.specs.declared.mentions.mention.Role.{Role}
-use Rattle.toml_names.specs.declared.mentions.mention.Role.TheVariants.{Passed, Header, Dotted, Valued, Tables, Element, Bare}
-use Rattle.toml_names.specs.model.Addresses.{Address}
-use Rattle.toml_names.specs.mentions.Joining.{is_lone}
-use Rattle.toml_names.specs.mentions.Mentions.{Named, root, named, named_by}
-use Rattle.toml_names.specs.reader.Names.{is_own, line_address, own_address}
-use Rattle.toml_names.specs.mentions.OwnAddresses.{is_itself, LineIsNamed, ThemselvesDiffer, OwnAddressesDiffer, OwnAddressIsNamed, OwnAddressHasFact}
-use Rattle.toml_names.specs.mentions.Rules.{may_follow}
+use Rattle.toml_names.proofs.Common.{◌≡◌, ℕ, ◌+◌, ◌==◌, Bool, true, false, cond, ◌&&◌, List, [], ◌∷◌, ◌++◌, length, Any, Option, Some, None, IfSome, IsSome, is_some, refl, sym, ap, ◌∙◌, inl, inr, arith, rules, eqb-true, none-some, same_Some, Role, Passed, Header, Dotted, Valued, Tables, Element, Bare, Address, is_lone, Named, root, named, named_by, is_own, line_address, own_address, is_itself, LineIsNamed, ThemselvesDiffer, OwnAddressesDiffer, OwnAddressIsNamed, OwnAddressHasFact, may_follow}
 use Rattle.toml_names.proofs.lemmas.mentions.AllLines.{new_from, named_from-is}
 use Rattle.toml_names.proofs.Each.{Has, pairs_of_all, any_of_has, from_two}
 use Rattle.toml_names.proofs.lemmas.mentions.LineAddresses.{named_from-append, line_addresses}
@@ -24,32 +14,14 @@ line_is_named before behind l =
 -- ---- what is named by itself
 
 after_header : (s : Role) → is_itself s ≡ true → is_lone s ≡ false → may_follow Header s ≡ true → ⊥
-after_header Passed b y m = cc
-after_header Header b y m = cc
-after_header Dotted b y m = cc
-after_header Valued b y m = cc
-after_header Tables b y m = cc
-after_header Element b y m = cc
-after_header Bare b y m = cc
+after_header s b y m = search rules
 
 after_element : (s : Role) → is_itself s ≡ true → is_lone s ≡ false → may_follow Element s ≡ true → ⊥
-after_element Passed b y m = cc
-after_element Header b y m = cc
-after_element Dotted b y m = cc
-after_element Valued b y m = cc
-after_element Tables b y m = cc
-after_element Element b y m = cc
-after_element Bare b y m = cc
+after_element s b y m = search rules
 
 -- two that are not alone are of headers, and no header follows another
 no_two : (r s : Role) → is_itself r ≡ true → is_itself s ≡ true → is_lone r ≡ false → is_lone s ≡ false → may_follow r s ≡ true → ⊥
-no_two Passed s a b x y m = cc
-no_two Header s a b x y m = after_header s b y m
-no_two Dotted s a b x y m = cc
-no_two Valued s a b x y m = cc
-no_two Tables s a b x y m = cc
-no_two Element s a b x y m = after_element s b y m
-no_two Bare s a b x y m = cc
+no_two r s a b x y m = search rules
 
 pub themselves_differ : ThemselvesDiffer
 themselves_differ lines keeps i j d low high one other same =
@@ -64,22 +36,10 @@ IsOwnOf line at m = (m.address ≡ at) × (is_own m.role ≡ true) × (m.line �
 
 own_named : (ms : List Named) (line : ℕ) (at : Address) → line_address ms line ≡ Some at → Has (IsOwnOf line at) ms
 own_named [] line at found = none-some at found
-own_named (m ∷ ms) line at found = by (m.line == line) (is_own m.role) refl refl found (own_named ms line at)
-  where
-    by : (b c : Bool) → (m.line == line) ≡ b → is_own m.role ≡ c → cond (b && c) (Some m.address) (line_address ms line) ≡ Some at → (line_address ms line ≡ Some at → Has (IsOwnOf line at) ms)
-        → Has (IsOwnOf line at) (m ∷ ms)
-    by true true here own h later = inl (same_Some m.address at h, own, eqb-true m.line line here)
-    by true false here own h later = inr (later h)
-    by false c other own h later = inr (later h)
+own_named (m ∷ ms) line at found = search (rules, same_Some, eqb-true, own_named ms line at)
 
 own_itself : (r : Role) → is_own r ≡ true → is_itself r ≡ true
-own_itself Header own = refl
-own_itself Valued own = refl
-own_itself Element own = refl
-own_itself Bare own = refl
-own_itself Passed own = own
-own_itself Dotted own = own
-own_itself Tables own = own
+own_itself r own = search rules
 
 pub own_addresses_differ : OwnAddressesDiffer
 own_addresses_differ lines i j at keeps one other =
@@ -90,8 +50,7 @@ own_addresses_differ lines i j at keeps one other =
     (named lines) (pairs_of_all _ (named lines) (themselves_differ lines keeps)) (own_named (named lines) i at one) (own_named (named lines) j at other)
 
 if_some : {A : Type 0} (P : A → Type 0) (o : Option A) → ((x : A) → o ≡ Some x → P x) → IfSome o P
-if_some P None h = tt
-if_some P (Some x) h = h x refl
+if_some P o h = search rules
 
 pub own_address_is_named : OwnAddressIsNamed
 own_address_is_named before behind l =

@@ -1,11 +1,5 @@
 -- The rules over every two mentions, and the first misfit.
-use Rattle.std.proofs.Common.{◌≡◌, ℕ, suc, ◌+◌, ◌<◌, Bool, true, false, not, ◌||◌, List, [], ◌∷◌, ◌++◌, length, None, refl, sym, ap, ◌∙◌, get_or, length-append, arith}
-use Rattle.std.proofs.lemmas.List.{append_assoc, append-nil, get_or_append_left, get_or_at}
-use Rattle.std.proofs.lemmas.List.Quantifiers.{all_pairs_push}
-use Rattle.std.proofs.lemmas.List.Sums.{AllPass-from_list_all, list_all-from_AllPass}
-use Rattle.toml_names.specs.mentions.Mentions.{Named}
-use Rattle.toml_names.specs.model.Addresses.{same_address}
-use Rattle.toml_names.specs.mentions.Rules.{may_follow, fits, misfit, KeepsRules}
+use Rattle.toml_names.proofs.Common.{◌≡◌, ℕ, suc, ◌+◌, ◌<◌, Bool, true, false, not, ◌||◌, List, [], ◌∷◌, ◌++◌, length, None, refl, sym, ap, ◌∙◌, get_or, length-append, arith, rules, append_assoc, append-nil, get_or_append_left, get_or_at, all_pairs_push, AllPass-from_list_all, list_all-from_AllPass, Named, same_address, may_follow, fits, misfit, KeepsRules}
 use Rattle.toml_names.proofs.lemmas.model.Equal.{same_address-equal, same_address-self}
 use Rattle.toml_names.proofs.lemmas.mentions.Misfits.{misfit-later, fits-from_misfit}
 
@@ -19,11 +13,7 @@ goes-Goes : (e m : Named) → goes e m ≡ true → Goes e m
 goes-Goes e m h same = sym (ap (λ b. not b || may_follow e.role m.role) (ap (λ a. same_address a m.address) same ∙ same_address-self m.address)) ∙ h
 
 Goes-goes : (e m : Named) → Goes e m → goes e m ≡ true
-Goes-goes e m h = by (same_address e.address m.address) refl
-  where
-    by : (b : Bool) → same_address e.address m.address ≡ b → (not b || may_follow e.role m.role) ≡ true
-    by true same = h (same_address-equal e.address m.address same)
-    by false apart = refl
+Goes-goes e m h = search (rules, same_address-equal)
 
 pub at_each : (ms : List Named) (m : Named) → fits ms m ≡ true → (k : ℕ) (d : Named) → k < length ms → Goes (get_or ms k d) m
 at_each ms m good k d low = goes-Goes (get_or ms k d) m (AllPass-from_list_all (λ e. goes e m) ms good k d low)

@@ -1,23 +1,13 @@
 -- Lines of which the names are refused are not good.
-use Rattle.std.proofs.Common.{◌≡◌, ◌≤◌, ℕ, ◌+◌, true, length-append, List, [], ◌∷◌, ◌++◌, length, take, drop, sym, refl, ap, subst, ◌∙◌, get_or, arith}
-use Rattle.std.proofs.lemmas.List.{append_assoc, append-nil, get_or_append_left, take-append-drop}
-use Rattle.std.proofs.lemmas.List.Elements.{All-head, All-tail, All-cons, All-nil}
-use Rattle.toml_tree.specs.Tree.{Line}
+use Rattle.toml_names.proofs.Common.{◌≡◌, ◌≤◌, ℕ, ◌+◌, true, length-append, List, [], ◌∷◌, ◌++◌, length, take, drop, sym, refl, ap, subst, ◌∙◌, get_or, arith, rules, append_assoc, append-nil, get_or_append_left, take-append-drop, All-head, All-tail, All-cons, All-nil, Line, Address, Named, root, named, named_by, named_from, may_follow, KeepsRules, IsShort, max_steps, AreGood, IsRedefined, RefusedAreBad}
 use Rattle.toml_names.specs.declared.fault.NameFault.TheVariants as faults
-use Rattle.toml_names.specs.model.Addresses.{Address}
-use Rattle.toml_names.specs.mentions.Mentions.{Named, root, named, named_by, named_from}
-use Rattle.toml_names.specs.mentions.Rules.{may_follow, KeepsRules, IsShort, max_steps}
-use Rattle.toml_names.specs.reader.Names.{AreGood, IsRedefined, RefusedAreBad}
 
 abbrev Goes : Named → Named → Type 0
 Goes e l = e.address ≡ l.address → may_follow e.role l.role ≡ true
 
 -- what keeps the rules keeps them up to any place
 KeepsRules-front : (ms more : List Named) → KeepsRules (ms ++ more) → KeepsRules ms
-KeepsRules-front ms more keeps i j d before low =
-    subst (λ e. Goes e (get_or ms j d)) (get_or_append_left ms more d i (omega arith))
-    (subst (λ l. Goes (get_or (ms ++ more) i d) l) (get_or_append_left ms more d j low)
-    (keeps i j d before (omega (arith, length-append ms more))))
+KeepsRules-front ms more keeps = search (rules, get_or_append_left, length-append)
 
 abbrev HasSteps : Named → Type 0
 HasSteps m = length m.address ≤ max_steps

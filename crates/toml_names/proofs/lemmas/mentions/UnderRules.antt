@@ -1,6 +1,5 @@
 -- What joins has one kind at each address and values that stand alone, and under the rules all that is named joins.
-use Rattle.toml_names.specs.model.DataLaws.{LinesHaveOneKind, LineValuesStandAlone, ValuesHaveOneKind, InnerValuesStandAlone}
-use Rattle.toml_names.specs.mentions.Mentions.{named, value_facts}
+use Rattle.toml_names.proofs.Common.{LinesHaveOneKind, LineValuesStandAlone, ValuesHaveOneKind, InnerValuesStandAlone, named, value_facts}
 use Rattle.toml_names.proofs.lemmas.mentions.AllLines.{lines_join}
 use Rattle.toml_names.proofs.lemmas.mentions.FirstNamed.{values_join}
 use Rattle.toml_names.proofs.lemmas.mentions.OfOneKind.{one_kind, values_stand_alone}

@@ -1,9 +1,5 @@
 -- What a search for a misfit tells of the rules, and the first kinds of the data.
-use Rattle.std.proofs.Common.{◌≡◌, List, sym, ap, ◌∙◌}
-use Rattle.toml_names.specs.model.Addresses.{Address}
-use Rattle.toml_names.specs.model.Data.{Kinds, IsDataOf, fact_at}
-use Rattle.toml_names.specs.mentions.Joining.{Joined}
-use Rattle.toml_names.specs.mentions.Mentions.{Named}
+use Rattle.toml_names.proofs.Common.{◌≡◌, List, sym, ap, ◌∙◌, Address, Kinds, IsDataOf, fact_at, Joined, Named}
 use Rattle.toml_names.proofs.lemmas.mentions.OfOneKind.{first_is_data}
 
 -- a map that has the first kind named at each address is the data

@@ -1,12 +1,8 @@
 -- Which address is strictly above which.
-use Rattle.std.proofs.Common.{◌≡◌, ℕ, zero, suc, ◌<◌, ◌≤◌, true, false, ◌&&◌, [], ◌∷◌, length, drop, refl, ap, ◌∙◌, arith}
-use Rattle.std.specs.Prelude.{Bool}
-use Rattle.std.proofs.lemmas.List.{drop_all}
-use Rattle.toml_names.specs.model.Addresses.{Address, same_step, is_above}
+use Rattle.toml_names.proofs.Common.{common_steps, ◌≡◌, ℕ, zero, suc, ◌<◌, ◌≤◌, true, false, ◌&&◌, [], ◌∷◌, length, drop, refl, ap, ◌∙◌, arith, rules, Bool, drop_all, Address, same_step, is_above}
 
 pub and_false : (b : Bool) → (b && false) ≡ false
-and_false true = refl
-and_false false = refl
+and_false b = search rules
 
 pub above_short : (a b : Address) → length b ≤ length a → is_above a b ≡ false
 above_short [] [] h = refl
@@ -15,13 +11,10 @@ above_short (s ∷ a) [] h = refl
 above_short (s ∷ a) (t ∷ b) h = ap (λ r. same_step s t && r) (above_short a b (omega arith)) ∙ and_false (same_step s t)
 
 above_nil : (b : Address) → 0 < length b → is_above [] b ≡ true
-above_nil [] h = absurd (omega arith)
-above_nil (t ∷ b) h = refl
+above_nil b h = search rules
 
 drop_some : (b : Address) (i : ℕ) → i < length b → 0 < length (drop i b)
-drop_some [] i h = absurd (omega arith)
-drop_some (t ∷ b) zero h = omega arith
-drop_some (t ∷ b) (suc i) h = drop_some b i (omega arith)
+drop_some b i h = grind (arith, common_steps)
 
 -- the shorter one was gone through
 pub above_end : (a b : Address) (i : ℕ) → length a < length b → length a ≤ i → i ≤ length a → is_above (drop i a) (drop i b) ≡ true

@@ -1,11 +1,5 @@
 -- The data of what is named are one map, in which nothing stands below nothing.
-use Rattle.std.proofs.Common.{◌≡◌, List, [], ◌∷◌, ◌++◌, Option, Some, None, refl, sym, ap, ◌∙◌, subst, append_assoc, append-nil}
-use Rattle.toml_tree.specs.Tree.{Line}
-use Rattle.toml_names.specs.model.Addresses.{Address}
-use Rattle.toml_names.specs.model.Data.{Kinds, IsDataOf, IsClosed, fact_at}
-use Rattle.toml_names.specs.model.DataLaws.{OneData, LinesAreClosed, ValuesAreClosed}
-use Rattle.toml_names.specs.mentions.Joining.{JoinAll, Joined}
-use Rattle.toml_names.specs.mentions.Mentions.{Kind, Named, root, named, value_facts, inside}
+use Rattle.toml_names.proofs.Common.{◌≡◌, List, [], ◌∷◌, ◌++◌, Option, Some, None, refl, sym, ap, ◌∙◌, subst, append_assoc, append-nil, rules, Line, Address, Kinds, IsDataOf, IsClosed, fact_at, OneData, LinesAreClosed, ValuesAreClosed, JoinAll, Joined, Kind, Named, root, named, value_facts, inside}
 use Rattle.toml_names.proofs.lemmas.mentions.AllLines.{new_from, named_from-is, lines_join}
 use Rattle.toml_names.proofs.lemmas.mentions.FirstNamed.{values_join}
 use Rattle.toml_names.proofs.lemmas.mentions.Growing.{IsClosed-push}
@@ -18,16 +12,13 @@ closed_all (m ∷ more) ms closed joins = subst (λ l. IsClosed (fact_at l)) (ap
 
 -- the root alone
 closed_root : (m : Named) → m.address ≡ [] → IsClosed (fact_at (m ∷ []))
-closed_root m root [] s h = rw root refl
-closed_root m root (t ∷ at) s h = rw root refl
+closed_root m root = search rules
 
 pub closed_joined : (m : Named) (ms : List Named) → m.address ≡ [] → Joined (m ∷ ms) → IsClosed (fact_at (m ∷ ms))
 closed_joined m ms root joined = closed_all ms (m ∷ []) (closed_root m root) joined
 
 pub closed_lines : (lines : List Line) → Joined (named lines) → IsClosed (fact_at (named lines))
-closed_lines lines joined =
-    let is = named_from-is lines (root ∷ []) 0 in
-    subst (λ l. IsClosed (fact_at l)) (sym is) (closed_joined root (new_from (root ∷ []) 0 lines) refl (subst Joined is joined))
+closed_lines lines joined = search (rules, named_from-is, closed_joined, new_from)
 
 -- where nothing stands, nothing stands at any depth below
 pub closed_below : (kinds : Kinds) → IsClosed kinds → (r at : Address) → kinds at ≡ None → kinds (at ++ r) ≡ None
@@ -51,5 +42,4 @@ pub lines_are_closed : LinesAreClosed
 lines_are_closed lines kinds keeps facts = as_first (named lines) kinds (lines_join lines keeps) facts (closed_lines lines (lines_join lines keeps))
 
 pub values_are_closed : ValuesAreClosed
-values_are_closed v kinds keeps facts =
-    as_first (value_facts v) kinds (values_join v keeps) facts (closed_joined _ (inside 0 [] v) refl (values_join v keeps))
+values_are_closed = search (rules, as_first, values_join, closed_joined)

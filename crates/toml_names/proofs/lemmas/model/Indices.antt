@@ -1,21 +1,12 @@
 -- Each index in what a text names is below its length, since each element takes a byte, and so does each header.
-use Rattle.std.proofs.Common.{◌≡◌, ℕ, ◌+◌, ◌-◌, ◌<◌, ◌≤◌, ◌==◌, Bool, true, false, cond, List, [], ◌∷◌, ◌++◌, map, length, drop, ap, refl, arith, length-append}
-use Rattle.std.proofs.lemmas.Bool.{eqb-false}
-use Rattle.std.proofs.lemmas.List.{length-drop}
-use Rattle.toml_tree.specs.Spells.{EachIs, Part, joined, value_parts, items_parts, pairs_parts, gap_parts, assign_parts, blank_parts, header_parts, array_header_parts, expr_parts, lines_parts, line_parts, piece, symbol, mark_of}
+use Rattle.toml_names.proofs.Common.{common_steps, ◌≡◌, ℕ, ◌+◌, ◌-◌, ◌<◌, ◌≤◌, ◌==◌, Bool, true, false, cond, List, [], ◌∷◌, ◌++◌, map, length, drop, ap, refl, arith, length-append, rules, eqb-false, length-drop, EachIs, Part, joined, value_parts, items_parts, pairs_parts, gap_parts, assign_parts, blank_parts, header_parts, array_header_parts, expr_parts, lines_parts, line_parts, symbol, Piece, Blank, Assign, Value, Scalar, Array, Inline, Items, Close, Last, More, Pairs, ClosePairs, LastPair, MorePairs, Expr, BlankLine, KeyValLine, TableLine, ArrayTableLine, Line, Name, Index, Passed, Header, Tables, Element, Valued, Address, child, element, below, Key, key_names, part_name, rest_names, an_array, Named, root, named_by, named_from, table_at, value_named, inside, elements, members, fronts, pair_named, section, section_from, is_section, is_tables_at, count_tables, entered, followed, ends_table, ends_tables, sizes_add}
+use Rattle.toml_tree.specs.Spells.{piece, mark_of}
 use Rattle.toml_tree.specs.Tree as spelled
-use Rattle.toml_tree.specs.Tree.{Piece, Blank, Assign, Value, Scalar, Array, Inline, Items, Close, Last, More, Pairs, ClosePairs, LastPair, MorePairs, Expr, BlankLine, KeyValLine, TableLine, ArrayTableLine, Line}
-use Rattle.toml_names.specs.declared.model.address.Step.TheVariants.{Name, Index}
-use Rattle.toml_names.specs.declared.mentions.mention.Role.TheVariants.{Passed, Header, Tables, Element, Valued}
-use Rattle.toml_names.specs.model.Addresses.{Address, child, element, below}
 use Rattle.toml_names.specs.model.Indices.{IsLow, IsLowStep, IndicesAreLow, ValueIndicesAreLow}
-use Rattle.toml_names.specs.mentions.Keys.{Key, key_names, part_name, rest_names}
-use Rattle.toml_names.specs.mentions.Mentions.{an_array, Named, root, named_by, named_from, table_at, value_named, inside, elements, members, fronts, pair_named, section, section_from, is_section, is_tables_at, count_tables, entered, followed, ends_table, ends_tables}
 use Rattle.toml_names.proofs.lemmas.mentions.Counting.{adds, adds_none, count_cons}
 use Rattle.toml_names.proofs.Each.{each_append}
 use Rattle.toml_names.proofs.lemmas.mentions.NoTables.{count-append, no_tables-pair}
 use Rattle.toml_tree.specs.Parts.{size}
-use Rattle.toml_tree.proofs.Proved.{sizes_add}
 
 module _ (n : ℕ) where
   abbrev AllLow : List Named → Type 0
@@ -40,10 +31,7 @@ module _ (n : ℕ) where
   fronts_low line (name ∷ m ∷ more) at low = (low_child at name low, fronts_low line (m ∷ more) (child at name) (low_child at name low))
 
   pair_low : (line : ℕ) (a : Assign) (v : Value) (at : Address) → IsLow n at → ((to : Address) → IsLow n to → AllLow (inside line to v)) → AllLow (pair_named line at a v)
-  pair_low line a v at low within =
-      let key = key_names a.key in
-      let to = low_below at key low in
-      each_append (λ m. IsLow n m.address) (fronts line at key) (value_named line Valued (below at key) v ∷ inside line (below at key) v) (fronts_low line key at low) (to, within (below at key) to)
+  pair_low line a v at low within = search (rules, low_below, each_append, fronts_low)
 
   mutual
     inside_low : (line : ℕ) (v : Value) (at : Address) → IsLow n at → size (value_parts v) ≤ n → AllLow (inside line at v)
@@ -89,11 +77,7 @@ module _ (n : ℕ) where
   -- ---- headers
 
   entered_low : (xs : List Named) (used : ℕ) (at : Address) → count_tables xs at ≤ used → used ≤ n → IsLow n at → IsLow n (entered xs at)
-  entered_low xs used at counted fits low = by (count_tables xs at == 0) refl
-    where
-      by : (b : Bool) → (count_tables xs at == 0) ≡ b → IsLow n (cond b at (element at (count_tables xs at - 1)))
-      by true is = low
-      by false other = let some = eqb-false (count_tables xs at) 0 other in low_element at (count_tables xs at - 1) low (omega arith)
+  entered_low xs used at counted fits low = grind (arith, common_steps)
 
   followed_low : (ns : Key) (name : List ℕ) (line : ℕ) (xs : List Named) (used : ℕ) (end : Address → List Named) (at : Address) → ((q : Address) → count_tables xs q ≤ used) → used ≤ n
       → ((here : Address) → IsLow n here → AllLow (end here)) → IsLow n at → AllLow (followed line xs end at (name ∷ ns))
@@ -113,11 +97,7 @@ module _ (n : ℕ) where
 -- ---- how many arrays of tables a line names
 
 adds_one : (q : Address) (m : Named) → adds q m ≤ 1
-adds_one q m = by (is_tables_at q m)
-  where
-    by : (b : Bool) → cond b 1 0 ≤ 1
-    by true = omega arith
-    by false = omega arith
+adds_one q m = search rules
 
 followed_counts : (ns : Key) (name : List ℕ) (line : ℕ) (xs : List Named) (end : Address → List Named) (at q : Address) → ((here : Address) → count_tables (end here) q ≤ 1)
     → count_tables (followed line xs end at (name ∷ ns)) q ≤ 1
@@ -131,22 +111,10 @@ followed_counts (m ∷ ns) name line xs end at q ends =
     omega (arith, passed, all, later)
 
 table_counts : (line : ℕ) (q here : Address) → count_tables (ends_table line here) q ≤ 1
-table_counts line q here =
-    let header = adds_none (table_at line Header here) q refl in
-    let all = count_cons (table_at line Header here) [] q in
-    let none : count_tables [] q ≡ 0 = refl in
-    omega (arith, header, all, none)
+table_counts line q here = search rules
 
 tables_counts : (line : ℕ) (xs : List Named) (q here : Address) → count_tables (ends_tables line xs here) q ≤ 1
-tables_counts line xs q here =
-    let next = table_at line Element (element here (count_tables xs here)) in
-    let array : Named = record { address = here; role = Tables; kind = an_array; line = line } in
-    let element_none = adds_none next q refl in
-    let one = adds_one q array in
-    let all = count_cons array (next ∷ []) q in
-    let rest = count_cons next [] q in
-    let none : count_tables [] q ≡ 0 = refl in
-    omega (arith, element_none, one, all, rest, none)
+tables_counts line xs q here = search rules
 
 -- a header has a byte
 some_behind : (ws : Piece) (ps : List Part) → 1 ≤ size ps → 1 ≤ size (piece ws ∷ ps)
@@ -174,11 +142,7 @@ new_counts xs line (ArrayTableLine ws header tail) q =
 
 module _ (n : ℕ) where
   value_fits : (ws : Piece) (a : Assign) (v : Value) (tail : List Part) → size (value_parts v) ≤ size (piece ws ∷ ((assign_parts a ++ value_parts v) ++ tail))
-  value_fits ws a v tail =
-      let none = length-append ws.text (joined ((assign_parts a ++ value_parts v) ++ tail)) in
-      let one = sizes_add (assign_parts a ++ value_parts v) tail in
-      let two = sizes_add (assign_parts a) (value_parts v) in
-      omega (arith, none, one, two)
+  value_fits ws a v tail = search (rules, length-append, sizes_add)
 
   line_low : (xs : List Named) (line : ℕ) (e : Expr) (used : ℕ) → AllLow n xs → ((q : Address) → count_tables xs q ≤ used) → used + size (expr_parts e) ≤ n → AllLow n (named_by xs line e)
   line_low xs line (BlankLine b) used low counted fits = tt

@@ -1,18 +1,9 @@
 -- Names in a table of the tree and in a table of data: as many in both, where those of the one are those of the other.
-use Rattle.std.proofs.Common.{◌≡◌, ℕ, suc, ◌≤◌, Bool, true, false, cond, List, [], ◌∷◌, length, map, Option, Some, None, IsSome, is_some, String, BTreeMap, Global, string_bytes, string_cmp, refl, sym, ap, subst, ◌∙◌, arith}
+use Rattle.toml_names.proofs.Common.{common_steps, ◌≡◌, ℕ, suc, ◌≤◌, Bool, true, false, cond, List, [], ◌∷◌, length, map, Option, Some, None, IsSome, is_some, String, BTreeMap, Global, string_bytes, string_cmp, refl, sym, ap, subst, ◌∙◌, arith, rules, is_eq-slice_cmp, bytes_eq-Decides, is_at, get_by_text, btree_map_len, IsOrdered, slice_cmp, nat_list_eq_equiv, AllByRecursion, list_any, lookup, keys_of, nat_cmp, eq_by_cmp, bytes_eq, Datum, AreDistinct}
 use Rattle.std.proofs.lemmas.Map.Keys.{IsDistinct-cons, IsDistinct-head, IsDistinct-tail, IsDistinct-from_sorted}
 use Rattle.std.proofs.lemmas.Map.Made.{is_some-lookup}
 use Rattle.std.proofs.lemmas.Map.Steps.{length-le_from_keys}
-use Rattle.std.proofs.lemmas.Map.Text.{is_eq-slice_cmp}
-use Rattle.std.proofs.lemmas.Slice.Eq.{bytes_eq-Decides}
-use Rattle.std.specs.BTreeMap.{is_at, get_by_text, btree_map_len, IsOrdered}
-use Rattle.std.specs.Cmp.Lexicographic.{slice_cmp, nat_list_eq_equiv}
-use Rattle.std.specs.List.{IsDistinct, AllByRecursion, list_any}
-use Rattle.std.specs.Map.{lookup, keys_of}
-use Rattle.std.specs.Ordering.{nat_cmp, eq_by_cmp}
-use Rattle.std.specs.Str.{bytes_eq}
-use Rattle.toml_names.specs.declared.model.datum.Datum.{Datum}
-use Rattle.toml_names.specs.tree.NameMaps.{AreDistinct}
+use Rattle.std.specs.List.{IsDistinct}
 use Rattle.toml_names.proofs.lemmas.model.Alike.{Entry}
 
 abbrev Pairs : Type 0
@@ -31,16 +22,11 @@ by_name n (e ∷ es) = rw (is_eq-slice_cmp n (string_bytes e.0)) (ap (λ o. cond
 
 fresh_by : {X : Type 0} (n : List ℕ) (es : List (List ℕ × X)) → lookup (bytes_eq n) es ≡ None → AllByRecursion (λ y. bytes_eq n y ≡ false) (keys_of es)
 fresh_by n [] none = tt
-fresh_by n (e ∷ es) none = by (bytes_eq n e.0) refl none (fresh_by n es)
-  where
-    by : (b : Bool) → bytes_eq n e.0 ≡ b → cond b (Some e.1) (lookup (bytes_eq n) es) ≡ None → (lookup (bytes_eq n) es ≡ None → AllByRecursion (λ y. bytes_eq n y ≡ false) (keys_of es))
-        → (bytes_eq n e.0 ≡ false) × AllByRecursion (λ y. bytes_eq n y ≡ false) (keys_of es)
-    by true is none rest = cc
-    by false is none rest = (is, rest none)
+fresh_by n (e ∷ es) none = search (rules, fresh_by n es)
 
 none_distinct : IsDistinct bytes_eq []
 unfolding IsDistinct
-none_distinct = tt
+none_distinct = cc
 
 children_distinct : (es : Pairs) → AreDistinct es → IsDistinct bytes_eq (keys_of es)
 children_distinct [] are = none_distinct
@@ -58,16 +44,13 @@ names_distinct (e ∷ es) are =
     (names_distinct es (IsDistinct-tail (eq_by_cmp string_cmp) e.0 (keys_of es) are))
 
 length-names_of : (es : List Entry) → length (names_of es) ≡ length es
-length-names_of [] = refl
-length-names_of (e ∷ es) = ap suc (length-names_of es)
+length-names_of es = grind (arith, common_steps)
 
 length-named : (es : List Entry) → length (named es) ≡ length es
-length-named [] = refl
-length-named (e ∷ es) = ap suc (length-named es)
+length-named es = grind (arith, common_steps)
 
 length-keys : {X : Type 0} (es : List (List ℕ × X)) → length (keys_of es) ≡ length es
-length-keys [] = refl
-length-keys (e ∷ es) = ap suc (length-keys es)
+length-keys es = grind (arith, common_steps)
 
 module _ (children : Pairs) (m : BTreeMap (String Global) Datum) (apart : AreDistinct children) (ordered : IsOrdered string_cmp m) where
   -- as many names where those of the one are those of the other

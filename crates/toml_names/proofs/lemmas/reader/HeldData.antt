@@ -1,16 +1,5 @@
 -- Whether data are those of the lines that a reader took.
-use Rattle.std.proofs.Common.{◌≡◌, ◌↔◌, ℕ, List, ◌++◌, Bool, Result, Ok, Err, IfOk, IsTrue, Option, Some, None, refl, sym, ap, ◌∙◌}
-use Rattle.std.proofs.lemmas.Option.{none-some}
-use Rattle.toml_tree.specs.Tree.{Line}
-use Rattle.toml_names.specs.declared.model.datum.Datum.{Datum}
-use Rattle.toml_names.specs.model.Addresses.{Address}
-use Rattle.toml_names.specs.model.Data.{Kinds, IsDataOf, fact_at, kind_at}
-use Rattle.toml_names.specs.tree.Held.{Holds, node_kind}
-use Rattle.toml_names.specs.mentions.Joining.{Joined}
-use Rattle.toml_names.specs.mentions.Mentions.{Kind, Named, named}
-use Rattle.toml_names.specs.tree.NameTree.{IsTreeOf}
-use Rattle.toml_names.specs.tree.Nodes.{Spot, address_at, addresses, nowhere, place_of}
-use Rattle.toml_names.specs.reader.Reading.{IsReader}
+use Rattle.toml_names.proofs.Common.{◌≡◌, ◌↔◌, ℕ, List, ◌++◌, Bool, Result, Ok, Err, IfOk, IsTrue, Option, Some, None, refl, sym, ap, ◌∙◌, none-some, Line, Datum, Address, Kinds, IsDataOf, fact_at, kind_at, Holds, node_kind, Joined, Kind, Named, named, IsTreeOf, Spot, address_at, addresses, nowhere, place_of, IsReader}
 use Rattle.toml_names.proofs.lemmas.tree.LineRanks.{joined, root_facts}
 use Rattle.toml_names.proofs.lemmas.mentions.OfOneKind.{first_is_data}
 use Rattle.toml_names.proofs.lemmas.tree.Walking.{leads_to, root_address}

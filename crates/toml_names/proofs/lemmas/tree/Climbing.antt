@@ -1,10 +1,5 @@
 -- From a node up to the root, its steps from the last to the first.
-use Rattle.std.proofs.Common.{◌≡◌, ℕ, ◌<◌, List, [], ◌∷◌, ◌++◌, length, Some, None, sym, ap, ◌∙◌, slice_index_or}
-use mathlib.Core.List.{reverse}
-use Rattle.std.proofs.lemmas.List.{append_assoc, reverse-append}
-use Rattle.toml_names.specs.declared.model.address.Step.{Step}
-use Rattle.toml_names.specs.tree.NameTree.{IsTree}
-use Rattle.toml_names.specs.tree.Nodes.{Spot, nowhere, address_under, addresses, address_at}
+use Rattle.toml_names.proofs.Common.{◌≡◌, ℕ, ◌<◌, List, [], ◌∷◌, ◌++◌, length, Some, None, sym, ap, ◌∙◌, slice_index_or, rules, reverse, append_assoc, reverse-append, Step, IsTree, Spot, nowhere, address_under, addresses, address_at}
 use Rattle.toml_names.proofs.lemmas.tree.NodeAddresses.{address_at-under}
 
 module _ (nodes : List Spot) (tree : IsTree nodes) (id here : ℕ) (low : here < length nodes) (steps : List Step) (so_far : address_at nodes id ≡ address_at nodes here ++ reverse steps) where
@@ -13,10 +8,7 @@ module _ (nodes : List Spot) (tree : IsTree nodes) (id here : ℕ) (low : here <
 
   pub climbed : (p : ℕ) (s : Step) → Some (p, s) ≡ (slice_index_or nodes here nowhere).under → (more : List Step) → more ≡ steps ++ s ∷ []
       → address_at nodes id ≡ address_at nodes p ++ reverse more
-  climbed p s is more pushed =
-      at_here ∙ ap (λ u. address_under (addresses nodes) u ++ reverse steps) (sym is)
-      ∙ append_assoc (address_at nodes p) (s ∷ []) (reverse steps)
-      ∙ ap (λ l. address_at nodes p ++ l) (sym (ap reverse pushed ∙ reverse-append steps (s ∷ [])))
+  climbed p s is more pushed = search (rules, at_here, append_assoc, reverse-append)
 
   pub climbs : (p : ℕ) (s : Step) → Some (p, s) ≡ (slice_index_or nodes here nowhere).under → p < here
   climbs p s is = tree.rising here nowhere p s low (sym is)

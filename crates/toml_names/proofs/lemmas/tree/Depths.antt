@@ -1,9 +1,5 @@
 -- A node's depth is at most its place among the nodes.
-use Rattle.std.proofs.Common.{◌≡◌, ℕ, zero, suc, ◌<◌, ◌≤◌, List, length, Option, Some, None, refl, ap, slice_index_or, arith}
-use Rattle.std.proofs.lemmas.List.{length_push}
-use Rattle.toml_names.specs.declared.model.address.Step.{Step}
-use Rattle.toml_names.specs.tree.NameTree.{IsTree}
-use Rattle.toml_names.specs.tree.Nodes.{Spot, nowhere, address_under, addresses, address_at}
+use Rattle.toml_names.proofs.Common.{◌≡◌, ℕ, zero, suc, ◌<◌, ◌≤◌, List, length, Option, Some, None, refl, ap, slice_index_or, arith, rules, length_push, Step, IsTree, Spot, nowhere, address_under, addresses, address_at}
 use Rattle.toml_names.proofs.lemmas.tree.NodeAddresses.{address_at-under}
 
 module _ (nodes : List Spot) (tree : IsTree nodes) where
@@ -26,13 +22,7 @@ module _ (nodes : List Spot) (tree : IsTree nodes) where
 
   -- of what the code read at the node
   pub depth_at : (k : ℕ) (d : Spot) → k < length nodes → (slice_index_or nodes k d).depth ≤ k
-  depth_at k d low =
-      let short = up_to (suc k) k (omega arith) low in
-      let is = tree.deep k d low in
-      omega arith
+  depth_at k d low = search (rules, up_to)
 
   pub depth_read : (k : ℕ) (v : Spot) → k < length nodes → v ≡ slice_index_or nodes k v → v.depth ≤ k
-  depth_read k v low read =
-      let short = depth_at k v low in
-      let is = ap (λ s. s.depth) read in
-      omega arith
+  depth_read k v low read = search (rules, depth_at)

@@ -1,11 +1,5 @@
 -- One more element of an array in a value: its index is free, and its node leads nowhere.
-use Rattle.std.proofs.Common.{◌≡◌, ℕ, ◌<◌, List, [], length, slice_index_or}
-use Rattle.toml_names.specs.declared.model.address.Step.TheVariants.{Name, Index}
-use Rattle.toml_names.specs.declared.mentions.mention.Role.TheVariants.{Bare}
-use Rattle.toml_names.specs.mentions.Mentions.{Kind}
-use Rattle.toml_names.specs.tree.NameTree.{IsTree}
-use Rattle.toml_names.specs.tree.Nodes.{Spot, grown, nowhere}
-use Rattle.toml_names.specs.tree.Steps.{Grows, IsNode}
+use Rattle.toml_names.proofs.Common.{◌≡◌, ℕ, ◌<◌, List, [], length, slice_index_or, Name, Index, Bare, Kind, IsTree, Spot, grown, nowhere, Grows, IsNode}
 use Rattle.toml_names.proofs.lemmas.tree.EnterElement.{fresh_element, LeadsTo-element, lone-element}
 use Rattle.toml_names.proofs.lemmas.tree.TreeGrown.{IsTree-grown}
 

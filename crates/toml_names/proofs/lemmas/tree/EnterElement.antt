@@ -1,26 +1,10 @@
 -- What entering the next element of an array in a value leaves.
-use Rattle.std.proofs.Common.{◌≡◌, ℕ, ◌+◌, ◌<◌, ◌&&◌, Bool, true, false, cond, List, [], ◌∷◌, ◌++◌, length, Some, None, refl, sym, ap, ◌∙◌, slice_index_or, arith}
-use Rattle.std.proofs.lemmas.Bool.{cond-false}
-use Rattle.std.proofs.lemmas.Option.{none-some, slice_get_past}
-use Rattle.toml_names.specs.declared.model.address.Step.TheVariants.{Index}
-use Rattle.toml_names.specs.declared.mentions.mention.Role.{Role}
-use Rattle.toml_names.specs.declared.mentions.mention.Role.TheVariants.{Passed, Header, Dotted, Valued, Tables, Element, Bare}
-use Rattle.toml_names.specs.model.Addresses.{Address, same_address, element}
-use Rattle.toml_names.specs.mentions.Mentions.{Kind, Named, is_tables, is_tables_at, count_tables}
-use Rattle.toml_names.specs.tree.NameTree.{IsTree, IsTreeOf, LeadsTo, KeepsOthers}
-use Rattle.toml_names.specs.tree.Nodes.{Spot, addresses, address_at, place_of, grown}
-use Rattle.toml_names.specs.model.Places.{same_role, first_line}
+use Rattle.toml_names.proofs.Common.{common_steps, ◌≡◌, ℕ, ◌+◌, ◌<◌, ◌&&◌, Bool, true, false, cond, List, [], ◌∷◌, ◌++◌, length, Some, None, refl, sym, ap, ◌∙◌, slice_index_or, arith, rules, cond-false, none-some, slice_get_past, Index, Role, Passed, Header, Dotted, Valued, Tables, Element, Bare, Address, same_address, element, Kind, Named, is_tables, is_tables_at, count_tables, IsTree, IsTreeOf, LeadsTo, KeepsOthers, Spot, addresses, address_at, place_of, grown, same_role, first_line}
 use Rattle.toml_names.proofs.lemmas.mentions.Counting.{count_cons}
 use Rattle.toml_names.proofs.lemmas.tree.TreeGrown.{length-grown, address-new, node-last, node-above, node-other}
 
 tables_role : (r : Role) → same_role r Tables ≡ is_tables r
-tables_role Passed = refl
-tables_role Header = refl
-tables_role Dotted = refl
-tables_role Valued = refl
-tables_role Tables = refl
-tables_role Element = refl
-tables_role Bare = refl
+tables_role r = search rules
 
 one_is_some : (a b : ℕ) → a ≡ 1 + b → 0 < a
 one_is_some a b is = omega arith
@@ -31,35 +15,18 @@ more_is_some a b c is some = omega arith
 -- where an array of tables has a first header it is counted
 line_counted : (ms : List Named) (at : Address) (l : ℕ) → first_line ms at Tables ≡ Some l → 0 < count_tables ms at
 line_counted [] at l some = absurd (none-some l some)
-line_counted (m ∷ ms) at l some = by (same_address m.address at && same_role m.role Tables) refl (line_counted ms at l)
-  where
-    by : (b : Bool) → (same_address m.address at && same_role m.role Tables) ≡ b → (first_line ms at Tables ≡ Some l → 0 < count_tables ms at) → 0 < count_tables (m ∷ ms) at
-    by true here later =
-        let one : is_tables_at at m ≡ true = ap (λ t. same_address m.address at && t) (sym (tables_role m.role)) ∙ here in
-        one_is_some (count_tables (m ∷ ms) at) (count_tables ms at) (count_cons m ms at ∙ ap (λ (b : Bool). cond b 1 0 + count_tables ms at) one)
-    by false away later = more_is_some (count_tables (m ∷ ms) at) (cond (is_tables_at at m) 1 0) (count_tables ms at) (count_cons m ms at) (later (sym (cond-false _ _ _ away) ∙ some))
+line_counted (m ∷ ms) at l some = grind (arith, common_steps, tables_role, one_is_some, count_cons, more_is_some, cond-false, line_counted ms at l)
 
 role_is : (r : Role) → is_tables r ≡ true → r ≡ Tables
-role_is Tables h = refl
-role_is _ h = cc
+role_is r h = search rules
 
 -- what has no header of an array of tables is none
 pub plain_from_count : (nodes : List Spot) (ms : List Named) (k : ℕ) (d : Spot) → IsTreeOf nodes ms → k < length nodes → count_tables ms (address_at nodes k) ≡ 0 → is_tables (slice_index_or nodes k d).role ≡ false
-plain_from_count nodes ms k d stands low none = by (is_tables (slice_index_or nodes k d).role) refl
-  where
-    by : (b : Bool) → is_tables (slice_index_or nodes k d).role ≡ b → b ≡ false
-    by false h = refl
-    by true h =
-        let some = line_counted ms (address_at nodes k) (slice_index_or nodes k d).line (ap (first_line ms (address_at nodes k)) (sym (role_is (slice_index_or nodes k d).role h)) ∙ stands.lines k d low) in
-        absurd (omega arith)
+plain_from_count nodes ms k d stands low none = search (rules, line_counted, role_is)
 
 -- an array without elements is no array of tables
 pub count_from_lone : (nodes : List Spot) (ms : List Named) (k : ℕ) (d : Spot) → IsTreeOf nodes ms → k < length nodes → (slice_index_or nodes k d).elements ≡ [] → count_tables ms (address_at nodes k) ≡ 0
-count_from_lone nodes ms k d stands low lone = stands.counts k d low ∙ ap (λ (l : List ℕ). cond (is_tables (slice_index_or nodes k d).role) (length l) 0) lone ∙ by (is_tables (slice_index_or nodes k d).role)
-  where
-    by : (b : Bool) → ◌≡◌ {A = ℕ} (cond b 0 0) 0
-    by true = refl
-    by false = refl
+count_from_lone nodes ms k d stands low lone = search rules
 
 -- no element stands behind the last
 pub fresh_element : (nodes : List Spot) (id : ℕ) (d : Spot) → IsTree nodes → id < length nodes

@@ -1,14 +1,5 @@
 -- A header whose next name is new: all behind it is new too, so that nodes for it can be added.
-use Rattle.std.proofs.Common.{ℕ, List, [], ◌∷◌, ◌++◌, length, refl, sym, subst, ◌∙◌, slice_index_or}
-use Rattle.std.proofs.lemmas.List.{append_assoc, append-nil}
-use Rattle.toml_names.specs.declared.model.address.Step.TheVariants.{Name, Index}
-use Rattle.toml_names.specs.declared.mentions.mention.Role.TheVariants.{Header, Passed, Tables, Element}
-use Rattle.toml_names.specs.tree.EnteringHeaders.{PassedFronts}
-use Rattle.toml_names.specs.mentions.Keys.{Key}
-use Rattle.toml_names.specs.tree.LongKeys.{CanEnterHeaders}
-use Rattle.toml_names.specs.mentions.Mentions.{a_table, an_array}
-use Rattle.toml_names.specs.tree.NameTree.{IsAbsent}
-use Rattle.toml_names.specs.tree.Nodes.{Spot, grown}
+use Rattle.toml_names.proofs.Common.{ℕ, List, [], ◌∷◌, ◌++◌, length, refl, sym, subst, ◌∙◌, slice_index_or, rules, append_assoc, append-nil, Name, Index, Header, Passed, Tables, Element, PassedFronts, Key, CanEnterHeaders, a_table, an_array, IsAbsent, Spot, grown}
 use Rattle.toml_names.proofs.lemmas.tree.EnterName.{Enters-new, LeadsTo-new, KeepsElements-new}
 use Rattle.toml_names.proofs.lemmas.tree.FreshKeys.{absent-new}
 use Rattle.toml_names.proofs.lemmas.tree.HeaderLines.{table_line, tables_line}

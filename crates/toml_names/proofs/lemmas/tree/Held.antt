@@ -1,25 +1,7 @@
 -- Whether data are what stands in the tree of names, level by level.
-use Rattle.std.proofs.Common.{◌≡◌, ◌↔◌, ◌==◌, Result, Ok, Err, IfOk, ℕ, ◌<◌, ◌≤◌, Bool, true, List, [], ◌∷◌, ◌++◌, length, Option, Some, None, IsSome, IsTrue, is_some, option_map, String, Vec, BTreeMap, Global, string_cmp, slice_index_or, refl, sym, ap, subst, ⊎_elim, ◌∙◌, true≢false, arith}
-use Rattle.std.proofs.lemmas.Bool.{cases_lt, eqb-true}
-use Rattle.std.proofs.lemmas.List.{append_assoc, append-nil}
-use Rattle.std.proofs.lemmas.Option.{none-some, slice_get_past, slice_get_within, slice_get-get_or}
-use Rattle.std.proofs.lemmas.Slice.Eq.{bytes_eq-Decides}
-use Rattle.std.specs.BTreeMap.{get_by_text, btree_map_len, IsOrdered}
-use Rattle.std.specs.Map.{lookup}
-use Rattle.std.specs.Prelude.{slice_get}
-use Rattle.std.specs.Str.{bytes_eq}
+use Rattle.toml_names.proofs.Common.{common_steps, ◌≡◌, ◌↔◌, ◌==◌, Result, Ok, Err, IfOk, ℕ, ◌<◌, ◌≤◌, Bool, true, List, [], ◌∷◌, ◌++◌, length, Option, Some, None, IsSome, IsTrue, is_some, option_map, String, Vec, BTreeMap, Global, string_cmp, slice_index_or, refl, sym, ap, subst, ⊎_elim, ◌∙◌, true≢false, arith, rules, cases_lt, eqb-true, append_assoc, append-nil, none-some, slice_get_past, slice_get_within, slice_get-get_or, bytes_eq-Decides, get_by_text, btree_map_len, IsOrdered, lookup, slice_get, bytes_eq, ScalarValue, scalar_value, Step, Name, Index, Datum, Table, Address, kind_at, kind_in, Kinds, Holds, below_node, node_kind, Kind, a_table, an_array, a_scalar, AreDistinct, IsTree, Spot, addresses, address_at, nowhere, place_of}
 use Rattle.toml_scalar.specs.declared.scalar.Scalar.{Scalar as Value}
-use Rattle.toml_scalar.specs.Values.{ScalarValue, scalar_value}
-use Rattle.toml_names.specs.declared.model.address.Step.{Step}
-use Rattle.toml_names.specs.declared.model.address.Step.TheVariants.{Name, Index}
-use Rattle.toml_names.specs.declared.model.datum.Datum.{Datum, Scalar, Array, Table}
-use Rattle.toml_names.specs.model.Addresses.{Address}
-use Rattle.toml_names.specs.model.Data.{kind_at, kind_in, Kinds}
-use Rattle.toml_names.specs.tree.Held.{Holds, below_node, node_kind}
-use Rattle.toml_names.specs.mentions.Mentions.{Kind, a_table, an_array, a_scalar}
-use Rattle.toml_names.specs.tree.NameMaps.{AreDistinct}
-use Rattle.toml_names.specs.tree.NameTree.{IsTree}
-use Rattle.toml_names.specs.tree.Nodes.{Spot, addresses, address_at, nowhere, place_of}
+use Rattle.toml_names.specs.declared.model.datum.Datum.{Scalar, Array}
 use Rattle.toml_names.proofs.lemmas.model.Alike.{part_there, kind_there, Each, Entry, each_found}
 use Rattle.toml_names.proofs.lemmas.model.Levels.{scalar-here, scalar-below, array-here, array-item, array-name, table-here, table-member, table-index, scalar_from_kind, array_from_kind, table_from_kind}
 use Rattle.toml_names.proofs.lemmas.model.SameCount.{one_count, none_left}
@@ -38,8 +20,7 @@ module _ (nodes : List Spot) (tree : IsTree nodes) where
   stepped id s rest None is =
       ap (node_kind nodes) (sym (append_assoc (address_at nodes id) (s ∷ []) rest))
       ∙ ap (option_map (λ k. (slice_index_or nodes k nowhere).kind)) (nothing_below (addresses nodes) tree.nested rest (address_at nodes id ++ s ∷ []) (sym is))
-  stepped id s rest (Some k) is =
-      ap (node_kind nodes) (sym (append_assoc (address_at nodes id) (s ∷ []) rest) ∙ ap (λ (a : Address). a ++ rest) (sym (leads_to nodes tree (address_at nodes id ++ s ∷ []) k (sym is)).address))
+  stepped id s rest (Some k) is = search (rules, append_assoc, leads_to)
 
   module _ (id : ℕ) (low : id < length nodes) where
     pub at_name : (n : List ℕ) (rest : Address) → below_node nodes id (Name n ∷ rest) ≡ below_in nodes (lookup (bytes_eq n) (slice_index_or nodes id nowhere).children) rest
@@ -49,8 +30,7 @@ module _ (nodes : List Spot) (tree : IsTree nodes) where
     at_index i rest = stepped id (Index i) rest (slice_get (slice_index_or nodes id nowhere).elements i) (tree.indices id nowhere i low)
 
     there_by : (s : Step) (o : Option ℕ) → o ≡ place_of (address_at nodes id ++ s ∷ []) (addresses nodes) → IsSome o → IsSome (below_in nodes o [])
-    there_by s None is some = some
-    there_by s (Some k) is some = ap is_some (here k (leads_to nodes tree (address_at nodes id ++ s ∷ []) k (sym is)).within)
+    there_by s o is some = search (rules, here, leads_to)
 
     -- a node has something
     pub there_name : (n : List ℕ) → IsSome (lookup (bytes_eq n) (slice_index_or nodes id nowhere).children) → IsSome (below_in nodes (lookup (bytes_eq n) (slice_index_or nodes id nowhere).children) [])
@@ -61,8 +41,7 @@ module _ (nodes : List Spot) (tree : IsTree nodes) where
 
 -- what has nothing in it is nowhere
 pub in_none : (nodes : List Spot) (o : Option ℕ) → below_in nodes o [] ≡ None → (IsSome o → IsSome (below_in nodes o [])) → o ≡ None
-in_none nodes None none there = refl
-in_none nodes (Some k) none there = absurd (true≢false (sym (there refl) ∙ ap is_some none))
+in_none nodes o none there = search rules
 
 first_name : (es : List (List ℕ × ℕ)) → ((n : List ℕ) → lookup (bytes_eq n) es ≡ None) → es ≡ []
 first_name [] none = refl
@@ -179,21 +158,14 @@ held_nowhere nodes o part is none at = ap (λ (p : Option Datum). kind_in p at) 
 -- as many items as elements, each the one's
 pub items_held : (nodes : List Spot) (elements : List ℕ) (ds : List Datum) (count : ℕ) → length elements ≡ length ds → length ds ≤ count
     → ((i : ℕ) → i < count → IsHeldIn nodes (slice_get elements i) (slice_get ds i)) → (i : ℕ) → IsHeldIn nodes (slice_get elements i) (slice_get ds i)
-items_held nodes elements ds count long all each i =
-    ⊎_elim (λ low. each i low)
-    (λ far. held_nowhere nodes (slice_get elements i) (slice_get ds i) (slice_get_past elements i (omega arith)) (slice_get_past ds i (omega arith)))
-    (cases_lt i count)
+items_held nodes elements ds count long all each i = search (rules, held_nowhere, slice_get_past, cases_lt)
 
 got : {X : Type 0} (xs : List X) (i : ℕ) → i < length xs → IsSome (slice_get xs i)
 got [] i low = absurd (omega arith)
 got (x ∷ xs) i low = ap is_some (slice_get-get_or (x ∷ xs) i x low)
 
 got_within : {X : Type 0} (xs : List X) (i : ℕ) → IsSome (slice_get xs i) → i < length xs
-got_within xs i some = by (slice_get xs i) refl some
-  where
-    by : (o : Option _) → slice_get xs i ≡ o → IsSome o → i < length xs
-    by None is h = absurd (true≢false (sym h))
-    by (Some x) is h = slice_get_within xs i x is
+got_within xs i some = search (rules, true≢false, slice_get_within)
 
 no_longer : {X Y : Type 0} (xs : List X) (ys : List Y) → ((i : ℕ) → IsSome (slice_get ys i) → IsSome (slice_get xs i)) → length ys ≤ length xs
 no_longer xs ys there = ⊎_elim
@@ -206,16 +178,10 @@ module _ (nodes : List Spot) (tree : IsTree nodes) (id : ℕ) (low : id < length
   node = slice_index_or nodes id nowhere
 
   in_some : (o : Option ℕ) → IsSome (below_in nodes o []) → IsSome o
-  in_some None h = h
-  in_some (Some k) h = refl
+  in_some o h = search rules
 
   pub array_count : (v : Vec Datum Global) → Holds nodes id (Array v) → length (slice_index_or nodes id nowhere).elements ≡ length v.items
-  array_count v holds =
-      let parts = array_parts nodes tree id low (slice_index_or nodes id nowhere) refl v holds in
-      let elements = (slice_index_or nodes id nowhere).elements in
-      let less : length v.items ≤ length elements = no_longer elements v.items (λ i some. in_some (slice_get elements i) (subst IsSome (parts i []) (kind_there (slice_get v.items i) some))) in
-      let more : length elements ≤ length v.items = no_longer v.items elements (λ i some. part_there (slice_get v.items i) (subst IsSome (sym (parts i [])) (there_index nodes tree id low i some))) in
-      omega (arith, less, more)
+  array_count v holds = search (rules, array_parts, no_longer, in_some, kind_there, part_there, there_index)
 
   pub members_held : (m : BTreeMap (String Global) Datum) → AreDistinct (slice_index_or nodes id nowhere).children → IsOrdered string_cmp m
       → length (slice_index_or nodes id nowhere).children ≡ btree_map_len m → (slice_index_or nodes id nowhere).kind ≡ a_table → (slice_index_or nodes id nowhere).elements ≡ []
@@ -241,18 +207,15 @@ module _ (nodes : List Spot) (tree : IsTree nodes) (id : ℕ) (low : id < length
       by n (Some d) is = let it = one n d is in (held_part nodes (lookup (bytes_eq n) children) (get_by_text m n) it.0 d it.1 is).0 it.2
 
 pub no_length : {X : Type 0} (xs : List X) → length xs ≡ 0 → xs ≡ []
-no_length [] is = refl
-no_length (x ∷ xs) is = absurd (omega (arith, is))
+no_length xs is = grind (arith, common_steps)
 
 pub none_counted : (es : List ℕ) → (length es == 0) ≡ true → length es ≡ 0
 none_counted es is = eqb-true (length es) 0 is
 
 pub not_there : (o : Option ℕ) → ((k : ℕ) → o ≡ Some k → ⊥) → IsSome o → ⊥
-not_there None none some = true≢false (sym some)
-not_there (Some k) none some = none k refl
+not_there o none some = search rules
 
 -- what the code answers of a scalar
 pub scalar_told : {E : Type 0} (nodes : List Spot) (id : ℕ) (r : Result Bool E) (v : ScalarValue) (t : Value) → IfOk r (λ b. IsTrue b ↔ (v ≡ scalar_value t)) → (v ≡ scalar_value t) ↔ Holds nodes id (Scalar t)
     → IfOk r (λ b. IsTrue b ↔ Holds nodes id (Scalar t))
-scalar_told nodes id (Ok b) v t told is = (λ h. is.0 (told.0 h), λ h. told.1 (is.1 h))
-scalar_told nodes id (Err e) v t told is = told
+scalar_told nodes id r v t told is = search rules

@@ -1,16 +1,6 @@
 -- A dotted key's fronts that are there already, one by one, up to the first name that is new.
-use Rattle.std.proofs.Common.{◌≡◌, ℕ, ◌+◌, ◌<◌, List, [], ◌∷◌, ◌++◌, length, map, take, drop, sym, ap, subst, ◌∙◌, slice_index_or}
-use Rattle.std.proofs.lemmas.List.{append_assoc, map-append}
+use Rattle.toml_names.proofs.Common.{◌≡◌, ℕ, ◌+◌, ◌<◌, List, [], ◌∷◌, ◌++◌, length, map, take, drop, sym, ap, subst, ◌∙◌, slice_index_or, rules, append_assoc, map-append, piece, Name, Dotted, Valued, Address, below, Key, part_name, CanEnter, FollowedFronts, key_named, Kind, Named, table_at, fronts, IsAbsent, Enters, Spot, address_at}
 use Rattle.toml_tree.specs.declared.tree.Dotted.{Dotted as Part}
-use Rattle.toml_tree.specs.View.{piece}
-use Rattle.toml_names.specs.declared.model.address.Step.TheVariants.{Name}
-use Rattle.toml_names.specs.declared.mentions.mention.Role.TheVariants.{Dotted, Valued}
-use Rattle.toml_names.specs.model.Addresses.{Address, below}
-use Rattle.toml_names.specs.mentions.Keys.{Key, part_name}
-use Rattle.toml_names.specs.tree.LongKeys.{CanEnter, FollowedFronts, key_named}
-use Rattle.toml_names.specs.mentions.Mentions.{Kind, Named, table_at, fronts}
-use Rattle.toml_names.specs.tree.NameTree.{IsAbsent, Enters}
-use Rattle.toml_names.specs.tree.Nodes.{Spot, address_at}
 use Rattle.toml_names.proofs.lemmas.mentions.Along.{names_left}
 use Rattle.toml_names.proofs.lemmas.tree.EnterFronts.{first_names, all_names, fronts-append}
 use Rattle.toml_names.proofs.lemmas.tree.EnterSteps.{Enters-append}
@@ -23,11 +13,7 @@ end line k at = record { address = at; role = Valued; kind = k; line = line }
 -- a whole key, up to a name and from there on
 named-append : (line : ℕ) (k : Kind) (at : Address) (n : List ℕ) (xs : Key) (y : List ℕ) (ys : Key)
     → key_named line at (n ∷ xs ++ y ∷ ys) k ≡ fronts line at (n ∷ xs) ++ (table_at line Dotted (below at (n ∷ xs)) ∷ key_named line (below at (n ∷ xs)) (y ∷ ys) k)
-named-append line k at n xs y ys =
-    let more = table_at line Dotted (below at (n ∷ xs)) ∷ fronts line (below at (n ∷ xs)) (y ∷ ys) in
-    ap (λ l. l ++ end line k (below at (n ∷ xs ++ y ∷ ys)) ∷ []) (fronts-append line xs at n y ys)
-    ∙ append_assoc (fronts line at (n ∷ xs)) more (end line k (below at (n ∷ xs ++ y ∷ ys)) ∷ [])
-    ∙ ap (λ a. fronts line at (n ∷ xs) ++ (more ++ end line k a ∷ [])) (ap (λ l. at ++ l) (map-append Name (n ∷ xs) (y ∷ ys)) ∙ sym (append_assoc at (map Name (n ∷ xs)) (map Name (y ∷ ys))))
+named-append line k at n xs y ys = search (rules, fronts-append, append_assoc, map-append)
 
 module _ (first : List ℕ) (rest : List Part) (i : ℕ) (d : Part) (low : i < length rest) (is : d ≡ slice_index_or rest i d)
     (old now : List Spot) (line : ℕ) (at : Address) (here : ℕ) (part : List ℕ) (followed : FollowedFronts old now line at here part (first_names first rest i)) where

@@ -1,12 +1,6 @@
 -- A header's fronts that are there already, one by one, up to the first name that is new.
-use Rattle.std.proofs.Common.{◌≡◌, ℕ, ◌+◌, ◌<◌, List, ◌∷◌, length, take, drop, sym, subst, slice_index_or}
+use Rattle.toml_names.proofs.Common.{◌≡◌, ℕ, ◌+◌, ◌<◌, List, ◌∷◌, length, take, drop, sym, subst, slice_index_or, rules, piece, PassedFronts, part_name, CanEnterHeaders, IsAbsent, Spot}
 use Rattle.toml_tree.specs.declared.tree.Dotted.{Dotted as Part}
-use Rattle.toml_tree.specs.View.{piece}
-use Rattle.toml_names.specs.tree.EnteringHeaders.{PassedFronts}
-use Rattle.toml_names.specs.mentions.Keys.{part_name}
-use Rattle.toml_names.specs.tree.LongKeys.{CanEnterHeaders}
-use Rattle.toml_names.specs.tree.NameTree.{IsAbsent}
-use Rattle.toml_names.specs.tree.Nodes.{Spot}
 use Rattle.toml_names.proofs.lemmas.mentions.Along.{names_left}
 use Rattle.toml_names.proofs.lemmas.tree.EnterFronts.{first_names, all_names}
 use Rattle.toml_names.proofs.lemmas.tree.FreshHeaders.{FreshEnd, fresh_end, fresh_headers}

@@ -1,30 +1,14 @@
 -- A line whose own address is too long.
-use Rattle.std.proofs.Common.{◌≡◌, ℕ, ◌+◌, ◌<◌, ◌≤◌, ◌-◌, ◌==◌, Bool, true, false, cond, List, [], ◌∷◌, ◌++◌, length, map, Some, None, refl, ap, subst, ◌∙◌, arith}
-use Rattle.std.proofs.lemmas.List.Elements.{All-head}
-use Rattle.std.proofs.lemmas.List.{length-append, length-map, length_push}
-use Rattle.toml_tree.specs.Tree.{Piece, Blank, Header, KeyVal, KeyValLine, TableLine, ArrayTableLine, Expr}
-use Rattle.toml_names.specs.declared.model.address.Step.TheVariants.{Name, Index}
-use Rattle.toml_names.specs.declared.mentions.mention.Role.TheVariants.{Valued}
-use Rattle.toml_names.specs.model.Addresses.{Address, child, element, below}
-use Rattle.toml_names.specs.tree.EnteringHeaders.{table_names, tables_names, next_table}
-use Rattle.toml_names.specs.tree.EnteringLines.{EntersLine}
-use Rattle.toml_names.specs.mentions.Keys.{Key, key_names}
-use Rattle.toml_names.specs.tree.LongKeys.{CanEnter, CanEnterHeader, IsLongKey, IsLongEntry}
-use Rattle.toml_names.specs.mentions.Mentions.{Named, named_by, section, fronts, inside, value_named, pair_named, entered, count_tables}
-use Rattle.toml_names.specs.reader.Names.{header_end, own_address}
-use Rattle.toml_names.specs.tree.Nodes.{Spot, address_at}
-use Rattle.toml_names.specs.mentions.Rules.{max_steps, misfit}
+use Rattle.toml_names.proofs.Common.{common_steps, ◌≡◌, ℕ, ◌+◌, ◌<◌, ◌≤◌, ◌-◌, ◌==◌, Bool, true, false, cond, List, [], ◌∷◌, ◌++◌, length, map, Some, None, refl, ap, subst, ◌∙◌, arith, rules, All-head, length-map, length_push, Piece, Blank, KeyVal, KeyValLine, TableLine, ArrayTableLine, Expr, Name, Index, Valued, Address, child, element, below, table_names, tables_names, next_table, EntersLine, Key, key_names, CanEnter, CanEnterHeader, IsLongKey, IsLongEntry, Named, named_by, section, fronts, inside, value_named, pair_named, entered, count_tables, header_end, own_address, Spot, address_at, max_steps, misfit}
+use Rattle.std.proofs.lemmas.List.{length-append}
+use Rattle.toml_tree.specs.Tree.{Header}
 use Rattle.toml_names.proofs.lemmas.tree.EnterLines.{table_entered, tables_entered}
 use Rattle.toml_names.proofs.lemmas.mentions.NextLine.{IsShort-behind}
 use Rattle.toml_names.proofs.lemmas.tree.ShortNodes.{OfShort, short_nodes}
 
 -- a header's end has as many steps as its key has names, and more
 entered_longer : (ms : List Named) (at : Address) → length at ≤ length (entered ms at)
-entered_longer ms at = by (count_tables ms at == 0)
-  where
-    by : (b : Bool) → length at ≤ length (cond b at (element at (count_tables ms at - 1)))
-    by true = omega arith
-    by false = let long = length_push at (Index (count_tables ms at - 1)) in omega (arith, long)
+entered_longer ms at = grind (arith, common_steps)
 
 end_longer : (ms : List Named) (key : Key) (at : Address) → length at + length key ≤ length (header_end ms at key)
 end_longer ms [] at = omega arith
@@ -38,16 +22,7 @@ end_longer ms (n ∷ m ∷ more) at =
 module _ (old new : List Spot) (at line id table : ℕ) (e : Expr) where
   long_entry : (own : List Named → Address) → EntersLine old new at line e (record { own = Some id; section = table })
       → ((ms : List Named) → own_address ms e ≡ Some (own ms)) → ((ms : List Named) → address_at old at ≡ section ms → max_steps < length (own ms)) → IsLongEntry old at line e
-  long_entry own enters is long ms stands here = (
-    enters.goes ms stands here,
-    λ short.
-        let few = short_nodes new (ms ++ named_by ms line e) (enters.stands ms stands here) short id (omega arith) enters.own_within in
-        let there : Some (address_at new id) ≡ Some (own ms) = enters.own ms stands here ∙ is ms in
-        let to : address_at new id ≡ own ms = cc in
-        let same = ap length to in
-        let many = long ms here in
-        absurd (omega (arith, few, same, many)),
-  )
+  long_entry own enters is long = search (rules, short_nodes)
 
 module _ (old : List Spot) (at line : ℕ) (ws : Piece) (tail : Blank) where
   pub long_pair : (pair : KeyVal) → CanEnter old (pair_named line (address_at old at) pair.assign pair.value)

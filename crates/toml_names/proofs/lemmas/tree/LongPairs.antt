@@ -1,24 +1,14 @@
 -- A pair whose value names nothing inside: its key's fronts, and the value's own name.
-use Rattle.std.proofs.Common.{Option, Some, None, MatchOption, ◌≡◌, ℕ, ◌+◌, ◌<◌, List, [], ◌∷◌, ◌++◌, length, sym, ap, subst, ◌∙◌, slice_index_or, arith}
-use Rattle.toml_tree.specs.Tree.{Assign, Value}
-use Rattle.toml_names.specs.declared.mentions.mention.Role.TheVariants.{Valued}
-use Rattle.toml_names.specs.model.Addresses.{Address, below}
-use Rattle.toml_names.specs.mentions.Keys.{Key, key_names}
-use Rattle.toml_names.specs.tree.LongKeys.{CanEnter, IsLongKey, key_named}
-use Rattle.toml_names.specs.mentions.Mentions.{Kind, kind_of, inside, fronts, pair_named, value_named}
-use Rattle.toml_names.specs.tree.NameTree.{IsTree}
-use Rattle.toml_names.specs.tree.Nodes.{Spot, address_at}
+use Rattle.toml_names.proofs.Common.{Option, Some, None, MatchOption, ◌≡◌, ℕ, ◌+◌, ◌<◌, List, [], ◌∷◌, ◌++◌, length, sym, ap, subst, ◌∙◌, slice_index_or, arith, rules, Assign, Value, Valued, Address, below, Key, key_names, CanEnter, IsLongKey, key_named, Kind, kind_of, inside, fronts, pair_named, value_named, IsTree, Spot, address_at}
 
 -- where nothing was found
 pub or_long : {A : Type 0} (P N M : Type 0) (S : A → Type 0) → (N → M) → (r : Option A) → MatchOption r (P × N) S → MatchOption r M S
-or_long P N M S more None none = more none.1
-or_long P N M S more (Some x) found = found
+or_long P N M S more r none = search rules
 
 -- what the code read of the node: its key is too long
 pub long_key : (nodes : List Spot) (at : ℕ) (s : Spot) (depth : ℕ) (key : Key) → IsTree nodes → at < length nodes → s ≡ slice_index_or nodes at s → depth ≡ s.depth
     → 100 < depth + length key → IsLongKey (address_at nodes at) key
-long_key nodes at s depth key tree low read is long =
-    let deep : depth ≡ length (address_at nodes at) = is ∙ ap (λ (t : Spot). t.depth) read ∙ tree.deep at s low in omega (arith, deep, long)
+long_key nodes at s depth key tree low read is long = search rules
 
 module _ (line : ℕ) (at : Address) (a : Assign) (v : Value) (plain : (line : ℕ) (at : Address) → inside line at v ≡ []) where
   named-plain : pair_named line at a v ≡ key_named line at (key_names a.key) (kind_of v)

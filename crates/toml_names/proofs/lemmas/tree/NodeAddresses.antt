@@ -1,9 +1,5 @@
 -- The addresses of the nodes, which a fold from the left computes.
-use Rattle.std.proofs.Common.{◌≡◌, ℕ, zero, suc, ◌+◌, ◌<◌, List, [], ◌∷◌, ◌++◌, length, Option, Some, None, refl, sym, ap, ◌∙◌, slice_index_or, slice_set, arith}
-use Rattle.std.proofs.lemmas.List.{get_or_append_left, get_or_at, length_push}
-use Rattle.toml_names.specs.declared.model.address.Step.{Step}
-use Rattle.toml_names.specs.model.Addresses.{Address}
-use Rattle.toml_names.specs.tree.Nodes.{Spot, address_under, addresses_from, addresses, address_at}
+use Rattle.toml_names.proofs.Common.{◌≡◌, ℕ, zero, suc, ◌+◌, ◌<◌, List, [], ◌∷◌, ◌++◌, length, Option, Some, None, refl, sym, ap, ◌∙◌, slice_index_or, slice_set, arith, rules, get_or_append_left, get_or_at, length_push, Step, Address, Spot, address_under, addresses_from, addresses, address_at}
 
 from-push : (nodes : List Spot) (s : Spot) (above : List Address)
     → addresses_from above (nodes ++ s ∷ []) ≡ addresses_from above nodes ++ address_under (addresses_from above nodes) s.under ∷ []
@@ -63,6 +59,4 @@ from-under (x ∷ nodes) (suc k) d low above rising =
 -- the address of a node, by where it hangs
 pub address_at-under : (nodes : List Spot) (k : ℕ) (d : Spot) → k < length nodes → ((p : ℕ) (s : Step) → (slice_index_or nodes k d).under ≡ Some (p, s) → p < k)
     → address_at nodes k ≡ address_under (addresses nodes) (slice_index_or nodes k d).under
-address_at-under nodes k d low rising =
-    let same : k ≡ 0 + k = omega arith in
-    ap (λ i. slice_index_or (addresses nodes) i []) same ∙ from-under nodes k d low [] (λ p s is. let low = rising p s is in omega arith)
+address_at-under nodes k d low rising = search (rules, from-under)

@@ -1,15 +1,5 @@
 -- The tables of an array, counted by its elements: what one more mention adds, and what one more element.
-use Rattle.std.proofs.Common.{◌≡◌, ℕ, ◌+◌, Bool, true, false, cond, ◌&&◌, List, [], ◌∷◌, ◌++◌, length, refl, sym, ap, ◌∙◌, arith}
-use Rattle.toml_names.specs.declared.model.address.Step.{Step}
-use Rattle.toml_names.specs.declared.model.address.Step.TheVariants.{Name, Index}
-use Rattle.toml_names.specs.declared.mentions.mention.Role.{Role}
-use Rattle.toml_names.specs.declared.mentions.mention.Role.TheVariants.{Passed, Header, Dotted, Valued, Tables, Element, Bare}
-use Rattle.toml_names.specs.model.Addresses.{Address}
-use Rattle.toml_names.specs.mentions.Local.{role_after}
-use Rattle.toml_names.specs.mentions.Mentions.{Named, is_tables, is_tables_at, count_tables}
-use Rattle.toml_names.specs.tree.NameTree.{table_count}
-use Rattle.toml_names.specs.tree.Nodes.{Spot, linked, marked}
-use Rattle.toml_names.specs.mentions.Rules.{may_follow}
+use Rattle.toml_names.proofs.Common.{◌≡◌, ℕ, ◌+◌, Bool, true, false, cond, ◌&&◌, List, [], ◌∷◌, ◌++◌, length, refl, sym, ap, ◌∙◌, arith, rules, Step, Name, Index, Role, Passed, Header, Dotted, Valued, Tables, Element, Bare, Address, role_after, Named, is_tables, is_tables_at, count_tables, table_count, Spot, linked, marked, may_follow}
 use Rattle.toml_names.proofs.lemmas.mentions.Counting.{count_push}
 use Rattle.toml_names.proofs.lemmas.tree.NodePlaces.{same_address-apart, same_address-here}
 
@@ -38,19 +28,11 @@ pub table_count-tables : (spot : Spot) → is_tables spot.role ≡ true → tabl
 table_count-tables spot tables = ap (λ b. cond b (length spot.elements) 0) tables
 
 pub table_count-element : (parent : Spot) (s : Step) (id : ℕ) → is_tables parent.role ≡ false → table_count (linked parent s id) ≡ table_count parent
-table_count-element parent (Name n) id plain = refl
-table_count-element parent (Index i) id plain = ap (λ b. cond b (length (linked parent (Index i) id).elements) 0) plain ∙ sym (table_count-plain parent plain)
+table_count-element parent s id plain = search rules
 
 -- what may follow and is no array of tables leaves the mark an array of tables, or none
 is_tables-after : (q r : Role) → may_follow q r ≡ true → is_tables r ≡ false → is_tables (role_after q r) ≡ is_tables q
-is_tables-after Bare r goes plain = plain
-is_tables-after _ Passed goes plain = cc
-is_tables-after _ Header goes plain = cc
-is_tables-after _ Dotted goes plain = cc
-is_tables-after _ Valued goes plain = cc
-is_tables-after _ Tables goes plain = cc
-is_tables-after _ Element goes plain = cc
-is_tables-after _ Bare goes plain = cc
+is_tables-after q r goes plain = search rules
 
 pub table_count-marked : (here : Spot) (r : Role) (line : ℕ) → may_follow here.role r ≡ true → is_tables r ≡ false → table_count (marked here r line) ≡ table_count here
 table_count-marked here r line goes plain = ap (λ b. cond b (length here.elements) 0) (is_tables-after here.role r goes plain)

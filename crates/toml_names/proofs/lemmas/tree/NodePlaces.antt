@@ -1,10 +1,5 @@
 -- Where an address stands among addresses, before and after one more.
-use Rattle.std.proofs.Common.{◌≡◌, ℕ, ◌+◌, ◌<◌, Bool, true, false, cond, List, [], ◌∷◌, ◌++◌, length, Option, Some, None, refl, sym, ap, ◌∙◌, add-one, slice_index_or, true≢false, ◌⊎◌, inl, inr, arith}
-use Rattle.std.proofs.lemmas.Bool.{false_from_ne_true}
-use Rattle.std.specs.Option.{option_map}
-use Rattle.toml_names.specs.declared.model.address.Step.{Step}
-use Rattle.toml_names.specs.model.Addresses.{Address, same_step, same_address}
-use Rattle.toml_names.specs.tree.Nodes.{place_of}
+use Rattle.toml_names.proofs.Common.{◌≡◌, ℕ, ◌+◌, ◌<◌, Bool, true, false, cond, List, [], ◌∷◌, ◌++◌, length, Option, Some, None, refl, sym, ap, ◌∙◌, add-one, slice_index_or, true≢false, ◌⊎◌, inl, inr, arith, rules, false_from_ne_true, option_map, Step, Address, same_step, same_address, place_of}
 use Rattle.toml_names.proofs.lemmas.model.Equal.{same_step-decides, same_address-decides, same_address-equal}
 
 pub none_is_some : (k : ℕ) → ◌≡◌ {A = Option ℕ} None (Some k) → ⊥
@@ -34,17 +29,14 @@ is_address a b = by (same_address a b) refl
     by false e = inr (apart-same_address a b e)
 
 none_below : (o : Option ℕ) → option_map (λ i. i + 1) o ≡ None → o ≡ None
-none_below None h = refl
-none_below (Some i) h = cc
+none_below o h = search rules
 
 some_below : (o : Option ℕ) (k : ℕ) → option_map (λ i. i + 1) o ≡ Some k → (i : ℕ) × (o ≡ Some i) × (k ≡ i + 1)
-some_below None k h = absurd (none_is_some k h)
-some_below (Some i) k h = (i, refl, cc)
+some_below o k h = search rules
 
 -- a place that is none, at the first address and at the rest
 none_parts : (b : Bool) (o : Option ℕ) → cond b (Some 0) (option_map (λ i. i + 1) o) ≡ None → (b ≡ false) × (o ≡ None)
-none_parts true o h = absurd (none_is_some 0 (sym h))
-none_parts false o h = (refl, none_below o h)
+none_parts b o h = search rules
 
 pub place_of-push : (ats : List Address) (b at : Address) → place_of b ats ≡ None → place_of at (ats ++ b ∷ []) ≡ cond (same_address b at) (Some (length ats)) (place_of at ats)
 place_of-push [] b at none = refl

@@ -1,18 +1,5 @@
 -- The addresses of the first nodes that are mentions, in order, and where each of them stands among them.
-use Rattle.std.proofs.Common.{◌≡◌, ℕ, zero, suc, ◌+◌, ◌-◌, ◌<◌, ◌≤◌, Bool, true, false, cond, filter, List, [], ◌∷◌, ◌++◌, length, take, get_or, slice_get, Some, refl, sym, ap, ◌∙◌, subst, slice_index_or, add-one, below_more, arith}
-use Rattle.std.proofs.lemmas.Bool.{cond-true, cond-false}
-use Rattle.std.proofs.lemmas.List.{append-nil, take_more, take_all, length_push, get_or_append_left, get_or_at, get_or_read, get_or_default}
-use Rattle.std.proofs.lemmas.List.Elements.{filter-append}
-use Rattle.std.proofs.lemmas.Option.{slice_get-get_or, slice_get_within, get_or_from_slice_get}
-use Rattle.toml_names.specs.declared.mentions.mention.Role.{Role}
-use Rattle.toml_names.specs.declared.mentions.mention.Role.TheVariants.{Bare}
-use Rattle.toml_names.specs.model.Addresses.{Address}
-use Rattle.toml_names.specs.mentions.FirstMentions.{first_mentions}
-use Rattle.toml_names.specs.mentions.Joining.{Joined}
-use Rattle.toml_names.specs.mentions.Local.{mark_of}
-use Rattle.toml_names.specs.mentions.Mentions.{Named, is_mentioned}
-use Rattle.toml_names.specs.tree.NameTree.{IsTreeOf}
-use Rattle.toml_names.specs.tree.Nodes.{Spot, addresses, address_at, nowhere}
+use Rattle.toml_names.proofs.Common.{common_steps, ◌≡◌, ℕ, zero, suc, ◌+◌, ◌-◌, ◌<◌, ◌≤◌, Bool, true, false, cond, filter, List, [], ◌∷◌, ◌++◌, length, take, get_or, slice_get, Some, refl, sym, ap, ◌∙◌, subst, slice_index_or, add-one, below_more, arith, rules, cond-true, cond-false, append-nil, take_more, take_all, length_push, get_or_append_left, get_or_at, get_or_read, get_or_default, filter-append, slice_get-get_or, slice_get_within, get_or_from_slice_get, Role, Bare, Address, first_mentions, Joined, mark_of, Named, is_mentioned, IsTreeOf, Spot, addresses, address_at, nowhere}
 use Rattle.toml_names.proofs.lemmas.mentions.Filtered.{is_bare}
 use Rattle.toml_names.proofs.lemmas.mentions.Mentioned.{is_marked, first_mentions-marked}
 use Rattle.toml_names.proofs.lemmas.tree.NodeAddresses.{length-addresses}
@@ -31,11 +18,7 @@ upto-other nodes i is = ap (mentioned_upto nodes) (add-one i) ∙ cond-false _ _
 -- no more than there are nodes
 pub upto-few : (nodes : List Spot) (i : ℕ) → length (mentioned_upto nodes i) ≤ i
 upto-few nodes zero = omega arith
-upto-few nodes (suc i) = by (is_mentioned (slice_index_or nodes i nowhere).role) (upto-few nodes i)
-  where
-    by : (b : Bool) → length (mentioned_upto nodes i) ≤ i → length (cond b (mentioned_upto nodes i ++ address_at nodes i ∷ []) (mentioned_upto nodes i)) ≤ suc i
-    by true few = omega (arith, length_push (mentioned_upto nodes i) (address_at nodes i))
-    by false few = omega arith
+upto-few nodes (suc i) = search (rules, length_push, upto-few nodes i)
 
 -- the last of them, and after more nodes
 last_of : (xs : List Address) (at : Address) → slice_get (xs ++ at ∷ []) (length xs) ≡ Some at
@@ -58,11 +41,7 @@ stays_got nodes a k i (suc more) is =
     by false none before = ap (λ l. slice_get l i) (upto-other nodes (more + k) none) ∙ before
 
 mentions_itself : (r : Role) → (r ≡ Bare → ⊥) → is_mentioned r ≡ true
-mentions_itself r other = by (is_mentioned r) refl
-  where
-    by : (b : Bool) → is_mentioned r ≡ b → is_mentioned r ≡ true
-    by true is = is
-    by false is = absurd (other (is_bare r is))
+mentions_itself r other = search rules
 
 -- a mention stands where as many mentions stand before it
 pub stands_at_rank : (nodes : List Spot) (k : ℕ) → k < length nodes → ((slice_index_or nodes k nowhere).role ≡ Bare → ⊥)
@@ -96,10 +75,7 @@ module _ (nodes : List Spot) (ms : List Named) (stands : IsTreeOf nodes ms) wher
           ∙ sym (filter-append (λ at. is_marked (mark_of ms at)) (take i (addresses nodes)) (address_at nodes i ∷ []) ∙ ap (λ l. filter (λ at. is_marked (mark_of ms at)) (take i (addresses nodes)) ++ l) (cond-false _ _ _ (same ∙ is)) ∙ append-nil _)
 
   pub upto-first_mentions : Joined ms → mentioned_upto nodes (length nodes) ≡ first_mentions ms
-  upto-first_mentions joined =
-      upto-filter (length nodes) (omega arith)
-      ∙ ap (filter (λ at. is_marked (mark_of ms at))) (take_all (length nodes) (addresses nodes) (omega (arith, length-addresses nodes)) ∙ stands.firsts)
-      ∙ first_mentions-marked ms joined
+  upto-first_mentions joined = search (rules, upto-filter, is_marked, take_all, length-addresses, first_mentions-marked)
 
 -- ---- the ranks of so many nodes
 pub record AreRanked (nodes : List Spot) (ranks : List ℕ) (count i : ℕ) : Type 0 where
@@ -115,25 +91,13 @@ role_read nodes i node low is = ap (λ (s : Spot). is_mentioned s.role) (sym (ge
 
 module _ (nodes : List Spot) (ranks : List ℕ) (count i : ℕ) (node : Spot) (low : i < length nodes) (is : node ≡ slice_index_or nodes i node) (ranked : AreRanked nodes ranks count i) where
   each_more : (k : ℕ) → k < i + 1 → get_or (ranks ++ count ∷ []) k 0 ≡ length (mentioned_upto nodes k)
-  each_more = below_more (λ k. get_or (ranks ++ count ∷ []) k 0 ≡ length (mentioned_upto nodes k)) i
-      (λ k less. get_or_append_left ranks (count ∷ []) 0 k (omega (arith, ranked.long)) ∙ ranked.each k less)
-      (get_or_at ranks count [] 0 i ranked.long ∙ ranked.counted)
+  each_more k h1 = grind (arith, common_steps)
 
   pub ranked_mention : is_mentioned node.role ≡ true → AreRanked nodes (ranks ++ count ∷ []) (count + 1) (i + 1)
-  ranked_mention mention = record {
-    long = omega (arith, length_push ranks count, ranked.long);
-    counted =
-        let more = ap length (upto-mention nodes i (role_read nodes i node low is ∙ mention)) in
-        omega (arith, more, length_push (mentioned_upto nodes i) (address_at nodes i), ranked.counted);
-    each = each_more;
-  }
+  ranked_mention mention = grind (arith, common_steps)
 
   pub ranked_other : is_mentioned node.role ≡ false → AreRanked nodes (ranks ++ count ∷ []) count (i + 1)
-  ranked_other none = record {
-    long = omega (arith, length_push ranks count, ranked.long);
-    counted = ranked.counted ∙ ap length (sym (upto-other nodes i (role_read nodes i node low is ∙ none)));
-    each = each_more;
-  }
+  ranked_other none = grind (arith, common_steps)
 
 pub ranked_all : (nodes : List Spot) (ranks : List ℕ) (count i : ℕ) → length nodes ≤ i → AreRanked nodes ranks count i
     → (ms : List Named) (k : ℕ) (d : Spot) → IsTreeOf nodes ms → Joined ms → k < length nodes → ((slice_index_or nodes k d).role ≡ Bare → ⊥)

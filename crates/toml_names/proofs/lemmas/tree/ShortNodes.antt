@@ -1,13 +1,5 @@
 -- The limit of steps, read off the nodes.
-use Rattle.std.proofs.Common.{◌≡◌, ℕ, ◌<◌, ◌≤◌, ◌||◌, Bool, true, false, cond, List, [], ◌∷◌, ◌++◌, length, All, refl, sym, ap, subst, ◌∙◌, ◌⊎◌, inl, inr, arith}
-use Rattle.std.proofs.lemmas.Bool.{cases_lt}
-use Rattle.std.proofs.lemmas.List.Elements.{All-nil, All-cons, All-head, All-tail, All-push, All-get_or, All-from_get_or}
-use Rattle.toml_names.specs.model.Addresses.{Address, same_address}
-use Rattle.toml_names.specs.mentions.FirstMentions.{is_named, first_named}
-use Rattle.toml_names.specs.mentions.Mentions.{Named}
-use Rattle.toml_names.specs.tree.NameTree.{IsTreeOf, KeepsAddresses}
-use Rattle.toml_names.specs.tree.Nodes.{Spot, addresses, address_at}
-use Rattle.toml_names.specs.mentions.Rules.{IsShort, max_steps}
+use Rattle.toml_names.proofs.Common.{◌≡◌, ℕ, ◌<◌, ◌≤◌, ◌||◌, Bool, true, false, cond, List, [], ◌∷◌, ◌++◌, length, All, refl, sym, ap, subst, ◌∙◌, ◌⊎◌, inl, inr, arith, rules, cases_lt, All-nil, All-cons, All-head, All-tail, All-push, All-get_or, All-from_get_or, Address, same_address, is_named, first_named, Named, IsTreeOf, KeepsAddresses, Spot, addresses, address_at, IsShort, max_steps}
 use Rattle.toml_names.proofs.lemmas.model.Equal.{same_address-decides}
 use Rattle.toml_names.proofs.lemmas.tree.NodeAddresses.{length-addresses}
 
@@ -42,12 +34,7 @@ short_from_firsts (m ∷ ms) earlier before firsts = by (is_named earlier m.addr
 
 pub short_firsts : (ms earlier : List Named) → IsShort ms → All IsShortAddress (first_named earlier ms)
 short_firsts [] earlier short = All-nil IsShortAddress
-short_firsts (m ∷ ms) earlier short = by (is_named earlier m.address) (short_firsts ms (earlier ++ m ∷ []) (All-tail OfShort m ms short))
-  where
-    by : (b : Bool) → All IsShortAddress (first_named (earlier ++ m ∷ []) ms)
-        → All IsShortAddress (cond b (first_named (earlier ++ m ∷ []) ms) (m.address ∷ first_named (earlier ++ m ∷ []) ms))
-    by true rest = rest
-    by false rest = All-cons IsShortAddress m.address (first_named (earlier ++ m ∷ []) ms) (All-head OfShort m ms short) rest
+short_firsts (m ∷ ms) earlier short = search (rules, All-tail, All-cons, All-head, short_firsts ms (earlier ++ m ∷ []) (All-tail OfShort m ms short))
 
 -- the nodes from one on have short addresses
 abbrev pub AreShortFrom : ℕ → List Spot → Type 0
@@ -55,8 +42,7 @@ AreShortFrom start nodes = (k : ℕ) → start ≤ k → k < length nodes → le
 
 module _ (nodes : List Spot) (ms : List Named) (stands : IsTreeOf nodes ms) where
   pub short_nodes : IsShort ms → AreShortFrom 0 nodes
-  short_nodes short k high low =
-      All-get_or IsShortAddress (addresses nodes) k [] (omega (arith, length-addresses nodes, low)) (subst (All IsShortAddress) (sym stands.firsts) (short_firsts ms [] short))
+  short_nodes short = search (rules, All-get_or, length-addresses, short_firsts)
 
   pub short_from_nodes : AreShortFrom 0 nodes → IsShort ms
   short_from_nodes all =
@@ -66,11 +52,7 @@ module _ (nodes : List Spot) (ms : List Named) (stands : IsTreeOf nodes ms) wher
 -- nodes that were added: what was named stays short exactly where they are short
 module _ (old new : List Spot) (kept : KeepsAddresses old new) (ms more : List Named) (before : IsTreeOf old ms) (after : IsTreeOf new (ms ++ more)) where
   pub stays_short : IsShort ms → AreShortFrom (length old) new → IsShort (ms ++ more)
-  stays_short short added = short_from_nodes new (ms ++ more) after (λ k high low. by k low (cases_lt k (length old)))
-    where
-      by : (k : ℕ) → k < length new → (k < length old) ⊎ (length old ≤ k) → length (address_at new k) ≤ max_steps
-      by k low (inl there) = subst (λ a. length a ≤ max_steps) (sym (kept.same k there)) (short_nodes old ms before short k (omega arith) there)
-      by k low (inr new_one) = added k new_one low
+  stays_short short added = search (rules, short_from_nodes, cases_lt, short_nodes)
 
   pub grows_long : (AreShortFrom (length old) new → ⊥) → ¬ IsShort (ms ++ more)
   grows_long long short = long (λ k high low. short_nodes new (ms ++ more) after short k (omega arith) low)

@@ -1,13 +1,5 @@
 -- The nodes with one more stand for what was named with one more mention, where its address had no node.
-use Rattle.std.proofs.Common.{◌≡◌, ℕ, ◌+◌, ◌<◌, List, [], ◌∷◌, ◌++◌, length, Some, None, refl, sym, ap, ◌∙◌, slice_index_or, ◌⊎◌, inl, inr}
-use Rattle.toml_names.specs.declared.model.address.Step.{Step}
-use Rattle.toml_names.specs.declared.model.address.Step.TheVariants.{Name, Index}
-use Rattle.toml_names.specs.declared.mentions.mention.Role.{Role}
-use Rattle.toml_names.specs.declared.mentions.mention.Role.TheVariants.{Bare}
-use Rattle.toml_names.specs.model.Addresses.{Address}
-use Rattle.toml_names.specs.mentions.Local.{mark_after}
-use Rattle.toml_names.specs.mentions.Mentions.{Kind, Named}
-use Rattle.toml_names.specs.tree.Nodes.{Spot, addresses, address_at, place_of, leaf, linked, grown}
+use Rattle.toml_names.proofs.Common.{◌≡◌, ℕ, ◌+◌, ◌<◌, List, [], ◌∷◌, ◌++◌, length, Some, None, refl, sym, ap, ◌∙◌, slice_index_or, ◌⊎◌, inl, inr, rules, Step, Name, Index, Role, Bare, Address, mark_after, Kind, Named, Spot, addresses, address_at, place_of, leaf, linked, grown}
 use Rattle.toml_names.proofs.lemmas.mentions.FirstMore.{first-new}
 use Rattle.toml_names.proofs.lemmas.tree.Fitting.{Stands, StandsButCounts, mark_here, mark_elsewhere, fits-no_node, good_more}
 use Rattle.toml_names.proofs.lemmas.mentions.LineMore.{line_elsewhere, line_new, line_absent}
@@ -18,16 +10,11 @@ use Rattle.toml_names.proofs.lemmas.tree.TreeGrown.{own_place, addresses-grown, 
 
 -- a mention of another address
 pub stands_elsewhere : (ms : List Named) (m : Named) (at : Address) (spot : Spot) → (m.address ≡ at → ⊥) → Stands ms at spot → Stands (ms ++ m ∷ []) at spot
-stands_elsewhere ms m at spot apart stands = record {
-  mark = mark_elsewhere ms m at apart ∙ stands.mark;
-  fact = fact_other ms m at apart ∙ stands.fact;
-  line = line_elsewhere ms m at spot.role apart ∙ stands.line;
-}
+stands_elsewhere ms m at spot apart stands = search (rules, mark_elsewhere, fact_other, line_elsewhere)
 
 -- a further way down
 stands_linked : (ms : List Named) (at : Address) (parent : Spot) (s : Step) (id : ℕ) → Stands ms at parent → Stands ms at (linked parent s id)
-stands_linked ms at parent (Name n) id stands = record { mark = stands.mark; fact = stands.fact; line = stands.line }
-stands_linked ms at parent (Index i) id stands = record { mark = stands.mark; fact = stands.fact; line = stands.line }
+stands_linked ms at parent s id stands = search rules
 
 module _ (nodes : List Spot) (p : ℕ) (d : Spot) (s : Step) (r : Role) (kind : Kind) (line : ℕ) (low : p < length nodes)
     (fresh : place_of (address_at nodes p ++ s ∷ []) (addresses nodes) ≡ None)

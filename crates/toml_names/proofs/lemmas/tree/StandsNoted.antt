@@ -1,12 +1,5 @@
 -- The nodes, one named once more, stand for what was named with that mention.
-use Rattle.std.proofs.Common.{◌≡◌, true, ℕ, ◌<◌, List, [], ◌∷◌, ◌++◌, length, Some, None, sym, ap, subst, ◌∙◌, slice_index_or, ◌⊎◌, inl, inr}
-use Rattle.std.proofs.lemmas.Bool.{cases_eq}
-use Rattle.toml_names.specs.model.Addresses.{Address}
-use Rattle.toml_names.specs.model.Data.{fact_at}
-use Rattle.toml_names.specs.mentions.Local.{mark_after}
-use Rattle.toml_names.specs.mentions.Mentions.{Named}
-use Rattle.toml_names.specs.tree.Nodes.{Spot, addresses, address_at, place_of, marked, noted}
-use Rattle.toml_names.specs.mentions.Rules.{may_follow}
+use Rattle.toml_names.proofs.Common.{◌≡◌, true, ℕ, ◌<◌, List, [], ◌∷◌, ◌++◌, length, Some, None, sym, ap, subst, ◌∙◌, slice_index_or, ◌⊎◌, inl, inr, rules, cases_eq, Address, fact_at, mark_after, Named, Spot, addresses, address_at, place_of, marked, noted, may_follow}
 use Rattle.toml_names.proofs.lemmas.mentions.FactAt.{fact_kept}
 use Rattle.toml_names.proofs.lemmas.mentions.FirstMore.{first-again}
 use Rattle.toml_names.proofs.lemmas.tree.Fitting.{Stands, StandsButCounts, mark_here, mark_elsewhere, fits-at_node, good_more}
@@ -32,13 +25,7 @@ module _ (nodes : List Spot) (k : ℕ) (d : Spot) (low : k < length nodes) (m : 
   after = noted nodes k here m.role m.line
 
   here_stands : Stands (ms ++ m ∷ []) (address_at nodes k) (marked here m.role m.line)
-  here_stands =
-      let before = stands.each k d low in
-      record {
-        mark = mark_here ms m (address_at nodes k) is ∙ ap (λ q. mark_after q m.role) before.mark;
-        fact = fact_kept ms (m ∷ []) (address_at nodes k) here.kind before.fact;
-        line = line_noted ms m (address_at nodes k) is here.role before.mark goes here.line before.line;
-      }
+  here_stands = search (rules, mark_here, fact_kept, line_noted)
 
   beside_stands : (j : ℕ) (e : Spot) → j < length nodes → (j ≡ k → ⊥) → Stands (ms ++ m ∷ []) (address_at nodes j) (slice_index_or nodes j e)
   beside_stands j e within apart =
@@ -52,9 +39,7 @@ module _ (nodes : List Spot) (k : ℕ) (d : Spot) (low : k < length nodes) (m : 
       by (inr apart) = rw (node-beside nodes k d m.role m.line low j e apart) (beside_stands j e within apart)
 
   none_before_it : (at : Address) → place_of at (addresses after) ≡ None → (m.address ≡ at → ⊥) × (place_of at (addresses nodes) ≡ None)
-  none_before_it at none =
-      let before : place_of at (addresses nodes) ≡ None = ap (place_of at) (sym (addresses-noted nodes k d m.role m.line low)) ∙ none in
-      (λ same. none_is_some k (sym before ∙ ap (λ a. place_of a (addresses nodes)) (sym same ∙ is) ∙ own_place nodes stands.tree k low), before)
+  none_before_it at none = search (rules, addresses-noted, none_is_some, own_place)
 
   pub StandsButCounts-noted : StandsButCounts after (ms ++ m ∷ [])
   StandsButCounts-noted = record {

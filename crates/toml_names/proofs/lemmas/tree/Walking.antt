@@ -1,13 +1,5 @@
 -- From a node down: the nodes below it, and the addresses that no node has.
-use Rattle.std.proofs.Common.{◌≡◌, ℕ, ◌<◌, List, [], ◌∷◌, ◌++◌, length, Option, Some, None, refl, sym, ap, ◌∙◌, slice_index_or, arith}
-use Rattle.std.proofs.lemmas.List.{append_assoc, append-nil, same_from_push, length_push}
-use Rattle.std.proofs.lemmas.Option.{none-some, same_Some}
-use Rattle.toml_names.specs.declared.model.address.Step.{Step}
-use Rattle.toml_names.specs.model.Addresses.{Address}
-use Rattle.toml_names.specs.model.Data.{fact_at}
-use Rattle.toml_names.specs.mentions.Mentions.{Named}
-use Rattle.toml_names.specs.tree.NameTree.{AreNested, IsTree, IsTreeOf, LeadsTo}
-use Rattle.toml_names.specs.tree.Nodes.{Spot, address_under, addresses, address_at, place_of, nowhere}
+use Rattle.toml_names.proofs.Common.{◌≡◌, ℕ, ◌<◌, List, [], ◌∷◌, ◌++◌, length, Option, Some, None, refl, sym, ap, ◌∙◌, slice_index_or, arith, append_assoc, append-nil, same_from_push, length_push, none-some, same_Some, Step, Address, fact_at, Named, AreNested, IsTree, IsTreeOf, LeadsTo, Spot, address_under, addresses, address_at, place_of, nowhere}
 use Rattle.toml_names.proofs.lemmas.tree.NodeAddresses.{length-addresses, address_at-under}
 use Rattle.toml_names.proofs.lemmas.tree.NodePlaces.{place_of-at}
 

@@ -1,5 +1,4 @@
-use Rattle.std.proofs.Common.{◌∙◌, ◌++◌, ◌∷◌, [], ap, map, take, List, Option, ℕ}
-use Rattle.toml_names.specs.reader.Reading.{rank_in}
+use Rattle.toml_names.proofs.Common.{◌∙◌, ◌++◌, ◌∷◌, [], ap, map, take, List, Option, ℕ, rank_in}
 use Rattle.toml_names.proofs.lemmas.tree.LineRanks.{ranks-more}
 use Rattle.toml_names.proofs.names.ranks_of.Goals as goal
 

@@ -1,7 +1,4 @@
-use Rattle.std.proofs.Common.{◌≡◌, refl, Some, IsSome, is_some, string_bytes, string_cmp, sym, ap, ◌∙◌, true≢false}
-use Rattle.std.proofs.lemmas.Map.Views.{All-turn}
-use Rattle.std.specs.BTreeMap.{get, get_by_text}
-use Rattle.std.specs.Map.Iter.{deref_pair}
+use Rattle.toml_names.proofs.Common.{◌≡◌, refl, Some, IsSome, is_some, string_bytes, string_cmp, sym, ap, ◌∙◌, true≢false, All-turn, get, get_by_text, deref_pair}
 use Rattle.toml_names.proofs.lemmas.model.Alike.{each_more, each_none, HasNames-from_each}
 use Rattle.toml_names.proofs.model.datum.has_names.Goals as goal
 

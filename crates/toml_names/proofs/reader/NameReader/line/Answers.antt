@@ -1,8 +1,5 @@
-use Rattle.std.proofs.Common.{◌≡◌, ◌++◌, ◌∷◌, [], List, Bor, length, map, ap, subst, ◌∙◌, arith}
-use Rattle.std.proofs.lemmas.Result.{err_from_is_err_and}
+use Rattle.toml_names.proofs.Common.{◌≡◌, ◌++◌, ◌∷◌, [], List, Bor, length, map, ap, subst, ◌∙◌, arith, err_from_is_err_and, line as tree_line, RefusesEntry}
 use Rattle.toml_tree.specs.declared.line.Line.{Line as TreeLine}
-use Rattle.toml_tree.specs.Lines.{line as tree_line}
-use Rattle.toml_names.specs.reader.Reading.{RefusesEntry}
 use Rattle.toml_names.proofs.lemmas.reader.OneMoreLine.{took, took_good, refuses-line, lines-push, count-lines}
 use Rattle.toml_names.proofs.reader.NameReader.line.Goals as goal
 

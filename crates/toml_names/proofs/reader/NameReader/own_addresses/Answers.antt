@@ -1,10 +1,5 @@
-use Rattle.std.proofs.Common.{◌≡◌, ◌∙◌, Bor, ap, map, option_map, subst}
-use Rattle.std.proofs.lemmas.Result.{IfOk-weaker}
+use Rattle.toml_names.proofs.Common.{◌≡◌, ◌∙◌, Bor, ap, map, option_map, subst, IfOk-weaker, line as tree_line, AreOwnAddresses, address_at, ReaderState, lines_of}
 use Rattle.toml_tree.specs.declared.line.Line.{Line as TreeLine}
-use Rattle.toml_tree.specs.Lines.{line as tree_line}
-use Rattle.toml_names.specs.reader.Names.{AreOwnAddresses}
-use Rattle.toml_names.specs.tree.Nodes.{address_at}
-use Rattle.toml_names.specs.reader.Reading.{ReaderState, lines_of}
 use Rattle.toml_names.proofs.lemmas.tree.LineRanks.{are_own_addresses}
 use Rattle.toml_names.proofs.reader.NameReader.own_addresses.Goals as goal
 

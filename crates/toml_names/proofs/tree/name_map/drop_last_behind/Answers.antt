@@ -1,5 +1,4 @@
-use Rattle.std.proofs.Common.{sym, ap, ◌∙◌, ◌-◌, length, take}
-use Rattle.toml_names.specs.tree.NameMaps.{children_of, children_behind}
+use Rattle.toml_names.proofs.Common.{sym, ap, ◌∙◌, ◌-◌, length, take, children_of, children_behind}
 use Rattle.toml_names.proofs.lemmas.tree.Children.{children_of-front}
 use Rattle.toml_names.proofs.tree.name_map.drop_last_behind.Goals as goal
 

@@ -1,4 +1,4 @@
-use Rattle.std.proofs.Common.{◌≡◌, ◌∙◌, sym, length}
+use Rattle.toml_names.proofs.Common.{◌≡◌, ◌∙◌, sym, length}
 use Rattle.toml_names.proofs.lemmas.tree.Children.{led-same, led-more}
 use Rattle.toml_names.proofs.tree.name_map.find_or_insert_behind.Goals as goal
 

@@ -1,4 +1,4 @@
-use Rattle.std.proofs.Common.{length, sym, ap, ◌∙◌, arith}
+use Rattle.toml_names.proofs.Common.{length, sym, ap, ◌∙◌, arith}
 use Rattle.toml_names.proofs.lemmas.model.Above.{above_short, above_end}
 use Rattle.toml_names.proofs.model.address.Address.is_above.Goals as goal
 

@@ -1,9 +1,4 @@
-use Rattle.std.proofs.Common.{arith, ◌≡◌, ◌∷◌, Option, Some, None, cond, [], IsSome, sym, ap, ◌∙◌, subst}
-use Rattle.std.specs.BTreeMap.{get_by_text}
-use Rattle.std.specs.Str.{bytes_eq}
-use Rattle.toml_names.specs.declared.model.address.Step.{Step}
-use Rattle.toml_names.specs.declared.model.datum.Datum.{Datum}
-use Rattle.toml_names.specs.model.Data.{kind_at, kind_in}
+use Rattle.toml_names.proofs.Common.{arith, ◌≡◌, ◌∷◌, Option, Some, None, cond, [], IsSome, sym, ap, ◌∙◌, subst, get_by_text, bytes_eq, Step, Datum, kind_at, kind_in}
 use Rattle.toml_names.proofs.lemmas.model.Changes.{array-set, table-set, array-within, table-has, array-past, table-lacks, array-alike, table-alike}
 use Rattle.toml_names.proofs.lemmas.model.Levels.{array-item, table-member}
 use Rattle.toml_names.proofs.model.datum.Datum.swap_child.Goals as goal

@@ -1,6 +1,4 @@
-use Rattle.std.proofs.Common.{◌++◌, ◌-◌, length, take, sym, ap, subst, ◌∙◌, ◌≡◌, vec_len, arith}
-use Rattle.std.proofs.lemmas.Bool.{false≢true}
-use Rattle.toml_names.specs.tree.NameMaps.{children_of, children_behind, AreDistinct}
+use Rattle.toml_names.proofs.Common.{◌++◌, ◌-◌, length, take, sym, ap, subst, ◌∙◌, ◌≡◌, vec_len, arith, false≢true, children_of, children_behind, AreDistinct}
 use Rattle.toml_names.proofs.lemmas.tree.Children.{children_of-front}
 use Rattle.toml_names.proofs.lemmas.tree.Distinct.{AreDistinct-front, dropped_behind, dropped_few}
 use Rattle.toml_names.proofs.tree.name_map.NameMap.drop_last.Goals as goal

@@ -1,9 +1,4 @@
-use Rattle.std.proofs.Common.{◌≡◌, ◌∷◌, ◌++◌, [], ℕ, Option, IfOk, sym, ap, subst, ◌∙◌}
-use Rattle.std.proofs.lemmas.List.{append-nil}
-use Rattle.std.specs.Cow.{cow_str_bytes}
-use Rattle.std.specs.Map.{lookup}
-use Rattle.std.specs.Str.{bytes_eq}
-use Rattle.toml_names.specs.tree.NameMaps.{children_of, children_behind, AreDistinct}
+use Rattle.toml_names.proofs.Common.{◌≡◌, ◌∷◌, ◌++◌, [], ℕ, Option, IfOk, sym, ap, subst, ◌∙◌, append-nil, cow_str_bytes, lookup, bytes_eq, children_of, children_behind, AreDistinct}
 use Rattle.toml_names.proofs.lemmas.tree.Children.{children_of-push}
 use Rattle.toml_names.proofs.lemmas.tree.Distinct.{AreDistinct-push, AreDistinct-led, found_in_few, found_behind, not_in_few}
 use Rattle.toml_names.proofs.tree.name_map.NameMap.find_or_insert.Goals as goal

@@ -1,9 +1,4 @@
-use Rattle.std.proofs.lemmas.List.{drop_all}
-use Rattle.std.proofs.lemmas.Option.{none-some, slice_get-get_or}
-use Rattle.std.proofs.Common.{◌+◌, ◌≤◌, drop, ◌<◌, ℕ, List, [], slice_get, length, sym, ap, ◌∙◌, subst, arith}
-use Rattle.toml_scalar.specs.Values.{scalar_of}
-use Rattle.toml_names.specs.mentions.Mentions.{a_table, an_array, a_scalar, value_or_empty}
-use Rattle.toml_names.specs.tree.Nodes.{Spot}
+use Rattle.toml_names.proofs.Common.{drop_all, none-some, slice_get-get_or, ◌+◌, ◌≤◌, drop, ◌<◌, ℕ, List, [], slice_get, length, sym, ap, ◌∙◌, subst, arith, scalar_of, a_table, an_array, a_scalar, value_or_empty, Spot}
 use Rattle.toml_names.proofs.lemmas.tree.NodeData.{PartIs, ItemsAre, Fills, items_more, items_whole, pair_next, fills_none, fills_more, fills_all, table_is_datum, array_is_datum, below_name, below_element, node_read, kind_read, scalars_datum}
 use Rattle.toml_names.proofs.tree.name_tree.NameTree.+datum.Goals as goal
 use Rattle.toml_names.proofs.tree.name_tree.NameTree.+datum.Goals.{table_datum-in-Some-nth+in_ok-member+in_ok-add_member, table_datum-in_default-nth}

@@ -1,19 +1,5 @@
-use Rattle.std.proofs.Common.{◌≡◌, ℕ, true, ◌+◌, ◌∷◌, sym, ap, subst, ◌∙◌, map, length, arith}
-use Rattle.std.proofs.lemmas.List.{drop_all}
-use Rattle.std.proofs.lemmas.Result.{err_from_is_err_and}
-use Rattle.toml_tree.specs.declared.tree.Value.TheViews.{out-Array, out-InlineTable}
-use Rattle.toml_tree.specs.View.{piece, key, value, keyval, element, member}
-use Rattle.toml_tree.specs.Tree.{KeyVal}
-use Rattle.toml_tree.proofs.Proved.{keyval_is}
-use Rattle.toml_names.specs.mentions.Keys.{part_name, key_names}
-use Rattle.toml_names.specs.mentions.KeyParts.{value_key_parts, keyval_key_parts}
-use Rattle.toml_names.specs.model.Addresses.{below}
-use Rattle.toml_names.specs.tree.LongKeys.{CanEnterKey}
-use Rattle.toml_names.specs.mentions.Mentions.{fronts, value_named, inside, pair_named}
-use Rattle.toml_names.specs.declared.mentions.mention.Role.TheVariants.{Valued}
-use Rattle.toml_names.specs.tree.NameTree.{Clashes, EntersTo}
-use Rattle.toml_names.specs.tree.Nodes.{address_at}
-use Rattle.toml_names.specs.mentions.View.{kind}
+use Rattle.toml_names.proofs.Common.{◌≡◌, ℕ, true, ◌+◌, ◌∷◌, sym, ap, subst, ◌∙◌, map, length, arith, drop_all, err_from_is_err_and, out-Array, out-InlineTable, piece, key, value, keyval, member, KeyVal, keyval_is, part_name, key_names, value_key_parts, keyval_key_parts, below, CanEnterKey, fronts, value_named, inside, pair_named, Valued, Clashes, EntersTo, address_at, kind}
+use Rattle.toml_tree.specs.View.{element}
 use Rattle.toml_names.proofs.lemmas.tree.EnterSteps.{Clashes-front, KeepsElements-same, KeepsElements-then}
 use Rattle.toml_names.proofs.lemmas.mentions.Inside.{elements_of, members_of}
 use Rattle.toml_names.proofs.lemmas.tree.ItemsEntered.{no_elements, entered-all}

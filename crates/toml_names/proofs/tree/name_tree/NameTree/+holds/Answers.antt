@@ -1,16 +1,4 @@
-use Rattle.std.proofs.Common.{◌≡◌, ◌<◌, ◌+◌, ◌==◌, ℕ, [], List, length, is_some, Some, IsSome, string_bytes, string_cmp, slice_index_or, below_more, sym, ap, subst, ◌∙◌, refl, true≢false, arith}
-use Rattle.std.proofs.lemmas.Map.Views.{All-turn}
-use Rattle.std.proofs.lemmas.Option.{slice_get-get_or, slice_get_read}
-use Rattle.std.specs.BTreeMap.{get}
-use Rattle.std.specs.Map.{lookup}
-use Rattle.std.specs.Map.Iter.{deref_pair}
-use Rattle.std.specs.Prelude.{slice_get}
-use Rattle.std.specs.Str.{bytes_eq}
-use Rattle.toml_scalar.specs.Values.{scalar_of}
-use Rattle.toml_names.specs.tree.Held.{Holds}
-use Rattle.toml_names.specs.mentions.Mentions.{a_table, an_array, a_scalar, value_or_empty}
-use Rattle.toml_names.specs.tree.NameMaps.{AreDistinct}
-use Rattle.toml_names.specs.tree.Nodes.{Spot, nowhere}
+use Rattle.toml_names.proofs.Common.{◌≡◌, ◌<◌, ◌+◌, ◌==◌, ℕ, [], List, length, is_some, Some, IsSome, string_bytes, string_cmp, slice_index_or, below_more, sym, ap, subst, ◌∙◌, refl, true≢false, arith, All-turn, slice_get-get_or, slice_get_read, get, lookup, deref_pair, slice_get, bytes_eq, scalar_of, Holds, a_table, an_array, a_scalar, value_or_empty, AreDistinct, Spot, nowhere}
 use Rattle.toml_names.proofs.lemmas.model.Alike.{accepted, refused, each_none}
 use Rattle.toml_names.proofs.lemmas.tree.Held.{IsHeldIn, held_part, items_held, array_count, members_held, scalar_told, scalar_held, scalar_bare, table_bare, table_parts, table_count, found_too, no_length, none_counted, not_there, array_bare, array_parts, array_held, no_table, no_array, no_scalar}
 use Rattle.toml_names.proofs.lemmas.tree.NodeData.{below_name, below_element, node_read, kind_read}

@@ -1,5 +1,4 @@
-use Rattle.std.proofs.Common.{sym, ◌∙◌, arith}
-use Rattle.toml_names.specs.tree.Nodes.{nowhere}
+use Rattle.toml_names.proofs.Common.{sym, ◌∙◌, arith, nowhere}
 use Rattle.toml_names.proofs.lemmas.tree.Climbing.{climbed, climbs, arrived}
 use Rattle.toml_names.proofs.tree.name_tree.NameTree.address_by.Goals as goal
 

@@ -1,7 +1,4 @@
-use Rattle.std.proofs.Common.{◌≡◌, ◌<◌, ℕ, List, length, slice_get, sym, ap, ◌∙◌, arith, ◌++◌, ◌∷◌, []}
-use Rattle.std.specs.Prelude.{option_copied}
-use Rattle.toml_names.specs.declared.model.address.Step.{Step}
-use Rattle.toml_names.specs.tree.Nodes.{Spot, addresses, address_at, place_of, nowhere}
+use Rattle.toml_names.proofs.Common.{◌≡◌, ◌<◌, ℕ, List, length, slice_get, sym, ap, ◌∙◌, arith, ◌++◌, ◌∷◌, [], option_copied, Step, Spot, addresses, address_at, place_of, nowhere}
 use Rattle.toml_names.proofs.lemmas.model.Levels.{item_got}
 use Rattle.toml_names.proofs.lemmas.tree.NodeData.{node_read}
 use Rattle.toml_names.proofs.tree.name_tree.NameTree.below.Goals as goal

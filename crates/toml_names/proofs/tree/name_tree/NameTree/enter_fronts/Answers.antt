@@ -1,11 +1,4 @@
-use Rattle.std.proofs.Common.{◌≡◌, ◌+◌, ◌∷◌, ap, subst, length, true, arith}
-use Rattle.std.proofs.lemmas.Result.{err_from_is_err_and}
-use Rattle.toml_tree.specs.View.{piece}
-use Rattle.toml_names.specs.mentions.Keys.{part_name}
-use Rattle.toml_names.specs.tree.LongKeys.{CanEnter, FollowedFronts, key_named}
-use Rattle.toml_names.specs.mentions.Mentions.{fronts}
-use Rattle.toml_names.specs.tree.NameTree.{Clashes, IsAbsent}
-use Rattle.toml_names.specs.tree.Nodes.{nowhere, address_at}
+use Rattle.toml_names.proofs.Common.{◌≡◌, ◌+◌, ◌∷◌, ap, subst, length, true, arith, err_from_is_err_and, piece, part_name, CanEnter, FollowedFronts, key_named, fronts, Clashes, IsAbsent, nowhere, address_at}
 use Rattle.toml_names.proofs.lemmas.mentions.Along.{names_left}
 use Rattle.toml_names.proofs.lemmas.tree.EnterFronts.{all-named, FollowedFronts-first, FollowedFronts-more, Clashes-fronts}
 use Rattle.toml_names.proofs.lemmas.tree.KnownFronts.{followed-fresh}

@@ -1,15 +1,4 @@
-use Rattle.std.proofs.Common.{◌≡◌, sym, ap, subst, ◌∙◌, [], Some, arith}
-use Rattle.std.proofs.lemmas.Result.{err_from_is_err_and}
-use Rattle.toml_tree.specs.View.{piece, blank, header, keyval, expr}
-use Rattle.toml_names.specs.model.Addresses.{below}
-use Rattle.toml_names.specs.tree.EnteringHeaders.{EntersHeader, table_names, tables_names, next_table}
-use Rattle.toml_names.specs.mentions.Keys.{key_names}
-use Rattle.toml_names.specs.tree.LongKeys.{CanEnter, CanEnterHeader, IsLongKey}
-use Rattle.toml_names.specs.mentions.Mentions.{pair_named}
-use Rattle.toml_names.specs.reader.Names.{header_end}
-use Rattle.toml_names.specs.tree.NameTree.{EntersTo}
-use Rattle.toml_names.specs.tree.Nodes.{address_at}
-use Rattle.toml_names.specs.mentions.Rules.{misfit}
+use Rattle.toml_names.proofs.Common.{◌≡◌, sym, ap, subst, ◌∙◌, [], Some, arith, err_from_is_err_and, piece, blank, header, keyval, expr, below, EntersHeader, table_names, tables_names, next_table, key_names, CanEnter, CanEnterHeader, IsLongKey, pair_named, header_end, EntersTo, address_at, misfit}
 use Rattle.toml_names.proofs.lemmas.tree.EnterLines.{table_entered, tables_entered, pair_entered}
 use Rattle.toml_names.proofs.lemmas.tree.LongLines.{long_pair, long_table, long_tables}
 use Rattle.toml_names.proofs.lemmas.tree.Steps.{GoesOn-same, refuses}

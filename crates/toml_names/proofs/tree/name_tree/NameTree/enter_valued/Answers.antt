@@ -1,8 +1,4 @@
-use Rattle.std.proofs.Common.{◌≡◌, ◌<◌, ◌∙◌, length, refl, sym, arith}
-use Rattle.toml_tree.specs.View.{piece}
-use Rattle.toml_names.specs.declared.mentions.mention.Role.TheVariants.{Valued}
-use Rattle.toml_names.specs.mentions.Keys.{part_name}
-use Rattle.toml_names.specs.mentions.View.{kind as kind_of}
+use Rattle.toml_names.proofs.Common.{◌≡◌, ◌<◌, ◌∙◌, length, refl, sym, arith, piece, Valued, part_name, kind as kind_of}
 use Rattle.toml_names.proofs.lemmas.tree.EnterName.{IsNode-known, Clashes-known_value, EntersTo-new, lone-led}
 use Rattle.toml_names.proofs.tree.name_tree.NameTree.enter_valued.Goals as goal
 

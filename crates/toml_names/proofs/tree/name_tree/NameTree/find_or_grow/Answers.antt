@@ -1,9 +1,5 @@
-use Rattle.std.proofs.Common.{◌≡◌, ap, ◌∙◌, subst, List, IfNone, slice_index_or, Vec, Global, arith, rules}
-use Rattle.std.specs.Cow.{cow_str_bytes}
-use Rattle.toml_names.specs.declared.model.address.Step.TheVariants.{Name}
+use Rattle.toml_names.proofs.Common.{◌≡◌, ap, ◌∙◌, subst, List, IfNone, slice_index_or, Vec, Global, arith, rules, cow_str_bytes, Name, Change, linked, undone}
 use Rattle.toml_names.specs.declared.tree.node.Node.{Node}
-use Rattle.toml_names.specs.declared.tree.name_tree.Change.{Change}
-use Rattle.toml_names.specs.tree.Nodes.{linked, undone}
 use Rattle.toml_names.proofs.lemmas.tree.Depths.{depth_read}
 use Rattle.toml_names.proofs.lemmas.tree.Undo.{undone-grown_name}
 use Rattle.toml_names.proofs.tree.name_tree.NameTree.find_or_grow.Goals as goal

@@ -1,7 +1,4 @@
-use Rattle.std.proofs.Common.{◌≡◌, ◌<◌, List, [], ◌∷◌, ◌++◌, length, slice_index_or, sym, ap, ◌∙◌, arith}
-use Rattle.toml_names.specs.model.Addresses.{Address}
-use Rattle.toml_names.specs.mentions.Mentions.{is_mentioned}
-use Rattle.toml_names.specs.tree.Nodes.{Spot, nowhere}
+use Rattle.toml_names.proofs.Common.{◌≡◌, ◌<◌, List, [], ◌∷◌, ◌++◌, length, slice_index_or, sym, ap, ◌∙◌, arith, Address, is_mentioned, Spot, nowhere}
 use Rattle.toml_names.proofs.lemmas.tree.Ranks.{mentioned_upto, upto-mention, upto-other, role_read, listed_all}
 use Rattle.toml_names.proofs.tree.name_tree.NameTree.first_mentions.Goals as goal
 use Rattle.toml_names.proofs.tree.name_tree.NameTree.first_mentions.Goals.{then-is_mention+in_ok-address_by+in_ok-push, else-is_mention}

@@ -1,8 +1,4 @@
-use Rattle.std.proofs.Common.{ap, ◌∙◌, List, length, slice_index_or, arith, rules}
-use Rattle.toml_names.specs.declared.model.address.Step.TheVariants.{Index}
-use Rattle.toml_names.specs.declared.tree.name_tree.Change.{Change}
-use Rattle.toml_names.specs.tree.Nodes.{grown, undone}
-use Rattle.toml_names.specs.mentions.View.{kind as kind_of}
+use Rattle.toml_names.proofs.Common.{ap, ◌∙◌, List, length, slice_index_or, arith, rules, Index, Change, grown, undone, kind as kind_of}
 use Rattle.toml_names.proofs.lemmas.tree.Depths.{depth_read}
 use Rattle.toml_names.proofs.lemmas.tree.Grows.{grows-element}
 use Rattle.toml_names.proofs.lemmas.tree.Undo.{undone-grown_element}

@@ -1,6 +1,4 @@
-use Rattle.std.proofs.Common.{◌≡◌, sym, ap, ◌∙◌, ◌-◌, length, slice_get, arith}
-use Rattle.toml_names.specs.declared.mentions.mention.Role.TheVariants.{Tables}
-use Rattle.toml_names.specs.tree.Nodes.{Spot}
+use Rattle.toml_names.proofs.Common.{◌≡◌, sym, ap, ◌∙◌, ◌-◌, length, slice_get, arith, Tables, Spot}
 use Rattle.toml_names.proofs.lemmas.tree.InnerNodes.{read_twice, last_element}
 use Rattle.toml_names.proofs.tree.name_tree.NameTree.inner.Goals as goal
 

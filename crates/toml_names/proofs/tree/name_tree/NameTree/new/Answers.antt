@@ -1,6 +1,4 @@
-use Rattle.std.proofs.Common.{ap, ◌∙◌, ◌++◌, ◌∷◌, [], List}
-use Rattle.toml_names.specs.tree.Nodes.{Spot}
-use Rattle.toml_names.specs.mentions.View.{kind as kind_of}
+use Rattle.toml_names.proofs.Common.{ap, ◌∙◌, ◌++◌, ◌∷◌, [], List, Spot, kind as kind_of}
 use Rattle.toml_names.proofs.lemmas.mentions.Root.{root_alone}
 use Rattle.toml_names.proofs.tree.name_tree.NameTree.new.Goals as goal
 

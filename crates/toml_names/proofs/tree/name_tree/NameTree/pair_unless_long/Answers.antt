@@ -1,11 +1,4 @@
-use Rattle.std.proofs.Common.{sym, subst, arith}
-use Rattle.toml_tree.specs.View.{key, value, assign}
-use Rattle.toml_tree.specs.Tree.{KeyVal}
-use Rattle.toml_tree.proofs.Proved.{keyval_is}
-use Rattle.toml_names.specs.mentions.Keys.{key_names}
-use Rattle.toml_names.specs.tree.LongKeys.{CanEnter, CanEnterKey, IsLongKey}
-use Rattle.toml_names.specs.mentions.Mentions.{pair_named}
-use Rattle.toml_names.specs.tree.Nodes.{address_at}
+use Rattle.toml_names.proofs.Common.{sym, subst, arith, key, value, assign, KeyVal, keyval_is, key_names, CanEnter, CanEnterKey, IsLongKey, pair_named, address_at}
 use Rattle.toml_names.proofs.lemmas.tree.LongPairs.{long_key, pair_fresh, or_long}
 use Rattle.toml_names.proofs.lemmas.tree.Steps.{GoesOn-same, follows}
 use Rattle.toml_names.proofs.tree.name_tree.NameTree.pair_unless_long.Goals as goal

@@ -1,8 +1,4 @@
-use Rattle.std.proofs.Common.{arith}
-use Rattle.std.proofs.lemmas.Result.{err_from_is_err_and}
-use Rattle.toml_tree.specs.View.{piece}
-use Rattle.toml_names.specs.mentions.Keys.{part_name}
-use Rattle.toml_names.specs.tree.Nodes.{nowhere}
+use Rattle.toml_names.proofs.Common.{arith, err_from_is_err_and, piece, part_name, nowhere}
 use Rattle.toml_names.proofs.lemmas.tree.EnterName.{IsNode-known}
 use Rattle.toml_names.proofs.lemmas.tree.InnerNodes.{Passes-known, clash-known, Passes-new}
 use Rattle.toml_names.proofs.lemmas.tree.Steps.{GoesOn-then, refuses}

@@ -1,13 +1,4 @@
-use Rattle.std.proofs.Common.{◌≡◌, ◌+◌, [], ◌∷◌, ◌∙◌, Some, sym, ap, subst, take, drop, length, true, arith}
-use Rattle.std.proofs.lemmas.Result.{err_from_is_err_and}
-use Rattle.toml_tree.specs.View.{piece}
-use Rattle.toml_names.specs.tree.EnteringHeaders.{PassedFronts}
-use Rattle.toml_names.specs.tree.Headers.{header_fronts}
-use Rattle.toml_names.specs.mentions.Keys.{part_name}
-use Rattle.toml_names.specs.tree.LongKeys.{CanEnterHeaders}
-use Rattle.toml_names.specs.tree.NameTree.{IsAbsent}
-use Rattle.toml_names.specs.tree.Nodes.{nowhere}
-use Rattle.toml_names.specs.mentions.Rules.{misfit}
+use Rattle.toml_names.proofs.Common.{◌≡◌, ◌+◌, [], ◌∷◌, ◌∙◌, Some, sym, ap, subst, take, drop, length, true, arith, err_from_is_err_and, piece, PassedFronts, header_fronts, part_name, CanEnterHeaders, IsAbsent, nowhere, misfit}
 use Rattle.toml_names.proofs.lemmas.tree.KnownHeaders.{passed-fresh}
 use Rattle.toml_names.proofs.lemmas.mentions.Along.{names_left}
 use Rattle.toml_names.proofs.lemmas.tree.EnterFronts.{all-named, one_more, all_names}

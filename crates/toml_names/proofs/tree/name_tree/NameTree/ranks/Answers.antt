@@ -1,6 +1,4 @@
-use Rattle.std.proofs.Common.{◌≡◌, ◌+◌, ◌<◌, List, [], ◌∷◌, ◌++◌, length, slice_index_or, sym, ap, subst, ◌∙◌, arith}
-use Rattle.toml_names.specs.mentions.Mentions.{is_mentioned}
-use Rattle.toml_names.specs.tree.Nodes.{Spot}
+use Rattle.toml_names.proofs.Common.{◌≡◌, ◌+◌, ◌<◌, List, [], ◌∷◌, ◌++◌, length, slice_index_or, sym, ap, subst, ◌∙◌, arith, is_mentioned, Spot}
 use Rattle.toml_names.proofs.lemmas.tree.Ranks.{AreRanked, ranked_none, ranked_mention, ranked_other, ranked_all, upto-few}
 use Rattle.toml_names.proofs.tree.name_tree.NameTree.ranks.Goals as goal
 use Rattle.toml_names.proofs.tree.name_tree.NameTree.ranks.Goals.{then-is_mention, else-is_mention}

@@ -1,10 +1,4 @@
-use Rattle.std.proofs.Common.{[], arith}
-use Rattle.std.proofs.lemmas.Result.{err_from_is_err_and}
-use Rattle.toml_tree.specs.View.{piece, key as tree_key}
-use Rattle.toml_names.specs.tree.EnteringHeaders.{PassedFronts}
-use Rattle.toml_names.specs.mentions.Keys.{part_name, rest_names, key_names}
-use Rattle.toml_names.specs.tree.LongKeys.{CanEnterHeaders, IsLongKey}
-use Rattle.toml_names.specs.mentions.Mentions.{ends_table}
+use Rattle.toml_names.proofs.Common.{[], arith, err_from_is_err_and, piece, key as tree_key, PassedFronts, part_name, rest_names, key_names, CanEnterHeaders, IsLongKey, ends_table}
 use Rattle.toml_names.proofs.lemmas.tree.EnterFronts.{key-length}
 use Rattle.toml_names.proofs.lemmas.tree.HeaderLines.{clash_in_fronts, table_line, table_clash}
 use Rattle.toml_names.proofs.lemmas.tree.Steps.{GoesOn-same, GoesOn-within, follows, found_by, refuses}

@@ -1,7 +1,4 @@
-use Rattle.std.proofs.Common.{◌≡◌, true≢false, Some, length, refl, sym, subst, ◌∙◌, arith}
-use Rattle.toml_tree.specs.Lines.{line as tree_line}
-use Rattle.toml_names.specs.tree.EnteringLines.{EntersLine}
-use Rattle.toml_names.specs.mentions.Mentions.{named_by}
+use Rattle.toml_names.proofs.Common.{◌≡◌, true≢false, Some, length, refl, sym, subst, ◌∙◌, arith, line as tree_line, EntersLine, named_by}
 use Rattle.toml_names.proofs.lemmas.tree.ShortNodes.{AreShortFrom, stays_short, grows_long}
 use Rattle.toml_names.proofs.tree.name_tree.NameTree.try_line.Goals as goal
 

@@ -1,6 +1,4 @@
-use Rattle.std.proofs.Common.{sym, ap, ◌∙◌, List, ◌++◌, option_to_list, Option, Vec, Global}
-use Rattle.toml_names.specs.tree.Nodes.{undone, reverted}
-use Rattle.toml_names.specs.declared.tree.name_tree.Change.{Change}
+use Rattle.toml_names.proofs.Common.{sym, ap, ◌∙◌, List, ◌++◌, option_to_list, Option, Vec, Global, undone, reverted, Change}
 use Rattle.toml_names.proofs.lemmas.tree.Undo.{undone-push}
 use Rattle.toml_names.proofs.tree.name_tree.NameTree.undo.Goals as goal
 
