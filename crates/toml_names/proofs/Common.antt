@@ -1,6 +1,6 @@
 -- The words that most proofs cite, passed on from one place: the library's, the text's and the tree's, and this crate's. It declares nothing.
 pub use Rattle.std.proofs.Common.{◌≡◌, zero, suc, ◌⊎◌, inl, inr, List, [], ◌∷◌, ◌++◌, All, Any, AllPairs, refl, sym, subst, arith, ◌+◌, Some, string_cmp, string_bytes, cond, bytes_eq, ap, ◌∙◌, ℕ, ◌<◌, slice_get, None, is_some, below_more, true≢false, drop, Option, option_copied, IsSome, rules, take, length, length-append, ◌↔◌, ◌≤◌, Bool, true, false, IsTrue, String, Vec, Global, nat_cmp, is_eq, ⊎_elim, map, BTreeMap, Bor, append-nil, ◌-◌, ◌==◌, ◌&&◌, append_assoc, set, get_or, Box, slice_index_or, Result, Ok, Err, IfOk, filter, add-one, option_map, slice_set, MatchOption, OnErr, IfSome, IfNone, ltb, ◌||◌, ap₂, not, le_refl, Contains, option_and_then, MatchBool, tests, vec_len, option_to_list, ◌*◌}
-pub use Rattle.std.proofs.lemmas.Bool.{cases_lt, eqb-true, eq-eqb, eqb-false, false_from_ne_true, cases_eq, cond-false, false≢true, cond-true, ne_eqb, cases_order}
+pub use Rattle.std.proofs.lemmas.Bool.{cases_lt, eqb-true, eq-eqb, false_from_ne_true, cases_eq, cond-false, false≢true, cond-true, ne_eqb, cases_order}
 pub use Rattle.std.proofs.lemmas.Bool.Decides.{nat_tests, Decides-ltb}
 pub use Rattle.std.proofs.lemmas.Grind.{common_steps}
 pub use Rattle.std.proofs.lemmas.List.{same_from_push, length-drop, drop_all, take_more, take_all, map-append, at_drop_more, get_or_append_left, get_or_at, length_push, get_or-set_same, get_or-set_other, get_or_default, length-set, drop_more, get_or_read, take-append-drop, length-map, take-map, reverse-append, take_at, set-set, set-get_or, get_or-map, append_cancel_left, take-take, length-take-le, get_or-drop}
@@ -10,11 +10,11 @@ pub use Rattle.std.proofs.lemmas.List.Sums.{AllPass-from_list_all, list_all-from
 pub use Rattle.std.proofs.lemmas.Map.Text.{btree_map_updates_text, is_eq-slice_cmp}
 pub use Rattle.std.proofs.lemmas.Map.Views.{All-turn}
 pub use Rattle.std.proofs.lemmas.Option.{slice_get_read, slice_get_past, slice_get_within, slice_get-get_or, get_or_from_slice_get, none-some, same_Some, slice_get-map}
-pub use Rattle.std.proofs.lemmas.Result.{IfOk-weaker, IfErr-weaker, err_from_is_err_and}
+pub use Rattle.std.proofs.lemmas.Result.{IfOk-weaker, err_from_is_err_and}
 pub use Rattle.std.proofs.lemmas.Slice.Eq.{bytes_eq-Decides}
 pub use Rattle.std.specs.BTreeMap.{get, get_by_text, is_at, btree_map_len, IsOrdered}
 pub use Rattle.std.specs.Bool.{Decides, nat_eq}
-pub use Rattle.std.specs.Cmp.Lexicographic.{slice_cmp, nat_list_eq_equiv, pointwise_decides, bytes_decides}
+pub use Rattle.std.specs.Cmp.Lexicographic.{slice_cmp, nat_list_eq_equiv, pointwise_decides}
 pub use Rattle.std.specs.Cow.{cow_str_bytes}
 pub use Rattle.std.specs.List.{AllByRecursion, list_any, list_all, HoldsAt, AllWithin}
 pub use Rattle.std.specs.Map.{lookup, keys_of}
@@ -50,7 +50,7 @@ pub use Rattle.toml_names.specs.mentions.Alike.{CountsAdd, AreAlike, AlikeNameTh
 pub use Rattle.toml_names.specs.mentions.Clear.{IsClear, NotNamedIsClear}
 pub use Rattle.toml_names.specs.mentions.FirstMentions.{first_named, first_mentions, is_named, IsMentioned, ComesFirst, IsFirstMentions, OneListOfFirstMentions, FirstMentionsAreThese}
 pub use Rattle.toml_names.specs.mentions.Inside.{InsideIsBelow, shifted, InsideMoves, BelowIsOfItsLine}
-pub use Rattle.toml_names.specs.mentions.Joining.{JoinAll, Joined, is_lone, Joins, IsNext, IsFree, IsAgain, ValuesJoin, OneKind, FirstIsData, ValuesStandAlone, LinesJoin}
+pub use Rattle.toml_names.specs.mentions.Joining.{JoinAll, Joined, is_lone, Joins, IsFree, IsAgain, ValuesJoin, OneKind, FirstIsData, ValuesStandAlone, LinesJoin}
 pub use Rattle.toml_names.specs.mentions.KeyParts.{value_key_parts, keyval_key_parts, item_key_parts, pair_key_parts, expr_key_parts, all_key_parts}
 pub use Rattle.toml_names.specs.mentions.Keys.{Key, key_names, part_name, rest_names}
 pub use Rattle.toml_names.specs.mentions.Local.{role_after, mark_after, mark_of, allows, mark_from, LastRoleDecides}
@@ -63,7 +63,7 @@ pub use Rattle.toml_names.specs.model.Building.{with_child, IsOnly, BeginsAtRoot
 pub use Rattle.toml_names.specs.model.Data.{kind_at, kind_in, Kinds, within, IsDataOf, IsClosed, fact_at, in_array, in_table, IsFact}
 pub use Rattle.toml_names.specs.model.DataLaws.{OneData, LinesAreClosed, ValuesAreClosed, LinesHaveOneKind, LineValuesStandAlone, ValuesHaveOneKind, InnerValuesStandAlone}
 pub use Rattle.toml_names.specs.model.Levels.{Members, Elements, ScalarLevel, ArrayLevel, TableLevel, DatumIsOneOfThree, DatumHasRoot, ArrayAtRoot, ArrayAtIndex, ArrayAtName, TableAtRoot, TableAtName, TableAtIndex, NothingBelowScalar, IndexIsWithin, NameHasMember}
-pub use Rattle.toml_names.specs.model.Places.{first_line, same_role, line_above, in_value, place, IsNamed, IsNotIn, IsOutside, NoPlace, or_else, outside, IsFirstIn, IsInside, IsOnlyPassed, IsPlace, PlacesAreFound, PlaceIsFound}
+pub use Rattle.toml_names.specs.model.Places.{first_line, same_role, line_above, in_value, place, IsNamed, IsNotIn, IsOutside, NoPlace, or_else, outside, IsFirstIn, IsInside, IsPlace, PlacesAreFound, PlaceIsFound}
 pub use Rattle.toml_names.specs.model.SameData.{AreSameIn, AreSame, SameScalars, SameArrays, SameTables}
 pub use Rattle.toml_names.specs.reader.Names.{header_end, own_address, AreOwnAddresses, is_own, line_address, AreGood, IsRedefined, RefusedAreBad, LineAddresses, NoLineAddress, IsLong, OneRefusal, RefusesNames}
 pub use Rattle.toml_names.specs.reader.Reading.{IsReader, AreNames, ranked, rank_in, ReaderState, lines_of, RefusesLine, StaysShort, RefusesEntry, Known}

@@ -25,5 +25,5 @@ pub use Rattle.toml_names.proofs.lemmas.mentions.PlaceFound.{below_is_of_its_lin
 pub use Rattle.toml_names.proofs.lemmas.mentions.PlacesFound.{above_is_above, places_are_found}
 pub use Rattle.toml_names.proofs.lemmas.mentions.PlacesNone.{inside_is_below, no_place}
 pub use Rattle.toml_names.proofs.lemmas.mentions.Placeless.{places_are_not_named, value_places_are_not_named}
-pub use Rattle.toml_names.proofs.lemmas.mentions.Refused.{refused_are_bad}
+pub use Rattle.toml_names.proofs.lemmas.mentions.OneRefusal.{refused_are_bad}
 pub use Rattle.toml_names.proofs.lemmas.mentions.UnderRules.{lines_have_one_kind, line_values_stand_alone, values_have_one_kind, inner_values_stand_alone}

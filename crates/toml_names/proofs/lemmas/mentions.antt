@@ -2,7 +2,6 @@ pub mod Adding
 pub mod AlikeNames
 pub mod AllLines
 pub mod Along
-pub mod Bare
 pub mod BelowValues
 pub mod Clear
 pub mod Counting
@@ -24,7 +23,6 @@ pub mod LineSections
 pub mod Local
 pub mod Mentioned
 pub mod Misfits
-pub mod NestedMore
 pub mod NextLine
 pub mod NoTables
 pub mod OfOneKind
@@ -39,8 +37,6 @@ pub mod Placeless
 pub mod PlacesFound
 pub mod PlacesNone
 pub mod Pushed
-pub mod Refused
-pub mod Root
 pub mod Suiting
 pub mod TablesJoin
 pub mod UnderRules

@@ -1,5 +1,5 @@
 -- What a line names depends on what was named before by the last header's table, and by how many tables the arrays have.
-use Rattle.toml_names.proofs.Common.{◌≡◌, ℕ, ◌+◌, ◌-◌, ◌==◌, cond, List, [], ◌∷◌, refl, sym, ap, ◌∙◌, arith, rules, Expr, BlankLine, KeyValLine, TableLine, ArrayTableLine, Passed, Address, child, element, AreAlike, AlikeNameTheSame, AlikeStayAlike, PairsLeaveAlike, Key, key_names, Named, named_by, pair_named, section_from, count_tables, entered, followed, table_at, ends_table, ends_tables}
+use Rattle.toml_names.proofs.Common.{◌≡◌, ℕ, ◌+◌, ◌-◌, ◌==◌, cond, List, [], refl, sym, ap, ◌∙◌, rules, Expr, BlankLine, KeyValLine, TableLine, ArrayTableLine, Address, element, AreAlike, AlikeNameTheSame, AlikeStayAlike, PairsLeaveAlike, Key, key_names, Named, named_by, pair_named, section_from, count_tables, entered, followed, ends_table, ends_tables}
 use Rattle.toml_names.proofs.lemmas.mentions.LineSections.{section_pair}
 use Rattle.toml_names.proofs.lemmas.mentions.NextLine.{section_from-append}
 use Rattle.toml_names.proofs.lemmas.mentions.NoTables.{count-append, no_tables-pair}

@@ -1,5 +1,5 @@
 -- All that the lines of a document name joins.
-use Rattle.toml_names.proofs.Common.{◌≡◌, ℕ, ◌+◌, Bool, true, false, List, [], ◌∷◌, ◌++◌, All, Some, refl, sym, ap, ◌∙◌, subst, true≢false, rules, append_assoc, append-nil, All-head, All-tail, if◌then◌else◌, Expr, BlankLine, KeyValLine, TableLine, ArrayTableLine, Line, Role, Header, Element, Address, fact_at, Joined, LinesJoin, part_name, rest_names, a_table, Named, named_by, named_from, root, is_section, section_from, section, KeepsRules}
+use Rattle.toml_names.proofs.Common.{◌≡◌, ℕ, ◌+◌, Bool, true, false, List, [], ◌∷◌, ◌++◌, All, Some, refl, sym, ◌∙◌, subst, rules, append_assoc, append-nil, All-head, All-tail, if◌then◌else◌, Expr, BlankLine, KeyValLine, TableLine, ArrayTableLine, Line, Address, fact_at, Joined, LinesJoin, part_name, rest_names, a_table, Named, named_by, named_from, root, is_section, section_from, section, KeepsRules}
 use Rattle.toml_names.proofs.lemmas.mentions.Adding.{Adds, IsAdded-nil, Adds-append, after_first}
 use Rattle.toml_names.proofs.lemmas.mentions.FactAt.{fact_kept}
 use Rattle.toml_names.proofs.lemmas.mentions.FirstNamed.{suited_root, IsGrown-first}
@@ -7,10 +7,6 @@ use Rattle.toml_names.proofs.lemmas.mentions.Growing.{IsGrown}
 use Rattle.toml_names.proofs.lemmas.mentions.HeadersJoin.{table_line_adds, tables_line_adds}
 use Rattle.toml_names.proofs.lemmas.mentions.InsideJoins.{pair_puts, inside_puts}
 use Rattle.toml_names.proofs.lemmas.mentions.Pairs.{misfit-from_KeepsRules}
-use Rattle.toml_names.proofs.lemmas.mentions.Suiting.{role_kind}
-
-section_kind : (r : Role) → is_section r ≡ true → role_kind r ≡ Some a_table
-section_kind r h = search rules
 
 -- the table of the last header is there
 abbrev IsSection : List Named → Named → Type 0
@@ -25,7 +21,7 @@ section_there all (m ∷ ms) at table sections = section_there all ms (if is_sec
     by false h = rw h table
 
 section_is_table : (ms : List Named) → IsGrown ms → fact_at ms [] ≡ Some a_table → fact_at ms (section ms) ≡ Some a_table
-section_is_table ms grown table = search (rules, section_there, section_kind)
+section_is_table ms grown table = search (rules, section_there)
 
 line_adds : (ms : List Named) (line : ℕ) (e : Expr) → IsGrown ms → fact_at ms [] ≡ Some a_table → Adds ms (named_by ms line e)
 line_adds ms line (BlankLine b) grown table = λ none. IsAdded-nil ms grown

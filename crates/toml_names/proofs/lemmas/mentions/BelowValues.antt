@@ -1,5 +1,5 @@
 -- What stands strictly below a value is named by the value's line.
-use Rattle.toml_names.proofs.Common.{common_steps, ◌≡◌, ◌⊎◌, inl, inr, ℕ, ◌+◌, ◌-◌, ◌==◌, ◌&&◌, Bool, true, false, cond, List, [], ◌∷◌, ◌++◌, map, refl, sym, ap, ap₂, ◌∙◌, subst, true≢false, append_assoc, arith, rules, cond-false, EachIs, Assign, Value, Scalar, Array, Inline, Items, Close, Last, More, Pairs, ClosePairs, LastPair, MorePairs, Expr, BlankLine, KeyValLine, TableLine, ArrayTableLine, Line, Name, Index, Role, Passed, Header, Dotted, Valued, Tables, Element, Bare, Address, IsAbove, same_address, child, element, below, IsClear, is_lone, Key, key_names, part_name, rest_names, Named, root, named, named_by, named_from, value_named, inside, elements, members, fronts, pair_named, section, section_from, is_section, is_tables, count_tables, entered, followed, ends_table, ends_tables}
+use Rattle.toml_names.proofs.Common.{common_steps, ◌≡◌, ◌⊎◌, inl, inr, ℕ, ◌+◌, ◌-◌, ◌==◌, Bool, true, false, cond, List, [], ◌∷◌, ◌++◌, map, refl, sym, ap, ◌∙◌, subst, true≢false, append_assoc, arith, rules, cond-false, EachIs, Assign, Value, Scalar, Array, Inline, Items, Close, Last, More, Pairs, ClosePairs, LastPair, MorePairs, Expr, BlankLine, KeyValLine, TableLine, ArrayTableLine, Line, Name, Index, Valued, Address, IsAbove, same_address, child, element, below, IsClear, is_lone, Key, key_names, part_name, rest_names, Named, root, named, named_by, named_from, value_named, inside, elements, members, fronts, pair_named, section, section_from, is_section, count_tables, entered, followed, ends_table, ends_tables}
 use Rattle.toml_names.proofs.lemmas.mentions.Clear.{not_above_more, clear_more, clear_root, clear_cond}
 use Rattle.toml_names.proofs.lemmas.mentions.Counting.{adds, count_cons}
 use Rattle.toml_names.proofs.Each.{Has, each_append, each_left, each_right, each_weaker, has_left, has_right, has_each}
@@ -29,12 +29,9 @@ module _ (p : Address) where
 
   -- ---- headers go past it
 
-  lone_no_tables : (r : Role) → is_lone r ≡ true → is_tables r ≡ false
-  lone_no_tables r h = search rules
-
   no_tables : (ms : List Named) → AreValuesAt ms → count_tables ms p ≡ 0
   no_tables [] values = refl
-  no_tables (m ∷ ms) values = search (rules, lone_no_tables, same_address-equal, adds, cond-false, count_cons, no_tables ms values.1)
+  no_tables (m ∷ ms) values = search (rules, same_address-equal, adds, cond-false, count_cons, no_tables ms values.1)
 
   entered_clear : (earlier : List Named) (here : Address) → count_tables earlier p ≡ 0 → ¬ IsAbove p here → ¬ (p ≡ entered earlier here) → IsClear p (entered earlier here)
   entered_clear earlier here none not_above apart = by (count_tables earlier here == 0) refl apart

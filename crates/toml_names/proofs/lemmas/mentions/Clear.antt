@@ -1,5 +1,5 @@
 -- Addresses that another is neither at nor above.
-use Rattle.toml_names.proofs.Common.{◌≡◌, Bool, true, false, cond, ◌⊎◌, inl, inr, [], ◌∷◌, ◌++◌, Option, Some, None, refl, sym, ap, ◌∙◌, rules, none-some, Step, Address, IsAbove, IsClear, NotNamedIsClear, fact_at, Kind, Named, named}
+use Rattle.toml_names.proofs.Common.{◌≡◌, Bool, cond, ◌⊎◌, inl, inr, [], ◌∷◌, ◌++◌, Option, Some, None, refl, sym, ap, ◌∙◌, rules, none-some, Step, Address, IsAbove, IsClear, NotNamedIsClear, fact_at, Kind, Named, named}
 use Rattle.toml_names.proofs.lemmas.mentions.AllLines.{lines_join}
 use Rattle.toml_names.proofs.lemmas.model.Closed.{closed_lines, closed_below}
 use Rattle.toml_names.proofs.Each.{Has, each_weaker, has_of_any, any_of_has, has_weaker, members_self}

@@ -1,5 +1,5 @@
 -- How many tables the array at an address has, once more is named.
-use Rattle.toml_names.proofs.Common.{common_steps, ◌≡◌, ℕ, zero, suc, ◌+◌, ◌<◌, ◌&&◌, Bool, true, false, cond, List, [], ◌∷◌, ◌++◌, Any, None, refl, sym, ap, ◌∙◌, subst, arith, rules, cond-true, cond-false, sum_by-cons, sum_by_push, none-some, Tables, Address, same_address, fact_at, Named, is_tables, is_tables_at, count_tables}
+use Rattle.toml_names.proofs.Common.{common_steps, ◌≡◌, ℕ, zero, suc, ◌+◌, ◌<◌, ◌&&◌, Bool, false, cond, List, [], ◌∷◌, ◌++◌, Any, None, refl, ap, ◌∙◌, arith, rules, cond-true, cond-false, sum_by-cons, sum_by_push, none-some, Tables, Address, same_address, fact_at, Named, is_tables, is_tables_at, count_tables}
 use Rattle.toml_names.proofs.lemmas.model.Equal.{same_address-self}
 
 -- one more, if it is an array of tables at the address

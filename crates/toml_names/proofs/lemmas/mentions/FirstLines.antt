@@ -159,8 +159,5 @@ skip o f rest is = ap (λ x. or_else x f rest) is
 pub stop : (o : Option ℕ) (f : ℕ → Place) (rest : Option Place) (line : ℕ) → o ≡ Some line → or_else o f rest ≡ Some (f line)
 stop o f rest line is = ap (λ x. or_else x f rest) is
 
-pub outside-none : (ms : List Named) (at : Address) → fact_at ms at ≡ None → outside ms at ≡ None
-outside-none ms at none = search (rules, skip, first_line-none)
-
 pub outside-mark : (ms : List Named) (at : Address) (q : Role) (line : ℕ) → AreHolding ms → mark_of ms at ≡ Some q → first_line ms at q ≡ Some line → outside ms at ≡ place_of_mark q line
 outside-mark ms at q line holding mark is = search (rules, stop, skip, none_in)

@@ -1,5 +1,5 @@
 -- The plain list of first mentions has each address that is mentioned, once, in order: one more mention at a time.
-use Rattle.toml_names.proofs.Common.{common_steps, ◌≡◌, ◌⊎◌, inl, inr, ℕ, zero, suc, ◌<◌, ◌↔◌, get_or, Bool, true, false, cond, ◌||◌, List, [], ◌∷◌, ◌++◌, length, filter, Any, AllPairs, Contains, refl, sym, ap, subst, ◌∙◌, true≢false, arith, rules, cond-true, cond-false, append_assoc, append-nil, Contains-get_or, Contains-append_left, Contains-push, Contains-push_cases, filter-append, all_pairs_push, Address, same_address, is_named, first_named, first_mentions, IsMentioned, ComesFirst, IsFirstMentions, FirstMentionsAreThese, Named, is_mention}
+use Rattle.toml_names.proofs.Common.{common_steps, ◌≡◌, ◌⊎◌, inl, inr, ℕ, ◌<◌, ◌↔◌, get_or, Bool, true, false, cond, ◌||◌, List, [], ◌∷◌, ◌++◌, length, filter, Any, AllPairs, Contains, refl, sym, ap, subst, ◌∙◌, true≢false, arith, rules, cond-true, cond-false, append_assoc, append-nil, Contains-get_or, Contains-append_left, Contains-push, Contains-push_cases, filter-append, all_pairs_push, Address, same_address, is_named, first_named, first_mentions, IsMentioned, ComesFirst, IsFirstMentions, FirstMentionsAreThese, Named, is_mention}
 use Rattle.toml_names.proofs.lemmas.model.Equal.{same_address-equal, same_address-self}
 use Rattle.toml_names.proofs.lemmas.mentions.FactAt.{any_here, any_later}
 use Rattle.toml_names.proofs.lemmas.mentions.FirstMore.{first_push}

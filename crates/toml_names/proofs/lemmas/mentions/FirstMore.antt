@@ -1,5 +1,5 @@
 -- The addresses in the order of their first naming, with one more.
-use Rattle.toml_names.proofs.Common.{◌≡◌, Bool, true, false, cond, ◌||◌, List, [], ◌∷◌, ◌++◌, Some, None, refl, sym, ap, ◌∙◌, rules, cond-true, cond-false, append_assoc, append-nil, none-some, Address, same_address, fact_at, is_named, first_named, Kind, Named}
+use Rattle.toml_names.proofs.Common.{◌≡◌, true, false, cond, List, [], ◌∷◌, ◌++◌, Some, None, refl, sym, ap, ◌∙◌, rules, cond-true, cond-false, append_assoc, append-nil, none-some, Address, fact_at, is_named, first_named, Kind, Named}
 
 pub not_named : (ms : List Named) (at : Address) → fact_at ms at ≡ None → is_named ms at ≡ false
 not_named [] at none = refl

@@ -1,12 +1,11 @@
 -- The first thing named: a value at the root, or the root itself.
-use Rattle.toml_names.proofs.Common.{◌≡◌, false, [], ◌∷◌, ◌++◌, length, None, refl, sym, ap, ◌∙◌, arith, rules, All-nil, All-cons, none-some, Step, Name, Address, fact_at, ValuesJoin, Named, is_tables, count_tables, root, value_named, inside, Valued}
+use Rattle.toml_names.proofs.Common.{◌≡◌, false, [], ◌∷◌, ◌++◌, length, None, sym, ap, ◌∙◌, arith, rules, none-some, Step, Name, Address, fact_at, ValuesJoin, Named, is_tables, count_tables, root}
 use Rattle.toml_names.proofs.lemmas.mentions.Adding.{after_first}
 use Rattle.toml_names.proofs.lemmas.mentions.Counting.{count_plain}
 use Rattle.toml_names.proofs.lemmas.mentions.FactAt.{fact_here, fact_later}
-use Rattle.toml_names.proofs.lemmas.mentions.Growing.{AreCounted, IsGrown}
+use Rattle.toml_names.proofs.lemmas.mentions.Growing.{IsGrown}
 use Rattle.toml_names.proofs.lemmas.mentions.InsideJoins.{suited_value, inside_puts}
 use Rattle.toml_names.proofs.lemmas.model.LastSteps.{one_longer}
-use Rattle.toml_names.proofs.lemmas.mentions.OfOneKind.{IsOfFirst}
 use Rattle.toml_names.proofs.lemmas.mentions.Pairs.{misfit-from_KeepsRules}
 use Rattle.toml_names.proofs.lemmas.mentions.Suiting.{IsSuited}
 
@@ -19,9 +18,6 @@ suited_root = record { kind = λ k h. absurd (none-some k h); bare = λ _ at n. 
 module _ (m : Named) (is : m.address ≡ []) (suited : IsSuited m) (plain : is_tables m.role ≡ false) where
   no_table : (at : Address) → count_tables (m ∷ []) at ≡ 0
   no_table at = count_plain [] m at plain
-
-  counted_one : AreCounted (m ∷ [])
-  counted_one = search rules
 
   nothing_below : (at : Address) (s : Step) → fact_at (m ∷ []) (at ++ s ∷ []) ≡ None
   nothing_below at s = fact_later m [] (at ++ s ∷ []) (λ same. below_root at s (sym is ∙ same))

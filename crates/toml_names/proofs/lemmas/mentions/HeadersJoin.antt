@@ -1,5 +1,5 @@
 -- What a header names joins: each table that it passes, and its end.
-use Rattle.toml_names.proofs.Common.{◌≡◌, ◌⊎◌, ℕ, ◌-◌, ◌<◌, ◌==◌, Bool, true, false, List, [], ◌∷◌, ◌++◌, Some, refl, sym, ap, ◌∙◌, subst, inl, inr, arith, rules, cond-true, cond-false, eqb-false, none-some, Passed, Header, Element, Address, child, element, fact_at, IsAgain, Key, a_table, Named, table_at, count_tables, entered, followed, ends_table, ends_tables, fits}
+use Rattle.toml_names.proofs.Common.{◌≡◌, ◌⊎◌, ℕ, ◌<◌, true, List, [], ◌∷◌, ◌++◌, Some, refl, sym, ◌∙◌, subst, inl, inr, rules, none-some, Passed, Header, Element, Address, child, element, fact_at, IsAgain, Key, a_table, Named, table_at, count_tables, entered, followed, ends_table, ends_tables, fits}
 use Rattle.toml_names.proofs.lemmas.mentions.Adding.{IsAdded, Adds, Adds-append, IsAdded-one, IsAdded-name}
 use Rattle.toml_names.proofs.lemmas.mentions.Counting.{count_plain}
 use Rattle.toml_names.proofs.lemmas.mentions.Growing.{IsGrown}

@@ -1,5 +1,5 @@
 -- What stands one step below something says of which kind this is.
-use Rattle.toml_names.proofs.Common.{common_steps, ◌≡◌, Bool, true, false, List, [], ◌∷◌, ◌++◌, length, Option, Some, None, refl, sym, ap, subst, ◌∙◌, inl, inr, slice_index_or, arith, rules, cond-false, append_assoc, append-nil, same_from_push, length_push, none-some, Step, Name, Index, Address, same_address, BeginsAtRoot, Kinds, fact_at, IsNext, Joins, JoinAll, Joined, Kind, a_table, an_array, Named, IsTreeOf, Spot, addresses}
+use Rattle.toml_names.proofs.Common.{common_steps, ◌≡◌, List, [], ◌∷◌, ◌++◌, Option, Some, None, refl, sym, subst, ◌∙◌, arith, rules, cond-false, append_assoc, append-nil, none-some, Step, Name, Index, Address, BeginsAtRoot, fact_at, Joins, JoinAll, Joined, Kind, a_table, an_array, Named, IsTreeOf, Spot}
 use Rattle.toml_names.proofs.lemmas.model.Equal.{same_address-equal}
 use Rattle.toml_names.proofs.lemmas.mentions.FactAt.{fact_kept, fact_behind}
 use Rattle.toml_names.proofs.lemmas.tree.NodeAddresses.{length-addresses}
@@ -12,9 +12,6 @@ holder (Index i) = an_array
 
 abbrev pub AreHeld : List Named → Type 0
 AreHeld ms = (at : Address) (s : Step) (k : Kind) → fact_at ms (at ++ s ∷ []) ≡ Some k → fact_at ms at ≡ Some (holder s)
-
-next_holds : (kinds : Kinds) (at : Address) (s : Step) → IsNext kinds at s → kinds at ≡ Some (holder s)
-next_holds kinds at s next = search rules
 
 fact_one : (m : Named) (at : Address) (k : Kind) → fact_at (m ∷ []) at ≡ Some k → m.address ≡ at
 fact_one m at k is = search (rules, same_address-equal, none-some, cond-false)
@@ -45,7 +42,3 @@ held (m ∷ ms) root joined = AreHeld-more ms (m ∷ []) (AreHeld-first m root) 
 -- what a tree stands for begins at the root
 pub begins_at_root : (nodes : List Spot) (ms : List Named) → IsTreeOf nodes ms → BeginsAtRoot ms
 begins_at_root nodes ms stands = search (rules, length-addresses, root_address)
-
--- what stands somewhere has nothing below by a step of the other kind
-pub none_below : (ms : List Named) → AreHeld ms → (at : Address) (s : Step) (k : Kind) → fact_at ms at ≡ Some k → (k ≡ holder s → ⊥) → fact_at ms (at ++ s ∷ []) ≡ None
-none_below ms all at s k is other = search rules

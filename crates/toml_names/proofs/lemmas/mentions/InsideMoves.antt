@@ -1,5 +1,5 @@
 -- What a value names at an address is what it names alone, put there.
-use Rattle.toml_names.proofs.Common.{◌≡◌, ℕ, ◌+◌, List, [], ◌∷◌, ◌++◌, map, refl, sym, ap, ap₂, ◌∙◌, append_assoc, rules, map-append, Assign, Value, Scalar, Array, Inline, Items, Close, Last, More, Pairs, ClosePairs, LastPair, MorePairs, Name, Index, Dotted, Valued, Bare, Address, child, element, below, shifted, InsideMoves, Key, key_names, Named, value_named, table_at, inside, elements, members, fronts, pair_named}
+use Rattle.toml_names.proofs.Common.{◌≡◌, ℕ, ◌+◌, List, [], ◌∷◌, ◌++◌, map, refl, sym, ap, ap₂, ◌∙◌, append_assoc, rules, map-append, Assign, Value, Scalar, Array, Inline, Items, Close, Last, More, Pairs, ClosePairs, LastPair, MorePairs, Name, Index, Dotted, Bare, Address, child, element, shifted, InsideMoves, Key, Named, value_named, table_at, inside, elements, members, fronts, pair_named}
 
 module _ (line old : ℕ) (p : Address) where
   fronts_moved : (key : Key) (at : Address) → fronts line (p ++ at) key ≡ map (shifted line p) (fronts old at key)

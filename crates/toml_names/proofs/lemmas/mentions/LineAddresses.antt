@@ -1,5 +1,5 @@
 -- The address of a line is that of what its expression stands for.
-use Rattle.toml_names.proofs.Common.{◌≡◌, ◌⊎◌, inl, inr, ℕ, ◌+◌, ◌<◌, ◌≤◌, ◌==◌, true, false, ◌&&◌, List, [], ◌∷◌, ◌++◌, length, Some, None, refl, sym, ap, ◌∙◌, arith, rules, eq-eqb, ne_eqb, append_assoc, append-nil, EachIs, Value, Scalar, Array, Inline, Items, Close, Last, More, Pairs, ClosePairs, LastPair, MorePairs, Expr, BlankLine, KeyValLine, TableLine, ArrayTableLine, Line, Valued, Address, child, element, below, Key, part_name, rest_names, key_names, Named, root, value_named, fronts, inside, elements, members, followed, entered, ends_table, ends_tables, named, named_by, named_from, section, NamedHasLine, LineAddresses, NoLineAddress, is_own, line_address, header_end, own_address}
+use Rattle.toml_names.proofs.Common.{◌≡◌, ◌⊎◌, inl, inr, ℕ, ◌+◌, ◌<◌, ◌≤◌, ◌==◌, true, false, ◌&&◌, List, [], ◌∷◌, ◌++◌, length, Some, None, refl, sym, ap, ◌∙◌, arith, rules, eq-eqb, append_assoc, append-nil, EachIs, Value, Expr, BlankLine, KeyValLine, TableLine, ArrayTableLine, Line, Valued, Address, child, below, Key, part_name, rest_names, key_names, Named, root, value_named, fronts, inside, followed, entered, ends_table, ends_tables, named, named_by, named_from, section, NamedHasLine, LineAddresses, NoLineAddress, is_own, line_address, header_end, own_address}
 use Rattle.toml_names.proofs.Each.{each_append, each_weaker}
 use Rattle.toml_names.proofs.lemmas.mentions.Within.{IsWithin, pair_within}
 use Rattle.toml_names.proofs.lemmas.model.Above.{and_false}

@@ -1,5 +1,5 @@
 -- The line of the first mention in a role, once more is named; and how roles change the mark.
-use Rattle.toml_names.proofs.Common.{◌≡◌, ℕ, ◌<◌, ◌≤◌, Bool, true, false, cond, ◌&&◌, List, [], ◌∷◌, ◌++◌, Option, Some, None, refl, sym, ap, ◌∙◌, arith, rules, cond-true, cond-false, none-some, same_Some, Role, Passed, Header, Dotted, Valued, Tables, Element, Bare, Address, same_address, fact_at, role_after, mark_after, mark_from, mark_of, Named, same_role, first_line, may_follow}
+use Rattle.toml_names.proofs.Common.{◌≡◌, ℕ, ◌<◌, ◌≤◌, Bool, true, false, cond, ◌&&◌, List, [], ◌∷◌, ◌++◌, Option, Some, None, refl, sym, ap, ◌∙◌, arith, rules, cond-true, cond-false, none-some, same_Some, Role, Passed, Bare, Address, same_address, fact_at, role_after, mark_after, mark_from, mark_of, Named, same_role, first_line, may_follow}
 use Rattle.toml_names.proofs.lemmas.mentions.PlacesFound.{same_role-equal, same_role-self}
 use Rattle.toml_names.proofs.lemmas.tree.NodePlaces.{same_address-apart, same_address-here}
 
@@ -12,16 +12,10 @@ weight _ = 2
 weight-first : (q r : Role) → weight q ≤ weight (role_after q r)
 weight-first q r = search rules
 
-weight-then : (q r : Role) → weight r ≤ weight (role_after q r)
-weight-then q r = search rules
-
 -- a mark that changes is the new role, which is stronger
 record IsStronger (q r : Role) : Type 0 where
   is : role_after q r ≡ r
   more : weight q < weight r
-
-stronger : (q r : Role) → may_follow q r ≡ true → same_role (role_after q r) q ≡ false → IsStronger q r
-stronger q r h new = search rules
 
 -- the first line, or else the second
 abbrev or_line : Option ℕ → Option ℕ → Option ℕ
@@ -69,7 +63,7 @@ kept_weight (m ∷ ms) at q t is = by (same_address m.address at) refl (kept_wei
     by false apart here later = later (ap (λ b. mark_from (cond b (Some (role_after q m.role)) (Some q)) ms at) (sym apart) ∙ is)
 
 role_weight : (ms : List Named) (at : Address) (o : Option Role) (r t : Role) → mark_from (mark_after o r) ms at ≡ Some t → weight r ≤ weight t
-role_weight ms at o r t is = search (rules, kept_weight, weight-then)
+role_weight ms at o r t is = search (rules, kept_weight)
 
 -- no mention is in a role that is stronger than the mark
 line_weight : (ms : List Named) (at : Address) (o : Option Role) (r t : Role) (l : ℕ) → mark_from o ms at ≡ Some t → first_line ms at r ≡ Some l → weight r ≤ weight t
@@ -93,4 +87,4 @@ line_weight (m ∷ ms) at o r t l is some = by (line_weight ms at (mark_after o 
 module _ (ms : List Named) (m : Named) (at : Address) (is : m.address ≡ at) (q : Role) (mark : mark_of ms at ≡ Some q) (goes : may_follow q m.role ≡ true)
     (l : ℕ) (line : first_line ms at q ≡ Some l) where
   pub line_noted : first_line (ms ++ m ∷ []) at (role_after q m.role) ≡ Some (cond (same_role (role_after q m.role) q) l m.line)
-  line_noted = search (rules, line_weight, same_role-equal, line_kept, stronger, line_new)
+  line_noted = search (rules, line_weight, same_role-equal, line_kept, line_new)

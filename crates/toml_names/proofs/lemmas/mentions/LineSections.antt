@@ -1,5 +1,5 @@
 -- The table of the last header, once a line more names: the header's own, or the one that it was.
-use Rattle.toml_names.proofs.Common.{◌≡◌, ℕ, ◌+◌, List, [], ◌∷◌, ◌++◌, refl, ◌∙◌, Assign, Value, Address, child, element, Key, Named, count_tables, entered, pair_named, followed, ends_table, ends_tables, section_from, section, header_end}
+use Rattle.toml_names.proofs.Common.{◌≡◌, ℕ, List, [], ◌∷◌, ◌++◌, refl, ◌∙◌, Assign, Value, Address, child, element, Key, Named, count_tables, entered, pair_named, followed, ends_table, ends_tables, section_from, section, header_end}
 use Rattle.toml_names.proofs.lemmas.mentions.NextLine.{section_from-append}
 use Rattle.toml_names.proofs.lemmas.mentions.Within.{AreWithin, pair_within}
 

@@ -1,18 +1,12 @@
 -- The mark of an address stands for all of its roles.
-use Rattle.toml_names.proofs.Common.{◌≡◌, Bool, true, false, not, cond, ◌&&◌, ◌||◌, List, [], ◌∷◌, ◌++◌, Option, Some, None, refl, sym, ap, ◌∙◌, rules, append_assoc, append-nil, Role, Passed, Header, Dotted, Valued, Tables, Element, Bare, Address, same_address, mark_after, mark_from, mark_of, allows, LastRoleDecides, Named, may_follow, fits, misfit, KeepsRules}
+use Rattle.toml_names.proofs.Common.{◌≡◌, Bool, true, not, cond, ◌&&◌, ◌||◌, List, [], ◌∷◌, ◌++◌, Option, None, refl, sym, ap, ◌∙◌, rules, append_assoc, append-nil, Role, Address, same_address, mark_after, mark_from, mark_of, allows, LastRoleDecides, Named, may_follow, fits, misfit, KeepsRules}
 use Rattle.std.proofs.lemmas.List.Folds.{list_all-append}
 use Rattle.toml_names.proofs.lemmas.mentions.Misfits.{misfit-later, fits-from_misfit}
 use Rattle.toml_names.proofs.lemmas.model.Equal.{same_address-equal}
 use Rattle.toml_names.proofs.lemmas.mentions.Pairs.{KeepsRules-push, fits-from_KeepsRules, misfit-from_KeepsRules}
 
-and_same : (b : Bool) → (b && b) ≡ b
-and_same b = search rules
-
 and_true : (b : Bool) → (b && true) ≡ b
 and_true b = search rules
-
-by_role : (f g : Role → Bool) → f Passed ≡ g Passed → f Header ≡ g Header → f Dotted ≡ g Dotted → f Valued ≡ g Valued → f Tables ≡ g Tables → f Element ≡ g Element → f Bare ≡ g Bare → (s : Role) → f s ≡ g s
-by_role f g p h d v t e b s = search rules
 
 -- one more role
 one_more : (q : Option Role) (r s : Role) → allows q r ≡ true → (allows q s && may_follow r s) ≡ allows (mark_after q r) s

@@ -1,5 +1,5 @@
 -- Which of the addresses that are named are mentioned: the mark of an address tells, where each thing joins those before it.
-use Rattle.toml_names.proofs.Common.{◌≡◌, Bool, true, false, cond, ◌||◌, filter, List, [], ◌∷◌, ◌++◌, get_or, All, Option, Some, None, refl, sym, ap, subst, ◌∙◌, inl, inr, true≢false, rules, cond-true, cond-false, append_assoc, append-nil, All-nil, All-cons, All-head, All-tail, All-push, filter-append, none-some, Role, Passed, Header, Dotted, Valued, Tables, Element, Bare, Address, same_address, fact_at, is_named, first_named, first_mentions, is_lone, Joins, JoinAll, Joined, mark_after, mark_of, Named, is_mention, is_mentioned}
+use Rattle.toml_names.proofs.Common.{◌≡◌, Bool, true, false, cond, ◌||◌, filter, List, [], ◌∷◌, ◌++◌, get_or, All, Option, Some, None, refl, sym, ap, subst, ◌∙◌, inl, inr, true≢false, rules, cond-true, cond-false, append_assoc, append-nil, All-nil, All-cons, All-head, All-tail, All-push, filter-append, none-some, Role, Address, same_address, fact_at, is_named, first_named, first_mentions, is_lone, Joins, JoinAll, Joined, mark_after, mark_of, Named, is_mention, is_mentioned}
 use Rattle.toml_names.proofs.lemmas.model.Equal.{same_address-equal, same_address-self}
 use Rattle.toml_names.proofs.lemmas.mentions.FactAt.{fact_here, fact_behind}
 use Rattle.toml_names.proofs.lemmas.mentions.Local.{mark_of-push}
@@ -98,16 +98,13 @@ module _ (test : Address → Bool) (ms earlier : List Named) (m : Named) (before
   kept : (b c : Bool) → test m.address ≡ true → c ≡ b → (x y : List Address) → filter test x ≡ y → filter test (cond b x (m.address ∷ x)) ≡ cond c y (m.address ∷ y)
   kept b c here same x y e = search rules
 
-  dropped : (b : Bool) (x : List Address) → test m.address ≡ false → filter test (cond b x (m.address ∷ x)) ≡ filter test x
-  dropped b x none = search rules
-
   first_step : (b : Bool) → is_mention m ≡ b → filter test (first_named earlier (m ∷ ms)) ≡ first_named (filter is_mention earlier) (filter is_mention (m ∷ ms))
   first_step true is =
       kept (is_named earlier m.address) (is_named (filter is_mention earlier) m.address) (head ∙ is) (named_filtered test earlier m.address before (head ∙ is))
       (first_named (earlier ++ m ∷ []) ms) (first_named (filter is_mention earlier ++ m ∷ []) (filter is_mention ms))
       (rest ∙ ap (λ l. first_named l (filter is_mention ms)) (filter-append is_mention earlier (m ∷ []) ∙ ap (λ l. filter is_mention earlier ++ l) (cond-true _ _ _ is)))
       ∙ ap (first_named (filter is_mention earlier)) (sym (cond-true _ _ _ is))
-  first_step false not = search (rules, dropped, filter-append, cond-false, append-nil)
+  first_step false not = search (rules, filter-append, cond-false, append-nil)
 
 first_filtered : (test : Address → Bool) (ms earlier : List Named) → All (Tells-by test) earlier → All (Tells-by test) ms
     → filter test (first_named earlier ms) ≡ first_named (filter is_mention earlier) (filter is_mention ms)

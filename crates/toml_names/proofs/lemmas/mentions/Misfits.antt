@@ -1,5 +1,5 @@
 -- What a misfit is, at the first of the mentions and after it.
-use Rattle.toml_names.proofs.Common.{◌≡◌, Bool, true, false, List, [], ◌∷◌, ◌++◌, Some, None, refl, sym, ◌∙◌, rules, Named, fits, misfit}
+use Rattle.toml_names.proofs.Common.{◌≡◌, true, false, List, [], ◌∷◌, ◌++◌, Some, None, rules, Named, fits, misfit}
 
 pub misfit-here : (earlier ms : List Named) (m : Named) → fits earlier m ≡ false → misfit earlier (m ∷ ms) ≡ Some m.address
 misfit-here earlier ms m bad = rw bad

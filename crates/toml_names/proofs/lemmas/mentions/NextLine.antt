@@ -1,5 +1,5 @@
 -- What one more line names, and what a reader of lines has after it.
-use Rattle.toml_names.proofs.Common.{◌≡◌, ℕ, ◌+◌, ◌<◌, ◌≤◌, List, [], ◌∷◌, ◌++◌, length, take, Some, None, refl, ap, ◌∙◌, get_or, arith, rules, if◌then◌else◌, take_more, length-take-le, All-tail, All-append, Line, Address, SectionGoesOn, Named, root, named, named_by, named_from, is_section, misfit, KeepsRules, IsShort, max_steps, AreGood, IsRedefined, IsLong}
+use Rattle.toml_names.proofs.Common.{◌≡◌, ℕ, ◌+◌, ◌<◌, ◌≤◌, List, [], ◌∷◌, ◌++◌, length, take, Some, None, refl, get_or, arith, rules, if◌then◌else◌, take_more, length-take-le, All-tail, All-append, Line, Address, SectionGoesOn, Named, named, named_by, named_from, is_section, misfit, KeepsRules, IsShort, max_steps, AreGood, IsRedefined, IsLong}
 use Rattle.toml_names.proofs.lemmas.mentions.Offences.{misfit_is_first}
 use Rattle.toml_names.proofs.lemmas.mentions.Pairs.{KeepsRules-from_misfit}
 

@@ -1,5 +1,5 @@
 -- What stands in a value is no array of tables.
-use Rattle.toml_names.proofs.Common.{◌≡◌, ℕ, ◌+◌, false, List, [], ◌∷◌, ◌++◌, refl, arith, sum_by-append, Assign, Value, Address, CountsAdd, Named, is_tables, count_tables, inside, pair_named}
+use Rattle.toml_names.proofs.Common.{◌≡◌, ℕ, false, List, [], ◌∷◌, ◌++◌, refl, arith, sum_by-append, Assign, Value, Address, CountsAdd, Named, is_tables, count_tables, inside, pair_named}
 use Rattle.toml_names.proofs.lemmas.mentions.Counting.{adds, count_plain}
 use Rattle.toml_names.proofs.lemmas.mentions.Within.{AreWithin, inside_within, pair_within}
 

@@ -1,5 +1,5 @@
 -- What is named at one address is of one kind, and values stand alone, where each thing joins those before it.
-use Rattle.toml_names.proofs.Common.{◌≡◌, ℕ, ◌<◌, false, List, [], ◌∷◌, ◌++◌, length, get_or, All, AllPairs, Some, refl, sym, ap, ◌∙◌, subst, inl, inr, arith, rules, append_assoc, append-nil, All-nil, All-cons, All-push, All-weaker, all_pairs_push, none-some, same_Some, Address, IsFact, fact_at, is_lone, Joins, JoinAll, Joined, OneKind, FirstIsData, ValuesStandAlone, Kind, Named}
+use Rattle.toml_names.proofs.Common.{◌≡◌, ℕ, ◌<◌, false, List, [], ◌∷◌, ◌++◌, length, get_or, All, AllPairs, Some, refl, sym, ◌∙◌, subst, inl, inr, arith, rules, append_assoc, append-nil, All-nil, All-cons, All-push, All-weaker, all_pairs_push, same_Some, Address, IsFact, fact_at, is_lone, Joins, JoinAll, Joined, OneKind, FirstIsData, ValuesStandAlone, Kind, Named}
 use Rattle.toml_names.proofs.lemmas.mentions.FactAt.{from_all, fact_here, found, fact_kept, fact_behind}
 
 -- it is of the kind that was named first at its address

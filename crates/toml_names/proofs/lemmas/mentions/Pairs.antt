@@ -1,5 +1,5 @@
 -- The rules over every two mentions, and the first misfit.
-use Rattle.toml_names.proofs.Common.{◌≡◌, ℕ, suc, ◌+◌, ◌<◌, Bool, true, false, not, ◌||◌, List, [], ◌∷◌, ◌++◌, length, None, refl, sym, ap, ◌∙◌, get_or, length-append, arith, rules, append_assoc, append-nil, get_or_append_left, get_or_at, all_pairs_push, AllPass-from_list_all, list_all-from_AllPass, Named, same_address, may_follow, fits, misfit, KeepsRules}
+use Rattle.toml_names.proofs.Common.{◌≡◌, ℕ, suc, ◌+◌, ◌<◌, Bool, true, not, ◌||◌, List, [], ◌∷◌, ◌++◌, length, None, refl, sym, ap, ◌∙◌, get_or, length-append, arith, rules, append_assoc, append-nil, get_or_append_left, get_or_at, all_pairs_push, AllPass-from_list_all, list_all-from_AllPass, Named, same_address, may_follow, fits, misfit, KeepsRules}
 use Rattle.toml_names.proofs.lemmas.model.Equal.{same_address-equal, same_address-self}
 use Rattle.toml_names.proofs.lemmas.mentions.Misfits.{misfit-later, fits-from_misfit}
 

@@ -1,5 +1,5 @@
 -- The key parts in a value, by the lists of its items and of its pairs.
-use Rattle.toml_names.proofs.Common.{◌≡◌, ℕ, ◌+◌, List, [], ◌∷◌, map, Option, Some, None, Box, Global, refl, ap, ◌∙◌, arith, rules, Gap, InlineTable, out-Array, out-InlineTable, Member, before_end, pairs_before_end, gap, value, member, array_items, last_ends, table_pairs, last_pairs, value_array, value_inline, value_key_parts, item_key_parts, pair_key_parts, keyval_key_parts}
+use Rattle.toml_names.proofs.Common.{◌≡◌, ℕ, ◌+◌, List, [], ◌∷◌, map, Option, Box, Global, refl, ap, ◌∙◌, arith, rules, Gap, InlineTable, out-Array, out-InlineTable, Member, before_end, pairs_before_end, value, member, array_items, last_ends, table_pairs, last_pairs, value_array, value_inline, value_key_parts, item_key_parts, pair_key_parts, keyval_key_parts}
 use Rattle.toml_tree.specs.declared.tree.Array.{Array}
 use Rattle.toml_tree.specs.declared.tree.Value.TheVariants as made
 use Rattle.toml_tree.specs.Tree as tree

@@ -1,5 +1,5 @@
 -- The place that is found is one.
-use Rattle.toml_names.proofs.Common.{◌≡◌, inl, inr, ℕ, suc, Bool, true, false, ◌&&◌, cond, List, [], ◌∷◌, ◌++◌, Option, Some, None, refl, sym, ap, subst, ◌∙◌, arith, rules, Any, All-nil, All-cons, Role, Passed, Header, Dotted, Valued, Tables, Element, Bare, Place, Step, Address, IsAbove, AboveIsAbove, same_step, same_address, is_above, Named, IsNamed, IsNotIn, IsFirstIn, IsInside, IsOutside, IsOnlyPassed, IsPlace, PlacesAreFound, same_role, first_line, line_above, or_else, in_value}
+use Rattle.toml_names.proofs.Common.{◌≡◌, ℕ, suc, Bool, true, false, ◌&&◌, cond, List, [], ◌∷◌, ◌++◌, Option, Some, None, refl, ap, ◌∙◌, arith, rules, Any, All-nil, All-cons, Role, Passed, Header, Dotted, Valued, Tables, Element, Place, Step, Address, IsAbove, AboveIsAbove, same_address, is_above, Named, IsNamed, IsNotIn, IsFirstIn, IsInside, IsOutside, IsPlace, PlacesAreFound, same_role, first_line, line_above, or_else}
 use Rattle.toml_names.specs.declared.model.place.Place.TheVariants as places
 use Rattle.toml_names.specs.model.Places.{inside}
 use Rattle.toml_names.proofs.lemmas.model.Equal.{same_step-equal, same_step-self, same_address-equal, same_address-self}
@@ -81,9 +81,6 @@ NotAbove at m = IsAbove m.address at → ¬ (m.role ≡ Valued)
 is_value : (m : Named) (at : Address) → (is_above m.address at && same_role m.role Valued) ≡ true → IsAbove m.address at × (m.role ≡ Valued)
 is_value m at h = search (rules, above_sound, same_role-equal)
 
-is_no_value : (m : Named) (at : Address) → (is_above m.address at && same_role m.role Valued) ≡ false → NotAbove at m
-is_no_value m at h = search (rules, above_complete)
-
 pub above_in : (ms : List Named) (at : Address) (line : ℕ) → line_above ms at ≡ Some line → IsInside ms at line
 above_in [] at line h = cc
 above_in (m ∷ ms) at line h = by (is_above m.address at && same_role m.role Valued) refl h (above_in ms at line)
@@ -95,7 +92,7 @@ above_in (m ∷ ms) at line h = by (is_above m.address at && same_role m.role Va
 
 pub none_above : (ms : List Named) (at : Address) → line_above ms at ≡ None → IsOutside ms at
 none_above [] at h = All-nil (NotAbove at)
-none_above (m ∷ ms) at h = search (rules, All-cons, is_no_value, none_above ms at)
+none_above (m ∷ ms) at h = search (rules, All-cons, above_complete, none_above ms at)
 
 -- inside a value
 inside_is : (ms : List Named) (at : Address) (line : ℕ) (p : Place) → inside ms at line ≡ Some p → (p ≡ places.Inside line) × IsNamed ms at
@@ -114,32 +111,17 @@ module _ (ms : List Named) (at : Address) (outer : IsOutside ms at) (p : Place) 
   abbrev read : Role → Option ℕ
   read = first_line ms at
 
-  -- from the last of the roles to the first
-  from_passed : (o : Option ℕ) → read Passed ≡ o → IsOnlyPassed ms at → or_else o places.Implicit None ≡ Some p → IsPlace ms at p
-  from_passed o e only h = search (rules, some_is, first_in)
-
   from_tables : (o : Option ℕ) → read Tables ≡ o → IsNotIn Valued at ms → IsNotIn Header at ms → IsNotIn Element at ms → IsNotIn Dotted at ms
       → or_else o places.Tables (or_else (read Passed) places.Implicit None) ≡ Some p → IsPlace ms at p
-  from_tables o e v hd el d h = search (rules, from_passed, not_in, some_is, first_in)
-
-  from_dotted : (o : Option ℕ) → read Dotted ≡ o → IsNotIn Valued at ms → IsNotIn Header at ms → IsNotIn Element at ms
-      → or_else o places.Dotted (or_else (read Tables) places.Tables (or_else (read Passed) places.Implicit None)) ≡ Some p → IsPlace ms at p
-  from_dotted o e v hd el h = search (rules, from_tables, not_in, some_is, first_in)
+  from_tables o e v hd el d h = search (rules, not_in, some_is, first_in)
 
   from_element : (o : Option ℕ) → read Element ≡ o → IsNotIn Valued at ms → IsNotIn Header at ms
       → or_else o places.Header (or_else (read Dotted) places.Dotted (or_else (read Tables) places.Tables (or_else (read Passed) places.Implicit None))) ≡ Some p → IsPlace ms at p
-  from_element o e v hd h = search (rules, from_dotted, not_in, some_is, first_in)
-
-  from_header : (o : Option ℕ) → read Header ≡ o → IsNotIn Valued at ms
-      → or_else o places.Header (or_else (read Element) places.Header (or_else (read Dotted) places.Dotted (or_else (read Tables) places.Tables (or_else (read Passed) places.Implicit None)))) ≡ Some p → IsPlace ms at p
-  from_header o e v h = search (rules, from_element, not_in, some_is, first_in)
+  from_element o e v hd h = search (rules, from_tables, not_in, some_is, first_in)
 
   from_value : (o : Option ℕ) → read Valued ≡ o
       → or_else o places.KeyVal (or_else (read Header) places.Header (or_else (read Element) places.Header (or_else (read Dotted) places.Dotted (or_else (read Tables) places.Tables (or_else (read Passed) places.Implicit None))))) ≡ Some p → IsPlace ms at p
-  from_value o e h = search (rules, from_header, not_in, some_is, first_in)
-
-found_in : (ms : List Named) (at : Address) (p : Place) (o : Option ℕ) → line_above ms at ≡ o → in_value o ms at ≡ Some p → IsPlace ms at p
-found_in ms at p o e h = search (rules, from_value, none_above, inside_is, above_in)
+  from_value o e h = search (rules, from_element, not_in, some_is, first_in)
 
 pub places_are_found : PlacesAreFound
-places_are_found = search (rules, some_is, found_in)
+places_are_found = search (rules, some_is, from_value, none_above, inside_is, above_in)

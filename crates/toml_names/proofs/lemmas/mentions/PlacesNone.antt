@@ -1,5 +1,5 @@
 -- Where no place is found, nothing is named: what is no mention, the root aside, lies inside a value.
-use Rattle.toml_names.proofs.Common.{◌≡◌, ◌⊎◌, inl, inr, ℕ, suc, ◌+◌, ◌<◌, Bool, true, false, cond, List, [], ◌∷◌, ◌++◌, length, get_or, Option, Some, None, refl, sym, ap, subst, ⊎_elim, ◌∙◌, arith, rules, All, append_assoc, All-nil, All-cons, EachIs, Assign, Value, Scalar, Array, Inline, Items, Close, Last, More, Pairs, ClosePairs, LastPair, MorePairs, Expr, BlankLine, KeyValLine, TableLine, ArrayTableLine, Line, Step, Name, Index, Role, Passed, Header, Dotted, Valued, Tables, Element, Bare, Address, IsAbove, same_address, child, element, below, InsideIsBelow, Key, part_name, key_names, Named, root, value_named, fronts, inside, elements, members, followed, entered, ends_table, ends_tables, named, named_by, named_from, pair_named, section, IsNamed, IsNotIn, IsOutside, NoPlace, first_line, line_above, or_else, outside, in_value, place}
+use Rattle.toml_names.proofs.Common.{◌≡◌, ◌⊎◌, inl, inr, ℕ, ◌+◌, List, [], ◌∷◌, ◌++◌, get_or, Option, Some, None, refl, sym, subst, ⊎_elim, ◌∙◌, arith, rules, All, All-nil, All-cons, EachIs, Expr, BlankLine, KeyValLine, TableLine, ArrayTableLine, Line, Step, Role, Passed, Header, Dotted, Valued, Tables, Element, Bare, Address, IsAbove, child, below, InsideIsBelow, Key, key_names, Named, root, value_named, fronts, inside, followed, entered, ends_table, ends_tables, named, named_by, named_from, section, IsNamed, IsOutside, NoPlace, first_line, line_above, or_else, outside, in_value}
 use Rattle.toml_names.specs.declared.model.place.Place.TheVariants as places
 use Rattle.toml_names.specs.model.Places as spec
 use Rattle.toml_names.proofs.Each.{Has, each_append, each_weaker, each_of_all, has_left, has_right, has_each, has_of_any, from_has}

@@ -5,9 +5,6 @@ use Rattle.toml_names.proofs.lemmas.mentions.FactAt.{fact_here, fact_later, fact
 pub there_is : (o : Option Kind) (k : Kind) → o ≡ Some k → IsSome o
 there_is o k h = cc
 
-pub none_there : (o : Option Kind) → o ≡ None → ¬ IsSome o
-none_there o h = search rules
-
 pub fact_new : (ms : List Named) (m : Named) → fact_at ms m.address ≡ None → fact_at (ms ++ m ∷ []) m.address ≡ Some m.kind
 fact_new ms m none = fact_behind ms (m ∷ []) m.address none ∙ fact_here m [] m.address refl
 
@@ -19,7 +16,7 @@ fact_other ms m at apart = by (fact_at ms at) refl
     by (Some k) h = fact_kept ms (m ∷ []) at k h ∙ sym h
 
 pub stays : (ms more : List Named) (at : Address) → IsSome (fact_at ms at) → IsSome (fact_at (ms ++ more) at)
-stays ms more at there = search (rules, none_there, there_is, fact_kept)
+stays ms more at there = search (rules, there_is, fact_kept)
 
 -- where nothing stands, nothing stood
 pub none_before : (ms more : List Named) (at : Address) → fact_at (ms ++ more) at ≡ None → fact_at ms at ≡ None

@@ -1,5 +1,5 @@
 -- What a role says of the kind and of the address; roles of which one follows the other at a name in a table.
-use Rattle.toml_names.proofs.Common.{◌≡◌, true, false, List, ℕ, Option, Some, None, refl, sym, ◌∙◌, true≢false, rules, same_Some, Role, Passed, Header, Dotted, Valued, Tables, Element, Bare, Address, child, is_lone, Kind, a_table, an_array, Named, may_follow}
+use Rattle.toml_names.proofs.Common.{◌≡◌, true, false, List, ℕ, Option, Some, None, sym, ◌∙◌, rules, same_Some, Role, Passed, Header, Dotted, Valued, Tables, Element, Bare, Address, child, is_lone, Kind, a_table, an_array, Named, may_follow}
 
 -- the one kind that goes with a role
 abbrev pub role_kind : Role → Option Kind
@@ -33,10 +33,6 @@ shared_roles e m h e_is m_is = search rules
 -- nothing but an array of tables goes before an array of tables
 pub tables_before : (e : Role) → may_follow e Tables ≡ true → ¬ (e ≡ Bare) → e ≡ Tables
 tables_before e h e_is = search rules
-
--- what is not lone has its role's kind
-role_has_kind : (r : Role) → is_lone r ≡ false → (k : Kind) × (role_kind r ≡ Some k)
-role_has_kind r h = search rules
 
 -- two that share are of one kind
 pub shared_kind : (e m : Named) → IsSuited e → IsSuited m → AreShared e.role m.role → e.kind ≡ m.kind

@@ -1,5 +1,5 @@
 -- An array of tables and its next element join.
-use Rattle.toml_names.proofs.Common.{common_steps, ◌≡◌, ◌⊎◌, ℕ, zero, suc, ◌+◌, ◌<◌, ◌≤◌, ◌&&◌, Bool, true, false, List, [], ◌∷◌, ◌++◌, Option, Some, None, refl, sym, ap, ◌∙◌, subst, inl, inr, arith, le_refl, rules, cond-true, cond-false, append_assoc, All-push, none-some, Index, Tables, Element, Address, same_address, child, element, fact_at, Joins, is_lone, Kind, a_table, an_array, Named, table_at, count_tables, fits}
+use Rattle.toml_names.proofs.Common.{common_steps, ◌≡◌, ◌⊎◌, ℕ, ◌+◌, ◌<◌, ◌≤◌, ◌&&◌, Bool, true, false, List, [], ◌∷◌, ◌++◌, Some, None, refl, sym, ap, ◌∙◌, subst, inl, inr, arith, le_refl, rules, cond-true, cond-false, append_assoc, All-push, none-some, Index, Tables, Element, Address, same_address, child, element, fact_at, Joins, Kind, a_table, an_array, Named, table_at, count_tables, fits}
 use Rattle.toml_names.proofs.lemmas.mentions.Adding.{IsAdded}
 use Rattle.toml_names.proofs.lemmas.mentions.Counting.{adds, count_push, count_plain, count_there}
 use Rattle.toml_names.proofs.lemmas.mentions.FactAt.{any_with, found, fact_kept}
@@ -54,11 +54,8 @@ module _ (line : ℕ) (ms : List Named) (at : Address) (n : List ℕ) (grown : I
       (λ i d low. (grown.suited i d low, at_each ms array good i d low)) (found ms here k there)
       (λ e both has. (has.0, tables_before e.role (both.1 has.0) (λ bare. both.0.bare bare at n has.0))))
 
-  nothing_here : count ≡ 0 → fact_at ms here ≡ None
-  nothing_here zero_is = search (rules, has_tables)
-
   no_more : (j : ℕ) → count ≤ j → fact_at ms (element here j) ≡ None
-  no_more j past = search (rules, nothing_here)
+  no_more j past = search (rules, has_tables)
 
   next_absent : fact_at with_array (element here count) ≡ None
   next_absent = fact_other ms array (element here count) (λ same. not_longer here here (Index count) (le_refl _) (sym same)) ∙ no_more count (le_refl count)

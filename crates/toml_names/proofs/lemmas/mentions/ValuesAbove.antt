@@ -1,5 +1,5 @@
 -- The first value above an address in the text is the first on the way to it, since what is above is named earlier.
-use Rattle.toml_names.proofs.Common.{◌≡◌, ℕ, Bool, true, false, cond, ◌&&◌, ◌||◌, List, [], ◌∷◌, ◌++◌, length, Option, Some, None, refl, sym, ap, subst, ◌∙◌, inl, inr, true≢false, arith, rules, append_assoc, append-nil, none-some, Step, Valued, Address, same_step, same_address, is_above, BeginsAtRoot, fact_at, is_lone, Joins, JoinAll, Joined, Kind, Named, same_role, first_line, line_above, first_of}
+use Rattle.toml_names.proofs.Common.{◌≡◌, ℕ, Bool, true, false, cond, ◌&&◌, ◌||◌, List, [], ◌∷◌, ◌++◌, length, Option, Some, None, refl, sym, ap, subst, ◌∙◌, true≢false, arith, rules, append_assoc, append-nil, none-some, Step, Valued, Address, same_step, same_address, is_above, BeginsAtRoot, fact_at, Joins, JoinAll, Joined, Kind, Named, same_role, first_line, line_above, first_of}
 use Rattle.std.proofs.lemmas.List.{length-append}
 use Rattle.toml_names.proofs.lemmas.model.Equal.{same_step-equal, same_step-self, same_address-equal, same_address-self}
 use Rattle.toml_names.proofs.lemmas.mentions.FirstLines.{first_line-push, first_line-none}
@@ -69,9 +69,6 @@ never : (line : ℕ) (there : Bool) → cond (there && false) (Some line) None �
 never line true = refl
 never line false = refl
 
-both_true : (a b : Bool) → (a && b) ≡ true → (a ≡ true) × (b ≡ true)
-both_true a b h = search (rules, true≢false)
-
 -- where something stands, something stands above
 closed : (ms : List Named) → AreHeld ms → (at more : Address) → fact_at ms at ≡ None → fact_at ms (at ++ more) ≡ None
 closed ms held at [] none = ap (fact_at ms) (append-nil at) ∙ none
@@ -98,7 +95,7 @@ module _ (ms : List Named) (m : Named) (held : AreHeld ms) (fresh : m.role ≡ V
 
   front_push : (rest at : Address) → front_value (ms ++ m ∷ []) at rest ≡ first_of (front_value ms at rest) (new_value m (is_front m.address at rest))
   front_push [] at = refl
-  front_push (s ∷ rest) at = search (rules, first_line-push, merged, alone_at, both_true, front_push rest (at ++ s ∷ []))
+  front_push (s ∷ rest) at = search (rules, first_line-push, merged, alone_at, true≢false, front_push rest (at ++ s ∷ []))
 
   value_push : (at : Address) → line_above ms at ≡ front_value ms [] at → line_above (ms ++ m ∷ []) at ≡ front_value (ms ++ m ∷ []) [] at
   value_push at same =

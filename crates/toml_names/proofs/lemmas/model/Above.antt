@@ -1,5 +1,5 @@
 -- Which address is strictly above which.
-use Rattle.toml_names.proofs.Common.{common_steps, ◌≡◌, ℕ, zero, suc, ◌<◌, ◌≤◌, true, false, ◌&&◌, [], ◌∷◌, length, drop, refl, ap, ◌∙◌, arith, rules, Bool, drop_all, Address, same_step, is_above}
+use Rattle.toml_names.proofs.Common.{common_steps, ◌≡◌, ℕ, ◌<◌, ◌≤◌, true, false, ◌&&◌, [], ◌∷◌, length, drop, refl, ap, ◌∙◌, arith, rules, Bool, drop_all, Address, same_step, is_above}
 
 pub and_false : (b : Bool) → (b && false) ≡ false
 and_false b = search rules

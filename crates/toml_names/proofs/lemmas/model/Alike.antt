@@ -1,5 +1,5 @@
 -- Data that have the same at each address.
-use Rattle.toml_names.proofs.Common.{◌≡◌, ◌↔◌, ℕ, ◌<◌, ◌≤◌, Bool, true, false, cond, List, [], ◌∷◌, length, Option, Some, None, IsSome, IsTrue, is_some, String, Vec, Global, string_bytes, nat_cmp, is_eq, ⊎_elim, refl, sym, ap, subst, ◌∙◌, true≢false, arith, rules, cases_lt, slice_get_past, slice_get_within, slice_get-get_or, is_eq-slice_cmp, bytes_eq-Decides, slice_get, is_at, get_by_text, slice_cmp, lookup, scalar_value, Name, Index, Datum, Table, Address, kind_at, kind_in, Members, Kind, a_scalar, AreSame, AreSameIn, SameScalars, SameArrays, SameTables}
+use Rattle.toml_names.proofs.Common.{◌≡◌, ◌↔◌, ℕ, ◌<◌, ◌≤◌, Bool, true, false, List, [], ◌∷◌, length, Option, Some, None, IsSome, IsTrue, is_some, String, Vec, Global, string_bytes, nat_cmp, is_eq, ⊎_elim, refl, sym, ap, subst, ◌∙◌, true≢false, arith, rules, cases_lt, slice_get_past, slice_get_within, slice_get-get_or, is_eq-slice_cmp, bytes_eq-Decides, slice_get, is_at, get_by_text, slice_cmp, lookup, scalar_value, Name, Index, Datum, Table, Address, kind_at, kind_in, Members, Kind, a_scalar, AreSame, AreSameIn, SameScalars, SameArrays, SameTables}
 use Rattle.toml_scalar.specs.declared.scalar.Scalar.{Scalar as Value}
 use Rattle.toml_names.specs.declared.model.datum.Datum.{Scalar, Array}
 use Rattle.toml_names.proofs.lemmas.model.Levels.{scalar-here, scalar-below, array-here, array-item, array-name, table-here, table-member, table-index, has_kind, scalar_from_kind, array_from_kind, table_from_kind}
@@ -61,12 +61,9 @@ no_longer ds es alike = ⊎_elim
 pub lengths_alike : (ds es : List Datum) → AlikeItems ds es → length ds ≡ length es
 lengths_alike ds es alike = search (rules, no_longer)
 
-past_alike : (ds es : List Datum) (i : ℕ) → length ds ≡ length es → length ds ≤ i → AreSameIn (slice_get ds i) (slice_get es i)
-past_alike ds es i long past = search (rules, slice_get_past)
-
 -- arrays of one length with like elements at each index
 pub items_alike : (ds es : List Datum) (count : ℕ) → length ds ≡ length es → length ds ≤ count → ((i : ℕ) → i < count → AreSameIn (slice_get ds i) (slice_get es i)) → AlikeItems ds es
-items_alike ds es count long all each = search (rules, past_alike, cases_lt)
+items_alike ds es count long all each = search (rules, slice_get_past, cases_lt)
 
 -- ---- tables
 

@@ -1,5 +1,5 @@
 -- What a datum has where one part changes.
-use Rattle.toml_names.proofs.Common.{◌≡◌, ◌⊎◌, inl, inr, true≢false, ℕ, zero, suc, ◌<◌, ◌≤◌, Bool, true, false, cond, List, [], ◌∷◌, length, map, set, Option, Some, None, IsSome, is_some, String, Vec, BTreeMap, Global, bytes_eq, refl, sym, ap, subst, ◌∙◌, arith, rules, cases_lt, nat_tests, nat_eq, slice_get, get_by_text, Step, Name, Index, Datum, Table, rolls-Scalar, rolls-Array, rolls-Table, Datum-F, roll-Datum, Address, with_child, Kinds, kind_at, kind_in, in_array, in_table, IndexIsWithin, NameHasMember, Kind}
+use Rattle.toml_names.proofs.Common.{◌≡◌, ◌⊎◌, inl, inr, true≢false, ℕ, zero, suc, ◌<◌, ◌≤◌, cond, List, [], ◌∷◌, length, map, set, Option, Some, None, IsSome, is_some, String, Vec, BTreeMap, Global, bytes_eq, refl, sym, ap, subst, ◌∙◌, arith, rules, cases_lt, nat_tests, nat_eq, slice_get, get_by_text, Step, Name, Index, Datum, Table, rolls-Scalar, rolls-Array, rolls-Table, Datum-F, roll-Datum, Address, with_child, Kinds, kind_at, kind_in, in_array, in_table, IndexIsWithin, NameHasMember, Kind}
 use Rattle.toml_names.specs.declared.model.datum.Datum.{Array}
 use Rattle.toml_names.specs.model.Parts.{HasPart, DatumHasPart, StepIsThere, PartIsThere}
 use Rattle.toml_names.proofs.lemmas.model.Equal.{same_step-self}
@@ -16,15 +16,12 @@ get_set (y ∷ xs) zero (suc j) x h = grind (arith, nat_tests)
 get_set (y ∷ xs) (suc i) zero x h = grind (arith, nat_tests)
 get_set (y ∷ xs) (suc i) (suc j) x h = get_set xs i j x (omega arith) ∙ ap (λ b. cond b (Some x) (slice_get xs j)) (same_test i j)
 
-one_of : (b : Bool) (o r : Option Datum) (at : Address) → kind_in (cond b o r) at ≡ cond b (kind_in o at) (kind_in r at)
-one_of b o r at = search rules
-
 pub array-set : (v w : Vec Datum Global) (i : ℕ) (d : Datum) → w.items ≡ set v.items i d → i < length v.items → (at : Address) → kind_at (Array w) at ≡ with_child (Index i) (kind_at d) (kind_at (Array v)) at
-array-set v w i d is low at = search (rules, array-here, array-name, array-item, get_set, one_of)
+array-set v w i d is low at = search (rules, array-here, array-name, array-item, get_set)
 
 pub table-set : (m n : BTreeMap (String Global) Datum) (k : List ℕ) (d : Datum) → ((q : List ℕ) → get_by_text n q ≡ cond (bytes_eq k q) (Some d) (get_by_text m q))
     → (at : Address) → kind_at (Table n) at ≡ with_child (Name k) (kind_at d) (kind_at (Table m)) at
-table-set m n k d is at = search (rules, table-here, table-index, table-member, one_of)
+table-set m n k d is at = search (rules, table-here, table-index, table-member)
 
 within : (ds : List Datum) (i : ℕ) → IsSome (kind_in (slice_get ds i) []) → i < length ds
 within [] i some = cc

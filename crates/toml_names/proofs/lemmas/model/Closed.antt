@@ -1,5 +1,5 @@
 -- The data of what is named are one map, in which nothing stands below nothing.
-use Rattle.toml_names.proofs.Common.{◌≡◌, List, [], ◌∷◌, ◌++◌, Option, Some, None, refl, sym, ap, ◌∙◌, subst, append_assoc, append-nil, rules, Line, Address, Kinds, IsDataOf, IsClosed, fact_at, OneData, LinesAreClosed, ValuesAreClosed, JoinAll, Joined, Kind, Named, root, named, value_facts, inside}
+use Rattle.toml_names.proofs.Common.{◌≡◌, List, [], ◌∷◌, ◌++◌, Option, Some, None, refl, sym, ap, ◌∙◌, subst, append_assoc, append-nil, rules, Line, Address, Kinds, IsDataOf, IsClosed, fact_at, OneData, LinesAreClosed, ValuesAreClosed, JoinAll, Joined, Kind, Named, root, named}
 use Rattle.toml_names.proofs.lemmas.mentions.AllLines.{new_from, named_from-is, lines_join}
 use Rattle.toml_names.proofs.lemmas.mentions.FirstNamed.{values_join}
 use Rattle.toml_names.proofs.lemmas.mentions.Growing.{IsClosed-push}

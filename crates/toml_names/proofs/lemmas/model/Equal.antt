@@ -1,5 +1,5 @@
 -- Addresses that are the same are equal.
-use Rattle.toml_names.proofs.Common.{◌≡◌, true, refl, ap, rules, eqb-true, eq-eqb, Decides, pointwise_decides, bytes_decides, Step, Name, Index, Address, same_step, same_address, SameStepIsEqual, StepIsSame}
+use Rattle.toml_names.proofs.Common.{◌≡◌, true, refl, rules, Decides, pointwise_decides, Step, Address, same_step, same_address, SameStepIsEqual, StepIsSame}
 
 pub same_step-equal : SameStepIsEqual
 same_step-equal = search rules

@@ -1,9 +1,9 @@
 -- Each index in what a text names is below its length, since each element takes a byte, and so does each header.
-use Rattle.toml_names.proofs.Common.{common_steps, ◌≡◌, ℕ, ◌+◌, ◌-◌, ◌<◌, ◌≤◌, ◌==◌, Bool, true, false, cond, List, [], ◌∷◌, ◌++◌, map, length, drop, ap, refl, arith, length-append, rules, eqb-false, length-drop, EachIs, Part, joined, value_parts, items_parts, pairs_parts, gap_parts, assign_parts, blank_parts, header_parts, array_header_parts, expr_parts, lines_parts, line_parts, symbol, Piece, Blank, Assign, Value, Scalar, Array, Inline, Items, Close, Last, More, Pairs, ClosePairs, LastPair, MorePairs, Expr, BlankLine, KeyValLine, TableLine, ArrayTableLine, Line, Name, Index, Passed, Header, Tables, Element, Valued, Address, child, element, below, Key, key_names, part_name, rest_names, an_array, Named, root, named_by, named_from, table_at, value_named, inside, elements, members, fronts, pair_named, section, section_from, is_section, is_tables_at, count_tables, entered, followed, ends_table, ends_tables, sizes_add}
+use Rattle.toml_names.proofs.Common.{common_steps, ◌≡◌, ℕ, ◌+◌, ◌<◌, ◌≤◌, Bool, true, false, cond, List, [], ◌∷◌, ◌++◌, map, length, drop, ap, refl, arith, length-append, rules, length-drop, EachIs, Part, joined, value_parts, items_parts, pairs_parts, gap_parts, assign_parts, blank_parts, header_parts, array_header_parts, expr_parts, lines_parts, line_parts, symbol, Piece, Blank, Assign, Value, Scalar, Array, Inline, Items, Close, Last, More, Pairs, ClosePairs, LastPair, MorePairs, Expr, BlankLine, KeyValLine, TableLine, ArrayTableLine, Line, Name, Index, Passed, Header, Address, child, element, below, Key, part_name, rest_names, Named, root, named_by, named_from, table_at, inside, elements, members, fronts, pair_named, section, section_from, is_section, count_tables, entered, followed, ends_table, ends_tables, sizes_add}
 use Rattle.toml_tree.specs.Spells.{piece, mark_of}
 use Rattle.toml_tree.specs.Tree as spelled
 use Rattle.toml_names.specs.model.Indices.{IsLow, IsLowStep, IndicesAreLow, ValueIndicesAreLow}
-use Rattle.toml_names.proofs.lemmas.mentions.Counting.{adds, adds_none, count_cons}
+use Rattle.toml_names.proofs.lemmas.mentions.Counting.{adds_none, count_cons}
 use Rattle.toml_names.proofs.Each.{each_append}
 use Rattle.toml_names.proofs.lemmas.mentions.NoTables.{count-append, no_tables-pair}
 use Rattle.toml_tree.specs.Parts.{size}
@@ -95,9 +95,6 @@ module _ (n : ℕ) where
       by false = low
 
 -- ---- how many arrays of tables a line names
-
-adds_one : (q : Address) (m : Named) → adds q m ≤ 1
-adds_one q m = search rules
 
 followed_counts : (ns : Key) (name : List ℕ) (line : ℕ) (xs : List Named) (end : Address → List Named) (at q : Address) → ((here : Address) → count_tables (end here) q ≤ 1)
     → count_tables (followed line xs end at (name ∷ ns)) q ≤ 1

@@ -1,5 +1,5 @@
 -- Addresses by their last step.
-use Rattle.toml_names.proofs.Common.{common_steps, ◌≡◌, ℕ, ◌+◌, List, [], ◌∷◌, ◌++◌, length, length-append, arith, same_from_push, Step, Name, Index, Address, child, element}
+use Rattle.toml_names.proofs.Common.{common_steps, ◌≡◌, ℕ, ◌+◌, List, [], ◌∷◌, ◌++◌, length, length-append, arith, Step, Address, child, element}
 
 pub child_is_no_element : (p q : Address) (n : List ℕ) (j : ℕ) → ¬ (child p n ≡ element q j)
 child_is_no_element p q n j = grind (arith, common_steps)

@@ -1,5 +1,5 @@
 -- What a datum has at each address, level by level.
-use Rattle.toml_names.proofs.Common.{◌≡◌, ◌↔◌, ◌⊎◌, inl, inr, ℕ, zero, suc, List, [], ◌∷◌, ◌++◌, map, Option, Some, None, IsSome, is_some, String, Vec, BTreeMap, Global, string_bytes, nat_cmp, cond, Bool, true, false, Bor, refl, sym, ap, subst, ◌∙◌, true≢false, arith, rules, append-nil, slice_get_past, slice_get-get_or, slice_get, option_copied, lookup, is_at, slice_cmp, ScalarValue, scalar_value, Name, Index, Datum, Table, the_lemmas, rolls-Scalar, rolls-Array, rolls-Table, Datum-F, roll-Datum, Address, Kinds, kind_at, kind_in, within, Elements, Members, ScalarLevel, ArrayLevel, TableLevel, DatumIsOneOfThree, DatumHasRoot, ArrayAtRoot, ArrayAtIndex, ArrayAtName, TableAtRoot, TableAtName, TableAtIndex, NothingBelowScalar, Kind, a_table, an_array, a_scalar}
+use Rattle.toml_names.proofs.Common.{◌≡◌, ◌↔◌, ◌⊎◌, inl, inr, ℕ, zero, suc, List, [], ◌∷◌, ◌++◌, map, Option, Some, None, IsSome, is_some, String, Vec, BTreeMap, Global, string_bytes, nat_cmp, cond, Bool, Bor, refl, sym, ap, subst, ◌∙◌, true≢false, rules, append-nil, slice_get_past, slice_get-get_or, slice_get, option_copied, lookup, is_at, slice_cmp, ScalarValue, scalar_value, Name, Index, Datum, Table, the_lemmas, rolls-Scalar, rolls-Array, rolls-Table, Datum-F, roll-Datum, Address, Kinds, kind_at, kind_in, within, Elements, Members, ScalarLevel, ArrayLevel, TableLevel, DatumIsOneOfThree, DatumHasRoot, ArrayAtRoot, ArrayAtIndex, ArrayAtName, TableAtRoot, TableAtName, TableAtIndex, NothingBelowScalar, Kind, a_table, an_array, a_scalar}
 use Rattle.std.specs.Slice.{IsGetResult}
 use Rattle.toml_scalar.specs.declared.scalar.Scalar.{Scalar as Value}
 use Rattle.toml_names.specs.declared.model.datum.Datum.{Scalar, Array}

@@ -1,5 +1,5 @@
 -- Names in a table of the tree and in a table of data: as many in both, where those of the one are those of the other.
-use Rattle.toml_names.proofs.Common.{common_steps, ◌≡◌, ℕ, suc, ◌≤◌, Bool, true, false, cond, List, [], ◌∷◌, length, map, Option, Some, None, IsSome, is_some, String, BTreeMap, Global, string_bytes, string_cmp, refl, sym, ap, subst, ◌∙◌, arith, rules, is_eq-slice_cmp, bytes_eq-Decides, is_at, get_by_text, btree_map_len, IsOrdered, slice_cmp, nat_list_eq_equiv, AllByRecursion, list_any, lookup, keys_of, nat_cmp, eq_by_cmp, bytes_eq, Datum, AreDistinct}
+use Rattle.toml_names.proofs.Common.{common_steps, ◌≡◌, ℕ, ◌≤◌, Bool, true, false, cond, List, [], ◌∷◌, length, map, Option, Some, None, IsSome, is_some, String, BTreeMap, Global, string_bytes, string_cmp, refl, sym, ap, subst, ◌∙◌, arith, rules, is_eq-slice_cmp, bytes_eq-Decides, is_at, get_by_text, btree_map_len, IsOrdered, slice_cmp, nat_list_eq_equiv, AllByRecursion, list_any, lookup, keys_of, nat_cmp, eq_by_cmp, bytes_eq, Datum, AreDistinct}
 use Rattle.std.proofs.lemmas.Map.Keys.{IsDistinct-cons, IsDistinct-head, IsDistinct-tail, IsDistinct-from_sorted}
 use Rattle.std.proofs.lemmas.Map.Made.{is_some-lookup}
 use Rattle.std.proofs.lemmas.Map.Steps.{length-le_from_keys}

@@ -1,5 +1,5 @@
 -- A reader that takes one more line, or refuses it.
-use Rattle.toml_names.proofs.Common.{common_steps, ◌≡◌, ℕ, zero, suc, ◌+◌, ◌<◌, ◌≤◌, List, [], ◌∷◌, ◌++◌, length, take, drop, Option, Some, None, option_map, slice_index_or, map, Bor, refl, sym, ap, subst, ◌∙◌, ◌⊎◌, inl, inr, arith, rules, cases_lt, length_push, get_or_at, get_or_append_left, take_at, take_all, length-take-le, append_assoc, map-append, length-map, line as tree_line, Line, NameFault, Address, IsWithin, EntersLine, Named, named, named_by, section, AreGood, IsRedefined, IsLong, own_address, line_address, Spot, address_at, IsTreeOf, KeepsAddresses, IsReader, RefusesLine, StaysShort, RefusesEntry, IsShort, misfit}
+use Rattle.toml_names.proofs.Common.{common_steps, ◌≡◌, ℕ, suc, ◌+◌, ◌<◌, List, [], ◌∷◌, ◌++◌, length, take, drop, Option, Some, None, option_map, slice_index_or, map, Bor, refl, sym, ap, subst, ◌∙◌, ◌⊎◌, arith, rules, length_push, get_or_at, take_at, take_all, length-take-le, append_assoc, length-map, line as tree_line, Line, NameFault, Address, IsWithin, EntersLine, Named, named, named_by, section, AreGood, IsRedefined, IsLong, own_address, line_address, Spot, address_at, IsReader, RefusesLine, StaysShort, RefusesEntry, IsShort, misfit}
 use Rattle.toml_tree.specs.declared.line.Line.{Line as TreeLine}
 use Rattle.toml_names.specs.declared.fault.NameFault.TheVariants as faults
 use Rattle.toml_names.specs.declared.tree.headers.Entered.{Entered}
@@ -79,12 +79,6 @@ module _ (lines : List Line) (l : Line) (i : ℕ) (below : i < length lines) whe
 pub reader_good : {nodes : List Spot} {lines : List Line} {own : List (Option ℕ)} {at : ℕ} → IsReader nodes lines own at → AreGood lines
 reader_good {lines = lines} reads = ((no_misfit (named lines)).0 reads.stands.good, reads.short)
 
-IsWithin-more : (k : Option ℕ) (old new : List Spot) → KeepsAddresses old new → IsWithin k old → IsWithin k new
-IsWithin-more k old new kept within = search rules
-
-address-kept : (k : Option ℕ) (old new : List Spot) → KeepsAddresses old new → IsWithin k old → option_map (address_at new) k ≡ option_map (address_at old) k
-address-kept k old new kept within = search rules
-
 module _ (old new : List Spot) (lines : List Line) (own : List (Option ℕ)) (at : ℕ) (l : Line) (e : Entered)
     (reads : IsReader old lines own at) (enters : EntersLine old new at (length lines) l.expr e) (short : StaysShort old at (length lines) l.expr) where
   names : named (lines ++ l ∷ []) ≡ named lines ++ named_by (named lines) (length lines) l.expr
@@ -104,7 +98,7 @@ module _ (old new : List Spot) (lines : List Line) (own : List (Option ℕ)) (at
   own_within i d low = grind (arith, common_steps)
 
   owns : (i : ℕ) (d : Option ℕ) → i < length (own ++ e.own ∷ []) → option_map (address_at new) (slice_index_or (own ++ e.own ∷ []) i d) ≡ line_address (named (lines ++ l ∷ [])) i
-  owns i d low = search (rules, low, own_at, address-kept, own_within, own_address-kept, own_count, own_address-last)
+  owns i d low = search (rules, low, own_at, own_within, own_address-kept, own_count, own_address-last)
 
   pub reads-more : IsReader new (lines ++ l ∷ []) (own ++ e.own ∷ []) e.section
   reads-more = search (rules, names, own_count, own_within, owns)

@@ -1,5 +1,5 @@
 -- The pairs of a map of names, by the names' bytes.
-use Rattle.toml_names.proofs.Common.{common_steps, ◌≡◌, ℕ, Bool, true, false, cond, List, [], ◌∷◌, ◌++◌, Option, Some, None, ◌⊎◌, inl, inr, refl, sym, ap, ◌∙◌, ◌-◌, length, take, arith, rules, cow_str_bytes, Global, CowStr, take-map, length-map, length_push, same_Some, lookup, unwrap_or, bytes_eq, children_of, same_name}
+use Rattle.toml_names.proofs.Common.{common_steps, ◌≡◌, ℕ, Bool, List, [], ◌∷◌, ◌++◌, Some, None, refl, sym, ap, ◌∙◌, ◌-◌, length, take, arith, rules, cow_str_bytes, Global, CowStr, take-map, length-map, length_push, same_Some, lookup, unwrap_or, bytes_eq, children_of, same_name}
 use Rattle.indexmap.specs.IndexMap.{insert_entry}
 
 pub lookup-children_of : (n : List ℕ) (es : List (CowStr Global × ℕ)) → lookup (bytes_eq n) (children_of es) ≡ lookup (λ k. bytes_eq n (cow_str_bytes k)) es
@@ -24,11 +24,8 @@ module _ (eq : CowStr Global → CowStr Global → Bool) (k : CowStr Global) whe
 
 -- where a name led, or nowhere, by whether there is one pair more
 module _ (k : CowStr Global) (es new : List (CowStr Global × ℕ)) (id led : ℕ) (made : new ≡ insert_entry same_name es k led) where
-  cases : (o : Option ℕ) → lookup (same_name k) es ≡ o → led ≡ unwrap_or o id → ((lookup (same_name k) es ≡ Some led) × (new ≡ es)) ⊎ ((lookup (same_name k) es ≡ None) × (new ≡ es ++ (k, id) ∷ []))
-  cases o look is = search (rules, insert_entry-none, insert_entry-same)
-
   pub led-same : led ≡ unwrap_or (lookup (same_name k) es) id → length new ≡ length es → (Some led ≡ lookup (bytes_eq (cow_str_bytes k)) (children_of es)) × (new ≡ es)
-  led-same is long = search (rules, cases, lookup-children_of, length_push)
+  led-same is long = search (rules, insert_entry-none, insert_entry-same, lookup-children_of, length_push)
 
   pub led-more : led ≡ unwrap_or (lookup (same_name k) es) id → (length new ≡ length es → ⊥) → (None ≡ lookup (bytes_eq (cow_str_bytes k)) (children_of es)) × (new ≡ es ++ (k, id) ∷ [])
-  led-more is long = search (rules, cases, lookup-children_of)
+  led-more is long = search (rules, insert_entry-none, insert_entry-same, lookup-children_of)

@@ -20,9 +20,5 @@ module _ (nodes : List Spot) (tree : IsTree nodes) where
       let is = ap length (address_at-under nodes k nowhere low (λ p s is. tree.rising k nowhere p s low is)) in
       omega arith
 
-  -- of what the code read at the node
-  pub depth_at : (k : ℕ) (d : Spot) → k < length nodes → (slice_index_or nodes k d).depth ≤ k
-  depth_at k d low = search (rules, up_to)
-
   pub depth_read : (k : ℕ) (v : Spot) → k < length nodes → v ≡ slice_index_or nodes k v → v.depth ≤ k
-  depth_read k v low read = search (rules, depth_at)
+  depth_read k v low read = search (rules, up_to)

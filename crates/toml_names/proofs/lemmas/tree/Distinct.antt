@@ -1,5 +1,5 @@
 -- Names in a table that are distinct: where they lead, as more come and go.
-use Rattle.toml_names.proofs.Common.{common_steps, ◌≡◌, ℕ, zero, suc, ◌+◌, ◌-◌, ◌<◌, ◌≤◌, Bool, true, false, cond, List, [], ◌∷◌, ◌++◌, length, take, Result, Ok, Err, IfOk, OnErr, Option, Some, None, IfSome, IfNone, slice_get, get_or, ltb, refl, sym, ap, subst, ◌∙◌, arith, rules, cond-false, false_from_ne_true, false≢true, Decides-ltb, append_assoc, append-nil, length-map, none-some, same_Some, slice_get-map, slice_get-get_or, bytes_eq-Decides, cow_str_bytes, Global, CowStr, lookup, option_map, bytes_eq, children_of, AreDistinct}
+use Rattle.toml_names.proofs.Common.{common_steps, ◌≡◌, ℕ, zero, suc, ◌+◌, ◌-◌, ◌<◌, ◌≤◌, true, false, List, [], ◌∷◌, ◌++◌, length, take, Result, IfOk, OnErr, Option, Some, None, IfSome, IfNone, slice_get, get_or, ltb, refl, sym, ap, subst, ◌∙◌, arith, rules, cond-false, false_from_ne_true, false≢true, Decides-ltb, append_assoc, length-map, none-some, same_Some, slice_get-map, slice_get-get_or, bytes_eq-Decides, cow_str_bytes, Global, CowStr, lookup, option_map, bytes_eq, children_of, AreDistinct}
 use Rattle.std.proofs.lemmas.List.{length-append}
 use Rattle.std.proofs.Math.Seq.{take-append-add}
 use Rattle.toml_names.proofs.lemmas.tree.Children.{children_of-push}

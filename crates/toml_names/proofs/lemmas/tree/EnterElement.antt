@@ -1,10 +1,7 @@
 -- What entering the next element of an array in a value leaves.
-use Rattle.toml_names.proofs.Common.{common_steps, ◌≡◌, ℕ, ◌+◌, ◌<◌, ◌&&◌, Bool, true, false, cond, List, [], ◌∷◌, ◌++◌, length, Some, None, refl, sym, ap, ◌∙◌, slice_index_or, arith, rules, cond-false, none-some, slice_get_past, Index, Role, Passed, Header, Dotted, Valued, Tables, Element, Bare, Address, same_address, element, Kind, Named, is_tables, is_tables_at, count_tables, IsTree, IsTreeOf, LeadsTo, KeepsOthers, Spot, addresses, address_at, place_of, grown, same_role, first_line}
+use Rattle.toml_names.proofs.Common.{common_steps, ◌≡◌, ℕ, ◌+◌, ◌<◌, false, List, [], ◌∷◌, length, Some, None, refl, sym, ap, ◌∙◌, slice_index_or, arith, rules, cond-false, none-some, slice_get_past, Index, Role, Tables, Address, element, Kind, Named, is_tables, count_tables, IsTree, IsTreeOf, LeadsTo, Spot, addresses, address_at, place_of, grown, first_line}
 use Rattle.toml_names.proofs.lemmas.mentions.Counting.{count_cons}
-use Rattle.toml_names.proofs.lemmas.tree.TreeGrown.{length-grown, address-new, node-last, node-above, node-other}
-
-tables_role : (r : Role) → same_role r Tables ≡ is_tables r
-tables_role r = search rules
+use Rattle.toml_names.proofs.lemmas.tree.TreeGrown.{length-grown, address-new, node-last}
 
 one_is_some : (a b : ℕ) → a ≡ 1 + b → 0 < a
 one_is_some a b is = omega arith
@@ -15,14 +12,11 @@ more_is_some a b c is some = omega arith
 -- where an array of tables has a first header it is counted
 line_counted : (ms : List Named) (at : Address) (l : ℕ) → first_line ms at Tables ≡ Some l → 0 < count_tables ms at
 line_counted [] at l some = absurd (none-some l some)
-line_counted (m ∷ ms) at l some = grind (arith, common_steps, tables_role, one_is_some, count_cons, more_is_some, cond-false, line_counted ms at l)
-
-role_is : (r : Role) → is_tables r ≡ true → r ≡ Tables
-role_is r h = search rules
+line_counted (m ∷ ms) at l some = grind (arith, common_steps, one_is_some, count_cons, more_is_some, cond-false, line_counted ms at l)
 
 -- what has no header of an array of tables is none
 pub plain_from_count : (nodes : List Spot) (ms : List Named) (k : ℕ) (d : Spot) → IsTreeOf nodes ms → k < length nodes → count_tables ms (address_at nodes k) ≡ 0 → is_tables (slice_index_or nodes k d).role ≡ false
-plain_from_count nodes ms k d stands low none = search (rules, line_counted, role_is)
+plain_from_count nodes ms k d stands low none = search (rules, line_counted)
 
 -- an array without elements is no array of tables
 pub count_from_lone : (nodes : List Spot) (ms : List Named) (k : ℕ) (d : Spot) → IsTreeOf nodes ms → k < length nodes → (slice_index_or nodes k d).elements ≡ [] → count_tables ms (address_at nodes k) ≡ 0
@@ -50,10 +44,3 @@ module _ (nodes : List Spot) (tree : IsTree nodes) (id : ℕ) (low : id < length
 
   pub lone-element : (e : Spot) → (slice_index_or after (length nodes) e).elements ≡ []
   lone-element e = ap (λ (s : Spot). s.elements) (node-last nodes id d (Index i) r kind line low (length nodes) e refl)
-
-  pub KeepsOthers-element : KeepsOthers id nodes after
-  KeepsOthers-element j e within apart = ap (λ (s : Spot). s.elements) (node-other nodes id d (Index i) r kind line low j e within apart)
-
-  -- the array has one element more
-  pub array-element : (e : Spot) → (slice_index_or after id e).elements ≡ (slice_index_or nodes id d).elements ++ length nodes ∷ []
-  array-element e = ap (λ (s : Spot). s.elements) (node-above nodes id d (Index i) r kind line low id e refl)

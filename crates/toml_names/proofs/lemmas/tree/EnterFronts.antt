@@ -1,5 +1,5 @@
 -- A dotted key's proper fronts, entered one by one.
-use Rattle.toml_names.proofs.Common.{common_steps, ◌≡◌, ℕ, ◌+◌, ◌<◌, ◌≤◌, List, [], ◌∷◌, ◌++◌, length, map, suc, take, drop, refl, sym, ap, subst, ◌∙◌, slice_index_or, arith, rules, append_assoc, map-append, take_more, take_all, drop_more, take-append-drop, length-map, piece, dotted, key as tree_key, Name, Dotted, Address, child, below, Key, part_name, key_names, FollowedFronts, Named, a_table, table_at, fronts, Enters, EntersTo, Clashes, name_at, Spot, address_at, IsNode}
+use Rattle.toml_names.proofs.Common.{common_steps, ◌≡◌, ℕ, ◌+◌, ◌<◌, ◌≤◌, List, [], ◌∷◌, ◌++◌, length, map, take, drop, refl, sym, ap, subst, ◌∙◌, slice_index_or, arith, append_assoc, map-append, drop_more, take-append-drop, piece, dotted, key as tree_key, Name, Dotted, Address, child, below, Key, part_name, key_names, FollowedFronts, Named, a_table, table_at, fronts, Enters, EntersTo, Clashes, name_at, Spot, address_at, IsNode}
 use Rattle.toml_tree.specs.declared.tree.Dotted.{Dotted as Part}
 use Rattle.toml_tree.specs.declared.tree.Key.{Key as TreeKey}
 use Rattle.toml_names.proofs.lemmas.mentions.Along.{names_left}
@@ -23,9 +23,6 @@ left-append xs ys = ap (map (λ d. part_name d.part)) (map-append dotted xs ys) 
 -- a key's first names
 abbrev pub first_names : List ℕ → List Part → ℕ → Key
 first_names first rest i = first ∷ names_left (take i rest)
-
-first_names-all : (first : List ℕ) (rest : List Part) (i : ℕ) → length rest ≤ i → first_names first rest i ≡ first ∷ names_left rest
-first_names-all first rest i past = ap (λ ds. first ∷ names_left ds) (take_all i rest past)
 
 module _ (first : List ℕ) (rest : List Part) (i : ℕ) (d : Part) (low : i < length rest) (is : d ≡ slice_index_or rest i d) where
   abbrev n : List ℕ

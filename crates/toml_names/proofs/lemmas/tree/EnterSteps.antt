@@ -1,5 +1,5 @@
 -- What was entered, one after the other.
-use Rattle.toml_names.proofs.Common.{◌≡◌, ℕ, ◌≤◌, Bool, true, false, List, [], ◌∷◌, ◌++◌, length, Some, None, refl, sym, ap, subst, ◌∙◌, arith, rules, append_assoc, append-nil, Address, Named, IsTree, IsTreeOf, KeepsAddresses, KeepsElements, KeepsOthers, Enters, Clashes, Spot, fits, misfit}
+use Rattle.toml_names.proofs.Common.{◌≡◌, ℕ, ◌≤◌, List, [], ◌∷◌, ◌++◌, length, Some, None, refl, sym, ap, ◌∙◌, arith, rules, append_assoc, append-nil, Address, Named, IsTree, KeepsAddresses, KeepsElements, KeepsOthers, Enters, Clashes, Spot, misfit}
 use Rattle.toml_names.proofs.lemmas.mentions.Misfits.{misfit-here, misfit-later, fits-from_misfit}
 
 -- the first misfit, where the first part has none
@@ -32,9 +32,6 @@ KeepsElements-then a b c longer first then k d low = then k d (omega (arith, low
 
 pub KeepsOthers-same : (id : ℕ) (a : List Spot) → KeepsOthers id a a
 KeepsOthers-same id a k d low apart = refl
-
-pub KeepsOthers-then : (a b c : List Spot) (id : ℕ) → length a ≤ length b → KeepsOthers id a b → KeepsOthers id b c → KeepsOthers id a c
-KeepsOthers-then a b c id longer first then k d low apart = then k d (omega (arith, low, longer)) apart ∙ first k d low apart
 
 -- nothing was entered
 pub Enters-none : (a : List Spot) → IsTree a → Enters a a []

@@ -1,11 +1,14 @@
 -- A header whose next name is new: all behind it is new too, so that nodes for it can be added.
-use Rattle.toml_names.proofs.Common.{ℕ, List, [], ◌∷◌, ◌++◌, length, refl, sym, subst, ◌∙◌, slice_index_or, rules, append_assoc, append-nil, Name, Index, Header, Passed, Tables, Element, PassedFronts, Key, CanEnterHeaders, a_table, an_array, IsAbsent, Spot, grown}
+use Rattle.toml_names.proofs.Common.{ℕ, List, [], ◌∷◌, ◌++◌, length, refl, sym, subst, ◌∙◌, slice_index_or, append_assoc, append-nil, Name, Index, Header, Passed, Tables, Element, PassedFronts, Key, CanEnterHeaders, a_table, an_array, IsAbsent, Spot, grown, ◌≡◌, ◌+◌, ◌<◌, take, drop, piece, part_name}
 use Rattle.toml_names.proofs.lemmas.tree.EnterName.{Enters-new, LeadsTo-new, KeepsElements-new}
 use Rattle.toml_names.proofs.lemmas.tree.FreshKeys.{absent-new}
 use Rattle.toml_names.proofs.lemmas.tree.HeaderLines.{table_line, tables_line}
 use Rattle.toml_names.proofs.lemmas.tree.InnerNodes.{Passes-new}
 use Rattle.toml_names.proofs.lemmas.tree.NextTables.{adds_first}
 use Rattle.toml_names.proofs.lemmas.tree.PassedFronts.{PassedFronts-more}
+use Rattle.toml_tree.specs.declared.tree.Dotted.{Dotted as Part}
+use Rattle.toml_names.proofs.lemmas.mentions.Along.{names_left}
+use Rattle.toml_names.proofs.lemmas.tree.EnterFronts.{first_names, all_names}
 
 -- all fronts of a key can be passed, and its end is new
 pub record FreshEnd (old : List Spot) (line : ℕ) (key : Key) : Type 0 where
@@ -65,3 +68,15 @@ module _ (old : List Spot) (line : ℕ) (e : Spot) where
             tables_line old then line fresh.here fresh.part first xs passed next (length array) (adds_first then fresh.here e fresh.part line passed.within absent passed.tree e),
           );
         }
+
+module _ (first : List ℕ) (rest : List Part) (i : ℕ) (d : Part) (low : i < length rest) (is : d ≡ slice_index_or rest i d)
+    (old now : List Spot) (line here : ℕ) (part : List ℕ) (passed : PassedFronts old now line here part (first_names first rest i)) where
+  abbrev n : List ℕ
+  n = part_name (piece d.part)
+
+  -- it leads nowhere
+  pub passed-fresh : IsAbsent now here part → (e : Spot) → CanEnterHeaders old line (first ∷ names_left rest)
+  passed-fresh absent e =
+      fresh_headers old line e first (names_left rest)
+      (subst (FreshEnd old line) (sym (all_names first rest i d low is))
+      (fresh_end old line e (n ∷ names_left (drop (i + 1) rest)) (names_left (take i rest)) first now here part passed absent))

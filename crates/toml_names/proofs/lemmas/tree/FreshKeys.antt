@@ -1,8 +1,7 @@
 -- A dotted key whose next name is new: all behind it is new too, so that nodes for it can be added.
-use Rattle.toml_names.proofs.Common.{common_steps, ◌≡◌, ℕ, ◌<◌, List, [], ◌∷◌, ◌++◌, length, map, refl, sym, ap, subst, ◌∙◌, slice_index_or, arith, rules, append_assoc, lookup, bytes_eq, Name, Role, Valued, Dotted, Address, child, Key, CanEnter, key_named, Kind, a_table, table_at, fronts, IsTree, IsAbsent, Enters, name_at, Spot, address_at, grown}
+use Rattle.toml_names.proofs.Common.{common_steps, ◌≡◌, ℕ, ◌<◌, List, [], ◌∷◌, length, refl, sym, ap, subst, ◌∙◌, slice_index_or, arith, Name, Role, Valued, Dotted, Address, child, Key, CanEnter, key_named, Kind, a_table, table_at, IsTree, IsAbsent, Enters, name_at, Spot, address_at, grown}
 use Rattle.toml_names.proofs.lemmas.tree.EnterName.{Enters-new, LeadsTo-new}
 use Rattle.toml_names.proofs.lemmas.tree.EnterSteps.{Enters-append}
-use Rattle.toml_names.proofs.lemmas.tree.TreeGrown.{node-last}
 
 -- from a node that was just made no name leads anywhere
 pub absent-new : (nodes : List Spot) (at : ℕ) (e : Spot) (n m : List ℕ) (r : Role) (k : Kind) (line : ℕ) → at < length nodes

@@ -1,5 +1,5 @@
 -- A tree, node by node: how each hangs in it.
-use Rattle.toml_names.proofs.Common.{◌≡◌, ℕ, ◌<◌, List, length, Some, None, slice_get, slice_index_or, rules, lookup, bytes_eq, Step, Name, Bare, Address, child, element, AreNested, IsTree, Spot, addresses, address_at, place_of}
+use Rattle.toml_names.proofs.Common.{◌≡◌, ℕ, ◌<◌, List, length, Some, slice_get, lookup, bytes_eq, Step, Name, Bare, Address, child, element, Spot, place_of}
 
 -- the node at a place has the address, and what leads from it leads right among all addresses
 pub record Hangs (all : List Address) (place : ℕ) (at : Address) (spot : Spot) : Type 0 where
@@ -8,10 +8,3 @@ pub record Hangs (all : List Address) (place : ℕ) (at : Address) (spot : Spot)
   pub rising : (p : ℕ) (s : Step) → spot.under ≡ Some (p, s) → p < place
   pub deep : spot.depth ≡ length at
   pub mentioned : (p : ℕ) (n : List ℕ) → spot.under ≡ Some (p, Name n) → spot.role ≡ Bare → ⊥
-
-pub hangs_in : (nodes : List Spot) → IsTree nodes → (k : ℕ) (d : Spot) → k < length nodes → Hangs (addresses nodes) k (address_at nodes k) (slice_index_or nodes k d)
-hangs_in nodes tree k d low = search rules
-
-pub IsTree-from_each : (nodes : List Spot) → AreNested (addresses nodes) → 0 < length nodes → ((d : Spot) → (slice_index_or nodes 0 d).under ≡ None)
-    → ((k : ℕ) (d : Spot) → k < length nodes → Hangs (addresses nodes) k (address_at nodes k) (slice_index_or nodes k d)) → IsTree nodes
-IsTree-from_each nodes nested root root_above each = search rules

@@ -1,5 +1,5 @@
 -- A whole header: the fronts that it passes, and its end.
-use Rattle.toml_names.proofs.Common.{◌≡◌, ℕ, List, [], ◌∷◌, ◌++◌, sym, ap, subst, ◌∙◌, rules, append_assoc, Header, Tables, Element, Address, child, element, EntersHeader, AddsTable, PassedFronts, table_names, tables_names, next_table, header_fronts, Key, Named, a_table, an_array, table_at, count_tables, followed, ends_table, ends_tables, header_end, IsTreeOf, EntersTo, Clashes, ClashesAfter, name_at, Spot, address_at, misfit}
+use Rattle.toml_names.proofs.Common.{◌≡◌, ℕ, List, [], ◌∷◌, ◌++◌, sym, ap, ◌∙◌, rules, append_assoc, Header, Tables, Element, Address, child, element, EntersHeader, AddsTable, PassedFronts, table_names, tables_names, next_table, header_fronts, Key, Named, a_table, an_array, table_at, count_tables, followed, ends_table, ends_tables, header_end, IsTreeOf, EntersTo, Clashes, ClashesAfter, name_at, Spot, address_at}
 use Rattle.toml_names.proofs.lemmas.tree.EnterSteps.{misfit-append, misfit-front, KeepsAddresses-then}
 use Rattle.toml_names.proofs.lemmas.tree.PassedFronts.{followed-is, fronts-count}
 

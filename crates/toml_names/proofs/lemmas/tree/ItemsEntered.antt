@@ -1,9 +1,9 @@
 -- A value's elements, or its pairs, entered one by one: what was entered of them, and what is left.
-use Rattle.toml_names.proofs.Common.{common_steps, ◌≡◌, ℕ, ◌+◌, ◌<◌, false, List, [], ◌∷◌, ◌++◌, length, None, refl, sym, ap, subst, ◌∙◌, slice_index_or, arith, rules, append_assoc, append-nil, length_push, Index, Bare, Address, element, Kind, Named, is_tables, count_tables, IsTree, IsTreeOf, KeepsOthers, Enters, Clashes, Spot, addresses, address_at, place_of, grown, misfit}
+use Rattle.toml_names.proofs.Common.{common_steps, ◌≡◌, ℕ, ◌+◌, ◌<◌, false, List, [], ◌∷◌, ◌++◌, length, None, refl, sym, ap, subst, ◌∙◌, slice_index_or, arith, rules, append_assoc, Index, Bare, Address, element, Kind, Named, is_tables, count_tables, IsTree, IsTreeOf, KeepsOthers, Enters, Clashes, Spot, addresses, address_at, place_of, grown, misfit}
 use Rattle.toml_names.proofs.lemmas.tree.CountsKept.{IsTreeOf-grown}
 use Rattle.toml_names.proofs.lemmas.tree.ElementGrown.{index-next, index-no_name, tree-element}
-use Rattle.toml_names.proofs.lemmas.tree.EnterElement.{fresh_element, plain_from_count, count_from_lone, KeepsOthers-element, array-element}
-use Rattle.toml_names.proofs.lemmas.tree.EnterSteps.{misfit-append, KeepsAddresses-then, KeepsOthers-then, KeepsOthers-same, Enters-none, Enters-append, Clashes-later, Clashes-front}
+use Rattle.toml_names.proofs.lemmas.tree.EnterElement.{fresh_element, plain_from_count, count_from_lone}
+use Rattle.toml_names.proofs.lemmas.tree.EnterSteps.{misfit-append, KeepsAddresses-then, KeepsOthers-same, Enters-none, Enters-append, Clashes-later, Clashes-front}
 use Rattle.toml_names.proofs.lemmas.tree.Fitting.{but_counts, fits-no_node}
 use Rattle.toml_names.proofs.lemmas.mentions.Misfits.{misfit-later}
 use Rattle.toml_names.proofs.lemmas.mentions.NoTables.{HasNoTables, count-append, no_tables-front}

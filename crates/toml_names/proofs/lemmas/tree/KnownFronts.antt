@@ -1,5 +1,5 @@
 -- A dotted key's fronts that are there already, one by one, up to the first name that is new.
-use Rattle.toml_names.proofs.Common.{◌≡◌, ℕ, ◌+◌, ◌<◌, List, [], ◌∷◌, ◌++◌, length, map, take, drop, sym, ap, subst, ◌∙◌, slice_index_or, rules, append_assoc, map-append, piece, Name, Dotted, Valued, Address, below, Key, part_name, CanEnter, FollowedFronts, key_named, Kind, Named, table_at, fronts, IsAbsent, Enters, Spot, address_at}
+use Rattle.toml_names.proofs.Common.{◌≡◌, ℕ, ◌+◌, ◌<◌, List, ◌∷◌, ◌++◌, length, take, drop, sym, ap, subst, ◌∙◌, slice_index_or, rules, append_assoc, map-append, piece, Dotted, Valued, Address, below, Key, part_name, CanEnter, FollowedFronts, key_named, Kind, Named, table_at, fronts, IsAbsent, Enters, Spot, address_at}
 use Rattle.toml_tree.specs.declared.tree.Dotted.{Dotted as Part}
 use Rattle.toml_names.proofs.lemmas.mentions.Along.{names_left}
 use Rattle.toml_names.proofs.lemmas.tree.EnterFronts.{first_names, all_names, fronts-append}

@@ -1,5 +1,5 @@
 -- The addresses of lines, by the ranks of their nodes among the first mentions.
-use Rattle.toml_names.proofs.Common.{◌≡◌, ℕ, ◌<◌, ◌==◌, ◌&&◌, Bool, true, false, cond, List, [], ◌∷◌, ◌++◌, ◌+◌, length, map, take, Option, Some, None, option_map, slice_get, slice_index_or, refl, sym, ap, subst, ◌∙◌, true≢false, arith, rules, length-map, get_or-map, map-append, take_more, slice_get-get_or, Line, Role, Passed, Header, Valued, Element, Bare, Address, same_address, Kinds, IsDataOf, fact_at, IsWithin, first_mentions, Joined, mark_from, mark_after, role_after, Named, named, is_mentioned, AreOwnAddresses, is_own, line_address, Spot, address_at, nowhere, IsTreeOf, IsReader, AreNames, ranked, rank_in}
+use Rattle.toml_names.proofs.Common.{◌≡◌, ℕ, ◌<◌, ◌==◌, ◌&&◌, Bool, true, false, cond, List, [], ◌∷◌, ◌++◌, ◌+◌, length, map, take, Option, Some, None, option_map, slice_get, slice_index_or, refl, sym, ap, subst, ◌∙◌, true≢false, arith, rules, length-map, get_or-map, map-append, take_more, slice_get-get_or, Line, Role, Bare, Address, same_address, Kinds, IsDataOf, fact_at, IsWithin, first_mentions, Joined, mark_from, mark_after, role_after, Named, named, is_mentioned, AreOwnAddresses, is_own, line_address, Spot, address_at, nowhere, IsTreeOf, IsReader, AreNames, ranked, rank_in}
 use Rattle.toml_names.proofs.lemmas.mentions.AllLines.{lines_join}
 use Rattle.toml_names.proofs.lemmas.model.Equal.{same_address-self}
 use Rattle.toml_names.proofs.lemmas.mentions.Offences.{no_misfit}
@@ -18,12 +18,8 @@ mark_from-mention (m ∷ ms) q at mention is = by (same_address m.address at) is
     by true is marked other = marked is
     by false is marked other = other is
 
--- what a line stands for is a mention, whatever was named there before
-own_role : (p r : Role) → is_own r ≡ true → is_mentioned (role_after p r) ≡ true
-own_role p r own = search rules
-
 own_after : (r : Role) → is_own r ≡ true → (ms : List Named) (at : Address) (o : Option Role) → mark_from (mark_after o r) ms at ≡ Some Bare → ⊥
-own_after r own ms at o is = search (rules, mark_from-mention, own_role)
+own_after r own ms at o is = search (rules, mark_from-mention)
 
 and_second : (x y : Bool) → (x && y) ≡ true → y ≡ true
 and_second x y e = search rules

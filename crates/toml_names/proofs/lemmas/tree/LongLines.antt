@@ -1,5 +1,5 @@
 -- A line whose own address is too long.
-use Rattle.toml_names.proofs.Common.{common_steps, ◌≡◌, ℕ, ◌+◌, ◌<◌, ◌≤◌, ◌-◌, ◌==◌, Bool, true, false, cond, List, [], ◌∷◌, ◌++◌, length, map, Some, None, refl, ap, subst, ◌∙◌, arith, rules, All-head, length-map, length_push, Piece, Blank, KeyVal, KeyValLine, TableLine, ArrayTableLine, Expr, Name, Index, Valued, Address, child, element, below, table_names, tables_names, next_table, EntersLine, Key, key_names, CanEnter, CanEnterHeader, IsLongKey, IsLongEntry, Named, named_by, section, fronts, inside, value_named, pair_named, entered, count_tables, header_end, own_address, Spot, address_at, max_steps, misfit}
+use Rattle.toml_names.proofs.Common.{common_steps, ◌≡◌, ℕ, ◌+◌, ◌<◌, ◌≤◌, List, [], ◌∷◌, length, map, Some, None, refl, ap, subst, arith, rules, All-head, length-map, length_push, Piece, Blank, KeyVal, KeyValLine, TableLine, ArrayTableLine, Expr, Name, Index, Valued, Address, child, below, table_names, tables_names, next_table, EntersLine, Key, key_names, CanEnter, CanEnterHeader, IsLongKey, IsLongEntry, Named, section, fronts, inside, value_named, pair_named, entered, count_tables, header_end, own_address, Spot, address_at, max_steps, misfit}
 use Rattle.std.proofs.lemmas.List.{length-append}
 use Rattle.toml_tree.specs.Tree.{Header}
 use Rattle.toml_names.proofs.lemmas.tree.EnterLines.{table_entered, tables_entered}

@@ -1,5 +1,5 @@
 -- The tables of an array, counted by its elements: what one more mention adds, and what one more element.
-use Rattle.toml_names.proofs.Common.{◌≡◌, ℕ, ◌+◌, Bool, true, false, cond, ◌&&◌, List, [], ◌∷◌, ◌++◌, length, refl, sym, ap, ◌∙◌, arith, rules, Step, Name, Index, Role, Passed, Header, Dotted, Valued, Tables, Element, Bare, Address, role_after, Named, is_tables, is_tables_at, count_tables, table_count, Spot, linked, marked, may_follow}
+use Rattle.toml_names.proofs.Common.{◌≡◌, ℕ, ◌+◌, Bool, true, false, cond, ◌&&◌, List, [], ◌∷◌, ◌++◌, length, ap, ◌∙◌, arith, rules, Step, Role, Address, role_after, Named, is_tables, is_tables_at, count_tables, table_count, Spot, linked, marked, may_follow}
 use Rattle.toml_names.proofs.lemmas.mentions.Counting.{count_push}
 use Rattle.toml_names.proofs.lemmas.tree.NodePlaces.{same_address-apart, same_address-here}
 

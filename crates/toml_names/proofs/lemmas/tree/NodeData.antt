@@ -1,8 +1,8 @@
 -- The data at a node, from the data at the nodes below it.
-use Rattle.toml_names.proofs.Common.{◌≡◌, ℕ, zero, suc, ◌+◌, ◌<◌, ◌≤◌, Bool, true, false, cond, List, [], ◌∷◌, ◌++◌, length, drop, take, get_or, Result, Ok, Err, IfOk, Option, Some, None, String, Vec, BTreeMap, Global, string_bytes, bytes_eq, refl, sym, ap, subst, ◌∙◌, slice_index_or, rules, cond-false, false_from_ne_true, false≢true, append_assoc, append-nil, drop_more, take_more, take_all, get_or_default, bytes_eq-Decides, get_or_from_slice_get, slice_get-get_or, slice_get_within, is_at, get_by_text, slice_cmp, lookup, nat_cmp, slice_get, ScalarValue, Step, Name, Index, Datum, Table, Address, IsOnly, kind_in, fact_at, Joined, Kind, a_table, an_array, a_scalar, Named, IsTree, IsTreeOf, Spot, addresses, address_at, place_of, nowhere}
+use Rattle.toml_names.proofs.Common.{◌≡◌, ℕ, zero, suc, ◌+◌, ◌<◌, ◌≤◌, cond, List, [], ◌∷◌, ◌++◌, length, drop, take, get_or, Result, Ok, Err, IfOk, Option, Some, None, String, Vec, BTreeMap, Global, bytes_eq, refl, sym, ap, subst, ◌∙◌, slice_index_or, rules, append_assoc, append-nil, drop_more, take_more, take_all, get_or_default, get_or_from_slice_get, slice_get-get_or, slice_get_within, get_by_text, lookup, slice_get, ScalarValue, Step, Name, Index, Datum, Table, Address, IsOnly, kind_in, fact_at, Joined, Kind, a_table, an_array, a_scalar, Named, IsTree, IsTreeOf, Spot, addresses, address_at, place_of, nowhere}
 use Rattle.toml_names.specs.declared.model.datum.Datum.{Array}
 use Rattle.toml_names.specs.tree.Finished.{IsDatumAt, IsOfKind}
-use Rattle.toml_names.proofs.lemmas.mentions.Holders.{holder, held, begins_at_root, none_below}
+use Rattle.toml_names.proofs.lemmas.mentions.Holders.{holder, held, begins_at_root}
 use Rattle.toml_names.proofs.lemmas.model.Levels.{array-here, array-item, array-name, table-here, table-member, table-index}
 use Rattle.toml_names.proofs.lemmas.tree.Walking.{leads_to, later, no_place, nothing_named}
 
@@ -24,7 +24,7 @@ module _ (nodes : List Spot) (id : ℕ) (low : id < length nodes) (ms : List Nam
 
   -- nothing stands below by a step of another kind
   no_step : (k : Kind) (s : Step) (rest : Address) → IsOfKind nodes id k → (k ≡ holder s → ⊥) → fact_at ms (address_at nodes id ++ s ∷ rest) ≡ None
-  no_step k s rest is other = search (rules, held, begins_at_root, none_below, fact_is, stepped, nothing_named, no_place)
+  no_step k s rest is other = search (rules, held, begins_at_root, fact_is, stepped, nothing_named, no_place)
 
   -- what stands below by a step is the part there
   part_is : (s : Step) (rest : Address) (o : Option ℕ) (part : Option Datum) → o ≡ place_of (address_at nodes id ++ s ∷ []) (addresses nodes) → PartIs nodes o part

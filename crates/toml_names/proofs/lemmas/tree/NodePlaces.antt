@@ -21,13 +21,6 @@ is_step s t = by (same_step s t) refl
     by true e = inl ((same_step-decides s t).0 e)
     by false e = inr (λ h. true≢false (sym ((same_step-decides s t).1 h) ∙ e))
 
-pub is_address : (a b : Address) → (a ≡ b) ⊎ (a ≡ b → ⊥)
-is_address a b = by (same_address a b) refl
-  where
-    by : (x : Bool) → same_address a b ≡ x → (a ≡ b) ⊎ (a ≡ b → ⊥)
-    by true e = inl (same_address-equal a b e)
-    by false e = inr (apart-same_address a b e)
-
 none_below : (o : Option ℕ) → option_map (λ i. i + 1) o ≡ None → o ≡ None
 none_below o h = search rules
 

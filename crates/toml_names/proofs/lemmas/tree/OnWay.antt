@@ -1,8 +1,8 @@
 -- The walk from the root along the steps of an address, and the place that it tells.
-use Rattle.toml_names.proofs.Common.{◌≡◌, ◌==◌, ℕ, ◌+◌, ◌<◌, ◌≤◌, Bool, true, false, List, [], ◌∷◌, ◌++◌, length, take, drop, get_or, Option, Some, None, refl, sym, ap, subst, ◌∙◌, slice_index_or, true≢false, arith, rules, cond-true, cond-false, take_more, take_all, take-append-drop, drop_more, drop_all, Line, Step, Role, Passed, Header, Dotted, Valued, Tables, Element, Bare, Place, Address, fact_at, Joined, mark_of, Named, named, IsTree, IsTreeOf, Spot, addresses, address_at, place_of, nowhere, same_role, first_line, line_above, in_value, place, first_of, value_line, value_there, value_along, IsWalked, own_place}
+use Rattle.toml_names.proofs.Common.{◌≡◌, ◌==◌, ℕ, ◌+◌, ◌<◌, ◌≤◌, Bool, true, false, List, [], ◌∷◌, ◌++◌, length, take, drop, get_or, Option, Some, None, refl, sym, ap, ◌∙◌, slice_index_or, true≢false, rules, cond-true, cond-false, take_more, take_all, take-append-drop, drop_more, drop_all, Line, Step, Role, Passed, Header, Dotted, Valued, Tables, Element, Bare, Place, Address, fact_at, Joined, mark_of, Named, named, IsTree, IsTreeOf, Spot, addresses, address_at, place_of, nowhere, same_role, first_line, line_above, in_value, place, first_of, value_line, value_there, value_along, IsWalked, own_place}
 use Rattle.toml_names.specs.declared.model.place.Place.TheVariants as places
 use Rattle.toml_names.proofs.lemmas.mentions.AllLines.{lines_join}
-use Rattle.toml_names.proofs.lemmas.mentions.FirstLines.{may_hold, AreHolding, holding_under_rules, none_in, first_line-none, first_none, inside-none, inside-some, outside-none, outside-mark}
+use Rattle.toml_names.proofs.lemmas.mentions.FirstLines.{may_hold, AreHolding, holding_under_rules, none_in, first_line-none, first_none, inside-none, inside-some, outside-mark, skip}
 use Rattle.toml_names.proofs.lemmas.mentions.Holders.{begins_at_root}
 use Rattle.toml_names.proofs.lemmas.mentions.Pairs.{KeepsRules-nil, KeepsRules-from_misfit}
 use Rattle.toml_names.proofs.lemmas.mentions.PlacesFound.{same_role-equal}
@@ -96,7 +96,7 @@ module _ (nodes : List Spot) (ms : List Named) (stands : IsTreeOf nodes ms) (joi
   line_is at = value_above ms (begins_at_root nodes ms stands) joined at ∙ sym (along_is at [])
 
   place_none : (at : Address) (o : Option ℕ) → fact_at ms at ≡ None → in_value o ms at ≡ None
-  place_none at o none = search (rules, outside-none, inside-none)
+  place_none at o none = search (rules, skip, first_line-none, inside-none)
 
   pub place_is : (s : Step) (rest : Address) (r : Option (ℕ × Option ℕ)) → IsWalked nodes (s ∷ rest) r → told_place nodes r ≡ place ms (s ∷ rest)
   place_is s rest None lost = sym (place_none (s ∷ rest) (line_above ms (s ∷ rest)) (stands.no_facts (s ∷ rest) lost))

@@ -1,5 +1,5 @@
 -- A pair entered: the fronts of its key, its value's own name, and what is in the value.
-use Rattle.toml_names.proofs.Common.{◌≡◌, ℕ, ◌+◌, ◌<◌, List, [], ◌∷◌, ◌++◌, length, ap, subst, ◌∙◌, arith, rules, append_assoc, Value, value, keyval, keyval_is, Valued, Address, child, below, keyval_key_parts, value_key_parts, Key, FollowedFronts, Kind, Named, fronts, kind_of, value_named, inside, Enters, EntersTo, EntersInside, Clashes, name_at, Spot, address_at}
+use Rattle.toml_names.proofs.Common.{◌≡◌, ℕ, ◌+◌, ◌<◌, List, [], ◌∷◌, ◌++◌, length, ap, subst, ◌∙◌, arith, append_assoc, Value, value, keyval, keyval_is, Valued, Address, child, below, keyval_key_parts, value_key_parts, Key, FollowedFronts, Kind, Named, fronts, kind_of, value_named, inside, Enters, EntersTo, EntersInside, Clashes, name_at, Spot, address_at}
 use Rattle.toml_tree.specs.declared.tree.KeyVal.{KeyVal}
 use Rattle.toml_tree.specs.Tree as tree
 use Rattle.toml_names.proofs.lemmas.tree.EnterFronts.{key-length}

@@ -1,6 +1,5 @@
 -- The addresses of the first nodes that are mentions, in order, and where each of them stands among them.
-use Rattle.toml_names.proofs.Common.{common_steps, ◌≡◌, ℕ, zero, suc, ◌+◌, ◌-◌, ◌<◌, ◌≤◌, Bool, true, false, cond, filter, List, [], ◌∷◌, ◌++◌, length, take, get_or, slice_get, Some, refl, sym, ap, ◌∙◌, subst, slice_index_or, add-one, below_more, arith, rules, cond-true, cond-false, append-nil, take_more, take_all, length_push, get_or_append_left, get_or_at, get_or_read, get_or_default, filter-append, slice_get-get_or, slice_get_within, get_or_from_slice_get, Role, Bare, Address, first_mentions, Joined, mark_of, Named, is_mentioned, IsTreeOf, Spot, addresses, address_at, nowhere}
-use Rattle.toml_names.proofs.lemmas.mentions.Filtered.{is_bare}
+use Rattle.toml_names.proofs.Common.{common_steps, ◌≡◌, ℕ, zero, suc, ◌+◌, ◌-◌, ◌<◌, ◌≤◌, Bool, true, false, cond, filter, List, [], ◌∷◌, ◌++◌, length, take, get_or, slice_get, Some, refl, sym, ap, ◌∙◌, subst, slice_index_or, add-one, arith, rules, cond-true, cond-false, append-nil, take_more, take_all, length_push, get_or_append_left, get_or_at, get_or_read, get_or_default, filter-append, slice_get-get_or, slice_get_within, get_or_from_slice_get, Role, Bare, Address, first_mentions, Joined, mark_of, Named, is_mentioned, IsTreeOf, Spot, addresses, address_at, nowhere}
 use Rattle.toml_names.proofs.lemmas.mentions.Mentioned.{is_marked, first_mentions-marked}
 use Rattle.toml_names.proofs.lemmas.tree.NodeAddresses.{length-addresses}
 

@@ -1,5 +1,5 @@
 -- The limit of steps, read off the nodes.
-use Rattle.toml_names.proofs.Common.{◌≡◌, ℕ, ◌<◌, ◌≤◌, ◌||◌, Bool, true, false, cond, List, [], ◌∷◌, ◌++◌, length, All, refl, sym, ap, subst, ◌∙◌, ◌⊎◌, inl, inr, arith, rules, cases_lt, All-nil, All-cons, All-head, All-tail, All-push, All-get_or, All-from_get_or, Address, same_address, is_named, first_named, Named, IsTreeOf, KeepsAddresses, Spot, addresses, address_at, IsShort, max_steps}
+use Rattle.toml_names.proofs.Common.{◌≡◌, ℕ, ◌<◌, ◌≤◌, ◌||◌, Bool, true, false, cond, List, [], ◌∷◌, ◌++◌, length, All, refl, sym, ap, subst, ◌∙◌, arith, rules, cases_lt, All-nil, All-cons, All-head, All-tail, All-push, All-get_or, All-from_get_or, Address, same_address, is_named, first_named, Named, IsTreeOf, KeepsAddresses, Spot, addresses, address_at, IsShort, max_steps}
 use Rattle.toml_names.proofs.lemmas.model.Equal.{same_address-decides}
 use Rattle.toml_names.proofs.lemmas.tree.NodeAddresses.{length-addresses}
 

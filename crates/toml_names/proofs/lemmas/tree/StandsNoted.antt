@@ -1,5 +1,5 @@
 -- The nodes, one named once more, stand for what was named with that mention.
-use Rattle.toml_names.proofs.Common.{◌≡◌, true, ℕ, ◌<◌, List, [], ◌∷◌, ◌++◌, length, Some, None, sym, ap, subst, ◌∙◌, slice_index_or, ◌⊎◌, inl, inr, rules, cases_eq, Address, fact_at, mark_after, Named, Spot, addresses, address_at, place_of, marked, noted, may_follow}
+use Rattle.toml_names.proofs.Common.{◌≡◌, true, ℕ, ◌<◌, List, [], ◌∷◌, ◌++◌, length, Some, None, sym, ap, subst, ◌∙◌, slice_index_or, ◌⊎◌, inl, inr, rules, cases_eq, Address, fact_at, Named, Spot, addresses, address_at, place_of, marked, noted, may_follow}
 use Rattle.toml_names.proofs.lemmas.mentions.FactAt.{fact_kept}
 use Rattle.toml_names.proofs.lemmas.mentions.FirstMore.{first-again}
 use Rattle.toml_names.proofs.lemmas.tree.Fitting.{Stands, StandsButCounts, mark_here, mark_elsewhere, fits-at_node, good_more}

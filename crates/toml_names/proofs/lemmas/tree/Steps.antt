@@ -1,5 +1,5 @@
 -- Steps of the tree of names, one after the other.
-use Rattle.toml_names.proofs.Common.{Option, Some, None, MatchOption, true, false, ◌≡◌, ℕ, ◌+◌, ◌≤◌, Result, Err, refl, ◌∙◌, arith, rules, false≢true, IfOk-weaker, IfErr-weaker, Address, GoesOn, Steps}
+use Rattle.toml_names.proofs.Common.{Option, MatchOption, true, false, ◌≡◌, ℕ, ◌+◌, ◌≤◌, Result, Err, refl, arith, rules, Address, GoesOn, Steps}
 use Rattle.toml_names.specs.declared.tree.name_tree.EnterFault.{EnterFault}
 use Rattle.toml_names.specs.declared.tree.name_tree.NameTree.{NameTree as Tree}
 

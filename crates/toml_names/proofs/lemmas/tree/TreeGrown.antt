@@ -1,10 +1,84 @@
 -- One more node keeps the tree.
-use Rattle.toml_names.proofs.Common.{common_steps, ◌≡◌, ℕ, ◌+◌, ◌<◌, List, [], ◌∷◌, ◌++◌, length, Some, None, sym, ap, subst, ◌∙◌, arith, slice_get, slice_set, slice_index_or, ◌⊎◌, inl, inr, rules, cases_eq, get_or_append_left, get_or_at, get_or-set_same, get_or-set_other, length-set, length_push, same_Some, lookup, bytes_eq, Step, Name, Index, Role, Bare, Address, child, element, Kind, IsTree, KeepsAddresses, Spot, addresses, address_at, address_under, place_of, leaf, linked, grown}
-use Rattle.toml_names.proofs.lemmas.tree.Hanging.{Hangs, IsTree-from_each}
-use Rattle.toml_names.proofs.lemmas.mentions.NestedMore.{last_index, place-new, place-below, place-elsewhere, place-beside, apart_from_place, AreNested-push}
+use Rattle.toml_names.proofs.Common.{common_steps, ◌≡◌, ℕ, ◌+◌, ◌<◌, List, [], ◌∷◌, ◌++◌, length, Some, None, sym, ap, ◌∙◌, arith, slice_get, slice_set, slice_index_or, ◌⊎◌, inl, inr, rules, get_or_append_left, get_or_at, get_or-set_same, get_or-set_other, length-set, length_push, same_Some, lookup, bytes_eq, Step, Name, Index, Role, Bare, Address, child, element, Kind, IsTree, KeepsAddresses, Spot, addresses, address_at, place_of, leaf, linked, grown, cond, refl, length-append, same_from_push, AreNested, ◌≤◌, Option, cases_lt, false_from_ne_true, slice_get-get_or, slice_get_past}
+use Rattle.toml_names.proofs.lemmas.tree.Hanging.{Hangs}
 use Rattle.toml_names.proofs.lemmas.tree.NodeAddresses.{addresses-push, addresses-set, length-addresses}
-use Rattle.toml_names.proofs.lemmas.tree.NodeLinks.{name-new, name-old, index-new, index-old, linked-under, linked-depth, linked-role}
-use Rattle.toml_names.proofs.lemmas.tree.NodePlaces.{is_step}
+use Rattle.toml_names.proofs.lemmas.tree.NodePlaces.{is_step, place_of-push, none_is_some, same_address-apart, same_address-here}
+
+abbrev or_else : Option ℕ → Option ℕ → Option ℕ
+or_else None q = q
+or_else (Some i) q = Some i
+
+-- where a name leads, with one more pair
+lookup-push : (n m : List ℕ) (id : ℕ) (es : List (List ℕ × ℕ)) → lookup (bytes_eq n) (es ++ (m, id) ∷ []) ≡ or_else (lookup (bytes_eq n) es) (cond (bytes_eq n m) (Some id) None)
+lookup-push n m id [] = refl
+lookup-push n m id (e ∷ es) = search (rules, lookup-push n m id es)
+
+slice_get-new : (xs : List ℕ) (x i : ℕ) → i ≡ length xs → slice_get (xs ++ x ∷ []) i ≡ Some x
+slice_get-new xs x i e = slice_get-get_or (xs ++ x ∷ []) i x (omega (arith, length_push xs x)) ∙ ap Some (get_or_at xs x [] x i (sym e))
+
+slice_get-old : (xs : List ℕ) (x i : ℕ) → (i ≡ length xs → ⊥) → slice_get (xs ++ x ∷ []) i ≡ slice_get xs i
+slice_get-old xs x i apart = by (cases_lt i (length xs))
+  where
+    by : (i < length xs) ⊎ (length xs ≤ i) → slice_get (xs ++ x ∷ []) i ≡ slice_get xs i
+    by (inl low) =
+        slice_get-get_or (xs ++ x ∷ []) i x (omega (arith, length_push xs x))
+        ∙ ap Some (get_or_append_left xs (x ∷ []) x i low) ∙ sym (slice_get-get_or xs i x low)
+    by (inr high) = slice_get_past (xs ++ x ∷ []) i (omega (arith, length_push xs x)) ∙ sym (slice_get_past xs i high)
+
+module _ (parent : Spot) (s : Step) (id : ℕ) where
+  pub name-new : (n : List ℕ) → s ≡ Name n → lookup (bytes_eq n) parent.children ≡ None → lookup (bytes_eq n) (linked parent s id).children ≡ Some id
+  name-new n is none = search (rules, lookup-push)
+
+  pub name-old : (n : List ℕ) → (s ≡ Name n → ⊥) → lookup (bytes_eq n) (linked parent s id).children ≡ lookup (bytes_eq n) parent.children
+  name-old n apart = search (rules, lookup-push, false_from_ne_true)
+
+  pub index-new : (i : ℕ) → s ≡ Index i → i ≡ length parent.elements → slice_get (linked parent s id).elements i ≡ Some id
+  index-new i is next = rw is (slice_get-new parent.elements id i next)
+
+  pub linked-under : (linked parent s id).under ≡ parent.under
+  linked-under = search rules
+
+  pub linked-role : (linked parent s id).role ≡ parent.role
+  linked-role = search rules
+
+-- an address is not below itself
+pub not_below : (at : Address) (s : Step) → at ++ s ∷ [] ≡ at → ⊥
+not_below at s e = let long : length (at ++ s ∷ []) ≡ length at = ap length e in omega (arith, length-append at (s ∷ []))
+
+module _ (ats : List Address) (nested : AreNested ats) (a : Address) (s : Step) (p : ℕ) (there : place_of a ats ≡ Some p) (fresh : place_of (a ++ s ∷ []) ats ≡ None) where
+  abbrev b : Address
+  b = a ++ s ∷ []
+
+  pub place-new : (at : Address) → b ≡ at → place_of at (ats ++ b ∷ []) ≡ Some (length ats)
+  place-new at e = place_of-push ats b at fresh ∙ ap (λ t. cond t (Some (length ats)) (place_of at ats)) (same_address-here b at e)
+
+  pub place-old : (at : Address) → (b ≡ at → ⊥) → place_of at (ats ++ b ∷ []) ≡ place_of at ats
+  place-old at apart = place_of-push ats b at fresh ∙ ap (λ t. cond t (Some (length ats)) (place_of at ats)) (same_address-apart b at apart)
+
+  -- nothing stands below the new address
+  pub place-below : (t : Step) → place_of (b ++ t ∷ []) (ats ++ b ∷ []) ≡ None
+  place-below t = place-old (b ++ t ∷ []) (λ e. not_below b t (sym e)) ∙ nested.above b t fresh
+
+  -- what stands below another address than the one above the new address
+  pub place-elsewhere : (c : Address) (t : Step) → (a ≡ c → ⊥) → place_of (c ++ t ∷ []) (ats ++ b ∷ []) ≡ place_of (c ++ t ∷ []) ats
+  place-elsewhere c t apart = place-old (c ++ t ∷ []) (λ e. apart (same_from_push a c s t e).0)
+
+  -- what stands beside the new address
+  pub place-beside : (t : Step) → (s ≡ t → ⊥) → place_of (a ++ t ∷ []) (ats ++ b ∷ []) ≡ place_of (a ++ t ∷ []) ats
+  place-beside t apart = place-old (a ++ t ∷ []) (λ e. apart (same_from_push a a s t e).1)
+
+  -- another place than that of the one above is another address's
+  pub apart_from_place : (k : ℕ) (c : Address) → place_of c ats ≡ Some k → (k ≡ p → ⊥) → a ≡ c → ⊥
+  apart_from_place k c at apart e = apart (let h : Some k ≡ Some p = sym at ∙ ap (λ t. place_of t ats) (sym e) ∙ there in cc)
+
+  own_more : (k : ℕ) (d : Address) → k < length (ats ++ b ∷ []) → place_of (slice_index_or (ats ++ b ∷ []) k d) (ats ++ b ∷ []) ≡ Some k
+  own_more k d high = search (rules, length_push, get_or_append_left, place-old, none_is_some, get_or_at, place-new)
+
+  above_more : (at : Address) (t : Step) → place_of at (ats ++ b ∷ []) ≡ None → place_of (at ++ t ∷ []) (ats ++ b ∷ []) ≡ None
+  above_more at t none = search (rules, none_is_some, place-new, place-old, place-elsewhere)
+
+  pub AreNested-push : AreNested (ats ++ b ∷ [])
+  AreNested-push = record { own = own_more; above = above_more }
 
 -- the node's address stands at its place
 pub own_place : (nodes : List Spot) → IsTree nodes → (k : ℕ) → k < length nodes → place_of (address_at nodes k) (addresses nodes) ≡ Some k
@@ -82,22 +156,19 @@ module _ (nodes : List Spot) (p : ℕ) (d : Spot) (s : Step) (r : Role) (kind : 
         by (inr apart) = name-old parent s (length nodes) n apart ∙ tree.names p d n low ∙ sym (from_above (Name n) apart)
 
     index_leads : (i : ℕ) → slice_get above.elements i ≡ place_of (element (address_at nodes p) i) all
-    index_leads i = search (rules, is_step, index-new, to_new, index-old, from_above)
-
-    hangs_last : Hangs all (length nodes) (address_at nodes p ++ s ∷ []) last
-    hangs_last = search (rules, place-below, there, same_Some, length_push)
+    index_leads i = search (rules, is_step, index-new, to_new, slice_get-old, from_above)
 
     hangs_above : Hangs all p (address_at nodes p) above
-    hangs_above = search (rules, name_leads, index_leads, linked-under, linked-depth, linked-role)
+    hangs_above = search (rules, name_leads, index_leads, linked-under, linked-role)
 
     hangs_other : (k : ℕ) (e : Spot) → k < length nodes → (k ≡ p → ⊥) → Hangs all k (address_at nodes k) (slice_index_or nodes k e)
     hangs_other k e within apart = search (rules, elsewhere)
 
     all_hang : (k : ℕ) (e : Spot) → k < length after → Hangs all k (address_at after k) (slice_index_or after k e)
-    all_hang k e high = grind (arith, common_steps, node-parts, address-new, node-last, hangs_last, node-above, address-old, hangs_above, node-other, hangs_other)
+    all_hang k e high = search (rules, node-parts, address-new, node-last, place-below, there, same_Some, length_push, node-above, address-old, hangs_above, node-other, hangs_other)
 
     root_after : (e : Spot) → (slice_index_or after 0 e).under ≡ None
     root_after e = grind (arith, common_steps)
 
     pub IsTree-grown : IsTree after
-    IsTree-grown = search (rules, IsTree-from_each, addresses-grown, AreNested-push, there, length-grown, root_after, all_hang)
+    IsTree-grown = search (rules, addresses-grown, AreNested-push, there, length-grown, root_after, all_hang)

@@ -1,11 +1,7 @@
 -- A node that is named once more keeps the tree.
-use Rattle.toml_names.proofs.Common.{common_steps, ◌≡◌, ℕ, ◌<◌, List, [], length, None, refl, sym, ap, subst, ◌∙◌, arith, slice_index_or, ◌⊎◌, inl, inr, rules, cases_eq, get_or-set_same, get_or-set_other, get_or_default, length-set, Role, Passed, Header, Dotted, Valued, Tables, Element, Bare, role_after, AreNested, IsTree, KeepsAddresses, KeepsElements, Spot, addresses, address_at, marked, noted}
-use Rattle.toml_names.proofs.lemmas.tree.Hanging.{Hangs, hangs_in, IsTree-from_each}
+use Rattle.toml_names.proofs.Common.{common_steps, ◌≡◌, ℕ, ◌<◌, List, [], length, None, refl, ap, arith, slice_index_or, rules, get_or-set_same, get_or-set_other, length-set, Role, IsTree, KeepsAddresses, KeepsElements, Spot, addresses, address_at, marked, noted}
+use Rattle.toml_names.proofs.lemmas.tree.Hanging.{Hangs}
 use Rattle.toml_names.proofs.lemmas.tree.NodeAddresses.{addresses-set}
-
--- a mark is none only where the one before it was none
-bare_after : (q r : Role) → role_after q r ≡ Bare → q ≡ Bare
-bare_after q r h = search rules
 
 module _ (nodes : List Spot) (k : ℕ) (d : Spot) (r : Role) (line : ℕ) (low : k < length nodes) where
   abbrev here : Spot
@@ -36,9 +32,6 @@ module _ (nodes : List Spot) (k : ℕ) (d : Spot) (r : Role) (line : ℕ) (low :
   KeepsElements-noted = grind (arith, common_steps)
 
   module _ (tree : IsTree nodes) where
-    hangs_here : Hangs (addresses nodes) k (address_at nodes k) (marked here r line)
-    hangs_here = search rules
-
     all_hang : (j : ℕ) (e : Spot) → j < length nodes → Hangs (addresses nodes) j (address_at nodes j) (slice_index_or after j e)
     all_hang j e within = search rules
 
@@ -46,4 +39,4 @@ module _ (nodes : List Spot) (k : ℕ) (d : Spot) (r : Role) (line : ℕ) (low :
     root_after e = search rules
 
     pub IsTree-noted : IsTree after
-    IsTree-noted = search (rules, IsTree-from_each, addresses-noted, length-noted, root_after, address-noted, all_hang)
+    IsTree-noted = search (rules, addresses-noted, length-noted, root_after, address-noted, all_hang)

@@ -21,10 +21,6 @@ module _ (nodes : List Spot) (v : Spot) (p : ℕ) (low : p < length nodes) (read
   back : (x y : Spot) → y ≡ v → slice_set (slice_set nodes p x) p y ≡ nodes
   back x y is = set-set nodes p x y ∙ ap (slice_set nodes p) (is ∙ read) ∙ set-get_or nodes p v
 
-  -- `m` is any new last node
-  reverted-name : (n : List ℕ) (m : Spot) → reverted (NameLinked p) (slice_set nodes p (linked v (Name n) (length nodes)) ++ m ∷ []) ≡ nodes
-  reverted-name n m = search (rules, front, back, get_or-set_same, without_name-linked)
-
   reverted-element : (i : ℕ) (m : Spot) → reverted (ElementLinked p) (slice_set nodes p (linked v (Index i) (length nodes)) ++ m ∷ []) ≡ nodes
   reverted-element i m = search (rules, front, back, get_or-set_same, without_element-linked)
 
@@ -34,7 +30,7 @@ module _ (nodes : List Spot) (v : Spot) (p : ℕ) (low : p < length nodes) (read
   module _ (ds : List Change) where
     pub undone-grown_name : (n : List ℕ) (m after : Spot) (id : ℕ) → after ≡ linked v (Name n) id → id ≡ length nodes → ds ≡ cs ++ NameLinked p ∷ []
         → (more : List Spot) → more ≡ slice_set nodes p after ++ m ∷ [] → undone ds more ≡ undone cs nodes
-    undone-grown_name n m after id made is pushed more grew = search (rules, undone-push, reverted-name)
+    undone-grown_name n m after id made is pushed more grew = search (rules, undone-push, front, back, get_or-set_same, without_name-linked)
 
     pub undone-grown_element : (i : ℕ) (m after : Spot) (id : ℕ) → after ≡ linked v (Index i) id → id ≡ length nodes → ds ≡ cs ++ ElementLinked p ∷ []
         → (more : List Spot) → more ≡ slice_set nodes p after ++ m ∷ [] → undone ds more ≡ undone cs nodes

@@ -1,5 +1,5 @@
 -- The elements of an array, and the pairs of an inline table, entered as the code reads them.
-use Rattle.toml_names.proofs.Common.{common_steps, ◌≡◌, ℕ, ◌+◌, ◌<◌, List, [], ◌++◌, length, map, drop, Box, Global, sym, ap, subst, ◌∙◌, slice_index_or, rules, arith, at_drop_more, InlineTable, out-Array, out-InlineTable, out-Item, out-Pair, Member, piece, gap, value, keyval, member, value_step, array_step, inline_step, item_step, keyval_step, pair_step, Index, Bare, Address, element, value_key_parts, keyval_key_parts, Kind, Named, kind_of, inside, pair_named, IsTree, Enters, EntersInside, Clashes, KeepsOthers, Spot, address_at, grown, nowhere, Grows}
+use Rattle.toml_names.proofs.Common.{common_steps, ◌≡◌, ℕ, ◌+◌, ◌<◌, List, [], ◌++◌, length, map, drop, Box, Global, sym, ap, subst, ◌∙◌, slice_index_or, rules, arith, at_drop_more, InlineTable, out-Array, out-InlineTable, out-Item, out-Pair, Member, gap, value, keyval, member, value_step, array_step, inline_step, item_step, keyval_step, pair_step, Index, Bare, Address, element, value_key_parts, keyval_key_parts, Kind, Named, kind_of, inside, pair_named, IsTree, Enters, EntersInside, Clashes, KeepsOthers, Spot, address_at, grown, nowhere, Grows}
 use Rattle.toml_tree.specs.declared.tree.Array.{Array}
 use Rattle.toml_tree.specs.declared.tree.Item.{Item}
 use Rattle.toml_tree.specs.declared.tree.Pair.{Pair}

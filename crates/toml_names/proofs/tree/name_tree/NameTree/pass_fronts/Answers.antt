@@ -1,5 +1,5 @@
 use Rattle.toml_names.proofs.Common.{◌≡◌, ◌+◌, [], ◌∷◌, ◌∙◌, Some, sym, ap, subst, take, drop, length, true, arith, err_from_is_err_and, piece, PassedFronts, header_fronts, part_name, CanEnterHeaders, IsAbsent, nowhere, misfit}
-use Rattle.toml_names.proofs.lemmas.tree.KnownHeaders.{passed-fresh}
+use Rattle.toml_names.proofs.lemmas.tree.FreshHeaders.{passed-fresh}
 use Rattle.toml_names.proofs.lemmas.mentions.Along.{names_left}
 use Rattle.toml_names.proofs.lemmas.tree.EnterFronts.{all-named, one_more, all_names}
 use Rattle.toml_names.proofs.lemmas.tree.PassedFronts.{PassedFronts-first, PassedFronts-more, fronts_clash}
