@@ -1,9 +1,7 @@
 pub mod Children
 pub mod CountsKept
-pub mod Depths
 pub mod Distinct
 pub mod ElementGrown
-pub mod EnterElement
 pub mod EnterFronts
 pub mod EnterLines
 pub mod EnterName
@@ -16,9 +14,7 @@ pub mod HeaderLines
 pub mod Held
 pub mod InnerNodes
 pub mod ItemsEntered
-pub mod KnownFronts
 pub mod LineRanks
-pub mod LongLines
 pub mod NextTables
 pub mod NodeAddresses
 pub mod NodeCounts

@@ -2,7 +2,7 @@
 use Rattle.toml_names.proofs.Common.{◌≡◌, ℕ, ◌+◌, ◌-◌, ◌==◌, cond, List, [], refl, sym, ap, ◌∙◌, rules, Expr, BlankLine, KeyValLine, TableLine, ArrayTableLine, Address, element, AreAlike, AlikeNameTheSame, AlikeStayAlike, PairsLeaveAlike, Key, key_names, Named, named_by, pair_named, section_from, count_tables, entered, followed, ends_table, ends_tables}
 use Rattle.toml_names.proofs.lemmas.mentions.LineSections.{section_pair}
 use Rattle.toml_names.proofs.lemmas.mentions.NextLine.{section_from-append}
-use Rattle.toml_names.proofs.lemmas.mentions.NoTables.{count-append, no_tables-pair}
+use Rattle.toml_names.proofs.lemmas.mentions.Within.{count-append, no_tables-pair}
 
 module _ (xs ys : List Named) (alike : AreAlike xs ys) where
   entered_alike : (at : Address) → entered xs at ≡ entered ys at

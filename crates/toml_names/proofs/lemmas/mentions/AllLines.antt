@@ -6,7 +6,7 @@ use Rattle.toml_names.proofs.lemmas.mentions.FirstNamed.{suited_root, IsGrown-fi
 use Rattle.toml_names.proofs.lemmas.mentions.Growing.{IsGrown}
 use Rattle.toml_names.proofs.lemmas.mentions.HeadersJoin.{table_line_adds, tables_line_adds}
 use Rattle.toml_names.proofs.lemmas.mentions.InsideJoins.{pair_puts, inside_puts}
-use Rattle.toml_names.proofs.lemmas.mentions.Pairs.{misfit-from_KeepsRules}
+use Rattle.toml_names.proofs.lemmas.mentions.Offences.{misfit-from_KeepsRules}
 
 -- the table of the last header is there
 abbrev IsSection : List Named → Named → Type 0

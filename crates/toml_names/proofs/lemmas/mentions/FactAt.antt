@@ -1,5 +1,5 @@
--- The kind of the first thing named at an address.
-use Rattle.toml_names.proofs.Common.{◌≡◌, zero, suc, Bool, true, false, List, [], ◌∷◌, ◌++◌, All, Any, Some, None, refl, sym, ◌∙◌, subst, arith, rules, cond-true, cond-false, none-some, same_Some, Address, same_address, IsFact, fact_at, Kind, Named}
+-- The kind of the first thing named at an address, and once one more thing is named.
+use Rattle.toml_names.proofs.Common.{◌≡◌, zero, suc, Bool, true, false, List, [], ◌∷◌, ◌++◌, All, Any, Some, None, refl, sym, ◌∙◌, subst, arith, rules, cond-true, cond-false, none-some, same_Some, Address, same_address, IsFact, fact_at, Kind, Named, Option, IsSome}
 use Rattle.toml_names.proofs.lemmas.model.Equal.{same_address-equal, same_address-self}
 
 pub any_here : (P : Named → Type 0) (m : Named) (ms : List Named) → P m → Any P (m ∷ ms)
@@ -42,3 +42,23 @@ fact_kept (m ∷ ms) more at k h = search (rules, cond-true, cond-false, fact_ke
 pub fact_behind : (ms more : List Named) (at : Address) → fact_at ms at ≡ None → fact_at (ms ++ more) at ≡ fact_at more at
 fact_behind [] more at h = refl
 fact_behind (m ∷ ms) more at h = search (rules, none-some, cond-true, cond-false, fact_behind ms more at)
+
+pub there_is : (o : Option Kind) (k : Kind) → o ≡ Some k → IsSome o
+there_is o k h = cc
+
+pub fact_new : (ms : List Named) (m : Named) → fact_at ms m.address ≡ None → fact_at (ms ++ m ∷ []) m.address ≡ Some m.kind
+fact_new ms m none = fact_behind ms (m ∷ []) m.address none ∙ fact_here m [] m.address refl
+
+pub fact_other : (ms : List Named) (m : Named) (at : Address) → ¬ (m.address ≡ at) → fact_at (ms ++ m ∷ []) at ≡ fact_at ms at
+fact_other ms m at apart = by (fact_at ms at) refl
+  where
+    by : (o : Option Kind) → fact_at ms at ≡ o → fact_at (ms ++ m ∷ []) at ≡ fact_at ms at
+    by None h = fact_behind ms (m ∷ []) at h ∙ fact_later m [] at apart ∙ sym h
+    by (Some k) h = fact_kept ms (m ∷ []) at k h ∙ sym h
+
+pub stays : (ms more : List Named) (at : Address) → IsSome (fact_at ms at) → IsSome (fact_at (ms ++ more) at)
+stays ms more at there = search (rules, there_is, fact_kept)
+
+-- where nothing stands, nothing stood
+pub none_before : (ms more : List Named) (at : Address) → fact_at (ms ++ more) at ≡ None → fact_at ms at ≡ None
+none_before ms more at none = search (rules, none-some, fact_kept)

@@ -1,10 +1,10 @@
 -- Under the rules the mark of an address tells in which roles it was named, and so where what stands there stands in the text.
-use Rattle.toml_names.proofs.Common.{◌≡◌, ℕ, Bool, true, false, cond, ◌&&◌, List, [], ◌∷◌, ◌++◌, Option, Some, None, refl, sym, ap, subst, ◌∙◌, true≢false, rules, cond-true, cond-false, append_assoc, append-nil, none-some, Role, Passed, Header, Dotted, Valued, Tables, Element, Bare, Place, Address, same_address, fact_at, role_after, mark_after, mark_of, allows, Kind, Named, same_role, first_line, or_else, outside, first_of, place_of_mark, may_follow, fits, misfit}
+use Rattle.toml_names.proofs.Common.{◌≡◌, ℕ, Bool, true, false, cond, ◌&&◌, List, [], ◌∷◌, ◌++◌, Option, Some, None, refl, sym, ap, subst, ◌∙◌, true≢false, rules, cond-true, cond-false, append_assoc, append-nil, none-some, Role, Passed, Bare, Place, Address, same_address, fact_at, role_after, mark_after, mark_of, allows, Kind, Named, same_role, first_line, or_else, outside, first_of, place_of_mark, may_follow, fits, misfit, arith}
 use Rattle.toml_names.specs.declared.model.place.Place.TheVariants as places
 use Rattle.toml_names.specs.model.Places.{inside}
 use Rattle.toml_names.proofs.lemmas.model.Equal.{same_address-equal}
 use Rattle.toml_names.proofs.lemmas.mentions.Local.{AreMarked, AreMarked-push, mark_of-push}
-use Rattle.toml_names.proofs.lemmas.mentions.Misfits.{misfit-later, fits-from_misfit}
+use Rattle.toml_names.proofs.lemmas.mentions.Offences.{misfit-later, fits-from_misfit}
 use Rattle.toml_names.proofs.lemmas.mentions.PlacesFound.{same_role-equal}
 
 -- whether an address of the mark may have been named in the role
@@ -21,62 +21,11 @@ marks_hold (Some q) r = may_hold q r
 
 -- the role of one more mention is held
 held_here : (q : Option Role) (r : Role) → allows q r ≡ true → marks_hold (mark_after q r) r ≡ true
-held_here None Passed h = refl
-held_here None Header h = refl
-held_here None Dotted h = refl
-held_here None Valued h = refl
-held_here None Tables h = refl
-held_here None Element h = refl
-held_here None Bare h = refl
-held_here (Some Bare) Passed h = refl
-held_here (Some Bare) Header h = refl
-held_here (Some Bare) Dotted h = refl
-held_here (Some Bare) Valued h = refl
-held_here (Some Bare) Tables h = refl
-held_here (Some Bare) Element h = refl
-held_here (Some Bare) Bare h = refl
-held_here (Some Passed) Passed h = refl
-held_here (Some Passed) Header h = refl
-held_here (Some Passed) Dotted h = refl
-held_here (Some Header) Passed h = refl
-held_here (Some Dotted) Dotted h = refl
-held_here (Some Dotted) Passed h = refl
-held_here (Some Tables) Tables h = refl
-held_here (Some Element) Passed h = refl
-held_here (Some Passed) Bare h = refl
-held_here (Some Header) Bare h = refl
-held_here (Some Dotted) Bare h = refl
-held_here (Some Valued) Bare h = refl
-held_here (Some Tables) Bare h = refl
-held_here (Some Element) Bare h = refl
-held_here (Some _) _ h = cc
+held_here q r h = grind arith
 
 -- and what was held stays held
 held_after : (q r s : Role) → may_follow q r ≡ true → may_hold q s ≡ true → may_hold (role_after q r) s ≡ true
-held_after Bare Passed Bare h was = refl
-held_after Bare Header Bare h was = refl
-held_after Bare Dotted Bare h was = refl
-held_after Bare Valued Bare h was = refl
-held_after Bare Tables Bare h was = refl
-held_after Bare Element Bare h was = refl
-held_after Bare Bare Bare h was = refl
-held_after Passed Header Passed h was = refl
-held_after Passed Header Bare h was = refl
-held_after Passed Dotted Passed h was = refl
-held_after Passed Dotted Bare h was = refl
-held_after Passed Passed s h was = was
-held_after Header Passed s h was = was
-held_after Dotted Passed s h was = was
-held_after Dotted Dotted s h was = was
-held_after Tables Tables s h was = was
-held_after Element Passed s h was = was
-held_after Passed Bare s h was = was
-held_after Header Bare s h was = was
-held_after Dotted Bare s h was = was
-held_after Valued Bare s h was = was
-held_after Tables Bare s h was = was
-held_after Element Bare s h was = was
-held_after _ _ _ h was = cc
+held_after q r s h was = grind arith
 
 marks_after : (q : Option Role) (r s : Role) → allows q r ≡ true → marks_hold q s ≡ true → marks_hold (mark_after q r) s ≡ true
 marks_after q r s h was = search (rules, true≢false, held_after)
@@ -94,8 +43,7 @@ abbrev pub AreHolding : List Named → Type 0
 AreHolding ms = (at : Address) (r : Role) (l : ℕ) → first_line ms at r ≡ Some l → marks_hold (mark_of ms at) r ≡ true
 
 pub first_none : (o : Option ℕ) → first_of o None ≡ o
-first_none None = refl
-first_none (Some l) = refl
+first_none o = grind arith
 
 -- what was hit is in the role
 hit_role : (b : Bool) (m : Named) (r : Role) (l : ℕ) → cond (b && same_role m.role r) (Some m.line) None ≡ Some l → m.role ≡ r

@@ -1,8 +1,26 @@
--- The plain list of first mentions has each address that is mentioned, once, in order: one more mention at a time.
-use Rattle.toml_names.proofs.Common.{common_steps, ◌≡◌, ◌⊎◌, inl, inr, ℕ, ◌<◌, ◌↔◌, get_or, Bool, true, false, cond, ◌||◌, List, [], ◌∷◌, ◌++◌, length, filter, Any, AllPairs, Contains, refl, sym, ap, subst, ◌∙◌, true≢false, arith, rules, cond-true, cond-false, append_assoc, append-nil, Contains-get_or, Contains-append_left, Contains-push, Contains-push_cases, filter-append, all_pairs_push, Address, same_address, is_named, first_named, first_mentions, IsMentioned, ComesFirst, IsFirstMentions, FirstMentionsAreThese, Named, is_mention}
+-- The addresses in the order of their first naming, one more at a time: the plain list of first mentions has each that is mentioned, once, in order.
+use Rattle.toml_names.proofs.Common.{common_steps, ◌≡◌, ◌⊎◌, inl, inr, ℕ, ◌<◌, ◌↔◌, get_or, Bool, true, false, cond, ◌||◌, List, [], ◌∷◌, ◌++◌, length, filter, Any, AllPairs, Contains, refl, sym, ap, subst, ◌∙◌, true≢false, arith, rules, cond-true, cond-false, append_assoc, append-nil, Contains-get_or, Contains-append_left, Contains-push, Contains-push_cases, filter-append, all_pairs_push, Address, same_address, is_named, first_named, first_mentions, IsMentioned, ComesFirst, IsFirstMentions, FirstMentionsAreThese, Named, is_mention, Some, None, none-some, fact_at, Kind}
 use Rattle.toml_names.proofs.lemmas.model.Equal.{same_address-equal, same_address-self}
 use Rattle.toml_names.proofs.lemmas.mentions.FactAt.{any_here, any_later}
-use Rattle.toml_names.proofs.lemmas.mentions.FirstMore.{first_push}
+
+pub not_named : (ms : List Named) (at : Address) → fact_at ms at ≡ None → is_named ms at ≡ false
+not_named [] at none = refl
+not_named (m ∷ ms) at none = search (rules, none-some, cond-true, cond-false, not_named ms at)
+
+pub is_named-there : (ms : List Named) (at : Address) (k : Kind) → fact_at ms at ≡ Some k → is_named ms at ≡ true
+is_named-there [] at k some = absurd (none-some k some)
+is_named-there (m ∷ ms) at k some = search (rules, cond-false, is_named-there ms at k)
+
+pub first_push : (ms earlier : List Named) (m : Named) → first_named earlier (ms ++ m ∷ []) ≡ first_named earlier ms ++ cond (is_named (earlier ++ ms) m.address) [] (m.address ∷ [])
+first_push [] earlier m = ap (λ l. cond (is_named l m.address) [] (m.address ∷ [])) (sym (append-nil earlier))
+first_push (x ∷ ms) earlier m = search (rules, append_assoc, first_push ms (earlier ++ x ∷ []) m)
+
+-- what was not named comes last, and what was named comes in no second time
+pub first-new : (ms : List Named) (m : Named) → fact_at ms m.address ≡ None → first_named [] (ms ++ m ∷ []) ≡ first_named [] ms ++ m.address ∷ []
+first-new ms m none = first_push ms [] m ∙ ap (λ b. first_named [] ms ++ cond b [] (m.address ∷ [])) (not_named ms m.address none)
+
+pub first-again : (ms : List Named) (m : Named) (k : Kind) → fact_at ms m.address ≡ Some k → first_named [] (ms ++ m ∷ []) ≡ first_named [] ms
+first-again ms m k some = search (rules, first_push, is_named-there, append-nil)
 
 module _ (P : Named → Type 0) where
   pub any_cases : (m : Named) (ms : List Named) → Any P (m ∷ ms) → P m ⊎ Any P ms

@@ -1,11 +1,10 @@
 -- What holds of all that was named so far, and goes on holding when one more thing joins.
 use Rattle.toml_names.proofs.Common.{common_steps, ◌≡◌, ℕ, ◌<◌, ◌≤◌, true, false, List, [], ◌∷◌, ◌++◌, All, Some, None, sym, ◌∙◌, arith, rules, All-push, Step, Name, Bare, Address, child, element, fact_at, IsFree, is_lone, Joins, a_table, Named, is_tables, count_tables, fits}
 use Rattle.toml_names.proofs.lemmas.mentions.Counting.{count_plain}
-use Rattle.toml_names.proofs.lemmas.mentions.FactAt.{from_all, found, fact_kept}
-use Rattle.toml_names.proofs.lemmas.model.LastSteps.{child_is_no_element}
+use Rattle.toml_names.proofs.lemmas.mentions.FactAt.{from_all, found, fact_kept, fact_other, none_before}
+use Rattle.toml_names.proofs.lemmas.model.Equal.{child_is_no_element}
 use Rattle.toml_names.proofs.lemmas.mentions.OfOneKind.{AreOfOneKind, AreOfOneKind-push}
-use Rattle.toml_names.proofs.lemmas.mentions.Pairs.{Goes, at_each}
-use Rattle.toml_names.proofs.lemmas.mentions.Pushed.{fact_other, none_before}
+use Rattle.toml_names.proofs.lemmas.mentions.Offences.{Goes, at_each}
 use Rattle.toml_names.proofs.lemmas.mentions.Suiting.{IsSuited, AreShared, shared_roles, shared_kind}
 
 -- nothing lone stands at the address

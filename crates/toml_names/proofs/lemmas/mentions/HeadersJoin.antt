@@ -3,7 +3,7 @@ use Rattle.toml_names.proofs.Common.{◌≡◌, ◌⊎◌, ℕ, ◌<◌, true, L
 use Rattle.toml_names.proofs.lemmas.mentions.Adding.{IsAdded, Adds, Adds-append, IsAdded-one, IsAdded-name}
 use Rattle.toml_names.proofs.lemmas.mentions.Counting.{count_plain}
 use Rattle.toml_names.proofs.lemmas.mentions.Growing.{IsGrown}
-use Rattle.toml_names.proofs.lemmas.mentions.Misfits.{fits-from_misfit}
+use Rattle.toml_names.proofs.lemmas.mentions.Offences.{fits-from_misfit}
 use Rattle.toml_names.proofs.lemmas.mentions.OfOneKind.{one_kind_new}
 use Rattle.toml_names.proofs.lemmas.mentions.Suiting.{IsSuited, suited_mention}
 use Rattle.toml_names.proofs.lemmas.mentions.TablesJoin.{tables_at, tables_added}

@@ -2,12 +2,11 @@
 use Rattle.toml_names.proofs.Common.{◌≡◌, ℕ, ◌+◌, ◌<◌, ◌≤◌, false, List, [], ◌∷◌, ◌++◌, map, length, IsSome, Some, None, refl, sym, ap, ◌∙◌, subst, inl, arith, le_refl, below_more, append_assoc, none-some, Value, Scalar, Array, Inline, Items, Close, Last, More, Pairs, ClosePairs, LastPair, MorePairs, Step, Name, Index, Role, Dotted, Valued, Bare, Address, child, element, below, fact_at, IsFree, Key, part_name, rest_names, a_table, an_array, Named, kind_of, table_at, value_named, is_tables, count_tables, fronts, inside, elements, members, pair_named}
 use Rattle.toml_names.proofs.lemmas.mentions.Adding.{IsPut, Puts, IsPut-nil, Puts-append, IsPut-fewer, IsAdded-one, IsAdded-name, IsPut-one}
 use Rattle.toml_names.proofs.lemmas.mentions.Counting.{count_absent}
-use Rattle.toml_names.proofs.lemmas.mentions.FactAt.{fact_here, fact_kept, fact_behind}
+use Rattle.toml_names.proofs.lemmas.mentions.FactAt.{fact_here, fact_kept, fact_behind, there_is, fact_new, fact_other, stays}
 use Rattle.toml_names.proofs.lemmas.mentions.Growing.{IsGrown, IsApart, free_at_name, apart_at_name}
-use Rattle.toml_names.proofs.lemmas.model.LastSteps.{child_is_no_element, element_parts, one_longer}
-use Rattle.toml_names.proofs.lemmas.mentions.Misfits.{fits-from_misfit}
+use Rattle.toml_names.proofs.lemmas.model.Equal.{child_is_no_element, element_parts, one_longer}
+use Rattle.toml_names.proofs.lemmas.mentions.Offences.{fits-from_misfit}
 use Rattle.toml_names.proofs.lemmas.mentions.OfOneKind.{one_kind_new}
-use Rattle.toml_names.proofs.lemmas.mentions.Pushed.{there_is, fact_new, fact_other, stays}
 use Rattle.toml_names.proofs.lemmas.mentions.Suiting.{IsSuited, suited_mention}
 
 -- no longer than the address

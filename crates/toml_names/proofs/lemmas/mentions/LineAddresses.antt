@@ -1,8 +1,8 @@
 -- The address of a line is that of what its expression stands for.
 use Rattle.toml_names.proofs.Common.{◌≡◌, ◌⊎◌, inl, inr, ℕ, ◌+◌, ◌<◌, ◌≤◌, ◌==◌, true, false, ◌&&◌, List, [], ◌∷◌, ◌++◌, length, Some, None, refl, sym, ap, ◌∙◌, arith, rules, eq-eqb, append_assoc, append-nil, EachIs, Value, Expr, BlankLine, KeyValLine, TableLine, ArrayTableLine, Line, Valued, Address, child, below, Key, part_name, rest_names, key_names, Named, root, value_named, fronts, inside, followed, entered, ends_table, ends_tables, named, named_by, named_from, section, NamedHasLine, LineAddresses, NoLineAddress, is_own, line_address, header_end, own_address}
 use Rattle.toml_names.proofs.Each.{each_append, each_weaker}
-use Rattle.toml_names.proofs.lemmas.mentions.Within.{IsWithin, pair_within}
-use Rattle.toml_names.proofs.lemmas.model.Above.{and_false}
+use Rattle.toml_names.proofs.lemmas.mentions.Within.{pair_within}
+use Rattle.toml_names.proofs.lemmas.model.Equal.{and_false}
 
 -- what the search for the line's own address goes past
 abbrev IsPassed : ℕ → Named → Type 0
@@ -25,10 +25,7 @@ followed_of line earlier end ends (n ∷ []) at = ends (child at n)
 followed_of line earlier end ends (n ∷ m ∷ more) at = (refl, followed_of line earlier end ends (m ∷ more) (entered earlier (child at n)))
 
 pub named_has_line : NamedHasLine
-named_has_line earlier line (BlankLine b) = tt
-named_has_line earlier line (KeyValLine ws pair tail) = each_weaker (IsWithin line (section earlier)) _ (λ m w. w.of) _ (pair_within line (section earlier) pair.assign pair.value)
-named_has_line earlier line (TableLine ws header tail) = followed_of line earlier (ends_table line) (λ at. (refl, tt)) (key_names header.key) []
-named_has_line earlier line (ArrayTableLine ws header tail) = followed_of line earlier (ends_tables line earlier) (λ at. (refl, (refl, tt))) (key_names header.key) []
+named_has_line = grind (arith, each_weaker, pair_within, followed_of)
 
 not_same : (n line : ℕ) → n < line ⊎ line < n → (n == line) ≡ false
 not_same n line h1 = search rules

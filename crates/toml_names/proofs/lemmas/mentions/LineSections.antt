@@ -1,5 +1,5 @@
 -- The table of the last header, once a line more names: the header's own, or the one that it was.
-use Rattle.toml_names.proofs.Common.{◌≡◌, ℕ, List, [], ◌∷◌, ◌++◌, refl, ◌∙◌, Assign, Value, Address, child, element, Key, Named, count_tables, entered, pair_named, followed, ends_table, ends_tables, section_from, section, header_end}
+use Rattle.toml_names.proofs.Common.{◌≡◌, ℕ, List, [], ◌∷◌, ◌++◌, refl, ◌∙◌, Assign, Value, Address, child, element, Key, Named, count_tables, entered, pair_named, followed, ends_table, ends_tables, section_from, section, header_end, arith}
 use Rattle.toml_names.proofs.lemmas.mentions.NextLine.{section_from-append}
 use Rattle.toml_names.proofs.lemmas.mentions.Within.{AreWithin, pair_within}
 
@@ -9,8 +9,7 @@ within_stays line from at [] within = refl
 within_stays line from at (m ∷ ms) within = rw within.0.no_header (within_stays line from at ms within.1)
 
 pub section_pair : (ms : List Named) (line : ℕ) (from : Address) (a : Assign) (v : Value) → section (ms ++ pair_named line from a v) ≡ section ms
-section_pair ms line from a v =
-    section_from-append ms (pair_named line from a v) [] ∙ within_stays line from (section ms) (pair_named line from a v) (pair_within line from a v)
+section_pair ms line from a v = grind (arith, section_from-append, within_stays, pair_within)
 
 -- a header sets it, by its end
 followed_section : (xs : Key) (line : ℕ) (ms : List Named) (end : Address → List Named) (n : List ℕ) (from at : Address)

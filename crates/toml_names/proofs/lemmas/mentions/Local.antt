@@ -1,16 +1,11 @@
 -- The mark of an address stands for all of its roles.
 use Rattle.toml_names.proofs.Common.{◌≡◌, Bool, true, not, cond, ◌&&◌, ◌||◌, List, [], ◌∷◌, ◌++◌, Option, None, refl, sym, ap, ◌∙◌, rules, append_assoc, append-nil, Role, Address, same_address, mark_after, mark_from, mark_of, allows, LastRoleDecides, Named, may_follow, fits, misfit, KeepsRules}
 use Rattle.std.proofs.lemmas.List.Folds.{list_all-append}
-use Rattle.toml_names.proofs.lemmas.mentions.Misfits.{misfit-later, fits-from_misfit}
 use Rattle.toml_names.proofs.lemmas.model.Equal.{same_address-equal}
-use Rattle.toml_names.proofs.lemmas.mentions.Pairs.{KeepsRules-push, fits-from_KeepsRules, misfit-from_KeepsRules}
+use Rattle.toml_names.proofs.lemmas.mentions.Offences.{KeepsRules-push, fits-from_KeepsRules, misfit-from_KeepsRules, misfit-later, fits-from_misfit}
 
 and_true : (b : Bool) → (b && true) ≡ b
 and_true b = search rules
-
--- one more role
-one_more : (q : Option Role) (r s : Role) → allows q r ≡ true → (allows q s && may_follow r s) ≡ allows (mark_after q r) s
-one_more q r s h = search rules
 
 mark_from-push : (xs : List Named) (q : Option Role) (m : Named) (at : Address)
     → mark_from q (xs ++ m ∷ []) at ≡ cond (same_address m.address at) (mark_after (mark_from q xs at) m.role) (mark_from q xs at)

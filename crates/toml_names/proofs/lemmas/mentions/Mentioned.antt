@@ -1,9 +1,8 @@
 -- Which of the addresses that are named are mentioned: the mark of an address tells, where each thing joins those before it.
 use Rattle.toml_names.proofs.Common.{◌≡◌, Bool, true, false, cond, ◌||◌, filter, List, [], ◌∷◌, ◌++◌, get_or, All, Option, Some, None, refl, sym, ap, subst, ◌∙◌, inl, inr, true≢false, rules, cond-true, cond-false, append_assoc, append-nil, All-nil, All-cons, All-head, All-tail, All-push, filter-append, none-some, Role, Address, same_address, fact_at, is_named, first_named, first_mentions, is_lone, Joins, JoinAll, Joined, mark_after, mark_of, Named, is_mention, is_mentioned}
 use Rattle.toml_names.proofs.lemmas.model.Equal.{same_address-equal, same_address-self}
-use Rattle.toml_names.proofs.lemmas.mentions.FactAt.{fact_here, fact_behind}
+use Rattle.toml_names.proofs.lemmas.mentions.FactAt.{fact_here, fact_behind, none_before}
 use Rattle.toml_names.proofs.lemmas.mentions.Local.{mark_of-push}
-use Rattle.toml_names.proofs.lemmas.mentions.Pushed.{none_before}
 use Rattle.toml_names.proofs.lemmas.mentions.OfOneKind.{IsOfFirst, AreOfOneKind, AreOfOneKind-push}
 
 -- whether the address of this mark is mentioned

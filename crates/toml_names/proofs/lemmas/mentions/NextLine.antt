@@ -1,7 +1,6 @@
 -- What one more line names, and what a reader of lines has after it.
 use Rattle.toml_names.proofs.Common.{◌≡◌, ℕ, ◌+◌, ◌<◌, ◌≤◌, List, [], ◌∷◌, ◌++◌, length, take, Some, None, refl, get_or, arith, rules, if◌then◌else◌, take_more, length-take-le, All-tail, All-append, Line, Address, SectionGoesOn, Named, named, named_by, named_from, is_section, misfit, KeepsRules, IsShort, max_steps, AreGood, IsRedefined, IsLong}
-use Rattle.toml_names.proofs.lemmas.mentions.Offences.{misfit_is_first}
-use Rattle.toml_names.proofs.lemmas.mentions.Pairs.{KeepsRules-from_misfit}
+use Rattle.toml_names.proofs.lemmas.mentions.Offences.{misfit_is_first, KeepsRules-from_misfit}
 
 pub KeepsRules-more : (earlier new : List Named) → misfit earlier new ≡ None → KeepsRules earlier → KeepsRules (earlier ++ new)
 KeepsRules-more earlier new none keeps = KeepsRules-from_misfit new earlier keeps none
@@ -15,7 +14,7 @@ IsShort-behind (m ∷ ms) new short = IsShort-behind ms new (All-tail (λ m. len
 
 named_from-push : (ls : List Line) (earlier : List Named) (n at : ℕ) (l : Line) → n + length ls ≡ at
     → named_from earlier n (ls ++ l ∷ []) ≡ named_from earlier n ls ++ named_by (named_from earlier n ls) at l.expr
-named_from-push [] earlier n at l is = search (rules)
+named_from-push [] earlier n at l is = search rules
 named_from-push (k ∷ ls) earlier n at l is = named_from-push ls (earlier ++ named_by earlier n k.expr) (n + 1) at l (omega arith)
 
 -- what one more line names

@@ -1,5 +1,5 @@
--- What is named at one address is of one kind, and values stand alone, where each thing joins those before it.
-use Rattle.toml_names.proofs.Common.{◌≡◌, ℕ, ◌<◌, false, List, [], ◌∷◌, ◌++◌, length, get_or, All, AllPairs, Some, refl, sym, ◌∙◌, subst, inl, inr, arith, rules, append_assoc, append-nil, All-nil, All-cons, All-push, All-weaker, all_pairs_push, same_Some, Address, IsFact, fact_at, is_lone, Joins, JoinAll, Joined, OneKind, FirstIsData, ValuesStandAlone, Kind, Named}
+-- What is named at one address is of one kind, and values stand alone, where each thing joins those before it; so the first kinds are the data.
+use Rattle.toml_names.proofs.Common.{◌≡◌, ℕ, ◌<◌, false, List, [], ◌∷◌, ◌++◌, length, get_or, All, AllPairs, Some, refl, sym, ◌∙◌, subst, inl, inr, arith, rules, append_assoc, append-nil, All-nil, All-cons, All-push, All-weaker, all_pairs_push, same_Some, Address, IsFact, fact_at, is_lone, Joins, JoinAll, Joined, OneKind, FirstIsData, ValuesStandAlone, Kind, Named, ap, Kinds, IsDataOf}
 use Rattle.toml_names.proofs.lemmas.mentions.FactAt.{from_all, fact_here, found, fact_kept, fact_behind}
 
 -- it is of the kind that was named first at its address
@@ -60,3 +60,10 @@ first_is_data ms joined at k = (found ms at k, is_first ms joined at k)
 
 pub values_stand_alone : ValuesStandAlone
 values_stand_alone ms joined = (holds ms joined).alone
+
+-- a map that has the first kind named at each address is the data
+pub data_by_facts : (list ms : List Named) (kinds : Kinds) → list ≡ ms → Joined ms → ((at : Address) → kinds at ≡ fact_at list at) → IsDataOf ms kinds
+data_by_facts list ms kinds is joined first at k =
+    let same : kinds at ≡ fact_at ms at = first at ∙ ap (λ l. fact_at l at) is in
+    let facts = first_is_data ms joined at k in
+    (λ e. facts.0 (sym same ∙ e), λ fact. same ∙ facts.1 fact)

@@ -1,11 +1,7 @@
--- Why the names of lines are refused is one fault: one line, and its first offence or a long address.
-use Rattle.toml_names.proofs.Common.{◌≡◌, ◌<◌, ℕ, ◌+◌, ◌⊎◌, inl, inr, true, false, List, [], ◌∷◌, ◌++◌, take, Some, refl, sym, ap, subst, ◌∙◌, arith, rules, cases_order, append_assoc, append-nil, append_cancel_left, take-take, Line, Address, Named, named, AreGood, IsRedefined, IsLong, OneRefusal, fits, misfit, KeepsRules, IsFirstOffence, ◌≤◌, length-append, length, drop, get_or_append_left, take-append-drop, All-head, All-tail, All-cons, All-nil, root, named_by, named_from, may_follow, IsShort, max_steps, RefusedAreBad}
-use Rattle.toml_names.proofs.lemmas.mentions.Misfits.{misfit-here, misfit-later}
-use Rattle.toml_names.proofs.lemmas.mentions.Pairs.{KeepsRules-push, fits-from_KeepsRules}
+-- Lines of which the names are refused are not good. Why they are refused is one fault: one line, and its first offence or a long address.
+use Rattle.toml_names.proofs.Common.{◌≡◌, ◌<◌, ℕ, ◌+◌, ◌⊎◌, inl, inr, false, List, [], ◌∷◌, ◌++◌, take, Some, refl, sym, ap, subst, ◌∙◌, arith, rules, cases_order, append_assoc, append-nil, append_cancel_left, take-take, Line, Address, Named, named, AreGood, IsRedefined, IsLong, OneRefusal, fits, misfit, KeepsRules, IsFirstOffence, ◌≤◌, length-append, length, drop, get_or_append_left, take-append-drop, All-head, All-tail, All-cons, All-nil, root, named_by, named_from, IsShort, max_steps, RefusedAreBad}
+use Rattle.toml_names.proofs.lemmas.mentions.Offences.{KeepsRules-push, fits-from_KeepsRules, misfit-here, misfit-later}
 use Rattle.toml_names.specs.declared.fault.NameFault.TheVariants as faults
-
-abbrev Goes : Named → Named → Type 0
-Goes e l = e.address ≡ l.address → may_follow e.role l.role ≡ true
 
 -- what keeps the rules keeps them up to any place
 KeepsRules-front : (ms more : List Named) → KeepsRules (ms ++ more) → KeepsRules ms

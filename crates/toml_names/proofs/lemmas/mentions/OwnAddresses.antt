@@ -1,5 +1,5 @@
 -- What is named by itself is so named once, and each line's own address is named and has a fact.
-use Rattle.toml_names.proofs.Common.{◌≡◌, ℕ, ◌+◌, true, false, List, [], ◌∷◌, ◌++◌, length, Any, Option, Some, IfSome, IsSome, is_some, refl, sym, ap, ◌∙◌, arith, rules, eqb-true, none-some, same_Some, Role, Element, Address, is_lone, Named, root, named, named_by, is_own, line_address, own_address, is_itself, LineIsNamed, ThemselvesDiffer, OwnAddressesDiffer, OwnAddressIsNamed, OwnAddressHasFact, may_follow}
+use Rattle.toml_names.proofs.Common.{◌≡◌, ℕ, ◌+◌, true, false, List, [], ◌∷◌, ◌++◌, length, Any, Option, Some, IfSome, IsSome, is_some, refl, sym, ap, ◌∙◌, arith, rules, eqb-true, none-some, same_Some, Role, Address, is_lone, Named, root, named, named_by, is_own, line_address, own_address, is_itself, LineIsNamed, ThemselvesDiffer, OwnAddressesDiffer, OwnAddressIsNamed, OwnAddressHasFact, may_follow}
 use Rattle.toml_names.proofs.lemmas.mentions.AllLines.{new_from, named_from-is}
 use Rattle.toml_names.proofs.Each.{Has, pairs_of_all, any_of_has, from_two}
 use Rattle.toml_names.proofs.lemmas.mentions.LineAddresses.{named_from-append, line_addresses}
@@ -12,9 +12,6 @@ line_is_named before behind l =
     (new_from now (k + 1) behind, named_from-append before (l ∷ behind) (root ∷ []) 0 k (omega arith) ∙ named_from-is behind now (k + 1))
 
 -- ---- what is named by itself
-
-after_element : (s : Role) → is_itself s ≡ true → is_lone s ≡ false → may_follow Element s ≡ true → ⊥
-after_element s b y m = search rules
 
 -- two that are not alone are of headers, and no header follows another
 no_two : (r s : Role) → is_itself r ≡ true → is_itself s ≡ true → is_lone r ≡ false → is_lone s ≡ false → may_follow r s ≡ true → ⊥

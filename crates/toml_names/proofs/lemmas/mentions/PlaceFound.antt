@@ -9,7 +9,7 @@ use Rattle.toml_names.proofs.lemmas.model.Equal.{same_address-self}
 use Rattle.toml_names.proofs.lemmas.mentions.FirstLines.{AreHolding, holding_under_rules, may_hold, marks_hold, inside-some, outside-mark, skip, stop}
 use Rattle.toml_names.proofs.lemmas.mentions.FactAt.{from_all}
 use Rattle.toml_names.proofs.lemmas.mentions.OfOneKind.{first_is_data}
-use Rattle.toml_names.proofs.lemmas.mentions.Pairs.{misfit-from_KeepsRules}
+use Rattle.toml_names.proofs.lemmas.mentions.Offences.{misfit-from_KeepsRules}
 use Rattle.toml_names.proofs.lemmas.mentions.PlacesFound.{above_in, none_above, is_it, same_role-self}
 use Rattle.toml_names.proofs.lemmas.mentions.UnderRules.{line_values_stand_alone}
 

@@ -115,13 +115,9 @@ module _ (ms : List Named) (at : Address) (outer : IsOutside ms at) (p : Place) 
       → or_else o places.Tables (or_else (read Passed) places.Implicit None) ≡ Some p → IsPlace ms at p
   from_tables o e v hd el d h = search (rules, not_in, some_is, first_in)
 
-  from_element : (o : Option ℕ) → read Element ≡ o → IsNotIn Valued at ms → IsNotIn Header at ms
-      → or_else o places.Header (or_else (read Dotted) places.Dotted (or_else (read Tables) places.Tables (or_else (read Passed) places.Implicit None))) ≡ Some p → IsPlace ms at p
-  from_element o e v hd h = search (rules, from_tables, not_in, some_is, first_in)
-
   from_value : (o : Option ℕ) → read Valued ≡ o
       → or_else o places.KeyVal (or_else (read Header) places.Header (or_else (read Element) places.Header (or_else (read Dotted) places.Dotted (or_else (read Tables) places.Tables (or_else (read Passed) places.Implicit None))))) ≡ Some p → IsPlace ms at p
-  from_value o e h = search (rules, from_element, not_in, some_is, first_in)
+  from_value o e h = search (rules, from_tables, not_in, some_is, first_in)
 
 pub places_are_found : PlacesAreFound
 places_are_found = search (rules, some_is, from_value, none_above, inside_is, above_in)

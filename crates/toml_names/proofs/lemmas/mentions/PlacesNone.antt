@@ -1,5 +1,5 @@
 -- Where no place is found, nothing is named: what is no mention, the root aside, lies inside a value.
-use Rattle.toml_names.proofs.Common.{◌≡◌, ◌⊎◌, inl, inr, ℕ, ◌+◌, List, [], ◌∷◌, ◌++◌, get_or, Option, Some, None, refl, sym, subst, ⊎_elim, ◌∙◌, arith, rules, All, All-nil, All-cons, EachIs, Expr, BlankLine, KeyValLine, TableLine, ArrayTableLine, Line, Step, Role, Passed, Header, Dotted, Valued, Tables, Element, Bare, Address, IsAbove, child, below, InsideIsBelow, Key, key_names, Named, root, value_named, fronts, inside, followed, entered, ends_table, ends_tables, named, named_by, named_from, section, IsNamed, IsOutside, NoPlace, first_line, line_above, or_else, outside, in_value}
+use Rattle.toml_names.proofs.Common.{◌≡◌, ◌⊎◌, inl, inr, ℕ, ◌+◌, List, [], ◌∷◌, ◌++◌, Option, Some, None, refl, sym, subst, ⊎_elim, ◌∙◌, arith, rules, All, All-nil, All-cons, EachIs, Expr, BlankLine, KeyValLine, TableLine, ArrayTableLine, Line, Step, Role, Passed, Header, Dotted, Valued, Tables, Element, Bare, Address, IsAbove, child, below, InsideIsBelow, Key, key_names, Named, root, value_named, fronts, inside, followed, entered, ends_table, ends_tables, named, named_by, named_from, section, IsNamed, IsOutside, NoPlace, line_above, or_else, outside, in_value}
 use Rattle.toml_names.specs.declared.model.place.Place.TheVariants as places
 use Rattle.toml_names.specs.model.Places as spec
 use Rattle.toml_names.proofs.Each.{Has, each_append, each_weaker, each_of_all, has_left, has_right, has_each, has_of_any, from_has}
@@ -83,10 +83,7 @@ abbrev IsBareAt : Address → Named → Type 0
 IsBareAt at m = m.address ≡ at → m.role ≡ Bare
 
 is_bare : (ms : List Named) (at : Address) → outside ms at ≡ None → All (IsBareAt at) ms
-is_bare ms at none k d low is =
-    let all = none_of _ _ _ _ _ _ none in
-    let not = λ (r : Role) (n : first_line ms at r ≡ None). not_in ms at r n k d low is in
-    only_bare (get_or ms k d).role (not Valued all.0) (not Header all.1) (not Element all.2) (not Dotted all.3) (not Tables all.4) (not Passed all.5)
+is_bare ms at none = grind (arith, none_of, not_in, only_bare)
 
 none_in : (ms : List Named) (s : Step) (at : Address) → AllLie ms ms → (o : Option ℕ) → line_above ms (s ∷ at) ≡ o → in_value o ms (s ∷ at) ≡ None → ¬ IsNamed ms (s ∷ at)
 none_in ms s at lie (Some line) e h found = subst (λ x. ¬ (x.address ≡ s ∷ at)) found.3 (inside_none ms (s ∷ at) line h found.0 found.1 found.2) found.4

@@ -24,9 +24,6 @@ pub record AreShared (e m : Role) : Type 0 where
   pub later : is_lone m ≡ false
   pub kind : role_kind e ≡ role_kind m
 
-shared : {e m : Role} → is_lone e ≡ false → is_lone m ≡ false → role_kind e ≡ role_kind m → AreShared e m
-shared e m k = record { earlier = e; later = m; kind = k }
-
 pub shared_roles : (e m : Role) → may_follow e m ≡ true → ¬ (e ≡ Bare) → ¬ (m ≡ Bare) → AreShared e m
 shared_roles e m h e_is m_is = search rules
 

@@ -2,14 +2,12 @@
 use Rattle.toml_names.proofs.Common.{common_steps, ◌≡◌, ◌⊎◌, ℕ, ◌+◌, ◌<◌, ◌≤◌, ◌&&◌, Bool, true, false, List, [], ◌∷◌, ◌++◌, Some, None, refl, sym, ap, ◌∙◌, subst, inl, inr, arith, le_refl, rules, cond-true, cond-false, append_assoc, All-push, none-some, Index, Tables, Element, Address, same_address, child, element, fact_at, Joins, Kind, a_table, an_array, Named, table_at, count_tables, fits}
 use Rattle.toml_names.proofs.lemmas.mentions.Adding.{IsAdded}
 use Rattle.toml_names.proofs.lemmas.mentions.Counting.{adds, count_push, count_plain, count_there}
-use Rattle.toml_names.proofs.lemmas.mentions.FactAt.{any_with, found, fact_kept}
+use Rattle.toml_names.proofs.lemmas.mentions.FactAt.{any_with, found, fact_kept, there_is, fact_other}
 use Rattle.toml_names.proofs.lemmas.mentions.Growing.{NoneLone, AreCounted, IsGrown, IsClosed-push, joins_at_name}
 use Rattle.toml_names.proofs.lemmas.mentions.InsideJoins.{not_longer}
-use Rattle.toml_names.proofs.lemmas.model.LastSteps.{child_is_no_element, element_parts}
 use Rattle.toml_names.proofs.lemmas.mentions.OfOneKind.{AreOfOneKind, AreOfOneKind-push, one_kind_new}
-use Rattle.toml_names.proofs.lemmas.mentions.Pairs.{Goes, at_each}
-use Rattle.toml_names.proofs.lemmas.mentions.Pushed.{there_is, fact_other}
-use Rattle.toml_names.proofs.lemmas.model.Equal.{same_address-equal, same_address-self}
+use Rattle.toml_names.proofs.lemmas.mentions.Offences.{Goes, at_each}
+use Rattle.toml_names.proofs.lemmas.model.Equal.{same_address-equal, same_address-self, child_is_no_element, element_parts}
 use Rattle.toml_names.proofs.lemmas.mentions.Suiting.{IsSuited, suited_mention, tables_before}
 
 abbrev pub tables_at : ℕ → Address → Named

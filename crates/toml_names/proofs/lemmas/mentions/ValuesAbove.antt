@@ -62,12 +62,10 @@ front_none ms at (s ∷ rest) none =
     ∙ front_none ms (at ++ s ∷ []) rest (λ more. ap (fact_at ms) (append_assoc at (s ∷ []) more) ∙ none (s ∷ more))
 
 joined_of : (f g x : Option ℕ) → first_of (first_of f None) (first_of g x) ≡ first_of (first_of f g) x
-joined_of None g x = refl
-joined_of (Some l) g x = refl
+joined_of f g x = grind arith
 
 never : (line : ℕ) (there : Bool) → cond (there && false) (Some line) None ≡ None
-never line true = refl
-never line false = refl
+never line there = grind arith
 
 -- where something stands, something stands above
 closed : (ms : List Named) → AreHeld ms → (at more : Address) → fact_at ms at ≡ None → fact_at ms (at ++ more) ≡ None
@@ -84,10 +82,6 @@ line_above-push (x ∷ ms) m at = search (rules, line_above-push ms m at)
 
 -- one more thing, which is new if it is a value
 module _ (ms : List Named) (m : Named) (held : AreHeld ms) (fresh : m.role ≡ Valued → fact_at ms m.address ≡ None) where
-  merged : (here there : Bool) (f g : Option ℕ) → ((here && same_role m.role Valued) ≡ true → (f ≡ None) × (g ≡ None))
-      → first_of (first_of f (new_value m here)) (first_of g (new_value m there)) ≡ first_of (first_of f g) (new_value m (here || there))
-  merged here there f g alone = search (rules, joined_of, never)
-
   alone_at : (s : Step) (rest at : Address) → (same_address m.address at ≡ true) × (same_role m.role Valued ≡ true) → (first_line ms at Valued ≡ None) × (front_value ms (at ++ s ∷ []) rest ≡ None)
   alone_at s rest at both =
       let none : fact_at ms at ≡ None = ap (fact_at ms) (sym (same_address-equal m.address at both.0)) ∙ fresh (same_role-equal m.role Valued both.1) in
@@ -95,7 +89,7 @@ module _ (ms : List Named) (m : Named) (held : AreHeld ms) (fresh : m.role ≡ V
 
   front_push : (rest at : Address) → front_value (ms ++ m ∷ []) at rest ≡ first_of (front_value ms at rest) (new_value m (is_front m.address at rest))
   front_push [] at = refl
-  front_push (s ∷ rest) at = search (rules, first_line-push, merged, alone_at, true≢false, front_push rest (at ++ s ∷ []))
+  front_push (s ∷ rest) at = search (rules, first_line-push, joined_of, never, alone_at, true≢false, front_push rest (at ++ s ∷ []))
 
   value_push : (at : Address) → line_above ms at ≡ front_value ms [] at → line_above (ms ++ m ∷ []) at ≡ front_value (ms ++ m ∷ []) [] at
   value_push at same =

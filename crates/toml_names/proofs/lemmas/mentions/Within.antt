@@ -1,7 +1,8 @@
 -- What holds of each thing that a pair or a value names, by one induction over values: it is of the line, strictly below the address where the
 -- value stands, no array of tables, and no header.
-use Rattle.toml_names.proofs.Common.{◌≡◌, ℕ, ◌+◌, false, List, [], ◌∷◌, ◌++◌, refl, ap, ◌∙◌, append_assoc, EachIs, Assign, Value, Scalar, Array, Inline, Items, Close, Last, More, Pairs, ClosePairs, LastPair, MorePairs, Name, Index, Address, IsAbove, child, element, below, Key, part_name, key_names, Named, is_tables, is_section, fronts, inside, elements, members, pair_named}
+use Rattle.toml_names.proofs.Common.{◌≡◌, ℕ, ◌+◌, false, List, [], ◌∷◌, ◌++◌, refl, ap, ◌∙◌, append_assoc, EachIs, Assign, Value, Scalar, Array, Inline, Items, Close, Last, More, Pairs, ClosePairs, LastPair, MorePairs, Name, Index, Address, IsAbove, child, element, below, Key, part_name, key_names, Named, is_tables, is_section, fronts, inside, elements, members, pair_named, arith, sum_by-append, CountsAdd, count_tables}
 use Rattle.toml_names.proofs.Each.{each_append, each_weaker}
+use Rattle.toml_names.proofs.lemmas.mentions.Counting.{adds, count_plain}
 
 pub record IsWithin (line : ℕ) (at : Address) (m : Named) : Type 0 where
   pub below : IsAbove at m.address
@@ -52,3 +53,29 @@ mutual
 
 pub pair_within : (line : ℕ) (at : Address) (a : Assign) (v : Value) → AreWithin line at (pair_named line at a v)
 pair_within line at a v = pair_by line at a v (inside_within line v)
+
+-- no array of tables is named
+abbrev pub HasNoTables : List Named → Type 0
+HasNoTables ms = (at : Address) → count_tables ms at ≡ 0
+
+pub count-append : CountsAdd
+count-append xs ys at = sum_by-append (adds at) xs ys
+
+pub no_tables-append : (xs ys : List Named) → HasNoTables xs → HasNoTables ys → HasNoTables (xs ++ ys)
+no_tables-append xs ys first then at = let zero_first = first at in let zero_then = then at in omega (arith, count-append xs ys at)
+
+pub no_tables-front : (xs ys : List Named) → HasNoTables (xs ++ ys) → HasNoTables xs
+no_tables-front xs ys none at = let all = none at in omega (arith, count-append xs ys at)
+
+no_tables-cons : (m : Named) (ms : List Named) → is_tables m.role ≡ false → HasNoTables ms → HasNoTables (m ∷ ms)
+no_tables-cons m ms plain none = no_tables-append (m ∷ []) ms (λ at. count_plain [] m at plain) none
+
+no_tables-within : (line : ℕ) (at : Address) (ms : List Named) → AreWithin line at ms → HasNoTables ms
+no_tables-within line at [] within = λ q. refl
+no_tables-within line at (m ∷ ms) within = no_tables-cons m ms within.0.plain (no_tables-within line at ms within.1)
+
+pub no_tables-inside : (line : ℕ) (v : Value) (at : Address) → HasNoTables (inside line at v)
+no_tables-inside line v at = no_tables-within line at (inside line at v) (inside_within line v at)
+
+pub no_tables-pair : (line : ℕ) (at : Address) (a : Assign) (v : Value) → HasNoTables (pair_named line at a v)
+no_tables-pair line at a v = no_tables-within line at (pair_named line at a v) (pair_within line at a v)

@@ -38,9 +38,6 @@ or_part (Some d) p = Some d
 abbrev pub Completes : Members → List Entry → Members → Type 0
 Completes copies left all = (name : List ℕ) → AreSameIn (or_part (get_by_text copies name) (found name left)) (get_by_text all name)
 
-or_none : (o : Option Datum) → or_part o None ≡ o
-or_none o = search rules
-
 apart : (k q : List ℕ) → bytes_eq k q ≡ false → bytes_eq q k ≡ false
 apart k q h = search rules
 

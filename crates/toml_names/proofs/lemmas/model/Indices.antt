@@ -5,7 +5,7 @@ use Rattle.toml_tree.specs.Tree as spelled
 use Rattle.toml_names.specs.model.Indices.{IsLow, IsLowStep, IndicesAreLow, ValueIndicesAreLow}
 use Rattle.toml_names.proofs.lemmas.mentions.Counting.{adds_none, count_cons}
 use Rattle.toml_names.proofs.Each.{each_append}
-use Rattle.toml_names.proofs.lemmas.mentions.NoTables.{count-append, no_tables-pair}
+use Rattle.toml_names.proofs.lemmas.mentions.Within.{count-append, no_tables-pair}
 use Rattle.toml_tree.specs.Parts.{size}
 
 module _ (n : ℕ) where

@@ -26,7 +26,7 @@ fresh_by n (e ∷ es) none = search (rules, fresh_by n es)
 
 none_distinct : IsDistinct bytes_eq []
 unfolding IsDistinct
-none_distinct = cc
+none_distinct = grind arith
 
 children_distinct : (es : Pairs) → AreDistinct es → IsDistinct bytes_eq (keys_of es)
 children_distinct [] are = none_distinct

@@ -1,5 +1,5 @@
 -- A reader that takes one more line, or refuses it.
-use Rattle.toml_names.proofs.Common.{common_steps, ◌≡◌, ℕ, suc, ◌+◌, ◌<◌, List, [], ◌∷◌, ◌++◌, length, take, drop, Option, Some, None, option_map, slice_index_or, map, Bor, refl, sym, ap, subst, ◌∙◌, ◌⊎◌, arith, rules, length_push, get_or_at, take_at, take_all, length-take-le, append_assoc, length-map, line as tree_line, Line, NameFault, Address, IsWithin, EntersLine, Named, named, named_by, section, AreGood, IsRedefined, IsLong, own_address, line_address, Spot, address_at, IsReader, RefusesLine, StaysShort, RefusesEntry, IsShort, misfit}
+use Rattle.toml_names.proofs.Common.{common_steps, ◌≡◌, ℕ, suc, ◌+◌, ◌<◌, List, [], ◌∷◌, ◌++◌, length, take, drop, Option, Some, None, option_map, slice_index_or, map, Bor, refl, sym, ap, subst, ◌∙◌, arith, rules, length_push, get_or_at, take_at, take_all, length-take-le, append_assoc, length-map, line as tree_line, Line, NameFault, Address, IsWithin, EntersLine, Named, named, named_by, section, AreGood, IsRedefined, IsLong, own_address, line_address, Spot, address_at, IsReader, RefusesLine, StaysShort, RefusesEntry, IsShort, misfit}
 use Rattle.toml_tree.specs.declared.line.Line.{Line as TreeLine}
 use Rattle.toml_names.specs.declared.fault.NameFault.TheVariants as faults
 use Rattle.toml_names.specs.declared.tree.headers.Entered.{Entered}
@@ -90,15 +90,11 @@ module _ (old new : List Spot) (lines : List Line) (own : List (Option ℕ)) (at
   own_count : length (own ++ e.own ∷ []) ≡ length (lines ++ l ∷ [])
   own_count = omega (arith, length_push own e.own, length_push lines l, reads.own_count)
 
-  own_at : (i : ℕ) (d : Option ℕ) → i < length (own ++ e.own ∷ [])
-      → ((i < length own) × (slice_index_or (own ++ e.own ∷ []) i d ≡ slice_index_or own i d)) ⊎ ((i ≡ length lines) × (slice_index_or (own ++ e.own ∷ []) i d ≡ e.own))
-  own_at i d low = grind (arith, common_steps)
-
   own_within : (i : ℕ) (d : Option ℕ) → i < length (own ++ e.own ∷ []) → IsWithin (slice_index_or (own ++ e.own ∷ []) i d) new
   own_within i d low = grind (arith, common_steps)
 
   owns : (i : ℕ) (d : Option ℕ) → i < length (own ++ e.own ∷ []) → option_map (address_at new) (slice_index_or (own ++ e.own ∷ []) i d) ≡ line_address (named (lines ++ l ∷ [])) i
-  owns i d low = search (rules, low, own_at, own_within, own_address-kept, own_count, own_address-last)
+  owns i d low = grind (arith, common_steps, low, own_within, own_address-kept, own_count, own_address-last)
 
   pub reads-more : IsReader new (lines ++ l ∷ []) (own ++ e.own ∷ []) e.section
   reads-more = search (rules, names, own_count, own_within, owns)

@@ -5,7 +5,7 @@ use Rattle.toml_names.proofs.lemmas.mentions.FirstNamed.{values_join}
 use Rattle.toml_names.proofs.lemmas.tree.NodeAddresses.{address_at-under}
 use Rattle.toml_names.proofs.lemmas.mentions.Offences.{no_misfit}
 use Rattle.toml_names.proofs.lemmas.tree.ShortNodes.{AreShortFrom, short_nodes, short_from_nodes}
-use Rattle.toml_names.proofs.lemmas.mentions.Whole.{data_by_facts}
+use Rattle.toml_names.proofs.lemmas.mentions.OfOneKind.{data_by_facts}
 
 -- the root's address
 pub root_at : (nodes : List Spot) (ms : List Named) → IsTreeOf nodes ms → address_at nodes 0 ≡ []

@@ -2,7 +2,7 @@
 use Rattle.toml_names.proofs.Common.{common_steps, ◌≡◌, ℕ, ◌<◌, true, false, List, [], ◌∷◌, length, Option, Some, None, refl, sym, ap, subst, ◌∙◌, slice_index_or, arith, rules, same_from_push, length_push, lookup, bytes_eq, Step, Name, Index, Role, Valued, Bare, New, Address, child, Kind, is_tables, Spot, nowhere, addresses, address_at, address_under, place_of, grown, noted, IsTree, IsFound, Enters, EntersTo, Clashes, LeadsTo, KeepsElements, name_at, may_follow, IsBarred, IsNode, IsNoted}
 use Rattle.toml_names.proofs.lemmas.tree.CountsKept.{IsTreeOf-grown, IsTreeOf-noted}
 use Rattle.toml_names.proofs.lemmas.tree.Fitting.{but_counts, fits-at_node, fits-no_node}
-use Rattle.toml_names.proofs.lemmas.mentions.Misfits.{misfit-here, misfit-later}
+use Rattle.toml_names.proofs.lemmas.mentions.Offences.{misfit-here, misfit-later}
 use Rattle.toml_names.proofs.lemmas.tree.NodeAddresses.{length-addresses, address_at-under}
 use Rattle.toml_names.proofs.lemmas.tree.NodePlaces.{place_of-at}
 use Rattle.toml_names.proofs.lemmas.tree.TreeGrown.{length-grown, address-new, node-last, KeepsAddresses-grown, IsTree-grown}

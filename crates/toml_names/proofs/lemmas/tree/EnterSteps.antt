@@ -1,6 +1,6 @@
 -- What was entered, one after the other.
 use Rattle.toml_names.proofs.Common.{◌≡◌, ℕ, ◌≤◌, List, [], ◌∷◌, ◌++◌, length, Some, None, refl, sym, ap, ◌∙◌, arith, rules, append_assoc, append-nil, Address, Named, IsTree, KeepsAddresses, KeepsElements, KeepsOthers, Enters, Clashes, Spot, misfit}
-use Rattle.toml_names.proofs.lemmas.mentions.Misfits.{misfit-here, misfit-later, fits-from_misfit}
+use Rattle.toml_names.proofs.lemmas.mentions.Offences.{misfit-here, misfit-later, fits-from_misfit}
 
 -- the first misfit, where the first part has none
 pub misfit-append : (xs earlier ys : List Named) → misfit earlier xs ≡ None → misfit earlier (xs ++ ys) ≡ misfit (earlier ++ xs) ys

@@ -2,7 +2,7 @@
 use Rattle.toml_names.proofs.Common.{◌≡◌, ℕ, ◌<◌, true, cond, List, [], ◌∷◌, ◌++◌, length, Some, None, refl, ap, ◌∙◌, slice_index_or, rules, Address, fact_at, first_named, mark_after, mark_of, allows, Named, count_tables, Spot, addresses, address_at, place_of, IsTree, IsTreeOf, table_count, first_line, may_follow, fits, misfit}
 use Rattle.toml_names.proofs.lemmas.tree.EnterSteps.{misfit-append}
 use Rattle.toml_names.proofs.lemmas.mentions.Local.{AreMarked-more, mark_of-push}
-use Rattle.toml_names.proofs.lemmas.mentions.Misfits.{misfit-later}
+use Rattle.toml_names.proofs.lemmas.mentions.Offences.{misfit-later}
 use Rattle.toml_names.proofs.lemmas.tree.NodePlaces.{same_address-apart, same_address-here}
 
 -- a node at the address stands for what was named there

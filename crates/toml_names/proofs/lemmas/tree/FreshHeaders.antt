@@ -1,5 +1,5 @@
--- A header whose next name is new: all behind it is new too, so that nodes for it can be added.
-use Rattle.toml_names.proofs.Common.{ℕ, List, [], ◌∷◌, ◌++◌, length, refl, sym, subst, ◌∙◌, slice_index_or, append_assoc, append-nil, Name, Index, Header, Passed, Tables, Element, PassedFronts, Key, CanEnterHeaders, a_table, an_array, IsAbsent, Spot, grown, ◌≡◌, ◌+◌, ◌<◌, take, drop, piece, part_name}
+-- A header: its fronts that are there already, up to the first name that is new. All behind it is new too, so that nodes for it can be added.
+use Rattle.toml_names.proofs.Common.{ℕ, List, [], ◌∷◌, ◌++◌, length, refl, sym, subst, ◌∙◌, slice_index_or, append_assoc, append-nil, Name, Index, Header, Passed, Tables, Element, PassedFronts, Key, CanEnterHeaders, a_table, an_array, IsAbsent, Spot, grown, ◌≡◌, ◌+◌, ◌<◌, take, drop, piece, part_name, arith}
 use Rattle.toml_names.proofs.lemmas.tree.EnterName.{Enters-new, LeadsTo-new, KeepsElements-new}
 use Rattle.toml_names.proofs.lemmas.tree.FreshKeys.{absent-new}
 use Rattle.toml_names.proofs.lemmas.tree.HeaderLines.{table_line, tables_line}
@@ -21,13 +21,7 @@ pub record FreshEnd (old : List Spot) (line : ℕ) (key : Key) : Type 0 where
 module _ (old : List Spot) (line : ℕ) (e : Spot) where
   pub fresh_end : (ns xs : Key) (first : List ℕ) (now : List Spot) (here : ℕ) (part : List ℕ) → PassedFronts old now line here part (first ∷ xs) → IsAbsent now here part
       → FreshEnd old line (first ∷ xs ++ ns)
-  fresh_end [] xs first now here part passed absent = record {
-    then = now;
-    here = here;
-    part = part;
-    passed = subst (λ l. PassedFronts old now line here part (first ∷ l)) (sym (append-nil xs)) passed;
-    absent = absent;
-  }
+  fresh_end [] xs first now here part passed absent = grind (arith, append-nil)
   fresh_end (n ∷ ns) xs first now here part passed absent =
       let then = grown now here (slice_index_or now here e) (Name part) Passed a_table line in
       let passes = Passes-new now passed.tree here part line passed.within e (absent e) e in

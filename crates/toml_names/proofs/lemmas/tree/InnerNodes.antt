@@ -3,7 +3,7 @@ use Rattle.toml_names.proofs.Common.{◌≡◌, ℕ, ◌-◌, ◌<◌, ◌≤◌
 use Rattle.toml_names.proofs.lemmas.tree.CountsKept.{IsTreeOf-noted}
 use Rattle.toml_names.proofs.lemmas.tree.EnterName.{Enters-new, LeadsTo-new, IsKnown, known-address}
 use Rattle.toml_names.proofs.lemmas.tree.Fitting.{but_counts, fits-at_node}
-use Rattle.toml_names.proofs.lemmas.mentions.Misfits.{misfit-here, misfit-later}
+use Rattle.toml_names.proofs.lemmas.mentions.Offences.{misfit-here, misfit-later}
 use Rattle.toml_names.proofs.lemmas.tree.NodeAddresses.{length-addresses}
 use Rattle.toml_names.proofs.lemmas.tree.NodeCounts.{table_count-tables}
 use Rattle.toml_names.proofs.lemmas.tree.NodePlaces.{place_of-at}

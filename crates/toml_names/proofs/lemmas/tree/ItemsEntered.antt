@@ -1,14 +1,13 @@
 -- A value's elements, or its pairs, entered one by one: what was entered of them, and what is left.
 use Rattle.toml_names.proofs.Common.{common_steps, ◌≡◌, ℕ, ◌+◌, ◌<◌, false, List, [], ◌∷◌, ◌++◌, length, None, refl, sym, ap, subst, ◌∙◌, slice_index_or, arith, rules, append_assoc, Index, Bare, Address, element, Kind, Named, is_tables, count_tables, IsTree, IsTreeOf, KeepsOthers, Enters, Clashes, Spot, addresses, address_at, place_of, grown, misfit}
 use Rattle.toml_names.proofs.lemmas.tree.CountsKept.{IsTreeOf-grown}
-use Rattle.toml_names.proofs.lemmas.tree.ElementGrown.{index-next, index-no_name, tree-element}
-use Rattle.toml_names.proofs.lemmas.tree.EnterElement.{fresh_element, plain_from_count, count_from_lone}
+use Rattle.toml_names.proofs.lemmas.tree.ElementGrown.{index-next, index-no_name, tree-element, fresh_element, plain_from_count, count_from_lone}
 use Rattle.toml_names.proofs.lemmas.tree.EnterSteps.{misfit-append, KeepsAddresses-then, KeepsOthers-same, Enters-none, Enters-append, Clashes-later, Clashes-front}
 use Rattle.toml_names.proofs.lemmas.tree.Fitting.{but_counts, fits-no_node}
-use Rattle.toml_names.proofs.lemmas.mentions.Misfits.{misfit-later}
-use Rattle.toml_names.proofs.lemmas.mentions.NoTables.{HasNoTables, count-append, no_tables-front}
+use Rattle.toml_names.proofs.lemmas.mentions.Offences.{misfit-later}
+use Rattle.toml_names.proofs.lemmas.mentions.Within.{HasNoTables, count-append, no_tables-front}
 use Rattle.toml_names.proofs.lemmas.tree.NodeCounts.{table_count-element}
-use Rattle.toml_names.proofs.lemmas.tree.TreeGrown.{length-grown, address-new, KeepsAddresses-grown}
+use Rattle.toml_names.proofs.lemmas.tree.TreeGrown.{address-new, KeepsAddresses-grown}
 
 -- something of the whole was entered, and the rest is left
 pub record IsEntered (start now : List Spot) (whole left : List Named) : Type 0 where
@@ -108,9 +107,6 @@ module _ (start now : List Spot) (id i : ℕ) (whole : List Named) (low : id < l
 
       -- what is entered in the element leaves the others their elements
       module _ (next : List Spot) (k : ℕ) (is : k ≡ length now) (kept : KeepsOthers k after next) where
-        long : length after ≡ length now + 1
-        long = length-grown now id d (Index (length parent.elements)) Bare kind line within
-
         count_after : (e : Spot) → length (slice_index_or next id e).elements ≡ i + 1
         count_after e = grind (arith, common_steps)
 

@@ -3,7 +3,7 @@ use Rattle.toml_names.proofs.Common.{◌≡◌, ℕ, ◌<◌, ◌==◌, ◌&&◌
 use Rattle.toml_names.proofs.lemmas.mentions.AllLines.{lines_join}
 use Rattle.toml_names.proofs.lemmas.model.Equal.{same_address-self}
 use Rattle.toml_names.proofs.lemmas.mentions.Offences.{no_misfit}
-use Rattle.toml_names.proofs.lemmas.mentions.Whole.{data_by_facts}
+use Rattle.toml_names.proofs.lemmas.mentions.OfOneKind.{data_by_facts}
 use Rattle.toml_names.proofs.lemmas.reader.WholeValue.{root_at}
 
 -- a mark of a mention stays one

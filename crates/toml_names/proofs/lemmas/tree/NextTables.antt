@@ -3,7 +3,7 @@ use Rattle.toml_names.proofs.Common.{◌≡◌, ℕ, ◌+◌, ◌<◌, true, Lis
 use Rattle.toml_names.proofs.lemmas.mentions.Counting.{count_plain}
 use Rattle.toml_names.proofs.lemmas.tree.EnterSteps.{misfit-append, KeepsAddresses-then}
 use Rattle.toml_names.proofs.lemmas.tree.Fitting.{StandsButCounts, Counts, but_counts, with_counts, fits-at_node}
-use Rattle.toml_names.proofs.lemmas.mentions.Misfits.{misfit-here}
+use Rattle.toml_names.proofs.lemmas.mentions.Offences.{misfit-here}
 use Rattle.toml_names.proofs.lemmas.tree.NodeCounts.{count_here, count_elsewhere, table_count-tables}
 use Rattle.toml_names.proofs.lemmas.tree.StandsGrown.{StandsButCounts-grown}
 use Rattle.toml_names.proofs.lemmas.tree.StandsNoted.{StandsButCounts-noted, other_node}

@@ -1,5 +1,5 @@
 -- The data at a node, from the data at the nodes below it.
-use Rattle.toml_names.proofs.Common.{◌≡◌, ℕ, zero, suc, ◌+◌, ◌<◌, ◌≤◌, cond, List, [], ◌∷◌, ◌++◌, length, drop, take, get_or, Result, Ok, Err, IfOk, Option, Some, None, String, Vec, BTreeMap, Global, bytes_eq, refl, sym, ap, subst, ◌∙◌, slice_index_or, rules, append_assoc, append-nil, drop_more, take_more, take_all, get_or_default, get_or_from_slice_get, slice_get-get_or, slice_get_within, get_by_text, lookup, slice_get, ScalarValue, Step, Name, Index, Datum, Table, Address, IsOnly, kind_in, fact_at, Joined, Kind, a_table, an_array, a_scalar, Named, IsTree, IsTreeOf, Spot, addresses, address_at, place_of, nowhere}
+use Rattle.toml_names.proofs.Common.{◌≡◌, ℕ, zero, suc, ◌+◌, ◌<◌, ◌≤◌, cond, List, [], ◌∷◌, ◌++◌, length, drop, take, get_or, Result, Ok, Err, IfOk, Option, Some, None, String, Vec, BTreeMap, Global, bytes_eq, refl, sym, ap, subst, ◌∙◌, slice_index_or, rules, append_assoc, append-nil, drop_more, take_more, take_all, get_or_default, get_or_from_slice_get, slice_get-get_or, slice_get_within, get_by_text, lookup, slice_get, ScalarValue, Step, Name, Index, Datum, Table, Address, IsOnly, kind_in, fact_at, Joined, Kind, a_table, an_array, a_scalar, Named, IsTree, IsTreeOf, Spot, addresses, address_at, place_of, nowhere, vec_len, arith}
 use Rattle.toml_names.specs.declared.model.datum.Datum.{Array}
 use Rattle.toml_names.specs.tree.Finished.{IsDatumAt, IsOfKind}
 use Rattle.toml_names.proofs.lemmas.mentions.Holders.{holder, held, begins_at_root}
@@ -110,6 +110,9 @@ module _ (nodes : List Spot) (tree : IsTree nodes) (id : ℕ) (low : id < length
   below_element elements i e are there = search (rules, below_place, slice_get-get_or)
 
 -- a node that was read
+pub low_in : (nodes : Vec Spot Global) {id : ℕ} → id < vec_len nodes → id < length nodes.items
+low_in nodes low = omega (arith, nodes.ok)
+
 pub node_read : (nodes : List Spot) (id : ℕ) (s : Spot) → id < length nodes → s ≡ slice_index_or nodes id s → s ≡ slice_index_or nodes id nowhere
 node_read nodes id s low is = is ∙ get_or_default nodes id s nowhere low
 

@@ -21,9 +21,6 @@ is_step s t = by (same_step s t) refl
     by true e = inl ((same_step-decides s t).0 e)
     by false e = inr (λ h. true≢false (sym ((same_step-decides s t).1 h) ∙ e))
 
-none_below : (o : Option ℕ) → option_map (λ i. i + 1) o ≡ None → o ≡ None
-none_below o h = search rules
-
 some_below : (o : Option ℕ) (k : ℕ) → option_map (λ i. i + 1) o ≡ Some k → (i : ℕ) × (o ≡ Some i) × (k ≡ i + 1)
 some_below o k h = search rules
 

@@ -1,10 +1,10 @@
 -- The walk from the root along the steps of an address, and the place that it tells.
-use Rattle.toml_names.proofs.Common.{◌≡◌, ◌==◌, ℕ, ◌+◌, ◌<◌, ◌≤◌, Bool, true, false, List, [], ◌∷◌, ◌++◌, length, take, drop, get_or, Option, Some, None, refl, sym, ap, ◌∙◌, slice_index_or, true≢false, rules, cond-true, cond-false, take_more, take_all, take-append-drop, drop_more, drop_all, Line, Step, Role, Passed, Header, Dotted, Valued, Tables, Element, Bare, Place, Address, fact_at, Joined, mark_of, Named, named, IsTree, IsTreeOf, Spot, addresses, address_at, place_of, nowhere, same_role, first_line, line_above, in_value, place, first_of, value_line, value_there, value_along, IsWalked, own_place}
+use Rattle.toml_names.proofs.Common.{◌≡◌, ◌==◌, ℕ, ◌+◌, ◌<◌, ◌≤◌, Bool, true, false, List, [], ◌∷◌, ◌++◌, length, take, drop, get_or, Option, Some, None, refl, sym, ap, ◌∙◌, slice_index_or, true≢false, rules, cond-true, cond-false, take_more, take_all, take-append-drop, drop_more, drop_all, Line, Step, Role, Valued, Place, Address, fact_at, Joined, mark_of, Named, named, IsTree, IsTreeOf, Spot, addresses, address_at, place_of, nowhere, same_role, first_line, line_above, in_value, place, first_of, value_line, value_there, value_along, IsWalked, own_place, arith}
 use Rattle.toml_names.specs.declared.model.place.Place.TheVariants as places
 use Rattle.toml_names.proofs.lemmas.mentions.AllLines.{lines_join}
 use Rattle.toml_names.proofs.lemmas.mentions.FirstLines.{may_hold, AreHolding, holding_under_rules, none_in, first_line-none, first_none, inside-none, inside-some, outside-mark, skip}
 use Rattle.toml_names.proofs.lemmas.mentions.Holders.{begins_at_root}
-use Rattle.toml_names.proofs.lemmas.mentions.Pairs.{KeepsRules-nil, KeepsRules-from_misfit}
+use Rattle.toml_names.proofs.lemmas.mentions.Offences.{KeepsRules-nil, KeepsRules-from_misfit}
 use Rattle.toml_names.proofs.lemmas.mentions.PlacesFound.{same_role-equal}
 use Rattle.toml_names.proofs.lemmas.mentions.ValuesAbove.{front_value, value_above}
 use Rattle.toml_names.proofs.lemmas.tree.Walking.{nothing_below, own_place as own_node, leads_to, root_address}
@@ -20,8 +20,7 @@ pub way_begins : (nodes : List Spot) → IsTree nodes → (steps : Address) → 
 way_begins nodes tree steps = search (rules, root_address, own_node)
 
 first_assoc : (o p q : Option ℕ) → first_of (first_of o p) q ≡ first_of o (first_of p q)
-first_assoc None p q = refl
-first_assoc (Some l) p q = refl
+first_assoc o p q = grind arith
 
 module _ (nodes : List Spot) (tree : IsTree nodes) (steps : Address) (i here : ℕ) (value : Option ℕ) (way : IsOnWay nodes steps i here value) where
   pub way_within : here < length nodes
@@ -60,13 +59,7 @@ told_place nodes (Some (here, Some line)) = Some (places.Inside line)
 told_place nodes (Some (here, None)) = own_place (slice_index_or nodes here nowhere)
 
 holds_value : (q : Role) → may_hold q Valued ≡ same_role q Valued
-holds_value Passed = refl
-holds_value Header = refl
-holds_value Dotted = refl
-holds_value Valued = refl
-holds_value Tables = refl
-holds_value Element = refl
-holds_value Bare = refl
+holds_value q = grind arith
 
 module _ (nodes : List Spot) (ms : List Named) (stands : IsTreeOf nodes ms) (joined : Joined ms) where
   holding : AreHolding ms

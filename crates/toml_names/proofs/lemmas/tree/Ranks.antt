@@ -89,9 +89,6 @@ pub role_read : (nodes : List Spot) (i : ℕ) (node : Spot) → i < length nodes
 role_read nodes i node low is = ap (λ (s : Spot). is_mentioned s.role) (sym (get_or_read nodes i node low is nowhere))
 
 module _ (nodes : List Spot) (ranks : List ℕ) (count i : ℕ) (node : Spot) (low : i < length nodes) (is : node ≡ slice_index_or nodes i node) (ranked : AreRanked nodes ranks count i) where
-  each_more : (k : ℕ) → k < i + 1 → get_or (ranks ++ count ∷ []) k 0 ≡ length (mentioned_upto nodes k)
-  each_more k h1 = grind (arith, common_steps)
-
   pub ranked_mention : is_mentioned node.role ≡ true → AreRanked nodes (ranks ++ count ∷ []) (count + 1) (i + 1)
   ranked_mention mention = grind (arith, common_steps)
 
@@ -101,10 +98,7 @@ module _ (nodes : List Spot) (ranks : List ℕ) (count i : ℕ) (node : Spot) (l
 pub ranked_all : (nodes : List Spot) (ranks : List ℕ) (count i : ℕ) → length nodes ≤ i → AreRanked nodes ranks count i
     → (ms : List Named) (k : ℕ) (d : Spot) → IsTreeOf nodes ms → Joined ms → k < length nodes → ((slice_index_or nodes k d).role ≡ Bare → ⊥)
     → slice_get (first_mentions ms) (slice_index_or ranks k 0) ≡ Some (address_at nodes k)
-ranked_all nodes ranks count i past ranked ms k d stands joined low other =
-    ap (slice_get (first_mentions ms)) (ranked.each k (omega arith))
-    ∙ ap (λ l. slice_get l (length (mentioned_upto nodes k))) (sym (upto-first_mentions nodes ms stands joined))
-    ∙ stands_at_rank nodes k low (λ bare. other (ap (λ (s : Spot). s.role) (get_or_default nodes k d nowhere low) ∙ bare))
+ranked_all nodes ranks count i past ranked ms k d stands joined low other = grind (arith, upto-first_mentions, stands_at_rank, get_or_default)
 
 -- ---- the first mentions among so many nodes
 pub listed_all : (nodes : List Spot) (list : List Address) (i : ℕ) → length nodes ≤ i → i ≤ length nodes → list ≡ mentioned_upto nodes i

@@ -1,11 +1,11 @@
 -- The nodes with one more stand for what was named with one more mention, where its address had no node.
 use Rattle.toml_names.proofs.Common.{◌≡◌, ℕ, ◌+◌, ◌<◌, List, [], ◌∷◌, ◌++◌, length, Some, None, refl, sym, ap, ◌∙◌, slice_index_or, ◌⊎◌, inl, inr, rules, Step, Name, Index, Role, Bare, Address, mark_after, Kind, Named, Spot, addresses, address_at, place_of, leaf, linked, grown}
-use Rattle.toml_names.proofs.lemmas.mentions.FirstMore.{first-new}
+use Rattle.toml_names.proofs.lemmas.mentions.FirstMentioned.{first-new}
 use Rattle.toml_names.proofs.lemmas.tree.Fitting.{Stands, StandsButCounts, mark_here, mark_elsewhere, fits-no_node, good_more}
 use Rattle.toml_names.proofs.lemmas.mentions.LineMore.{line_elsewhere, line_new, line_absent}
 use Rattle.toml_names.proofs.lemmas.tree.NodeCounts.{count_elsewhere}
 use Rattle.toml_names.proofs.lemmas.tree.NodePlaces.{none_is_some, none_before}
-use Rattle.toml_names.proofs.lemmas.mentions.Pushed.{fact_new, fact_other}
+use Rattle.toml_names.proofs.lemmas.mentions.FactAt.{fact_new, fact_other}
 use Rattle.toml_names.proofs.lemmas.tree.TreeGrown.{own_place, addresses-grown, address-old, address-new, node-last, node-above, node-other, node-parts, IsTree-grown}
 
 -- a mention of another address

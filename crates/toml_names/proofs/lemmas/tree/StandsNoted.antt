@@ -1,12 +1,11 @@
 -- The nodes, one named once more, stand for what was named with that mention.
 use Rattle.toml_names.proofs.Common.{◌≡◌, true, ℕ, ◌<◌, List, [], ◌∷◌, ◌++◌, length, Some, None, sym, ap, subst, ◌∙◌, slice_index_or, ◌⊎◌, inl, inr, rules, cases_eq, Address, fact_at, Named, Spot, addresses, address_at, place_of, marked, noted, may_follow}
-use Rattle.toml_names.proofs.lemmas.mentions.FactAt.{fact_kept}
-use Rattle.toml_names.proofs.lemmas.mentions.FirstMore.{first-again}
+use Rattle.toml_names.proofs.lemmas.mentions.FactAt.{fact_kept, fact_other}
+use Rattle.toml_names.proofs.lemmas.mentions.FirstMentioned.{first-again}
 use Rattle.toml_names.proofs.lemmas.tree.Fitting.{Stands, StandsButCounts, mark_here, mark_elsewhere, fits-at_node, good_more}
 use Rattle.toml_names.proofs.lemmas.mentions.LineMore.{line_noted}
 use Rattle.toml_names.proofs.lemmas.tree.NodeCounts.{count_elsewhere}
 use Rattle.toml_names.proofs.lemmas.tree.NodePlaces.{none_is_some}
-use Rattle.toml_names.proofs.lemmas.mentions.Pushed.{fact_other}
 use Rattle.toml_names.proofs.lemmas.tree.StandsGrown.{stands_elsewhere}
 use Rattle.toml_names.proofs.lemmas.tree.TreeGrown.{own_place}
 use Rattle.toml_names.proofs.lemmas.tree.TreeNoted.{addresses-noted, length-noted, address-noted, node-noted, node-beside, IsTree-noted}

@@ -1,5 +1,5 @@
--- One more node keeps the tree.
-use Rattle.toml_names.proofs.Common.{common_steps, ◌≡◌, ℕ, ◌+◌, ◌<◌, List, [], ◌∷◌, ◌++◌, length, Some, None, sym, ap, ◌∙◌, arith, slice_get, slice_set, slice_index_or, ◌⊎◌, inl, inr, rules, get_or_append_left, get_or_at, get_or-set_same, get_or-set_other, length-set, length_push, same_Some, lookup, bytes_eq, Step, Name, Index, Role, Bare, Address, child, element, Kind, IsTree, KeepsAddresses, Spot, addresses, address_at, place_of, leaf, linked, grown, cond, refl, length-append, same_from_push, AreNested, ◌≤◌, Option, cases_lt, false_from_ne_true, slice_get-get_or, slice_get_past}
+-- One more node keeps the tree: the addresses stay nested, and what leads from a node gets one more name or element.
+use Rattle.toml_names.proofs.Common.{common_steps, ◌≡◌, ℕ, ◌+◌, ◌<◌, List, [], ◌∷◌, ◌++◌, length, Some, None, sym, ap, ◌∙◌, arith, slice_get, slice_set, slice_index_or, ◌⊎◌, inl, inr, rules, get_or_append_left, get_or_at, get_or-set_same, get_or-set_other, length-set, length_push, same_Some, lookup, bytes_eq, Step, Name, Index, Role, Bare, Address, child, Kind, IsTree, KeepsAddresses, Spot, addresses, address_at, place_of, leaf, linked, grown, cond, refl, length-append, same_from_push, AreNested, ◌≤◌, Option, cases_lt, false_from_ne_true, slice_get-get_or, slice_get_past}
 use Rattle.toml_names.proofs.lemmas.tree.Hanging.{Hangs}
 use Rattle.toml_names.proofs.lemmas.tree.NodeAddresses.{addresses-push, addresses-set, length-addresses}
 use Rattle.toml_names.proofs.lemmas.tree.NodePlaces.{is_step, place_of-push, none_is_some, same_address-apart, same_address-here}
@@ -155,20 +155,14 @@ module _ (nodes : List Spot) (p : ℕ) (d : Spot) (s : Step) (r : Role) (kind : 
             name-new parent s (length nodes) n is none ∙ sym (to_new (Name n) is)
         by (inr apart) = name-old parent s (length nodes) n apart ∙ tree.names p d n low ∙ sym (from_above (Name n) apart)
 
-    index_leads : (i : ℕ) → slice_get above.elements i ≡ place_of (element (address_at nodes p) i) all
-    index_leads i = search (rules, is_step, index-new, to_new, slice_get-old, from_above)
-
     hangs_above : Hangs all p (address_at nodes p) above
-    hangs_above = search (rules, name_leads, index_leads, linked-under, linked-role)
+    hangs_above = search (rules, name_leads, is_step, index-new, to_new, slice_get-old, from_above, linked-under, linked-role)
 
     hangs_other : (k : ℕ) (e : Spot) → k < length nodes → (k ≡ p → ⊥) → Hangs all k (address_at nodes k) (slice_index_or nodes k e)
     hangs_other k e within apart = search (rules, elsewhere)
-
-    all_hang : (k : ℕ) (e : Spot) → k < length after → Hangs all k (address_at after k) (slice_index_or after k e)
-    all_hang k e high = search (rules, node-parts, address-new, node-last, place-below, there, same_Some, length_push, node-above, address-old, hangs_above, node-other, hangs_other)
 
     root_after : (e : Spot) → (slice_index_or after 0 e).under ≡ None
     root_after e = grind (arith, common_steps)
 
     pub IsTree-grown : IsTree after
-    IsTree-grown = search (rules, addresses-grown, AreNested-push, there, length-grown, root_after, all_hang)
+    IsTree-grown = search (rules, addresses-grown, AreNested-push, there, length-grown, root_after, node-parts, address-new, node-last, place-below, same_Some, length_push, node-above, address-old, hangs_above, node-other, hangs_other)

@@ -1,6 +1,5 @@
 -- A node that is named once more keeps the tree.
 use Rattle.toml_names.proofs.Common.{common_steps, ◌≡◌, ℕ, ◌<◌, List, [], length, None, refl, ap, arith, slice_index_or, rules, get_or-set_same, get_or-set_other, length-set, Role, IsTree, KeepsAddresses, KeepsElements, Spot, addresses, address_at, marked, noted}
-use Rattle.toml_names.proofs.lemmas.tree.Hanging.{Hangs}
 use Rattle.toml_names.proofs.lemmas.tree.NodeAddresses.{addresses-set}
 
 module _ (nodes : List Spot) (k : ℕ) (d : Spot) (r : Role) (line : ℕ) (low : k < length nodes) where
@@ -32,11 +31,8 @@ module _ (nodes : List Spot) (k : ℕ) (d : Spot) (r : Role) (line : ℕ) (low :
   KeepsElements-noted = grind (arith, common_steps)
 
   module _ (tree : IsTree nodes) where
-    all_hang : (j : ℕ) (e : Spot) → j < length nodes → Hangs (addresses nodes) j (address_at nodes j) (slice_index_or after j e)
-    all_hang j e within = search rules
-
     root_after : (e : Spot) → (slice_index_or after 0 e).under ≡ None
     root_after e = search rules
 
     pub IsTree-noted : IsTree after
-    IsTree-noted = search (rules, addresses-noted, length-noted, root_after, address-noted, all_hang)
+    IsTree-noted = search (rules, addresses-noted, length-noted, root_after, address-noted)

@@ -1,5 +1,5 @@
 -- A change that is reverted leaves the nodes as they were.
-use Rattle.toml_names.proofs.Common.{◌≡◌, ℕ, ◌-◌, ◌<◌, List, [], ◌∷◌, ◌++◌, length, refl, sym, ap, ◌∙◌, take, slice_index_or, slice_set, arith, rules, length_push, take_at, set-set, set-get_or, get_or-set_same, get_or_default, Name, Index, Role, Change, Spot, nowhere, linked, remarked, without_name, without_element, reverted, undone}
+use Rattle.toml_names.proofs.Common.{◌≡◌, ℕ, ◌-◌, ◌<◌, List, [], ◌∷◌, ◌++◌, length, refl, ap, ◌∙◌, take, slice_index_or, slice_set, arith, rules, length_push, take_at, set-set, set-get_or, get_or-set_same, get_or_default, Name, Index, Role, Change, Spot, nowhere, linked, remarked, without_name, without_element, reverted, undone}
 use Rattle.toml_names.specs.declared.tree.name_tree.Change.TheVariants.{NameLinked, ElementLinked, RoleNoted}
 
 pub undone-push : (cs : List Change) (c : Change) (nodes : List Spot) → undone (cs ++ c ∷ []) nodes ≡ undone cs (reverted c nodes)
@@ -42,9 +42,4 @@ module _ (nodes : List Spot) (v : Spot) (p : ℕ) (low : p < length nodes) (read
     -- `w` is what it read again
     pub undone-noted : (w after : Spot) (was is : Role) (of_line line : ℕ) → w ≡ slice_index_or nodes p w → was ≡ v.role → of_line ≡ v.line → after ≡ remarked w is line
         → ds ≡ cs ++ RoleNoted p was of_line ∷ [] → undone ds (slice_set nodes p after) ≡ undone cs nodes
-    undone-noted w after was is of_line line again role from made pushed =
-        let same : w ≡ v = again ∙ get_or_default nodes p w v low ∙ sym read in
-        ap (λ l. undone l (slice_set nodes p after)) (pushed ∙ ap (λ t. cs ++ RoleNoted p t of_line ∷ []) role ∙ ap (λ t. cs ++ RoleNoted p v.role t ∷ []) from)
-        ∙ undone-push cs (RoleNoted p v.role v.line) (slice_set nodes p after)
-        ∙ ap (λ s. undone cs (reverted (RoleNoted p v.role v.line) (slice_set nodes p s))) (made ∙ ap (λ s. remarked s is line) same)
-        ∙ ap (undone cs) (reverted-role is line)
+    undone-noted w after was is of_line line again role from made pushed = grind (arith, get_or_default, undone-push, reverted-role)

@@ -11,7 +11,7 @@ use Rattle.toml_tree.specs.Tree as tree
 use Rattle.toml_tree.specs.View.{element as tree_element}
 use Rattle.toml_names.proofs.lemmas.mentions.Inside.{element_named, elements_of, members_of, inside-array, inside-inline}
 use Rattle.toml_names.proofs.lemmas.tree.ItemsEntered.{IsEntered, HasElements, entered-none, entered-more, entered-clash, entered-element, element-address, has-element}
-use Rattle.toml_names.proofs.lemmas.mentions.NoTables.{no_tables-inside}
+use Rattle.toml_names.proofs.lemmas.mentions.Within.{no_tables-inside}
 use Rattle.toml_names.proofs.lemmas.mentions.PartsInside.{parts_of_elements, parts_of_members, parts-array, parts-inline_table}
 
 -- an item's element, and a pair's member

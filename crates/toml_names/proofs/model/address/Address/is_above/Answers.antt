@@ -1,5 +1,5 @@
 use Rattle.toml_names.proofs.Common.{length, sym, ap, ◌∙◌, arith}
-use Rattle.toml_names.proofs.lemmas.model.Above.{above_short, above_end}
+use Rattle.toml_names.proofs.lemmas.model.Equal.{above_short, above_end}
 use Rattle.toml_names.proofs.model.address.Address.is_above.Goals as goal
 
 pub returns-then-len : goal.returns-then-len

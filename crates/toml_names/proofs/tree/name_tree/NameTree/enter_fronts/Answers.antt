@@ -1,7 +1,7 @@
 use Rattle.toml_names.proofs.Common.{◌≡◌, ◌+◌, ◌∷◌, ap, subst, length, true, arith, err_from_is_err_and, piece, part_name, CanEnter, FollowedFronts, key_named, fronts, Clashes, IsAbsent, nowhere, address_at}
 use Rattle.toml_names.proofs.lemmas.mentions.Along.{names_left}
 use Rattle.toml_names.proofs.lemmas.tree.EnterFronts.{all-named, FollowedFronts-first, FollowedFronts-more, Clashes-fronts}
-use Rattle.toml_names.proofs.lemmas.tree.KnownFronts.{followed-fresh}
+use Rattle.toml_names.proofs.lemmas.tree.FreshKeys.{followed-fresh}
 use Rattle.toml_names.proofs.lemmas.tree.Steps.{GoesOn-same, GoesOn-within, GoesOn-then, refuses}
 use Rattle.toml_names.proofs.tree.name_tree.NameTree.enter_fronts.Goals as goal
 

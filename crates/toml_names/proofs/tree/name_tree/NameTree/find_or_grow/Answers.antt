@@ -1,6 +1,6 @@
 use Rattle.toml_names.proofs.Common.{◌≡◌, ap, ◌∙◌, subst, List, IfNone, slice_index_or, Vec, Global, arith, rules, cow_str_bytes, Name, Change, linked, undone}
 use Rattle.toml_names.specs.declared.tree.node.Node.{Node}
-use Rattle.toml_names.proofs.lemmas.tree.Depths.{depth_read}
+use Rattle.toml_names.proofs.lemmas.tree.NodeAddresses.{depth_read}
 use Rattle.toml_names.proofs.lemmas.tree.Undo.{undone-grown_name}
 use Rattle.toml_names.proofs.tree.name_tree.NameTree.find_or_grow.Goals as goal
 

@@ -1,18 +1,12 @@
 -- What the code makes of the nodes where it links a new one.
-use Rattle.toml_names.proofs.Common.{ap, ◌∙◌, List, length, slice_index_or, arith, rules, Index, Change, grown, undone, kind as kind_of, common_steps, ◌≡◌, ℕ, ◌+◌, ◌<◌, [], ◌∷◌, ◌++◌, Some, slice_set, get_or_default, Step, Role, Kind, Spot, leaf, linked}
-use Rattle.toml_names.proofs.lemmas.tree.Depths.{depth_read}
+use Rattle.toml_names.proofs.Common.{ap, ◌∙◌, List, length, slice_index_or, arith, rules, Index, Change, grown, undone, kind as kind_of, common_steps, ◌≡◌, ℕ, ◌+◌, ◌<◌, [], ◌∷◌, ◌++◌, Some, slice_set, Role, Kind, Spot, leaf, linked}
+use Rattle.toml_names.proofs.lemmas.tree.NodeAddresses.{depth_read}
 use Rattle.toml_names.proofs.lemmas.tree.Undo.{undone-grown_element}
 use Rattle.toml_names.proofs.tree.name_tree.NameTree.grow_element.Goals as goal
 
 -- `v` is what it read at the node `p`, `after` what it wrote back, `m` the new node
 module _ (nodes : List Spot) (v : Spot) (p : ℕ) (low : p < length nodes) (read : v ≡ slice_index_or nodes p v) (r : Role) (k : Kind) (line : ℕ) where
   module _ (m after : Spot) (id depth : ℕ) (is : id ≡ length nodes) (deep : depth ≡ v.depth) (more : List Spot) (grew : more ≡ slice_set nodes p after ++ m ∷ []) where
-    grows : (s : Step) → after ≡ linked v s id → m ≡ leaf (Some (p, s)) (depth + 1) r k line → more ≡ grown nodes p v s r k line
-    grows s made new = cc
-
-    whatever : (d : Spot) → v ≡ slice_index_or nodes p d
-    whatever d = read ∙ get_or_default nodes p v d low
-
     grows-element : (i : ℕ) → i ≡ length v.elements → after ≡ linked v (Index i) id → m ≡ leaf (Some (p, Index i)) (depth + 1) r k line
         → (d : Spot) → more ≡ grown nodes p (slice_index_or nodes p d) (Index (length (slice_index_or nodes p d).elements)) r k line
     grows-element i last made new d = grind (arith, common_steps)
