@@ -1,5 +1,5 @@
 -- The words that most proofs cite, passed on from one place: the library's, the text's and the tree's, and this crate's. It declares nothing.
-pub use Rattle.std.proofs.Common.{◌≡◌, zero, suc, ◌⊎◌, inl, inr, List, [], ◌∷◌, ◌++◌, All, Any, AllPairs, refl, sym, subst, arith, ◌+◌, Some, string_cmp, string_bytes, cond, bytes_eq, ap, ◌∙◌, ℕ, ◌<◌, slice_get, None, is_some, below_more, true≢false, drop, Option, option_copied, IsSome, rules, take, length, length-append, ◌↔◌, ◌≤◌, Bool, true, false, IsTrue, String, Vec, Global, nat_cmp, is_eq, ⊎_elim, map, BTreeMap, Bor, append-nil, ◌-◌, ◌==◌, ◌&&◌, append_assoc, set, get_or, Box, slice_index_or, Result, Ok, Err, IfOk, filter, add-one, option_map, slice_set, MatchOption, OnErr, IfSome, IfNone, ltb, ◌||◌, ap₂, not, le_refl, Contains, option_and_then, MatchBool, tests, vec_len, option_to_list, ◌*◌}
+pub use Rattle.std.proofs.Common.{◌≡◌, zero, suc, ◌⊎◌, inl, inr, List, [], ◌∷◌, ◌++◌, All, Any, AllPairs, refl, sym, subst, arith, ◌+◌, Some, string_cmp, string_bytes, cond, bytes_eq, ap, ◌∙◌, ℕ, ◌<◌, slice_get, None, is_some, below_more, true≢false, drop, Option, option_copied, IsSome, rules, take, length, length-append, ◌↔◌, ◌≤◌, Bool, true, false, IsTrue, String, Vec, Global, nat_cmp, is_eq, ⊎_elim, map, BTreeMap, Bor, append-nil, ◌-◌, ◌==◌, ◌&&◌, append_assoc, set, get_or, Box, slice_index_or, Result, Ok, Err, IfOk, filter, add-one, option_map, slice_set, MatchOption, OnErr, IfSome, IfNone, ltb, ◌||◌, ap₂, not, le_refl, Contains, option_and_then, MatchBool, tests, vec_len, ◌*◌}
 pub use Rattle.std.proofs.lemmas.Bool.{cases_lt, eqb-true, eq-eqb, false_from_ne_true, cases_eq, cond-false, false≢true, cond-true, ne_eqb, cases_order}
 pub use Rattle.std.proofs.lemmas.Bool.Decides.{nat_tests, Decides-ltb}
 pub use Rattle.std.proofs.lemmas.Grind.{common_steps}

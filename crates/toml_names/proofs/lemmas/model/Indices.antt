@@ -8,6 +8,9 @@ use Rattle.toml_names.proofs.Each.{each_append}
 use Rattle.toml_names.proofs.lemmas.mentions.Within.{count-append, no_tables-pair}
 use Rattle.toml_tree.specs.Parts.{size}
 
+sizes_add_four : (a b c d : List Part) → size (a ++ (b ++ (c ++ d))) ≡ size a + (size b + (size c + size d))
+sizes_add_four a b c d = omega (arith, sizes_add a (b ++ (c ++ d)), sizes_add b (c ++ d), sizes_add c d)
+
 module _ (n : ℕ) where
   abbrev AllLow : List Named → Type 0
   AllLow = EachIs (λ m. IsLow n m.address)
@@ -42,36 +45,24 @@ module _ (n : ℕ) where
     elements_low : (line : ℕ) (items : Items) (at : Address) (i : ℕ) → IsLow n at → i + size (items_parts items) ≤ n → AllLow (elements line at i items)
     elements_low line (Close g) at i low fits = tt
     elements_low line (Last g v h) at i low fits =
-        let end = symbol (0x5D ∷ []) ∷ [] in
-        let one = sizes_add (gap_parts g) (value_parts v ++ (gap_parts h ++ end)) in
-        let two = sizes_add (value_parts v) (gap_parts h ++ end) in
-        let three = sizes_add (gap_parts h) end in
-        let here = low_element at i low (omega (arith, one, two, three)) in
-        (here, inside_low line v (element at i) here (omega (arith, one, two, three)))
+        let all = sizes_add_four (gap_parts g) (value_parts v) (gap_parts h) (symbol (0x5D ∷ []) ∷ []) in
+        let here = low_element at i low (omega (arith, all)) in
+        (here, inside_low line v (element at i) here (omega (arith, all)))
     elements_low line (More g v h is) at i low fits =
-        let end = symbol (0x2C ∷ []) ∷ items_parts is in
-        let one = sizes_add (gap_parts g) (value_parts v ++ (gap_parts h ++ end)) in
-        let two = sizes_add (value_parts v) (gap_parts h ++ end) in
-        let three = sizes_add (gap_parts h) end in
-        let here = low_element at i low (omega (arith, one, two, three)) in
-        (here, each_append (λ m. IsLow n m.address) (inside line (element at i) v) (elements line at (i + 1) is) (inside_low line v (element at i) here (omega (arith, one, two, three))) (elements_low line is at (i + 1) low (omega (arith, one, two, three))))
+        let all = sizes_add_four (gap_parts g) (value_parts v) (gap_parts h) (symbol (0x2C ∷ []) ∷ items_parts is) in
+        let here = low_element at i low (omega (arith, all)) in
+        (here, each_append (λ m. IsLow n m.address) (inside line (element at i) v) (elements line at (i + 1) is) (inside_low line v (element at i) here (omega (arith, all))) (elements_low line is at (i + 1) low (omega (arith, all))))
 
     members_low : (line : ℕ) (pairs : Pairs) (at : Address) → IsLow n at → size (pairs_parts pairs) ≤ n → AllLow (members line at pairs)
     members_low line (ClosePairs g) at low fits = tt
     members_low line (LastPair g a v h) at low fits =
-        let end = symbol (0x7D ∷ []) ∷ [] in
-        let one = sizes_add (gap_parts g) (assign_parts a ++ (value_parts v ++ (gap_parts h ++ end))) in
-        let two = sizes_add (assign_parts a) (value_parts v ++ (gap_parts h ++ end)) in
-        let three = sizes_add (value_parts v) (gap_parts h ++ end) in
-        pair_low line a v at low (λ to at_low. inside_low line v to at_low (omega (arith, one, two, three)))
+        let all = sizes_add_four (gap_parts g) (assign_parts a) (value_parts v) (gap_parts h ++ symbol (0x7D ∷ []) ∷ []) in
+        pair_low line a v at low (λ to at_low. inside_low line v to at_low (omega (arith, all)))
     members_low line (MorePairs g a v h ps) at low fits =
         let end = symbol (0x2C ∷ []) ∷ pairs_parts ps in
-        let one = sizes_add (gap_parts g) (assign_parts a ++ (value_parts v ++ (gap_parts h ++ end))) in
-        let two = sizes_add (assign_parts a) (value_parts v ++ (gap_parts h ++ end)) in
-        let three = sizes_add (value_parts v) (gap_parts h ++ end) in
-        let four = sizes_add (gap_parts h) end in
-        let fit : size (value_parts v) ≤ n = omega (arith, one, two, three) in
-        let rest : size (pairs_parts ps) ≤ n = omega (arith, one, two, three, four) in
+        let all = sizes_add_four (gap_parts g) (assign_parts a) (value_parts v) (gap_parts h ++ end) in
+        let fit : size (value_parts v) ≤ n = omega (arith, all) in
+        let rest : size (pairs_parts ps) ≤ n = omega (arith, all, sizes_add (gap_parts h) end) in
         each_append (λ m. IsLow n m.address) (pair_named line at a v) (members line at ps) (pair_low line a v at low (λ to at_low. inside_low line v to at_low fit)) (members_low line ps at low rest)
 
   -- ---- headers
@@ -101,11 +92,7 @@ followed_counts : (ns : Key) (name : List ℕ) (line : ℕ) (xs : List Named) (e
 followed_counts [] name line xs end at q ends = ends (child at name)
 followed_counts (m ∷ ns) name line xs end at q ends =
     let here = entered xs (child at name) in
-    let rest = followed line xs end here (m ∷ ns) in
-    let passed = adds_none (table_at line Passed here) q refl in
-    let all = count_cons (table_at line Passed here) rest q in
-    let later = followed_counts ns m line xs end here q ends in
-    omega (arith, passed, all, later)
+    omega (arith, adds_none (table_at line Passed here) q refl, count_cons (table_at line Passed here) (followed line xs end here (m ∷ ns)) q, followed_counts ns m line xs end here q ends)
 
 table_counts : (line : ℕ) (q here : Address) → count_tables (ends_table line here) q ≤ 1
 table_counts line q here = search rules
@@ -127,13 +114,9 @@ new_counts : (xs : List Named) (line : ℕ) (e : Expr) (q : Address) → count_t
 new_counts xs line (BlankLine b) q = let none : count_tables [] q ≡ 0 = refl in omega arith
 new_counts xs line (KeyValLine ws kv tail) q = let none = no_tables-pair line (section xs) kv.assign kv.value q in omega (arith, none)
 new_counts xs line (TableLine ws header tail) q =
-    let one = followed_counts (rest_names header.key.rest) (part_name header.key.first) line xs (ends_table line) [] q (table_counts line q) in
-    let some = table_some ws header tail in
-    omega (arith, one, some)
+    omega (arith, followed_counts (rest_names header.key.rest) (part_name header.key.first) line xs (ends_table line) [] q (table_counts line q), table_some ws header tail)
 new_counts xs line (ArrayTableLine ws header tail) q =
-    let one = followed_counts (rest_names header.key.rest) (part_name header.key.first) line xs (ends_tables line xs) [] q (tables_counts line xs q) in
-    let some = tables_some ws header tail in
-    omega (arith, one, some)
+    omega (arith, followed_counts (rest_names header.key.rest) (part_name header.key.first) line xs (ends_tables line xs) [] q (tables_counts line xs q), tables_some ws header tail)
 
 -- ---- lines
 
@@ -149,9 +132,8 @@ module _ (n : ℕ) where
   line_low xs line (TableLine ws header tail) used low counted fits =
       followed_low n (rest_names header.key.rest) (part_name header.key.first) line xs used (ends_table line) [] counted (omega (arith, fits)) (λ here h. (h, tt)) tt
   line_low xs line (ArrayTableLine ws header tail) used low counted fits =
-      let some = tables_some ws header tail in
       followed_low n (rest_names header.key.rest) (part_name header.key.first) line xs used (ends_tables line xs) [] counted (omega (arith, fits))
-      (λ here h. (h, (low_element n here (count_tables xs here) h (let count = counted here in omega (arith, count, fits, some)), tt))) tt
+      (λ here h. (h, (low_element n here (count_tables xs here) h (let count = counted here in omega (arith, count, fits, tables_some ws header tail)), tt))) tt
 
   lines_low : (ls : List Line) (xs : List Named) (line used : ℕ) → AllLow n xs → ((q : Address) → count_tables xs q ≤ used) → used + size (lines_parts ls) ≤ n → AllLow n (named_from xs line ls)
   lines_low [] xs line used low counted fits = low
@@ -167,16 +149,13 @@ module _ (n : ℕ) where
 pub indices_are_low : IndicesAreLow
 indices_are_low d text spells =
     let mark = length (mark_of text) in
-    let long = length-drop mark text in
     let same : size (lines_parts d.lines) ≡ length (drop mark text) = ap length spells.lines.text_is in
-    lines_low (length text) d.lines (root ∷ []) 0 0 (tt, tt) root_counts (omega (arith, long, same))
+    lines_low (length text) d.lines (root ∷ []) 0 0 (tt, tt) root_counts (omega (arith, length-drop mark text, same))
   where
     root_counts : (q : Address) → count_tables (root ∷ []) q ≤ 0
     root_counts q =
-        let one = adds_none root q refl in
-        let all = count_cons root [] q in
         let none : count_tables [] q ≡ 0 = refl in
-        omega (arith, one, all, none)
+        omega (arith, adds_none root q refl, count_cons root [] q, none)
 
 pub value_indices_are_low : ValueIndicesAreLow
 value_indices_are_low v at text spells =

@@ -31,10 +31,7 @@ end_longer : (ms : List Named) (key : Key) (at : Address) → length at + length
 end_longer ms [] at = omega arith
 end_longer ms (n ∷ []) at = let long = length_push at (Name n) in omega (arith, long)
 end_longer ms (n ∷ m ∷ more) at =
-    let first = length_push at (Name n) in
-    let then = entered_longer ms (child at n) in
-    let rest = end_longer ms (m ∷ more) (entered ms (child at n)) in
-    omega (arith, first, then, rest)
+    omega (arith, length_push at (Name n), entered_longer ms (child at n), end_longer ms (m ∷ more) (entered ms (child at n)))
 
 module _ (old new : List Spot) (at line id table : ℕ) (e : Expr) where
   long_entry : (own : List Named → Address) → EntersLine old new at line e (record { own = Some id; section = table })
@@ -51,10 +48,7 @@ module _ (old : List Spot) (at line : ℕ) (ws : Piece) (tail : Blank) where
         let own = value_named line Valued (below (section ms) key) pair.value in
         let within = inside line (below (section ms) key) pair.value in
         let few = All-head OfShort own within (IsShort-behind (fronts line (section ms) key) (own ∷ within) (IsShort-behind ms (pair_named line (section ms) pair.assign pair.value) short)) in
-        let steps = length-append (section ms) (map Name key) in
-        let names = length-map key Name in
-        let from = ap length here in
-        absurd (omega (arith, few, steps, names, from, long)),
+        absurd (omega (arith, few, length-append (section ms) (map Name key), length-map key Name, ap length here, long)),
   )
 
   pub long_table : (header : Header)
@@ -71,6 +65,4 @@ module _ (old : List Spot) (at line : ℕ) (ws : Piece) (tail : Blank) where
       long_entry old new at line id id (ArrayTableLine ws header tail) _ (tables_entered old new at line id ws header tail enters) (λ ms. refl)
       (λ ms here.
       let end = header_end ms [] (key_names header.key) in
-      let more = end_longer ms (key_names header.key) [] in
-      let last = length_push end (Index (count_tables ms end)) in
-      omega (arith, long, more, last))
+      omega (arith, long, end_longer ms (key_names header.key) [], length_push end (Index (count_tables ms end))))

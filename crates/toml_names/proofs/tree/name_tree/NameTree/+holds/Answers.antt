@@ -1,4 +1,4 @@
-use Rattle.toml_names.proofs.Common.{◌≡◌, ◌<◌, ◌+◌, ◌==◌, ℕ, [], List, length, is_some, Some, IsSome, string_bytes, string_cmp, slice_index_or, below_more, sym, ap, subst, ◌∙◌, refl, true≢false, arith, All-turn, slice_get-get_or, slice_get_read, get, lookup, deref_pair, slice_get, bytes_eq, scalar_of, Holds, a_table, an_array, a_scalar, value_or_empty, AreDistinct, Spot, nowhere}
+use Rattle.toml_names.proofs.Common.{◌≡◌, ◌<◌, ◌+◌, ◌==◌, ℕ, [], List, length, is_some, Some, IsSome, string_bytes, string_cmp, slice_index_or, sym, ap, subst, ◌∙◌, refl, true≢false, arith, All-turn, slice_get-get_or, slice_get_read, get, lookup, deref_pair, slice_get, bytes_eq, scalar_of, Holds, a_table, an_array, a_scalar, value_or_empty, Spot, nowhere, rules}
 use Rattle.toml_names.proofs.lemmas.model.Alike.{accepted, refused, each_none}
 use Rattle.toml_names.proofs.lemmas.tree.Held.{IsHeldIn, held_part, items_held, array_count, members_held, scalar_told, scalar_held, scalar_bare, table_bare, table_parts, table_count, found_too, no_length, none_counted, not_there, array_bare, array_parts, array_held, no_table, no_array, no_scalar}
 use Rattle.toml_names.proofs.lemmas.tree.NodeData.{low_in, below_name, below_element, node_read, kind_read}
@@ -56,16 +56,10 @@ holds_items-returns-then-elements-len t c =
     let elements = c.elements-elements.ensures ∙ ap (λ (s : Spot). s.elements) (node_read nodes c.args.id c.index.result.now (low_in c.args.self.now.nodes c.requires.within) c.index.ensures) in
     refused (λ holds.
     let count = array_count nodes c.requires.tree c.args.id (low_in c.args.self.now.nodes c.requires.within) c.args.items.now holds in
-    let one = ap length elements in
-    c.if-elements-len.true (omega (arith, one, count, c.len.ensures, c.args.items.now.ok)))
+    c.if-elements-len.true (omega (arith, ap length elements, count, c.len.ensures, c.args.items.now.ok)))
 
 pub holds_items-holds-requires : goal.holds_items-holds-requires
-holds_items-holds-requires t c =
-    let nodes = c.args.self.now.nodes.items in
-    let elements = c.elements-elements.ensures ∙ ap (λ (s : Spot). s.elements) (node_read nodes c.args.id c.index.result.now (low_in c.args.self.now.nodes c.requires.within) c.index.ensures) in
-    let inside : c.loop-index.index < length c.elements-elements.result.now = omega (arith, c.loop-index-test.true, c.if-elements-len.false, c.len.ensures, c.deref-item-items.ensures.len) in
-    let below = below_element nodes c.requires.tree c.args.id (low_in c.args.self.now.nodes c.requires.within) c.elements-elements.result.now c.loop-index.index 0 elements inside in
-    (omega (arith, below, c.args.self.now.nodes.ok), (omega (arith, below, c.args.self.now.nodes.ok), c.requires.tree))
+holds_items-holds-requires t c = search (rules, node_read, low_in, below_element)
 
 pub holds_items-returns-then-not-branch : goal.holds_items-returns-then-not-branch
 holds_items-returns-then-not-branch t c =
@@ -79,13 +73,7 @@ holds_items-returns-then-not-branch t c =
     true≢false (sym (c.in_ok-holds.ensures.1 ((held_part nodes _ _ _ _ (ap (λ l. slice_get l c.loop-index.index) (sym elements) ∙ one) item).1 part)) ∙ c.if-not-branch.true))
 
 pub holds_items-loop-index-preserved : goal.holds_items-loop-index-preserved
-holds_items-loop-index-preserved t c =
-    let nodes = c.args.self.now.nodes.items in
-    let inside : c.loop-index.index < length c.elements-elements.result.now = omega (arith, c.loop-index-test.true, c.if-elements-len.false, c.len.ensures, c.deref-item-items.ensures.len) in
-    let one = slice_get-get_or c.elements-elements.result.now c.loop-index.index 0 inside in
-    let item = ap (λ l. slice_get l c.loop-index.index) (sym c.deref-item-items.ensures.value) ∙ slice_get_read c.deref-item-items.result.now _ c.loop-index.index c.item-item.result refl c.loop-index-test.true c.item-item.is in
-    below_more (λ i. IsHeldIn nodes (slice_get c.elements-elements.result.now i) (slice_get c.args.items.now.items i)) c.loop-index.index c.loop-index.invariant
-    ((held_part nodes _ _ _ _ one item).0 (c.in_ok-holds.ensures.0 c.if-not-branch.false))
+holds_items-loop-index-preserved t c = search (rules, slice_get-get_or, slice_get_read, held_part)
 
 pub holds_items-returns : goal.holds_items-returns
 holds_items-returns t c =
@@ -107,12 +95,7 @@ holds_members-returns-then-not-is_empty t c =
     true≢false (sym (c.is_empty.ensures ∙ ap (λ (es : List ℕ). length es == 0) (elements ∙ none)) ∙ c.if-not-is_empty.true))
 
 pub holds_members-returns-then-name_count-len : goal.holds_members-returns-then-name_count-len
-holds_members-returns-then-name_count-len t c =
-    let nodes = c.args.self.now.nodes.items in
-    let node = node_read nodes c.args.id c.index-2.result.now (low_in c.args.self.now.nodes c.requires.within) c.index-2.ensures in
-    refused (λ holds.
-    let count = table_count nodes c.requires.tree c.args.id (low_in c.args.self.now.nodes c.requires.within) c.index-2.result.now node c.args.members.now c.name_count.ensures.distinct c.len.ensures.ordered holds in
-    c.if-name_count-len.true (c.name_count.ensures.count ∙ count ∙ sym c.len.ensures.len))
+holds_members-returns-then-name_count-len t c = search (rules, node_read, low_in, refused, table_count)
 
 pub holds_members-returns-in_default : goal.holds_members-returns-in_default
 holds_members-returns-in_default t c =
@@ -156,12 +139,4 @@ holds_members-returns-then-not-branch t c =
     true≢false (sym (c.in_ok-holds.ensures.1 ((held_part nodes _ _ _ _ (there ∙ c.in-Some-child.is) one).1 part)) ∙ c.if-not-branch.true))
 
 pub holds_members-returns : goal.holds_members-returns
-holds_members-returns t c =
-    let nodes = c.args.self.now.nodes.items in
-    let elements = c.elements.ensures ∙ ap (λ (s : Spot). s.elements) (node_read nodes c.args.id c.index.result.now (low_in c.args.self.now.nodes c.requires.within) c.index.ensures) in
-    let node = node_read nodes c.args.id c.index-2.result.now (low_in c.args.self.now.nodes c.requires.within) c.index-2.ensures in
-    let bare = no_length c.elements.result.now (none_counted c.elements.result.now (sym c.is_empty.ensures ∙ c.if-not-is_empty.false)) in
-    let apart = subst (λ (s : Spot). AreDistinct s.children) node c.name_count.ensures.distinct in
-    let count = ap (λ (s : Spot). length s.children) (sym node) ∙ sym c.name_count.ensures.count ∙ c.if-name_count-len.false ∙ c.len.ensures.len in
-    accepted (members_held nodes c.requires.tree c.args.id (low_in c.args.self.now.nodes c.requires.within) c.args.members.now apart c.len.ensures.ordered count (c.requires.table nowhere) (sym elements ∙ bare)
-    (c.loop-name.invariant (each_none (λ n d. (k : ℕ) × (lookup (bytes_eq n) (slice_index_or nodes c.args.id nowhere).children ≡ Some k) × Holds nodes k d) _ c.in-None.ensures.steps.0)))
+holds_members-returns t c = search (rules, node_read, low_in, no_length, none_counted, accepted, members_held, each_none)

@@ -28,16 +28,12 @@ loop-way-preserved c =
     let lower =
     climbs c.args.self.now.nodes.items c.requires.tree c.args.id c.loop-way.here (omega arith) c.loop-way.way.items c.loop-way.invariant.so_far
     c.in-Some.above c.in-Some.step is in
-    let low = c.loop-way.invariant.within in
     record {
-      within = omega (arith, lower, low);
+      within = omega (arith, lower, c.loop-way.invariant.within);
       so_far =
           climbed c.args.self.now.nodes.items c.requires.tree c.args.id c.loop-way.here (omega arith) c.loop-way.way.items c.loop-way.invariant.so_far
           c.in-Some.above c.in-Some.step is c.push.new.self.items c.in_ok-push.ensures.items;
     }
 
 pub returns : goal.returns
-returns c =
-    c.of.ensures ∙ c.reverse.ensures.items
-    ∙ sym (arrived c.args.self.now.nodes.items c.requires.tree c.args.id c.loop-way.here (omega arith) c.loop-way.way.items c.loop-way.invariant.so_far
-    (sym c.in_default.is ∙ c.in_ok-above.ensures nowhere))
+returns c = search (rules, arrived)

@@ -14,10 +14,7 @@ module _ (nodes : List Spot) (v : Spot) (p : ℕ) (low : p < length nodes) (read
 pub overflow_add-depth : goal.overflow_add-depth
 overflow_add-depth c =
     let read = c.index_mut-node.ensures.value ∙ ap (λ l. slice_index_or l c.args.above c.index_mut-node.result.now) c.reserve-2.ensures.items in
-    let low = depth_read c.args.self.now.nodes.items c.requires.there.tree c.args.above c.index_mut-node.result.now (omega arith) read in
-    let fits = c.ranges.above.fits in
-    let is = c.depth-depth.ensures in
-    omega (arith, low, fits, is)
+    omega (arith, depth_read c.args.self.now.nodes.items c.requires.there.tree c.args.above c.index_mut-node.result.now (omega arith) read, c.ranges.above.fits, c.depth-depth.ensures)
 
 pub returns-clause-grown : goal.returns-clause-grown
 returns-clause-grown c = record {
