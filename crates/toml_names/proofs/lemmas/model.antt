@@ -4,4 +4,3 @@ pub mod Copies
 pub mod Equal
 pub mod Indices
 pub mod Levels
-pub mod SameCount

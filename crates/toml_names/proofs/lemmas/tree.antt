@@ -1,4 +1,3 @@
-pub mod Children
 pub mod CountsKept
 pub mod Distinct
 pub mod ElementGrown
@@ -9,7 +8,6 @@ pub mod EnterSteps
 pub mod Fitting
 pub mod FreshHeaders
 pub mod FreshKeys
-pub mod Hanging
 pub mod HeaderLines
 pub mod Held
 pub mod InnerNodes
@@ -17,19 +15,15 @@ pub mod ItemsEntered
 pub mod LineRanks
 pub mod NextTables
 pub mod NodeAddresses
-pub mod NodeCounts
 pub mod NodeData
 pub mod NodePlaces
 pub mod OnWay
 pub mod PairEntered
 pub mod PassedFronts
 pub mod Ranks
-pub mod ShortNodes
 pub mod StandsGrown
-pub mod StandsNoted
 pub mod Steps
 pub mod TreeGrown
-pub mod TreeNoted
 pub mod Undo
 pub mod ValueEntered
 pub mod Walking

@@ -1,10 +1,9 @@
 -- Several things that join one after the other, under the rules.
 use Rattle.toml_names.proofs.Common.{◌≡◌, true, false, ℕ, List, [], ◌∷◌, ◌++◌, Some, None, refl, sym, ap, ◌∙◌, subst, rules, append_assoc, append-nil, Bare, Address, child, fact_at, Joins, JoinAll, a_table, Named, is_tables, count_tables, fits, misfit}
 use Rattle.toml_names.proofs.lemmas.mentions.Counting.{count_plain}
-use Rattle.toml_names.proofs.lemmas.mentions.Growing.{IsGrown, IsApart, IsGrown-push, joins_at_name, apart_at_name}
+use Rattle.toml_names.proofs.lemmas.mentions.Growing.{IsGrown, IsApart, IsGrown-push, joins_at_name, apart_at_name, IsSuited}
 use Rattle.toml_names.proofs.lemmas.mentions.Offences.{misfit-later, fits-from_misfit}
 use Rattle.toml_names.proofs.lemmas.mentions.FactAt.{fact_other}
-use Rattle.toml_names.proofs.lemmas.mentions.Suiting.{IsSuited}
 
 pub after_first : (ms more : List Named) (m : Named) → misfit ms (m ∷ more) ≡ None → misfit (ms ++ m ∷ []) more ≡ None
 after_first ms more m none = sym (misfit-later ms more m (fits-from_misfit ms more m none)) ∙ none

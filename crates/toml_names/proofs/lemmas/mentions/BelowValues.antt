@@ -5,8 +5,7 @@ use Rattle.toml_names.proofs.lemmas.mentions.Counting.{adds, count_cons}
 use Rattle.toml_names.proofs.Each.{Has, each_append, each_left, each_right, each_weaker, has_left, has_right, has_each}
 use Rattle.toml_names.proofs.lemmas.model.Equal.{same_address-equal, same_address-self}
 use Rattle.toml_names.proofs.lemmas.mentions.LineAddresses.{AreOf, named_has_line}
-use Rattle.toml_names.proofs.lemmas.mentions.LineSections.{section_pair}
-use Rattle.toml_names.proofs.lemmas.mentions.NextLine.{section_from-append}
+use Rattle.toml_names.proofs.lemmas.mentions.NextLine.{section_from-append, section_pair}
 
 below-cons : (at : Address) (n : List ℕ) (ns : Key) → below (child at n) ns ≡ below at (n ∷ ns)
 below-cons at n ns = append_assoc at (Name n ∷ []) (map Name ns)

@@ -3,11 +3,10 @@ use Rattle.toml_names.proofs.Common.{◌≡◌, false, [], ◌∷◌, ◌++◌, 
 use Rattle.toml_names.proofs.lemmas.mentions.Adding.{after_first}
 use Rattle.toml_names.proofs.lemmas.mentions.Counting.{count_plain}
 use Rattle.toml_names.proofs.lemmas.mentions.FactAt.{fact_here, fact_later}
-use Rattle.toml_names.proofs.lemmas.mentions.Growing.{IsGrown}
+use Rattle.toml_names.proofs.lemmas.mentions.Growing.{IsGrown, IsSuited}
 use Rattle.toml_names.proofs.lemmas.mentions.InsideJoins.{suited_value, inside_puts}
 use Rattle.toml_names.proofs.lemmas.model.Equal.{one_longer}
 use Rattle.toml_names.proofs.lemmas.mentions.Offences.{misfit-from_KeepsRules}
-use Rattle.toml_names.proofs.lemmas.mentions.Suiting.{IsSuited}
 
 below_root : (at : Address) (s : Step) → ¬ ([] ≡ at ++ s ∷ [])
 below_root at s same = let none : 0 ≡ length (at ++ s ∷ []) = ap length same in omega (arith, one_longer at s)

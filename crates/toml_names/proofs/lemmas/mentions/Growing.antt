@@ -1,11 +1,44 @@
--- What holds of all that was named so far, and goes on holding when one more thing joins.
-use Rattle.toml_names.proofs.Common.{common_steps, ◌≡◌, ℕ, ◌<◌, ◌≤◌, true, false, List, [], ◌∷◌, ◌++◌, All, Some, None, sym, ◌∙◌, arith, rules, All-push, Step, Name, Bare, Address, child, element, fact_at, IsFree, is_lone, Joins, a_table, Named, is_tables, count_tables, fits}
+-- What holds of all that was named so far, and goes on holding when one more thing joins; what a role says of the kind and of the address.
+use Rattle.toml_names.proofs.Common.{common_steps, ◌≡◌, ℕ, ◌<◌, ◌≤◌, true, false, List, [], ◌∷◌, ◌++◌, All, Some, None, sym, ◌∙◌, arith, rules, All-push, Step, Name, Bare, Address, child, element, fact_at, IsFree, is_lone, Joins, a_table, Named, is_tables, count_tables, fits, Option, same_Some, Role, Passed, Header, Dotted, Valued, Tables, Element, Kind, an_array, may_follow}
 use Rattle.toml_names.proofs.lemmas.mentions.Counting.{count_plain}
 use Rattle.toml_names.proofs.lemmas.mentions.FactAt.{from_all, found, fact_kept, fact_other, none_before}
 use Rattle.toml_names.proofs.lemmas.model.Equal.{child_is_no_element}
 use Rattle.toml_names.proofs.lemmas.mentions.OfOneKind.{AreOfOneKind, AreOfOneKind-push}
 use Rattle.toml_names.proofs.lemmas.mentions.Offences.{Goes, at_each}
-use Rattle.toml_names.proofs.lemmas.mentions.Suiting.{IsSuited, AreShared, shared_roles, shared_kind}
+
+-- the one kind that goes with a role
+abbrev pub role_kind : Role → Option Kind
+role_kind Passed = Some a_table
+role_kind Header = Some a_table
+role_kind Dotted = Some a_table
+role_kind Tables = Some an_array
+role_kind Element = Some a_table
+role_kind Valued = None
+role_kind Bare = None
+
+-- The kind is its role's, and what is no mention has no name in a table.
+pub record IsSuited (m : Named) : Type 0 where
+  pub kind : (k : Kind) → role_kind m.role ≡ Some k → m.kind ≡ k
+  pub bare : m.role ≡ Bare → (at : Address) (n : List ℕ) → ¬ (m.address ≡ child at n)
+
+pub suited_mention : (m : Named) → role_kind m.role ≡ Some m.kind → ¬ (m.role ≡ Bare) → IsSuited m
+suited_mention m is mention = record { kind = λ k h. same_Some m.kind k (sym is ∙ h); bare = λ bare. absurd (mention bare) }
+
+pub record AreShared (e m : Role) : Type 0 where
+  pub earlier : is_lone e ≡ false
+  pub later : is_lone m ≡ false
+  pub kind : role_kind e ≡ role_kind m
+
+pub shared_roles : (e m : Role) → may_follow e m ≡ true → ¬ (e ≡ Bare) → ¬ (m ≡ Bare) → AreShared e m
+shared_roles e m h e_is m_is = search rules
+
+-- nothing but an array of tables goes before an array of tables
+pub tables_before : (e : Role) → may_follow e Tables ≡ true → ¬ (e ≡ Bare) → e ≡ Tables
+tables_before e h e_is = search rules
+
+-- two that share are of one kind
+pub shared_kind : (e m : Named) → IsSuited e → IsSuited m → AreShared e.role m.role → e.kind ≡ m.kind
+shared_kind e m e_suited m_suited roles = search rules
 
 -- nothing lone stands at the address
 abbrev pub NoneLone : List Named → Address → Type 0

@@ -3,11 +3,10 @@ use Rattle.toml_names.proofs.Common.{◌≡◌, ℕ, ◌+◌, ◌<◌, ◌≤◌
 use Rattle.toml_names.proofs.lemmas.mentions.Adding.{IsPut, Puts, IsPut-nil, Puts-append, IsPut-fewer, IsAdded-one, IsAdded-name, IsPut-one}
 use Rattle.toml_names.proofs.lemmas.mentions.Counting.{count_absent}
 use Rattle.toml_names.proofs.lemmas.mentions.FactAt.{fact_here, fact_kept, fact_behind, there_is, fact_new, fact_other, stays}
-use Rattle.toml_names.proofs.lemmas.mentions.Growing.{IsGrown, IsApart, free_at_name, apart_at_name}
+use Rattle.toml_names.proofs.lemmas.mentions.Growing.{IsGrown, IsApart, free_at_name, apart_at_name, IsSuited, suited_mention}
 use Rattle.toml_names.proofs.lemmas.model.Equal.{child_is_no_element, element_parts, one_longer}
 use Rattle.toml_names.proofs.lemmas.mentions.Offences.{fits-from_misfit}
 use Rattle.toml_names.proofs.lemmas.mentions.OfOneKind.{one_kind_new}
-use Rattle.toml_names.proofs.lemmas.mentions.Suiting.{IsSuited, suited_mention}
 
 -- no longer than the address
 abbrev pub NotLonger : Address → Address → Type 0

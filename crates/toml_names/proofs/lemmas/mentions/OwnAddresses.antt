@@ -1,9 +1,8 @@
 -- What is named by itself is so named once, and each line's own address is named and has a fact.
 use Rattle.toml_names.proofs.Common.{◌≡◌, ℕ, ◌+◌, true, false, List, [], ◌∷◌, ◌++◌, length, Any, Option, Some, IfSome, IsSome, is_some, refl, sym, ap, ◌∙◌, arith, rules, eqb-true, none-some, same_Some, Role, Address, is_lone, Named, root, named, named_by, is_own, line_address, own_address, is_itself, LineIsNamed, ThemselvesDiffer, OwnAddressesDiffer, OwnAddressIsNamed, OwnAddressHasFact, may_follow}
-use Rattle.toml_names.proofs.lemmas.mentions.AllLines.{new_from, named_from-is}
+use Rattle.toml_names.proofs.lemmas.mentions.AllLines.{new_from, named_from-is, line_values_stand_alone}
 use Rattle.toml_names.proofs.Each.{Has, pairs_of_all, any_of_has, from_two}
 use Rattle.toml_names.proofs.lemmas.mentions.LineAddresses.{named_from-append, line_addresses}
-use Rattle.toml_names.proofs.lemmas.mentions.UnderRules.{line_values_stand_alone}
 
 pub line_is_named : LineIsNamed
 line_is_named before behind l =

@@ -2,7 +2,7 @@
 use Rattle.toml_names.proofs.Common.{◌≡◌, ◌⊎◌, inl, inr, ℕ, Bool, true, false, List, [], ◌∷◌, ◌++◌, Option, Some, None, refl, sym, ap, subst, ◌∙◌, true≢false, rules, cond-true, All-head, All-tail, EachIs, Line, Step, Role, Passed, Header, Dotted, Valued, Tables, Element, Bare, Place, Address, IsAbove, BelowIsOfItsLine, is_lone, mark_of, Named, root, named, IsNamed, IsNotIn, IsFirstIn, IsInside, IsOutside, IsPlace, PlaceIsFound, first_line, line_above, outside, in_value, place_of_mark, KeepsRules}
 use Rattle.toml_names.specs.declared.model.place.Place.TheVariants as places
 use Rattle.toml_names.specs.model.Places.{inside}
-use Rattle.toml_names.proofs.lemmas.mentions.AllLines.{named_from-is, lines_join}
+use Rattle.toml_names.proofs.lemmas.mentions.AllLines.{named_from-is, lines_join, line_values_stand_alone}
 use Rattle.toml_names.proofs.lemmas.mentions.BelowValues.{AreValuesAt, IsHere, below_values}
 use Rattle.toml_names.proofs.Each.{Has, PairsAre, pairs_of_all, has_of_any, has_right, has_weaker, from_two, members_self, each_weaker, taken, of_member}
 use Rattle.toml_names.proofs.lemmas.model.Equal.{same_address-self}
@@ -11,7 +11,6 @@ use Rattle.toml_names.proofs.lemmas.mentions.FactAt.{from_all}
 use Rattle.toml_names.proofs.lemmas.mentions.OfOneKind.{first_is_data}
 use Rattle.toml_names.proofs.lemmas.mentions.Offences.{misfit-from_KeepsRules}
 use Rattle.toml_names.proofs.lemmas.mentions.PlacesFound.{above_in, none_above, is_it, same_role-self}
-use Rattle.toml_names.proofs.lemmas.mentions.UnderRules.{line_values_stand_alone}
 
 -- two things at one address, of which neither is lone
 abbrev Share : Named → Named → Type 0

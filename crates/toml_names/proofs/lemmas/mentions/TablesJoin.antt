@@ -3,12 +3,11 @@ use Rattle.toml_names.proofs.Common.{common_steps, ◌≡◌, ◌⊎◌, ℕ, �
 use Rattle.toml_names.proofs.lemmas.mentions.Adding.{IsAdded}
 use Rattle.toml_names.proofs.lemmas.mentions.Counting.{adds, count_push, count_plain, count_there}
 use Rattle.toml_names.proofs.lemmas.mentions.FactAt.{any_with, found, fact_kept, there_is, fact_other}
-use Rattle.toml_names.proofs.lemmas.mentions.Growing.{NoneLone, AreCounted, IsGrown, IsClosed-push, joins_at_name}
+use Rattle.toml_names.proofs.lemmas.mentions.Growing.{NoneLone, AreCounted, IsGrown, IsClosed-push, joins_at_name, IsSuited, suited_mention, tables_before}
 use Rattle.toml_names.proofs.lemmas.mentions.InsideJoins.{not_longer}
 use Rattle.toml_names.proofs.lemmas.mentions.OfOneKind.{AreOfOneKind, AreOfOneKind-push, one_kind_new}
 use Rattle.toml_names.proofs.lemmas.mentions.Offences.{Goes, at_each}
 use Rattle.toml_names.proofs.lemmas.model.Equal.{same_address-equal, same_address-self, child_is_no_element, element_parts}
-use Rattle.toml_names.proofs.lemmas.mentions.Suiting.{IsSuited, suited_mention, tables_before}
 
 abbrev pub tables_at : ℕ → Address → Named
 tables_at line at = record { address = at; role = Tables; kind = an_array; line = line }

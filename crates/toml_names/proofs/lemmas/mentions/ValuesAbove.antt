@@ -1,11 +1,51 @@
--- The first value above an address in the text is the first on the way to it, since what is above is named earlier.
-use Rattle.toml_names.proofs.Common.{◌≡◌, ℕ, Bool, true, false, cond, ◌&&◌, ◌||◌, List, [], ◌∷◌, ◌++◌, length, Option, Some, None, refl, sym, ap, subst, ◌∙◌, true≢false, arith, rules, append_assoc, append-nil, none-some, Step, Valued, Address, same_step, same_address, is_above, BeginsAtRoot, fact_at, Joins, JoinAll, Joined, Kind, Named, same_role, first_line, line_above, first_of}
+-- What stands one step below something says of which kind this is. The first value above an address in the text is the first on the way to it, since what is above is named earlier.
+use Rattle.toml_names.proofs.Common.{◌≡◌, ℕ, Bool, true, false, cond, ◌&&◌, ◌||◌, List, [], ◌∷◌, ◌++◌, length, Option, Some, None, refl, sym, ap, subst, ◌∙◌, true≢false, arith, rules, append_assoc, append-nil, none-some, Step, Valued, Address, same_step, same_address, is_above, BeginsAtRoot, fact_at, Joins, JoinAll, Joined, Kind, Named, same_role, first_line, line_above, first_of, common_steps, cond-false, Name, Index, a_table, an_array, IsTreeOf, Spot}
 use Rattle.std.proofs.lemmas.List.{length-append}
 use Rattle.toml_names.proofs.lemmas.model.Equal.{same_step-equal, same_step-self, same_address-equal, same_address-self}
 use Rattle.toml_names.proofs.lemmas.mentions.FirstLines.{first_line-push, first_line-none}
-use Rattle.toml_names.proofs.lemmas.mentions.Holders.{holder, AreHeld, AreHeld-push, AreHeld-first}
 use Rattle.toml_names.proofs.lemmas.tree.NodePlaces.{same_address-apart}
 use Rattle.toml_names.proofs.lemmas.mentions.PlacesFound.{same_role-equal}
+use Rattle.toml_names.proofs.lemmas.mentions.FactAt.{fact_kept, fact_behind}
+use Rattle.toml_names.proofs.lemmas.tree.NodeAddresses.{length-addresses}
+use Rattle.toml_names.proofs.lemmas.tree.Walking.{root_address}
+
+-- the kind of what has something one such step below
+abbrev pub holder : Step → Kind
+holder (Name n) = a_table
+holder (Index i) = an_array
+
+abbrev pub AreHeld : List Named → Type 0
+AreHeld ms = (at : Address) (s : Step) (k : Kind) → fact_at ms (at ++ s ∷ []) ≡ Some k → fact_at ms at ≡ Some (holder s)
+
+fact_one : (m : Named) (at : Address) (k : Kind) → fact_at (m ∷ []) at ≡ Some k → m.address ≡ at
+fact_one m at k is = search (rules, same_address-equal, none-some, cond-false)
+
+joined_holds : (ms : List Named) (m : Named) (at : Address) (s : Step) → Joins ms m → fact_at ms (at ++ s ∷ []) ≡ None → m.address ≡ at ++ s ∷ [] → fact_at ms at ≡ Some (holder s)
+joined_holds ms m at s h1 none same = grind (arith, common_steps)
+
+pub AreHeld-push : (ms : List Named) (m : Named) → AreHeld ms → Joins ms m → AreHeld (ms ++ m ∷ [])
+AreHeld-push ms m held joins at s k is = by (fact_at ms (at ++ s ∷ [])) refl
+  where
+    by : (o : Option Kind) → fact_at ms (at ++ s ∷ []) ≡ o → fact_at (ms ++ m ∷ []) at ≡ Some (holder s)
+    by (Some j) there = fact_kept ms (m ∷ []) at (holder s) (held at s j there)
+    by None none =
+        let same = fact_one m (at ++ s ∷ []) k (sym (fact_behind ms (m ∷ []) (at ++ s ∷ []) none) ∙ is) in
+        fact_kept ms (m ∷ []) at (holder s) (joined_holds ms m at s joins none same)
+
+AreHeld-more : (more ms : List Named) → AreHeld ms → JoinAll ms more → AreHeld (ms ++ more)
+AreHeld-more [] ms held join = subst AreHeld (sym (append-nil ms)) held
+AreHeld-more (m ∷ more) ms held join = subst AreHeld (append_assoc ms (m ∷ []) more) (AreHeld-more more (ms ++ m ∷ []) (AreHeld-push ms m held join.0) join.1)
+
+pub AreHeld-first : (m : Named) → m.address ≡ [] → AreHeld (m ∷ [])
+AreHeld-first m root = search rules
+
+pub held : (ms : List Named) → BeginsAtRoot ms → Joined ms → AreHeld ms
+held [] root joined = absurd root
+held (m ∷ ms) root joined = AreHeld-more ms (m ∷ []) (AreHeld-first m root) joined
+
+-- what a tree stands for begins at the root
+pub begins_at_root : (nodes : List Spot) (ms : List Named) → IsTreeOf nodes ms → BeginsAtRoot ms
+begins_at_root nodes ms stands = search (rules, length-addresses, root_address)
 
 -- ---- fronts
 

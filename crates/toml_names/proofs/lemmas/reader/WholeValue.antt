@@ -2,9 +2,8 @@
 use Rattle.toml_names.proofs.Common.{◌≡◌, List, [], ◌∷◌, ◌++◌, Some, None, refl, sym, ap, subst, ◌∙◌, Value, Valued, Address, Kinds, IsDataOf, fact_at, Named, value_named, inside, value_facts, IsTreeOf, Enters, Clashes, Spot, addresses, address_at, address_under, nowhere, KeepsRules, IsShort, misfit}
 use Rattle.toml_names.specs.reader.Values.{AreGoodFacts}
 use Rattle.toml_names.proofs.lemmas.mentions.FirstNamed.{values_join}
-use Rattle.toml_names.proofs.lemmas.tree.NodeAddresses.{address_at-under}
+use Rattle.toml_names.proofs.lemmas.tree.NodeAddresses.{address_at-under, AreShortFrom, short_nodes, short_from_nodes}
 use Rattle.toml_names.proofs.lemmas.mentions.Offences.{no_misfit}
-use Rattle.toml_names.proofs.lemmas.tree.ShortNodes.{AreShortFrom, short_nodes, short_from_nodes}
 use Rattle.toml_names.proofs.lemmas.mentions.OfOneKind.{data_by_facts}
 
 -- the root's address

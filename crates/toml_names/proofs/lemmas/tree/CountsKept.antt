@@ -2,11 +2,9 @@
 use Rattle.toml_names.proofs.Common.{◌≡◌, false, true, ℕ, ◌+◌, ◌<◌, List, [], ◌∷◌, ◌++◌, length, Some, None, sym, ap, ◌∙◌, slice_index_or, ◌⊎◌, inl, inr, rules, cases_eq, Step, Name, Index, Role, Bare, Kind, Named, is_tables, count_tables, IsTreeOf, table_count, Spot, addresses, address_at, place_of, leaf, linked, grown, noted, may_follow}
 use Rattle.toml_names.proofs.lemmas.mentions.Counting.{count_plain}
 use Rattle.toml_names.proofs.lemmas.tree.Fitting.{Counts, but_counts, with_counts}
-use Rattle.toml_names.proofs.lemmas.tree.NodeCounts.{table_count-plain, table_count-marked}
-use Rattle.toml_names.proofs.lemmas.tree.StandsGrown.{StandsButCounts-grown}
-use Rattle.toml_names.proofs.lemmas.tree.StandsNoted.{StandsButCounts-noted}
-use Rattle.toml_names.proofs.lemmas.tree.TreeGrown.{address-old, address-new, node-last, node-above, node-other, node-parts}
-use Rattle.toml_names.proofs.lemmas.tree.TreeNoted.{length-noted, address-noted, node-noted, node-beside}
+use Rattle.toml_names.proofs.lemmas.tree.NodePlaces.{table_count-plain, table_count-marked}
+use Rattle.toml_names.proofs.lemmas.tree.StandsGrown.{StandsButCounts-grown, StandsButCounts-noted}
+use Rattle.toml_names.proofs.lemmas.tree.TreeGrown.{address-old, address-new, node-last, node-above, node-other, node-parts, length-noted, address-noted, node-noted, node-beside}
 
 module _ (nodes : List Spot) (p : ℕ) (d : Spot) (s : Step) (r : Role) (kind : Kind) (line : ℕ) (low : p < length nodes) (plain : is_tables r ≡ false)
     (same : table_count (linked (slice_index_or nodes p d) s (length nodes)) ≡ table_count (slice_index_or nodes p d)) where

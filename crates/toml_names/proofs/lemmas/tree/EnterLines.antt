@@ -1,10 +1,9 @@
 -- What entering a line leaves, by what stands on it, and a line whose own address is too long.
 use Rattle.toml_names.proofs.Common.{ℕ, ◌<◌, List, [], length, Some, rules, Piece, Blank, KeyVal, KeyValLine, TableLine, ArrayTableLine, below, EntersHeader, table_names, tables_names, next_table, EntersLine, key_names, section, pair_named, header_end, EntersTo, Spot, address_at, common_steps, ◌≡◌, ◌+◌, ◌≤◌, ◌∷◌, map, None, refl, ap, subst, arith, All-head, length-map, length_push, Expr, Name, Index, Valued, Address, child, Key, CanEnter, CanEnterHeader, IsLongKey, IsLongEntry, Named, fronts, inside, value_named, entered, count_tables, own_address, max_steps, misfit}
 use Rattle.toml_tree.specs.Tree.{Header}
-use Rattle.toml_names.proofs.lemmas.mentions.LineSections.{section_pair, section_table, section_tables}
 use Rattle.std.proofs.lemmas.List.{length-append}
-use Rattle.toml_names.proofs.lemmas.mentions.NextLine.{IsShort-behind}
-use Rattle.toml_names.proofs.lemmas.tree.ShortNodes.{OfShort, short_nodes}
+use Rattle.toml_names.proofs.lemmas.mentions.NextLine.{IsShort-behind, section_pair, section_table, section_tables}
+use Rattle.toml_names.proofs.lemmas.tree.NodeAddresses.{OfShort, short_nodes}
 
 module _ (old new : List Spot) (at line id : ℕ) where
   pub table_entered : (ws : Piece) (header : Header) (tail : Blank)

@@ -5,8 +5,7 @@ use Rattle.toml_names.proofs.lemmas.tree.Fitting.{but_counts, fits-at_node, fits
 use Rattle.toml_names.proofs.lemmas.mentions.Offences.{misfit-here, misfit-later}
 use Rattle.toml_names.proofs.lemmas.tree.NodeAddresses.{length-addresses, address_at-under}
 use Rattle.toml_names.proofs.lemmas.tree.NodePlaces.{place_of-at}
-use Rattle.toml_names.proofs.lemmas.tree.TreeGrown.{length-grown, address-new, node-last, KeepsAddresses-grown, IsTree-grown}
-use Rattle.toml_names.proofs.lemmas.tree.TreeNoted.{length-noted, address-noted, KeepsAddresses-noted, KeepsElements-noted, IsTree-noted}
+use Rattle.toml_names.proofs.lemmas.tree.TreeGrown.{length-grown, address-new, node-last, KeepsAddresses-grown, IsTree-grown, length-noted, address-noted, KeepsAddresses-noted, KeepsElements-noted, IsTree-noted}
 
 -- nothing goes before a value
 before_value : (q : Role) → (q ≡ Bare → ⊥) → may_follow q Valued ≡ false

@@ -5,9 +5,8 @@ use Rattle.toml_names.proofs.lemmas.tree.EnterName.{Enters-new, LeadsTo-new, IsK
 use Rattle.toml_names.proofs.lemmas.tree.Fitting.{but_counts, fits-at_node}
 use Rattle.toml_names.proofs.lemmas.mentions.Offences.{misfit-here, misfit-later}
 use Rattle.toml_names.proofs.lemmas.tree.NodeAddresses.{length-addresses}
-use Rattle.toml_names.proofs.lemmas.tree.NodeCounts.{table_count-tables}
-use Rattle.toml_names.proofs.lemmas.tree.NodePlaces.{place_of-at}
-use Rattle.toml_names.proofs.lemmas.tree.TreeNoted.{length-noted, address-noted, KeepsAddresses-noted, IsTree-noted}
+use Rattle.toml_names.proofs.lemmas.tree.NodePlaces.{place_of-at, table_count-tables}
+use Rattle.toml_names.proofs.lemmas.tree.TreeGrown.{length-noted, address-noted, KeepsAddresses-noted, IsTree-noted}
 
 -- a node that was read twice
 pub read_twice : (nodes : List Spot) (id : ℕ) (v w : Spot) → id < length nodes → v ≡ slice_index_or nodes id v → w ≡ slice_index_or nodes id w → v ≡ w

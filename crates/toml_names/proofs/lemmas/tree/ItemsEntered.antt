@@ -6,7 +6,7 @@ use Rattle.toml_names.proofs.lemmas.tree.EnterSteps.{misfit-append, KeepsAddress
 use Rattle.toml_names.proofs.lemmas.tree.Fitting.{but_counts, fits-no_node}
 use Rattle.toml_names.proofs.lemmas.mentions.Offences.{misfit-later}
 use Rattle.toml_names.proofs.lemmas.mentions.Within.{HasNoTables, count-append, no_tables-front}
-use Rattle.toml_names.proofs.lemmas.tree.NodeCounts.{table_count-element}
+use Rattle.toml_names.proofs.lemmas.tree.NodePlaces.{table_count-element}
 use Rattle.toml_names.proofs.lemmas.tree.TreeGrown.{address-new, KeepsAddresses-grown}
 
 -- something of the whole was entered, and the rest is left

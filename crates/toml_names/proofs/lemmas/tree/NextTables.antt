@@ -4,13 +4,11 @@ use Rattle.toml_names.proofs.lemmas.mentions.Counting.{count_plain}
 use Rattle.toml_names.proofs.lemmas.tree.EnterSteps.{misfit-append, KeepsAddresses-then}
 use Rattle.toml_names.proofs.lemmas.tree.Fitting.{StandsButCounts, Counts, but_counts, with_counts, fits-at_node}
 use Rattle.toml_names.proofs.lemmas.mentions.Offences.{misfit-here}
-use Rattle.toml_names.proofs.lemmas.tree.NodeCounts.{count_here, count_elsewhere, table_count-tables}
-use Rattle.toml_names.proofs.lemmas.tree.StandsGrown.{StandsButCounts-grown}
-use Rattle.toml_names.proofs.lemmas.tree.StandsNoted.{StandsButCounts-noted, other_node}
-use Rattle.toml_names.proofs.lemmas.mentions.Suiting.{tables_before}
+use Rattle.toml_names.proofs.lemmas.tree.NodePlaces.{count_here, count_elsewhere, table_count-tables}
+use Rattle.toml_names.proofs.lemmas.tree.StandsGrown.{StandsButCounts-grown, StandsButCounts-noted, other_node}
+use Rattle.toml_names.proofs.lemmas.mentions.Growing.{tables_before}
 use Rattle.toml_names.proofs.lemmas.mentions.TablesJoin.{tables_at}
-use Rattle.toml_names.proofs.lemmas.tree.TreeGrown.{length-grown, address-old, address-new, node-last, node-above, node-other, node-parts, KeepsAddresses-grown, IsTree-grown}
-use Rattle.toml_names.proofs.lemmas.tree.TreeNoted.{length-noted, address-noted, node-noted, node-beside, KeepsAddresses-noted, IsTree-noted}
+use Rattle.toml_names.proofs.lemmas.tree.TreeGrown.{length-grown, address-old, address-new, node-last, node-above, node-other, node-parts, KeepsAddresses-grown, IsTree-grown, length-noted, address-noted, node-noted, node-beside, KeepsAddresses-noted, IsTree-noted}
 
 -- an array of tables was named at the node, and its next element not yet
 pub record Opened (mid : List Spot) (id line : ℕ) (ms : List Named) : Type 0 where

@@ -2,7 +2,7 @@
 use Rattle.toml_names.proofs.Common.{◌≡◌, ℕ, zero, suc, ◌+◌, ◌<◌, ◌≤◌, cond, List, [], ◌∷◌, ◌++◌, length, drop, take, get_or, Result, Ok, Err, IfOk, Option, Some, None, String, Vec, BTreeMap, Global, bytes_eq, refl, sym, ap, subst, ◌∙◌, slice_index_or, rules, append_assoc, append-nil, drop_more, take_more, take_all, get_or_default, get_or_from_slice_get, slice_get-get_or, slice_get_within, get_by_text, lookup, slice_get, ScalarValue, Step, Name, Index, Datum, Table, Address, IsOnly, kind_in, fact_at, Joined, Kind, a_table, an_array, a_scalar, Named, IsTree, IsTreeOf, Spot, addresses, address_at, place_of, nowhere, vec_len, arith}
 use Rattle.toml_names.specs.declared.model.datum.Datum.{Array}
 use Rattle.toml_names.specs.tree.Finished.{IsDatumAt, IsOfKind}
-use Rattle.toml_names.proofs.lemmas.mentions.Holders.{holder, held, begins_at_root}
+use Rattle.toml_names.proofs.lemmas.mentions.ValuesAbove.{holder, held, begins_at_root}
 use Rattle.toml_names.proofs.lemmas.model.Levels.{array-here, array-item, array-name, table-here, table-member, table-index}
 use Rattle.toml_names.proofs.lemmas.tree.Walking.{leads_to, later, no_place, nothing_named}
 

@@ -3,10 +3,9 @@ use Rattle.toml_names.proofs.Common.{◌≡◌, ◌==◌, ℕ, ◌+◌, ◌<◌,
 use Rattle.toml_names.specs.declared.model.place.Place.TheVariants as places
 use Rattle.toml_names.proofs.lemmas.mentions.AllLines.{lines_join}
 use Rattle.toml_names.proofs.lemmas.mentions.FirstLines.{may_hold, AreHolding, holding_under_rules, none_in, first_line-none, first_none, inside-none, inside-some, outside-mark, skip}
-use Rattle.toml_names.proofs.lemmas.mentions.Holders.{begins_at_root}
 use Rattle.toml_names.proofs.lemmas.mentions.Offences.{KeepsRules-nil, KeepsRules-from_misfit}
 use Rattle.toml_names.proofs.lemmas.mentions.PlacesFound.{same_role-equal}
-use Rattle.toml_names.proofs.lemmas.mentions.ValuesAbove.{front_value, value_above}
+use Rattle.toml_names.proofs.lemmas.mentions.ValuesAbove.{front_value, value_above, begins_at_root}
 use Rattle.toml_names.proofs.lemmas.tree.Walking.{nothing_below, own_place as own_node, leads_to, root_address}
 
 -- ---- the walk

@@ -1,8 +1,15 @@
--- One more node keeps the tree: the addresses stay nested, and what leads from a node gets one more name or element.
-use Rattle.toml_names.proofs.Common.{common_steps, ◌≡◌, ℕ, ◌+◌, ◌<◌, List, [], ◌∷◌, ◌++◌, length, Some, None, sym, ap, ◌∙◌, arith, slice_get, slice_set, slice_index_or, ◌⊎◌, inl, inr, rules, get_or_append_left, get_or_at, get_or-set_same, get_or-set_other, length-set, length_push, same_Some, lookup, bytes_eq, Step, Name, Index, Role, Bare, Address, child, Kind, IsTree, KeepsAddresses, Spot, addresses, address_at, place_of, leaf, linked, grown, cond, refl, length-append, same_from_push, AreNested, ◌≤◌, Option, cases_lt, false_from_ne_true, slice_get-get_or, slice_get_past}
-use Rattle.toml_names.proofs.lemmas.tree.Hanging.{Hangs}
+-- One more node keeps the tree, and so does a node that is named once more: the addresses stay nested, and each node hangs where it did.
+use Rattle.toml_names.proofs.Common.{common_steps, ◌≡◌, ℕ, ◌+◌, ◌<◌, List, [], ◌∷◌, ◌++◌, length, Some, None, sym, ap, ◌∙◌, arith, slice_get, slice_set, slice_index_or, ◌⊎◌, inl, inr, rules, get_or_append_left, get_or_at, get_or-set_same, get_or-set_other, length-set, length_push, same_Some, lookup, bytes_eq, Step, Name, Index, Role, Bare, Address, child, Kind, IsTree, KeepsAddresses, Spot, addresses, address_at, place_of, leaf, linked, grown, cond, refl, length-append, same_from_push, AreNested, ◌≤◌, Option, cases_lt, false_from_ne_true, slice_get-get_or, slice_get_past, element, KeepsElements, marked, noted}
 use Rattle.toml_names.proofs.lemmas.tree.NodeAddresses.{addresses-push, addresses-set, length-addresses}
 use Rattle.toml_names.proofs.lemmas.tree.NodePlaces.{is_step, place_of-push, none_is_some, same_address-apart, same_address-here}
+
+-- the node at a place has the address, and what leads from it leads right among all addresses
+pub record Hangs (all : List Address) (place : ℕ) (at : Address) (spot : Spot) : Type 0 where
+  pub names : (n : List ℕ) → lookup (bytes_eq n) spot.children ≡ place_of (child at n) all
+  pub indices : (i : ℕ) → slice_get spot.elements i ≡ place_of (element at i) all
+  pub rising : (p : ℕ) (s : Step) → spot.under ≡ Some (p, s) → p < place
+  pub deep : spot.depth ≡ length at
+  pub mentioned : (p : ℕ) (n : List ℕ) → spot.under ≡ Some (p, Name n) → spot.role ≡ Bare → ⊥
 
 abbrev or_else : Option ℕ → Option ℕ → Option ℕ
 or_else None q = q
@@ -166,3 +173,38 @@ module _ (nodes : List Spot) (p : ℕ) (d : Spot) (s : Step) (r : Role) (kind : 
 
     pub IsTree-grown : IsTree after
     IsTree-grown = search (rules, addresses-grown, AreNested-push, there, length-grown, root_after, node-parts, address-new, node-last, place-below, same_Some, length_push, node-above, address-old, hangs_above, node-other, hangs_other)
+
+module _ (nodes : List Spot) (k : ℕ) (d : Spot) (r : Role) (line : ℕ) (low : k < length nodes) where
+  abbrev here : Spot
+  here = slice_index_or nodes k d
+
+  abbrev once_more : List Spot
+  once_more = noted nodes k here r line
+
+  pub addresses-noted : addresses once_more ≡ addresses nodes
+  addresses-noted = addresses-set nodes k d (marked here r line) refl low
+
+  pub length-noted : length once_more ≡ length nodes
+  length-noted = length-set nodes k (marked here r line)
+
+  pub address-noted : (j : ℕ) → address_at once_more j ≡ address_at nodes j
+  address-noted j = ap (λ l. slice_index_or l j []) addresses-noted
+
+  pub KeepsAddresses-noted : KeepsAddresses nodes once_more
+  KeepsAddresses-noted = record { longer = let long = length-noted in omega arith; same = λ j within. address-noted j }
+
+  pub node-noted : (e : Spot) → slice_index_or once_more k e ≡ marked here r line
+  node-noted e = get_or-set_same nodes k (marked here r line) e low
+
+  pub node-beside : (j : ℕ) (e : Spot) → (j ≡ k → ⊥) → slice_index_or once_more j e ≡ slice_index_or nodes j e
+  node-beside j e apart = get_or-set_other nodes k j (marked here r line) e apart
+
+  pub KeepsElements-noted : KeepsElements nodes once_more
+  KeepsElements-noted = grind (arith, common_steps)
+
+  module _ (tree : IsTree nodes) where
+    root_again : (e : Spot) → (slice_index_or once_more 0 e).under ≡ None
+    root_again e = search rules
+
+    pub IsTree-noted : IsTree once_more
+    IsTree-noted = search (rules, addresses-noted, length-noted, root_again, address-noted)

@@ -9,10 +9,9 @@ use Rattle.toml_tree.specs.declared.tree.Value.TheFolds.{fold_out-Item, fold_out
 use Rattle.toml_tree.specs.ReadingValues.{Element}
 use Rattle.toml_tree.specs.Tree as tree
 use Rattle.toml_tree.specs.View.{element as tree_element}
-use Rattle.toml_names.proofs.lemmas.mentions.Inside.{element_named, elements_of, members_of, inside-array, inside-inline}
+use Rattle.toml_names.proofs.lemmas.mentions.Inside.{element_named, elements_of, members_of, inside-array, inside-inline, parts_of_elements, parts_of_members, parts-array, parts-inline_table}
 use Rattle.toml_names.proofs.lemmas.tree.ItemsEntered.{IsEntered, HasElements, entered-none, entered-more, entered-clash, entered-element, element-address, has-element}
 use Rattle.toml_names.proofs.lemmas.mentions.Within.{no_tables-inside}
-use Rattle.toml_names.proofs.lemmas.mentions.PartsInside.{parts_of_elements, parts_of_members, parts-array, parts-inline_table}
 
 -- an item's element, and a pair's member
 item_is : (x : Item) → tree_element x ≡ record { before = gap (out-Item x).before; value = value (out-Item x).value; after = gap (out-Item x).after }

@@ -1,6 +1,5 @@
 use Rattle.toml_names.proofs.Common.{◌++◌, ◌-◌, length, subst, false≢true, children_of, children_behind, AreDistinct, rules}
-use Rattle.toml_names.proofs.lemmas.tree.Children.{children_of-front}
-use Rattle.toml_names.proofs.lemmas.tree.Distinct.{AreDistinct-front, dropped_behind, dropped_few}
+use Rattle.toml_names.proofs.lemmas.tree.Distinct.{AreDistinct-front, dropped_behind, dropped_few, children_of-front}
 use Rattle.toml_names.proofs.tree.name_map.NameMap.drop_last.Goals as goal
 
 pub returns-then-drop_last_behind : goal.returns-then-drop_last_behind

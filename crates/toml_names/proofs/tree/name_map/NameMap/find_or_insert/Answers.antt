@@ -1,6 +1,5 @@
 use Rattle.toml_names.proofs.Common.{◌≡◌, ◌++◌, sym, ap, subst, ◌∙◌, append-nil, cow_str_bytes, children_of, children_behind, AreDistinct, rules}
-use Rattle.toml_names.proofs.lemmas.tree.Children.{children_of-push}
-use Rattle.toml_names.proofs.lemmas.tree.Distinct.{AreDistinct-push, AreDistinct-led, found_in_few, found_behind, not_in_few}
+use Rattle.toml_names.proofs.lemmas.tree.Distinct.{AreDistinct-push, AreDistinct-led, found_in_few, found_behind, not_in_few, children_of-push}
 use Rattle.toml_names.proofs.tree.name_map.NameMap.find_or_insert.Goals as goal
 
 pub returns-in-Some-clause-found : goal.returns-in-Some-clause-found

@@ -1,10 +1,9 @@
 use Rattle.toml_names.proofs.Common.{◌≡◌, ℕ, true, ◌+◌, ◌∷◌, sym, ap, subst, map, length, arith, drop_all, err_from_is_err_and, piece, key, value, keyval, KeyVal, keyval_is, part_name, key_names, value_key_parts, keyval_key_parts, below, CanEnterKey, fronts, value_named, inside, pair_named, Valued, Clashes, EntersTo, address_at, kind, rules}
 use Rattle.toml_tree.specs.View.{element}
 use Rattle.toml_names.proofs.lemmas.tree.EnterSteps.{Clashes-front, KeepsElements-same, KeepsElements-then}
-use Rattle.toml_names.proofs.lemmas.mentions.Inside.{elements_of, members_of}
+use Rattle.toml_names.proofs.lemmas.mentions.Inside.{elements_of, members_of, parts_of_elements, parts_of_members}
 use Rattle.toml_names.proofs.lemmas.tree.ItemsEntered.{no_elements, entered-all}
 use Rattle.toml_names.proofs.lemmas.tree.PairEntered.{pair-parts, own-clash, within-clash, EntersTo-pair}
-use Rattle.toml_names.proofs.lemmas.mentions.PartsInside.{parts_of_elements, parts_of_members}
 use Rattle.toml_names.proofs.lemmas.tree.Steps.{GoesOn-same, GoesOn-then, GoesOnTo-begin, GoesOnTo-more, GoesOnTo-within, GoesOn-within, surely, refuses}
 use Rattle.toml_names.proofs.lemmas.tree.ValueEntered.{parts-next_element, parts-next_pair, array-begin, array-parts, table-begin, table-parts, element-clash, element-more, pair-clash, pair-more}
 use Rattle.toml_names.proofs.tree.name_tree.NameTree.+entering.Goals as goal

@@ -1,5 +1,5 @@
 use Rattle.toml_names.proofs.Common.{true≢false, rules}
-use Rattle.toml_names.proofs.lemmas.tree.ShortNodes.{stays_short, grows_long}
+use Rattle.toml_names.proofs.lemmas.tree.NodeAddresses.{stays_short, grows_long}
 use Rattle.toml_names.proofs.tree.name_tree.NameTree.try_line.Goals as goal
 
 pub returns-then-are_short_from-clause-entered : goal.returns-then-are_short_from-clause-entered
