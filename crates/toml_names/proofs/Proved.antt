@@ -18,9 +18,9 @@ pub use Rattle.toml_names.proofs.lemmas.mentions.NextLine.{section_from-append}
 pub use Rattle.toml_names.proofs.lemmas.mentions.Within.{count-append}
 pub use Rattle.toml_names.proofs.lemmas.mentions.Offences.{no_misfit, misfit_is_first}
 pub use Rattle.toml_names.proofs.lemmas.mentions.OfOneKind.{one_kind, first_is_data, values_stand_alone}
-pub use Rattle.toml_names.proofs.lemmas.mentions.OneOrder.{one_list_of_first_mentions}
+pub use Rattle.toml_names.proofs.lemmas.mentions.FirstMentioned.{one_list_of_first_mentions}
 pub use Rattle.toml_names.proofs.lemmas.mentions.OneRefusal.{one_refusal}
-pub use Rattle.toml_names.proofs.lemmas.mentions.OwnAddresses.{line_is_named, themselves_differ, own_addresses_differ, own_address_is_named, own_address_has_fact}
+pub use Rattle.toml_names.proofs.lemmas.mentions.LineAddresses.{line_is_named, themselves_differ, own_addresses_differ, own_address_is_named, own_address_has_fact}
 pub use Rattle.toml_names.proofs.lemmas.mentions.PlaceFound.{below_is_of_its_line, place_is_found}
 pub use Rattle.toml_names.proofs.lemmas.mentions.PlacesFound.{above_is_above, places_are_found}
 pub use Rattle.toml_names.proofs.lemmas.mentions.PlacesNone.{inside_is_below, no_place}

@@ -18,9 +18,7 @@ pub mod Local
 pub mod NextLine
 pub mod OfOneKind
 pub mod Offences
-pub mod OneOrder
 pub mod OneRefusal
-pub mod OwnAddresses
 pub mod PlaceFound
 pub mod Placeless
 pub mod PlacesFound

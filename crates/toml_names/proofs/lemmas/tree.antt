@@ -26,4 +26,3 @@ pub mod Steps
 pub mod TreeGrown
 pub mod Undo
 pub mod ValueEntered
-pub mod Walking

@@ -3,11 +3,10 @@ use Rattle.toml_names.proofs.Common.{◌≡◌, ℕ, Bool, true, false, cond, �
 use Rattle.std.proofs.lemmas.List.{length-append}
 use Rattle.toml_names.proofs.lemmas.model.Equal.{same_step-equal, same_step-self, same_address-equal, same_address-self}
 use Rattle.toml_names.proofs.lemmas.mentions.FirstLines.{first_line-push, first_line-none}
-use Rattle.toml_names.proofs.lemmas.tree.NodePlaces.{same_address-apart}
+use Rattle.toml_names.proofs.lemmas.tree.NodePlaces.{same_address-apart, root_address}
 use Rattle.toml_names.proofs.lemmas.mentions.PlacesFound.{same_role-equal}
 use Rattle.toml_names.proofs.lemmas.mentions.FactAt.{fact_kept, fact_behind}
 use Rattle.toml_names.proofs.lemmas.tree.NodeAddresses.{length-addresses}
-use Rattle.toml_names.proofs.lemmas.tree.Walking.{root_address}
 
 -- the kind of what has something one such step below
 abbrev pub holder : Step → Kind

@@ -4,7 +4,7 @@ use Rattle.toml_names.specs.declared.model.datum.Datum.{Array}
 use Rattle.toml_names.specs.tree.Finished.{IsDatumAt, IsOfKind}
 use Rattle.toml_names.proofs.lemmas.mentions.ValuesAbove.{holder, held, begins_at_root}
 use Rattle.toml_names.proofs.lemmas.model.Levels.{array-here, array-item, array-name, table-here, table-member, table-index}
-use Rattle.toml_names.proofs.lemmas.tree.Walking.{leads_to, later, no_place, nothing_named}
+use Rattle.toml_names.proofs.lemmas.tree.NodePlaces.{leads_to, later, no_place, nothing_named}
 
 -- a part that may not be there is the data at the node, if there is one
 abbrev pub PartIs : List Spot → Option ℕ → Option Datum → Type 0

@@ -6,7 +6,7 @@ use Rattle.toml_names.proofs.lemmas.mentions.FirstLines.{may_hold, AreHolding, h
 use Rattle.toml_names.proofs.lemmas.mentions.Offences.{KeepsRules-nil, KeepsRules-from_misfit}
 use Rattle.toml_names.proofs.lemmas.mentions.PlacesFound.{same_role-equal}
 use Rattle.toml_names.proofs.lemmas.mentions.ValuesAbove.{front_value, value_above, begins_at_root}
-use Rattle.toml_names.proofs.lemmas.tree.Walking.{nothing_below, own_place as own_node, leads_to, root_address}
+use Rattle.toml_names.proofs.lemmas.tree.NodePlaces.{nothing_below, own_place as own_node, leads_to, root_address}
 
 -- ---- the walk
 

@@ -3,7 +3,7 @@ use Rattle.toml_names.proofs.Common.{◌≡◌, ℕ, List, [], ◌∷◌, ◌++�
 use Rattle.toml_names.proofs.lemmas.mentions.Counting.{count_plain}
 use Rattle.toml_names.proofs.lemmas.tree.EnterSteps.{misfit-append, misfit-front, KeepsAddresses-same, KeepsAddresses-then}
 use Rattle.toml_names.proofs.lemmas.tree.InnerNodes.{entered_counted}
-use Rattle.toml_names.proofs.lemmas.tree.Walking.{root_address}
+use Rattle.toml_names.proofs.lemmas.tree.NodePlaces.{root_address}
 
 module _ (line : ℕ) (ms : List Named) where
   -- the fronts of a key up to a name, and those from there on

@@ -3,7 +3,7 @@ use Rattle.toml_names.proofs.Common.{◌↔◌, Bor, IfOk, IsTrue, map, subst, l
 use Rattle.toml_tree.specs.declared.line.Line.{Line as TreeLine}
 use Rattle.toml_names.proofs.lemmas.tree.LineRanks.{joined, root_facts}
 use Rattle.toml_names.proofs.lemmas.mentions.OfOneKind.{first_is_data}
-use Rattle.toml_names.proofs.lemmas.tree.Walking.{leads_to, root_address}
+use Rattle.toml_names.proofs.lemmas.tree.NodePlaces.{leads_to, root_address}
 use Rattle.toml_names.proofs.reader.NameReader.has_data.Goals as goal
 
 -- what is named at an address is what the nodes have there

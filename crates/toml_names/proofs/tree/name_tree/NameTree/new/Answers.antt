@@ -2,11 +2,8 @@
 use Rattle.toml_names.proofs.Common.{ap, ◌∙◌, ◌++◌, ◌∷◌, [], List, Spot, kind as kind_of, ◌≡◌, false, None, rules, Role, Kind, is_tables, IsTreeOf, leaf}
 use Rattle.toml_names.proofs.tree.name_tree.NameTree.new.Goals as goal
 
-root_there : (r : Role) (kind : Kind) → is_tables r ≡ false → IsTreeOf (leaf None 0 r kind 0 ∷ []) (record { address = []; role = r; kind = kind; line = 0 } ∷ [])
-root_there r kind other = search rules
-
 root_alone : (r : Role) (kind : Kind) (made : List Spot) → made ≡ leaf None 0 r kind 0 ∷ [] → is_tables r ≡ false → IsTreeOf made (record { address = []; role = r; kind = kind; line = 0 } ∷ [])
-root_alone r kind made is other = rw is (root_there r kind other)
+root_alone r kind made is other = rw is (search rules)
 
 pub returns-clause-root : goal.returns-clause-root
 returns-clause-root c =
