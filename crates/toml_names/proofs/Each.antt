@@ -1,7 +1,5 @@
 -- What holds of each, of every two and of some of a list, by recursion.
-use Rattle.std.proofs.Common.{◌≡◌, zero, suc, ◌⊎◌, inl, inr, List, [], ◌∷◌, ◌++◌, All, Any, AllPairs, refl, sym, subst, arith}
-use Rattle.std.proofs.lemmas.List.Elements.{All-head, All-tail}
-use Rattle.toml_tree.specs.Spells.{EachIs}
+use Rattle.toml_names.proofs.Common.{◌≡◌, zero, suc, ◌⊎◌, inl, inr, List, [], ◌∷◌, ◌++◌, All, Any, AllPairs, refl, sym, subst, arith, All-head, All-tail, EachIs}
 
 -- ---- each
 

@@ -1,12 +1,12 @@
 -- The proofs of the laws, for the crates above.
 pub use Rattle.toml_names.proofs.lemmas.model.Alike.{scalars_alike, arrays_alike, tables_same}
-pub use Rattle.toml_names.proofs.lemmas.mentions.AlikeNames.{alike_name_the_same, alike_stay_alike, pairs_leave_alike}
+pub use Rattle.toml_names.proofs.lemmas.mentions.NextLine.{alike_name_the_same, alike_stay_alike, pairs_leave_alike}
 pub use Rattle.toml_names.proofs.lemmas.mentions.AllLines.{lines_join}
 pub use Rattle.toml_names.proofs.lemmas.model.Changes.{array-within, table-has, has_part, step_there, hole_there}
 pub use Rattle.toml_names.proofs.lemmas.mentions.Clear.{not_named_is_clear}
-pub use Rattle.toml_names.proofs.lemmas.model.Closed.{one_data, lines_are_closed, values_are_closed}
+pub use Rattle.toml_names.proofs.lemmas.mentions.Clear.{one_data, lines_are_closed, values_are_closed}
 pub use Rattle.toml_names.proofs.lemmas.model.Equal.{same_step-equal, same_step-self, same_address-decides}
-pub use Rattle.toml_names.proofs.lemmas.mentions.Filtered.{rules_are_of_mentions}
+pub use Rattle.toml_names.proofs.lemmas.mentions.Offences.{rules_are_of_mentions}
 pub use Rattle.toml_names.proofs.lemmas.mentions.FirstMentioned.{first_mentions_are_these}
 pub use Rattle.toml_names.proofs.lemmas.mentions.FirstNamed.{values_join}
 pub use Rattle.toml_names.proofs.lemmas.model.Indices.{indices_are_low, value_indices_are_low}
@@ -15,15 +15,15 @@ pub use Rattle.toml_names.proofs.lemmas.model.Levels.{kind_at-scalar, kind_at-ar
 pub use Rattle.toml_names.proofs.lemmas.mentions.LineAddresses.{named_has_line, line_addresses, no_line_address}
 pub use Rattle.toml_names.proofs.lemmas.mentions.Local.{last_role_decides}
 pub use Rattle.toml_names.proofs.lemmas.mentions.NextLine.{section_from-append}
-pub use Rattle.toml_names.proofs.lemmas.mentions.NoTables.{count-append}
+pub use Rattle.toml_names.proofs.lemmas.mentions.Within.{count-append}
 pub use Rattle.toml_names.proofs.lemmas.mentions.Offences.{no_misfit, misfit_is_first}
 pub use Rattle.toml_names.proofs.lemmas.mentions.OfOneKind.{one_kind, first_is_data, values_stand_alone}
-pub use Rattle.toml_names.proofs.lemmas.mentions.OneOrder.{one_list_of_first_mentions}
+pub use Rattle.toml_names.proofs.lemmas.mentions.FirstMentioned.{one_list_of_first_mentions}
 pub use Rattle.toml_names.proofs.lemmas.mentions.OneRefusal.{one_refusal}
-pub use Rattle.toml_names.proofs.lemmas.mentions.OwnAddresses.{line_is_named, themselves_differ, own_addresses_differ, own_address_is_named, own_address_has_fact}
+pub use Rattle.toml_names.proofs.lemmas.mentions.LineAddresses.{line_is_named, themselves_differ, own_addresses_differ, own_address_is_named, own_address_has_fact}
 pub use Rattle.toml_names.proofs.lemmas.mentions.PlaceFound.{below_is_of_its_line, place_is_found}
 pub use Rattle.toml_names.proofs.lemmas.mentions.PlacesFound.{above_is_above, places_are_found}
 pub use Rattle.toml_names.proofs.lemmas.mentions.PlacesNone.{inside_is_below, no_place}
 pub use Rattle.toml_names.proofs.lemmas.mentions.Placeless.{places_are_not_named, value_places_are_not_named}
-pub use Rattle.toml_names.proofs.lemmas.mentions.Refused.{refused_are_bad}
-pub use Rattle.toml_names.proofs.lemmas.mentions.UnderRules.{lines_have_one_kind, line_values_stand_alone, values_have_one_kind, inner_values_stand_alone}
+pub use Rattle.toml_names.proofs.lemmas.mentions.OneRefusal.{refused_are_bad}
+pub use Rattle.toml_names.proofs.lemmas.mentions.AllLines.{lines_have_one_kind, line_values_stand_alone, values_have_one_kind, inner_values_stand_alone}

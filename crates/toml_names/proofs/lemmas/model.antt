@@ -1,10 +1,6 @@
-pub mod Above
 pub mod Alike
 pub mod Changes
-pub mod Closed
 pub mod Copies
 pub mod Equal
 pub mod Indices
-pub mod LastSteps
 pub mod Levels
-pub mod SameCount

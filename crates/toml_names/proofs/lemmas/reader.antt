@@ -1,4 +1,3 @@
-pub mod HeldData
 pub mod OneMoreLine
 pub mod WholeDocument
 pub mod WholeValue

@@ -1,4 +1,4 @@
-use Rattle.toml_names.proofs.lemmas.mentions.Clear.{not_named_is_clear}
+use Rattle.toml_names.proofs.Proved.{not_named_is_clear}
 use Rattle.toml_names.proofs.laws.clear.Goals as goal
 
 pub returns : goal.returns

@@ -1,9 +1,5 @@
-use Rattle.toml_names.proofs.lemmas.mentions.LineAddresses.{named_has_line}
-use Rattle.toml_names.proofs.lemmas.mentions.OwnAddresses.{line_is_named}
+use Rattle.toml_names.proofs.Proved.{named_has_line, line_is_named}
 use Rattle.toml_names.proofs.laws.named_lines.Goals as goal
 
-pub returns-clause-there : goal.returns-clause-there
-returns-clause-there c = line_is_named
-
-pub returns-clause-number : goal.returns-clause-number
-returns-clause-number c = named_has_line
+pub returns : goal.returns
+returns c = record { there = line_is_named; number = named_has_line }

@@ -1,30 +1,20 @@
 -- Several things that join one after the other, under the rules.
-use Rattle.std.proofs.Common.{◌≡◌, true, false, ℕ, List, [], ◌∷◌, ◌++◌, Some, None, refl, sym, ap, ◌∙◌, subst}
-use Rattle.std.proofs.lemmas.List.{append_assoc, append-nil}
-use Rattle.toml_names.specs.declared.mentions.mention.Role.TheVariants.{Bare}
-use Rattle.toml_names.specs.model.Addresses.{Address, child}
-use Rattle.toml_names.specs.model.Data.{fact_at}
-use Rattle.toml_names.specs.mentions.Joining.{Joins, JoinAll}
-use Rattle.toml_names.specs.mentions.Mentions.{a_table, Named, is_tables, count_tables}
-use Rattle.toml_names.specs.mentions.Rules.{fits, misfit}
+use Rattle.toml_names.proofs.Common.{◌≡◌, true, false, ℕ, List, [], ◌∷◌, ◌++◌, Some, None, refl, sym, ap, ◌∙◌, subst, rules, append_assoc, append-nil, Bare, Address, child, fact_at, Joins, JoinAll, a_table, Named, is_tables, count_tables, fits, misfit}
 use Rattle.toml_names.proofs.lemmas.mentions.Counting.{count_plain}
-use Rattle.toml_names.proofs.lemmas.mentions.Growing.{IsGrown, IsApart, IsGrown-push, joins_at_name, apart_at_name}
-use Rattle.toml_names.proofs.lemmas.mentions.Misfits.{misfit-later, fits-from_misfit}
-use Rattle.toml_names.proofs.lemmas.mentions.Pushed.{fact_other}
-use Rattle.toml_names.proofs.lemmas.mentions.Suiting.{IsSuited}
+use Rattle.toml_names.proofs.lemmas.mentions.Growing.{IsGrown, IsApart, IsGrown-push, joins_at_name, apart_at_name, IsSuited}
+use Rattle.toml_names.proofs.lemmas.mentions.Offences.{misfit-later, fits-from_misfit}
+use Rattle.toml_names.proofs.lemmas.mentions.FactAt.{fact_other}
 
 pub after_first : (ms more : List Named) (m : Named) → misfit ms (m ∷ more) ≡ None → misfit (ms ++ m ∷ []) more ≡ None
 after_first ms more m none = sym (misfit-later ms more m (fits-from_misfit ms more m none)) ∙ none
 
 misfit_front : (xs ys ms : List Named) → misfit ms (xs ++ ys) ≡ None → misfit ms xs ≡ None
 misfit_front [] ys ms none = refl
-misfit_front (x ∷ xs) ys ms none =
-    misfit-later ms xs x (fits-from_misfit ms (xs ++ ys) x none) ∙ misfit_front xs ys (ms ++ x ∷ []) (after_first ms (xs ++ ys) x none)
+misfit_front (x ∷ xs) ys ms none = search (rules, misfit-later, fits-from_misfit, after_first, misfit_front xs ys (ms ++ x ∷ []) (after_first ms (xs ++ ys) x none))
 
 misfit_behind : (xs ys ms : List Named) → misfit ms (xs ++ ys) ≡ None → misfit (ms ++ xs) ys ≡ None
 misfit_behind [] ys ms none = subst (λ l. misfit l ys ≡ None) (sym (append-nil ms)) none
-misfit_behind (x ∷ xs) ys ms none =
-    subst (λ l. misfit l ys ≡ None) (append_assoc ms (x ∷ []) xs) (misfit_behind xs ys (ms ++ x ∷ []) (after_first ms (xs ++ ys) x none))
+misfit_behind (x ∷ xs) ys ms none = search (rules, append_assoc, after_first, misfit_behind xs ys (ms ++ x ∷ []) (after_first ms (xs ++ ys) x none))
 
 JoinAll-append : (xs ys ms : List Named) → JoinAll ms xs → JoinAll (ms ++ xs) ys → JoinAll ms (xs ++ ys)
 JoinAll-append [] ys ms first then = subst (λ l. JoinAll l ys) (append-nil ms) then
@@ -53,22 +43,13 @@ pub IsAdded-nil : (ms : List Named) → IsGrown ms → IsAdded ms []
 IsAdded-nil ms grown = record { joins = tt; grown = subst IsGrown (sym (append-nil ms)) grown }
 
 IsAdded-append : (ms xs ys : List Named) → IsAdded ms xs → IsAdded (ms ++ xs) ys → IsAdded ms (xs ++ ys)
-IsAdded-append ms xs ys first then = record {
-  joins = JoinAll-append xs ys ms first.joins then.joins;
-  grown = subst IsGrown (append_assoc ms xs ys) then.grown;
-}
+IsAdded-append ms xs ys first then = search (rules, JoinAll-append, append_assoc)
 
 pub Adds-append : (ms xs ys : List Named) → Adds ms xs → (IsAdded ms xs → Adds (ms ++ xs) ys) → Adds ms (xs ++ ys)
-Adds-append ms xs ys first then none =
-    let front = first (misfit_front xs ys ms none) in
-    IsAdded-append ms xs ys front (then front (misfit_behind xs ys ms none))
+Adds-append ms xs ys first then = search (rules, misfit_front, IsAdded-append, misfit_behind)
 
 pub IsPut-nil : (K : Address → Type 0) (ms : List Named) → IsGrown ms → IsPut K ms []
-IsPut-nil K ms grown = record {
-  added = IsAdded-nil ms grown;
-  kept = λ at k. ap (λ l. fact_at l at) (append-nil ms);
-  counts = λ at. ap (λ l. count_tables l at) (append-nil ms);
-}
+IsPut-nil K ms grown = search rules
 
 -- nothing is put at fewer addresses
 pub IsPut-fewer : (K L : Address → Type 0) (ms new : List Named) → ((at : Address) → K at → L at) → IsPut L ms new → IsPut K ms new
@@ -88,20 +69,12 @@ Puts-append K L ms xs ys fewer first then none =
     IsPut-append K ms xs ys (IsPut-fewer K L ms xs fewer front) (then front (misfit_behind xs ys ms none))
 
 pub IsAdded-one : (ms : List Named) (m : Named) → IsGrown ms → Joins ms m → IsSuited m → is_tables m.role ≡ false → IsApart ms m → IsAdded ms (m ∷ [])
-IsAdded-one ms m grown joins suited plain apart = record {
-  joins = (joins, tt);
-  grown = IsGrown-push ms m grown joins suited plain apart;
-}
+IsAdded-one ms m grown joins suited plain apart = search (rules, IsGrown-push)
 
 -- a mention of a name in a table
 pub IsAdded-name : (ms : List Named) (m : Named) (at : Address) (n : List ℕ) → IsGrown ms → IsSuited m → ¬ (m.role ≡ Bare) → is_tables m.role ≡ false
     → fits ms m ≡ true → m.address ≡ child at n → fact_at ms at ≡ Some a_table → IsAdded ms (m ∷ [])
-IsAdded-name ms m at n grown suited mention plain good is table =
-    IsAdded-one ms m grown (joins_at_name ms m at n grown suited mention good is table) suited plain (apart_at_name ms m at n is)
+IsAdded-name ms m at n grown suited mention plain good is table = search (rules, IsAdded-one, joins_at_name, apart_at_name)
 
 pub IsPut-one : (K : Address → Type 0) (ms : List Named) (m : Named) → IsAdded ms (m ∷ []) → is_tables m.role ≡ false → ((at : Address) → K at → ¬ (m.address ≡ at)) → IsPut K ms (m ∷ [])
-IsPut-one K ms m added plain elsewhere = record {
-  added = added;
-  kept = λ at k. fact_other ms m at (elsewhere at k);
-  counts = λ at. count_plain ms m at plain;
-}
+IsPut-one K ms m added plain elsewhere = search (rules, fact_other, count_plain)

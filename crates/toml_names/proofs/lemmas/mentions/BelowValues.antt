@@ -1,23 +1,11 @@
 -- What stands strictly below a value is named by the value's line.
-use Rattle.std.proofs.Common.{◌≡◌, ◌⊎◌, inl, inr, ℕ, ◌+◌, ◌-◌, ◌==◌, ◌&&◌, Bool, true, false, cond, List, [], ◌∷◌, ◌++◌, map, refl, sym, ap, ap₂, ◌∙◌, subst, true≢false, append_assoc, arith}
-use Rattle.std.proofs.lemmas.Bool.{cond-false}
-use Rattle.toml_tree.specs.Spells.{EachIs}
-use Rattle.toml_tree.specs.Tree.{Assign, Value, Scalar, Array, Inline, Items, Close, Last, More, Pairs, ClosePairs, LastPair, MorePairs, Expr, BlankLine, KeyValLine, TableLine, ArrayTableLine, Line}
-use Rattle.toml_names.specs.declared.model.address.Step.TheVariants.{Name, Index}
-use Rattle.toml_names.specs.declared.mentions.mention.Role.{Role}
-use Rattle.toml_names.specs.declared.mentions.mention.Role.TheVariants.{Passed, Header, Dotted, Valued, Tables, Element, Bare}
-use Rattle.toml_names.specs.model.Addresses.{Address, IsAbove, same_address, child, element, below}
-use Rattle.toml_names.specs.mentions.Clear.{IsClear}
-use Rattle.toml_names.specs.mentions.Joining.{is_lone}
-use Rattle.toml_names.specs.mentions.Keys.{Key, key_names, part_name, rest_names}
-use Rattle.toml_names.specs.mentions.Mentions.{Named, root, named, named_by, named_from, value_named, inside, elements, members, fronts, pair_named, section, section_from, is_section, is_tables, count_tables, entered, followed, ends_table, ends_tables}
+use Rattle.toml_names.proofs.Common.{common_steps, ◌≡◌, ◌⊎◌, inl, inr, ℕ, ◌+◌, ◌-◌, ◌==◌, Bool, true, false, cond, List, [], ◌∷◌, ◌++◌, map, refl, sym, ap, ◌∙◌, subst, true≢false, append_assoc, arith, rules, cond-false, EachIs, Assign, Value, Scalar, Array, Inline, Items, Close, Last, More, Pairs, ClosePairs, LastPair, MorePairs, Expr, BlankLine, KeyValLine, TableLine, ArrayTableLine, Line, Name, Index, Valued, Address, IsAbove, same_address, child, element, below, IsClear, is_lone, Key, key_names, part_name, rest_names, Named, root, named, named_by, named_from, value_named, inside, elements, members, fronts, pair_named, section, section_from, is_section, count_tables, entered, followed, ends_table, ends_tables}
 use Rattle.toml_names.proofs.lemmas.mentions.Clear.{not_above_more, clear_more, clear_root, clear_cond}
 use Rattle.toml_names.proofs.lemmas.mentions.Counting.{adds, count_cons}
 use Rattle.toml_names.proofs.Each.{Has, each_append, each_left, each_right, each_weaker, has_left, has_right, has_each}
 use Rattle.toml_names.proofs.lemmas.model.Equal.{same_address-equal, same_address-self}
 use Rattle.toml_names.proofs.lemmas.mentions.LineAddresses.{AreOf, named_has_line}
-use Rattle.toml_names.proofs.lemmas.mentions.LineSections.{section_pair}
-use Rattle.toml_names.proofs.lemmas.mentions.NextLine.{section_from-append}
+use Rattle.toml_names.proofs.lemmas.mentions.NextLine.{section_from-append, section_pair}
 
 below-cons : (at : Address) (n : List ℕ) (ns : Key) → below (child at n) ns ≡ below at (n ∷ ns)
 below-cons at n ns = append_assoc at (Name n ∷ []) (map Name ns)
@@ -40,27 +28,9 @@ module _ (p : Address) where
 
   -- ---- headers go past it
 
-  lone_no_tables : (r : Role) → is_lone r ≡ true → is_tables r ≡ false
-  lone_no_tables Tables h = sym h
-  lone_no_tables Valued h = refl
-  lone_no_tables Bare h = refl
-  lone_no_tables Passed h = refl
-  lone_no_tables Header h = refl
-  lone_no_tables Dotted h = refl
-  lone_no_tables Element h = refl
-
   no_tables : (ms : List Named) → AreValuesAt ms → count_tables ms p ≡ 0
   no_tables [] values = refl
-  no_tables (m ∷ ms) values = by (same_address m.address p) refl (no_tables ms values.1)
-    where
-      by : (b : Bool) → same_address m.address p ≡ b → count_tables ms p ≡ 0 → count_tables (m ∷ ms) p ≡ 0
-      by true same rest =
-          let plain : is_tables m.role ≡ false = lone_no_tables m.role (values.0 (same_address-equal m.address p same)) in
-          let one : adds p m ≡ 0 = cond-false _ _ _ (ap₂ (λ x y. x && y) same plain) in
-          omega (arith, count_cons m ms p)
-      by false other rest =
-          let one : adds p m ≡ 0 = cond-false _ _ _ (ap (λ x. x && is_tables m.role) other) in
-          omega (arith, count_cons m ms p)
+  no_tables (m ∷ ms) values = search (rules, same_address-equal, adds, cond-false, count_cons, no_tables ms values.1)
 
   entered_clear : (earlier : List Named) (here : Address) → count_tables earlier p ≡ 0 → ¬ IsAbove p here → ¬ (p ≡ entered earlier here) → IsClear p (entered earlier here)
   entered_clear earlier here none not_above apart = by (count_tables earlier here == 0) refl apart
@@ -158,15 +128,8 @@ module _ (p : Address) where
   -- a line names something at the address, or nothing at it or below
   line_new : (xs : List Named) (n : ℕ) (e : Expr) → ¬ (p ≡ []) → IsClear p (section xs) → AreValuesAt (xs ++ named_by xs n e) → Has (λ m. m.address ≡ p) (named_by xs n e) ⊎ AllClear (named_by xs n e)
   line_new xs n (BlankLine b) apart clear values = inr tt
-  line_new xs n (KeyValLine ws kv tail) apart clear values = by (has_or_none (pair_named n (section xs) kv.assign kv.value))
-    where
-      by : Has (λ m. m.address ≡ p) (pair_named n (section xs) kv.assign kv.value) ⊎ NoneAt (pair_named n (section xs) kv.assign kv.value)
-          → Has (λ m. m.address ≡ p) (pair_named n (section xs) kv.assign kv.value) ⊎ AllClear (pair_named n (section xs) kv.assign kv.value)
-      by (inl h) = inl h
-      by (inr none) = inr (pair_clear kv.assign kv.value n (section xs) clear none (λ to c none. inside_clear kv.value n to c none))
-  line_new xs n (TableLine ws header tail) apart clear values =
-      let new = named_by xs n (TableLine ws header tail) in
-      inr (followed_clear (rest_names header.key.rest) (part_name header.key.first) n xs (ends_table n) [] (no_tables xs (each_left _ xs new values)) (table_clear n) (clear_root p apart) (each_right _ xs new values))
+  line_new xs n (KeyValLine ws kv tail) apart clear values = search (rules, has_or_none, pair_clear, inside_clear)
+  line_new xs n (TableLine ws header tail) apart clear values = grind (arith, common_steps, followed_clear, no_tables, each_left, table_clear, clear_root, each_right)
   line_new xs n (ArrayTableLine ws header tail) apart clear values =
       let new = named_by xs n (ArrayTableLine ws header tail) in
       inr (followed_clear (rest_names header.key.rest) (part_name header.key.first) n xs (ends_tables n xs) [] (no_tables xs (each_left _ xs new values)) (tables_clear n xs) (clear_root p apart) (each_right _ xs new values))
@@ -177,14 +140,8 @@ module _ (p : Address) where
   line_section : (xs : List Named) (n : ℕ) (e : Expr) → ¬ (p ≡ []) → IsClear p (section xs) → AreValuesAt (xs ++ named_by xs n e) → IsClear p (section (xs ++ named_by xs n e))
   line_section xs n (BlankLine b) apart clear values = section_next xs [] clear tt
   line_section xs n (KeyValLine ws kv tail) apart clear values = subst (IsClear p) (sym (section_pair xs n (section xs) kv.assign kv.value)) clear
-  line_section xs n (TableLine ws header tail) apart clear values =
-      let new = named_by xs n (TableLine ws header tail) in
-      section_next xs new clear
-      (followed_clear (rest_names header.key.rest) (part_name header.key.first) n xs (ends_table n) [] (no_tables xs (each_left _ xs new values)) (table_clear n) (clear_root p apart) (each_right _ xs new values))
-  line_section xs n (ArrayTableLine ws header tail) apart clear values =
-      let new = named_by xs n (ArrayTableLine ws header tail) in
-      section_next xs new clear
-      (followed_clear (rest_names header.key.rest) (part_name header.key.first) n xs (ends_tables n xs) [] (no_tables xs (each_left _ xs new values)) (tables_clear n xs) (clear_root p apart) (each_right _ xs new values))
+  line_section xs n (TableLine ws header tail) apart clear values = search (rules, section_next, followed_clear, no_tables, each_left, table_clear, clear_root, each_right)
+  line_section xs n (ArrayTableLine ws header tail) apart clear values = search (rules, section_next, followed_clear, no_tables, each_left, tables_clear, clear_root, each_right)
 
   -- something of the line is at the address
   abbrev pub IsHere : ℕ → Named → Type 0
@@ -195,11 +152,7 @@ module _ (p : Address) where
   AreOfTheirs all = EachIs (λ m. IsAbove p m.address → Has (IsHere m.line) all)
 
   new_of_theirs : (xs new : List Named) (n : ℕ) → AreOf n new → Has (λ m. m.address ≡ p) new ⊎ AllClear new → AreOfTheirs (xs ++ new) new
-  new_of_theirs xs new n of (inl h) =
-      each_weaker (λ m. m.line ≡ n) (λ m. IsAbove p m.address → Has (IsHere m.line) (xs ++ new))
-      (λ m line above. has_right (IsHere m.line) xs new (has_each (λ v. v.line ≡ n) (λ v. v.address ≡ p) (IsHere m.line) (λ v l at. (at, l ∙ sym line)) new of h)) new of
-  new_of_theirs xs new n of (inr clear) =
-      each_weaker (λ m. IsClear p m.address) (λ m. IsAbove p m.address → Has (IsHere m.line) (xs ++ new)) (λ m c above. absurd (c.not_above above)) new clear
+  new_of_theirs xs new n of h2 = search (rules, each_weaker, has_right, has_each)
 
   old_of_theirs : (xs new : List Named) → AreOfTheirs xs xs → AreOfTheirs (xs ++ new) xs
   old_of_theirs xs new = each_weaker (λ m. IsAbove p m.address → Has (IsHere m.line) xs) (λ m. IsAbove p m.address → Has (IsHere m.line) (xs ++ new)) (λ m f above. has_left (IsHere m.line) xs new (f above)) xs

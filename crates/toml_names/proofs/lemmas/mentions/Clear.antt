@@ -1,15 +1,49 @@
--- Addresses that another is neither at nor above.
-use Rattle.std.proofs.Common.{◌≡◌, Bool, true, false, cond, ◌⊎◌, inl, inr, [], ◌∷◌, ◌++◌, Option, Some, None, refl, sym, ap, ◌∙◌}
-use Rattle.std.proofs.lemmas.Option.{none-some}
-use Rattle.toml_names.specs.declared.model.address.Step.{Step}
-use Rattle.toml_names.specs.model.Addresses.{Address, IsAbove}
-use Rattle.toml_names.specs.mentions.Clear.{IsClear, NotNamedIsClear}
-use Rattle.toml_names.specs.model.Data.{fact_at}
-use Rattle.toml_names.specs.mentions.Mentions.{Kind, Named, named}
-use Rattle.toml_names.proofs.lemmas.mentions.AllLines.{lines_join}
-use Rattle.toml_names.proofs.lemmas.model.Closed.{closed_lines, closed_below}
+-- Addresses that another is neither at nor above. The data of what is named are one map, in which nothing stands below nothing.
+use Rattle.toml_names.proofs.Common.{◌≡◌, Bool, cond, ◌⊎◌, inl, inr, [], ◌∷◌, ◌++◌, Option, Some, None, refl, sym, ap, ◌∙◌, rules, none-some, Step, Address, IsAbove, IsClear, NotNamedIsClear, fact_at, Kind, Named, named, List, subst, append_assoc, append-nil, Line, Kinds, IsDataOf, IsClosed, OneData, LinesAreClosed, ValuesAreClosed, JoinAll, Joined, root}
+use Rattle.toml_names.proofs.lemmas.mentions.AllLines.{lines_join, new_from, named_from-is}
 use Rattle.toml_names.proofs.Each.{Has, each_weaker, has_of_any, any_of_has, has_weaker, members_self}
 use Rattle.toml_names.proofs.lemmas.mentions.OfOneKind.{first_is_data}
+use Rattle.toml_names.proofs.lemmas.mentions.FirstNamed.{values_join}
+use Rattle.toml_names.proofs.lemmas.mentions.Growing.{IsClosed-push}
+
+-- what joins is not put below what is not there
+closed_all : (more ms : List Named) → IsClosed (fact_at ms) → JoinAll ms more → IsClosed (fact_at (ms ++ more))
+closed_all [] ms closed joins = subst (λ l. IsClosed (fact_at l)) (sym (append-nil ms)) closed
+closed_all (m ∷ more) ms closed joins = subst (λ l. IsClosed (fact_at l)) (append_assoc ms (m ∷ []) more) (closed_all more (ms ++ m ∷ []) (IsClosed-push ms m closed joins.0) joins.1)
+
+-- the root alone
+closed_root : (m : Named) → m.address ≡ [] → IsClosed (fact_at (m ∷ []))
+closed_root m root = search rules
+
+pub closed_joined : (m : Named) (ms : List Named) → m.address ≡ [] → Joined (m ∷ ms) → IsClosed (fact_at (m ∷ ms))
+closed_joined m ms root joined = closed_all ms (m ∷ []) (closed_root m root) joined
+
+pub closed_lines : (lines : List Line) → Joined (named lines) → IsClosed (fact_at (named lines))
+closed_lines lines joined = search (rules, named_from-is, closed_joined, new_from)
+
+-- where nothing stands, nothing stands at any depth below
+pub closed_below : (kinds : Kinds) → IsClosed kinds → (r at : Address) → kinds at ≡ None → kinds (at ++ r) ≡ None
+closed_below kinds closed [] at none = ap kinds (append-nil at) ∙ none
+closed_below kinds closed (s ∷ r) at none = ap kinds (sym (append_assoc at (s ∷ []) r)) ∙ closed_below kinds closed r (at ++ s ∷ []) (closed at s none)
+
+pub one_data : OneData
+one_data ms k l one other at = by (k at) (l at) refl refl
+  where
+    by : (o p : Option Kind) → k at ≡ o → l at ≡ p → k at ≡ l at
+    by None None is to = is ∙ sym to
+    by (Some x) p is to = is ∙ sym ((other at x).1 ((one at x).0 is))
+    by None (Some y) is to = (one at y).1 ((other at y).0 to) ∙ sym to
+
+as_first : (ms : List Named) (kinds : Kinds) → Joined ms → IsDataOf ms kinds → IsClosed (fact_at ms) → IsClosed kinds
+as_first ms kinds joined facts closed at s none =
+    let same = one_data ms kinds (fact_at ms) facts (first_is_data ms joined) in
+    same (at ++ s ∷ []) ∙ closed at s (sym (same at) ∙ none)
+
+pub lines_are_closed : LinesAreClosed
+lines_are_closed lines kinds keeps facts = as_first (named lines) kinds (lines_join lines keeps) facts (closed_lines lines (lines_join lines keeps))
+
+pub values_are_closed : ValuesAreClosed
+values_are_closed = search (rules, as_first, values_join, closed_joined)
 
 no_cons : (p : Address) (t : Step) (r : Address) → ¬ ([] ≡ p ++ t ∷ r)
 no_cons [] t r is = cc
@@ -39,12 +73,10 @@ pub clear_root : (p : Address) → ¬ (p ≡ []) → IsClear p []
 clear_root p apart = record { apart = apart; not_above = λ above. no_cons p above.0 above.1 above.2 }
 
 pub clear_cond : (p a b : Address) (t : Bool) → IsClear p a → IsClear p b → IsClear p (cond t a b)
-clear_cond p a b true x y = x
-clear_cond p a b false x y = y
+clear_cond p a b t x y = search rules
 
 absent : (o : Option Kind) → ((k : Kind) → o ≡ Some k → ⊥) → o ≡ None
-absent None h = refl
-absent (Some k) h = absurd (h k refl)
+absent o h = search rules
 
 pub not_named_is_clear : NotNamedIsClear
 not_named_is_clear lines p keeps free =

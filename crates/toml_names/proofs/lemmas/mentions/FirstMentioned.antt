@@ -1,20 +1,30 @@
--- The plain list of first mentions has each address that is mentioned, once, in order: one more mention at a time.
-use Rattle.std.proofs.Common.{◌≡◌, ◌⊎◌, inl, inr, ℕ, zero, suc, ◌<◌, ◌↔◌, get_or, Bool, true, false, cond, ◌||◌, List, [], ◌∷◌, ◌++◌, length, filter, Any, AllPairs, Contains, refl, sym, ap, subst, ◌∙◌, true≢false, arith}
-use Rattle.std.proofs.lemmas.Bool.{cond-true, cond-false}
-use Rattle.std.proofs.lemmas.List.{append_assoc, append-nil}
-use Rattle.std.proofs.lemmas.List.Elements.{Contains-get_or, Contains-append_left, Contains-push, Contains-push_cases, filter-append}
-use Rattle.std.proofs.lemmas.List.Quantifiers.{all_pairs_push}
-use Rattle.toml_names.specs.model.Addresses.{Address, same_address}
-use Rattle.toml_names.specs.mentions.FirstMentions.{is_named, first_named, first_mentions, IsMentioned, ComesFirst, IsFirstMentions, FirstMentionsAreThese}
-use Rattle.toml_names.specs.mentions.Mentions.{Named, is_mention}
+-- The addresses in the order of their first naming, one more at a time: the plain list of first mentions has each that is mentioned, once, in order, and no other list does.
+use Rattle.toml_names.proofs.Common.{common_steps, ◌≡◌, ◌⊎◌, inl, inr, ℕ, ◌<◌, ◌↔◌, get_or, Bool, true, false, cond, ◌||◌, List, [], ◌∷◌, ◌++◌, length, filter, Any, AllPairs, Contains, refl, sym, ap, subst, ◌∙◌, true≢false, arith, rules, cond-true, cond-false, append_assoc, append-nil, Contains-get_or, Contains-append_left, Contains-push, Contains-push_cases, filter-append, all_pairs_push, Address, same_address, is_named, first_named, first_mentions, IsMentioned, ComesFirst, IsFirstMentions, FirstMentionsAreThese, Named, is_mention, Some, None, none-some, fact_at, Kind, zero, suc, ◌+◌, length-append, Contains-append_right, OneListOfFirstMentions}
 use Rattle.toml_names.proofs.lemmas.model.Equal.{same_address-equal, same_address-self}
 use Rattle.toml_names.proofs.lemmas.mentions.FactAt.{any_here, any_later}
-use Rattle.toml_names.proofs.lemmas.mentions.FirstMore.{first_push}
+
+pub not_named : (ms : List Named) (at : Address) → fact_at ms at ≡ None → is_named ms at ≡ false
+not_named [] at none = refl
+not_named (m ∷ ms) at none = search (rules, none-some, cond-true, cond-false, not_named ms at)
+
+pub is_named-there : (ms : List Named) (at : Address) (k : Kind) → fact_at ms at ≡ Some k → is_named ms at ≡ true
+is_named-there [] at k some = absurd (none-some k some)
+is_named-there (m ∷ ms) at k some = search (rules, cond-false, is_named-there ms at k)
+
+pub first_push : (ms earlier : List Named) (m : Named) → first_named earlier (ms ++ m ∷ []) ≡ first_named earlier ms ++ cond (is_named (earlier ++ ms) m.address) [] (m.address ∷ [])
+first_push [] earlier m = ap (λ l. cond (is_named l m.address) [] (m.address ∷ [])) (sym (append-nil earlier))
+first_push (x ∷ ms) earlier m = search (rules, append_assoc, first_push ms (earlier ++ x ∷ []) m)
+
+-- what was not named comes last, and what was named comes in no second time
+pub first-new : (ms : List Named) (m : Named) → fact_at ms m.address ≡ None → first_named [] (ms ++ m ∷ []) ≡ first_named [] ms ++ m.address ∷ []
+first-new ms m none = first_push ms [] m ∙ ap (λ b. first_named [] ms ++ cond b [] (m.address ∷ [])) (not_named ms m.address none)
+
+pub first-again : (ms : List Named) (m : Named) (k : Kind) → fact_at ms m.address ≡ Some k → first_named [] (ms ++ m ∷ []) ≡ first_named [] ms
+first-again ms m k some = search (rules, first_push, is_named-there, append-nil)
 
 module _ (P : Named → Type 0) where
   pub any_cases : (m : Named) (ms : List Named) → Any P (m ∷ ms) → P m ⊎ Any P ms
-  any_cases m ms (zero, x, low, is, p) = inl (subst P (sym is) p)
-  any_cases m ms (suc k, x, low, is, p) = inr (k, x, omega (arith, low), is, p)
+  any_cases m ms h1 = search rules
 
   any_left : (ms more : List Named) → Any P ms → Any P (ms ++ more)
   any_left ms more (k, x, low, is, p) = let c = Contains-append_left ms more x (k, low, is) in (c.0, x, c.1, c.2, p)
@@ -23,11 +33,7 @@ module _ (P : Named → Type 0) where
   any_push ms m p = let c = Contains-push ms m in (c.0, m, c.1, c.2, p)
 
   any_push_cases : (ms : List Named) (m : Named) → Any P (ms ++ m ∷ []) → Any P ms ⊎ P m
-  any_push_cases ms m (k, x, low, is, p) = by (Contains-push_cases ms m x (k, low, is))
-    where
-      by : Contains ms x ⊎ (m ≡ x) → Any P ms ⊎ P m
-      by (inl c) = inl (c.0, x, c.1, c.2, p)
-      by (inr same) = inr (subst P (sym same) p)
+  any_push_cases ms m h1 = grind (arith, common_steps)
 
   any_split : (before behind : List Named) (m : Named) → P m → Any P (before ++ m ∷ behind)
   any_split [] behind m p = any_here P m behind p
@@ -66,8 +72,7 @@ mentioned (m ∷ ms) at found = by (is_mention m) refl (same_address m.address a
     by false bare c e ih = any_later (Mentions at) m ms (ih (sym (ap (λ l. is_named l at) (cond-false _ _ _ bare)) ∙ found))
 
 or_right : (b : Bool) → (b || true) ≡ true
-or_right true = refl
-or_right false = refl
+or_right b = search rules
 
 found : (ms : List Named) (at : Address) → IsMentioned ms at → is_named (filter is_mention ms) at ≡ true
 found [] at (k, x, low, is, p) = absurd (omega (arith, low))
@@ -86,11 +91,7 @@ found (m ∷ ms) at any = by (is_mention m) refl (any_cases (Mentions at) m ms a
 
 -- an order of mentions stays, as the first has one
 first_stays : (ms : List Named) (m : Named) (at other : Address) → ComesFirst ms at other → IsMentioned ms at → ComesFirst (ms ++ m ∷ []) at other
-first_stays ms m at other first there before behind x is same role = by (split_push ms m before x behind is)
-  where
-    by : (ms ≡ before) ⊎ ((rest : List Named) × (ms ≡ before ++ x ∷ rest)) → IsMentioned before at
-    by (inl e) = subst (λ l. IsMentioned l at) e there
-    by (inr r) = first before r.0 x r.1 same role
+first_stays ms m at other first there = search (rules, split_push)
 
 module _ (ms : List Named) (list : List Address) (h : IsFirstMentions ms list) (m : Named) where
   listed : (k : ℕ) (d : Address) → k < length list → IsMentioned ms (get_or list k d)
@@ -165,11 +166,87 @@ all_more_mentions [] earlier h = rw append-nil h
 all_more_mentions (m ∷ ms) earlier h = subst (λ l. IsFirstMentions l (first_mentions l)) (append_assoc earlier (m ∷ []) ms) (all_more_mentions ms (earlier ++ m ∷ []) (one_more earlier m h))
 
 no_mentions : IsFirstMentions [] []
-no_mentions = record {
-  all = λ at. ((λ c. absurd (omega (arith, c.1))), (λ any. absurd (omega (arith, any.2))));
-  once = λ i j d before low. absurd (omega arith);
-  order = λ i j d before low. absurd (omega arith);
-}
+no_mentions = search rules
 
 pub first_mentions_are_these : FirstMentionsAreThese
 first_mentions_are_these ms = all_more_mentions ms [] no_mentions
+
+-- where the one that has it stands
+record Split (P : Named → Type 0) (ms : List Named) : Type 0 where
+  before : List Named
+  it : Named
+  behind : List Named
+  is : ms ≡ before ++ it ∷ behind
+  has : P it
+
+split_at_any : (P : Named → Type 0) (ms : List Named) → Any P ms → Split P ms
+split_at_any P [] (k, x, low, is, p) = absurd (omega (arith, low))
+split_at_any P (m ∷ ms) any = by (any_cases P m ms any) (split_at_any P ms)
+  where
+    by : P m ⊎ Any P ms → (Any P ms → Split P ms) → Split P (m ∷ ms)
+    by (inl p) ih = record { before = []; it = m; behind = ms; is = refl; has = p }
+    by (inr later) ih = let s = ih later in record { before = m ∷ s.before; it = s.it; behind = s.behind; is = ap (λ l. m ∷ l) s.is; has = s.has }
+
+-- a mention of each before each of the other would go on for ever
+descent : (n : ℕ) (ms : List Named) (at other : Address) → ComesFirst ms at other → ComesFirst ms other at
+    → (before behind : List Named) (m : Named) → length before < n → ms ≡ before ++ m ∷ behind → Mentions at m → ⊥
+descent zero ms at other first back before behind m low is has = absurd (omega arith)
+descent (suc n) ms at other first back before behind m low is has =
+    let s = split_at_any (Mentions other) before (back before behind m is has.0 has.1) in
+    let long : length before ≡ length s.before + suc (length s.behind) = ap length s.is ∙ length-append s.before (s.it ∷ s.behind) in
+    let all : ms ≡ s.before ++ s.it ∷ (s.behind ++ m ∷ behind) = is ∙ ap (λ l. l ++ m ∷ behind) s.is ∙ append_assoc s.before (s.it ∷ s.behind) (m ∷ behind) in
+    descent n ms other at back first s.before (s.behind ++ m ∷ behind) s.it (omega (arith, long, low)) all s.has
+
+-- it is mentioned, and before the other
+abbrev Leads : List Named → Address → Address → Type 0
+Leads ms at other = IsMentioned ms at × ComesFirst ms at other
+
+never_both : (ms : List Named) (at other : Address) → Leads ms at other → Leads ms other at → ⊥
+never_both ms at other a b =
+    let s = split_at_any (Mentions at) ms a.0 in
+    descent (suc (length s.before)) ms at other a.1 b.1 s.before s.behind s.it (omega arith) s.is s.has
+
+contains_cases : (x : Address) (xs : List Address) (y : Address) → Contains (x ∷ xs) y → (x ≡ y) ⊎ Contains xs y
+contains_cases x xs y h1 = search rules
+
+contains_here : (x : Address) (xs : List Address) → Contains (x ∷ xs) x
+contains_here x xs = (zero, omega arith, refl)
+
+-- lists of one order, of which no two come each before the other, are equal where they have the same addresses
+module _ (R : Address → Address → Type 0) (never : (x y : Address) → R x y → R y x → ⊥) where
+  before_rest : (x : Address) (xs : List Address) (y : Address) → AllPairs R (x ∷ xs) → Contains xs y → R x y
+  before_rest x xs y pairs (k, low, is) = subst (R x) is (pairs zero (suc k) y (omega arith) (omega (arith, low)))
+
+  pairs_rest : (x : Address) (xs : List Address) → AllPairs R (x ∷ xs) → AllPairs R xs
+  pairs_rest x xs pairs i j d before low = pairs (suc i) (suc j) d (omega arith) (omega arith)
+
+  same_head : (x : Address) (a : List Address) (y : Address) (b : List Address) → AllPairs R (x ∷ a) → AllPairs R (y ∷ b) → Contains (x ∷ a) y → Contains (y ∷ b) x → x ≡ y
+  same_head x a y b first second there back = by (contains_cases x a y there) (contains_cases y b x back)
+    where
+      by : (x ≡ y) ⊎ Contains a y → (y ≡ x) ⊎ Contains b x → x ≡ y
+      by (inl same) _ = same
+      by (inr _) (inl same) = sym same
+      by (inr later) (inr other) = absurd (never x y (before_rest x a y first later) (before_rest y b x second other))
+
+  in_rest : (x : Address) (a : List Address) (y : Address) (b : List Address) (z : Address) → AllPairs R (x ∷ a) → x ≡ y → (Contains (x ∷ a) z → Contains (y ∷ b) z) → Contains a z → Contains b z
+  in_rest x a y b z pairs same over there = by (contains_cases y b z (over (Contains-append_right (x ∷ []) a z there)))
+    where
+      by : (y ≡ z) ⊎ Contains b z → Contains b z
+      by (inl here) = let self : R z z = subst (λ w. R w z) (same ∙ here) (before_rest x a z pairs there) in absurd (never z z self self)
+      by (inr later) = later
+
+  one_order : (a b : List Address) → AllPairs R a → AllPairs R b → ((at : Address) → Contains a at ↔ Contains b at) → a ≡ b
+  one_order [] [] first second same = refl
+  one_order [] (y ∷ b) first second same = let none = (same y).1 (contains_here y b) in absurd (omega (arith, none.1))
+  one_order (x ∷ a) [] first second same = let none = (same x).0 (contains_here x a) in absurd (omega (arith, none.1))
+  one_order (x ∷ a) (y ∷ b) first second same =
+      let head = same_head x a y b first second ((same y).1 (contains_here y b)) ((same x).0 (contains_here x a)) in
+      let rest = one_order a b (pairs_rest x a first) (pairs_rest y b second) (λ z. (in_rest x a y b z first head (same z).0, in_rest y b x a z second (sym head) (same z).1)) in
+      λ k. head k ∷ rest k
+
+leading : (ms : List Named) (list : List Address) → IsFirstMentions ms list → AllPairs (Leads ms) list
+leading ms list h i j d before low = ((h.all (get_or list i d)).0 (Contains-get_or list i d (omega arith)), h.order i j d before low)
+
+pub one_list_of_first_mentions : OneListOfFirstMentions
+one_list_of_first_mentions ms a b first second =
+    one_order (Leads ms) (never_both ms) a b (leading ms a first) (leading ms b second) (λ at. ((λ c. (second.all at).1 ((first.all at).0 c)), (λ c. (first.all at).1 ((second.all at).0 c))))

@@ -1,26 +1,12 @@
 -- What a value names joins: the value at an address where nothing stands, and all inside it.
-use Rattle.std.proofs.Common.{◌≡◌, ℕ, ◌+◌, ◌<◌, ◌≤◌, false, List, [], ◌∷◌, ◌++◌, map, length, IsSome, Some, None, refl, sym, ap, ◌∙◌, subst, inl, arith, le_refl, below_more}
-use Rattle.std.proofs.lemmas.List.{append_assoc}
-use Rattle.std.proofs.lemmas.Option.{none-some}
-use Rattle.toml_tree.specs.Tree.{Value, Scalar, Array, Inline, Items, Close, Last, More, Pairs, ClosePairs, LastPair, MorePairs}
-use Rattle.toml_names.specs.declared.model.address.Step.{Step}
-use Rattle.toml_names.specs.declared.model.address.Step.TheVariants.{Name, Index}
-use Rattle.toml_names.specs.declared.mentions.mention.Role.{Role}
-use Rattle.toml_names.specs.declared.mentions.mention.Role.TheVariants.{Dotted, Valued, Bare}
-use Rattle.toml_names.specs.model.Addresses.{Address, child, element, below}
-use Rattle.toml_names.specs.model.Data.{fact_at}
-use Rattle.toml_names.specs.mentions.Joining.{IsFree}
-use Rattle.toml_names.specs.mentions.Keys.{Key, part_name, rest_names}
-use Rattle.toml_names.specs.mentions.Mentions.{a_table, an_array, Named, kind_of, table_at, value_named, is_tables, count_tables, fronts, inside, elements, members, pair_named}
+use Rattle.toml_names.proofs.Common.{◌≡◌, ℕ, ◌+◌, ◌<◌, ◌≤◌, false, List, [], ◌∷◌, ◌++◌, map, length, IsSome, Some, None, refl, sym, ap, ◌∙◌, subst, inl, arith, le_refl, below_more, append_assoc, none-some, Value, Scalar, Array, Inline, Items, Close, Last, More, Pairs, ClosePairs, LastPair, MorePairs, Step, Name, Index, Role, Dotted, Valued, Bare, Address, child, element, below, fact_at, IsFree, Key, part_name, rest_names, a_table, an_array, Named, kind_of, table_at, value_named, is_tables, count_tables, fronts, inside, elements, members, pair_named}
 use Rattle.toml_names.proofs.lemmas.mentions.Adding.{IsPut, Puts, IsPut-nil, Puts-append, IsPut-fewer, IsAdded-one, IsAdded-name, IsPut-one}
 use Rattle.toml_names.proofs.lemmas.mentions.Counting.{count_absent}
-use Rattle.toml_names.proofs.lemmas.mentions.FactAt.{fact_here, fact_kept, fact_behind}
-use Rattle.toml_names.proofs.lemmas.mentions.Growing.{IsGrown, IsApart, free_at_name, apart_at_name}
-use Rattle.toml_names.proofs.lemmas.model.LastSteps.{child_is_no_element, element_parts, one_longer}
-use Rattle.toml_names.proofs.lemmas.mentions.Misfits.{fits-from_misfit}
+use Rattle.toml_names.proofs.lemmas.mentions.FactAt.{fact_here, fact_kept, fact_behind, there_is, fact_new, fact_other, stays}
+use Rattle.toml_names.proofs.lemmas.mentions.Growing.{IsGrown, IsApart, free_at_name, apart_at_name, IsSuited, suited_mention}
+use Rattle.toml_names.proofs.lemmas.model.Equal.{child_is_no_element, element_parts, one_longer}
+use Rattle.toml_names.proofs.lemmas.mentions.Offences.{fits-from_misfit}
 use Rattle.toml_names.proofs.lemmas.mentions.OfOneKind.{one_kind_new}
-use Rattle.toml_names.proofs.lemmas.mentions.Pushed.{there_is, fact_new, fact_other, stays}
-use Rattle.toml_names.proofs.lemmas.mentions.Suiting.{IsSuited, suited_mention}
 
 -- no longer than the address
 abbrev pub NotLonger : Address → Address → Type 0

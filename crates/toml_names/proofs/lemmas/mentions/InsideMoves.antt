@@ -1,13 +1,5 @@
 -- What a value names at an address is what it names alone, put there.
-use Rattle.std.proofs.Common.{◌≡◌, ℕ, ◌+◌, List, [], ◌∷◌, ◌++◌, map, refl, sym, ap, ap₂, ◌∙◌, append_assoc}
-use Rattle.std.proofs.lemmas.List.{map-append}
-use Rattle.toml_tree.specs.Tree.{Assign, Value, Scalar, Array, Inline, Items, Close, Last, More, Pairs, ClosePairs, LastPair, MorePairs}
-use Rattle.toml_names.specs.declared.model.address.Step.TheVariants.{Name, Index}
-use Rattle.toml_names.specs.declared.mentions.mention.Role.TheVariants.{Dotted, Valued, Bare}
-use Rattle.toml_names.specs.model.Addresses.{Address, child, element, below}
-use Rattle.toml_names.specs.mentions.Inside.{shifted, InsideMoves}
-use Rattle.toml_names.specs.mentions.Keys.{Key, key_names}
-use Rattle.toml_names.specs.mentions.Mentions.{Named, value_named, table_at, inside, elements, members, fronts, pair_named}
+use Rattle.toml_names.proofs.Common.{◌≡◌, ℕ, ◌+◌, List, [], ◌∷◌, ◌++◌, map, refl, sym, ap, ap₂, ◌∙◌, append_assoc, rules, map-append, Assign, Value, Scalar, Array, Inline, Items, Close, Last, More, Pairs, ClosePairs, LastPair, MorePairs, Name, Index, Dotted, Bare, Address, child, element, shifted, InsideMoves, Key, Named, value_named, table_at, inside, elements, members, fronts, pair_named}
 
 module _ (line old : ℕ) (p : Address) where
   fronts_moved : (key : Key) (at : Address) → fronts line (p ++ at) key ≡ map (shifted line p) (fronts old at key)
@@ -22,11 +14,7 @@ module _ (line old : ℕ) (p : Address) where
 
   pair_moved : (a : Assign) (v : Value) (at : Address) → ((to : Address) → inside line (p ++ to) v ≡ map (shifted line p) (inside old to v))
       → pair_named line (p ++ at) a v ≡ map (shifted line p) (pair_named old at a v)
-  pair_moved a v at within =
-      let to = below at (key_names a.key) in
-      both (fronts old at (key_names a.key)) (value_named old Valued to v ∷ inside old to v) _ _
-      (fronts_moved (key_names a.key) at)
-      (ap (λ (q : Address). value_named line Valued q v ∷ inside line q v) (append_assoc p at (map Name (key_names a.key))) ∙ ap (λ l. value_named line Valued (p ++ to) v ∷ l) (within to))
+  pair_moved a v at within = search (rules, both, fronts_moved, append_assoc)
 
   mutual
     inside_moved : (v : Value) (at : Address) → inside line (p ++ at) v ≡ map (shifted line p) (inside old at v)

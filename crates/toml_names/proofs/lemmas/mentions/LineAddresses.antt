@@ -1,64 +1,24 @@
--- The address of a line is that of what its expression stands for.
-use Rattle.std.proofs.Common.{◌≡◌, ◌⊎◌, inl, inr, ℕ, ◌+◌, ◌<◌, ◌≤◌, ◌==◌, true, false, ◌&&◌, List, [], ◌∷◌, ◌++◌, length, Some, None, refl, sym, ap, ◌∙◌, arith}
-use Rattle.std.proofs.lemmas.Bool.{eq-eqb, ne_eqb}
-use Rattle.std.proofs.lemmas.List.{append_assoc, append-nil}
-use Rattle.toml_tree.specs.Spells.{EachIs}
-use Rattle.toml_tree.specs.Tree.{Value, Scalar, Array, Inline, Items, Close, Last, More, Pairs, ClosePairs, LastPair, MorePairs, Expr, BlankLine, KeyValLine, TableLine, ArrayTableLine, Line}
-use Rattle.toml_names.specs.declared.mentions.mention.Role.TheVariants.{Valued}
-use Rattle.toml_names.specs.model.Addresses.{Address, child, element, below}
-use Rattle.toml_names.specs.mentions.Keys.{Key, part_name, rest_names, key_names}
-use Rattle.toml_names.specs.mentions.Mentions.{Named, root, value_named, fronts, inside, elements, members, followed, entered, ends_table, ends_tables, named, named_by, named_from, section}
-use Rattle.toml_names.specs.mentions.OwnAddresses.{NamedHasLine}
-use Rattle.toml_names.specs.reader.Names.{LineAddresses, NoLineAddress, is_own, line_address, header_end, own_address}
-use Rattle.toml_names.proofs.lemmas.model.Above.{and_false}
+-- The address of a line is that of what its expression stands for. What is named by itself is so named once, and a line's own address is named and has a fact.
+use Rattle.toml_names.proofs.Common.{◌≡◌, ◌⊎◌, inl, inr, ℕ, ◌+◌, ◌<◌, ◌≤◌, ◌==◌, true, false, ◌&&◌, List, [], ◌∷◌, ◌++◌, length, Some, None, refl, sym, ap, ◌∙◌, arith, rules, eq-eqb, append_assoc, append-nil, EachIs, Value, Expr, BlankLine, KeyValLine, TableLine, ArrayTableLine, Line, Valued, Address, child, below, Key, part_name, rest_names, key_names, Named, root, value_named, fronts, inside, followed, entered, ends_table, ends_tables, named, named_by, named_from, section, NamedHasLine, LineAddresses, NoLineAddress, is_own, line_address, header_end, own_address, Any, Option, IfSome, IsSome, is_some, eqb-true, none-some, same_Some, Role, is_lone, is_itself, LineIsNamed, ThemselvesDiffer, OwnAddressesDiffer, OwnAddressIsNamed, OwnAddressHasFact, may_follow}
+use Rattle.toml_names.proofs.Each.{each_append, each_weaker, Has, pairs_of_all, any_of_has, from_two}
+use Rattle.toml_names.proofs.lemmas.mentions.Within.{pair_within}
+use Rattle.toml_names.proofs.lemmas.model.Equal.{and_false}
+use Rattle.toml_names.proofs.lemmas.mentions.AllLines.{new_from, named_from-is, line_values_stand_alone}
 
 -- what the search for the line's own address goes past
 abbrev IsPassed : ℕ → Named → Type 0
 IsPassed line m = (m.line == line && is_own m.role) ≡ false
 
 abbrev ArePassed : ℕ → List Named → Type 0
-ArePassed line [] = Unit {0}
-ArePassed line (m ∷ ms) = IsPassed line m × ArePassed line ms
+ArePassed line = EachIs (IsPassed line)
 
 pass : (line : ℕ) (ms more : List Named) → ArePassed line ms → line_address (ms ++ more) line ≡ line_address more line
 pass line [] more h = refl
 pass line (m ∷ ms) more h = rw h.0 (pass line ms more h.1)
 
-passed-append : (line : ℕ) (ms more : List Named) → ArePassed line ms → ArePassed line more → ArePassed line (ms ++ more)
-passed-append line [] more h g = g
-passed-append line (m ∷ ms) more h g = (h.0, passed-append line ms more h.1 g)
-
 -- what a line names is of that line
 abbrev pub AreOf : ℕ → List Named → Type 0
 AreOf line = EachIs (λ m. m.line ≡ line)
-
-of-append : (line : ℕ) (ms more : List Named) → AreOf line ms → AreOf line more → AreOf line (ms ++ more)
-of-append line [] more h g = g
-of-append line (m ∷ ms) more h g = (h.0, of-append line ms more h.1 g)
-
-fronts_of : (line : ℕ) (key : Key) (at : Address) → AreOf line (fronts line at key)
-fronts_of line [] at = tt
-fronts_of line (n ∷ []) at = tt
-fronts_of line (n ∷ m ∷ more) at = (refl, fronts_of line (m ∷ more) (child at n))
-
-mutual
-  inside_of : (line : ℕ) (v : Value) (at : Address) → AreOf line (inside line at v)
-  inside_of line (Scalar kind p) at = tt
-  inside_of line (Array whole items) at = elements_of line items at 0
-  inside_of line (Inline whole pairs) at = members_of line pairs at
-
-  elements_of : (line : ℕ) (items : Items) (at : Address) (i : ℕ) → AreOf line (elements line at i items)
-  elements_of line (Close g) at i = tt
-  elements_of line (Last g v h) at i = (refl, inside_of line v (element at i))
-  elements_of line (More g v h is) at i = (refl, of-append line (inside line (element at i) v) (elements line at (i + 1) is) (inside_of line v (element at i)) (elements_of line is at (i + 1)))
-
-  members_of : (line : ℕ) (pairs : Pairs) (at : Address) → AreOf line (members line at pairs)
-  members_of line (ClosePairs g) at = tt
-  members_of line (LastPair g a v h) at = of-append line (fronts line at (key_names a.key)) _ (fronts_of line (key_names a.key) at) (refl, inside_of line v (below at (key_names a.key)))
-  members_of line (MorePairs g a v h ps) at =
-      of-append line _ (members line at ps)
-      (of-append line (fronts line at (key_names a.key)) _ (fronts_of line (key_names a.key) at) (refl, inside_of line v (below at (key_names a.key))))
-      (members_of line ps at)
 
 followed_of : (line : ℕ) (earlier : List Named) (end : Address → List Named) (ends : (at : Address) → AreOf line (end at)) (key : Key) (at : Address) → AreOf line (followed line earlier end at key)
 followed_of line earlier end ends [] at = tt
@@ -66,18 +26,13 @@ followed_of line earlier end ends (n ∷ []) at = ends (child at n)
 followed_of line earlier end ends (n ∷ m ∷ more) at = (refl, followed_of line earlier end ends (m ∷ more) (entered earlier (child at n)))
 
 pub named_has_line : NamedHasLine
-named_has_line earlier line (BlankLine b) = tt
-named_has_line earlier line (KeyValLine ws pair tail) = of-append line (fronts line (section earlier) (key_names pair.assign.key)) _ (fronts_of line (key_names pair.assign.key) (section earlier)) (refl, inside_of line pair.value (below (section earlier) (key_names pair.assign.key)))
-named_has_line earlier line (TableLine ws header tail) = followed_of line earlier (ends_table line) (λ at. (refl, tt)) (key_names header.key) []
-named_has_line earlier line (ArrayTableLine ws header tail) = followed_of line earlier (ends_tables line earlier) (λ at. (refl, (refl, tt))) (key_names header.key) []
+named_has_line = grind (arith, each_weaker, pair_within, followed_of)
 
 not_same : (n line : ℕ) → n < line ⊎ line < n → (n == line) ≡ false
-not_same n line (inl low) = ne_eqb n line (λ e. omega (arith, e))
-not_same n line (inr high) = ne_eqb n line (λ e. omega (arith, e))
+not_same n line h1 = search rules
 
 others_passed : (n line : ℕ) (ms : List Named) → n < line ⊎ line < n → AreOf n ms → ArePassed line ms
-others_passed n line [] apart of = tt
-others_passed n line (m ∷ ms) apart of = (rw (of.0, not_same n line apart) refl, others_passed n line ms apart of.1)
+others_passed n line ms apart = each_weaker (λ m. m.line ≡ n) (IsPassed line) (λ m of. rw (of, not_same n line apart) refl) ms
 
 -- lines that come later
 rest_passed : (ls : List Line) (earlier : List Named) (n line : ℕ) → line < n → (rest : List Named) × (named_from earlier n ls ≡ earlier ++ rest) × ArePassed line rest
@@ -85,14 +40,14 @@ rest_passed [] earlier n line low = ([], sym (append-nil earlier), tt)
 rest_passed (l ∷ ls) earlier n line low =
     let by = named_by earlier n l.expr in
     let r = rest_passed ls (earlier ++ by) (n + 1) line (omega arith) in
-    (by ++ r.0, r.1 ∙ append_assoc earlier by r.0, passed-append line by r.0 (others_passed n line by (inr low) (named_has_line earlier n l.expr)) r.2)
+    (by ++ r.0, r.1 ∙ append_assoc earlier by r.0, each_append (IsPassed line) by r.0 (others_passed n line by (inr low) (named_has_line earlier n l.expr)) r.2)
 
 -- lines that came before
 before_passed : (ls : List Line) (earlier : List Named) (n line : ℕ) → n + length ls ≤ line → ArePassed line earlier → ArePassed line (named_from earlier n ls)
 before_passed [] earlier n line low h = h
 before_passed (l ∷ ls) earlier n line low h =
     let by = named_by earlier n l.expr in
-    before_passed ls (earlier ++ by) (n + 1) line (omega arith) (passed-append line earlier by h (others_passed n line by (inl (omega arith)) (named_has_line earlier n l.expr)))
+    before_passed ls (earlier ++ by) (n + 1) line (omega arith) (each_append (IsPassed line) earlier by h (others_passed n line by (inl (omega arith)) (named_has_line earlier n l.expr)))
 
 none : (line : ℕ) (ms : List Named) → ArePassed line ms → line_address ms line ≡ None
 none line ms h = ap (λ l. line_address l line) (sym (append-nil ms)) ∙ pass line ms [] h
@@ -115,10 +70,7 @@ module _ (earlier : List Named) (k : ℕ) (rest : List Named) where
   same = eq-eqb k k refl
 
   own_value : (at : Address) (key : Key) (v : Value) → line_address ((fronts k at key ++ value_named k Valued (below at key) v ∷ inside k (below at key) v) ++ rest) k ≡ Some (below at key)
-  own_value at key v =
-      ap (λ ms. line_address ms k) (append_assoc (fronts k at key) (value_named k Valued (below at key) v ∷ inside k (below at key) v) rest)
-      ∙ pass k (fronts k at key) _ (fronts_passed k k key at)
-      ∙ rw same refl
+  own_value at key v = search (rules, append_assoc, pass, fronts_passed, same)
 
   own_end : (end : Address → List Named) (n : List ℕ) (more : Key) (at : Address)
       → line_address (followed k earlier end at (n ∷ more) ++ rest) k ≡ line_address (end (header_end earlier at (n ∷ more)) ++ rest) k
@@ -144,3 +96,57 @@ line_addresses before behind l =
     ap (λ ms. line_address ms k) (named_from-append before (l ∷ behind) (root ∷ []) 0 k (omega arith) ∙ r.1 ∙ append_assoc old by r.0)
     ∙ pass k old (by ++ r.0) (before_passed before (root ∷ []) 0 k (omega arith) (root_passed k))
     ∙ own_found old k r.0 l.expr r.2
+
+pub line_is_named : LineIsNamed
+line_is_named before behind l =
+    let k = length before in
+    let now = named before ++ named_by (named before) k l.expr in
+    (new_from now (k + 1) behind, named_from-append before (l ∷ behind) (root ∷ []) 0 k (omega arith) ∙ named_from-is behind now (k + 1))
+
+-- ---- what is named by itself
+
+-- two that are not alone are of headers, and no header follows another
+no_two : (r s : Role) → is_itself r ≡ true → is_itself s ≡ true → is_lone r ≡ false → is_lone s ≡ false → may_follow r s ≡ true → ⊥
+no_two r s a b x y m = search rules
+
+pub themselves_differ : ThemselvesDiffer
+themselves_differ lines keeps i j d low high one other same =
+    let alone = line_values_stand_alone lines keeps i j d low high same in
+    no_two _ _ one other alone.0 alone.1 (keeps i j d low high same)
+
+-- ---- the line's own
+
+-- named by the line itself
+abbrev IsOwnOf : ℕ → Address → Named → Type 0
+IsOwnOf line at m = (m.address ≡ at) × (is_own m.role ≡ true) × (m.line ≡ line)
+
+own_named : (ms : List Named) (line : ℕ) (at : Address) → line_address ms line ≡ Some at → Has (IsOwnOf line at) ms
+own_named [] line at found = none-some at found
+own_named (m ∷ ms) line at found = search (rules, same_Some, eqb-true, own_named ms line at)
+
+own_itself : (r : Role) → is_own r ≡ true → is_itself r ≡ true
+own_itself r own = search rules
+
+pub own_addresses_differ : OwnAddressesDiffer
+own_addresses_differ lines i j at keeps one other =
+    from_two (λ e l. is_itself e.role ≡ true → is_itself l.role ≡ true → ¬ (e.address ≡ l.address)) (IsOwnOf i at) (IsOwnOf j at) (i ≡ j)
+    (λ m p q. sym p.2 ∙ q.2)
+    (λ e l apart p q. absurd (apart (own_itself e.role p.1) (own_itself l.role q.1) (p.0 ∙ sym q.0)))
+    (λ e l apart q p. absurd (apart (own_itself e.role q.1) (own_itself l.role p.1) (q.0 ∙ sym p.0)))
+    (named lines) (pairs_of_all _ (named lines) (themselves_differ lines keeps)) (own_named (named lines) i at one) (own_named (named lines) j at other)
+
+if_some : {A : Type 0} (P : A → Type 0) (o : Option A) → ((x : A) → o ≡ Some x → P x) → IfSome o P
+if_some P o h = search rules
+
+pub own_address_is_named : OwnAddressIsNamed
+own_address_is_named before behind l =
+    if_some _ (own_address (named before) l.expr) (λ at is.
+    any_of_has _ (named (before ++ l ∷ behind)) (own_named (named (before ++ l ∷ behind)) (length before) at (line_addresses before behind l ∙ is)))
+
+pub own_address_has_fact : OwnAddressHasFact
+own_address_has_fact before behind l kinds facts =
+    if_some _ (own_address (named before) l.expr) (λ at is.
+    there at (any_of_has _ (named (before ++ l ∷ behind)) (own_named (named (before ++ l ∷ behind)) (length before) at (line_addresses before behind l ∙ is))))
+  where
+    there : (at : Address) → Any (IsOwnOf (length before) at) (named (before ++ l ∷ behind)) → IsSome (kinds at)
+    there at (k, m, low, is, own) = ap is_some ((facts at m.kind).1 (k, m, low, is, (own.0, refl)))

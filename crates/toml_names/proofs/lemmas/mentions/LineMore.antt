@@ -1,15 +1,5 @@
 -- The line of the first mention in a role, once more is named; and how roles change the mark.
-use Rattle.std.proofs.Common.{◌≡◌, ℕ, ◌<◌, ◌≤◌, Bool, true, false, cond, ◌&&◌, List, [], ◌∷◌, ◌++◌, Option, Some, None, refl, sym, ap, ◌∙◌, arith}
-use Rattle.std.proofs.lemmas.Bool.{cond-true, cond-false}
-use Rattle.std.proofs.lemmas.Option.{none-some, same_Some}
-use Rattle.toml_names.specs.declared.mentions.mention.Role.{Role}
-use Rattle.toml_names.specs.declared.mentions.mention.Role.TheVariants.{Passed, Header, Dotted, Valued, Tables, Element, Bare}
-use Rattle.toml_names.specs.model.Addresses.{Address, same_address}
-use Rattle.toml_names.specs.model.Data.{fact_at}
-use Rattle.toml_names.specs.mentions.Local.{role_after, mark_after, mark_from, mark_of}
-use Rattle.toml_names.specs.mentions.Mentions.{Named}
-use Rattle.toml_names.specs.model.Places.{same_role, first_line}
-use Rattle.toml_names.specs.mentions.Rules.{may_follow}
+use Rattle.toml_names.proofs.Common.{◌≡◌, ℕ, ◌<◌, ◌≤◌, Bool, true, false, cond, ◌&&◌, List, [], ◌∷◌, ◌++◌, Option, Some, None, refl, sym, ap, ◌∙◌, arith, rules, cond-true, cond-false, none-some, same_Some, Role, Passed, Bare, Address, same_address, fact_at, role_after, mark_after, mark_from, mark_of, Named, same_role, first_line, may_follow}
 use Rattle.toml_names.proofs.lemmas.mentions.PlacesFound.{same_role-equal, same_role-self}
 use Rattle.toml_names.proofs.lemmas.tree.NodePlaces.{same_address-apart, same_address-here}
 
@@ -20,41 +10,12 @@ weight Passed = 1
 weight _ = 2
 
 weight-first : (q r : Role) → weight q ≤ weight (role_after q r)
-weight-first Bare r = omega arith
-weight-first Passed Bare = omega arith
-weight-first Passed Passed = omega arith
-weight-first Passed _ = omega arith
-weight-first _ Bare = omega arith
-weight-first _ Passed = omega arith
-weight-first _ _ = omega arith
-
-weight-then : (q r : Role) → weight r ≤ weight (role_after q r)
-weight-then Bare r = omega arith
-weight-then Passed Bare = omega arith
-weight-then Passed Passed = omega arith
-weight-then Passed _ = omega arith
-weight-then _ Bare = omega arith
-weight-then _ Passed = omega arith
-weight-then _ _ = omega arith
+weight-first q r = search rules
 
 -- a mark that changes is the new role, which is stronger
 record IsStronger (q r : Role) : Type 0 where
   is : role_after q r ≡ r
   more : weight q < weight r
-
-stronger : (q r : Role) → may_follow q r ≡ true → same_role (role_after q r) q ≡ false → IsStronger q r
-stronger Bare Bare h new = cc
-stronger Bare Passed h new = record { is = refl; more = omega arith }
-stronger Bare _ h new = record { is = refl; more = omega arith }
-stronger Passed Header h new = record { is = refl; more = omega arith }
-stronger Passed Dotted h new = record { is = refl; more = omega arith }
-stronger _ Passed h new = cc
-stronger _ Header h new = cc
-stronger _ Dotted h new = cc
-stronger _ Valued h new = cc
-stronger _ Tables h new = cc
-stronger _ Element h new = cc
-stronger _ Bare h new = cc
 
 -- the first line, or else the second
 abbrev or_line : Option ℕ → Option ℕ → Option ℕ
@@ -64,24 +25,17 @@ or_line (Some i) q = Some i
 line_push : (ms : List Named) (m : Named) (at : Address) (r : Role)
     → first_line (ms ++ m ∷ []) at r ≡ or_line (first_line ms at r) (cond (same_address m.address at && same_role m.role r) (Some m.line) None)
 line_push [] m at r = refl
-line_push (x ∷ ms) m at r = by (same_address x.address at && same_role x.role r) (line_push ms m at r)
-  where
-    by : (b : Bool) → first_line (ms ++ m ∷ []) at r ≡ or_line (first_line ms at r) (cond (same_address m.address at && same_role m.role r) (Some m.line) None)
-        → cond b (Some x.line) (first_line (ms ++ m ∷ []) at r) ≡ or_line (cond b (Some x.line) (first_line ms at r)) (cond (same_address m.address at && same_role m.role r) (Some m.line) None)
-    by true ih = refl
-    by false ih = ih
+line_push (x ∷ ms) m at r = search (rules, line_push ms m at r)
 
 module _ (ms : List Named) (m : Named) (at : Address) where
   or_none : (o : Option ℕ) → or_line o None ≡ o
-  or_none None = refl
-  or_none (Some x) = refl
+  or_none o = search rules
 
   pub line_kept : (r : Role) (l : ℕ) → first_line ms at r ≡ Some l → first_line (ms ++ m ∷ []) at r ≡ Some l
   line_kept r l some = line_push ms m at r ∙ ap (λ o. or_line o (cond (same_address m.address at && same_role m.role r) (Some m.line) None)) some
 
   pub line_elsewhere : (r : Role) → (m.address ≡ at → ⊥) → first_line (ms ++ m ∷ []) at r ≡ first_line ms at r
-  line_elsewhere r apart =
-      line_push ms m at r ∙ ap (λ b. or_line (first_line ms at r) (cond (b && same_role m.role r) (Some m.line) None)) (same_address-apart m.address at apart) ∙ or_none (first_line ms at r)
+  line_elsewhere r apart = search (rules, line_push, same_address-apart, or_none)
 
   pub line_new : m.address ≡ at → first_line ms at m.role ≡ None → first_line (ms ++ m ∷ []) at m.role ≡ Some m.line
   line_new is none =
@@ -93,11 +47,7 @@ module _ (ms : List Named) (m : Named) (at : Address) where
 -- where nothing is named no line names it
 pub line_absent : (ms : List Named) (at : Address) (r : Role) → fact_at ms at ≡ None → first_line ms at r ≡ None
 line_absent [] at r none = refl
-line_absent (m ∷ ms) at r none = by (same_address m.address at) refl (line_absent ms at r)
-  where
-    by : (b : Bool) → same_address m.address at ≡ b → (fact_at ms at ≡ None → first_line ms at r ≡ None) → first_line (m ∷ ms) at r ≡ None
-    by true same ih = absurd (none-some m.kind (sym none ∙ cond-true _ _ _ same))
-    by false apart ih = cond-false _ _ _ (ap (λ b. b && same_role m.role r) apart) ∙ ih (sym (cond-false _ _ _ apart) ∙ none)
+line_absent (m ∷ ms) at r none = search (rules, none-some, cond-true, cond-false, line_absent ms at r)
 
 -- no mark is weaker than the one before it
 kept_weight : (ms : List Named) (at : Address) (q t : Role) → mark_from (Some q) ms at ≡ Some t → weight q ≤ weight t
@@ -113,8 +63,7 @@ kept_weight (m ∷ ms) at q t is = by (same_address m.address at) refl (kept_wei
     by false apart here later = later (ap (λ b. mark_from (cond b (Some (role_after q m.role)) (Some q)) ms at) (sym apart) ∙ is)
 
 role_weight : (ms : List Named) (at : Address) (o : Option Role) (r t : Role) → mark_from (mark_after o r) ms at ≡ Some t → weight r ≤ weight t
-role_weight ms at None r t is = kept_weight ms at r t is
-role_weight ms at (Some q) r t is = let one = weight-then q r in let more = kept_weight ms at (role_after q r) t is in omega arith
+role_weight ms at o r t is = search (rules, kept_weight)
 
 -- no mention is in a role that is stronger than the mark
 line_weight : (ms : List Named) (at : Address) (o : Option Role) (r t : Role) (l : ℕ) → mark_from o ms at ≡ Some t → first_line ms at r ≡ Some l → weight r ≤ weight t
@@ -138,14 +87,4 @@ line_weight (m ∷ ms) at o r t l is some = by (line_weight ms at (mark_after o 
 module _ (ms : List Named) (m : Named) (at : Address) (is : m.address ≡ at) (q : Role) (mark : mark_of ms at ≡ Some q) (goes : may_follow q m.role ≡ true)
     (l : ℕ) (line : first_line ms at q ≡ Some l) where
   pub line_noted : first_line (ms ++ m ∷ []) at (role_after q m.role) ≡ Some (cond (same_role (role_after q m.role) q) l m.line)
-  line_noted = by (same_role (role_after q m.role) q) refl
-    where
-      none_yet : (o : Option ℕ) → first_line ms at m.role ≡ o → weight q < weight m.role → o ≡ None
-      none_yet None none more = refl
-      none_yet (Some i) some more = let low = line_weight ms at None m.role q i mark some in absurd (omega arith)
-
-      by : (b : Bool) → same_role (role_after q m.role) q ≡ b → first_line (ms ++ m ∷ []) at (role_after q m.role) ≡ Some (cond b l m.line)
-      by true same = ap (first_line (ms ++ m ∷ []) at) (same_role-equal (role_after q m.role) q same) ∙ line_kept ms m at q l line
-      by false new =
-          let new_mark = stronger q m.role goes new in
-          ap (first_line (ms ++ m ∷ []) at) new_mark.is ∙ line_new ms m at is (none_yet (first_line ms at m.role) refl new_mark.more)
+  line_noted = search (rules, line_weight, same_role-equal, line_kept, line_new)

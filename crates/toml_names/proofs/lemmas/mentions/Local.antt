@@ -1,53 +1,11 @@
 -- The mark of an address stands for all of its roles.
-use Rattle.std.proofs.Common.{◌≡◌, Bool, true, false, not, cond, ◌&&◌, ◌||◌, List, [], ◌∷◌, ◌++◌, Option, Some, None, refl, sym, ap, ◌∙◌}
-use Rattle.std.proofs.lemmas.List.{append_assoc, append-nil}
+use Rattle.toml_names.proofs.Common.{◌≡◌, Bool, true, not, cond, ◌&&◌, ◌||◌, List, [], ◌∷◌, ◌++◌, Option, None, refl, sym, ap, ◌∙◌, rules, append_assoc, append-nil, Role, Address, same_address, mark_after, mark_from, mark_of, allows, LastRoleDecides, Named, may_follow, fits, misfit, KeepsRules}
 use Rattle.std.proofs.lemmas.List.Folds.{list_all-append}
-use Rattle.toml_names.specs.declared.mentions.mention.Role.{Role}
-use Rattle.toml_names.specs.declared.mentions.mention.Role.TheVariants.{Passed, Header, Dotted, Valued, Tables, Element, Bare}
-use Rattle.toml_names.specs.model.Addresses.{Address, same_address}
-use Rattle.toml_names.specs.mentions.Local.{mark_after, mark_from, mark_of, allows, LastRoleDecides}
-use Rattle.toml_names.specs.mentions.Mentions.{Named}
-use Rattle.toml_names.specs.mentions.Rules.{may_follow, fits, misfit, KeepsRules}
-use Rattle.toml_names.proofs.lemmas.mentions.Misfits.{misfit-later, fits-from_misfit}
 use Rattle.toml_names.proofs.lemmas.model.Equal.{same_address-equal}
-use Rattle.toml_names.proofs.lemmas.mentions.Pairs.{KeepsRules-push, fits-from_KeepsRules, misfit-from_KeepsRules}
-
-and_same : (b : Bool) → (b && b) ≡ b
-and_same true = refl
-and_same false = refl
+use Rattle.toml_names.proofs.lemmas.mentions.Offences.{KeepsRules-push, fits-from_KeepsRules, misfit-from_KeepsRules, misfit-later, fits-from_misfit}
 
 and_true : (b : Bool) → (b && true) ≡ b
-and_true true = refl
-and_true false = refl
-
-by_role : (f g : Role → Bool) → f Passed ≡ g Passed → f Header ≡ g Header → f Dotted ≡ g Dotted → f Valued ≡ g Valued → f Tables ≡ g Tables → f Element ≡ g Element → f Bare ≡ g Bare → (s : Role) → f s ≡ g s
-by_role f g p h d v t e b Passed = p
-by_role f g p h d v t e b Header = h
-by_role f g p h d v t e b Dotted = d
-by_role f g p h d v t e b Valued = v
-by_role f g p h d v t e b Tables = t
-by_role f g p h d v t e b Element = e
-by_role f g p h d v t e b Bare = b
-
--- one more role
-one_more : (q : Option Role) (r s : Role) → allows q r ≡ true → (allows q s && may_follow r s) ≡ allows (mark_after q r) s
-one_more None r s h = refl
-one_more (Some Bare) r s h = refl
-one_more (Some Passed) Passed s h = and_same (may_follow Passed s)
-one_more (Some Passed) Header s h = by_role (λ s. may_follow Passed s && may_follow Header s) (may_follow Header) refl refl refl refl refl refl refl s
-one_more (Some Passed) Dotted s h = by_role (λ s. may_follow Passed s && may_follow Dotted s) (may_follow Dotted) refl refl refl refl refl refl refl s
-one_more (Some Header) Passed s h = by_role (λ s. may_follow Header s && may_follow Passed s) (may_follow Header) refl refl refl refl refl refl refl s
-one_more (Some Dotted) Passed s h = by_role (λ s. may_follow Dotted s && may_follow Passed s) (may_follow Dotted) refl refl refl refl refl refl refl s
-one_more (Some Dotted) Dotted s h = and_same (may_follow Dotted s)
-one_more (Some Tables) Tables s h = and_same (may_follow Tables s)
-one_more (Some Element) Passed s h = by_role (λ s. may_follow Element s && may_follow Passed s) (may_follow Element) refl refl refl refl refl refl refl s
-one_more (Some Passed) Bare s h = and_true (may_follow Passed s)
-one_more (Some Header) Bare s h = and_true (may_follow Header s)
-one_more (Some Dotted) Bare s h = and_true (may_follow Dotted s)
-one_more (Some Valued) Bare s h = and_true (may_follow Valued s)
-one_more (Some Tables) Bare s h = and_true (may_follow Tables s)
-one_more (Some Element) Bare s h = and_true (may_follow Element s)
-one_more (Some _) _ s h = cc
+and_true b = search rules
 
 mark_from-push : (xs : List Named) (q : Option Role) (m : Named) (at : Address)
     → mark_from q (xs ++ m ∷ []) at ≡ cond (same_address m.address at) (mark_after (mark_from q xs at) m.role) (mark_from q xs at)
@@ -60,8 +18,7 @@ mark_of-push xs m at = mark_from-push xs None m at
 
 cases_here : (b : Bool) (q : Option Role) (e m : Role) (f : Bool) → f ≡ allows q m → (b ≡ true → allows q e ≡ true)
     → (f && (not b || may_follow e m)) ≡ allows (cond b (mark_after q e) q) m
-cases_here true q e m f same goes = rw same (one_more q e m (goes refl))
-cases_here false q e m f same goes = and_true f ∙ same
+cases_here b q e m f same goes = search rules
 
 -- the marks stand for the mentions
 abbrev pub AreMarked : List Named → Type 0

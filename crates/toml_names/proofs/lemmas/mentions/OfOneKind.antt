@@ -1,13 +1,5 @@
--- What is named at one address is of one kind, and values stand alone, where each thing joins those before it.
-use Rattle.std.proofs.Common.{◌≡◌, ℕ, ◌<◌, false, List, [], ◌∷◌, ◌++◌, length, get_or, All, AllPairs, Some, refl, sym, ap, ◌∙◌, subst, inl, inr, arith}
-use Rattle.std.proofs.lemmas.List.{append_assoc, append-nil}
-use Rattle.std.proofs.lemmas.List.Elements.{All-nil, All-cons, All-push, All-weaker}
-use Rattle.std.proofs.lemmas.List.Quantifiers.{all_pairs_push}
-use Rattle.std.proofs.lemmas.Option.{none-some, same_Some}
-use Rattle.toml_names.specs.model.Addresses.{Address}
-use Rattle.toml_names.specs.model.Data.{IsFact, fact_at}
-use Rattle.toml_names.specs.mentions.Joining.{is_lone, Joins, JoinAll, Joined, OneKind, FirstIsData, ValuesStandAlone}
-use Rattle.toml_names.specs.mentions.Mentions.{Kind, Named}
+-- What is named at one address is of one kind, and values stand alone, where each thing joins those before it; so the first kinds are the data.
+use Rattle.toml_names.proofs.Common.{◌≡◌, ℕ, ◌<◌, false, List, [], ◌∷◌, ◌++◌, length, get_or, All, AllPairs, Some, refl, sym, ◌∙◌, subst, inl, inr, arith, rules, append_assoc, append-nil, All-nil, All-cons, All-push, All-weaker, all_pairs_push, same_Some, Address, IsFact, fact_at, is_lone, Joins, JoinAll, Joined, OneKind, FirstIsData, ValuesStandAlone, Kind, Named, ap, Kinds, IsDataOf}
 use Rattle.toml_names.proofs.lemmas.mentions.FactAt.{from_all, fact_here, found, fact_kept, fact_behind}
 
 -- it is of the kind that was named first at its address
@@ -30,8 +22,7 @@ abbrev Share : Named → Named → Type 0
 Share e l = e.address ≡ l.address → (is_lone e.role ≡ false) × (is_lone l.role ≡ false)
 
 shares : (ms : List Named) (m : Named) → AreOfOneKind ms → Joins ms m → (k : ℕ) (d : Named) → k < length ms → Share (get_or ms k d) m
-shares ms m all (inl free) k d low same = absurd (none-some _ (sym free.absent ∙ ap (fact_at ms) (sym same) ∙ all k d low))
-shares ms m all (inr again) k d low same = (again.others k d low same, again.shared)
+shares ms m all h2 k d low = search rules
 
 -- all that holds of what joined
 record Holds (ms : List Named) : Type 0 where
@@ -59,8 +50,7 @@ holds [] joined = record { kinds = All-nil _; alone = λ i j d low high. absurd 
 holds (m ∷ ms) joined = Holds-more ms (m ∷ []) (Holds-one m) joined
 
 is_first : (ms : List Named) → Joined ms → (at : Address) (k : Kind) → IsFact ms at k → fact_at ms at ≡ Some k
-is_first ms joined at k fact =
-    from_all _ _ _ ms (holds ms joined).kinds fact (λ e first is. ap (fact_at ms) (sym is.0) ∙ first ∙ ap Some is.1)
+is_first ms joined at k fact = search (rules, from_all, holds)
 
 pub one_kind : OneKind
 one_kind ms joined at k l one two = same_Some k l (sym (is_first ms joined at k one) ∙ is_first ms joined at l two)
@@ -70,3 +60,10 @@ first_is_data ms joined at k = (found ms at k, is_first ms joined at k)
 
 pub values_stand_alone : ValuesStandAlone
 values_stand_alone ms joined = (holds ms joined).alone
+
+-- a map that has the first kind named at each address is the data
+pub data_by_facts : (list ms : List Named) (kinds : Kinds) → list ≡ ms → Joined ms → ((at : Address) → kinds at ≡ fact_at list at) → IsDataOf ms kinds
+data_by_facts list ms kinds is joined first at k =
+    let same : kinds at ≡ fact_at ms at = first at ∙ ap (λ l. fact_at l at) is in
+    let facts = first_is_data ms joined at k in
+    (λ e. facts.0 (sym same ∙ e), λ fact. same ∙ facts.1 fact)

@@ -1,16 +1,55 @@
--- Why the names of lines are refused is one fault: one line, and its first offence or a long address.
-use Rattle.std.proofs.Common.{◌≡◌, ◌<◌, ℕ, ◌+◌, ◌⊎◌, inl, inr, Bool, true, false, List, [], ◌∷◌, ◌++◌, take, Some, refl, sym, ap, subst, ◌∙◌, arith}
-use Rattle.std.proofs.lemmas.Bool.{cases_order}
-use Rattle.std.proofs.lemmas.List.{append_assoc, append-nil, append_cancel_left, take-take}
-use Rattle.toml_tree.specs.Tree.{Line}
+-- Lines of which the names are refused are not good. Why they are refused is one fault: one line, and its first offence or a long address.
+use Rattle.toml_names.proofs.Common.{◌≡◌, ◌<◌, ℕ, ◌+◌, ◌⊎◌, inl, inr, false, List, [], ◌∷◌, ◌++◌, take, Some, refl, sym, ap, subst, ◌∙◌, arith, rules, cases_order, append_assoc, append-nil, append_cancel_left, take-take, Line, Address, Named, named, AreGood, IsRedefined, IsLong, OneRefusal, fits, misfit, KeepsRules, IsFirstOffence, ◌≤◌, length-append, length, drop, get_or_append_left, take-append-drop, All-head, All-tail, All-cons, All-nil, root, named_by, named_from, IsShort, max_steps, RefusedAreBad}
+use Rattle.toml_names.proofs.lemmas.mentions.Offences.{KeepsRules-push, fits-from_KeepsRules, misfit-here, misfit-later}
 use Rattle.toml_names.specs.declared.fault.NameFault.TheVariants as faults
-use Rattle.toml_names.specs.model.Addresses.{Address}
-use Rattle.toml_names.specs.mentions.Mentions.{Named, named}
-use Rattle.toml_names.specs.reader.Names.{AreGood, IsRedefined, IsLong, OneRefusal}
-use Rattle.toml_names.specs.mentions.Rules.{fits, misfit, KeepsRules, IsFirstOffence}
-use Rattle.toml_names.proofs.lemmas.mentions.Misfits.{misfit-here, misfit-later}
-use Rattle.toml_names.proofs.lemmas.mentions.Pairs.{KeepsRules-push, fits-from_KeepsRules}
-use Rattle.toml_names.proofs.lemmas.mentions.Refused.{good_front, redefined_breaks}
+
+-- what keeps the rules keeps them up to any place
+KeepsRules-front : (ms more : List Named) → KeepsRules (ms ++ more) → KeepsRules ms
+KeepsRules-front ms more keeps = search (rules, get_or_append_left, length-append)
+
+abbrev HasSteps : Named → Type 0
+HasSteps m = length m.address ≤ max_steps
+
+IsShort-front : (ms more : List Named) → IsShort (ms ++ more) → IsShort ms
+IsShort-front [] more short = All-nil HasSteps
+IsShort-front (m ∷ ms) more short = All-cons HasSteps m ms (All-head HasSteps m (ms ++ more) short) (IsShort-front ms more (All-tail HasSteps m (ms ++ more) short))
+
+-- lines name more and more
+named_rest : (ls : List Line) (earlier : List Named) (n : ℕ) → (rest : List Named) × (named_from earlier n ls ≡ earlier ++ rest)
+named_rest [] earlier n = ([], sym (append-nil earlier))
+named_rest (l ∷ ls) earlier n =
+    let by = named_by earlier n l.expr in
+    let r = named_rest ls (earlier ++ by) (n + 1) in
+    (by ++ r.0, r.1 ∙ append_assoc earlier by r.0)
+
+named_from-append : (xs ys : List Line) (earlier : List Named) (n : ℕ) → (rest : List Named) × (named_from earlier n (xs ++ ys) ≡ named_from earlier n xs ++ rest)
+named_from-append [] ys earlier n = named_rest ys earlier n
+named_from-append (x ∷ xs) ys earlier n = named_from-append xs ys (earlier ++ named_by earlier n x.expr) (n + 1)
+
+named_front : (lines : List Line) (k : ℕ) → (rest : List Named) × (named lines ≡ named (take k lines) ++ rest)
+named_front lines k =
+    let r = named_from-append (take k lines) (drop k lines) (root ∷ []) 0 in
+    (r.0, ap named (sym (take-append-drop k lines)) ∙ r.1)
+
+-- of good lines each front is good
+pub good_front : (lines : List Line) (k : ℕ) → AreGood lines → AreGood (take k lines)
+good_front lines k good =
+    let front = named_front lines k in
+    (KeepsRules-front _ front.0 (subst KeepsRules front.1 good.0), IsShort-front _ front.0 (subst IsShort front.1 good.1))
+
+-- an offence stays one, whatever follows
+pub redefined_breaks : (lines : List Line) (line : ℕ) (at : Address) → IsRedefined lines line at → ¬ KeepsRules (named (take (line + 1) lines))
+redefined_breaks lines line at h keeps =
+    let o = h.offence in
+    let earlier = named (take line lines) in
+    let all : named (take (line + 1) lines) ≡ ((earlier ++ o.before) ++ o.mention ∷ []) ++ o.behind =
+    h.is ∙ ap (λ l. earlier ++ l) o.is ∙ sym (append_assoc (earlier ++ o.before) (o.mention ∷ []) o.behind ∙ append_assoc earlier o.before (o.mention ∷ o.behind)) in
+    o.offends (KeepsRules-front _ o.behind (subst KeepsRules all keeps))
+
+pub refused_are_bad : RefusedAreBad
+refused_are_bad lines (faults.Redefined line at) h memory good = redefined_breaks lines line at h (good_front lines (line + 1) good).0
+refused_are_bad lines (faults.LongAddress line) h memory good = h.long (good_front lines (line + 1) good).1
+refused_are_bad lines faults.NoMemory h memory good = absurd (memory refl)
 
 -- behind mentions that go with all before them, the first that does not is the misfit
 misfit_behind : (before earlier behind : List Named) (m : Named) → KeepsRules (earlier ++ before) → fits (earlier ++ before) m ≡ false → misfit earlier (before ++ m ∷ behind) ≡ Some m.address
@@ -19,19 +58,8 @@ misfit_behind (x ∷ before) earlier behind m keeps bad =
     misfit-later earlier (before ++ m ∷ behind) x (fits-from_KeepsRules earlier before x keeps)
     ∙ misfit_behind before (earlier ++ x ∷ []) behind m (subst KeepsRules (sym (append_assoc earlier (x ∷ []) before)) keeps) (ap (λ l. fits l m) (append_assoc earlier (x ∷ []) before) ∙ bad)
 
--- a mention that breaks kept rules does not go with those before it
-offender : (ms : List Named) (m : Named) → KeepsRules ms → ¬ KeepsRules (ms ++ m ∷ []) → fits ms m ≡ false
-offender ms m keeps offends = by (fits ms m) refl
-  where
-    by : (b : Bool) → fits ms m ≡ b → b ≡ false
-    by true good = absurd (offends (KeepsRules-push ms m keeps good))
-    by false bad = refl
-
 offence_misfit : (earlier new : List Named) (at : Address) → IsFirstOffence earlier new at → misfit earlier new ≡ Some at
-offence_misfit earlier new at o =
-    ap (misfit earlier) o.is
-    ∙ misfit_behind o.before earlier o.behind o.mention o.good (offender (earlier ++ o.before) o.mention o.good o.offends)
-    ∙ ap Some (sym o.address)
+offence_misfit earlier new at o = search (rules, misfit_behind, KeepsRules-push)
 
 one_offence : (earlier new more : List Named) (at other : Address) → IsFirstOffence earlier new at → IsFirstOffence earlier more other → new ≡ more → at ≡ other
 one_offence earlier new more at other a b same =

@@ -1,32 +1,16 @@
 -- Under the rules each thing has one place, the one that is found.
-use Rattle.std.proofs.Common.{◌≡◌, ◌⊎◌, inl, inr, ℕ, Bool, true, false, ◌&&◌, cond, List, [], ◌∷◌, ◌++◌, Option, Some, None, refl, sym, ap, subst, ◌∙◌, true≢false}
-use Rattle.std.proofs.lemmas.Bool.{cond-true}
-use Rattle.std.proofs.lemmas.List.Elements.{All-head, All-tail}
-use Rattle.toml_tree.specs.Spells.{EachIs}
-use Rattle.toml_tree.specs.Tree.{Line}
-use Rattle.toml_names.specs.declared.model.address.Step.{Step}
-use Rattle.toml_names.specs.declared.mentions.mention.Role.{Role}
-use Rattle.toml_names.specs.declared.mentions.mention.Role.TheVariants.{Passed, Header, Dotted, Valued, Tables, Element, Bare}
-use Rattle.toml_names.specs.declared.model.place.Place.{Place}
+use Rattle.toml_names.proofs.Common.{◌≡◌, ◌⊎◌, inl, inr, ℕ, Bool, true, false, List, [], ◌∷◌, ◌++◌, Option, Some, None, refl, sym, ap, subst, ◌∙◌, true≢false, rules, cond-true, All-head, All-tail, EachIs, Line, Step, Role, Passed, Header, Dotted, Valued, Tables, Element, Bare, Place, Address, IsAbove, BelowIsOfItsLine, is_lone, mark_of, Named, root, named, IsNamed, IsNotIn, IsFirstIn, IsInside, IsOutside, IsPlace, PlaceIsFound, first_line, line_above, outside, in_value, place_of_mark, KeepsRules}
 use Rattle.toml_names.specs.declared.model.place.Place.TheVariants as places
-use Rattle.toml_names.specs.model.Addresses.{Address, IsAbove, same_address}
-use Rattle.toml_names.specs.mentions.Inside.{BelowIsOfItsLine}
-use Rattle.toml_names.specs.mentions.Joining.{is_lone}
-use Rattle.toml_names.specs.mentions.Local.{mark_of}
-use Rattle.toml_names.specs.mentions.Mentions.{Named, root, named}
-use Rattle.toml_names.specs.model.Places.{IsNamed, IsNotIn, IsFirstIn, IsInside, IsOutside, IsPlace, PlaceIsFound, same_role, first_line, line_above, inside, outside, in_value}
-use Rattle.toml_names.specs.tree.Placing.{place_of_mark}
-use Rattle.toml_names.specs.mentions.Rules.{KeepsRules}
-use Rattle.toml_names.proofs.lemmas.mentions.AllLines.{named_from-is, lines_join}
+use Rattle.toml_names.specs.model.Places.{inside}
+use Rattle.toml_names.proofs.lemmas.mentions.AllLines.{named_from-is, lines_join, line_values_stand_alone}
 use Rattle.toml_names.proofs.lemmas.mentions.BelowValues.{AreValuesAt, IsHere, below_values}
 use Rattle.toml_names.proofs.Each.{Has, PairsAre, pairs_of_all, has_of_any, has_right, has_weaker, from_two, members_self, each_weaker, taken, of_member}
 use Rattle.toml_names.proofs.lemmas.model.Equal.{same_address-self}
 use Rattle.toml_names.proofs.lemmas.mentions.FirstLines.{AreHolding, holding_under_rules, may_hold, marks_hold, inside-some, outside-mark, skip, stop}
 use Rattle.toml_names.proofs.lemmas.mentions.FactAt.{from_all}
 use Rattle.toml_names.proofs.lemmas.mentions.OfOneKind.{first_is_data}
-use Rattle.toml_names.proofs.lemmas.mentions.Pairs.{misfit-from_KeepsRules}
-use Rattle.toml_names.proofs.lemmas.mentions.PlacesFound.{above_in, none_above, is_it, same_role-self, same_role-equal}
-use Rattle.toml_names.proofs.lemmas.mentions.UnderRules.{line_values_stand_alone}
+use Rattle.toml_names.proofs.lemmas.mentions.Offences.{misfit-from_KeepsRules}
+use Rattle.toml_names.proofs.lemmas.mentions.PlacesFound.{above_in, none_above, is_it, same_role-self}
 
 -- two things at one address, of which neither is lone
 abbrev Share : Named → Named → Type 0
@@ -131,11 +115,7 @@ below_is_of_its_line lines keeps =
     ms (members_self ms)
 
 outside_is : (ms : List Named) (at : Address) → IsOutside ms at → line_above ms at ≡ None
-outside_is ms at out = by (line_above ms at) refl
-  where
-    by : (o : Option ℕ) → line_above ms at ≡ o → line_above ms at ≡ None
-    by None is = is
-    by (Some k) is = from_all (IsNoValueAbove at) (IsValueAbove at k) (line_above ms at ≡ None) ms out (above_in ms at k is) (λ m not p. absurd (not p.0 p.1))
+outside_is ms at out = search (rules, from_all, above_in)
 
 -- ---- first lines
 
@@ -144,11 +124,7 @@ abbrev IsNot : Role → Address → Named → Type 0
 IsNot role at m = m.address ≡ at → ¬ (m.role ≡ role)
 
 first_skip : (m : Named) (ms : List Named) (at : Address) (role : Role) → (m.address ≡ at → ¬ (m.role ≡ role)) → first_line (m ∷ ms) at role ≡ first_line ms at role
-first_skip m ms at role not = by (same_address m.address at && same_role m.role role) refl
-  where
-    by : (b : Bool) → (same_address m.address at && same_role m.role role) ≡ b → cond b (Some m.line) (first_line ms at role) ≡ first_line ms at role
-    by true it = let is = is_it m at role it in absurd (not is.0 is.1)
-    by false other = refl
+first_skip m ms at role not = search (rules, is_it)
 
 none_first : (ms : List Named) (at : Address) (role : Role) → IsNotIn role at ms → first_line ms at role ≡ None
 none_first [] at role none = refl
@@ -156,15 +132,12 @@ none_first (m ∷ ms) at role none = first_skip m ms at role (All-head (IsNot ro
 
 found_first : (before : List Named) (m : Named) (behind : List Named) (at : Address) (role : Role) → IsNotIn role at before → m.address ≡ at → m.role ≡ role
     → first_line (before ++ m ∷ behind) at role ≡ Some m.line
-found_first [] m behind at role none here is =
-    let it : (same_address m.address at && same_role m.role role) ≡ true = rw (here, is, same_address-self at, same_role-self role) refl in
-    cond-true _ _ _ it
+found_first [] m behind at role none here is = search (rules, same_address-self, same_role-self, cond-true)
 found_first (x ∷ before) m behind at role none here is =
     first_skip x (before ++ m ∷ behind) at role (All-head (IsNot role at) x before none) ∙ found_first before m behind at role (All-tail (IsNot role at) x before none) here is
 
 first_is : (ms : List Named) (at : Address) (role : Role) (line : ℕ) → IsFirstIn role ms at line → first_line ms at role ≡ Some line
-first_is ms at role line f =
-    ap (λ l. first_line l at role) f.is ∙ found_first f.before f.mention f.behind at role f.none_before f.address f.in_role ∙ ap Some f.of_line
+first_is ms at role line f = search (rules, found_first)
 
 has_first : (ms : List Named) (at : Address) (role : Role) (line : ℕ) → IsFirstIn role ms at line → Has (λ m. (m.address ≡ at) × (m.role ≡ role)) ms
 has_first ms at role line f = subst (Has (λ m. (m.address ≡ at) × (m.role ≡ role))) (sym f.is) (has_right _ f.before (f.mention ∷ f.behind) (inl (f.address, f.in_role)))
@@ -178,10 +151,7 @@ tells Bare = false
 tells _ = true
 
 mark_is : (m q : Role) → tells q ≡ true → may_hold m q ≡ true → m ≡ q
-mark_is m Bare tell holds = absurd (true≢false (sym tell))
-mark_is m Passed tell holds = absurd (true≢false (sym tell))
-mark_is Bare q tell holds = absurd (true≢false (sym holds))
-mark_is m q tell holds = same_role-equal m q holds
+mark_is m q tell holds = search rules
 
 place_told : (ms : List Named) (at : Address) (q : Role) (line : ℕ) → AreHolding ms → tells q ≡ true → IsFirstIn q ms at line → outside ms at ≡ place_of_mark q line
 place_told ms at q line holding tell first = by (mark_of ms at) refl (holding at q line (first_is ms at q line first))
@@ -245,5 +215,4 @@ module _ (lines : List Line) (keeps : KeepsRules (named lines)) where
   further s at (places.Implicit line) is = out_of (s ∷ at) _ is.0 (passed_only (s ∷ at) line is)
 
 pub place_is_found : PlaceIsFound
-place_is_found lines [] p keeps is = at_root lines keeps p is
-place_is_found lines (s ∷ at) p keeps is = further lines keeps s at p is
+place_is_found = search (rules, at_root, further)

@@ -1,12 +1,7 @@
 -- What lines and values name does not depend on where their pieces stand.
-use Rattle.std.proofs.Common.{◌≡◌, ℕ, ◌+◌, List, [], ◌∷◌, ◌++◌, map, refl, sym, ap, ap₂, ◌∙◌}
+use Rattle.toml_names.proofs.Common.{◌≡◌, ℕ, ◌+◌, List, [], ◌∷◌, ◌++◌, map, refl, sym, ap, ap₂, ◌∙◌, rules, Assign, Value, Scalar, Array, Inline, Items, Close, Last, More, Pairs, ClosePairs, LastPair, MorePairs, Expr, Line, Role, Valued, Bare, Address, element, key_names, part_name, rest_names, Named, kind_of, value_named, inside, elements, members, pair_named, named, named_by, named_from, root, value_facts}
 use Rattle.toml_tree.specs.Bare.{bare_dotted, bare_key, bare_assign, bare_value, bare_items, bare_pairs, bare_expr, bare_line}
-use Rattle.toml_tree.specs.Tree.{Dotted, Key, Assign, Value, Scalar, Array, Inline, Items, Close, Last, More, Pairs, ClosePairs, LastPair, MorePairs, Expr, BlankLine, KeyValLine, TableLine, ArrayTableLine, Line}
-use Rattle.toml_names.specs.declared.mentions.mention.Role.{Role}
-use Rattle.toml_names.specs.declared.mentions.mention.Role.TheVariants.{Valued, Bare}
-use Rattle.toml_names.specs.model.Addresses.{Address, element, below}
-use Rattle.toml_names.specs.mentions.Keys.{key_names, part_name, rest_names}
-use Rattle.toml_names.specs.mentions.Mentions.{Named, kind_of, value_named, fronts, inside, elements, members, pair_named, section, named, named_by, named_from, root, followed, ends_table, ends_tables, value_facts}
+use Rattle.toml_tree.specs.Tree.{Dotted, Key}
 use Rattle.toml_names.specs.mentions.Placeless.{PlacesAreNotNamed, ValuePlacesAreNotNamed}
 
 key_bared : (k : Key) → key_names (bare_key k) ≡ key_names k
@@ -17,17 +12,13 @@ key_bared k = ap (λ r. part_name k.first ∷ r) (by k.rest)
     by (d ∷ ds) = ap (λ r. part_name d.part ∷ r) (by ds)
 
 kind_bared : (v : Value) → kind_of (bare_value v) ≡ kind_of v
-kind_bared (Scalar kind p) = refl
-kind_bared (Array whole items) = refl
-kind_bared (Inline whole pairs) = refl
+kind_bared v = search rules
 
 block_bared : (v : Value) (line : ℕ) (role : Role) (at : Address) → inside line at (bare_value v) ≡ inside line at v → value_named line role at (bare_value v) ∷ inside line at (bare_value v) ≡ value_named line role at v ∷ inside line at v
 block_bared v line role at within = ap₂ (λ k l. record { address = at; role = role; kind = k; line = line } ∷ l) (kind_bared v) within
 
 pair_bared : (a : Assign) (v : Value) (line : ℕ) (at : Address) → ((here : Address) → inside line here (bare_value v) ≡ inside line here v) → pair_named line at (bare_assign a) (bare_value v) ≡ pair_named line at a v
-pair_bared a v line at within =
-    ap (λ k. fronts line at k ++ (value_named line Valued (below at k) (bare_value v) ∷ inside line (below at k) (bare_value v))) (key_bared a.key)
-    ∙ ap (λ l. fronts line at (key_names a.key) ++ l) (block_bared v line Valued (below at (key_names a.key)) (within (below at (key_names a.key))))
+pair_bared a v line at within = search (rules, key_bared, block_bared)
 
 mutual
   inside_bared : (v : Value) (line : ℕ) (at : Address) → inside line at (bare_value v) ≡ inside line at v
@@ -46,10 +37,7 @@ mutual
   members_bared (MorePairs g a v h ps) line at = ap₂ (λ s t. s ++ t) (pair_bared a v line at (λ here. inside_bared v line here)) (members_bared ps line at)
 
 line_bared : (ms : List Named) (line : ℕ) (e : Expr) → named_by ms line (bare_expr e) ≡ named_by ms line e
-line_bared ms line (BlankLine b) = refl
-line_bared ms line (KeyValLine ws k b) = pair_bared k.assign k.value line (section ms) (λ here. inside_bared k.value line here)
-line_bared ms line (TableLine ws h b) = ap (followed line ms (ends_table line) []) (key_bared h.key)
-line_bared ms line (ArrayTableLine ws h b) = ap (followed line ms (ends_tables line ms) []) (key_bared h.key)
+line_bared ms line e = search (rules, pair_bared, inside_bared, key_bared)
 
 from_bared : (ls : List Line) (ms : List Named) (line : ℕ) → named_from ms line (map bare_line ls) ≡ named_from ms line ls
 from_bared [] ms line = refl

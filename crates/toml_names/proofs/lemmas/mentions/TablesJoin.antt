@@ -1,27 +1,13 @@
 -- An array of tables and its next element join.
-use Rattle.std.proofs.Common.{◌≡◌, ◌⊎◌, ℕ, zero, suc, ◌+◌, ◌<◌, ◌≤◌, ◌&&◌, Bool, true, false, List, [], ◌∷◌, ◌++◌, Option, Some, None, refl, sym, ap, ◌∙◌, subst, inl, inr, arith, le_refl}
-use Rattle.std.proofs.lemmas.Bool.{cond-true, cond-false}
-use Rattle.std.proofs.lemmas.List.{append_assoc}
-use Rattle.std.proofs.lemmas.List.Elements.{All-push}
-use Rattle.std.proofs.lemmas.Option.{none-some}
-use Rattle.toml_names.specs.declared.model.address.Step.TheVariants.{Index}
-use Rattle.toml_names.specs.declared.mentions.mention.Role.TheVariants.{Tables, Element}
-use Rattle.toml_names.specs.model.Addresses.{Address, same_address, child, element}
-use Rattle.toml_names.specs.model.Data.{fact_at}
-use Rattle.toml_names.specs.mentions.Joining.{Joins, is_lone}
-use Rattle.toml_names.specs.mentions.Mentions.{Kind, a_table, an_array, Named, table_at, count_tables}
-use Rattle.toml_names.specs.mentions.Rules.{fits}
+use Rattle.toml_names.proofs.Common.{common_steps, ◌≡◌, ◌⊎◌, ℕ, ◌+◌, ◌<◌, ◌≤◌, ◌&&◌, Bool, true, false, List, [], ◌∷◌, ◌++◌, Some, None, refl, sym, ap, ◌∙◌, subst, inl, inr, arith, le_refl, rules, cond-true, cond-false, append_assoc, All-push, none-some, Index, Tables, Element, Address, same_address, child, element, fact_at, Joins, Kind, a_table, an_array, Named, table_at, count_tables, fits}
 use Rattle.toml_names.proofs.lemmas.mentions.Adding.{IsAdded}
 use Rattle.toml_names.proofs.lemmas.mentions.Counting.{adds, count_push, count_plain, count_there}
-use Rattle.toml_names.proofs.lemmas.mentions.FactAt.{any_with, found, fact_kept}
-use Rattle.toml_names.proofs.lemmas.mentions.Growing.{NoneLone, AreCounted, IsGrown, IsClosed-push, joins_at_name}
+use Rattle.toml_names.proofs.lemmas.mentions.FactAt.{any_with, found, fact_kept, there_is, fact_other}
+use Rattle.toml_names.proofs.lemmas.mentions.Growing.{NoneLone, AreCounted, IsGrown, IsClosed-push, joins_at_name, IsSuited, suited_mention, tables_before}
 use Rattle.toml_names.proofs.lemmas.mentions.InsideJoins.{not_longer}
-use Rattle.toml_names.proofs.lemmas.model.LastSteps.{child_is_no_element, element_parts}
 use Rattle.toml_names.proofs.lemmas.mentions.OfOneKind.{AreOfOneKind, AreOfOneKind-push, one_kind_new}
-use Rattle.toml_names.proofs.lemmas.mentions.Pairs.{Goes, at_each}
-use Rattle.toml_names.proofs.lemmas.mentions.Pushed.{there_is, fact_other}
-use Rattle.toml_names.proofs.lemmas.model.Equal.{same_address-equal, same_address-self}
-use Rattle.toml_names.proofs.lemmas.mentions.Suiting.{IsSuited, suited_mention, tables_before}
+use Rattle.toml_names.proofs.lemmas.mentions.Offences.{Goes, at_each}
+use Rattle.toml_names.proofs.lemmas.model.Equal.{same_address-equal, same_address-self, child_is_no_element, element_parts}
 
 abbrev pub tables_at : ℕ → Address → Named
 tables_at line at = record { address = at; role = Tables; kind = an_array; line = line }
@@ -65,19 +51,8 @@ module _ (line : ℕ) (ms : List Named) (at : Address) (n : List ℕ) (grown : I
       (λ i d low. (grown.suited i d low, at_each ms array good i d low)) (found ms here k there)
       (λ e both has. (has.0, tables_before e.role (both.1 has.0) (λ bare. both.0.bare bare at n has.0))))
 
-  nothing_here : count ≡ 0 → fact_at ms here ≡ None
-  nothing_here zero_is = by (fact_at ms here) refl
-    where
-      by : (o : Option Kind) → fact_at ms here ≡ o → fact_at ms here ≡ None
-      by None h = h
-      by (Some k) h = let some = has_tables k h in absurd (omega arith)
-
   no_more : (j : ℕ) → count ≤ j → fact_at ms (element here j) ≡ None
-  no_more j past = by count refl
-    where
-      by : (c : ℕ) → count ≡ c → fact_at ms (element here j) ≡ None
-      by zero h = grown.closed here (Index j) (nothing_here h)
-      by (suc c) h = grown.counted.ends here j (omega arith) past
+  no_more j past = search (rules, has_tables)
 
   next_absent : fact_at with_array (element here count) ≡ None
   next_absent = fact_other ms array (element here count) (λ same. not_longer here here (Index count) (le_refl _) (sym same)) ∙ no_more count (le_refl count)
@@ -109,9 +84,7 @@ module _ (line : ℕ) (ms : List Named) (at : Address) (n : List ℕ) (grown : I
   kept_after q k h = fact_kept with_array (next ∷ []) q k (fact_kept ms (array ∷ []) q k h)
 
   lone_after : (q : Address) → NoneLone ms q → NoneLone after q
-  lone_after q none =
-      let P = λ (e : Named). e.address ≡ q → is_lone e.role ≡ false in
-      All-push P with_array next (All-push P ms array none (λ same. refl)) (λ same. refl)
+  lone_after q none = grind (arith, common_steps)
 
   -- a table that is counted was counted, or is the next
   old_or_next : (q : Address) (j : ℕ) → j < count_tables after q → (j < count_tables ms q) ⊎ (element here count ≡ element q j)

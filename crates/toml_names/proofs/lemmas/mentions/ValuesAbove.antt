@@ -1,21 +1,50 @@
--- The first value above an address in the text is the first on the way to it, since what is above is named earlier.
-use Rattle.std.proofs.Common.{◌≡◌, ℕ, Bool, true, false, cond, ◌&&◌, ◌||◌, List, [], ◌∷◌, ◌++◌, length, Option, Some, None, refl, sym, ap, subst, ◌∙◌, inl, inr, true≢false, arith}
-use Rattle.std.proofs.lemmas.List.{append_assoc, append-nil, length-append}
-use Rattle.std.proofs.lemmas.Option.{none-some}
-use Rattle.toml_names.specs.declared.model.address.Step.{Step}
-use Rattle.toml_names.specs.declared.mentions.mention.Role.TheVariants.{Valued}
-use Rattle.toml_names.specs.model.Addresses.{Address, same_step, same_address, is_above}
-use Rattle.toml_names.specs.model.Building.{BeginsAtRoot}
-use Rattle.toml_names.specs.model.Data.{fact_at}
-use Rattle.toml_names.specs.mentions.Joining.{is_lone, Joins, JoinAll, Joined}
-use Rattle.toml_names.specs.mentions.Mentions.{Kind, Named}
-use Rattle.toml_names.specs.model.Places.{same_role, first_line, line_above}
-use Rattle.toml_names.specs.tree.Placing.{first_of}
+-- What stands one step below something says of which kind this is. The first value above an address in the text is the first on the way to it, since what is above is named earlier.
+use Rattle.toml_names.proofs.Common.{◌≡◌, ℕ, Bool, true, false, cond, ◌&&◌, ◌||◌, List, [], ◌∷◌, ◌++◌, length, Option, Some, None, refl, sym, ap, subst, ◌∙◌, true≢false, arith, rules, append_assoc, append-nil, none-some, Step, Valued, Address, same_step, same_address, is_above, BeginsAtRoot, fact_at, Joins, JoinAll, Joined, Kind, Named, same_role, first_line, line_above, first_of, common_steps, cond-false, Name, Index, a_table, an_array, IsTreeOf, Spot}
+use Rattle.std.proofs.lemmas.List.{length-append}
 use Rattle.toml_names.proofs.lemmas.model.Equal.{same_step-equal, same_step-self, same_address-equal, same_address-self}
 use Rattle.toml_names.proofs.lemmas.mentions.FirstLines.{first_line-push, first_line-none}
-use Rattle.toml_names.proofs.lemmas.mentions.Holders.{holder, AreHeld, AreHeld-push, AreHeld-first}
-use Rattle.toml_names.proofs.lemmas.tree.NodePlaces.{same_address-apart}
+use Rattle.toml_names.proofs.lemmas.tree.NodePlaces.{same_address-apart, root_address}
 use Rattle.toml_names.proofs.lemmas.mentions.PlacesFound.{same_role-equal}
+use Rattle.toml_names.proofs.lemmas.mentions.FactAt.{fact_kept, fact_behind}
+use Rattle.toml_names.proofs.lemmas.tree.NodeAddresses.{length-addresses}
+
+-- the kind of what has something one such step below
+abbrev pub holder : Step → Kind
+holder (Name n) = a_table
+holder (Index i) = an_array
+
+abbrev pub AreHeld : List Named → Type 0
+AreHeld ms = (at : Address) (s : Step) (k : Kind) → fact_at ms (at ++ s ∷ []) ≡ Some k → fact_at ms at ≡ Some (holder s)
+
+fact_one : (m : Named) (at : Address) (k : Kind) → fact_at (m ∷ []) at ≡ Some k → m.address ≡ at
+fact_one m at k is = search (rules, same_address-equal, none-some, cond-false)
+
+joined_holds : (ms : List Named) (m : Named) (at : Address) (s : Step) → Joins ms m → fact_at ms (at ++ s ∷ []) ≡ None → m.address ≡ at ++ s ∷ [] → fact_at ms at ≡ Some (holder s)
+joined_holds ms m at s h1 none same = grind (arith, common_steps)
+
+pub AreHeld-push : (ms : List Named) (m : Named) → AreHeld ms → Joins ms m → AreHeld (ms ++ m ∷ [])
+AreHeld-push ms m held joins at s k is = by (fact_at ms (at ++ s ∷ [])) refl
+  where
+    by : (o : Option Kind) → fact_at ms (at ++ s ∷ []) ≡ o → fact_at (ms ++ m ∷ []) at ≡ Some (holder s)
+    by (Some j) there = fact_kept ms (m ∷ []) at (holder s) (held at s j there)
+    by None none =
+        let same = fact_one m (at ++ s ∷ []) k (sym (fact_behind ms (m ∷ []) (at ++ s ∷ []) none) ∙ is) in
+        fact_kept ms (m ∷ []) at (holder s) (joined_holds ms m at s joins none same)
+
+AreHeld-more : (more ms : List Named) → AreHeld ms → JoinAll ms more → AreHeld (ms ++ more)
+AreHeld-more [] ms held join = subst AreHeld (sym (append-nil ms)) held
+AreHeld-more (m ∷ more) ms held join = subst AreHeld (append_assoc ms (m ∷ []) more) (AreHeld-more more (ms ++ m ∷ []) (AreHeld-push ms m held join.0) join.1)
+
+pub AreHeld-first : (m : Named) → m.address ≡ [] → AreHeld (m ∷ [])
+AreHeld-first m root = search rules
+
+pub held : (ms : List Named) → BeginsAtRoot ms → Joined ms → AreHeld ms
+held [] root joined = absurd root
+held (m ∷ ms) root joined = AreHeld-more ms (m ∷ []) (AreHeld-first m root) joined
+
+-- what a tree stands for begins at the root
+pub begins_at_root : (nodes : List Spot) (ms : List Named) → IsTreeOf nodes ms → BeginsAtRoot ms
+begins_at_root nodes ms stands = search (rules, length-addresses, root_address)
 
 -- ---- fronts
 
@@ -72,16 +101,10 @@ front_none ms at (s ∷ rest) none =
     ∙ front_none ms (at ++ s ∷ []) rest (λ more. ap (fact_at ms) (append_assoc at (s ∷ []) more) ∙ none (s ∷ more))
 
 joined_of : (f g x : Option ℕ) → first_of (first_of f None) (first_of g x) ≡ first_of (first_of f g) x
-joined_of None g x = refl
-joined_of (Some l) g x = refl
+joined_of f g x = grind arith
 
 never : (line : ℕ) (there : Bool) → cond (there && false) (Some line) None ≡ None
-never line true = refl
-never line false = refl
-
-both_true : (a b : Bool) → (a && b) ≡ true → (a ≡ true) × (b ≡ true)
-both_true true b h = (refl, h)
-both_true false b h = absurd (true≢false (sym h))
+never line there = grind arith
 
 -- where something stands, something stands above
 closed : (ms : List Named) → AreHeld ms → (at more : Address) → fact_at ms at ≡ None → fact_at ms (at ++ more) ≡ None
@@ -94,25 +117,10 @@ closed ms held at (s ∷ more) none = ap (fact_at ms) (sym (append_assoc at (s �
 
 line_above-push : (ms : List Named) (m : Named) (at : Address) → line_above (ms ++ m ∷ []) at ≡ first_of (line_above ms at) (new_value m (is_above m.address at))
 line_above-push [] m at = refl
-line_above-push (x ∷ ms) m at = by (is_above x.address at && same_role x.role Valued) (line_above-push ms m at)
-  where
-    by : (b : Bool) → line_above (ms ++ m ∷ []) at ≡ first_of (line_above ms at) (new_value m (is_above m.address at))
-        → cond b (Some x.line) (line_above (ms ++ m ∷ []) at) ≡ first_of (cond b (Some x.line) (line_above ms at)) (new_value m (is_above m.address at))
-    by true ih = refl
-    by false ih = ih
+line_above-push (x ∷ ms) m at = search (rules, line_above-push ms m at)
 
 -- one more thing, which is new if it is a value
 module _ (ms : List Named) (m : Named) (held : AreHeld ms) (fresh : m.role ≡ Valued → fact_at ms m.address ≡ None) where
-  merged : (here there : Bool) (f g : Option ℕ) → ((here && same_role m.role Valued) ≡ true → (f ≡ None) × (g ≡ None))
-      → first_of (first_of f (new_value m here)) (first_of g (new_value m there)) ≡ first_of (first_of f g) (new_value m (here || there))
-  merged here there f g alone = by here (same_role m.role Valued) alone
-    where
-      by : (here value : Bool) → ((here && value) ≡ true → (f ≡ None) × (g ≡ None))
-          → first_of (first_of f (cond (here && value) (Some m.line) None)) (first_of g (cond (there && value) (Some m.line) None)) ≡ first_of (first_of f g) (cond ((here || there) && value) (Some m.line) None)
-      by true true alone = let both = alone refl in rw (both.0, both.1) refl
-      by true false alone = joined_of f g (cond (there && false) (Some m.line) None) ∙ ap (first_of (first_of f g)) (never m.line there)
-      by false value alone = joined_of f g (cond (there && value) (Some m.line) None)
-
   alone_at : (s : Step) (rest at : Address) → (same_address m.address at ≡ true) × (same_role m.role Valued ≡ true) → (first_line ms at Valued ≡ None) × (front_value ms (at ++ s ∷ []) rest ≡ None)
   alone_at s rest at both =
       let none : fact_at ms at ≡ None = ap (fact_at ms) (sym (same_address-equal m.address at both.0)) ∙ fresh (same_role-equal m.role Valued both.1) in
@@ -120,10 +128,7 @@ module _ (ms : List Named) (m : Named) (held : AreHeld ms) (fresh : m.role ≡ V
 
   front_push : (rest at : Address) → front_value (ms ++ m ∷ []) at rest ≡ first_of (front_value ms at rest) (new_value m (is_front m.address at rest))
   front_push [] at = refl
-  front_push (s ∷ rest) at =
-      ap (λ o. first_of o (front_value (ms ++ m ∷ []) (at ++ s ∷ []) rest)) (first_line-push ms m at Valued)
-      ∙ ap (first_of (first_of (first_line ms at Valued) (new_value m (same_address m.address at)))) (front_push rest (at ++ s ∷ []))
-      ∙ merged (same_address m.address at) (is_front m.address (at ++ s ∷ []) rest) (first_line ms at Valued) (front_value ms (at ++ s ∷ []) rest) (λ both. alone_at s rest at (both_true (same_address m.address at) (same_role m.role Valued) both))
+  front_push (s ∷ rest) at = search (rules, first_line-push, joined_of, never, alone_at, true≢false, front_push rest (at ++ s ∷ []))
 
   value_push : (at : Address) → line_above ms at ≡ front_value ms [] at → line_above (ms ++ m ∷ []) at ≡ front_value (ms ++ m ∷ []) [] at
   value_push at same =
@@ -133,8 +138,7 @@ module _ (ms : List Named) (m : Named) (held : AreHeld ms) (fresh : m.role ≡ V
 
 -- a value that joins is new
 fresh_value : (ms : List Named) (m : Named) → Joins ms m → m.role ≡ Valued → fact_at ms m.address ≡ None
-fresh_value ms m (inl free) value = free.absent
-fresh_value ms m (inr again) value = absurd (true≢false (sym (ap is_lone value) ∙ again.shared))
+fresh_value ms m h1 value = search (rules, true≢false)
 
 values_more : (more ms : List Named) → AreHeld ms → ((at : Address) → line_above ms at ≡ front_value ms [] at) → JoinAll ms more
     → (at : Address) → line_above (ms ++ more) at ≡ front_value (ms ++ more) [] at

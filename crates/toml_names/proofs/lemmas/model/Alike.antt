@@ -1,27 +1,11 @@
 -- Data that have the same at each address.
-use Rattle.std.proofs.Common.{◌≡◌, ◌↔◌, ℕ, ◌<◌, ◌≤◌, Bool, true, false, cond, List, [], ◌∷◌, length, Option, Some, None, IsSome, IsTrue, is_some, String, Vec, Global, string_bytes, nat_cmp, is_eq, ⊎_elim, refl, sym, ap, subst, ◌∙◌, true≢false, arith}
-use Rattle.std.proofs.lemmas.Bool.{cases_lt}
-use Rattle.std.proofs.lemmas.Option.{slice_get_past, slice_get_within, slice_get-get_or}
-use Rattle.std.proofs.lemmas.Map.Text.{is_eq-slice_cmp}
-use Rattle.std.proofs.lemmas.Slice.Eq.{bytes_eq-Decides}
-use Rattle.std.specs.Prelude.{slice_get}
-use Rattle.std.specs.BTreeMap.{is_at, get_by_text}
-use Rattle.std.specs.Cmp.Lexicographic.{slice_cmp}
-use Rattle.std.specs.Map.{lookup}
+use Rattle.toml_names.proofs.Common.{◌≡◌, ◌↔◌, ℕ, ◌<◌, ◌≤◌, Bool, true, false, List, [], ◌∷◌, length, Option, Some, None, IsSome, IsTrue, is_some, String, Vec, Global, string_bytes, nat_cmp, is_eq, ⊎_elim, refl, sym, ap, subst, ◌∙◌, true≢false, arith, rules, cases_lt, slice_get_past, slice_get_within, slice_get-get_or, is_eq-slice_cmp, bytes_eq-Decides, slice_get, is_at, get_by_text, slice_cmp, lookup, scalar_value, Name, Index, Datum, Table, Address, kind_at, kind_in, Members, Kind, a_scalar, AreSame, AreSameIn, SameScalars, SameArrays, SameTables}
 use Rattle.toml_scalar.specs.declared.scalar.Scalar.{Scalar as Value}
-use Rattle.toml_scalar.specs.Values.{scalar_value}
-use Rattle.toml_names.specs.declared.model.address.Step.TheVariants.{Name, Index}
-use Rattle.toml_names.specs.declared.model.datum.Datum.{Datum, Scalar, Array, Table}
-use Rattle.toml_names.specs.model.Addresses.{Address}
-use Rattle.toml_names.specs.model.Data.{kind_at, kind_in}
-use Rattle.toml_names.specs.model.Levels.{Members}
-use Rattle.toml_names.specs.mentions.Mentions.{Kind, a_scalar}
-use Rattle.toml_names.specs.model.SameData.{AreSame, AreSameIn, SameScalars, SameArrays, SameTables}
+use Rattle.toml_names.specs.declared.model.datum.Datum.{Scalar, Array}
 use Rattle.toml_names.proofs.lemmas.model.Levels.{scalar-here, scalar-below, array-here, array-item, array-name, table-here, table-member, table-index, has_kind, scalar_from_kind, array_from_kind, table_from_kind}
 
 pub part_there : (o : Option Datum) → IsSome (kind_in o []) → IsSome o
-part_there None some = some
-part_there (Some d) some = refl
+part_there o some = search rules
 
 pub kind_there : (o : Option Datum) → IsSome o → IsSome (kind_in o [])
 kind_there None some = some
@@ -66,11 +50,7 @@ some_within [] i low = absurd (omega arith)
 some_within (d ∷ ds) i low = ap is_some (slice_get-get_or (d ∷ ds) i d low)
 
 within_some : (ds : List Datum) (i : ℕ) → IsSome (slice_get ds i) → i < length ds
-within_some ds i some = by (slice_get ds i) refl some
-  where
-    by : (o : Option Datum) → slice_get ds i ≡ o → IsSome o → i < length ds
-    by None is h = absurd (true≢false (sym h))
-    by (Some d) is h = slice_get_within ds i d is
+within_some ds i some = search (rules, true≢false, slice_get_within)
 
 no_longer : (ds es : List Datum) → AlikeItems ds es → length es ≤ length ds
 no_longer ds es alike = ⊎_elim
@@ -79,20 +59,11 @@ no_longer ds es alike = ⊎_elim
     (cases_lt (length ds) (length es))
 
 pub lengths_alike : (ds es : List Datum) → AlikeItems ds es → length ds ≡ length es
-lengths_alike ds es alike =
-    let more : length ds ≤ length es = no_longer es ds (λ index at. sym (alike index at)) in
-    let less : length es ≤ length ds = no_longer ds es alike in
-    omega arith
-
-past_alike : (ds es : List Datum) (i : ℕ) → length ds ≡ length es → length ds ≤ i → AreSameIn (slice_get ds i) (slice_get es i)
-past_alike ds es i long past at =
-    let far : length es ≤ i = omega arith in
-    ap (λ (o : Option Datum). kind_in o at) (slice_get_past ds i past ∙ sym (slice_get_past es i far))
+lengths_alike ds es alike = search (rules, no_longer)
 
 -- arrays of one length with like elements at each index
 pub items_alike : (ds es : List Datum) (count : ℕ) → length ds ≡ length es → length ds ≤ count → ((i : ℕ) → i < count → AreSameIn (slice_get ds i) (slice_get es i)) → AlikeItems ds es
-items_alike ds es count long all each i =
-    ⊎_elim (λ low. each i low) (λ far. past_alike ds es i long (omega arith)) (cases_lt i count)
+items_alike ds es count long all each = search (rules, slice_get_past, cases_lt)
 
 -- ---- tables
 
@@ -103,9 +74,7 @@ abbrev pub HasNames : Members → Members → Type 0
 HasNames m n = (name : List ℕ) → IsSome (get_by_text n name) → IsSome (get_by_text m name)
 
 member_alike : (o p : Option Datum) → (IsSome o → AreSameIn o p) → (IsSome p → IsSome o) → AreSameIn o p
-member_alike (Some d) p like there at = like refl at
-member_alike None None like there at = refl
-member_alike None (Some e) like there at = absurd (true≢false (sym (there refl)))
+member_alike o p like there = search rules
 
 pub tables_like : (m n : Members) → ((name : List ℕ) → AreSameIn (get_by_text m name) (get_by_text n name)) → AreSame (Table m) (Table n)
 tables_like m n like [] = table-here m ∙ sym (table-here n)
@@ -141,12 +110,7 @@ same_name name k h = (bytes_eq-Decides name (string_bytes k)).0 (sym (is_eq-slic
 -- so of what a look-up finds
 pub each_found : (P : List ℕ → Datum → Type 0) (es : List Entry) → Each P es → (name : List ℕ) (d : Datum) → lookup (is_at (λ k. slice_cmp nat_cmp name (string_bytes k))) es ≡ Some d → P name d
 each_found P [] each name d found = cc
-each_found P (e ∷ es) each name d found = by (is_eq (slice_cmp nat_cmp name (string_bytes e.0))) refl found (each_found P es each.1 name d)
-  where
-    by : (b : Bool) → is_eq (slice_cmp nat_cmp name (string_bytes e.0)) ≡ b → cond b (Some e.1) (lookup (is_at (λ k. slice_cmp nat_cmp name (string_bytes k))) es) ≡ Some d
-        → (lookup (is_at (λ k. slice_cmp nat_cmp name (string_bytes k))) es ≡ Some d → P name d) → P name d
-    by true is h later = let here : e.1 ≡ d = cc in subst (P name) here (subst (λ n. P n e.1) (sym (same_name name e.0 is)) each.0)
-    by false is h later = later h
+each_found P (e ∷ es) each name d found = search (rules, same_name, each_found P es each.1 name d)
 
 pub each_more : (P : List ℕ → Datum → Type 0) (es left : List Entry) (e : Entry) → es ≡ e ∷ left → P (string_bytes e.0) e.1 → Each P left → Each P es
 each_more P es left e is here each = subst (Each P) (sym is) (here, each)

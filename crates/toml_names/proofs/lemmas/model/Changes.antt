@@ -1,21 +1,6 @@
 -- What a datum has where one part changes.
-use Rattle.std.proofs.Common.{◌≡◌, ◌⊎◌, inl, inr, true≢false, ℕ, zero, suc, ◌<◌, ◌≤◌, Bool, true, false, cond, List, [], ◌∷◌, length, map, set, Option, Some, None, IsSome, is_some, String, Vec, BTreeMap, Global, bytes_eq, refl, sym, ap, subst, ◌∙◌, arith}
-use Rattle.std.proofs.lemmas.Bool.{cases_lt}
-use Rattle.std.proofs.lemmas.Bool.Decides.{nat_tests}
-use Rattle.std.specs.Bool.{nat_eq}
-use Rattle.std.specs.Prelude.{slice_get}
-use Rattle.std.specs.BTreeMap.{get_by_text}
-use Rattle.toml_names.specs.declared.model.address.Step.{Step}
-use Rattle.toml_names.specs.declared.model.address.Step.TheVariants.{Name, Index}
-use Rattle.toml_names.specs.declared.model.datum.Datum.{Datum, Array, Table}
-use Rattle.toml_names.specs.declared.model.datum.Datum.TheVariants.{rolls-Scalar, rolls-Array, rolls-Table}
-use Rattle.toml_names.specs.declared.model.datum.Datum.TheOpen.{Datum-F}
-use Rattle.toml_names.specs.declared.model.datum.Datum.TheViews.{roll-Datum}
-use Rattle.toml_names.specs.model.Addresses.{Address}
-use Rattle.toml_names.specs.model.Building.{with_child}
-use Rattle.toml_names.specs.model.Data.{Kinds, kind_at, kind_in, in_array, in_table}
-use Rattle.toml_names.specs.model.Levels.{IndexIsWithin, NameHasMember}
-use Rattle.toml_names.specs.mentions.Mentions.{Kind}
+use Rattle.toml_names.proofs.Common.{◌≡◌, ◌⊎◌, inl, inr, true≢false, ℕ, zero, suc, ◌<◌, ◌≤◌, cond, List, [], ◌∷◌, length, map, set, Option, Some, None, IsSome, is_some, String, Vec, BTreeMap, Global, bytes_eq, refl, sym, ap, subst, ◌∙◌, arith, rules, cases_lt, nat_tests, nat_eq, slice_get, get_by_text, Step, Name, Index, Datum, Table, rolls-Scalar, rolls-Array, rolls-Table, Datum-F, roll-Datum, Address, with_child, Kinds, kind_at, kind_in, in_array, in_table, IndexIsWithin, NameHasMember, Kind}
+use Rattle.toml_names.specs.declared.model.datum.Datum.{Array}
 use Rattle.toml_names.specs.model.Parts.{HasPart, DatumHasPart, StepIsThere, PartIsThere}
 use Rattle.toml_names.proofs.lemmas.model.Equal.{same_step-self}
 use Rattle.toml_names.proofs.lemmas.model.Alike.{part_there}
@@ -31,23 +16,12 @@ get_set (y ∷ xs) zero (suc j) x h = grind (arith, nat_tests)
 get_set (y ∷ xs) (suc i) zero x h = grind (arith, nat_tests)
 get_set (y ∷ xs) (suc i) (suc j) x h = get_set xs i j x (omega arith) ∙ ap (λ b. cond b (Some x) (slice_get xs j)) (same_test i j)
 
-one_of : (b : Bool) (o r : Option Datum) (at : Address) → kind_in (cond b o r) at ≡ cond b (kind_in o at) (kind_in r at)
-one_of true o r at = refl
-one_of false o r at = refl
-
 pub array-set : (v w : Vec Datum Global) (i : ℕ) (d : Datum) → w.items ≡ set v.items i d → i < length v.items → (at : Address) → kind_at (Array w) at ≡ with_child (Index i) (kind_at d) (kind_at (Array v)) at
-array-set v w i d is low [] = array-here w ∙ sym (array-here v)
-array-set v w i d is low (Name n ∷ at) = array-name w n at ∙ sym (array-name v n at)
-array-set v w i d is low (Index j ∷ at) =
-    array-item w j at ∙ ap (λ (ds : List Datum). kind_in (slice_get ds j) at) is ∙ ap (λ (o : Option Datum). kind_in o at) (get_set v.items i j d low)
-    ∙ one_of (nat_eq i j) (Some d) (slice_get v.items j) at ∙ ap (cond (nat_eq i j) (kind_at d at)) (sym (array-item v j at))
+array-set v w i d is low at = search (rules, array-here, array-name, array-item, get_set)
 
 pub table-set : (m n : BTreeMap (String Global) Datum) (k : List ℕ) (d : Datum) → ((q : List ℕ) → get_by_text n q ≡ cond (bytes_eq k q) (Some d) (get_by_text m q))
     → (at : Address) → kind_at (Table n) at ≡ with_child (Name k) (kind_at d) (kind_at (Table m)) at
-table-set m n k d is [] = table-here n ∙ sym (table-here m)
-table-set m n k d is (Index i ∷ at) = table-index n i at ∙ sym (table-index m i at)
-table-set m n k d is (Name q ∷ at) =
-    table-member n q at ∙ ap (λ (r : Option Datum). kind_in r at) (is q) ∙ one_of (bytes_eq k q) (Some d) (get_by_text m q) at ∙ ap (cond (bytes_eq k q) (kind_at d at)) (sym (table-member m q at))
+table-set m n k d is at = search (rules, table-here, table-index, table-member)
 
 within : (ds : List Datum) (i : ℕ) → IsSome (kind_in (slice_get ds i) []) → i < length ds
 within [] i some = cc

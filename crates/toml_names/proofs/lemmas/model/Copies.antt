@@ -1,17 +1,6 @@
 -- Arrays and tables that are copied part by part.
-use Rattle.std.proofs.Common.{◌≡◌, ℕ, ◌+◌, ◌<◌, ◌≤◌, Bool, true, false, cond, List, [], ◌∷◌, ◌++◌, length, map, take, get_or, Option, Some, None, string_bytes, nat_cmp, is_eq, bytes_eq, refl, sym, ap, ◌∙◌}
-use Rattle.std.proofs.lemmas.List.{take_more, take_all, map-append}
-use Rattle.std.proofs.lemmas.Map.Text.{is_eq-slice_cmp}
-use Rattle.std.proofs.lemmas.Slice.Eq.{bytes_eq-Decides}
-use Rattle.std.specs.Prelude.{slice_get}
-use Rattle.std.specs.BTreeMap.{is_at, get_by_text}
-use Rattle.std.specs.Cmp.Lexicographic.{slice_cmp}
-use Rattle.std.specs.Map.{lookup}
+use Rattle.toml_names.proofs.Common.{◌≡◌, ℕ, ◌+◌, ◌<◌, ◌≤◌, Bool, true, false, cond, List, [], ◌∷◌, ◌++◌, length, map, take, get_or, Option, Some, None, string_bytes, nat_cmp, is_eq, bytes_eq, refl, sym, ap, ◌∙◌, rules, take_more, take_all, map-append, is_eq-slice_cmp, bytes_eq-Decides, slice_get, is_at, get_by_text, slice_cmp, lookup, Datum, Kinds, kind_at, kind_in, within, Members, AreSame, AreSameIn}
 use mathlib.Core.Path.{fun_ext}
-use Rattle.toml_names.specs.declared.model.datum.Datum.{Datum}
-use Rattle.toml_names.specs.model.Data.{Kinds, kind_at, kind_in, within}
-use Rattle.toml_names.specs.model.Levels.{Members}
-use Rattle.toml_names.specs.model.SameData.{AreSame, AreSameIn}
 use Rattle.toml_names.proofs.lemmas.model.Alike.{AlikeItems, Entry}
 use Rattle.toml_names.proofs.lemmas.model.Levels.{item_part}
 
@@ -49,16 +38,8 @@ or_part (Some d) p = Some d
 abbrev pub Completes : Members → List Entry → Members → Type 0
 Completes copies left all = (name : List ℕ) → AreSameIn (or_part (get_by_text copies name) (found name left)) (get_by_text all name)
 
-or_none : (o : Option Datum) → or_part o None ≡ o
-or_none None = refl
-or_none (Some d) = refl
-
 apart : (k q : List ℕ) → bytes_eq k q ≡ false → bytes_eq q k ≡ false
-apart k q h = by (bytes_eq q k) refl
-  where
-    by : (b : Bool) → bytes_eq q k ≡ b → b ≡ false
-    by false is = refl
-    by true is = sym ((bytes_eq-Decides k q).1 (sym ((bytes_eq-Decides q k).0 is))) ∙ h
+apart k q h = search rules
 
 module _ (copies more all : Members) (left rest : List Entry) (e : Entry) (d : Datum) (k : List ℕ) (is : left ≡ e ∷ rest) (key : k ≡ string_bytes e.0) (alike : AreSame d e.1) (there : get_by_text all (string_bytes e.0) ≡ Some e.1) where
   pub completes_more : Completes copies left all → ((q : List ℕ) → get_by_text more q ≡ cond (bytes_eq k q) (Some d) (get_by_text copies q)) → Completes more rest all

@@ -1,21 +1,11 @@
--- Addresses that are the same are equal.
-use Rattle.std.proofs.Common.{◌≡◌, true, refl, ap}
-use Rattle.std.proofs.lemmas.Bool.{eqb-true, eq-eqb}
-use Rattle.std.specs.Bool.{Decides}
-use Rattle.std.specs.Cmp.Lexicographic.{pointwise_decides, bytes_decides}
-use Rattle.toml_names.specs.declared.model.address.Step.{Step}
-use Rattle.toml_names.specs.declared.model.address.Step.TheVariants.{Name, Index}
-use Rattle.toml_names.specs.model.Addresses.{Address, same_step, same_address, SameStepIsEqual, StepIsSame}
+-- Addresses that are the same are equal, by their last step too; which address is strictly above which.
+use Rattle.toml_names.proofs.Common.{◌≡◌, true, refl, rules, Decides, pointwise_decides, Step, Address, same_step, same_address, SameStepIsEqual, StepIsSame, common_steps, ℕ, ◌<◌, ◌≤◌, false, ◌&&◌, [], ◌∷◌, length, drop, ap, ◌∙◌, arith, Bool, drop_all, is_above, ◌+◌, List, ◌++◌, length-append, child, element}
 
 pub same_step-equal : SameStepIsEqual
-same_step-equal (Name m) (Name n) h = ap Name ((bytes_decides m n).0 h)
-same_step-equal (Name m) (Index j) h = cc
-same_step-equal (Index i) (Name n) h = cc
-same_step-equal (Index i) (Index j) h = ap Index (eqb-true i j h)
+same_step-equal = search rules
 
 pub same_step-self : StepIsSame
-same_step-self (Name m) = (bytes_decides m m).1 refl
-same_step-self (Index i) = eq-eqb i i refl
+same_step-self = search rules
 
 pub same_step-decides : (s t : Step) → Decides (same_step s t) (s ≡ t)
 same_step-decides s t = (same_step-equal s t, λ e. rw e (same_step-self t))
@@ -28,3 +18,31 @@ same_address-equal a b h = (same_address-decides a b).0 h
 
 pub same_address-self : (a : Address) → same_address a a ≡ true
 same_address-self a = (same_address-decides a a).1 refl
+
+pub and_false : (b : Bool) → (b && false) ≡ false
+and_false b = search rules
+
+pub above_short : (a b : Address) → length b ≤ length a → is_above a b ≡ false
+above_short [] [] h = refl
+above_short [] (t ∷ b) h = absurd (omega arith)
+above_short (s ∷ a) [] h = refl
+above_short (s ∷ a) (t ∷ b) h = ap (λ r. same_step s t && r) (above_short a b (omega arith)) ∙ and_false (same_step s t)
+
+above_nil : (b : Address) → 0 < length b → is_above [] b ≡ true
+above_nil b h = search rules
+
+drop_some : (b : Address) (i : ℕ) → i < length b → 0 < length (drop i b)
+drop_some b i h = grind (arith, common_steps)
+
+-- the shorter one was gone through
+pub above_end : (a b : Address) (i : ℕ) → length a < length b → length a ≤ i → i ≤ length a → is_above (drop i a) (drop i b) ≡ true
+above_end a b i low past within = ap (λ l. is_above l (drop i b)) (drop_all i a past) ∙ above_nil (drop i b) (drop_some b i (omega arith))
+
+pub child_is_no_element : (p q : Address) (n : List ℕ) (j : ℕ) → ¬ (child p n ≡ element q j)
+child_is_no_element p q n j = grind (arith, common_steps)
+
+pub element_parts : (p q : Address) (i j : ℕ) → element p i ≡ element q j → (p ≡ q) × (i ≡ j)
+element_parts p q i j h = grind (arith, common_steps)
+
+pub one_longer : (p : Address) (s : Step) → length (p ++ s ∷ []) ≡ length p + 1
+one_longer p s = length-append p (s ∷ [])

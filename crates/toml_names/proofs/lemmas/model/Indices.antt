@@ -1,21 +1,15 @@
 -- Each index in what a text names is below its length, since each element takes a byte, and so does each header.
-use Rattle.std.proofs.Common.{◌≡◌, ℕ, ◌+◌, ◌-◌, ◌<◌, ◌≤◌, ◌==◌, Bool, true, false, cond, List, [], ◌∷◌, ◌++◌, map, length, drop, ap, refl, arith, length-append}
-use Rattle.std.proofs.lemmas.Bool.{eqb-false}
-use Rattle.std.proofs.lemmas.List.{length-drop}
-use Rattle.toml_tree.specs.Spells.{EachIs, Part, joined, value_parts, items_parts, pairs_parts, gap_parts, assign_parts, blank_parts, header_parts, array_header_parts, expr_parts, lines_parts, line_parts, piece, symbol, mark_of}
+use Rattle.toml_names.proofs.Common.{common_steps, ◌≡◌, ℕ, ◌+◌, ◌<◌, ◌≤◌, Bool, true, false, cond, List, [], ◌∷◌, ◌++◌, map, length, drop, ap, refl, arith, length-append, rules, length-drop, EachIs, Part, joined, value_parts, items_parts, pairs_parts, gap_parts, assign_parts, blank_parts, header_parts, array_header_parts, expr_parts, lines_parts, line_parts, symbol, Piece, Blank, Assign, Value, Scalar, Array, Inline, Items, Close, Last, More, Pairs, ClosePairs, LastPair, MorePairs, Expr, BlankLine, KeyValLine, TableLine, ArrayTableLine, Line, Name, Index, Passed, Header, Address, child, element, below, Key, part_name, rest_names, Named, root, named_by, named_from, table_at, inside, elements, members, fronts, pair_named, section, section_from, is_section, count_tables, entered, followed, ends_table, ends_tables, sizes_add}
+use Rattle.toml_tree.specs.Spells.{piece, mark_of}
 use Rattle.toml_tree.specs.Tree as spelled
-use Rattle.toml_tree.specs.Tree.{Piece, Blank, Assign, Value, Scalar, Array, Inline, Items, Close, Last, More, Pairs, ClosePairs, LastPair, MorePairs, Expr, BlankLine, KeyValLine, TableLine, ArrayTableLine, Line}
-use Rattle.toml_names.specs.declared.model.address.Step.TheVariants.{Name, Index}
-use Rattle.toml_names.specs.declared.mentions.mention.Role.TheVariants.{Passed, Header, Tables, Element, Valued}
-use Rattle.toml_names.specs.model.Addresses.{Address, child, element, below}
 use Rattle.toml_names.specs.model.Indices.{IsLow, IsLowStep, IndicesAreLow, ValueIndicesAreLow}
-use Rattle.toml_names.specs.mentions.Keys.{Key, key_names, part_name, rest_names}
-use Rattle.toml_names.specs.mentions.Mentions.{an_array, Named, root, named_by, named_from, table_at, value_named, inside, elements, members, fronts, pair_named, section, section_from, is_section, is_tables_at, count_tables, entered, followed, ends_table, ends_tables}
-use Rattle.toml_names.proofs.lemmas.mentions.Counting.{adds, adds_none, count_cons}
+use Rattle.toml_names.proofs.lemmas.mentions.Counting.{adds_none, count_cons}
 use Rattle.toml_names.proofs.Each.{each_append}
-use Rattle.toml_names.proofs.lemmas.mentions.NoTables.{count-append, no_tables-pair}
+use Rattle.toml_names.proofs.lemmas.mentions.Within.{count-append, no_tables-pair}
 use Rattle.toml_tree.specs.Parts.{size}
-use Rattle.toml_tree.proofs.Proved.{sizes_add}
+
+sizes_add_four : (a b c d : List Part) → size (a ++ (b ++ (c ++ d))) ≡ size a + (size b + (size c + size d))
+sizes_add_four a b c d = omega (arith, sizes_add a (b ++ (c ++ d)), sizes_add b (c ++ d), sizes_add c d)
 
 module _ (n : ℕ) where
   abbrev AllLow : List Named → Type 0
@@ -40,10 +34,7 @@ module _ (n : ℕ) where
   fronts_low line (name ∷ m ∷ more) at low = (low_child at name low, fronts_low line (m ∷ more) (child at name) (low_child at name low))
 
   pair_low : (line : ℕ) (a : Assign) (v : Value) (at : Address) → IsLow n at → ((to : Address) → IsLow n to → AllLow (inside line to v)) → AllLow (pair_named line at a v)
-  pair_low line a v at low within =
-      let key = key_names a.key in
-      let to = low_below at key low in
-      each_append (λ m. IsLow n m.address) (fronts line at key) (value_named line Valued (below at key) v ∷ inside line (below at key) v) (fronts_low line key at low) (to, within (below at key) to)
+  pair_low line a v at low within = search (rules, low_below, each_append, fronts_low)
 
   mutual
     inside_low : (line : ℕ) (v : Value) (at : Address) → IsLow n at → size (value_parts v) ≤ n → AllLow (inside line at v)
@@ -54,46 +45,30 @@ module _ (n : ℕ) where
     elements_low : (line : ℕ) (items : Items) (at : Address) (i : ℕ) → IsLow n at → i + size (items_parts items) ≤ n → AllLow (elements line at i items)
     elements_low line (Close g) at i low fits = tt
     elements_low line (Last g v h) at i low fits =
-        let end = symbol (0x5D ∷ []) ∷ [] in
-        let one = sizes_add (gap_parts g) (value_parts v ++ (gap_parts h ++ end)) in
-        let two = sizes_add (value_parts v) (gap_parts h ++ end) in
-        let three = sizes_add (gap_parts h) end in
-        let here = low_element at i low (omega (arith, one, two, three)) in
-        (here, inside_low line v (element at i) here (omega (arith, one, two, three)))
+        let all = sizes_add_four (gap_parts g) (value_parts v) (gap_parts h) (symbol (0x5D ∷ []) ∷ []) in
+        let here = low_element at i low (omega (arith, all)) in
+        (here, inside_low line v (element at i) here (omega (arith, all)))
     elements_low line (More g v h is) at i low fits =
-        let end = symbol (0x2C ∷ []) ∷ items_parts is in
-        let one = sizes_add (gap_parts g) (value_parts v ++ (gap_parts h ++ end)) in
-        let two = sizes_add (value_parts v) (gap_parts h ++ end) in
-        let three = sizes_add (gap_parts h) end in
-        let here = low_element at i low (omega (arith, one, two, three)) in
-        (here, each_append (λ m. IsLow n m.address) (inside line (element at i) v) (elements line at (i + 1) is) (inside_low line v (element at i) here (omega (arith, one, two, three))) (elements_low line is at (i + 1) low (omega (arith, one, two, three))))
+        let all = sizes_add_four (gap_parts g) (value_parts v) (gap_parts h) (symbol (0x2C ∷ []) ∷ items_parts is) in
+        let here = low_element at i low (omega (arith, all)) in
+        (here, each_append (λ m. IsLow n m.address) (inside line (element at i) v) (elements line at (i + 1) is) (inside_low line v (element at i) here (omega (arith, all))) (elements_low line is at (i + 1) low (omega (arith, all))))
 
     members_low : (line : ℕ) (pairs : Pairs) (at : Address) → IsLow n at → size (pairs_parts pairs) ≤ n → AllLow (members line at pairs)
     members_low line (ClosePairs g) at low fits = tt
     members_low line (LastPair g a v h) at low fits =
-        let end = symbol (0x7D ∷ []) ∷ [] in
-        let one = sizes_add (gap_parts g) (assign_parts a ++ (value_parts v ++ (gap_parts h ++ end))) in
-        let two = sizes_add (assign_parts a) (value_parts v ++ (gap_parts h ++ end)) in
-        let three = sizes_add (value_parts v) (gap_parts h ++ end) in
-        pair_low line a v at low (λ to at_low. inside_low line v to at_low (omega (arith, one, two, three)))
+        let all = sizes_add_four (gap_parts g) (assign_parts a) (value_parts v) (gap_parts h ++ symbol (0x7D ∷ []) ∷ []) in
+        pair_low line a v at low (λ to at_low. inside_low line v to at_low (omega (arith, all)))
     members_low line (MorePairs g a v h ps) at low fits =
         let end = symbol (0x2C ∷ []) ∷ pairs_parts ps in
-        let one = sizes_add (gap_parts g) (assign_parts a ++ (value_parts v ++ (gap_parts h ++ end))) in
-        let two = sizes_add (assign_parts a) (value_parts v ++ (gap_parts h ++ end)) in
-        let three = sizes_add (value_parts v) (gap_parts h ++ end) in
-        let four = sizes_add (gap_parts h) end in
-        let fit : size (value_parts v) ≤ n = omega (arith, one, two, three) in
-        let rest : size (pairs_parts ps) ≤ n = omega (arith, one, two, three, four) in
+        let all = sizes_add_four (gap_parts g) (assign_parts a) (value_parts v) (gap_parts h ++ end) in
+        let fit : size (value_parts v) ≤ n = omega (arith, all) in
+        let rest : size (pairs_parts ps) ≤ n = omega (arith, all, sizes_add (gap_parts h) end) in
         each_append (λ m. IsLow n m.address) (pair_named line at a v) (members line at ps) (pair_low line a v at low (λ to at_low. inside_low line v to at_low fit)) (members_low line ps at low rest)
 
   -- ---- headers
 
   entered_low : (xs : List Named) (used : ℕ) (at : Address) → count_tables xs at ≤ used → used ≤ n → IsLow n at → IsLow n (entered xs at)
-  entered_low xs used at counted fits low = by (count_tables xs at == 0) refl
-    where
-      by : (b : Bool) → (count_tables xs at == 0) ≡ b → IsLow n (cond b at (element at (count_tables xs at - 1)))
-      by true is = low
-      by false other = let some = eqb-false (count_tables xs at) 0 other in low_element at (count_tables xs at - 1) low (omega arith)
+  entered_low xs used at counted fits low = grind (arith, common_steps)
 
   followed_low : (ns : Key) (name : List ℕ) (line : ℕ) (xs : List Named) (used : ℕ) (end : Address → List Named) (at : Address) → ((q : Address) → count_tables xs q ≤ used) → used ≤ n
       → ((here : Address) → IsLow n here → AllLow (end here)) → IsLow n at → AllLow (followed line xs end at (name ∷ ns))
@@ -112,41 +87,18 @@ module _ (n : ℕ) where
 
 -- ---- how many arrays of tables a line names
 
-adds_one : (q : Address) (m : Named) → adds q m ≤ 1
-adds_one q m = by (is_tables_at q m)
-  where
-    by : (b : Bool) → cond b 1 0 ≤ 1
-    by true = omega arith
-    by false = omega arith
-
 followed_counts : (ns : Key) (name : List ℕ) (line : ℕ) (xs : List Named) (end : Address → List Named) (at q : Address) → ((here : Address) → count_tables (end here) q ≤ 1)
     → count_tables (followed line xs end at (name ∷ ns)) q ≤ 1
 followed_counts [] name line xs end at q ends = ends (child at name)
 followed_counts (m ∷ ns) name line xs end at q ends =
     let here = entered xs (child at name) in
-    let rest = followed line xs end here (m ∷ ns) in
-    let passed = adds_none (table_at line Passed here) q refl in
-    let all = count_cons (table_at line Passed here) rest q in
-    let later = followed_counts ns m line xs end here q ends in
-    omega (arith, passed, all, later)
+    omega (arith, adds_none (table_at line Passed here) q refl, count_cons (table_at line Passed here) (followed line xs end here (m ∷ ns)) q, followed_counts ns m line xs end here q ends)
 
 table_counts : (line : ℕ) (q here : Address) → count_tables (ends_table line here) q ≤ 1
-table_counts line q here =
-    let header = adds_none (table_at line Header here) q refl in
-    let all = count_cons (table_at line Header here) [] q in
-    let none : count_tables [] q ≡ 0 = refl in
-    omega (arith, header, all, none)
+table_counts line q here = search rules
 
 tables_counts : (line : ℕ) (xs : List Named) (q here : Address) → count_tables (ends_tables line xs here) q ≤ 1
-tables_counts line xs q here =
-    let next = table_at line Element (element here (count_tables xs here)) in
-    let array : Named = record { address = here; role = Tables; kind = an_array; line = line } in
-    let element_none = adds_none next q refl in
-    let one = adds_one q array in
-    let all = count_cons array (next ∷ []) q in
-    let rest = count_cons next [] q in
-    let none : count_tables [] q ≡ 0 = refl in
-    omega (arith, element_none, one, all, rest, none)
+tables_counts line xs q here = search rules
 
 -- a header has a byte
 some_behind : (ws : Piece) (ps : List Part) → 1 ≤ size ps → 1 ≤ size (piece ws ∷ ps)
@@ -162,23 +114,15 @@ new_counts : (xs : List Named) (line : ℕ) (e : Expr) (q : Address) → count_t
 new_counts xs line (BlankLine b) q = let none : count_tables [] q ≡ 0 = refl in omega arith
 new_counts xs line (KeyValLine ws kv tail) q = let none = no_tables-pair line (section xs) kv.assign kv.value q in omega (arith, none)
 new_counts xs line (TableLine ws header tail) q =
-    let one = followed_counts (rest_names header.key.rest) (part_name header.key.first) line xs (ends_table line) [] q (table_counts line q) in
-    let some = table_some ws header tail in
-    omega (arith, one, some)
+    omega (arith, followed_counts (rest_names header.key.rest) (part_name header.key.first) line xs (ends_table line) [] q (table_counts line q), table_some ws header tail)
 new_counts xs line (ArrayTableLine ws header tail) q =
-    let one = followed_counts (rest_names header.key.rest) (part_name header.key.first) line xs (ends_tables line xs) [] q (tables_counts line xs q) in
-    let some = tables_some ws header tail in
-    omega (arith, one, some)
+    omega (arith, followed_counts (rest_names header.key.rest) (part_name header.key.first) line xs (ends_tables line xs) [] q (tables_counts line xs q), tables_some ws header tail)
 
 -- ---- lines
 
 module _ (n : ℕ) where
   value_fits : (ws : Piece) (a : Assign) (v : Value) (tail : List Part) → size (value_parts v) ≤ size (piece ws ∷ ((assign_parts a ++ value_parts v) ++ tail))
-  value_fits ws a v tail =
-      let none = length-append ws.text (joined ((assign_parts a ++ value_parts v) ++ tail)) in
-      let one = sizes_add (assign_parts a ++ value_parts v) tail in
-      let two = sizes_add (assign_parts a) (value_parts v) in
-      omega (arith, none, one, two)
+  value_fits ws a v tail = search (rules, length-append, sizes_add)
 
   line_low : (xs : List Named) (line : ℕ) (e : Expr) (used : ℕ) → AllLow n xs → ((q : Address) → count_tables xs q ≤ used) → used + size (expr_parts e) ≤ n → AllLow n (named_by xs line e)
   line_low xs line (BlankLine b) used low counted fits = tt
@@ -188,9 +132,8 @@ module _ (n : ℕ) where
   line_low xs line (TableLine ws header tail) used low counted fits =
       followed_low n (rest_names header.key.rest) (part_name header.key.first) line xs used (ends_table line) [] counted (omega (arith, fits)) (λ here h. (h, tt)) tt
   line_low xs line (ArrayTableLine ws header tail) used low counted fits =
-      let some = tables_some ws header tail in
       followed_low n (rest_names header.key.rest) (part_name header.key.first) line xs used (ends_tables line xs) [] counted (omega (arith, fits))
-      (λ here h. (h, (low_element n here (count_tables xs here) h (let count = counted here in omega (arith, count, fits, some)), tt))) tt
+      (λ here h. (h, (low_element n here (count_tables xs here) h (let count = counted here in omega (arith, count, fits, tables_some ws header tail)), tt))) tt
 
   lines_low : (ls : List Line) (xs : List Named) (line used : ℕ) → AllLow n xs → ((q : Address) → count_tables xs q ≤ used) → used + size (lines_parts ls) ≤ n → AllLow n (named_from xs line ls)
   lines_low [] xs line used low counted fits = low
@@ -206,16 +149,13 @@ module _ (n : ℕ) where
 pub indices_are_low : IndicesAreLow
 indices_are_low d text spells =
     let mark = length (mark_of text) in
-    let long = length-drop mark text in
     let same : size (lines_parts d.lines) ≡ length (drop mark text) = ap length spells.lines.text_is in
-    lines_low (length text) d.lines (root ∷ []) 0 0 (tt, tt) root_counts (omega (arith, long, same))
+    lines_low (length text) d.lines (root ∷ []) 0 0 (tt, tt) root_counts (omega (arith, length-drop mark text, same))
   where
     root_counts : (q : Address) → count_tables (root ∷ []) q ≤ 0
     root_counts q =
-        let one = adds_none root q refl in
-        let all = count_cons root [] q in
         let none : count_tables [] q ≡ 0 = refl in
-        omega (arith, one, all, none)
+        omega (arith, adds_none root q refl, count_cons root [] q, none)
 
 pub value_indices_are_low : ValueIndicesAreLow
 value_indices_are_low v at text spells =

@@ -1,24 +1,9 @@
 -- What a datum has at each address, level by level.
-use Rattle.std.proofs.Common.{◌≡◌, ◌↔◌, ◌⊎◌, inl, inr, ℕ, zero, suc, List, [], ◌∷◌, ◌++◌, map, Option, Some, None, IsSome, is_some, String, Vec, BTreeMap, Global, string_bytes, nat_cmp, cond, Bool, true, false, Bor, refl, sym, ap, subst, ◌∙◌, true≢false, arith, rules}
-use Rattle.std.proofs.lemmas.List.{append-nil}
-use Rattle.std.proofs.lemmas.Option.{slice_get_past, slice_get-get_or}
-use Rattle.std.specs.Prelude.{slice_get, option_copied}
+use Rattle.toml_names.proofs.Common.{◌≡◌, ◌↔◌, ◌⊎◌, inl, inr, ℕ, zero, suc, List, [], ◌∷◌, ◌++◌, map, Option, Some, None, IsSome, is_some, String, Vec, BTreeMap, Global, string_bytes, nat_cmp, cond, Bool, Bor, refl, sym, ap, subst, ◌∙◌, true≢false, rules, append-nil, slice_get_past, slice_get-get_or, slice_get, option_copied, lookup, is_at, slice_cmp, ScalarValue, scalar_value, Name, Index, Datum, Table, the_lemmas, rolls-Scalar, rolls-Array, rolls-Table, Datum-F, roll-Datum, Address, Kinds, kind_at, kind_in, within, Elements, Members, ScalarLevel, ArrayLevel, TableLevel, DatumIsOneOfThree, DatumHasRoot, ArrayAtRoot, ArrayAtIndex, ArrayAtName, TableAtRoot, TableAtName, TableAtIndex, NothingBelowScalar, Kind, a_table, an_array, a_scalar}
 use Rattle.std.specs.Slice.{IsGetResult}
-use Rattle.std.specs.Map.{lookup}
-use Rattle.std.specs.BTreeMap.{is_at}
-use Rattle.std.specs.Cmp.Lexicographic.{slice_cmp}
 use Rattle.toml_scalar.specs.declared.scalar.Scalar.{Scalar as Value}
-use Rattle.toml_scalar.specs.Values.{ScalarValue, scalar_value}
-use Rattle.toml_names.specs.declared.model.address.Step.TheVariants.{Name, Index}
-use Rattle.toml_names.specs.declared.model.datum.Datum.{Datum, Scalar, Array, Table, the_lemmas}
-use Rattle.toml_names.specs.declared.model.datum.Datum.TheVariants.{rolls-Scalar, rolls-Array, rolls-Table}
-use Rattle.toml_names.specs.declared.model.datum.Datum.TheOpen.{Datum-F}
-use Rattle.toml_names.specs.declared.model.datum.Datum.TheViews.{roll-Datum}
+use Rattle.toml_names.specs.declared.model.datum.Datum.{Scalar, Array}
 use Rattle.toml_names.specs.declared.model.datum.Datum.TheFolds.{ind-Datum}
-use Rattle.toml_names.specs.model.Addresses.{Address}
-use Rattle.toml_names.specs.model.Data.{Kinds, kind_at, kind_in, within}
-use Rattle.toml_names.specs.model.Levels.{Elements, Members, ScalarLevel, ArrayLevel, TableLevel, DatumIsOneOfThree, DatumHasRoot, ArrayAtRoot, ArrayAtIndex, ArrayAtName, TableAtRoot, TableAtName, TableAtIndex, NothingBelowScalar}
-use Rattle.toml_names.specs.mentions.Mentions.{Kind, a_table, an_array, a_scalar}
 
 pub kind_at-scalar : ScalarLevel
 kind_at-scalar s = search (rules, the_lemmas)
@@ -35,8 +20,7 @@ item_part (d ∷ ds) zero at = refl
 item_part (d ∷ ds) (suc i) at = item_part ds i at
 
 found_part : (b : Bool) (d : Datum) (part : Option Kinds) (o : Option Datum) (at : Address) → within part at ≡ kind_in o at → within (cond b (Some (kind_at d)) part) at ≡ kind_in (cond b (Some d) o) at
-found_part true d part o at same = refl
-found_part false d part o at same = same
+found_part b d part o at same = search rules
 
 member_part : (n : List ℕ) (es : List (String Global × Datum)) (at : Address)
     → within (lookup (is_at (λ k. slice_cmp nat_cmp n (string_bytes k))) (map (λ e. (e.0, kind_at e.1)) es)) at ≡ kind_in (lookup (is_at (λ k. slice_cmp nat_cmp n (string_bytes k))) es) at
@@ -132,8 +116,7 @@ table_from_kind = by_cases (λ d. kind_at d [] ≡ Some a_table → (m : BTreeMa
 
 -- what `get` of a slice answers
 pub item_got : {X : Type 0} (xs : List X) (i : ℕ) (r : Option (Bor X)) → IsGetResult xs i i r → option_copied r ≡ slice_get xs i
-item_got xs i None h = sym (slice_get_past xs i h.3)
-item_got xs i (Some x) h = ap Some (h.4 (omega arith) x.now) ∙ sym (slice_get-get_or xs i x.now h.3.0)
+item_got xs i r h = search (rules, slice_get_past, slice_get-get_or)
 
 no_kind : {P : Type 0} (o : Option Kind) → o ≡ None → IsSome o → P
 no_kind o none some = absurd (true≢false (sym some ∙ ap is_some none))

@@ -1,21 +1,8 @@
 -- A reader that takes one more line, or refuses it.
-use Rattle.std.proofs.Common.{◌≡◌, ℕ, zero, suc, ◌+◌, ◌<◌, ◌≤◌, List, [], ◌∷◌, ◌++◌, length, take, drop, Option, Some, None, option_map, slice_index_or, map, Bor, refl, sym, ap, subst, ◌∙◌, ◌⊎◌, inl, inr, arith}
-use Rattle.std.proofs.lemmas.Bool.{cases_lt}
-use Rattle.std.proofs.lemmas.List.{length_push, get_or_at, get_or_append_left, take_at, take_all, length-take-le, append_assoc, map-append, length-map}
+use Rattle.toml_names.proofs.Common.{common_steps, ◌≡◌, ℕ, suc, ◌+◌, ◌<◌, List, [], ◌∷◌, ◌++◌, length, take, drop, Option, Some, None, option_map, slice_index_or, map, Bor, refl, sym, ap, subst, ◌∙◌, arith, rules, length_push, get_or_at, take_at, take_all, length-take-le, append_assoc, length-map, line as tree_line, Line, NameFault, Address, IsWithin, EntersLine, Named, named, named_by, section, AreGood, IsRedefined, IsLong, own_address, line_address, Spot, address_at, IsReader, RefusesLine, StaysShort, RefusesEntry, IsShort, misfit}
 use Rattle.toml_tree.specs.declared.line.Line.{Line as TreeLine}
-use Rattle.toml_tree.specs.Lines.{line as tree_line}
-use Rattle.toml_tree.specs.Tree.{Line}
-use Rattle.toml_names.specs.declared.fault.NameFault.{NameFault}
 use Rattle.toml_names.specs.declared.fault.NameFault.TheVariants as faults
 use Rattle.toml_names.specs.declared.tree.headers.Entered.{Entered}
-use Rattle.toml_names.specs.model.Addresses.{Address}
-use Rattle.toml_names.specs.tree.EnteringLines.{IsWithin, EntersLine}
-use Rattle.toml_names.specs.mentions.Mentions.{Named, named, named_by, section}
-use Rattle.toml_names.specs.reader.Names.{AreGood, IsRedefined, IsLong, own_address, line_address}
-use Rattle.toml_names.specs.tree.Nodes.{Spot, address_at}
-use Rattle.toml_names.specs.tree.NameTree.{IsTreeOf, KeepsAddresses}
-use Rattle.toml_names.specs.reader.Reading.{IsReader, RefusesLine, StaysShort, RefusesEntry}
-use Rattle.toml_names.specs.mentions.Rules.{IsShort, misfit}
 use Rattle.toml_names.proofs.lemmas.mentions.LineAddresses.{line_addresses}
 use Rattle.toml_names.proofs.lemmas.mentions.NextLine.{named-more, AreGood-more, IsRedefined-at, IsLong-at, IsShort-append, IsShort-behind}
 use Rattle.toml_names.proofs.lemmas.mentions.Offences.{no_misfit}
@@ -73,9 +60,7 @@ module _ (lines : List Line) (l : Line) where
 
 -- a list parted at one of its elements
 parted : (ls : List Line) (i : ℕ) (d : Line) → i < length ls → ls ≡ take i ls ++ slice_index_or ls i d ∷ drop (suc i) ls
-parted [] i d there = absurd (omega arith)
-parted (x ∷ ls) zero d there = refl
-parted (x ∷ ls) (suc i) d there = ap (λ xs. x ∷ xs) (parted ls i d (omega arith))
+parted ls i d there = grind (arith, common_steps)
 
 module _ (lines : List Line) (l : Line) (i : ℕ) (below : i < length lines) where
   pub own_address-kept : line_address (named (lines ++ l ∷ [])) i ≡ line_address (named lines) i
@@ -94,14 +79,6 @@ module _ (lines : List Line) (l : Line) (i : ℕ) (below : i < length lines) whe
 pub reader_good : {nodes : List Spot} {lines : List Line} {own : List (Option ℕ)} {at : ℕ} → IsReader nodes lines own at → AreGood lines
 reader_good {lines = lines} reads = ((no_misfit (named lines)).0 reads.stands.good, reads.short)
 
-IsWithin-more : (k : Option ℕ) (old new : List Spot) → KeepsAddresses old new → IsWithin k old → IsWithin k new
-IsWithin-more None old new kept within = tt
-IsWithin-more (Some k) old new kept within = omega (arith, kept.longer, within)
-
-address-kept : (k : Option ℕ) (old new : List Spot) → KeepsAddresses old new → IsWithin k old → option_map (address_at new) k ≡ option_map (address_at old) k
-address-kept None old new kept within = refl
-address-kept (Some k) old new kept within = ap Some (kept.same k within)
-
 module _ (old new : List Spot) (lines : List Line) (own : List (Option ℕ)) (at : ℕ) (l : Line) (e : Entered)
     (reads : IsReader old lines own at) (enters : EntersLine old new at (length lines) l.expr e) (short : StaysShort old at (length lines) l.expr) where
   names : named (lines ++ l ∷ []) ≡ named lines ++ named_by (named lines) (length lines) l.expr
@@ -113,55 +90,19 @@ module _ (old new : List Spot) (lines : List Line) (own : List (Option ℕ)) (at
   own_count : length (own ++ e.own ∷ []) ≡ length (lines ++ l ∷ [])
   own_count = omega (arith, length_push own e.own, length_push lines l, reads.own_count)
 
-  own_at : (i : ℕ) (d : Option ℕ) → i < length (own ++ e.own ∷ [])
-      → ((i < length own) × (slice_index_or (own ++ e.own ∷ []) i d ≡ slice_index_or own i d)) ⊎ ((i ≡ length lines) × (slice_index_or (own ++ e.own ∷ []) i d ≡ e.own))
-  own_at i d low = by (cases_lt i (length own))
-    where
-      by : (i < length own) ⊎ (length own ≤ i) → ((i < length own) × (slice_index_or (own ++ e.own ∷ []) i d ≡ slice_index_or own i d)) ⊎ ((i ≡ length lines) × (slice_index_or (own ++ e.own ∷ []) i d ≡ e.own))
-      by (inl there) = inl (there, get_or_append_left own (e.own ∷ []) d i there)
-      by (inr past) =
-          let end : i ≡ length own = omega (arith, length_push own e.own) in
-          inr (omega (arith, reads.own_count), get_or_at own e.own [] d i (sym end))
-
   own_within : (i : ℕ) (d : Option ℕ) → i < length (own ++ e.own ∷ []) → IsWithin (slice_index_or (own ++ e.own ∷ []) i d) new
-  own_within i d low = by (own_at i d low)
-    where
-      by : ((i < length own) × (slice_index_or (own ++ e.own ∷ []) i d ≡ slice_index_or own i d)) ⊎ ((i ≡ length lines) × (slice_index_or (own ++ e.own ∷ []) i d ≡ e.own))
-          → IsWithin (slice_index_or (own ++ e.own ∷ []) i d) new
-      by (inl (there, is)) = subst (λ k. IsWithin k new) (sym is) (IsWithin-more (slice_index_or own i d) old new enters.kept (reads.own_within i d there))
-      by (inr (end, is)) = subst (λ k. IsWithin k new) (sym is) enters.own_within
+  own_within i d low = grind (arith, common_steps)
 
   owns : (i : ℕ) (d : Option ℕ) → i < length (own ++ e.own ∷ []) → option_map (address_at new) (slice_index_or (own ++ e.own ∷ []) i d) ≡ line_address (named (lines ++ l ∷ [])) i
-  owns i d low = by (own_at i d low)
-    where
-      by : ((i < length own) × (slice_index_or (own ++ e.own ∷ []) i d ≡ slice_index_or own i d)) ⊎ ((i ≡ length lines) × (slice_index_or (own ++ e.own ∷ []) i d ≡ e.own))
-          → option_map (address_at new) (slice_index_or (own ++ e.own ∷ []) i d) ≡ line_address (named (lines ++ l ∷ [])) i
-      by (inl (there, is)) =
-          ap (option_map (address_at new)) is ∙ address-kept (slice_index_or own i d) old new enters.kept (reads.own_within i d there) ∙ reads.owns i d there
-          ∙ sym (own_address-kept lines l i (omega (arith, reads.own_count)))
-      by (inr (end, is)) =
-          ap (option_map (address_at new)) is ∙ enters.own (named lines) reads.stands reads.table ∙ sym (own_address-last lines l) ∙ ap (line_address (named (lines ++ l ∷ []))) (sym end)
+  owns i d low = grind (arith, common_steps, low, own_within, own_address-kept, own_count, own_address-last)
 
   pub reads-more : IsReader new (lines ++ l ∷ []) (own ++ e.own ∷ []) e.section
-  reads-more = record {
-    stands = subst (IsTreeOf new) (sym names) (enters.stands (named lines) reads.stands reads.table);
-    short = subst IsShort (sym names) (short (named lines) reads.stands reads.table reads.short);
-    within = enters.within;
-    table = enters.table (named lines) reads.stands reads.table ∙ ap section (sym names);
-    own_count = own_count;
-    own_within = own_within;
-    owns = owns;
-  }
+  reads-more = search (rules, names, own_count, own_within, owns)
 
 -- a line that is not entered is refused
 pub refuses-line : (nodes : List Spot) (lines : List Line) (own : List (Option ℕ)) (at : ℕ) (l : Line) (fault : NameFault)
     → IsReader nodes lines own at → RefusesEntry nodes at (length lines) l.expr fault → RefusesLine lines l fault
-refuses-line nodes lines own at l (faults.Redefined n a) reads (is, clash) =
-    (is, subst (λ n. IsRedefined (lines ++ l ∷ []) n a) (sym is) (redefined-push lines l (reader_good reads) a (clash (named lines) reads.stands reads.table)))
-refuses-line nodes lines own at l (faults.LongAddress n) reads (is, long) =
-    let why = long (named lines) reads.stands reads.table in
-    (is, subst (IsLong (lines ++ l ∷ [])) (sym is) (long-push lines l (reader_good reads) why.0 why.1))
-refuses-line nodes lines own at l faults.NoMemory reads refused = tt
+refuses-line nodes lines own at l fault reads refused = search (rules, redefined-push, reader_good, long-push)
 
 -- the same, as the code has it: `lines'` and `own'` are what it has after the line, whose number it counted
 module _ (old new : List Spot) (lines lines' : List Line) (own own' : List (Option ℕ)) (at number : ℕ) (l : Line) (e : Entered)
@@ -181,10 +122,7 @@ module _ (old new : List Spot) (lines lines' : List Line) (own own' : List (Opti
 
 -- the lines, with one more
 pub lines-push : (items items' : List (Bor TreeLine)) (l : Bor TreeLine) → items' ≡ items ++ l ∷ [] → map tree_line (map (λ l. l.now) items') ≡ map tree_line (map (λ l. l.now) items) ++ tree_line l.now ∷ []
-lines-push items items' l is =
-    ap (λ (xs : List (Bor TreeLine)). map tree_line (map (λ l. l.now) xs)) is
-    ∙ ap (map tree_line) (map-append (λ (l : Bor TreeLine). l.now) items (l ∷ []))
-    ∙ map-append tree_line (map (λ (l : Bor TreeLine). l.now) items) (l.now ∷ [])
+lines-push items items' l is = grind (arith, common_steps)
 
 pub count-lines : (items : List (Bor TreeLine)) → length (map tree_line (map (λ l. l.now) items)) ≡ length items
 count-lines items = length-map (map (λ (l : Bor TreeLine). l.now) items) tree_line ∙ length-map items (λ (l : Bor TreeLine). l.now)

@@ -1,19 +1,6 @@
 -- A document read line by line.
-use Rattle.std.proofs.Common.{◌≡◌, ℕ, ◌+◌, ◌<◌, ◌≤◌, List, [], ◌∷◌, ◌++◌, length, take, Option, Some, None, option_and_then, slice_get, slice_index_or, refl, sym, ap, subst, ◌∙◌, ◌⊎◌, inl, inr, arith}
-use Rattle.std.proofs.lemmas.Bool.{cases_lt}
-use Rattle.std.proofs.lemmas.List.{take_more, take_at, take_all, length_push, length-take-le}
-use Rattle.std.proofs.lemmas.Option.{slice_get-get_or, slice_get_past}
-use Rattle.toml_tree.specs.Tree.{Line}
-use Rattle.toml_names.specs.declared.fault.NameFault.{NameFault}
+use Rattle.toml_names.proofs.Common.{common_steps, ◌≡◌, ℕ, ◌+◌, ◌<◌, ◌≤◌, List, [], ◌∷◌, ◌++◌, length, take, Option, Some, None, option_and_then, slice_get, slice_index_or, refl, sym, ap, ◌∙◌, ◌⊎◌, inl, inr, arith, rules, cases_lt, take_more, take_at, take_all, length_push, length-take-le, slice_get-get_or, slice_get_past, Line, NameFault, Address, Kinds, expr_key_parts, all_key_parts, named, AreGood, IsRedefined, IsLong, RefusesNames, line_address, Spot, ReaderState, lines_of, RefusesLine, AreNames, ranked}
 use Rattle.toml_names.specs.declared.fault.NameFault.TheVariants as faults
-use Rattle.toml_names.specs.model.Addresses.{Address}
-use Rattle.toml_names.specs.model.Data.{Kinds}
-use Rattle.toml_names.specs.mentions.KeyParts.{expr_key_parts, all_key_parts}
-use Rattle.toml_names.specs.mentions.Mentions.{named}
-use Rattle.toml_names.specs.reader.Names.{AreGood, IsRedefined, IsLong, RefusesNames, line_address}
-use Rattle.toml_names.specs.tree.Nodes.{Spot}
-use Rattle.toml_names.specs.reader.Reading.{ReaderState, lines_of, RefusesLine, AreNames, ranked}
-use Rattle.toml_names.specs.mentions.Rules.{KeepsRules, IsShort, IsFirstOffence}
 use Rattle.toml_names.proofs.lemmas.mentions.LineAddresses.{no_line_address}
 
 -- a reader that has taken so many of the lines
@@ -41,40 +28,16 @@ module _ (lines : List Line) (i : ℕ) (d l : Line) (low : i < length lines) (is
   all = take_all (i + 1) (take i lines ++ l ∷ []) (omega (arith, length_push (take i lines) l, count)) ∙ sym more
 
   redefined-in : (at : Address) → IsRedefined (take i lines ++ l ∷ []) i at → IsRedefined lines i at
-  redefined-in at h = record {
-    there = low;
-    good = subst AreGood front h.good;
-    new = h.new;
-    is = ap named (sym all) ∙ h.is ∙ ap (λ ls. named ls ++ h.new) front;
-    offence = subst (λ ls. IsFirstOffence (named ls) h.new at) front h.offence;
-  }
+  redefined-in at h = grind (arith, common_steps)
 
   long-in : IsLong (take i lines ++ l ∷ []) i → IsLong lines i
-  long-in h = record {
-    there = low;
-    good = subst AreGood front h.good;
-    keeps = subst (λ ls. KeepsRules (named ls)) all h.keeps;
-    long = subst (λ ls. ¬ IsShort (named ls)) all h.long;
-  }
+  long-in h = search (rules, front, all)
 
   pub refused-at : (fault : NameFault) (r : ReaderState) → lines_of r ≡ take i lines → RefusesLine (lines_of r) l fault → RefusesNames lines fault
-  refused-at fault r taken refused = by fault (subst (λ ls. RefusesLine ls l fault) taken refused)
-    where
-      by : (fault : NameFault) → RefusesLine (take i lines) l fault → RefusesNames lines fault
-      by (faults.Redefined n at) (at_is, h) =
-          let n_is : n ≡ i = at_is ∙ count in subst (λ n. IsRedefined lines n at) (sym n_is) (redefined-in at (subst (λ n. IsRedefined (take i lines ++ l ∷ []) n at) n_is h))
-      by (faults.LongAddress n) (at_is, h) =
-          let n_is : n ≡ i = at_is ∙ count in subst (IsLong lines) (sym n_is) (long-in (subst (IsLong (take i lines ++ l ∷ [])) n_is h))
-      by faults.NoMemory h = tt
+  refused-at fault r taken refused = grind (arith, common_steps, count, redefined-in, long-in)
 
   pub took-one : (old new : ReaderState) → IsAt lines i old → lines_of new ≡ lines_of old ++ l ∷ [] → AreGood (lines_of new) → new.lookups ≤ old.lookups + expr_key_parts l.expr → IsAt lines (i + 1) new
-  took-one old new before taken good looked =
-      let now : lines_of new ≡ take (i + 1) lines = taken ∙ ap (λ ls. ls ++ l ∷ []) before.taken ∙ sym more in
-      record {
-        taken = now;
-        good = subst AreGood now good;
-        lookups = let parts : all_key_parts (take (i + 1) lines) ≡ all_key_parts (take i lines) + expr_key_parts l.expr = ap all_key_parts more ∙ all_parts-push (take i lines) l in omega (arith, parts, looked, before.lookups);
-      }
+  took-one old new before taken good looked = search (rules, more, all_parts-push)
 
 -- the address that names tell of a line
 module _ (nodes : List Spot) (lines : List Line) (kinds : Kinds) (first : List Address) (own : List (Option ℕ)) (are : AreNames nodes lines kinds first own) where

@@ -1,19 +1,10 @@
 -- A value read alone: its own tree of names.
-use Rattle.std.proofs.Common.{◌≡◌, List, [], ◌∷◌, ◌++◌, Some, None, refl, sym, ap, subst, ◌∙◌}
-use Rattle.toml_tree.specs.Tree.{Value}
-use Rattle.toml_names.specs.declared.mentions.mention.Role.TheVariants.{Valued}
-use Rattle.toml_names.specs.model.Addresses.{Address}
-use Rattle.toml_names.specs.model.Data.{Kinds, IsDataOf, fact_at}
-use Rattle.toml_names.specs.mentions.Mentions.{Named, value_named, inside, value_facts}
-use Rattle.toml_names.specs.tree.NameTree.{IsTreeOf, Enters, Clashes}
-use Rattle.toml_names.specs.tree.Nodes.{Spot, addresses, address_at, address_under, nowhere}
-use Rattle.toml_names.specs.mentions.Rules.{KeepsRules, IsShort, misfit}
+use Rattle.toml_names.proofs.Common.{◌≡◌, List, [], ◌∷◌, ◌++◌, Some, None, refl, sym, ap, subst, ◌∙◌, Value, Valued, Address, Kinds, IsDataOf, fact_at, Named, value_named, inside, value_facts, IsTreeOf, Enters, Clashes, Spot, addresses, address_at, address_under, nowhere, KeepsRules, IsShort, misfit}
 use Rattle.toml_names.specs.reader.Values.{AreGoodFacts}
 use Rattle.toml_names.proofs.lemmas.mentions.FirstNamed.{values_join}
-use Rattle.toml_names.proofs.lemmas.tree.NodeAddresses.{address_at-under}
+use Rattle.toml_names.proofs.lemmas.tree.NodeAddresses.{address_at-under, AreShortFrom, short_nodes, short_from_nodes}
 use Rattle.toml_names.proofs.lemmas.mentions.Offences.{no_misfit}
-use Rattle.toml_names.proofs.lemmas.tree.ShortNodes.{AreShortFrom, short_nodes, short_from_nodes}
-use Rattle.toml_names.proofs.lemmas.mentions.Whole.{data_by_facts}
+use Rattle.toml_names.proofs.lemmas.mentions.OfOneKind.{data_by_facts}
 
 -- the root's address
 pub root_at : (nodes : List Spot) (ms : List Named) → IsTreeOf nodes ms → address_at nodes 0 ≡ []

@@ -1,21 +1,10 @@
 -- One more mention that is no array of tables keeps the counts, so the nodes stand for all with it.
-use Rattle.std.proofs.Common.{◌≡◌, false, true, ℕ, ◌+◌, ◌<◌, List, [], ◌∷◌, ◌++◌, length, Some, None, sym, ap, ◌∙◌, slice_index_or, ◌⊎◌, inl, inr}
-use Rattle.std.proofs.lemmas.Bool.{cases_eq}
-use Rattle.toml_names.specs.declared.model.address.Step.{Step}
-use Rattle.toml_names.specs.declared.model.address.Step.TheVariants.{Name, Index}
-use Rattle.toml_names.specs.declared.mentions.mention.Role.{Role}
-use Rattle.toml_names.specs.declared.mentions.mention.Role.TheVariants.{Bare}
-use Rattle.toml_names.specs.mentions.Mentions.{Kind, Named, is_tables, count_tables}
-use Rattle.toml_names.specs.tree.NameTree.{IsTreeOf, table_count}
-use Rattle.toml_names.specs.tree.Nodes.{Spot, addresses, address_at, place_of, leaf, linked, grown, noted}
-use Rattle.toml_names.specs.mentions.Rules.{may_follow}
+use Rattle.toml_names.proofs.Common.{◌≡◌, false, true, ℕ, ◌+◌, ◌<◌, List, [], ◌∷◌, ◌++◌, length, Some, None, sym, ap, ◌∙◌, slice_index_or, ◌⊎◌, inl, inr, rules, cases_eq, Step, Name, Index, Role, Bare, Kind, Named, is_tables, count_tables, IsTreeOf, table_count, Spot, addresses, address_at, place_of, leaf, linked, grown, noted, may_follow}
 use Rattle.toml_names.proofs.lemmas.mentions.Counting.{count_plain}
 use Rattle.toml_names.proofs.lemmas.tree.Fitting.{Counts, but_counts, with_counts}
-use Rattle.toml_names.proofs.lemmas.tree.NodeCounts.{table_count-plain, table_count-marked}
-use Rattle.toml_names.proofs.lemmas.tree.StandsGrown.{StandsButCounts-grown}
-use Rattle.toml_names.proofs.lemmas.tree.StandsNoted.{StandsButCounts-noted}
-use Rattle.toml_names.proofs.lemmas.tree.TreeGrown.{address-old, address-new, node-last, node-above, node-other, node-parts}
-use Rattle.toml_names.proofs.lemmas.tree.TreeNoted.{length-noted, address-noted, node-noted, node-beside}
+use Rattle.toml_names.proofs.lemmas.tree.NodePlaces.{table_count-plain, table_count-marked}
+use Rattle.toml_names.proofs.lemmas.tree.StandsGrown.{StandsButCounts-grown, StandsButCounts-noted}
+use Rattle.toml_names.proofs.lemmas.tree.TreeGrown.{address-old, address-new, node-last, node-above, node-other, node-parts, length-noted, address-noted, node-noted, node-beside}
 
 module _ (nodes : List Spot) (p : ℕ) (d : Spot) (s : Step) (r : Role) (kind : Kind) (line : ℕ) (low : p < length nodes) (plain : is_tables r ≡ false)
     (same : table_count (linked (slice_index_or nodes p d) s (length nodes)) ≡ table_count (slice_index_or nodes p d)) where
@@ -72,5 +61,4 @@ module _ (nodes : List Spot) (k : ℕ) (d : Spot) (low : k < length nodes) (m : 
       by within (inr apart) = counts j e within ∙ sym (ap table_count (node-beside nodes k d m.role m.line low j e apart))
 
   pub IsTreeOf-noted : m.address ≡ address_at nodes k → (ms : List Named) → IsTreeOf nodes ms → IsTreeOf noted_after (ms ++ m ∷ [])
-  IsTreeOf-noted is ms stands =
-      with_counts noted_after (ms ++ m ∷ []) (StandsButCounts-noted nodes k d low m is goes ms (but_counts nodes ms stands)) (Counts-noted ms stands.counts)
+  IsTreeOf-noted is ms stands = search (rules, with_counts, StandsButCounts-noted, but_counts, Counts-noted)

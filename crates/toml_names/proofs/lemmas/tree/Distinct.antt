@@ -1,50 +1,52 @@
--- Names in a table that are distinct: where they lead, as more come and go.
-use Rattle.std.proofs.Common.{◌≡◌, ℕ, zero, suc, ◌+◌, ◌-◌, ◌<◌, ◌≤◌, Bool, true, false, cond, List, [], ◌∷◌, ◌++◌, length, take, Result, Ok, Err, IfOk, OnErr, Option, Some, None, IfSome, IfNone, slice_get, get_or, ltb, refl, sym, ap, subst, ◌∙◌, arith}
-use Rattle.std.proofs.lemmas.Bool.{cond-false, false_from_ne_true, false≢true}
-use Rattle.std.proofs.lemmas.Bool.Decides.{Decides-ltb}
-use Rattle.std.proofs.lemmas.List.{append_assoc, append-nil, length-append, length-map}
-use Rattle.std.proofs.lemmas.Option.{none-some, same_Some, slice_get-map, slice_get-get_or}
-use Rattle.std.proofs.lemmas.Slice.Eq.{bytes_eq-Decides}
+-- Names in a table that are distinct, by their bytes: where they lead, as more come and go.
+use Rattle.toml_names.proofs.Common.{common_steps, ◌≡◌, ℕ, zero, suc, ◌+◌, ◌-◌, ◌<◌, ◌≤◌, true, false, List, [], ◌∷◌, ◌++◌, length, take, Result, IfOk, OnErr, Option, Some, None, IfSome, IfNone, slice_get, get_or, ltb, refl, sym, ap, subst, ◌∙◌, arith, rules, cond-false, false_from_ne_true, false≢true, Decides-ltb, append_assoc, length-map, none-some, same_Some, slice_get-map, slice_get-get_or, bytes_eq-Decides, cow_str_bytes, Global, CowStr, lookup, option_map, bytes_eq, children_of, AreDistinct, Bool, take-map, length_push, unwrap_or, same_name}
+use Rattle.std.proofs.lemmas.List.{length-append}
 use Rattle.std.proofs.Math.Seq.{take-append-add}
-use Rattle.std.specs.Cow.{cow_str_bytes}
-use Rattle.std.specs.declared.alloc.Global.{Global}
-use Rattle.std.specs.declared.borrow.CowStr.{CowStr}
-use Rattle.std.specs.Map.{lookup}
-use Rattle.std.specs.Option.{option_map}
-use Rattle.std.specs.Str.{bytes_eq}
-use Rattle.toml_names.specs.tree.NameMaps.{children_of, AreDistinct}
-use Rattle.toml_names.proofs.lemmas.tree.Children.{children_of-push}
+use Rattle.indexmap.specs.IndexMap.{insert_entry}
+
+pub lookup-children_of : (n : List ℕ) (es : List (CowStr Global × ℕ)) → lookup (bytes_eq n) (children_of es) ≡ lookup (λ k. bytes_eq n (cow_str_bytes k)) es
+lookup-children_of n [] = refl
+lookup-children_of n (e ∷ es) = search (rules, lookup-children_of n es)
+
+pub children_of-push : (es : List (CowStr Global × ℕ)) (k : CowStr Global) (id : ℕ) → children_of (es ++ (k, id) ∷ []) ≡ children_of es ++ (cow_str_bytes k, id) ∷ []
+children_of-push es k id = grind (arith, common_steps)
+
+pub children_of-front : (es : List (CowStr Global × ℕ)) → children_of (take (length es - 1) es) ≡ take (length (children_of es) - 1) (children_of es)
+children_of-front es = sym (take-map (λ (e : CowStr Global × ℕ). (cow_str_bytes e.0, e.1)) (length es - 1) es) ∙ ap (λ n. take (n - 1) (children_of es)) (sym (length-map es (λ (e : CowStr Global × ℕ). (cow_str_bytes e.0, e.1))))
+
+-- what inserting a name that may be there leaves: the same pairs, or one more
+module _ (eq : CowStr Global → CowStr Global → Bool) (k : CowStr Global) where
+  insert_entry-same : (es : List (CowStr Global × ℕ)) (v : ℕ) → lookup (eq k) es ≡ Some v → insert_entry eq es k v ≡ es
+  insert_entry-same [] v is = cc
+  insert_entry-same (e ∷ es) v is = search (rules, same_Some, insert_entry-same es v)
+
+  insert_entry-none : (es : List (CowStr Global × ℕ)) (v : ℕ) → lookup (eq k) es ≡ None → insert_entry eq es k v ≡ es ++ (k, v) ∷ []
+  insert_entry-none [] v is = refl
+  insert_entry-none (e ∷ es) v is = search (rules, insert_entry-none es v)
+
+-- where a name led, or nowhere, by whether there is one pair more
+module _ (k : CowStr Global) (es new : List (CowStr Global × ℕ)) (id led : ℕ) (made : new ≡ insert_entry same_name es k led) where
+  pub led-same : led ≡ unwrap_or (lookup (same_name k) es) id → length new ≡ length es → (Some led ≡ lookup (bytes_eq (cow_str_bytes k)) (children_of es)) × (new ≡ es)
+  led-same is long = search (rules, insert_entry-none, insert_entry-same, lookup-children_of, length_push)
+
+  pub led-more : led ≡ unwrap_or (lookup (same_name k) es) id → (length new ≡ length es → ⊥) → (None ≡ lookup (bytes_eq (cow_str_bytes k)) (children_of es)) × (new ≡ es ++ (k, id) ∷ [])
+  led-more is long = search (rules, insert_entry-none, insert_entry-same, lookup-children_of)
 
 abbrev Pairs : Type 0
 Pairs = List (List ℕ × ℕ)
 
 lookup-left : (n : List ℕ) (xs ys : Pairs) (v : ℕ) → lookup (bytes_eq n) xs ≡ Some v → lookup (bytes_eq n) (xs ++ ys) ≡ Some v
 lookup-left n [] ys v is = cc
-lookup-left n (e ∷ es) ys v is = by (bytes_eq n e.0) is (lookup-left n es ys v)
-  where
-    by : (b : Bool) → cond b (Some e.1) (lookup (bytes_eq n) es) ≡ Some v → (lookup (bytes_eq n) es ≡ Some v → lookup (bytes_eq n) (es ++ ys) ≡ Some v)
-        → cond b (Some e.1) (lookup (bytes_eq n) (es ++ ys)) ≡ Some v
-    by true is ih = is
-    by false is ih = ih is
+lookup-left n (e ∷ es) ys v is = search (rules, lookup-left n es ys v)
 
 lookup-right : (n : List ℕ) (xs ys : Pairs) → lookup (bytes_eq n) xs ≡ None → lookup (bytes_eq n) (xs ++ ys) ≡ lookup (bytes_eq n) ys
 lookup-right n [] ys is = refl
-lookup-right n (e ∷ es) ys is = by (bytes_eq n e.0) is (lookup-right n es ys)
-  where
-    by : (b : Bool) → cond b (Some e.1) (lookup (bytes_eq n) es) ≡ None → (lookup (bytes_eq n) es ≡ None → lookup (bytes_eq n) (es ++ ys) ≡ lookup (bytes_eq n) ys)
-        → cond b (Some e.1) (lookup (bytes_eq n) (es ++ ys)) ≡ lookup (bytes_eq n) ys
-    by true is ih = cc
-    by false is ih = ih is
+lookup-right n (e ∷ es) ys is = search (rules, lookup-right n es ys)
 
 lookup-take : (n : List ℕ) (k : ℕ) (xs : Pairs) → lookup (bytes_eq n) xs ≡ None → lookup (bytes_eq n) (take k xs) ≡ None
 lookup-take n zero xs is = refl
 lookup-take n (suc k) [] is = refl
-lookup-take n (suc k) (e ∷ es) is = by (bytes_eq n e.0) is (lookup-take n k es)
-  where
-    by : (b : Bool) → cond b (Some e.1) (lookup (bytes_eq n) es) ≡ None → (lookup (bytes_eq n) es ≡ None → lookup (bytes_eq n) (take k es) ≡ None)
-        → cond b (Some e.1) (lookup (bytes_eq n) (take k es)) ≡ None
-    by true is ih = cc
-    by false is ih = ih is
+lookup-take n (suc k) (e ∷ es) is = search (rules, lookup-take n k es)
 
 AreDistinct-take : (k : ℕ) (xs : Pairs) → AreDistinct xs → AreDistinct (take k xs)
 AreDistinct-take zero xs are = tt
@@ -57,26 +59,13 @@ AreDistinct-front k all left are is = subst AreDistinct (sym is) (AreDistinct-ta
 
 pub AreDistinct-push : (xs : Pairs) (n : List ℕ) (v : ℕ) → AreDistinct xs → lookup (bytes_eq n) xs ≡ None → AreDistinct (xs ++ (n, v) ∷ [])
 AreDistinct-push [] n v are none = (refl, tt)
-AreDistinct-push (e ∷ es) n v are none = by (bytes_eq n e.0) refl none (AreDistinct-push es n v are.1)
-  where
-    by : (b : Bool) → bytes_eq n e.0 ≡ b → cond b (Some e.1) (lookup (bytes_eq n) es) ≡ None → (lookup (bytes_eq n) es ≡ None → AreDistinct (es ++ (n, v) ∷ []))
-        → AreDistinct (e ∷ (es ++ (n, v) ∷ []))
-    by true same is ih = absurd (none-some e.1 (sym is))
-    by false other is ih =
-        let apart = false_from_ne_true (bytes_eq e.0 n) (λ same. false≢true (sym other ∙ (bytes_eq-Decides n e.0).1 (sym ((bytes_eq-Decides e.0 n).0 same)))) in
-        (lookup-right e.0 es ((n, v) ∷ []) are.0 ∙ cond-false _ _ _ apart, ih is)
+AreDistinct-push (e ∷ es) n v are none = search (rules, none-some, false_from_ne_true, false≢true, bytes_eq-Decides, lookup-right, cond-false, AreDistinct-push es n v are.1)
 
 -- the pair at a place is found by its name
 pub found_at : (xs : Pairs) → AreDistinct xs → (i : ℕ) (n : List ℕ) (v : ℕ) → slice_get xs i ≡ Some (n, v) → lookup (bytes_eq n) xs ≡ Some v
 found_at [] are i n v is = cc
-found_at (e ∷ es) are zero n v is =
-    let same : e ≡ (n, v) = same_Some e (n, v) is in
-    ap (λ b. cond b (Some e.1) (lookup (bytes_eq n) es)) ((bytes_eq-Decides n e.0).1 (sym (ap (λ (p : List ℕ × ℕ). p.0) same))) ∙ ap (λ (p : List ℕ × ℕ). Some p.1) same
-found_at (e ∷ es) are (suc i) n v is = by (bytes_eq n e.0) refl (found_at es are.1 i n v is)
-  where
-    by : (b : Bool) → bytes_eq n e.0 ≡ b → lookup (bytes_eq n) es ≡ Some v → cond b (Some e.1) (lookup (bytes_eq n) es) ≡ Some v
-    by true same ih = absurd (none-some v (sym are.0 ∙ sym (ap (λ m. lookup (bytes_eq m) es) ((bytes_eq-Decides n e.0).0 same)) ∙ ih))
-    by false other ih = ih
+found_at (e ∷ es) are zero n v is = search (rules, same_Some, bytes_eq-Decides)
+found_at (e ∷ es) are (suc i) n v is = search (rules, none-some, bytes_eq-Decides, found_at es are.1 i n v is)
 
 slice_get-left : (xs ys : Pairs) (i : ℕ) → i < length xs → slice_get (xs ++ ys) i ≡ slice_get xs i
 slice_get-left [] ys i low = absurd (omega arith)
@@ -114,32 +103,18 @@ module _ (few behind now : Pairs) (are : few ++ behind ≡ now) where
 
   pub dropped_few : (left left_behind : Pairs) → (0 < length behind → ⊥) → left ≡ take (length few - 1) few → left_behind ≡ take (length behind - 1) behind
       → left ++ left_behind ≡ take (length now - 1) now
-  dropped_few left left_behind some is front =
-      let none = nothing behind some in
-      let whole : few ≡ now = sym (append-nil few) ∙ ap (λ l. few ++ l) (sym none) ∙ are in
-      ap (λ l. left ++ l) (front ∙ ap (λ l. take (length l - 1) l) none) ∙ append-nil left ∙ is ∙ ap (λ l. take (length l - 1) l) whole
-    where
-      nothing : (l : Pairs) → (0 < length l → ⊥) → l ≡ []
-      nothing [] some = refl
-      nothing (p ∷ l) some = absurd (some (omega arith))
+  dropped_few left left_behind some is front = grind (arith, common_steps)
 
 -- a name that may have come behind the few
 module _ {E : Type 0} (few : Pairs) (k : CowStr Global) (id : ℕ) (old new : List (CowStr Global × ℕ)) (are : AreDistinct (few ++ children_of old)) (none : lookup (bytes_eq (cow_str_bytes k)) few ≡ None) where
   pub AreDistinct-led : (r : Result (Option ℕ) E) → IfOk r (λ to. to ≡ lookup (bytes_eq (cow_str_bytes k)) (children_of old)) → IfOk r (λ to. IfSome to (λ there. new ≡ old))
       → IfOk r (λ to. IfNone to (new ≡ old ++ (k, id) ∷ [])) → OnErr r (new ≡ old) → AreDistinct (few ++ children_of new)
-  AreDistinct-led (Ok (Some there)) found known inserted unchanged = subst (λ es. AreDistinct (few ++ children_of es)) (sym known) are
-  AreDistinct-led (Ok None) found known inserted unchanged =
-      let apart : lookup (bytes_eq (cow_str_bytes k)) (few ++ children_of old) ≡ None = lookup-right (cow_str_bytes k) few (children_of old) none ∙ sym found in
-      let is : few ++ children_of new ≡ (few ++ children_of old) ++ (cow_str_bytes k, id) ∷ [] =
-      ap (λ es. few ++ children_of es) inserted ∙ ap (λ l. few ++ l) (children_of-push old k id) ∙ sym (append_assoc few (children_of old) ((cow_str_bytes k, id) ∷ [])) in
-      subst AreDistinct (sym is) (AreDistinct-push (few ++ children_of old) (cow_str_bytes k) id are apart)
-  AreDistinct-led (Err e) found known inserted unchanged = subst (λ es. AreDistinct (few ++ children_of es)) (sym unchanged) are
+  AreDistinct-led r found known inserted unchanged = search (rules, lookup-right, children_of-push, append_assoc, AreDistinct-push)
 
 -- a name that was not found among the few
 pub not_in_few : (spelled name : List ℕ) (read few : List (CowStr Global × ℕ)) (to : Option ℕ) → to ≡ lookup (bytes_eq spelled) (children_of read) → spelled ≡ name → read ≡ few → to ≡ None
     → lookup (bytes_eq name) (children_of few) ≡ None
-not_in_few spelled name read few to found named are none =
-    ap (λ es. lookup (bytes_eq name) (children_of es)) (sym are) ∙ ap (λ n. lookup (bytes_eq n) (children_of read)) (sym named) ∙ sym found ∙ none
+not_in_few spelled name read few to found named are none = cc
 
 -- an entry that was read, by the name's bytes
 abbrev pub pair_of : CowStr Global × ℕ → List ℕ × ℕ
@@ -149,10 +124,7 @@ pub entry_at : (es : List (CowStr Global × ℕ)) (i : ℕ) (e : CowStr Global �
 entry_at es i e low is = slice_get-map pair_of es i ∙ ap (option_map pair_of) (slice_get-get_or es i e ((Decides-ltb i (length es)).0 (sym low)) ∙ ap Some (sym is))
 
 pub past_few : (es : List (CowStr Global × ℕ)) (i : ℕ) → false ≡ ltb i (length es) → length (children_of es) ≤ i
-past_few es i past =
-    let long : length (children_of es) ≡ length es = length-map es pair_of in
-    let none : i < length es → ⊥ = λ low. false≢true (past ∙ (Decides-ltb i (length es)).1 low) in
-    omega (arith, long, none)
+past_few es i past = grind (arith, common_steps)
 
 pub within_few : (es : List (CowStr Global × ℕ)) (i : ℕ) → true ≡ ltb i (length es) → i < length (children_of es)
 within_few es i low = let long : length (children_of es) ≡ length es = length-map es pair_of in omega (arith, long, (Decides-ltb i (length es)).0 (sym low))

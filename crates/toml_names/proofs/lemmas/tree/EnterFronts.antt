@@ -1,18 +1,7 @@
 -- A dotted key's proper fronts, entered one by one.
-use Rattle.std.proofs.Common.{◌≡◌, ℕ, ◌+◌, ◌<◌, ◌≤◌, List, [], ◌∷◌, ◌++◌, length, map, suc, take, drop, refl, sym, ap, subst, ◌∙◌, slice_index_or, arith}
-use Rattle.std.proofs.lemmas.List.{append_assoc, map-append, take_more, take_all, drop_more, take-append-drop, length-map}
+use Rattle.toml_names.proofs.Common.{common_steps, ◌≡◌, ℕ, ◌+◌, ◌<◌, ◌≤◌, List, [], ◌∷◌, ◌++◌, length, map, take, drop, refl, sym, ap, subst, ◌∙◌, slice_index_or, arith, append_assoc, map-append, drop_more, take-append-drop, piece, dotted, key as tree_key, Name, Dotted, Address, child, below, Key, part_name, key_names, FollowedFronts, Named, a_table, table_at, fronts, Enters, EntersTo, Clashes, name_at, Spot, address_at, IsNode}
 use Rattle.toml_tree.specs.declared.tree.Dotted.{Dotted as Part}
 use Rattle.toml_tree.specs.declared.tree.Key.{Key as TreeKey}
-use Rattle.toml_tree.specs.View.{piece, dotted, key as tree_key}
-use Rattle.toml_names.specs.declared.model.address.Step.TheVariants.{Name}
-use Rattle.toml_names.specs.declared.mentions.mention.Role.TheVariants.{Dotted}
-use Rattle.toml_names.specs.model.Addresses.{Address, child, below}
-use Rattle.toml_names.specs.mentions.Keys.{Key, part_name, key_names}
-use Rattle.toml_names.specs.tree.LongKeys.{FollowedFronts}
-use Rattle.toml_names.specs.mentions.Mentions.{Named, a_table, table_at, fronts}
-use Rattle.toml_names.specs.tree.NameTree.{Enters, EntersTo, Clashes, name_at}
-use Rattle.toml_names.specs.tree.Nodes.{Spot, address_at}
-use Rattle.toml_names.specs.tree.Steps.{IsNode}
 use Rattle.toml_names.proofs.lemmas.mentions.Along.{names_left}
 use Rattle.toml_names.proofs.lemmas.tree.EnterSteps.{Enters-none, Enters-append, KeepsElements-same, KeepsElements-then, Clashes-later, Clashes-front}
 
@@ -35,17 +24,12 @@ left-append xs ys = ap (map (λ d. part_name d.part)) (map-append dotted xs ys) 
 abbrev pub first_names : List ℕ → List Part → ℕ → Key
 first_names first rest i = first ∷ names_left (take i rest)
 
-first_names-all : (first : List ℕ) (rest : List Part) (i : ℕ) → length rest ≤ i → first_names first rest i ≡ first ∷ names_left rest
-first_names-all first rest i past = ap (λ ds. first ∷ names_left ds) (take_all i rest past)
-
 module _ (first : List ℕ) (rest : List Part) (i : ℕ) (d : Part) (low : i < length rest) (is : d ≡ slice_index_or rest i d) where
   abbrev n : List ℕ
   n = part_name (piece d.part)
 
   pub one_more : first_names first rest (i + 1) ≡ first_names first rest i ++ n ∷ []
-  one_more =
-      ap (λ ds. first ∷ names_left ds) (take_more rest i d low ∙ ap (λ x. take i rest ++ x ∷ []) (sym is))
-      ∙ ap (λ l. first ∷ l) (left-append (take i rest) (d ∷ []))
+  one_more = grind (arith, common_steps)
 
   pub all_names : first ∷ names_left rest ≡ first_names first rest i ++ n ∷ names_left (drop (i + 1) rest)
   all_names =
@@ -84,8 +68,7 @@ module _ (first : List ℕ) (rest : List Part) (i : ℕ) (d : Part) (low : i < l
 
 -- all names of the key, as the code reads it
 pub all-named : (P : Key → Type 0) (k : TreeKey) (items : List Part) (i : ℕ) → items ≡ k.rest.items → length items ≤ i → P (first_names (part_name (piece k.first)) items i) → P (key_names (tree_key k))
-all-named P k items i are past =
-    subst P (first_names-all (part_name (piece k.first)) items i past ∙ ap (λ ds. part_name (piece k.first) ∷ names_left ds) are)
+all-named P k items i are past h3 = grind (arith, common_steps)
 
 -- no front was entered yet
 pub FollowedFronts-first : (old : List Spot) (line at : ℕ) (first : List ℕ) → IsNode old at → FollowedFronts old old line (address_at old at) at first (first ∷ [])
@@ -93,7 +76,4 @@ FollowedFronts-first old line at first there = record { entered = Enters-none ol
 
 -- a key has one part more than dots
 pub key-length : (k : TreeKey) → length (key_names (tree_key k)) ≡ length k.rest.items + 1
-key-length k =
-    let same = length-map (map dotted k.rest.items) (λ d. part_name d.part) ∙ length-map k.rest.items dotted in
-    let one : suc (length k.rest.items) ≡ length k.rest.items + 1 = omega arith in
-    ap suc same ∙ one
+key-length k = grind (arith, common_steps)

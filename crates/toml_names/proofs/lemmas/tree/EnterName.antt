@@ -1,37 +1,15 @@
 -- What a look-up at a node tells of what was named, and what entering a name leaves.
-use Rattle.std.proofs.Common.{◌≡◌, ℕ, ◌<◌, true, false, List, [], ◌∷◌, length, Option, Some, None, refl, sym, ap, subst, ◌∙◌, slice_index_or, arith, ◌⊎◌, inl, inr}
-use Rattle.std.proofs.lemmas.Bool.{cases_eq}
-use Rattle.std.proofs.lemmas.List.{same_from_push, length_push, get_or_default}
-use Rattle.std.specs.Map.{lookup}
-use Rattle.std.specs.Str.{bytes_eq}
-use Rattle.toml_names.specs.declared.model.address.Step.{Step}
-use Rattle.toml_names.specs.declared.model.address.Step.TheVariants.{Name, Index}
-use Rattle.toml_names.specs.declared.mentions.mention.Role.{Role}
-use Rattle.toml_names.specs.declared.mentions.mention.Role.TheVariants.{Passed, Header, Dotted, Valued, Tables, Element, Bare}
-use Rattle.toml_names.specs.declared.tree.name_tree.Found.TheVariants.{New}
-use Rattle.toml_names.specs.model.Addresses.{Address, child}
-use Rattle.toml_names.specs.mentions.Mentions.{Kind, is_tables}
-use Rattle.toml_names.specs.tree.Nodes.{Spot, nowhere, addresses, address_at, address_under, place_of, grown, noted}
-use Rattle.toml_names.specs.tree.NameTree.{IsTree, IsFound, Enters, EntersTo, Clashes, LeadsTo, KeepsElements, name_at}
-use Rattle.toml_names.specs.mentions.Rules.{may_follow}
-use Rattle.toml_names.specs.tree.Steps.{IsBarred, IsNode, IsNoted}
+use Rattle.toml_names.proofs.Common.{common_steps, ◌≡◌, ℕ, ◌<◌, true, false, List, [], ◌∷◌, length, Option, Some, None, refl, sym, ap, subst, ◌∙◌, slice_index_or, arith, rules, same_from_push, length_push, lookup, bytes_eq, Step, Name, Index, Role, Valued, Bare, New, Address, child, Kind, is_tables, Spot, nowhere, addresses, address_at, address_under, place_of, grown, noted, IsTree, IsFound, Enters, EntersTo, Clashes, LeadsTo, KeepsElements, name_at, may_follow, IsBarred, IsNode, IsNoted}
 use Rattle.toml_names.proofs.lemmas.tree.CountsKept.{IsTreeOf-grown, IsTreeOf-noted}
 use Rattle.toml_names.proofs.lemmas.tree.Fitting.{but_counts, fits-at_node, fits-no_node}
-use Rattle.toml_names.proofs.lemmas.mentions.Misfits.{misfit-here, misfit-later}
+use Rattle.toml_names.proofs.lemmas.mentions.Offences.{misfit-here, misfit-later}
 use Rattle.toml_names.proofs.lemmas.tree.NodeAddresses.{length-addresses, address_at-under}
 use Rattle.toml_names.proofs.lemmas.tree.NodePlaces.{place_of-at}
-use Rattle.toml_names.proofs.lemmas.tree.TreeGrown.{length-grown, address-new, node-last, node-above, node-other, KeepsAddresses-grown, IsTree-grown}
-use Rattle.toml_names.proofs.lemmas.tree.TreeNoted.{length-noted, address-noted, KeepsAddresses-noted, KeepsElements-noted, IsTree-noted}
+use Rattle.toml_names.proofs.lemmas.tree.TreeGrown.{length-grown, address-new, node-last, KeepsAddresses-grown, IsTree-grown, length-noted, address-noted, KeepsAddresses-noted, KeepsElements-noted, IsTree-noted}
 
 -- nothing goes before a value
 before_value : (q : Role) → (q ≡ Bare → ⊥) → may_follow q Valued ≡ false
-before_value Passed h = refl
-before_value Header h = refl
-before_value Dotted h = refl
-before_value Valued h = refl
-before_value Tables h = refl
-before_value Element h = refl
-before_value Bare h = absurd (h refl)
+before_value q h = search rules
 
 module _ (nodes : List Spot) (tree : IsTree nodes) (at : ℕ) (low : at < length nodes) (n : List ℕ) (d : Spot) where
   -- a name that leads somewhere leads to the node of its address
@@ -47,9 +25,7 @@ module _ (nodes : List Spot) (tree : IsTree nodes) (at : ℕ) (low : at < length
 
     module _ (r : Role) (k : Kind) (line : ℕ) (e : Spot) where
       pub Clashes-found : may_follow (slice_index_or nodes id e).role r ≡ false → Clashes nodes (name_at nodes at n r k line ∷ []) (address_at nodes id)
-      Clashes-found bad ms stands =
-          misfit-here ms [] (name_at nodes at n r k line) (fits-at_node nodes ms (but_counts nodes ms stands) id e (name_at nodes at n r k line) found-within (sym found-address) ∙ bad)
-          ∙ ap Some (sym found-address)
+      Clashes-found bad = search (rules, misfit-here, fits-at_node, but_counts, found-within, found-address)
 
       pub Enters-found : is_tables r ≡ false → may_follow (slice_index_or nodes id e).role r ≡ true → Enters nodes (noted nodes id (slice_index_or nodes id e) r line) (name_at nodes at n r k line ∷ [])
       Enters-found plain goes = record {
@@ -92,12 +68,7 @@ module _ (nodes : List Spot) (tree : IsTree nodes) (at : ℕ) (low : at < length
     after = grown nodes at (slice_index_or nodes at e) (Name n) r k line
 
     pub Enters-new : is_tables r ≡ false → (r ≡ Bare → ⊥) → Enters nodes after (name_at nodes at n r k line ∷ [])
-    Enters-new plain mention = record {
-      tree = IsTree-grown nodes at e (Name n) r k line low tree fresh no_index (λ m is. mention);
-      kept = KeepsAddresses-grown nodes at e (Name n) r k line low;
-      stands = IsTreeOf-grown nodes at e (Name n) r k line low plain refl fresh no_index (λ m is. mention);
-      goes = λ ms stands. misfit-later ms [] (name_at nodes at n r k line) (fits-no_node nodes ms (but_counts nodes ms stands) (name_at nodes at n r k line) fresh);
-    }
+    Enters-new plain mention = search (rules, IsTree-grown, fresh, no_index, KeepsAddresses-grown, IsTreeOf-grown, misfit-later, fits-no_node, but_counts)
 
     pub LeadsTo-new : LeadsTo after (length nodes) (child (address_at nodes at) n)
     LeadsTo-new = record { within = let long = length-grown nodes at e (Name n) r k line low in omega arith; address = address-new nodes at e (Name n) r k line low (length nodes) refl }
@@ -106,11 +77,7 @@ module _ (nodes : List Spot) (tree : IsTree nodes) (at : ℕ) (low : at < length
     lone-new f = ap (λ (s : Spot). s.elements) (node-last nodes at e (Name n) r k line low (length nodes) f refl)
 
     pub KeepsElements-new : KeepsElements nodes after
-    KeepsElements-new j f within = by (cases_eq j at)
-      where
-        by : (j ≡ at) ⊎ (j ≡ at → ⊥) → (slice_index_or after j f).elements ≡ (slice_index_or nodes j f).elements
-        by (inl is) = ap (λ (s : Spot). s.elements) (node-above nodes at e (Name n) r k line low j f is) ∙ ap (λ (s : Spot). s.elements) (get_or_default nodes at e f low) ∙ ap (λ i. (slice_index_or nodes i f).elements) (sym is)
-        by (inr apart) = ap (λ (s : Spot). s.elements) (node-other nodes at e (Name n) r k line low j f within apart)
+    KeepsElements-new = grind (arith, common_steps)
 
 -- what `IsFound` says where the name led to the node `id`, which was there
 abbrev pub IsKnown : List Spot → List Spot → ℕ → List ℕ → ℕ → Type 0

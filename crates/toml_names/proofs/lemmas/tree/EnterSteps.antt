@@ -1,12 +1,6 @@
 -- What was entered, one after the other.
-use Rattle.std.proofs.Common.{◌≡◌, ℕ, ◌≤◌, Bool, true, false, List, [], ◌∷◌, ◌++◌, length, Some, None, refl, sym, ap, subst, ◌∙◌, arith}
-use Rattle.std.proofs.lemmas.List.{append_assoc, append-nil}
-use Rattle.toml_names.specs.model.Addresses.{Address}
-use Rattle.toml_names.specs.mentions.Mentions.{Named}
-use Rattle.toml_names.specs.tree.NameTree.{IsTree, IsTreeOf, KeepsAddresses, KeepsElements, KeepsOthers, Enters, Clashes}
-use Rattle.toml_names.specs.tree.Nodes.{Spot}
-use Rattle.toml_names.specs.mentions.Rules.{fits, misfit}
-use Rattle.toml_names.proofs.lemmas.mentions.Misfits.{misfit-here, misfit-later, fits-from_misfit}
+use Rattle.toml_names.proofs.Common.{◌≡◌, ℕ, ◌≤◌, List, [], ◌∷◌, ◌++◌, length, Some, None, refl, sym, ap, ◌∙◌, arith, rules, append_assoc, append-nil, Address, Named, IsTree, KeepsAddresses, KeepsElements, KeepsOthers, Enters, Clashes, Spot, misfit}
+use Rattle.toml_names.proofs.lemmas.mentions.Offences.{misfit-here, misfit-later, fits-from_misfit}
 
 -- the first misfit, where the first part has none
 pub misfit-append : (xs earlier ys : List Named) → misfit earlier xs ≡ None → misfit earlier (xs ++ ys) ≡ misfit (earlier ++ xs) ys
@@ -20,21 +14,14 @@ misfit-append (x ∷ xs) earlier ys none =
 -- the first misfit, where the first part has one
 pub misfit-front : (xs earlier ys : List Named) (at : Address) → misfit earlier xs ≡ Some at → misfit earlier (xs ++ ys) ≡ Some at
 misfit-front [] earlier ys at some = let h : None ≡ Some at = some in cc
-misfit-front (x ∷ xs) earlier ys at some = by (fits earlier x) refl (misfit-front xs (earlier ++ x ∷ []) ys at)
-  where
-    by : (b : Bool) → fits earlier x ≡ b → (misfit (earlier ++ x ∷ []) xs ≡ Some at → misfit (earlier ++ x ∷ []) (xs ++ ys) ≡ Some at) → misfit earlier (x ∷ xs ++ ys) ≡ Some at
-    by true good rest = misfit-later earlier (xs ++ ys) x good ∙ rest (sym (misfit-later earlier xs x good) ∙ some)
-    by false bad rest = misfit-here earlier (xs ++ ys) x bad ∙ sym (misfit-here earlier xs x bad) ∙ some
+misfit-front (x ∷ xs) earlier ys at some = search (rules, misfit-later, misfit-here, misfit-front xs (earlier ++ x ∷ []) ys at)
 
 -- the nodes that were there
 pub KeepsAddresses-same : (a : List Spot) → KeepsAddresses a a
 KeepsAddresses-same a = record { longer = omega arith; same = λ k low. refl }
 
 pub KeepsAddresses-then : {a b c : List Spot} → KeepsAddresses a b → KeepsAddresses b c → KeepsAddresses a c
-KeepsAddresses-then first then = record {
-  longer = omega (arith, first.longer, then.longer);
-  same = λ k low. then.same k (omega (arith, low, first.longer)) ∙ first.same k low;
-}
+KeepsAddresses-then first then = search rules
 
 -- their elements
 pub KeepsElements-same : (a : List Spot) → KeepsElements a a
@@ -46,26 +33,13 @@ KeepsElements-then a b c longer first then k d low = then k d (omega (arith, low
 pub KeepsOthers-same : (id : ℕ) (a : List Spot) → KeepsOthers id a a
 KeepsOthers-same id a k d low apart = refl
 
-pub KeepsOthers-then : (a b c : List Spot) (id : ℕ) → length a ≤ length b → KeepsOthers id a b → KeepsOthers id b c → KeepsOthers id a c
-KeepsOthers-then a b c id longer first then k d low apart = then k d (omega (arith, low, longer)) apart ∙ first k d low apart
-
 -- nothing was entered
 pub Enters-none : (a : List Spot) → IsTree a → Enters a a []
-Enters-none a tree = record {
-  tree = tree;
-  kept = KeepsAddresses-same a;
-  stands = λ ms stands. subst (IsTreeOf a) (sym (append-nil ms)) stands;
-  goes = λ ms stands. refl;
-}
+Enters-none a tree = search rules
 
 -- one part and then another
 pub Enters-append : {a b c : List Spot} (xs ys : List Named) → Enters a b xs → Enters b c ys → Enters a c (xs ++ ys)
-Enters-append {c = c} xs ys first then = record {
-  tree = then.tree;
-  kept = KeepsAddresses-then first.kept then.kept;
-  stands = λ ms stands. subst (IsTreeOf c) (append_assoc ms xs ys) (then.stands (ms ++ xs) (first.stands ms stands));
-  goes = λ ms stands. misfit-append xs ms ys (first.goes ms stands) ∙ then.goes (ms ++ xs) (first.stands ms stands);
-}
+Enters-append xs ys h1 h2 = search (rules, KeepsAddresses-then, append_assoc, misfit-append)
 
 -- what clashes, behind what was entered and before what was not
 pub Clashes-later : {a b : List Spot} (xs ys : List Named) (at : Address) → Enters a b xs → Clashes b ys at → Clashes a (xs ++ ys) at

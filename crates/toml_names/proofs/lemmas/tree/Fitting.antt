@@ -1,17 +1,8 @@
 -- What stands for all that was named, the counts of tables left out; what goes with it, tested at one node.
-use Rattle.std.proofs.Common.{◌≡◌, ℕ, ◌<◌, true, cond, List, [], ◌∷◌, ◌++◌, length, Some, None, refl, ap, ◌∙◌, slice_index_or}
-use Rattle.toml_names.specs.model.Addresses.{Address}
-use Rattle.toml_names.specs.model.Data.{fact_at}
-use Rattle.toml_names.specs.mentions.FirstMentions.{first_named}
-use Rattle.toml_names.specs.mentions.Local.{mark_after, mark_of, allows}
-use Rattle.toml_names.specs.mentions.Mentions.{Named, count_tables}
-use Rattle.toml_names.specs.tree.Nodes.{Spot, addresses, address_at, place_of}
-use Rattle.toml_names.specs.tree.NameTree.{IsTree, IsTreeOf, table_count}
-use Rattle.toml_names.specs.model.Places.{first_line}
-use Rattle.toml_names.specs.mentions.Rules.{may_follow, fits, misfit}
+use Rattle.toml_names.proofs.Common.{◌≡◌, ℕ, ◌<◌, true, cond, List, [], ◌∷◌, ◌++◌, length, Some, None, refl, ap, ◌∙◌, slice_index_or, rules, Address, fact_at, first_named, mark_after, mark_of, allows, Named, count_tables, Spot, addresses, address_at, place_of, IsTree, IsTreeOf, table_count, first_line, may_follow, fits, misfit}
 use Rattle.toml_names.proofs.lemmas.tree.EnterSteps.{misfit-append}
 use Rattle.toml_names.proofs.lemmas.mentions.Local.{AreMarked-more, mark_of-push}
-use Rattle.toml_names.proofs.lemmas.mentions.Misfits.{misfit-later}
+use Rattle.toml_names.proofs.lemmas.mentions.Offences.{misfit-later}
 use Rattle.toml_names.proofs.lemmas.tree.NodePlaces.{same_address-apart, same_address-here}
 
 -- a node at the address stands for what was named there
@@ -35,29 +26,10 @@ abbrev pub Counts : List Spot → List Named → Type 0
 Counts nodes ms = (k : ℕ) (d : Spot) → k < length nodes → count_tables ms (address_at nodes k) ≡ table_count (slice_index_or nodes k d)
 
 pub but_counts : (nodes : List Spot) (ms : List Named) → IsTreeOf nodes ms → StandsButCounts nodes ms
-but_counts nodes ms stands = record {
-  tree = stands.tree;
-  each = λ k d low. record { mark = stands.marks k d low; fact = stands.kinds k d low; line = stands.lines k d low };
-  no_marks = stands.no_marks;
-  no_facts = stands.no_facts;
-  no_counts = stands.no_counts;
-  firsts = stands.firsts;
-  good = stands.good;
-}
+but_counts nodes ms stands = search rules
 
 pub with_counts : (nodes : List Spot) (ms : List Named) → StandsButCounts nodes ms → Counts nodes ms → IsTreeOf nodes ms
-with_counts nodes ms stands counts = record {
-  tree = stands.tree;
-  marks = λ k d low. (stands.each k d low).mark;
-  kinds = λ k d low. (stands.each k d low).fact;
-  lines = λ k d low. (stands.each k d low).line;
-  counts = counts;
-  no_marks = stands.no_marks;
-  no_facts = stands.no_facts;
-  no_counts = stands.no_counts;
-  firsts = stands.firsts;
-  good = stands.good;
-}
+with_counts nodes ms stands counts = search rules
 
 -- the mark, with one more mention
 module _ (ms : List Named) (m : Named) (at : Address) where
@@ -78,8 +50,7 @@ good_more ms m good goes = misfit-append ms [] (m ∷ []) good ∙ misfit-later 
 module _ (nodes : List Spot) (ms : List Named) (stands : StandsButCounts nodes ms) where
   -- the test at the node is the test against all that was named
   pub fits-at_node : (k : ℕ) (d : Spot) (m : Named) → k < length nodes → m.address ≡ address_at nodes k → fits ms m ≡ may_follow (slice_index_or nodes k d).role m.role
-  fits-at_node k d m low is =
-      fits-marked ms m stands.good ∙ ap (λ a. allows (mark_of ms a) m.role) is ∙ ap (λ q. allows q m.role) (stands.each k d low).mark
+  fits-at_node k d m low is = search (rules, fits-marked)
 
   -- what has no node goes with all that was named
   pub fits-no_node : (m : Named) → place_of m.address (addresses nodes) ≡ None → fits ms m ≡ true

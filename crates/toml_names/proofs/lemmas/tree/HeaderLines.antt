@@ -1,24 +1,12 @@
 -- A whole header: the fronts that it passes, and its end.
-use Rattle.std.proofs.Common.{◌≡◌, ℕ, List, [], ◌∷◌, ◌++◌, sym, ap, subst, ◌∙◌}
-use Rattle.std.proofs.lemmas.List.{append_assoc}
-use Rattle.toml_names.specs.declared.mentions.mention.Role.TheVariants.{Header, Tables, Element}
-use Rattle.toml_names.specs.model.Addresses.{Address, child, element}
-use Rattle.toml_names.specs.tree.EnteringHeaders.{EntersHeader, AddsTable, PassedFronts, table_names, tables_names, next_table}
-use Rattle.toml_names.specs.tree.Headers.{header_fronts}
-use Rattle.toml_names.specs.mentions.Keys.{Key}
-use Rattle.toml_names.specs.mentions.Mentions.{Named, a_table, an_array, table_at, count_tables, followed, ends_table, ends_tables}
-use Rattle.toml_names.specs.reader.Names.{header_end}
-use Rattle.toml_names.specs.tree.NameTree.{IsTreeOf, EntersTo, Clashes, ClashesAfter, name_at}
-use Rattle.toml_names.specs.tree.Nodes.{Spot, address_at}
-use Rattle.toml_names.specs.mentions.Rules.{misfit}
+use Rattle.toml_names.proofs.Common.{◌≡◌, ℕ, List, [], ◌∷◌, ◌++◌, sym, ap, ◌∙◌, rules, append_assoc, Header, Tables, Element, Address, child, element, EntersHeader, AddsTable, PassedFronts, table_names, tables_names, next_table, header_fronts, Key, Named, a_table, an_array, table_at, count_tables, followed, ends_table, ends_tables, header_end, IsTreeOf, EntersTo, Clashes, ClashesAfter, name_at, Spot, address_at}
 use Rattle.toml_names.proofs.lemmas.tree.EnterSteps.{misfit-append, misfit-front, KeepsAddresses-then}
 use Rattle.toml_names.proofs.lemmas.tree.PassedFronts.{followed-is, fronts-count}
 
 -- what clashes among the fronts clashes in the whole header
 pub clash_in_fronts : (old : List Spot) (line : ℕ) (end : List Named → Address → List Named) (n : List ℕ) (xs : Key) (a : Address)
     → ClashesAfter old (λ ms. header_fronts line ms [] (n ∷ xs)) a → ClashesAfter old (λ ms. followed line ms (end ms) [] (n ∷ xs)) a
-clash_in_fronts old line end n xs a clash ms stands =
-    ap (misfit ms) (followed-is line ms (end ms) xs [] n) ∙ misfit-front (header_fronts line ms [] (n ∷ xs)) ms (end ms (header_end ms [] (n ∷ xs))) a (clash ms stands)
+clash_in_fronts old line end n xs a clash = search (rules, followed-is, misfit-front)
 
 module _ (old now : List Spot) (line here : ℕ) (part n : List ℕ) (xs : Key) (passed : PassedFronts old now line here part (n ∷ xs)) where
   abbrev fronts : List Named → List Named
@@ -31,23 +19,12 @@ module _ (old now : List Spot) (line here : ℕ) (part n : List ℕ) (xs : Key) 
   joined : (next : List Spot) (id : ℕ) (made names : List Named → List Named) (leads own : List Named → Address) → EntersHeader now next id made leads
       → ((ms : List Named) → IsTreeOf old ms → names ms ≡ fronts ms ++ made (ms ++ fronts ms)) → ((ms : List Named) → IsTreeOf old ms → leads (ms ++ fronts ms) ≡ own ms)
       → EntersHeader old next id names own
-  joined next id made names leads own ends is to = record {
-    tree = ends.tree;
-    kept = KeepsAddresses-then passed.kept ends.kept;
-    within = ends.within;
-    stands = λ ms stands.
-        subst (IsTreeOf next) (append_assoc ms (fronts ms) (made (ms ++ fronts ms)) ∙ ap (λ l. ms ++ l) (sym (is ms stands)))
-        (ends.stands (ms ++ fronts ms) (passed.stands ms stands));
-    goes = λ ms stands.
-        ap (misfit ms) (is ms stands) ∙ misfit-append (fronts ms) ms (made (ms ++ fronts ms)) (passed.goes ms stands) ∙ ends.goes (ms ++ fronts ms) (passed.stands ms stands);
-    leads = λ ms stands. ends.leads (ms ++ fronts ms) (passed.stands ms stands) ∙ to ms stands;
-  }
+  joined next id made names leads own ends is to = search (rules, KeepsAddresses-then, append_assoc, misfit-append)
 
   -- what clashes at the end
   clash_joined : (made names : List Named → List Named) (a : Address) → ClashesAfter now made a
       → ((ms : List Named) → IsTreeOf old ms → names ms ≡ fronts ms ++ made (ms ++ fronts ms)) → ClashesAfter old names a
-  clash_joined made names a clash is ms stands =
-      ap (misfit ms) (is ms stands) ∙ misfit-append (fronts ms) ms (made (ms ++ fronts ms)) (passed.goes ms stands) ∙ clash (ms ++ fronts ms) (passed.stands ms stands)
+  clash_joined made names a clash is = search (rules, misfit-append)
 
   -- a table's header
   abbrev entry : List Named

@@ -1,29 +1,92 @@
--- Whether data are what stands in the tree of names, level by level.
-use Rattle.std.proofs.Common.{◌≡◌, ◌↔◌, ◌==◌, Result, Ok, Err, IfOk, ℕ, ◌<◌, ◌≤◌, Bool, true, List, [], ◌∷◌, ◌++◌, length, Option, Some, None, IsSome, IsTrue, is_some, option_map, String, Vec, BTreeMap, Global, string_cmp, slice_index_or, refl, sym, ap, subst, ⊎_elim, ◌∙◌, true≢false, arith}
-use Rattle.std.proofs.lemmas.Bool.{cases_lt, eqb-true}
-use Rattle.std.proofs.lemmas.List.{append_assoc, append-nil}
-use Rattle.std.proofs.lemmas.Option.{none-some, slice_get_past, slice_get_within, slice_get-get_or}
-use Rattle.std.proofs.lemmas.Slice.Eq.{bytes_eq-Decides}
-use Rattle.std.specs.BTreeMap.{get_by_text, btree_map_len, IsOrdered}
-use Rattle.std.specs.Map.{lookup}
-use Rattle.std.specs.Prelude.{slice_get}
-use Rattle.std.specs.Str.{bytes_eq}
+-- Whether data are what stands in the tree of names, level by level; tables by their names, of which both have as many.
+use Rattle.toml_names.proofs.Common.{common_steps, ◌≡◌, ◌↔◌, ◌==◌, Result, IfOk, ℕ, ◌<◌, ◌≤◌, Bool, true, List, [], ◌∷◌, ◌++◌, length, Option, Some, None, IsSome, IsTrue, is_some, option_map, String, Vec, BTreeMap, Global, string_cmp, slice_index_or, refl, sym, ap, subst, ⊎_elim, ◌∙◌, true≢false, arith, rules, cases_lt, eqb-true, append_assoc, append-nil, none-some, slice_get_past, slice_get_within, slice_get-get_or, bytes_eq-Decides, get_by_text, btree_map_len, IsOrdered, lookup, slice_get, bytes_eq, ScalarValue, scalar_value, Step, Name, Index, Datum, Table, Address, kind_at, kind_in, Kinds, Holds, below_node, node_kind, Kind, a_table, an_array, a_scalar, AreDistinct, IsTree, Spot, addresses, address_at, nowhere, place_of, false, cond, map, string_bytes, is_eq-slice_cmp, is_at, slice_cmp, nat_list_eq_equiv, AllByRecursion, list_any, keys_of, nat_cmp, eq_by_cmp}
 use Rattle.toml_scalar.specs.declared.scalar.Scalar.{Scalar as Value}
-use Rattle.toml_scalar.specs.Values.{ScalarValue, scalar_value}
-use Rattle.toml_names.specs.declared.model.address.Step.{Step}
-use Rattle.toml_names.specs.declared.model.address.Step.TheVariants.{Name, Index}
-use Rattle.toml_names.specs.declared.model.datum.Datum.{Datum, Scalar, Array, Table}
-use Rattle.toml_names.specs.model.Addresses.{Address}
-use Rattle.toml_names.specs.model.Data.{kind_at, kind_in, Kinds}
-use Rattle.toml_names.specs.tree.Held.{Holds, below_node, node_kind}
-use Rattle.toml_names.specs.mentions.Mentions.{Kind, a_table, an_array, a_scalar}
-use Rattle.toml_names.specs.tree.NameMaps.{AreDistinct}
-use Rattle.toml_names.specs.tree.NameTree.{IsTree}
-use Rattle.toml_names.specs.tree.Nodes.{Spot, addresses, address_at, nowhere, place_of}
+use Rattle.toml_names.specs.declared.model.datum.Datum.{Scalar, Array}
 use Rattle.toml_names.proofs.lemmas.model.Alike.{part_there, kind_there, Each, Entry, each_found}
 use Rattle.toml_names.proofs.lemmas.model.Levels.{scalar-here, scalar-below, array-here, array-item, array-name, table-here, table-member, table-index, scalar_from_kind, array_from_kind, table_from_kind}
-use Rattle.toml_names.proofs.lemmas.model.SameCount.{one_count, none_left}
-use Rattle.toml_names.proofs.lemmas.tree.Walking.{leads_to, nothing_below, own_place}
+use Rattle.toml_names.proofs.lemmas.tree.NodePlaces.{leads_to, nothing_below, own_place}
+use Rattle.std.proofs.lemmas.Map.Keys.{IsDistinct-cons, IsDistinct-head, IsDistinct-tail, IsDistinct-from_sorted}
+use Rattle.std.proofs.lemmas.Map.Made.{is_some-lookup}
+use Rattle.std.proofs.lemmas.Map.Steps.{length-le_from_keys}
+use Rattle.std.specs.List.{IsDistinct}
+
+abbrev Pairs : Type 0
+Pairs = List (List ℕ × ℕ)
+
+abbrev named : List Entry → List (List ℕ × Datum)
+named = map (λ e. (string_bytes e.0, e.1))
+
+abbrev names_of : List Entry → List (List ℕ)
+names_of es = keys_of (named es)
+
+-- a look-up by text is one among the names
+by_name : (n : List ℕ) (es : List Entry) → lookup (bytes_eq n) (named es) ≡ lookup (is_at (λ k. slice_cmp nat_cmp n (string_bytes k))) es
+by_name n [] = refl
+by_name n (e ∷ es) = rw (is_eq-slice_cmp n (string_bytes e.0)) (ap (λ o. cond (bytes_eq n (string_bytes e.0)) (Some e.1) o) (by_name n es))
+
+fresh_by : {X : Type 0} (n : List ℕ) (es : List (List ℕ × X)) → lookup (bytes_eq n) es ≡ None → AllByRecursion (λ y. bytes_eq n y ≡ false) (keys_of es)
+fresh_by n [] none = tt
+fresh_by n (e ∷ es) none = search (rules, fresh_by n es)
+
+none_distinct : IsDistinct bytes_eq []
+unfolding IsDistinct
+none_distinct = grind arith
+
+children_distinct : (es : Pairs) → AreDistinct es → IsDistinct bytes_eq (keys_of es)
+children_distinct [] are = none_distinct
+children_distinct (e ∷ es) are = IsDistinct-cons bytes_eq e.0 (keys_of es) (fresh_by e.0 es are.0) (children_distinct es are.1)
+
+apart_names : (k : String Global) (es : List Entry) → AllByRecursion (λ y. eq_by_cmp string_cmp k y ≡ false) (keys_of es) → AllByRecursion (λ y. bytes_eq (string_bytes k) y ≡ false) (names_of es)
+apart_names k [] all = tt
+apart_names k (e ∷ es) all = (sym (is_eq-slice_cmp (string_bytes k) (string_bytes e.0)) ∙ all.0, apart_names k es all.1)
+
+names_distinct : (es : List Entry) → IsDistinct (eq_by_cmp string_cmp) (keys_of es) → IsDistinct bytes_eq (names_of es)
+names_distinct [] are = none_distinct
+names_distinct (e ∷ es) are =
+    IsDistinct-cons bytes_eq (string_bytes e.0) (names_of es)
+    (apart_names e.0 es (IsDistinct-head (eq_by_cmp string_cmp) e.0 (keys_of es) are))
+    (names_distinct es (IsDistinct-tail (eq_by_cmp string_cmp) e.0 (keys_of es) are))
+
+length-names_of : (es : List Entry) → length (names_of es) ≡ length es
+length-names_of es = grind (arith, common_steps)
+
+length-named : (es : List Entry) → length (named es) ≡ length es
+length-named es = grind (arith, common_steps)
+
+length-keys : {X : Type 0} (es : List (List ℕ × X)) → length (keys_of es) ≡ length es
+length-keys es = grind (arith, common_steps)
+
+module _ (children : Pairs) (m : BTreeMap (String Global) Datum) (apart : AreDistinct children) (ordered : IsOrdered string_cmp m) where
+  -- as many names where those of the one are those of the other
+  pub one_count : ((n : List ℕ) → IsSome (get_by_text m n) → IsSome (lookup (bytes_eq n) children)) → ((n : List ℕ) → IsSome (lookup (bytes_eq n) children) → IsSome (get_by_text m n))
+      → length children ≡ btree_map_len m
+  one_count there back =
+      let less : length (names_of m.entries) ≤ length children =
+      length-le_from_keys nat_list_eq_equiv (names_of m.entries) children (names_distinct m.entries (IsDistinct-from_sorted string_cmp (keys_of m.entries) ordered))
+      (λ q h. there q (ap is_some (sym (by_name q m.entries)) ∙ is_some-lookup (bytes_eq q) (named m.entries) ∙ h)) in
+      let more : length (keys_of children) ≤ length (named m.entries) =
+      length-le_from_keys nat_list_eq_equiv (keys_of children) (named m.entries) (children_distinct children apart)
+      (λ q h. ap is_some (by_name q m.entries) ∙ back q (is_some-lookup (bytes_eq q) children ∙ h)) in
+      omega (arith, less, more, length-names_of m.entries, length-keys children, length-named m.entries)
+
+  -- no name is left where as many are found
+  pub none_left : ((n : List ℕ) → IsSome (get_by_text m n) → IsSome (lookup (bytes_eq n) children)) → length children ≡ btree_map_len m
+      → (n : List ℕ) → get_by_text m n ≡ None → lookup (bytes_eq n) children ≡ None
+  none_left there count n none = by (lookup (bytes_eq n) children) refl
+    where
+      found : (q : List ℕ) (b : Bool) → bytes_eq q n ≡ b → IsSome (lookup (bytes_eq n) children) → list_any (bytes_eq q) (n ∷ names_of m.entries) ≡ true → IsSome (lookup (bytes_eq q) children)
+      found q true same some h = subst (λ k. IsSome (lookup (bytes_eq k) children)) (sym ((bytes_eq-Decides q n).0 same)) some
+      found q false other some h =
+          there q (ap is_some (sym (by_name q m.entries)) ∙ is_some-lookup (bytes_eq q) (named m.entries) ∙ (let e : list_any (bytes_eq q) (n ∷ names_of m.entries) ≡ list_any (bytes_eq q) (names_of m.entries) = rw other refl in sym e ∙ h))
+
+      by : (o : Option ℕ) → lookup (bytes_eq n) children ≡ o → lookup (bytes_eq n) children ≡ None
+      by None is = is
+      by (Some k) is =
+          let all : length (n ∷ names_of m.entries) ≤ length children =
+          length-le_from_keys nat_list_eq_equiv (n ∷ names_of m.entries) children
+          (IsDistinct-cons bytes_eq n (names_of m.entries) (fresh_by n (named m.entries) (by_name n m.entries ∙ none)) (names_distinct m.entries (IsDistinct-from_sorted string_cmp (keys_of m.entries) ordered)))
+          (λ q h. found q (bytes_eq q n) refl (ap is_some is) h) in
+          absurd (omega (arith, all, count, length-names_of m.entries))
 
 -- what stands at a node that may not be there
 abbrev pub below_in : List Spot → Option ℕ → Kinds
@@ -38,8 +101,7 @@ module _ (nodes : List Spot) (tree : IsTree nodes) where
   stepped id s rest None is =
       ap (node_kind nodes) (sym (append_assoc (address_at nodes id) (s ∷ []) rest))
       ∙ ap (option_map (λ k. (slice_index_or nodes k nowhere).kind)) (nothing_below (addresses nodes) tree.nested rest (address_at nodes id ++ s ∷ []) (sym is))
-  stepped id s rest (Some k) is =
-      ap (node_kind nodes) (sym (append_assoc (address_at nodes id) (s ∷ []) rest) ∙ ap (λ (a : Address). a ++ rest) (sym (leads_to nodes tree (address_at nodes id ++ s ∷ []) k (sym is)).address))
+  stepped id s rest (Some k) is = search (rules, append_assoc, leads_to)
 
   module _ (id : ℕ) (low : id < length nodes) where
     pub at_name : (n : List ℕ) (rest : Address) → below_node nodes id (Name n ∷ rest) ≡ below_in nodes (lookup (bytes_eq n) (slice_index_or nodes id nowhere).children) rest
@@ -49,8 +111,7 @@ module _ (nodes : List Spot) (tree : IsTree nodes) where
     at_index i rest = stepped id (Index i) rest (slice_get (slice_index_or nodes id nowhere).elements i) (tree.indices id nowhere i low)
 
     there_by : (s : Step) (o : Option ℕ) → o ≡ place_of (address_at nodes id ++ s ∷ []) (addresses nodes) → IsSome o → IsSome (below_in nodes o [])
-    there_by s None is some = some
-    there_by s (Some k) is some = ap is_some (here k (leads_to nodes tree (address_at nodes id ++ s ∷ []) k (sym is)).within)
+    there_by s o is some = search (rules, here, leads_to)
 
     -- a node has something
     pub there_name : (n : List ℕ) → IsSome (lookup (bytes_eq n) (slice_index_or nodes id nowhere).children) → IsSome (below_in nodes (lookup (bytes_eq n) (slice_index_or nodes id nowhere).children) [])
@@ -61,8 +122,7 @@ module _ (nodes : List Spot) (tree : IsTree nodes) where
 
 -- what has nothing in it is nowhere
 pub in_none : (nodes : List Spot) (o : Option ℕ) → below_in nodes o [] ≡ None → (IsSome o → IsSome (below_in nodes o [])) → o ≡ None
-in_none nodes None none there = refl
-in_none nodes (Some k) none there = absurd (true≢false (sym (there refl) ∙ ap is_some none))
+in_none nodes o none there = search rules
 
 first_name : (es : List (List ℕ × ℕ)) → ((n : List ℕ) → lookup (bytes_eq n) es ≡ None) → es ≡ []
 first_name [] none = refl
@@ -179,21 +239,14 @@ held_nowhere nodes o part is none at = ap (λ (p : Option Datum). kind_in p at) 
 -- as many items as elements, each the one's
 pub items_held : (nodes : List Spot) (elements : List ℕ) (ds : List Datum) (count : ℕ) → length elements ≡ length ds → length ds ≤ count
     → ((i : ℕ) → i < count → IsHeldIn nodes (slice_get elements i) (slice_get ds i)) → (i : ℕ) → IsHeldIn nodes (slice_get elements i) (slice_get ds i)
-items_held nodes elements ds count long all each i =
-    ⊎_elim (λ low. each i low)
-    (λ far. held_nowhere nodes (slice_get elements i) (slice_get ds i) (slice_get_past elements i (omega arith)) (slice_get_past ds i (omega arith)))
-    (cases_lt i count)
+items_held nodes elements ds count long all each i = search (rules, held_nowhere, slice_get_past, cases_lt)
 
 got : {X : Type 0} (xs : List X) (i : ℕ) → i < length xs → IsSome (slice_get xs i)
 got [] i low = absurd (omega arith)
 got (x ∷ xs) i low = ap is_some (slice_get-get_or (x ∷ xs) i x low)
 
 got_within : {X : Type 0} (xs : List X) (i : ℕ) → IsSome (slice_get xs i) → i < length xs
-got_within xs i some = by (slice_get xs i) refl some
-  where
-    by : (o : Option _) → slice_get xs i ≡ o → IsSome o → i < length xs
-    by None is h = absurd (true≢false (sym h))
-    by (Some x) is h = slice_get_within xs i x is
+got_within xs i some = search (rules, true≢false, slice_get_within)
 
 no_longer : {X Y : Type 0} (xs : List X) (ys : List Y) → ((i : ℕ) → IsSome (slice_get ys i) → IsSome (slice_get xs i)) → length ys ≤ length xs
 no_longer xs ys there = ⊎_elim
@@ -206,16 +259,10 @@ module _ (nodes : List Spot) (tree : IsTree nodes) (id : ℕ) (low : id < length
   node = slice_index_or nodes id nowhere
 
   in_some : (o : Option ℕ) → IsSome (below_in nodes o []) → IsSome o
-  in_some None h = h
-  in_some (Some k) h = refl
+  in_some o h = search rules
 
   pub array_count : (v : Vec Datum Global) → Holds nodes id (Array v) → length (slice_index_or nodes id nowhere).elements ≡ length v.items
-  array_count v holds =
-      let parts = array_parts nodes tree id low (slice_index_or nodes id nowhere) refl v holds in
-      let elements = (slice_index_or nodes id nowhere).elements in
-      let less : length v.items ≤ length elements = no_longer elements v.items (λ i some. in_some (slice_get elements i) (subst IsSome (parts i []) (kind_there (slice_get v.items i) some))) in
-      let more : length elements ≤ length v.items = no_longer v.items elements (λ i some. part_there (slice_get v.items i) (subst IsSome (sym (parts i [])) (there_index nodes tree id low i some))) in
-      omega (arith, less, more)
+  array_count v holds = search (rules, array_parts, no_longer, in_some, kind_there, part_there, there_index)
 
   pub members_held : (m : BTreeMap (String Global) Datum) → AreDistinct (slice_index_or nodes id nowhere).children → IsOrdered string_cmp m
       → length (slice_index_or nodes id nowhere).children ≡ btree_map_len m → (slice_index_or nodes id nowhere).kind ≡ a_table → (slice_index_or nodes id nowhere).elements ≡ []
@@ -241,18 +288,15 @@ module _ (nodes : List Spot) (tree : IsTree nodes) (id : ℕ) (low : id < length
       by n (Some d) is = let it = one n d is in (held_part nodes (lookup (bytes_eq n) children) (get_by_text m n) it.0 d it.1 is).0 it.2
 
 pub no_length : {X : Type 0} (xs : List X) → length xs ≡ 0 → xs ≡ []
-no_length [] is = refl
-no_length (x ∷ xs) is = absurd (omega (arith, is))
+no_length xs is = grind (arith, common_steps)
 
 pub none_counted : (es : List ℕ) → (length es == 0) ≡ true → length es ≡ 0
 none_counted es is = eqb-true (length es) 0 is
 
 pub not_there : (o : Option ℕ) → ((k : ℕ) → o ≡ Some k → ⊥) → IsSome o → ⊥
-not_there None none some = true≢false (sym some)
-not_there (Some k) none some = none k refl
+not_there o none some = search rules
 
 -- what the code answers of a scalar
 pub scalar_told : {E : Type 0} (nodes : List Spot) (id : ℕ) (r : Result Bool E) (v : ScalarValue) (t : Value) → IfOk r (λ b. IsTrue b ↔ (v ≡ scalar_value t)) → (v ≡ scalar_value t) ↔ Holds nodes id (Scalar t)
     → IfOk r (λ b. IsTrue b ↔ Holds nodes id (Scalar t))
-scalar_told nodes id (Ok b) v t told is = (λ h. is.0 (told.0 h), λ h. told.1 (is.1 h))
-scalar_told nodes id (Err e) v t told is = told
+scalar_told nodes id r v t told is = search rules

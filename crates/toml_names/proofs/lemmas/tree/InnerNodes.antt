@@ -1,27 +1,12 @@
 -- Where a header goes on at a node: in the last table of an array, or in the table itself; and what passing it leaves.
-use Rattle.std.proofs.Common.{◌≡◌, ℕ, ◌-◌, ◌<◌, ◌≤◌, ◌==◌, true, false, cond, List, [], ◌∷◌, ◌++◌, length, Option, Some, None, refl, sym, ap, subst, ◌∙◌, arith, slice_get, slice_index_or, ◌⊎◌, inl, inr}
-use Rattle.std.proofs.lemmas.Bool.{cases_lt, ne_eqb}
-use Rattle.std.proofs.lemmas.List.{get_or_default}
-use Rattle.std.proofs.lemmas.Option.{none-some, slice_get-get_or, slice_get_within}
-use Rattle.std.specs.Map.{lookup}
-use Rattle.std.specs.Option.{unwrap_or}
-use Rattle.std.specs.Str.{bytes_eq}
-use Rattle.toml_names.specs.declared.model.address.Step.TheVariants.{Name}
-use Rattle.toml_names.specs.declared.mentions.mention.Role.TheVariants.{Passed, Tables}
-use Rattle.toml_names.specs.model.Addresses.{Address, child, element}
-use Rattle.toml_names.specs.mentions.Mentions.{Named, a_table, is_tables, count_tables, entered, table_at}
-use Rattle.toml_names.specs.tree.NameTree.{IsTree, IsTreeOf, ClashesAfter, Passes}
-use Rattle.toml_names.specs.tree.Nodes.{Spot, nowhere, addresses, address_at, place_of, grown, noted}
-use Rattle.toml_names.specs.mentions.Rules.{may_follow, misfit}
-use Rattle.toml_names.specs.tree.Steps.{IsBarred, IsNode, IsNoted}
+use Rattle.toml_names.proofs.Common.{◌≡◌, ℕ, ◌-◌, ◌<◌, ◌≤◌, ◌==◌, true, false, cond, List, [], ◌∷◌, ◌++◌, length, Option, Some, None, refl, sym, ap, subst, ◌∙◌, arith, slice_get, slice_index_or, ◌⊎◌, inl, inr, rules, cases_lt, ne_eqb, get_or_default, none-some, slice_get-get_or, slice_get_within, lookup, unwrap_or, bytes_eq, Name, Passed, Tables, Address, child, element, Named, a_table, is_tables, count_tables, entered, table_at, IsTree, IsTreeOf, ClashesAfter, Passes, Spot, nowhere, addresses, address_at, place_of, grown, noted, may_follow, misfit, IsBarred, IsNode, IsNoted}
 use Rattle.toml_names.proofs.lemmas.tree.CountsKept.{IsTreeOf-noted}
 use Rattle.toml_names.proofs.lemmas.tree.EnterName.{Enters-new, LeadsTo-new, IsKnown, known-address}
 use Rattle.toml_names.proofs.lemmas.tree.Fitting.{but_counts, fits-at_node}
-use Rattle.toml_names.proofs.lemmas.mentions.Misfits.{misfit-here, misfit-later}
+use Rattle.toml_names.proofs.lemmas.mentions.Offences.{misfit-here, misfit-later}
 use Rattle.toml_names.proofs.lemmas.tree.NodeAddresses.{length-addresses}
-use Rattle.toml_names.proofs.lemmas.tree.NodeCounts.{table_count-tables}
-use Rattle.toml_names.proofs.lemmas.tree.NodePlaces.{place_of-at}
-use Rattle.toml_names.proofs.lemmas.tree.TreeNoted.{length-noted, address-noted, KeepsAddresses-noted, IsTree-noted}
+use Rattle.toml_names.proofs.lemmas.tree.NodePlaces.{place_of-at, table_count-tables}
+use Rattle.toml_names.proofs.lemmas.tree.TreeGrown.{length-noted, address-noted, KeepsAddresses-noted, IsTree-noted}
 
 -- a node that was read twice
 pub read_twice : (nodes : List Spot) (id : ℕ) (v w : Spot) → id < length nodes → v ≡ slice_index_or nodes id v → w ≡ slice_index_or nodes id w → v ≡ w
@@ -86,10 +71,7 @@ module _ (nodes : List Spot) (tree : IsTree nodes) (at : ℕ) (n : List ℕ) (li
 
     pub clash-found : may_follow (slice_index_or nodes id d).role Passed ≡ false → (ms : List Named) → IsTreeOf nodes ms
         → misfit ms (m (entered ms (child (address_at nodes at) n)) ∷ []) ≡ Some (address_at nodes id)
-    clash-found bad ms stands =
-        misfit-here ms [] (m (entered ms (child (address_at nodes at) n)))
-        (fits-at_node nodes ms (but_counts nodes ms stands) id d (m (entered ms (child (address_at nodes at) n))) low (sym (goes_on ms stands)) ∙ bad)
-        ∙ ap Some (sym (goes_on ms stands))
+    clash-found bad ms stands = search (rules, misfit-here, fits-at_node, but_counts)
 
   -- a new node
   module _ (low : at < length nodes) (d : Spot) (absent : lookup (bytes_eq n) (slice_index_or nodes at d).children ≡ None) (e : Spot) where

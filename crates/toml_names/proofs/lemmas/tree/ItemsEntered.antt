@@ -1,22 +1,13 @@
 -- A value's elements, or its pairs, entered one by one: what was entered of them, and what is left.
-use Rattle.std.proofs.Common.{◌≡◌, ℕ, ◌+◌, ◌<◌, false, List, [], ◌∷◌, ◌++◌, length, None, refl, sym, ap, subst, ◌∙◌, slice_index_or, arith}
-use Rattle.std.proofs.lemmas.List.{append_assoc, append-nil, length_push}
-use Rattle.toml_names.specs.declared.model.address.Step.TheVariants.{Index}
-use Rattle.toml_names.specs.declared.mentions.mention.Role.TheVariants.{Bare}
-use Rattle.toml_names.specs.model.Addresses.{Address, element}
-use Rattle.toml_names.specs.mentions.Mentions.{Kind, Named, is_tables, count_tables}
-use Rattle.toml_names.specs.tree.NameTree.{IsTree, IsTreeOf, KeepsOthers, Enters, Clashes}
-use Rattle.toml_names.specs.tree.Nodes.{Spot, addresses, address_at, place_of, grown}
-use Rattle.toml_names.specs.mentions.Rules.{misfit}
+use Rattle.toml_names.proofs.Common.{common_steps, ◌≡◌, ℕ, ◌+◌, ◌<◌, false, List, [], ◌∷◌, ◌++◌, length, None, refl, sym, ap, subst, ◌∙◌, slice_index_or, arith, rules, append_assoc, Index, Bare, Address, element, Kind, Named, is_tables, count_tables, IsTree, IsTreeOf, KeepsOthers, Enters, Clashes, Spot, addresses, address_at, place_of, grown, misfit}
 use Rattle.toml_names.proofs.lemmas.tree.CountsKept.{IsTreeOf-grown}
-use Rattle.toml_names.proofs.lemmas.tree.ElementGrown.{index-next, index-no_name, tree-element}
-use Rattle.toml_names.proofs.lemmas.tree.EnterElement.{fresh_element, plain_from_count, count_from_lone, KeepsOthers-element, array-element}
-use Rattle.toml_names.proofs.lemmas.tree.EnterSteps.{misfit-append, KeepsAddresses-then, KeepsOthers-then, KeepsOthers-same, Enters-none, Enters-append, Clashes-later, Clashes-front}
+use Rattle.toml_names.proofs.lemmas.tree.ElementGrown.{index-next, index-no_name, tree-element, fresh_element, plain_from_count, count_from_lone}
+use Rattle.toml_names.proofs.lemmas.tree.EnterSteps.{misfit-append, KeepsAddresses-then, KeepsOthers-same, Enters-none, Enters-append, Clashes-later, Clashes-front}
 use Rattle.toml_names.proofs.lemmas.tree.Fitting.{but_counts, fits-no_node}
-use Rattle.toml_names.proofs.lemmas.mentions.Misfits.{misfit-later}
-use Rattle.toml_names.proofs.lemmas.mentions.NoTables.{HasNoTables, count-append, no_tables-front}
-use Rattle.toml_names.proofs.lemmas.tree.NodeCounts.{table_count-element}
-use Rattle.toml_names.proofs.lemmas.tree.TreeGrown.{length-grown, address-new, KeepsAddresses-grown}
+use Rattle.toml_names.proofs.lemmas.mentions.Offences.{misfit-later}
+use Rattle.toml_names.proofs.lemmas.mentions.Within.{HasNoTables, count-append, no_tables-front}
+use Rattle.toml_names.proofs.lemmas.tree.NodePlaces.{table_count-element}
+use Rattle.toml_names.proofs.lemmas.tree.TreeGrown.{address-new, KeepsAddresses-grown}
 
 -- something of the whole was entered, and the rest is left
 pub record IsEntered (start now : List Spot) (whole left : List Named) : Type 0 where
@@ -39,8 +30,7 @@ entered-clash start now whole xs left at entered clash =
     subst (λ l. Clashes start l at) entered.is (Clashes-later entered.made (xs ++ left) at entered.enters (Clashes-front xs left at clash))
 
 pub entered-all : (start now : List Spot) (whole left : List Named) → IsEntered start now whole left → left ≡ [] → Enters start now whole
-entered-all start now whole left entered none =
-    subst (Enters start now) (sym (append-nil entered.made) ∙ ap (λ l. entered.made ++ l) (sym none) ∙ entered.is) entered.enters
+entered-all start now whole left entered none = search rules
 
 -- the array at the node `id` has its first elements
 pub record HasElements (start now : List Spot) (id i : ℕ) : Type 0 where
@@ -97,9 +87,7 @@ module _ (start now : List Spot) (id i : ℕ) (whole : List Named) (low : id < l
           (table_count-element parent (Index (length parent.elements)) (length now) (plain ms stands)) fresh (index-next now id d kind line within entered.enters.tree) (index-no_name now id d kind line within entered.enters.tree) (ms ++ entered.made) (entered.enters.stands ms stands))
 
       after_goes : (ms : List Named) → IsTreeOf start ms → misfit (ms ++ entered.made) (m ∷ []) ≡ None
-      after_goes ms stands =
-          misfit-later (ms ++ entered.made) [] m
-          (fits-no_node now (ms ++ entered.made) (but_counts now (ms ++ entered.made) (entered.enters.stands ms stands)) m (ap (λ a. place_of a (addresses now)) (sym new_address) ∙ fresh))
+      after_goes ms stands = search (rules, misfit-later, fits-no_node, but_counts, new_address, fresh)
 
       -- the element was entered
       pub entered-element : IsEntered start after whole behind
@@ -119,18 +107,11 @@ module _ (start now : List Spot) (id i : ℕ) (whole : List Named) (low : id < l
 
       -- what is entered in the element leaves the others their elements
       module _ (next : List Spot) (k : ℕ) (is : k ≡ length now) (kept : KeepsOthers k after next) where
-        long : length after ≡ length now + 1
-        long = length-grown now id d (Index (length parent.elements)) Bare kind line within
-
         count_after : (e : Spot) → length (slice_index_or next id e).elements ≡ i + 1
-        count_after e =
-            ap length (kept id e (omega (arith, long)) (λ same. omega (arith, same)) ∙ array-element now entered.enters.tree id within d Bare kind line e)
-            ∙ length_push parent.elements (length now)
-            ∙ ap (λ n. n + 1) (has.count d)
+        count_after e = grind (arith, common_steps)
 
         others_after : KeepsOthers id start next
-        others_after = KeepsOthers-then start now next id entered.enters.kept.longer has.others (λ j e below apart.
-            kept j e (omega (arith, long)) (λ same. omega (arith, same)) ∙ KeepsOthers-element now entered.enters.tree id within d Bare kind line j e below apart)
+        others_after = grind (arith, common_steps)
 
         pub has-element : HasElements start next id (i + 1)
         has-element = record { count = count_after; others = others_after }

@@ -1,33 +1,14 @@
 -- The addresses of lines, by the ranks of their nodes among the first mentions.
-use Rattle.std.proofs.Common.{◌≡◌, ℕ, ◌<◌, ◌==◌, ◌&&◌, Bool, true, false, cond, List, [], ◌∷◌, ◌++◌, ◌+◌, length, map, take, Option, Some, None, option_map, slice_get, slice_index_or, refl, sym, ap, subst, ◌∙◌, true≢false, arith}
-use Rattle.std.proofs.lemmas.List.{length-map, get_or-map, map-append, take_more}
-use Rattle.std.proofs.lemmas.Option.{slice_get-get_or}
-use Rattle.toml_tree.specs.Tree.{Line}
-use Rattle.toml_names.specs.declared.mentions.mention.Role.{Role}
-use Rattle.toml_names.specs.declared.mentions.mention.Role.TheVariants.{Passed, Header, Valued, Element, Bare}
-use Rattle.toml_names.specs.model.Addresses.{Address, same_address}
-use Rattle.toml_names.specs.model.Data.{Kinds, IsDataOf, fact_at}
-use Rattle.toml_names.specs.tree.EnteringLines.{IsWithin}
-use Rattle.toml_names.specs.mentions.FirstMentions.{first_mentions}
-use Rattle.toml_names.specs.mentions.Joining.{Joined}
-use Rattle.toml_names.specs.mentions.Local.{mark_from, mark_after, role_after}
-use Rattle.toml_names.specs.mentions.Mentions.{Named, named, is_mentioned}
-use Rattle.toml_names.specs.reader.Names.{AreOwnAddresses, is_own, line_address}
-use Rattle.toml_names.specs.tree.Nodes.{Spot, address_at, nowhere}
-use Rattle.toml_names.specs.tree.NameTree.{IsTreeOf}
-use Rattle.toml_names.specs.reader.Reading.{IsReader, AreNames, ranked, rank_in}
+use Rattle.toml_names.proofs.Common.{◌≡◌, ℕ, ◌<◌, ◌==◌, ◌&&◌, Bool, true, false, cond, List, [], ◌∷◌, ◌++◌, ◌+◌, length, map, take, Option, Some, None, option_map, slice_get, slice_index_or, refl, sym, ap, subst, ◌∙◌, true≢false, arith, rules, length-map, get_or-map, map-append, take_more, slice_get-get_or, Line, Role, Bare, Address, same_address, Kinds, IsDataOf, fact_at, IsWithin, first_mentions, Joined, mark_from, mark_after, role_after, Named, named, is_mentioned, AreOwnAddresses, is_own, line_address, Spot, address_at, nowhere, IsTreeOf, IsReader, AreNames, ranked, rank_in}
 use Rattle.toml_names.proofs.lemmas.mentions.AllLines.{lines_join}
 use Rattle.toml_names.proofs.lemmas.model.Equal.{same_address-self}
 use Rattle.toml_names.proofs.lemmas.mentions.Offences.{no_misfit}
-use Rattle.toml_names.proofs.lemmas.mentions.Whole.{data_by_facts}
+use Rattle.toml_names.proofs.lemmas.mentions.OfOneKind.{data_by_facts}
 use Rattle.toml_names.proofs.lemmas.reader.WholeValue.{root_at}
 
 -- a mark of a mention stays one
 mention_after : (q r : Role) → is_mentioned q ≡ true → is_mentioned (role_after q r) ≡ true
-mention_after Bare r h = absurd (true≢false (sym h))
-mention_after q Bare h = h
-mention_after q Passed h = h
-mention_after q r h = refl
+mention_after q r h = search rules
 
 mark_from-mention : (ms : List Named) (q : Role) (at : Address) → is_mentioned q ≡ true → mark_from (Some q) ms at ≡ Some Bare → ⊥
 mark_from-mention [] q at mention is = let bare : q ≡ Bare = cc in true≢false (sym mention ∙ ap is_mentioned bare)
@@ -37,23 +18,11 @@ mark_from-mention (m ∷ ms) q at mention is = by (same_address m.address at) is
     by true is marked other = marked is
     by false is marked other = other is
 
--- what a line stands for is a mention, whatever was named there before
-own_role : (p r : Role) → is_own r ≡ true → is_mentioned (role_after p r) ≡ true
-own_role Bare Header own = refl
-own_role Bare Valued own = refl
-own_role Bare Element own = refl
-own_role p Header own = refl
-own_role p Valued own = refl
-own_role p Element own = refl
-own_role p r own = absurd (true≢false (sym own))
-
 own_after : (r : Role) → is_own r ≡ true → (ms : List Named) (at : Address) (o : Option Role) → mark_from (mark_after o r) ms at ≡ Some Bare → ⊥
-own_after r own ms at None is = mark_from-mention ms r at (own_role Bare r own) is
-own_after r own ms at (Some p) is = mark_from-mention ms (role_after p r) at (own_role p r own) is
+own_after r own ms at o is = search (rules, mark_from-mention)
 
 and_second : (x y : Bool) → (x && y) ≡ true → y ≡ true
-and_second true y e = e
-and_second false y e = absurd (true≢false (sym e))
+and_second x y e = search rules
 
 own_mark : (ms : List Named) (o : Option Role) (l : ℕ) (at : Address) → line_address ms l ≡ Some at → mark_from o ms at ≡ Some Bare → ⊥
 own_mark [] o l at some is = let h : None ≡ Some at = some in cc
@@ -108,13 +77,7 @@ module _ (nodes : List Spot) (lines : List Line) (own : List (Option ℕ)) (at :
       ap (ranked first) (get_or-map (rank_in ranks) own l None d inside) ∙ ranked_is (slice_index_or own l None) l (reads.own_within l None inside) (reads.owns l None inside)
 
   pub are_names : (kinds : Kinds) → IsDataOf (named lines) kinds → first ≡ first_mentions (named lines) → AreNames nodes lines kinds first (map (rank_in ranks) own)
-  are_names kinds facts firsts = record {
-    stands = reads.stands;
-    facts = facts;
-    firsts = firsts;
-    own_count = length-map own (rank_in ranks) ∙ reads.own_count;
-    owns = owns_ranked;
-  }
+  are_names kinds facts firsts = search (rules, length-map, owns_ranked)
 
 -- what the finished tree told, as names
 module _ (nodes : List Spot) (lines : List Line) (own : List (Option ℕ)) (at : ℕ) (reads : IsReader nodes lines own at) where

@@ -1,29 +1,14 @@
 -- A header of an array of tables: once the array is named, the counts of tables wait for its next element, which makes them right again.
-use Rattle.std.proofs.Common.{◌≡◌, ℕ, ◌+◌, ◌<◌, true, List, [], ◌∷◌, ◌++◌, length, Some, None, refl, sym, ap, subst, ◌∙◌, arith, slice_index_or, ◌⊎◌, inl, inr}
-use Rattle.std.proofs.lemmas.List.{append_assoc, length_push}
-use Rattle.std.proofs.lemmas.Option.{slice_get_past}
-use Rattle.toml_names.specs.declared.model.address.Step.TheVariants.{Name, Index}
-use Rattle.toml_names.specs.declared.mentions.mention.Role.TheVariants.{Tables, Element, Bare}
-use Rattle.toml_names.specs.declared.tree.name_tree.Found.TheVariants.{New}
-use Rattle.toml_names.specs.model.Addresses.{Address, child, element}
-use Rattle.toml_names.specs.mentions.Local.{role_after}
-use Rattle.toml_names.specs.mentions.Mentions.{Named, a_table, an_array, is_tables, count_tables, table_at, ends_tables}
-use Rattle.toml_names.specs.tree.NameTree.{IsTree, IsTreeOf, IsFound, KeepsAddresses, ClashesAfter, table_count}
-use Rattle.toml_names.specs.tree.EnteringHeaders.{AddsTable}
-use Rattle.toml_names.specs.tree.Nodes.{Spot, nowhere, addresses, address_at, place_of, linked, grown, noted}
-use Rattle.toml_names.specs.mentions.Rules.{may_follow, misfit}
-use Rattle.toml_names.specs.tree.Steps.{Grows, IsBarred, IsNode, IsNoted}
+use Rattle.toml_names.proofs.Common.{◌≡◌, ℕ, ◌+◌, ◌<◌, true, List, [], ◌∷◌, ◌++◌, length, Some, None, refl, sym, ap, subst, ◌∙◌, arith, slice_index_or, ◌⊎◌, inl, inr, rules, append_assoc, length_push, slice_get_past, Name, Index, Tables, Element, Bare, New, Address, child, element, role_after, Named, a_table, an_array, is_tables, count_tables, table_at, ends_tables, IsTree, IsTreeOf, IsFound, KeepsAddresses, ClashesAfter, table_count, AddsTable, Spot, nowhere, addresses, address_at, place_of, linked, grown, noted, may_follow, misfit, Grows, IsBarred, IsNode, IsNoted}
 use Rattle.toml_names.proofs.lemmas.mentions.Counting.{count_plain}
 use Rattle.toml_names.proofs.lemmas.tree.EnterSteps.{misfit-append, KeepsAddresses-then}
 use Rattle.toml_names.proofs.lemmas.tree.Fitting.{StandsButCounts, Counts, but_counts, with_counts, fits-at_node}
-use Rattle.toml_names.proofs.lemmas.mentions.Misfits.{misfit-here}
-use Rattle.toml_names.proofs.lemmas.tree.NodeCounts.{count_here, count_elsewhere, table_count-tables}
-use Rattle.toml_names.proofs.lemmas.tree.StandsGrown.{StandsButCounts-grown}
-use Rattle.toml_names.proofs.lemmas.tree.StandsNoted.{StandsButCounts-noted, other_node}
-use Rattle.toml_names.proofs.lemmas.mentions.Suiting.{tables_before}
+use Rattle.toml_names.proofs.lemmas.mentions.Offences.{misfit-here}
+use Rattle.toml_names.proofs.lemmas.tree.NodePlaces.{count_here, count_elsewhere, table_count-tables}
+use Rattle.toml_names.proofs.lemmas.tree.StandsGrown.{StandsButCounts-grown, StandsButCounts-noted, other_node}
+use Rattle.toml_names.proofs.lemmas.mentions.Growing.{tables_before}
 use Rattle.toml_names.proofs.lemmas.mentions.TablesJoin.{tables_at}
-use Rattle.toml_names.proofs.lemmas.tree.TreeGrown.{length-grown, address-old, address-new, node-last, node-above, node-other, node-parts, KeepsAddresses-grown, IsTree-grown}
-use Rattle.toml_names.proofs.lemmas.tree.TreeNoted.{length-noted, address-noted, node-noted, node-beside, KeepsAddresses-noted, IsTree-noted}
+use Rattle.toml_names.proofs.lemmas.tree.TreeGrown.{length-grown, address-old, address-new, node-last, node-above, node-other, node-parts, KeepsAddresses-grown, IsTree-grown, length-noted, address-noted, node-noted, node-beside, KeepsAddresses-noted, IsTree-noted}
 
 -- an array of tables was named at the node, and its next element not yet
 pub record Opened (mid : List Spot) (id line : ℕ) (ms : List Named) : Type 0 where
@@ -66,11 +51,7 @@ module _ (mid : List Spot) (id : ℕ) (d : Spot) (line : ℕ) (low : id < length
     with_array = ms ++ opening ∷ []
 
     counted_here : count_tables with_array (address_at mid id) ≡ table_count (linked array (Index index) (length mid))
-    counted_here =
-        count_here ms opening (address_at mid id) refl refl
-        ∙ ap (λ n. n + 1) (opened.here d)
-        ∙ sym (length_push array.elements (length mid))
-        ∙ sym (table_count-tables (linked array (Index index) (length mid)) (opened.role d))
+    counted_here = search (rules, count_here, length_push, table_count-tables)
 
     counts : Counts after (with_array ++ m ∷ [])
     counts k e high = count_plain with_array m (address_at after k) refl ∙ by (node-parts mid id d (Index index) Element a_table line low k high)
@@ -91,9 +72,7 @@ module _ (mid : List Spot) (id : ℕ) (d : Spot) (line : ℕ) (low : id < length
             ∙ sym (ap table_count (node-other mid id d (Index index) Element a_table line low k e within apart))
 
     stands_after : IsTreeOf after (with_array ++ m ∷ [])
-    stands_after =
-        with_counts after (with_array ++ m ∷ [])
-        (StandsButCounts-grown mid id d (Index index) Element a_table line low fresh next no_name with_array opened.stands) counts
+    stands_after = search (rules, with_counts, StandsButCounts-grown, fresh, next, no_name, counts)
 
     made : with_array ++ m ∷ [] ≡ ms ++ ends_tables line ms (address_at mid id)
     made = append_assoc ms (opening ∷ []) (m ∷ []) ∙ ap (λ n. ms ++ (opening ∷ table_at line Element (element (address_at mid id) n) ∷ [])) (sym (opened.here d))
@@ -144,9 +123,7 @@ module _ (nodes : List Spot) (id : ℕ) (d : Spot) (line : ℕ) (low : id < leng
 
   pub adds_next : IsTree nodes → (e : Spot)
       → AddsTable nodes (grown noted_there id (slice_index_or noted_there id e) (Index (length (slice_index_or noted_there id e).elements)) Element a_table line) (length noted_there) line (address_at nodes id)
-  adds_next tree e =
-      adds_element noted_there id e line (rw (length-noted nodes id d Tables line low) low) (IsTree-noted nodes id d Tables line low tree) nodes (address_at nodes id)
-      (KeepsAddresses-noted nodes id d Tables line low) (address-noted nodes id d Tables line low id) Opened-noted
+  adds_next tree e = search (rules, adds_element, length-noted, IsTree-noted, KeepsAddresses-noted, address-noted, Opened-noted)
 
 -- a new array of tables
 module _ (nodes : List Spot) (p : ℕ) (d : Spot) (n : List ℕ) (line : ℕ) (low : p < length nodes) (fresh : place_of (address_at nodes p ++ Name n ∷ []) (addresses nodes) ≡ None) where

@@ -1,29 +1,10 @@
 -- The data at a node, from the data at the nodes below it.
-use Rattle.std.proofs.Common.{◌≡◌, ℕ, zero, suc, ◌+◌, ◌<◌, ◌≤◌, Bool, true, false, cond, List, [], ◌∷◌, ◌++◌, length, drop, take, get_or, Result, Ok, Err, IfOk, Option, Some, None, String, Vec, BTreeMap, Global, string_bytes, bytes_eq, refl, sym, ap, subst, ◌∙◌, slice_index_or}
-use Rattle.std.proofs.lemmas.Bool.{cond-false, false_from_ne_true, false≢true}
-use Rattle.std.proofs.lemmas.List.{append_assoc, append-nil, drop_more, take_more, take_all, get_or_default}
-use Rattle.std.proofs.lemmas.Slice.Eq.{bytes_eq-Decides}
-use Rattle.std.proofs.lemmas.Option.{get_or_from_slice_get, slice_get-get_or, slice_get_within}
-use Rattle.std.specs.BTreeMap.{is_at, get_by_text}
-use Rattle.std.specs.Cmp.Lexicographic.{slice_cmp}
-use Rattle.std.specs.Map.{lookup}
-use Rattle.std.specs.Ordering.{nat_cmp}
-use Rattle.std.specs.Prelude.{slice_get}
-use Rattle.toml_scalar.specs.Values.{ScalarValue}
-use Rattle.toml_names.specs.declared.model.address.Step.{Step}
-use Rattle.toml_names.specs.declared.model.address.Step.TheVariants.{Name, Index}
-use Rattle.toml_names.specs.declared.model.datum.Datum.{Datum, Array, Table}
-use Rattle.toml_names.specs.model.Addresses.{Address}
-use Rattle.toml_names.specs.model.Building.{IsOnly}
-use Rattle.toml_names.specs.model.Data.{kind_in, fact_at}
+use Rattle.toml_names.proofs.Common.{◌≡◌, ℕ, zero, suc, ◌+◌, ◌<◌, ◌≤◌, cond, List, [], ◌∷◌, ◌++◌, length, drop, take, get_or, Result, Ok, Err, IfOk, Option, Some, None, String, Vec, BTreeMap, Global, bytes_eq, refl, sym, ap, subst, ◌∙◌, slice_index_or, rules, append_assoc, append-nil, drop_more, take_more, take_all, get_or_default, get_or_from_slice_get, slice_get-get_or, slice_get_within, get_by_text, lookup, slice_get, ScalarValue, Step, Name, Index, Datum, Table, Address, IsOnly, kind_in, fact_at, Joined, Kind, a_table, an_array, a_scalar, Named, IsTree, IsTreeOf, Spot, addresses, address_at, place_of, nowhere, vec_len, arith}
+use Rattle.toml_names.specs.declared.model.datum.Datum.{Array}
 use Rattle.toml_names.specs.tree.Finished.{IsDatumAt, IsOfKind}
-use Rattle.toml_names.specs.mentions.Joining.{Joined}
-use Rattle.toml_names.specs.mentions.Mentions.{Kind, a_table, an_array, a_scalar, Named}
-use Rattle.toml_names.specs.tree.NameTree.{IsTree, IsTreeOf}
-use Rattle.toml_names.specs.tree.Nodes.{Spot, addresses, address_at, place_of, nowhere}
-use Rattle.toml_names.proofs.lemmas.mentions.Holders.{holder, held, begins_at_root, none_below}
+use Rattle.toml_names.proofs.lemmas.mentions.ValuesAbove.{holder, held, begins_at_root}
 use Rattle.toml_names.proofs.lemmas.model.Levels.{array-here, array-item, array-name, table-here, table-member, table-index}
-use Rattle.toml_names.proofs.lemmas.tree.Walking.{leads_to, later, no_place, nothing_named}
+use Rattle.toml_names.proofs.lemmas.tree.NodePlaces.{leads_to, later, no_place, nothing_named}
 
 -- a part that may not be there is the data at the node, if there is one
 abbrev pub PartIs : List Spot → Option ℕ → Option Datum → Type 0
@@ -43,20 +24,12 @@ module _ (nodes : List Spot) (id : ℕ) (low : id < length nodes) (ms : List Nam
 
   -- nothing stands below by a step of another kind
   no_step : (k : Kind) (s : Step) (rest : Address) → IsOfKind nodes id k → (k ≡ holder s → ⊥) → fact_at ms (address_at nodes id ++ s ∷ rest) ≡ None
-  no_step k s rest is other =
-      let all = held ms (begins_at_root nodes ms stands) joined in
-      let none = none_below ms all (address_at nodes id) s k (fact_is k is) other in
-      stepped s rest ∙ nothing_named nodes ms stands (address_at nodes id ++ s ∷ []) rest (no_place nodes ms stands (address_at nodes id ++ s ∷ []) none)
+  no_step k s rest is other = search (rules, held, begins_at_root, fact_is, stepped, nothing_named, no_place)
 
   -- what stands below by a step is the part there
   part_is : (s : Step) (rest : Address) (o : Option ℕ) (part : Option Datum) → o ≡ place_of (address_at nodes id ++ s ∷ []) (addresses nodes) → PartIs nodes o part
       → kind_in part rest ≡ fact_at ms (address_at nodes id ++ s ∷ rest)
-  part_is s rest None None place is = sym (stepped s rest ∙ nothing_named nodes ms stands (address_at nodes id ++ s ∷ []) rest (sym place))
-  part_is s rest None (Some d) place is = absurd is
-  part_is s rest (Some k) None place is = absurd is
-  part_is s rest (Some k) (Some d) place is =
-      let leads = leads_to nodes stands.tree (address_at nodes id ++ s ∷ []) k (sym place) in
-      is ms stands joined rest ∙ ap (λ (a : Address). fact_at ms (a ++ rest)) leads.address ∙ sym (stepped s rest)
+  part_is s rest o part place is = search (rules, stepped, nothing_named, leads_to)
 
 module _ (nodes : List Spot) (id : ℕ) (low : id < length nodes) where
   -- a scalar
@@ -69,16 +42,14 @@ module _ (nodes : List Spot) (id : ℕ) (low : id < length nodes) where
   pub table_is_datum : (m : BTreeMap (String Global) Datum) → IsTree nodes → IsOfKind nodes id a_table
       → ((n : List ℕ) → PartIs nodes (lookup (bytes_eq n) (slice_index_or nodes id nowhere).children) (get_by_text m n)) → IsDatumAt nodes id (Table m)
   table_is_datum m tree is parts ms stands joined [] = table-here m ∙ sym (here nodes id low ms stands joined a_table is)
-  table_is_datum m tree is parts ms stands joined (Name n ∷ at) =
-      table-member m n at ∙ part_is nodes id low ms stands joined (Name n) at _ (get_by_text m n) (tree.names id nowhere n low) (parts n)
+  table_is_datum m tree is parts ms stands joined (Name n ∷ at) = search (rules, table-member, part_is)
   table_is_datum m tree is parts ms stands joined (Index i ∷ at) = table-index m i at ∙ sym (no_step nodes id low ms stands joined a_table (Index i) at is (λ same. cc))
 
   -- an array of the data at the nodes of its elements
   pub array_is_datum : (v : Vec Datum Global) → IsTree nodes → IsOfKind nodes id an_array
       → ((i : ℕ) → PartIs nodes (slice_get (slice_index_or nodes id nowhere).elements i) (slice_get v.items i)) → IsDatumAt nodes id (Array v)
   array_is_datum v tree is parts ms stands joined [] = array-here v ∙ sym (here nodes id low ms stands joined an_array is)
-  array_is_datum v tree is parts ms stands joined (Index i ∷ at) =
-      array-item v i at ∙ part_is nodes id low ms stands joined (Index i) at _ (slice_get v.items i) (tree.indices id nowhere i low) (parts i)
+  array_is_datum v tree is parts ms stands joined (Index i ∷ at) = search (rules, array-item, part_is)
   array_is_datum v tree is parts ms stands joined (Name n ∷ at) = array-name v n at ∙ sym (no_step nodes id low ms stands joined an_array (Name n) at is (λ same. cc))
 
 -- the elements so far
@@ -114,13 +85,7 @@ Fills nodes all left members = (n : List ℕ) → lookup (bytes_eq n) left ≡ N
 pub fills_more : (nodes : List Spot) (all left rest : List (List ℕ × ℕ)) (e : List ℕ × ℕ) (d : Datum) (members more : BTreeMap (String Global) Datum) → left ≡ e ∷ rest
     → lookup (bytes_eq e.0) all ≡ Some e.1 → IsDatumAt nodes e.1 d → Fills nodes all left members
     → ((n : List ℕ) → get_by_text more n ≡ cond (bytes_eq e.0 n) (Some d) (get_by_text members n)) → Fills nodes all rest more
-fills_more nodes all left rest e d members more is there one fills inserted n none = subst (PartIs nodes (lookup (bytes_eq n) all)) (sym (inserted n)) (by (bytes_eq e.0 n) refl)
-  where
-    by : (b : Bool) → bytes_eq e.0 n ≡ b → PartIs nodes (lookup (bytes_eq n) all) (cond b (Some d) (get_by_text members n))
-    by true same = subst (λ o. PartIs nodes o (Some d)) (sym (ap (λ m. lookup (bytes_eq m) all) (sym ((bytes_eq-Decides e.0 n).0 same)) ∙ there)) one
-    by false apart =
-        let other = false_from_ne_true (bytes_eq n e.0) (λ same. false≢true (sym apart ∙ (bytes_eq-Decides e.0 n).1 (sym ((bytes_eq-Decides n e.0).0 same)))) in
-        fills n (ap (lookup (bytes_eq n)) is ∙ cond-false _ _ _ other ∙ none)
+fills_more nodes all left rest e d members more is there one fills inserted = search rules
 
 -- the pair at a place comes next
 pub pair_next : (all : List (List ℕ × ℕ)) (i : ℕ) (e : List ℕ × ℕ) → Some e ≡ slice_get all i → drop i all ≡ e ∷ drop (i + 1) all
@@ -131,9 +96,7 @@ pub fills_all : (nodes : List Spot) (all children : List (List ℕ × ℕ)) (mem
 fills_all nodes all children members are fills n = subst (λ l. PartIs nodes (lookup (bytes_eq n) l) (get_by_text members n)) are (fills n refl)
 
 pub fills_none : (nodes : List Spot) (all : List (List ℕ × ℕ)) (members : BTreeMap (String Global) Datum) → members.entries ≡ [] → Fills nodes all all members
-fills_none nodes all members none n apart =
-    subst (λ o. PartIs nodes o (get_by_text members n)) (sym apart)
-    (subst (PartIs nodes None) (sym (ap (λ es. lookup (is_at (λ k. slice_cmp nat_cmp n (string_bytes k))) es) none)) tt)
+fills_none nodes all members none = search rules
 
 -- the nodes below a node are nodes, and later ones
 module _ (nodes : List Spot) (tree : IsTree nodes) (id : ℕ) (low : id < length nodes) where
@@ -144,10 +107,12 @@ module _ (nodes : List Spot) (tree : IsTree nodes) (id : ℕ) (low : id < length
   below_name all n c are there = below_place (Name n) c (sym (tree.names id nowhere n low) ∙ ap (lookup (bytes_eq n)) (sym are) ∙ there)
 
   pub below_element : (elements : List ℕ) (i e : ℕ) → elements ≡ (slice_index_or nodes id nowhere).elements → i < length elements → (get_or elements i e < length nodes) × (id < get_or elements i e)
-  below_element elements i e are there =
-      below_place (Index i) (get_or elements i e) (sym (tree.indices id nowhere i low) ∙ ap (λ l. slice_get l i) (sym are) ∙ slice_get-get_or elements i e there)
+  below_element elements i e are there = search (rules, below_place, slice_get-get_or)
 
 -- a node that was read
+pub low_in : (nodes : Vec Spot Global) {id : ℕ} → id < vec_len nodes → id < length nodes.items
+low_in nodes low = omega (arith, nodes.ok)
+
 pub node_read : (nodes : List Spot) (id : ℕ) (s : Spot) → id < length nodes → s ≡ slice_index_or nodes id s → s ≡ slice_index_or nodes id nowhere
 node_read nodes id s low is = is ∙ get_or_default nodes id s nowhere low
 

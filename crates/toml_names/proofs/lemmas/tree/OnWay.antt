@@ -1,29 +1,12 @@
 -- The walk from the root along the steps of an address, and the place that it tells.
-use Rattle.std.proofs.Common.{◌≡◌, ◌==◌, ℕ, ◌+◌, ◌<◌, ◌≤◌, Bool, true, false, List, [], ◌∷◌, ◌++◌, length, take, drop, get_or, Option, Some, None, refl, sym, ap, subst, ◌∙◌, slice_index_or, true≢false, arith}
-use Rattle.std.proofs.lemmas.Bool.{cond-true, cond-false}
-use Rattle.std.proofs.lemmas.List.{take_more, take_all, take-append-drop, drop_more, drop_all}
-use Rattle.toml_tree.specs.Tree.{Line}
-use Rattle.toml_names.specs.declared.model.address.Step.{Step}
-use Rattle.toml_names.specs.declared.mentions.mention.Role.{Role}
-use Rattle.toml_names.specs.declared.mentions.mention.Role.TheVariants.{Passed, Header, Dotted, Valued, Tables, Element, Bare}
-use Rattle.toml_names.specs.declared.model.place.Place.{Place}
+use Rattle.toml_names.proofs.Common.{◌≡◌, ◌==◌, ℕ, ◌+◌, ◌<◌, ◌≤◌, Bool, true, false, List, [], ◌∷◌, ◌++◌, length, take, drop, get_or, Option, Some, None, refl, sym, ap, ◌∙◌, slice_index_or, true≢false, rules, cond-true, cond-false, take_more, take_all, take-append-drop, drop_more, drop_all, Line, Step, Role, Valued, Place, Address, fact_at, Joined, mark_of, Named, named, IsTree, IsTreeOf, Spot, addresses, address_at, place_of, nowhere, same_role, first_line, line_above, in_value, place, first_of, value_line, value_there, value_along, IsWalked, own_place, arith}
 use Rattle.toml_names.specs.declared.model.place.Place.TheVariants as places
-use Rattle.toml_names.specs.model.Addresses.{Address}
-use Rattle.toml_names.specs.model.Data.{fact_at}
-use Rattle.toml_names.specs.mentions.Joining.{Joined}
-use Rattle.toml_names.specs.mentions.Local.{mark_of}
-use Rattle.toml_names.specs.mentions.Mentions.{Named, named}
-use Rattle.toml_names.specs.tree.NameTree.{IsTree, IsTreeOf}
-use Rattle.toml_names.specs.tree.Nodes.{Spot, addresses, address_at, place_of, nowhere}
-use Rattle.toml_names.specs.model.Places.{same_role, first_line, line_above, in_value, place}
-use Rattle.toml_names.specs.tree.Placing.{first_of, value_line, value_there, value_along, IsWalked, own_place}
 use Rattle.toml_names.proofs.lemmas.mentions.AllLines.{lines_join}
-use Rattle.toml_names.proofs.lemmas.mentions.FirstLines.{may_hold, AreHolding, holding_under_rules, none_in, first_line-none, first_none, inside-none, inside-some, outside-none, outside-mark}
-use Rattle.toml_names.proofs.lemmas.mentions.Holders.{begins_at_root}
-use Rattle.toml_names.proofs.lemmas.mentions.Pairs.{KeepsRules-nil, KeepsRules-from_misfit}
+use Rattle.toml_names.proofs.lemmas.mentions.FirstLines.{may_hold, AreHolding, holding_under_rules, none_in, first_line-none, first_none, inside-none, inside-some, outside-mark, skip}
+use Rattle.toml_names.proofs.lemmas.mentions.Offences.{KeepsRules-nil, KeepsRules-from_misfit}
 use Rattle.toml_names.proofs.lemmas.mentions.PlacesFound.{same_role-equal}
-use Rattle.toml_names.proofs.lemmas.mentions.ValuesAbove.{front_value, value_above}
-use Rattle.toml_names.proofs.lemmas.tree.Walking.{nothing_below, own_place as own_node, leads_to, root_address}
+use Rattle.toml_names.proofs.lemmas.mentions.ValuesAbove.{front_value, value_above, begins_at_root}
+use Rattle.toml_names.proofs.lemmas.tree.NodePlaces.{nothing_below, own_place as own_node, leads_to, root_address}
 
 -- ---- the walk
 
@@ -33,14 +16,10 @@ pub record IsOnWay (nodes : List Spot) (steps : Address) (i here : ℕ) (value :
   pub values : first_of value (value_along nodes (take i steps) (drop i steps)) ≡ value_along nodes [] steps
 
 pub way_begins : (nodes : List Spot) → IsTree nodes → (steps : Address) → IsOnWay nodes steps 0 0 None
-way_begins nodes tree steps = record {
-  there = ap (λ a. place_of a (addresses nodes)) (sym (root_address nodes tree)) ∙ own_node nodes tree 0 tree.root;
-  values = refl;
-}
+way_begins nodes tree steps = search (rules, root_address, own_node)
 
 first_assoc : (o p q : Option ℕ) → first_of (first_of o p) q ≡ first_of o (first_of p q)
-first_assoc None p q = refl
-first_assoc (Some l) p q = refl
+first_assoc o p q = grind arith
 
 module _ (nodes : List Spot) (tree : IsTree nodes) (steps : Address) (i here : ℕ) (value : Option ℕ) (way : IsOnWay nodes steps i here value) where
   pub way_within : here < length nodes
@@ -50,10 +29,7 @@ module _ (nodes : List Spot) (tree : IsTree nodes) (steps : Address) (i here : �
   way_address = (leads_to nodes tree (take i steps) here way.there).address
 
   pub way_ends : length steps ≤ i → (place_of steps (addresses nodes) ≡ Some here) × (value ≡ value_along nodes [] steps)
-  way_ends past = (
-    ap (λ a. place_of a (addresses nodes)) (sym (take_all i steps past)) ∙ way.there,
-    sym (first_none value) ∙ ap (λ (l : Address). first_of value (value_along nodes (take i steps) l)) (sym (drop_all i steps past)) ∙ way.values,
-  )
+  way_ends past = search (rules, take_all, first_none, drop_all)
 
   module _ (s : Step) (low : i < length steps) (is : s ≡ get_or steps i s) where
     taken : take (i + 1) steps ≡ take i steps ++ s ∷ []
@@ -64,16 +40,7 @@ module _ (nodes : List Spot) (tree : IsTree nodes) (steps : Address) (i here : �
 
     pub way_goes_on : (next : ℕ) (more : Option ℕ) → Some next ≡ place_of (address_at nodes here ++ s ∷ []) (addresses nodes)
         → more ≡ first_of value (value_line (slice_index_or nodes here nowhere)) → IsOnWay nodes steps (i + 1) next more
-    way_goes_on next more place line = record {
-      there = ap (λ a. place_of a (addresses nodes)) (taken ∙ ap (λ a. a ++ s ∷ []) (sym way_address)) ∙ sym place;
-      values =
-          ap (λ o. first_of o (value_along nodes (take (i + 1) steps) (drop (i + 1) steps))) line
-          ∙ first_assoc value (value_line (slice_index_or nodes here nowhere)) (value_along nodes (take (i + 1) steps) (drop (i + 1) steps))
-          ∙ ap (λ (a : Address). first_of value (first_of (value_line (slice_index_or nodes here nowhere)) (value_along nodes a (drop (i + 1) steps)))) taken
-          ∙ ap (λ o. first_of value (first_of (value_there nodes o) (value_along nodes (take i steps ++ s ∷ []) (drop (i + 1) steps)))) (sym way.there)
-          ∙ ap (λ (l : Address). first_of value (value_along nodes (take i steps) l)) (sym left)
-          ∙ way.values;
-    }
+    way_goes_on next more place line = search (rules, taken, way_address, first_assoc, left)
 
     -- where no node is below, the steps lead nowhere
     pub way_is_lost : None ≡ place_of (address_at nodes here ++ s ∷ []) (addresses nodes) → place_of steps (addresses nodes) ≡ None
@@ -91,13 +58,7 @@ told_place nodes (Some (here, Some line)) = Some (places.Inside line)
 told_place nodes (Some (here, None)) = own_place (slice_index_or nodes here nowhere)
 
 holds_value : (q : Role) → may_hold q Valued ≡ same_role q Valued
-holds_value Passed = refl
-holds_value Header = refl
-holds_value Dotted = refl
-holds_value Valued = refl
-holds_value Tables = refl
-holds_value Element = refl
-holds_value Bare = refl
+holds_value q = grind arith
 
 module _ (nodes : List Spot) (ms : List Named) (stands : IsTreeOf nodes ms) (joined : Joined ms) where
   holding : AreHolding ms
@@ -121,16 +82,13 @@ module _ (nodes : List Spot) (ms : List Named) (stands : IsTreeOf nodes ms) (joi
 
   along_is : (rest at : Address) → value_along nodes at rest ≡ front_value ms at rest
   along_is [] at = refl
-  along_is (s ∷ rest) at =
-      ap (λ o. first_of o (value_along nodes (at ++ s ∷ []) rest)) (value_at_node at (place_of at (addresses nodes)) refl)
-      ∙ ap (first_of (first_line ms at Valued)) (along_is rest (at ++ s ∷ []))
+  along_is (s ∷ rest) at = search (rules, value_at_node, along_is rest (at ++ s ∷ []))
 
   line_is : (at : Address) → line_above ms at ≡ value_along nodes [] at
   line_is at = value_above ms (begins_at_root nodes ms stands) joined at ∙ sym (along_is at [])
 
   place_none : (at : Address) (o : Option ℕ) → fact_at ms at ≡ None → in_value o ms at ≡ None
-  place_none at None none = outside-none ms at none
-  place_none at (Some line) none = inside-none ms at line none
+  place_none at o none = search (rules, skip, first_line-none, inside-none)
 
   pub place_is : (s : Step) (rest : Address) (r : Option (ℕ × Option ℕ)) → IsWalked nodes (s ∷ rest) r → told_place nodes r ≡ place ms (s ∷ rest)
   place_is s rest None lost = sym (place_none (s ∷ rest) (line_above ms (s ∷ rest)) (stands.no_facts (s ∷ rest) lost))
@@ -151,11 +109,8 @@ tree_joins nodes lines stands = lines_join lines (KeepsRules-from_misfit (named 
 
 pub place_told : (nodes : List Spot) (at steps : Address) (r : Option (ℕ × Option ℕ)) → 0 < length at → steps ≡ at → IsWalked nodes steps r
     → (lines : List Line) → IsTreeOf nodes (named lines) → told_place nodes r ≡ place (named lines) at
-place_told nodes [] steps r some same walked lines stands = absurd (omega arith)
-place_told nodes (s ∷ rest) steps r some same walked lines stands =
-    place_is nodes (named lines) stands (tree_joins nodes lines stands) s rest r (subst (λ (l : Address). IsWalked nodes l r) same walked)
+place_told nodes at steps r some same walked lines stands = search (rules, place_is, tree_joins)
 
 -- steps that were read, and were some
 pub some_steps : (at steps : Address) (empty : Bool) → steps ≡ at → empty ≡ (length steps == 0) → empty ≡ false → 0 < length at
-some_steps [] steps empty same is none = absurd (true≢false (ap (λ (l : Address). length l == 0) (sym same) ∙ sym is ∙ none))
-some_steps (s ∷ rest) steps empty same is none = omega arith
+some_steps at steps empty same is none = search (rules, true≢false)

@@ -1,19 +1,7 @@
 -- A pair entered: the fronts of its key, its value's own name, and what is in the value.
-use Rattle.std.proofs.Common.{◌≡◌, ℕ, ◌+◌, ◌<◌, List, [], ◌∷◌, ◌++◌, length, ap, subst, ◌∙◌, arith}
-use Rattle.std.proofs.lemmas.List.{append_assoc}
+use Rattle.toml_names.proofs.Common.{◌≡◌, ℕ, ◌+◌, ◌<◌, List, [], ◌∷◌, ◌++◌, length, ap, subst, ◌∙◌, arith, append_assoc, Value, value, keyval, keyval_is, Valued, Address, child, below, keyval_key_parts, value_key_parts, Key, FollowedFronts, Kind, Named, fronts, kind_of, value_named, inside, Enters, EntersTo, EntersInside, Clashes, name_at, Spot, address_at}
 use Rattle.toml_tree.specs.declared.tree.KeyVal.{KeyVal}
 use Rattle.toml_tree.specs.Tree as tree
-use Rattle.toml_tree.specs.Tree.{Value}
-use Rattle.toml_tree.specs.View.{value, keyval}
-use Rattle.toml_tree.proofs.Proved.{keyval_is}
-use Rattle.toml_names.specs.declared.mentions.mention.Role.TheVariants.{Valued}
-use Rattle.toml_names.specs.model.Addresses.{Address, child, below}
-use Rattle.toml_names.specs.mentions.KeyParts.{keyval_key_parts, value_key_parts}
-use Rattle.toml_names.specs.mentions.Keys.{Key}
-use Rattle.toml_names.specs.tree.LongKeys.{FollowedFronts}
-use Rattle.toml_names.specs.mentions.Mentions.{Kind, Named, fronts, kind_of, value_named, inside}
-use Rattle.toml_names.specs.tree.NameTree.{Enters, EntersTo, EntersInside, Clashes, name_at}
-use Rattle.toml_names.specs.tree.Nodes.{Spot, address_at}
 use Rattle.toml_names.proofs.lemmas.tree.EnterFronts.{key-length}
 use Rattle.toml_names.proofs.lemmas.tree.EnterSteps.{Enters-append, Clashes-later, Clashes-front}
 
@@ -33,9 +21,7 @@ module _ (start mid next : List Spot) (here line : ℕ) (n : List ℕ) (kind : K
   all = fronts line at key ++ (own ∷ inside line to v)
 
   own_is : name_at mid here n Valued kind line ≡ own
-  own_is =
-      ap (λ (a : Address). record { address = a; role = Valued; kind = kind; line = line }) before.last
-      ∙ ap (λ (k : Kind). record { address = to; role = Valued; kind = k; line = line }) kind_is
+  own_is = cc
 
   -- the value's own name clashes
   pub own-clash : (a : Address) → Clashes mid (name_at mid here n Valued kind line ∷ []) a → Clashes start all a

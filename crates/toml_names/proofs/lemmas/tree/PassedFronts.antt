@@ -1,20 +1,9 @@
 -- A header's proper fronts, passed one by one from the root.
-use Rattle.std.proofs.Common.{◌≡◌, ℕ, List, [], ◌∷◌, ◌++◌, Some, None, refl, sym, ap, subst, ◌∙◌}
-use Rattle.std.proofs.lemmas.List.{append_assoc, append-nil}
-use Rattle.toml_names.specs.model.Addresses.{Address, child}
-use Rattle.toml_names.specs.tree.EnteringHeaders.{PassedFronts}
-use Rattle.toml_names.specs.tree.Headers.{header_fronts}
-use Rattle.toml_names.specs.mentions.Keys.{Key}
-use Rattle.toml_names.specs.mentions.Mentions.{Named, count_tables, entered, followed, table_at}
-use Rattle.toml_names.specs.declared.mentions.mention.Role.TheVariants.{Passed}
-use Rattle.toml_names.specs.reader.Names.{header_end}
-use Rattle.toml_names.specs.tree.NameTree.{IsTree, IsTreeOf, Passes}
-use Rattle.toml_names.specs.tree.Nodes.{Spot, address_at}
-use Rattle.toml_names.specs.mentions.Rules.{misfit}
+use Rattle.toml_names.proofs.Common.{◌≡◌, ℕ, List, [], ◌∷◌, ◌++◌, Some, None, refl, sym, ap, subst, ◌∙◌, rules, append_assoc, append-nil, Address, child, PassedFronts, header_fronts, Key, Named, count_tables, entered, followed, table_at, Passed, header_end, IsTree, IsTreeOf, Passes, Spot, address_at, misfit}
 use Rattle.toml_names.proofs.lemmas.mentions.Counting.{count_plain}
 use Rattle.toml_names.proofs.lemmas.tree.EnterSteps.{misfit-append, misfit-front, KeepsAddresses-same, KeepsAddresses-then}
 use Rattle.toml_names.proofs.lemmas.tree.InnerNodes.{entered_counted}
-use Rattle.toml_names.proofs.lemmas.tree.Walking.{root_address}
+use Rattle.toml_names.proofs.lemmas.tree.NodePlaces.{root_address}
 
 module _ (line : ℕ) (ms : List Named) where
   -- the fronts of a key up to a name, and those from there on
@@ -51,14 +40,7 @@ module _ (line : ℕ) (ms : List Named) where
   fronts-entered key at = entered_counted (ms ++ header_fronts line ms [] key) at (count_tables ms at) (fronts-count key at)
 
 pub PassedFronts-first : (old : List Spot) (line : ℕ) (first : List ℕ) → IsTree old → PassedFronts old old line 0 first (first ∷ [])
-PassedFronts-first old line first tree = record {
-  tree = tree;
-  kept = KeepsAddresses-same old;
-  within = tree.root;
-  stands = λ ms stands. subst (IsTreeOf old) (sym (append-nil ms)) stands;
-  goes = λ ms stands. refl;
-  last = λ ms stands. ap (λ at. child at first) (root_address old tree);
-}
+PassedFronts-first old line first tree = search (rules, KeepsAddresses-same, append-nil, root_address)
 
 module _ (old now : List Spot) (line here : ℕ) (part first : List ℕ) (xs : Key) (passed : PassedFronts old now line here part (first ∷ xs)) (n : List ℕ) where
   abbrev fronts : List Named → List Named
@@ -94,9 +76,4 @@ module _ (old now : List Spot) (line here : ℕ) (part first : List ℕ) (xs : K
   pub fronts_clash : (rest : Key) (a : Address)
       → ((ms : List Named) → IsTreeOf now ms → misfit ms (table_at line Passed (entered ms (child (address_at now here) part)) ∷ []) ≡ Some a)
       → (ms : List Named) → IsTreeOf old ms → misfit ms (header_fronts line ms [] (first ∷ xs ++ n ∷ rest)) ≡ Some a
-  fronts_clash rest a clash ms stands =
-      let behind = header_fronts line ms (entered ms (header_end ms [] (first ∷ xs))) (n ∷ rest) in
-      ap (misfit ms) (fronts-append line ms xs [] first n rest)
-      ∙ misfit-append (fronts ms) ms (next ms ∷ behind) (passed.goes ms stands)
-      ∙ misfit-front (next ms ∷ []) (ms ++ fronts ms) behind a
-      (subst (λ m. misfit (ms ++ fronts ms) (m ∷ []) ≡ Some a) (next_is ms stands) (clash (ms ++ fronts ms) (passed.stands ms stands)))
+  fronts_clash rest a clash ms stands = search (rules, fronts-append, misfit-append, misfit-front, next_is)

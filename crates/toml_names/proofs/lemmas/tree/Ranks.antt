@@ -1,21 +1,121 @@
--- The addresses of the first nodes that are mentions, in order, and where each of them stands among them.
-use Rattle.std.proofs.Common.{◌≡◌, ℕ, zero, suc, ◌+◌, ◌-◌, ◌<◌, ◌≤◌, Bool, true, false, cond, filter, List, [], ◌∷◌, ◌++◌, length, take, get_or, slice_get, Some, refl, sym, ap, ◌∙◌, subst, slice_index_or, add-one, below_more, arith}
-use Rattle.std.proofs.lemmas.Bool.{cond-true, cond-false}
-use Rattle.std.proofs.lemmas.List.{append-nil, take_more, take_all, length_push, get_or_append_left, get_or_at, get_or_read, get_or_default}
-use Rattle.std.proofs.lemmas.List.Elements.{filter-append}
-use Rattle.std.proofs.lemmas.Option.{slice_get-get_or, slice_get_within, get_or_from_slice_get}
-use Rattle.toml_names.specs.declared.mentions.mention.Role.{Role}
-use Rattle.toml_names.specs.declared.mentions.mention.Role.TheVariants.{Bare}
-use Rattle.toml_names.specs.model.Addresses.{Address}
-use Rattle.toml_names.specs.mentions.FirstMentions.{first_mentions}
-use Rattle.toml_names.specs.mentions.Joining.{Joined}
-use Rattle.toml_names.specs.mentions.Local.{mark_of}
-use Rattle.toml_names.specs.mentions.Mentions.{Named, is_mentioned}
-use Rattle.toml_names.specs.tree.NameTree.{IsTreeOf}
-use Rattle.toml_names.specs.tree.Nodes.{Spot, addresses, address_at, nowhere}
-use Rattle.toml_names.proofs.lemmas.mentions.Filtered.{is_bare}
-use Rattle.toml_names.proofs.lemmas.mentions.Mentioned.{is_marked, first_mentions-marked}
+-- Which of the addresses that are named are mentioned: the mark of an address tells. The first nodes that are mentions have them in order, and each its place among them.
+use Rattle.toml_names.proofs.Common.{common_steps, ◌≡◌, ℕ, zero, suc, ◌+◌, ◌-◌, ◌<◌, ◌≤◌, Bool, true, false, cond, filter, List, [], ◌∷◌, ◌++◌, length, take, get_or, slice_get, Some, refl, sym, ap, ◌∙◌, subst, slice_index_or, add-one, arith, rules, cond-true, cond-false, append-nil, take_more, take_all, length_push, get_or_append_left, get_or_at, get_or_read, get_or_default, filter-append, slice_get-get_or, slice_get_within, get_or_from_slice_get, Role, Bare, Address, first_mentions, Joined, mark_of, Named, is_mentioned, IsTreeOf, Spot, addresses, address_at, nowhere, ◌||◌, All, Option, None, inl, inr, true≢false, append_assoc, All-nil, All-cons, All-head, All-tail, All-push, none-some, same_address, fact_at, is_named, first_named, is_lone, Joins, JoinAll, mark_after, is_mention}
 use Rattle.toml_names.proofs.lemmas.tree.NodeAddresses.{length-addresses}
+use Rattle.toml_names.proofs.lemmas.model.Equal.{same_address-equal, same_address-self}
+use Rattle.toml_names.proofs.lemmas.mentions.FactAt.{fact_here, fact_behind, none_before}
+use Rattle.toml_names.proofs.lemmas.mentions.Local.{mark_of-push}
+use Rattle.toml_names.proofs.lemmas.mentions.OfOneKind.{IsOfFirst, AreOfOneKind, AreOfOneKind-push}
+
+-- whether the address of this mark is mentioned
+abbrev pub is_marked : Option Role → Bool
+is_marked None = false
+is_marked (Some r) = is_mentioned r
+
+-- ---- the mark tells of each thing at the address
+
+shared_after : (q : Option Role) (r : Role) → is_lone r ≡ false → is_marked (mark_after q r) ≡ true
+shared_after q r h = search rules
+
+shared_mentioned : (r : Role) → is_lone r ≡ false → is_mentioned r ≡ true
+shared_mentioned r h = shared_after None r h
+
+-- the mark of its address tells whether it is a mention
+abbrev pub IsTold : List Named → Named → Type 0
+IsTold ms m = is_marked (mark_of ms m.address) ≡ is_mentioned m.role
+
+-- all that holds of what joined
+record Tells (ms : List Named) : Type 0 where
+  kinds : AreOfOneKind ms
+  told : All (IsTold ms) ms
+  unmarked : (at : Address) → fact_at ms at ≡ None → mark_of ms at ≡ None
+
+mark_here : (ms : List Named) (m : Named) (at : Address) → m.address ≡ at → mark_of (ms ++ m ∷ []) at ≡ mark_after (mark_of ms at) m.role
+mark_here ms m at same = mark_of-push ms m at ∙ cond-true _ _ _ (ap (same_address m.address) (sym same) ∙ same_address-self m.address)
+
+mark_other : (ms : List Named) (m : Named) (at : Address) → same_address m.address at ≡ false → mark_of (ms ++ m ∷ []) at ≡ mark_of ms at
+mark_other ms m at apart = mark_of-push ms m at ∙ cond-false _ _ _ apart
+
+module _ (ms : List Named) (m : Named) (tells : Tells ms) where
+  told_new : Joins ms m → IsTold (ms ++ m ∷ []) m
+  told_new h1 = search (rules, mark_here, shared_after, shared_mentioned)
+
+  told_all : Joins ms m → All (IsTold (ms ++ m ∷ [])) ms
+  told_all joins i d low = by (same_address m.address (get_or ms i d).address) refl joins
+    where
+      by : (b : Bool) → same_address m.address (get_or ms i d).address ≡ b → Joins ms m → IsTold (ms ++ m ∷ []) (get_or ms i d)
+      by false apart joins = ap is_marked (mark_other ms m (get_or ms i d).address apart) ∙ tells.told i d low
+      by true same (inl free) =
+          absurd (none-some (get_or ms i d).kind (sym free.absent ∙ ap (fact_at ms) (same_address-equal m.address (get_or ms i d).address same) ∙ tells.kinds i d low))
+      by true same (inr again) =
+          let at = same_address-equal m.address (get_or ms i d).address same in
+          ap is_marked (mark_here ms m (get_or ms i d).address at) ∙ shared_after (mark_of ms (get_or ms i d).address) m.role again.shared
+          ∙ sym (shared_mentioned (get_or ms i d).role (again.others i d low (sym at)))
+
+unmarked_push : (ms : List Named) (m : Named) → Tells ms → (at : Address) → fact_at (ms ++ m ∷ []) at ≡ None → mark_of (ms ++ m ∷ []) at ≡ None
+unmarked_push ms m tells at none = search (rules, none-some, fact_behind, none_before, fact_here, same_address-equal, mark_other)
+
+Tells-push : (ms : List Named) (m : Named) → Tells ms → Joins ms m → Tells (ms ++ m ∷ [])
+Tells-push ms m tells joins = search (rules, AreOfOneKind-push, All-push, told_all, told_new, unmarked_push)
+
+Tells-more : (more ms : List Named) → Tells ms → JoinAll ms more → Tells (ms ++ more)
+Tells-more [] ms tells join = subst Tells (sym (append-nil ms)) tells
+Tells-more (m ∷ more) ms tells join = subst Tells (append_assoc ms (m ∷ []) more) (Tells-more more (ms ++ m ∷ []) (Tells-push ms m tells join.0) join.1)
+
+Tells-one : (m : Named) → Tells (m ∷ [])
+Tells-one m = record {
+  kinds = All-cons (IsOfFirst (m ∷ [])) m [] (fact_here m [] m.address refl) (All-nil _);
+  told = All-cons (IsTold (m ∷ [])) m [] (ap is_marked (mark_here [] m m.address refl)) (All-nil _);
+  unmarked = λ at none. unmarked_push [] m Tells-none at none;
+}
+  where
+    Tells-none : Tells []
+    Tells-none = record { kinds = All-nil _; told = All-nil _; unmarked = λ at none. refl }
+
+pub all_told : (ms : List Named) → Joined ms → All (IsTold ms) ms
+all_told [] joined = All-nil _
+all_told (m ∷ ms) joined = (Tells-more ms (m ∷ []) (Tells-one m) joined).told
+
+-- ---- the first mentions among what is named first
+
+-- the test tells the mentions by their addresses
+abbrev Tells-by : (Address → Bool) → Named → Type 0
+Tells-by test m = test m.address ≡ is_mention m
+
+named_filtered : (test : Address → Bool) (ms : List Named) (at : Address) → All (Tells-by test) ms → test at ≡ true → is_named (filter is_mention ms) at ≡ is_named ms at
+named_filtered test [] at tells here = refl
+named_filtered test (m ∷ ms) at tells here = by (is_mention m) refl (same_address m.address at) refl (named_filtered test ms at (All-tail (Tells-by test) m ms tells) here)
+  where
+    by : (b : Bool) → is_mention m ≡ b → (c : Bool) → same_address m.address at ≡ c → is_named (filter is_mention ms) at ≡ is_named ms at
+        → is_named (filter is_mention (m ∷ ms)) at ≡ is_named (m ∷ ms) at
+    by true is c same rest = ap (λ l. is_named l at) (cond-true _ _ _ is) ∙ ap (λ b. same_address m.address at || b) rest
+    by false not true same rest =
+        absurd (true≢false (sym here ∙ ap test (sym (same_address-equal m.address at same)) ∙ All-head (Tells-by test) m ms tells ∙ not))
+    by false not false apart rest = ap (λ l. is_named l at) (cond-false _ _ _ not) ∙ rest ∙ sym (ap (λ b. b || is_named ms at) apart)
+
+-- what is named first, with one more
+module _ (test : Address → Bool) (ms earlier : List Named) (m : Named) (before : All (Tells-by test) earlier) (head : Tells-by test m)
+    (rest : filter test (first_named (earlier ++ m ∷ []) ms) ≡ first_named (filter is_mention (earlier ++ m ∷ [])) (filter is_mention ms)) where
+  kept : (b c : Bool) → test m.address ≡ true → c ≡ b → (x y : List Address) → filter test x ≡ y → filter test (cond b x (m.address ∷ x)) ≡ cond c y (m.address ∷ y)
+  kept b c here same x y e = search rules
+
+  first_step : (b : Bool) → is_mention m ≡ b → filter test (first_named earlier (m ∷ ms)) ≡ first_named (filter is_mention earlier) (filter is_mention (m ∷ ms))
+  first_step true is =
+      kept (is_named earlier m.address) (is_named (filter is_mention earlier) m.address) (head ∙ is) (named_filtered test earlier m.address before (head ∙ is))
+      (first_named (earlier ++ m ∷ []) ms) (first_named (filter is_mention earlier ++ m ∷ []) (filter is_mention ms))
+      (rest ∙ ap (λ l. first_named l (filter is_mention ms)) (filter-append is_mention earlier (m ∷ []) ∙ ap (λ l. filter is_mention earlier ++ l) (cond-true _ _ _ is)))
+      ∙ ap (first_named (filter is_mention earlier)) (sym (cond-true _ _ _ is))
+  first_step false not = search (rules, filter-append, cond-false, append-nil)
+
+first_filtered : (test : Address → Bool) (ms earlier : List Named) → All (Tells-by test) earlier → All (Tells-by test) ms
+    → filter test (first_named earlier ms) ≡ first_named (filter is_mention earlier) (filter is_mention ms)
+first_filtered test [] earlier before tells = refl
+first_filtered test (m ∷ ms) earlier before tells =
+    let head = All-head (Tells-by test) m ms tells in
+    first_step test ms earlier m before head (first_filtered test ms (earlier ++ m ∷ []) (All-push (Tells-by test) earlier m before head) (All-tail (Tells-by test) m ms tells)) (is_mention m) refl
+
+-- the addresses that are named, without those that are not mentioned, are the first mentions
+pub first_mentions-marked : (ms : List Named) → Joined ms → filter (λ at. is_marked (mark_of ms at)) (first_named [] ms) ≡ first_mentions ms
+first_mentions-marked ms joined = first_filtered (λ at. is_marked (mark_of ms at)) ms [] (All-nil _) (all_told ms joined)
 
 -- of so many nodes
 abbrev pub mentioned_upto : List Spot → ℕ → List Address
@@ -31,11 +131,7 @@ upto-other nodes i is = ap (mentioned_upto nodes) (add-one i) ∙ cond-false _ _
 -- no more than there are nodes
 pub upto-few : (nodes : List Spot) (i : ℕ) → length (mentioned_upto nodes i) ≤ i
 upto-few nodes zero = omega arith
-upto-few nodes (suc i) = by (is_mentioned (slice_index_or nodes i nowhere).role) (upto-few nodes i)
-  where
-    by : (b : Bool) → length (mentioned_upto nodes i) ≤ i → length (cond b (mentioned_upto nodes i ++ address_at nodes i ∷ []) (mentioned_upto nodes i)) ≤ suc i
-    by true few = omega (arith, length_push (mentioned_upto nodes i) (address_at nodes i))
-    by false few = omega arith
+upto-few nodes (suc i) = search (rules, length_push, upto-few nodes i)
 
 -- the last of them, and after more nodes
 last_of : (xs : List Address) (at : Address) → slice_get (xs ++ at ∷ []) (length xs) ≡ Some at
@@ -58,11 +154,7 @@ stays_got nodes a k i (suc more) is =
     by false none before = ap (λ l. slice_get l i) (upto-other nodes (more + k) none) ∙ before
 
 mentions_itself : (r : Role) → (r ≡ Bare → ⊥) → is_mentioned r ≡ true
-mentions_itself r other = by (is_mentioned r) refl
-  where
-    by : (b : Bool) → is_mentioned r ≡ b → is_mentioned r ≡ true
-    by true is = is
-    by false is = absurd (other (is_bare r is))
+mentions_itself r other = search rules
 
 -- a mention stands where as many mentions stand before it
 pub stands_at_rank : (nodes : List Spot) (k : ℕ) → k < length nodes → ((slice_index_or nodes k nowhere).role ≡ Bare → ⊥)
@@ -96,10 +188,7 @@ module _ (nodes : List Spot) (ms : List Named) (stands : IsTreeOf nodes ms) wher
           ∙ sym (filter-append (λ at. is_marked (mark_of ms at)) (take i (addresses nodes)) (address_at nodes i ∷ []) ∙ ap (λ l. filter (λ at. is_marked (mark_of ms at)) (take i (addresses nodes)) ++ l) (cond-false _ _ _ (same ∙ is)) ∙ append-nil _)
 
   pub upto-first_mentions : Joined ms → mentioned_upto nodes (length nodes) ≡ first_mentions ms
-  upto-first_mentions joined =
-      upto-filter (length nodes) (omega arith)
-      ∙ ap (filter (λ at. is_marked (mark_of ms at))) (take_all (length nodes) (addresses nodes) (omega (arith, length-addresses nodes)) ∙ stands.firsts)
-      ∙ first_mentions-marked ms joined
+  upto-first_mentions joined = search (rules, upto-filter, is_marked, take_all, length-addresses, first_mentions-marked)
 
 -- ---- the ranks of so many nodes
 pub record AreRanked (nodes : List Spot) (ranks : List ℕ) (count i : ℕ) : Type 0 where
@@ -114,34 +203,16 @@ pub role_read : (nodes : List Spot) (i : ℕ) (node : Spot) → i < length nodes
 role_read nodes i node low is = ap (λ (s : Spot). is_mentioned s.role) (sym (get_or_read nodes i node low is nowhere))
 
 module _ (nodes : List Spot) (ranks : List ℕ) (count i : ℕ) (node : Spot) (low : i < length nodes) (is : node ≡ slice_index_or nodes i node) (ranked : AreRanked nodes ranks count i) where
-  each_more : (k : ℕ) → k < i + 1 → get_or (ranks ++ count ∷ []) k 0 ≡ length (mentioned_upto nodes k)
-  each_more = below_more (λ k. get_or (ranks ++ count ∷ []) k 0 ≡ length (mentioned_upto nodes k)) i
-      (λ k less. get_or_append_left ranks (count ∷ []) 0 k (omega (arith, ranked.long)) ∙ ranked.each k less)
-      (get_or_at ranks count [] 0 i ranked.long ∙ ranked.counted)
-
   pub ranked_mention : is_mentioned node.role ≡ true → AreRanked nodes (ranks ++ count ∷ []) (count + 1) (i + 1)
-  ranked_mention mention = record {
-    long = omega (arith, length_push ranks count, ranked.long);
-    counted =
-        let more = ap length (upto-mention nodes i (role_read nodes i node low is ∙ mention)) in
-        omega (arith, more, length_push (mentioned_upto nodes i) (address_at nodes i), ranked.counted);
-    each = each_more;
-  }
+  ranked_mention mention = grind (arith, common_steps)
 
   pub ranked_other : is_mentioned node.role ≡ false → AreRanked nodes (ranks ++ count ∷ []) count (i + 1)
-  ranked_other none = record {
-    long = omega (arith, length_push ranks count, ranked.long);
-    counted = ranked.counted ∙ ap length (sym (upto-other nodes i (role_read nodes i node low is ∙ none)));
-    each = each_more;
-  }
+  ranked_other none = grind (arith, common_steps)
 
 pub ranked_all : (nodes : List Spot) (ranks : List ℕ) (count i : ℕ) → length nodes ≤ i → AreRanked nodes ranks count i
     → (ms : List Named) (k : ℕ) (d : Spot) → IsTreeOf nodes ms → Joined ms → k < length nodes → ((slice_index_or nodes k d).role ≡ Bare → ⊥)
     → slice_get (first_mentions ms) (slice_index_or ranks k 0) ≡ Some (address_at nodes k)
-ranked_all nodes ranks count i past ranked ms k d stands joined low other =
-    ap (slice_get (first_mentions ms)) (ranked.each k (omega arith))
-    ∙ ap (λ l. slice_get l (length (mentioned_upto nodes k))) (sym (upto-first_mentions nodes ms stands joined))
-    ∙ stands_at_rank nodes k low (λ bare. other (ap (λ (s : Spot). s.role) (get_or_default nodes k d nowhere low) ∙ bare))
+ranked_all nodes ranks count i past ranked ms k d stands joined low other = grind (arith, upto-first_mentions, stands_at_rank, get_or_default)
 
 -- ---- the first mentions among so many nodes
 pub listed_all : (nodes : List Spot) (list : List Address) (i : ℕ) → length nodes ≤ i → i ≤ length nodes → list ≡ mentioned_upto nodes i

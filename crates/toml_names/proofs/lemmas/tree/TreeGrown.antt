@@ -1,23 +1,91 @@
--- One more node keeps the tree.
-use Rattle.std.proofs.Common.{◌≡◌, ℕ, ◌+◌, ◌<◌, List, [], ◌∷◌, ◌++◌, length, Some, None, sym, ap, subst, ◌∙◌, arith, slice_get, slice_set, slice_index_or, ◌⊎◌, inl, inr}
-use Rattle.std.proofs.lemmas.Bool.{cases_eq}
-use Rattle.std.proofs.lemmas.List.{get_or_append_left, get_or_at, get_or-set_same, get_or-set_other, length-set, length_push}
-use Rattle.std.proofs.lemmas.Option.{same_Some}
-use Rattle.std.specs.Map.{lookup}
-use Rattle.std.specs.Str.{bytes_eq}
-use Rattle.toml_names.specs.declared.model.address.Step.{Step}
-use Rattle.toml_names.specs.declared.model.address.Step.TheVariants.{Name, Index}
-use Rattle.toml_names.specs.declared.mentions.mention.Role.{Role}
-use Rattle.toml_names.specs.declared.mentions.mention.Role.TheVariants.{Bare}
-use Rattle.toml_names.specs.model.Addresses.{Address, child, element}
-use Rattle.toml_names.specs.mentions.Mentions.{Kind}
-use Rattle.toml_names.specs.tree.NameTree.{IsTree, KeepsAddresses}
-use Rattle.toml_names.specs.tree.Nodes.{Spot, addresses, address_at, address_under, place_of, leaf, linked, grown}
-use Rattle.toml_names.proofs.lemmas.tree.Hanging.{Hangs, IsTree-from_each}
-use Rattle.toml_names.proofs.lemmas.mentions.NestedMore.{last_index, place-new, place-below, place-elsewhere, place-beside, apart_from_place, AreNested-push}
+-- One more node keeps the tree, and so does a node that is named once more: the addresses stay nested, and each node hangs where it did.
+use Rattle.toml_names.proofs.Common.{common_steps, ◌≡◌, ℕ, ◌+◌, ◌<◌, List, [], ◌∷◌, ◌++◌, length, Some, None, sym, ap, ◌∙◌, arith, slice_get, slice_set, slice_index_or, ◌⊎◌, inl, inr, rules, get_or_append_left, get_or_at, get_or-set_same, get_or-set_other, length-set, length_push, same_Some, lookup, bytes_eq, Step, Name, Index, Role, Bare, Address, child, Kind, IsTree, KeepsAddresses, Spot, addresses, address_at, place_of, leaf, linked, grown, cond, refl, length-append, same_from_push, AreNested, ◌≤◌, Option, cases_lt, false_from_ne_true, slice_get-get_or, slice_get_past, element, KeepsElements, marked, noted}
 use Rattle.toml_names.proofs.lemmas.tree.NodeAddresses.{addresses-push, addresses-set, length-addresses}
-use Rattle.toml_names.proofs.lemmas.tree.NodeLinks.{name-new, name-old, index-new, index-old, linked-under, linked-depth, linked-role}
-use Rattle.toml_names.proofs.lemmas.tree.NodePlaces.{is_step}
+use Rattle.toml_names.proofs.lemmas.tree.NodePlaces.{is_step, place_of-push, none_is_some, same_address-apart, same_address-here}
+
+-- the node at a place has the address, and what leads from it leads right among all addresses
+pub record Hangs (all : List Address) (place : ℕ) (at : Address) (spot : Spot) : Type 0 where
+  pub names : (n : List ℕ) → lookup (bytes_eq n) spot.children ≡ place_of (child at n) all
+  pub indices : (i : ℕ) → slice_get spot.elements i ≡ place_of (element at i) all
+  pub rising : (p : ℕ) (s : Step) → spot.under ≡ Some (p, s) → p < place
+  pub deep : spot.depth ≡ length at
+  pub mentioned : (p : ℕ) (n : List ℕ) → spot.under ≡ Some (p, Name n) → spot.role ≡ Bare → ⊥
+
+abbrev or_else : Option ℕ → Option ℕ → Option ℕ
+or_else None q = q
+or_else (Some i) q = Some i
+
+-- where a name leads, with one more pair
+lookup-push : (n m : List ℕ) (id : ℕ) (es : List (List ℕ × ℕ)) → lookup (bytes_eq n) (es ++ (m, id) ∷ []) ≡ or_else (lookup (bytes_eq n) es) (cond (bytes_eq n m) (Some id) None)
+lookup-push n m id [] = refl
+lookup-push n m id (e ∷ es) = search (rules, lookup-push n m id es)
+
+slice_get-new : (xs : List ℕ) (x i : ℕ) → i ≡ length xs → slice_get (xs ++ x ∷ []) i ≡ Some x
+slice_get-new xs x i e = slice_get-get_or (xs ++ x ∷ []) i x (omega (arith, length_push xs x)) ∙ ap Some (get_or_at xs x [] x i (sym e))
+
+slice_get-old : (xs : List ℕ) (x i : ℕ) → (i ≡ length xs → ⊥) → slice_get (xs ++ x ∷ []) i ≡ slice_get xs i
+slice_get-old xs x i apart = by (cases_lt i (length xs))
+  where
+    by : (i < length xs) ⊎ (length xs ≤ i) → slice_get (xs ++ x ∷ []) i ≡ slice_get xs i
+    by (inl low) =
+        slice_get-get_or (xs ++ x ∷ []) i x (omega (arith, length_push xs x))
+        ∙ ap Some (get_or_append_left xs (x ∷ []) x i low) ∙ sym (slice_get-get_or xs i x low)
+    by (inr high) = slice_get_past (xs ++ x ∷ []) i (omega (arith, length_push xs x)) ∙ sym (slice_get_past xs i high)
+
+module _ (parent : Spot) (s : Step) (id : ℕ) where
+  pub name-new : (n : List ℕ) → s ≡ Name n → lookup (bytes_eq n) parent.children ≡ None → lookup (bytes_eq n) (linked parent s id).children ≡ Some id
+  name-new n is none = search (rules, lookup-push)
+
+  pub name-old : (n : List ℕ) → (s ≡ Name n → ⊥) → lookup (bytes_eq n) (linked parent s id).children ≡ lookup (bytes_eq n) parent.children
+  name-old n apart = search (rules, lookup-push, false_from_ne_true)
+
+  pub index-new : (i : ℕ) → s ≡ Index i → i ≡ length parent.elements → slice_get (linked parent s id).elements i ≡ Some id
+  index-new i is next = rw is (slice_get-new parent.elements id i next)
+
+  pub linked-under : (linked parent s id).under ≡ parent.under
+  linked-under = search rules
+
+  pub linked-role : (linked parent s id).role ≡ parent.role
+  linked-role = search rules
+
+-- an address is not below itself
+pub not_below : (at : Address) (s : Step) → at ++ s ∷ [] ≡ at → ⊥
+not_below at s e = let long : length (at ++ s ∷ []) ≡ length at = ap length e in omega (arith, length-append at (s ∷ []))
+
+module _ (ats : List Address) (nested : AreNested ats) (a : Address) (s : Step) (p : ℕ) (there : place_of a ats ≡ Some p) (fresh : place_of (a ++ s ∷ []) ats ≡ None) where
+  abbrev b : Address
+  b = a ++ s ∷ []
+
+  pub place-new : (at : Address) → b ≡ at → place_of at (ats ++ b ∷ []) ≡ Some (length ats)
+  place-new at e = place_of-push ats b at fresh ∙ ap (λ t. cond t (Some (length ats)) (place_of at ats)) (same_address-here b at e)
+
+  pub place-old : (at : Address) → (b ≡ at → ⊥) → place_of at (ats ++ b ∷ []) ≡ place_of at ats
+  place-old at apart = place_of-push ats b at fresh ∙ ap (λ t. cond t (Some (length ats)) (place_of at ats)) (same_address-apart b at apart)
+
+  -- nothing stands below the new address
+  pub place-below : (t : Step) → place_of (b ++ t ∷ []) (ats ++ b ∷ []) ≡ None
+  place-below t = place-old (b ++ t ∷ []) (λ e. not_below b t (sym e)) ∙ nested.above b t fresh
+
+  -- what stands below another address than the one above the new address
+  pub place-elsewhere : (c : Address) (t : Step) → (a ≡ c → ⊥) → place_of (c ++ t ∷ []) (ats ++ b ∷ []) ≡ place_of (c ++ t ∷ []) ats
+  place-elsewhere c t apart = place-old (c ++ t ∷ []) (λ e. apart (same_from_push a c s t e).0)
+
+  -- what stands beside the new address
+  pub place-beside : (t : Step) → (s ≡ t → ⊥) → place_of (a ++ t ∷ []) (ats ++ b ∷ []) ≡ place_of (a ++ t ∷ []) ats
+  place-beside t apart = place-old (a ++ t ∷ []) (λ e. apart (same_from_push a a s t e).1)
+
+  -- another place than that of the one above is another address's
+  pub apart_from_place : (k : ℕ) (c : Address) → place_of c ats ≡ Some k → (k ≡ p → ⊥) → a ≡ c → ⊥
+  apart_from_place k c at apart e = apart (let h : Some k ≡ Some p = sym at ∙ ap (λ t. place_of t ats) (sym e) ∙ there in cc)
+
+  own_more : (k : ℕ) (d : Address) → k < length (ats ++ b ∷ []) → place_of (slice_index_or (ats ++ b ∷ []) k d) (ats ++ b ∷ []) ≡ Some k
+  own_more k d high = search (rules, length_push, get_or_append_left, place-old, none_is_some, get_or_at, place-new)
+
+  above_more : (at : Address) (t : Step) → place_of at (ats ++ b ∷ []) ≡ None → place_of (at ++ t ∷ []) (ats ++ b ∷ []) ≡ None
+  above_more at t none = search (rules, none_is_some, place-new, place-old, place-elsewhere)
+
+  pub AreNested-push : AreNested (ats ++ b ∷ [])
+  AreNested-push = record { own = own_more; above = above_more }
 
 -- the node's address stands at its place
 pub own_place : (nodes : List Spot) → IsTree nodes → (k : ℕ) → k < length nodes → place_of (address_at nodes k) (addresses nodes) ≡ Some k
@@ -38,22 +106,16 @@ module _ (nodes : List Spot) (p : ℕ) (d : Spot) (s : Step) (r : Role) (kind : 
 
   -- the new address comes last
   pub addresses-grown : addresses after ≡ addresses nodes ++ (address_at nodes p ++ s ∷ []) ∷ []
-  addresses-grown =
-      addresses-push (slice_set nodes p above) last
-      ∙ ap (λ (l : List Address). l ++ address_under l (Some (p, s)) ∷ []) (addresses-set nodes p d above (sym (linked-under parent s (length nodes))) low)
+  addresses-grown = search (rules, addresses-push, addresses-set, linked-under)
 
   pub length-grown : length after ≡ length nodes + 1
   length-grown = length_push (slice_set nodes p above) last ∙ ap (λ n. n + 1) (length-set nodes p above)
 
   pub address-old : (k : ℕ) → k < length nodes → address_at after k ≡ address_at nodes k
-  address-old k within =
-      ap (λ l. slice_index_or l k []) addresses-grown
-      ∙ get_or_append_left (addresses nodes) ((address_at nodes p ++ s ∷ []) ∷ []) [] k (let long = length-addresses nodes in omega arith)
+  address-old k within = search (rules, addresses-grown, get_or_append_left, length-addresses)
 
   pub address-new : (k : ℕ) → k ≡ length nodes → address_at after k ≡ address_at nodes p ++ s ∷ []
-  address-new k is =
-      ap (λ l. slice_index_or l k []) addresses-grown
-      ∙ get_or_at (addresses nodes) (address_at nodes p ++ s ∷ []) [] [] k (let long = length-addresses nodes in omega arith)
+  address-new k is = search (rules, addresses-grown, get_or_at, length-addresses)
 
   pub KeepsAddresses-grown : KeepsAddresses nodes after
   KeepsAddresses-grown = record { longer = let long = length-grown in omega arith; same = address-old }
@@ -72,12 +134,7 @@ module _ (nodes : List Spot) (p : ℕ) (d : Spot) (s : Step) (r : Role) (kind : 
   node-other k e within apart = node-before k e within ∙ get_or-set_other nodes p k above e apart
 
   pub node-parts : (k : ℕ) → k < length after → (k ≡ length nodes) ⊎ ((k ≡ p) ⊎ ((k < length nodes) × (k ≡ p → ⊥)))
-  node-parts k high = by (last_index k (length nodes) (let long = length-grown in omega arith)) (cases_eq k p)
-    where
-      by : (k < length nodes) ⊎ (k ≡ length nodes) → (k ≡ p) ⊎ (k ≡ p → ⊥) → (k ≡ length nodes) ⊎ ((k ≡ p) ⊎ ((k < length nodes) × (k ≡ p → ⊥)))
-      by (inr is) _ = inl is
-      by (inl within) (inl is) = inr (inl is)
-      by (inl within) (inr apart) = inr (inr (within, apart))
+  node-parts k high = grind (arith, common_steps)
 
   module _ (tree : IsTree nodes) (fresh : place_of (address_at nodes p ++ s ∷ []) (addresses nodes) ≡ None)
       (next : (i : ℕ) → s ≡ Index i → i ≡ length (slice_index_or nodes p d).elements) (mention : (n : List ℕ) → s ≡ Name n → r ≡ Bare → ⊥) where
@@ -91,14 +148,10 @@ module _ (nodes : List Spot) (p : ℕ) (d : Spot) (s : Step) (r : Role) (kind : 
     from_above = place-beside (addresses nodes) tree.nested (address_at nodes p) s p there fresh
 
     to_new : (t : Step) → s ≡ t → place_of (address_at nodes p ++ t ∷ []) all ≡ Some (length nodes)
-    to_new t is =
-        place-new (addresses nodes) tree.nested (address_at nodes p) s p there fresh (address_at nodes p ++ t ∷ []) (ap (λ t. address_at nodes p ++ t ∷ []) is)
-        ∙ ap Some (length-addresses nodes)
+    to_new t is = search (rules, place-new, there, length-addresses)
 
     elsewhere : (k : ℕ) (t : Step) → k < length nodes → (k ≡ p → ⊥) → place_of (address_at nodes k ++ t ∷ []) all ≡ place_of (address_at nodes k ++ t ∷ []) (addresses nodes)
-    elsewhere k t within apart =
-        place-elsewhere (addresses nodes) tree.nested (address_at nodes p) s p there fresh (address_at nodes k) t
-        (apart_from_place (addresses nodes) tree.nested (address_at nodes p) s p there fresh k (address_at nodes k) (own_place nodes tree k within) apart)
+    elsewhere k t within apart = search (rules, place-elsewhere, there, apart_from_place, own_place)
 
     name_leads : (n : List ℕ) → lookup (bytes_eq n) above.children ≡ place_of (child (address_at nodes p) n) all
     name_leads n = by (is_step s (Name n))
@@ -109,56 +162,49 @@ module _ (nodes : List Spot) (p : ℕ) (d : Spot) (s : Step) (r : Role) (kind : 
             name-new parent s (length nodes) n is none ∙ sym (to_new (Name n) is)
         by (inr apart) = name-old parent s (length nodes) n apart ∙ tree.names p d n low ∙ sym (from_above (Name n) apart)
 
-    index_leads : (i : ℕ) → slice_get above.elements i ≡ place_of (element (address_at nodes p) i) all
-    index_leads i = by (is_step s (Index i))
-      where
-        by : (s ≡ Index i) ⊎ (s ≡ Index i → ⊥) → slice_get above.elements i ≡ place_of (element (address_at nodes p) i) all
-        by (inl is) = index-new parent s (length nodes) i is (next i is) ∙ sym (to_new (Index i) is)
-        by (inr apart) = index-old parent s (length nodes) i apart next ∙ tree.indices p d i low ∙ sym (from_above (Index i) apart)
-
-    hangs_last : Hangs all (length nodes) (address_at nodes p ++ s ∷ []) last
-    hangs_last = record {
-      names = λ n. sym (place-below (addresses nodes) tree.nested (address_at nodes p) s p there fresh (Name n));
-      indices = λ i. sym (place-below (addresses nodes) tree.nested (address_at nodes p) s p there fresh (Index i));
-      rising = λ q t is. let same : p ≡ q = ap (λ (u : ℕ × Step). u.0) (same_Some (p, s) (q, t) is) in omega arith;
-      deep = let deep = tree.deep p d low in omega (arith, length_push (address_at nodes p) s);
-      mentioned = λ q n is. mention n (ap (λ (u : ℕ × Step). u.1) (same_Some (p, s) (q, Name n) is));
-    }
-
     hangs_above : Hangs all p (address_at nodes p) above
-    hangs_above = record {
-      names = name_leads;
-      indices = index_leads;
-      rising = λ q t is. tree.rising p d q t low (sym (linked-under parent s (length nodes)) ∙ is);
-      deep = linked-depth parent s (length nodes) ∙ tree.deep p d low;
-      mentioned = λ q n is bare. tree.mentioned p d q n low (sym (linked-under parent s (length nodes)) ∙ is) (sym (linked-role parent s (length nodes)) ∙ bare);
-    }
+    hangs_above = search (rules, name_leads, is_step, index-new, to_new, slice_get-old, from_above, linked-under, linked-role)
 
     hangs_other : (k : ℕ) (e : Spot) → k < length nodes → (k ≡ p → ⊥) → Hangs all k (address_at nodes k) (slice_index_or nodes k e)
-    hangs_other k e within apart = record {
-      names = λ n. tree.names k e n within ∙ sym (elsewhere k (Name n) within apart);
-      indices = λ i. tree.indices k e i within ∙ sym (elsewhere k (Index i) within apart);
-      rising = λ q t. tree.rising k e q t within;
-      deep = tree.deep k e within;
-      mentioned = λ q n. tree.mentioned k e q n within;
-    }
-
-    all_hang : (k : ℕ) (e : Spot) → k < length after → Hangs all k (address_at after k) (slice_index_or after k e)
-    all_hang k e high = by (node-parts k high)
-      where
-        by : (k ≡ length nodes) ⊎ ((k ≡ p) ⊎ ((k < length nodes) × (k ≡ p → ⊥))) → Hangs all k (address_at after k) (slice_index_or after k e)
-        by (inl is) = rw (address-new k is, node-last k e is) (subst (λ j. Hangs all j (address_at nodes p ++ s ∷ []) last) (sym is) hangs_last)
-        by (inr (inl is)) = rw (node-above k e is, address-old k (rw is low), is) hangs_above
-        by (inr (inr (within, apart))) = rw (node-other k e within apart, address-old k within) (hangs_other k e within apart)
+    hangs_other k e within apart = search (rules, elsewhere)
 
     root_after : (e : Spot) → (slice_index_or after 0 e).under ≡ None
-    root_after e = by (cases_eq 0 p)
-      where
-        by : (0 ≡ p) ⊎ (0 ≡ p → ⊥) → (slice_index_or after 0 e).under ≡ None
-        by (inl is) = ap (λ (x : Spot). x.under) (node-above 0 e is) ∙ linked-under parent s (length nodes) ∙ ap (λ j. (slice_index_or nodes j d).under) (sym is) ∙ tree.root_above d
-        by (inr apart) = ap (λ (x : Spot). x.under) (node-other 0 e tree.root apart) ∙ tree.root_above e
+    root_after e = grind (arith, common_steps)
 
     pub IsTree-grown : IsTree after
-    IsTree-grown =
-        IsTree-from_each after (rw addresses-grown (AreNested-push (addresses nodes) tree.nested (address_at nodes p) s p there fresh))
-        (let long = length-grown in omega arith) root_after (λ k e high. subst (λ l. Hangs l k (address_at after k) (slice_index_or after k e)) (sym addresses-grown) (all_hang k e high))
+    IsTree-grown = search (rules, addresses-grown, AreNested-push, there, length-grown, root_after, node-parts, address-new, node-last, place-below, same_Some, length_push, node-above, address-old, hangs_above, node-other, hangs_other)
+
+module _ (nodes : List Spot) (k : ℕ) (d : Spot) (r : Role) (line : ℕ) (low : k < length nodes) where
+  abbrev here : Spot
+  here = slice_index_or nodes k d
+
+  abbrev once_more : List Spot
+  once_more = noted nodes k here r line
+
+  pub addresses-noted : addresses once_more ≡ addresses nodes
+  addresses-noted = addresses-set nodes k d (marked here r line) refl low
+
+  pub length-noted : length once_more ≡ length nodes
+  length-noted = length-set nodes k (marked here r line)
+
+  pub address-noted : (j : ℕ) → address_at once_more j ≡ address_at nodes j
+  address-noted j = ap (λ l. slice_index_or l j []) addresses-noted
+
+  pub KeepsAddresses-noted : KeepsAddresses nodes once_more
+  KeepsAddresses-noted = record { longer = let long = length-noted in omega arith; same = λ j within. address-noted j }
+
+  pub node-noted : (e : Spot) → slice_index_or once_more k e ≡ marked here r line
+  node-noted e = get_or-set_same nodes k (marked here r line) e low
+
+  pub node-beside : (j : ℕ) (e : Spot) → (j ≡ k → ⊥) → slice_index_or once_more j e ≡ slice_index_or nodes j e
+  node-beside j e apart = get_or-set_other nodes k j (marked here r line) e apart
+
+  pub KeepsElements-noted : KeepsElements nodes once_more
+  KeepsElements-noted = grind (arith, common_steps)
+
+  module _ (tree : IsTree nodes) where
+    root_again : (e : Spot) → (slice_index_or once_more 0 e).under ≡ None
+    root_again e = search rules
+
+    pub IsTree-noted : IsTree once_more
+    IsTree-noted = search (rules, addresses-noted, length-noted, root_again, address-noted)

@@ -1,11 +1,6 @@
 -- A change that is reverted leaves the nodes as they were.
-use Rattle.std.proofs.Common.{◌≡◌, ℕ, ◌-◌, ◌<◌, List, [], ◌∷◌, ◌++◌, length, refl, sym, ap, ◌∙◌, take, slice_index_or, slice_set, arith}
-use Rattle.std.proofs.lemmas.List.{length_push, take_at, set-set, set-get_or, get_or-set_same, get_or_default}
-use Rattle.toml_names.specs.declared.model.address.Step.TheVariants.{Name, Index}
-use Rattle.toml_names.specs.declared.mentions.mention.Role.{Role}
-use Rattle.toml_names.specs.declared.tree.name_tree.Change.{Change}
+use Rattle.toml_names.proofs.Common.{◌≡◌, ℕ, ◌-◌, ◌<◌, List, [], ◌∷◌, ◌++◌, length, refl, ap, ◌∙◌, take, slice_index_or, slice_set, arith, rules, length_push, take_at, set-set, set-get_or, get_or-set_same, get_or_default, Name, Index, Role, Change, Spot, nowhere, linked, remarked, without_name, without_element, reverted, undone}
 use Rattle.toml_names.specs.declared.tree.name_tree.Change.TheVariants.{NameLinked, ElementLinked, RoleNoted}
-use Rattle.toml_names.specs.tree.Nodes.{Spot, nowhere, linked, remarked, without_name, without_element, reverted, undone}
 
 pub undone-push : (cs : List Change) (c : Change) (nodes : List Spot) → undone (cs ++ c ∷ []) nodes ≡ undone cs (reverted c nodes)
 undone-push [] c nodes = refl
@@ -26,20 +21,8 @@ module _ (nodes : List Spot) (v : Spot) (p : ℕ) (low : p < length nodes) (read
   back : (x y : Spot) → y ≡ v → slice_set (slice_set nodes p x) p y ≡ nodes
   back x y is = set-set nodes p x y ∙ ap (slice_set nodes p) (is ∙ read) ∙ set-get_or nodes p v
 
-  -- `m` is any new last node
-  reverted-name : (n : List ℕ) (m : Spot) → reverted (NameLinked p) (slice_set nodes p (linked v (Name n) (length nodes)) ++ m ∷ []) ≡ nodes
-  reverted-name n m =
-      let changed : List Spot = slice_set nodes p (linked v (Name n) (length nodes)) in
-      ap (λ l. slice_set l p (without_name (slice_index_or l p nowhere))) (front changed m)
-      ∙ back (linked v (Name n) (length nodes)) (without_name (slice_index_or changed p nowhere))
-      (ap without_name (get_or-set_same nodes p (linked v (Name n) (length nodes)) nowhere low) ∙ without_name-linked v n (length nodes))
-
   reverted-element : (i : ℕ) (m : Spot) → reverted (ElementLinked p) (slice_set nodes p (linked v (Index i) (length nodes)) ++ m ∷ []) ≡ nodes
-  reverted-element i m =
-      let changed : List Spot = slice_set nodes p (linked v (Index i) (length nodes)) in
-      ap (λ l. slice_set l p (without_element (slice_index_or l p nowhere))) (front changed m)
-      ∙ back (linked v (Index i) (length nodes)) (without_element (slice_index_or changed p nowhere))
-      (ap without_element (get_or-set_same nodes p (linked v (Index i) (length nodes)) nowhere low) ∙ without_element-linked v i (length nodes))
+  reverted-element i m = search (rules, front, back, get_or-set_same, without_element-linked)
 
   reverted-role : (r : Role) (line : ℕ) → reverted (RoleNoted p v.role v.line) (slice_set nodes p (remarked v r line)) ≡ nodes
   reverted-role r line = back (remarked v r line) _ (ap (λ s. remarked s v.role v.line) (get_or-set_same nodes p (remarked v r line) nowhere low))
@@ -47,10 +30,7 @@ module _ (nodes : List Spot) (v : Spot) (p : ℕ) (low : p < length nodes) (read
   module _ (ds : List Change) where
     pub undone-grown_name : (n : List ℕ) (m after : Spot) (id : ℕ) → after ≡ linked v (Name n) id → id ≡ length nodes → ds ≡ cs ++ NameLinked p ∷ []
         → (more : List Spot) → more ≡ slice_set nodes p after ++ m ∷ [] → undone ds more ≡ undone cs nodes
-    undone-grown_name n m after id made is pushed more grew =
-        ap (λ l. undone l more) pushed ∙ undone-push cs (NameLinked p) more
-        ∙ ap (λ l. undone cs (reverted (NameLinked p) l)) (grew ∙ ap (λ s. slice_set nodes p s ++ m ∷ []) (made ∙ ap (linked v (Name n)) is))
-        ∙ ap (undone cs) (reverted-name n m)
+    undone-grown_name n m after id made is pushed more grew = search (rules, undone-push, front, back, get_or-set_same, without_name-linked)
 
     pub undone-grown_element : (i : ℕ) (m after : Spot) (id : ℕ) → after ≡ linked v (Index i) id → id ≡ length nodes → ds ≡ cs ++ ElementLinked p ∷ []
         → (more : List Spot) → more ≡ slice_set nodes p after ++ m ∷ [] → undone ds more ≡ undone cs nodes
@@ -62,9 +42,4 @@ module _ (nodes : List Spot) (v : Spot) (p : ℕ) (low : p < length nodes) (read
     -- `w` is what it read again
     pub undone-noted : (w after : Spot) (was is : Role) (of_line line : ℕ) → w ≡ slice_index_or nodes p w → was ≡ v.role → of_line ≡ v.line → after ≡ remarked w is line
         → ds ≡ cs ++ RoleNoted p was of_line ∷ [] → undone ds (slice_set nodes p after) ≡ undone cs nodes
-    undone-noted w after was is of_line line again role from made pushed =
-        let same : w ≡ v = again ∙ get_or_default nodes p w v low ∙ sym read in
-        ap (λ l. undone l (slice_set nodes p after)) (pushed ∙ ap (λ t. cs ++ RoleNoted p t of_line ∷ []) role ∙ ap (λ t. cs ++ RoleNoted p v.role t ∷ []) from)
-        ∙ undone-push cs (RoleNoted p v.role v.line) (slice_set nodes p after)
-        ∙ ap (λ s. undone cs (reverted (RoleNoted p v.role v.line) (slice_set nodes p s))) (made ∙ ap (λ s. remarked s is line) same)
-        ∙ ap (undone cs) (reverted-role is line)
+    undone-noted w after was is of_line line again role from made pushed = grind (arith, get_or_default, undone-push, reverted-role)

@@ -1,29 +1,17 @@
 -- The elements of an array, and the pairs of an inline table, entered as the code reads them.
-use Rattle.std.proofs.Common.{◌≡◌, ℕ, ◌+◌, ◌<◌, List, [], ◌++◌, length, map, drop, Box, Global, sym, ap, subst, ◌∙◌, slice_index_or}
-use Rattle.std.proofs.lemmas.List.{at_drop_more}
+use Rattle.toml_names.proofs.Common.{common_steps, ◌≡◌, ℕ, ◌+◌, ◌<◌, List, [], ◌++◌, length, map, drop, Box, Global, sym, ap, subst, ◌∙◌, slice_index_or, rules, arith, at_drop_more, InlineTable, out-Array, out-InlineTable, out-Item, out-Pair, Member, gap, value, keyval, member, value_step, array_step, inline_step, item_step, keyval_step, pair_step, Index, Bare, Address, element, value_key_parts, keyval_key_parts, Kind, Named, kind_of, inside, pair_named, IsTree, Enters, EntersInside, Clashes, KeepsOthers, Spot, address_at, grown, nowhere, Grows}
 use Rattle.toml_tree.specs.declared.tree.Array.{Array}
-use Rattle.toml_tree.specs.declared.tree.InlineTable.{InlineTable}
 use Rattle.toml_tree.specs.declared.tree.Item.{Item}
 use Rattle.toml_tree.specs.declared.tree.Pair.{Pair}
 use Rattle.toml_tree.specs.declared.tree.Value.{Value}
 use Rattle.toml_tree.specs.declared.tree.Value.TheVariants as made
-use Rattle.toml_tree.specs.declared.tree.Value.TheViews.{out-Array, out-InlineTable, out-Item, out-Pair}
 use Rattle.toml_tree.specs.declared.tree.Value.TheFolds.{fold_out-Item, fold_out-Pair}
-use Rattle.toml_tree.specs.ReadingValues.{Element, Member}
+use Rattle.toml_tree.specs.ReadingValues.{Element}
 use Rattle.toml_tree.specs.Tree as tree
-use Rattle.toml_tree.specs.View.{piece, gap, value, keyval, element as tree_element, member, value_step, array_step, inline_step, item_step, keyval_step, pair_step}
-use Rattle.toml_names.specs.declared.model.address.Step.TheVariants.{Index}
-use Rattle.toml_names.specs.declared.mentions.mention.Role.TheVariants.{Bare}
-use Rattle.toml_names.specs.model.Addresses.{Address, element}
-use Rattle.toml_names.specs.mentions.KeyParts.{value_key_parts, keyval_key_parts}
-use Rattle.toml_names.specs.mentions.Mentions.{Kind, Named, kind_of, inside, pair_named}
-use Rattle.toml_names.specs.tree.NameTree.{IsTree, Enters, EntersInside, Clashes, KeepsOthers}
-use Rattle.toml_names.specs.tree.Nodes.{Spot, address_at, grown, nowhere}
-use Rattle.toml_names.specs.tree.Steps.{Grows}
-use Rattle.toml_names.proofs.lemmas.mentions.Inside.{element_named, elements_of, members_of, inside-array, inside-inline}
+use Rattle.toml_tree.specs.View.{element as tree_element}
+use Rattle.toml_names.proofs.lemmas.mentions.Inside.{element_named, elements_of, members_of, inside-array, inside-inline, parts_of_elements, parts_of_members, parts-array, parts-inline_table}
 use Rattle.toml_names.proofs.lemmas.tree.ItemsEntered.{IsEntered, HasElements, entered-none, entered-more, entered-clash, entered-element, element-address, has-element}
-use Rattle.toml_names.proofs.lemmas.mentions.NoTables.{no_tables-inside}
-use Rattle.toml_names.proofs.lemmas.mentions.PartsInside.{parts_of_elements, parts_of_members, parts-array, parts-inline_table}
+use Rattle.toml_names.proofs.lemmas.mentions.Within.{no_tables-inside}
 
 -- an item's element, and a pair's member
 item_is : (x : Item) → tree_element x ≡ record { before = gap (out-Item x).before; value = value (out-Item x).value; after = gap (out-Item x).after }
@@ -35,42 +23,28 @@ pair_is = fold_out-Pair tree.Value tree.Value tree.Value Element tree.KeyVal Mem
 -- the key parts from an index on
 pub parts-next_element : (items : List Item) (i : ℕ) (item : Item) → i < length items → item ≡ slice_index_or items i item
     → parts_of_elements (map tree_element (drop i items)) ≡ value_key_parts (value item.value) + parts_of_elements (map tree_element (drop (i + 1) items))
-parts-next_element items i item low is =
-    at_drop_more (λ l. parts_of_elements (map tree_element l)) items i item low
-    ∙ ap (λ (x : Item). value_key_parts (tree_element x).value + parts_of_elements (map tree_element (drop (i + 1) items))) (sym is)
-    ∙ ap (λ (e : Element). value_key_parts e.value + parts_of_elements (map tree_element (drop (i + 1) items))) (item_is item)
+parts-next_element items i item low is = grind (arith, common_steps, at_drop_more, parts_of_elements, item_is)
 
 pub parts-next_pair : (pairs : List Pair) (i : ℕ) (pair : Pair) → i < length pairs → pair ≡ slice_index_or pairs i pair
     → parts_of_members (map member (drop i pairs)) ≡ keyval_key_parts (keyval pair.keyval).assign (keyval pair.keyval).value + parts_of_members (map member (drop (i + 1) pairs))
-parts-next_pair pairs i pair low is =
-    at_drop_more (λ l. parts_of_members (map member l)) pairs i pair low
-    ∙ ap (λ (x : Pair). keyval_key_parts (member x).pair.assign (member x).pair.value + parts_of_members (map member (drop (i + 1) pairs))) (sym is)
-    ∙ ap (λ (m : Member). keyval_key_parts m.pair.assign m.pair.value + parts_of_members (map member (drop (i + 1) pairs))) (pair_is pair)
+parts-next_pair pairs i pair low is = grind (arith, common_steps, at_drop_more, parts_of_members, pair_is)
 
 module _ (line : ℕ) (at : Address) where
   elements-all : (b : Box Array Global) (v : Value) (items : List Item) → v ≡ made.Array b → items ≡ (out-Array b.value).items.items
       → elements_of line at 0 (map tree_element items) ≡ inside line at (value v)
-  elements-all b v items is are =
-      ap (λ l. elements_of line at 0 (map tree_element l)) are ∙ sym (ap (λ x. inside line at (value x)) is ∙ inside-array line at b)
+  elements-all b v items is are = search (rules, elements_of, inside-array)
 
   elements-next : (items : List Item) (i : ℕ) (item : Item) → i < length items → item ≡ slice_index_or items i item
       → elements_of line at i (map tree_element (drop i items)) ≡ element_named line at i (value item.value) ++ elements_of line at (i + 1) (map tree_element (drop (i + 1) items))
-  elements-next items i item low is =
-      at_drop_more (λ l. elements_of line at i (map tree_element l)) items i item low
-      ∙ ap (λ (x : Item). element_named line at i (tree_element x).value ++ elements_of line at (i + 1) (map tree_element (drop (i + 1) items))) (sym is)
-      ∙ ap (λ (e : Element). element_named line at i e.value ++ elements_of line at (i + 1) (map tree_element (drop (i + 1) items))) (item_is item)
+  elements-next items i item low is = grind (arith, common_steps, at_drop_more, elements_of, element_named, item_is)
 
   members-all : (b : Box InlineTable Global) (v : Value) (pairs : List Pair) → v ≡ made.Inline b → pairs ≡ (out-InlineTable b.value).pairs.items
       → members_of line at (map member pairs) ≡ inside line at (value v)
-  members-all b v pairs is are =
-      ap (λ l. members_of line at (map member l)) are ∙ sym (ap (λ x. inside line at (value x)) is ∙ inside-inline line at b)
+  members-all b v pairs is are = search (rules, members_of, inside-inline)
 
   members-next : (pairs : List Pair) (i : ℕ) (pair : Pair) → i < length pairs → pair ≡ slice_index_or pairs i pair
       → members_of line at (map member (drop i pairs)) ≡ pair_named line at (keyval pair.keyval).assign (keyval pair.keyval).value ++ members_of line at (map member (drop (i + 1) pairs))
-  members-next pairs i pair low is =
-      at_drop_more (λ l. members_of line at (map member l)) pairs i pair low
-      ∙ ap (λ (x : Pair). pair_named line at (member x).pair.assign (member x).pair.value ++ members_of line at (map member (drop (i + 1) pairs))) (sym is)
-      ∙ ap (λ (m : Member). pair_named line at m.pair.assign m.pair.value ++ members_of line at (map member (drop (i + 1) pairs))) (pair_is pair)
+  members-next pairs i pair low is = grind (arith, common_steps, at_drop_more, members_of, pair_is)
 
 -- before the first element
 module _ (start : List Spot) (id line : ℕ) (tree : IsTree start) (b : Box Array Global) (v : Value) (items : List Item) (is : v ≡ made.Array b) (are : items ≡ (out-Array b.value).items.items) where
@@ -115,12 +89,10 @@ module _ (start now mid : List Spot) (id i k line : ℕ) (v : Value) (items : Li
   with_first = subst (IsEntered start now whole) (elements-next line (address_at start id) items i item before is) entered
 
   entered_mid : IsEntered start mid whole behind
-  entered_mid = subst (λ l. IsEntered start l whole behind) (sym mid_is)
-      (entered-element start now id i whole low (no_tables-inside line (value v) (address_at start id)) lone has nowhere item_kind line behind with_first)
+  entered_mid = search (rules, mid_is, entered-element, no_tables-inside, with_first)
 
   mid_address : address_at mid k ≡ here
-  mid_address = ap (λ l. address_at l k) mid_is
-      ∙ element-address start now id i whole low (no_tables-inside line (value v) (address_at start id)) lone has nowhere item_kind line behind with_first k grows.last
+  mid_address = search (rules, mid_is, element-address, no_tables-inside, with_first)
 
   -- an element that clashes
   pub element-clash : (a : Address) → Clashes mid (inside line (address_at mid k) (value item.value)) a → Clashes start whole a
@@ -158,5 +130,4 @@ module _ (start now : List Spot) (id i line : ℕ) (v : Value) (pairs : List Pai
 
   -- a pair that was entered
   pub pair-more : (next : List Spot) → Enters now next (named_at (address_at now id)) → IsEntered start next table pairs_left
-  pair-more next enters = entered-more start now next table (named_at (address_at start id)) pairs_left with_pair
-      (subst (λ (q : Address). Enters now next (named_at q)) (entered.enters.kept.same id low) enters)
+  pair-more next enters = search (rules, entered-more, with_pair)

@@ -1,5 +1,4 @@
-use Rattle.std.proofs.Common.{◌≡◌, map, take}
-use Rattle.toml_names.specs.reader.Reading.{rank_in}
+use Rattle.toml_names.proofs.Common.{◌≡◌, map, take, rank_in}
 use Rattle.toml_names.proofs.names.ranks_of.Given as goal
 
 abbrev pub invariant-loop-node : goal.invariant-loop-node

@@ -1,9 +1,5 @@
-use Rattle.std.proofs.Common.{◌∙◌, ◌∷◌, [], ◌<◌, length, map, sym, ap, subst, arith}
-use Rattle.std.proofs.lemmas.List.{length-map, map-append}
-use Rattle.std.proofs.lemmas.Result.{err_from_is_err_and}
+use Rattle.toml_names.proofs.Common.{◌∙◌, ◌∷◌, [], ◌<◌, length, map, sym, ap, subst, arith, length-map, map-append, err_from_is_err_and, line, RefusesNames}
 use Rattle.std.proofs.Math.ListN.{get_or-map}
-use Rattle.toml_tree.specs.Lines.{line}
-use Rattle.toml_names.specs.reader.Names.{RefusesNames}
 use Rattle.toml_names.proofs.lemmas.reader.WholeDocument.{refused-at, took-one}
 use Rattle.toml_names.proofs.names.read_lines.Goals as goal
 

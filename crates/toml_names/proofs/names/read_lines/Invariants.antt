@@ -1,5 +1,4 @@
-use Rattle.std.proofs.Common.{map}
-use Rattle.toml_tree.specs.Lines.{line as tree_line}
+use Rattle.toml_names.proofs.Common.{map, line as tree_line}
 use Rattle.toml_names.proofs.lemmas.reader.WholeDocument.{IsAt}
 use Rattle.toml_names.proofs.names.read_lines.Given as goal
 

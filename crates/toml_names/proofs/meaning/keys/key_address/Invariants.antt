@@ -1,5 +1,4 @@
-use Rattle.std.proofs.Common.{◌≡◌, drop}
-use Rattle.toml_names.specs.model.Addresses.{below}
+use Rattle.toml_names.proofs.Common.{◌≡◌, drop, below}
 use Rattle.toml_names.proofs.lemmas.mentions.Along.{names_left}
 use Rattle.toml_names.proofs.meaning.keys.key_address.Given as goal
 

@@ -1,8 +1,4 @@
-use Rattle.std.proofs.Common.{◌∷◌, [], sym, subst, ◌∙◌, true≢false}
-use Rattle.toml_tree.specs.View.{value}
-use Rattle.toml_names.specs.declared.mentions.mention.Role.TheVariants.{Valued}
-use Rattle.toml_names.specs.mentions.Mentions.{Kind}
-use Rattle.toml_names.specs.tree.NameTree.{IsTreeOf}
+use Rattle.toml_names.proofs.Common.{◌∷◌, [], sym, subst, ◌∙◌, true≢false, value, Valued, Kind, IsTreeOf}
 use Rattle.toml_names.proofs.lemmas.reader.WholeValue.{whole_stands, whole_good, whole_long, whole_clash}
 use Rattle.toml_names.proofs.meaning.values.enter_whole.Goals as goal
 

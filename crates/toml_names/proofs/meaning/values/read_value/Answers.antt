@@ -1,6 +1,4 @@
-use Rattle.toml_tree.specs.View.{value}
-use Rattle.toml_names.specs.model.Data.{kind_at}
-use Rattle.toml_names.specs.mentions.Mentions.{value_facts}
+use Rattle.toml_names.proofs.Common.{value, kind_at, value_facts}
 use Rattle.toml_names.proofs.lemmas.mentions.FirstNamed.{values_join}
 use Rattle.toml_names.proofs.lemmas.reader.WholeValue.{whole_data}
 use Rattle.toml_names.proofs.meaning.values.read_value.Goals as goal

@@ -1,8 +1,4 @@
-use Rattle.std.proofs.Common.{◌≡◌, ◌+◌, Some, List, string_cmp, subst, sym}
-use Rattle.std.proofs.lemmas.Map.Views.{All-turn}
-use Rattle.std.specs.BTreeMap.{get}
-use Rattle.std.specs.Map.Iter.{deref_pair}
-use Rattle.toml_names.specs.declared.model.datum.Datum.{Datum}
+use Rattle.toml_names.proofs.Common.{◌≡◌, ◌+◌, Some, List, string_cmp, subst, sym, All-turn, get, deref_pair, Datum}
 use Rattle.toml_names.proofs.lemmas.model.Alike.{AlikeItems, arrays_alike, tables_like}
 use Rattle.toml_names.proofs.lemmas.model.Copies.{AreCopied, copied_more, copied_all, completes_more}
 use Rattle.toml_names.proofs.model.datum.+copy.Goals as goal

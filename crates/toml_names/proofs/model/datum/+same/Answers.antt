@@ -1,10 +1,4 @@
-use Rattle.std.proofs.Common.{◌≡◌, Some, None, is_some, string_bytes, string_cmp, below_more, refl, sym, ap, ◌∙◌, true≢false}
-use Rattle.std.proofs.lemmas.Map.Views.{All-turn}
-use Rattle.std.proofs.lemmas.Option.{slice_get_read}
-use Rattle.std.specs.Prelude.{slice_get}
-use Rattle.std.specs.BTreeMap.{get, get_by_text}
-use Rattle.std.specs.Map.Iter.{deref_pair}
-use Rattle.toml_names.specs.model.SameData.{AreSameIn}
+use Rattle.toml_names.proofs.Common.{◌≡◌, Some, None, is_some, string_bytes, string_cmp, below_more, refl, sym, ap, ◌∙◌, true≢false, All-turn, slice_get_read, slice_get, get, get_by_text, deref_pair, AreSameIn}
 use Rattle.toml_names.proofs.lemmas.model.Alike.{scalars_decided, arrays_decided, tables_decided, tables_apart, accepted, refused, scalar_apart, array_apart, table_apart, lengths_alike, items_alike, parts_alike, there_too, each_more, each_none, HasLike-from_each}
 use Rattle.toml_names.proofs.model.datum.+same.Goals as goal
 

@@ -1,6 +1,4 @@
-use Rattle.std.proofs.Common.{ℕ, ◌<◌}
-use Rattle.std.specs.Prelude.{slice_get}
-use Rattle.toml_names.specs.model.SameData.{AreSameIn}
+use Rattle.toml_names.proofs.Common.{ℕ, ◌<◌, slice_get, AreSameIn}
 use Rattle.toml_names.proofs.lemmas.model.Alike.{HasLikeEach}
 use Rattle.toml_names.proofs.model.datum.+same.Given as goal
 

@@ -1,6 +1,4 @@
-use Rattle.std.proofs.Common.{Some, string_bytes, cond, bytes_eq, ap, ◌∙◌}
-use Rattle.std.proofs.lemmas.Map.Text.{btree_map_updates_text}
-use Rattle.std.specs.BTreeMap.{get_by_text}
+use Rattle.toml_names.proofs.Common.{Some, string_bytes, cond, bytes_eq, ap, ◌∙◌, btree_map_updates_text, get_by_text}
 use Rattle.toml_names.proofs.model.datum.add_member.Goals as goal
 
 pub returns : goal.returns

@@ -1,7 +1,4 @@
-use Rattle.std.proofs.Common.{◌≡◌, refl, Some, IsSome, is_some, string_bytes, string_cmp, sym, ap, ◌∙◌, true≢false}
-use Rattle.std.proofs.lemmas.Map.Views.{All-turn}
-use Rattle.std.specs.BTreeMap.{get, get_by_text}
-use Rattle.std.specs.Map.Iter.{deref_pair}
+use Rattle.toml_names.proofs.Common.{◌≡◌, Some, IsSome, is_some, string_bytes, string_cmp, sym, ap, ◌∙◌, true≢false, All-turn, get, get_by_text, deref_pair, rules}
 use Rattle.toml_names.proofs.lemmas.model.Alike.{each_more, each_none, HasNames-from_each}
 use Rattle.toml_names.proofs.model.datum.has_names.Goals as goal
 
@@ -25,7 +22,4 @@ loop-name-preserved c = λ left.
     (ap (λ n. is_some (get_by_text c.args.table.now n)) (sym c.as_str.ensures.value) ∙ sym c.contains_key.ensures ∙ c.if-not-contains_key.false) left)
 
 pub returns : goal.returns
-returns c = (
-  λ _. HasNames-from_each c.args.table.now c.args.other.now (c.loop-name.invariant (each_none (λ name d. IsSome (get_by_text c.args.table.now name)) _ c.in-None.ensures.steps.0)),
-  λ _. refl,
-)
+returns c = search (rules, HasNames-from_each, each_none)

@@ -1,8 +1,4 @@
-use Rattle.std.proofs.Common.{rules, cond, Some, ap, ◌∙◌}
-use Rattle.std.proofs.lemmas.Map.Text.{btree_map_updates_text}
-use Rattle.std.specs.BTreeMap.{get_by_text}
-use Rattle.std.specs.Str.{bytes_eq}
-use Rattle.toml_names.specs.declared.model.datum.Datum.{Datum}
+use Rattle.toml_names.proofs.Common.{rules, cond, Some, ap, ◌∙◌, btree_map_updates_text, get_by_text, bytes_eq, Datum}
 use Rattle.toml_names.proofs.model.parts.swap_member.Goals as goal
 
 pub returns-in-Some-clause-after : goal.returns-in-Some-clause-after

@@ -1,10 +1,5 @@
-use Rattle.std.proofs.Common.{◌≡◌, ◌∙◌, List, Bor, option_map, slice_get, ap, map}
+use Rattle.toml_names.proofs.Common.{◌≡◌, ◌∙◌, List, Bor, option_map, slice_get, ap, map, line as tree_line, Address, kind_at, line_address, Known}
 use Rattle.toml_tree.specs.declared.line.Line.{Line as TreeLine}
-use Rattle.toml_tree.specs.Lines.{line as tree_line}
-use Rattle.toml_names.specs.model.Addresses.{Address}
-use Rattle.toml_names.specs.model.Data.{kind_at}
-use Rattle.toml_names.specs.reader.Names.{line_address}
-use Rattle.toml_names.specs.reader.Reading.{Known}
 use Rattle.toml_names.proofs.lemmas.reader.WholeDocument.{told, no_rank, some_rank}
 use Rattle.toml_names.proofs.lemmas.model.Levels.{item_got}
 use Rattle.toml_names.proofs.names.Names.address_of.Goals as goal

@@ -1,6 +1,4 @@
-use Rattle.std.proofs.Common.{subst}
-use Rattle.toml_names.specs.model.Data.{IsDataOf, kind_at}
-use Rattle.toml_names.specs.reader.Reading.{Known}
+use Rattle.toml_names.proofs.Common.{subst, IsDataOf, kind_at, Known}
 use Rattle.toml_names.proofs.names.Names.data.Goals as goal
 
 pub returns : goal.returns

@@ -1,9 +1,5 @@
-use Rattle.std.proofs.Common.{Bor, map, subst}
+use Rattle.toml_names.proofs.Common.{Bor, map, subst, line as tree_line, IsDataOf, kind_at, named, ReaderState, lines_of}
 use Rattle.toml_tree.specs.declared.line.Line.{Line as TreeLine}
-use Rattle.toml_tree.specs.Lines.{line as tree_line}
-use Rattle.toml_names.specs.model.Data.{IsDataOf, kind_at}
-use Rattle.toml_names.specs.mentions.Mentions.{named}
-use Rattle.toml_names.specs.reader.Reading.{ReaderState, lines_of}
 use Rattle.toml_names.proofs.lemmas.tree.LineRanks.{joined, root_facts}
 use Rattle.toml_names.proofs.reader.NameReader.data.Goals as goal
 

@@ -1,10 +1,5 @@
-use Rattle.std.proofs.Common.{◌∙◌, List, Option, Bor, ℕ, map, sym, ap, subst, arith}
+use Rattle.toml_names.proofs.Common.{◌∙◌, List, Option, Bor, ℕ, map, sym, ap, subst, arith, line as tree_line, IsDataOf, kind_at, named, AreGood, ReaderState, lines_of, rank_in}
 use Rattle.toml_tree.specs.declared.line.Line.{Line as TreeLine}
-use Rattle.toml_tree.specs.Lines.{line as tree_line}
-use Rattle.toml_names.specs.model.Data.{IsDataOf, kind_at}
-use Rattle.toml_names.specs.mentions.Mentions.{named}
-use Rattle.toml_names.specs.reader.Names.{AreGood}
-use Rattle.toml_names.specs.reader.Reading.{ReaderState, lines_of, rank_in}
 use Rattle.toml_names.proofs.lemmas.reader.OneMoreLine.{reader_good}
 use Rattle.toml_names.proofs.lemmas.tree.LineRanks.{joined, finished}
 use Rattle.toml_names.proofs.reader.NameReader.finish.Goals as goal

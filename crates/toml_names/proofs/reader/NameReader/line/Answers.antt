@@ -1,20 +1,10 @@
-use Rattle.std.proofs.Common.{◌≡◌, ◌++◌, ◌∷◌, [], List, Bor, length, map, ap, subst, ◌∙◌, arith}
-use Rattle.std.proofs.lemmas.Result.{err_from_is_err_and}
+use Rattle.toml_names.proofs.Common.{◌≡◌, ◌++◌, ◌∷◌, [], List, Bor, length, map, ap, ◌∙◌, arith, err_from_is_err_and, line as tree_line, rules}
 use Rattle.toml_tree.specs.declared.line.Line.{Line as TreeLine}
-use Rattle.toml_tree.specs.Lines.{line as tree_line}
-use Rattle.toml_names.specs.reader.Reading.{RefusesEntry}
 use Rattle.toml_names.proofs.lemmas.reader.OneMoreLine.{took, took_good, refuses-line, lines-push, count-lines}
 use Rattle.toml_names.proofs.reader.NameReader.line.Goals as goal
 
 pub returns-in_err-entered-clause-refused : goal.returns-in_err-entered-clause-refused
-returns-in_err-entered-clause-refused c =
-    let p = err_from_is_err_and c.from_residual-in_err-entered.result c.from_residual-in_err-entered.ensures.1 in
-    let r = c.self.inside in
-    let lines = map tree_line (map (λ (l : Bor TreeLine). l.now) r.taken.items) in
-    let counted : c.len-number.result ≡ length lines = omega (arith, c.len-number.ensures, ap length c.in_ok-reserve.ensures.items, count-lines r.taken.items) in
-    rw (p.1, p.2, ← c.self.view_is)
-    (refuses-line r.tree.nodes.items lines r.own.items r.section (tree_line c.args.line.now) c.in_err-entered.field-0.0 c.self.invariant.0
-    (subst (λ n. RefusesEntry r.tree.nodes.items r.section n (tree_line c.args.line.now).expr c.in_err-entered.field-0.0) counted c.in_err-entered.ensures.taken.0))
+returns-in_err-entered-clause-refused c = search (rules, err_from_is_err_and, count-lines, refuses-line)
 
 pub invariant_of-self-2 : goal.invariant_of-self-2
 invariant_of-self-2 c =

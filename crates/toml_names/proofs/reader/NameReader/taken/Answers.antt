@@ -1,6 +1,4 @@
-use Rattle.std.proofs.Common.{subst}
-use Rattle.toml_names.specs.reader.Names.{AreGood}
-use Rattle.toml_names.specs.reader.Reading.{ReaderState, lines_of}
+use Rattle.toml_names.proofs.Common.{subst, AreGood, ReaderState, lines_of}
 use Rattle.toml_names.proofs.lemmas.reader.OneMoreLine.{reader_good}
 use Rattle.toml_names.proofs.reader.NameReader.taken.Goals as goal
 

@@ -1,7 +1,4 @@
-use Rattle.std.proofs.Common.{◌≡◌, drop}
-use Rattle.std.specs.Map.{lookup}
-use Rattle.std.specs.Str.{bytes_eq}
-use Rattle.toml_names.specs.tree.NameMaps.{children_of}
+use Rattle.toml_names.proofs.Common.{◌≡◌, drop, lookup, bytes_eq, children_of}
 use Rattle.toml_names.proofs.tree.name_map.find.Given as goal
 
 abbrev pub invariant-loop-known : goal.invariant-loop-known

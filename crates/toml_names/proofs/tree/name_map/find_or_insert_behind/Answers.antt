@@ -1,5 +1,5 @@
-use Rattle.std.proofs.Common.{◌≡◌, ◌∙◌, sym, length}
-use Rattle.toml_names.proofs.lemmas.tree.Children.{led-same, led-more}
+use Rattle.toml_names.proofs.Common.{◌≡◌, ◌∙◌, sym, length}
+use Rattle.toml_names.proofs.lemmas.tree.Distinct.{led-same, led-more}
 use Rattle.toml_names.proofs.tree.name_map.find_or_insert_behind.Goals as goal
 
 pub returns-then-len-before-clause-found : goal.returns-then-len-before-clause-found

@@ -1,4 +1,4 @@
-use Rattle.std.proofs.Common.{◌≡◌, take}
+use Rattle.toml_names.proofs.Common.{◌≡◌, take}
 use Rattle.toml_names.proofs.model.address.Address.copy_steps.Given as goal
 
 abbrev pub invariant-loop-step : goal.invariant-loop-step

@@ -1,5 +1,4 @@
-use Rattle.std.proofs.Common.{◌≡◌, drop}
-use Rattle.toml_names.specs.model.Addresses.{same_address}
+use Rattle.toml_names.proofs.Common.{◌≡◌, drop, same_address}
 use Rattle.toml_names.proofs.model.address.Address.is_same.Given as goal
 
 abbrev pub invariant-loop-index : goal.invariant-loop-index

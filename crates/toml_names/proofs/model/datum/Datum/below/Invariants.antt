@@ -1,6 +1,4 @@
-use Rattle.std.proofs.Common.{◌≡◌, ◌++◌, drop}
-use Rattle.toml_names.specs.model.Addresses.{Address}
-use Rattle.toml_names.specs.model.Data.{kind_at}
+use Rattle.toml_names.proofs.Common.{◌≡◌, ◌++◌, drop, Address, kind_at}
 use Rattle.toml_names.proofs.model.datum.Datum.below.Given as goal
 
 abbrev pub invariant-loop-step : goal.invariant-loop-step

@@ -1,8 +1,4 @@
-use Rattle.std.proofs.Common.{◌≡◌, Option, option_copied, sym, ap, ◌∙◌}
-use Rattle.std.specs.Prelude.{slice_get}
-use Rattle.std.specs.BTreeMap.{get_by_text}
-use Rattle.toml_names.specs.model.Data.{kind_in}
-use Rattle.toml_names.specs.declared.model.datum.Datum.{Datum}
+use Rattle.toml_names.proofs.Common.{◌≡◌, Option, option_copied, sym, ap, ◌∙◌, slice_get, get_by_text, kind_in, Datum}
 use Rattle.toml_names.proofs.lemmas.model.Levels.{array-item, table-member, item_got}
 use Rattle.toml_names.proofs.model.datum.Datum.child.Goals as goal
 

@@ -1,8 +1,5 @@
-use Rattle.std.proofs.Common.{◌++◌, ◌-◌, length, take, sym, ap, subst, ◌∙◌, ◌≡◌, vec_len, arith}
-use Rattle.std.proofs.lemmas.Bool.{false≢true}
-use Rattle.toml_names.specs.tree.NameMaps.{children_of, children_behind, AreDistinct}
-use Rattle.toml_names.proofs.lemmas.tree.Children.{children_of-front}
-use Rattle.toml_names.proofs.lemmas.tree.Distinct.{AreDistinct-front, dropped_behind, dropped_few}
+use Rattle.toml_names.proofs.Common.{◌++◌, ◌-◌, length, subst, false≢true, children_of, children_behind, AreDistinct, rules}
+use Rattle.toml_names.proofs.lemmas.tree.Distinct.{AreDistinct-front, dropped_behind, dropped_few, children_of-front}
 use Rattle.toml_names.proofs.tree.name_map.NameMap.drop_last.Goals as goal
 
 pub returns-then-drop_last_behind : goal.returns-then-drop_last_behind
@@ -16,12 +13,7 @@ invariant_of-self c =
     (returns-then-drop_last_behind c)
 
 pub returns : goal.returns
-returns c =
-    let few = c.self.inside.few in
-    let long : vec_len few ≡ length few.items = omega (arith, few.ok) in
-    let left = c.truncate.ensures.items ∙ ap (λ n. take n few.items) (c.saturating_sub.ensures ∙ ap (λ n. n - 1) (c.len-len.ensures ∙ long)) in
-    dropped_few (children_of few.items) (children_behind c.self.inside.rest) c.args.self.now c.self.view_is (children_of c.truncate.new.self.items) (children_behind c.drop_last_behind.new.rest)
-    (λ some. false≢true (sym c.if-drop_last_behind.false ∙ c.drop_last_behind.ensures.some.1 some)) (ap children_of left ∙ children_of-front few.items) c.drop_last_behind.ensures.front
+returns c = search (rules, dropped_few, false≢true, children_of-front)
 
 pub invariant_of-self-2 : goal.invariant_of-self-2
 invariant_of-self-2 c =

@@ -1,9 +1,5 @@
-use Rattle.std.proofs.Common.{refl, sym, ap, ◌∙◌}
-use Rattle.std.specs.Map.{lookup}
-use Rattle.std.specs.Str.{bytes_eq}
-use Rattle.toml_names.specs.tree.NameMaps.{children_of, children_behind}
-use Rattle.toml_names.proofs.lemmas.tree.Children.{lookup-children_of}
-use Rattle.toml_names.proofs.lemmas.tree.Distinct.{found_in_few, found_behind, not_in_few}
+use Rattle.toml_names.proofs.Common.{refl, sym, ap, ◌∙◌, lookup, bytes_eq, children_of, children_behind}
+use Rattle.toml_names.proofs.lemmas.tree.Distinct.{found_in_few, found_behind, not_in_few, lookup-children_of}
 use Rattle.toml_names.proofs.tree.name_map.NameMap.get.Goals as goal
 
 pub returns-in-Some : goal.returns-in-Some

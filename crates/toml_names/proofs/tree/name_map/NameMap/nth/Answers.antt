@@ -1,8 +1,4 @@
-use Rattle.std.proofs.Common.{◌≡◌, ◌-◌, ◌≤◌, ℕ, List, Some, length, slice_get, vec_len, sym, ap, subst, ◌∙◌, arith, Bor, ltb, get_or}
-use Rattle.std.proofs.lemmas.List.{length-map}
-use Rattle.std.proofs.lemmas.Option.{slice_get-map}
-use Rattle.std.specs.Option.{option_map}
-use Rattle.toml_names.specs.tree.NameMaps.{children_of, children_behind, AreDistinct}
+use Rattle.toml_names.proofs.Common.{◌≡◌, ◌-◌, ◌≤◌, ℕ, List, Some, length, slice_get, vec_len, sym, ap, subst, ◌∙◌, arith, Bor, ltb, get_or, length-map, slice_get-map, option_map, children_of, children_behind, AreDistinct}
 use Rattle.toml_names.proofs.lemmas.tree.Distinct.{found_at, pair_in_few, pair_behind, pair_of, entry_at, past_few, within_few}
 use Rattle.toml_names.proofs.tree.name_map.NameMap.nth.Goals as goal
 

@@ -1,10 +1,5 @@
-use Rattle.std.proofs.lemmas.List.{drop_all}
-use Rattle.std.proofs.lemmas.Option.{none-some, slice_get-get_or}
-use Rattle.std.proofs.Common.{◌+◌, ◌≤◌, drop, ◌<◌, ℕ, List, [], slice_get, length, sym, ap, ◌∙◌, subst, arith}
-use Rattle.toml_scalar.specs.Values.{scalar_of}
-use Rattle.toml_names.specs.mentions.Mentions.{a_table, an_array, a_scalar, value_or_empty}
-use Rattle.toml_names.specs.tree.Nodes.{Spot}
-use Rattle.toml_names.proofs.lemmas.tree.NodeData.{PartIs, ItemsAre, Fills, items_more, items_whole, pair_next, fills_none, fills_more, fills_all, table_is_datum, array_is_datum, below_name, below_element, node_read, kind_read, scalars_datum}
+use Rattle.toml_names.proofs.Common.{drop_all, none-some, slice_get-get_or, ◌+◌, drop, ◌<◌, ℕ, List, [], slice_get, length, sym, ap, ◌∙◌, subst, arith, a_table, an_array, Spot, rules}
+use Rattle.toml_names.proofs.lemmas.tree.NodeData.{low_in, PartIs, ItemsAre, Fills, items_more, items_whole, pair_next, fills_none, fills_more, fills_all, table_is_datum, array_is_datum, below_name, below_element, node_read, kind_read, scalars_datum}
 use Rattle.toml_names.proofs.tree.name_tree.NameTree.+datum.Goals as goal
 use Rattle.toml_names.proofs.tree.name_tree.NameTree.+datum.Goals.{table_datum-in-Some-nth+in_ok-member+in_ok-add_member, table_datum-in_default-nth}
 
@@ -12,12 +7,7 @@ pub array_datum-loop-below-init : goal.array_datum-loop-below-init
 array_datum-loop-below-init t c = subst (ItemsAre c.args.self.now.nodes.items []) (sym c.in_ok-items.ensures.items) tt
 
 pub array_datum-datum-requires : goal.array_datum-datum-requires
-array_datum-datum-requires t c =
-    let nodes = c.args.self.now.nodes.items in
-    let low : c.args.id < length nodes = omega (arith, c.args.self.now.nodes.ok) in
-    let elements = c.elements-elements.ensures ∙ ap (λ (s : Spot). s.elements) (node_read nodes c.args.id c.index.result.now low c.index.ensures) in
-    let below = below_element nodes c.requires.tree c.args.id low c.elements-elements.result.now c.loop-below.below-index 0 elements c.loop-below-test.true in
-    (omega (arith, below, c.args.self.now.nodes.ok), (omega (arith, below, c.args.self.now.nodes.ok), c.requires.tree))
+array_datum-datum-requires t c = search (rules, node_read, low_in, below_element)
 
 pub array_datum-loop-below-preserved : goal.array_datum-loop-below-preserved
 array_datum-loop-below-preserved t c =
@@ -27,37 +17,29 @@ array_datum-loop-below-preserved t c =
 pub array_datum-returns : goal.array_datum-returns
 array_datum-returns t c =
     let nodes = c.args.self.now.nodes.items in
-    let low : c.args.id < length nodes = omega (arith, c.args.self.now.nodes.ok) in
-    let elements = c.elements-elements.ensures ∙ ap (λ (s : Spot). s.elements) (node_read nodes c.args.id c.index.result.now low c.index.ensures) in
-    array_is_datum nodes c.args.id low c.loop-below.items c.requires.tree c.requires.array
+    let elements = c.elements-elements.ensures ∙ ap (λ (s : Spot). s.elements) (node_read nodes c.args.id c.index.result.now (low_in c.args.self.now.nodes c.requires.within) c.index.ensures) in
+    array_is_datum nodes c.args.id (low_in c.args.self.now.nodes c.requires.within) c.loop-below.items c.requires.tree c.requires.array
     (subst (λ (l : List ℕ). (i : ℕ) → PartIs nodes (slice_get l i) (slice_get c.loop-below.items.items i)) elements
     (items_whole nodes c.elements-elements.result.now c.loop-below.items.items c.loop-below.below-index c.loop-below-test.false c.loop-below.invariant))
 
 pub datum-table_datum-requires : goal.datum-table_datum-requires
 datum-table_datum-requires t c =
     let nodes = c.args.self.now.nodes.items in
-    let low : c.args.id < length nodes = omega (arith, c.args.self.now.nodes.ok) in
-    (omega arith, (c.requires.within, (c.requires.tree, kind_read nodes c.args.id c.index.result.now a_table low c.index.ensures c.in-Table.ensures)))
+    (omega arith, (c.requires.within, (c.requires.tree, kind_read nodes c.args.id c.index.result.now a_table (low_in c.args.self.now.nodes c.requires.within) c.index.ensures c.in-Table.ensures)))
 
 pub datum-array_datum-requires : goal.datum-array_datum-requires
 datum-array_datum-requires t c =
     let nodes = c.args.self.now.nodes.items in
-    let low : c.args.id < length nodes = omega (arith, c.args.self.now.nodes.ok) in
-    (omega arith, (c.requires.within, (c.requires.tree, kind_read nodes c.args.id c.index.result.now an_array low c.index.ensures c.in-Array.ensures)))
+    (omega arith, (c.requires.within, (c.requires.tree, kind_read nodes c.args.id c.index.result.now an_array (low_in c.args.self.now.nodes c.requires.within) c.index.ensures c.in-Array.ensures)))
 
 pub datum-returns-in-Scalar : goal.datum-returns-in-Scalar
-datum-returns-in-Scalar t c =
-    let nodes = c.args.self.now.nodes.items in
-    let low : c.args.id < length nodes = omega (arith, c.args.self.now.nodes.ok) in
-    let v = value_or_empty (scalar_of c.in-Scalar.kind c.in-Scalar.token.now) in
-    scalars_datum nodes c.args.id v c.scalar_datum.result low (kind_read nodes c.args.id c.index.result.now (a_scalar v) low c.index.ensures c.in-Scalar.ensures) c.scalar_datum.ensures
+datum-returns-in-Scalar t c = search (rules, scalars_datum, low_in, kind_read)
 
 pub table_datum-datum-requires : goal.table_datum-datum-requires
 table_datum-datum-requires t c =
     let nodes = c.args.self.now.nodes.items in
-    let low : c.args.id < length nodes = omega (arith, c.args.self.now.nodes.ok) in
-    let are = c.in-Some.ensures.some ∙ ap (λ (s : Spot). s.children) (node_read nodes c.args.id c.index.result.now low c.index.ensures) in
-    let below = below_name nodes c.requires.tree c.args.id low c.in-Some.names.now c.in-Some-nth.name.now c.in-Some-nth.below are c.in-Some-nth.ensures.found in
+    let are = c.in-Some.ensures.some ∙ ap (λ (s : Spot). s.children) (node_read nodes c.args.id c.index.result.now (low_in c.args.self.now.nodes c.requires.within) c.index.ensures) in
+    let below = below_name nodes c.requires.tree c.args.id (low_in c.args.self.now.nodes c.requires.within) c.in-Some.names.now c.in-Some-nth.name.now c.in-Some-nth.below are c.in-Some-nth.ensures.found in
     (omega (arith, below, c.args.self.now.nodes.ok), (omega (arith, below, c.args.self.now.nodes.ok), c.requires.tree))
 
 pub table_datum-loop-place-preserved : goal.table_datum-loop-place-preserved
@@ -75,18 +57,7 @@ table_datum-loop-place-preserved t c =
     ]
 
 pub table_datum-returns : goal.table_datum-returns
-table_datum-returns t c =
-    let nodes = c.args.self.now.nodes.items in
-    let low : c.args.id < length nodes = omega (arith, c.args.self.now.nodes.ok) in
-    let names = c.in-Some.names.now in
-    let are = c.in-Some.ensures.some ∙ ap (λ (s : Spot). s.children) (node_read nodes c.args.id c.index.result.now low c.index.ensures) in
-    let past : length names ≤ c.loop-place.place = omega (arith, c.loop-place-test.false, c.len-place-end.ensures, c.loop-place.auto.place-end) in
-    let fills : Fills nodes names [] c.loop-place.members = subst (λ l. Fills nodes names l c.loop-place.members) (drop_all c.loop-place.place names past) c.loop-place.invariant in
-    table_is_datum nodes c.args.id low c.loop-place.members c.requires.tree c.requires.table (fills_all nodes names _ c.loop-place.members are fills)
+table_datum-returns t c = search (rules, node_read, low_in, drop_all, table_is_datum, fills_all)
 
 pub table_datum-returns-in_default : goal.table_datum-returns-in_default
-table_datum-returns-in_default t c =
-    let nodes = c.args.self.now.nodes.items in
-    let low : c.args.id < length nodes = omega (arith, c.args.self.now.nodes.ok) in
-    let are = sym c.in_default.ensures.none ∙ ap (λ (s : Spot). s.children) (node_read nodes c.args.id c.index.result.now low c.index.ensures) in
-    table_is_datum nodes c.args.id low c.new-members.result c.requires.tree c.requires.table (fills_all nodes [] _ c.new-members.result are (fills_none nodes [] c.new-members.result c.new-members.ensures.empty))
+table_datum-returns-in_default t c = search (rules, node_read, low_in, table_is_datum, fills_all, fills_none)

@@ -1,4 +1,4 @@
-use Rattle.std.proofs.Common.{◌+◌, ◌-◌, ◌*◌, drop, take, vec_len}
+use Rattle.toml_names.proofs.Common.{◌+◌, ◌-◌, ◌*◌, drop, take, vec_len}
 use Rattle.toml_names.proofs.lemmas.tree.NodeData.{ItemsAre, Fills}
 use Rattle.toml_names.proofs.tree.name_tree.NameTree.+datum.Given as goal
 

@@ -1,39 +1,15 @@
-use Rattle.std.proofs.Common.{◌≡◌, ℕ, true, ◌+◌, ◌∷◌, sym, ap, subst, ◌∙◌, map, length, arith}
-use Rattle.std.proofs.lemmas.List.{drop_all}
-use Rattle.std.proofs.lemmas.Result.{err_from_is_err_and}
-use Rattle.toml_tree.specs.declared.tree.Value.TheViews.{out-Array, out-InlineTable}
-use Rattle.toml_tree.specs.View.{piece, key, value, keyval, element, member}
-use Rattle.toml_tree.specs.Tree.{KeyVal}
-use Rattle.toml_tree.proofs.Proved.{keyval_is}
-use Rattle.toml_names.specs.mentions.Keys.{part_name, key_names}
-use Rattle.toml_names.specs.mentions.KeyParts.{value_key_parts, keyval_key_parts}
-use Rattle.toml_names.specs.model.Addresses.{below}
-use Rattle.toml_names.specs.tree.LongKeys.{CanEnterKey}
-use Rattle.toml_names.specs.mentions.Mentions.{fronts, value_named, inside, pair_named}
-use Rattle.toml_names.specs.declared.mentions.mention.Role.TheVariants.{Valued}
-use Rattle.toml_names.specs.tree.NameTree.{Clashes, EntersTo}
-use Rattle.toml_names.specs.tree.Nodes.{address_at}
-use Rattle.toml_names.specs.mentions.View.{kind}
+use Rattle.toml_names.proofs.Common.{◌≡◌, ℕ, true, ◌+◌, ◌∷◌, sym, ap, subst, map, length, arith, drop_all, err_from_is_err_and, piece, key, value, keyval, KeyVal, keyval_is, part_name, key_names, value_key_parts, keyval_key_parts, below, CanEnterKey, fronts, value_named, inside, pair_named, Valued, Clashes, EntersTo, address_at, kind, rules}
+use Rattle.toml_tree.specs.View.{element}
 use Rattle.toml_names.proofs.lemmas.tree.EnterSteps.{Clashes-front, KeepsElements-same, KeepsElements-then}
-use Rattle.toml_names.proofs.lemmas.mentions.Inside.{elements_of, members_of}
+use Rattle.toml_names.proofs.lemmas.mentions.Inside.{elements_of, members_of, parts_of_elements, parts_of_members}
 use Rattle.toml_names.proofs.lemmas.tree.ItemsEntered.{no_elements, entered-all}
 use Rattle.toml_names.proofs.lemmas.tree.PairEntered.{pair-parts, own-clash, within-clash, EntersTo-pair}
-use Rattle.toml_names.proofs.lemmas.mentions.PartsInside.{parts_of_elements, parts_of_members}
 use Rattle.toml_names.proofs.lemmas.tree.Steps.{GoesOn-same, GoesOn-then, GoesOnTo-begin, GoesOnTo-more, GoesOnTo-within, GoesOn-within, surely, refuses}
 use Rattle.toml_names.proofs.lemmas.tree.ValueEntered.{parts-next_element, parts-next_pair, array-begin, array-parts, table-begin, table-parts, element-clash, element-more, pair-clash, pair-more}
 use Rattle.toml_names.proofs.tree.name_tree.NameTree.+entering.Goals as goal
 
 pub enter_inside-loop-item-init : goal.enter_inside-loop-item-init
-enter_inside-loop-item-init t c =
-    let start = c.args.self.now.nodes.items in
-    let items = c.deref-item-items.result.now in
-    let items_are = c.deref-item-items.ensures.value ∙ ap (λ a. (out-Array a).items.items) c.deref.ensures in
-    record {
-      entered = array-begin start c.args.id c.args.line c.requires.there.tree c.in-Array.array c.args.v.now items c.in-Array.is items_are;
-      has = no_elements start c.args.id c.requires.lone;
-      goes_on = GoesOnTo-begin c.args.self.now (parts_of_elements (map element items)) (value_key_parts (value c.args.v.now))
-          (array-parts start c.args.id c.args.line c.requires.there.tree c.in-Array.array c.args.v.now items c.in-Array.is items_are);
-    }
+enter_inside-loop-item-init t c = search (rules, array-begin, no_elements, GoesOnTo-begin, parts_of_elements, array-parts)
 
 pub enter_inside-returns-in_err-enter_inside-in-Array : goal.enter_inside-returns-in_err-enter_inside-in-Array
 enter_inside-returns-in_err-enter_inside-in-Array t c =
@@ -73,16 +49,7 @@ enter_inside-returns-after-loop-item t c =
     }
 
 pub enter_inside-loop-pair-init : goal.enter_inside-loop-pair-init
-enter_inside-loop-pair-init t c =
-    let start = c.args.self.now.nodes.items in
-    let pairs = c.deref-pair-items.result.now in
-    let pairs_are = c.deref-pair-items.ensures.value ∙ ap (λ t. (out-InlineTable t).pairs.items) c.deref-in-Inline.ensures in
-    record {
-      entered = table-begin start c.args.id c.args.line c.requires.there.tree c.in-Inline.table c.args.v.now pairs c.in-Inline.is pairs_are;
-      kept = KeepsElements-same start;
-      goes_on = GoesOnTo-begin c.args.self.now (parts_of_members (map member pairs)) (value_key_parts (value c.args.v.now))
-          (table-parts start c.args.id c.args.line c.requires.there.tree c.in-Inline.table c.args.v.now pairs c.in-Inline.is pairs_are);
-    }
+enter_inside-loop-pair-init t c = search (rules, table-begin, KeepsElements-same, GoesOnTo-begin, parts_of_members, table-parts)
 
 pub enter_inside-returns-in_err-enter_pair-in-Inline : goal.enter_inside-returns-in_err-enter_pair-in-Inline
 enter_inside-returns-in_err-enter_pair-in-Inline t c =
@@ -111,17 +78,7 @@ enter_inside-loop-pair-preserved t c =
     }
 
 pub enter_inside-returns-after-loop-pair : goal.enter_inside-returns-after-loop-pair
-enter_inside-returns-after-loop-pair t c =
-    let at = address_at c.args.self.now.nodes.items c.args.id in
-    record {
-      made = record {
-        enters = entered-all c.args.self.now.nodes.items c.loop-pair.self.nodes.items _ _ c.loop-pair.invariant.entered
-            (ap (λ l. members_of c.args.line at (map member l)) (drop_all c.loop-pair.pair-index c.deref-pair-items.result.now c.loop-pair-test.false));
-        elements = λ k d low apart. c.loop-pair.invariant.kept k d low;
-      };
-      clash = tt;
-      goes_on = GoesOnTo-within c.loop-pair.invariant.goes_on;
-    }
+enter_inside-returns-after-loop-pair t c = search (rules, entered-all, members_of, drop_all, GoesOnTo-within)
 
 pub enter_pair-returns-in_err-here : goal.enter_pair-returns-in_err-here
 enter_pair-returns-in_err-here t c =
@@ -129,8 +86,7 @@ enter_pair-returns-in_err-here t c =
     let names = key_names (key c.args.pair.now.assign.key) in
     let at = address_at start c.args.at in
     let v = value c.args.pair.now.value in
-    let parts = pair-parts c.args.pair.now in
-    refuses (GoesOn-same c.args.self.now) c.in_err-here.ensures (err_from_is_err_and c.from_residual.result c.from_residual.ensures.1) (omega (arith, parts)) (λ a clash.
+    refuses (GoesOn-same c.args.self.now) c.in_err-here.ensures (err_from_is_err_and c.from_residual.result c.from_residual.ensures.1) (omega (arith, pair-parts c.args.pair.now)) (λ a clash.
     subst (λ (k : KeyVal). Clashes start (pair_named c.args.line at k.assign k.value) a) (sym (keyval_is c.args.pair.now))
     (Clashes-front (fronts c.args.line at names) (value_named c.args.line Valued (below at names) v ∷ inside c.args.line (below at names) v) a clash))
 
@@ -150,9 +106,8 @@ enter_pair-returns-in_err-enter_inside-in-Some t c =
     let start = c.args.self.now.nodes.items in
     let names = key_names (key c.args.pair.now.assign.key) in
     let at = address_at start c.args.at in
-    let parts = pair-parts c.args.pair.now in
     refuses (GoesOn-then c.enter_fronts.ensures.goes_on c.enter_valued.ensures.enters.goes_on (length c.args.pair.now.assign.key.rest.items + 1) (omega arith)) c.in_err-enter_inside-in-Some.ensures
-    (err_from_is_err_and c.from_residual-in_err-enter_inside-in-Some.result c.from_residual-in_err-enter_inside-in-Some.ensures.1) (omega (arith, parts)) (λ a clash.
+    (err_from_is_err_and c.from_residual-in_err-enter_inside-in-Some.result c.from_residual-in_err-enter_inside-in-Some.ensures.1) (omega (arith, pair-parts c.args.pair.now)) (λ a clash.
     subst (λ (k : KeyVal). Clashes start (pair_named c.args.line at k.assign k.value) a) (sym (keyval_is c.args.pair.now))
     (within-clash start c.enter_fronts.new.self.nodes.items c.enter_valued.new.self.nodes.items c.in-Some.here c.args.line (part_name (piece c.in-Some.part))
     (kind c.kind_of.result) (value c.args.pair.now.value) at names (rw c.in-Some.is at c.in_ok-here.ensures.made) c.kind_of.ensures
@@ -164,7 +119,6 @@ enter_pair-returns-in_ok-enter_inside-in-Some t c =
     let last = c.enter_inside.new.self.nodes.items in
     let names = key_names (key c.args.pair.now.assign.key) in
     let at = address_at start c.args.at in
-    let parts = pair-parts c.args.pair.now in
     let own = GoesOn-then c.enter_fronts.ensures.goes_on c.enter_valued.ensures.enters.goes_on (length c.args.pair.now.assign.key.rest.items + 1) (omega arith) in
     record {
       made = subst (λ (k : KeyVal). EntersTo start last (pair_named c.args.line at k.assign k.value) (below at (key_names k.assign.key)) c.in_ok-id-in-Some.id) (sym (keyval_is c.args.pair.now))
@@ -172,15 +126,14 @@ enter_pair-returns-in_ok-enter_inside-in-Some t c =
           (kind c.kind_of.result) (value c.args.pair.now.value) at names (rw c.in-Some.is at c.in_ok-here.ensures.made) c.kind_of.ensures
           c.in_ok-id-in-Some.id c.in_ok-id-in-Some.ensures.enters.made last c.in_ok-id-in-Some.ensures.lone.0 c.in_ok-enter_inside-in-Some.ensures.made);
       clash = tt;
-      goes_on = GoesOn-then own c.enter_inside.ensures.goes_on (keyval_key_parts (keyval c.args.pair.now).assign (keyval c.args.pair.now).value) (omega (arith, parts));
+      goes_on = GoesOn-then own c.enter_inside.ensures.goes_on (keyval_key_parts (keyval c.args.pair.now).assign (keyval c.args.pair.now).value) (omega (arith, pair-parts c.args.pair.now));
     }
 
 pub enter_pair-returns-in-None : goal.enter_pair-returns-in-None
 enter_pair-returns-in-None t c =
-    let parts = pair-parts c.args.pair.now in
     record {
       made = subst (λ (k : KeyVal). (c.args.known ≡ true) × CanEnterKey c.args.self.now.nodes.items c.args.line (address_at c.args.self.now.nodes.items c.args.at) (key_names k.assign.key)) (sym (keyval_is c.args.pair.now))
           (rw c.in-None.is at c.in_ok-here.ensures.made);
       clash = tt;
-      goes_on = GoesOn-within c.enter_fronts.ensures.goes_on (keyval_key_parts (keyval c.args.pair.now).assign (keyval c.args.pair.now).value) (omega (arith, parts));
+      goes_on = GoesOn-within c.enter_fronts.ensures.goes_on (keyval_key_parts (keyval c.args.pair.now).assign (keyval c.args.pair.now).value) (omega (arith, pair-parts c.args.pair.now));
     }

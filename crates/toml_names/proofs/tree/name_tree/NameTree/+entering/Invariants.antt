@@ -1,12 +1,7 @@
-use Rattle.std.proofs.Common.{map, drop}
-use Rattle.toml_tree.specs.View.{element, member, value}
-use Rattle.toml_names.specs.mentions.KeyParts.{value_key_parts}
-use Rattle.toml_names.specs.mentions.Mentions.{inside}
-use Rattle.toml_names.specs.tree.NameTree.{KeepsElements}
-use Rattle.toml_names.specs.tree.Nodes.{address_at}
-use Rattle.toml_names.proofs.lemmas.mentions.Inside.{elements_of, members_of}
+use Rattle.toml_names.proofs.Common.{map, drop, member, value, value_key_parts, inside, KeepsElements, address_at}
+use Rattle.toml_tree.specs.View.{element}
+use Rattle.toml_names.proofs.lemmas.mentions.Inside.{elements_of, members_of, parts_of_elements, parts_of_members}
 use Rattle.toml_names.proofs.lemmas.tree.ItemsEntered.{IsEntered, HasElements}
-use Rattle.toml_names.proofs.lemmas.mentions.PartsInside.{parts_of_elements, parts_of_members}
 use Rattle.toml_names.proofs.lemmas.tree.Steps.{GoesOnTo}
 use Rattle.toml_names.proofs.tree.name_tree.NameTree.+entering.Given as goal
 

@@ -1,5 +1,4 @@
-use Rattle.std.proofs.Common.{◌+◌, ◌-◌, ◌*◌, ◌<◌, ℕ, vec_len}
-use Rattle.std.specs.Prelude.{slice_get}
+use Rattle.toml_names.proofs.Common.{◌+◌, ◌-◌, ◌*◌, ◌<◌, ℕ, vec_len, slice_get}
 use Rattle.toml_names.proofs.lemmas.tree.Held.{HeldEach, IsHeldIn}
 use Rattle.toml_names.proofs.tree.name_tree.NameTree.+holds.Given as goal
 

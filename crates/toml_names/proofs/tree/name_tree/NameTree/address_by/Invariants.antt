@@ -1,6 +1,4 @@
-use Rattle.std.proofs.Common.{◌≡◌, ◌<◌, ◌++◌, vec_len}
-use mathlib.Core.List.{reverse}
-use Rattle.toml_names.specs.tree.Nodes.{address_at}
+use Rattle.toml_names.proofs.Common.{◌≡◌, ◌<◌, ◌++◌, vec_len, reverse, address_at}
 use Rattle.toml_names.proofs.tree.name_tree.NameTree.address_by.Given as goal
 
 abbrev pub invariant-loop-way : goal.invariant-loop-way

@@ -1,7 +1,4 @@
-use Rattle.std.proofs.Common.{◌∙◌, ◌++◌, ◌∷◌, [], List, Option, ap, map, take}
-use Rattle.std.specs.Prelude.{option_map}
-use Rattle.toml_names.specs.model.Addresses.{Address}
-use Rattle.toml_names.specs.tree.Nodes.{address_at}
+use Rattle.toml_names.proofs.Common.{◌∙◌, ◌++◌, ◌∷◌, [], List, Option, ap, map, take, option_map, Address, address_at}
 use Rattle.toml_names.proofs.lemmas.tree.LineRanks.{mapped-more}
 use Rattle.toml_names.proofs.tree.name_tree.NameTree.addresses_of.Goals as goal
 

@@ -1,6 +1,4 @@
-use Rattle.std.proofs.Common.{◌≡◌, map, take}
-use Rattle.std.specs.Prelude.{option_map}
-use Rattle.toml_names.specs.tree.Nodes.{address_at}
+use Rattle.toml_names.proofs.Common.{◌≡◌, map, take, option_map, address_at}
 use Rattle.toml_names.proofs.tree.name_tree.NameTree.addresses_of.Given as goal
 
 abbrev pub invariant-loop-node : goal.invariant-loop-node

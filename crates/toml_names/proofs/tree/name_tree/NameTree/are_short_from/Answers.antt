@@ -1,10 +1,6 @@
-use Rattle.std.proofs.Common.{◌≡◌, ◌≤◌, ◌<◌, ◌+◌, ◌-◌, ℕ, Bool, true, false, List, drop, take, length, get_or, IsTrue, MatchBool, ◌↔◌, refl, ap, ◌∙◌, subst, arith, rules, tests, length-drop}
-use Rattle.std.specs.List.{HoldsAt, AllWithin}
-use Rattle.std.proofs.lemmas.Bool.{false≢true}
+use Rattle.toml_names.proofs.Common.{◌≡◌, ◌≤◌, ◌<◌, ◌+◌, ◌-◌, ℕ, Bool, true, false, List, drop, take, length, get_or, IsTrue, MatchBool, ◌↔◌, refl, ap, ◌∙◌, subst, arith, rules, tests, HoldsAt, AllWithin, false≢true, get_or-drop, take_all, Spot, address_at, nowhere, IsTree}
+use Rattle.std.proofs.Common.{length-drop}
 use Rattle.std.proofs.lemmas.Iterator.{cases_from_all, YieldsList-from_slice}
-use Rattle.std.proofs.lemmas.List.{get_or-drop, take_all}
-use Rattle.toml_names.specs.tree.Nodes.{Spot, address_at, nowhere}
-use Rattle.toml_names.specs.tree.NameTree.{IsTree}
 use Rattle.toml_names.proofs.tree.name_tree.NameTree.are_short_from.Goals as goal
 
 abbrev AreShort : List Spot → ℕ → Type 0

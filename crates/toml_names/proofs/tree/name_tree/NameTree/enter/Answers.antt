@@ -1,8 +1,4 @@
-use Rattle.std.proofs.Common.{arith}
-use Rattle.std.proofs.lemmas.Result.{err_from_is_err_and}
-use Rattle.toml_tree.specs.View.{piece}
-use Rattle.toml_names.specs.mentions.Keys.{part_name}
-use Rattle.toml_names.specs.mentions.View.{kind as kind_of}
+use Rattle.toml_names.proofs.Common.{arith, err_from_is_err_and, piece, part_name, kind as kind_of}
 use Rattle.toml_names.proofs.lemmas.tree.EnterName.{IsNode-known, Clashes-known, EntersTo-known, EntersTo-new}
 use Rattle.toml_names.proofs.lemmas.tree.Steps.{GoesOn-then, refuses}
 use Rattle.toml_names.proofs.tree.name_tree.NameTree.enter.Goals as goal

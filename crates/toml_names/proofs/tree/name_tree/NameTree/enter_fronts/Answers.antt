@@ -1,22 +1,12 @@
-use Rattle.std.proofs.Common.{◌≡◌, ◌+◌, ◌∷◌, ap, subst, length, true, arith}
-use Rattle.std.proofs.lemmas.Result.{err_from_is_err_and}
-use Rattle.toml_tree.specs.View.{piece}
-use Rattle.toml_names.specs.mentions.Keys.{part_name}
-use Rattle.toml_names.specs.tree.LongKeys.{CanEnter, FollowedFronts, key_named}
-use Rattle.toml_names.specs.mentions.Mentions.{fronts}
-use Rattle.toml_names.specs.tree.NameTree.{Clashes, IsAbsent}
-use Rattle.toml_names.specs.tree.Nodes.{nowhere, address_at}
+use Rattle.toml_names.proofs.Common.{◌≡◌, ◌+◌, ◌∷◌, ap, subst, length, true, arith, err_from_is_err_and, piece, part_name, CanEnter, FollowedFronts, key_named, fronts, Clashes, IsAbsent, nowhere, address_at, rules}
 use Rattle.toml_names.proofs.lemmas.mentions.Along.{names_left}
 use Rattle.toml_names.proofs.lemmas.tree.EnterFronts.{all-named, FollowedFronts-first, FollowedFronts-more, Clashes-fronts}
-use Rattle.toml_names.proofs.lemmas.tree.KnownFronts.{followed-fresh}
+use Rattle.toml_names.proofs.lemmas.tree.FreshKeys.{followed-fresh}
 use Rattle.toml_names.proofs.lemmas.tree.Steps.{GoesOn-same, GoesOn-within, GoesOn-then, refuses}
 use Rattle.toml_names.proofs.tree.name_tree.NameTree.enter_fronts.Goals as goal
 
 pub loop-dotted-init : goal.loop-dotted-init
-loop-dotted-init c = record {
-  followed = FollowedFronts-first c.args.self.now.nodes.items c.args.line c.args.at (part_name (piece c.args.key.now.first)) c.requires.there;
-  goes_on = GoesOn-same c.args.self.now;
-}
+loop-dotted-init c = search (rules, FollowedFronts-first, GoesOn-same)
 
 pub enter-requires-clause-there : goal.enter-requires-clause-there
 enter-requires-clause-there c = record { tree = c.loop-dotted.invariant.followed.entered.tree; within = c.loop-dotted.invariant.followed.within }

@@ -1,8 +1,4 @@
-use Rattle.toml_tree.specs.View.{piece}
-use Rattle.toml_names.specs.mentions.Keys.{part_name}
-use Rattle.toml_names.specs.tree.LongKeys.{FollowedFronts}
-use Rattle.toml_names.specs.tree.Nodes.{address_at}
-use Rattle.toml_names.specs.tree.Steps.{GoesOn}
+use Rattle.toml_names.proofs.Common.{piece, part_name, FollowedFronts, address_at, GoesOn}
 use Rattle.toml_names.proofs.lemmas.tree.EnterFronts.{first_names}
 use Rattle.toml_names.proofs.tree.name_tree.NameTree.enter_fronts.Given as goal
 

@@ -1,17 +1,5 @@
-use Rattle.std.proofs.Common.{◌≡◌, sym, ap, subst, ◌∙◌, [], Some, arith}
-use Rattle.std.proofs.lemmas.Result.{err_from_is_err_and}
-use Rattle.toml_tree.specs.View.{piece, blank, header, keyval, expr}
-use Rattle.toml_names.specs.model.Addresses.{below}
-use Rattle.toml_names.specs.tree.EnteringHeaders.{EntersHeader, table_names, tables_names, next_table}
-use Rattle.toml_names.specs.mentions.Keys.{key_names}
-use Rattle.toml_names.specs.tree.LongKeys.{CanEnter, CanEnterHeader, IsLongKey}
-use Rattle.toml_names.specs.mentions.Mentions.{pair_named}
-use Rattle.toml_names.specs.reader.Names.{header_end}
-use Rattle.toml_names.specs.tree.NameTree.{EntersTo}
-use Rattle.toml_names.specs.tree.Nodes.{address_at}
-use Rattle.toml_names.specs.mentions.Rules.{misfit}
-use Rattle.toml_names.proofs.lemmas.tree.EnterLines.{table_entered, tables_entered, pair_entered}
-use Rattle.toml_names.proofs.lemmas.tree.LongLines.{long_pair, long_table, long_tables}
+use Rattle.toml_names.proofs.Common.{◌≡◌, sym, ap, subst, ◌∙◌, Some, arith, err_from_is_err_and, piece, blank, header, keyval, expr, pair_named, misfit}
+use Rattle.toml_names.proofs.lemmas.tree.EnterLines.{table_entered, tables_entered, pair_entered, long_pair, long_table, long_tables}
 use Rattle.toml_names.proofs.lemmas.tree.Steps.{GoesOn-same, refuses}
 use Rattle.toml_names.proofs.tree.name_tree.NameTree.enter_line.Goals as goal
 
@@ -27,10 +15,8 @@ returns-in-Some c =
     let old = c.args.self.now.nodes.items in
     let new = c.pair_unless_long.new.self.nodes.items in
     let pair = keyval c.in-KeyVal.keyval in
-    let at = address_at old c.args.at in
-    let made : EntersTo old new (pair_named c.args.number at pair.assign pair.value) (below at (key_names pair.assign.key)) c.in-Some.id = rw c.in-Some.is at c.in_ok-id-in-KeyVal.ensures.made in
     rw (sym c.expr.ensures ∙ ap expr c.in-KeyVal.is) (record {
-      made = pair_entered old new c.args.at c.args.number c.in-Some.id (piece c.in-KeyVal.ws) pair (blank c.in-KeyVal.tail) c.requires.there.within made;
+      made = pair_entered old new c.args.at c.args.number c.in-Some.id (piece c.in-KeyVal.ws) pair (blank c.in-KeyVal.tail) c.requires.there.within (rw c.in-Some.is at c.in_ok-id-in-KeyVal.ensures.made);
       clash = tt;
       goes_on = c.pair_unless_long.ensures.goes_on;
     })
@@ -39,10 +25,8 @@ pub returns-in-None : goal.returns-in-None
 returns-in-None c =
     let old = c.args.self.now.nodes.items in
     let pair = keyval c.in-KeyVal.keyval in
-    let at = address_at old c.args.at in
-    let long : CanEnter old (pair_named c.args.number at pair.assign pair.value) × IsLongKey at (key_names pair.assign.key) = rw c.in-None.is at c.in_ok-id-in-KeyVal.ensures.made in
     rw (sym c.expr.ensures ∙ ap expr c.in-KeyVal.is) (record {
-      made = long_pair old c.args.at c.args.number (piece c.in-KeyVal.ws) (blank c.in-KeyVal.tail) pair long.0 long.1;
+      made = long_pair old c.args.at c.args.number (piece c.in-KeyVal.ws) (blank c.in-KeyVal.tail) pair (rw c.in-None.is at c.in_ok-id-in-KeyVal.ensures.made);
       clash = tt;
       goes_on = c.pair_unless_long.ensures.goes_on;
     })
@@ -58,9 +42,8 @@ returns-in-Some-2 c =
     let old = c.args.self.now.nodes.items in
     let new = c.table_unless_long.new.self.nodes.items in
     let head = header c.in-Std.header in
-    let made : EntersHeader old new c.in-Some-2.id (table_names c.args.number (key_names head.key)) (λ ms. header_end ms [] (key_names head.key)) = rw c.in-Some-2.is at c.in_ok-id-in-Std.ensures.made in
     rw (sym c.expr.ensures ∙ ap expr c.in-Std.is) (record {
-      made = table_entered old new c.args.at c.args.number c.in-Some-2.id (piece c.in-Std.ws) head (blank c.in-Std.tail) made;
+      made = table_entered old new c.args.at c.args.number c.in-Some-2.id (piece c.in-Std.ws) head (blank c.in-Std.tail) (rw c.in-Some-2.is at c.in_ok-id-in-Std.ensures.made);
       clash = tt;
       goes_on = c.table_unless_long.ensures.goes_on;
     })
@@ -69,9 +52,8 @@ pub returns-in-None-2 : goal.returns-in-None-2
 returns-in-None-2 c =
     let old = c.args.self.now.nodes.items in
     let head = header c.in-Std.header in
-    let long : CanEnterHeader old (table_names c.args.number (key_names head.key)) (λ ms. header_end ms [] (key_names head.key)) × IsLongKey [] (key_names head.key) = rw c.in-None-2.is at c.in_ok-id-in-Std.ensures.made in
     rw (sym c.expr.ensures ∙ ap expr c.in-Std.is) (record {
-      made = long_table old c.args.at c.args.number (piece c.in-Std.ws) (blank c.in-Std.tail) head long.0 long.1;
+      made = long_table old c.args.at c.args.number (piece c.in-Std.ws) (blank c.in-Std.tail) head (rw c.in-None-2.is at c.in_ok-id-in-Std.ensures.made);
       clash = tt;
       goes_on = c.table_unless_long.ensures.goes_on;
     })
@@ -87,9 +69,8 @@ returns-in-Some-3 c =
     let old = c.args.self.now.nodes.items in
     let new = c.tables_unless_long.new.self.nodes.items in
     let head = header c.in-Array.header in
-    let made : EntersHeader old new c.in-Some-3.id (tables_names c.args.number (key_names head.key)) (λ ms. next_table ms (key_names head.key)) = rw c.in-Some-3.is at c.in_ok-id-in-Array.ensures.made in
     rw (sym c.expr.ensures ∙ ap expr c.in-Array.is) (record {
-      made = tables_entered old new c.args.at c.args.number c.in-Some-3.id (piece c.in-Array.ws) head (blank c.in-Array.tail) made;
+      made = tables_entered old new c.args.at c.args.number c.in-Some-3.id (piece c.in-Array.ws) head (blank c.in-Array.tail) (rw c.in-Some-3.is at c.in_ok-id-in-Array.ensures.made);
       clash = tt;
       goes_on = c.tables_unless_long.ensures.goes_on;
     })
@@ -98,9 +79,8 @@ pub returns-in-None-3 : goal.returns-in-None-3
 returns-in-None-3 c =
     let old = c.args.self.now.nodes.items in
     let head = header c.in-Array.header in
-    let long : CanEnterHeader old (tables_names c.args.number (key_names head.key)) (λ ms. next_table ms (key_names head.key)) × IsLongKey [] (key_names head.key) = rw c.in-None-3.is at c.in_ok-id-in-Array.ensures.made in
     rw (sym c.expr.ensures ∙ ap expr c.in-Array.is) (record {
-      made = long_tables old c.args.at c.args.number (piece c.in-Array.ws) (blank c.in-Array.tail) head long.0 long.1;
+      made = long_tables old c.args.at c.args.number (piece c.in-Array.ws) (blank c.in-Array.tail) head (rw c.in-None-3.is at c.in_ok-id-in-Array.ensures.made);
       clash = tt;
       goes_on = c.tables_unless_long.ensures.goes_on;
     })

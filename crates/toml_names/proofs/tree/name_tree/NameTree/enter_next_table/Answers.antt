@@ -1,5 +1,4 @@
-use Rattle.std.proofs.Common.{arith}
-use Rattle.std.proofs.lemmas.Result.{err_from_is_err_and}
+use Rattle.toml_names.proofs.Common.{arith, err_from_is_err_and}
 use Rattle.toml_names.proofs.lemmas.tree.NextTables.{noted_array-there, noted_array-adds, clash_next}
 use Rattle.toml_names.proofs.lemmas.tree.Steps.{GoesOn-same, GoesOn-then, refuses}
 use Rattle.toml_names.proofs.tree.name_tree.NameTree.enter_next_table.Goals as goal

@@ -1,6 +1,4 @@
-use Rattle.std.proofs.Common.{arith}
-use Rattle.toml_tree.specs.View.{piece}
-use Rattle.toml_names.specs.mentions.Keys.{part_name}
+use Rattle.toml_names.proofs.Common.{arith, piece, part_name}
 use Rattle.toml_names.proofs.lemmas.tree.EnterName.{IsNode-known, known-address, known-mentioned}
 use Rattle.toml_names.proofs.lemmas.tree.NextTables.{new_array-there, new_array-adds}
 use Rattle.toml_names.proofs.lemmas.tree.Steps.{GoesOn-then, follows}

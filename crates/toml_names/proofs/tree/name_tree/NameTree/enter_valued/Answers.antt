@@ -1,8 +1,4 @@
-use Rattle.std.proofs.Common.{◌≡◌, ◌<◌, ◌∙◌, length, refl, sym, arith}
-use Rattle.toml_tree.specs.View.{piece}
-use Rattle.toml_names.specs.declared.mentions.mention.Role.TheVariants.{Valued}
-use Rattle.toml_names.specs.mentions.Keys.{part_name}
-use Rattle.toml_names.specs.mentions.View.{kind as kind_of}
+use Rattle.toml_names.proofs.Common.{◌<◌, length, refl, arith, piece, Valued, part_name, kind as kind_of, rules}
 use Rattle.toml_names.proofs.lemmas.tree.EnterName.{IsNode-known, Clashes-known_value, EntersTo-new, lone-led}
 use Rattle.toml_names.proofs.tree.name_tree.NameTree.enter_valued.Goals as goal
 
@@ -13,14 +9,7 @@ address-requires-clause-within c =
     omega arith
 
 pub returns-in_ok-address-in-Known-clause-enters : goal.returns-in_ok-address-in-Known-clause-enters
-returns-in_ok-address-in-Known-clause-enters c = record {
-  made = tt;
-  clash = λ a same.
-      let is : c.in_ok-address-in-Known.field-0 ≡ a = cc in
-      Clashes-known_value c.args.self.now.nodes.items c.find_or_grow.new.self.nodes.items c.args.at c.requires.there (part_name (piece c.args.part))
-      c.in-Known.id (rw c.in-Known.is at c.in_ok-id.ensures.found) (kind_of c.args.kind) c.args.line a (sym c.in_ok-address-in-Known.ensures ∙ is);
-  goes_on = c.find_or_grow.ensures.goes_on;
-}
+returns-in_ok-address-in-Known-clause-enters c = search (rules, Clashes-known_value)
 
 pub returns-in-New-clause-enters : goal.returns-in-New-clause-enters
 returns-in-New-clause-enters c = record {

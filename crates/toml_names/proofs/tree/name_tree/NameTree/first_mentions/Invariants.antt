@@ -1,4 +1,4 @@
-use Rattle.std.proofs.Common.{◌≡◌}
+use Rattle.toml_names.proofs.Common.{◌≡◌}
 use Rattle.toml_names.proofs.lemmas.tree.Ranks.{mentioned_upto}
 use Rattle.toml_names.proofs.tree.name_tree.NameTree.first_mentions.Given as goal
 

@@ -1,20 +1,20 @@
-use Rattle.std.proofs.Common.{ap, ◌∙◌, List, length, slice_index_or, arith, rules}
-use Rattle.toml_names.specs.declared.model.address.Step.TheVariants.{Index}
-use Rattle.toml_names.specs.declared.tree.name_tree.Change.{Change}
-use Rattle.toml_names.specs.tree.Nodes.{grown, undone}
-use Rattle.toml_names.specs.mentions.View.{kind as kind_of}
-use Rattle.toml_names.proofs.lemmas.tree.Depths.{depth_read}
-use Rattle.toml_names.proofs.lemmas.tree.Grows.{grows-element}
+-- What the code makes of the nodes where it links a new one.
+use Rattle.toml_names.proofs.Common.{ap, ◌∙◌, List, length, slice_index_or, arith, rules, Index, Change, grown, undone, kind as kind_of, common_steps, ◌≡◌, ℕ, ◌+◌, ◌<◌, [], ◌∷◌, ◌++◌, Some, slice_set, Role, Kind, Spot, leaf, linked}
+use Rattle.toml_names.proofs.lemmas.tree.NodeAddresses.{depth_read}
 use Rattle.toml_names.proofs.lemmas.tree.Undo.{undone-grown_element}
 use Rattle.toml_names.proofs.tree.name_tree.NameTree.grow_element.Goals as goal
+
+-- `v` is what it read at the node `p`, `after` what it wrote back, `m` the new node
+module _ (nodes : List Spot) (v : Spot) (p : ℕ) (low : p < length nodes) (read : v ≡ slice_index_or nodes p v) (r : Role) (k : Kind) (line : ℕ) where
+  module _ (m after : Spot) (id depth : ℕ) (is : id ≡ length nodes) (deep : depth ≡ v.depth) (more : List Spot) (grew : more ≡ slice_set nodes p after ++ m ∷ []) where
+    grows-element : (i : ℕ) → i ≡ length v.elements → after ≡ linked v (Index i) id → m ≡ leaf (Some (p, Index i)) (depth + 1) r k line
+        → (d : Spot) → more ≡ grown nodes p (slice_index_or nodes p d) (Index (length (slice_index_or nodes p d).elements)) r k line
+    grows-element i last made new d = grind (arith, common_steps)
 
 pub overflow_add-depth : goal.overflow_add-depth
 overflow_add-depth c =
     let read = c.index_mut-node.ensures.value ∙ ap (λ l. slice_index_or l c.args.above c.index_mut-node.result.now) c.reserve-2.ensures.items in
-    let low = depth_read c.args.self.now.nodes.items c.requires.there.tree c.args.above c.index_mut-node.result.now (omega arith) read in
-    let fits = c.ranges.above.fits in
-    let is = c.depth-depth.ensures in
-    omega (arith, low, fits, is)
+    omega (arith, depth_read c.args.self.now.nodes.items c.requires.there.tree c.args.above c.index_mut-node.result.now (omega arith) read, c.ranges.above.fits, c.depth-depth.ensures)
 
 pub returns-clause-grown : goal.returns-clause-grown
 returns-clause-grown c = record {

@@ -1,5 +1,4 @@
-use Rattle.std.proofs.lemmas.Result.{IfOk-weaker}
-use Rattle.toml_names.specs.mentions.View.{kind}
+use Rattle.toml_names.proofs.Common.{IfOk-weaker, kind}
 use Rattle.toml_names.proofs.lemmas.tree.ElementGrown.{IsNode-element, lone-grown}
 use Rattle.toml_names.proofs.tree.name_tree.NameTree.grow_item.Goals as goal
 

@@ -1,5 +1,4 @@
-use Rattle.std.proofs.Common.{◌≡◌, length}
-use Rattle.toml_names.specs.tree.Nodes.{AreSteps}
+use Rattle.toml_names.proofs.Common.{◌≡◌, length, AreSteps}
 use Rattle.toml_names.proofs.tree.name_tree.NameTree.last_steps.Given as goal
 
 abbrev pub invariant-loop-id : goal.invariant-loop-id

@@ -1,4 +1,4 @@
-use Rattle.std.proofs.Common.{arith, rules}
+use Rattle.toml_names.proofs.Common.{arith, rules}
 use Rattle.toml_names.proofs.lemmas.tree.Undo.{undone-noted}
 use Rattle.toml_names.proofs.tree.name_tree.NameTree.note.Goals as goal
 

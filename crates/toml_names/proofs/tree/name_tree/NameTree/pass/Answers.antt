@@ -1,8 +1,4 @@
-use Rattle.std.proofs.Common.{arith}
-use Rattle.std.proofs.lemmas.Result.{err_from_is_err_and}
-use Rattle.toml_tree.specs.View.{piece}
-use Rattle.toml_names.specs.mentions.Keys.{part_name}
-use Rattle.toml_names.specs.tree.Nodes.{nowhere}
+use Rattle.toml_names.proofs.Common.{arith, err_from_is_err_and, piece, part_name, nowhere, rules}
 use Rattle.toml_names.proofs.lemmas.tree.EnterName.{IsNode-known}
 use Rattle.toml_names.proofs.lemmas.tree.InnerNodes.{Passes-known, clash-known, Passes-new}
 use Rattle.toml_names.proofs.lemmas.tree.Steps.{GoesOn-then, refuses}
@@ -14,12 +10,7 @@ inner-id-requires c = record {
 }
 
 pub mention-requires : goal.mention-requires
-mention-requires c = record {
-  there = record {
-    tree = (IsNode-known c.args.self.now.nodes.items c.follow.new.self.nodes.items c.args.at c.requires.there (part_name (piece c.args.part)) c.in-Known.there (rw c.in-Known.is at (rw c.in-Some.is at c.in_ok-found.ensures.found))).tree;
-    within = c.inner-id.ensures.within;
-  };
-}
+mention-requires c = search (rules, IsNode-known)
 
 pub returns-in_err-mention-in-Known : goal.returns-in_err-mention-in-Known
 returns-in_err-mention-in-Known c =

@@ -1,14 +1,5 @@
-use Rattle.std.proofs.Common.{◌≡◌, ◌+◌, [], ◌∷◌, ◌∙◌, Some, sym, ap, subst, take, drop, length, true, arith}
-use Rattle.std.proofs.lemmas.Result.{err_from_is_err_and}
-use Rattle.toml_tree.specs.View.{piece}
-use Rattle.toml_names.specs.tree.EnteringHeaders.{PassedFronts}
-use Rattle.toml_names.specs.tree.Headers.{header_fronts}
-use Rattle.toml_names.specs.mentions.Keys.{part_name}
-use Rattle.toml_names.specs.tree.LongKeys.{CanEnterHeaders}
-use Rattle.toml_names.specs.tree.NameTree.{IsAbsent}
-use Rattle.toml_names.specs.tree.Nodes.{nowhere}
-use Rattle.toml_names.specs.mentions.Rules.{misfit}
-use Rattle.toml_names.proofs.lemmas.tree.KnownHeaders.{passed-fresh}
+use Rattle.toml_names.proofs.Common.{◌≡◌, ◌+◌, [], ◌∷◌, ◌∙◌, Some, sym, ap, subst, take, drop, length, true, arith, err_from_is_err_and, piece, PassedFronts, header_fronts, part_name, CanEnterHeaders, IsAbsent, nowhere, misfit, rules}
+use Rattle.toml_names.proofs.lemmas.tree.FreshHeaders.{passed-fresh}
 use Rattle.toml_names.proofs.lemmas.mentions.Along.{names_left}
 use Rattle.toml_names.proofs.lemmas.tree.EnterFronts.{all-named, one_more, all_names}
 use Rattle.toml_names.proofs.lemmas.tree.PassedFronts.{PassedFronts-first, PassedFronts-more, fronts_clash}
@@ -16,10 +7,7 @@ use Rattle.toml_names.proofs.lemmas.tree.Steps.{GoesOn-same, GoesOn-within, Goes
 use Rattle.toml_names.proofs.tree.name_tree.NameTree.pass_fronts.Goals as goal
 
 pub loop-dotted-init : goal.loop-dotted-init
-loop-dotted-init c = record {
-  passed = PassedFronts-first c.args.self.now.nodes.items c.args.line (part_name (piece c.args.key.now.first)) c.requires.tree;
-  goes_on = GoesOn-same c.args.self.now;
-}
+loop-dotted-init c = search (rules, PassedFronts-first, GoesOn-same)
 
 pub pass-requires : goal.pass-requires
 pass-requires c = record { there = record { tree = c.loop-dotted.invariant.passed.tree; within = c.loop-dotted.invariant.passed.within } }

@@ -1,7 +1,4 @@
-use Rattle.toml_tree.specs.View.{piece}
-use Rattle.toml_names.specs.tree.EnteringHeaders.{PassedFronts}
-use Rattle.toml_names.specs.mentions.Keys.{part_name}
-use Rattle.toml_names.specs.tree.Steps.{GoesOn}
+use Rattle.toml_names.proofs.Common.{piece, PassedFronts, part_name, GoesOn}
 use Rattle.toml_names.proofs.lemmas.tree.EnterFronts.{first_names}
 use Rattle.toml_names.proofs.tree.name_tree.NameTree.pass_fronts.Given as goal
 

@@ -1,7 +1,6 @@
-use Rattle.std.proofs.Common.{Some, None, sym, ◌∙◌, arith}
-use Rattle.toml_names.specs.tree.Nodes.{nowhere}
+use Rattle.toml_names.proofs.Common.{Some, None, sym, ◌∙◌, arith, nowhere}
 use Rattle.toml_names.proofs.lemmas.tree.OnWay.{place_told, some_steps}
-use Rattle.toml_names.proofs.lemmas.tree.Walking.{leads_to}
+use Rattle.toml_names.proofs.lemmas.tree.NodePlaces.{leads_to}
 use Rattle.toml_names.proofs.tree.name_tree.NameTree.place.Goals as goal
 
 pub returns-in_err-here : goal.returns-in_err-here

@@ -1,5 +1,4 @@
-use Rattle.std.proofs.Common.{◌≡◌, vec_len}
-use Rattle.toml_names.specs.tree.Nodes.{undone}
+use Rattle.toml_names.proofs.Common.{◌≡◌, vec_len, undone}
 use Rattle.toml_names.proofs.tree.name_tree.NameTree.undo.Given as goal
 
 abbrev pub invariant-loop-change : goal.invariant-loop-change

@@ -1,6 +1,4 @@
-use Rattle.std.proofs.Common.{sym, subst, arith}
-use Rattle.toml_names.specs.tree.Nodes.{nowhere}
-use Rattle.toml_names.specs.tree.Placing.{IsWalked}
+use Rattle.toml_names.proofs.Common.{sym, subst, arith, nowhere, IsWalked}
 use Rattle.toml_names.proofs.lemmas.tree.OnWay.{way_begins, way_within, way_ends, way_goes_on, way_is_lost}
 use Rattle.toml_names.proofs.tree.name_tree.NameTree.walk.Goals as goal
 
