@@ -201,11 +201,11 @@ fn first_value<'d, 't>(doc: &'d Doc<'t>) -> Option<&'d Value<'t>> {
 }
 
 fn push_gap(alloc: Global, said: &mut String, gap: &Gap<'_>) -> Result<(), AllocError> {
-    for line in &gap.lines {
+    for line in gap.lines() {
         push_blank(alloc, said, &line.blank)?;
         push(alloc, said, line.newline)?;
     }
-    push(alloc, said, gap.ws)
+    push(alloc, said, gap.ws())
 }
 
 fn push_inline(
