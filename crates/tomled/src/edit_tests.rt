@@ -1,44 +1,63 @@
 //! The worked rows of `edit`: a text, the edits, and what they make of it with the certificate that `verify` takes.
 
 mod insert;
-mod refused;
+pub mod refused;
 mod refused_sections;
 mod remove;
 mod sections;
 
-use crate::edit::run_edit;
+use crate::edit::run_edit_in;
 use crate::rows::{is_told, rows};
-use crate::verify::run_verify;
+use crate::verify::run_verify_in;
 use std::alloc::Global;
 use std::process::Abort;
 use std::test::Fail;
+use toml_tree::Profile;
 
-/// Of each of so many rows the edits make the text and the certificate.
+/// Of each of so many rows of profile 1 the edits make the text and the certificate, in profile 2 too.
 pub fn assert_edited(
     rt: &impl Abort,
     alloc: Global,
     table: &str,
     count: usize,
 ) -> Result<(), Fail> {
+    assert_edited_in(rt, alloc, table, count, Profile::One)?;
+    assert_edited_in(rt, alloc, table, count, Profile::Two)
+}
+
+/// Of each of so many rows the edits make the text and the certificate in the profile.
+pub fn assert_edited_in(
+    rt: &impl Abort,
+    alloc: Global,
+    table: &str,
+    count: usize,
+    profile: Profile,
+) -> Result<(), Fail> {
     for row in &rows(rt, alloc, table, count)? {
-        assert_made(rt, alloc, row.as_slice())?;
+        assert_made(rt, alloc, row.as_slice(), profile)?;
     }
     Ok(())
 }
 
 /// The row: the text before, the edits, the text after, and the certificate. `verify` says yes of what is made.
-fn assert_made(rt: &impl Abort, alloc: Global, row: &[String]) -> Result<(), Fail> {
+fn assert_made(
+    rt: &impl Abort,
+    alloc: Global,
+    row: &[String],
+    profile: Profile,
+) -> Result<(), Fail> {
     let [before, edits, after, cert] = row else {
         return Err(Fail::from("not four fields"));
     };
-    let got = run_edit(alloc, before.as_bytes(), edits.as_bytes())?;
+    let (file, list) = (before.as_bytes(), edits.as_bytes());
+    let got = run_edit_in(alloc, file, list, profile)?;
     assert!(rt; is_told(&got, 0, "ok\n", ""), "{row:?}");
     let [text, pairs] = got.files.as_slice() else {
         return Err(Fail::from("not two files"));
     };
     let good = text.as_slice() == after.as_bytes() && pairs.as_slice() == cert.as_bytes();
     assert!(rt; good, "{row:?}");
-    let said = run_verify(alloc, before.as_bytes(), edits.as_bytes(), text, pairs)?;
+    let said = run_verify_in(alloc, file, list, text, pairs, profile)?;
     assert!(rt; is_told(&said, 0, "yes\n", ""), "{row:?}");
     Ok(())
 }

@@ -28,6 +28,8 @@ mod outcome;
 mod output;
 #[cfg(test)]
 mod partner_tests;
+#[cfg(test)]
+mod profile_tests;
 mod refusal;
 #[cfg(test)]
 mod rows;

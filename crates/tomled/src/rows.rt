@@ -6,6 +6,7 @@
 use crate::outcome::Outcome;
 use std::alloc::{AllocError, Global};
 use std::process::Abort;
+use toml_tree::Profile;
 
 /// The rows of a table, of which there are so many.
 pub fn rows(
@@ -54,6 +55,15 @@ fn meant(character: char) -> char {
         '␤' => '\u{85}',
         '□' => '\u{FEFF}',
         other => other,
+    }
+}
+
+/// The profile of a word.
+pub fn profile(word: &str) -> Option<Profile> {
+    match word {
+        "1" => Some(Profile::One),
+        "2" => Some(Profile::Two),
+        _ => None,
     }
 }
 

@@ -1,34 +1,52 @@
 //! The worked rows of `verify`: what it says, the text before, the edits, the text after, and the certificate.
 
 use crate::rows::{is_told, rows};
-use crate::verify::run_verify;
+use crate::verify::run_verify_in;
 use std::alloc::Global;
 use std::process::Abort;
 use std::test::Fail;
+use toml_tree::Profile;
 
-/// What `verify` says of each of so many rows: a yes on the output, a refusal beside it.
+/// What `verify` says of each of so many rows in profile 1: a yes on the output, a refusal beside it.
 pub fn assert_verdicts(
     rt: &impl Abort,
     alloc: Global,
     table: &str,
     count: usize,
 ) -> Result<(), Fail> {
+    assert_verdicts_in(rt, alloc, table, count, Profile::One)
+}
+
+/// So too in the profile.
+pub fn assert_verdicts_in(
+    rt: &impl Abort,
+    alloc: Global,
+    table: &str,
+    count: usize,
+    profile: Profile,
+) -> Result<(), Fail> {
     for row in &rows(rt, alloc, table, count)? {
-        assert_verdict(rt, alloc, row.as_slice())?;
+        assert_verdict(rt, alloc, row.as_slice(), profile)?;
     }
     Ok(())
 }
 
-fn assert_verdict(rt: &impl Abort, alloc: Global, row: &[String]) -> Result<(), Fail> {
+fn assert_verdict(
+    rt: &impl Abort,
+    alloc: Global,
+    row: &[String],
+    profile: Profile,
+) -> Result<(), Fail> {
     let [said, before, edits, after, cert] = row else {
         return Err(Fail::from("not five fields"));
     };
-    let got = run_verify(
+    let got = run_verify_in(
         alloc,
         before.as_bytes(),
         edits.as_bytes(),
         after.as_bytes(),
         cert.as_bytes(),
+        profile,
     )?;
     let line = format!(in alloc; "{said}\n")?;
     let good = if said.as_str() == "yes" {

@@ -1,10 +1,11 @@
 //! What `edit` refuses: the edit list, the file, and edits of it.
 
-use crate::edit::run_edit;
+use crate::edit::run_edit_in;
 use crate::rows::{is_told, rows};
 use std::alloc::{AllocError, Global};
 use std::process::Abort;
 use std::test::Fail;
+use toml_tree::Profile;
 
 /// Nothing is printed or written but the one line of the refusal.
 fn assert_refused(
@@ -13,26 +14,45 @@ fn assert_refused(
     file: &[u8],
     edits: &str,
     line: &str,
+    profile: Profile,
 ) -> Result<(), AllocError> {
-    let got = run_edit(alloc, file, edits.as_bytes())?;
+    let got = run_edit_in(alloc, file, edits.as_bytes(), profile)?;
     let wanted = format!(in alloc; "{line}\n")?;
     let good = is_told(&got, 1, "", wanted.as_str()) && got.files.is_empty();
     assert!(rt; good, "{file:?} {edits}");
     Ok(())
 }
 
-/// So many rows: the refusal, the text and the edits.
+/// So many rows in profile 1: the refusal, the text and the edits.
 pub fn assert_all_refused(
     rt: &impl Abort,
     alloc: Global,
     table: &str,
     count: usize,
 ) -> Result<(), Fail> {
+    assert_refused_in(rt, alloc, table, count, Profile::One)
+}
+
+/// So many rows in the profile: the refusal, the text and the edits.
+pub fn assert_refused_in(
+    rt: &impl Abort,
+    alloc: Global,
+    table: &str,
+    count: usize,
+    profile: Profile,
+) -> Result<(), Fail> {
     for row in &rows(rt, alloc, table, count)? {
         let [line, file, edits] = row.as_slice() else {
             return Err(Fail::from("not three fields"));
         };
-        assert_refused(rt, alloc, file.as_bytes(), edits.as_str(), line.as_str())?;
+        assert_refused(
+            rt,
+            alloc,
+            file.as_bytes(),
+            edits.as_str(),
+            line.as_str(),
+            profile,
+        )?;
     }
     Ok(())
 }
@@ -287,7 +307,21 @@ fn unwritten_edits(rt: HostRuntime) -> Result<(), Fail> {
 
 #[test]
 fn bytes_that_are_no_text(rt: HostRuntime) -> Result<(), Fail> {
-    assert_refused(&rt, rt.alloc(), b"a = \"\xFF\"", "[]", "refused 101 5")?;
-    assert_refused(&rt, rt.alloc(), b"a = \"\xFF\"", "{}", "refused 321 0")?;
+    assert_refused(
+        &rt,
+        rt.alloc(),
+        b"a = \"\xFF\"",
+        "[]",
+        "refused 101 5",
+        Profile::One,
+    )?;
+    assert_refused(
+        &rt,
+        rt.alloc(),
+        b"a = \"\xFF\"",
+        "{}",
+        "refused 321 0",
+        Profile::One,
+    )?;
     Ok(())
 }

@@ -2,18 +2,11 @@
 
 use crate::library_tests::units::lines;
 use crate::library_tests::worked::{assert_lines, assert_paragraphs, names, source};
+use crate::rows::profile;
 use std::alloc::Global;
 use std::test::Fail;
 use toml_tree::{Profile, parse_in, parse_value_in};
 use toml_units::units;
-
-fn profile(word: &str) -> Option<Profile> {
-    match word {
-        "1" => Some(Profile::One),
-        "2" => Some(Profile::Two),
-        _ => None,
-    }
-}
 
 /// Why a text is no document of a profile, or none where it is one and comes back: of a row as `2 | a = {}`.
 fn refusal(alloc: Global, row: &str) -> Option<String> {
