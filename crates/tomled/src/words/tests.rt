@@ -1,129 +1,172 @@
-use super::{Request, WordsFault, read_words};
+use super::{WordsFault, read_words};
+use crate::rows::rows;
 use clap::error::ErrorKind;
-use toml_tree::Profile;
+use std::alloc::{AllocError, Global};
+use std::process::Abort;
+use std::test::Fail;
 
-#[test]
-fn check_has_its_path(rt: HostRuntime) {
-    let request = read_words(rt.alloc(), ["tomled", "check", "a.toml"].as_slice());
-    assert!(rt; matches!(&request, Ok(Request::Check { file: "a.toml", profile: Profile::One })));
-}
-
-#[test]
-fn show_has_its_path(rt: HostRuntime) {
-    let request = read_words(rt.alloc(), ["tomled", "show", "a.toml"].as_slice());
-    assert!(rt;
-        matches!(
-            &request,
-            Ok(Request::Show {
-                file: "a.toml",
-                list: false,
-                profile: Profile::One
-            })
-        )
-    );
-}
-
-#[test]
-fn show_lists_before_and_behind_its_path(rt: HostRuntime) {
-    for words in [
-        ["tomled", "show", "--list", "a.toml"],
-        ["tomled", "show", "a.toml", "--list"],
-    ] {
-        let request = read_words(rt.alloc(), words.as_slice());
-        assert!(rt;
-            matches!(
-                &request,
-                Ok(Request::Show {
-                    file: "a.toml",
-                    list: true,
-                    profile: Profile::One
-                })
-            )
-        );
+/// What the words of a line ask for, or why they ask for nothing. Between two spaces stands a word of no characters.
+fn asked(alloc: Global, line: &str) -> Result<String, AllocError> {
+    let mut words = Vec::new(alloc);
+    for word in line.split(' ') {
+        words.push(word)?;
+    }
+    match read_words(alloc, &words) {
+        Ok(request) => format!(in alloc; "{request:?}"),
+        Err(WordsFault::Parser(error)) => refusal(alloc, &error),
+        Err(WordsFault::Missing) => String::from_str(alloc, "missing"),
     }
 }
 
-#[test]
-fn verify_has_its_paths(rt: HostRuntime) {
-    let words = ["tomled", "verify", "a.toml", "e.json", "b.toml", "c.txt"];
-    let request = read_words(rt.alloc(), words.as_slice());
-    assert!(rt;
-        matches!(
-            &request,
-            Ok(Request::Verify {
-                before: "a.toml",
-                edits: "e.json",
-                after: "b.toml",
-                cert: "c.txt",
-                profile: Profile::One
-            })
-        )
-    );
-}
-
-#[test]
-fn edit_has_its_paths(rt: HostRuntime) {
-    let words = ["tomled", "edit", "a.toml", "e.json", "b.toml", "c.txt"];
-    let request = read_words(rt.alloc(), words.as_slice());
-    assert!(rt;
-        matches!(
-            &request,
-            Ok(Request::Edit {
-                file: "a.toml",
-                edits: "e.json",
-                out: "b.toml",
-                cert: "c.txt",
-                profile: Profile::One
-            })
-        )
-    );
-}
-
-#[test]
-fn help_is_shown(rt: HostRuntime) {
-    for words in [
-        ["tomled", "--help"].as_slice(),
-        ["tomled", "check", "--help"].as_slice(),
-        ["tomled", "show", "--help"].as_slice(),
-        ["tomled", "edit", "--help"].as_slice(),
-        ["tomled", "verify", "--help"].as_slice(),
-        ["tomled", "help"].as_slice(),
-    ] {
-        let result = read_words(rt.alloc(), words);
-        let is_help = match &result {
-            Err(WordsFault::Parser(error)) => {
-                error.kind() == ErrorKind::DisplayHelp
-                    && error.exit_code() == 0
-                    && !error.use_stderr()
-            }
-            _ => false,
-        };
-        assert!(rt; is_help, "{words:?}: {result:?}");
+/// Whether the parser shows its help or tells a mistake, with the status.
+fn refusal(alloc: Global, error: &clap::Error) -> Result<String, AllocError> {
+    let status = error.exit_code();
+    match (error.kind(), error.use_stderr()) {
+        (ErrorKind::DisplayHelp, false) => format!(in alloc; "help, status {status}"),
+        (ErrorKind::OutOfMemory, _) => Err(AllocError),
+        (_, true) => format!(in alloc; "mistake, status {status}"),
+        (_, false) => format!(in alloc; "another text, status {status}"),
     }
 }
 
-#[test]
-fn mistakes_are_refused(rt: HostRuntime) {
-    for words in [
-        ["tomled"].as_slice(),
-        ["tomled", "edit", "a.toml"].as_slice(),
-        ["tomled", "edit", "a.toml", "e.json", "b.toml"].as_slice(),
-        ["tomled", "edit", "a.toml", "e.json", "b.toml", "c", "d"].as_slice(),
-        ["tomled", "show"].as_slice(),
-        ["tomled", "show", "a.toml", "b.toml"].as_slice(),
-        ["tomled", "show", "--list"].as_slice(),
-        ["tomled", "show", "--list", "--list", "a.toml"].as_slice(),
-        ["tomled", "check"].as_slice(),
-        ["tomled", "check", "a.toml", "b.toml"].as_slice(),
-        ["tomled", "check", "--list", "a.toml"].as_slice(),
-        ["tomled", "verify", "a.toml", "e.json", "b.toml"].as_slice(),
-        ["tomled", "verify", "a.toml", "e.json", "b.toml", "c", "d"].as_slice(),
-    ] {
-        let result = read_words(rt.alloc(), words);
-        let is_mistake = match &result {
-            Err(WordsFault::Parser(error)) => error.exit_code() == 2 && error.use_stderr(),
-            _ => false,
-        };
-        assert!(rt; is_mistake, "{words:?}: {result:?}");
+/// What words ask for, and lines of such words.
+const REQUESTS: &str = r#"
+Show { file: "a", list: false, profile: One }
+tomled show a
+tomled show --profile 1 a
+tomled show a --profile=1
+
+Show { file: "a", list: false, profile: Two }
+tomled show --profile 2 a
+tomled show --profile=2 a
+tomled show a --profile 2
+tomled show a --profile=2
+
+Show { file: "a", list: true, profile: One }
+tomled show --list a
+tomled show a --list
+tomled show --profile 1 a --list
+
+Show { file: "a", list: true, profile: Two }
+tomled show --list --profile 2 a
+tomled show --profile=2 a --list
+tomled show a --list --profile 2
+
+Check { file: "a", profile: One }
+tomled check a
+tomled check --profile 1 a
+tomled check --profile=1 a
+tomled check a --profile 1
+
+Check { file: "a", profile: Two }
+tomled check --profile 2 a
+tomled check --profile=2 a
+tomled check a --profile 2
+tomled check a --profile=2
+
+Edit { file: "a", edits: "b", out: "c", cert: "d", profile: One }
+tomled edit a b c d
+tomled edit --profile 1 a b c d
+tomled edit a b c d --profile=1
+
+Edit { file: "a", edits: "b", out: "c", cert: "d", profile: Two }
+tomled edit --profile 2 a b c d
+tomled edit --profile=2 a b c d
+tomled edit a b --profile 2 c d
+tomled edit a b c d --profile 2
+
+Verify { before: "a", edits: "b", after: "c", cert: "d", profile: One }
+tomled verify a b c d
+tomled verify --profile 1 a b c d
+tomled verify a b c d --profile=1
+
+Verify { before: "a", edits: "b", after: "c", cert: "d", profile: Two }
+tomled verify --profile 2 a b c d
+tomled verify --profile=2 a b c d
+tomled verify a b --profile 2 c d
+tomled verify a b c d --profile 2
+
+help, status 0
+tomled --help
+tomled show --help
+tomled check --help
+tomled edit --help
+tomled verify --help
+tomled help
+"#;
+
+/// Lines of words that ask for nothing.
+const MISTAKES: &str = r#"
+mistake, status 2
+tomled
+tomled edit a
+tomled edit a b c
+tomled edit a b c d e
+tomled show
+tomled show a b
+tomled show --list
+tomled show --list --list a
+tomled check
+tomled check a b
+tomled check --list a
+tomled verify a b c
+tomled verify a b c d e
+
+// Another profile, none, a missing one, two
+mistake, status 2
+tomled show --profile 3 a
+tomled show --profile 0 a
+tomled show --profile ∅ a
+tomled show a --profile
+tomled show --profile 1 --profile 2 a
+tomled check --profile 3 a
+tomled check --profile=0 a
+tomled check --profile= a
+tomled check a --profile
+tomled check --profile 2 a --profile=2
+tomled check --profile two a
+tomled check --profile 258 a
+tomled check --profile
+tomled edit --profile 3 a b c d
+tomled edit --profile 0 a b c d
+tomled edit --profile ∅ a b c d
+tomled edit a b c d --profile
+tomled edit a b c --profile 2
+tomled edit --profile 1 a b c d --profile 1
+tomled verify --profile 3 a b c d
+tomled verify --profile 0 a b c d
+tomled verify --profile ∅ a b c d
+tomled verify a b c d --profile
+tomled verify a b c --profile 2
+tomled verify --profile 1 a b c d --profile 1
+tomled --profile 2 check a
+
+// The parser takes these for numbers.
+missing
+tomled show --profile 01 a
+tomled check --profile 01 a
+tomled check --profile=+2 a
+tomled edit --profile 01 a b c d
+tomled verify --profile 02 a b c d
+"#;
+
+fn assert_asked(rt: &impl Abort, alloc: Global, table: &str, count: usize) -> Result<(), Fail> {
+    for row in &rows(rt, alloc, table, count)? {
+        let (wanted, lines) = row.as_slice().split_first().ok_or("no lines")?;
+        for line in lines {
+            let got = asked(alloc, line.as_str())?;
+            assert!(rt; got.as_str() == wanted.as_str(), "{line}: {got}");
+        }
     }
+    Ok(())
+}
+
+#[test]
+fn words_ask(rt: HostRuntime) -> Result<(), Fail> {
+    assert_asked(&rt, rt.alloc(), REQUESTS, 11)
+}
+
+#[test]
+fn mistakes_are_refused(rt: HostRuntime) -> Result<(), Fail> {
+    assert_asked(&rt, rt.alloc(), MISTAKES, 3)
 }
