@@ -2,13 +2,15 @@
 //! `edit`.
 
 use crate::library_tests::worked::{data, doc, edits, names, source};
+use crate::rows::is_told;
 use crate::tagged::tagged;
+use crate::verify::run_verify;
 use std::alloc::Global;
-use toml_checker::{Verdict, check, first_marks, outermost};
-use toml_editor::{edit, edit_pieces};
+use toml_checker::{Verdict, check, check_in, first_marks, outermost};
+use toml_editor::{edit, edit_in, edit_pieces};
 use toml_names::{Address, NameReader, key_address, read_lines};
 use toml_text::Source;
-use toml_tree::{Expr, parse_value};
+use toml_tree::{Expr, Profile, parse_value};
 use toml_units::{Certificate, certificate_text, join, units, units_at, units_inside};
 
 const FLOAT: &str = "3.14 = 0xdead_beef\n";
@@ -159,4 +161,31 @@ fn verdict(alloc: Global) -> Option<Verdict> {
 #[test]
 fn the_judge_says_yes(rt: HostRuntime) {
     assert_eq!(rt; verdict(rt.alloc()), Some(Verdict::Yes));
+}
+
+/// Whether the program says yes too.
+fn is_verified(alloc: Global, pairs: &str) -> Option<bool> {
+    let (file, edits, out) = (FILE.as_bytes(), EDITS.as_bytes(), OUT.as_bytes());
+    let told = run_verify(alloc, file, edits, out, pairs.as_bytes()).ok()?;
+    Some(is_told(&told, 0, "yes\n", ""))
+}
+
+#[test]
+fn the_program_says_yes(rt: HostRuntime) {
+    assert_eq!(rt; is_verified(rt.alloc(), "kept 1\n1 1\n2 2\n"), Some(true));
+}
+
+/// Whether the name of an inline table of profile 2 is made another, and the judge says yes of it.
+fn makes_in_profile_2(alloc: Global, before: &str, after: &str) -> Option<bool> {
+    let edits = edits(alloc, r#"[{"op":"rename","at":["t"],"to":"u"}]"#)?;
+    let (file, profile) = (before.as_bytes(), Profile::Two);
+    let (text, certificate) = edit_in(alloc, file, &edits, profile).ok()?;
+    let said = check_in(alloc, file, &edits, after.as_bytes(), &certificate, profile).ok()?;
+    Some(text.as_str() == after && said == Verdict::Yes)
+}
+
+#[test]
+fn edits_make_a_text_of_profile_2(rt: HostRuntime) {
+    let made = makes_in_profile_2(rt.alloc(), "t = { # c\n}\n", "u = { # c\n}\n");
+    assert_eq!(rt; made, Some(true));
 }

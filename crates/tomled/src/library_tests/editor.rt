@@ -1,12 +1,13 @@
 //! Pieces of edited texts; their texts and certificates stand in `edit_tests`.
 
-use crate::library_tests::worked::{assert_lines, doc, edits, names};
+use crate::library_tests::worked::{assert_lines, doc_in, edits, names};
 use std::alloc::Global;
 use std::test::Fail;
 use toml_checker::outermost;
-use toml_editor::edit_pieces;
+use toml_editor::{edit_pieces, edit_pieces_in};
 use toml_edits::Edit;
 use toml_text::Span;
+use toml_tree::Profile;
 use toml_units::{Piece, units};
 
 /// Whether the span has no bytes or lies in one kept piece.
@@ -23,8 +24,13 @@ fn holds(piece: &Piece, span: Span) -> bool {
 }
 
 /// The spans of the units of a text that are outermost of those that the edits leave as they are.
-fn outermost_spans(alloc: Global, text: &str, edits: &[Edit]) -> Option<Vec<Span>> {
-    let doc = doc(alloc, text)?;
+fn outermost_spans(
+    alloc: Global,
+    text: &str,
+    edits: &[Edit],
+    profile: Profile,
+) -> Option<Vec<Span>> {
+    let doc = doc_in(alloc, text, profile)?;
     let names = names(alloc, &doc)?;
     let units = units(alloc, &doc, &names).ok()?;
     let mut spans = Vec::new(alloc);
@@ -37,11 +43,11 @@ fn outermost_spans(alloc: Global, text: &str, edits: &[Edit]) -> Option<Vec<Span
 }
 
 /// Whether each unit that is outermost of those that the edits of a text leave as they are lies in a kept piece.
-fn kept_units(alloc: Global, row: &str) -> Option<String> {
+fn kept_units(alloc: Global, row: &str, profile: Profile) -> Option<String> {
     let (list, text) = row.split_once(" | ")?;
     let edits = edits(alloc, list)?;
-    let (pieces, _) = edit_pieces(alloc, text.as_bytes(), &edits).ok()?;
-    let spans = outermost_spans(alloc, text, &edits)?;
+    let (pieces, _) = edit_pieces_in(alloc, text.as_bytes(), &edits, profile).ok()?;
+    let spans = outermost_spans(alloc, text, &edits, profile)?;
     for span in &spans {
         if !is_kept(&pieces, *span) {
             return None;
@@ -69,9 +75,29 @@ kept | [{"op":"section","at":["a",0,"s"]}] | [[a]]¶b = 1 # one¶[[a]] # second�
 kept | [{"op":"element","at":["a",1]}] | [[a]]¶# last
 "#;
 
+/// In inline tables of profile 2.
+const KEPT_IN_TABLES: &str = r#"
+kept | [{"op":"remove","at":["t","x"]}] | t = {¶  x = 1, # one¶  y = 2,¶}¶
+kept | [{"op":"remove","at":["t","y"]}] | t = {¶  x = 1, # one¶  y = 2,¶}¶
+kept | [{"op":"insert","at":["t","z"],"value":"3"}] | t = {¶  x = 1, # one¶  y = 2,¶}¶
+kept | [{"op":"rename","at":["t"],"to":"u"}] | t = { # c¶}¶
+kept | [{"op":"set","at":["t","a","x"],"value":"{ # in\n}"}] | t = {¶  a = {¶    x = 1, # in¶  }, # out¶}¶
+kept | [{"op":"insert","at":["x",0],"value":"{ # k\n}"}] | x = [¶  {¶    k = 1, # k¶  }, # first¶  {}, # second¶]¶
+kept | [{"op":"remove","at":["t","a","b"]}] | t = {a.b.c = 1, # C¶ a.b.d = 2, # D¶}¶
+"#;
+
+fn kept_in_one(alloc: Global, row: &str) -> Option<String> {
+    kept_units(alloc, row, Profile::One)
+}
+
+fn kept_in_two(alloc: Global, row: &str) -> Option<String> {
+    kept_units(alloc, row, Profile::Two)
+}
+
 #[test]
 fn units_that_no_edit_names_lie_in_kept_pieces(rt: HostRuntime) -> Result<(), Fail> {
-    assert_lines(&rt, rt.alloc(), KEPT, 16, kept_units)
+    assert_lines(&rt, rt.alloc(), KEPT, 16, kept_in_one)?;
+    assert_lines(&rt, rt.alloc(), KEPT_IN_TABLES, 7, kept_in_two)
 }
 
 /// The pieces that the edits make of a text.

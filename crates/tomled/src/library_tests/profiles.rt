@@ -1,10 +1,14 @@
-//! Profile 2: inline tables over several lines, with comments and a last comma; what profile 1 says of them; their units.
+//! Profile 2: inline tables over several lines, with comments and a last comma; what profile 1 says of them; their units,
+//! and as values of edits.
 
 use crate::library_tests::units::lines;
-use crate::library_tests::worked::{assert_lines, assert_paragraphs, names, source};
+use crate::library_tests::worked::{
+    assert_lines, assert_paragraphs, data, doc_in, edits, names, source, what_stands,
+};
 use crate::rows::profile;
 use std::alloc::Global;
 use std::test::Fail;
+use toml_edits::apply_in;
 use toml_tree::{Profile, parse_in, parse_value_in};
 use toml_units::units;
 
@@ -69,7 +73,7 @@ fn values_by_profile(rt: HostRuntime) -> Result<(), Fail> {
 
 /// The units of a document of profile 2.
 fn units_of(alloc: Global, text: &str) -> Option<String> {
-    let doc = parse_in(alloc, source(text)?, Profile::Two).ok()?;
+    let doc = doc_in(alloc, text, Profile::Two)?;
     let names = names(alloc, &doc)?;
     lines(alloc, &units(alloc, &doc, &names).ok()?)
 }
@@ -97,4 +101,40 @@ TailComment 37 40 /t -
 #[test]
 fn comments_of_inline_tables_are_units(rt: HostRuntime) -> Result<(), Fail> {
     assert_paragraphs(&rt, rt.alloc(), UNITS, 2, units_of)
+}
+
+/// What stands at a path once the first edit of a list is made in a profile on the data of a text, or why it is not: of a row
+/// as `2 | /a | [] | a = 1`.
+fn made_in(alloc: Global, row: &str) -> Option<String> {
+    let (word, rest) = row.split_once(" | ")?;
+    let (path, rest) = rest.split_once(" | ")?;
+    let (list, text) = rest.split_once(" | ")?;
+    let mut data = data(alloc, text)?;
+    match apply_in(
+        alloc,
+        &mut data,
+        edits(alloc, list)?.first()?,
+        profile(word)?,
+    ) {
+        Ok(()) => what_stands(alloc, &data.root, path),
+        Err(fault) => format!(in alloc; "{fault:?}").ok(),
+    }
+}
+
+const MADE: &str = r#"
+table | 2 | /a | [{"op":"set","at":["a"],"value":"{\n}"}] | a = 1
+BadValue | 1 | /a | [{"op":"set","at":["a"],"value":"{\n}"}] | a = 1
+Integer(2) | 2 | /a/#0/k | [{"op":"insert","at":["a",0],"value":"{ # c\n k = 2,}"}] | a = [1]
+BadValue | 1 | /a/#0/k | [{"op":"insert","at":["a",0],"value":"{ # c\n k = 2,}"}] | a = [1]
+Integer(2) | 1 | /a/k | [{"op":"set","at":["a"],"value":"{k = 2}"}] | a = 1
+Integer(2) | 2 | /a/k | [{"op":"set","at":["a"],"value":"{k = 2}"}] | a = 1
+BadValue | 2 | /a | [{"op":"set","at":["a"],"value":"{,}"}] | a = 1
+BadValue | 2 | /a | [{"op":"set","at":["a"],"value":"{k = 1,\nk = 2}"}] | a = 1
+NoSuchPlace | 2 | /a | [{"op":"set","at":["b"],"value":"{\n}"}] | a = 1
+nothing | 2 | /a | [{"op":"remove","at":["a"]}] | a = 1
+"#;
+
+#[test]
+fn values_of_edits_by_profile(rt: HostRuntime) -> Result<(), Fail> {
+    assert_lines(&rt, rt.alloc(), MADE, 10, made_in)
 }

@@ -14,7 +14,7 @@ use std::test::Fail;
 use toml_edits::{Edit, read_edits};
 use toml_names::{Address, Data, Datum, Name, Names, Step, read_names};
 use toml_text::Source;
-use toml_tree::{Doc, parse};
+use toml_tree::{Doc, Profile, parse, parse_in};
 
 /// Asks each line of a table, of which there are so many: what stands before the first ` | ` is the answer to what stands
 /// behind it.
@@ -118,6 +118,10 @@ pub fn source<'t>(text: &'t str) -> Option<Source<'t>> {
 
 pub fn doc<'t>(alloc: Global, text: &'t str) -> Option<Doc<'t>> {
     parse(alloc, source(text)?).ok()
+}
+
+pub fn doc_in<'t>(alloc: Global, text: &'t str, profile: Profile) -> Option<Doc<'t>> {
+    parse_in(alloc, source(text)?, profile).ok()
 }
 
 pub fn names<'d, 't>(alloc: Global, doc: &'d Doc<'t>) -> Option<Names<'d, 't>>
