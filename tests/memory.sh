@@ -158,6 +158,17 @@ edited '[{"op":"section","at":["a",0,"c"]},{"op":"element","at":["a",2]}]' \
   '[[a]]\n[a.b]\n[a.c]\n[[a]]\nx = 1\n[[a]]' 'kept 1\n0 0\n1 1\n2 3\n3 4\n'
 document 'f = +6.626_0E-34\nd = 1979-05-27 07:32:00.50z\n' \
   '{"d":{"type":"datetime","value":"1979-05-27T07:32:00.50Z"},"f":{"type":"float","value":"6.6260e-34"}}' '["f"]\n["d"]'
+
+# In profile 2
+printf 't = {\n  x = 1, # one\n  y = 2,\n}\n' >before
+printf '[{"op":"insert","at":["t","z"],"value":"{ # c\\n}"}]' >edits
+printf 't = {\n  x = 1, # one\n  y = 2, z = { # c\n},\n}\n' >after
+printf 'kept 1\n1 1\n2 2\n3 3\n4 6\n' >shown
+each 0 'ok\n' '' - - check --profile 2 before
+each 0 '["t"]\n["t","x"]\n["t","y"]\n' '' - - show --list --profile 2 before
+each 0 "{\"t\":{\"x\":$(integer 1),\"y\":$(integer 2)}}\n" '' - - show --profile 2 before
+each 0 'ok\n' '' "$(cat after)\n" "$(cat shown)\n" edit --profile 2 before edits text cert
+each 0 'yes\n' '' - - verify --profile 2 before edits after shown
 printf '[a.b.c]\n[a]\nb.x = 1\n[a.b]\n' >before
 refused '201 4' check before
 refused '201 4' show before

@@ -101,6 +101,38 @@ absent refused.toml refused.txt
 run 3 - 'file fault' edit before.toml edits.json opened.toml ./none/refused.txt
 holds opened.toml ''
 
+# The profile, before and behind the paths of each command; another one, none, two.
+printf 't = {\n  x = 1, # one\n  y = 2,\n}\n' >two.toml
+printf '[{"op":"remove","at":["t","x"]}]' >two.json
+run 1 - 'refused 104 5' check two.toml
+run 1 - 'refused 104 5' check --profile 1 two.toml
+run 0 ok - check --profile 2 two.toml
+run 0 ok - check two.toml --profile=2
+run 0 '{"t":{"x":{"type":"integer","value":"1"},"y":{"type":"integer","value":"2"}}}' - show --profile 2 two.toml
+run 1 - 'refused 104 5' show two.toml --profile 1
+printf 't = { # c\n}\n' >empty.toml
+run 0 '["t"]' - show --list --profile=2 empty.toml
+run 1 - 'refused 104 6' show --list empty.toml
+run 1 - 'refused 104 5' edit --profile 1 two.toml two.json two.out two.cert
+absent two.out two.cert
+run 0 ok - edit two.toml two.json two.out two.cert --profile 2
+holds two.out 't = {\n   # one\n  y = 2,\n}\n'
+holds two.cert 'kept 1\n2 1\n3 2\n4 3\n'
+run 0 yes - verify --profile=2 two.toml two.json two.out two.cert
+run 1 - 'refused 401 0' verify two.toml two.json two.out two.cert --profile 1
+for words in 'check two.toml' 'show two.toml' 'show --list two.toml' 'edit two.toml two.json no.out no.cert' \
+  'verify two.toml two.json two.out two.cert'; do
+  run 2 - 'error:*' $words --profile 3
+  run 2 - 'error:*' $words --profile 0
+  run 2 - 'bad words' $words --profile 01
+  run 2 - 'error:*' $words --profile ''
+  run 2 - 'error:*' $words --profile=
+  run 2 - 'error:*' $words --profile
+  run 2 - 'error:*' $words --profile 2 --profile 2
+done
+run 2 - 'error:*' --profile 2 check two.toml
+absent no.out no.cert
+
 # Files that can't be read or opened: a folder, one whose bytes can't be had, a folder that is not there. What is refused
 # before both are open leaves nothing written.
 mkdir folder
