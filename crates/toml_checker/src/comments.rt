@@ -18,7 +18,7 @@ use toml_edits::Edit;
 use toml_tree::Profile;
 use toml_units::{Unit, UnitKind};
 
-/// Whether the unit is a comment of an array that one of the edits writes.
+/// Whether the unit is a comment of an array or an inline table that one of the edits writes.
 fn is_allowed(written: &[Written], text: &[u8], comment: &Unit) -> bool
     ensures { IsTrue result ↔ IsAllowed written.now text.now (unit comment.now) }
 {
@@ -38,8 +38,8 @@ fn are_allowed(written: &[Written], text: &[u8], comments: &[&Unit]) -> bool
     true
 }
 
-/// Whether each comment of a document is paired, or lies inside a paired unit, or is a comment of an array that an edit
-/// has written; and of these last ones no text stands more often than in the values of all the edits. The units are those
+/// Whether each comment of a document is paired, or lies inside a paired unit, or is a comment of an array or an inline
+/// table that an edit has written; and of these last ones no text stands more often than in the values of all the edits. The units are those
 /// of the document, whose text it is, the pairs' second numbers count them, and no edit's value is refused in the profile.
 pub(crate) fn no_comments_added(
     alloc: Global,

@@ -117,7 +117,7 @@ fn next_line<'a>(line: Option<&'a Unit>, unit: &'a Unit) -> Option<&'a Unit>
 /// | header line | remove or set with `p` at or above `a` | rename with `p` at or above `a` |
 /// | element | remove or set with `p` at or above `a` | any edit with `p` strictly below `a` |
 /// | comment at the end of a line | its line is taken away | never |
-/// | comment in an array | its line is taken away; remove or set with `p` at or above `a` | never |
+/// | comment in an array or an inline table | its line is taken away; remove or set with `p` at or above `a` | never |
 /// | blank line | never | never |
 ///
 /// A new section or element takes nothing away, and is among the edits of any kind.

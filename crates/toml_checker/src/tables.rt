@@ -15,7 +15,7 @@ pub enum Part {
     Home,
     /// An element.
     Element,
-    /// A comment of an array.
+    /// A comment of an array or an inline table.
     Comment,
 }
 
@@ -88,7 +88,7 @@ fn renames_in(edit: &Edit, steps: usize, side: Side) -> bool
     }
 }
 
-/// A header line, an element or a comment of an array goes.
+/// A header line, an element or a comment of an array or an inline table goes.
 fn part_is_gone(edit: &Edit, side: Side) -> bool
     ensures { result ≡ part_is_gone (change edit.now) side }
 {
