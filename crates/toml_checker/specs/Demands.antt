@@ -15,7 +15,8 @@ use Rattle.toml_checker.specs.Kept.{AllKept}
 use Rattle.toml_checker.specs.Lines.{NoLinesAdded}
 use Rattle.toml_checker.specs.Pairs.{PairsFit}
 
--- what each reason says that it does not hold
+-- What each reason says that it does not hold. Trees, data and the comments of values are told without the profile: a text has at most one
+-- tree, and the demands before these have asked that both texts and all values are of the profile.
 abbrev pub Demand : Profile → Reason → List ℕ → List Change → List ℕ → List (ℕ × ℕ) → Type 0
 Demand profile BeforeRefused before cs after ps = IsDocumentIn profile before
 Demand profile AfterRefused before cs after ps = IsDocumentIn profile after

@@ -45,7 +45,7 @@ PairIsGone c a = Removes c a ⊎ SetsAbove c a
 abbrev pub PairIsChanged : Change → Address → ℕ → Type 0
 PairIsChanged c a steps = SetsIt c a ⊎ IsWithin c a ⊎ (Renames c a × (steps < length (place c)))
 
--- A header line, an element and a comment of an array go by a removal and a `set` at the address or above it.
+-- A header line, an element and a comment in an array or an inline table go by a removal and a `set` at the address or above it.
 abbrev pub PartIsGone : Change → Address → Type 0
 PartIsGone c a = Removes c a ⊎ Sets c a
 

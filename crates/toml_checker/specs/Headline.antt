@@ -40,7 +40,7 @@ NothingUnasked cs before after standing = (k : ℕ) (w : TextUnit) → slice_get
 -- each comment, expression, element and inline pair that no edit names stands in the second text, byte for byte, in the same order
 -- and at its carried address; nothing unasked is added; and without an edit the two texts are equal.
 pub record Headline (profile : Profile) (before : List ℕ) (cs : List Change) (after : List ℕ) (ps : List (ℕ × ℕ)) : Type 0 where
-  -- both are documents of the profile; what follows is about their trees
+  -- both are documents of the profile handed in; what follows is about their trees
   pub old : IsDocumentIn profile before
   pub new : IsDocumentIn profile after
   -- the edits lead from the data of the one to those of the other

@@ -18,7 +18,7 @@ use Rattle.toml_units.specs.Plain.{spanned}
 use Rattle.toml_units.specs.Units.{units}
 use Rattle.toml_units.specs.View.{all_units}
 
--- the tree of a text within the limit; without one it is no document
+-- the tree of a text within the limit, in the profile; without one it is no document of it
 abbrev pub FindsTree : Profile → List ℕ → Option Doc → Type 0
 FindsTree profile text found = MatchOption found (¬ IsDocumentIn profile text) (λ doc. IsText text × Spells (document doc) text × IsOfProfile profile (document doc))
 
@@ -43,6 +43,6 @@ pub record IsRead (d : Document) : Type 0 where
   pub spelled : Spells (document d.doc.now) d.text.now
   pub units : AreUnitsOf d.doc.now d.units.now
 
--- the tree, the data and the units of a document; without them the text is none
+-- the tree, the data and the units of a document of the profile; without them the text is none
 abbrev pub FindsDocument : Profile → List ℕ → Option (Doc × Rest) → Type 0
 FindsDocument profile text found = MatchOption found (¬ IsDocumentIn profile text) (λ r. IsDocumentIn profile text × Spells (document r.0) text × IsRest r.0 r.1)

@@ -47,6 +47,6 @@ abbrev pub AnyWrites : List Written → Option Address → List ℕ → Type 0
 AnyWrites [] at text = ⊥
 AnyWrites (w ∷ ws) at text = Writes w at text ⊎ AnyWrites ws at text
 
--- a comment of an array that one of the edits writes
+-- a comment in an array or an inline table that one of the edits writes
 abbrev pub IsAllowed : List Written → List ℕ → Spanned → Type 0
 IsAllowed ws text u = (u.kind ≡ kinds.InnerComment) × AnyWrites ws u.address (text_at text u)

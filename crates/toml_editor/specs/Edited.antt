@@ -75,7 +75,7 @@ IsRightInValue places at = (q : Address) × (s : Step) × (at ≡ q ++ s ∷ [])
 abbrev pub IsElementInValue : Places → Address → Type 0
 IsElementInValue places at = (q : Address) × (s : Step) × (at ≡ q ++ s ∷ []) × (IsInValue (places q) ⊎ IsRightInValue places q)
 
--- A value for a table or an array, or an element more of an array: it may be spread over lines. A section or an element of an array of tables: of the
+-- A value for a table or an array, or a new element of an array: its place may be spread over lines. A section or an element of an array of tables: of the
 -- first edit only where its header line would stand in a value; what later ones stand in is not said.
 abbrev pub MayBeSpread : Places → ℕ → Change → Kinds → Type 0
 MayBeSpread places index (set at value) kinds = (kinds at ≡ Some a_table) ⊎ (kinds at ≡ Some an_array)
@@ -89,7 +89,7 @@ abbrev pub TakesLastElement : Change → Kinds → Type 0
 TakesLastElement (remove at) kinds = (q : Address) × (at ≡ element q 0) × IsSome (kinds at) × (kinds (element q 1) ≡ None)
 TakesLastElement _ kinds = ⊥
 
--- the edit is defined on the data, and so it is
+-- the edit is defined on the data, and P holds of it
 abbrev pub OfDefined : Profile → (Change → Kinds → Type 0) → Change → Kinds → Type 0
 OfDefined profile P c kinds = IsFault profile c kinds None × P c kinds
 

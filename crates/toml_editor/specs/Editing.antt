@@ -24,13 +24,13 @@ pub record IsReadAs (profile : Profile) (before text : List ℕ) (d : Doc) : Typ
   pub spelled : Spells d before
   pub of_profile : IsOfProfile profile d
 
--- the text is a document's, the tree spells it, and these are its lines
+-- the text is a document's of the profile, the tree spells it, and these are its lines
 pub record HasLines (profile : Profile) (text : List ℕ) (d : Doc) (lines : List Line) : Type 0 where
   pub document : IsDocumentIn profile text
   pub spelled : Spells d text
   pub taken : lines ≡ d.lines
 
--- the text is a document's, and the tree and the units are those of the text
+-- the text is a document's of the profile, and the tree and the units are those of the text
 pub record IsKnown (profile : Profile) (d : Document) : Type 0 where
   pub read : IsRead d
   pub document : IsDocumentIn profile d.text.now

@@ -45,10 +45,11 @@ pub fn edit(
     edit_in(alloc, before, edits, Profile::One)
 }
 
-/// The text that the edits make of a document of the profile, one after the other, their values read in it, and the certificate which shows that all else is kept:
+/// The text that the edits make of a document, one after the other, and the certificate which shows that all else is kept:
 /// it pairs each unit that no edit names and that lies in no other such unit, and no others.
 ///
-/// The text and the certificate are judged before they are handed out. Faults are told in the order of `EditorFault`.
+/// The document and the values of the edits are read in the profile. The text and the certificate are judged in it before
+/// they are handed out. Faults are told in the order of `EditorFault`.
 pub fn edit_in(
     alloc: Global,
     before: &[u8],
@@ -62,7 +63,7 @@ pub fn edit_in(
     Ok((edited.text, edited.certificate))
 }
 
-/// The same text in pieces: `edit_pieces_in` with `Profile::One`.
+/// What the edits make of a document of profile 1, in pieces: `edit_pieces_in` with `Profile::One`.
 pub fn edit_pieces(
     alloc: Global,
     before: &[u8],
@@ -74,7 +75,7 @@ pub fn edit_pieces(
     edit_pieces_in(alloc, before, edits, Profile::One)
 }
 
-/// A text certified in the same way, in pieces: kept spans of the text before the edits, which rise and do not overlap, and
+/// What `edit_in` makes, certified in the same way, in pieces: kept spans of the text before the edits, which rise and do not overlap, and
 /// new texts. No piece is empty; new texts that meet are one, and so are kept spans that touch.
 pub fn edit_pieces_in(
     alloc: Global,

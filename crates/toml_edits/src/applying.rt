@@ -31,8 +31,10 @@ pub fn apply(alloc: Global, data: &mut Data, edit: &Edit) -> Result<(), EditFaul
     apply_in(alloc, data, edit, Profile::One)
 }
 
-/// Applies an edit to data, the text of its value read in the profile. It tells the first fault of this order, `NoMemory` aside, which may come in place of any
-/// answer; after a fault the data are as before.
+/// Applies an edit to data, the text of its value read in the profile.
+///
+/// It tells the first fault of this order, `NoMemory` aside, which may come in place of any answer; after a fault the data
+/// are as before.
 ///
 /// | Fault | When |
 /// |---|---|

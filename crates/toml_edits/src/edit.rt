@@ -13,6 +13,6 @@ pub enum Edit {
     Remove { at: Address },
     /// A new member of a table: an empty table.
     Section { at: Address },
-    /// A new element at the end of an array that a table has: an empty table. Where there is no such array, it is made too.
+    /// A new element at the end of an array that is a member of a table: an empty table. Where there is no such array, it is made too.
     Element { at: Address },
 }

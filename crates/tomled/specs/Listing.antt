@@ -34,7 +34,7 @@ line_of at = compact_text (address_json at) ++ 0x0A ∷ []
 abbrev pub lines_of : List Address → List ℕ
 lines_of = flat_map line_of
 
--- the bytes are a document, and the text lists the addresses of its mentions, each once, in the order of the first mentions
+-- the bytes are a document of the profile, and the text lists the addresses of its mentions, each once, in the order of the first mentions
 pub record ListsAddresses (profile : Profile) (bytes text : List ℕ) : Type 0 where
   pub limit : IsText bytes
   pub doc : Doc
@@ -42,7 +42,7 @@ pub record ListsAddresses (profile : Profile) (bytes text : List ℕ) : Type 0 w
   pub good : AreGood doc.lines
   pub listed : text ≡ lines_of (first_mentions (named doc.lines))
 
--- the addresses of a document, and a refusal of other bytes
+-- the addresses of a document of the profile, and a refusal of other bytes
 abbrev pub Lists : Profile → List ℕ → Outcome → Type 0
 Lists profile bytes o = ((text : List ℕ) × ListsAddresses profile bytes text × Prints text o) ⊎ Refuses profile bytes o
 

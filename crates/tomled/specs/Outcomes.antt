@@ -48,10 +48,10 @@ abbrev pub Ends : (Refusal → Type 0) → Ending → Type 0
 Ends P (Refused r) = P r
 Ends P NoMemory = Unit {0}
 
--- the bytes are no document, and the refusal says why
+-- the bytes are no document of the profile, and the refusal says why
 abbrev pub IsRefused : Profile → List ℕ → Refusal → Type 0
 IsRefused profile bytes r = (¬ IsDocumentIn profile bytes) × IsRefusalOf profile bytes r
 
--- the bytes are no document, and the answer tells why
+-- the bytes are no document of the profile, and the answer tells why
 abbrev pub Refuses : Profile → List ℕ → Outcome → Type 0
 Refuses profile bytes o = (r : Refusal) × IsRefused profile bytes r × Tells r o

@@ -22,7 +22,7 @@ IsNoUtf8 bytes r = (r.code ≡ 101) × (¬ IsUtf8 bytes) × IsValidUpTo bytes r.
 abbrev pub IsTooLong : List ℕ → Refusal → Type 0
 IsTooLong bytes r = (r.code ≡ 102) × (r.place ≡ max_len) × IsUtf8 bytes × (max_len < length bytes)
 
--- 103 to 109: no tree spells the bytes; the place is one of theirs or their end
+-- 103 to 109: no tree of the profile spells the bytes; the place is one of theirs or their end
 abbrev pub IsSyntaxCode : ℕ → Type 0
 IsSyntaxCode code = (103 ≤ code) × (code ≤ 109)
 
@@ -30,7 +30,7 @@ abbrev pub IsNotSpelled : Profile → List ℕ → Refusal → Type 0
 IsNotSpelled profile bytes r = IsSyntaxCode r.code × (r.place ≤ length bytes) × IsText bytes × SpelledByNone profile bytes
 
 -- 201: the first line that breaks the table rules, all lines before it being good; the place is its number, from 1, lines
--- counted as the tree has them
+-- counted as the tree of the profile has them
 abbrev pub IsRedefinition : Profile → List ℕ → Refusal → Type 0
 IsRedefinition profile bytes r = (r.code ≡ 201) × IsText bytes × (d : Doc) × (line : ℕ) × (at : Address) × (r.place ≡ line + 1) × SpellsIn profile d bytes × IsRedefined d.lines line at
 

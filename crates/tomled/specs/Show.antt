@@ -19,7 +19,7 @@ pub record IsLineOf (kinds : Kinds) (line : List ℕ) : Type 0 where
   pub tagged : IsTagged kinds json
   pub is : line ≡ compact_text json ++ 0x0A ∷ []
 
--- the bytes are a document, and the line is that of its data
+-- the bytes are a document of the profile, and the line is that of its data
 pub record ShowsData (profile : Profile) (bytes line : List ℕ) : Type 0 where
   pub text : IsText bytes
   pub doc : Doc
@@ -29,7 +29,7 @@ pub record ShowsData (profile : Profile) (bytes line : List ℕ) : Type 0 where
   pub facts : IsDataOf (named doc.lines) kinds
   pub shown : IsLineOf kinds line
 
--- the data of a document, and a refusal of other bytes
+-- the data of a document of the profile, and a refusal of other bytes
 abbrev pub Shows : Profile → List ℕ → Outcome → Type 0
 Shows profile bytes o = ((line : List ℕ) × ShowsData profile bytes line × Prints line o) ⊎ Refuses profile bytes o
 
