@@ -124,7 +124,7 @@ for words in 'check two.toml' 'show two.toml' 'show --list two.toml' 'edit two.t
   'verify two.toml two.json two.out two.cert'; do
   run 2 - 'error:*' $words --profile 3
   run 2 - 'error:*' $words --profile 0
-  run 2 - 'bad words' $words --profile 01
+  run 2 - 'error:*' $words --profile 01
   run 2 - 'error:*' $words --profile ''
   run 2 - 'error:*' $words --profile=
   run 2 - 'error:*' $words --profile

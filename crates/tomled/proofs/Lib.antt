@@ -2,6 +2,7 @@ pub mod Appended
 pub mod Judged
 pub mod Tagging
 pub mod Built
+pub mod Commands
 pub mod Texts
 pub mod Unique
 pub mod Listed

@@ -1,10 +1,12 @@
 -- The definition of the command line: the subcommands and their arguments.
-use Rattle.std.specs.Prelude.{◌≡◌, [], ◌∷◌, codes, pos, Some, true, false}
+use Rattle.std.specs.Prelude.{◌≡◌, List, [], ◌∷◌, codes, Some, true, false}
+use Rattle.std.specs.Borrow.{Bor}
 use Rattle.clap.specs.Words.{App, Rule, Text, app_of, new_app, new_rule, with_rule, with_subcommand}
 use Rattle.clap.specs.Simple.{on_top}
+use Rattle.clap.specs.Walk.{texts}
 use Rattle.clap.specs.declared.builder.action.ArgAction.TheVariants.{SetTrue}
 use Rattle.clap.specs.declared.builder.command.Command.{Command}
-use Rattle.clap.specs.declared.builder.value_parser.ValueParser.TheVariants.{Signed}
+use Rattle.clap.specs.declared.builder.value_parser.ValueParser.TheVariants.{Names}
 use Rattle.clap.specs.declared.builder.command.Command.TheViews.{out-Command}
 
 -- an argument that has to be given
@@ -15,47 +17,58 @@ required_argument name = record (new_rule name) { required = true }
 abbrev pub flag : Text → Rule
 flag name = record (new_rule name) { long = Some name; action = Some SetTrue }
 
--- `--profile N`, a number that is 1 or 2, and 1 where it is not given
-abbrev pub profile : Rule
-profile = record (new_rule (codes "profile")) { long = Some (codes "profile"); value_names = 1; defaults = codes "1" ∷ []; parser = Some (Signed (pos 1) (pos 2)) }
+-- the words that the option of the profile takes, as the parser holds them
+abbrev pub Choices : Type 0
+Choices = Bor (List (Bor Text))
+
+abbrev pub AreProfiles : Choices → Type 0
+AreProfiles profiles = texts profiles.now ≡ codes "1" ∷ codes "2" ∷ []
+
+-- `--profile N`, one of these, and 1 where it is not given
+abbrev pub profile : Choices → Rule
+profile profiles = record (new_rule (codes "profile")) { long = Some (codes "profile"); value_names = 1; defaults = codes "1" ∷ []; parser = Some (Names profiles) }
 
 -- each subcommand takes it, before or behind its paths
-abbrev pub with_profile : App → App
-with_profile app = with_rule app profile
+abbrev pub with_profile : Choices → App → App
+with_profile profiles app = with_rule app (profile profiles)
 
 -- `show FILE`, and `--list` before or behind it
-abbrev pub show : App
-show = with_profile (with_rule (with_rule (new_app (codes "show")) (required_argument (codes "FILE"))) (flag (codes "list")))
+abbrev pub show : Choices → App
+show profiles = with_profile profiles (with_rule (with_rule (new_app (codes "show")) (required_argument (codes "FILE"))) (flag (codes "list")))
 
 -- `check FILE`
-abbrev pub check : App
-check = with_profile (with_rule (new_app (codes "check")) (required_argument (codes "FILE")))
+abbrev pub check : Choices → App
+check profiles = with_profile profiles (with_rule (new_app (codes "check")) (required_argument (codes "FILE")))
 
 -- `edit FILE EDITS OUT CERT`
 abbrev pub edit_paths : App
 edit_paths = with_rule (with_rule (with_rule (with_rule (new_app (codes "edit")) (required_argument (codes "FILE"))) (required_argument (codes "EDITS"))) (required_argument (codes "OUT"))) (required_argument (codes "CERT"))
 
-abbrev pub edit : App
-edit = with_profile edit_paths
+abbrev pub edit : Choices → App
+edit profiles = with_profile profiles edit_paths
 
 -- `verify BEFORE EDITS AFTER CERT`
 abbrev pub verify_paths : App
 verify_paths = with_rule (with_rule (with_rule (with_rule (new_app (codes "verify")) (required_argument (codes "BEFORE"))) (required_argument (codes "EDITS"))) (required_argument (codes "AFTER"))) (required_argument (codes "CERT"))
 
-abbrev pub verify : App
-verify = with_profile verify_paths
+abbrev pub verify : Choices → App
+verify profiles = with_profile profiles verify_paths
 
 -- `tomled` before its subcommands are added: it wants one
 abbrev pub root : App
 root = on_top (λ shape. record shape { subcommand_required = true }) (new_app (codes "tomled"))
 
 -- with the subcommands that read one document
-unfoldable pub readers : App
-readers = with_subcommand (with_subcommand root show.top) check.top
+unfoldable pub readers : Choices → App
+readers profiles = with_subcommand (with_subcommand root (show profiles).top) (check profiles).top
+
+-- and with `edit`
+unfoldable pub editors : Choices → App
+editors profiles = with_subcommand (readers profiles) (edit profiles).top
 
 -- the whole command line
-unfoldable pub tool : App
-tool = with_subcommand (with_subcommand readers edit.top) verify.top
+unfoldable pub tool : Choices → App
+tool profiles = with_subcommand (editors profiles) (verify profiles).top
 
 -- a parse reads this definition of the command, which has no global argument
 pub record IsDefined (app : App) (command : Command) : Type 0 where

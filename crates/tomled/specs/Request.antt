@@ -3,10 +3,11 @@ use Rattle.std.specs.Prelude.{◌≡◌, Bool, List, [], codes, true, false, if�
 use Rattle.std.specs.Prelude.{option_map, option_and_then}
 use Rattle.std.specs.Str.{bytes_eq}
 use Rattle.clap.specs.Words.{Row, Text, fault_of, first_of, kind_of, subcommand_of, takes, HasKind}
+use Rattle.clap.specs.declared.error.Error.{Error}
 use Rattle.clap.specs.declared.error.kind.ErrorKind.TheVariants.{OutOfMemory}
 use Rattle.toml_tree.specs.declared.profile.Profile.{Profile}
 use Rattle.toml_tree.specs.declared.profile.Profile.TheVariants.{One, Two}
-use Rattle.tomled.specs.CommandLine.{tool}
+use Rattle.tomled.specs.CommandLine.{AreProfiles, Choices, tool}
 use Rattle.tomled.specs.declared.words.Request.{Request}
 use Rattle.tomled.specs.declared.words.Request.TheVariants.{Show, Check, Edit, Verify}
 use Rattle.tomled.specs.declared.words.WordsFault.{WordsFault}
@@ -65,17 +66,30 @@ asked_of met =
     if bytes_eq met.0 (codes "show") then show_of met.1 else (if bytes_eq met.0 (codes "check") then check_of met.1 else (if bytes_eq met.0 (codes "edit") then edit_of met.1 else (if bytes_eq met.0 (codes "verify") then verify_of met.1 else None)))
 
 -- what the subcommand asks that the definition gives for the words
-abbrev pub asked_in : List Text → Option Asked
-asked_in words = option_and_then asked_of (subcommand_of tool words)
+abbrev pub asked_in : Choices → List Text → Option Asked
+asked_in profiles words = option_and_then asked_of (subcommand_of (tool profiles) words)
 
 -- the definition finds no fault in the words, and they ask this request
-abbrev pub IsRequestIn : List Text → Request → Type 0
-IsRequestIn words request = (fault_of tool words ≡ []) × (asked_in words ≡ Some (asked_by request))
+pub record IsRequestIn (words : List Text) (request : Request) : Type 0 where
+  pub profiles : Choices
+  pub numbers : AreProfiles profiles
+  pub faultless : fault_of (tool profiles) words ≡ []
+  pub asked : asked_in profiles words ≡ Some (asked_by request)
 
--- the parser's error has a kind that the definition gives for the words, or is want of memory, and
--- only that where it takes them; `Missing` is of words in which it finds no fault and which ask
--- nothing
+-- the parser's error has a kind that the definition gives for the words, or is want of memory, and only that where it takes them
+pub record IsRefusedBy (words : List Text) (error : Error) : Type 0 where
+  pub profiles : Choices
+  pub numbers : AreProfiles profiles
+  pub kind : HasKind (fault_of (tool profiles) words) error
+  pub taken : takes (tool profiles) words ≡ true → kind_of error ≡ OutOfMemory
+
+-- the definition finds no fault in the words, and they ask nothing
+pub record AsksNothing (words : List Text) : Type 0 where
+  pub profiles : Choices
+  pub numbers : AreProfiles profiles
+  pub faultless : fault_of (tool profiles) words ≡ []
+  pub nothing : asked_in profiles words ≡ None
+
 abbrev pub IsFaultIn : List Text → WordsFault → Type 0
-IsFaultIn words (Parser error) = HasKind (fault_of tool words) error
-    × (takes tool words ≡ true → kind_of error ≡ OutOfMemory)
-IsFaultIn words Missing = (fault_of tool words ≡ []) × (asked_in words ≡ None)
+IsFaultIn words (Parser error) = IsRefusedBy words error
+IsFaultIn words Missing = AsksNothing words

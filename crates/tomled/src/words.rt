@@ -3,16 +3,19 @@ ghost use Rattle.std.specs.Prelude.{◌≡◌, IfErr, IfOk, false, option_and_th
 ghost use Rattle.clap.specs.Walk.{texts};
 ghost use Rattle.clap.specs.Words.{FailsBy, fault_of, first_of, found_of, kind_of, rows_of, rule_of};
 ghost use Rattle.clap.specs.Words.{subcommand_of, subcommand_rows_of, takes};
-ghost use Rattle.tomled.specs.CommandLine.{IsDefined, check, edit, edit_paths, flag, profile, readers, required_argument, show, tool, verify, verify_paths};
+ghost use Rattle.tomled.specs.CommandLine.{IsDefined, check, edit, edit_paths, editors, flag, profile, readers, required_argument, show, tool, verify, verify_paths};
 ghost use Rattle.tomled.specs.Request.{IsFaultIn, IsRequestIn, asked_by, asked_of, check_of, edit_of, is_true, profile_of, show_of, verify_of};
 
 #[cfg(test)]
 mod tests;
 
 use clap::error::ErrorKind;
-use clap::{Arg, ArgAction, ArgMatches, Command, value_parser};
+use clap::{Arg, ArgAction, ArgMatches, Command};
 use std::alloc::{AllocError, Global};
 use toml_tree::Profile;
+
+/// The numbers of the profiles.
+static PROFILES: [&str; 2] = ["1", "2"];
 
 /// What the words ask for.
 #[derive(Debug, Drop, PartialEq, Eq)]
@@ -64,7 +67,7 @@ pub fn read_words<'a>(alloc: Global, words: &'a [&'a str]) -> Result<Request<'a>
     ensures ok { IfOk result (IsRequestIn (texts words.entry.now)) }
     ensures err { IfErr result (IsFaultIn (texts words.entry.now)) }
 {
-    match parse(alloc, words) {
+    match parse(alloc, words, PROFILES.as_slice()) {
         Err(error) => Err(WordsFault::Parser(error)),
         Ok(matches) => match requested(&matches) {
             Some(request) => Ok(request),
@@ -73,34 +76,45 @@ pub fn read_words<'a>(alloc: Global, words: &'a [&'a str]) -> Result<Request<'a>
     }
 }
 
-fn parse<'a>(alloc: Global, words: &'a [&'a str]) -> Result<ArgMatches<'a>, clap::Error>
+fn parse<'a>(
+    alloc: Global,
+    words: &'a [&'a str],
+    profiles: &'a [&'a str],
+) -> Result<ArgMatches<'a>, clap::Error>
     ensures ok { IfOk result (λ matches.
-        subcommand_rows_of matches ≡ subcommand_of tool (texts words.entry.now)) }
-    ensures kinds { FailsBy (fault_of tool (texts words.entry.now)) result }
-    ensures err { IfErr result (λ error. takes tool (texts words.entry.now) ≡ true
+        subcommand_rows_of matches ≡ subcommand_of (tool profiles.entry) (texts words.entry.now)) }
+    ensures kinds { FailsBy (fault_of (tool profiles.entry) (texts words.entry.now)) result }
+    ensures err { IfErr result (λ error. takes (tool profiles.entry) (texts words.entry.now) ≡ true
         → kind_of error ≡ ErrorKind.OutOfMemory) }
 {
-    let command = command(alloc)?;
+    let command = command(alloc, profiles)?;
     command.try_get_matches_from(words)
 }
 
-#[tactic(auto, unfolding(crate::specs::CommandLine::tool))]
-fn command<'a>(alloc: Global) -> Result<Command<'a>, AllocError>
-    ensures { IfOk result (IsDefined tool) }
+fn command<'a>(alloc: Global, profiles: &'a [&'a str]) -> Result<Command<'a>, AllocError>
+    ensures { IfOk result (IsDefined (tool profiles.entry)) }
 {
-    let readers = reading_commands(alloc)?;
-    let edit = edit_command(alloc)?;
-    let verify = verify_command(alloc)?;
-    readers.subcommand(edit)?.subcommand(verify)
+    let command = editing_commands(alloc, profiles)?;
+    let verify = verify_command(alloc, profiles)?;
+    command.subcommand(verify)
+}
+
+/// The command with all subcommands but `verify`.
+fn editing_commands<'a>(alloc: Global, profiles: &'a [&'a str]) -> Result<Command<'a>, AllocError>
+    ensures { IfOk result (IsDefined (editors profiles.entry)) }
+{
+    let command = reading_commands(alloc, profiles)?;
+    let edit = edit_command(alloc, profiles)?;
+    command.subcommand(edit)
 }
 
 /// The command with the subcommands that read one document.
 #[tactic(auto, unfolding(crate::specs::CommandLine::readers))]
-fn reading_commands<'a>(alloc: Global) -> Result<Command<'a>, AllocError>
-    ensures { IfOk result (IsDefined readers) }
+fn reading_commands<'a>(alloc: Global, profiles: &'a [&'a str]) -> Result<Command<'a>, AllocError>
+    ensures { IfOk result (IsDefined (readers profiles.entry)) }
 {
-    let show = show_command(alloc)?;
-    let check = check_command(alloc)?;
+    let show = show_command(alloc, profiles)?;
+    let check = check_command(alloc, profiles)?;
     Command::new(alloc, "tomled")
         .bin_name("tomled")?
         .about("Reads and edits TOML documents, and keeps their layout")
@@ -109,8 +123,8 @@ fn reading_commands<'a>(alloc: Global) -> Result<Command<'a>, AllocError>
         .subcommand(check)
 }
 
-fn show_command<'a>(alloc: Global) -> Result<Command<'a>, AllocError>
-    ensures { IfOk result (IsDefined show) }
+fn show_command<'a>(alloc: Global, profiles: &'a [&'a str]) -> Result<Command<'a>, AllocError>
+    ensures { IfOk result (IsDefined (show profiles.entry)) }
 {
     let file = path(alloc, "FILE", "The document");
     let list = flag(alloc, "list", "List the addresses in place of the data");
@@ -118,24 +132,24 @@ fn show_command<'a>(alloc: Global) -> Result<Command<'a>, AllocError>
         .about("Prints the data of a TOML document as tagged JSON")
         .arg(file)?
         .arg(list)?
-        .arg(profile_option(alloc))
+        .arg(profile_option(alloc, profiles))
 }
 
-fn check_command<'a>(alloc: Global) -> Result<Command<'a>, AllocError>
-    ensures { IfOk result (IsDefined check) }
+fn check_command<'a>(alloc: Global, profiles: &'a [&'a str]) -> Result<Command<'a>, AllocError>
+    ensures { IfOk result (IsDefined (check profiles.entry)) }
 {
     let file = path(alloc, "FILE", "The document");
     Command::new(alloc, "check")
         .about("Says whether a file is a TOML document")
         .arg(file)?
-        .arg(profile_option(alloc))
+        .arg(profile_option(alloc, profiles))
 }
 
-fn edit_command<'a>(alloc: Global) -> Result<Command<'a>, AllocError>
-    ensures { IfOk result (IsDefined edit) }
+fn edit_command<'a>(alloc: Global, profiles: &'a [&'a str]) -> Result<Command<'a>, AllocError>
+    ensures { IfOk result (IsDefined (edit profiles.entry)) }
 {
     let command = edit_paths(alloc)?;
-    command.arg(profile_option(alloc))
+    command.arg(profile_option(alloc, profiles))
 }
 
 /// The command with its paths.
@@ -154,11 +168,11 @@ fn edit_paths<'a>(alloc: Global) -> Result<Command<'a>, AllocError>
         .arg(cert)
 }
 
-fn verify_command<'a>(alloc: Global) -> Result<Command<'a>, AllocError>
-    ensures { IfOk result (IsDefined verify) }
+fn verify_command<'a>(alloc: Global, profiles: &'a [&'a str]) -> Result<Command<'a>, AllocError>
+    ensures { IfOk result (IsDefined (verify profiles.entry)) }
 {
     let command = verify_paths(alloc)?;
-    command.arg(profile_option(alloc))
+    command.arg(profile_option(alloc, profiles))
 }
 
 /// The command with its paths.
@@ -197,15 +211,15 @@ fn flag<'a>(alloc: Global, name: &'a str, help: &'a str) -> Arg<'a>
 }
 
 /// `--profile N`: which texts are TOML, 1 where it is not given.
-fn profile_option<'a>(alloc: Global) -> Arg<'a>
-    ensures rule { rule_of result ≡ profile }
+fn profile_option<'a>(alloc: Global, profiles: &'a [&'a str]) -> Arg<'a>
+    ensures rule { rule_of result ≡ profile profiles.entry }
     ensures local { result.global ≡ false }
 {
     Arg::new(alloc, "profile")
         .long("profile")
         .value_name("N")
         .default_value("1")
-        .value_parser(value_parser!(u8).range(1..=2))
+        .value_parser(profiles)
         .help(
             "1 is TOML 1.0; in 2 an inline table may stand on several lines, with comments and a last comma",
         )
@@ -281,7 +295,7 @@ fn verify_request<'a>(found: &ArgMatches<'a>) -> Option<Request<'a>>
     })
 }
 
-/// The profile: the parser answers `1` where the option is not given.
+/// The profile: the parser answers `1` where the option is not given, and lets no other text than the two through.
 fn profile_given(found: &ArgMatches<'_>) -> Option<Profile>
     ensures { result ≡ profile_of (rows_of (found_of found.now)) }
 {
