@@ -17,7 +17,7 @@ use toml_text::{MAX_LEN, Source, TextFault};
 use toml_tree::{Doc, Profile, SyntaxFault, parse_in};
 
 /// The tree of the text that the bytes are, in the profile, or why no tree spells them.
-#[tactic(auto, using(crate::proofs::Judged::no_tree, crate::proofs::Judged::no_text))]
+#[tactic(auto, using(crate::proofs::Judged::no_tree))]
 pub fn read_tree<'t>(alloc: Global, file: &'t [u8], profile: Profile) -> Result<Doc<'t>, Ending>
     ensures spelled { IfOk result (λ doc. IsText file.now × SpellsIn profile (document doc) file.now) }
     ensures refused { IfErr result (Ends (IsRefused profile file.now)) }
