@@ -13,7 +13,7 @@ use Rattle.toml_scalar.proofs.Proved.{scan_complete, token_first}
 use Rattle.toml_tree.specs.Tree.{Piece, Blank, Assign, GapLine, Gap, Value, Scalar, Array, Inline, Items, Close, Last, More, Pairs, ClosePairs, LastPair, MorePairs, KeyVal}
 use Rattle.toml_tree.specs.Profiles.{IsPlainGap, ItemsHavePlainTables, ArePlainPairs, Asks, IsValueOfProfile}
 use Rattle.toml_tree.specs.Spells.{Part, piece, symbol, begin, joined, EachIs, all_parts, blank_parts, gap_line_parts, gap_parts, assign_parts, value_parts, items_parts, pairs_parts, keyval_parts, IsGapLine, IsGap, IsAssign, IsValue, AreItems, ArePairs, depth, items_depth, pairs_depth}
-use Rattle.toml_tree.specs.Reading.{Cursor, ahead, up_to, many, run_at}
+use Rattle.toml_tree.specs.Reading.{Cursor, ahead, up_to, many}
 use Rattle.toml_tree.specs.ReadingValues.{scalar_at, gap_step, gap_at, Element, before_end, after_element, item_step, items_at, array_at, keyval_at, Member, pairs_before_end, pair_gap_at, after_member, pair_at, pair_step, pairs_at, may_end, inline_at, value_at}
 use Rattle.toml_tree.specs.declared.profile.Profile.{Profile}
 use Rattle.toml_tree.specs.declared.profile.Profile.TheVariants.{One, Two}

@@ -1,5 +1,5 @@
 -- An array or an inline table by what was read of it.
-use Rattle.std.proofs.Common.{◌≡◌, Bool, true, false, not, List, [], ◌∷◌, ◌++◌, map, length, ◌==◌, Option, Some, None, refl, sym, ap, ◌∙◌, arith}
+use Rattle.std.proofs.Common.{◌≡◌, Bool, true, false, not, List, [], ◌∷◌, ◌++◌, map, length, ◌==◌, Some, None, refl, sym, ap, ◌∙◌, arith}
 use Rattle.toml_tree.specs.Tree as tree
 use Rattle.toml_tree.specs.ReadingValues.{Element, Member, before_end, pairs_before_end, ends_in_comma, may_end}
 use Rattle.toml_tree.specs.View.{gap, element, member, last_ends, last_pairs, array_items, table_pairs}

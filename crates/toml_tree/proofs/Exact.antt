@@ -4,7 +4,7 @@ use Rattle.std.specs.Prelude.{IfSome}
 use Rattle.std.proofs.lemmas.Option.{none-some, some_pair_parts, same_Some, option_and_then_some}
 use Rattle.toml_tree.specs.Tree.{Piece, Line}
 use Rattle.toml_tree.specs.Profiles.{AreLinesOfProfile, SpellsIn, SpelledByNone, OneTreeIn}
-use Rattle.toml_tree.specs.Spells.{joined, lines_parts, SpellLines, Spells, mark_of}
+use Rattle.toml_tree.specs.Spells.{joined, lines_parts, SpellLines, mark_of}
 use Rattle.toml_tree.specs.Reading.{Cursor, here, ahead}
 use Rattle.toml_tree.specs.ReadingLines.{lines_at, document_at}
 use Rattle.toml_scalar.specs.Faults.{place_of}

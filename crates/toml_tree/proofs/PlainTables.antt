@@ -1,7 +1,7 @@
 -- What profile 1 asks of a tree says nothing of places, and what it asks of a value it asks of each value inside.
-use Rattle.std.proofs.Common.{◌≡◌, ◌⊎◌, ℕ, List, [], ◌∷◌, map, length, inl, inr, sym, refl, ap, subst, arith}
+use Rattle.std.proofs.Common.{◌≡◌, List, [], ◌∷◌, map, length, inl, inr, sym, refl, ap, subst, arith}
 use Rattle.std.specs.Prelude.{◌↔◌}
-use Rattle.toml_tree.specs.Bare.{bare_gap_line, bare_gap, bare_value, bare_items, bare_pairs, bare_expr, bare_line, bare_lines, BareValueOfProfile, BareLinesOfProfile}
+use Rattle.toml_tree.specs.Bare.{bare_gap_line, bare_gap, bare_value, bare_items, bare_pairs, bare_expr, bare_lines, BareValueOfProfile, BareLinesOfProfile}
 use Rattle.toml_tree.specs.Laws.{IsItemOf, IsPairOf, IsIn, InsideIsOfProfile}
 use Rattle.toml_tree.specs.Places.{put_value, put_lines, PutValueOfProfile, PutLinesOfProfile}
 use Rattle.toml_tree.specs.Profiles.{IsPlainGap, HasPair, HasNoLastComma, HasPlainTables, ItemsHavePlainTables, ArePlainPairs, ExprHasPlainTables, Asks, IsValueOfProfile, AreLinesOfProfile}

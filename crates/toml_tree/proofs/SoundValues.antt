@@ -12,13 +12,13 @@ use Rattle.toml_scalar.specs.Tokens.{IsToken}
 use Rattle.toml_tree.specs.Profiles.{IsPlainGap, HasPlainTables, ItemsHavePlainTables, ArePlainPairs, Asks, IsValueOfProfile}
 use Rattle.toml_tree.specs.Tree.{Piece, Value, Items, Pairs, KeyVal}
 use Rattle.toml_tree.specs.Spells.{Part, piece, symbol, begin, joined, EachIs, all_parts, comment_parts, blank_parts, assign_parts, gap_line_parts, gap_parts, value_parts, items_parts, pairs_parts, keyval_parts, IsAssign, IsGapLine, IsGap, IsValue, AreItems, ArePairs, depth, items_depth, pairs_depth}
-use Rattle.toml_tree.specs.Reading.{Cursor, here, ahead, up_to, all_of, run_at, blank_at, assign_at}
+use Rattle.toml_tree.specs.Reading.{Cursor, here, ahead, up_to, all_of, blank_at, assign_at}
 use Rattle.toml_tree.specs.ReadingValues.{Element, Member, scalar_at, gap_end, gap_step, gap_at, before_end, after_element, item_step, items_at, array_at, keyval_at, pairs_before_end, pair_gap_at, after_member, pair_at, pair_step, pairs_at, may_end, inline_at, value_at}
 use Rattle.toml_tree.specs.declared.profile.Profile.{Profile}
 use Rattle.toml_tree.specs.declared.profile.Profile.TheVariants.{One, Two}
 use Rattle.toml_tree.proofs.Spans.{Spans, spans_append, spans_joined, behind_take}
 use Rattle.toml_tree.proofs.Profiled.{asked_both, asked_three, asked_four, asks_nothing, ends_well}
-use Rattle.toml_tree.proofs.Sound.{sound_bind, sound_map, sound_cond, if_some, spans_here, spans_symbol, run_sound, run_then, symbol_then, newline_form, blank_sound, StepIs, many_sound, assign_sound}
+use Rattle.toml_tree.proofs.Sound.{sound_bind, sound_map, sound_cond, if_some, spans_here, spans_symbol, run_sound, symbol_then, newline_form, blank_sound, StepIs, many_sound, assign_sound}
 
 -- gaps
 -- the whitespace at the end of a gap

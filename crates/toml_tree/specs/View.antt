@@ -1,5 +1,5 @@
 -- What the code's tree is as a tree of the definitions: all but where it lies in memory.
-use Rattle.std.specs.Prelude.{◌≡◌, ◌⊎◌, List, [], ◌∷◌, ◌++◌, map, Option, Some, None, option_map, Result}
+use Rattle.std.specs.Prelude.{◌≡◌, ◌⊎◌, List, [], ◌∷◌, map, Option, Some, None, option_map, Result}
 use Rattle.std.specs.declared.vec.Vec.{Vec}
 use Rattle.std.specs.declared.alloc.Global.{Global}
 use Rattle.toml_scalar.specs.declared.fault.SyntaxFault.{SyntaxFault}

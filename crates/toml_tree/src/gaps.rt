@@ -1,5 +1,5 @@
 //! Gaps: what may stand before and behind a value of an array, or a pair of an inline table.
-ghost use Rattle.std.specs.Prelude.{◌≡◌, map, IfOk};
+ghost use Rattle.std.specs.Prelude.{◌≡◌, ◌∷◌, [], map, IfOk};
 ghost use Rattle.toml_tree.specs.ReadingValues.{gap_step, gap_at, pair_gap_at};
 ghost use Rattle.toml_tree.specs.Reads.{cursor, Moves, Reads, step};
 ghost use Rattle.toml_tree.specs.View.{piece, gap_line, gap, lines_before};
@@ -12,6 +12,13 @@ use crate::step::Step;
 use std::alloc::{AllocError, Global};
 use toml_scalar::SyntaxFault;
 
+/// The gap of this one line and of the whitespace behind it.
+fn one_line<'t>(alloc: Global, line: GapLine<'t>, ws: Piece<'t>) -> Result<Gap<'t>, AllocError>
+    ensures { IfOk result (λ g. gap g ≡ lines_before (gap_line line.entry ∷ []) (piece ws.entry)) }
+{
+    Ok(Gap::Line(Box::new(alloc, LineGap { line, ws })?))
+}
+
 /// The gap of these lines and of the whitespace behind them, in as much room as it needs.
 fn gap_of<'t>(
     alloc: Global,
@@ -20,13 +27,6 @@ fn gap_of<'t>(
 ) -> Result<Gap<'t>, AllocError>
     ensures { IfOk result (λ g. gap g ≡ lines_before (map gap_line lines.entry.items) (piece ws.entry)) }
 {
-    if lines.is_empty() {
-        return Ok(Gap::Ws(ws));
-    }
-    if let [line] = lines.as_slice() {
-        let one = LineGap { line: *line, ws };
-        return Ok(Gap::Line(Box::new(alloc, one)?));
-    }
     lines.shrink_to_fit();
     let more = LinesGap { lines, ws };
     Ok(Gap::Lines(Box::new(alloc, more)?))
@@ -50,11 +50,21 @@ impl<'t> Reader<'t> {
         }
     }
 
-    /// `ws-comment-newline`
+    /// `ws-comment-newline`: what it mostly is, whitespace alone or one line, takes no list of lines.
     pub fn gap(&mut self, alloc: Global) -> Result<Gap<'t>, SyntaxFault>
         ensures { Reads gap (cursor self.old) (cursor self.new) result (gap_at (cursor self.old)) }
     {
+        let first = match self.gap_step()? {
+            Step::Next(line) => line,
+            Step::Done(ws) => return Ok(Gap::Ws(ws)),
+        };
+        let second = match self.gap_step()? {
+            Step::Next(line) => line,
+            Step::Done(ws) => return Ok(one_line(alloc, first, ws)?),
+        };
         let mut lines = Vec::new(alloc);
+        push_sparing(&mut lines, first)?;
+        push_sparing(&mut lines, second)?;
         loop {
             match self.gap_step()? {
                 Step::Next(line) => push_sparing(&mut lines, line)?,
