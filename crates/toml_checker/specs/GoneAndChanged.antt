@@ -69,7 +69,7 @@ pub record Standing : Type 0 where
   pub line : Option Address
   pub line_base : Option ℕ
 
--- A comment goes with its line, and one of an array also as the array's parts do; no edit changes it. Any edit strictly below an
+-- A comment goes with its line, and one in an array or an inline table also as its parts do; no edit changes it. Any edit strictly below an
 -- element changes it.
 abbrev pub IsGone : UnitKind → Change → Standing → Type 0
 IsGone kinds.Line c s = LineIsGone c s.address s.base

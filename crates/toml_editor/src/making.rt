@@ -100,6 +100,7 @@ fn write_edit<'x>(
     spelled: &'x Spelled,
 ) -> Result<bool, AllocError> {
     match edit {
+        // The data have taken the value by now, so it is one of the profile, and `None` never comes.
         Edit::Set { at, value } => match open_value(alloc, value.as_str(), read.profile)? {
             Some(new) => tree.set(read.doc, read.names.place(at), at, new),
             None => Ok(true),

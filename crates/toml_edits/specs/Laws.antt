@@ -3,11 +3,12 @@ use Rattle.std.specs.Prelude.{◌≡◌, ℕ, List, ◌∷◌, ◌++◌, length,
 use Rattle.toml_tree.specs.declared.profile.Profile.{Profile}
 use Rattle.toml_names.specs.declared.model.address.Step.{Step}
 use Rattle.toml_names.specs.declared.model.datum.Datum.{Datum}
-use Rattle.toml_names.specs.model.Addresses.{Address, IsAbove}
+use Rattle.toml_names.specs.model.Addresses.{Address, IsAbove, element}
 use Rattle.toml_names.specs.model.Data.{Kinds, kind_at, IsClosed}
+use Rattle.toml_names.specs.mentions.Mentions.{a_table, an_array}
 use Rattle.toml_edits.specs.After.{IsAfter}
 use Rattle.toml_edits.specs.Carry.{Carrier, carry, carry_below, nowhere}
-use Rattle.toml_edits.specs.Edits.{Change, set, place}
+use Rattle.toml_edits.specs.Edits.{Change, set, new_section, new_element, place}
 use Rattle.toml_edits.specs.Faults.{IsFault}
 
 -- for `set`, the address is not the edit's own
@@ -45,3 +46,18 @@ OneAfter = (profile : Profile) (c : Change) (old one two : Kinds) → IsAfter pr
 -- For `set`, the place's own old fact aside, the facts move as the edit carries them.
 abbrev pub SetCarries : Type 0
 SetCarries = (s : Step) (p a : Address) (value : List ℕ) → ¬ (a ≡ s ∷ p) → carry_below (s ∷ p) nowhere a ≡ carry (set (s ∷ p) value) a
+
+-- New sections and new elements carry every address to itself.
+abbrev pub NewTablesStay : Type 0
+NewTablesStay = (at a : Address) → (carry (new_section at) a ≡ Some a) × (carry (new_element at) a ≡ Some a)
+
+-- With a new section an empty table stands at its address, and elsewhere what stood there.
+abbrev pub SectionIsEmpty : Type 0
+SectionIsEmpty = (profile : Profile) (at : Address) (old new : Kinds) → IsAfter profile (new_section at) old new
+    → (new at ≡ Some a_table) × ((a : Address) → ¬ (a ≡ at) → new a ≡ old a)
+
+-- With a new element that has no fault an empty table stands at its address, an array at that of its array, and elsewhere what
+-- stood there.
+abbrev pub ElementIsEmpty : Type 0
+ElementIsEmpty = (profile : Profile) (q : Address) (i : ℕ) (old new : Kinds) → IsFault profile (new_element (element q i)) old None → IsAfter profile (new_element (element q i)) old new
+    → (new (element q i) ≡ Some a_table) × (new q ≡ Some an_array) × ((a : Address) → ¬ (a ≡ element q i) → ¬ (a ≡ q) → new a ≡ old a)

@@ -1,7 +1,7 @@
 //! Laws over the definitions: nothing is run.
 ghost use Rattle.toml_edits.specs.EditList.{BadListIsNone, OneEditList};
 ghost use Rattle.toml_edits.specs.ListLaws.{CarriedOn, CarriedStands, DataIndicesAreLow, FaultOrLead, ListsCarryApart, OneFirstFault, OneLead, StaysClosed};
-ghost use Rattle.toml_edits.specs.Laws.{CarriedAlong, CarriedFront, CarriedApart, DataAreClosed, OneAfter, SetCarries};
+ghost use Rattle.toml_edits.specs.Laws.{CarriedAlong, CarriedFront, CarriedApart, DataAreClosed, ElementIsEmpty, NewTablesStay, OneAfter, SectionIsEmpty, SetCarries};
 
 /// What is below an address is carried along with it, unless the edit is below the address or a `set` at it. A
 /// beginning of what is carried is carried to a beginning as long. Where no fault holds, and nothing stands below
@@ -25,6 +25,14 @@ pub fn closed()
 pub fn after()
     ensures one { OneAfter }
     ensures set { SetCarries }
+{}
+
+/// New sections and elements move nothing. Where one comes an empty table stands, its array with an element that is the
+/// first, and all else is as it was.
+pub fn new_tables()
+    ensures stay { NewTablesStay }
+    ensures section { SectionIsEmpty }
+    ensures element { ElementIsEmpty }
 {}
 
 /// Through a list a thing is carried edit by edit. Edits without a fault carry what stands somewhere to where something

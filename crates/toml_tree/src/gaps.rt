@@ -4,7 +4,6 @@ ghost use Rattle.toml_tree.specs.ReadingValues.{gap_step, gap_at, pair_gap_at};
 ghost use Rattle.toml_tree.specs.Reads.{cursor, Moves, Reads, step};
 ghost use Rattle.toml_tree.specs.View.{piece, gap_line, gap, lines_before};
 
-use crate::growing::push_sparing;
 use crate::piece::{Gap, GapLine, LineGap, LinesGap, Piece};
 use crate::profile::Profile;
 use crate::reader::Reader;
@@ -62,12 +61,14 @@ impl<'t> Reader<'t> {
             Step::Next(line) => line,
             Step::Done(ws) => return Ok(one_line(alloc, first, ws)?),
         };
-        let mut lines = Vec::new(alloc);
-        push_sparing(&mut lines, first)?;
-        push_sparing(&mut lines, second)?;
+        let mut lines = Vec::with_capacity(alloc, 2)?;
+        lines.push(first)?;
+        lines.push(second)?;
         loop {
             match self.gap_step()? {
-                Step::Next(line) => push_sparing(&mut lines, line)?,
+                Step::Next(line) => {
+                    lines.push(line)?;
+                }
                 Step::Done(ws) => return Ok(gap_of(alloc, lines, ws)?),
             }
         }

@@ -49,6 +49,22 @@ t = {¶a = 1, # A¶b = 2, # B¶c = 3 # C¶}¶
 t = {¶ # A¶ # B¶ # C¶}¶
 kept 1¶2 1¶4 2¶6 3¶7 4¶
 
+// The same with a last comma.
+t = {¶a = 1, # A¶b = 2, # B¶c = 3, # C¶}¶
+[{"op":"remove","at":["t","a"]}]
+t = {¶ # A¶b = 2, # B¶c = 3, # C¶}¶
+kept 1¶2 1¶3 2¶4 3¶5 4¶6 5¶7 6¶
+
+t = {¶a = 1, # A¶b = 2, # B¶c = 3, # C¶}¶
+[{"op":"remove","at":["t","b"]}]
+t = {¶a = 1, # A¶ # B¶c = 3, # C¶}¶
+kept 1¶1 1¶2 2¶4 3¶5 4¶6 5¶7 6¶
+
+t = {¶a = 1, # A¶b = 2, # B¶c = 3, # C¶}¶
+[{"op":"remove","at":["t","c"]}]
+t = {¶a = 1, # A¶b = 2, # B¶ # C¶}¶
+kept 1¶1 1¶2 2¶3 3¶4 4¶6 5¶7 6¶
+
 // The comma before the last pair becomes the last one.
 t = {¶  x = 1, # one¶  y = 2,¶}¶
 [{"op":"remove","at":["t","y"]}]
@@ -116,7 +132,7 @@ kept 1¶4 1¶
 
 #[test]
 fn pairs_are_removed(rt: HostRuntime) -> Result<(), Fail> {
-    assert_edited_in(&rt, rt.alloc(), REMOVED, 16, Profile::Two)
+    assert_edited_in(&rt, rt.alloc(), REMOVED, 19, Profile::Two)
 }
 
 /// New pairs and elements.
@@ -124,6 +140,11 @@ const INSERTED: &str = r#"
 t = {¶a = 1, # A¶b = 2, # B¶c = 3 # C¶}¶
 [{"op":"insert","at":["t","d"],"value":"4"}]
 t = {¶a = 1, # A¶b = 2, # B¶c = 3, d = 4 # C¶}¶
+kept 1¶1 1¶2 2¶3 3¶4 4¶5 5¶6 7¶7 8¶
+
+t = {¶a = 1, # A¶b = 2, # B¶c = 3, # C¶}¶
+[{"op":"insert","at":["t","d"],"value":"4"}]
+t = {¶a = 1, # A¶b = 2, # B¶c = 3, d = 4, # C¶}¶
 kept 1¶1 1¶2 2¶3 3¶4 4¶5 5¶6 7¶7 8¶
 
 t = {¶x = 1 # c¶ ,¶}¶
@@ -187,7 +208,7 @@ kept 1¶0 0¶1 2¶
 
 #[test]
 fn pairs_are_inserted(rt: HostRuntime) -> Result<(), Fail> {
-    assert_edited_in(&rt, rt.alloc(), INSERTED, 12, Profile::Two)
+    assert_edited_in(&rt, rt.alloc(), INSERTED, 13, Profile::Two)
 }
 
 /// Values and names that become others, and lists of edits.

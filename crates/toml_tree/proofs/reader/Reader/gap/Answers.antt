@@ -40,7 +40,7 @@ pub loop-lines-init : goal.loop-lines-init
 loop-lines-init c =
     let none = loop_start gap_step (cursor c.args.self.now) in
     let one = loop_pushed gap_line piece gap_step [] (c.in-Next.line ∷ []) _ _ _ _ _ none refl c.in_ok-line.ensures.reads c.in_ok-line.ensures.moves c.in-Next.is in
-    loop_pushed gap_line piece gap_step (c.in-Next.line ∷ []) c.push_sparing-2.new.list.items _ _ _ _ _ one (grind (arith, c.in_ok-push_sparing-2.ensures.items, c.in_ok-push_sparing.ensures.items, c.new-lines.ensures.items)) c.in_ok-line-2.ensures.reads c.in_ok-line-2.ensures.moves c.in-Next-2.is
+    loop_pushed gap_line piece gap_step (c.in-Next.line ∷ []) c.push-2.new.self.items _ _ _ _ _ one (grind (arith, c.in_ok-push-2.ensures.items, c.in_ok-push.ensures.items, c.in_ok-lines.ensures.items)) c.in_ok-line-2.ensures.reads c.in_ok-line-2.ensures.moves c.in-Next-2.is
 
 pub returns-in_err-line-3 : goal.returns-in_err-line-3
 unfolding gap_at
@@ -49,7 +49,7 @@ returns-in_err-line-3 c =
     rw (p.1, p.2) (loop_failed gap_line piece gap_step _ _ _ _ _ c.loop-lines.invariant c.in_err-line-3.ensures.reads (λ e. rw e refl))
 
 pub loop-lines-preserved : goal.loop-lines-preserved
-loop-lines-preserved c = loop_pushed gap_line piece gap_step _ _ _ _ _ _ _ c.loop-lines.invariant c.in_ok-push_sparing-in-Next-3.ensures.items c.in_ok-line-3.ensures.reads c.in_ok-line-3.ensures.moves c.in-Next-3.is
+loop-lines-preserved c = loop_pushed gap_line piece gap_step _ _ _ _ _ _ _ c.loop-lines.invariant c.in_ok-push-in-Next-3.ensures.items c.in_ok-line-3.ensures.reads c.in_ok-line-3.ensures.moves c.in-Next-3.is
 
 pub returns-in-Done-3 : goal.returns-in-Done-3
 unfolding gap_at
