@@ -1,4 +1,7 @@
 pub mod Runs
+pub mod Blocks
+pub mod Stops
+pub mod Marks
 pub mod Newlines
 pub mod Comments
 pub mod Bounds

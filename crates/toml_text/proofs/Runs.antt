@@ -54,13 +54,6 @@ run_longest p bs = record {
   longest = λ m after within each. absurd (omega (arith, run_most p bs m within each));
 }
 
--- a run of a part that ends in the whole before a byte that does not pass is the run of the whole
-pub run_len-cut : (p : ℕ → Bool) (bs : List ℕ) (cut : ℕ) → cut ≤ length bs → (cut < length bs → p (get_or bs cut 0) ≡ false) → run_len p (take cut bs) ≡ run_len p bs
-run_len-cut p [] zero h e = refl
-run_len-cut p [] (suc cut) h e = refl
-run_len-cut p (b ∷ bs) zero h e = sym (let k : p b ≡ false = e (omega arith) in ap (λ t. cond t (run_len p bs + 1) 0) k)
-run_len-cut p (b ∷ bs) (suc cut) h e = ap (λ n. cond (p b) (n + 1) 0) (run_len-cut p bs cut (omega arith) (λ below. e (omega arith)))
-
 cond_pos : (t : Bool) (r i : ℕ) → i < cond t (r + 1) 0 → (t ≡ true) × (i < r + 1)
 cond_pos true r i h = (refl, h)
 cond_pos false r i h = absurd (omega arith)
@@ -81,7 +74,3 @@ run_stop p (b ∷ bs) h = ⊎_elim
     (λ (f : p b ≡ false). subst (λ t. p (get_or (b ∷ bs) (cond t (run_len p bs + 1) 0) 0) ≡ false) (sym f) f)
     (λ (k : (p b ≡ true) × (run_len p bs < length bs)). subst (λ t. p (get_or (b ∷ bs) (cond t (run_len p bs + 1) 0) 0) ≡ false) (sym k.0) (rw add-one (run_stop p bs k.1)))
     (cond_stop (p b) (run_len p bs) (length bs) h)
-
--- a comment does not go on over LF
-pub lf_ends : (b : ℕ) → b ≡ 0x0A → is_comment b ≡ false
-lf_ends b is = rw is refl

@@ -1,7 +1,7 @@
 -- Classes of bytes, as `toml.abnf` has them for characters.
 -- A text is UTF-8, where each byte of a character past ASCII is 128 or more and no other byte is. So a class
 -- that has all characters past ASCII or none of them is a class of bytes, and `non-ascii` is `0x80 ≤ b`.
-use Rattle.std.specs.Prelude.{ℕ, Bool, ◌||◌, ◌&&◌, nat_le, ◌==◌}
+use Rattle.std.specs.Prelude.{ℕ, Bool, not, ◌||◌, ◌&&◌, nat_le, ◌==◌}
 
 abbrev pub is_between : ℕ → ℕ → ℕ → Bool
 is_between low high b = nat_le low b && nat_le b high
@@ -53,3 +53,10 @@ is_basic b = is_ws b || b == 0x21 || is_between 0x23 0x5B b || is_between 0x5D 0
 -- `literal-char`: a tab, printable ASCII without `'`, or past ASCII
 abbrev pub is_literal : ℕ → Bool
 is_literal b = b == 0x09 || is_between 0x20 0x26 b || is_between 0x28 0x7E b || nat_le 0x80 b
+
+-- a byte that a comment may have, but for two marks: of a string's text, those that end a run of plain bytes
+abbrev pub is_unmarked : ℕ → ℕ → ℕ → Bool
+is_unmarked mark other b = is_comment b && not (b == mark || b == other)
+
+abbrev pub is_stop : ℕ → ℕ → ℕ → Bool
+is_stop mark other b = not (is_unmarked mark other b)

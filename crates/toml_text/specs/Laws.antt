@@ -1,6 +1,6 @@
 -- Laws: the plain functions of `Runs` find the pieces of the forms of `Forms`, and no others; what a first byte tells.
 use Rattle.std.specs.Prelude.{◌≡◌, ◌<◌, ◌≤◌, ℕ, Bool, true, false, List, ◌++◌, length, take, get_or, ◌⊎◌}
-use Rattle.toml_text.specs.Bytes.{is_comment}
+use Rattle.toml_text.specs.Bytes.{is_comment, is_basic, is_literal, is_unmarked}
 use Rattle.toml_text.specs.Forms.{Each, IsNewline, IsComment}
 use Rattle.toml_text.specs.Runs.{run_len, begins, newline_len, comment_len}
 
@@ -39,3 +39,14 @@ BeginsApart = (p q : ℕ → Bool) (bs : List ℕ) → ((b : ℕ) → p b ≡ tr
 -- it passes one that everything passes with it
 abbrev pub BeginsWider : Type 0
 BeginsWider = (p q : ℕ → Bool) (bs : List ℕ) → ((b : ℕ) → p b ≡ true → q b ≡ true) → begins p bs ≡ true → begins q bs ≡ true
+
+-- Runs up to a mark are those of the classes: a comment has no LF, and a string's text neither its mark nor, where it
+-- has escapes, `\`.
+abbrev pub CommentIsUnmarked : Type 0
+CommentIsUnmarked = (bs : List ℕ) → run_len (is_unmarked 0x0A 0x0A) bs ≡ run_len is_comment bs
+
+abbrev pub BasicIsUnmarked : Type 0
+BasicIsUnmarked = (bs : List ℕ) → run_len (is_unmarked 0x22 0x5C) bs ≡ run_len is_basic bs
+
+abbrev pub LiteralIsUnmarked : Type 0
+LiteralIsUnmarked = (bs : List ℕ) → run_len (is_unmarked 0x27 0x27) bs ≡ run_len is_literal bs

@@ -1,5 +1,5 @@
 //! Laws over the definitions: each function's contract is one or two, and nothing is run.
-ghost use Rattle.toml_text.specs.Laws.{RunIsPiece, RunIsFound, NewlineIsPiece, NewlineIsFound, CommentIsPiece, CommentIsFound, RunIsLongest, RunStops, BeginsApart, BeginsWider};
+ghost use Rattle.toml_text.specs.Laws.{RunIsPiece, RunIsFound, NewlineIsPiece, NewlineIsFound, CommentIsPiece, CommentIsFound, RunIsLongest, RunStops, BeginsApart, BeginsWider, CommentIsUnmarked, BasicIsUnmarked, LiteralIsUnmarked};
 
 /// `run_len` finds the longest run of bytes that pass a test at the front.
 pub fn runs()
@@ -25,4 +25,11 @@ pub fn comments()
 pub fn firsts()
     ensures apart { BeginsApart }
     ensures wider { BeginsWider }
+{}
+
+/// Which runs up to a mark are those of a comment, of a basic string and of a literal string.
+pub fn unmarked()
+    ensures comment { CommentIsUnmarked }
+    ensures basic { BasicIsUnmarked }
+    ensures literal { LiteralIsUnmarked }
 {}

@@ -7,8 +7,10 @@ pub mod laws;
 mod scan;
 mod source;
 mod span;
+mod unmarked;
 
 pub use fault::TextFault;
 pub use scan::{newline_len, ws_len};
 pub use source::{MAX_LEN, Source};
 pub use span::Span;
+pub use unmarked::unmarked_len;

@@ -1,9 +1,9 @@
 //! How long the whitespace, newline or comment at the front is.
 ghost use Rattle.std.specs.Prelude.{◌≡◌, ◌≤◌, length};
-ghost use Rattle.toml_text.specs.Bytes.{is_ws, is_comment};
+ghost use Rattle.toml_text.specs.Bytes.{is_ws};
 ghost use Rattle.toml_text.specs.Runs.{run_len, newline_len, comment_len};
 
-use memchr::memchr;
+use crate::unmarked::unmarked_len;
 
 /// How many tabs and spaces the bytes begin with.
 pub fn ws_len(bytes: &[u8]) -> usize
@@ -32,36 +32,13 @@ pub fn newline_len(bytes: &[u8]) -> usize
 }
 
 /// The length of the comment at the front, or 0.
+#[tactic(auto, using(crate::proofs::Marks::comment_unmarked))]
 pub fn comment_len(bytes: &[u8]) -> usize
     ensures { result ≡ comment_len bytes.now }
 {
     match bytes {
-        [b'#', rest @ ..] => 1 + text_len(rest),
+        // A comment has no LF, so the mark only says that it ends there.
+        [b'#', rest @ ..] => 1 + unmarked_len(rest, b'\n', b'\n'),
         _ => 0,
     }
-}
-
-/// How many bytes at the front may stand in a comment. A comment has no LF, so the fast search for one
-/// bounds the walk byte by byte.
-fn text_len(bytes: &[u8]) -> usize
-    ensures run { result ≡ run_len is_comment bytes.now }
-    ensures within { result ≤ length bytes.now }
-{
-    match memchr(b'\n', bytes) {
-        Some(end) => printable_len(&bytes[..end]),
-        None => printable_len(bytes),
-    }
-}
-
-/// How many bytes at the front are a tab, printable ASCII or past ASCII.
-fn printable_len(bytes: &[u8]) -> usize
-    ensures run { result ≡ run_len is_comment bytes.now }
-    ensures within { result ≤ length bytes.now }
-{
-    for (i, byte) in bytes.iter().enumerate() {
-        if *byte != b'\t' && (*byte < 0x20 || *byte == 0x7F) {
-            return i;
-        }
-    }
-    bytes.len()
 }

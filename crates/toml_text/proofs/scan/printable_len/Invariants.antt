@@ -1,7 +1,0 @@
-use Rattle.std.proofs.Common.{◌≡◌, ◌+◌, drop}
-use Rattle.toml_text.specs.Bytes.{is_comment}
-use Rattle.toml_text.specs.Runs.{run_len}
-use Rattle.toml_text.proofs.scan.printable_len.Given as goal
-
-abbrev pub invariant-loop-i : goal.invariant-loop-i
-invariant-loop-i l = l.i + run_len is_comment (drop l.i l.bytes) ≡ run_len is_comment l.bytes
