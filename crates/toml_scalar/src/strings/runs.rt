@@ -4,7 +4,7 @@ ghost use Rattle.toml_text.specs.Bytes.{is_basic, is_literal};
 ghost use Rattle.toml_text.specs.Runs.{run_len, is_byte};
 ghost use Rattle.toml_scalar.specs.StringRuns.{spaces_len, dropped_len};
 
-use toml_text::{newline_len, ws_len};
+use toml_text::{newline_len, unmarked_len, ws_len};
 
 /// How many bytes at the front stand for themselves in a basic string.
 ///
@@ -13,12 +13,7 @@ pub fn basic_len(bytes: &[u8]) -> usize
     ensures run { result ≡ run_len is_basic bytes.now }
     ensures within { result ≤ length bytes.now }
 {
-    for (i, byte) in bytes.iter().enumerate() {
-        if *byte == b'"' || *byte == b'\\' || *byte == 0x7F || (*byte < 0x20 && *byte != b'\t') {
-            return i;
-        }
-    }
-    bytes.len()
+    unmarked_len(bytes, b'"', b'\\')
 }
 
 /// How many bytes at the front stand for themselves in a literal string.
@@ -28,12 +23,7 @@ pub fn literal_len(bytes: &[u8]) -> usize
     ensures run { result ≡ run_len is_literal bytes.now }
     ensures within { result ≤ length bytes.now }
 {
-    for (i, byte) in bytes.iter().enumerate() {
-        if *byte == b'\'' || *byte == 0x7F || (*byte < 0x20 && *byte != b'\t') {
-            return i;
-        }
-    }
-    bytes.len()
+    unmarked_len(bytes, b'\'', b'\'')
 }
 
 /// How many bytes at the front are the mark.

@@ -1,7 +1,0 @@
-use Rattle.std.proofs.Common.{◌≡◌, ◌+◌, drop}
-use Rattle.toml_text.specs.Bytes.{is_literal}
-use Rattle.toml_text.specs.Runs.{run_len}
-use Rattle.toml_scalar.proofs.strings.runs.literal_len.Given as goal
-
-abbrev pub invariant-loop-i : goal.invariant-loop-i
-invariant-loop-i l = l.i + run_len is_literal (drop l.i l.bytes) ≡ run_len is_literal l.bytes
