@@ -1,7 +1,6 @@
 -- Runs of bytes that pass a test, and where the longest piece of a form ends.
-use Rattle.std.proofs.Common.{◌≡◌, ℕ, zero, suc, ◌+◌, ◌-◌, ◌<◌, ◌≤◌, Bool, true, false, cond, List, [], ◌∷◌, length, get_or, take, drop, ◌⊎◌, sym, refl, ap, subst, arith, add-one, length-drop, ⊎_elim, inl, inr}
+use Rattle.std.proofs.Common.{◌≡◌, ℕ, zero, suc, ◌+◌, ◌-◌, ◌<◌, ◌≤◌, Bool, true, false, cond, List, [], ◌∷◌, length, get_or, take, drop, ◌⊎◌, sym, refl, subst, arith, add-one, length-drop, ⊎_elim, inl, inr}
 use Rattle.std.proofs.lemmas.Bool.{cond-true}
-use Rattle.toml_text.specs.Bytes.{is_comment}
 use Rattle.toml_text.specs.Forms.{Each}
 use Rattle.toml_text.specs.Laws.{RunIsLongest, RunStops}
 use Rattle.toml_text.specs.Longest.{IsLongest, BeginsNone}
