@@ -54,9 +54,10 @@ is_basic b = is_ws b || b == 0x21 || is_between 0x23 0x5B b || is_between 0x5D 0
 abbrev pub is_literal : ℕ → Bool
 is_literal b = b == 0x09 || is_between 0x20 0x26 b || is_between 0x28 0x7E b || nat_le 0x80 b
 
--- a byte that a comment may have, but for two marks: of a string's text, those that end a run of plain bytes
+-- a byte that a comment may have, unless it is one of two marks, which end a run of plain bytes in the text of a string
 abbrev pub is_unmarked : ℕ → ℕ → ℕ → Bool
 is_unmarked mark other b = is_comment b && not (b == mark || b == other)
 
+-- any other byte
 abbrev pub is_stop : ℕ → ℕ → ℕ → Bool
 is_stop mark other b = not (is_unmarked mark other b)

@@ -9,6 +9,7 @@ pub mod CompleteValues
 pub mod CompleteLines
 pub mod Marks
 pub mod Exact
+pub mod HandedOut
 pub mod ExactValues
 pub mod Cuts
 pub mod Pieces

@@ -5,13 +5,9 @@ use Rattle.toml_tree.specs.Reading.{Cursor, many, all_of, ◌>>=◌}
 use Rattle.toml_scalar.specs.Faults.{place_of}
 use Rattle.toml_tree.specs.Reads.{end, Onward, Moves, Fails, step, behind, joined}
 use Rattle.toml_scalar.specs.declared.fault.SyntaxFault.{SyntaxFault}
+pub use Rattle.toml_tree.specs.Loops.{prefixed, Loop}
 use Rattle.toml_tree.specs.declared.step.Step.{Step}
 use Rattle.toml_tree.specs.declared.step.Step.TheVariants.{Next, Done}
-
--- what is read, behind what was read before
-abbrev pub prefixed : {A B : Type 0} → List A → Option (List A × B × Cursor) → Option (List A × B × Cursor)
-prefixed front None = None
-prefixed front (Some s) = Some (front ++ s.0, s.1, s.2)
 
 prefixed-nil : {A B : Type 0} (o : Option (List A × B × Cursor)) → prefixed [] o ≡ o
 prefixed-nil None = refl
@@ -25,13 +21,6 @@ prefixed-cons front a (Some s) = ap (λ l. Some (l, s.1, s.2)) (sym (append_asso
 pub append-nil : {A : Type 0} (xs : List A) → xs ++ [] ≡ xs
 append-nil [] = refl
 append-nil (x ∷ xs) = ap (λ l. x ∷ l) (append-nil xs)
-
--- from `first` on, `front` was read, and the reader now stands at `now`
-pub record Loop {A B : Type 0} (step : Cursor → Option (Step A B × Cursor)) (front : List A) (now first : Cursor) : Type 0 where
-  pub fuel : ℕ
-  pub enough : length now.rest < fuel
-  pub same : all_of step first ≡ prefixed front (many step fuel now)
-  pub onward : Onward first now
 
 module _ {A B : Type 0} (step : Cursor → Option (Step A B × Cursor)) where
   pub loop_start : (c : Cursor) → Loop step [] c c

@@ -5,6 +5,7 @@ pub mod Profiles
 pub mod View
 pub mod Lines
 pub mod Document
+pub mod HandedOut
 pub mod Laws
 pub mod Pieces
 pub mod Parts
@@ -20,3 +21,4 @@ pub mod ReadingLines
 pub mod Stands
 pub mod Bounded
 pub mod Reads
+pub mod Loops

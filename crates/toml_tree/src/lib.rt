@@ -8,6 +8,7 @@ mod headers;
 mod keys;
 pub mod laws;
 mod line;
+mod line_reader;
 mod lines;
 mod parsing;
 mod piece;
@@ -21,6 +22,7 @@ mod values;
 
 pub use document::Doc;
 pub use line::Line;
+pub use line_reader::LineReader;
 pub use parsing::{parse, parse_in, parse_value, parse_value_in};
 pub use piece::{Blank, Gap, GapLine, LineGap, LinesGap, Piece};
 pub use profile::Profile;

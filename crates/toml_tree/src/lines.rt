@@ -49,7 +49,7 @@ impl<'t> Reader<'t> {
 
     /// An expression and the newline behind it, or the last expression.
     #[tactic(auto, unfolding(crate::specs::ReadingLines::line_step))]
-    fn line_step(
+    pub(crate) fn line_step(
         &mut self,
         alloc: Global,
         profile: Profile,

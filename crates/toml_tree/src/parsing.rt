@@ -88,7 +88,7 @@ fn mark_len(bytes: &[u8]) -> usize
 
 impl<'t> Reader<'t> {
     /// The mark U+FEFF if it stands here, or an empty piece.
-    fn mark(&mut self) -> Piece<'t>
+    pub(crate) fn mark(&mut self) -> Piece<'t>
         ensures piece { piece result ≡ here (length (mark_of (cursor self.old).rest)) (cursor self.old) }
         ensures after { cursor self.new ≡ ahead (length (mark_of (cursor self.old).rest)) (cursor self.old) }
         ensures onward { Onward (cursor self.old) (cursor self.new) }

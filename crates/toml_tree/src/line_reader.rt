@@ -1,0 +1,48 @@
+//! The lines of a text one after another.
+ghost use Rattle.std.specs.Prelude.{ℕ, List, []};
+ghost use Rattle.toml_text.specs.Source.{text_of};
+ghost use Rattle.toml_tree.specs.HandedOut.{HandsOn, HandsOut, left};
+ghost use Rattle.toml_tree.specs.declared.profile.Profile.{Profile};
+ghost use Rattle.toml_tree.specs.Tree as tree;
+
+use crate::line::Line;
+use crate::profile::Profile;
+use crate::reader::Reader;
+use crate::step::Step;
+use std::alloc::Global;
+use toml_scalar::SyntaxFault;
+use toml_text::Source;
+
+/// Hands out the lines of a text in text order. It keeps none, so whoever judges a text by its lines needs memory for one
+/// of them at a time.
+#[derive(Clone, Copy)]
+pub struct LineReader<'t> {
+    reader: Reader<'t>,
+    profile: Profile,
+}
+
+impl<'t> LineReader<'t> {
+    /// A reader that stands before the first line, behind the optional mark U+FEFF.
+    pub fn new(source: Source<'t>, profile: Profile) -> LineReader<'t>
+        ensures { HandsOut profile (text_of source.entry) [] result }
+    {
+        let mut reader = Reader { source, at: 0 };
+        let _ = reader.mark();
+        LineReader { reader, profile }
+    }
+
+    /// The next line, and the reader if there is one more. Once the last line is handed out all of them together are those
+    /// of `parse_in`. A fault says of the whole text that it has no tree of the profile; `NoMemory` says nothing of it.
+    pub fn next(self, alloc: Global) -> Result<(Line<'t>, Option<LineReader<'t>>), SyntaxFault>
+        ensures { (profile : Profile) (text : List ℕ) (front : List tree.Line) → HandsOut profile text front self.entry → HandsOn profile text front (left self.entry) result }
+    {
+        let LineReader {
+            mut reader,
+            profile,
+        } = self;
+        match reader.line_step(alloc, profile)? {
+            Step::Next(line) => Ok((line, Some(LineReader { reader, profile }))),
+            Step::Done(line) => Ok((line, None)),
+        }
+    }
+}
