@@ -1,10 +1,12 @@
 //! Why names are refused.
 ghost use Rattle.std.specs.Prelude.{◌≡◌};
 ghost use Rattle.toml_names.specs.declared.fault.NameFault.TheVariants as names;
+ghost use Rattle.toml_names.specs.declared.fault.ReadFault.TheVariants as reads;
 ghost use Rattle.toml_names.specs.declared.fault.ValueFault.TheVariants as values;
 
 use crate::model::address::Address;
 use std::alloc::{AllocError, AllocFailed};
+use toml_tree::SyntaxFault;
 
 /// Why the names of a document are refused. Lines are counted from 0, as the tree has them.
 #[derive(Drop)]
@@ -30,6 +32,39 @@ impl<T: Drop> From<AllocFailed<T>> for NameFault {
 
     fn from(_: AllocFailed<T>) -> NameFault {
         NameFault::NoMemory
+    }
+}
+
+/// Why a text is no document. `NoMemory`, in either, says nothing of the text.
+#[derive(Drop)]
+pub enum ReadFault {
+    /// No tree of the profile spells it.
+    Syntax(SyntaxFault),
+    /// The names of its tree are refused.
+    Names(NameFault),
+}
+
+impl From<SyntaxFault> for ReadFault {
+    ghost from_gives = { λ fault e. e ≡ reads.Syntax fault };
+
+    fn from(fault: SyntaxFault) -> ReadFault {
+        ReadFault::Syntax(fault)
+    }
+}
+
+impl From<NameFault> for ReadFault {
+    ghost from_gives = { λ fault e. e ≡ reads.Names fault };
+
+    fn from(fault: NameFault) -> ReadFault {
+        ReadFault::Names(fault)
+    }
+}
+
+impl From<AllocError> for ReadFault {
+    ghost from_gives = { λ _ e. e ≡ reads.Names names.NoMemory };
+
+    fn from(_: AllocError) -> ReadFault {
+        ReadFault::Names(NameFault::NoMemory)
     }
 }
 

@@ -4,14 +4,16 @@
 
 mod fault;
 pub mod laws;
+mod line_names;
 mod meaning;
 mod mentions;
 mod model;
 mod names;
 mod reader;
+mod texts;
 mod tree;
 
-pub use fault::{NameFault, ValueFault};
+pub use fault::{NameFault, ReadFault, ValueFault};
 pub use meaning::keys::key_address;
 pub use meaning::values::read_value;
 pub use mentions::rules::MAX_STEPS;
@@ -21,3 +23,4 @@ pub use model::name::Name;
 pub use model::place::Place;
 pub use names::{Names, read_lines, read_names};
 pub use reader::NameReader;
+pub use texts::{data_of_text, judge_text, mentions_of_text};

@@ -70,7 +70,12 @@ impl<'t> NameTree<'t> {
     }
 
     /// Takes a line whole or leaves the nodes as they were.
-    fn take_line(&mut self, at: usize, number: usize, line: &Line<'t>) -> Result<Entered, NameFault>
+    pub(crate) fn take_line(
+        &mut self,
+        at: usize,
+        number: usize,
+        line: &Line<'t>,
+    ) -> Result<Entered, NameFault>
         requires there { IsNode self.old.nodes.items at }
         requires settled { self.old.changes.items ≡ [] }
         ensures taken { TakesEntry self.old.nodes.items self.new.nodes.items at number (tree_line line.now).expr result }

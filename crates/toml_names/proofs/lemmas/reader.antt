@@ -1,3 +1,4 @@
 pub mod OneMoreLine
 pub mod WholeDocument
+pub mod WholeText
 pub mod WholeValue

@@ -1,7 +1,19 @@
-//! The key for hashing the names of a document: a hash of all its key parts. Names that collide would have to be found
-//! under a key that they make themselves.
+//! The key for hashing the names of a document or a value: a hash of all its key parts, or of all bytes of a text whose
+//! lines are not kept. Names that collide would have to be found under a key that they make themselves.
 use std::hash::{DefaultHasher, Hasher};
+use toml_text::{Source, Span};
 use toml_tree::{Doc, Expr, Key, KeyVal, Line, Piece, Value};
+
+/// A hash of all bytes of a text.
+pub fn key_of_text(source: Source<'_>) -> u64 {
+    let mut hasher = DefaultHasher::new();
+    let all = Span {
+        start: 0,
+        end: source.len(),
+    };
+    hasher.write(source.slice(all).as_bytes());
+    hasher.finish()
+}
 
 /// A hash of the key parts of a document, in text order.
 pub fn key_of(doc: &Doc<'_>) -> u64 {

@@ -1,5 +1,5 @@
 -- Each index in what a text names is below its length, since each element takes a byte, and so does each header.
-use Rattle.toml_names.proofs.Common.{common_steps, ◌≡◌, ℕ, ◌+◌, ◌<◌, ◌≤◌, Bool, true, false, cond, List, [], ◌∷◌, ◌++◌, map, length, drop, ap, refl, arith, length-append, rules, length-drop, EachIs, Part, joined, value_parts, items_parts, pairs_parts, gap_parts, assign_parts, blank_parts, header_parts, array_header_parts, expr_parts, lines_parts, line_parts, symbol, Piece, Blank, Assign, Value, Scalar, Array, Inline, Items, Close, Last, More, Pairs, ClosePairs, LastPair, MorePairs, Expr, BlankLine, KeyValLine, TableLine, ArrayTableLine, Line, Name, Index, Passed, Header, Address, child, element, below, Key, part_name, rest_names, Named, root, named_by, named_from, table_at, inside, elements, members, fronts, pair_named, section, section_from, is_section, count_tables, entered, followed, ends_table, ends_tables, sizes_add}
+use Rattle.toml_names.proofs.Common.{common_steps, ◌≡◌, ℕ, ◌+◌, ◌<◌, ◌≤◌, Bool, true, false, cond, List, [], ◌∷◌, ◌++◌, map, length, drop, ap, refl, arith, length-append, rules, length-drop, EachIs, Part, joined, value_parts, items_parts, pairs_parts, gap_parts, assign_parts, blank_parts, header_parts, array_header_parts, expr_parts, lines_parts, line_parts, symbol, Piece, Blank, Assign, Value, Scalar, Array, Inline, Items, Close, Last, More, Pairs, ClosePairs, LastPair, MorePairs, Expr, BlankLine, KeyValLine, TableLine, ArrayTableLine, Line, Name, Index, Passed, Address, child, element, below, Key, part_name, rest_names, Named, root, named_by, named_from, table_at, inside, elements, members, fronts, pair_named, section, section_from, is_section, count_tables, entered, followed, ends_table, ends_tables, sizes_add}
 use Rattle.toml_tree.specs.Spells.{piece, mark_of}
 use Rattle.toml_tree.specs.Tree as spelled
 use Rattle.toml_names.specs.model.Indices.{IsLow, IsLowStep, IndicesAreLow, ValueIndicesAreLow}

@@ -1,7 +1,6 @@
 -- A reader that takes one more line, or refuses it.
-use Rattle.toml_names.proofs.Common.{common_steps, ◌≡◌, ℕ, suc, ◌+◌, ◌<◌, List, [], ◌∷◌, ◌++◌, length, take, drop, Option, Some, None, option_map, slice_index_or, map, Bor, refl, sym, ap, subst, ◌∙◌, arith, rules, length_push, get_or_at, take_at, take_all, length-take-le, append_assoc, length-map, line as tree_line, Line, NameFault, Address, IsWithin, EntersLine, Named, named, named_by, section, AreGood, IsRedefined, IsLong, own_address, line_address, Spot, address_at, IsReader, RefusesLine, StaysShort, RefusesEntry, IsShort, misfit}
+use Rattle.toml_names.proofs.Common.{common_steps, ◌≡◌, ℕ, suc, ◌+◌, ◌<◌, List, [], ◌∷◌, ◌++◌, length, take, drop, Option, Some, None, option_map, slice_index_or, map, Bor, refl, sym, ap, subst, ◌∙◌, arith, rules, length_push, get_or_at, take_at, take_all, length-take-le, append_assoc, length-map, line as tree_line, Line, NameFault, Address, IsWithin, EntersLine, Named, named, named_by, AreGood, IsRedefined, IsLong, own_address, line_address, Spot, address_at, IsReader, RefusesLine, StaysShort, RefusesEntry, IsShort, misfit}
 use Rattle.toml_tree.specs.declared.line.Line.{Line as TreeLine}
-use Rattle.toml_names.specs.declared.fault.NameFault.TheVariants as faults
 use Rattle.toml_names.specs.declared.tree.headers.Entered.{Entered}
 use Rattle.toml_names.proofs.lemmas.mentions.LineAddresses.{line_addresses}
 use Rattle.toml_names.proofs.lemmas.mentions.NextLine.{named-more, AreGood-more, IsRedefined-at, IsLong-at, IsShort-append, IsShort-behind}

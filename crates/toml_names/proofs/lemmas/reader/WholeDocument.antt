@@ -1,6 +1,5 @@
 -- A document read line by line.
 use Rattle.toml_names.proofs.Common.{common_steps, ◌≡◌, ℕ, ◌+◌, ◌<◌, ◌≤◌, List, [], ◌∷◌, ◌++◌, length, take, Option, Some, None, option_and_then, slice_get, slice_index_or, refl, sym, ap, ◌∙◌, ◌⊎◌, inl, inr, arith, rules, cases_lt, take_more, take_at, take_all, length_push, length-take-le, slice_get-get_or, slice_get_past, Line, NameFault, Address, Kinds, expr_key_parts, all_key_parts, named, AreGood, IsRedefined, IsLong, RefusesNames, line_address, Spot, ReaderState, lines_of, RefusesLine, AreNames, ranked}
-use Rattle.toml_names.specs.declared.fault.NameFault.TheVariants as faults
 use Rattle.toml_names.proofs.lemmas.mentions.LineAddresses.{no_line_address}
 
 -- a reader that has taken so many of the lines

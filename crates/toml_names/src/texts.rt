@@ -1,0 +1,84 @@
+//! A text read line by line: what it names is judged and told, and no line is kept.
+ghost use Rattle.std.specs.Prelude.{◌≡◌, ◌<◌, ◌∷◌, ◌++◌, List, [], length, IfErr, IfOk, OnOk};
+ghost use Rattle.toml_text.specs.Source.{text_of};
+ghost use Rattle.toml_tree.specs.Lines.{line as tree_line};
+ghost use Rattle.toml_tree.specs.Tree as spelled;
+ghost use Rattle.toml_names.specs.mentions.FirstMentions.{first_mentions};
+ghost use Rattle.toml_names.specs.mentions.Mentions.{named};
+ghost use Rattle.toml_names.specs.model.Data.{IsDataOf, kind_at};
+ghost use Rattle.toml_names.specs.reader.Texts.{GoodText, Judges, RefusesText, StandForText};
+
+use crate::fault::ReadFault;
+use crate::line_names::{Judged, LineNames};
+use crate::model::address::Address;
+use crate::model::datum::Data;
+use crate::tree::hash_key::key_of_text;
+use crate::tree::name_tree::NameTree;
+use std::alloc::Global;
+use toml_text::Source;
+use toml_tree::{Line, LineReader, Profile};
+
+/// Whether the text is a document of the profile, and else why not. A text that no tree spells is refused for that, whatever
+/// its lines before name. Memory is taken for one line at a time, and for what is named.
+pub fn judge_text(alloc: Global, source: Source<'_>, profile: Profile) -> Result<(), ReadFault>
+    ensures good { OnOk result (GoodText profile (text_of source.entry)) }
+    ensures refused { IfErr result (RefusesText profile (text_of source.entry)) }
+{
+    let _ = enter_text(alloc, source, profile)?;
+    Ok(())
+}
+
+/// The data of a document of the profile; other texts are refused as `judge_text` does.
+pub fn data_of_text(alloc: Global, source: Source<'_>, profile: Profile) -> Result<Data, ReadFault>
+    ensures good { IfOk result (λ whole. (it : GoodText profile (text_of source.entry)) × IsDataOf (named it.lines) (kind_at whole.root)) }
+    ensures refused { IfErr result (RefusesText profile (text_of source.entry)) }
+{
+    let tree = enter_text(alloc, source, profile)?;
+    let root = tree.datum(0)?;
+    Ok(Data { root })
+}
+
+/// The distinct addresses of the mentions of a document of the profile, in the order of their first mentions; other texts
+/// are refused as `judge_text` does. No data are built.
+pub fn mentions_of_text(
+    alloc: Global,
+    source: Source<'_>,
+    profile: Profile,
+) -> Result<Vec<Address>, ReadFault>
+    ensures good { IfOk result (λ list. (it : GoodText profile (text_of source.entry)) × (list.items ≡ first_mentions (named it.lines))) }
+    ensures refused { IfErr result (RefusesText profile (text_of source.entry)) }
+{
+    let tree = enter_text(alloc, source, profile)?;
+    Ok(tree.first_mentions()?)
+}
+
+/// Judges one line more, and lets it go here, so that the loop around it has nothing to let go.
+fn judge_line<'t>(judged: Judged<'t>, line: Line<'t>) -> Judged<'t>
+    requires { (lines : List spelled.Line) × Judges judged lines × (length lines < 18446744073709551615) }
+    ensures { (lines : List spelled.Line) → Judges judged.entry lines → Judges result (lines ++ tree_line line.entry ∷ []) }
+{
+    judged.with(&line)
+}
+
+/// The tree of all that the lines of a text name. The first line that is refused is remembered while the syntax is read to
+/// the end, since a text that no tree spells is refused for that first.
+fn enter_text<'t>(
+    alloc: Global,
+    source: Source<'t>,
+    profile: Profile,
+) -> Result<NameTree<'t>, ReadFault>
+    ensures stand { IfOk result (λ tree. StandForText profile (text_of source.entry) tree.nodes.items) }
+    ensures refused { IfErr result (RefusesText profile (text_of source.entry)) }
+{
+    let mut judged = Judged::Good(LineNames::keyed(alloc, key_of_text(source))?);
+    let mut left = Some(LineReader::new(source, profile));
+    while let Some(reader) = left {
+        let (line, more) = reader.next(alloc)?;
+        judged = judge_line(judged, line);
+        left = more;
+    }
+    match judged {
+        Judged::Good(names) => Ok(names.tree),
+        Judged::Bad(fault) => Err(ReadFault::Names(fault)),
+    }
+}
