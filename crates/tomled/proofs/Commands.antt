@@ -1,7 +1,7 @@
 -- A command with one subcommand more is as its definition says.
-use Rattle.std.proofs.Common.{◌≡◌, false, ap, ap₂, ◌∙◌}
+use Rattle.std.proofs.Common.{ap₂, ◌∙◌}
 use Rattle.std.specs.Prelude.{◌||◌}
-use Rattle.clap.specs.Words.{AddsSubcommand, App, app_of, with_subcommand}
+use Rattle.clap.specs.Words.{AddsSubcommand, App, with_subcommand}
 use Rattle.clap.specs.declared.builder.command.Command.{Command}
 use Rattle.tomled.specs.CommandLine.{IsDefined}
 

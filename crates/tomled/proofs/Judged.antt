@@ -1,8 +1,7 @@
 -- Why bytes that were refused are no document, and bytes that were not are one.
-use Rattle.std.proofs.Common.{◌≡◌, ◌≤◌, ◌+◌, ℕ, List, length, Option, Some, Result, Ok, Err, sym, subst, arith, inl, inr}
+use Rattle.std.proofs.Common.{◌≡◌, ◌≤◌, ◌+◌, ℕ, List, length, Option, Some, sym, ap, ◌∙◌, subst, arith, inl, inr}
 use Rattle.std.proofs.lemmas.Option.{none-some}
-use Rattle.std.specs.Prelude.{IfErr, IfSome}
-use Rattle.std.specs.Result.{IsErrAnd}
+use Rattle.std.specs.Prelude.{IfSome}
 use Rattle.std.specs.Str.{IsValidUpTo}
 use Rattle.std.proofs.lemmas.Str.{IsUtf8-from_is_utf8}
 use Rattle.toml_text.specs.Limit.{IsText, max_len}
@@ -17,12 +16,16 @@ use Rattle.toml_tree.specs.Spells.{Spells}
 use Rattle.toml_tree.specs.Tree.{Doc, Line}
 use Rattle.toml_tree.proofs.Proved.{one_tree}
 use Rattle.tomled.specs.Outcomes.{Ends, IsRefused}
-use Rattle.tomled.specs.Reading.{IsNameEnding, IsNameRefusal, IsSyntaxEnding, IsTextRefusal, IsSyntaxRefusal, RefusesLines, code_of}
+use Rattle.tomled.specs.Reading.{IsNameEnding, IsNameRefusal, IsNumbered, IsReadEnding, IsSyntaxEnding, IsTextRefusal, IsSyntaxRefusal, RefusesLines, code_of, name_code}
 use Rattle.toml_tree.specs.declared.profile.Profile.{Profile}
 use Rattle.toml_names.specs.model.Documents.{IsDocumentIn}
 use Rattle.toml_names.specs.reader.Names.{AreGood, RefusesNames}
 use Rattle.toml_names.specs.declared.fault.NameFault.{NameFault}
 use Rattle.toml_names.specs.declared.fault.NameFault.TheVariants as names
+use Rattle.toml_names.specs.declared.fault.ReadFault.{ReadFault}
+use Rattle.toml_names.specs.declared.fault.ReadFault.TheVariants as reads
+use Rattle.toml_names.specs.reader.Texts.{RefusesText}
+use Rattle.toml_tree.specs.HandedOut.{tree_of}
 use Rattle.toml_names.proofs.Proved.{refused_are_bad}
 use Rattle.tomled.specs.Refusals.{IsSyntaxCode}
 use Rattle.tomled.specs.declared.ending.Ending.{Ending}
@@ -94,8 +97,20 @@ pub no_names : (profile : Profile) (bytes : List ℕ) (d : Doc) (e : Ending) →
 no_names profile bytes d (ends.Refused r) text spelled h = no_lines profile bytes d r text spelled h
 no_names profile bytes d ends.NoMemory text spelled h = tt
 
--- a refusal of the names is handed on
-pub passed_up : (profile : Profile) → {T : Type 0} (bytes : List ℕ) (d : Doc) (e : Ending) (result : Result T Ending) → IsErrAnd result (λ x. x ≡ e) → IsText bytes × SpellsIn profile d bytes → Ends (RefusesLines d.lines) e
-    → IfErr result (Ends (IsRefused profile bytes))
-passed_up profile bytes d e (Ok x) same read h = tt
-passed_up profile bytes d e (Err x) same read h = subst (Ends (IsRefused profile bytes)) (sym same) (no_names profile bytes d e read.0 read.1 h)
+-- a line that is told is one of few
+pub numbered : (profile : Profile) (bytes : List ℕ) (fault : ReadFault) → IsText bytes → RefusesText profile bytes fault → IsNumbered fault
+numbered profile bytes (reads.Syntax fault) text h = tt
+numbered profile bytes (reads.Names (names.Redefined line at)) text h = let told = h (λ e. cc) in omega (arith, told.1.few, told.2.there, text.fits)
+numbered profile bytes (reads.Names (names.LongAddress line)) text h = let told = h (λ e. cc) in omega (arith, told.1.few, told.2.there, text.fits)
+numbered profile bytes (reads.Names names.NoMemory) text h = tt
+
+told_reading : (profile : Profile) (bytes : List ℕ) (fault : NameFault) (r : Refusal) → IsText bytes → RefusesText profile bytes (reads.Names fault) → IsNameRefusal fault r → IsRefused profile bytes r
+told_reading profile bytes fault r text h k =
+    let told = h (λ e. none-some r.code (sym (ap name_code e) ∙ k.0)) in
+    no_lines profile bytes (tree_of bytes told.0) r text told.1.spelled (told_names told.0 fault r told.2 k)
+
+-- so are bytes whose reading ends in a fault
+pub no_reading : (profile : Profile) (bytes : List ℕ) (fault : ReadFault) (e : Ending) → IsText bytes → RefusesText profile bytes fault → IsReadEnding fault e → Ends (IsRefused profile bytes) e
+no_reading profile bytes (reads.Syntax fault) e text h k = no_tree profile bytes fault e text h k
+no_reading profile bytes (reads.Names fault) (ends.Refused r) text h k = told_reading profile bytes fault r text h k
+no_reading profile bytes (reads.Names fault) ends.NoMemory text h k = tt

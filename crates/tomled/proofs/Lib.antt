@@ -4,6 +4,8 @@ pub mod Tagging
 pub mod Built
 pub mod Commands
 pub mod Texts
+pub mod Escapes
+pub mod Written
 pub mod Unique
 pub mod Listed
 pub mod Verified

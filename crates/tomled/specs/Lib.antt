@@ -7,6 +7,7 @@ pub mod Outcomes
 pub mod Reading
 pub mod Check
 pub mod Tagged
+pub mod TaggedText
 pub mod Show
 pub mod Listing
 pub mod EditLists

@@ -11,6 +11,8 @@ use Rattle.toml_names.specs.model.Addresses.{Address}
 use Rattle.toml_names.specs.reader.Names.{IsRedefined, IsLong}
 use Rattle.toml_names.specs.declared.fault.NameFault.{NameFault}
 use Rattle.toml_names.specs.declared.fault.NameFault.TheVariants as names
+use Rattle.toml_names.specs.declared.fault.ReadFault.{ReadFault}
+use Rattle.toml_names.specs.declared.fault.ReadFault.TheVariants as reads
 use Rattle.tomled.specs.declared.ending.Ending.{Ending}
 use Rattle.tomled.specs.declared.ending.Ending.TheVariants.{Refused, NoMemory}
 use Rattle.tomled.specs.declared.refusal.Refusal.{Refusal}
@@ -67,3 +69,12 @@ IsNameRefusal fault r = (name_code fault ≡ Some r.code) × (option_map (λ lin
 abbrev pub IsNameEnding : NameFault → Ending → Type 0
 IsNameEnding fault (Refused r) = IsNameRefusal fault r
 IsNameEnding fault NoMemory = fault ≡ names.NoMemory
+
+-- the same of a fault of the reading
+abbrev pub IsReadEnding : ReadFault → Ending → Type 0
+IsReadEnding (reads.Syntax fault) e = IsSyntaxEnding fault e
+IsReadEnding (reads.Names fault) e = IsNameEnding fault e
+
+abbrev pub IsNumbered : ReadFault → Type 0
+IsNumbered (reads.Syntax fault) = Unit {0}
+IsNumbered (reads.Names fault) = HasNumber fault

@@ -5,7 +5,7 @@ ghost use Rattle.toml_names.specs.model.Documents.{IsDocumentIn};
 ghost use Rattle.tomled.specs.Check.{Checks};
 ghost use Rattle.tomled.specs.Outcomes.{Ends, IsRefused};
 
-use crate::document::{judge, read_tree};
+use crate::document::judge;
 use crate::ending::Ending;
 use crate::outcome::Outcome;
 use std::alloc::{AllocError, Global};
@@ -30,7 +30,6 @@ fn checked(alloc: Global, file: &[u8], profile: Profile) -> Result<Vec<u8>, Endi
     ensures good { IfOk result (λ text. IsDocumentIn profile file.now × (text.items ≡ codes "ok\n")) }
     ensures refused { IfErr result (Ends (IsRefused profile file.now)) }
 {
-    let doc = read_tree(alloc, file, profile)?;
-    judge(alloc, &doc)?;
+    judge(alloc, file, profile)?;
     Ok("ok\n".to_string(alloc)?.into_bytes())
 }

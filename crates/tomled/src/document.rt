@@ -1,72 +1,81 @@
-//! The reading of a document, its tree first and then its names, and why other bytes are refused.
+//! The reading of a document line by line, and why other bytes are refused.
 ghost use Rattle.std.specs.Prelude.{◌≡◌, ◌+◌, ◌<◌, IfErr, IfOk, OnOk};
 ghost use Rattle.toml_text.specs.Limit.{IsText};
-ghost use Rattle.toml_tree.specs.Document.{document};
-ghost use Rattle.toml_tree.specs.Profiles.{SpellsIn};
+ghost use Rattle.toml_text.specs.Source.{text_of};
+ghost use Rattle.toml_tree.specs.declared.profile.Profile.{Profile};
 ghost use Rattle.toml_names.specs.model.Data.{IsDataOf, kind_at};
+ghost use Rattle.toml_names.specs.model.Documents.{IsDocumentIn};
+ghost use Rattle.toml_names.specs.mentions.FirstMentions.{first_mentions};
 ghost use Rattle.toml_names.specs.mentions.Mentions.{named};
-ghost use Rattle.toml_names.specs.reader.Names.{AreGood};
+ghost use Rattle.toml_names.specs.reader.Texts.{GoodText};
 ghost use Rattle.tomled.specs.Outcomes.{Ends, IsRefused};
-ghost use Rattle.tomled.specs.Reading.{HasNumber, IsNameEnding, IsSyntaxEnding, IsTextRefusal, RefusesLines};
+ghost use Rattle.tomled.specs.Reading.{HasNumber, IsNameEnding, IsReadEnding, IsSyntaxEnding, IsTextRefusal, IsNumbered};
 
 use crate::ending::Ending;
 use crate::refusal::Refusal;
 use std::alloc::Global;
-use toml_names::{Data, NameFault, Names, read_lines, read_names};
+use toml_names::{Address, Data, NameFault, ReadFault, data_of_text, judge_text, mentions_of_text};
 use toml_text::{MAX_LEN, Source, TextFault};
-use toml_tree::{Doc, Profile, SyntaxFault, parse_in};
+use toml_tree::{Profile, SyntaxFault};
 
-/// The tree of the text that the bytes are, in the profile, or why no tree spells them.
-#[tactic(auto, using(crate::proofs::Judged::no_tree))]
-pub fn read_tree<'t>(alloc: Global, file: &'t [u8], profile: Profile) -> Result<Doc<'t>, Ending>
-    ensures spelled { IfOk result (λ doc. IsText file.now × SpellsIn profile (document doc) file.now) }
+/// The text that the bytes are, or why they are none.
+fn read_source(file: &[u8]) -> Result<Source<'_>, Ending>
+    ensures text { IfOk result (λ source. text_of source ≡ file.now) }
+    ensures refused { (profile : Profile) → IfErr result (Ends (IsRefused profile file.now)) }
+{
+    match Source::new(file) {
+        Ok(source) => Ok(source),
+        Err(fault) => Err(Ending::Refused(text_refusal(fault))),
+    }
+}
+
+/// Whether the bytes are a document of the profile, and else why not. Nothing else is built of them.
+#[tactic(auto, using(crate::proofs::Judged::no_reading, crate::proofs::Judged::numbered))]
+pub fn judge(alloc: Global, file: &[u8], profile: Profile) -> Result<(), Ending>
+    ensures good { OnOk result (IsDocumentIn profile file.now) }
     ensures refused { IfErr result (Ends (IsRefused profile file.now)) }
 {
-    let source = match Source::new(file) {
-        Ok(source) => source,
-        Err(fault) => return Err(Ending::Refused(text_refusal(fault))),
-    };
-    match parse_in(alloc, source, profile) {
-        Ok(doc) => Ok(doc),
-        Err(fault) => Err(syntax_ending(fault)),
+    let source = read_source(file)?;
+    match judge_text(alloc, source, profile) {
+        Ok(()) => Ok(()),
+        Err(fault) => Err(read_ending(fault)),
     }
 }
 
-/// Whether the names of the lines keep the rules, and else why they don't. Nothing else is built of them.
-#[tactic(auto, using(crate::proofs::Judged::names_end))]
-pub fn judge(alloc: Global, doc: &Doc<'_>) -> Result<(), Ending>
-    ensures good { OnOk result (AreGood (document doc.now).lines) }
-    ensures refused { IfErr result (Ends (RefusesLines (document doc.now).lines)) }
+/// The data of a document of the profile, or why the bytes are none.
+#[tactic(auto, using(crate::proofs::Judged::no_reading, crate::proofs::Judged::numbered))]
+pub fn read_data(alloc: Global, file: &[u8], profile: Profile) -> Result<Data, Ending>
+    ensures facts { IfOk result (λ whole. IsText file.now × (it : GoodText profile file.now) × IsDataOf (named it.lines) (kind_at whole.root)) }
+    ensures refused { IfErr result (Ends (IsRefused profile file.now)) }
 {
-    match read_lines(alloc, doc) {
-        Ok(_) => Ok(()),
-        Err(fault) => Err(name_ending(fault)),
+    let source = read_source(file)?;
+    match data_of_text(alloc, source, profile) {
+        Ok(data) => Ok(data),
+        Err(fault) => Err(read_ending(fault)),
     }
 }
 
-/// The data of the lines, or why they are refused.
-#[tactic(auto, using(crate::proofs::Judged::names_end))]
-pub fn read_data(alloc: Global, doc: &Doc<'_>) -> Result<Data, Ending>
-    ensures good { OnOk result (AreGood (document doc.now).lines) }
-    ensures facts { IfOk result (λ whole. IsDataOf (named (document doc.now).lines) (kind_at whole.root)) }
-    ensures refused { IfErr result (Ends (RefusesLines (document doc.now).lines)) }
+/// The addresses that a document of the profile mentions, each once, or why the bytes are none.
+#[tactic(auto, using(crate::proofs::Judged::no_reading, crate::proofs::Judged::numbered))]
+pub fn read_mentions(alloc: Global, file: &[u8], profile: Profile) -> Result<Vec<Address>, Ending>
+    ensures firsts { IfOk result (λ list. IsText file.now × (it : GoodText profile file.now) × (list.items ≡ first_mentions (named it.lines))) }
+    ensures refused { IfErr result (Ends (IsRefused profile file.now)) }
 {
-    match read_lines(alloc, doc) {
-        Ok(reader) => Ok(reader.data()?),
-        Err(fault) => Err(name_ending(fault)),
+    let source = read_source(file)?;
+    match mentions_of_text(alloc, source, profile) {
+        Ok(list) => Ok(list),
+        Err(fault) => Err(read_ending(fault)),
     }
 }
 
-/// The names of the lines, or why they are refused.
-#[tactic(auto, using(crate::proofs::Judged::names_end))]
-pub fn read_all<'d, 't>(alloc: Global, doc: &'d Doc<'t>) -> Result<Names<'d, 't>, Ending>
-    ensures good { OnOk result (AreGood (document doc.now).lines) }
-    ensures named { IfOk result (λ names. names.named ≡ named (document doc.now).lines) }
-    ensures refused { IfErr result (Ends (RefusesLines (document doc.now).lines)) }
+/// What a fault of the reading comes to.
+fn read_ending(fault: ReadFault) -> Ending
+    requires { IsNumbered fault }
+    ensures { IsReadEnding fault result }
 {
-    match read_names(alloc, doc) {
-        Ok(names) => Ok(names),
-        Err(fault) => Err(name_ending(fault)),
+    match fault {
+        ReadFault::Syntax(fault) => syntax_ending(fault),
+        ReadFault::Names(fault) => name_ending(fault),
     }
 }
 

@@ -6,59 +6,75 @@ mod refused_sections;
 mod remove;
 mod sections;
 
-use crate::edit::run_edit_in;
+use crate::calls::{Case, WAYS, Way, edit, verify};
 use crate::rows::{is_told, rows};
-use crate::verify::run_verify_in;
 use std::alloc::Global;
 use std::process::Abort;
 use std::test::Fail;
-use toml_tree::Profile;
 
-/// Of each of so many rows of profile 1 the edits make the text and the certificate, in profile 2 too.
+/// Of each of so many rows of profile 1 the edits make the text and the certificate, in profile 2 and with no profile too.
 pub fn assert_edited(
     rt: &impl Abort,
     alloc: Global,
     table: &str,
     count: usize,
 ) -> Result<(), Fail> {
-    assert_edited_in(rt, alloc, table, count, Profile::One)?;
-    assert_edited_in(rt, alloc, table, count, Profile::Two)
+    assert_edited_in(rt, alloc, table, count, &WAYS)
 }
 
-/// Of each of so many rows the edits make the text and the certificate in the profile.
+/// Of each of so many rows the edits make the text and the certificate in each of the ways.
 pub fn assert_edited_in(
     rt: &impl Abort,
     alloc: Global,
     table: &str,
     count: usize,
-    profile: Profile,
+    ways: &[Way],
 ) -> Result<(), Fail> {
-    for row in &rows(rt, alloc, table, count)? {
-        assert_made(rt, alloc, row.as_slice(), profile)?;
+    let rows = rows(rt, alloc, table, count)?;
+    for way in ways {
+        assert_all_made(rt, alloc, rows.as_slice(), *way)?;
+    }
+    Ok(())
+}
+
+fn assert_all_made(
+    rt: &impl Abort,
+    alloc: Global,
+    rows: &[Vec<String>],
+    way: Way,
+) -> Result<(), Fail> {
+    for row in rows {
+        assert_made(rt, alloc, row.as_slice(), way)?;
     }
     Ok(())
 }
 
 /// The row: the text before, the edits, the text after, and the certificate. `verify` says yes of what is made.
-fn assert_made(
-    rt: &impl Abort,
-    alloc: Global,
-    row: &[String],
-    profile: Profile,
-) -> Result<(), Fail> {
+fn assert_made(rt: &impl Abort, alloc: Global, row: &[String], way: Way) -> Result<(), Fail> {
     let [before, edits, after, cert] = row else {
         return Err(Fail::from("not four fields"));
     };
-    let (file, list) = (before.as_bytes(), edits.as_bytes());
-    let got = run_edit_in(alloc, file, list, profile)?;
+    let (before, edits) = (before.as_bytes(), edits.as_bytes());
+    let got = edit(alloc, before, edits, way)?;
     assert!(rt; is_told(&got, 0, "ok\n", ""), "{row:?}");
+    let (after, cert) = (after.as_bytes(), cert.as_bytes());
     let [text, pairs] = got.files.as_slice() else {
         return Err(Fail::from("not two files"));
     };
-    let good = text.as_slice() == after.as_bytes() && pairs.as_slice() == cert.as_bytes();
-    assert!(rt; good, "{row:?}");
-    let said = run_verify_in(alloc, file, list, text, pairs, profile)?;
-    assert!(rt; is_told(&said, 0, "yes\n", ""), "{row:?}");
+    assert!(rt;
+        text.as_slice() == after && pairs.as_slice() == cert,
+        "{row:?}"
+    );
+    let case = Case {
+        before,
+        edits,
+        after,
+        cert,
+    };
+    assert!(rt;
+        is_told(&verify(alloc, case, way)?, 0, "yes\n", ""),
+        "{row:?}"
+    );
     Ok(())
 }
 

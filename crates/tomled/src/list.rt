@@ -5,7 +5,7 @@ ghost use Rattle.toml_tree.specs.declared.profile.Profile.TheVariants.{One};
 ghost use Rattle.tomled.specs.Listing.{Lists, ListsAddresses, address_json, line_of, lines_of, step_json};
 ghost use Rattle.tomled.specs.Outcomes.{Ends, IsRefused};
 
-use crate::document::{read_all, read_tree};
+use crate::document::read_mentions;
 use crate::ending::Ending;
 use crate::outcome::Outcome;
 use serde_json::Value;
@@ -33,9 +33,8 @@ fn listed(alloc: Global, file: &[u8], profile: Profile) -> Result<Vec<u8>, Endin
     ensures good { IfOk result (λ text. ListsAddresses profile file.now text.items) }
     ensures refused { IfErr result (Ends (IsRefused profile file.now)) }
 {
-    let doc = read_tree(alloc, file, profile)?;
-    let names = read_all(alloc, &doc)?;
-    Ok(lines(alloc, names.first_mentions())?)
+    let mentions = read_mentions(alloc, file, profile)?;
+    Ok(lines(alloc, &mentions)?)
 }
 
 /// A line for each address.

@@ -3,6 +3,8 @@
 
 ghost use Rattle.std.specs.Prelude.{◌≡◌, [], length, IfOk};
 
+#[cfg(test)]
+mod calls;
 mod check;
 mod counting;
 mod delivery;
@@ -35,6 +37,7 @@ mod refusal;
 mod rows;
 mod show;
 mod tagged;
+mod tagged_text;
 #[cfg(test)]
 mod tests;
 mod verify;

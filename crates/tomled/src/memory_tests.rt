@@ -1,6 +1,6 @@
 //! Hostile texts, and memory that is refused: tests/memory.sh runs those named `or_wants` with each allocation refused.
 
-use crate::check::run_check;
+use crate::calls::{WAYS, check};
 use crate::counting::Counting;
 use crate::output::emit;
 use crate::rows::rows;
@@ -259,15 +259,31 @@ a = 1¶¶
 # a␀
 a = 1␍b = 2
 □a = 1
+
+t = {¶  x = 1, # one¶  y = 2,¶}¶
+t = {¶   # one¶  y = 2,¶}¶
+t = {¶  x = 1, # one¶  y = 2, z = 3,¶}¶
+t = { # c¶}¶
+t = {␍¶ x = 1,␍¶}␍¶
+
+x = []¶
+[s]¶k = 1¶
+s = {}¶
 "#;
 
-/// Each front of the text is a document, or refused.
+/// Each front of the text is a document, or refused, in each profile and without one.
 fn assert_fronts(rt: &impl Abort, alloc: Global, text: &[u8]) -> Result<(), AllocError> {
     for end in 0..text.len().saturating_add(1) {
         if end <= text.len() {
-            let status = run_check(alloc, &text[..end])?.status;
-            assert!(rt; status <= 1, "front {end}");
+            assert_answered(rt, alloc, &text[..end])?;
         }
+    }
+    Ok(())
+}
+
+fn assert_answered(rt: &impl Abort, alloc: Global, text: &[u8]) -> Result<(), AllocError> {
+    for way in WAYS {
+        assert!(rt; check(alloc, text, way)?.status <= 1, "{text:?}");
     }
     Ok(())
 }
@@ -275,7 +291,7 @@ fn assert_fronts(rt: &impl Abort, alloc: Global, text: &[u8]) -> Result<(), Allo
 #[test]
 fn fronts_of_worked_texts(rt: HostRuntime) -> Result<(), Fail> {
     let alloc = rt.alloc();
-    for row in &rows(&rt, alloc, TEXTS, 24)? {
+    for row in &rows(&rt, alloc, TEXTS, 26)? {
         for text in row {
             assert_fronts(&rt, alloc, text.as_bytes())?;
         }

@@ -5,10 +5,10 @@ ghost use Rattle.toml_names.specs.model.Data.{kind_at};
 ghost use Rattle.tomled.specs.Outcomes.{Ends, IsRefused};
 ghost use Rattle.tomled.specs.Show.{IsLineOf, Shows, ShowsData};
 
-use crate::document::{read_data, read_tree};
+use crate::document::read_data;
 use crate::ending::Ending;
 use crate::outcome::Outcome;
-use crate::tagged::tagged;
+use crate::tagged_text::write_tagged;
 use std::alloc::{AllocError, Global};
 use toml_names::Data;
 use toml_tree::Profile;
@@ -32,8 +32,7 @@ fn shown(alloc: Global, file: &[u8], profile: Profile) -> Result<Vec<u8>, Ending
     ensures good { IfOk result (λ line. ShowsData profile file.now line.items) }
     ensures refused { IfErr result (Ends (IsRefused profile file.now)) }
 {
-    let doc = read_tree(alloc, file, profile)?;
-    let whole = read_data(alloc, &doc)?;
+    let whole = read_data(alloc, file, profile)?;
     Ok(data_line(alloc, &whole)?)
 }
 
@@ -41,8 +40,8 @@ fn shown(alloc: Global, file: &[u8], profile: Profile) -> Result<Vec<u8>, Ending
 fn data_line(alloc: Global, data: &Data) -> Result<Vec<u8>, AllocError>
     ensures { IfOk result (λ line. IsLineOf (kind_at «data».now.root) line.items) }
 {
-    let json = tagged(alloc, data)?;
-    let mut line = json.to_vec(alloc)?;
+    let mut line = Vec::new(alloc);
+    write_tagged(alloc, &mut line, data)?;
     line.push(b'\n')?;
     Ok(line)
 }

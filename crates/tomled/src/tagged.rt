@@ -72,7 +72,8 @@ fn tagged_scalar(alloc: Global, scalar: &Scalar) -> Result<Value, AllocError>
     }
 }
 
-fn moment_tag(kind: MomentKind) -> &'static str
+/// The type that is told of a date or a time.
+pub fn moment_tag(kind: MomentKind) -> &'static str
     ensures { result.now ≡ moment_tag kind }
 {
     match kind {

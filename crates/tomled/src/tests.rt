@@ -5,11 +5,10 @@ mod long;
 mod scalars;
 mod shown;
 
-use crate::check::run_check;
+use crate::calls::{WAYS, Way, check, list, show};
 use crate::outcome::Outcome;
 use crate::refusal::Refusal;
 use crate::rows::{is_told, rows};
-use crate::show::run_show;
 use std::alloc::Global;
 use std::process::Abort;
 use std::test::Fail;
@@ -20,15 +19,34 @@ pub fn assert_told(rt: &impl Abort, text: &[u8], got: &Outcome, status: u8, out:
     assert!(rt; good, "{text:?}: {got:?}");
 }
 
+/// The text is a document in each profile, and without one.
 pub fn assert_document(rt: &impl Abort, alloc: Global, text: &[u8]) -> Result<(), Fail> {
-    assert_told(rt, text, &run_check(alloc, text)?, 0, "ok\n", "");
+    for way in WAYS {
+        assert_told(rt, text, &check(alloc, text, way)?, 0, "ok\n", "");
+    }
     Ok(())
 }
 
+/// The text is refused so in each profile, and without one.
 pub fn assert_refusal(rt: &impl Abort, alloc: Global, text: &[u8], said: &str) -> Result<(), Fail> {
     let line = format!(in alloc; "{said}\n")?;
-    assert_told(rt, text, &run_check(alloc, text)?, 1, "", line.as_str());
-    assert_told(rt, text, &run_show(alloc, text)?, 1, "", line.as_str());
+    for way in WAYS {
+        assert_refused_by(rt, alloc, text, line.as_str(), way)?;
+    }
+    Ok(())
+}
+
+/// The three commands of one text all print the line of the refusal, and nothing else.
+pub fn assert_refused_by(
+    rt: &impl Abort,
+    alloc: Global,
+    text: &[u8],
+    line: &str,
+    way: Way,
+) -> Result<(), Fail> {
+    assert_told(rt, text, &check(alloc, text, way)?, 1, "", line);
+    assert_told(rt, text, &show(alloc, text, way)?, 1, "", line);
+    assert_told(rt, text, &list(alloc, text, way)?, 1, "", line);
     Ok(())
 }
 

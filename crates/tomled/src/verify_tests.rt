@@ -1,32 +1,32 @@
 //! The worked rows of `verify`: what it says, the text before, the edits, the text after, and the certificate.
 
+use crate::calls::{Case, WAYS, Way, verify};
+use crate::outcome::Outcome;
 use crate::rows::{is_told, rows};
-use crate::verify::run_verify_in;
 use std::alloc::Global;
 use std::process::Abort;
 use std::test::Fail;
-use toml_tree::Profile;
 
-/// What `verify` says of each of so many rows in profile 1: a yes on the output, a refusal beside it.
+/// What `verify` says of each of so many rows, in each profile and without one: a yes on the output, a refusal beside it.
 pub fn assert_verdicts(
     rt: &impl Abort,
     alloc: Global,
     table: &str,
     count: usize,
 ) -> Result<(), Fail> {
-    assert_verdicts_in(rt, alloc, table, count, Profile::One)
+    assert_verdicts_in(rt, alloc, table, count, &WAYS)
 }
 
-/// So too in the profile.
+/// So too in each of the ways.
 pub fn assert_verdicts_in(
     rt: &impl Abort,
     alloc: Global,
     table: &str,
     count: usize,
-    profile: Profile,
+    ways: &[Way],
 ) -> Result<(), Fail> {
     for row in &rows(rt, alloc, table, count)? {
-        assert_verdict(rt, alloc, row.as_slice(), profile)?;
+        assert_verdict(rt, alloc, row.as_slice(), ways)?;
     }
     Ok(())
 }
@@ -35,27 +35,35 @@ fn assert_verdict(
     rt: &impl Abort,
     alloc: Global,
     row: &[String],
-    profile: Profile,
+    ways: &[Way],
 ) -> Result<(), Fail> {
     let [said, before, edits, after, cert] = row else {
         return Err(Fail::from("not five fields"));
     };
-    let got = run_verify_in(
-        alloc,
-        before.as_bytes(),
-        edits.as_bytes(),
-        after.as_bytes(),
-        cert.as_bytes(),
-        profile,
-    )?;
-    let line = format!(in alloc; "{said}\n")?;
-    let good = if said.as_str() == "yes" {
-        is_told(&got, 0, line.as_str(), "")
-    } else {
-        is_told(&got, 1, "", line.as_str())
+    let case = Case {
+        before: before.as_bytes(),
+        edits: edits.as_bytes(),
+        after: after.as_bytes(),
+        cert: cert.as_bytes(),
     };
-    assert!(rt; good && got.files.is_empty(), "{row:?}");
+    let line = format!(in alloc; "{said}\n")?;
+    for way in ways {
+        let got = verify(alloc, case, *way)?;
+        assert!(rt;
+            is_said(&got, line.as_str()) && got.files.is_empty(),
+            "{row:?} {way:?}"
+        );
+    }
     Ok(())
+}
+
+/// Whether the line is what is said: a yes on the output, a refusal beside it.
+fn is_said(got: &Outcome, line: &str) -> bool {
+    if line == "yes\n" {
+        is_told(got, 0, line, "")
+    } else {
+        is_told(got, 1, "", line)
+    }
 }
 
 const CERTIFIED: &str = r#"

@@ -1,58 +1,53 @@
 //! What `edit` refuses: the edit list, the file, and edits of it.
 
-use crate::edit::run_edit_in;
+use crate::calls::{FIRST, SECOND, WAYS, Way, edit};
 use crate::rows::{is_told, rows};
-use std::alloc::{AllocError, Global};
+use std::alloc::Global;
 use std::process::Abort;
 use std::test::Fail;
-use toml_tree::Profile;
 
-/// Nothing is printed or written but the one line of the refusal.
+/// Nothing is printed or written but the one line of the refusal, in each of the ways.
 fn assert_refused(
     rt: &impl Abort,
     alloc: Global,
     file: &[u8],
     edits: &str,
-    line: &str,
-    profile: Profile,
-) -> Result<(), AllocError> {
-    let got = run_edit_in(alloc, file, edits.as_bytes(), profile)?;
-    let wanted = format!(in alloc; "{line}\n")?;
-    let good = is_told(&got, 1, "", wanted.as_str()) && got.files.is_empty();
-    assert!(rt; good, "{file:?} {edits}");
+    said: &str,
+    ways: &[Way],
+) -> Result<(), Fail> {
+    let line = format!(in alloc; "{said}\n")?;
+    for way in ways {
+        let got = edit(alloc, file, edits.as_bytes(), *way)?;
+        let good = is_told(&got, 1, "", line.as_str()) && got.files.is_empty();
+        assert!(rt; good, "{file:?} {edits} {way:?}");
+    }
     Ok(())
 }
 
-/// So many rows in profile 1: the refusal, the text and the edits.
+/// So many rows of which the profiles say the same: the refusal, the text and the edits.
 pub fn assert_all_refused(
     rt: &impl Abort,
     alloc: Global,
     table: &str,
     count: usize,
 ) -> Result<(), Fail> {
-    assert_refused_in(rt, alloc, table, count, Profile::One)
+    assert_refused_in(rt, alloc, table, count, &WAYS)
 }
 
-/// So many rows in the profile: the refusal, the text and the edits.
+/// So many rows in each of the ways: the refusal, the text and the edits.
 pub fn assert_refused_in(
     rt: &impl Abort,
     alloc: Global,
     table: &str,
     count: usize,
-    profile: Profile,
+    ways: &[Way],
 ) -> Result<(), Fail> {
     for row in &rows(rt, alloc, table, count)? {
-        let [line, file, edits] = row.as_slice() else {
+        let [said, file, edits] = row.as_slice() else {
             return Err(Fail::from("not three fields"));
         };
-        assert_refused(
-            rt,
-            alloc,
-            file.as_bytes(),
-            edits.as_str(),
-            line.as_str(),
-            profile,
-        )?;
+        let (file, edits) = (file.as_bytes(), edits.as_str());
+        assert_refused(rt, alloc, file, edits, said.as_str(), ways)?;
     }
     Ok(())
 }
@@ -307,21 +302,7 @@ fn unwritten_edits(rt: HostRuntime) -> Result<(), Fail> {
 
 #[test]
 fn bytes_that_are_no_text(rt: HostRuntime) -> Result<(), Fail> {
-    assert_refused(
-        &rt,
-        rt.alloc(),
-        b"a = \"\xFF\"",
-        "[]",
-        "refused 101 5",
-        Profile::One,
-    )?;
-    assert_refused(
-        &rt,
-        rt.alloc(),
-        b"a = \"\xFF\"",
-        "{}",
-        "refused 321 0",
-        Profile::One,
-    )?;
-    Ok(())
+    let file = b"a = \"\xFF\"";
+    assert_refused(&rt, rt.alloc(), file, "[]", "refused 101 5", &WAYS)?;
+    assert_refused(&rt, rt.alloc(), file, "{}", "refused 321 0", &WAYS)
 }

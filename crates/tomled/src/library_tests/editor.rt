@@ -73,6 +73,10 @@ kept | [{"op":"remove","at":["x",0]}] | x = [1, [2]]¶
 kept | [{"op":"remove","at":["t","b",0]},{"op":"remove","at":["t","a"]}] | t = {a = 1, b = [3, {c = 4}]}¶
 kept | [{"op":"section","at":["a",0,"s"]}] | [[a]]¶b = 1 # one¶[[a]] # second¶
 kept | [{"op":"element","at":["a",1]}] | [[a]]¶# last
+kept | [{"op":"section","at":["s"]}] | a = 1¶
+kept | [{"op":"section","at":["a",0,"c"]}] | [[a]]¶[a.b]¶[[a]]¶x = 1
+kept | [{"op":"element","at":["a",2]}] | [[a]]¶[a.b]¶[[a]]¶x = 1
+kept | [{"op":"element","at":["n",0]}] | [[a]]¶[a.b]¶[[a]]¶x = 1
 "#;
 
 /// In inline tables of profile 2.
@@ -96,7 +100,7 @@ fn kept_in_two(alloc: Global, row: &str) -> Option<String> {
 
 #[test]
 fn units_that_no_edit_names_lie_in_kept_pieces(rt: HostRuntime) -> Result<(), Fail> {
-    assert_lines(&rt, rt.alloc(), KEPT, 16, kept_in_one)?;
+    assert_lines(&rt, rt.alloc(), KEPT, 20, kept_in_one)?;
     assert_lines(&rt, rt.alloc(), KEPT_IN_TABLES, 7, kept_in_two)
 }
 

@@ -1,9 +1,9 @@
 //! Edits in inline tables of profile 2: a text, the edits, and what they make of it with the certificate that `verify`
 //! takes in profile 2.
 
+use crate::calls::SECOND;
 use crate::edit_tests::assert_edited_in;
 use std::test::Fail;
-use toml_tree::Profile;
 
 const WORKED: &str = r#"
 t = {¶  x = 1, # one¶  y = 2,¶}¶
@@ -24,7 +24,7 @@ kept 1¶1 1¶2 2¶
 
 #[test]
 fn worked_rows_of_profile_2(rt: HostRuntime) -> Result<(), Fail> {
-    assert_edited_in(&rt, rt.alloc(), WORKED, 3, Profile::Two)
+    assert_edited_in(&rt, rt.alloc(), WORKED, 3, &SECOND)
 }
 
 /// Pairs that go: the first one, one in the middle, the last one, all; comments and newlines stay.
@@ -132,7 +132,7 @@ kept 1¶4 1¶
 
 #[test]
 fn pairs_are_removed(rt: HostRuntime) -> Result<(), Fail> {
-    assert_edited_in(&rt, rt.alloc(), REMOVED, 19, Profile::Two)
+    assert_edited_in(&rt, rt.alloc(), REMOVED, 19, &SECOND)
 }
 
 /// New pairs and elements.
@@ -208,7 +208,46 @@ kept 1¶0 0¶1 2¶
 
 #[test]
 fn pairs_are_inserted(rt: HostRuntime) -> Result<(), Fail> {
-    assert_edited_in(&rt, rt.alloc(), INSERTED, 13, Profile::Two)
+    assert_edited_in(&rt, rt.alloc(), INSERTED, 13, &SECOND)
+}
+
+/// Into the first, a middle and the last of several pairs, and before the first and a later element of an array among them.
+const INSERTED_INSIDE: &str = r#"
+// A table that a dotted key makes: the new pair stands behind the last one of the braces.
+t = {¶a.b = 1, # A¶c = 2, # C¶}¶
+[{"op":"insert","at":["t","a","d"],"value":"4"}]
+t = {¶a.b = 1, # A¶c = 2, a.d = 4, # C¶}¶
+kept 1¶1 1¶2 2¶3 3¶4 5¶5 6¶
+
+t = {¶a = {x = 1}, # A¶b = {¶}, # B¶c = {y = 2,}, # C¶}¶
+[{"op":"insert","at":["t","a","n"],"value":"4"}]
+t = {¶a = {x = 1, n = 4}, # A¶b = {¶}, # B¶c = {y = 2,}, # C¶}¶
+kept 1¶2 2¶3 4¶4 5¶5 6¶6 7¶8 9¶9 10¶
+
+t = {¶a = {x = 1}, # A¶b = {¶}, # B¶c = {y = 2,}, # C¶}¶
+[{"op":"insert","at":["t","b","n"],"value":"4"}]
+t = {¶a = {x = 1}, # A¶b = {n = 4¶}, # B¶c = {y = 2,}, # C¶}¶
+kept 1¶1 1¶3 3¶5 6¶6 7¶8 9¶9 10¶
+
+t = {¶a = {x = 1}, # A¶b = {¶}, # B¶c = {y = 2,}, # C¶}¶
+[{"op":"insert","at":["t","c","n"],"value":"4"}]
+t = {¶a = {x = 1}, # A¶b = {¶}, # B¶c = {y = 2, n = 4,}, # C¶}¶
+kept 1¶1 1¶3 3¶4 4¶5 5¶7 7¶8 9¶9 10¶
+
+t = {¶x = [1, # A¶2], # B¶}¶
+[{"op":"insert","at":["t","x",0],"value":"0"}]
+t = {¶x = [0, 1, # A¶2], # B¶}¶
+kept 1¶2 3¶3 4¶4 5¶5 6¶6 7¶
+
+t = {¶x = [1, # A¶2], # B¶}¶
+[{"op":"insert","at":["t","x",1],"value":"5"}]
+t = {¶x = [1, # A¶5, 2], # B¶}¶
+kept 1¶2 2¶3 3¶4 5¶5 6¶6 7¶
+"#;
+
+#[test]
+fn pairs_are_inserted_inside_others(rt: HostRuntime) -> Result<(), Fail> {
+    assert_edited_in(&rt, rt.alloc(), INSERTED_INSIDE, 6, &SECOND)
 }
 
 /// Values and names that become others, and lists of edits.
@@ -267,5 +306,5 @@ kept 1¶1 1¶2 2¶3 3¶4 4¶
 
 #[test]
 fn pairs_are_changed(rt: HostRuntime) -> Result<(), Fail> {
-    assert_edited_in(&rt, rt.alloc(), CHANGED, 10, Profile::Two)
+    assert_edited_in(&rt, rt.alloc(), CHANGED, 10, &SECOND)
 }

@@ -1,9 +1,9 @@
 //! What `edit` refuses by the profile.
 
+use crate::calls::{FIRST, SECOND};
 use crate::edit_tests::assert_edited_in;
 use crate::edit_tests::refused::assert_refused_in;
 use std::test::Fail;
-use toml_tree::Profile;
 
 /// In profile 1 neither a document nor a value is one of profile 2.
 const IN_ONE: &str = r#"
@@ -53,8 +53,8 @@ kept 1¶1 5¶
 
 #[test]
 fn values_go_by_the_profile(rt: HostRuntime) -> Result<(), Fail> {
-    assert_refused_in(&rt, rt.alloc(), IN_ONE, 5, Profile::One)?;
-    assert_edited_in(&rt, rt.alloc(), IN_TWO, 4, Profile::Two)
+    assert_refused_in(&rt, rt.alloc(), IN_ONE, 5, &FIRST)?;
+    assert_edited_in(&rt, rt.alloc(), IN_TWO, 4, &SECOND)
 }
 
 /// What profile 2 refuses too.
@@ -102,5 +102,5 @@ t = {¶ a.b = 1, # c¶}¶
 
 #[test]
 fn profile_2_refuses_edits(rt: HostRuntime) -> Result<(), Fail> {
-    assert_refused_in(&rt, rt.alloc(), REFUSED, 10, Profile::Two)
+    assert_refused_in(&rt, rt.alloc(), REFUSED, 10, &SECOND)
 }

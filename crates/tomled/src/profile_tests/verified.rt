@@ -1,8 +1,8 @@
 //! What `verify` says by the profile.
 
+use crate::calls::{FIRST, SECOND};
 use crate::verify_tests::assert_verdicts_in;
 use std::test::Fail;
-use toml_tree::Profile;
 
 /// Texts and values of profile 2 are none in profile 1.
 const IN_ONE: &str = r#"
@@ -27,7 +27,7 @@ kept 1¶1 2¶
 
 #[test]
 fn profile_1_has_none_of_it(rt: HostRuntime) -> Result<(), Fail> {
-    assert_verdicts_in(&rt, rt.alloc(), IN_ONE, 3, Profile::One)
+    assert_verdicts_in(&rt, rt.alloc(), IN_ONE, 3, &FIRST)
 }
 
 const IN_TWO: &str = r#"
@@ -114,5 +114,5 @@ kept 1¶1 1¶2 2¶3 3¶4 6¶
 
 #[test]
 fn verdicts_of_profile_2(rt: HostRuntime) -> Result<(), Fail> {
-    assert_verdicts_in(&rt, rt.alloc(), IN_TWO, 13, Profile::Two)
+    assert_verdicts_in(&rt, rt.alloc(), IN_TWO, 13, &SECOND)
 }

@@ -1,16 +1,18 @@
 //! The addresses that `show --list` prints.
 
-use crate::list::run_list;
+use crate::calls::{WAYS, list};
 use crate::rows::rows;
-use crate::tests::{assert_told, repeated};
+use crate::tests::{assert_refusal, assert_told, repeated};
 use std::alloc::Global;
 use std::process::Abort;
 use std::test::Fail;
 
-/// The text's addresses are refused.
-fn assert_unlisted(rt: &impl Abort, alloc: Global, text: &[u8], said: &str) -> Result<(), Fail> {
-    let line = format!(in alloc; "{said}\n")?;
-    assert_told(rt, text, &run_list(alloc, text)?, 1, "", line.as_str());
+/// The lines of the text's addresses, in each profile and without one.
+fn assert_listed(rt: &impl Abort, alloc: Global, text: &str, lines: &str) -> Result<(), Fail> {
+    for way in WAYS {
+        let got = list(alloc, text.as_bytes(), way)?;
+        assert_told(rt, text.as_bytes(), &got, 0, lines, "");
+    }
     Ok(())
 }
 
@@ -58,8 +60,7 @@ fn addresses_listed(rt: HostRuntime) -> Result<(), Fail> {
         let [text, lines] = row.as_slice() else {
             return Err(Fail::from("not two fields"));
         };
-        let got = run_list(rt.alloc(), text.as_bytes())?;
-        assert_told(&rt, text.as_bytes(), &got, 0, lines.as_str(), "");
+        assert_listed(&rt, rt.alloc(), text.as_str(), lines.as_str())?;
     }
     Ok(())
 }
@@ -73,48 +74,20 @@ fn many_addresses_listed(rt: HostRuntime) -> Result<(), Fail> {
         text.push_str("[[a]]\n")?;
         lines.push_str(format!(in rt.alloc(); "[\"a\",{index}]\n")?.as_str())?;
     }
-    let outcome = run_list(rt.alloc(), text.as_bytes())?;
-    assert_told(&rt, text.as_bytes(), &outcome, 0, lines.as_str(), "");
-    Ok(())
+    assert_listed(&rt, rt.alloc(), text.as_str(), lines.as_str())
 }
 
+/// An address too long for the bound is refused before it is listed.
 const LONG_UNLISTED: &str = r#"
 100 a.
 1 a = 1
 "#;
 
-const UNLISTED: &str = r#"
-refused 103 5
-a = 1␍b = 2
-
-refused 104 12
-a = 1¶a = 2¶?
-
-refused 106 4
-a = 01
-
-refused 201 2
-a = 1¶a = 2¶
-
-refused 201 2
-[fruit.physical]¶[[fruit]]¶
-
-refused 201 1
-x = {a = 1, a.b = 2}
-"#;
-
 #[test]
 fn addresses_refused(rt: HostRuntime) -> Result<(), Fail> {
-    for row in &rows(&rt, rt.alloc(), UNLISTED, 6)? {
-        let [said, text] = row.as_slice() else {
-            return Err(Fail::from("not two fields"));
-        };
-        assert_unlisted(&rt, rt.alloc(), text.as_bytes(), said.as_str())?;
-    }
-    assert_unlisted(&rt, rt.alloc(), b"a = \"\xFF\"", "refused 101 5")?;
     for parts in &rows(&rt, rt.alloc(), LONG_UNLISTED, 1)? {
         let long = repeated(rt.alloc(), parts.as_slice())?;
-        assert_unlisted(&rt, rt.alloc(), long.as_bytes(), "refused 203 1")?;
+        assert_refusal(&rt, rt.alloc(), long.as_bytes(), "refused 203 1")?;
     }
     Ok(())
 }

@@ -1,6 +1,7 @@
 //! Values that `check` takes or refuses.
 
-use crate::tests::{assert_ok, assert_refused};
+use crate::calls::FIRST;
+use crate::tests::{assert_ok, assert_refused, assert_refused_by};
 use std::test::Fail;
 
 const SCALARS: &str = r#"
@@ -139,17 +140,21 @@ a = [1979-05-27  1]
 refused 104 5
 a = {
 
-refused 104 10
-a = {x = 1¶}
-
-refused 104 11
-a = {x = 1,}
-
 refused 108 5
 a = [1979-05-27 1]
 "#;
 
 #[test]
 fn bad_arrays_and_inline_tables(rt: HostRuntime) -> Result<(), Fail> {
-    assert_refused(&rt, rt.alloc(), NO_ARRAYS, 9)
+    assert_refused(&rt, rt.alloc(), NO_ARRAYS, 7)
+}
+
+/// Inline tables of profile 2 are none in profile 1, whether it is asked for or not.
+#[test]
+fn inline_tables_over_lines(rt: HostRuntime) -> Result<(), Fail> {
+    for way in FIRST {
+        assert_refused_by(&rt, rt.alloc(), b"a = {x = 1\n}", "refused 104 10\n", way)?;
+        assert_refused_by(&rt, rt.alloc(), b"a = {x = 1,}", "refused 104 11\n", way)?;
+    }
+    Ok(())
 }

@@ -1,17 +1,19 @@
 //! The data that `show` prints.
 
+use crate::calls::{WAYS, show};
 use crate::rows::rows;
-use crate::show::run_show;
 use crate::tests::{assert_told, repeated};
 use std::alloc::Global;
 use std::process::Abort;
 use std::test::Fail;
 
-/// The text is a document with these data.
+/// The text is a document with these data, in each profile and without one.
 fn assert_shown(rt: &impl Abort, alloc: Global, text: &str, json: &str) -> Result<(), Fail> {
     let line = format!(in alloc; "{json}\n")?;
-    let got = run_show(alloc, text.as_bytes())?;
-    assert_told(rt, text.as_bytes(), &got, 0, line.as_str(), "");
+    for way in WAYS {
+        let got = show(alloc, text.as_bytes(), way)?;
+        assert_told(rt, text.as_bytes(), &got, 0, line.as_str(), "");
+    }
     Ok(())
 }
 

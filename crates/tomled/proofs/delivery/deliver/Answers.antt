@@ -1,4 +1,4 @@
-use Rattle.std.proofs.Common.{◌+◌, arith, inl, length, refl}
+use Rattle.std.proofs.Common.{arith, refl}
 use Rattle.tomled.proofs.delivery.deliver.Goals as goal
 
 pub returns-in-Ok : goal.returns-in-Ok

@@ -1,4 +1,4 @@
-use Rattle.std.proofs.Common.{◌+◌, arith, length, rules, subst, sym}
+use Rattle.std.proofs.Common.{arith, length, rules, subst, sym}
 use Rattle.tomled.specs.Delivery.{AreSent, IsSent, IsWhole}
 use Rattle.tomled.proofs.Delivered.{given, none_sent, one_part, sent_on}
 use Rattle.tomled.proofs.delivery.emit_all.Goals as goal

@@ -1,9 +1,17 @@
-use Rattle.std.proofs.Common.{List, subst}
-use Rattle.toml_tree.specs.Tree.{Line}
+use Rattle.std.proofs.lemmas.Result.{err_from_is_err_and}
+use Rattle.std.proofs.Common.{List, ℕ, subst}
+use Rattle.toml_text.specs.Limit.{IsText}
 use Rattle.toml_names.specs.model.Data.{IsDataOf, kind_at}
 use Rattle.toml_names.specs.mentions.Mentions.{named}
+use Rattle.toml_names.specs.reader.Texts.{GoodText}
 use Rattle.tomled.proofs.document.read_data.Goals as goal
 
-pub returns-in_ok-data-in-Ok-clause-facts : goal.returns-in_ok-data-in-Ok-clause-facts
-returns-in_ok-data-in-Ok-clause-facts c =
-    subst (λ (lines : List Line). IsDataOf (named lines) (kind_at c.in_ok-data-in-Ok.field-0.root)) c.in-Ok.ensures.taken c.in_ok-data-in-Ok.ensures
+pub returns-in_err-source-clause-refused : goal.returns-in_err-source-clause-refused
+returns-in_err-source-clause-refused c =
+    let p = err_from_is_err_and c.from_residual.result c.from_residual.ensures.1 in
+    rw (p.1, p.2) (c.in_err-source.ensures.refused c.args.profile)
+
+pub returns-in-Ok-clause-facts : goal.returns-in-Ok-clause-facts
+returns-in-Ok-clause-facts c =
+    subst (λ (bytes : List ℕ). IsText bytes × (it : GoodText c.args.profile bytes) × IsDataOf (named it.lines) (kind_at c.in-Ok.data.root))
+    c.in_ok-source.ensures.text (c.in_ok-source.source.is_text, c.in-Ok.ensures.good.0, c.in-Ok.ensures.good.1)

@@ -1,4 +1,3 @@
-use Rattle.std.proofs.Common.{IfOk}
 use Rattle.std.proofs.lemmas.Result.{IfOk-weaker}
 use Rattle.tomled.specs.CommandLine.{IsDefined, edit, editors, readers}
 use Rattle.tomled.proofs.Commands.{added}
