@@ -209,24 +209,35 @@ deep() {
 }
 { printf 'a = '; deep 100 '['; deep 100 ']'; printf '\n'; } >arrays.toml
 { printf 'a = '; deep 99 '{b = '; printf 1; deep 99 '}'; printf '\n'; } >tables.toml
+{ printf 'a = '; deep 99 $'{\nb = '; printf 1; deep 99 $', # c\n}'; printf '\n'; } >lines.toml
 { deep 99 'a.'; printf 'a = 1\n'; } >key.toml
 printf '[{"op":"insert","at":["z"],"value":"1"}]' >insert.json
 { printf '[{"op":"set","at":["a"'; deep 99 ',0'; printf '],"value":"1"}]'; } >arrays.json
 { printf '[{"op":"set","at":["a"'; deep 99 ',"b"'; printf '],"value":"2"}]'; } >tables.json
+cp tables.json lines.json
 { printf '[{"op":"set","at":["a"'; deep 99 ',"a"'; printf '],"value":"2"}]'; } >key.json
 { printf '[{"op":"set","at":["a"],"value":"'; deep 100 '['; deep 100 ']'; printf '"}]'; } >value.json
 { deep 1000 '['; deep 1000 ']'; } >lists.json
+# deepest NAME WORDS..: each command of the text, with these words behind
+deepest() {
+  local text=$1
+  shift
+  run 0 ok - check "$text.toml" "$@"
+  run 0 '{"a":*' - show "$text.toml" "$@"
+  run 0 '["a"]*' - show --list "$text.toml" "$@"
+  run 0 ok - edit "$text.toml" insert.json deep.toml deep.txt "$@"
+  run 0 yes - verify "$text.toml" insert.json deep.toml deep.txt "$@"
+  run 0 ok - edit "$text.toml" "$text.json" deep.toml deep.txt "$@"
+  run 0 yes - verify "$text.toml" "$text.json" deep.toml deep.txt "$@"
+}
 (
   ulimit -s 256
   for text in arrays tables key; do
-    run 0 ok - check "$text.toml"
-    run 0 '{"a":*' - show "$text.toml"
-    run 0 '["a"]*' - show --list "$text.toml"
-    run 0 ok - edit "$text.toml" insert.json deep.toml deep.txt
-    run 0 yes - verify "$text.toml" insert.json deep.toml deep.txt
-    run 0 ok - edit "$text.toml" "$text.json" deep.toml deep.txt
-    run 0 yes - verify "$text.toml" "$text.json" deep.toml deep.txt
+    deepest "$text"
+    deepest "$text" --profile 2
   done
+  deepest lines --profile 2
+  run 1 - 'refused 104 5' check lines.toml
   run 0 ok - edit good.toml value.json deep.toml deep.txt
   run 0 yes - verify good.toml value.json deep.toml deep.txt
   run 1 - 'refused 32*' edit good.toml lists.json deep.toml deep.txt
