@@ -1,19 +1,39 @@
 -- What a list of edits makes of data.
-use Rattle.std.specs.Prelude.{ℕ, List, Option, MatchOption}
+use Rattle.std.specs.Prelude.{◌≡◌, ℕ, List, Option, MatchOption}
+use Rattle.toml_tree.specs.Spells.{Spells}
+use Rattle.toml_tree.specs.Tree.{Doc, Line}
 use Rattle.toml_tree.specs.declared.profile.Profile.{Profile}
 use Rattle.toml_names.specs.declared.model.datum.Data.{Data}
+use Rattle.toml_names.specs.model.Beside.{beside}
+use Rattle.toml_names.specs.model.Data.{IsDataOf, Kinds, kind_at}
+use Rattle.toml_names.specs.mentions.Mentions.{named}
+use Rattle.toml_names.specs.reader.Reading.{lines_of}
 use Rattle.toml_edits.specs.Edits.{Change}
 use Rattle.toml_edits.specs.Lists.{Lead}
+use Rattle.toml_checker.specs.declared.facts.Made.{Made}
 use Rattle.toml_checker.specs.Documents.{OfData, AreDefined}
-
--- the data are what the edits make of those of the text
-abbrev pub IsMadeOf : Profile → List ℕ → List Change → Data → Type 0
-IsMadeOf profile text cs new = OfData text (λ old. Lead profile cs old new.root)
 
 -- the data to which the edits lead; without them some edit is not defined on the data so far
 abbrev pub GivesData : Profile → List Change → Data → Option Data → Type 0
-GivesData profile cs old found = MatchOption found (¬ AreDefined profile cs old.root) (λ new. Lead profile cs old.root new.root)
+GivesData profile cs old found = MatchOption found (¬ AreDefined profile cs (kind_at old.root)) (λ new. Lead profile cs (kind_at old.root) (kind_at new.root))
 
--- the data to which the edits lead from those of the text; without them some edit is not defined on the data so far
-abbrev pub GivesMade : Profile → List ℕ → List Change → Option Data → Type 0
-GivesMade profile text cs found = MatchOption found (¬ OfData text (AreDefined profile cs)) (λ new. IsMadeOf profile text cs new)
+-- what was made, beside the old data of its document
+abbrev pub made_of : Made → Kinds → Kinds
+made_of made old = beside made.touched old (kind_at made.«data».root)
+
+-- what the edits make of the data of the lines, whose names it has; without it some edit is not defined on the data so far
+abbrev pub Makes : Profile → List Line → List Change → Option Made → Type 0
+Makes profile lines cs found = (old : Kinds) → IsDataOf (named lines) old → MatchOption found (¬ AreDefined profile cs old) (λ made. (lines_of made.names ≡ lines) × Lead profile cs old (made_of made old))
+
+-- it is what the edits make of the data of the text, whose names it has
+pub record IsMadeOf (profile : Profile) (text : List ℕ) (cs : List Change) (made : Made) : Type 0 where
+  pub tree : Doc
+  pub spelled : Spells tree text
+  pub taken : lines_of made.names ≡ tree.lines
+  pub old : Kinds
+  pub facts : IsDataOf (named tree.lines) old
+  pub leads : Lead profile cs old (made_of made old)
+
+-- what the edits make of the data of the text; without it some edit is not defined on the data so far
+abbrev pub GivesMade : Profile → List ℕ → List Change → Option Made → Type 0
+GivesMade profile text cs found = MatchOption found (¬ OfData text (AreDefined profile cs)) (λ made. IsMadeOf profile text cs made)

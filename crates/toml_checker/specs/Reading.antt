@@ -6,13 +6,10 @@ use Rattle.toml_tree.specs.Document.{document}
 use Rattle.toml_tree.specs.Profiles.{IsOfProfile}
 use Rattle.toml_tree.specs.Spells.{Spells}
 use Rattle.toml_tree.specs.declared.profile.Profile.{Profile}
-use Rattle.toml_names.specs.model.Data.{IsDataOf, kind_at}
 use Rattle.toml_names.specs.model.Documents.{IsDocumentIn}
-use Rattle.toml_names.specs.mentions.Mentions.{named}
 use Rattle.toml_names.specs.reader.Names.{AreGood}
 use Rattle.toml_names.specs.reader.Reading.{ReaderState, lines_of}
 use Rattle.toml_checker.specs.declared.documents.Document.{Document}
-use Rattle.toml_checker.specs.declared.documents.Rest.{Rest}
 use Rattle.toml_units.specs.declared.unit.Unit.{Unit as Made}
 use Rattle.toml_units.specs.Plain.{spanned}
 use Rattle.toml_units.specs.Units.{units}
@@ -26,23 +23,11 @@ FindsTree profile text found = MatchOption found (¬ IsDocumentIn profile text) 
 abbrev pub AreUnitsOf : Doc → List Made → Type 0
 AreUnitsOf doc us = all_units us ≡ map spanned (units (document doc).lines)
 
--- these are the data and the units of the tree
-abbrev pub IsRest : Doc → Rest → Type 0
-IsRest doc rest = IsDataOf (named (document doc).lines) (kind_at rest.«data».root) × AreUnitsOf doc rest.units.items
-
 -- a reader that took the lines of the tree, whose names keep the rules; without one they don't
 abbrev pub FindsLines : Doc → Option ReaderState → Type 0
 FindsLines doc found = MatchOption found (¬ AreGood (document doc).lines) (λ reader. AreGood (document doc).lines × (lines_of reader ≡ (document doc).lines))
-
--- the data and the units of a tree whose names keep the rules; without them they don't
-abbrev pub FindsRest : Doc → Option Rest → Type 0
-FindsRest doc found = MatchOption found (¬ AreGood (document doc).lines) (λ rest. AreGood (document doc).lines × IsRest doc rest)
 
 -- the tree is that of the text, and the units are those of the tree
 pub record IsRead (d : Document) : Type 0 where
   pub spelled : Spells (document d.doc.now) d.text.now
   pub units : AreUnitsOf d.doc.now d.units.now
-
--- the tree, the data and the units of a document of the profile; without them the text is none
-abbrev pub FindsDocument : Profile → List ℕ → Option (Doc × Rest) → Type 0
-FindsDocument profile text found = MatchOption found (¬ IsDocumentIn profile text) (λ r. IsDocumentIn profile text × Spells (document r.0) text × IsRest r.0 r.1)

@@ -1,23 +1,16 @@
-//! The reading of a text, its tree first and then its names, data and units.
+//! The reading of a text, its tree first and then its names and units.
 ghost use Rattle.std.specs.Prelude.{◌≡◌, IfOk, OnOk};
 ghost use Rattle.toml_names.specs.declared.fault.NameFault.TheVariants as names;
 ghost use Rattle.toml_tree.specs.Document.{document};
 ghost use Rattle.toml_names.specs.reader.Names.{AreOwnAddresses};
 ghost use Rattle.toml_names.specs.reader.Reading.{lines_of};
-ghost use Rattle.toml_checker.specs.Reading.{AreUnitsOf, FindsDocument, FindsLines, FindsTree, FindsRest, IsRest};
+ghost use Rattle.toml_checker.specs.Reading.{AreUnitsOf, FindsLines, FindsTree};
 
 use std::alloc::{AllocError, Global};
-use toml_names::{Address, Data, NameFault, NameReader, read_lines};
+use toml_names::{Address, NameFault, NameReader, read_lines};
 use toml_text::Source;
 use toml_tree::{Doc, Profile, SyntaxFault, parse_in};
 use toml_units::{Unit, units_at};
-
-/// What is read of a tree: the data and the units.
-#[derive(Drop)]
-pub(crate) struct Rest {
-    pub(crate) data: Data,
-    pub(crate) units: Vec<Unit>,
-}
 
 /// The tree of a text in the profile. Where there is none the text is no document.
 pub(crate) fn read_tree<'t>(
@@ -63,18 +56,20 @@ fn told(fault: NameFault) -> Result<(), AllocError>
     }
 }
 
-/// The data and the units of a tree whose lines were read.
-fn rest_of(alloc: Global, doc: &Doc, reader: NameReader) -> Result<Rest, AllocError>
-    requires { lines_of reader ≡ (document doc.now).lines }
-    ensures { IfOk result (IsRest doc.now) }
+/// The units of a tree whose lines were read.
+pub(crate) fn units_of(
+    alloc: Global,
+    doc: &Doc,
+    reader: &NameReader,
+) -> Result<Vec<Unit>, AllocError>
+    requires { lines_of reader.now ≡ (document doc.now).lines }
+    ensures { IfOk result (λ us. AreUnitsOf doc.now us.items) }
 {
-    let data = reader.data()?;
-    let units = units_of(alloc, doc, reader)?;
-    Ok(Rest { data, units })
+    units_at(alloc, doc, reader.own_addresses()?)
 }
 
-/// The units of a tree whose lines were read. The names are let go before the units are made.
-pub(crate) fn units_of(
+/// The same, where the names are needed no more: they are let go before the units are made.
+pub(crate) fn last_units(
     alloc: Global,
     doc: &Doc,
     reader: NameReader,
@@ -91,33 +86,6 @@ fn own_addresses(reader: NameReader) -> Result<Vec<Option<Address>>, AllocError>
     ensures { IfOk result (λ list. AreOwnAddresses (lines_of reader.entry) list.items) }
 {
     reader.own_addresses()
-}
-
-/// The tree, the data and the units of a text, if it is a document of the profile.
-pub(crate) fn read_document<'t>(
-    alloc: Global,
-    text: &'t [u8],
-    profile: Profile,
-) -> Result<Option<(Doc<'t>, Rest)>, AllocError>
-    ensures { IfOk result (FindsDocument profile text.now) }
-{
-    let Some(doc) = read_tree(alloc, text, profile)? else {
-        return Ok(None);
-    };
-    let Some(rest) = read_rest(alloc, &doc)? else {
-        return Ok(None);
-    };
-    Ok(Some((doc, rest)))
-}
-
-/// The data and the units of a tree. Where there are none its names break the rules.
-fn read_rest(alloc: Global, doc: &Doc) -> Result<Option<Rest>, AllocError>
-    ensures { IfOk result (FindsRest doc.now) }
-{
-    match read_all_lines(alloc, doc)? {
-        Some(reader) => Ok(Some(rest_of(alloc, doc, reader)?)),
-        None => Ok(None),
-    }
 }
 
 /// A text as the judge looks at it: with its tree, and the units of the tree. That they are so is for the caller to show.

@@ -1,15 +1,15 @@
 //! The data after edits.
 ghost use Rattle.std.specs.Prelude.{◌≡◌, ◌↔◌, IsTrue, IfOk, OnOk, map};
-ghost use Rattle.toml_names.specs.model.Data.{IsDataOf, kind_at};
+ghost use Rattle.toml_names.specs.model.Data.{IsDataOf, Kinds};
 ghost use Rattle.toml_names.specs.mentions.Mentions.{named};
 ghost use Rattle.toml_names.specs.reader.Reading.{lines_of};
 ghost use Rattle.toml_edits.specs.declared.fault.EditFault.TheVariants as faults;
 ghost use Rattle.toml_edits.specs.Edits.{change};
-ghost use Rattle.toml_checker.specs.After.{GivesData};
+ghost use Rattle.toml_checker.specs.After.{GivesData, Makes, made_of};
 
 use std::alloc::{AllocError, Global};
-use toml_edits::{Edit, EditFault, apply_in};
-use toml_names::{Data, NameReader};
+use toml_edits::{Edit, EditFault, apply_in, near_names};
+use toml_names::{Data, NameReader, NameSet};
 use toml_tree::Profile;
 
 /// What the edits, one after the other, make of data; none where one is not defined on the data so far.
@@ -41,9 +41,40 @@ fn told(fault: EditFault) -> Result<(), AllocError>
     }
 }
 
-/// Whether the data are those of the lines of a reader. They are let go.
-pub(crate) fn are_made(reader: &NameReader, made: Data) -> Result<bool, AllocError>
-    ensures { IfOk result (λ b. IsTrue b ↔ IsDataOf (named (lines_of reader.now)) (kind_at made.root)) }
+/// What edits make of the data of a document: those at the root and below the names that they touch, beside the rest of the
+/// document's own. Only the former are built.
+#[derive(Drop)]
+pub struct Made<'d, 't, 'e> {
+    /// The names of the document.
+    pub names: NameReader<'d, 't>,
+    pub touched: NameSet<'e>,
+    pub data: Data,
+}
+
+/// What the edits make of the data of the lines taken; none where one is not defined on the data so far.
+pub(crate) fn make<'d, 't, 'e>(
+    alloc: Global,
+    names: NameReader<'d, 't>,
+    edits: &'e [Edit],
+    profile: Profile,
+) -> Result<Option<Made<'d, 't, 'e>>, AllocError>
+    ensures { IfOk result (Makes profile (lines_of names.entry) (map change edits.now)) }
 {
-    reader.has_data(&made)
+    let touched = near_names(alloc, edits)?;
+    let near = names.data_near(&touched)?;
+    match data_after(alloc, near, edits, profile)? {
+        Some(data) => Ok(Some(Made {
+            names,
+            touched,
+            data,
+        })),
+        None => Ok(None),
+    }
+}
+
+/// Whether what was made are the data of the lines of a reader. It is let go.
+pub(crate) fn are_made(reader: &NameReader, made: Made) -> Result<bool, AllocError>
+    ensures { IfOk result (λ b. (old : Kinds) → IsDataOf (named (lines_of made.entry.names)) old → (IsTrue b ↔ IsDataOf (named (lines_of reader.now)) (made_of made.entry old))) }
+{
+    reader.has_data_beside(&made.names, &made.touched, &made.data)
 }

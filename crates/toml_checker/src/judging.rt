@@ -12,8 +12,8 @@ ghost use Rattle.toml_checker.specs.Kept.{AllKept};
 ghost use Rattle.toml_checker.specs.Reading.{IsRead};
 
 use crate::comments::no_comments_added;
-use crate::documents::{Document, read_all_lines, read_document, read_tree, units_of};
-use crate::facts::{are_made, data_after};
+use crate::documents::{Document, last_units, read_all_lines, read_tree, units_of};
+use crate::facts::{Made, are_made, make};
 use crate::frame::keeps_frame;
 use crate::kept::all_kept;
 use crate::lines::no_lines_added;
@@ -22,7 +22,6 @@ use crate::protection::protected;
 use crate::verdict::{Reason, Verdict};
 use std::alloc::{AllocError, Global};
 use toml_edits::Edit;
-use toml_names::Data;
 use toml_tree::Profile;
 use toml_units::Certificate;
 
@@ -77,7 +76,7 @@ fn judge_after(
     alloc: Global,
     before: Document,
     edits: &[Edit],
-    made: Option<Data>,
+    made: Option<Made>,
     after: &[u8],
     pairs: &[(u64, u64)],
     profile: Profile,
@@ -99,7 +98,7 @@ fn judge_after(
     if !are_made(&reader, made)? {
         return Ok(Verdict::No(Reason::OtherData));
     }
-    let units = units_of(alloc, &doc, reader)?;
+    let units = last_units(alloc, &doc, reader)?;
     let after = Document {
         text: after,
         doc: &doc,
@@ -151,14 +150,18 @@ pub fn check_in(
 {
     // each takes some bytes of memory
     prove!(edits.len() <= isize::MAX as usize);
-    let Some((doc, old)) = read_document(alloc, before, profile)? else {
+    let Some(doc) = read_tree(alloc, before, profile)? else {
         return Ok(Verdict::No(Reason::BeforeRefused));
     };
-    let made = data_after(alloc, old.data, edits, profile)?;
+    let Some(names) = read_all_lines(alloc, &doc)? else {
+        return Ok(Verdict::No(Reason::BeforeRefused));
+    };
+    let units = units_of(alloc, &doc, &names)?;
+    let made = make(alloc, names, edits, profile)?;
     let before = Document {
         text: before,
         doc: &doc,
-        units: &old.units,
+        units: &units,
     };
     judge_after(
         alloc,
@@ -177,7 +180,7 @@ pub fn check_made(
     alloc: Global,
     before: Document,
     edits: &[Edit],
-    made: Data,
+    made: Made,
     after: &[u8],
     certificate: &Certificate,
     profile: Profile,

@@ -29,6 +29,7 @@ mod written;
 
 pub use covered::first_marks;
 pub use documents::Document;
+pub use facts::Made;
 pub use judging::{check, check_in, check_made};
 pub use outer::outermost;
 pub use protection::protected;

@@ -1,23 +1,37 @@
-use Rattle.std.proofs.Common.{◌<◌, ◌^◌, length, IfOk, map, subst, sym, arith}
+use Rattle.std.proofs.Common.{◌<◌, ◌^◌, List, length, IfOk, map, subst, sym, arith}
 use Rattle.std.proofs.lemmas.List.{length-map}
 use Rattle.std.proofs.lemmas.Result.{IfOk-weaker}
 use Rattle.toml_tree.specs.Document.{document}
+use Rattle.toml_tree.specs.Tree.{Line}
 use Rattle.toml_edits.specs.Edits.{change}
+use Rattle.toml_names.specs.model.Data.{fact_at}
+use Rattle.toml_names.specs.mentions.Mentions.{named}
+use Rattle.toml_checker.specs.After.{Makes}
 use Rattle.toml_checker.specs.Demands.{IsVerdict}
-use Rattle.toml_checker.specs.Reading.{AreUnitsOf}
-use Rattle.toml_checker.proofs.OfDocuments.{found, has_data, made_of}
+use Rattle.toml_checker.specs.Reading.{AreUnitsOf, FindsLines, FindsTree}
+use Rattle.toml_checker.proofs.OfDocuments.{gives_made, lines_have_data}
+use Rattle.toml_checker.proofs.Refused.{bad_names}
 use Rattle.toml_checker.proofs.Sentence.{yes_means}
 use Rattle.toml_checker.proofs.judging.check_in.Goals as goal
+
+pub returns-in_default-2 : goal.returns-in_default-2
+returns-in_default-2 c =
+    let before = c.args.before.now in
+    let tree = subst (FindsTree c.args.profile before) c.in-Some.is c.in_ok-doc.ensures in
+    let bad = subst (FindsLines c.in-Some.doc) c.in_default-2.is c.in_ok-names.ensures in
+    (bad_names c.args.profile before (document c.in-Some.doc) tree.1 bad, (λ earlier low. absurd (omega arith)))
 
 pub judge_after-requires : goal.judge_after-requires
 judge_after-requires c =
     let before = c.args.before.now in
     let cs = map change c.args.edits.now in
-    let old = found c.args.profile before c.in_ok-doc.field-0 c.in-Some.doc c.in-Some.old c.in-Some.is c.in_ok-doc.ensures in
+    let d = document c.in-Some.doc in
+    let tree = subst (FindsTree c.args.profile before) c.in-Some.is c.in_ok-doc.ensures in
+    let lines = subst (FindsLines c.in-Some.doc) c.in-Some-2.is c.in_ok-names.ensures in
     record {
-      read = record { spelled = old.1; units = subst (AreUnitsOf c.in-Some.doc) (sym c.deref.ensures.value) old.2.1 };
-      document = old.0;
-      made = made_of c.args.profile before (document c.in-Some.doc) c.in-Some.old.«data» cs c.in_ok-made.made (has_data c.args.profile before c.in-Some.doc c.in-Some.old old) c.in_ok-made.ensures;
+      read = record { spelled = tree.1; units = subst (AreUnitsOf c.in-Some.doc) (sym c.deref.ensures.value) c.in_ok-units.ensures };
+      document = (tree.0, d, tree.1, lines.0, tree.2);
+      made = gives_made c.args.profile before d (fact_at (named d.lines)) cs c.in_ok-made.made (lines_have_data before d tree.1 lines.0) (subst (λ (ls : List Line). Makes c.args.profile ls cs c.in_ok-made.made) lines.1 c.in_ok-made.ensures);
     }
 
 pub returns-clause-headline : goal.returns-clause-headline

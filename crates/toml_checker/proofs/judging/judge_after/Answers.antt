@@ -35,7 +35,7 @@ returns-then-not-branch c =
     let lines = subst (FindsLines c.in-Some.doc) c.in-Some-2.is c.in_ok-reader.ensures in
     let made = subst (GivesMade c.args.profile before cs) c.in-Some-made.is c.requires.made in
     other_data c.args.profile before after (document c.in-Some.doc) cs c.args.pairs.now c.in-Some-made.made c.requires.document (tree.0, document c.in-Some.doc, tree.1, lines.0, tree.2) made tree.1
-    (λ are. true≢false (sym (c.in_ok-are_made.ensures.1 (subst (λ (ls : List Line). IsDataOf (named ls) (kind_at c.in-Some-made.made.root)) (sym lines.1) are)) ∙ c.if-not-branch.true))
+    (λ are. true≢false (sym ((told c.in-Some-made.made made c.in_ok-are_made.field-0 c.in-Some-2.reader c.in_ok-are_made.ensures).1 (subst (λ (ls : List Line). IsDataOf (named ls) (made_of c.in-Some-made.made made.old)) (sym lines.1) are)) ∙ c.if-not-branch.true))
 
 pub judge-requires-clause-so_far : goal.judge-requires-clause-so_far
 judge-requires-clause-so_far c =
@@ -46,4 +46,4 @@ judge-requires-clause-so_far c =
     let lines = subst (FindsLines c.in-Some.doc) c.in-Some-2.is c.in_ok-reader.ensures in
     let made = subst (GivesMade c.args.profile before cs) c.in-Some-made.is c.requires.made in
     data_hold c.args.profile before after (document c.in-Some.doc) cs c.args.pairs.now c.in-Some-made.made c.requires.document (tree.0, document c.in-Some.doc, tree.1, lines.0, tree.2) made tree.1
-    (subst (λ (ls : List Line). IsDataOf (named ls) (kind_at c.in-Some-made.made.root)) lines.1 (c.in_ok-are_made.ensures.0 c.if-not-branch.false))
+    (subst (λ (ls : List Line). IsDataOf (named ls) (made_of c.in-Some-made.made made.old)) lines.1 ((told c.in-Some-made.made made c.in_ok-are_made.field-0 c.in-Some-2.reader c.in_ok-are_made.ensures).0 c.if-not-branch.false))
