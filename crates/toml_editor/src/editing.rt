@@ -18,9 +18,9 @@ use crate::spelled::{Spelled, spell_all};
 use crate::texts::Texts;
 use crate::working::Tree;
 use std::alloc::{AllocError, Global};
-use toml_checker::{Document, Reason, Verdict, check_made, outermost};
-use toml_edits::Edit;
-use toml_names::{Data, NameReader, read_lines};
+use toml_checker::{Document, Made, Reason, Verdict, check_made, outermost};
+use toml_edits::{Edit, near_names};
+use toml_names::{NameReader, read_lines};
 use toml_text::{MAX_LEN, Source};
 use toml_tree::{Doc, Profile, parse_in};
 use toml_units::{Certificate, Piece, Unit, join, units_at};
@@ -120,7 +120,7 @@ fn edit_with<'x>(
     let reader = named_lines(alloc, before, &doc)?;
     let units = read_units(alloc, &doc, &reader)?;
     let wanted = outermost(alloc, &units, edits)?;
-    let (data, edited) = make_text(
+    let (made, edited) = make_text(
         alloc, source, &doc, reader, &units, edits, spelled, &wanted, profile,
     )?;
     let known = Document {
@@ -128,7 +128,7 @@ fn edit_with<'x>(
         doc: &doc,
         units: &units,
     };
-    certify(alloc, known, edits, data, edited, &wanted, profile)
+    certify(alloc, known, edits, made, edited, &wanted, profile)
 }
 
 /// The units of the tree of a text.
@@ -145,13 +145,13 @@ fn certify(
     alloc: Global,
     before: Document,
     edits: &[Edit],
-    data: Data,
+    made: Made,
     edited: Edited,
     wanted: &[bool],
     profile: Profile,
 ) -> Result<Edited, EditorFault>
     requires known { IsKnown profile before }
-    requires made { IsMadeText profile before.text.now (map change edits.now) «data» (string_bytes edited.text) edited.pieces.items }
+    requires made { IsMadeText profile before.text.now (map change edits.now) made (string_bytes edited.text) edited.pieces.items }
     requires wanted { TellsWanted before.text.now (map change edits.now) wanted.now }
     ensures edited { IfOk result (λ e. IsEditedText profile before.entry.text.now (map change edits.now) (string_bytes e.text) e.pieces.items e.certificate.pairs.items) }
     ensures told { IfErr result (Tells profile before.entry.text.now (map change edits.now)) }
@@ -163,7 +163,7 @@ fn certify(
         alloc,
         before,
         edits,
-        data,
+        made,
         edited.text.as_bytes(),
         &edited.certificate,
         profile,
@@ -179,34 +179,35 @@ fn certify(
     }
 }
 
-/// What the edits make of a document and its data, not judged yet.
-fn make_text<'x>(
+/// What the edits make of a document and of its data, not judged yet. Of the data those are built that the edits can touch.
+fn make_text<'d, 'x>(
     alloc: Global,
     source: Source<'x>,
-    doc: &Doc<'x>,
-    reader: NameReader<'_, 'x>,
+    doc: &'d Doc<'x>,
+    reader: NameReader<'d, 'x>,
     units: &[Unit],
     edits: &'x [Edit],
     spelled: &'x [Spelled],
     wanted: &[bool],
     profile: Profile,
-) -> Result<(Data, Edited), EditorFault>
+) -> Result<(Made<'d, 'x, 'x>, Edited), EditorFault>
     requires read { HasLines profile (text_of source) (document doc.now) (lines_of reader) }
     requires spelled { length spelled.now ≡ length edits.now }
     ensures made { IfOk result (λ r. IsMadeText profile (text_of source.entry) (map change edits.now) r.0 (string_bytes r.1.text) r.1.pieces.items) }
     ensures told { IfErr result (Tells profile (text_of source.entry) (map change edits.now)) }
 {
-    let mut data = reader.data()?;
+    let touched = near_names(alloc, edits)?;
+    let mut data = reader.data_near(&touched)?;
     let mut tree = Tree::of(Texts { alloc, source }, doc, units)?;
-    let names = &reader;
+    let read = Read {
+        doc,
+        names: &reader,
+        profile,
+    };
     if let Err(fault) = make_all(
         alloc,
         &mut tree,
-        Read {
-            doc,
-            names,
-            profile,
-        },
+        read,
         &mut data,
         edits,
         spelled,
@@ -214,7 +215,12 @@ fn make_text<'x>(
         return Err(fault);
     }
     let edited = write_out(alloc, source, doc, &tree, wanted)?;
-    Ok((data, edited))
+    let made = Made {
+        names: reader,
+        touched,
+        data,
+    };
+    Ok((made, edited))
 }
 
 /// What stands in the working tree, and its certificate.
