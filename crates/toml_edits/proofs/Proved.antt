@@ -7,5 +7,6 @@ pub use Rattle.toml_edits.proofs.LowIndices.{indices_are_low}
 pub use Rattle.toml_edits.proofs.Once.{one_after}
 pub use Rattle.toml_edits.proofs.OneList.{one_edit_list, bad_list_is_none}
 pub use Rattle.toml_edits.proofs.OnLists.{carried_on, one_lead, fault_or_lead, one_first_fault}
-pub use Rattle.toml_edits.proofs.Standing.{carried_stands, lists_carry_apart}
+pub use Rattle.toml_edits.proofs.Standing.{carried_stands}
+pub use Rattle.toml_edits.proofs.ListsApart.{lists_carry_apart}
 pub use Rattle.toml_edits.proofs.StaysClosed.{stays_closed}

@@ -1,13 +1,12 @@
--- What stands somewhere and is carried stands where it is carried; lists carry no two things to one address.
+-- What stands somewhere and is carried stands where it is carried.
 use Rattle.std.proofs.Common.{◌≡◌, ℕ, zero, List, [], ◌∷◌, Option, Some, None, IsSome, is_some, Bool, true, false, refl, sym, ap, ◌∙◌, length, ◌==◌, arith}
 use Rattle.std.proofs.lemmas.Bool.Decides.{nat_tests}
 use Rattle.std.proofs.lemmas.List.{append-nil}
 use Rattle.std.proofs.lemmas.Option.{same_Some, none-some}
-use Rattle.std.specs.Prelude.{option_and_then}
 use Rattle.toml_tree.specs.declared.profile.Profile.{Profile}
 use Rattle.toml_names.specs.declared.model.address.Step.{Step}
 use Rattle.toml_names.specs.model.Addresses.{Address, same_address}
-use Rattle.toml_names.specs.model.Data.{Kinds, kind_at}
+use Rattle.toml_names.specs.model.Data.{Kinds}
 use Rattle.toml_names.specs.mentions.Mentions.{Kind, kind_of, value_named}
 use Rattle.toml_names.specs.declared.mentions.mention.Role.TheVariants.{Valued}
 use Rattle.toml_names.proofs.Proved.{same_address-decides}
@@ -16,10 +15,8 @@ use Rattle.toml_edits.specs.Carry.{carry}
 use Rattle.toml_edits.specs.Edits.{Change, set, insert, rename, remove, new_section, new_element}
 use Rattle.toml_edits.specs.Faults.{IsFault}
 use Rattle.toml_edits.specs.declared.fault.EditFault.TheVariants.{RootNamed}
-use Rattle.toml_edits.specs.ListLaws.{CarriedStands, ListsCarryApart}
-use Rattle.toml_edits.specs.Lists.{carried}
+use Rattle.toml_edits.specs.ListLaws.{CarriedStands}
 use Rattle.toml_edits.specs.ValueTexts.{IsGoodValue}
-use Rattle.toml_edits.proofs.Apart.{carried_apart, data_are_closed}
 use Rattle.toml_edits.proofs.Emptied.{set_carries}
 use Rattle.toml_edits.proofs.Ways.{set_here}
 
@@ -70,17 +67,3 @@ stands profile (new_element at) old new fault after a b is h = (h.0, element_kee
 
 pub carried_stands : CarriedStands
 carried_stands profile c old new fault after a to is some = some_of new to (stands profile c old new fault after a to is (has old a some))
-
--- what is carried through a list is carried by its first edit, and from there by the others
-pub through : (cs : List Change) (o : Option Address) (to : Address) → option_and_then (carried cs) o ≡ Some to → (b : Address) × (o ≡ Some b) × (carried cs b ≡ Some to)
-through cs None to e = absurd (none-some to e)
-through cs (Some b) to e = (b, refl, e)
-
-pub lists_carry_apart : ListsCarryApart
-lists_carry_apart profile [] old new lead a b to h k e f = same_Some a b (e ∙ sym f)
-lists_carry_apart profile (c ∷ cs) old new (fault, mid, after, lead) a b to h k e f =
-    let x = through cs (carry c a) to e in
-    let y = through cs (carry c b) to f in
-    let same : x.0 ≡ y.0 =
-    lists_carry_apart profile cs mid new lead x.0 y.0 to (carried_stands profile c (kind_at old) (kind_at mid) fault after a x.0 x.1 h) (carried_stands profile c (kind_at old) (kind_at mid) fault after b y.0 y.1 k) x.2 y.2 in
-    carried_apart profile c (kind_at old) (data_are_closed old) fault a b x.0 h k x.1 (y.1 ∙ ap Some (sym same))

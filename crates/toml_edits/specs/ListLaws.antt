@@ -18,22 +18,22 @@ CarriedOn = (cs ds : List Change) (a : Address) → carried (cs ++ ds) a ≡ opt
 
 -- The data after a list are one: two that edits lead to have the same at each address.
 abbrev pub OneLead : Type 0
-OneLead = (profile : Profile) (cs : List Change) (old one two : Datum) → Lead profile cs old one → Lead profile cs old two → (a : Address) → kind_at one a ≡ kind_at two a
+OneLead = (profile : Profile) (cs : List Change) (old one two : Kinds) → Lead profile cs old one → Lead profile cs old two → (a : Address) → one a ≡ two a
 
 -- A list with a first fault leads nowhere, and has no other first fault.
 abbrev pub FaultOrLead : Type 0
-FaultOrLead = (profile : Profile) (cs : List Change) (old new : Datum) (i : ℕ) (fault : EditFault) → IsFirstFault profile cs old i fault → Lead profile cs old new → ⊥
+FaultOrLead = (profile : Profile) (cs : List Change) (old new : Kinds) (i : ℕ) (fault : EditFault) → IsFirstFault profile cs old i fault → Lead profile cs old new → ⊥
 
 abbrev pub OneFirstFault : Type 0
-OneFirstFault = (profile : Profile) (cs : List Change) (old : Datum) (i j : ℕ) (fault other : EditFault) → IsFirstFault profile cs old i fault → IsFirstFault profile cs old j other → (i ≡ j) × (fault ≡ other)
+OneFirstFault = (profile : Profile) (cs : List Change) (old : Kinds) (i j : ℕ) (fault other : EditFault) → IsFirstFault profile cs old i fault → IsFirstFault profile cs old j other → (i ≡ j) × (fault ≡ other)
 
 -- What stands somewhere, and is carried by an edit without a fault, stands where it is carried.
 abbrev pub CarriedStands : Type 0
 CarriedStands = (profile : Profile) (c : Change) (old new : Kinds) → IsFault profile c old None → IsAfter profile c old new → (a to : Address) → carry c a ≡ Some to → IsSome (old a) → IsSome (new to)
 
--- Two things of data that edits without a fault carry to one address are one.
+-- Two things of data in which nothing stands below nothing that edits without a fault carry to one address are one.
 abbrev pub ListsCarryApart : Type 0
-ListsCarryApart = (profile : Profile) (cs : List Change) (old new : Datum) → Lead profile cs old new → (a b to : Address) → IsSome (kind_at old a) → IsSome (kind_at old b) → carried cs a ≡ Some to → carried cs b ≡ Some to → a ≡ b
+ListsCarryApart = (profile : Profile) (cs : List Change) (old new : Kinds) → IsClosed old → Lead profile cs old new → (a b to : Address) → IsSome (old a) → IsSome (old b) → carried cs a ≡ Some to → carried cs b ≡ Some to → a ≡ b
 
 -- Data in which nothing stands below nothing stay so under an edit without a fault.
 abbrev pub StaysClosed : Type 0

@@ -1,10 +1,12 @@
 pub mod Addresses
+pub mod Beside
 pub mod Building
 pub mod Data
 pub mod DataLaws
 pub mod Documents
 pub mod Indices
 pub mod Levels
+pub mod NameSets
 pub mod Parts
 pub mod Places
 pub mod SameData

@@ -20,6 +20,7 @@ pub use mentions::rules::MAX_STEPS;
 pub use model::address::{Address, Step};
 pub use model::datum::{Data, Datum, same};
 pub use model::name::Name;
+pub use model::name_set::NameSet;
 pub use model::place::Place;
 pub use names::{Names, read_lines, read_names};
 pub use reader::NameReader;

@@ -4,3 +4,4 @@ pub mod Copies
 pub mod Equal
 pub mod Indices
 pub mod Levels
+pub mod NameSets

@@ -4,5 +4,6 @@
 pub mod address;
 pub mod datum;
 pub mod name;
+pub mod name_set;
 pub mod parts;
 pub mod place;

@@ -1,5 +1,6 @@
 use Rattle.toml_edits.proofs.OnLists.{carried_on}
-use Rattle.toml_edits.proofs.Standing.{carried_stands, lists_carry_apart}
+use Rattle.toml_edits.proofs.Standing.{carried_stands}
+use Rattle.toml_edits.proofs.ListsApart.{lists_carry_apart}
 use Rattle.toml_edits.proofs.laws.carried_by_lists.Goals as goal
 
 pub returns-clause-on : goal.returns-clause-on
