@@ -7,6 +7,8 @@ pub mod EditList
 pub mod Laws
 pub mod Lists
 pub mod ListLaws
+pub mod Near
+pub mod NearLaws
 -- words of the code's own contracts
 pub mod Readings
 pub mod Changed

@@ -1,6 +1,7 @@
 //! Laws over the definitions: nothing is run.
 ghost use Rattle.toml_edits.specs.EditList.{BadListIsNone, OneEditList};
 ghost use Rattle.toml_edits.specs.ListLaws.{CarriedOn, CarriedStands, DataIndicesAreLow, FaultOrLead, ListsCarryApart, OneFirstFault, OneLead, StaysClosed};
+ghost use Rattle.toml_edits.specs.NearLaws.{FaultsNear, HiddenStays, LeadsBeside, LeadsNear};
 ghost use Rattle.toml_edits.specs.Laws.{CarriedAlong, CarriedFront, CarriedApart, DataAreClosed, ElementIsEmpty, NewTablesStay, OneAfter, SectionIsEmpty, SetCarries};
 
 /// What is below an address is carried along with it, unless the edit is below the address or a `set` at it. A
@@ -54,4 +55,13 @@ pub fn lists()
 pub fn edit_lists()
     ensures one { OneEditList }
     ensures bad { BadListIsNone }
+{}
+
+/// Edits near the names of a set may be made on the data near these. What they make of them, with all else left as it was,
+/// is what they make of all, and the first fault is the same.
+pub fn near()
+    ensures beside { LeadsBeside }
+    ensures near { LeadsNear }
+    ensures stays { HiddenStays }
+    ensures faults { FaultsNear }
 {}
