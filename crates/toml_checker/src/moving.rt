@@ -10,20 +10,6 @@ use std::alloc::{AllocError, Global};
 use toml_edits::{Edit, carry};
 use toml_names::{Address, Step};
 
-/// The address that an edit names.
-pub fn place(edit: &Edit) -> &Address
-    ensures { result.now ≡ place_of (change edit.now) }
-{
-    match edit {
-        Edit::Set { at, .. } => at,
-        Edit::Insert { at, .. } => at,
-        Edit::Rename { at, .. } => at,
-        Edit::Remove { at } => at,
-        Edit::Section { at } => at,
-        Edit::Element { at } => at,
-    }
-}
-
 /// Whether no element from the index on, of the array at the parent, is at the address or above it.
 fn is_before(parent: &[Step], index: u64, steps: &[Step]) -> bool
     ensures { result ≡ is_before parent.now index steps.now }

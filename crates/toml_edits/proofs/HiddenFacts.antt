@@ -1,5 +1,5 @@
 -- Facts that move while some addresses, which are hidden, keep theirs: the hidden facts may be left out, and put back after.
-use Rattle.std.proofs.Common.{◌≡◌, ◌⊎◌, inl, inr, ◌++◌, Option, Some, None, Bool, true, false, true≢false, cond, refl, sym, ap, ◌∙◌}
+use Rattle.std.proofs.Common.{◌≡◌, inl, inr, ◌++◌, Option, Some, None, Bool, true, false, true≢false, cond, refl, sym, ap, ◌∙◌}
 use Rattle.std.proofs.lemmas.Option.{same_Some, none-some}
 use Rattle.toml_names.specs.model.Addresses.{Address}
 use Rattle.toml_names.specs.model.Data.{Kinds}

@@ -72,7 +72,7 @@ one_more [] (d ∷ cs) x c are is = absurd are
 one_more (y ∷ xs) [] x c are is = absurd are
 one_more (y ∷ xs) (d ∷ cs) x c are is = (are.0, one_more xs cs x c are.1 is)
 
-map_push : (es : List Edit) (e : Edit) → map change (es ++ e ∷ []) ≡ map change es ++ change e ∷ []
+pub map_push : (es : List Edit) (e : Edit) → map change (es ++ e ∷ []) ≡ map change es ++ change e ∷ []
 map_push [] e = refl
 map_push (d ∷ es) e = ap (λ l. change d ∷ l) (map_push es e)
 

@@ -22,5 +22,5 @@ lists_carry_apart profile (c ∷ cs) old new closed (fault, mid, after, lead) a 
     let x = through cs (carry c a) to e in
     let y = through cs (carry c b) to f in
     let same : x.0 ≡ y.0 =
-        lists_carry_apart profile cs mid new (stays_closed profile c old mid closed fault after) lead x.0 y.0 to (carried_stands profile c old mid fault after a x.0 x.1 h) (carried_stands profile c old mid fault after b y.0 y.1 k) x.2 y.2 in
+    lists_carry_apart profile cs mid new (stays_closed profile c old mid closed fault after) lead x.0 y.0 to (carried_stands profile c old mid fault after a x.0 x.1 h) (carried_stands profile c old mid fault after b y.0 y.1 k) x.2 y.2 in
     carried_apart profile c old closed fault a b x.0 h k x.1 (y.1 ∙ ap Some (sym same))

@@ -1,5 +1,5 @@
 -- What stands beside the names of a set is left alone by the carriers of edits near them, and nothing is carried or placed there.
-use Rattle.std.proofs.Common.{◌≡◌, ◌⊎◌, inl, inr, ℕ, ◌+◌, ◌-◌, ◌^◌, List, [], ◌∷◌, ◌++◌, Option, Some, None, Bool, true, false, true≢false, cond, not, refl, sym, ap, ◌∙◌, append_assoc}
+use Rattle.std.proofs.Common.{◌≡◌, ℕ, ◌+◌, ◌-◌, ◌^◌, List, [], ◌∷◌, ◌++◌, Option, Some, None, Bool, true, false, true≢false, cond, not, refl, sym, ap, ◌∙◌}
 use Rattle.std.specs.Prelude.{option_map}
 use Rattle.std.specs.Bool.{nat_lt, nat_eq}
 use Rattle.std.specs.Str.{bytes_eq}
@@ -59,6 +59,7 @@ below_leaves names s p c low = record { stays = stay; apart = apart }
     stay : (a : Address) → is_hidden names a ≡ true → carry_below (s ∷ p) c a ≡ Some a
     stay [] h = refl
     stay (t ∷ a) h = stays_below names s t p a c low h (same_step s t) refl
+
     apart : (a b : Address) → is_hidden names b ≡ false → carry_below (s ∷ p) c b ≡ Some a → is_hidden names a ≡ false
     apart a [] h to = ap (is_hidden names) (sym (same_Some [] a to))
     apart a (t ∷ b) h to = apart_below names t a b (carry_below p c b) (same_step s t) h to
@@ -77,10 +78,12 @@ up_leaves names i = record { stays = stay; apart = apart }
     stay [] h = refl
     stay (Name n ∷ a) h = refl
     stay (Index j ∷ a) h = absurd (true≢false (sym h))
+
     by : (a b : Address) (j : ℕ) (low fits : Bool) → cond low (Some (Index j ∷ b)) (cond fits (Some (Index (j + 1) ∷ b)) None) ≡ Some a → is_hidden names a ≡ false
     by a b j true fits to = ap (is_hidden names) (sym (same_Some (Index j ∷ b) a to))
     by a b j false true to = ap (is_hidden names) (sym (same_Some (Index (j + 1) ∷ b) a to))
     by a b j false false to = absurd (none-some a to)
+
     apart : (a b : Address) → is_hidden names b ≡ false → up_from i b ≡ Some a → is_hidden names a ≡ false
     apart a [] h to = ap (is_hidden names) (sym (same_Some [] a to))
     apart a (Name n ∷ b) h to = ap (is_hidden names) (sym (same_Some (Name n ∷ b) a to)) ∙ h
@@ -93,10 +96,12 @@ down_leaves names i = record { stays = stay; apart = apart }
     stay [] h = refl
     stay (Name n ∷ a) h = refl
     stay (Index j ∷ a) h = absurd (true≢false (sym h))
+
     by : (a b : Address) (j : ℕ) (low same : Bool) → cond low (Some (Index j ∷ b)) (cond same None (Some (Index (j - 1) ∷ b))) ≡ Some a → is_hidden names a ≡ false
     by a b j true same to = ap (is_hidden names) (sym (same_Some (Index j ∷ b) a to))
     by a b j false false to = ap (is_hidden names) (sym (same_Some (Index (j - 1) ∷ b) a to))
     by a b j false true to = absurd (none-some a to)
+
     apart : (a b : Address) → is_hidden names b ≡ false → down_above i b ≡ Some a → is_hidden names a ≡ false
     apart a [] h to = ap (is_hidden names) (sym (same_Some [] a to))
     apart a (Name n ∷ b) h to = ap (is_hidden names) (sym (same_Some (Name n ∷ b) a to)) ∙ h
@@ -110,13 +115,16 @@ name_leaves names from to old new = record { stays = stay; apart = apart }
     keeps : (n : List ℕ) (a : Address) → not (has_name names n) ≡ true → (same : Bool) → bytes_eq from n ≡ same → cond same (Some (Name to ∷ a)) (Some (Name n ∷ a)) ≡ Some (Name n ∷ a)
     keeps n a h false is = refl
     keeps n a h true is = absurd (true≢false (sym h ∙ ap (λ m. not (has_name names m)) (sym ((bytes_eq-Decides from n).0 is)) ∙ ap not old))
+
     stay : (a : Address) → is_hidden names a ≡ true → to_name from to a ≡ Some a
     stay [] h = refl
     stay (Index j ∷ a) h = refl
     stay (Name n ∷ a) h = keeps n a h (bytes_eq from n) refl
+
     by : (n : List ℕ) (a b : Address) (same : Bool) → not (has_name names n) ≡ false → cond same (Some (Name to ∷ b)) (Some (Name n ∷ b)) ≡ Some a → is_hidden names a ≡ false
     by n a b true h is = ap (is_hidden names) (sym (same_Some (Name to ∷ b) a is)) ∙ ap not new
     by n a b false h is = ap (is_hidden names) (sym (same_Some (Name n ∷ b) a is)) ∙ h
+
     apart : (a b : Address) → is_hidden names b ≡ false → to_name from to b ≡ Some a → is_hidden names a ≡ false
     apart a [] h is = ap (is_hidden names) (sym (same_Some [] a is))
     apart a (Index j ∷ b) h is = ap (is_hidden names) (sym (same_Some (Index j ∷ b) a is))

@@ -1,17 +1,14 @@
 -- What an edit near the names of a set makes of data is moved by a carrier that leaves alone what is beside them.
-use Rattle.std.proofs.Common.{◌≡◌, ℕ, List, [], ◌∷◌, ◌++◌, Option, Some, None, Bool, true, false, true≢false, cond, refl, sym, ap, subst, ◌∙◌, append_assoc, append-nil}
-use Rattle.std.specs.Prelude.{MatchOption}
+use Rattle.std.proofs.Common.{◌≡◌, ℕ, List, [], ◌∷◌, ◌++◌, Option, Some, None, true, refl, sym, ap, subst, ◌∙◌, append-nil}
 use Rattle.std.proofs.lemmas.Option.{none-some}
 use Rattle.toml_tree.specs.declared.profile.Profile.{Profile}
-use Rattle.toml_names.specs.declared.model.address.Step.{Step}
 use Rattle.toml_names.specs.declared.model.address.Step.TheVariants.{Name, Index}
 use Rattle.toml_names.specs.declared.model.name_set.NameSet.{NameSet}
-use Rattle.toml_names.specs.model.Addresses.{Address, element, same_step}
+use Rattle.toml_names.specs.model.Addresses.{Address, element}
 use Rattle.toml_names.specs.model.Beside.{is_hidden}
 use Rattle.toml_names.specs.model.Data.{Kinds}
 use Rattle.toml_names.specs.model.NameSets.{has_name}
 use Rattle.toml_names.specs.mentions.Mentions.{Kind}
-use Rattle.toml_names.proofs.Proved.{same_step-equal}
 use Rattle.toml_edits.specs.After.{AddsElement, IsAfter, Moves, nothing, an_empty_table, one_empty_table}
 use Rattle.toml_edits.specs.Carry.{Carrier, carry, carry_below, inserting, nowhere, removing, renaming}
 use Rattle.toml_edits.specs.Edits.{Change, set, insert, rename, remove, new_section, new_element, place}

@@ -1,19 +1,17 @@
 -- The faults of an edit near the names of a set are told by what is not hidden.
-use Rattle.std.proofs.Common.{◌≡◌, ◌⊎◌, inl, inr, ◌↔◌, ℕ, ◌<◌, List, [], ◌∷◌, ◌++◌, Option, Some, None, IsSome, Bool, false, not, refl, sym, ap, subst, ◌∙◌, append_assoc, append-nil}
+use Rattle.std.proofs.Common.{◌≡◌, inl, inr, ℕ, ◌<◌, List, [], ◌∷◌, ◌++◌, Option, Some, None, IsSome, not, sym, ap, subst, ◌∙◌, append_assoc, append-nil}
 use Rattle.std.specs.Prelude.{MatchOption}
 use Rattle.toml_tree.specs.declared.profile.Profile.{Profile}
-use Rattle.toml_names.specs.declared.model.address.Step.{Step}
 use Rattle.toml_names.specs.declared.model.address.Step.TheVariants.{Name, Index}
 use Rattle.toml_names.specs.declared.model.name_set.NameSet.{NameSet}
 use Rattle.toml_names.specs.model.Addresses.{Address, child, element}
 use Rattle.toml_names.specs.model.Beside.{is_hidden}
 use Rattle.toml_names.specs.model.Data.{Kinds}
-use Rattle.toml_names.specs.model.NameSets.{has_name}
-use Rattle.toml_names.specs.mentions.Mentions.{Kind, a_table, an_array}
+use Rattle.toml_names.specs.mentions.Mentions.{Kind, an_array}
 use Rattle.toml_edits.specs.declared.fault.EditFault.{EditFault}
 use Rattle.toml_edits.specs.declared.fault.EditFault.TheVariants.{NoSuchPlace, NotATable, IndexOutside, AlreadyThere}
 use Rattle.toml_edits.specs.Edits.{Change, set, insert, rename, remove, new_section, new_element}
-use Rattle.toml_edits.specs.Faults.{HasFewer, IsNextIndex, IsElementOf, IsFirstRow, IsFault, Row, rank}
+use Rattle.toml_edits.specs.Faults.{HasFewer, IsNextIndex, IsElementOf, IsFault, Row}
 use Rattle.toml_edits.specs.Near.{IsNear, StartsIn}
 use Rattle.toml_edits.proofs.HiddenFacts.{Agree}
 use Rattle.toml_edits.proofs.NearCarriers.{first_shown, shown_element, shown_front}
@@ -73,6 +71,7 @@ same_fault profile names f g agree c near = by
   where
     back : (x : EditFault) → Row profile c g x → Row profile c f x
     back x = row profile names g f (λ a low. sym (agree a low)) c x near
+
     by : (found : Option EditFault) → IsFault profile c f found → IsFault profile c g found
     by None h = λ x r. h x (back x r)
     by (Some x) h = (row profile names f g agree c x near h.0, λ y low r. h.1 y low (back y r))

@@ -4,7 +4,7 @@ use Rattle.toml_names.specs.declared.model.address.Step.TheVariants.{Name}
 use Rattle.toml_names.specs.declared.model.name_set.NameSet.{NameSet}
 use Rattle.toml_names.specs.model.Addresses.{Address}
 use Rattle.toml_names.specs.model.NameSets.{has_name}
-use Rattle.toml_edits.specs.Edits.{Change, set, insert, rename, remove, new_section, new_element, place}
+use Rattle.toml_edits.specs.Edits.{Change, rename, place}
 
 -- the set has the first name of the address
 abbrev pub StartsIn : NameSet → Address → Type 0

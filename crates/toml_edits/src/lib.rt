@@ -9,11 +9,13 @@ mod fault;
 pub mod laws;
 mod list;
 mod making;
+mod near;
 mod reach;
 mod value;
 
 pub use applying::{apply, apply_in};
 pub use carrying::carry;
-pub use edit::Edit;
+pub use edit::{Edit, place};
 pub use fault::{EditFault, EditsFault};
 pub use list::read_edits;
+pub use near::near_names;

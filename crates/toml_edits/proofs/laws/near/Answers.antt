@@ -1,4 +1,4 @@
-use Rattle.toml_edits.proofs.Near.{leads_beside, leads_near, hidden_stays, faults_near}
+use Rattle.toml_edits.proofs.NearLists.{leads_beside, leads_near, hidden_stays, faults_near}
 use Rattle.toml_edits.proofs.laws.near.Goals as goal
 
 pub returns-clause-beside : goal.returns-clause-beside

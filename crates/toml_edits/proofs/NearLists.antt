@@ -1,5 +1,5 @@
 -- Lists of edits near the names of a set: on the data near them, and on all.
-use Rattle.std.proofs.Common.{◌≡◌, ◌↔◌, ℕ, zero, suc, List, [], ◌∷◌, Option, Some, None, Bool, true, false, cond, refl, sym, ap, subst, ◌∙◌}
+use Rattle.std.proofs.Common.{◌≡◌, ℕ, zero, suc, List, [], ◌∷◌, Option, Some, None, Bool, true, false, cond, refl, sym, ap, subst, ◌∙◌}
 use mathlib.Core.Path.{fun_ext}
 use Rattle.toml_tree.specs.declared.profile.Profile.{Profile}
 use Rattle.toml_names.specs.declared.model.name_set.NameSet.{NameSet}
@@ -14,7 +14,7 @@ use Rattle.toml_edits.specs.Faults.{IsFault}
 use Rattle.toml_edits.specs.Lists.{Lead, IsFirstFault}
 use Rattle.toml_edits.specs.Near.{AreNear, IsNear}
 use Rattle.toml_edits.specs.NearLaws.{LeadsBeside, LeadsNear, HiddenStays, FaultsNear}
-use Rattle.toml_edits.proofs.HiddenFacts.{Agree, joined_new, joined_old, moves_joined, moves_keep, moves_shown, shown_at, shown_not}
+use Rattle.toml_edits.proofs.HiddenFacts.{Agree, joined_new, moves_joined, moves_keep, moves_shown, shown_at, shown_not}
 use Rattle.toml_edits.proofs.NearMoves.{moved}
 use Rattle.toml_edits.proofs.NearRows.{same_fault}
 
