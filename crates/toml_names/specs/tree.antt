@@ -6,6 +6,7 @@ pub mod Held
 pub mod LongKeys
 pub mod NameMaps
 pub mod NameTree
+pub mod Near
 pub mod Nodes
 pub mod Placing
 pub mod Steps

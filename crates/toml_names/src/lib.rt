@@ -9,6 +9,7 @@ mod meaning;
 mod mentions;
 mod model;
 mod names;
+mod near;
 mod reader;
 mod texts;
 mod tree;

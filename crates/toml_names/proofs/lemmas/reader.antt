@@ -1,4 +1,5 @@
 pub mod OneMoreLine
+pub mod RootData
 pub mod WholeDocument
 pub mod WholeText
 pub mod WholeValue

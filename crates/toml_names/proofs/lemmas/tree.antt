@@ -13,6 +13,7 @@ pub mod Held
 pub mod InnerNodes
 pub mod ItemsEntered
 pub mod LineRanks
+pub mod NearData
 pub mod NextTables
 pub mod NodeAddresses
 pub mod NodeData

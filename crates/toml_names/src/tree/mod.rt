@@ -9,6 +9,7 @@ pub mod holding;
 pub mod long_keys;
 pub mod name_map;
 pub mod name_tree;
+pub mod near;
 pub mod node;
 pub mod places;
 pub mod results;

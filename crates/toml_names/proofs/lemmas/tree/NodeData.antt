@@ -19,15 +19,15 @@ module _ (nodes : List Spot) (id : ℕ) (low : id < length nodes) (ms : List Nam
   fact_is : (k : Kind) → IsOfKind nodes id k → fact_at ms (address_at nodes id) ≡ Some k
   fact_is k is = stands.kinds id nowhere low ∙ ap Some (is nowhere)
 
-  here : (k : Kind) → IsOfKind nodes id k → fact_at ms (address_at nodes id ++ []) ≡ Some k
+  pub here : (k : Kind) → IsOfKind nodes id k → fact_at ms (address_at nodes id ++ []) ≡ Some k
   here k is = ap (fact_at ms) (append-nil (address_at nodes id)) ∙ fact_is k is
 
   -- nothing stands below by a step of another kind
-  no_step : (k : Kind) (s : Step) (rest : Address) → IsOfKind nodes id k → (k ≡ holder s → ⊥) → fact_at ms (address_at nodes id ++ s ∷ rest) ≡ None
+  pub no_step : (k : Kind) (s : Step) (rest : Address) → IsOfKind nodes id k → (k ≡ holder s → ⊥) → fact_at ms (address_at nodes id ++ s ∷ rest) ≡ None
   no_step k s rest is other = search (rules, held, begins_at_root, fact_is, stepped, nothing_named, no_place)
 
   -- what stands below by a step is the part there
-  part_is : (s : Step) (rest : Address) (o : Option ℕ) (part : Option Datum) → o ≡ place_of (address_at nodes id ++ s ∷ []) (addresses nodes) → PartIs nodes o part
+  pub part_is : (s : Step) (rest : Address) (o : Option ℕ) (part : Option Datum) → o ≡ place_of (address_at nodes id ++ s ∷ []) (addresses nodes) → PartIs nodes o part
       → kind_in part rest ≡ fact_at ms (address_at nodes id ++ s ∷ rest)
   part_is s rest o part place is = search (rules, stepped, nothing_named, leads_to)
 

@@ -1,0 +1,47 @@
+-- What the lines of a reader name, by its nodes: data are those of the lines where they have what the nodes have.
+use Rattle.toml_names.proofs.Common.{◌≡◌, ◌↔◌, ℕ, List, ◌++◌, cond, Option, Some, None, refl, sym, ap, ◌∙◌, none-some, Line, Address, Kinds, IsDataOf, fact_at, below_node, node_kind, Joined, Kind, Named, named, IsTreeOf, Spot, address_at, addresses, nowhere, place_of, IsReader}
+use Rattle.toml_names.specs.declared.model.name_set.NameSet.{NameSet}
+use Rattle.toml_names.specs.model.Beside.{near, is_hidden}
+use Rattle.toml_names.proofs.lemmas.tree.LineRanks.{joined, root_facts}
+use Rattle.toml_names.proofs.lemmas.mentions.OfOneKind.{first_is_data}
+use Rattle.toml_names.proofs.lemmas.tree.NodePlaces.{leads_to, root_address}
+
+-- what is named at an address is what the nodes have there
+module _ (nodes : List Spot) (ms : List Named) (stands : IsTreeOf nodes ms) where
+  facts_by_nodes : (at : Address) → node_kind nodes at ≡ fact_at ms at
+  facts_by_nodes at = by (place_of at (addresses nodes)) refl
+    where
+      by : (o : Option ℕ) → place_of at (addresses nodes) ≡ o → node_kind nodes at ≡ fact_at ms at
+      by None is = rw is (sym (stands.no_facts at is))
+      by (Some k) is =
+          let leads = leads_to nodes stands.tree at k is in
+          rw is (sym (ap (fact_at ms) (sym leads.address) ∙ stands.kinds k nowhere leads.within))
+
+-- data have at each address the kind of the first thing named there
+facts_of : (ms : List Named) (kinds : Kinds) → Joined ms → IsDataOf ms kinds → (at : Address) → kinds at ≡ fact_at ms at
+facts_of ms kinds all are at = by (kinds at) (fact_at ms at) refl refl
+  where
+    by : (o p : Option Kind) → kinds at ≡ o → fact_at ms at ≡ p → kinds at ≡ fact_at ms at
+    by None None is to = is ∙ sym to
+    by (Some k) p is to = is ∙ sym ((first_is_data ms all at k).1 ((are at k).0 is))
+    by None (Some k) is to = absurd (none-some k (sym is ∙ (are at k).1 ((first_is_data ms all at k).0 to)))
+
+module _ (nodes : List Spot) (lines : List Line) (own : List (Option ℕ)) (at : ℕ) (reads : IsReader nodes lines own at) where
+  at_root : (rest : Address) → fact_at (named lines) (address_at nodes 0 ++ rest) ≡ fact_at (named lines) rest
+  at_root rest = ap (λ (a : Address). fact_at (named lines) (a ++ rest)) (root_address nodes reads.stands.tree)
+
+  below_root : (rest : Address) → below_node nodes 0 rest ≡ fact_at (named lines) (address_at nodes 0 ++ rest)
+  below_root rest = facts_by_nodes nodes (named lines) reads.stands (address_at nodes 0 ++ rest)
+
+  -- data that are what the nodes have are those of the lines, and there are no others
+  pub data_by_nodes : (kinds : Kinds) → ((rest : Address) → kinds rest ≡ below_node nodes 0 rest) ↔ IsDataOf (named lines) kinds
+  data_by_nodes kinds = (
+    λ told. root_facts nodes lines own at reads kinds (λ rest. told rest ∙ below_root rest),
+    λ are rest. facts_of (named lines) kinds (joined nodes lines own at reads) are rest ∙ sym (at_root rest) ∙ sym (below_root rest),
+  )
+
+  -- what the lines name near some names is what their data have there
+  pub near_data : (set : NameSet) (kinds near_kinds : Kinds) → IsDataOf (named lines) kinds → ((rest : Address) → near_kinds rest ≡ near set (λ a. fact_at (named lines) (address_at nodes 0 ++ a)) rest)
+      → (rest : Address) → near_kinds rest ≡ near set kinds rest
+  near_data set kinds near_kinds are told rest =
+      told rest ∙ ap (λ o. cond (is_hidden set rest) None o) (at_root rest ∙ sym (facts_of (named lines) kinds (joined nodes lines own at reads) are rest))
