@@ -13,7 +13,7 @@ use Rattle.toml_edits.specs.Edits.{Change}
 use Rattle.toml_edits.specs.Faults.{IsFault}
 use Rattle.toml_edits.specs.Lists.{Lead, IsFirstFault}
 use Rattle.toml_edits.specs.Near.{AreNear, IsNear}
-use Rattle.toml_edits.specs.NearLaws.{LeadsBeside, LeadsNear, HiddenStays, FaultsNear}
+use Rattle.toml_edits.specs.NearLaws.{LeadsBeside, LeadsNear, HiddenStays, FaultsNear, FaultBeside}
 use Rattle.toml_edits.proofs.HiddenFacts.{Agree, joined_new, moves_joined, moves_keep, moves_shown, shown_at, shown_not}
 use Rattle.toml_edits.proofs.NearMoves.{moved}
 use Rattle.toml_edits.proofs.NearRows.{same_fault}
@@ -100,3 +100,6 @@ all_stops profile names (c ∷ cs) old are (suc i) x (fault, mid, after, stop) =
 
 pub faults_near : FaultsNear
 faults_near profile names cs old are i x = (all_stops profile names cs old are i x, near_stops profile names cs old are i x)
+
+pub fault_beside : FaultBeside
+fault_beside profile names c old new is_near found = same_fault profile names new (beside names old new) (λ a low. sym (joined_new (is_hidden names) old new a low)) c is_near found

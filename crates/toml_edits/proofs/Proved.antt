@@ -10,4 +10,4 @@ pub use Rattle.toml_edits.proofs.OnLists.{carried_on, one_lead, fault_or_lead, o
 pub use Rattle.toml_edits.proofs.Standing.{carried_stands}
 pub use Rattle.toml_edits.proofs.ListsApart.{lists_carry_apart}
 pub use Rattle.toml_edits.proofs.StaysClosed.{stays_closed}
-pub use Rattle.toml_edits.proofs.NearLists.{leads_beside, leads_near, hidden_stays, faults_near}
+pub use Rattle.toml_edits.proofs.NearLists.{leads_beside, leads_near, hidden_stays, faults_near, fault_beside}

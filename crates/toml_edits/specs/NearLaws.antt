@@ -1,5 +1,5 @@
 -- Laws of edits that are made on the data near the names of a set, and not on all.
-use Rattle.std.specs.Prelude.{◌≡◌, ◌↔◌, ℕ, List, true}
+use Rattle.std.specs.Prelude.{◌≡◌, ◌↔◌, ℕ, List, Option, true}
 use Rattle.toml_tree.specs.declared.profile.Profile.{Profile}
 use Rattle.toml_names.specs.declared.model.name_set.NameSet.{NameSet}
 use Rattle.toml_names.specs.model.Addresses.{Address}
@@ -7,8 +7,9 @@ use Rattle.toml_names.specs.model.Beside.{is_hidden, near, beside}
 use Rattle.toml_names.specs.model.Data.{Kinds}
 use Rattle.toml_edits.specs.declared.fault.EditFault.{EditFault}
 use Rattle.toml_edits.specs.Edits.{Change}
+use Rattle.toml_edits.specs.Faults.{IsFault}
 use Rattle.toml_edits.specs.Lists.{Lead, IsFirstFault}
-use Rattle.toml_edits.specs.Near.{AreNear}
+use Rattle.toml_edits.specs.Near.{AreNear, IsNear}
 
 -- What edits make of the data near the names, with all else left as it was, is what they make of all.
 abbrev pub LeadsBeside : Type 0
@@ -25,3 +26,7 @@ HiddenStays = (profile : Profile) (names : NameSet) (cs : List Change) (old new 
 -- The first fault is the same on the data near the names.
 abbrev pub FaultsNear : Type 0
 FaultsNear = (profile : Profile) (names : NameSet) (cs : List Change) (old : Kinds) → AreNear names cs → (i : ℕ) (fault : EditFault) → IsFirstFault profile cs (near names old) i fault ↔ IsFirstFault profile cs old i fault
+
+-- What an edit is told of data near the names it is told of these beside all else.
+abbrev pub FaultBeside : Type 0
+FaultBeside = (profile : Profile) (names : NameSet) (c : Change) (old new : Kinds) → IsNear names c → (found : Option EditFault) → IsFault profile c new found → IsFault profile c (beside names old new) found

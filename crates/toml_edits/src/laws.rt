@@ -1,7 +1,7 @@
 //! Laws over the definitions: nothing is run.
 ghost use Rattle.toml_edits.specs.EditList.{BadListIsNone, OneEditList};
 ghost use Rattle.toml_edits.specs.ListLaws.{CarriedOn, CarriedStands, DataIndicesAreLow, FaultOrLead, ListsCarryApart, OneFirstFault, OneLead, StaysClosed};
-ghost use Rattle.toml_edits.specs.NearLaws.{FaultsNear, HiddenStays, LeadsBeside, LeadsNear};
+ghost use Rattle.toml_edits.specs.NearLaws.{FaultsNear, FaultBeside, HiddenStays, LeadsBeside, LeadsNear};
 ghost use Rattle.toml_edits.specs.Laws.{CarriedAlong, CarriedFront, CarriedApart, DataAreClosed, ElementIsEmpty, NewTablesStay, OneAfter, SectionIsEmpty, SetCarries};
 
 /// What is below an address is carried along with it, unless the edit is below the address or a `set` at it. A
@@ -64,4 +64,5 @@ pub fn near()
     ensures near { LeadsNear }
     ensures stays { HiddenStays }
     ensures faults { FaultsNear }
+    ensures fault { FaultBeside }
 {}

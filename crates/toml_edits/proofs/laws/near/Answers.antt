@@ -1,4 +1,4 @@
-use Rattle.toml_edits.proofs.NearLists.{leads_beside, leads_near, hidden_stays, faults_near}
+use Rattle.toml_edits.proofs.NearLists.{leads_beside, leads_near, hidden_stays, faults_near, fault_beside}
 use Rattle.toml_edits.proofs.laws.near.Goals as goal
 
 pub returns-clause-beside : goal.returns-clause-beside
@@ -12,3 +12,6 @@ returns-clause-stays c = hidden_stays
 
 pub returns-clause-faults : goal.returns-clause-faults
 returns-clause-faults c = faults_near
+
+pub returns-clause-fault : goal.returns-clause-fault
+returns-clause-fault c = fault_beside
