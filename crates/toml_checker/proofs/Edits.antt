@@ -2,8 +2,7 @@
 use Rattle.std.proofs.Common.{◌≡◌, ℕ, ◌+◌, ◌<◌, ◌⊎◌, inl, inr, List, [], ◌∷◌, ◌++◌, length, take, drop, get_or, map, Some, None, refl, sym, ap, ◌∙◌, subst, append_assoc}
 use Rattle.std.proofs.lemmas.List.{take_more, take-append-drop}
 use Rattle.toml_tree.specs.declared.profile.Profile.{Profile}
-use Rattle.toml_names.specs.declared.model.datum.Datum.{Datum}
-use Rattle.toml_names.specs.model.Data.{kind_at}
+use Rattle.toml_names.specs.model.Data.{Kinds}
 use Rattle.toml_edits.specs.declared.edit.Edit.{Edit}
 use Rattle.toml_edits.specs.declared.fault.EditFault.{EditFault}
 use Rattle.toml_edits.specs.declared.fault.EditFault.TheVariants.{NoMemory}
@@ -28,10 +27,10 @@ parted f es i e low is =
     ap (map f) (sym (take-append-drop (i + 1) es)) ∙ map_joined f (take (i + 1) es) (drop (i + 1) es)
     ∙ ap (λ xs. xs ++ map f (drop (i + 1) es)) (one_more f es i e low is) ∙ append_assoc (map f (take i es)) (f e ∷ []) (map f (drop (i + 1) es))
 
-pub led_on : (profile : Profile) (es : List Edit) (i : ℕ) (e : Edit) (old mid new : Datum) → i < length es → e ≡ get_or es i e → Lead profile (map change (take i es)) old mid → IsFault profile (change e) (kind_at mid) None × IsAfter profile (change e) (kind_at mid) (kind_at new) → Lead profile (map change (take (i + 1) es)) old new
+pub led_on : (profile : Profile) (es : List Edit) (i : ℕ) (e : Edit) (old mid new : Kinds) → i < length es → e ≡ get_or es i e → Lead profile (map change (take i es)) old mid → IsFault profile (change e) mid None × IsAfter profile (change e) mid new → Lead profile (map change (take (i + 1) es)) old new
 led_on profile es i e old mid new low is lead made = subst (λ cs. Lead profile cs old new) (sym (one_more change es i e low is)) (lead_more profile (map change (take i es)) (change e) old mid new lead made.0 made.1)
 
-pub stopped : (profile : Profile) (es : List Edit) (i : ℕ) (e : Edit) (old mid : Datum) (fault : EditFault) → i < length es → e ≡ get_or es i e → Lead profile (map change (take i es)) old mid → ¬ (fault ≡ NoMemory) → (fault ≡ NoMemory) ⊎ IsFault profile (change e) (kind_at mid) (Some fault) → ¬ AreDefined profile (map change es) old
+pub stopped : (profile : Profile) (es : List Edit) (i : ℕ) (e : Edit) (old mid : Kinds) (fault : EditFault) → i < length es → e ≡ get_or es i e → Lead profile (map change (take i es)) old mid → ¬ (fault ≡ NoMemory) → (fault ≡ NoMemory) ⊎ IsFault profile (change e) mid (Some fault) → ¬ AreDefined profile (map change es) old
 stopped profile es i e old mid fault low is lead memory (inl none) = absurd (memory none)
 stopped profile es i e old mid fault low is lead memory (inr row) =
     subst (λ cs. ¬ AreDefined profile cs old) (sym (parted change es i e low is)) (not_defined profile (map change (take i es)) (map change (drop (i + 1) es)) (change e) old mid fault lead row)

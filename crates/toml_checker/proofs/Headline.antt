@@ -7,9 +7,8 @@ use Rattle.toml_tree.specs.declared.profile.Profile.{Profile}
 use Rattle.toml_tree.specs.Profiles.{IsOfProfile}
 use Rattle.toml_tree.specs.Spells.{EachIs, Spells}
 use Rattle.toml_tree.specs.Tree.{Doc}
-use Rattle.toml_names.specs.declared.model.datum.Datum.{Datum}
 use Rattle.toml_names.specs.model.Addresses.{Address}
-use Rattle.toml_names.specs.model.Data.{kind_at, IsDataOf}
+use Rattle.toml_names.specs.model.Data.{Kinds, IsDataOf}
 use Rattle.toml_names.specs.mentions.Mentions.{named}
 use Rattle.toml_names.specs.reader.Names.{AreGood}
 use Rattle.toml_names.specs.mentions.Rules.{KeepsRules}
@@ -42,9 +41,9 @@ pub record Given (cs : List Change) (d e : Doc) (ps : List (ℕ × ℕ)) (flags 
   pub within : IsText text
   pub good : AreGood d.lines
   pub of_profile : IsOfProfile profile d
-  pub old : Datum
-  pub new : Datum
-  pub old_is : IsDataOf (named d.lines) (kind_at old)
+  pub old : Kinds
+  pub new : Kinds
+  pub old_is : IsDataOf (named d.lines) old
   pub lead : Lead profile cs old new
   pub rise : Rise ps
   pub fit : AllFit cs d e ps
@@ -156,6 +155,6 @@ same_place d text h keeps v i j x u a low high lt is are kind at there =
     (record { first = comment; second = sym kind ∙ comment; address = at ∙ sym there }) in
     (((units_are_sized d text h).0 v j).0 (record { later = omega arith; outer = l.outer; outer_is = l.outer_is; inner = u; inner_is = are; lies = held.lies })).1
 
-pub named_at : (d : Doc) (text : List ℕ) → Spells d text → (old : Datum) → IsDataOf (named d.lines) (kind_at old) → (i : ℕ) (u : TextUnit) (a : Address) → slice_get (units d.lines) i ≡ Some u → u.address ≡ Some a → IsSome (kind_at old a)
+pub named_at : (d : Doc) (text : List ℕ) → Spells d text → (old : Kinds) → IsDataOf (named d.lines) old → (i : ℕ) (u : TextUnit) (a : Address) → slice_get (units d.lines) i ≡ Some u → u.address ≡ Some a → IsSome (old a)
 named_at d text h old facts i u a is at =
-    subst (λ o. IfSome o (λ b. IsSome (kind_at old b))) at (each_get (λ (x : TextUnit). IfSome x.address (λ b. IsSome (kind_at old b))) (units d.lines) i u (units_are_named d text h (kind_at old) facts) is)
+    subst (λ o. IfSome o (λ b. IsSome (old b))) at (each_get (λ (x : TextUnit). IfSome x.address (λ b. IsSome (old b))) (units d.lines) i u (units_are_named d text h old facts) is)

@@ -8,9 +8,8 @@ use Rattle.std.specs.Prelude.{option_map, option_and_then}
 use Rattle.toml_tree.specs.declared.profile.Profile.{Profile}
 use Rattle.toml_names.specs.declared.model.address.Step.{Step}
 use Rattle.toml_names.specs.declared.model.address.Step.TheVariants.{Name, Index}
-use Rattle.toml_names.specs.declared.model.datum.Datum.{Datum}
 use Rattle.toml_names.specs.model.Addresses.{Address, IsAbove, child, same_step}
-use Rattle.toml_names.specs.model.Data.{Kinds, kind_at}
+use Rattle.toml_names.specs.model.Data.{Kinds}
 use Rattle.toml_names.proofs.Proved.{same_step-self}
 use Rattle.toml_edits.specs.Carry.{Carrier, carry, carry_below, emptied, nowhere, up_from, down_above, to_name, setting, inserting, renaming, removing, parted}
 use Rattle.toml_edits.specs.Edits.{Change, set, insert, rename, remove, new_section, new_element, place}
@@ -56,9 +55,9 @@ apt profile (rename at to) kinds h = by (ends at)
     by (inr (q, Name n, e)) = (q, n, e)
     by (inr (q, Index i, e)) = absurd (h NotAName (q, i, e))
 
-pub all_apt : (profile : Profile) (cs : List Change) (old new : Datum) → Lead profile cs old new → AreApt cs
+pub all_apt : (profile : Profile) (cs : List Change) (old new : Kinds) → Lead profile cs old new → AreApt cs
 all_apt profile [] old new h = tt
-all_apt profile (c ∷ cs) old new h = (apt profile c (kind_at old) h.0, all_apt profile cs h.1 new h.3)
+all_apt profile (c ∷ cs) old new h = (apt profile c old h.0, all_apt profile cs h.1 new h.3)
 
 -- ---- where an edit carries what is at its place, below it, and above it
 

@@ -8,8 +8,9 @@ use Rattle.toml_tree.specs.Tree.{Doc}
 use Rattle.toml_tree.proofs.Proved.{one_tree}
 use Rattle.toml_tree.specs.declared.profile.Profile.{Profile}
 use Rattle.toml_names.specs.model.Addresses.{Address}
-use Rattle.toml_names.specs.model.Data.{kind_at, IsDataOf}
+use Rattle.toml_names.specs.model.Data.{IsDataOf}
 use Rattle.toml_names.specs.mentions.Mentions.{named}
+use Rattle.toml_names.proofs.Proved.{lines_are_closed}
 use Rattle.toml_edits.specs.Edits.{Change}
 use Rattle.toml_units.specs.declared.unit.UnitKind.{UnitKind}
 use Rattle.toml_units.specs.declared.unit.UnitKind.TheVariants as kinds
@@ -124,7 +125,7 @@ apart cs d e ps flags g p q mp mq protected far near =
     by (Some a) x None y (Some t) h k = k
     by (Some a) x (Some b) y None h k = h
     by (Some a) x (Some b) y (Some t) h k =
-        let one : a ≡ b = lists_carry_apart g.profile cs g.old g.new g.lead a b t (named_at d g.text g.spells g.old g.old_is (p.0 + suc (q.1 - suc p.1)) f.first a f.first_is x) (named_at d g.text g.spells g.old g.old_is q.0 fq.first b fq.first_is y) h k in
+        let one : a ≡ b = lists_carry_apart g.profile cs g.old g.new (lines_are_closed d.lines g.old g.good.0 g.old_is) g.lead a b t (named_at d g.text g.spells g.old g.old_is (p.0 + suc (q.1 - suc p.1)) f.first a f.first_is x) (named_at d g.text g.spells g.old g.old_is q.0 fq.first b fq.first_is y) h k in
         let in_it = same_place d g.text g.spells g.good.0 p.0 (p.0 + suc (q.1 - suc p.1)) q.0 f.first fq.first a (omega arith) (omega (arith, low)) (omega (arith, low)) f.first_is fq.first_is kind x (y ∙ ap Some (sym one)) in
         omega (arith, in_it)
 
@@ -259,7 +260,7 @@ given profile before after cs ps c few =
       of_profile = c.old.4;
       old = c.facts.2;
       new = c.facts.4.2;
-      old_is = subst (λ (x : Doc). IsDataOf (named x.lines) (kind_at c.facts.2)) (one_tree c.facts.0 d before c.facts.1 c.old.2) c.facts.3;
+      old_is = subst (λ (x : Doc). IsDataOf (named x.lines) c.facts.2) (one_tree c.facts.0 d before c.facts.1 c.old.2) c.facts.3;
       lead = c.facts.4.4;
       rise = r.fit.0;
       fit = r.fit.1;

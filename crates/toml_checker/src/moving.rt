@@ -1,7 +1,7 @@
 //! Where edits move what stands at an address.
 ghost use Rattle.std.specs.Prelude.{◌≡◌, ℕ, List, Some, IsTrue, IfOk};
 ghost use Rattle.toml_edits.specs.Carry.{setting, inserting, renaming, removing, parted, carry as carry_of};
-ghost use Rattle.toml_edits.specs.Edits.{change, place as place_of};
+ghost use Rattle.toml_edits.specs.Edits.{change};
 ghost use Rattle.toml_checker.specs.Plain.{is_above, is_before, is_elsewhere, outcome};
 ghost use Rattle.toml_checker.specs.Sides.{side};
 

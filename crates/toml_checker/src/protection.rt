@@ -8,11 +8,11 @@ ghost use Rattle.toml_checker.specs.EditLists.{changes};
 ghost use Rattle.toml_checker.specs.Plain.{here, stands, home_stands, made_site, line_site, next_line, is_kept, TellProtected};
 
 use crate::fronts::EditList;
-use crate::moving::{Moved, moved_by, place};
+use crate::moving::{Moved, moved_by};
 use crate::side::side_of;
 use crate::tables::{Part, is_named};
 use std::alloc::{AllocError, Global};
-use toml_edits::Edit;
+use toml_edits::{Edit, place};
 use toml_names::Address;
 use toml_units::{Unit, UnitKind};
 

@@ -20,9 +20,8 @@ use Rattle.toml_tree.proofs.Proved.{one_tree}
 use Rattle.toml_tree.specs.declared.profile.Profile.{Profile}
 use Rattle.toml_names.specs.declared.fault.NameFault.{NameFault}
 use Rattle.toml_names.specs.declared.fault.NameFault.TheVariants as names
-use Rattle.toml_names.specs.declared.model.datum.Datum.{Datum}
 use Rattle.toml_names.specs.model.Addresses.{Address}
-use Rattle.toml_names.specs.model.Data.{Kinds, IsDataOf, IsFact, kind_at}
+use Rattle.toml_names.specs.model.Data.{Kinds, IsDataOf, IsFact}
 use Rattle.toml_names.specs.model.Documents.{IsDocumentIn}
 use Rattle.toml_names.specs.model.Places.{place}
 use Rattle.toml_names.specs.mentions.Mentions.{Named, named}
@@ -80,7 +79,7 @@ data_copied ms ns k l is facts same = λ at kind. let e = facts at kind in (
 )
 
 -- what is told of the data of a text is told of the text
-pub any_tells : (profile : Profile) (before : List ℕ) (cs : List Change) (d : Doc) (old : Datum) (fault : EditorFault) → IsDocumentIn profile before → Spells d before → IsDataOf (named d.lines) (kind_at old) → TellsAny profile (place (named d.lines)) cs old fault → Tells profile before cs fault
+pub any_tells : (profile : Profile) (before : List ℕ) (cs : List Change) (d : Doc) (old : Kinds) (fault : EditorFault) → IsDocumentIn profile before → Spells d before → IsDataOf (named d.lines) old → TellsAny profile (place (named d.lines)) cs old fault → Tells profile before cs fault
 any_tells profile before cs d old (faults.Edit i f) document spelled facts h = (document, (d, spelled, old, facts, h))
 any_tells profile before cs d old (faults.Spread i) document spelled facts h = (document, (d, spelled, (d, spelled, old, facts, h)))
 any_tells profile before cs d old (faults.LastElement i) document spelled facts h = (document, (d, spelled, old, facts, h))

@@ -16,20 +16,20 @@ use Rattle.toml_editor.specs.Making.{IsMade, TellsOne, TellsAny}
 use Rattle.toml_editor.specs.declared.fault.EditorFault.{EditorFault}
 use Rattle.toml_editor.specs.declared.fault.EditorFault.TheVariants as faults
 
-lead_more : (profile : Profile) (cs : List Change) (c : Change) (old mid new : Datum) → Lead profile cs old mid → IsMade profile c mid new → Lead profile (cs ++ c ∷ []) old new
+lead_more : (profile : Profile) (cs : List Change) (c : Change) (old : Kinds) (mid new : Datum) → Lead profile cs old (kind_at mid) → IsMade profile c mid new → Lead profile (cs ++ c ∷ []) old (kind_at new)
 lead_more profile [] c old mid new lead made =
-    let is : kind_at mid ≡ kind_at old = sym (fun_ext lead) in
-    (subst (λ k. IsFault profile c k None) is made.0, new, subst (λ k. IsAfter profile c k (kind_at new)) is made.1, (λ a. refl))
+    let is : kind_at mid ≡ old = sym (fun_ext lead) in
+    (subst (λ k. IsFault profile c k None) is made.0, kind_at new, subst (λ k. IsAfter profile c k (kind_at new)) is made.1, (λ a. refl))
 lead_more profile (d ∷ cs) c old mid new lead made = (lead.0, lead.1, lead.2, lead_more profile cs c lead.1 mid new lead.3 made)
 
 map_push : (xs ys : List Given) → map change (xs ++ ys) ≡ map change xs ++ map change ys
 map_push [] ys = refl
 map_push (x ∷ xs) ys = ap (λ zs. change x ∷ zs) (map_push xs ys)
 
-pub led_on : (profile : Profile) (es : List Given) (i : ℕ) (e : Given) (old mid new : Datum) → i < length es → e ≡ get_or es i e → Lead profile (map change (take i es)) old mid → IsMade profile (change e) mid new → Lead profile (map change (take (i + 1) es)) old new
+pub led_on : (profile : Profile) (es : List Given) (i : ℕ) (e : Given) (old : Kinds) (mid new : Datum) → i < length es → e ≡ get_or es i e → Lead profile (map change (take i es)) old (kind_at mid) → IsMade profile (change e) mid new → Lead profile (map change (take (i + 1) es)) old (kind_at new)
 led_on profile es i e old mid new low is lead made =
     let parts : map change (take (i + 1) es) ≡ map change (take i es) ++ change e ∷ [] = ap (map change) (take_more es i e low ∙ ap (λ x. take i es ++ x ∷ []) (sym is)) ∙ map_push (take i es) (e ∷ []) in
-    subst (λ cs. Lead profile cs old new) (sym parts) (lead_more profile (map change (take i es)) (change e) old mid new lead made)
+    subst (λ cs. Lead profile cs old (kind_at new)) (sym parts) (lead_more profile (map change (take i es)) (change e) old mid new lead made)
 
 take_map : (n : ℕ) (es : List Given) → take n (map change es) ≡ map change (take n es)
 take_map zero es = refl
@@ -41,11 +41,11 @@ get_map [] i e low is = absurd (omega arith)
 get_map (x ∷ es) zero e low is = ap (λ y. Some (change y)) (sym is)
 get_map (x ∷ es) (suc i) e low is = get_map es i e (omega arith) is
 
-so_far : (profile : Profile) (es : List Given) (i j : ℕ) (e : Given) (old mid : Datum) (P : Change → Kinds → Type 0) → i < length es → e ≡ get_or es i e → Lead profile (map change (take i es)) old mid → j ≡ i → P (change e) (kind_at mid) → SoFar profile (map change es) old j P
+so_far : (profile : Profile) (es : List Given) (i j : ℕ) (e : Given) (old mid : Kinds) (P : Change → Kinds → Type 0) → i < length es → e ≡ get_or es i e → Lead profile (map change (take i es)) old mid → j ≡ i → P (change e) mid → SoFar profile (map change es) old j P
 so_far profile es i j e old mid P low is lead same p =
     subst (λ n. SoFar profile (map change es) old n P) (sym same) (mid, subst (λ cs. Lead profile cs old mid) (sym (take_map i es)) lead, change e, get_map es i e low is, p)
 
-pub any_of_one : (profile : Profile) (places : Places) (es : List Given) (i : ℕ) (e : Given) (old mid : Datum) (fault : EditorFault) → i < length es → e ≡ get_or es i e → Lead profile (map change (take i es)) old mid → TellsOne profile places i (change e) (kind_at mid) fault → TellsAny profile places (map change es) old fault
+pub any_of_one : (profile : Profile) (places : Places) (es : List Given) (i : ℕ) (e : Given) (old mid : Kinds) (fault : EditorFault) → i < length es → e ≡ get_or es i e → Lead profile (map change (take i es)) old mid → TellsOne profile places i (change e) mid fault → TellsAny profile places (map change es) old fault
 any_of_one profile places es i e old mid (faults.Edit j f) low is lead h = so_far profile es i j e old mid (λ c kinds. IsFault profile c kinds (Some f)) low is lead h.0 h.1
 any_of_one profile places es i e old mid (faults.Spread j) low is lead h = so_far profile es i j e old mid (OfDefined profile (MayBeSpread places j)) low is lead h.0 h.1
 any_of_one profile places es i e old mid (faults.LastElement j) low is lead h = so_far profile es i j e old mid (OfDefined profile TakesLastElement) low is lead h.0 h.1

@@ -5,12 +5,11 @@ use Rattle.toml_text.specs.Source.{IsFaultOf}
 use Rattle.toml_tree.specs.Profiles.{IsOfProfile}
 use Rattle.toml_tree.specs.Document.{Refuses}
 use Rattle.toml_tree.specs.declared.profile.Profile.{Profile}
-use Rattle.toml_names.specs.declared.model.datum.Datum.{Datum}
 use Rattle.toml_names.specs.declared.model.address.Step.{Step}
 use Rattle.toml_names.specs.declared.model.place.Place.{Place}
 use Rattle.toml_names.specs.declared.model.place.Place.TheVariants.{KeyVal, Inside}
 use Rattle.toml_names.specs.model.Addresses.{Address, element}
-use Rattle.toml_names.specs.model.Data.{Kinds, kind_at}
+use Rattle.toml_names.specs.model.Data.{Kinds}
 use Rattle.toml_names.specs.model.Documents.{IsDocumentIn}
 use Rattle.toml_names.specs.model.Places.{place}
 use Rattle.toml_names.specs.mentions.Mentions.{a_table, an_array, named}
@@ -50,8 +49,8 @@ pub record IsEditedInPieces (profile : Profile) (before : List ℕ) (cs : List C
   pub pieces : ArePieces before after list
 
 -- so it is of the edit with this number and of the data to which the edits before it lead
-abbrev pub SoFar : Profile → List Change → Datum → ℕ → (Change → Kinds → Type 0) → Type 0
-SoFar profile cs old index P = (mid : Datum) × Lead profile (take index cs) old mid × (c : Change) × (slice_get cs index ≡ Some c) × P c (kind_at mid)
+abbrev pub SoFar : Profile → List Change → Kinds → ℕ → (Change → Kinds → Type 0) → Type 0
+SoFar profile cs old index P = (mid : Kinds) × Lead profile (take index cs) old mid × (c : Change) × (slice_get cs index ≡ Some c) × P c mid
 
 -- the same of the data of a text
 abbrev pub OnDataSoFar : Profile → List ℕ → List Change → ℕ → (Change → Kinds → Type 0) → Type 0

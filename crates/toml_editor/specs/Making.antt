@@ -51,7 +51,7 @@ TellsOne profile places i c kinds NoMemory = Unit {0}
 TellsOne profile places i c kinds _ = ⊥
 
 -- some edit has it on the data to which those before it lead
-abbrev pub TellsAny : Profile → Places → List Change → Datum → EditorFault → Type 0
+abbrev pub TellsAny : Profile → Places → List Change → Kinds → EditorFault → Type 0
 TellsAny profile places cs old (Edit i fault) = SoFar profile cs old i (λ c kinds. IsFault profile c kinds (Some fault))
 TellsAny profile places cs old (Spread i) = SoFar profile cs old i (OfDefined profile (MayBeSpread places i))
 TellsAny profile places cs old (LastElement i) = SoFar profile cs old i (OfDefined profile TakesLastElement)

@@ -36,8 +36,8 @@ pub(crate) fn make_all<'x>(
     spelled: &'x [Spelled],
 ) -> Result<(), EditorFault>
     requires { length spelled.now ≡ length edits.now }
-    ensures made { OnOk result (Lead read.entry.profile (map change edits.now) «data».old.root «data».new.root) }
-    ensures told { IfErr result (TellsAny read.entry.profile (places_of read.entry.names.now) (map change edits.now) «data».old.root) }
+    ensures made { OnOk result (Lead read.entry.profile (map change edits.now) (kind_at «data».old.root) (kind_at «data».new.root)) }
+    ensures told { IfErr result (TellsAny read.entry.profile (places_of read.entry.names.now) (map change edits.now) (kind_at «data».old.root)) }
 {
     for (index, edit) in edits.iter().enumerate() {
         if let Err(fault) = make(alloc, tree, read, data, edit, &spelled[index], index) {

@@ -1,7 +1,8 @@
 use Rattle.std.proofs.Common.{map, take}
+use Rattle.toml_names.specs.model.Data.{kind_at}
 use Rattle.toml_edits.specs.Edits.{change}
 use Rattle.toml_edits.specs.Lists.{Lead}
 use Rattle.toml_editor.proofs.making.make_all.Given as goal
 
 abbrev pub invariant-loop-index : goal.invariant-loop-index
-invariant-loop-index l = Lead l.read.profile (map change (take l.index l.edits)) l.initial.«data».root l.«data».root
+invariant-loop-index l = Lead l.read.profile (map change (take l.index l.edits)) (kind_at l.initial.«data».root) (kind_at l.«data».root)
