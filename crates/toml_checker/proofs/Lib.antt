@@ -10,6 +10,7 @@ pub mod Each
 pub mod Parted
 pub mod Sent
 pub mod LowUnits
+pub mod MadeNear
 pub mod InBlocks
 pub mod Within
 pub mod ProtectedUnits

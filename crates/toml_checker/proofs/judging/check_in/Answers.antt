@@ -14,8 +14,8 @@ use Rattle.toml_checker.proofs.Refused.{bad_names}
 use Rattle.toml_checker.proofs.Sentence.{yes_means}
 use Rattle.toml_checker.proofs.judging.check_in.Goals as goal
 
-pub returns-in_default-2 : goal.returns-in_default-2
-returns-in_default-2 c =
+pub returns-in_default-2-clause-verdict : goal.returns-in_default-2-clause-verdict
+returns-in_default-2-clause-verdict c =
     let before = c.args.before.now in
     let tree = subst (FindsTree c.args.profile before) c.in-Some.is c.in_ok-doc.ensures in
     let bad = subst (FindsLines c.in-Some.doc) c.in_default-2.is c.in_ok-names.ensures in

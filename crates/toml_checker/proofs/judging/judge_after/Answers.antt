@@ -1,10 +1,10 @@
 use Rattle.std.proofs.Common.{List, map, subst, sym, ◌∙◌, true≢false}
 use Rattle.toml_tree.specs.Document.{document}
 use Rattle.toml_tree.specs.Tree.{Line}
-use Rattle.toml_names.specs.model.Data.{IsDataOf, kind_at}
+use Rattle.toml_names.specs.model.Data.{IsDataOf}
 use Rattle.toml_names.specs.mentions.Mentions.{named}
 use Rattle.toml_edits.specs.Edits.{change}
-use Rattle.toml_checker.specs.After.{GivesMade}
+use Rattle.toml_checker.specs.After.{GivesMade, made_of}
 use Rattle.toml_checker.specs.Reading.{FindsTree, FindsLines}
 use Rattle.toml_checker.proofs.OfDocuments.{after_refused, edits_refused, other_data, data_hold}
 use Rattle.toml_checker.proofs.Refused.{bad_names}
@@ -35,7 +35,7 @@ returns-then-not-branch c =
     let lines = subst (FindsLines c.in-Some.doc) c.in-Some-2.is c.in_ok-reader.ensures in
     let made = subst (GivesMade c.args.profile before cs) c.in-Some-made.is c.requires.made in
     other_data c.args.profile before after (document c.in-Some.doc) cs c.args.pairs.now c.in-Some-made.made c.requires.document (tree.0, document c.in-Some.doc, tree.1, lines.0, tree.2) made tree.1
-    (λ are. true≢false (sym ((told c.in-Some-made.made made c.in_ok-are_made.field-0 c.in-Some-2.reader c.in_ok-are_made.ensures).1 (subst (λ (ls : List Line). IsDataOf (named ls) (made_of c.in-Some-made.made made.old)) (sym lines.1) are)) ∙ c.if-not-branch.true))
+    (λ are. true≢false (sym ((c.in_ok-are_made.ensures made.old (subst (λ (ls : List Line). IsDataOf (named ls) made.old) (sym made.taken) made.facts)).1 (subst (λ (ls : List Line). IsDataOf (named ls) (made_of c.in-Some-made.made made.old)) (sym lines.1) are)) ∙ c.if-not-branch.true))
 
 pub judge-requires-clause-so_far : goal.judge-requires-clause-so_far
 judge-requires-clause-so_far c =
@@ -46,4 +46,4 @@ judge-requires-clause-so_far c =
     let lines = subst (FindsLines c.in-Some.doc) c.in-Some-2.is c.in_ok-reader.ensures in
     let made = subst (GivesMade c.args.profile before cs) c.in-Some-made.is c.requires.made in
     data_hold c.args.profile before after (document c.in-Some.doc) cs c.args.pairs.now c.in-Some-made.made c.requires.document (tree.0, document c.in-Some.doc, tree.1, lines.0, tree.2) made tree.1
-    (subst (λ (ls : List Line). IsDataOf (named ls) (made_of c.in-Some-made.made made.old)) lines.1 ((told c.in-Some-made.made made c.in_ok-are_made.field-0 c.in-Some-2.reader c.in_ok-are_made.ensures).0 c.if-not-branch.false))
+    (subst (λ (ls : List Line). IsDataOf (named ls) (made_of c.in-Some-made.made made.old)) lines.1 ((c.in_ok-are_made.ensures made.old (subst (λ (ls : List Line). IsDataOf (named ls) made.old) (sym made.taken) made.facts)).0 c.if-not-branch.false))
