@@ -9,4 +9,5 @@ pub mod NameTree
 pub mod Near
 pub mod Nodes
 pub mod Placing
+pub mod SameBelow
 pub mod Steps

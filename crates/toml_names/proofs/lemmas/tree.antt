@@ -1,3 +1,4 @@
+pub mod Alike
 pub mod CountsKept
 pub mod Distinct
 pub mod ElementGrown
