@@ -3,6 +3,7 @@ pub mod EnteringLines
 pub mod Finished
 pub mod Headers
 pub mod Held
+pub mod HeldBeside
 pub mod LongKeys
 pub mod NameMaps
 pub mod NameTree

@@ -11,6 +11,7 @@ pub mod FreshHeaders
 pub mod FreshKeys
 pub mod HeaderLines
 pub mod Held
+pub mod HeldBeside
 pub mod InnerNodes
 pub mod ItemsEntered
 pub mod LineRanks

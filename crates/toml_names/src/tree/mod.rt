@@ -2,6 +2,7 @@
 //! a line enter, and what the finished tree tells.
 
 pub mod alike;
+pub mod beside;
 pub mod entering;
 pub mod hash_key;
 pub mod hashing;

@@ -7,12 +7,23 @@ use Rattle.std.proofs.lemmas.Map.Keys.{IsDistinct-cons}
 use Rattle.std.proofs.lemmas.Map.Made.{is_some-lookup}
 use Rattle.std.proofs.lemmas.Map.Steps.{length-le_from_keys}
 
-abbrev Pairs : Type 0
+abbrev pub Pairs : Type 0
 Pairs = List (List ℕ × ℕ)
 
 -- a name of the one node leads to the same as at the other
 abbrev pub IsAlike : List Spot → List Spot → ℕ → List ℕ × ℕ → Type 0
 IsAlike nodes others k e = SameIn nodes (Some e.1) others (child_of others k e.0)
+
+-- ---- what holds of each name
+
+pub pairs_found : (P : List ℕ × ℕ → Type 0) (es : Pairs) → EachIs P es → (n : List ℕ) (v : ℕ) → lookup (bytes_eq n) es ≡ Some v → P (n, v)
+pairs_found P [] each n v is = absurd (none-some v is)
+pairs_found P (e ∷ es) each n v is = search (rules, same_Some, bytes_eq-Decides, pairs_found P es each.1 n v)
+
+pub pairs_more : (P : List ℕ × ℕ → Type 0) (es : Pairs) (i : ℕ) (e : List ℕ × ℕ) → i < length es → Some e ≡ slice_get es i → EachIs P (take i es) → P e → EachIs P (take (i + 1) es)
+pairs_more P es i e low is each one =
+    subst (EachIs P) (sym (take_more es i e low))
+    (each_append P (take i es) (get_or es i e ∷ []) each (subst P (sym (get_or_from_slice_get es i e e (sym is))) one, tt))
 
 -- ---- as many names
 
@@ -53,7 +64,7 @@ same_some nodes others o p k l is to =
     let two : (at : Address) → below_in others p at ≡ below_node others l at = λ at. ap (λ (q : Option ℕ). below_in others q at) to in
     (λ same at. one at ∙ same at ∙ sym (two at), λ same at. sym (one at) ∙ same at ∙ two at)
 
-some_in : (nodes : List Spot) (o : Option ℕ) → IsSome (below_in nodes o []) → IsSome o
+pub some_in : (nodes : List Spot) (o : Option ℕ) → IsSome (below_in nodes o []) → IsSome o
 some_in nodes o h = search rules
 
 module _ (nodes : List Spot) (tree : IsTree nodes) (id : ℕ) (low : id < length nodes) (others : List Spot) (other_tree : IsTree others) (k : ℕ) (other_low : k < length others) where
@@ -103,31 +114,20 @@ module _ (nodes : List Spot) (tree : IsTree nodes) (id : ℕ) (low : id < length
       → EachIs (IsAlike nodes others k) (slice_index_or nodes id nowhere).children → SameNames nodes id others k
   names_alike apart count each = λ n. by n (child_of nodes id n) refl
     where
-      each_named : (es : Pairs) → EachIs (IsAlike nodes others k) es → (n : List ℕ) (v : ℕ) → lookup (bytes_eq n) es ≡ Some v → SameIn nodes (Some v) others (child_of others k n)
-      each_named [] each n v is = absurd (none-some v is)
-      each_named (e ∷ es) each n v is = search (rules, same_Some, bytes_eq-Decides, each_named es each.1 n v)
-
       there : (n : List ℕ) → IsSome (child_of nodes id n) → IsSome (child_of others k n)
       there n some = from (child_of nodes id n) refl some
         where
           from : (o : Option ℕ) → child_of nodes id n ≡ o → IsSome o → IsSome (child_of others k n)
           from None is h = absurd (true≢false (sym h))
-          from (Some v) is h = some_in others (child_of others k n) (subst IsSome (each_named _ each n v is []) (subst (λ o. IsSome (below_in nodes o [])) is (there_name nodes tree id low n (ap is_some is))))
+          from (Some v) is h = some_in others (child_of others k n) (subst IsSome (pairs_found (IsAlike nodes others k) _ each n v is []) (subst (λ o. IsSome (below_in nodes o [])) is (there_name nodes tree id low n (ap is_some is))))
 
       by : (n : List ℕ) (o : Option ℕ) → child_of nodes id n ≡ o → SameIn nodes (child_of nodes id n) others (child_of others k n)
       by n None is at = same_none nodes others _ _ is (none_more (slice_index_or nodes id nowhere).children (slice_index_or others k nowhere).children apart there (omega (arith, count)) n is) at
-      by n (Some v) is at = ap (λ (q : Option ℕ). below_in nodes q at) is ∙ each_named _ each n v is at
+      by n (Some v) is at = ap (λ (q : Option ℕ). below_in nodes q at) is ∙ pairs_found (IsAlike nodes others k) _ each n v is at
 
 -- no name and no name
 pub no_names : (nodes : List Spot) (id : ℕ) (others : List Spot) (k : ℕ) → (slice_index_or nodes id nowhere).children ≡ [] → (slice_index_or others k nowhere).children ≡ [] → SameNames nodes id others k
 no_names nodes id others k none other_none n = same_none nodes others _ _ (ap (lookup (bytes_eq n)) none) (ap (lookup (bytes_eq n)) other_none)
-
--- one name more
-pub alike_more : (nodes others : List Spot) (k : ℕ) (es : Pairs) (i : ℕ) (e : List ℕ × ℕ) → i < length es → Some e ≡ slice_get es i → EachIs (IsAlike nodes others k) (take i es) → IsAlike nodes others k e
-    → EachIs (IsAlike nodes others k) (take (i + 1) es)
-alike_more nodes others k es i e low is each one =
-    subst (EachIs (IsAlike nodes others k)) (sym (take_more es i e low))
-    (each_append (IsAlike nodes others k) (take i es) (get_or es i e ∷ []) each (subst (IsAlike nodes others k) (sym (get_or_from_slice_get es i e e (sym is))) one, tt))
 
 -- elements so far, and all
 pub elements_alike : (nodes others : List Spot) (xs ys : List ℕ) (count : ℕ) → length xs ≡ length ys → length xs ≤ count

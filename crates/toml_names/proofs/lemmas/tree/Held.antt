@@ -123,7 +123,7 @@ first_name : (es : List (List ℕ × ℕ)) → ((n : List ℕ) → lookup (bytes
 first_name [] none = refl
 first_name (e ∷ es) none = let same : bytes_eq e.0 e.0 ≡ true = (bytes_eq-Decides e.0 e.0).1 refl in absurd (none-some e.1 (sym (none e.0) ∙ rw same refl))
 
-first_element : (es : List ℕ) → ((i : ℕ) → slice_get es i ≡ None) → es ≡ []
+pub first_element : (es : List ℕ) → ((i : ℕ) → slice_get es i ≡ None) → es ≡ []
 first_element [] none = refl
 first_element (e ∷ es) none = absurd (none-some e (sym (none 0)))
 

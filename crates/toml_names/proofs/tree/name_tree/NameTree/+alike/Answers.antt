@@ -1,6 +1,6 @@
 use Rattle.toml_names.proofs.Common.{◌≡◌, ◌<◌, ◌+◌, ℕ, [], List, length, drop, Some, None, slice_index_or, slice_get, sym, ap, subst, ◌∙◌, refl, true≢false, none-some, arith, take_all, slice_get-get_or, lookup, bytes_eq, EachIs, Spot, nowhere, below_in, AreDistinct}
 use Rattle.toml_names.proofs.lemmas.model.Alike.{accepted, refused}
-use Rattle.toml_names.proofs.lemmas.tree.Alike.{IsAlike, same_some, same_kind, same_names, same_elements, same_below, same_count, same_length, names_alike, alike_more, elements_alike, elements_more, same_nowhere, told_too, child_read, element_read}
+use Rattle.toml_names.proofs.lemmas.tree.Alike.{IsAlike, same_some, same_kind, same_names, same_elements, same_below, same_count, same_length, names_alike, pairs_more, elements_alike, elements_more, same_nowhere, told_too, child_read, element_read}
 use Rattle.toml_names.proofs.lemmas.tree.NodeData.{low_in, below_name, below_element, node_read}
 use Rattle.toml_names.proofs.tree.name_tree.NameTree.+alike.Goals as goal
 use Rattle.toml_names.proofs.tree.name_tree.NameTree.+alike.Goals.{same_names-in-Some-nth+in_ok-same_at+else-not-branch, same_names-in_default-nth}
@@ -135,7 +135,7 @@ same_names-loop-place-preserved t c =
     let inside : place < length names = omega (arith, c.loop-place-test.true, c.len-place-end.ensures, c.loop-place.auto.place-end) in
     elim c.match-nth.branch [
       | same_names-in-Some-nth+in_ok-same_at+else-not-branch w ↦
-          alike_more nodes others c.args.other_id names place (w.in-Some-nth.name.now, w.in-Some-nth.below) inside w.in-Some-nth.ensures.pair c.loop-place.invariant
+          pairs_more (IsAlike nodes others c.args.other_id) names place (w.in-Some-nth.name.now, w.in-Some-nth.below) inside w.in-Some-nth.ensures.pair c.loop-place.invariant
           (w.in_ok-same_at.ensures.0 w.if-not-branch.false)
       | same_names-in_default-nth w ↦ absurd (none-some _ (w.in_default-nth.ensures.pair ∙ slice_get-get_or names place ([], 0) inside))
     ]
