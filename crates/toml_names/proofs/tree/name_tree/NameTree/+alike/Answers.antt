@@ -5,21 +5,24 @@ use Rattle.toml_names.proofs.lemmas.tree.NodeData.{low_in, below_name, below_ele
 use Rattle.toml_names.proofs.tree.name_tree.NameTree.+alike.Goals as goal
 use Rattle.toml_names.proofs.tree.name_tree.NameTree.+alike.Goals.{same_names-in-Some-nth+in_ok-same_at+else-not-branch, same_names-in_default-nth}
 
+-- what is asked comes behind what is known of the text, and the measure
 pub same_at-same_below-requires : goal.same_at-same_below-requires
 same_at-same_below-requires t c =
+    let asked = c.requires.1.1 in
     let others = c.args.other.now.nodes.items in
-    let node = node_read others c.args.other_id c.index.result.now (low_in c.args.other.now.nodes c.requires.1.1.1.1.0) c.index.ensures in
+    let node = node_read others c.args.other_id c.index.result.now (low_in c.args.other.now.nodes asked.1.1.0) c.index.ensures in
     let there = child_read others c.args.other_id c.index.result.now c.args.name.now c.child_from.result node c.child_from.ensures ∙ c.in-Some.is in
-    let below = below_name others c.requires.1.1.1.1.1 c.args.other_id (low_in c.args.other.now.nodes c.requires.1.1.1.1.0) (slice_index_or others c.args.other_id nowhere).children c.args.name.now c.in-Some.there refl there in
-    (omega arith, (c.requires.1.1.0, (c.requires.1.1.1.0, (omega (arith, below, c.args.other.now.nodes.ok), c.requires.1.1.1.1.1))))
+    let below = below_name others asked.1.1.1 c.args.other_id (low_in c.args.other.now.nodes asked.1.1.0) (slice_index_or others c.args.other_id nowhere).children c.args.name.now c.in-Some.there refl there in
+    (omega arith, (asked.0, (asked.1.0, (omega (arith, below, c.args.other.now.nodes.ok), asked.1.1.1))))
 
 pub same_at-returns-in-None : goal.same_at-returns-in-None
 same_at-returns-in-None t c =
+    let asked = c.requires.1.1 in
     let nodes = c.args.self.now.nodes.items in
     let others = c.args.other.now.nodes.items in
-    let node = node_read others c.args.other_id c.index.result.now (low_in c.args.other.now.nodes c.requires.1.1.1.1.0) c.index.ensures in
+    let node = node_read others c.args.other_id c.index.result.now (low_in c.args.other.now.nodes asked.1.1.0) c.index.ensures in
     let none = child_read others c.args.other_id c.index.result.now c.args.name.now c.child_from.result node c.child_from.ensures ∙ c.in-None.is in
-    refused (same_nowhere nodes c.requires.1.1.1.0 c.args.id (low_in c.args.self.now.nodes c.requires.1.1.0) others _ none)
+    refused (same_nowhere nodes asked.1.0 c.args.id (low_in c.args.self.now.nodes asked.0) others _ none)
 
 pub same_below-returns-then-not-branch : goal.same_below-returns-then-not-branch
 same_below-returns-then-not-branch t c =
