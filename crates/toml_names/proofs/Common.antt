@@ -70,7 +70,7 @@ pub use Rattle.toml_names.specs.reader.Reading.{IsReader, AreNames, ranked, rank
 pub use Rattle.toml_names.specs.tree.EnteringHeaders.{PassedFronts, table_names, tables_names, next_table, EntersHeader, AddsTable}
 pub use Rattle.toml_names.specs.tree.EnteringLines.{EntersLine, IsWithin}
 pub use Rattle.toml_names.specs.tree.Headers.{header_fronts}
-pub use Rattle.toml_names.specs.tree.Held.{Holds, below_node, node_kind}
+pub use Rattle.toml_names.specs.tree.Held.{Holds, below_node, below_in, node_kind}
 pub use Rattle.toml_names.specs.tree.LongKeys.{CanEnterHeaders, CanEnter, CanEnterHeader, IsLongKey, IsLongEntry, key_named, FollowedFronts, CanEnterKey}
 pub use Rattle.toml_names.specs.tree.NameMaps.{AreDistinct, children_of, same_name, children_behind}
 pub use Rattle.toml_names.specs.tree.NameTree.{IsTree, Enters, EntersInside, Clashes, KeepsOthers, AreNested, KeepsAddresses, KeepsElements, IsFound, EntersTo, LeadsTo, name_at, IsTreeOf, table_count, IsAbsent, ClashesAfter, Passes}

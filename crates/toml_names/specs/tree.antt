@@ -3,10 +3,12 @@ pub mod EnteringLines
 pub mod Finished
 pub mod Headers
 pub mod Held
+pub mod HeldBeside
 pub mod LongKeys
 pub mod NameMaps
 pub mod NameTree
 pub mod Near
 pub mod Nodes
 pub mod Placing
+pub mod SameBelow
 pub mod Steps

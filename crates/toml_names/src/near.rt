@@ -1,8 +1,8 @@
 //! What a reader of lines tells of the data near some names of the root, and beside them.
-ghost use Rattle.std.specs.Prelude.{◌≡◌, IfOk};
+ghost use Rattle.std.specs.Prelude.{◌≡◌, ◌↔◌, IsTrue, IfOk};
 ghost use Rattle.toml_names.specs.mentions.Mentions.{named as named_of};
 ghost use Rattle.toml_names.specs.model.Addresses.{Address as Steps};
-ghost use Rattle.toml_names.specs.model.Beside.{near};
+ghost use Rattle.toml_names.specs.model.Beside.{beside, near};
 ghost use Rattle.toml_names.specs.model.Data.{Kinds, IsDataOf, kind_at};
 ghost use Rattle.toml_names.specs.reader.Reading.{lines_of};
 
@@ -20,5 +20,18 @@ impl<'d, 't> NameReader<'d, 't> {
         Ok(Data {
             root: self.tree.datum_near(names)?,
         })
+    }
+    /// Whether the data of the lines taken are these at the root and below the names of the set, and elsewhere those of the
+    /// other reader. What lies elsewhere is compared as it stands in both readers; as in `has_data`, scalars' values alone are
+    /// made, which can lack memory, and of these none that both readers spell alike.
+    pub fn has_data_beside(
+        &self,
+        other: &NameReader<'_, '_>,
+        names: &NameSet<'_>,
+        data: &Data,
+    ) -> Result<bool, AllocError>
+        ensures { IfOk result (λ b. (old : Kinds) → IsDataOf (named_of (lines_of other.now)) old → (IsTrue b ↔ IsDataOf (named_of (lines_of self.now)) (beside names.now old (kind_at «data».now.root)))) }
+    {
+        self.tree.holds_beside(&other.tree, names, &data.root)
     }
 }

@@ -1,3 +1,4 @@
+pub mod Alike
 pub mod CountsKept
 pub mod Distinct
 pub mod ElementGrown
@@ -10,6 +11,7 @@ pub mod FreshHeaders
 pub mod FreshKeys
 pub mod HeaderLines
 pub mod Held
+pub mod HeldBeside
 pub mod InnerNodes
 pub mod ItemsEntered
 pub mod LineRanks

@@ -1,6 +1,8 @@
 //! The tree of names, which takes one line after another: its nodes, the names in a table, what a key, a header and
 //! a line enter, and what the finished tree tells.
 
+pub mod alike;
+pub mod beside;
 pub mod entering;
 pub mod hash_key;
 pub mod hashing;

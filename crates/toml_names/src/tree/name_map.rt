@@ -83,6 +83,18 @@ impl<'t> NameMap<'t> {
         Some((name.as_str(), *id))
     }
 
+    /// The node of a name, which is looked for at the place first: where it stands there, nothing is hashed.
+    pub fn get_from(&self, place: usize, name: &str) -> Option<usize>
+        ensures { result ≡ lookup (bytes_eq name.now) self.now }
+    {
+        if let Some((known, id)) = self.nth(place) {
+            if known == name {
+                return Some(id);
+            }
+        }
+        self.get(name)
+    }
+
     /// The node that a name leads to; a name that leads nowhere goes last, with `id`.
     pub fn find_or_insert(
         &mut self,

@@ -145,6 +145,16 @@ impl<'t> Node<'t> {
         }
     }
 
+    /// The node of a name, which is looked for at the place first.
+    pub fn child_from(&self, place: usize, name: &str) -> Option<usize>
+        ensures { result ≡ lookup (bytes_eq name.now) self.now.children }
+    {
+        match &self.below {
+            Some(below) => below.names.get_from(place, name),
+            None => None,
+        }
+    }
+
     /// The names in it and their nodes, in the order of their first mentions; nothing where it has had none.
     pub fn names(&self) -> Option<&NameMap<'t>>
         ensures some { IfSome result (λ names. names.now ≡ self.now.children) }

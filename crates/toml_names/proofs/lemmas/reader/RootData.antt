@@ -1,7 +1,8 @@
 -- What the lines of a reader name, by its nodes: data are those of the lines where they have what the nodes have.
-use Rattle.toml_names.proofs.Common.{◌≡◌, ◌↔◌, ℕ, List, ◌++◌, cond, Option, Some, None, refl, sym, ap, ◌∙◌, none-some, Line, Address, Kinds, IsDataOf, fact_at, below_node, node_kind, Joined, Kind, Named, named, IsTreeOf, Spot, address_at, addresses, nowhere, place_of, IsReader}
+use Rattle.toml_names.proofs.Common.{◌≡◌, ◌↔◌, ℕ, List, ◌++◌, Bool, IsTrue, IfOk, Result, Ok, Err, cond, Datum, kind_at, Option, Some, None, refl, sym, ap, ◌∙◌, none-some, Line, Address, Kinds, IsDataOf, fact_at, below_node, node_kind, Joined, Kind, Named, named, IsTreeOf, Spot, address_at, addresses, nowhere, place_of, IsReader}
 use Rattle.toml_names.specs.declared.model.name_set.NameSet.{NameSet}
-use Rattle.toml_names.specs.model.Beside.{near, is_hidden}
+use Rattle.toml_names.specs.model.Beside.{beside, near, is_hidden}
+use Rattle.toml_names.specs.tree.HeldBeside.{HoldsBeside}
 use Rattle.toml_names.proofs.lemmas.tree.LineRanks.{joined, root_facts}
 use Rattle.toml_names.proofs.lemmas.mentions.OfOneKind.{first_is_data}
 use Rattle.toml_names.proofs.lemmas.tree.NodePlaces.{leads_to, root_address}
@@ -45,3 +46,20 @@ module _ (nodes : List Spot) (lines : List Line) (own : List (Option ℕ)) (at :
       → (rest : Address) → near_kinds rest ≡ near set kinds rest
   near_data set kinds near_kinds are told rest =
       told rest ∙ ap (λ o. cond (is_hidden set rest) None o) (at_root rest ∙ sym (facts_of (named lines) kinds (joined nodes lines own at reads) are rest))
+
+-- data beside those of another reader, where the nodes have them
+module _ (nodes : List Spot) (lines : List Line) (own : List (Option ℕ)) (at : ℕ) (reads : IsReader nodes lines own at)
+    (others : List Spot) (other_lines : List Line) (other_own : List (Option ℕ)) (other_at : ℕ) (other_reads : IsReader others other_lines other_own other_at) where
+  beside_data : (set : NameSet) (d : Datum) (old : Kinds) → IsDataOf (named other_lines) old → HoldsBeside nodes others set d ↔ IsDataOf (named lines) (beside set old (kind_at d))
+  beside_data set d old are =
+      let same : (rest : Address) → beside set old (kind_at d) rest ≡ beside set (below_node others 0) (kind_at d) rest =
+      λ rest. ap (λ k. cond (is_hidden set rest) k (kind_at d rest)) ((data_by_nodes others other_lines other_own other_at other_reads old).1 are rest) in
+      let by_nodes = data_by_nodes nodes lines own at reads (beside set old (kind_at d)) in (
+        λ holds. by_nodes.0 (λ rest. same rest ∙ holds rest),
+        λ told rest. sym (same rest) ∙ by_nodes.1 told rest,
+      )
+
+  pub told_beside : {E : Type 0} (set : NameSet) (d : Datum) (r : Result Bool E) → IfOk r (λ b. IsTrue b ↔ HoldsBeside nodes others set d)
+      → IfOk r (λ b. (old : Kinds) → IsDataOf (named other_lines) old → (IsTrue b ↔ IsDataOf (named lines) (beside set old (kind_at d))))
+  told_beside set d (Ok b) told = λ old are. (λ h. (beside_data set d old are).0 (told.0 h), λ data_are. told.1 ((beside_data set d old are).1 data_are))
+  told_beside set d (Err e) told = told

@@ -1,5 +1,5 @@
 -- Whether data are what stands in the tree of names, level by level; tables by their names, of which both have as many.
-use Rattle.toml_names.proofs.Common.{common_steps, ◌≡◌, ◌↔◌, ◌==◌, Result, IfOk, ℕ, ◌<◌, ◌≤◌, Bool, true, List, [], ◌∷◌, ◌++◌, length, Option, Some, None, IsSome, IsTrue, is_some, option_map, String, Vec, BTreeMap, Global, string_cmp, slice_index_or, refl, sym, ap, subst, ⊎_elim, ◌∙◌, true≢false, arith, rules, cases_lt, eqb-true, append_assoc, append-nil, none-some, slice_get_past, slice_get_within, slice_get-get_or, bytes_eq-Decides, get_by_text, btree_map_len, IsOrdered, lookup, slice_get, bytes_eq, ScalarValue, scalar_value, Step, Name, Index, Datum, Table, Address, kind_at, kind_in, Kinds, Holds, below_node, node_kind, Kind, a_table, an_array, a_scalar, AreDistinct, IsTree, Spot, addresses, address_at, nowhere, place_of, false, cond, map, string_bytes, is_eq-slice_cmp, is_at, slice_cmp, nat_list_eq_equiv, AllByRecursion, list_any, keys_of, nat_cmp, eq_by_cmp}
+use Rattle.toml_names.proofs.Common.{common_steps, ◌≡◌, ◌↔◌, ◌==◌, Result, IfOk, ℕ, ◌<◌, ◌≤◌, Bool, true, List, [], ◌∷◌, ◌++◌, length, Option, Some, None, IsSome, IsTrue, is_some, option_map, String, Vec, BTreeMap, Global, string_cmp, slice_index_or, refl, sym, ap, subst, ⊎_elim, ◌∙◌, true≢false, arith, rules, cases_lt, eqb-true, append_assoc, append-nil, none-some, slice_get_past, slice_get_within, slice_get-get_or, bytes_eq-Decides, get_by_text, btree_map_len, IsOrdered, lookup, slice_get, bytes_eq, ScalarValue, scalar_value, Step, Name, Index, Datum, Table, Address, kind_at, kind_in, Kinds, Holds, below_node, below_in, node_kind, Kind, a_table, an_array, a_scalar, AreDistinct, IsTree, Spot, addresses, address_at, nowhere, place_of, false, cond, map, string_bytes, is_eq-slice_cmp, is_at, slice_cmp, nat_list_eq_equiv, AllByRecursion, list_any, keys_of, nat_cmp, eq_by_cmp}
 use Rattle.toml_scalar.specs.declared.scalar.Scalar.{Scalar as Value}
 use Rattle.toml_names.specs.declared.model.datum.Datum.{Scalar, Array}
 use Rattle.toml_names.proofs.lemmas.model.Alike.{part_there, kind_there, Each, Entry, each_found}
@@ -24,7 +24,7 @@ by_name : (n : List ℕ) (es : List Entry) → lookup (bytes_eq n) (named es) �
 by_name n [] = refl
 by_name n (e ∷ es) = rw (is_eq-slice_cmp n (string_bytes e.0)) (ap (λ o. cond (bytes_eq n (string_bytes e.0)) (Some e.1) o) (by_name n es))
 
-fresh_by : {X : Type 0} (n : List ℕ) (es : List (List ℕ × X)) → lookup (bytes_eq n) es ≡ None → AllByRecursion (λ y. bytes_eq n y ≡ false) (keys_of es)
+pub fresh_by : {X : Type 0} (n : List ℕ) (es : List (List ℕ × X)) → lookup (bytes_eq n) es ≡ None → AllByRecursion (λ y. bytes_eq n y ≡ false) (keys_of es)
 fresh_by n [] none = tt
 fresh_by n (e ∷ es) none = search (rules, fresh_by n es)
 
@@ -32,7 +32,7 @@ none_distinct : IsDistinct bytes_eq []
 unfolding IsDistinct
 none_distinct = grind arith
 
-children_distinct : (es : Pairs) → AreDistinct es → IsDistinct bytes_eq (keys_of es)
+pub children_distinct : (es : Pairs) → AreDistinct es → IsDistinct bytes_eq (keys_of es)
 children_distinct [] are = none_distinct
 children_distinct (e ∷ es) are = IsDistinct-cons bytes_eq e.0 (keys_of es) (fresh_by e.0 es are.0) (children_distinct es are.1)
 
@@ -53,7 +53,7 @@ length-names_of es = grind (arith, common_steps)
 length-named : (es : List Entry) → length (named es) ≡ length es
 length-named es = grind (arith, common_steps)
 
-length-keys : {X : Type 0} (es : List (List ℕ × X)) → length (keys_of es) ≡ length es
+pub length-keys : {X : Type 0} (es : List (List ℕ × X)) → length (keys_of es) ≡ length es
 length-keys es = grind (arith, common_steps)
 
 module _ (children : Pairs) (m : BTreeMap (String Global) Datum) (apart : AreDistinct children) (ordered : IsOrdered string_cmp m) where
@@ -87,11 +87,6 @@ module _ (children : Pairs) (m : BTreeMap (String Global) Datum) (apart : AreDis
           (IsDistinct-cons bytes_eq n (names_of m.entries) (fresh_by n (named m.entries) (by_name n m.entries ∙ none)) (names_distinct m.entries (IsDistinct-from_sorted string_cmp (keys_of m.entries) ordered)))
           (λ q h. found q (bytes_eq q n) refl (ap is_some is) h) in
           absurd (omega (arith, all, count, length-names_of m.entries))
-
--- what stands at a node that may not be there
-abbrev pub below_in : List Spot → Option ℕ → Kinds
-below_in nodes None at = None
-below_in nodes (Some k) at = below_node nodes k at
 
 module _ (nodes : List Spot) (tree : IsTree nodes) where
   pub here : (id : ℕ) → id < length nodes → below_node nodes id [] ≡ Some (slice_index_or nodes id nowhere).kind
@@ -128,7 +123,7 @@ first_name : (es : List (List ℕ × ℕ)) → ((n : List ℕ) → lookup (bytes
 first_name [] none = refl
 first_name (e ∷ es) none = let same : bytes_eq e.0 e.0 ≡ true = (bytes_eq-Decides e.0 e.0).1 refl in absurd (none-some e.1 (sym (none e.0) ∙ rw same refl))
 
-first_element : (es : List ℕ) → ((i : ℕ) → slice_get es i ≡ None) → es ≡ []
+pub first_element : (es : List ℕ) → ((i : ℕ) → slice_get es i ≡ None) → es ≡ []
 first_element [] none = refl
 first_element (e ∷ es) none = absurd (none-some e (sym (none 0)))
 
@@ -248,7 +243,7 @@ got (x ∷ xs) i low = ap is_some (slice_get-get_or (x ∷ xs) i x low)
 got_within : {X : Type 0} (xs : List X) (i : ℕ) → IsSome (slice_get xs i) → i < length xs
 got_within xs i some = search (rules, true≢false, slice_get_within)
 
-no_longer : {X Y : Type 0} (xs : List X) (ys : List Y) → ((i : ℕ) → IsSome (slice_get ys i) → IsSome (slice_get xs i)) → length ys ≤ length xs
+pub no_longer : {X Y : Type 0} (xs : List X) (ys : List Y) → ((i : ℕ) → IsSome (slice_get ys i) → IsSome (slice_get xs i)) → length ys ≤ length xs
 no_longer xs ys there = ⊎_elim
     (λ low. let h : length xs < length xs = got_within xs (length xs) (there (length xs) (got ys (length xs) low)) in absurd (omega arith))
     (λ le. le)

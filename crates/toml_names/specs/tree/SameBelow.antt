@@ -1,0 +1,30 @@
+-- Whether the same stands in two trees of names.
+use Rattle.std.specs.Prelude.{◌≡◌, ℕ, List, Option, slice_get, slice_index_or}
+use Rattle.std.specs.Map.{lookup}
+use Rattle.std.specs.Str.{bytes_eq}
+use Rattle.toml_names.specs.model.Addresses.{Address}
+use Rattle.toml_names.specs.tree.Held.{below_node, below_in}
+use Rattle.toml_names.specs.tree.Nodes.{Spot, nowhere}
+
+-- the node of a name in the table at a node, and that of an element of its array
+abbrev pub child_of : List Spot → ℕ → List ℕ → Option ℕ
+child_of nodes id n = lookup (bytes_eq n) (slice_index_or nodes id nowhere).children
+
+abbrev pub element_of : List Spot → ℕ → ℕ → Option ℕ
+element_of nodes id i = slice_get (slice_index_or nodes id nowhere).elements i
+
+-- the same stands at the two nodes and below them
+abbrev pub SameBelow : List Spot → ℕ → List Spot → ℕ → Type 0
+SameBelow nodes id others k = (at : Address) → below_node nodes id at ≡ below_node others k at
+
+-- at two nodes that may not be there
+abbrev pub SameIn : List Spot → Option ℕ → List Spot → Option ℕ → Type 0
+SameIn nodes o others p = (at : Address) → below_in nodes o at ≡ below_in others p at
+
+-- at each name of the two nodes
+abbrev pub SameNames : List Spot → ℕ → List Spot → ℕ → Type 0
+SameNames nodes id others k = (n : List ℕ) → SameIn nodes (child_of nodes id n) others (child_of others k n)
+
+-- at each element
+abbrev pub SameElements : List Spot → ℕ → List Spot → ℕ → Type 0
+SameElements nodes id others k = (i : ℕ) → SameIn nodes (element_of nodes id i) others (element_of others k i)
