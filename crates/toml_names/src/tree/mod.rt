@@ -10,5 +10,6 @@ pub mod long_keys;
 pub mod name_map;
 pub mod name_tree;
 pub mod node;
+pub mod parts;
 pub mod places;
 pub mod results;

@@ -32,7 +32,7 @@ none_distinct : IsDistinct bytes_eq []
 unfolding IsDistinct
 none_distinct = grind arith
 
-children_distinct : (es : Pairs) → AreDistinct es → IsDistinct bytes_eq (keys_of es)
+pub children_distinct : (es : Pairs) → AreDistinct es → IsDistinct bytes_eq (keys_of es)
 children_distinct [] are = none_distinct
 children_distinct (e ∷ es) are = IsDistinct-cons bytes_eq e.0 (keys_of es) (fresh_by e.0 es are.0) (children_distinct es are.1)
 

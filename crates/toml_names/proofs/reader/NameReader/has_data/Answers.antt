@@ -1,21 +1,11 @@
 -- Whether data are those of the lines that a reader took.
-use Rattle.toml_names.proofs.Common.{◌↔◌, Bor, IfOk, IsTrue, map, subst, line as tree_line, IsDataOf, kind_at, named, ReaderState, lines_of, ◌≡◌, ℕ, List, ◌++◌, Bool, Result, Ok, Err, Option, Some, None, refl, sym, ap, ◌∙◌, none-some, Line, Datum, Address, Kinds, fact_at, Holds, node_kind, Joined, Kind, Named, IsTreeOf, Spot, address_at, addresses, nowhere, place_of, IsReader}
+use Rattle.toml_names.proofs.Common.{◌↔◌, Bor, IfOk, IsTrue, map, subst, line as tree_line, IsDataOf, kind_at, named, ReaderState, lines_of, ◌≡◌, ℕ, List, ◌++◌, Bool, Result, Ok, Err, Option, Some, None, refl, sym, ap, ◌∙◌, none-some, Line, Datum, Address, Kinds, fact_at, Holds, Joined, Kind, Named, Spot, IsReader}
 use Rattle.toml_tree.specs.declared.line.Line.{Line as TreeLine}
 use Rattle.toml_names.proofs.lemmas.tree.LineRanks.{joined, root_facts}
 use Rattle.toml_names.proofs.lemmas.mentions.OfOneKind.{first_is_data}
-use Rattle.toml_names.proofs.lemmas.tree.NodePlaces.{leads_to, root_address}
+use Rattle.toml_names.proofs.lemmas.tree.NodePlaces.{root_address}
+use Rattle.toml_names.proofs.lemmas.tree.RootKinds.{below_root}
 use Rattle.toml_names.proofs.reader.NameReader.has_data.Goals as goal
-
--- what is named at an address is what the nodes have there
-module _ (nodes : List Spot) (ms : List Named) (stands : IsTreeOf nodes ms) where
-  facts_by_nodes : (at : Address) → node_kind nodes at ≡ fact_at ms at
-  facts_by_nodes at = by (place_of at (addresses nodes)) refl
-    where
-      by : (o : Option ℕ) → place_of at (addresses nodes) ≡ o → node_kind nodes at ≡ fact_at ms at
-      by None is = rw is (sym (stands.no_facts at is))
-      by (Some k) is =
-          let leads = leads_to nodes stands.tree at k is in
-          rw is (sym (ap (fact_at ms) (sym leads.address) ∙ stands.kinds k nowhere leads.within))
 
 -- data have at each address the kind of the first thing named there
 facts_of : (ms : List Named) (kinds : Kinds) → Joined ms → IsDataOf ms kinds → (at : Address) → kinds at ≡ fact_at ms at
@@ -27,16 +17,13 @@ facts_of ms kinds all are at = by (kinds at) (fact_at ms at) refl refl
     by None (Some k) is to = absurd (none-some k (sym is ∙ (are at k).1 ((first_is_data ms all at k).0 to)))
 
 module _ (nodes : List Spot) (lines : List Line) (own : List (Option ℕ)) (at : ℕ) (reads : IsReader nodes lines own at) where
-  below_root : (rest : Address) → node_kind nodes (address_at nodes 0 ++ rest) ≡ fact_at (named lines) (address_at nodes 0 ++ rest)
-  below_root rest = facts_by_nodes nodes (named lines) reads.stands (address_at nodes 0 ++ rest)
-
   held_data : (d : Datum) → Holds nodes 0 d ↔ IsDataOf (named lines) (kind_at d)
   held_data d = (
-    λ holds. root_facts nodes lines own at reads (kind_at d) (λ rest. holds rest ∙ below_root rest),
+    λ holds. root_facts nodes lines own at reads (kind_at d) (λ rest. holds rest ∙ below_root nodes lines own at reads rest),
     λ are rest.
         facts_of (named lines) (kind_at d) (joined nodes lines own at reads) are rest
         ∙ ap (λ (a : Address). fact_at (named lines) (a ++ rest)) (sym (root_address nodes reads.stands.tree))
-        ∙ sym (below_root rest),
+        ∙ sym (below_root nodes lines own at reads rest),
   )
 
   told_data : {E : Type 0} (d : Datum) (r : Result Bool E) → IfOk r (λ b. IsTrue b ↔ Holds nodes 0 d) → IfOk r (λ b. IsTrue b ↔ IsDataOf (named lines) (kind_at d))
