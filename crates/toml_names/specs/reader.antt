@@ -1,4 +1,5 @@
 pub mod Names
+pub mod Parts
 pub mod Reading
 pub mod Texts
 pub mod Values

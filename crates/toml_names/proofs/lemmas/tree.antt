@@ -22,8 +22,10 @@ pub mod NodeData
 pub mod NodePlaces
 pub mod OnWay
 pub mod PairEntered
+pub mod Parts
 pub mod PassedFronts
 pub mod Ranks
+pub mod RootKinds
 pub mod StandsGrown
 pub mod Steps
 pub mod TreeGrown

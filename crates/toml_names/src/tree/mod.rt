@@ -13,5 +13,6 @@ pub mod name_map;
 pub mod name_tree;
 pub mod near;
 pub mod node;
+pub mod parts;
 pub mod places;
 pub mod results;
