@@ -25,7 +25,6 @@ pub mod PairEntered
 pub mod Parts
 pub mod PassedFronts
 pub mod Ranks
-pub mod RootKinds
 pub mod StandsGrown
 pub mod Steps
 pub mod TreeGrown

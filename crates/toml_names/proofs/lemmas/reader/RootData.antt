@@ -34,6 +34,10 @@ module _ (nodes : List Spot) (lines : List Line) (own : List (Option ℕ)) (at :
   below_root : (rest : Address) → below_node nodes 0 rest ≡ fact_at (named lines) (address_at nodes 0 ++ rest)
   below_root rest = facts_by_nodes nodes (named lines) reads.stands (address_at nodes 0 ++ rest)
 
+  -- what the nodes have below the root is the data of the lines
+  pub root_data : IsDataOf (named lines) (below_node nodes 0)
+  root_data = root_facts nodes lines own at reads (below_node nodes 0) below_root
+
   -- data that are what the nodes have are those of the lines, and there are no others
   pub data_by_nodes : (kinds : Kinds) → ((rest : Address) → kinds rest ≡ below_node nodes 0 rest) ↔ IsDataOf (named lines) kinds
   data_by_nodes kinds = (

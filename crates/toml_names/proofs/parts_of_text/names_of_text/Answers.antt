@@ -1,5 +1,5 @@
 use Rattle.toml_names.proofs.lemmas.reader.OneMoreLine.{reader_good}
-use Rattle.toml_names.proofs.lemmas.tree.RootKinds.{root_data}
+use Rattle.toml_names.proofs.lemmas.reader.RootData.{root_data}
 use Rattle.toml_names.proofs.parts_of_text.names_of_text.Goals as goal
 
 pub invariant_of-result : goal.invariant_of-result
