@@ -1,5 +1,6 @@
 pub mod Shapes
 pub mod MadeEdits
 pub mod Judgements
+pub mod NearFaults
 mod Each
 mod Tidy

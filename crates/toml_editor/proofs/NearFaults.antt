@@ -1,15 +1,25 @@
 -- What edits tell of the data that they can touch, they tell of all data.
-use Rattle.std.proofs.Common.{◌≡◌, inl, inr, ℕ, zero, suc, List, [], ◌∷◌, ◌++◌, take, Option, Some, None, Bool, true, false, cond, refl, sym, ap, subst, ◌∙◌}
+use Rattle.std.proofs.Math.Path.{fun_ext}
+use Rattle.std.proofs.Common.{◌≡◌, inl, inr, ℕ, zero, suc, List, [], ◌∷◌, ◌++◌, take, Option, Some, None, Bool, true, false, cond, not, refl, sym, ap, subst, ◌∙◌}
+use Rattle.std.proofs.lemmas.Option.{same_Some}
 use Rattle.std.specs.Prelude.{IsSome, slice_get}
+use Rattle.toml_tree.specs.Spells.{Spells}
+use Rattle.toml_tree.specs.Tree.{Doc}
 use Rattle.toml_tree.specs.declared.profile.Profile.{Profile}
+use Rattle.toml_tree.proofs.Proved.{one_tree}
 use Rattle.toml_names.specs.declared.model.address.Step.{Step}
 use Rattle.toml_names.specs.declared.model.address.Step.TheVariants.{Name, Index}
 use Rattle.toml_names.specs.declared.model.name_set.NameSet.{NameSet}
 use Rattle.toml_names.specs.model.Addresses.{Address, element}
 use Rattle.toml_names.specs.model.Beside.{beside, is_hidden, near}
-use Rattle.toml_names.specs.model.Data.{Kinds}
-use Rattle.toml_names.specs.mentions.Mentions.{a_table, an_array}
-use Rattle.toml_edits.specs.Edits.{Change, set, insert, rename, remove, new_section, new_element}
+use Rattle.toml_names.specs.model.Data.{IsDataOf, Kinds, fact_at}
+use Rattle.toml_names.specs.model.Documents.{IsDocumentIn}
+use Rattle.toml_names.specs.mentions.Mentions.{named}
+use Rattle.toml_names.specs.reader.Names.{AreGood}
+use Rattle.toml_names.proofs.Proved.{first_is_data, lines_join}
+use Rattle.toml_edits.specs.declared.fault.EditFault.{EditFault}
+use Rattle.toml_edits.specs.Edits.{Change}
+use Rattle.toml_edits.specs.Edits as edits
 use Rattle.toml_edits.specs.Faults.{IsFault}
 use Rattle.toml_edits.specs.Lists.{Lead}
 use Rattle.toml_edits.specs.Near.{AreNear, IsNear, StartsIn}
@@ -44,27 +54,59 @@ starts_beside set [] s i in is = refl
 starts_beside set (Name n ∷ q) s i in is = ap not (in n (q ++ s ∷ []) refl)
 starts_beside set (Index k ∷ q) s i in is = refl
 
-module _ (profile : Profile) (places : Places) (set : NameSet) (old : Kinds) where
-  module _ (cs : List Change) (are : AreNear set cs) where
-    so : (i : ℕ) (P : Change → Kinds → Type 0) → ((c : Change) (mid : Kinds) → IsNear set c → P c mid → P c (beside set old mid)) → SoFar profile cs (near set old) i P → SoFar profile cs old i P
-    so i P on (mid, lead, c, is, p) = (beside set old mid, leads_beside profile set (take i cs) old mid (near_front set i cs are) lead, c, is, on c mid (near_one set i cs c is are) p)
+-- ---- what is told
 
-  fault_on : (o : Option EditFault) (c : Change) (mid : Kinds) → IsNear set c → IsFault profile c mid o → IsFault profile c (beside set old mid) o
-  fault_on o c mid is h = fault_beside profile set c old mid is o h
+fault_on : (profile : Profile) (set : NameSet) (old : Kinds) (found : Option EditFault) (c : Change) (mid : Kinds) → IsNear set c → IsFault profile c mid found → IsFault profile c (beside set old mid) found
+fault_on profile set old found c mid is h = fault_beside profile set c old mid is found h
 
-  spread_on : (i : ℕ) (c : Change) (mid : Kinds) → IsNear set c → MayBeSpread places i c mid → MayBeSpread places i c (beside set old mid)
-  spread_on i (set at value) mid is (inl e) = inl (sym (shown set old mid at (starts set at is)) ∙ e)
-  spread_on i (set at value) mid is (inr e) = inr (sym (shown set old mid at (starts set at is)) ∙ e)
-  spread_on i (insert at value) mid is h = h
-  spread_on i (rename at to) mid is h = h
-  spread_on i (remove at) mid is h = h
-  spread_on i (new_section at) mid is h = h
-  spread_on i (new_element at) mid is h = h
+spread_on : (places : Places) (set : NameSet) (old : Kinds) (i : ℕ) (c : Change) (mid : Kinds) → IsNear set c → MayBeSpread places i c mid → MayBeSpread places i c (beside set old mid)
+spread_on places set old i (edits.set at value) mid is (inl e) = inl (sym (shown set old mid at (starts set at is)) ∙ e)
+spread_on places set old i (edits.set at value) mid is (inr e) = inr (sym (shown set old mid at (starts set at is)) ∙ e)
+spread_on places set old i (edits.insert at value) mid is h = h
+spread_on places set old i (edits.rename at to) mid is h = absurd h
+spread_on places set old i (edits.remove at) mid is h = absurd h
+spread_on places set old i (edits.new_section at) mid is h = h
+spread_on places set old i (edits.new_element at) mid is h = h
 
-  last_on : (c : Change) (mid : Kinds) → IsNear set c → TakesLastElement c mid → TakesLastElement c (beside set old mid)
-  last_on (remove at) mid is (q, e, some, none) = (q, e, subst IsSome (shown set old mid at (starts set at is)) some, sym (shown set old mid (element q 1) (starts_beside set q (Index 0) 1 (subst (StartsIn set) e is) refl)) ∙ none)
-  last_on (set at value) mid is h = h
-  last_on (insert at value) mid is h = h
-  last_on (rename at to) mid is h = h
-  last_on (new_section at) mid is h = h
-  last_on (new_element at) mid is h = h
+last_on : (set : NameSet) (old : Kinds) (c : Change) (mid : Kinds) → IsNear set c → TakesLastElement c mid → TakesLastElement c (beside set old mid)
+last_on set old (edits.remove at) mid is (q, e, some, none) =
+    (q, e, subst IsSome (shown set old mid at (starts set at is)) some, sym (shown set old mid (element q 1) (starts_beside set q (Index 0) 1 (subst (StartsIn set) e is) refl)) ∙ none)
+last_on set old (edits.set at value) mid is h = absurd h
+last_on set old (edits.insert at value) mid is h = absurd h
+last_on set old (edits.rename at to) mid is h = absurd h
+last_on set old (edits.new_section at) mid is h = absurd h
+last_on set old (edits.new_element at) mid is h = absurd h
+
+module _ (profile : Profile) (places : Places) (set : NameSet) (old : Kinds) (cs : List Change) (are : AreNear set cs) where
+  so : (i : ℕ) (P : Change → Kinds → Type 0) → ((c : Change) (mid : Kinds) → IsNear set c → P c mid → P c (beside set old mid)) → SoFar profile cs (near set old) i P → SoFar profile cs old i P
+  so i P on (mid, lead, c, is, p) =
+      (beside set old mid, leads_beside profile set (take i cs) old mid (near_front set i cs are) lead, c, is, on c mid (near_one set i cs c is are) p)
+
+  defined_on : (P : Change → Kinds → Type 0) → ((c : Change) (mid : Kinds) → IsNear set c → P c mid → P c (beside set old mid)) → (c : Change) (mid : Kinds) → IsNear set c → OfDefined profile P c mid → OfDefined profile P c (beside set old mid)
+  defined_on P on c mid is (none, p) = (fault_on profile set old None c mid is none, on c mid is p)
+
+  any_near : (fault : EditorFault) → TellsAny profile places cs (near set old) fault → TellsAny profile places cs old fault
+  any_near (faults.Edit i f) h = so i (λ c kinds. IsFault profile c kinds (Some f)) (fault_on profile set old (Some f)) h
+  any_near (faults.Spread i) h = so i (OfDefined profile (MayBeSpread places i)) (defined_on (MayBeSpread places i) (spread_on places set old i)) h
+  any_near (faults.LastElement i) h = so i (OfDefined profile TakesLastElement) (defined_on TakesLastElement (last_on set old)) h
+  any_near faults.NoMemory h = tt
+  any_near (faults.Text f) h = absurd h
+  any_near (faults.Syntax f) h = absurd h
+  any_near (faults.Names f) h = absurd h
+  any_near faults.TooLong h = absurd h
+  any_near (faults.Unverified r) h = absurd h
+
+  module _ (part : Kinds) (of : (a : Address) → part a ≡ near set old a) where
+    -- what is told of the near data is told of all,
+    pub any_of_all : (fault : EditorFault) → TellsAny profile places cs part fault → TellsAny profile places cs old fault
+    any_of_all fault h = any_near fault (subst (λ k. TellsAny profile places cs k fault) (fun_ext of) h)
+
+    -- and what is made of them is made of all.
+    pub led_beside : (new : Kinds) → Lead profile cs part new → Lead profile cs old (beside set old new)
+    led_beside new lead = leads_beside profile set cs old new are (subst (λ k. Lead profile cs k new) (fun_ext of) lead)
+
+-- the lines of a document have data
+pub lines_have_data : (profile : Profile) (text : List ℕ) (d : Doc) → IsDocumentIn profile text → Spells d text → IsDataOf (named d.lines) (fact_at (named d.lines))
+lines_have_data profile text d document spelled =
+    let good = subst (λ (e : Doc). AreGood e.lines) (one_tree document.1 d text document.2 spelled) document.3 in
+    first_is_data (named d.lines) (lines_join d.lines good.0)

@@ -5,12 +5,12 @@ use Rattle.toml_tree.specs.Profiles.{IsOfProfile}
 use Rattle.toml_tree.specs.Spells.{Spells}
 use Rattle.toml_tree.specs.Tree.{Doc, Line}
 use Rattle.toml_tree.specs.declared.profile.Profile.{Profile}
-use Rattle.toml_names.specs.declared.model.datum.Data.{Data}
 use Rattle.toml_names.specs.model.Documents.{IsDocumentIn}
 use Rattle.toml_edits.specs.Edits.{Change}
 use Rattle.toml_units.specs.declared.piece.Piece.{Piece}
 use Rattle.toml_units.specs.Units.{units}
 use Rattle.toml_checker.specs.declared.documents.Document.{Document}
+use Rattle.toml_checker.specs.declared.facts.Made.{Made}
 use Rattle.toml_checker.specs.After.{IsMadeOf}
 use Rattle.toml_checker.specs.Documents.{OfTree}
 use Rattle.toml_checker.specs.Outer.{TellOuter}
@@ -36,8 +36,8 @@ pub record IsKnown (profile : Profile) (d : Document) : Type 0 where
   pub document : IsDocumentIn profile d.text.now
 
 -- the data are what the edits make of those of the first text, and the pieces of that one are the second
-pub record IsMadeText (profile : Profile) (before : List ℕ) (cs : List Change) (new : Data) (after : List ℕ) (list : List Piece) : Type 0 where
-  pub made : IsMadeOf profile before cs new
+pub record IsMadeText (profile : Profile) (before : List ℕ) (cs : List Change) (made_of : Made) (after : List ℕ) (list : List Piece) : Type 0 where
+  pub made : IsMadeOf profile before cs made_of
   pub pieces : ArePieces before after list
 
 -- the text is certified to be what the edits make of the first one, and the pieces of that one are it
