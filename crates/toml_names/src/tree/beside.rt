@@ -1,6 +1,5 @@
 //! Whether a tree of names is another one but for some names of the root, at which data tell what stands.
-ghost use Rattle.std.specs.BTreeMap.{get_by_text};
-ghost use Rattle.std.specs.Prelude.{◌≡◌, ◌↔◌, ◌<◌, ℕ, List, Some, IsSome, IsTrue, IfOk, true, false, vec_len};
+ghost use Rattle.std.specs.Prelude.{◌≡◌, ◌↔◌, ◌<◌, Some, IsSome, IsTrue, IfOk, true, false, vec_len};
 ghost use Rattle.toml_names.specs.mentions.Mentions.{a_table};
 ghost use Rattle.toml_names.specs.model.NameSets.{has_name};
 ghost use Rattle.toml_names.specs.tree.Finished.{IsOfKind};
