@@ -1,6 +1,5 @@
 //! Whether a tree of names is another one but for some names of the root, at which data tell what stands.
-ghost use Rattle.std.specs.BTreeMap.{get_by_text};
-ghost use Rattle.std.specs.Prelude.{◌≡◌, ◌↔◌, ◌<◌, ℕ, List, Some, IsSome, IsTrue, IfOk, true, false, vec_len};
+ghost use Rattle.std.specs.Prelude.{◌≡◌, ◌↔◌, ◌<◌, Some, IsSome, IsTrue, IfOk, true, false, vec_len};
 ghost use Rattle.toml_names.specs.mentions.Mentions.{a_table};
 ghost use Rattle.toml_names.specs.model.NameSets.{has_name};
 ghost use Rattle.toml_names.specs.tree.Finished.{IsOfKind};
@@ -57,9 +56,10 @@ impl<'t> NameTree<'t> {
         let Some(names) = self.nodes[0].names() else {
             return Ok(true);
         };
+        let mut guess = 0;
         for place in 0..names.len() {
             if let Some((name, id)) = names.nth(place) {
-                if !self.holds_name(id, place, name, other, set, members)? {
+                if !self.holds_name(id, name, &mut guess, other, set, members)? {
                     return Ok(false);
                 }
             }
@@ -67,13 +67,13 @@ impl<'t> NameTree<'t> {
         Ok(true)
     }
 
-    /// Whether at the node of a name of the root stands what is wanted there. In the other tree the name is looked for at
-    /// its place here first.
+    /// Whether at the node of a name of the root stands what is wanted there. In the other tree the name is looked for first
+    /// at the guessed place, or the next one there that no name of the set has; the next guess is the place behind it.
     fn holds_name(
         &self,
         id: usize,
-        place: usize,
         name: &str,
+        guess: &mut usize,
         other: &NameTree<'_>,
         set: &NameSet<'_>,
         members: &BTreeMap<String, Datum>,
@@ -84,6 +84,8 @@ impl<'t> NameTree<'t> {
         ensures { IfOk result (λ b. IsTrue b ↔ IsWanted self.now.nodes.items other.now.nodes.items set.now members.now name.now (Some id)) }
     {
         if !set.has(name) {
+            let place = other.place_beside(set, *guess);
+            *guess = place.saturating_add(1);
             return self.same_at(id, other, 0, place, name);
         }
         match members.get(name) {
@@ -125,9 +127,10 @@ impl<'t> NameTree<'t> {
         let Some(names) = other.nodes[0].names() else {
             return true;
         };
+        let mut guess = 0;
         for place in 0..names.len() {
             if let Some((name, _)) = names.nth(place) {
-                if !self.has_or_hides(place, name, set) {
+                if !self.has_or_hides(name, &mut guess, set) {
                     return false;
                 }
             }
@@ -135,14 +138,34 @@ impl<'t> NameTree<'t> {
         true
     }
 
-    /// Whether the root has the name, which is looked for at the place first, unless the set has it.
-    fn has_or_hides(&self, place: usize, name: &str, set: &NameSet<'_>) -> bool
+    /// Whether the root has the name, unless the set has it. It is looked for as in `holds_name`.
+    fn has_or_hides(&self, name: &str, guess: &mut usize, set: &NameSet<'_>) -> bool
         requires tree { IsTree self.now.nodes.items }
         ensures { IsTrue result ↔ (has_name set.now name.now ≡ false → IsSome (child_of self.now.nodes.items 0 name.now)) }
     {
         if set.has(name) {
             return true;
         }
+        let place = self.place_beside(set, *guess);
+        *guess = place.saturating_add(1);
         self.nodes[0].child_from(place, name).is_some()
+    }
+
+    /// The first place from this one on where the root has a name that the set lacks. Names beside the set mostly stand in
+    /// one order in both trees, so a name is guessed to stand there; no answer depends on it.
+    fn place_beside(&self, set: &NameSet<'_>, from: usize) -> usize
+        requires tree { IsTree self.now.nodes.items }
+    {
+        let Some(names) = self.nodes[0].names() else {
+            return from;
+        };
+        for place in from..names.len() {
+            if let Some((name, _)) = names.nth(place) {
+                if !set.has(name) {
+                    return place;
+                }
+            }
+        }
+        from
     }
 }

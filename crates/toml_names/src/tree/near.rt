@@ -1,5 +1,5 @@
 //! The data at the root of the tree and below some of its names.
-ghost use Rattle.std.specs.Prelude.{◌≡◌, ◌<◌, IfOk, OnOk, vec_len};
+ghost use Rattle.std.specs.Prelude.{◌<◌, IfOk, OnOk, vec_len};
 ghost use Rattle.toml_names.specs.mentions.Mentions.{a_table};
 ghost use Rattle.toml_names.specs.tree.Finished.{IsOfKind};
 ghost use Rattle.toml_names.specs.tree.NameTree.{IsTree};

@@ -1,5 +1,5 @@
 -- Whether the same stands in two trees of names, level by level; at names by their counts.
-use Rattle.toml_names.proofs.Common.{◌≡◌, ◌↔◌, ℕ, ◌+◌, ◌<◌, ◌≤◌, Bool, true, false, IsTrue, IfOk, Result, Ok, Err, List, [], ◌∷◌, ◌++◌, length, take, Option, Some, None, IsSome, is_some, refl, sym, ap, subst, ◌∙◌, ⊎_elim, true≢false, arith, rules, cases_lt, none-some, same_Some, slice_get_past, slice_get_within, slice_get-get_or, take_more, take_all, get_or, get_or_from_slice_get, bytes_eq-Decides, lookup, keys_of, list_any, nat_list_eq_equiv, slice_get, slice_index_or, bytes_eq, EachIs, Step, Name, Index, Address, Kinds, below_node, below_in, AreDistinct, IsTree, Spot, address_at, nowhere}
+use Rattle.toml_names.proofs.Common.{◌≡◌, ◌↔◌, ℕ, ◌+◌, ◌<◌, ◌≤◌, Bool, true, false, IsTrue, IfOk, Result, Ok, Err, List, [], ◌∷◌, length, take, Option, Some, None, IsSome, is_some, refl, sym, ap, subst, ◌∙◌, ⊎_elim, true≢false, arith, rules, cases_lt, none-some, same_Some, slice_get_past, slice_get-get_or, take_more, get_or, get_or_from_slice_get, bytes_eq-Decides, lookup, keys_of, list_any, nat_list_eq_equiv, slice_get, slice_index_or, bytes_eq, EachIs, Name, Index, Address, below_node, below_in, AreDistinct, IsTree, Spot, nowhere}
 use Rattle.toml_names.specs.tree.SameBelow.{SameBelow, SameIn, SameNames, SameElements, child_of, element_of}
 use Rattle.toml_names.proofs.Each.{each_append}
 use Rattle.toml_names.proofs.lemmas.tree.Held.{fresh_by, children_distinct, length-keys, no_longer, here, at_name, at_index, there_name, there_index}

@@ -1,5 +1,5 @@
 -- Whether data are what stands in the tree of names, level by level; tables by their names, of which both have as many.
-use Rattle.toml_names.proofs.Common.{common_steps, ◌≡◌, ◌↔◌, ◌==◌, Result, IfOk, ℕ, ◌<◌, ◌≤◌, Bool, true, List, [], ◌∷◌, ◌++◌, length, Option, Some, None, IsSome, IsTrue, is_some, option_map, String, Vec, BTreeMap, Global, string_cmp, slice_index_or, refl, sym, ap, subst, ⊎_elim, ◌∙◌, true≢false, arith, rules, cases_lt, eqb-true, append_assoc, append-nil, none-some, slice_get_past, slice_get_within, slice_get-get_or, bytes_eq-Decides, get_by_text, btree_map_len, IsOrdered, lookup, slice_get, bytes_eq, ScalarValue, scalar_value, Step, Name, Index, Datum, Table, Address, kind_at, kind_in, Kinds, Holds, below_node, below_in, node_kind, Kind, a_table, an_array, a_scalar, AreDistinct, IsTree, Spot, addresses, address_at, nowhere, place_of, false, cond, map, string_bytes, is_eq-slice_cmp, is_at, slice_cmp, nat_list_eq_equiv, AllByRecursion, list_any, keys_of, nat_cmp, eq_by_cmp}
+use Rattle.toml_names.proofs.Common.{common_steps, ◌≡◌, ◌↔◌, ◌==◌, Result, IfOk, ℕ, ◌<◌, ◌≤◌, Bool, true, List, [], ◌∷◌, ◌++◌, length, Option, Some, None, IsSome, IsTrue, is_some, option_map, String, Vec, BTreeMap, Global, string_cmp, slice_index_or, refl, sym, ap, subst, ⊎_elim, ◌∙◌, true≢false, arith, rules, cases_lt, eqb-true, append_assoc, append-nil, none-some, slice_get_past, slice_get_within, slice_get-get_or, bytes_eq-Decides, get_by_text, btree_map_len, IsOrdered, lookup, slice_get, bytes_eq, ScalarValue, scalar_value, Step, Name, Index, Datum, Table, Address, kind_at, kind_in, Holds, below_node, below_in, node_kind, Kind, a_table, an_array, a_scalar, AreDistinct, IsTree, Spot, addresses, address_at, nowhere, place_of, false, cond, map, string_bytes, is_eq-slice_cmp, is_at, slice_cmp, nat_list_eq_equiv, AllByRecursion, list_any, keys_of, nat_cmp, eq_by_cmp}
 use Rattle.toml_scalar.specs.declared.scalar.Scalar.{Scalar as Value}
 use Rattle.toml_names.specs.declared.model.datum.Datum.{Scalar, Array}
 use Rattle.toml_names.proofs.lemmas.model.Alike.{part_there, kind_there, Each, Entry, each_found}

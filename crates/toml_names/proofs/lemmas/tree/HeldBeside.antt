@@ -1,5 +1,5 @@
 -- Whether a tree of names is another one but for some names of the root, at which data tell what stands.
-use Rattle.toml_names.proofs.Common.{◌≡◌, ◌↔◌, ℕ, ◌<◌, Bool, true, false, not, cond, List, [], ◌∷◌, Option, Some, None, IsSome, is_some, String, BTreeMap, Global, refl, sym, ap, subst, ◌∙◌, true≢false, none-some, rules, bytes_eq, get_by_text, lookup, slice_get, slice_index_or, length, EachIs, Name, Index, Datum, Table, Address, Kinds, kind_at, kind_in, below_node, below_in, a_table, IsTree, Spot, nowhere}
+use Rattle.toml_names.proofs.Common.{◌≡◌, ℕ, ◌<◌, Bool, true, false, List, [], ◌∷◌, Option, Some, None, IsSome, is_some, String, BTreeMap, Global, refl, sym, ap, subst, ◌∙◌, true≢false, none-some, bytes_eq, get_by_text, lookup, slice_get, slice_index_or, length, EachIs, Name, Index, Datum, Table, Address, kind_at, kind_in, below_node, below_in, a_table, IsTree, Spot, nowhere}
 use Rattle.toml_names.specs.declared.model.name_set.NameSet.{NameSet}
 use Rattle.toml_names.specs.model.Beside.{beside}
 use Rattle.toml_names.specs.model.NameSets.{has_name}

@@ -1,13 +1,12 @@
 -- The data at the root and below some of its names.
-use Rattle.toml_names.proofs.Common.{◌≡◌, ◌⊎◌, inl, inr, ℕ, ◌<◌, Bool, true, false, not, cond, List, [], ◌∷◌, ◌++◌, Option, Some, None, String, BTreeMap, Global, refl, sym, ap, subst, ◌∙◌, true≢false, false_from_ne_true, bytes_eq-Decides, rules, bytes_eq, get_by_text, lookup, slice_index_or, Name, Index, Datum, Table, Address, kind_at, kind_in, fact_at, same_Some, Joined, Named, a_table, IsTree, IsTreeOf, Spot, address_at, addresses, place_of, nowhere, Line, Kinds, named, root, IsReader}
+use Rattle.toml_names.proofs.Common.{◌≡◌, inl, inr, ℕ, Bool, true, false, cond, List, [], ◌∷◌, ◌++◌, Option, Some, None, String, BTreeMap, Global, refl, sym, ap, subst, ◌∙◌, true≢false, false_from_ne_true, bytes_eq-Decides, rules, bytes_eq, get_by_text, lookup, slice_index_or, Name, Index, Datum, Table, kind_at, kind_in, fact_at, same_Some, a_table, IsTree, Spot, address_at, nowhere, Line, named, root, IsReader}
 use Rattle.toml_names.specs.declared.model.name_set.NameSet.{NameSet}
-use Rattle.toml_names.specs.model.Beside.{near, is_hidden}
+use Rattle.toml_names.specs.model.Beside.{near}
 use Rattle.toml_names.specs.model.NameSets.{has_name}
 use Rattle.toml_names.specs.tree.Finished.{IsDatumAt, IsOfKind}
 use Rattle.toml_names.specs.tree.Near.{AddsNear, IsNearDatum}
 use Rattle.toml_names.proofs.lemmas.model.Levels.{table-here, table-member, table-index}
 use Rattle.toml_names.proofs.lemmas.mentions.AllLines.{named_from-is}
-use Rattle.toml_names.proofs.lemmas.mentions.FactAt.{fact_here}
 use Rattle.toml_names.proofs.lemmas.reader.WholeValue.{root_at}
 use Rattle.toml_names.proofs.lemmas.tree.NodeData.{PartIs, here, no_step, part_is}
 

@@ -1,4 +1,4 @@
-use Rattle.toml_names.proofs.Common.{◌≡◌, ◌<◌, ◌+◌, ℕ, [], List, length, drop, Some, None, slice_index_or, slice_get, sym, ap, subst, ◌∙◌, refl, true≢false, none-some, arith, take_all, slice_get-get_or, lookup, bytes_eq, EachIs, Spot, nowhere, below_in, AreDistinct}
+use Rattle.toml_names.proofs.Common.{◌<◌, ◌+◌, [], length, slice_index_or, slice_get, sym, ap, subst, ◌∙◌, refl, true≢false, none-some, arith, take_all, slice_get-get_or, EachIs, Spot, nowhere, below_in, AreDistinct}
 use Rattle.toml_names.proofs.lemmas.model.Alike.{accepted, refused}
 use Rattle.toml_names.proofs.lemmas.tree.Alike.{IsAlike, same_some, same_kind, same_names, same_elements, same_below, same_count, same_length, names_alike, pairs_more, elements_alike, elements_more, same_nowhere, told_too, child_read, element_read}
 use Rattle.toml_names.proofs.lemmas.tree.NodeData.{low_in, below_name, below_element, node_read}
@@ -52,10 +52,11 @@ same_below-returns t c =
     let other_low = low_in c.args.other.now.nodes c.requires.other_within in
     let node = c.kind-kind.ensures ∙ ap (λ (s : Spot). s.kind) (node_read nodes c.args.id c.index.result.now low c.index.ensures) in
     let other_node = c.kind-other_kind.ensures ∙ ap (λ (s : Spot). s.kind) (node_read others c.args.other_id c.index-2.result.now other_low c.index-2.ensures) in
-    told_too c.same_elements.result c.same_elements.ensures
-    (λ elements. same_below nodes c.requires.tree c.args.id low others c.requires.other_tree c.args.other_id other_low
-    (sym node ∙ c.in_ok-is_same_kind.ensures.0 c.if-not-branch.false ∙ other_node) (c.in_ok-same_names.ensures.0 c.if-not-branch-2.false) elements,
-    λ same. same_elements nodes c.requires.tree c.args.id low others c.requires.other_tree c.args.other_id other_low same)
+    told_too c.same_elements.result c.same_elements.ensures (
+      λ elements. same_below nodes c.requires.tree c.args.id low others c.requires.other_tree c.args.other_id other_low
+          (sym node ∙ c.in_ok-is_same_kind.ensures.0 c.if-not-branch.false ∙ other_node) (c.in_ok-same_names.ensures.0 c.if-not-branch-2.false) elements,
+      λ same. same_elements nodes c.requires.tree c.args.id low others c.requires.other_tree c.args.other_id other_low same,
+    )
 
 pub same_elements-returns-then-elements-others : goal.same_elements-returns-then-elements-others
 same_elements-returns-then-elements-others t c =

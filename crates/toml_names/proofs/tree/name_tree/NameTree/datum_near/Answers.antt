@@ -1,5 +1,5 @@
-use Rattle.toml_names.proofs.Common.{drop_all, refl, none-some, slice_get-get_or, ◌+◌, drop, ◌<◌, [], length, sym, ap, ◌∙◌, subst, arith, Spot, rules}
-use Rattle.toml_names.proofs.lemmas.tree.NodeData.{low_in, pair_next, below_name, node_read}
+use Rattle.toml_names.proofs.Common.{drop_all, refl, none-some, slice_get-get_or, ◌+◌, drop, ◌<◌, [], length, sym, ap, ◌∙◌, subst, arith, Spot}
+use Rattle.toml_names.proofs.lemmas.tree.NodeData.{pair_next, below_name, node_read}
 use Rattle.toml_names.proofs.lemmas.tree.NearData.{FillsNear, near_none, near_more, near_all, near_is_datum}
 use Rattle.toml_names.proofs.tree.name_tree.NameTree.datum_near.Goals as goal
 use Rattle.toml_names.proofs.tree.name_tree.NameTree.datum_near.Goals.{in-Some-nth+in_ok-add_near, in_default-nth}

@@ -1,4 +1,4 @@
-use Rattle.toml_names.proofs.Common.{◌<◌, ◌+◌, [], length, subst, sym, ap, ◌∙◌, none-some, arith, take_all, slice_get-get_or, EachIs, Spot}
+use Rattle.toml_names.proofs.Common.{◌<◌, ◌+◌, [], length, subst, ap, ◌∙◌, none-some, arith, take_all, slice_get-get_or, EachIs, Spot}
 use Rattle.toml_names.proofs.lemmas.model.Alike.{accepted}
 use Rattle.toml_names.proofs.lemmas.tree.Alike.{pairs_more}
 use Rattle.toml_names.proofs.lemmas.tree.HeldBeside.{IsThere, names_there}

@@ -1,4 +1,4 @@
-use Rattle.toml_names.proofs.Common.{◌≡◌, ◌==◌, List, ℕ, length, sym, ap, subst, ◌∙◌, true≢false, Spot}
+use Rattle.toml_names.proofs.Common.{◌==◌, List, ℕ, length, sym, ap, subst, ◌∙◌, true≢false, Spot}
 use Rattle.toml_names.specs.tree.HeldBeside.{HoldsBeside}
 use Rattle.toml_names.proofs.lemmas.model.Alike.{refused}
 use Rattle.toml_names.proofs.lemmas.tree.Alike.{told_too}
@@ -40,7 +40,8 @@ returns c =
     let others = c.args.other.now.nodes.items in
     let elements = c.elements.ensures ∙ ap (λ (s : Spot). s.elements) (node_read nodes 0 c.index.result.now c.requires.tree.root c.index.ensures) in
     let bare = sym elements ∙ no_length c.elements.result.now (none_counted c.elements.result.now (sym c.is_empty.ensures ∙ c.if-not-is_empty.false)) in
-    told_too c.hold_names.result c.hold_names.ensures
-    (λ right. subst (HoldsBeside nodes others c.args.set.now) (sym c.in-Table.is)
-    (held_beside nodes c.requires.tree c.requires.table others c.requires.other_tree c.args.set.now c.in-Table.members bare (c.has_members.ensures.0 c.if-not-has_members.false) (c.has_names_of.ensures.0 c.if-not-has_names_of.false) right),
-    λ holds. beside_names nodes c.requires.tree c.requires.table others c.requires.other_tree c.args.set.now c.in-Table.members (subst (HoldsBeside nodes others c.args.set.now) c.in-Table.is holds))
+    told_too c.hold_names.result c.hold_names.ensures (
+      λ right. subst (HoldsBeside nodes others c.args.set.now) (sym c.in-Table.is)
+          (held_beside nodes c.requires.tree c.requires.table others c.requires.other_tree c.args.set.now c.in-Table.members bare (c.has_members.ensures.0 c.if-not-has_members.false) (c.has_names_of.ensures.0 c.if-not-has_names_of.false) right),
+      λ holds. beside_names nodes c.requires.tree c.requires.table others c.requires.other_tree c.args.set.now c.in-Table.members (subst (HoldsBeside nodes others c.args.set.now) c.in-Table.is holds),
+    )
