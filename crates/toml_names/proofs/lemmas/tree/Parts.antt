@@ -10,7 +10,8 @@ use Rattle.std.proofs.Common.{Ordering, Less, Equal, Greater}
 use Rattle.std.specs.Ordering.{ordering_reverse, ordering_then, is_lt}
 use Rattle.toml_names.specs.reader.Parts.{AreItems, AreMembers, kinds_in, plain_members}
 use Rattle.toml_names.proofs.lemmas.tree.Distinct.{found_at}
-use Rattle.toml_names.proofs.lemmas.tree.Held.{below_in, at_name, at_index, children_distinct}
+use Rattle.toml_names.specs.tree.Held.{below_in}
+use Rattle.toml_names.proofs.lemmas.tree.Held.{at_name, at_index, children_distinct}
 use Rattle.toml_names.proofs.lemmas.tree.NodeData.{below_name, below_element}
 
 abbrev Pairs : Type 0
