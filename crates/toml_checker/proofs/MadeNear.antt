@@ -1,6 +1,6 @@
 -- What edits make of the data that they can touch, they make of all data.
 use Rattle.std.proofs.Math.Path.{fun_ext}
-use Rattle.std.proofs.Common.{◌≡◌, List, subst}
+use Rattle.std.proofs.Common.{◌≡◌, List, subst, sym}
 use Rattle.toml_tree.specs.declared.profile.Profile.{Profile}
 use Rattle.toml_names.specs.declared.model.datum.Data.{Data}
 use Rattle.toml_names.specs.declared.model.name_set.NameSet.{NameSet}
