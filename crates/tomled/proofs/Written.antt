@@ -1,22 +1,31 @@
 -- The turns of the loops that write tagged JSON.
-use Rattle.std.proofs.Common.{◌≡◌, ◌<◌, ◌≤◌, ◌+◌, ℕ, Bool, true, false, List, [], ◌∷◌, ◌++◌, length, get_or, take, map, String, Global, inr, refl, sym, ap, ◌∙◌, subst, append_assoc, string_bytes}
-use Rattle.std.proofs.lemmas.List.{append-nil, map-append, take_all, take_more}
+use Rattle.std.proofs.Common.{◌≡◌, ◌<◌, ◌≤◌, ◌+◌, ◌-◌, ◌*◌, ℕ, suc, Bool, true, false, List, [], ◌∷◌, ◌++◌, length, get_or, take, map, Option, Some, None, IsSome, Contains, option_map, slice_get, Bor, inl, inr, refl, sym, ap, ◌∙◌, subst, arith, append_assoc, nat_cmp}
+use Rattle.std.proofs.Math.Path.{fun_ext}
+use Rattle.std.proofs.lemmas.List.{append-nil, map-append, take_all, take_more, length-map, get_or-map}
+use Rattle.std.proofs.lemmas.Map.Made.{keys_of-map_values}
+use Rattle.std.proofs.lemmas.Option.{slice_get-map, slice_get-get_or}
+use Rattle.std.specs.Cmp.Lexicographic.{slice_cmp}
+use Rattle.std.specs.List.Sorted.{IsStrictlySortedBy}
 use Rattle.std.specs.Map.{keys_of}
 use Rattle.json.specs.Print.{quoted}
-use Rattle.serde_json.specs.Data.{Data, array, object}
-use Rattle.serde_json.specs.View.{items_of, members_of}
+use Rattle.serde_json.specs.Data.{Data, array, object, Items, no_items, item, Members, no_members, member}
+use Rattle.serde_json.specs.View.{items_of}
 use Rattle.serde_json.specs.Written.{comma_if, compact_text, items_text, members_text}
 use Rattle.toml_scalar.specs.Values.{ScalarValue}
-use Rattle.toml_names.specs.declared.model.datum.Datum.{Datum}
-use Rattle.toml_names.specs.model.Data.{Kinds, in_scalar, in_array, in_table, kind_at}
-use Rattle.tomled.specs.Tagged.{IsTagged, kinds_of, tag_of, text_of, told}
+use Rattle.toml_names.specs.declared.model.address.Step.TheVariants.{Name, Index}
+use Rattle.toml_names.specs.mentions.Mentions.{a_scalar, an_array, a_table}
+use Rattle.toml_names.specs.model.Addresses.{Address}
+use Rattle.toml_names.specs.model.Data.{Kinds, within}
+use Rattle.toml_names.specs.reader.Parts as parts
+use Rattle.toml_names.specs.reader.Parts.{IsPart, part_kinds, plain_members}
+use Rattle.toml_names.specs.tree.Nodes.{Spot}
+use Rattle.tomled.specs.Tagged.{IsTagged, AreItems, AreMembers, HasKeys, keys, part, tag_of, text_of, told}
 use Rattle.tomled.specs.TaggedText.{WritesTagged}
-use Rattle.tomled.proofs.Built.{Member}
-use Rattle.tomled.proofs.Tagging.{AreSorted, Entry, TagItems, TagItems-push, TagMembers, array_tagged, keys_of-kinds, table_tagged}
+use Rattle.tomled.proofs.Tagging.{TagItems, TagItems-push}
 
 -- a scalar's type and text
-pub scalar_done : (v : ScalarValue) (old new : List ℕ) → new ≡ old ++ compact_text (object (told (tag_of v) (text_of v))) → WritesTagged (in_scalar v) old new
-scalar_done v old new written = record { json = object (told (tag_of v) (text_of v)); tagged = inr (v, refl, refl); is = written }
+pub scalar_done : (f : Kinds) (v : ScalarValue) (old new : List ℕ) → f [] ≡ Some (a_scalar v) → new ≡ old ++ compact_text (object (told (tag_of v) (text_of v))) → WritesTagged f old new
+scalar_done f v old new here written = record { json = object (told (tag_of v) (text_of v)); tagged = inr (v, here, refl); is = written }
 
 -- a part behind a comma, and then the rest
 item_parts : (old mid new comma part rest : List ℕ) → mid ≡ old ++ comma → new ≡ mid ++ part → old ++ (comma ++ (part ++ rest)) ≡ new ++ rest
@@ -45,77 +54,169 @@ item_more fs f old now mid new later t comma w =
           ∙ item_parts now mid new (comma_if later) (compact_text j) (items_text true (items_of rest)) comma w.is;
     }
 
-pub items_more : (ds : List Datum) (i : ℕ) (d : Datum) (old now mid new : List ℕ) (later : Bool) → i < length ds → d ≡ get_or ds i d → AreWritten (map kind_at (take i ds)) old now later → mid ≡ now ++ comma_if later
-    → WritesTagged (kind_at d) mid new → AreWritten (map kind_at (take (i + 1) ds)) old new true
-items_more ds i d old now mid new later at is t comma w =
-    let front : take (i + 1) ds ≡ take i ds ++ d ∷ [] = take_more ds i d at ∙ ap (λ x. take i ds ++ x ∷ []) (sym is) in
-    let kinds : map kind_at (take (i + 1) ds) ≡ map kind_at (take i ds) ++ kind_at d ∷ [] = ap (map kind_at) front ∙ map-append kind_at (take i ds) (d ∷ []) in
-    subst (λ fs. AreWritten fs old new true) (sym kinds) (item_more (map kind_at (take i ds)) (kind_at d) old now mid new later t comma w)
+-- from an index on, the items of a list, and nothing behind them
+items_tagged : (f : Kinds) (fs : List Kinds) (i : ℕ) (js : Items) → ((j : ℕ) (at : Address) → f (Index (i + j) ∷ at) ≡ within (slice_get fs j) at) → TagItems fs js → AreItems f i js
+items_tagged f [] i no_items each t = let same : i ≡ i + 0 = omega arith in ap (λ k. f (Index k ∷ [])) same ∙ each 0 []
+items_tagged f [] i (item j js) each t = absurd t
+items_tagged f (g ∷ gs) i no_items each t = absurd t
+items_tagged f (g ∷ gs) i (item j js) each t =
+    let same : i ≡ i + 0 = omega arith in
+    let here : part f (Index i) ≡ g = fun_ext (λ at. ap (λ k. f (Index k ∷ at)) same ∙ each 0 at) in (
+      subst (λ (k : Kinds). IsTagged k j) (sym here) t.0,
+      items_tagged f gs (i + 1) js (λ k at. let next : (i + 1) + k ≡ i + suc k = omega arith in ap (λ m. f (Index m ∷ at)) next ∙ each (suc k) at) t.1,
+    )
 
-pub items_done : (ds : List Datum) (i : ℕ) (old now new : List ℕ) (later : Bool) → length ds ≤ i → AreWritten (map kind_at (take i ds)) old now later → new ≡ now ++ 93 ∷ [] → WritesTagged (in_array (map kind_at ds)) old new
-items_done ds i old now new later end t closed = record {
-  json = array (items_of t.items);
-  tagged = array_tagged (map kind_at ds) (items_of t.items) (subst (λ front. TagItems (map kind_at front) (items_of t.items)) (take_all i ds end) t.tagged);
-  is = closed ∙ (sym (t.text []) ∙ ap (λ js. old ++ compact_text (array (items_of js))) (append-nil t.items));
-}
+module _ (nodes : List Spot) (id : ℕ) where
+  pub items_more : (items : List ℕ) (i d : ℕ) (old now mid new : List ℕ) (later : Bool) → i < length items → AreWritten (map (part_kinds nodes) (take i items)) old now later → mid ≡ now ++ comma_if later
+      → WritesTagged (part_kinds nodes (get_or items i d)) mid new → AreWritten (map (part_kinds nodes) (take (i + 1) items)) old new true
+  items_more items i d old now mid new later at t comma w =
+      let e = get_or items i d in
+      let kinds : map (part_kinds nodes) (take (i + 1) items) ≡ map (part_kinds nodes) (take i items) ++ part_kinds nodes e ∷ [] =
+      ap (map (part_kinds nodes)) (take_more items i d at) ∙ map-append (part_kinds nodes) (take i items) (e ∷ []) in
+      subst (λ fs. AreWritten fs old new true) (sym kinds) (item_more (map (part_kinds nodes) (take i items)) (part_kinds nodes e) old now mid new later t comma w)
+
+  pub items_done : (items : List ℕ) (i : ℕ) (old now new : List ℕ) (later : Bool) → part_kinds nodes id [] ≡ Some an_array → parts.AreItems nodes id items → length items ≤ i
+      → AreWritten (map (part_kinds nodes) (take i items)) old now later → new ≡ now ++ 93 ∷ [] → WritesTagged (part_kinds nodes id) old new
+  items_done items i old now new later here are end t closed =
+      let all : TagItems (map (part_kinds nodes) items) (items_of t.items) = subst (λ front. TagItems (map (part_kinds nodes) front) (items_of t.items)) (take_all i items end) t.tagged in
+      record {
+        json = array (items_of t.items);
+        tagged = (
+          here,
+          items_tagged (part_kinds nodes id) (map (part_kinds nodes) items) 0 (items_of t.items)
+              (λ j at. let same : 0 + j ≡ j = omega arith in
+              ap (λ k. part_kinds nodes id (Index k ∷ at)) same ∙ are.each j at ∙ ap (λ (o : Option Kinds). within o at) (sym (slice_get-map (part_kinds nodes) items j))) all,
+        );
+        is = closed ∙ (sym (t.text []) ∙ ap (λ js. old ++ compact_text (array (items_of js))) (append-nil t.items));
+      }
+
+-- names and what stands at them
+abbrev pub Named : Type 0
+Named = List ℕ × Kinds
+
+-- names and their JSON
+abbrev Told : Type 0
+Told = List ℕ × Data
+
+abbrev made : List Told → Members
+made [] = no_members
+made (m ∷ ms) = member m.0 m.1 (made ms)
+
+-- name for name, the JSON stands for what is there
+abbrev TagNamed : List Named → List Told → Type 0
+TagNamed [] [] = Unit {0}
+TagNamed [] (m ∷ ms) = ⊥
+TagNamed (e ∷ es) [] = ⊥
+TagNamed (e ∷ es) (m ∷ ms) = (m.0 ≡ e.0) × IsTagged e.1 m.1 × TagNamed es ms
 
 -- one more member
-TagMembers-push : (es : List Entry) (ms : List (String Global × Data)) (e : Entry) (j : Data) → TagMembers es (members_of ms) → IsTagged e.1 j → TagMembers (es ++ e ∷ []) (members_of (ms ++ (e.0, j) ∷ []))
-TagMembers-push [] [] e j h t = (refl, t, tt)
-TagMembers-push [] (m ∷ ms) e j h t = absurd h
-TagMembers-push (f ∷ es) [] e j h t = absurd h
-TagMembers-push (f ∷ es) (m ∷ ms) e j h t = (h.0, h.1, TagMembers-push es ms e j h.2 t)
+TagNamed-push : (es : List Named) (ms : List Told) (e : Named) (j : Data) → TagNamed es ms → IsTagged e.1 j → TagNamed (es ++ e ∷ []) (ms ++ (e.0, j) ∷ [])
+TagNamed-push [] [] e j h t = (refl, t, tt)
+TagNamed-push [] (m ∷ ms) e j h t = absurd h
+TagNamed-push (f ∷ es) [] e j h t = absurd h
+TagNamed-push (f ∷ es) (m ∷ ms) e j h t = (h.0, h.1, TagNamed-push es ms e j h.2 t)
 
 -- The same of members.
-pub record EntriesWritten (es : List Entry) (old new : List ℕ) (later : Bool) : Type 0 where
-  pub members : List (String Global × Data)
-  pub tagged : TagMembers es (members_of members)
-  pub text : (rest : List (String Global × Data)) → old ++ compact_text (object (members_of (members ++ rest))) ≡ new ++ members_text later (members_of rest)
+pub record MembersWritten (es : List Named) (old new : List ℕ) (later : Bool) : Type 0 where
+  pub members : List Told
+  pub tagged : TagNamed es members
+  pub text : (rest : List Told) → old ++ compact_text (object (made (members ++ rest))) ≡ new ++ members_text later (made rest)
+
+pub members_start : (old new : List ℕ) → new ≡ old ++ 123 ∷ [] → MembersWritten [] old new false
+members_start old new opened = record {
+  members = [];
+  tagged = tt;
+  text = λ rest. sym (append_assoc old (123 ∷ []) (members_text false (made rest))) ∙ ap (λ s. s ++ members_text false (made rest)) (sym opened);
+}
 
 -- a name, its colon and a part behind a comma, and then the rest
 member_parts : (old mid named new comma name part rest : List ℕ) → mid ≡ old ++ comma → named ≡ mid ++ (name ++ 58 ∷ []) → new ≡ named ++ part → old ++ (comma ++ (name ++ 58 ∷ (part ++ rest))) ≡ new ++ rest
 member_parts old mid named new comma name part rest first second third = rw (third, second, first) (simp append_assoc)
 
-entry_more : (es : List Entry) (e : Entry) (old now mid named new : List ℕ) (later : Bool) → EntriesWritten es old now later → mid ≡ now ++ comma_if later → named ≡ mid ++ (quoted (string_bytes e.0) ++ 58 ∷ [])
-    → WritesTagged e.1 named new → EntriesWritten (es ++ e ∷ []) old new true
-entry_more es e old now mid named new later t comma name w =
+member_more : (es : List Named) (e : Named) (old now mid named new : List ℕ) (later : Bool) → MembersWritten es old now later → mid ≡ now ++ comma_if later → named ≡ mid ++ (quoted e.0 ++ 58 ∷ [])
+    → WritesTagged e.1 named new → MembersWritten (es ++ e ∷ []) old new true
+member_more es e old now mid named new later t comma name w =
     let j = w.json in record {
       members = t.members ++ (e.0, j) ∷ [];
-      tagged = TagMembers-push es t.members e j t.tagged w.tagged;
+      tagged = TagNamed-push es t.members e j t.tagged w.tagged;
       text = λ rest.
-          ap (λ ms. old ++ compact_text (object (members_of ms))) (append_assoc t.members ((e.0, j) ∷ []) rest) ∙ t.text ((e.0, j) ∷ rest)
-          ∙ member_parts now mid named new (comma_if later) (quoted (string_bytes e.0)) (compact_text j) (members_text true (members_of rest)) comma name w.is;
+          ap (λ ms. old ++ compact_text (object (made ms))) (append_assoc t.members ((e.0, j) ∷ []) rest) ∙ t.text ((e.0, j) ∷ rest)
+          ∙ member_parts now mid named new (comma_if later) (quoted e.0) (compact_text j) (members_text true (made rest)) comma name w.is;
     }
 
--- what the loop has written: the members so far, and what is left
-abbrev pub MembersWritten : List Member → List Member → List ℕ → List ℕ → Bool → Type 0
-MembersWritten all left old new later = (done : List Member) × (all ≡ done ++ left) × EntriesWritten (map kinds_of done) old new later
+members_tagged : (f : Kinds) (es : List Named) (ms : List Told) → ((i : ℕ) (e : Named) → slice_get es i ≡ Some e → (at : Address) → f (Name e.0 ∷ at) ≡ e.1 at) → TagNamed es ms → AreMembers f (made ms)
+members_tagged f [] [] each t = tt
+members_tagged f [] (m ∷ ms) each t = absurd t
+members_tagged f (e ∷ es) [] each t = absurd t
+members_tagged f (e ∷ es) (m ∷ ms) each t =
+    let here : part f (Name m.0) ≡ e.1 = fun_ext (λ at. ap (λ n. f (Name n ∷ at)) t.0 ∙ each 0 e refl at) in
+    (subst (λ (k : Kinds). IsTagged k m.1) (sym here) t.1, members_tagged f es ms (λ i d is. each (suc i) d is) t.2)
 
-pub members_start : (all : List Member) (old new : List ℕ) → new ≡ old ++ 123 ∷ [] → MembersWritten all all old new false
-members_start all old new opened = (
-  [],
-  refl,
-  record {
-    members = [];
-    tagged = tt;
-    text = λ rest. sym (append_assoc old (123 ∷ []) (members_text false (members_of rest))) ∙ ap (λ s. s ++ members_text false (members_of rest)) (sym opened);
-  },
-)
+keys_made : (es : List Named) (ms : List Told) → TagNamed es ms → keys (made ms) ≡ keys_of es
+keys_made [] [] t = refl
+keys_made [] (m ∷ ms) t = absurd t
+keys_made (e ∷ es) [] t = absurd t
+keys_made (e ∷ es) (m ∷ ms) t = ap (λ k. k ∷ keys (made ms)) t.0 ∙ ap (λ ks. e.0 ∷ ks) (keys_made es ms t.2)
 
-pub members_more : (all rest left : List Member) (e : Member) (old now mid named new : List ℕ) (later : Bool) → rest ≡ e ∷ left → MembersWritten all rest old now later → mid ≡ now ++ comma_if later
-    → named ≡ mid ++ (quoted (string_bytes e.0) ++ 58 ∷ []) → WritesTagged (kind_at e.1) named new → MembersWritten all left old new true
-members_more all rest left e old now mid named new later next t comma name w =
-    let done = t.0 in (
-      done ++ e ∷ [],
-      t.1 ∙ ap (λ es. done ++ es) next ∙ sym (append_assoc done (e ∷ []) left),
-      subst (λ (es : List Entry). EntriesWritten es old new true) (sym (map-append kinds_of done (e ∷ []))) (entry_more (map kinds_of done) (kinds_of e) old now mid named new later t.2 comma name w),
-    )
+-- a name's bytes, and the part
+abbrev plain : Bor (List ℕ) × ℕ → List ℕ × ℕ
+plain e = (e.0.now, e.1)
 
-pub members_done : (all left : List Member) (old now new : List ℕ) (later : Bool) → AreSorted (keys_of all) → left ≡ [] → MembersWritten all left old now later → new ≡ now ++ 125 ∷ [] → WritesTagged (in_table (map kinds_of all)) old new
-members_done all left old now new later sorted end t closed =
-    let whole : t.0 ≡ all = sym (t.1 ∙ (ap (λ es. t.0 ++ es) end ∙ append-nil t.0)) in
-    let ms = t.2.members in record {
-      json = object (members_of ms);
-      tagged = table_tagged (map kinds_of all) (members_of ms) (subst AreSorted (sym (keys_of-kinds all)) sorted) (subst (λ es. TagMembers (map kinds_of es) (members_of ms)) whole t.2.tagged);
-      is = closed ∙ (sym (t.2.text []) ∙ ap (λ ms. old ++ compact_text (object (members_of ms))) (append-nil ms));
-    }
+-- what stands at the names of members
+abbrev pub named_kinds : List Spot → List (List ℕ × ℕ) → List Named
+named_kinds nodes = map (λ e. (e.0, part_kinds nodes e.1))
+
+module _ (nodes : List Spot) (id : ℕ) where
+  pub members_more : (members : List (Bor (List ℕ) × ℕ)) (i : ℕ) (d : Bor (List ℕ) × ℕ) (old now mid named new : List ℕ) (later : Bool) → i < length members
+      → MembersWritten (named_kinds nodes (take i (plain_members members))) old now later → mid ≡ now ++ comma_if later → named ≡ mid ++ (quoted (get_or members i d).0.now ++ 58 ∷ [])
+      → WritesTagged (part_kinds nodes (get_or members i d).1) named new → MembersWritten (named_kinds nodes (take (i + 1) (plain_members members))) old new true
+  members_more members i d old now mid named new later at t comma name w =
+      let e = get_or members i d in
+      let all : List (List ℕ × ℕ) = plain_members members in
+      let p : List ℕ × ℕ = (e.0.now, e.1) in
+      let low : i < length all = omega (arith, at, length-map members plain) in
+      let one : get_or all i p ≡ p = get_or-map plain members i d p at in
+      let front : take (i + 1) all ≡ take i all ++ p ∷ [] = take_more all i p low ∙ ap (λ x. take i all ++ x ∷ []) one in
+      let kinds : named_kinds nodes (take (i + 1) all) ≡ named_kinds nodes (take i all) ++ (e.0.now, part_kinds nodes e.1) ∷ [] =
+      ap (named_kinds nodes) front ∙ map-append (λ (x : List ℕ × ℕ). (x.0, part_kinds nodes x.1)) (take i all) (p ∷ []) in
+      subst (λ (es : List Named). MembersWritten es old new true) (sym kinds) (member_more (named_kinds nodes (take i all)) (e.0.now, part_kinds nodes e.1) old now mid named new later t comma name w)
+
+  -- the part at a member may be written next
+  pub member_may : (members : List (Bor (List ℕ) × ℕ)) (i : ℕ) (d : Bor (List ℕ) × ℕ) → parts.AreMembers nodes id (plain_members members) → i < length members
+      → (2 * (length nodes - (get_or members i d).1) + 1 < 2 * (length nodes - id)) × IsPart nodes (get_or members i d).1
+  member_may members i d are at =
+      let e = get_or members i d in
+      let there : slice_get (plain_members members) i ≡ Some (e.0.now, e.1) =
+      slice_get-map plain members i ∙ ap (option_map plain) (slice_get-get_or members i d at) in
+      let b = are.below i (e.0.now, e.1) there in
+      (omega (arith, b.later, b.part), b.part)
+
+  named_each : (all : List (List ℕ × ℕ)) → parts.AreMembers nodes id all → (i : ℕ) (e : Named) → slice_get (named_kinds nodes all) i ≡ Some e → (at : Address) → part_kinds nodes id (Name e.0 ∷ at) ≡ e.1 at
+  named_each all are i e is = by (slice_get all i) refl (sym (slice_get-map (λ (x : List ℕ × ℕ). (x.0, part_kinds nodes x.1)) all i) ∙ is)
+    where
+      by : (o : Option (List ℕ × ℕ)) → slice_get all i ≡ o → option_map (λ (x : List ℕ × ℕ). (x.0, part_kinds nodes x.1)) o ≡ Some e → (at : Address) → part_kinds nodes id (Name e.0 ∷ at) ≡ e.1 at
+      by None there h = let no : ◌≡◌ {A = Option Named} None (Some e) = h in cc
+      by (Some x) there h =
+          let same : ◌≡◌ {A = Named} (x.0, part_kinds nodes x.1) e = cc in
+          λ at. subst (λ (y : Named). part_kinds nodes id (Name y.0 ∷ at) ≡ y.1 at) same (are.each i x there at)
+
+  pub members_done : (members : List (Bor (List ℕ) × ℕ)) (i : ℕ) (old now new : List ℕ) (later : Bool) → part_kinds nodes id [] ≡ Some a_table → parts.AreMembers nodes id (plain_members members)
+      → length members ≤ i → MembersWritten (named_kinds nodes (take i (plain_members members))) old now later → new ≡ now ++ 125 ∷ [] → WritesTagged (part_kinds nodes id) old new
+  members_done members i old now new later here are end t closed =
+      let all : List (List ℕ × ℕ) = plain_members members in
+      let ms = t.members in
+      let past : length all ≤ i = omega (arith, end, length-map members plain) in
+      let tagged : TagNamed (named_kinds nodes all) ms = subst (λ front. TagNamed (named_kinds nodes front) ms) (take_all i all past) t.tagged in
+      let same : keys (made ms) ≡ keys_of all = keys_made (named_kinds nodes all) ms tagged ∙ keys_of-map_values (part_kinds nodes) all in
+      record {
+        json = object (made ms);
+        tagged = inl (
+          here,
+          members_tagged (part_kinds nodes id) (named_kinds nodes all) ms (named_each all are) tagged,
+          record {
+            each = λ n some. subst (λ (ks : List (List ℕ)). Contains ks n) (sym same) (are.all n some);
+            ascending = subst (IsStrictlySortedBy (slice_cmp nat_cmp)) (sym same) are.ascending;
+          },
+        );
+        is = closed ∙ (sym (t.text []) ∙ ap (λ ms. old ++ compact_text (object (made ms))) (append-nil ms));
+      }

@@ -3,10 +3,11 @@ ghost use Rattle.std.specs.Prelude.{◌≡◌, ◌+◌, ◌<◌, IfErr, IfOk, On
 ghost use Rattle.toml_text.specs.Limit.{IsText};
 ghost use Rattle.toml_text.specs.Source.{text_of};
 ghost use Rattle.toml_tree.specs.declared.profile.Profile.{Profile};
-ghost use Rattle.toml_names.specs.model.Data.{IsDataOf, kind_at};
+ghost use Rattle.toml_names.specs.model.Data.{IsDataOf};
 ghost use Rattle.toml_names.specs.model.Documents.{IsDocumentIn};
 ghost use Rattle.toml_names.specs.mentions.FirstMentions.{first_mentions};
 ghost use Rattle.toml_names.specs.mentions.Mentions.{named};
+ghost use Rattle.toml_names.specs.reader.Parts.{part_kinds};
 ghost use Rattle.toml_names.specs.reader.Texts.{GoodText};
 ghost use Rattle.tomled.specs.Outcomes.{Ends, IsRefused};
 ghost use Rattle.tomled.specs.Reading.{HasNumber, IsNameEnding, IsReadEnding, IsSyntaxEnding, IsTextRefusal, IsNumbered};
@@ -14,7 +15,9 @@ ghost use Rattle.tomled.specs.Reading.{HasNumber, IsNameEnding, IsReadEnding, Is
 use crate::ending::Ending;
 use crate::refusal::Refusal;
 use std::alloc::Global;
-use toml_names::{Address, Data, NameFault, ReadFault, data_of_text, judge_text, mentions_of_text};
+use toml_names::{
+    Address, NameFault, NamedText, ReadFault, judge_text, mentions_of_text, names_of_text,
+};
 use toml_text::{MAX_LEN, Source, TextFault};
 use toml_tree::{Profile, SyntaxFault};
 
@@ -42,15 +45,15 @@ pub fn judge(alloc: Global, file: &[u8], profile: Profile) -> Result<(), Ending>
     }
 }
 
-/// The data of a document of the profile, or why the bytes are none.
+/// The data of a document of the profile, which are lent part by part, or why the bytes are none.
 #[tactic(auto, using(crate::proofs::Judged::no_reading, crate::proofs::Judged::numbered))]
-pub fn read_data(alloc: Global, file: &[u8], profile: Profile) -> Result<Data, Ending>
-    ensures facts { IfOk result (λ whole. IsText file.now × (it : GoodText profile file.now) × IsDataOf (named it.lines) (kind_at whole.root)) }
+pub fn read_data(alloc: Global, file: &[u8], profile: Profile) -> Result<NamedText<'_>, Ending>
+    ensures facts { IfOk result (λ whole. IsText file.now × (it : GoodText profile file.now) × IsDataOf (named it.lines) (part_kinds whole 0)) }
     ensures refused { IfErr result (Ends (IsRefused profile file.now)) }
 {
     let source = read_source(file)?;
-    match data_of_text(alloc, source, profile) {
-        Ok(data) => Ok(data),
+    match names_of_text(alloc, source, profile) {
+        Ok(whole) => Ok(whole),
         Err(fault) => Err(read_ending(fault)),
     }
 }

@@ -1,7 +1,7 @@
 //! `show`: the data of a document as tagged JSON.
 ghost use Rattle.std.specs.Prelude.{IfErr, IfOk};
 ghost use Rattle.toml_tree.specs.declared.profile.Profile.TheVariants.{One};
-ghost use Rattle.toml_names.specs.model.Data.{kind_at};
+ghost use Rattle.toml_names.specs.reader.Parts.{part_kinds};
 ghost use Rattle.tomled.specs.Outcomes.{Ends, IsRefused};
 ghost use Rattle.tomled.specs.Show.{IsLineOf, Shows, ShowsData};
 
@@ -10,7 +10,7 @@ use crate::ending::Ending;
 use crate::outcome::Outcome;
 use crate::tagged_text::write_tagged;
 use std::alloc::{AllocError, Global};
-use toml_names::Data;
+use toml_names::NamedText;
 use toml_tree::Profile;
 
 /// What `show` prints for a document of profile 1, and for other bytes: `run_show_in` with `Profile::One`.
@@ -37,11 +37,11 @@ fn shown(alloc: Global, file: &[u8], profile: Profile) -> Result<Vec<u8>, Ending
 }
 
 /// The tagged JSON of the data in compact text, and LF.
-fn data_line(alloc: Global, data: &Data) -> Result<Vec<u8>, AllocError>
-    ensures { IfOk result (λ line. IsLineOf (kind_at «data».now.root) line.items) }
+fn data_line(alloc: Global, whole: &NamedText<'_>) -> Result<Vec<u8>, AllocError>
+    ensures { IfOk result (λ line. IsLineOf (part_kinds whole.now 0) line.items) }
 {
     let mut line = Vec::new(alloc);
-    write_tagged(alloc, &mut line, data)?;
+    write_tagged(alloc, &mut line, whole)?;
     line.push(b'\n')?;
     Ok(line)
 }

@@ -1,69 +1,90 @@
-//! Tagged JSON as compact text, written straight from the data: no JSON stands in memory.
-ghost use Rattle.std.specs.Prelude.{◌≡◌, ◌<◌, ◌++◌, [], ◌∷◌, if◌then◌else◌, map, nat_lt, Some, None, OnOk};
-ghost use Rattle.std.specs.Bool.{OnTrue};
+//! Tagged JSON as compact text, written straight from the names of a text: no data and no JSON stand in memory.
+ghost use Rattle.std.specs.Prelude.{◌≡◌, ◌↔◌, ◌<◌, ◌++◌, [], ◌∷◌, if◌then◌else◌, nat_lt, Some, None, IsTrue, OnOk};
 ghost use Rattle.std.specs.Char.{digit_char};
 ghost use Rattle.json.specs.Print.{escape, escape_byte, escape_letter, quoted};
 ghost use Rattle.serde_json.specs.Data.{object};
 ghost use Rattle.serde_json.specs.Written.{comma_if, compact_text};
 ghost use Rattle.toml_scalar.specs.Values.{scalar_value};
-ghost use Rattle.toml_names.specs.model.Data.{in_array, in_table, kind_at};
-ghost use Rattle.tomled.specs.Tagged.{kinds_of, tag_of, text_of, told};
+ghost use Rattle.toml_names.specs.mentions.Mentions.{a_table, an_array};
+ghost use Rattle.toml_names.specs.reader.Parts.{IsPart, part_kinds};
+ghost use Rattle.tomled.specs.Tagged.{tag_of, text_of, told};
 ghost use Rattle.tomled.specs.TaggedText.{WritesTagged};
 
 use crate::tagged::moment_tag;
 use std::alloc::{AllocError, Global};
-use std::collections::BTreeMap;
-use toml_names::{Data, Datum};
+use toml_names::{NamedText, Shape};
 use toml_scalar::Scalar;
 
-/// Writes the tagged JSON of a document's data behind what `out` has.
-pub fn write_tagged(alloc: Global, out: &mut Vec<u8>, data: &Data) -> Result<(), AllocError>
-    ensures { OnOk result (WritesTagged (kind_at «data».now.root) out.old.items out.new.items) }
+/// Writes the tagged JSON of a text's data behind what `out` has. Of the data one scalar's value stands in memory at a
+/// time, and for each table around it the list of its names.
+pub fn write_tagged(
+    alloc: Global,
+    out: &mut Vec<u8>,
+    whole: &NamedText<'_>,
+) -> Result<(), AllocError>
+    ensures { OnOk result (WritesTagged (part_kinds whole.now 0) out.old.items out.new.items) }
 {
-    write_datum(alloc, out, &data.root)
+    write_part(alloc, out, whole, whole.root())
 }
 
 #[cycle(write)]
-fn write_datum(alloc: Global, out: &mut Vec<u8>, datum: &Datum) -> Result<(), AllocError>
-    ensures { OnOk result (WritesTagged (kind_at datum.now) out.old.items out.new.items) }
+fn write_part(
+    alloc: Global,
+    out: &mut Vec<u8>,
+    whole: &NamedText<'_>,
+    id: usize,
+) -> Result<(), AllocError>
+    requires { IsPart whole.now id }
+    ensures { OnOk result (WritesTagged (part_kinds whole.now id) out.old.items out.new.items) }
 {
-    match datum {
-        Datum::Scalar(scalar) => write_scalar(alloc, out, scalar),
-        Datum::Array(items) => write_items(alloc, out, items),
-        Datum::Table(members) => write_members(alloc, out, members),
+    match whole.shape(id)? {
+        Shape::Scalar(scalar) => write_scalar(alloc, out, &scalar),
+        Shape::Array => write_items(alloc, out, whole, id),
+        Shape::Table => write_members(alloc, out, whole, id),
     }
 }
 
 #[cycle(write)]
-fn write_items(alloc: Global, out: &mut Vec<u8>, items: &[Datum]) -> Result<(), AllocError>
-    ensures { OnOk result (WritesTagged (in_array (map kind_at items.now)) out.old.items out.new.items) }
+fn write_items(
+    alloc: Global,
+    out: &mut Vec<u8>,
+    whole: &NamedText<'_>,
+    id: usize,
+) -> Result<(), AllocError>
+    requires part { IsPart whole.now id }
+    requires array { part_kinds whole.now id [] ≡ Some an_array }
+    ensures { OnOk result (WritesTagged (part_kinds whole.now id) out.old.items out.new.items) }
 {
     out.push(b'[')?;
     let mut later = false;
-    for item in items {
+    for item in whole.items(id) {
         write_comma(out, later)?;
-        write_datum(alloc, out, item)?;
+        write_part(alloc, out, whole, *item)?;
         later = true;
     }
     out.push(b']')?;
     Ok(())
 }
 
-/// The map gives its names in the order of their bytes, which is that of a tagged object's keys.
+/// The members are in the order of their names' bytes, which is that of a tagged object's keys.
 #[cycle(write)]
 fn write_members(
     alloc: Global,
     out: &mut Vec<u8>,
-    members: &BTreeMap<String, Datum>,
+    whole: &NamedText<'_>,
+    id: usize,
 ) -> Result<(), AllocError>
-    ensures { OnOk result (WritesTagged (in_table (map kinds_of members.now.entries)) out.old.items out.new.items) }
+    requires part { IsPart whole.now id }
+    requires table { part_kinds whole.now id [] ≡ Some a_table }
+    ensures { OnOk result (WritesTagged (part_kinds whole.now id) out.old.items out.new.items) }
 {
+    let members = whole.members(id)?;
     out.push(b'{')?;
     let mut later = false;
-    for (name, member) in members.iter() {
+    for (name, member) in &members {
         write_comma(out, later)?;
-        write_key(out, name.as_str())?;
-        write_datum(alloc, out, member)?;
+        write_key(out, name)?;
+        write_part(alloc, out, whole, *member)?;
         later = true;
     }
     out.push(b'}')?;
@@ -138,7 +159,7 @@ fn write_inside(out: &mut Vec<u8>, text: &[u8]) -> Result<(), AllocError>
 /// Whether no byte of the text needs an escape.
 #[tactic(auto, using(crate::proofs::Escapes::plain_more))]
 fn is_plain(text: &[u8]) -> bool
-    ensures { OnTrue result (escape text.now ≡ text.now) }
+    ensures { IsTrue result ↔ (escape text.now ≡ text.now) }
 {
     for &byte in text {
         if byte < 0x20 || byte == b'"' || byte == b'\\' {

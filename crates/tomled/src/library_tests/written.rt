@@ -1,13 +1,18 @@
-//! What is written of data is what the JSON library writes of their tagged JSON.
+//! What is written of a text's names is what the JSON library writes of the tagged JSON of its data.
 
-use crate::library_tests::worked::data;
 use crate::tagged::tagged;
 use crate::tagged_text::write_tagged;
 use std::alloc::Global;
+use toml_names::{data_of_text, names_of_text};
+use toml_text::Source;
+use toml_tree::Profile;
 
 /// Every escape, and characters that have none.
 const ESCAPED: &str =
     r#""\b\t\n\f\r\"\\" = "\u0000\u0007\b\t\n\u000B\f\r\u000E\u0019\u001A\u001F !\"/#[\\]\u007F\u0080é\u2028𝄞""#;
+
+/// Names out of order, of which some begin others, more than a few in one table, and empty ones.
+const UNORDERED: &str = "b = 1\na.b = 2\n'' = 3\nab = 4\na.a = 5\nB = 6\nj = 7\n\"\\u00E9\" = 8\ni = 9\nh = 10\n'~' = 11\na.'' = 12\nc = 13\n[x]\nz = 1\ny = 2\n[e]\nd = {c = 1, b = 2, a = 3}";
 
 /// Nothing, one thing and more, in arrays and in tables.
 const NESTED: &str =
@@ -15,9 +20,11 @@ const NESTED: &str =
 
 /// Whether the library's text stands behind what was there.
 fn is_the_librarys(alloc: Global, text: &str) -> Option<bool> {
-    let data = data(alloc, text)?;
+    let source = Source::new(text.as_bytes()).ok()?;
+    let whole = names_of_text(alloc, source, Profile::One).ok()?;
     let mut written = Vec::from_slice(alloc, b"[").ok()?;
-    write_tagged(alloc, &mut written, &data).ok()?;
+    write_tagged(alloc, &mut written, &whole).ok()?;
+    let data = data_of_text(alloc, source, Profile::One).ok()?;
     let wanted = tagged(alloc, &data).ok()?.to_vec(alloc).ok()?;
     let (first, rest) = written.as_slice().split_first()?;
     Some(*first == b'[' && rest == wanted.as_slice())
@@ -25,7 +32,7 @@ fn is_the_librarys(alloc: Global, text: &str) -> Option<bool> {
 
 #[test]
 fn the_text_is_the_librarys(rt: HostRuntime) {
-    for text in ["", ESCAPED, NESTED] {
+    for text in ["", ESCAPED, UNORDERED, NESTED] {
         assert_eq!(rt; is_the_librarys(rt.alloc(), text), Some(true), "{text}");
     }
 }

@@ -1,8 +1,9 @@
 use Rattle.std.proofs.lemmas.Result.{err_from_is_err_and}
 use Rattle.std.proofs.Common.{List, ℕ, subst}
 use Rattle.toml_text.specs.Limit.{IsText}
-use Rattle.toml_names.specs.model.Data.{IsDataOf, kind_at}
+use Rattle.toml_names.specs.model.Data.{IsDataOf}
 use Rattle.toml_names.specs.mentions.Mentions.{named}
+use Rattle.toml_names.specs.reader.Parts.{part_kinds}
 use Rattle.toml_names.specs.reader.Texts.{GoodText}
 use Rattle.tomled.proofs.document.read_data.Goals as goal
 
@@ -13,5 +14,5 @@ returns-in_err-source-clause-refused c =
 
 pub returns-in-Ok-clause-facts : goal.returns-in-Ok-clause-facts
 returns-in-Ok-clause-facts c =
-    subst (λ (bytes : List ℕ). IsText bytes × (it : GoodText c.args.profile bytes) × IsDataOf (named it.lines) (kind_at c.in-Ok.data.root))
+    subst (λ (bytes : List ℕ). IsText bytes × (it : GoodText c.args.profile bytes) × IsDataOf (named it.lines) (part_kinds c.in-Ok.whole 0))
     c.in_ok-source.ensures.text (c.in_ok-source.source.is_text, c.in-Ok.ensures.good.0, c.in-Ok.ensures.good.1)

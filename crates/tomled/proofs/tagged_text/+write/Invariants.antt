@@ -1,10 +1,20 @@
-use Rattle.std.proofs.Common.{take, map}
-use Rattle.toml_names.specs.model.Data.{kind_at}
-use Rattle.tomled.proofs.Written.{AreWritten, MembersWritten}
+use Rattle.std.proofs.Common.{◌+◌, ◌-◌, ◌*◌, length, take, map}
+use Rattle.toml_names.specs.reader.Parts.{part_kinds, plain_members}
+use Rattle.tomled.proofs.Written.{AreWritten, MembersWritten, named_kinds}
 use Rattle.tomled.proofs.tagged_text.+write.Given as goal
 
+-- the parts in a part have greater numbers
+abbrev pub decreases-write_part : goal.decreases-write_part
+decreases-write_part l = 2 * (length l.whole.now - l.id) + 1
+
+abbrev pub decreases-write_items : goal.decreases-write_items
+decreases-write_items l = 2 * (length l.whole.now - l.id)
+
+abbrev pub decreases-write_members : goal.decreases-write_members
+decreases-write_members l = 2 * (length l.whole.now - l.id)
+
 abbrev pub invariant-write_items-loop-item : goal.invariant-write_items-loop-item
-invariant-write_items-loop-item l = AreWritten (map kind_at (take l.item-index l.items)) l.fn.out.items l.out.items l.later
+invariant-write_items-loop-item l = AreWritten (map (part_kinds l.whole) (take l.item-index l.item-items)) l.fn.out.items l.out.items l.later
 
 abbrev pub invariant-write_members-loop-name : goal.invariant-write_members-loop-name
-invariant-write_members-loop-name l = MembersWritten l.members.entries l.name-iterator l.fn.out.items l.out.items l.later
+invariant-write_members-loop-name l = MembersWritten (named_kinds l.whole (take l.name-index (plain_members l.name-items))) l.fn.out.items l.out.items l.later
