@@ -45,14 +45,14 @@ shown set old new a is = sym (ap (λ b. cond b (old a) (new a)) is)
 
 -- the edit's own address is not hidden, nor one that begins with the same name
 starts : (set : NameSet) (at : Address) → StartsIn set at → is_hidden set at ≡ false
-starts set [] in = refl
-starts set (Name n ∷ a) in = ap not (in n a refl)
-starts set (Index i ∷ a) in = refl
+starts set [] begins = refl
+starts set (Name n ∷ a) begins = ap not (begins n a refl)
+starts set (Index i ∷ a) begins = refl
 
 starts_beside : (set : NameSet) (q : Address) (s : Step) (i : ℕ) → StartsIn set (q ++ s ∷ []) → (s ≡ Index 0) → is_hidden set (element q i) ≡ false
-starts_beside set [] s i in is = refl
-starts_beside set (Name n ∷ q) s i in is = ap not (in n (q ++ s ∷ []) refl)
-starts_beside set (Index k ∷ q) s i in is = refl
+starts_beside set [] s i begins is = refl
+starts_beside set (Name n ∷ q) s i begins is = ap not (begins n (q ++ s ∷ []) refl)
+starts_beside set (Index k ∷ q) s i begins is = refl
 
 -- ---- what is told
 

@@ -204,14 +204,7 @@ fn make_text<'d, 'x>(
         names: &reader,
         profile,
     };
-    if let Err(fault) = make_all(
-        alloc,
-        &mut tree,
-        read,
-        &mut data,
-        edits,
-        spelled,
-    ) {
+    if let Err(fault) = make_all(alloc, &mut tree, read, &mut data, edits, spelled) {
         return Err(fault);
     }
     let edited = write_out(alloc, source, doc, &tree, wanted)?;

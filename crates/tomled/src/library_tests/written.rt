@@ -12,7 +12,8 @@ const ESCAPED: &str =
     r#""\b\t\n\f\r\"\\" = "\u0000\u0007\b\t\n\u000B\f\r\u000E\u0019\u001A\u001F !\"/#[\\]\u007F\u0080é\u2028𝄞""#;
 
 /// Names out of order, of which some begin others, more than a few in one table, and empty ones.
-const UNORDERED: &str = "b = 1\na.b = 2\n'' = 3\nab = 4\na.a = 5\nB = 6\nj = 7\n\"\\u00E9\" = 8\ni = 9\nh = 10\n'~' = 11\na.'' = 12\nc = 13\n[x]\nz = 1\ny = 2\n[e]\nd = {c = 1, b = 2, a = 3}";
+const UNORDERED: &str =
+    "b = 1\na.b = 2\n'' = 3\nab = 4\na.a = 5\nB = 6\nj = 7\n\"\\u00E9\" = 8\ni = 9\nh = 10\n'~' = 11\na.'' = 12\nc = 13\n[x]\nz = 1\ny = 2\n[e]\nd = {c = 1, b = 2, a = 3}";
 
 /// Nothing, one thing and more, in arrays and in tables.
 const NESTED: &str =
