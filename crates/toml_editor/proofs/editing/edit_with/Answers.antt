@@ -9,8 +9,8 @@ use Rattle.toml_editor.proofs.editing.edit_with.Goals as goal
 
 pub certify-requires-clause-made : goal.certify-requires-clause-made
 certify-requires-clause-made c =
-    let edited = c.in_ok-data.edited in
-    subst (λ t. IsMadeText c.args.profile t (map change c.args.edits.now) c.in_ok-data.«data» (string_bytes edited.text) edited.pieces.items) c.in_ok-source.ensures.read.text_is c.in_ok-data.ensures.made
+    let edited = c.in_ok-made.edited in
+    subst (λ t. IsMadeText c.args.profile t (map change c.args.edits.now) c.in_ok-made.made (string_bytes edited.text) edited.pieces.items) c.in_ok-source.ensures.read.text_is c.in_ok-made.ensures.made
 
 pub certify-requires-clause-wanted : goal.certify-requires-clause-wanted
 certify-requires-clause-wanted c =
