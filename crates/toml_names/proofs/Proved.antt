@@ -27,3 +27,4 @@ pub use Rattle.toml_names.proofs.lemmas.mentions.PlacesNone.{inside_is_below, no
 pub use Rattle.toml_names.proofs.lemmas.mentions.Placeless.{places_are_not_named, value_places_are_not_named}
 pub use Rattle.toml_names.proofs.lemmas.mentions.OneRefusal.{refused_are_bad}
 pub use Rattle.toml_names.proofs.lemmas.mentions.AllLines.{lines_have_one_kind, line_values_stand_alone, values_have_one_kind, inner_values_stand_alone}
+pub use Rattle.toml_names.proofs.lemmas.reader.OneMoreLine.{taken_are_good}

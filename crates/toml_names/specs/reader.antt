@@ -1,3 +1,4 @@
+pub mod LineNames
 pub mod Names
 pub mod Parts
 pub mod Reading

@@ -9,6 +9,7 @@ ghost use Rattle.toml_names.specs.mentions.Inside.{InsideIsBelow, InsideMoves, B
 ghost use Rattle.toml_names.specs.mentions.Joining.{LinesJoin, ValuesJoin, OneKind, FirstIsData, ValuesStandAlone};
 ghost use Rattle.toml_names.specs.model.Levels.{ScalarLevel, ArrayLevel, TableLevel, DatumIsOneOfThree, DatumHasRoot, ArrayAtRoot, ArrayAtIndex, ArrayAtName, IndexIsWithin, TableAtRoot, TableAtName, TableAtIndex, NameHasMember, NothingBelowScalar};
 ghost use Rattle.toml_names.specs.mentions.Local.{LastRoleDecides};
+ghost use Rattle.toml_names.specs.reader.LineNames.{TakenAreGood};
 ghost use Rattle.toml_names.specs.reader.Names.{RefusedAreBad, OneRefusal, LineAddresses, NoLineAddress};
 ghost use Rattle.toml_names.specs.mentions.OwnAddresses.{LineIsNamed, NamedHasLine, ThemselvesDiffer, OwnAddressesDiffer, OwnAddressIsNamed, OwnAddressHasFact};
 ghost use Rattle.toml_names.specs.model.Parts.{DatumHasPart, StepIsThere, PartIsThere};
@@ -38,6 +39,11 @@ pub fn rules()
 pub fn refusals()
     ensures bad { RefusedAreBad }
     ensures one { OneRefusal }
+{}
+
+/// Lines of which all names could be taken are good.
+pub fn taken_lines()
+    ensures { TakenAreGood }
 {}
 
 /// The address of a line is that of what its expression stands for; behind the last line there is none.

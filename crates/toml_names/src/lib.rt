@@ -16,6 +16,7 @@ mod texts;
 mod tree;
 
 pub use fault::{NameFault, ReadFault, ValueFault};
+pub use line_names::LineNames;
 pub use meaning::keys::key_address;
 pub use meaning::values::read_value;
 pub use mentions::rules::MAX_STEPS;

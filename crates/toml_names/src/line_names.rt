@@ -2,27 +2,38 @@
 ghost use Rattle.std.specs.Prelude.{◌<◌, ◌∷◌, ◌++◌, List, [], length, IfOk};
 ghost use Rattle.toml_tree.specs.Lines.{line as tree_line};
 ghost use Rattle.toml_tree.specs.Tree as spelled;
-ghost use Rattle.toml_names.specs.reader.Texts.{Judges, Stand, StandFor, Takes};
+ghost use Rattle.toml_names.specs.reader.LineNames.{Enters, Stand, StandFor, Takes, TakesAt};
+ghost use Rattle.toml_names.specs.reader.Texts.{Judges};
 
 use crate::fault::NameFault;
 use crate::mentions::mention::{Kind, Role};
+use crate::model::address::Address;
+use crate::tree::hash_key::key_of_text;
 use crate::tree::hashing::NameHashing;
 use crate::tree::name_tree::NameTree;
 use std::alloc::{AllocError, Global};
+use toml_text::Source;
 use toml_tree::Line;
 
-/// The tree of the lines so far. A name is lent by the text, so no line is kept.
+/// What the lines so far name. A name is lent by the text, so no line is kept.
 #[derive(Drop)]
 pub struct LineNames<'t> {
     pub(crate) tree: NameTree<'t>,
     // the node of the last header's table
-    section: usize,
-    count: usize,
+    pub(crate) section: usize,
+    pub(crate) count: usize,
 }
 
 impl<'t> LineNames<'t> {
+    /// The names of no line of a text. They are hashed by a key that is made of all its bytes.
+    pub fn new(alloc: Global, source: Source<'t>) -> Result<LineNames<'t>, AllocError>
+        ensures { IfOk result (λ names. StandFor names []) }
+    {
+        LineNames::keyed(alloc, key_of_text(source))
+    }
+
     /// The names of no line. They are hashed by this key.
-    pub fn keyed(alloc: Global, key: u64) -> Result<LineNames<'t>, AllocError>
+    fn keyed(alloc: Global, key: u64) -> Result<LineNames<'t>, AllocError>
         ensures { IfOk result (λ names. StandFor names []) }
     {
         let hashing = NameHashing::keyed(key);
@@ -33,16 +44,38 @@ impl<'t> LineNames<'t> {
         })
     }
 
+    /// Takes one line more, and tells the node of its value, table or element, which a blank line has none of.
+    fn enter(&mut self, line: &Line<'t>) -> Result<Option<usize>, NameFault>
+        requires stand { Stand self.old }
+        requires room { self.old.count < 18446744073709551615 }
+        ensures { (lines : List spelled.Line) → StandFor self.old lines → Enters lines (tree_line line.now) self.new result }
+    {
+        let entered = self.tree.take_line(self.section, self.count, line)?;
+        self.section = entered.section;
+        self.count += 1;
+        Ok(entered.own)
+    }
+
     /// Takes one line more, or tells why the lines with it are refused. Then nothing is said of the names any more.
     pub fn take(&mut self, line: &Line<'t>) -> Result<(), NameFault>
         requires stand { Stand self.old }
         requires room { self.old.count < 18446744073709551615 }
         ensures { (lines : List spelled.Line) → StandFor self.old lines → Takes lines (tree_line line.now) self.new result }
     {
-        let entered = self.tree.take_line(self.section, self.count, line)?;
-        self.section = entered.section;
-        self.count += 1;
+        let _ = self.enter(line)?;
         Ok(())
+    }
+
+    /// The same, and tells the address of the line's value, table or element; a blank line has none.
+    pub fn take_at(&mut self, line: &Line<'t>) -> Result<Option<Address>, NameFault>
+        requires stand { Stand self.old }
+        requires room { self.old.count < 18446744073709551615 }
+        ensures { (lines : List spelled.Line) → StandFor self.old lines → TakesAt lines (tree_line line.now) self.new result }
+    {
+        match self.enter(line)? {
+            Some(node) => Ok(Some(self.tree.address(node)?)),
+            None => Ok(None),
+        }
     }
 }
 

@@ -3,11 +3,13 @@
 ghost use Rattle.std.specs.Prelude.{◌≡◌, ◌++◌, ◌∷◌, [], OnOk, OnErr, IfOk, IfErr, map};
 ghost use Rattle.toml_tree.specs.Lines.{line as tree_line};
 ghost use Rattle.toml_names.specs.mentions.KeyParts.{expr_key_parts};
+ghost use Rattle.toml_names.specs.reader.LineNames.{StandFor};
 ghost use Rattle.toml_names.specs.reader.Names.{AreGood};
 ghost use Rattle.toml_names.specs.reader.Reading.{lines_of, EntersShort, RefusesLine, RefusesEntry, TakesEntry};
 ghost use Rattle.toml_names.specs.tree.Steps.{GoesOn, IsNode, RisesBy};
 
 use crate::fault::NameFault;
+use crate::line_names::LineNames;
 use crate::mentions::mention::{Kind, Role};
 use crate::tree::hashing::NameHashing;
 use crate::tree::headers::Entered;
@@ -139,6 +141,17 @@ impl<'d, 't> NameReader<'d, 't> {
         self.taken.push(line)?;
         self.section = entered.section;
         Ok(())
+    }
+
+    /// What the lines taken name, without the lines.
+    pub fn into_names(self) -> LineNames<'t>
+        ensures { StandFor result (lines_of self.entry) }
+    {
+        LineNames {
+            tree: self.tree,
+            section: self.section,
+            count: self.taken.len(),
+        }
     }
 
     /// The lines taken, which are good together.

@@ -12,7 +12,6 @@ use crate::fault::ReadFault;
 use crate::line_names::{Judged, LineNames};
 use crate::model::address::Address;
 use crate::model::datum::Data;
-use crate::tree::hash_key::key_of_text;
 use crate::tree::name_tree::NameTree;
 use std::alloc::Global;
 use toml_text::Source;
@@ -70,7 +69,7 @@ pub fn enter_text<'t>(
     ensures stand { IfOk result (λ tree. StandForText profile (text_of source.entry) tree.nodes.items) }
     ensures refused { IfErr result (RefusesText profile (text_of source.entry)) }
 {
-    let mut judged = Judged::Good(LineNames::keyed(alloc, key_of_text(source))?);
+    let mut judged = Judged::Good(LineNames::new(alloc, source)?);
     let mut left = Some(LineReader::new(source, profile));
     while let Some(reader) = left {
         let (line, more) = reader.next(alloc)?;

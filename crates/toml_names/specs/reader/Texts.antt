@@ -1,5 +1,5 @@
 -- What the reading of a text line by line answers.
-use Rattle.std.specs.Prelude.{◌≡◌, ◌∷◌, ◌++◌, ℕ, List, [], length, Option, Some, None, Result, Ok, Err}
+use Rattle.std.specs.Prelude.{◌≡◌, ◌∷◌, ◌++◌, ℕ, List, [], length, Option, Some, None}
 use Rattle.toml_tree.specs.declared.profile.Profile.{Profile}
 use Rattle.toml_tree.specs.Document.{Refuses}
 use Rattle.toml_tree.specs.HandedOut.{AreLinesIn, HandsOut}
@@ -9,9 +9,9 @@ use Rattle.toml_names.specs.declared.fault.NameFault.{NameFault}
 use Rattle.toml_names.specs.declared.fault.NameFault.TheVariants as names
 use Rattle.toml_names.specs.declared.fault.ReadFault.{ReadFault}
 use Rattle.toml_names.specs.declared.fault.ReadFault.TheVariants as faults
-use Rattle.toml_names.specs.declared.line_names.LineNames.{LineNames}
 use Rattle.toml_names.specs.declared.line_names.Judged.{Judged}
 use Rattle.toml_names.specs.declared.line_names.Judged.TheVariants.{Good, Bad}
+use Rattle.toml_names.specs.reader.LineNames.{StandFor}
 use Rattle.toml_names.specs.reader.Names.{AreGood, RefusesNames}
 use Rattle.toml_names.specs.reader.Reading.{IsReader}
 use Rattle.toml_names.specs.tree.Nodes.{Spot}
@@ -26,22 +26,6 @@ pub record GoodText (profile : Profile) (text : List ℕ) : Type 0 where
 abbrev pub RefusesText : Profile → List ℕ → ReadFault → Type 0
 RefusesText profile text (faults.Syntax fault) = Refuses profile text fault
 RefusesText profile text (faults.Names fault) = (fault ≡ names.NoMemory → ⊥) → (lines : List Line) × AreLinesIn profile text lines × RefusesNames lines fault
-
--- the names stand for what these lines name, and all changes are settled
-pub record StandFor (names : LineNames) (lines : List Line) : Type 0 where
-  pub own : List (Option ℕ)
-  pub reads : IsReader names.tree.nodes.items lines own names.section
-  pub counted : names.count ≡ length lines
-  pub settled : names.tree.changes.items ≡ []
-
--- they do for some lines
-abbrev pub Stand : LineNames → Type 0
-Stand names = (lines : List Line) × StandFor names lines
-
--- one line more was taken, or the lines with it are refused
-abbrev pub Takes : List Line → Line → LineNames → Result (Unit {0}) NameFault → Type 0
-Takes lines l names (Ok _) = StandFor names (lines ++ l ∷ [])
-Takes lines l names (Err fault) = RefusesNames (lines ++ l ∷ []) fault
 
 -- the first lines of the text, and what the names of them come to
 abbrev pub AreLeft : Profile → List ℕ → List Line → Option LineReader → Type 0

@@ -2,6 +2,7 @@
 use Rattle.toml_names.proofs.Common.{common_steps, ◌≡◌, ℕ, suc, ◌+◌, ◌<◌, List, [], ◌∷◌, ◌++◌, length, take, drop, Option, Some, None, option_map, slice_index_or, map, Bor, refl, sym, ap, subst, ◌∙◌, arith, rules, length_push, get_or_at, take_at, take_all, length-take-le, append_assoc, length-map, line as tree_line, Line, NameFault, Address, IsWithin, EntersLine, Named, named, named_by, AreGood, IsRedefined, IsLong, own_address, line_address, Spot, address_at, IsReader, RefusesLine, StaysShort, RefusesEntry, IsShort, misfit}
 use Rattle.toml_tree.specs.declared.line.Line.{Line as TreeLine}
 use Rattle.toml_names.specs.declared.tree.headers.Entered.{Entered}
+use Rattle.toml_names.specs.reader.LineNames.{TakenAreGood}
 use Rattle.toml_names.proofs.lemmas.mentions.LineAddresses.{line_addresses}
 use Rattle.toml_names.proofs.lemmas.mentions.NextLine.{named-more, AreGood-more, IsRedefined-at, IsLong-at, IsShort-append, IsShort-behind}
 use Rattle.toml_names.proofs.lemmas.mentions.Offences.{no_misfit}
@@ -77,6 +78,9 @@ module _ (lines : List Line) (l : Line) (i : ℕ) (below : i < length lines) whe
 -- what a reader has taken is good
 pub reader_good : {nodes : List Spot} {lines : List Line} {own : List (Option ℕ)} {at : ℕ} → IsReader nodes lines own at → AreGood lines
 reader_good {lines = lines} reads = ((no_misfit (named lines)).0 reads.stands.good, reads.short)
+
+pub taken_are_good : TakenAreGood
+taken_are_good names lines h = reader_good h.reads
 
 module _ (old new : List Spot) (lines : List Line) (own : List (Option ℕ)) (at : ℕ) (l : Line) (e : Entered)
     (reads : IsReader old lines own at) (enters : EntersLine old new at (length lines) l.expr e) (short : StaysShort old at (length lines) l.expr) where

@@ -1,25 +1,10 @@
-use Rattle.toml_names.proofs.Common.{ℕ, [], ◌∷◌, ◌++◌, refl, subst, arith, length_push, err_from_is_err_and, line as tree_line, RefusesEntry}
-use Rattle.toml_names.proofs.lemmas.reader.OneMoreLine.{took, refuses-line}
-use Rattle.toml_names.proofs.lemmas.reader.WholeText.{refused_with}
+use Rattle.toml_names.proofs.Common.{err_from_is_err_and}
 use Rattle.toml_names.proofs.line_names.LineNames.take.Goals as goal
 
-pub returns-in_err-entered : goal.returns-in_err-entered
-returns-in_err-entered c = λ lines h.
-    let r = c.args.self.now in
-    let l = tree_line c.args.line.now in
-    let p = err_from_is_err_and c.from_residual.result c.from_residual.ensures.1 in
-    let refused = subst (λ (n : ℕ). RefusesEntry r.tree.nodes.items r.section n l.expr c.in_err-entered.field-0.0) h.counted c.in_err-entered.ensures.taken.0 in
-    rw (p.1, p.2) (refused_with lines l _ (refuses-line r.tree.nodes.items lines h.own r.section l _ h.reads refused))
-
 pub returns : goal.returns
-returns c = λ lines h.
-    let r = c.args.self.now in
-    let l = tree_line c.args.line.now in
-    let e = c.in_ok-entered.entered in
-    let entry = c.in_ok-entered.ensures.taken in
-    record {
-      own = h.own ++ e.own ∷ [];
-      reads = took r.tree.nodes.items c.take_line.new.self.nodes.items lines (lines ++ l ∷ []) h.own (h.own ++ e.own ∷ []) r.section r.count l e h.reads h.counted entry.enters entry.short refl refl;
-      counted = omega (arith, h.counted, length_push lines l);
-      settled = c.in_ok-entered.ensures.settled;
-    }
+returns c = λ lines h. (c.in_ok-enter.ensures lines h).stands
+
+pub returns-in_err-enter : goal.returns-in_err-enter
+returns-in_err-enter c = λ lines h.
+    let p = err_from_is_err_and c.from_residual.result c.from_residual.ensures.1 in
+    rw (p.1, p.2) (c.in_err-enter.ensures lines h)

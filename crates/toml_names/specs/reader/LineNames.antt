@@ -1,0 +1,46 @@
+-- What the names of lines that are let go stand for, and what they answer to one more line.
+use Rattle.std.specs.Prelude.{◌≡◌, ◌∷◌, ◌++◌, ℕ, List, [], length, Option, option_map, Result, Ok, Err}
+use Rattle.toml_tree.specs.Tree.{Line}
+use Rattle.toml_names.specs.declared.fault.NameFault.{NameFault}
+use Rattle.toml_names.specs.declared.line_names.LineNames.{LineNames as Names}
+use Rattle.toml_names.specs.mentions.Mentions.{named}
+use Rattle.toml_names.specs.model.Addresses.{Address}
+use Rattle.toml_names.specs.reader.Names.{AreGood, RefusesNames, own_address}
+use Rattle.toml_names.specs.reader.Reading.{IsReader}
+use Rattle.toml_names.specs.tree.EnteringLines.{IsWithin}
+use Rattle.toml_names.specs.tree.Nodes.{address_at}
+
+-- the names stand for what these lines name, and all changes are settled
+pub record StandFor (names : Names) (lines : List Line) : Type 0 where
+  pub own : List (Option ℕ)
+  pub reads : IsReader names.tree.nodes.items lines own names.section
+  pub counted : names.count ≡ length lines
+  pub settled : names.tree.changes.items ≡ []
+
+-- they do for some lines
+abbrev pub Stand : Names → Type 0
+Stand names = (lines : List Line) × StandFor names lines
+
+-- one line more was taken, or the lines with it are refused
+abbrev pub Takes : List Line → Line → Names → Result (Unit {0}) NameFault → Type 0
+Takes lines l names (Ok _) = StandFor names (lines ++ l ∷ [])
+Takes lines l names (Err fault) = RefusesNames (lines ++ l ∷ []) fault
+
+-- the same, and the address is that of what the line stands for
+abbrev pub TakesAt : List Line → Line → Names → Result (Option Address) NameFault → Type 0
+TakesAt lines l names (Ok at) = StandFor names (lines ++ l ∷ []) × (at ≡ own_address (named lines) l.expr)
+TakesAt lines l names (Err fault) = RefusesNames (lines ++ l ∷ []) fault
+
+-- the line was entered, and this is the node of what it stands for
+pub record IsEntered (lines : List Line) (l : Line) (names : Names) (node : Option ℕ) : Type 0 where
+  pub stands : StandFor names (lines ++ l ∷ [])
+  pub within : IsWithin node names.tree.nodes.items
+  pub own : option_map (address_at names.tree.nodes.items) node ≡ own_address (named lines) l.expr
+
+abbrev pub Enters : List Line → Line → Names → Result (Option ℕ) NameFault → Type 0
+Enters lines l names (Ok node) = IsEntered lines l names node
+Enters lines l names (Err fault) = RefusesNames (lines ++ l ∷ []) fault
+
+-- Law: lines for which names stand are good.
+abbrev pub TakenAreGood : Type 0
+TakenAreGood = (names : Names) (lines : List Line) → StandFor names lines → AreGood lines
