@@ -1,7 +1,7 @@
 -- The proofs of the laws, for the crates above.
 pub use Rattle.toml_names.proofs.lemmas.model.Alike.{scalars_alike, arrays_alike, tables_same}
 pub use Rattle.toml_names.proofs.lemmas.mentions.NextLine.{alike_name_the_same, alike_stay_alike, pairs_leave_alike}
-pub use Rattle.toml_names.proofs.lemmas.mentions.AllLines.{lines_join}
+pub use Rattle.toml_names.proofs.lemmas.mentions.AllLines.{lines_join, lines_have_data}
 pub use Rattle.toml_names.proofs.lemmas.model.Changes.{array-within, table-has, has_part, step_there, hole_there}
 pub use Rattle.toml_names.proofs.lemmas.mentions.Clear.{not_named_is_clear}
 pub use Rattle.toml_names.proofs.lemmas.mentions.Clear.{one_data, lines_are_closed, values_are_closed}
@@ -27,4 +27,4 @@ pub use Rattle.toml_names.proofs.lemmas.mentions.PlacesNone.{inside_is_below, no
 pub use Rattle.toml_names.proofs.lemmas.mentions.Placeless.{places_are_not_named, value_places_are_not_named}
 pub use Rattle.toml_names.proofs.lemmas.mentions.OneRefusal.{refused_are_bad}
 pub use Rattle.toml_names.proofs.lemmas.mentions.AllLines.{lines_have_one_kind, line_values_stand_alone, values_have_one_kind, inner_values_stand_alone}
-pub use Rattle.toml_names.proofs.lemmas.reader.OneMoreLine.{taken_are_good}
+pub use Rattle.toml_names.proofs.lemmas.reader.OneMoreLine.{taken_are_good, fronts_are_good}

@@ -6,6 +6,7 @@ pub mod DataLaws
 pub mod Documents
 pub mod Indices
 pub mod Levels
+pub mod Names
 pub mod NameSets
 pub mod Parts
 pub mod Places

@@ -2,7 +2,7 @@
 ghost use Rattle.toml_names.specs.model.Addresses.{SameStepIsEqual, StepIsSame, SameIsEqual, AboveIsAbove};
 ghost use Rattle.toml_names.specs.mentions.Alike.{SectionGoesOn, CountsAdd, AlikeNameTheSame, AlikeStayAlike, PairsLeaveAlike};
 ghost use Rattle.toml_names.specs.mentions.Clear.{NotNamedIsClear};
-ghost use Rattle.toml_names.specs.model.DataLaws.{LinesHaveOneKind, LineValuesStandAlone, ValuesHaveOneKind, InnerValuesStandAlone, OneData, LinesAreClosed, ValuesAreClosed};
+ghost use Rattle.toml_names.specs.model.DataLaws.{LinesHaveOneKind, LineValuesStandAlone, ValuesHaveOneKind, InnerValuesStandAlone, OneData, LinesAreClosed, ValuesAreClosed, LinesHaveData};
 ghost use Rattle.toml_names.specs.mentions.FirstMentions.{FirstMentionsAreThese, OneListOfFirstMentions};
 ghost use Rattle.toml_names.specs.model.Indices.{IndicesAreLow, ValueIndicesAreLow};
 ghost use Rattle.toml_names.specs.mentions.Inside.{InsideIsBelow, InsideMoves, BelowIsOfItsLine};
@@ -10,7 +10,7 @@ ghost use Rattle.toml_names.specs.mentions.Joining.{LinesJoin, ValuesJoin, OneKi
 ghost use Rattle.toml_names.specs.model.Levels.{ScalarLevel, ArrayLevel, TableLevel, DatumIsOneOfThree, DatumHasRoot, ArrayAtRoot, ArrayAtIndex, ArrayAtName, IndexIsWithin, TableAtRoot, TableAtName, TableAtIndex, NameHasMember, NothingBelowScalar};
 ghost use Rattle.toml_names.specs.mentions.Local.{LastRoleDecides};
 ghost use Rattle.toml_names.specs.reader.LineNames.{TakenAreGood};
-ghost use Rattle.toml_names.specs.reader.Names.{RefusedAreBad, OneRefusal, LineAddresses, NoLineAddress};
+ghost use Rattle.toml_names.specs.reader.Names.{FrontsAreGood, RefusedAreBad, OneRefusal, LineAddresses, NoLineAddress};
 ghost use Rattle.toml_names.specs.mentions.OwnAddresses.{LineIsNamed, NamedHasLine, ThemselvesDiffer, OwnAddressesDiffer, OwnAddressIsNamed, OwnAddressHasFact};
 ghost use Rattle.toml_names.specs.model.Parts.{DatumHasPart, StepIsThere, PartIsThere};
 ghost use Rattle.toml_names.specs.mentions.Placeless.{PlacesAreNotNamed, ValuePlacesAreNotNamed};
@@ -41,9 +41,12 @@ pub fn refusals()
     ensures one { OneRefusal }
 {}
 
-/// Lines of which all names could be taken are good.
-pub fn taken_lines()
-    ensures { TakenAreGood }
+/// Lines of which all names could be taken are good. The lines before a line are good if they are with it, and good lines
+/// have data: the first kind named at each address.
+pub fn good_lines()
+    ensures taken { TakenAreGood }
+    ensures front { FrontsAreGood }
+    ensures have_data { LinesHaveData }
 {}
 
 /// The address of a line is that of what its expression stands for; behind the last line there is none.

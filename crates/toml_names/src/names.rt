@@ -97,14 +97,6 @@ impl<'d, 't> NameReader<'d, 't> {
         })
     }
 
-    /// Whether these are the data of the lines taken. No data are built of the lines for that: each scalar's value is made
-    /// to be compared, which can lack memory, and let go.
-    pub fn has_data(&self, data: &Data) -> Result<bool, AllocError>
-        ensures { IfOk result (λ b. IsTrue b ↔ IsDataOf (named_of (lines_of self.now)) (kind_at «data».now.root)) }
-    {
-        self.tree.holds(0, &data.root)
-    }
-
     /// Where what stands at the address stands in the text; none where the data of the lines taken have nothing there.
     pub fn place(&self, at: &Address) -> Option<Place>
         ensures { result ≡ place (named_of (lines_of self.now)) at.now }

@@ -5,13 +5,11 @@ ghost use Rattle.toml_tree.specs.Lines.{line as tree_line};
 ghost use Rattle.toml_tree.specs.Tree as spelled;
 ghost use Rattle.toml_names.specs.mentions.FirstMentions.{first_mentions};
 ghost use Rattle.toml_names.specs.mentions.Mentions.{named};
-ghost use Rattle.toml_names.specs.model.Data.{IsDataOf, kind_at};
 ghost use Rattle.toml_names.specs.reader.Texts.{GoodText, Judges, RefusesText, StandForText};
 
 use crate::fault::ReadFault;
 use crate::line_names::{Judged, LineNames};
 use crate::model::address::Address;
-use crate::model::datum::Data;
 use crate::tree::name_tree::NameTree;
 use std::alloc::Global;
 use toml_text::Source;
@@ -25,16 +23,6 @@ pub fn judge_text(alloc: Global, source: Source<'_>, profile: Profile) -> Result
 {
     let _ = enter_text(alloc, source, profile)?;
     Ok(())
-}
-
-/// The data of a document of the profile; other texts are refused as `judge_text` does.
-pub fn data_of_text(alloc: Global, source: Source<'_>, profile: Profile) -> Result<Data, ReadFault>
-    ensures good { IfOk result (λ whole. (it : GoodText profile (text_of source.entry)) × IsDataOf (named it.lines) (kind_at whole.root)) }
-    ensures refused { IfErr result (RefusesText profile (text_of source.entry)) }
-{
-    let tree = enter_text(alloc, source, profile)?;
-    let root = tree.datum(0)?;
-    Ok(Data { root })
 }
 
 /// The distinct addresses of the mentions of a document of the profile, in the order of their first mentions; other texts

@@ -29,3 +29,4 @@ pub mod Read
 pub mod Holders
 pub mod Tails
 pub mod Proved
+pub mod ReadLines

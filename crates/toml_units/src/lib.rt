@@ -8,6 +8,7 @@ mod fault;
 pub mod laws;
 mod lines;
 mod piece;
+mod reading;
 mod unit;
 mod walk;
 
@@ -15,5 +16,6 @@ pub use certificate::{Certificate, certificate_text, read_certificate};
 pub use fault::CertificateFault;
 pub use lines::{units, units_at};
 pub use piece::{Piece, join};
+pub use reading::{ReadText, read_text};
 pub use unit::{Unit, UnitKind};
 pub use walk::units_inside;

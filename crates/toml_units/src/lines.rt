@@ -112,7 +112,7 @@ fn is_lone(e: &Expr) -> bool
 }
 
 /// Adds the units of a line whose own address is given away: most lines are one unit, and then it is not copied.
-fn push_line_at(
+pub(crate) fn push_line_at(
     alloc: Global,
     units: &mut Vec<Unit>,
     own: Option<Address>,

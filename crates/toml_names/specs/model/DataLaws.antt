@@ -2,7 +2,7 @@
 use Rattle.std.specs.Prelude.{◌≡◌, List}
 use Rattle.toml_tree.specs.Tree.{Value, Line}
 use Rattle.toml_names.specs.model.Addresses.{Address}
-use Rattle.toml_names.specs.model.Data.{Kinds, IsDataOf, IsClosed}
+use Rattle.toml_names.specs.model.Data.{Kinds, IsDataOf, IsClosed, fact_at}
 use Rattle.toml_names.specs.mentions.Joining.{HasOneKind, AreAlone}
 use Rattle.toml_names.specs.mentions.Mentions.{Named, named, value_facts}
 use Rattle.toml_names.specs.mentions.Rules.{KeepsRules}
@@ -20,6 +20,10 @@ ValuesHaveOneKind = (v : Value) → KeepsRules (value_facts v) → HasOneKind (v
 
 abbrev pub InnerValuesStandAlone : Type 0
 InnerValuesStandAlone = (v : Value) → KeepsRules (value_facts v) → AreAlone (value_facts v)
+
+-- Law: they have data, the kind of the first thing named at each address.
+abbrev pub LinesHaveData : Type 0
+LinesHaveData = (lines : List Line) → KeepsRules (named lines) → IsDataOf (named lines) (fact_at (named lines))
 
 -- Law: only one map is the data of what is named.
 abbrev pub OneData : Type 0

@@ -80,3 +80,7 @@ RefusedAreBad = (lines : List Line) (fault : NameFault) → RefusesNames lines f
 -- Law: why the names of lines are refused, memory aside, is one fault.
 abbrev pub OneRefusal : Type 0
 OneRefusal = (lines : List Line) (f g : NameFault) → RefusesNames lines f → RefusesNames lines g → (f ≡ faults.NoMemory → ⊥) → (g ≡ faults.NoMemory → ⊥) → f ≡ g
+
+-- Law: the lines before a line are good if they are with it.
+abbrev pub FrontsAreGood : Type 0
+FrontsAreGood = (lines : List Line) (l : Line) → AreGood (lines ++ l ∷ []) → AreGood lines

@@ -1,5 +1,5 @@
 -- The parts of a text's data, by their numbers: what stands at a part and below it, and which parts lie right below it.
-use Rattle.std.specs.Prelude.{◌≡◌, ◌<◌, ℕ, List, [], ◌∷◌, length, map, Contains, Option, Some, IsSome, option_map, slice_get, slice_index_or}
+use Rattle.std.specs.Prelude.{◌≡◌, ◌<◌, ℕ, List, [], ◌∷◌, length, map, Contains, Option, Some, IsSome, slice_get, slice_index_or}
 use Rattle.std.specs.Cmp.Lexicographic.{slice_cmp}
 use Rattle.std.specs.List.Sorted.{IsStrictlySortedBy}
 use Rattle.std.specs.Map.{keys_of}
@@ -11,8 +11,8 @@ use Rattle.toml_names.specs.declared.tree.parts.Shape.{Shape}
 use Rattle.toml_names.specs.declared.tree.parts.Shape.TheVariants as shapes
 use Rattle.toml_names.specs.mentions.Mentions.{Kind, a_table, an_array, a_scalar}
 use Rattle.toml_names.specs.model.Addresses.{Address}
-use Rattle.toml_names.specs.model.Data.{Kinds, within}
-use Rattle.toml_names.specs.tree.Held.{below_node}
+use Rattle.toml_names.specs.model.Data.{Kinds}
+use Rattle.toml_names.specs.tree.Held.{below_in, below_node}
 use Rattle.toml_names.specs.tree.Nodes.{Spot}
 
 -- there is a part with this number
@@ -23,7 +23,7 @@ IsPart parts id = id < length parts
 abbrev pub part_kinds : List Spot → ℕ → Kinds
 part_kinds = below_node
 
--- the parts below have greater numbers
+-- the part is there, and its number is greater
 pub record IsBelow (parts : List Spot) (id below : ℕ) : Type 0 where
   pub later : id < below
   pub part : IsPart parts below
@@ -34,13 +34,9 @@ shape_kind shapes.Table = a_table
 shape_kind shapes.Array = an_array
 shape_kind (shapes.Scalar s) = a_scalar (scalar_value s)
 
--- in a part that may not be there
-abbrev pub kinds_in : List Spot → Option ℕ → Kinds
-kinds_in parts id = within (option_map (part_kinds parts) id)
-
 -- the items are the parts at the indices of a part, in order, and nothing stands at any other index
 pub record AreItems (parts : List Spot) (id : ℕ) (items : List ℕ) : Type 0 where
-  pub each : (i : ℕ) (at : Address) → part_kinds parts id (Index i ∷ at) ≡ kinds_in parts (slice_get items i) at
+  pub each : (i : ℕ) (at : Address) → part_kinds parts id (Index i ∷ at) ≡ below_in parts (slice_get items i) at
   pub below : (i d : ℕ) → i < length items → IsBelow parts id (slice_index_or items i d)
 
 -- names and parts, by the names' bytes

@@ -42,7 +42,7 @@ pub fn own_name(alloc: Global, text: &str) -> Result<Name, AllocError>
     ensures { IfOk result (λ name. name ≡ spelled_name text.now) }
 {
     let name = spelled_name(alloc, text)?;
-    Name::of(name.into_owned(alloc)?)
+    Name::spelled(alloc, name.as_str())
 }
 
 /// The address of a whole key in the table at the address (TOML v1.0.0, Keys).

@@ -1,4 +1,5 @@
 //! What a key part and a value mean by themselves.
 
 pub mod keys;
+pub mod scalars;
 pub mod values;

@@ -1,5 +1,5 @@
 //! Sets of names.
-ghost use Rattle.std.specs.Prelude.{◌≡◌, ◌||◌, OnOk, List, ℕ, false};
+ghost use Rattle.std.specs.Prelude.{◌≡◌, ◌||◌, OnErr, OnOk, List, ℕ, false};
 ghost use Rattle.std.specs.Str.{bytes_eq};
 ghost use Rattle.toml_names.specs.model.NameSets.{has_name};
 
@@ -22,9 +22,10 @@ impl<'e> NameSet<'e> {
         }
     }
 
-    /// Puts a name in.
+    /// Puts a name in. Where that lacks memory the names are as they were.
     pub fn add(&mut self, name: &'e str) -> Result<(), AllocError>
-        ensures { OnOk result ((n : List ℕ) → has_name self.new n ≡ bytes_eq name.now n || has_name self.old n) }
+        ensures unchanged { OnErr result ((n : List ℕ) → has_name self.new n ≡ has_name self.old n) }
+        ensures added { OnOk result ((n : List ℕ) → has_name self.new n ≡ bytes_eq name.now n || has_name self.old n) }
     {
         self.names.insert(name.as_bytes(), ())?;
         Ok(())

@@ -1,16 +1,17 @@
 //! Whether the same stands in two trees of names, at a node of each and below it. As in `holding.rt` nothing is built for
 //! that, and all is judged by the links of the nodes. Of two scalars that are spelled alike no value is made.
 ghost use Rattle.std.specs.Prelude.{◌≡◌, ◌↔◌, ◌<◌, IsTrue, IfOk, Some, vec_len};
-ghost use Rattle.toml_scalar.specs.Values.{scalar_of as value_of, scalar_value};
+ghost use Rattle.toml_scalar.specs.Values.{scalar_of as value_of};
 ghost use Rattle.toml_names.specs.mentions.Mentions.{value_or_empty};
 ghost use Rattle.toml_names.specs.mentions.View.{kind as kind_of};
 ghost use Rattle.toml_names.specs.tree.NameTree.{IsTree};
 ghost use Rattle.toml_names.specs.tree.SameBelow.{SameBelow, SameNames, SameElements, SameIn, child_of};
 
+use crate::meaning::scalars::value_spelled;
 use crate::mentions::mention::Kind;
 use crate::tree::name_tree::NameTree;
 use std::alloc::{AllocError, Global};
-use toml_scalar::{Scalar, ScalarKind, is_same, scalar_of};
+use toml_scalar::{ScalarKind, is_same};
 
 impl<'t> NameTree<'t> {
     /// Whether at a node and below it the same stands as at a node of another tree and below that.
@@ -150,15 +151,4 @@ fn is_same_value(
     let value = value_spelled(alloc, kind, token)?;
     let other_value = value_spelled(alloc, other_kind, other_token)?;
     Ok(is_same(&value, &other_value))
-}
-
-/// The value that a token of the kind spells; the empty text where it spells none, as in the data that are built of the
-/// tree.
-fn value_spelled(alloc: Global, kind: ScalarKind, token: &str) -> Result<Scalar, AllocError>
-    ensures { IfOk result (λ s. scalar_value s ≡ value_or_empty (value_of kind token.now)) }
-{
-    match scalar_of(alloc, kind, token)? {
-        Some(scalar) => Ok(scalar),
-        None => Ok(Scalar::Text(String::new(alloc))),
-    }
 }

@@ -9,12 +9,13 @@ ghost use Rattle.toml_names.specs.tree.Held.{Holds};
 ghost use Rattle.toml_names.specs.mentions.Mentions.{a_table, an_array, value_or_empty};
 ghost use Rattle.toml_names.specs.tree.NameTree.{IsTree};
 
+use crate::meaning::scalars::value_spelled;
 use crate::mentions::mention::Kind;
 use crate::model::datum::Datum;
 use crate::tree::name_tree::NameTree;
 use std::alloc::{AllocError, Global};
 use std::collections::BTreeMap;
-use toml_scalar::{Scalar, ScalarKind, is_same, scalar_of};
+use toml_scalar::{Scalar, ScalarKind, is_same};
 
 impl<'t> NameTree<'t> {
     /// Whether the datum has what stands at the node's address and below it, and nothing else.
@@ -92,8 +93,7 @@ impl<'t> NameTree<'t> {
     }
 }
 
-/// Whether the scalar is the value that a token of the kind spells; a token that spells none counts as the empty text, as
-/// in the data that are built of the tree.
+/// Whether the scalar is the value that a token of the kind spells.
 fn is_value(
     alloc: Global,
     kind: ScalarKind,
@@ -102,8 +102,6 @@ fn is_value(
 ) -> Result<bool, AllocError>
     ensures { IfOk result (λ b. IsTrue b ↔ (value_or_empty (value_of kind token.now) ≡ scalar_value scalar.now)) }
 {
-    match scalar_of(alloc, kind, token)? {
-        Some(value) => Ok(is_same(&value, scalar)),
-        None => Ok(is_same(&Scalar::Text(String::new(alloc)), scalar)),
-    }
+    let value = value_spelled(alloc, kind, token)?;
+    Ok(is_same(&value, scalar))
 }

@@ -5,17 +5,16 @@ ghost use Rattle.std.specs.Cmp.Lexicographic.{slice_cmp};
 ghost use Rattle.std.specs.List.Sorted.{IsStrictlySortedBy};
 ghost use Rattle.std.specs.Map.{keys_of};
 ghost use Rattle.std.specs.Ordering.{nat_cmp};
-ghost use Rattle.toml_scalar.specs.Values.{scalar_value};
-ghost use Rattle.toml_names.specs.mentions.Mentions.{a_scalar, token_kind};
 ghost use Rattle.toml_names.specs.reader.Parts.{AreItems, AreMembers, part_kinds, plain_members, shape_kind};
 ghost use Rattle.toml_names.specs.tree.NameMaps.{AreDistinct};
 ghost use Rattle.toml_names.specs.tree.NameTree.{IsTree};
 
+use crate::meaning::scalars::value_spelled;
 use crate::mentions::mention::Kind;
 use crate::tree::name_map::NameMap;
 use crate::tree::name_tree::NameTree;
 use std::alloc::{AllocError, Global};
-use toml_scalar::{Scalar, ScalarKind, scalar_of};
+use toml_scalar::Scalar;
 
 /// What stands at a part of the data: a table, an array, or a scalar and its value.
 #[derive(Drop)]
@@ -35,7 +34,7 @@ impl<'t> NameTree<'t> {
         match self.nodes[id].kind() {
             Kind::Table => Ok(Shape::Table),
             Kind::Array => Ok(Shape::Array),
-            Kind::Scalar(kind, token) => Ok(Shape::Scalar(value(self.alloc, kind, token)?)),
+            Kind::Scalar(kind, token) => { Ok(Shape::Scalar(value_spelled(self.alloc, kind, token)?)) },
         }
     }
 
@@ -58,17 +57,6 @@ impl<'t> NameTree<'t> {
             Some(names) => in_order(self.alloc, names),
             None => Ok(Vec::new(self.alloc)),
         }
-    }
-}
-
-/// The value that a token of the kind spells; a token that spells none counts as the empty text, as in the data that are
-/// built of the tree.
-fn value(alloc: Global, kind: ScalarKind, token: &str) -> Result<Scalar, AllocError>
-    ensures { IfOk result (λ s. token_kind kind token.now ≡ a_scalar (scalar_value s)) }
-{
-    match scalar_of(alloc, kind, token)? {
-        Some(scalar) => Ok(scalar),
-        None => Ok(Scalar::Text(String::new(alloc))),
     }
 }
 

@@ -13,6 +13,7 @@ ghost use Rattle.toml_names.specs.tree.NameTree.{IsTree, IsTreeOf};
 ghost use Rattle.toml_names.specs.tree.Nodes.{Spot, AreSteps, address_at};
 ghost use Rattle.toml_names.specs.mentions.Rules.{max_steps};
 
+use crate::meaning::scalars::value_spelled;
 use crate::mentions::mention::{Kind, Role};
 use crate::mentions::rules::MAX_STEPS;
 use crate::model::address::{Address, Step};
@@ -20,7 +21,7 @@ use crate::model::datum::{Datum, add_member};
 use crate::tree::name_tree::NameTree;
 use std::alloc::{AllocError, Global};
 use std::collections::BTreeMap;
-use toml_scalar::{Scalar, ScalarKind, scalar_of};
+use toml_scalar::ScalarKind;
 
 impl<'t> NameTree<'t> {
     /// The data at a node: what stands at its address and below.
@@ -169,8 +170,5 @@ fn is_mention(role: Role) -> bool
 fn scalar_datum(alloc: Global, kind: ScalarKind, token: &str) -> Result<Datum, AllocError>
     ensures { IfOk result (IsOnly (token_kind kind token.now)) }
 {
-    match scalar_of(alloc, kind, token)? {
-        Some(scalar) => Ok(Datum::Scalar(scalar)),
-        None => Ok(Datum::Scalar(Scalar::Text(String::new(alloc)))),
-    }
+    Ok(Datum::Scalar(value_spelled(alloc, kind, token)?))
 }

@@ -6,7 +6,8 @@ use Rattle.toml_names.proofs.lemmas.mentions.FirstNamed.{suited_root, IsGrown-fi
 use Rattle.toml_names.proofs.lemmas.mentions.Growing.{IsGrown, IsSuited, suited_mention}
 use Rattle.toml_names.proofs.lemmas.mentions.InsideJoins.{pair_puts, inside_puts}
 use Rattle.toml_names.proofs.lemmas.mentions.Offences.{misfit-from_KeepsRules, fits-from_misfit}
-use Rattle.toml_names.proofs.lemmas.mentions.OfOneKind.{one_kind, values_stand_alone, one_kind_new}
+use Rattle.toml_names.proofs.lemmas.mentions.OfOneKind.{first_is_data, one_kind, values_stand_alone, one_kind_new}
+use Rattle.toml_names.specs.model.DataLaws.{LinesHaveData}
 use Rattle.toml_names.proofs.lemmas.mentions.Counting.{count_plain}
 use Rattle.toml_names.proofs.lemmas.mentions.TablesJoin.{tables_at, tables_added}
 
@@ -120,6 +121,9 @@ lines_join lines keeps =
     let is = named_from-is lines (root ∷ []) 0 in
     let none = after_first [] new root (misfit-from_KeepsRules (root ∷ new) [] (subst KeepsRules is keeps)) in
     subst Joined (sym is) (lines_add lines (root ∷ []) 0 (IsGrown-first root refl suited_root refl) refl none).joins
+
+pub lines_have_data : LinesHaveData
+lines_have_data lines keeps = first_is_data (named lines) (lines_join lines keeps)
 
 pub lines_have_one_kind : LinesHaveOneKind
 lines_have_one_kind lines keeps = one_kind (named lines) (lines_join lines keeps)

@@ -1,8 +1,9 @@
 -- A reader that takes one more line, or refuses it.
-use Rattle.toml_names.proofs.Common.{common_steps, ◌≡◌, ℕ, suc, ◌+◌, ◌<◌, List, [], ◌∷◌, ◌++◌, length, take, drop, Option, Some, None, option_map, slice_index_or, map, Bor, refl, sym, ap, subst, ◌∙◌, arith, rules, length_push, get_or_at, take_at, take_all, length-take-le, append_assoc, length-map, line as tree_line, Line, NameFault, Address, IsWithin, EntersLine, Named, named, named_by, AreGood, IsRedefined, IsLong, own_address, line_address, Spot, address_at, IsReader, RefusesLine, StaysShort, RefusesEntry, IsShort, misfit}
+use Rattle.toml_names.proofs.Common.{common_steps, ◌≡◌, ℕ, suc, ◌+◌, ◌<◌, List, [], ◌∷◌, ◌++◌, length, take, drop, Option, Some, None, option_map, slice_index_or, map, Bor, refl, sym, ap, subst, ◌∙◌, arith, rules, length_push, get_or_at, take_at, take_all, length-take-le, append_assoc, length-map, line as tree_line, Line, NameFault, Address, IsWithin, EntersLine, Named, named, named_by, AreGood, KeepsRules, get_or_append_left, length-append, IsRedefined, IsLong, own_address, line_address, Spot, address_at, IsReader, RefusesLine, StaysShort, RefusesEntry, IsShort, misfit}
 use Rattle.toml_tree.specs.declared.line.Line.{Line as TreeLine}
 use Rattle.toml_names.specs.declared.tree.headers.Entered.{Entered}
 use Rattle.toml_names.specs.reader.LineNames.{TakenAreGood}
+use Rattle.toml_names.specs.reader.Names.{FrontsAreGood}
 use Rattle.toml_names.proofs.lemmas.mentions.LineAddresses.{line_addresses}
 use Rattle.toml_names.proofs.lemmas.mentions.NextLine.{named-more, AreGood-more, IsRedefined-at, IsLong-at, IsShort-append, IsShort-behind}
 use Rattle.toml_names.proofs.lemmas.mentions.Offences.{no_misfit}
@@ -78,6 +79,23 @@ module _ (lines : List Line) (l : Line) (i : ℕ) (below : i < length lines) whe
 -- what a reader has taken is good
 pub reader_good : {nodes : List Spot} {lines : List Line} {own : List (Option ℕ)} {at : ℕ} → IsReader nodes lines own at → AreGood lines
 reader_good {lines = lines} reads = ((no_misfit (named lines)).0 reads.stands.good, reads.short)
+
+-- a list of which each pair, or each member, is so, with its front
+keeps_front : (xs ys : List Named) → KeepsRules (xs ++ ys) → KeepsRules xs
+keeps_front xs ys keeps i j d low high =
+    let both = keeps i j d low (omega (arith, high, length-append xs ys)) in
+    rw (get_or_append_left xs ys d i (omega (arith, low, high)), get_or_append_left xs ys d j high) at both
+
+short_front : (xs ys : List Named) → IsShort (xs ++ ys) → IsShort xs
+short_front xs ys short k d low =
+    let one = short k d (omega (arith, low, length-append xs ys)) in
+    rw (get_or_append_left xs ys d k low) at one
+
+pub fronts_are_good : FrontsAreGood
+fronts_are_good lines l good =
+    let new = named_by (named lines) (length lines) l.expr in
+    let all = subst (λ ms. KeepsRules ms × IsShort ms) (named-push lines l) good in
+    (keeps_front (named lines) new all.0, short_front (named lines) new all.1)
 
 pub taken_are_good : TakenAreGood
 taken_are_good names lines h = reader_good h.reads

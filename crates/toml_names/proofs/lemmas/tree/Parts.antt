@@ -8,7 +8,7 @@ use Rattle.std.specs.List.{IsDistinct}
 use Rattle.std.specs.List.Sorted.{IsPermutation, IsSortedBy, IsStrictlySortedBy}
 use Rattle.std.proofs.Common.{Ordering, Less, Equal, Greater}
 use Rattle.std.specs.Ordering.{ordering_reverse, ordering_then, is_lt}
-use Rattle.toml_names.specs.reader.Parts.{AreItems, AreMembers, kinds_in, plain_members}
+use Rattle.toml_names.specs.reader.Parts.{AreItems, AreMembers, plain_members}
 use Rattle.toml_names.proofs.lemmas.tree.Distinct.{found_at}
 use Rattle.toml_names.specs.tree.Held.{below_in}
 use Rattle.toml_names.proofs.lemmas.tree.Held.{at_name, at_index, children_distinct}
@@ -117,15 +117,12 @@ pairs_more names i old new e so_far is pushed =
     ap plain_members pushed ∙ map-append (λ (x : Lent). (x.0.now, x.1)) old (e ∷ []) ∙ ap (λ l. l ++ p ∷ []) so_far
     ∙ ap (λ q. take i names ++ q ∷ []) (sym (get_or_from_slice_get names i p p (sym is))) ∙ sym (take_more names i p (slice_get_within names i p (sym is)))
 
-in_is : (nodes : List Spot) (o : Option ℕ) (at : Address) → below_in nodes o at ≡ kinds_in nodes o at
-in_is nodes None at = refl
-in_is nodes (Some k) at = refl
 
 module _ (nodes : List Spot) (tree : IsTree nodes) (id : ℕ) (low : id < length nodes) where
   pub are_items : (elements : List ℕ) → elements ≡ (slice_index_or nodes id nowhere).elements → AreItems nodes id elements
   are_items elements are = record {
     each = λ i at.
-        at_index nodes tree id low i at ∙ ap (λ es. below_in nodes (slice_get es i) at) (sym are) ∙ in_is nodes (slice_get elements i) at;
+        at_index nodes tree id low i at ∙ ap (λ es. below_in nodes (slice_get es i) at) (sym are);
     below = λ i d at. let b = below_element nodes tree id low elements i d are at in record { later = b.1; part = b.0 };
   }
 

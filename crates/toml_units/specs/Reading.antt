@@ -1,0 +1,38 @@
+-- What is read of a text line by line.
+use Rattle.std.specs.Prelude.{◌≡◌, ℕ, List, Option, Some, None, MatchOption, map}
+use Rattle.toml_tree.specs.HandedOut.{AreLinesIn}
+use Rattle.toml_tree.specs.Tree.{Line}
+use Rattle.toml_tree.specs.declared.profile.Profile.{Profile}
+use Rattle.toml_names.specs.model.Documents.{IsDocumentIn}
+use Rattle.toml_names.specs.reader.LineNames.{StandFor}
+use Rattle.toml_names.specs.reader.Names.{AreGood}
+use Rattle.toml_units.specs.declared.reading.ReadText.{ReadText}
+use Rattle.toml_units.specs.Plain.{plain_units}
+use Rattle.toml_units.specs.Units.{units}
+use Rattle.toml_units.specs.View.{spanned, all_units}
+
+-- the newlines of lines, the empty text where a line has none
+abbrev pub newlines : List Line → List (List ℕ)
+newlines lines = map (λ (l : Line). l.newline.text) lines
+
+-- the lines were taken: what was read are their names, their units by spans, and their newlines
+pub record HasTaken (read : ReadText) (lines : List Line) : Type 0 where
+  pub names : StandFor read.names lines
+  pub units : all_units read.units.items ≡ plain_units lines
+  pub newlines : map (λ t. t.now) read.newlines.items ≡ newlines lines
+
+-- what is read of lines; nothing where their names break the rules
+abbrev pub SoFar : Option ReadText → List Line → Type 0
+SoFar found lines = MatchOption found (¬ AreGood lines) (λ read. HasTaken read lines)
+
+-- it is what is read of the text, all of whose lines these are
+pub record IsTextRead (profile : Profile) (text : List ℕ) (read : ReadText) : Type 0 where
+  pub lines : List Line
+  pub are : AreLinesIn profile text lines
+  pub names : StandFor read.names lines
+  pub units : all_units read.units.items ≡ map spanned (units lines)
+  pub newlines : map (λ t. t.now) read.newlines.items ≡ newlines lines
+
+-- that of the text; without it the text is no document of the profile
+abbrev pub FindsText : Profile → List ℕ → Option ReadText → Type 0
+FindsText profile text found = MatchOption found (¬ IsDocumentIn profile text) (IsTextRead profile text)

@@ -1,0 +1,111 @@
+//! A text read line by line: what its lines name, and its units. No line is kept.
+ghost use Rattle.std.specs.Prelude.{◌≡◌, ◌<◌, ◌∷◌, ◌++◌, List, [], length, map, IfOk, OnOk};
+ghost use Rattle.toml_text.specs.Source.{text_of};
+ghost use Rattle.toml_tree.specs.Lines.{line as tree_line};
+ghost use Rattle.toml_tree.specs.Tree.{Line as Lined};
+ghost use Rattle.toml_units.specs.Plain.{line_spans};
+ghost use Rattle.toml_units.specs.Reading.{FindsText, HasTaken, SoFar};
+ghost use Rattle.toml_units.specs.View.{all_units};
+
+use crate::lines::push_line_at;
+use crate::unit::Unit;
+use std::alloc::{AllocError, Global};
+use toml_names::{Address, LineNames, NameFault};
+use toml_text::Source;
+use toml_tree::{Line, LineReader, Profile, SyntaxFault};
+
+/// What is read of a text: what its lines name, its units in text order, and the newline of each of its lines, the empty
+/// text where a line has none.
+#[derive(Drop)]
+pub struct ReadText<'t> {
+    pub names: LineNames<'t>,
+    pub units: Vec<Unit>,
+    pub newlines: Vec<&'t str>,
+}
+
+impl<'t> ReadText<'t> {
+    /// Nothing is read yet.
+    fn new(alloc: Global, source: Source<'t>) -> Result<ReadText<'t>, AllocError>
+        ensures { IfOk result (λ read. HasTaken read []) }
+    {
+        Ok(ReadText {
+            names: LineNames::new(alloc, source)?,
+            units: Vec::new(alloc),
+            newlines: Vec::new(alloc),
+        })
+    }
+
+    /// Adds the units and the newline of a line whose value, table or element has the address.
+    fn push(
+        &mut self,
+        alloc: Global,
+        own: Option<Address>,
+        line: &Line<'t>,
+    ) -> Result<(), AllocError>
+        ensures names { self.new.names ≡ self.old.names }
+        ensures units { OnOk result (all_units self.new.units.items ≡ all_units self.old.units.items ++ line_spans own (tree_line line.now).expr) }
+        ensures newlines { OnOk result (map (λ t. t.now) self.new.newlines.items ≡ map (λ t. t.now) self.old.newlines.items ++ (tree_line line.now).newline.text ∷ []) }
+    {
+        push_line_at(alloc, &mut self.units, own, line.expr())?;
+        self.newlines.push(line.newline().text)?;
+        Ok(())
+    }
+}
+
+/// What was read with one line more, which is let go; none where the lines' names break the rules.
+fn with_line<'t>(
+    alloc: Global,
+    read: ReadText<'t>,
+    line: Line<'t>,
+) -> Result<Option<ReadText<'t>>, AllocError>
+    requires { (lines : List Lined) × HasTaken read lines × (length lines < 18446744073709551615) }
+    ensures { IfOk result (λ more. (lines : List Lined) → HasTaken read.entry lines → SoFar more (lines ++ tree_line line.entry ∷ [])) }
+{
+    let mut read = read;
+    match read.names.take_at(&line) {
+        Ok(own) => {
+            read.push(alloc, own, &line)?;
+            Ok(Some(read))
+        }
+        Err(NameFault::NoMemory) => Err(AllocError),
+        Err(_) => Ok(None),
+    }
+}
+
+/// The same where it may be that names have broken the rules already.
+fn with_next<'t>(
+    alloc: Global,
+    so_far: Option<ReadText<'t>>,
+    line: Line<'t>,
+) -> Result<Option<ReadText<'t>>, AllocError>
+    requires { (lines : List Lined) × SoFar so_far lines × (length lines < 18446744073709551615) }
+    ensures { IfOk result (λ more. (lines : List Lined) → SoFar so_far.entry lines → SoFar more (lines ++ tree_line line.entry ∷ [])) }
+{
+    match so_far {
+        Some(read) => with_line(alloc, read, line),
+        None => Ok(None),
+    }
+}
+
+/// What is read of a text; none where it is no document of the profile. One line at a time stands in memory as a tree.
+pub fn read_text<'t>(
+    alloc: Global,
+    source: Source<'t>,
+    profile: Profile,
+) -> Result<Option<ReadText<'t>>, AllocError>
+    ensures { IfOk result (FindsText profile (text_of source.entry)) }
+{
+    let mut so_far = Some(ReadText::new(alloc, source)?);
+    let mut left = Some(LineReader::new(source, profile));
+    while let Some(reader) = left {
+        match reader.next(alloc) {
+            Ok((line, more)) => {
+                so_far = with_next(alloc, so_far, line)?;
+                left = more;
+            }
+            Err(SyntaxFault::NoMemory) => return Err(AllocError),
+            Err(_) => return Ok(None),
+        }
+    }
+    Ok(so_far)
+}
