@@ -1,5 +1,5 @@
 //! The tree of names of lines that are let go once they are entered.
-ghost use Rattle.std.specs.Prelude.{◌<◌, ◌∷◌, ◌++◌, List, [], length, IfOk};
+ghost use Rattle.std.specs.Prelude.{◌≡◌, ◌<◌, ◌∷◌, ◌++◌, List, [], length, IfOk};
 ghost use Rattle.toml_tree.specs.Lines.{line as tree_line};
 ghost use Rattle.toml_tree.specs.Tree as spelled;
 ghost use Rattle.toml_names.specs.reader.LineNames.{Enters, Stand, StandFor, Takes, TakesAt};
@@ -32,9 +32,10 @@ impl<'t> LineNames<'t> {
         LineNames::keyed(alloc, key_of_text(source))
     }
 
-    /// The names of no line. They are hashed by this key.
-    fn keyed(alloc: Global, key: u64) -> Result<LineNames<'t>, AllocError>
-        ensures { IfOk result (λ names. StandFor names []) }
+    /// The names of no line, which are hashed by this key.
+    pub(crate) fn keyed(alloc: Global, key: u64) -> Result<LineNames<'t>, AllocError>
+        ensures stand { IfOk result (λ names. StandFor names []) }
+        ensures lookups { IfOk result (λ names. names.tree.lookups ≡ 0) }
     {
         let hashing = NameHashing::keyed(key);
         Ok(LineNames {

@@ -93,7 +93,7 @@ impl<'d, 't> NameReader<'d, 't> {
         ensures { IfOk result (λ d. IsDataOf (named_of (lines_of self.now)) (kind_at d.root)) }
     {
         Ok(Data {
-            root: self.tree.datum(0)?,
+            root: self.names.tree.datum(0)?,
         })
     }
 
@@ -101,7 +101,7 @@ impl<'d, 't> NameReader<'d, 't> {
     pub fn place(&self, at: &Address) -> Option<Place>
         ensures { result ≡ place (named_of (lines_of self.now)) at.now }
     {
-        self.tree.place(at)
+        self.names.tree.place(at)
     }
 
     /// The address of each line's value, table or element, line by line; none for a blank line. They share the text of
@@ -109,7 +109,7 @@ impl<'d, 't> NameReader<'d, 't> {
     pub fn own_addresses(&self) -> Result<Vec<Option<Address>>, AllocError>
         ensures { IfOk result (λ list. AreOwnAddresses (lines_of self.now) list.items) }
     {
-        self.tree.addresses_of(&self.own)
+        self.names.tree.addresses_of(&self.own)
     }
 
     /// The names of the lines taken. Where a growth is refused nothing is handed back.
@@ -118,13 +118,13 @@ impl<'d, 't> NameReader<'d, 't> {
         ensures good { OnOk result (AreGood (lines_of self.entry)) }
         ensures lookups { IfOk result (λ names. names.lookups ≡ self.entry.lookups) }
     {
-        let alloc = self.tree.alloc;
+        let alloc = self.names.tree.alloc;
         let data = self.data()?;
-        let first = self.tree.first_mentions()?;
-        let ranks = self.tree.ranks()?;
+        let first = self.names.tree.first_mentions()?;
+        let ranks = self.names.tree.ranks()?;
         let own = ranks_of(alloc, &self.own, &ranks)?;
         Ok(Names {
-            tree: self.tree,
+            tree: self.names.tree,
             lines: self.taken,
             data,
             first,

@@ -22,26 +22,25 @@ use toml_tree::Line;
 /// the count of look-ups.
 #[derive(Drop)]
 pub struct NameReader<'d, 't> {
-    pub(crate) tree: NameTree<'t>,
+    pub(crate) names: LineNames<'t>,
     pub(crate) taken: Vec<&'d Line<'t>>,
     // for each line the node of its value, table or element
     pub(crate) own: Vec<Option<usize>>,
-    // the node of the last header's table
-    section: usize,
 }
 
 impl<'d, 't> Model for NameReader<'d, 't> {
     ghost use Rattle.std.specs.Prelude.{◌≡◌, [], map};
     ghost use Rattle.toml_tree.specs.Lines.{line as tree_line};
-    ghost use Rattle.toml_names.specs.reader.Reading.{ReaderState, reader_code, IsReader};
+    ghost use Rattle.toml_names.specs.reader.LineNames.{Keeps};
+    ghost use Rattle.toml_names.specs.reader.Reading.{ReaderState, reader_code};
 
     ghost Value = { ReaderState };
 
     ghost coded = { reader_code };
 
-    ghost view = { λ r. record { taken = map (λ l. l.now) r.taken.items; lookups = r.tree.lookups } };
+    ghost view = { λ r. record { taken = map (λ l. l.now) r.taken.items; lookups = r.names.tree.lookups } };
 
-    ghost invariant = { λ r. IsReader r.tree.nodes.items (map tree_line (map (λ l. l.now) r.taken.items)) r.own.items r.section × (r.tree.changes.items ≡ []) };
+    ghost invariant = { λ r. Keeps r.names (map tree_line (map (λ l. l.now) r.taken.items)) r.own.items };
 }
 
 impl<'t> NameTree<'t> {
@@ -111,12 +110,10 @@ impl<'d, 't> NameReader<'d, 't> {
         ensures taken { IfOk result (λ r. r.taken ≡ []) }
         ensures lookups { IfOk result (λ r. r.lookups ≡ 0) }
     {
-        let hashing = NameHashing::keyed(key);
         Ok(NameReader {
-            tree: NameTree::new(alloc, hashing, Role::Bare, Kind::Table)?,
+            names: LineNames::keyed(alloc, key)?,
             taken: Vec::new(alloc),
             own: Vec::new(alloc),
-            section: 0,
         })
     }
 
@@ -136,22 +133,27 @@ impl<'d, 't> NameReader<'d, 't> {
         self.taken.reserve(1)?;
         self.own.reserve(1)?;
         let number = self.taken.len();
-        let entered = self.tree.take_line(self.section, number, line)?;
+        let section = self.names.section;
+        let entered = self.names.tree.take_line(section, number, line)?;
         self.own.push(entered.own)?;
         self.taken.push(line)?;
-        self.section = entered.section;
+        self.names.section = entered.section;
+        self.names.count = self.taken.len();
         Ok(())
     }
 
-    /// What the lines taken name, without the lines.
+    /// What the lines taken name.
+    pub fn names(&self) -> &LineNames<'t>
+        ensures { StandFor result.now (lines_of self.now) }
+    {
+        &self.names
+    }
+
+    /// The same, without the lines.
     pub fn into_names(self) -> LineNames<'t>
         ensures { StandFor result (lines_of self.entry) }
     {
-        LineNames {
-            tree: self.tree,
-            section: self.section,
-            count: self.taken.len(),
-        }
+        self.names
     }
 
     /// The lines taken, which are good together.
@@ -166,6 +168,6 @@ impl<'d, 't> NameReader<'d, 't> {
     pub fn lookups(&self) -> u64
         ensures { result ≡ self.now.lookups }
     {
-        self.tree.lookups
+        self.names.tree.lookups
     }
 }

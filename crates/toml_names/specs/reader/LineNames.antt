@@ -10,12 +10,16 @@ use Rattle.toml_names.specs.reader.Reading.{IsReader}
 use Rattle.toml_names.specs.tree.EnteringLines.{IsWithin}
 use Rattle.toml_names.specs.tree.Nodes.{address_at}
 
--- the names stand for what these lines name, and all changes are settled
-pub record StandFor (names : Names) (lines : List Line) : Type 0 where
-  pub own : List (Option ℕ)
+-- the names stand for what these lines name, of which each has its own node, and all changes are settled
+pub record Keeps (names : Names) (lines : List Line) (own : List (Option ℕ)) : Type 0 where
   pub reads : IsReader names.tree.nodes.items lines own names.section
   pub counted : names.count ≡ length lines
   pub settled : names.tree.changes.items ≡ []
+
+-- the names stand for what these lines name
+pub record StandFor (names : Names) (lines : List Line) : Type 0 where
+  pub own : List (Option ℕ)
+  pub keeps : Keeps names lines own
 
 -- they do for some lines
 abbrev pub Stand : Names → Type 0

@@ -34,7 +34,9 @@ impl<'t> NameTree<'t> {
         match self.nodes[id].kind() {
             Kind::Table => Ok(Shape::Table),
             Kind::Array => Ok(Shape::Array),
-            Kind::Scalar(kind, token) => { Ok(Shape::Scalar(value_spelled(self.alloc, kind, token)?)) },
+            Kind::Scalar(kind, token) => {
+                Ok(Shape::Scalar(value_spelled(self.alloc, kind, token)?))
+            },
         }
     }
 

@@ -98,7 +98,7 @@ fronts_are_good lines l good =
     (keeps_front (named lines) new all.0, short_front (named lines) new all.1)
 
 pub taken_are_good : TakenAreGood
-taken_are_good names lines h = reader_good h.reads
+taken_are_good names lines h = reader_good h.keeps.reads
 
 module _ (old new : List Spot) (lines : List Line) (own : List (Option ℕ)) (at : ℕ) (l : Line) (e : Entered)
     (reads : IsReader old lines own at) (enters : EntersLine old new at (length lines) l.expr e) (short : StaysShort old at (length lines) l.expr) where

@@ -117,7 +117,6 @@ pairs_more names i old new e so_far is pushed =
     ap plain_members pushed ∙ map-append (λ (x : Lent). (x.0.now, x.1)) old (e ∷ []) ∙ ap (λ l. l ++ p ∷ []) so_far
     ∙ ap (λ q. take i names ++ q ∷ []) (sym (get_or_from_slice_get names i p p (sym is))) ∙ sym (take_more names i p (slice_get_within names i p (sym is)))
 
-
 module _ (nodes : List Spot) (tree : IsTree nodes) (id : ℕ) (low : id < length nodes) where
   pub are_items : (elements : List ℕ) → elements ≡ (slice_index_or nodes id nowhere).elements → AreItems nodes id elements
   are_items elements are = record {

@@ -8,8 +8,8 @@ returns-in_err-entered c = λ lines h.
     let r = c.args.self.now in
     let l = tree_line c.args.line.now in
     let p = err_from_is_err_and c.from_residual.result c.from_residual.ensures.1 in
-    let refused = subst (λ (n : ℕ). RefusesEntry r.tree.nodes.items r.section n l.expr c.in_err-entered.field-0.0) h.counted c.in_err-entered.ensures.taken.0 in
-    rw (p.1, p.2) (refused_with lines l _ (refuses-line r.tree.nodes.items lines h.own r.section l _ h.reads refused))
+    let refused = subst (λ (n : ℕ). RefusesEntry r.tree.nodes.items r.section n l.expr c.in_err-entered.field-0.0) h.keeps.counted c.in_err-entered.ensures.taken.0 in
+    rw (p.1, p.2) (refused_with lines l _ (refuses-line r.tree.nodes.items lines h.own r.section l _ h.keeps.reads refused))
 
 pub returns : goal.returns
 returns c = λ lines h.
@@ -20,10 +20,12 @@ returns c = λ lines h.
     record {
       stands = record {
         own = h.own ++ e.own ∷ [];
-        reads = took r.tree.nodes.items c.take_line.new.self.nodes.items lines (lines ++ l ∷ []) h.own (h.own ++ e.own ∷ []) r.section r.count l e h.reads h.counted entry.enters entry.short refl refl;
-        counted = omega (arith, h.counted, length_push lines l);
-        settled = c.in_ok-entered.ensures.settled;
+        keeps = record {
+          reads = took r.tree.nodes.items c.take_line.new.self.nodes.items lines (lines ++ l ∷ []) h.own (h.own ++ e.own ∷ []) r.section r.count l e h.keeps.reads h.keeps.counted entry.enters entry.short refl refl;
+          counted = omega (arith, h.keeps.counted, length_push lines l);
+          settled = c.in_ok-entered.ensures.settled;
+        };
       };
       within = entry.enters.own_within;
-      own = entry.enters.own (named lines) h.reads.stands h.reads.table;
+      own = entry.enters.own (named lines) h.keeps.reads.stands h.keeps.reads.table;
     }

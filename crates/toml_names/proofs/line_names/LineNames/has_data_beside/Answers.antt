@@ -12,15 +12,15 @@ module _ {E : Type 0} (self other : LineNames) (set : NameSet) (d : Datum) where
   told : (r : Result Bool E) → IfOk r (λ b. IsTrue b ↔ HoldsBeside self.tree.nodes.items other.tree.nodes.items set d)
       → IfOk r (λ b. (lines others : List Line) → StandFor self lines → StandFor other others → (old : Kinds) → IsDataOf (named others) old
       → (IsTrue b ↔ IsDataOf (named lines) (beside set old (kind_at d))))
-  told (Ok b) holds = λ lines others s o. told_beside self.tree.nodes.items lines s.own self.section s.reads other.tree.nodes.items others o.own other.section o.reads {E = E} set d (Ok b) holds
+  told (Ok b) holds = λ lines others s o. told_beside self.tree.nodes.items lines s.own self.section s.keeps.reads other.tree.nodes.items others o.own other.section o.keeps.reads {E = E} set d (Ok b) holds
   told (Err e) holds = holds
 
 pub holds_beside-requires : goal.holds_beside-requires
 holds_beside-requires c =
     let r = c.args.self.now in
     let stand = c.requires.stand in
-    let reads = stand.1.reads in
-    record { tree = reads.stands.tree; table = root_is_table r.tree.nodes.items stand.0 stand.1.own r.section reads; other_tree = c.requires.other.1.reads.stands.tree }
+    let reads = stand.1.keeps.reads in
+    record { tree = reads.stands.tree; table = root_is_table r.tree.nodes.items stand.0 stand.1.own r.section reads; other_tree = c.requires.other.1.keeps.reads.stands.tree }
 
 pub returns : goal.returns
 returns c = told c.args.self.now c.args.other.now c.args.names.now c.args.data.now.root c.holds_beside.result c.holds_beside.ensures

@@ -15,4 +15,4 @@ address-requires-clause-within c =
 pub address-requires-clause-tree : goal.address-requires-clause-tree
 address-requires-clause-tree c =
     let stand = c.requires.stand in
-    (c.in_ok-node.ensures stand.0 stand.1).stands.reads.stands.tree
+    (c.in_ok-node.ensures stand.0 stand.1).stands.keeps.reads.stands.tree
