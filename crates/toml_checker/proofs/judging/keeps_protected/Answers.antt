@@ -1,6 +1,5 @@
 use Rattle.std.proofs.Common.{map, subst, sym}
 use Rattle.std.proofs.lemmas.Result.{IfOk-weaker}
-use Rattle.toml_tree.specs.Document.{document}
 use Rattle.toml_edits.specs.Edits.{change}
 use Rattle.toml_units.specs.Units.{units}
 use Rattle.toml_checker.specs.Plain.{TellProtected}
@@ -10,5 +9,4 @@ use Rattle.toml_checker.proofs.judging.keeps_protected.Goals as goal
 pub returns : goal.returns
 returns c =
     let cs = map change c.args.edits.now in
-    let d = document c.args.before.doc.now in
-    IfOk-weaker c.all_kept.result _ _ (λ kept h. h cs d c.args.before.text.now c.requires.spelled c.requires.units (set_is_protected cs (units d.lines) c.deref.result.now (subst (TellProtected cs (units d.lines)) (sym c.deref.ensures.value) (c.in_ok-flags.ensures (units d.lines) c.requires.units)))) c.all_kept.ensures
+    IfOk-weaker c.all_kept.result _ _ (λ kept h d is. h cs d c.args.before.text.now is.spelled is.units (set_is_protected cs (units d.lines) c.deref.result.now (subst (TellProtected cs (units d.lines)) (sym c.deref.ensures.value) (c.in_ok-flags.ensures (units d.lines) is.units)))) c.all_kept.ensures
