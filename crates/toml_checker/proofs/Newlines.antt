@@ -2,7 +2,7 @@
 use Rattle.std.proofs.Common.{◌≡◌, ℕ, inl, inr, List, length, map, sym, ap, subst, ◌∙◌}
 use Rattle.std.proofs.lemmas.List.{length-map}
 use Rattle.std.proofs.lemmas.Option.{slice_get-map}
-use Rattle.std.specs.Prelude.{◌↔◌, Bor, option_map, slice_get}
+use Rattle.std.specs.Prelude.{◌↔◌, option_map, slice_get}
 use Rattle.toml_tree.specs.Tree.{Doc, Line}
 use Rattle.toml_units.specs.Units.{units}
 use Rattle.toml_checker.specs.declared.documents.Document.{Document}

@@ -12,9 +12,7 @@ ghost use Rattle.toml_checker.specs.Kept.{AllKept};
 ghost use Rattle.toml_checker.specs.Reading.{IsRead, IsReadAs};
 
 use crate::comments::no_comments_added;
-use crate::documents::{
-    Document, last_units, newlines_of, read_all_lines, read_tree, units_of,
-};
+use crate::documents::{Document, last_units, newlines_of, read_all_lines, read_tree, units_of};
 use crate::facts::{Made, are_made, make};
 use crate::frame::keeps_frame;
 use crate::kept::all_kept;

@@ -164,12 +164,7 @@ fn stands_as(
     if !is_line(one.kind) {
         return Ok(true);
     }
-    Ok(have_one_newline(
-        before.newlines,
-        first.lines,
-        after.newlines,
-        second.lines,
-    ))
+    Ok(have_one_newline(before.newlines, first.lines, after.newlines, second.lines))
 }
 
 /// Walks on to the units of a pair and past them, if its numbers are not below those of the units walked past and its

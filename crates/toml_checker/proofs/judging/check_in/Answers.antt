@@ -29,11 +29,14 @@ judge_after-requires c =
     let tree = subst (FindsTree c.args.profile before) c.in-Some.is c.in_ok-doc.ensures in
     let lines = subst (FindsLines c.in-Some.doc) c.in-Some-2.is c.in_ok-names.ensures in
     record {
-      read = (d, record {
-        spelled = tree.1;
-        units = subst (AreUnitsOf c.in-Some.doc) (sym c.deref.ensures.value) c.in_ok-units.ensures;
-        newlines = subst (AreNewlinesOf c.in-Some.doc) (sym c.deref-2.ensures.value) c.in_ok-newlines.ensures;
-      });
+      read = (
+        d,
+        record {
+          spelled = tree.1;
+          units = subst (AreUnitsOf c.in-Some.doc) (sym c.deref.ensures.value) c.in_ok-units.ensures;
+          newlines = subst (AreNewlinesOf c.in-Some.doc) (sym c.deref-2.ensures.value) c.in_ok-newlines.ensures;
+        },
+      );
       document = (tree.0, d, tree.1, lines.0, tree.2);
       made = gives_made c.args.profile before d (fact_at (named d.lines)) cs c.in_ok-made.made (lines_have_data before d tree.1 lines.0) (subst (λ (ls : List Line). Makes c.args.profile ls cs c.in_ok-made.made) lines.1 c.in_ok-made.ensures);
     }

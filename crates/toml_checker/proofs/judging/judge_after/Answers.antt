@@ -51,9 +51,11 @@ judge-requires-clause-so_far c =
 pub judge-requires-clause-after : goal.judge-requires-clause-after
 judge-requires-clause-after c =
     let after = c.args.after.now in
-    let tree = subst (FindsTree c.args.profile after) c.in-Some.is c.in_ok-doc.ensures in
-    (document c.in-Some.doc, record {
-      spelled = tree.1;
-      units = subst (AreUnitsOf c.in-Some.doc) (sym c.deref.ensures.value) c.in_ok-units.ensures;
-      newlines = subst (AreNewlinesOf c.in-Some.doc) (sym c.deref-2.ensures.value) c.in_ok-newlines.ensures;
-    })
+    let tree = subst (FindsTree c.args.profile after) c.in-Some.is c.in_ok-doc.ensures in (
+      document c.in-Some.doc,
+      record {
+        spelled = tree.1;
+        units = subst (AreUnitsOf c.in-Some.doc) (sym c.deref.ensures.value) c.in_ok-units.ensures;
+        newlines = subst (AreNewlinesOf c.in-Some.doc) (sym c.deref-2.ensures.value) c.in_ok-newlines.ensures;
+      },
+    )
