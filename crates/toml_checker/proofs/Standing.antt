@@ -62,11 +62,3 @@ no_second cs a d e i k p h (inr far) = λ n. let there = as_many a.units.now (un
 -- units that do not stand as each other do not fit
 pub no_stand : (cs : List Change) (d e : Doc) (i k m n : ℕ) (p : ℕ × ℕ) (found : Bool) → m ≡ p.0 → n ≡ p.1 → IsTrue found ↔ StandsAs cs d e m n → found ≡ false → ¬ NextFits cs d e i k p
 no_stand cs d e i k m n p found first second h no_ = λ fits. unlike_bool found (h.1 (subst (λ (x : ℕ). StandsAs cs d e x n) (sym first) (subst (λ (x : ℕ). StandsAs cs d e p.0 x) (sym second) fits.stands))) no_
-
--- and those that do fit
-pub they_fit : (cs : List Change) (d e : Doc) (i k m n : ℕ) (p : ℕ × ℕ) (found : Bool) → i ≤ p.0 → k ≤ p.1 → m ≡ p.0 → n ≡ p.1 → IsTrue found ↔ StandsAs cs d e m n → found ≡ true → NextFits cs d e i k p
-they_fit cs d e i k m n p found low also first second h is = record {
-  first = low;
-  second = also;
-  stands = subst (λ (x : ℕ). StandsAs cs d e x p.1) first (subst (λ (x : ℕ). StandsAs cs d e m x) second (h.0 is));
-}
