@@ -16,11 +16,18 @@ fn mark(text: &[u8]) -> &[u8]
     }
 }
 
+/// Whether the mark is in both texts or in neither.
+fn have_one_mark(before: &[u8], after: &[u8]) -> bool
+    ensures { IsTrue result ↔ (mark_of before.now ≡ mark_of after.now) }
+{
+    mark(before) == mark(after)
+}
+
 /// Whether the mark is in both texts or in neither, and the texts are equal where there is no edit.
 pub(crate) fn keeps_frame(before: &[u8], edits: &[Edit], after: &[u8]) -> bool
     ensures { IsTrue result ↔ KeepsFrame (map change edits.now) before.now after.now }
 {
-    if mark(before) != mark(after) {
+    if !have_one_mark(before, after) {
         return false;
     }
     !edits.is_empty() || before == after

@@ -32,6 +32,7 @@ fn keeps_protected(
     edits: &[Edit],
     pairs: &[(u64, u64)],
 ) -> Result<bool, AllocError>
+    requires { IsRead before }
     ensures { IfOk result (λ kept. (d : Doc) → IsReadAs before.entry d → (IsTrue kept ↔ AllKept (map change edits.now) d pairs.now)) }
 {
     let flags = protected(alloc, before.units, edits)?;
