@@ -1,4 +1,4 @@
-use Rattle.std.proofs.Common.{◌≡◌, ◌↔◌, Bool, true, not, List, length, map, sym, ap, subst, ◌∙◌}
+use Rattle.std.proofs.Common.{◌≡◌, ◌↔◌, Bool, true, not, List, length, map, ap, subst}
 use Rattle.std.proofs.lemmas.List.{length-map}
 use Rattle.toml_edits.specs.Edits.{Change, change}
 use Rattle.toml_units.specs.View.{unit, all_units}
