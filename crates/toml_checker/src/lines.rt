@@ -66,7 +66,7 @@ fn are_asked(units: &[Unit], paired: &[bool], debts: &[Debt], edited: bool, line
 }
 
 /// Whether each line of a document is paired, or its address is owed, or it is the last one, of no bytes, and there is an
-/// edit. The document has so many lines, the units are its, and the pairs' second numbers count them.
+/// edit. The document has so many lines and these units, which the pairs' second numbers count.
 pub(crate) fn no_lines_added(
     alloc: Global,
     lines: usize,
