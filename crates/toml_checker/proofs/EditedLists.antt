@@ -10,3 +10,7 @@ some_edits (e ∷ es) b h = ((λ t same. cc), (λ some. h ∙ ap not more))
   where
     more : (length (e ∷ es) == 0) ≡ false
     more = grind (arith, nat_tests)
+
+pub no_edits : (es : List Edit) → (length es == 0) ≡ true → map change es ≡ []
+no_edits [] h = refl
+no_edits (e ∷ es) h = let more : (length (e ∷ es) == 0) ≡ false = grind (arith, nat_tests) in cc

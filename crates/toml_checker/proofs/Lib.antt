@@ -4,6 +4,7 @@ pub mod Edits
 pub mod CarriedSoFar
 pub mod Counted
 pub mod Seen
+pub mod Newlines
 pub mod Standing
 pub mod Resting
 pub mod Each

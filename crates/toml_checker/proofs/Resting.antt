@@ -1,10 +1,12 @@
 -- The pairs that are left, and whether all fit.
-use Rattle.std.proofs.Common.{◌≡◌, ℕ, ◌+◌, ◌<◌, ◌≤◌, true, false, List, [], ◌∷◌, length, drop, get_or, refl, sym, subst, true≢false, arith}
+use Rattle.std.proofs.Common.{◌≡◌, ℕ, ◌+◌, ◌<◌, ◌≤◌, true, false, List, [], ◌∷◌, Option, length, drop, get_or, refl, sym, subst, true≢false, arith}
 use Rattle.std.specs.Prelude.{◌↔◌, IsTrue}
 use Rattle.toml_tree.specs.Tree.{Doc}
 use Rattle.toml_edits.specs.Edits.{Change}
+use Rattle.toml_checker.specs.declared.documents.Document.{Document}
+use Rattle.toml_checker.specs.declared.pairs.Passed.{Passed}
 use Rattle.toml_checker.specs.Pairs.{Rise, RiseFrom, PairsFit}
-use Rattle.toml_checker.specs.Walking.{NextFits, RestFits, RiseAt}
+use Rattle.toml_checker.specs.Walking.{NextFits, PassesPair, RestFits, RiseAt}
 use Rattle.toml_checker.proofs.CarriedSoFar.{dropped, none_left}
 
 -- all fit exactly where those that are left do, which rise from the units walked past on
@@ -57,3 +59,7 @@ done cs d e ps n i k past h = (
   (λ t. h.rises (subst (RestFits cs d e i k) (sym (none_left ps n past)) (tt, tt))),
   (λ whole. refl),
 )
+
+-- what was found of a pair, for the edits of the list
+pub passes_as : (xs cs : List Change) (b a : Document) (first second : Passed) (p : ℕ × ℕ) (found it : Option (Passed × Passed)) → xs ≡ cs → found ≡ it → PassesPair xs b a first second p found → PassesPair cs b a first second p it
+passes_as xs cs b a first second p found it same is h = subst (PassesPair cs b a first second p) is (subst (λ (ys : List Change). PassesPair ys b a first second p found) same h)

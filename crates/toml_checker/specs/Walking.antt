@@ -1,15 +1,14 @@
 -- Units walked past in order, and what two units are found to have in common.
-use Rattle.std.specs.Prelude.{◌≡◌, ◌⊎◌, ◌<◌, ◌≤◌, ◌+◌, ℕ, List, [], ◌∷◌, Option, MatchOption, length, take, count_by, option_map, slice_get, slice_range}
-use Rattle.toml_tree.specs.Document.{document}
-use Rattle.toml_tree.specs.Tree.{Doc, Line}
+use Rattle.std.specs.Prelude.{◌≡◌, ◌⊎◌, ◌<◌, ◌≤◌, ◌+◌, ℕ, List, [], ◌∷◌, Option, MatchOption, length, take, count_by, slice_get, slice_range}
+use Rattle.toml_tree.specs.Tree.{Doc}
 use Rattle.toml_edits.specs.Edits.{Change}
 use Rattle.toml_units.specs.declared.unit.Unit.{Unit as Made}
 use Rattle.toml_units.specs.Places.{is_line}
 use Rattle.toml_checker.specs.declared.documents.Document.{Document}
 use Rattle.toml_checker.specs.declared.pairs.Passed.{Passed}
 use Rattle.toml_checker.specs.CarriedTo.{IsCarriedTo}
-use Rattle.toml_checker.specs.Pairs.{RiseFrom, AllFit, PairsFit, StandsAs}
-use Rattle.toml_checker.specs.Reading.{IsRead}
+use Rattle.toml_checker.specs.Pairs.{RiseFrom, AllFit, StandsAs}
+use Rattle.toml_checker.specs.Reading.{IsRead, IsReadAs}
 
 -- how many of the units are lines
 abbrev pub lines_in : List Made → ℕ
@@ -45,9 +44,9 @@ IsWithin text u = (u.span.start ≤ u.span.end) × (u.span.end ≤ length text)
 abbrev pub AreAlike : List Change → List ℕ → Made → List ℕ → Made → Type 0
 AreAlike cs text u other w = (u.kind ≡ w.kind) × (slice_range text u.span.start u.span.end ≡ slice_range other w.span.start w.span.end) × IsCarriedTo cs u.address w.address
 
--- the lines with these numbers have one newline, or one of them is the last of its text
-abbrev pub HaveOneNewline : Doc → Doc → ℕ → ℕ → Type 0
-HaveOneNewline d e m n = (option_map (λ (l : Line). l.newline.text) (slice_get d.lines m) ≡ option_map (λ (l : Line). l.newline.text) (slice_get e.lines n)) ⊎ (m + 1 ≡ length d.lines) ⊎ (n + 1 ≡ length e.lines)
+-- of the newlines of two texts, those of the lines with these numbers are one, or one of the lines is the last of its text
+abbrev pub HaveOneNewline : List (List ℕ) → List (List ℕ) → ℕ → ℕ → Type 0
+HaveOneNewline xs ys m n = (slice_get xs m ≡ slice_get ys n) ⊎ (m + 1 ≡ length xs) ⊎ (n + 1 ≡ length ys)
 
 -- the numbers of a pair are not below these, and its units fit
 pub record NextFits (cs : List Change) (d e : Doc) (i k : ℕ) (p : ℕ × ℕ) : Type 0 where
@@ -55,26 +54,20 @@ pub record NextFits (cs : List Change) (d e : Doc) (i k : ℕ) (p : ℕ × ℕ) 
   pub second : k ≤ p.1
   pub stands : StandsAs cs d e p.0 p.1
 
--- the units of two documents that were read
-abbrev pub StandAs : List Change → Document → Document → ℕ → ℕ → Type 0
-StandAs cs b a i k = StandsAs cs (document b.doc.now) (document a.doc.now) i k
-
-abbrev pub AllPairsFit : List Change → Document → Document → List (ℕ × ℕ) → Type 0
-AllPairsFit cs b a ps = PairsFit cs (document b.doc.now) (document a.doc.now) ps
-
-abbrev pub PairFits : List Change → Document → Document → Passed → Passed → ℕ × ℕ → Type 0
-PairFits cs b a first second p = NextFits cs (document b.doc.now) (document a.doc.now) first.units second.units p
+-- so it is of the trees of two documents that were read
+abbrev pub OfTrees : Document → Document → (Doc → Doc → Type 0) → Type 0
+OfTrees b a P = (d e : Doc) → IsReadAs b d → IsReadAs a e → P d e
 
 -- the units of a pair that fits were walked past too
 pub record IsPairPassed (cs : List Change) (b a : Document) (first second : Passed) (p : ℕ × ℕ) (past : Passed × Passed) : Type 0 where
-  pub fits : PairFits cs b a first second p
+  pub fits : OfTrees b a (λ d e. NextFits cs d e first.units second.units p)
   pub first_past : past.0.units ≡ p.0 + 1
   pub second_past : past.1.units ≡ p.1 + 1
   pub first_passed : IsPassed b.units.now past.0
   pub second_passed : IsPassed a.units.now past.1
 
 abbrev pub PassesPair : List Change → Document → Document → Passed → Passed → ℕ × ℕ → Option (Passed × Passed) → Type 0
-PassesPair cs b a first second p = λ found. MatchOption found (¬ (PairFits cs b a first second p)) (IsPairPassed cs b a first second p)
+PassesPair cs b a first second p = λ found. MatchOption found (OfTrees b a (λ d e. ¬ (NextFits cs d e first.units second.units p))) (IsPairPassed cs b a first second p)
 
 -- pairs that rise from these numbers on
 abbrev pub RiseAt : ℕ → ℕ → List (ℕ × ℕ) → Type 0

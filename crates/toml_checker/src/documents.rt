@@ -4,7 +4,7 @@ ghost use Rattle.toml_names.specs.declared.fault.NameFault.TheVariants as names;
 ghost use Rattle.toml_tree.specs.Document.{document};
 ghost use Rattle.toml_names.specs.reader.Names.{AreOwnAddresses};
 ghost use Rattle.toml_names.specs.reader.Reading.{lines_of};
-ghost use Rattle.toml_checker.specs.Reading.{AreUnitsOf, FindsLines, FindsTree};
+ghost use Rattle.toml_checker.specs.Reading.{AreNewlinesOf, AreUnitsOf, FindsLines, FindsTree};
 
 use std::alloc::{AllocError, Global};
 use toml_names::{Address, NameFault, NameReader, read_lines};
@@ -88,10 +88,23 @@ fn own_addresses(reader: NameReader) -> Result<Vec<Option<Address>>, AllocError>
     reader.own_addresses()
 }
 
-/// A text as the judge looks at it: with its tree, and the units of the tree. That they are so is for the caller to show.
+/// The text of the newline of each line of a tree, the empty text where it has none.
+pub fn newlines_of<'t>(alloc: Global, doc: &Doc<'t>) -> Result<Vec<&'t str>, AllocError>
+    ensures { IfOk result (λ list. AreNewlinesOf doc.now list.items) }
+{
+    let lines = doc.lines();
+    let mut newlines = Vec::with_capacity(alloc, lines.len())?;
+    for line in lines {
+        newlines.push(line.newline().text)?;
+    }
+    Ok(newlines)
+}
+
+/// A text as the judge looks at it: with its units, and the newline of each of its lines, the empty text where it has none.
+/// That they are so is for the caller to show.
 #[derive(Clone, Copy)]
 pub struct Document<'a, 't> {
     pub text: &'a [u8],
-    pub doc: &'a Doc<'t>,
     pub units: &'a [Unit],
+    pub newlines: &'a [&'t str],
 }

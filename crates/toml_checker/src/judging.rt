@@ -1,6 +1,6 @@
 //! The judge: the demands, one after the other.
 ghost use Rattle.std.specs.Prelude.{◌≡◌, ◌↔◌, IsTrue, IfOk, map};
-ghost use Rattle.toml_tree.specs.Document.{document};
+ghost use Rattle.toml_tree.specs.Tree.{Doc};
 ghost use Rattle.toml_tree.specs.declared.profile.Profile.TheVariants.{One};
 ghost use Rattle.toml_names.specs.model.Documents.{IsDocumentIn};
 ghost use Rattle.toml_edits.specs.Edits.{change};
@@ -9,10 +9,10 @@ ghost use Rattle.toml_checker.specs.Demands.{IsVerdict};
 ghost use Rattle.toml_checker.specs.Headline.{YesMeans};
 ghost use Rattle.toml_checker.specs.Judging.{HoldBelow};
 ghost use Rattle.toml_checker.specs.Kept.{AllKept};
-ghost use Rattle.toml_checker.specs.Reading.{IsRead};
+ghost use Rattle.toml_checker.specs.Reading.{IsRead, IsReadAs};
 
 use crate::comments::no_comments_added;
-use crate::documents::{Document, last_units, read_all_lines, read_tree, units_of};
+use crate::documents::{Document, last_units, newlines_of, read_all_lines, read_tree, units_of};
 use crate::facts::{Made, are_made, make};
 use crate::frame::keeps_frame;
 use crate::kept::all_kept;
@@ -33,7 +33,7 @@ fn keeps_protected(
     pairs: &[(u64, u64)],
 ) -> Result<bool, AllocError>
     requires { IsRead before }
-    ensures { IfOk result (λ kept. IsTrue kept ↔ AllKept (map change edits.now) (document before.entry.doc.now) pairs.now) }
+    ensures { IfOk result (λ kept. (d : Doc) → IsReadAs before.entry d → (IsTrue kept ↔ AllKept (map change edits.now) d pairs.now)) }
 {
     let flags = protected(alloc, before.units, edits)?;
     all_kept(alloc, before.units, &flags, pairs)
@@ -59,13 +59,13 @@ fn judge(
     if !keeps_protected(alloc, before, edits, pairs)? {
         return Ok(Verdict::No(Reason::Lost));
     }
-    if !no_lines_added(alloc, after.doc, after.units, edits, pairs)? {
+    if !no_lines_added(alloc, after.newlines.len(), after.units, edits, pairs)? {
         return Ok(Verdict::No(Reason::Unasked));
     }
     if !no_comments_added(alloc, after.text, after.units, edits, pairs, profile)? {
         return Ok(Verdict::No(Reason::NewComment));
     }
-    if !keeps_frame(before.text, before.doc, edits, after.text, after.doc) {
+    if !keeps_frame(before.text, edits, after.text) {
         return Ok(Verdict::No(Reason::NotTheSame));
     }
     Ok(Verdict::Yes)
@@ -99,10 +99,11 @@ fn judge_after(
         return Ok(Verdict::No(Reason::OtherData));
     }
     let units = last_units(alloc, &doc, reader)?;
+    let newlines = newlines_of(alloc, &doc)?;
     let after = Document {
         text: after,
-        doc: &doc,
         units: &units,
+        newlines: &newlines,
     };
     judge(alloc, before, edits, after, pairs, profile)
 }
@@ -158,10 +159,11 @@ pub fn check_in(
     };
     let units = units_of(alloc, &doc, &names)?;
     let made = make(alloc, names, edits, profile)?;
+    let newlines = newlines_of(alloc, &doc)?;
     let before = Document {
         text: before,
-        doc: &doc,
         units: &units,
+        newlines: &newlines,
     };
     judge_after(
         alloc,

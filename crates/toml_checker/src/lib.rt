@@ -28,7 +28,7 @@ mod verdict;
 mod written;
 
 pub use covered::first_marks;
-pub use documents::Document;
+pub use documents::{Document, newlines_of};
 pub use facts::Made;
 pub use judging::{check, check_in, check_made};
 pub use outer::outermost;

@@ -4,7 +4,7 @@ ghost use Rattle.toml_checker.specs.CarriedTo.{At};
 ghost use Rattle.toml_checker.specs.Debts.{AnyCovers, IsAsked, AreAsked};
 ghost use Rattle.toml_checker.specs.Lines.{NoLinesAdded};
 ghost use Rattle.toml_edits.specs.Edits.{change};
-ghost use Rattle.toml_tree.specs.Document.{document};
+ghost use Rattle.toml_tree.specs.Tree.{Doc};
 ghost use Rattle.toml_units.specs.Places.{is_line};
 ghost use Rattle.toml_units.specs.Plain.{spanned};
 ghost use Rattle.toml_units.specs.Units.{units as units_of};
@@ -15,7 +15,6 @@ use crate::debts::{Debt, any_covers, debts};
 use std::alloc::{AllocError, Global};
 use toml_edits::Edit;
 use toml_names::Address;
-use toml_tree::Doc;
 use toml_units::{Unit, UnitKind};
 
 /// Whether the unit is a line.
@@ -67,19 +66,17 @@ fn are_asked(units: &[Unit], paired: &[bool], debts: &[Debt], edited: bool, line
 }
 
 /// Whether each line of a document is paired, or its address is owed, or it is the last one, of no bytes, and there is an
-/// edit. The units are the document's, and the pairs' second numbers count them.
+/// edit. The document has so many lines and these units, which the pairs' second numbers count.
 pub(crate) fn no_lines_added(
     alloc: Global,
-    doc: &Doc,
+    lines: usize,
     units: &[Unit],
     edits: &[Edit],
     pairs: &[(u64, u64)],
 ) -> Result<bool, AllocError>
-    requires { all_units units.now ≡ map spanned (units_of (document doc.now).lines) }
-    ensures { IfOk result (λ holds. IsTrue holds ↔ NoLinesAdded (map change edits.now) (document doc.now) pairs.now) }
+    ensures { IfOk result (λ holds. (e : Doc) → lines ≡ length e.lines → all_units units.now ≡ map spanned (units_of e.lines) → (IsTrue holds ↔ NoLinesAdded (map change edits.now) e pairs.now)) }
 {
     let debts = debts(alloc, edits)?;
     let paired = second_marks(alloc, units.len(), pairs)?;
-    let lines = doc.lines().len();
     Ok(are_asked(units, &paired, &debts, !edits.is_empty(), lines))
 }

@@ -1,12 +1,12 @@
 //! That the units of each pair are the same, but for where the edits carry them.
 ghost use Rattle.std.specs.Prelude.{◌≡◌, ◌↔◌, ◌≤◌, ◌+◌, IsTrue, IfOk, length, map, option_map, slice_get, slice_range};
-ghost use Rattle.toml_tree.specs.Document.{document};
-ghost use Rattle.toml_tree.specs.Tree.{Line as TreeLine};
 ghost use Rattle.toml_edits.specs.Edits.{change};
 ghost use Rattle.toml_units.specs.Places.{is_line};
+ghost use Rattle.toml_checker.specs.Counts.{plain};
 ghost use Rattle.toml_checker.specs.EditLists.{changes};
+ghost use Rattle.toml_checker.specs.Pairs.{PairsFit, StandsAs};
 ghost use Rattle.toml_checker.specs.Reading.{IsRead};
-ghost use Rattle.toml_checker.specs.Walking.{AllPairsFit, AreAlike, HaveOneNewline, IsPassed, IsSpot, IsWithin, PassesPair, Reaches, StandAs, lines_in};
+ghost use Rattle.toml_checker.specs.Walking.{AreAlike, HaveOneNewline, IsPassed, IsSpot, IsWithin, OfTrees, PassesPair, Reaches, lines_in};
 
 use crate::arriving::is_carried_to;
 use crate::documents::Document;
@@ -14,7 +14,6 @@ use crate::fronts::EditList;
 use std::alloc::{AllocError, Global};
 use toml_edits::Edit;
 use toml_text::Span;
-use toml_tree::Doc;
 use toml_units::{Unit, UnitKind};
 
 /// How many units were walked past, and how many lines are among them.
@@ -104,14 +103,11 @@ fn are_alike(
     is_carried_to(alloc, list, one.address.as_ref(), other.address.as_ref())
 }
 
-/// The text of a line's newline, if there is such a line.
-fn newline_text<'t>(doc: &Doc<'t>, line: usize) -> Option<&'t str>
-    ensures { option_map (λ t. t.now) result ≡ option_map (λ (l : TreeLine). l.newline.text) (slice_get (document doc.now).lines line) }
+/// The newline of a line, if there is such a line.
+fn newline_text<'t>(newlines: &[&'t str], line: usize) -> Option<&'t str>
+    ensures { option_map (λ t. t.now) result ≡ slice_get (plain newlines.now) line }
 {
-    match doc.lines().get(line) {
-        Some(found) => Some(found.newline().text),
-        None => None,
-    }
+    newlines.get(line).copied()
 }
 
 fn same_text(one: Option<&str>, other: Option<&str>) -> bool
@@ -132,16 +128,19 @@ fn is_last(number: usize, count: usize) -> bool
 }
 
 /// Whether the lines with the numbers have one newline, or one of them is the last of its text.
-fn have_one_newline(doc: &Doc, line: usize, other: &Doc, other_line: usize) -> bool
-    ensures { IsTrue result ↔ HaveOneNewline (document doc.now) (document other.now) line other_line }
+fn have_one_newline(newlines: &[&str], line: usize, others: &[&str], other_line: usize) -> bool
+    ensures { IsTrue result ↔ HaveOneNewline (plain newlines.now) (plain others.now) line other_line }
 {
-    if is_last(line, doc.lines().len()) {
+    if is_last(line, newlines.len()) {
         return true;
     }
-    if is_last(other_line, other.lines().len()) {
+    if is_last(other_line, others.len()) {
         return true;
     }
-    same_text(newline_text(doc, line), newline_text(other, other_line))
+    same_text(
+        newline_text(newlines, line),
+        newline_text(others, other_line),
+    )
 }
 
 /// Whether the unit at the first spot stands in the second document as that at the second spot.
@@ -155,7 +154,7 @@ fn stands_as(
 ) -> Result<bool, AllocError>
     requires first { IsSpot before first }
     requires second { IsSpot after second }
-    ensures { IfOk result (λ holds. IsTrue holds ↔ StandAs (changes list.now) before.entry after.entry first.units second.units) }
+    ensures { IfOk result (λ holds. OfTrees before.entry after.entry (λ d e. IsTrue holds ↔ StandsAs (changes list.now) d e first.units second.units)) }
 {
     let one = &before.units[first.units];
     let other = &after.units[second.units];
@@ -165,7 +164,7 @@ fn stands_as(
     if !is_line(one.kind) {
         return Ok(true);
     }
-    Ok(have_one_newline(before.doc, first.lines, after.doc, second.lines))
+    Ok(have_one_newline(before.newlines, first.lines, after.newlines, second.lines))
 }
 
 /// Walks on to the units of a pair and past them, if its numbers are not below those of the units walked past and its
@@ -211,7 +210,7 @@ pub(crate) fn pairs_fit(
 ) -> Result<bool, AllocError>
     requires before { IsRead before }
     requires after { IsRead after }
-    ensures { IfOk result (λ holds. IsTrue holds ↔ AllPairsFit (map change edits.now) before.entry after.entry pairs.now) }
+    ensures { IfOk result (λ holds. OfTrees before.entry after.entry (λ d e. IsTrue holds ↔ PairsFit (map change edits.now) d e pairs.now)) }
 {
     let list = EditList::of(alloc, edits)?;
     let mut one = Passed { units: 0, lines: 0 };
