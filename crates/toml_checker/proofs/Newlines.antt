@@ -8,20 +8,21 @@ use Rattle.toml_units.specs.Units.{units}
 use Rattle.toml_checker.specs.declared.documents.Document.{Document}
 use Rattle.toml_checker.specs.Pairs.{KeepsNewline, line_number}
 use Rattle.toml_checker.specs.Counts.{Text}
-use Rattle.toml_checker.specs.Reading.{IsReadAs, newlines_of}
+use Rattle.toml_checker.specs.Reading.{IsReadAs}
+use Rattle.toml_units.specs.Reading.{newlines}
 use Rattle.toml_checker.specs.Walking.{HaveOneNewline}
 
-newline_at : (d : Doc) (xs : List (List ℕ)) (m : ℕ) → xs ≡ newlines_of d → slice_get xs m ≡ option_map (λ (l : Line). l.newline.text) (slice_get d.lines m)
+newline_at : (d : Doc) (xs : List (List ℕ)) (m : ℕ) → xs ≡ newlines d.lines → slice_get xs m ≡ option_map (λ (l : Line). l.newline.text) (slice_get d.lines m)
 newline_at d xs m is = ap (λ (ys : List (List ℕ)). slice_get ys m) is ∙ slice_get-map (λ (l : Line). l.newline.text) d.lines m
 
-so_many : (d : Doc) (xs : List (List ℕ)) → xs ≡ newlines_of d → length xs ≡ length d.lines
+so_many : (d : Doc) (xs : List (List ℕ)) → xs ≡ newlines d.lines → length xs ≡ length d.lines
 so_many d xs is = ap length is ∙ length-map d.lines (λ (l : Line). l.newline.text)
 
 -- so many lines there are
 pub many_lines : (a : Document) (e : Doc) → IsReadAs a e → length a.newlines.now ≡ length e.lines
 many_lines a e h = sym (length-map a.newlines.now (λ (t : Text). t.now)) ∙ so_many e (map (λ (t : Text). t.now) a.newlines.now) h.newlines
 
-kept_there : (d e : Doc) (xs ys : List (List ℕ)) (i k : ℕ) → xs ≡ newlines_of d → ys ≡ newlines_of e → HaveOneNewline xs ys (line_number (units d.lines) i) (line_number (units e.lines) k) ↔ KeepsNewline d e i k
+kept_there : (d e : Doc) (xs ys : List (List ℕ)) (i k : ℕ) → xs ≡ newlines d.lines → ys ≡ newlines e.lines → HaveOneNewline xs ys (line_number (units d.lines) i) (line_number (units e.lines) k) ↔ KeepsNewline d e i k
 kept_there d e xs ys i k x y = (to, from)
   where
     to : HaveOneNewline xs ys (line_number (units d.lines) i) (line_number (units e.lines) k) → KeepsNewline d e i k
@@ -35,7 +36,7 @@ kept_there d e xs ys i k x y = (to, from)
     from (inr (inr last)) = inr (inr (last ∙ sym (so_many e ys y)))
 
 -- two lines keep their newline where the lists say so of their numbers
-pub newlines_kept : (d e : Doc) (xs ys : List (List ℕ)) (i k m n : ℕ) → xs ≡ newlines_of d → ys ≡ newlines_of e → m ≡ line_number (units d.lines) i → n ≡ line_number (units e.lines) k → HaveOneNewline xs ys m n ↔ KeepsNewline d e i k
+pub newlines_kept : (d e : Doc) (xs ys : List (List ℕ)) (i k m n : ℕ) → xs ≡ newlines d.lines → ys ≡ newlines e.lines → m ≡ line_number (units d.lines) i → n ≡ line_number (units e.lines) k → HaveOneNewline xs ys m n ↔ KeepsNewline d e i k
 newlines_kept d e xs ys i k m n x y first second =
     subst (λ (j : ℕ). HaveOneNewline xs ys j n ↔ KeepsNewline d e i k) (sym first)
     (subst (λ (j : ℕ). HaveOneNewline xs ys (line_number (units d.lines) i) j ↔ KeepsNewline d e i k) (sym second) (kept_there d e xs ys i k x y))

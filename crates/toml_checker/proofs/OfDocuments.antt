@@ -8,8 +8,10 @@ use Rattle.toml_tree.specs.declared.profile.Profile.{Profile}
 use Rattle.toml_names.specs.model.Data.{IsDataOf, Kinds, fact_at}
 use Rattle.toml_names.specs.model.Documents.{IsDocumentIn}
 use Rattle.toml_names.specs.mentions.Mentions.{named}
+use Rattle.toml_names.specs.declared.line_names.LineNames.{LineNames}
+use Rattle.toml_names.specs.reader.LineNames.{StandFor}
 use Rattle.toml_names.specs.reader.Names.{AreGood}
-use Rattle.toml_names.proofs.Proved.{first_is_data, lines_join, one_data}
+use Rattle.toml_names.proofs.Proved.{lines_have_data, one_data}
 use Rattle.toml_edits.specs.Edits.{Change}
 use Rattle.toml_edits.specs.Lists.{Lead}
 use Rattle.toml_edits.proofs.Proved.{one_lead}
@@ -40,15 +42,16 @@ defined : (profile : Profile) (text : List ℕ) (d : Doc) (x : Kinds) (cs : List
 defined profile text d x cs h (e, spelled, y, facts, (new, lead)) = (new, lead_from profile cs y x new (one text d e x y h spelled facts) lead)
 
 -- good lines have data
-pub lines_have_data : (text : List ℕ) (d : Doc) → Spells d text → AreGood d.lines → HasData text d (fact_at (named d.lines))
-lines_have_data text d spelled good = record { spelled = spelled; facts = first_is_data (named d.lines) (lines_join d.lines good.0) }
+pub has_data : (text : List ℕ) (d : Doc) → Spells d text → AreGood d.lines → HasData text d (fact_at (named d.lines))
+has_data text d spelled good = record { spelled = spelled; facts = lines_have_data d.lines good.0 }
 
 -- what the edits make of the data of the tree's lines they make of those of the text
-pub gives_made : (profile : Profile) (text : List ℕ) (d : Doc) (old : Kinds) (cs : List Change) (found : Option Made) → HasData text d old → Makes profile d.lines cs found → GivesMade profile text cs found
-gives_made profile text d old cs None h makes = λ all. makes old h.facts (defined profile text d old cs h all)
-gives_made profile text d old cs (Some made) h makes =
-    let m = makes old h.facts in
-    record { tree = d; spelled = h.spelled; taken = m.0; old = old; facts = h.facts; leads = m.1 }
+pub gives_made : (profile : Profile) (text : List ℕ) (d : Doc) (old : Kinds) (cs : List Change) (names : LineNames) (found : Option Made) → StandFor names d.lines → HasData text d old → Makes profile names cs found
+    → GivesMade profile text cs found
+gives_made profile text d old cs names None stand h makes = λ all. makes d.lines stand old h.facts (defined profile text d old cs h all)
+gives_made profile text d old cs names (Some made) stand h makes =
+    let m = makes d.lines stand old h.facts in
+    record { tree = d; spelled = h.spelled; taken = m.taken; old = old; facts = h.facts; leads = m.leads }
 
 -- the demands on the documents and their data hold, or one is the first that does not
 pub documents_hold : (profile : Profile) (before after : List ℕ) (cs : List Change) (ps : List (ℕ × ℕ)) → IsDocumentIn profile before → IsDocumentIn profile after → HoldBelow profile 2 before cs after ps

@@ -1,34 +1,55 @@
--- Why a text that was refused is no document.
-use Rattle.std.proofs.Common.{◌≡◌, ◌≤◌, ℕ, List, length, subst, refl, arith}
+-- What was read of a text is of a document, and a text that was refused is none.
+use Rattle.std.proofs.Common.{◌≡◌, ◌≤◌, ℕ, List, length, Option, Some, None, sym, ap, subst, ◌∙◌, arith}
 use Rattle.std.proofs.lemmas.Str.{IsUtf8-from_is_utf8}
-use Rattle.toml_text.specs.Limit.{max_len}
+use Rattle.toml_text.specs.Limit.{IsText, max_len}
 use Rattle.toml_text.specs.Source.{IsFaultOf}
 use Rattle.toml_text.specs.declared.fault.TextFault.{TextFault}
 use Rattle.toml_text.specs.declared.fault.TextFault.TheVariants.{NotUtf8, TooLong}
-use Rattle.toml_scalar.specs.declared.fault.SyntaxFault.{SyntaxFault}
-use Rattle.toml_scalar.specs.declared.fault.SyntaxFault.TheVariants as faults
-use Rattle.toml_tree.specs.Document.{Refuses}
+use Rattle.toml_tree.specs.HandedOut.{tree_of}
 use Rattle.toml_tree.specs.Spells.{Spells}
 use Rattle.toml_tree.specs.Tree.{Doc}
-use Rattle.toml_tree.proofs.Proved.{one_tree}
 use Rattle.toml_tree.specs.declared.profile.Profile.{Profile}
 use Rattle.toml_names.specs.model.Documents.{IsDocumentIn}
 use Rattle.toml_names.specs.reader.Names.{AreGood}
+use Rattle.toml_names.proofs.Proved.{taken_are_good}
+use Rattle.toml_units.specs.declared.reading.ReadText.{ReadText}
+use Rattle.toml_units.specs.Reading.{FindsText, IsTextRead}
+use Rattle.toml_units.specs.View.{all_units}
+use Rattle.toml_checker.specs.declared.documents.Document.{Document}
+use Rattle.toml_checker.specs.Counts.{plain}
+use Rattle.toml_checker.specs.Reading.{Finds, IsRead}
 
 pub no_text : (profile : Profile) (text : List ℕ) (fault : TextFault) → IsFaultOf text fault → ¬ IsDocumentIn profile text
 no_text profile text (NotUtf8 at) h = λ document. h.0 (IsUtf8-from_is_utf8 text document.0.utf8)
 no_text profile text TooLong h = λ document. let fits : length text ≤ max_len = document.0.fits in absurd (omega (arith, h.1))
 
-pub no_tree : (profile : Profile) (text : List ℕ) (fault : SyntaxFault) → (fault ≡ faults.NoMemory → ⊥) → Refuses profile text fault → ¬ IsDocumentIn profile text
-no_tree profile text (faults.BadCharacter at) memory h = λ document. h.1 document.1 (document.2, document.4)
-no_tree profile text (faults.Expected at) memory h = λ document. h.1 document.1 (document.2, document.4)
-no_tree profile text (faults.BadString at) memory h = λ document. h.1 document.1 (document.2, document.4)
-no_tree profile text (faults.BadNumber at) memory h = λ document. h.1 document.1 (document.2, document.4)
-no_tree profile text (faults.IntegerRange at) memory h = λ document. h.1 document.1 (document.2, document.4)
-no_tree profile text (faults.BadDate at) memory h = λ document. h.1 document.1 (document.2, document.4)
-no_tree profile text (faults.TooDeep at) memory h = λ document. h.1 document.1 (document.2, document.4)
-no_tree profile text faults.NoMemory memory h = λ document. memory refl
+-- what is read of a text within the limit
+pub finds : (profile : Profile) (text : List ℕ) (found : Option ReadText) → IsText text → FindsText profile text found → Finds profile text found
+finds profile text None is none = none
+finds profile text (Some read) is h = (is, h)
 
--- the names of the one tree of the text break the rules
-pub bad_names : (profile : Profile) (text : List ℕ) (d : Doc) → Spells d text → ¬ AreGood d.lines → ¬ IsDocumentIn profile text
-bad_names profile text d spelled bad = λ document. bad (subst (λ (e : Doc). AreGood e.lines) (one_tree document.1 d text document.2 spelled) document.3)
+module _ (profile : Profile) (text : List ℕ) (read : ReadText) (found : IsText text × IsTextRead profile text read) where
+  -- the tree of what was read
+  abbrev pub tree : Doc
+  tree = tree_of text found.1.lines
+
+  pub spelled : Spells tree text
+  spelled = found.1.are.spelled.0
+
+  pub good : AreGood tree.lines
+  good = taken_are_good read.names found.1.lines found.1.names
+
+  -- what was read is a document
+  pub is_document : IsDocumentIn profile text
+  is_document = (found.0, tree, spelled, good, found.1.are.spelled.1)
+
+  -- with these units and newlines, which are lent
+  pub is_read : (d : Document) → d.text.now ≡ text → d.units.now ≡ read.units.items → d.newlines.now ≡ read.newlines.items → IsRead d
+  is_read d of us ns = (
+    tree,
+    record {
+      spelled = subst (Spells tree) (sym of) spelled;
+      units = ap all_units us ∙ found.1.units;
+      newlines = ap plain ns ∙ found.1.newlines;
+    },
+  )

@@ -1,13 +1,14 @@
 -- What a list of edits makes of data.
-use Rattle.std.specs.Prelude.{◌≡◌, ℕ, List, Option, MatchOption}
+use Rattle.std.specs.Prelude.{ℕ, List, Option, MatchOption}
 use Rattle.toml_tree.specs.Spells.{Spells}
 use Rattle.toml_tree.specs.Tree.{Doc, Line}
 use Rattle.toml_tree.specs.declared.profile.Profile.{Profile}
+use Rattle.toml_names.specs.declared.line_names.LineNames.{LineNames}
 use Rattle.toml_names.specs.declared.model.datum.Data.{Data}
 use Rattle.toml_names.specs.model.Beside.{beside}
 use Rattle.toml_names.specs.model.Data.{IsDataOf, Kinds, kind_at}
 use Rattle.toml_names.specs.mentions.Mentions.{named}
-use Rattle.toml_names.specs.reader.Reading.{lines_of}
+use Rattle.toml_names.specs.reader.LineNames.{StandFor}
 use Rattle.toml_edits.specs.Edits.{Change}
 use Rattle.toml_edits.specs.Lists.{Lead}
 use Rattle.toml_checker.specs.declared.facts.Made.{Made}
@@ -21,15 +22,21 @@ GivesData profile cs old found = MatchOption found (¬ AreDefined profile cs (ki
 abbrev pub made_of : Made → Kinds → Kinds
 made_of made old = beside made.touched old (kind_at made.«data».root)
 
--- what the edits make of the data of the lines, whose names it has; without it some edit is not defined on the data so far
-abbrev pub Makes : Profile → List Line → List Change → Option Made → Type 0
-Makes profile lines cs found = (old : Kinds) → IsDataOf (named lines) old → MatchOption found (¬ AreDefined profile cs old) (λ made. (lines_of made.names ≡ lines) × Lead profile cs old (made_of made old))
+-- the names are those of the lines, and it is what the edits make of their data
+pub record IsMadeFrom (profile : Profile) (lines : List Line) (cs : List Change) (old : Kinds) (made : Made) : Type 0 where
+  pub taken : StandFor made.names lines
+  pub leads : Lead profile cs old (made_of made old)
+
+-- what the edits make of the data of the lines for which the names stand; without it some edit is not defined on the data so far
+abbrev pub Makes : Profile → LineNames → List Change → Option Made → Type 0
+Makes profile names cs found =
+    (lines : List Line) → StandFor names lines → (old : Kinds) → IsDataOf (named lines) old → MatchOption found (¬ AreDefined profile cs old) (IsMadeFrom profile lines cs old)
 
 -- it is what the edits make of the data of the text, whose names it has
 pub record IsMadeOf (profile : Profile) (text : List ℕ) (cs : List Change) (made : Made) : Type 0 where
   pub tree : Doc
   pub spelled : Spells tree text
-  pub taken : lines_of made.names ≡ tree.lines
+  pub taken : StandFor made.names tree.lines
   pub old : Kinds
   pub facts : IsDataOf (named tree.lines) old
   pub leads : Lead profile cs old (made_of made old)

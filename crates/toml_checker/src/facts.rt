@@ -1,15 +1,16 @@
 //! The data after edits.
-ghost use Rattle.std.specs.Prelude.{◌≡◌, ◌↔◌, IsTrue, IfOk, OnOk, map};
+ghost use Rattle.std.specs.Prelude.{◌≡◌, ◌↔◌, List, IsTrue, IfOk, OnOk, map};
+ghost use Rattle.toml_tree.specs.Tree.{Line};
 ghost use Rattle.toml_names.specs.model.Data.{IsDataOf, Kinds};
 ghost use Rattle.toml_names.specs.mentions.Mentions.{named};
-ghost use Rattle.toml_names.specs.reader.Reading.{lines_of};
+ghost use Rattle.toml_names.specs.reader.LineNames.{Stand, StandFor};
 ghost use Rattle.toml_edits.specs.declared.fault.EditFault.TheVariants as faults;
 ghost use Rattle.toml_edits.specs.Edits.{change};
 ghost use Rattle.toml_checker.specs.After.{GivesData, Makes, made_of};
 
 use std::alloc::{AllocError, Global};
 use toml_edits::{Edit, EditFault, apply_in, near_names};
-use toml_names::{Data, NameReader, NameSet};
+use toml_names::{Data, LineNames, NameSet};
 use toml_tree::Profile;
 
 /// What the edits, one after the other, make of data; none where one is not defined on the data so far.
@@ -44,21 +45,24 @@ fn told(fault: EditFault) -> Result<(), AllocError>
 /// What edits make of the data of a document: those at the root and below the names that they touch, beside the rest of the
 /// document's own. Only the former are built.
 #[derive(Drop)]
-pub struct Made<'d, 't, 'e> {
+pub struct Made<'t, 'e> {
     /// The names of the document.
-    pub names: NameReader<'d, 't>,
+    pub names: LineNames<'t>,
+    /// The names of the root that the edits touch.
     pub touched: NameSet<'e>,
+    /// What the edits make at the root and below these names.
     pub data: Data,
 }
 
 /// What the edits make of the data of the lines taken; none where one is not defined on the data so far.
-pub(crate) fn make<'d, 't, 'e>(
+pub(crate) fn make<'t, 'e>(
     alloc: Global,
-    names: NameReader<'d, 't>,
+    names: LineNames<'t>,
     edits: &'e [Edit],
     profile: Profile,
-) -> Result<Option<Made<'d, 't, 'e>>, AllocError>
-    ensures { IfOk result (Makes profile (lines_of names.entry) (map change edits.now)) }
+) -> Result<Option<Made<'t, 'e>>, AllocError>
+    requires { Stand names }
+    ensures { IfOk result (Makes profile names.entry (map change edits.now)) }
 {
     let touched = near_names(alloc, edits)?;
     let near = names.data_near(&touched)?;
@@ -72,9 +76,12 @@ pub(crate) fn make<'d, 't, 'e>(
     }
 }
 
-/// Whether what was made are the data of the lines of a reader. It is let go.
-pub(crate) fn are_made(reader: &NameReader, made: Made) -> Result<bool, AllocError>
-    ensures { IfOk result (λ b. (old : Kinds) → IsDataOf (named (lines_of made.entry.names)) old → (IsTrue b ↔ IsDataOf (named (lines_of reader.now)) (made_of made.entry old))) }
+/// Whether what was made are the data of the lines whose names these are. All names are let go.
+pub(crate) fn are_made(names: LineNames, made: Made) -> Result<bool, AllocError>
+    requires new { Stand names }
+    requires old { Stand made.names }
+    ensures { IfOk result (λ b. (lines others : List Line) → StandFor names.entry lines → StandFor made.entry.names others → (old : Kinds) → IsDataOf (named others) old
+        → (IsTrue b ↔ IsDataOf (named lines) (made_of made.entry old))) }
 {
-    reader.has_data_beside(&made.names, &made.touched, &made.data)
+    names.has_data_beside(&made.names, &made.touched, &made.data)
 }

@@ -12,7 +12,7 @@ ghost use Rattle.toml_checker.specs.Kept.{AllKept};
 ghost use Rattle.toml_checker.specs.Reading.{IsRead, IsReadAs};
 
 use crate::comments::no_comments_added;
-use crate::documents::{Document, last_units, newlines_of, read_all_lines, read_tree, units_of};
+use crate::documents::{Document, read};
 use crate::facts::{Made, are_made, make};
 use crate::frame::keeps_frame;
 use crate::kept::all_kept;
@@ -23,7 +23,7 @@ use crate::verdict::{Reason, Verdict};
 use std::alloc::{AllocError, Global};
 use toml_edits::Edit;
 use toml_tree::Profile;
-use toml_units::Certificate;
+use toml_units::{Certificate, ReadText};
 
 /// Whether no protected unit of a document is lost.
 fn keeps_protected(
@@ -86,20 +86,20 @@ fn judge_after(
     requires made { GivesMade profile before.text.now (map change edits.now) made }
     ensures { IfOk result (IsVerdict profile before.entry.text.now (map change edits.now) after.now pairs.now) }
 {
-    let Some(doc) = read_tree(alloc, after, profile)? else {
-        return Ok(Verdict::No(Reason::AfterRefused));
-    };
-    let Some(reader) = read_all_lines(alloc, &doc)? else {
+    let Some(found) = read(alloc, after, profile)? else {
         return Ok(Verdict::No(Reason::AfterRefused));
     };
     let Some(made) = made else {
         return Ok(Verdict::No(Reason::EditsRefused));
     };
-    if !are_made(&reader, made)? {
+    let ReadText {
+        names,
+        units,
+        newlines,
+    } = found;
+    if !are_made(names, made)? {
         return Ok(Verdict::No(Reason::OtherData));
     }
-    let units = last_units(alloc, &doc, reader)?;
-    let newlines = newlines_of(alloc, &doc)?;
     let after = Document {
         text: after,
         units: &units,
@@ -151,15 +151,15 @@ pub fn check_in(
 {
     // each takes some bytes of memory
     prove!(edits.len() <= isize::MAX as usize);
-    let Some(doc) = read_tree(alloc, before, profile)? else {
+    let Some(found) = read(alloc, before, profile)? else {
         return Ok(Verdict::No(Reason::BeforeRefused));
     };
-    let Some(names) = read_all_lines(alloc, &doc)? else {
-        return Ok(Verdict::No(Reason::BeforeRefused));
-    };
-    let units = units_of(alloc, &doc, &names)?;
+    let ReadText {
+        names,
+        units,
+        newlines,
+    } = found;
     let made = make(alloc, names, edits, profile)?;
-    let newlines = newlines_of(alloc, &doc)?;
     let before = Document {
         text: before,
         units: &units,

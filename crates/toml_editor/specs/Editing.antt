@@ -1,5 +1,5 @@
 -- What the steps of an edit hand on to each other.
-use Rattle.std.specs.Prelude.{◌≡◌, ℕ, List, Bool}
+use Rattle.std.specs.Prelude.{◌≡◌, ℕ, List, Bool, map, string_bytes}
 use Rattle.toml_text.specs.Limit.{IsText}
 use Rattle.toml_tree.specs.Profiles.{IsOfProfile}
 use Rattle.toml_tree.specs.Spells.{Spells}
@@ -8,14 +8,18 @@ use Rattle.toml_tree.specs.declared.profile.Profile.{Profile}
 use Rattle.toml_names.specs.model.Documents.{IsDocumentIn}
 use Rattle.toml_edits.specs.Edits.{Change}
 use Rattle.toml_units.specs.declared.piece.Piece.{Piece}
+use Rattle.toml_units.specs.Reading.{newlines}
 use Rattle.toml_units.specs.Units.{units}
+use Rattle.toml_units.specs.View.{all_units, spanned}
 use Rattle.toml_checker.specs.declared.documents.Document.{Document}
 use Rattle.toml_checker.specs.declared.facts.Made.{Made}
 use Rattle.toml_checker.specs.After.{IsMadeOf}
+use Rattle.toml_checker.specs.Counts.{plain}
 use Rattle.toml_checker.specs.Documents.{OfTree}
 use Rattle.toml_checker.specs.Outer.{TellOuter}
 use Rattle.toml_checker.specs.Reading.{IsRead}
 use Rattle.toml_editor.specs.Edited.{ArePieces, IsEdited}
+use Rattle.toml_editor.specs.declared.editing.Work.{Work}
 
 -- the bytes are read as this text, and this tree, of the profile, spells it
 pub record IsReadAs (profile : Profile) (before text : List ℕ) (d : Doc) : Type 0 where
@@ -36,8 +40,8 @@ pub record IsKnown (profile : Profile) (d : Document) : Type 0 where
   pub document : IsDocumentIn profile d.text.now
 
 -- the data are what the edits make of those of the first text, and the pieces of that one are the second
-pub record IsMadeText (profile : Profile) (before : List ℕ) (cs : List Change) (made_of : Made) (after : List ℕ) (list : List Piece) : Type 0 where
-  pub made : IsMadeOf profile before cs made_of
+pub record IsMadeText (profile : Profile) (before : List ℕ) (cs : List Change) (made : Made) (after : List ℕ) (list : List Piece) : Type 0 where
+  pub is_made : IsMadeOf profile before cs made
   pub pieces : ArePieces before after list
 
 -- the text is certified to be what the edits make of the first one, and the pieces of that one are it
@@ -48,3 +52,13 @@ pub record IsEditedText (profile : Profile) (before : List ℕ) (cs : List Chang
 -- the flags tell which units of the text are outer protected ones
 abbrev pub TellsWanted : List ℕ → List Change → List Bool → Type 0
 TellsWanted before cs flags = OfTree before (λ d. TellOuter cs (units d.lines) flags)
+
+-- the units and the newlines are those of the document, and the rest is what the edits make of it
+pub record IsWork (profile : Profile) (before : List ℕ) (cs : List Change) (work : Work) : Type 0 where
+  pub document : IsDocumentIn profile before
+  pub tree : Doc
+  pub spelled : Spells tree before
+  pub units : all_units work.units.items ≡ map spanned (units tree.lines)
+  pub newlines : plain work.newlines.items ≡ newlines tree.lines
+  pub wanted : TellsWanted before cs work.wanted.items
+  pub made : IsMadeText profile before cs work.made (string_bytes work.edited.text) work.edited.pieces.items

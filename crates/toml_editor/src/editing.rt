@@ -9,7 +9,7 @@ ghost use Rattle.toml_names.specs.reader.Reading.{lines_of};
 ghost use Rattle.toml_edits.specs.Edits.{change};
 ghost use Rattle.toml_checker.specs.Reading.{AreUnitsOf};
 ghost use Rattle.toml_editor.specs.Edited.{IsEdited, ArePieces, IsEditedInPieces, RefusesText, Tells};
-ghost use Rattle.toml_editor.specs.Editing.{HasLines, IsEditedText, IsKnown, IsMadeText, IsReadAs, TellsWanted};
+ghost use Rattle.toml_editor.specs.Editing.{HasLines, IsEditedText, IsKnown, IsMadeText, IsReadAs, IsWork, TellsWanted};
 
 use crate::fault::EditorFault;
 use crate::making::{Read, make_all};
@@ -18,7 +18,7 @@ use crate::spelled::{Spelled, spell_all};
 use crate::texts::Texts;
 use crate::working::Tree;
 use std::alloc::{AllocError, Global};
-use toml_checker::{Document, Made, Reason, Verdict, check_made, outermost};
+use toml_checker::{Document, Made, Reason, Verdict, check_made, newlines_of, outermost};
 use toml_edits::{Edit, near_names};
 use toml_names::{NameReader, read_lines};
 use toml_text::{MAX_LEN, Source};
@@ -104,7 +104,8 @@ fn edit_document(
     edit_with(alloc, before, edits, &spelled, profile)
 }
 
-/// The same with the spellings of the edits, which live as long as the text and the edits: new pieces are lent from all.
+/// The same with the spellings of the edits, which live as long as the text and the edits: new pieces are lent from all. The
+/// document's tree is let go before the second text is read.
 fn edit_with<'x>(
     alloc: Global,
     before: &'x [u8],
@@ -116,6 +117,45 @@ fn edit_with<'x>(
     ensures edited { IfOk result (λ e. IsEditedText profile before.now (map change edits.now) (string_bytes e.text) e.pieces.items e.certificate.pairs.items) }
     ensures told { IfErr result (Tells profile before.now (map change edits.now)) }
 {
+    let work = make_document(alloc, before, edits, spelled, profile)?;
+    let Work {
+        units,
+        newlines,
+        wanted,
+        made,
+        edited,
+    } = work;
+    let known = Document {
+        text: before,
+        units: &units,
+        newlines: &newlines,
+    };
+    certify(alloc, known, edits, made, edited, &wanted, profile)
+}
+
+/// What is known of a document and made of it, when its tree is let go: its units and newlines, which units are to be kept, and
+/// what the edits make of its data and of its text.
+#[derive(Drop)]
+struct Work<'x> {
+    units: Vec<Unit>,
+    newlines: Vec<&'x str>,
+    wanted: Vec<bool>,
+    made: Made<'x, 'x>,
+    edited: Edited,
+}
+
+/// What the edits make of a document, not judged yet.
+fn make_document<'x>(
+    alloc: Global,
+    before: &'x [u8],
+    edits: &'x [Edit],
+    spelled: &'x [Spelled],
+    profile: Profile,
+) -> Result<Work<'x>, EditorFault>
+    requires { length spelled.now ≡ length edits.now }
+    ensures work { IfOk result (IsWork profile before.now (map change edits.now)) }
+    ensures told { IfErr result (Tells profile before.now (map change edits.now)) }
+{
     let (source, doc) = read(alloc, before, profile)?;
     let reader = named_lines(alloc, before, &doc)?;
     let units = read_units(alloc, &doc, &reader)?;
@@ -123,12 +163,14 @@ fn edit_with<'x>(
     let (made, edited) = make_text(
         alloc, source, &doc, reader, &units, edits, spelled, &wanted, profile,
     )?;
-    let known = Document {
-        text: before,
-        doc: &doc,
-        units: &units,
-    };
-    certify(alloc, known, edits, made, edited, &wanted, profile)
+    let newlines = newlines_of(alloc, &doc)?;
+    Ok(Work {
+        units,
+        newlines,
+        wanted,
+        made,
+        edited,
+    })
 }
 
 /// The units of the tree of a text.
@@ -190,14 +232,14 @@ fn make_text<'d, 'x>(
     spelled: &'x [Spelled],
     wanted: &[bool],
     profile: Profile,
-) -> Result<(Made<'d, 'x, 'x>, Edited), EditorFault>
+) -> Result<(Made<'x, 'x>, Edited), EditorFault>
     requires read { HasLines profile (text_of source) (document doc.now) (lines_of reader) }
     requires spelled { length spelled.now ≡ length edits.now }
     ensures made { IfOk result (λ r. IsMadeText profile (text_of source.entry) (map change edits.now) r.0 (string_bytes r.1.text) r.1.pieces.items) }
     ensures told { IfErr result (Tells profile (text_of source.entry) (map change edits.now)) }
 {
     let touched = near_names(alloc, edits)?;
-    let mut data = reader.data_near(&touched)?;
+    let mut data = reader.names().data_near(&touched)?;
     let mut tree = Tree::of(Texts { alloc, source }, doc, units)?;
     let read = Read {
         doc,
@@ -209,7 +251,7 @@ fn make_text<'d, 'x>(
     }
     let edited = write_out(alloc, source, doc, &tree, wanted)?;
     let made = Made {
-        names: reader,
+        names: reader.into_names(),
         touched,
         data,
     };

@@ -8,10 +8,13 @@ use crate::verify::run_verify;
 use std::alloc::Global;
 use toml_checker::{Verdict, check, check_in, first_marks, outermost};
 use toml_editor::{edit, edit_in, edit_pieces};
-use toml_names::{Address, NameReader, key_address, read_lines};
+use toml_edits::{apply, near_names};
+use toml_names::{Address, key_address, read_lines};
 use toml_text::Source;
 use toml_tree::{Expr, Profile, parse_value};
-use toml_units::{Certificate, certificate_text, join, units, units_at, units_inside};
+use toml_units::{
+    Certificate, certificate_text, join, read_text, units, units_at, units_inside,
+};
 
 const FLOAT: &str = "3.14 = 0xdead_beef\n";
 
@@ -40,22 +43,27 @@ fn count_units(alloc: Global) -> Option<usize> {
     Some(units_at(alloc, &doc, own).ok()?.len())
 }
 
-/// Whether the reader has its own data, and a copy of them.
-fn has_its_data(alloc: Global, reader: &NameReader<'_, '_>) -> Option<bool> {
-    let data = reader.data().ok()?;
-    let copy = data.copy(alloc).ok()?;
-    Some(reader.has_data(&data).ok()? && reader.has_data(&copy).ok()?)
-}
-
-fn reader_has_its_data(alloc: Global) -> Option<bool> {
-    let doc = doc(alloc, FLOAT)?;
-    has_its_data(alloc, &read_lines(alloc, &doc).ok()?)
-}
-
 #[test]
 fn lines_are_read(rt: HostRuntime) {
     assert_eq!(rt; count_units(rt.alloc()), Some(2));
-    assert_eq!(rt; reader_has_its_data(rt.alloc()), Some(true));
+}
+
+/// Whether what the edits make of the data near them, beside the rest, are the data of the text.
+fn has_data_after(alloc: Global, text: &str) -> Option<bool> {
+    let edits = edits(alloc, EDITS)?;
+    let near = near_names(alloc, &edits).ok()?;
+    let old = read_text(alloc, source(FILE)?, Profile::One).ok()??;
+    let new = read_text(alloc, source(text)?, Profile::One).ok()??;
+    let mut data = old.names.data_near(&near).ok()?;
+    apply(alloc, &mut data, edits.first()?).ok()?;
+    new.names.has_data_beside(&old.names, &near, &data).ok()
+}
+
+#[test]
+fn near_data_are_edited(rt: HostRuntime) {
+    assert_eq!(rt; has_data_after(rt.alloc(), OUT), Some(true));
+    assert_eq!(rt; has_data_after(rt.alloc(), FILE), Some(false));
+    assert_eq!(rt; has_data_after(rt.alloc(), "port = 0x1F\nhost = 1\n"), Some(false));
 }
 
 fn is_tagged(alloc: Global, wanted: &str) -> Option<bool> {

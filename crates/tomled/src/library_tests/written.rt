@@ -1,9 +1,10 @@
 //! What is written of a text's names is what the JSON library writes of the tagged JSON of its data.
 
+use crate::library_tests::worked::data;
 use crate::tagged::tagged;
 use crate::tagged_text::write_tagged;
 use std::alloc::Global;
-use toml_names::{data_of_text, names_of_text};
+use toml_names::names_of_text;
 use toml_text::Source;
 use toml_tree::Profile;
 
@@ -25,8 +26,7 @@ fn is_the_librarys(alloc: Global, text: &str) -> Option<bool> {
     let whole = names_of_text(alloc, source, Profile::One).ok()?;
     let mut written = Vec::from_slice(alloc, b"[").ok()?;
     write_tagged(alloc, &mut written, &whole).ok()?;
-    let data = data_of_text(alloc, source, Profile::One).ok()?;
-    let wanted = tagged(alloc, &data).ok()?.to_vec(alloc).ok()?;
+    let wanted = tagged(alloc, &data(alloc, text)?).ok()?.to_vec(alloc).ok()?;
     let (first, rest) = written.as_slice().split_first()?;
     Some(*first == b'[' && rest == wanted.as_slice())
 }

@@ -1,4 +1,4 @@
-use Rattle.std.proofs.Common.{map, refl, subst}
+use Rattle.std.proofs.Common.{map, subst}
 use Rattle.toml_names.specs.model.Data.{kind_at}
 use Rattle.toml_edits.specs.Edits.{change}
 use Rattle.toml_checker.specs.After.{GivesData}
@@ -10,10 +10,13 @@ pub returns-in-Some : goal.returns-in-Some
 returns-in-Some c =
     let cs = map change c.args.edits.now in
     let lead = given c.args.profile cs c.in_ok-near.near c.in_ok-data.field-0 c.in-Some.«data» c.in-Some.is c.in_ok-data.ensures in
-    λ old facts. (refl, made c.args.profile cs c.in_ok-touched.touched c.in_ok-touched.ensures old c.in_ok-near.near (c.in_ok-near.ensures old facts) (kind_at c.in-Some.«data».root) lead)
+    λ lines stand old facts. record {
+      taken = stand;
+      leads = made c.args.profile cs c.in_ok-touched.touched c.in_ok-touched.ensures old c.in_ok-near.near (c.in_ok-near.ensures lines stand old facts) (kind_at c.in-Some.«data».root) lead;
+    }
 
 pub returns : goal.returns
 returns c =
     let cs = map change c.args.edits.now in
     let none = subst (GivesData c.args.profile cs c.in_ok-near.near) c.in-None.is c.in_ok-data.ensures in
-    λ old facts. not_made c.args.profile cs c.in_ok-touched.touched c.in_ok-touched.ensures old c.in_ok-near.near (c.in_ok-near.ensures old facts) none
+    λ lines stand old facts. not_made c.args.profile cs c.in_ok-touched.touched c.in_ok-touched.ensures old c.in_ok-near.near (c.in_ok-near.ensures lines stand old facts) none
