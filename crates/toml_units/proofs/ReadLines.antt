@@ -1,21 +1,22 @@
 -- Lines taken one after another, and what all of them give.
-use Rattle.std.proofs.Common.{◌≡◌, ℕ, ◌+◌, List, [], ◌∷◌, ◌++◌, length, map, Option, Some, None, refl, sym, ap, subst, ◌∙◌, arith, append_assoc}
+use Rattle.std.proofs.Common.{◌≡◌, ℕ, ◌+◌, List, [], ◌∷◌, ◌++◌, map, Option, Some, None, refl, sym, ap, subst, ◌∙◌, append_assoc}
 use Rattle.std.proofs.lemmas.List.{append-nil}
-use Rattle.toml_text.specs.Limit.{IsText}
 use Rattle.toml_scalar.specs.declared.fault.SyntaxFault.{SyntaxFault}
 use Rattle.toml_scalar.specs.declared.fault.SyntaxFault.TheVariants as faults
 use Rattle.toml_tree.specs.Document.{Refuses}
 use Rattle.toml_tree.specs.HandedOut.{AreLinesIn, tree_of}
-use Rattle.toml_tree.specs.Spells.{Spells}
 use Rattle.toml_tree.specs.Tree.{Doc, Line}
 use Rattle.toml_tree.specs.declared.profile.Profile.{Profile}
 use Rattle.toml_tree.proofs.Proved.{one_tree}
 use Rattle.toml_names.specs.mentions.Mentions.{Named, root, named, named_by, named_from}
+use Rattle.toml_names.specs.model.Addresses.{Address}
 use Rattle.toml_names.specs.model.Documents.{IsDocumentIn}
+use Rattle.toml_names.specs.reader.LineNames.{StandFor}
 use Rattle.toml_names.specs.reader.Names.{AreGood, own_address}
 use Rattle.toml_units.specs.declared.reading.ReadText.{ReadText}
 use Rattle.toml_units.specs.Plain.{line_spans, plain_from, plain_units}
-use Rattle.toml_units.specs.Reading.{FindsText, SoFar}
+use Rattle.toml_units.specs.Reading.{FindsText, HasTaken, SoFar, newlines}
+use Rattle.toml_units.specs.View.{all_units}
 use Rattle.toml_units.proofs.Plain.{plain_is_units}
 
 plain_from-push : (ls : List Line) (earlier : List Named) (n : ℕ) (l : Line)
@@ -54,3 +55,16 @@ module _ (profile : Profile) (text : List ℕ) (lines : List Line) (are : AreLin
     units = taken.units ∙ plain_is_units (tree_of text lines) text are.spelled.0;
     newlines = taken.newlines;
   }
+
+newlines_push : (lines : List Line) (l : Line) → newlines (lines ++ l ∷ []) ≡ newlines lines ++ l.newline.text ∷ []
+newlines_push [] l = refl
+newlines_push (k ∷ lines) l = ap (λ ns. k.newline.text ∷ ns) (newlines_push lines l)
+
+-- one more line was taken
+pub took : (read new : ReadText) (lines : List Line) (l : Line) (own : Option Address) → HasTaken read lines → StandFor new.names (lines ++ l ∷ []) → own ≡ own_address (named lines) l.expr
+    → all_units new.units.items ≡ all_units read.units.items ++ line_spans own l.expr → map (λ t. t.now) new.newlines.items ≡ map (λ t. t.now) read.newlines.items ++ l.newline.text ∷ [] → HasTaken new (lines ++ l ∷ [])
+took read new lines l own h names at units ends = record {
+  names = names;
+  units = units ∙ ap (λ us. us ++ line_spans own l.expr) h.units ∙ ap (λ a. plain_units lines ++ line_spans a l.expr) at ∙ sym (plain_push lines l);
+  newlines = ends ∙ ap (λ ns. ns ++ l.newline.text ∷ []) h.newlines ∙ sym (newlines_push lines l);
+}

@@ -1,5 +1,5 @@
 -- What is read of a text line by line.
-use Rattle.std.specs.Prelude.{◌≡◌, ℕ, List, Option, Some, None, MatchOption, map}
+use Rattle.std.specs.Prelude.{◌≡◌, ℕ, List, Option, MatchOption, map}
 use Rattle.toml_tree.specs.HandedOut.{AreLinesIn}
 use Rattle.toml_tree.specs.Tree.{Line}
 use Rattle.toml_tree.specs.declared.profile.Profile.{Profile}

@@ -3,6 +3,8 @@ ghost use Rattle.std.specs.Prelude.{◌≡◌, ◌<◌, ◌∷◌, ◌++◌, Lis
 ghost use Rattle.toml_text.specs.Source.{text_of};
 ghost use Rattle.toml_tree.specs.Lines.{line as tree_line};
 ghost use Rattle.toml_tree.specs.Tree.{Line as Lined};
+ghost use Rattle.toml_scalar.specs.declared.fault.SyntaxFault.TheVariants as syntax;
+ghost use Rattle.toml_names.specs.declared.fault.NameFault.TheVariants as names;
 ghost use Rattle.toml_units.specs.Plain.{line_spans};
 ghost use Rattle.toml_units.specs.Reading.{FindsText, HasTaken, SoFar};
 ghost use Rattle.toml_units.specs.View.{all_units};
@@ -52,6 +54,26 @@ impl<'t> ReadText<'t> {
     }
 }
 
+/// Passes on that there was no memory.
+fn told_names(fault: NameFault) -> Result<(), AllocError>
+    ensures { OnOk result (¬ (fault ≡ names.NoMemory)) }
+{
+    match fault {
+        NameFault::NoMemory => Err(AllocError),
+        _ => Ok(()),
+    }
+}
+
+/// The same of a fault of the syntax.
+fn told_syntax(fault: SyntaxFault) -> Result<(), AllocError>
+    ensures { OnOk result (¬ (fault ≡ syntax.NoMemory)) }
+{
+    match fault {
+        SyntaxFault::NoMemory => Err(AllocError),
+        _ => Ok(()),
+    }
+}
+
 /// What was read with one line more, which is let go; none where the lines' names break the rules.
 fn with_line<'t>(
     alloc: Global,
@@ -67,8 +89,10 @@ fn with_line<'t>(
             read.push(alloc, own, &line)?;
             Ok(Some(read))
         }
-        Err(NameFault::NoMemory) => Err(AllocError),
-        Err(_) => Ok(None),
+        Err(fault) => {
+            told_names(fault)?;
+            Ok(None)
+        }
     }
 }
 
@@ -103,8 +127,10 @@ pub fn read_text<'t>(
                 so_far = with_next(alloc, so_far, line)?;
                 left = more;
             }
-            Err(SyntaxFault::NoMemory) => return Err(AllocError),
-            Err(_) => return Ok(None),
+            Err(fault) => {
+                told_syntax(fault)?;
+                return Ok(None);
+            }
         }
     }
     Ok(so_far)
