@@ -1,4 +1,4 @@
-use Rattle.toml_checker.proofs.Refused.{finds, no_text}
+use Rattle.toml_checker.proofs.Refused.{no_text}
 use Rattle.toml_checker.proofs.documents.read.Goals as goal
 
 pub returns-in-Err : goal.returns-in-Err
