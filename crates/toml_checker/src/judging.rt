@@ -176,7 +176,7 @@ pub fn check_in(
     )
 }
 
-/// What `check_in` answers of a document that is read already, with the data that the edits make of its data: the same verdict,
+/// What `check_in` answers of a document that is read already, with what the edits make of its data: the same verdict,
 /// by the same code. The second text alone is read. What a yes means is the law of the headline.
 pub fn check_made(
     alloc: Global,
