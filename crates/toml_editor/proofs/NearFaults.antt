@@ -16,7 +16,7 @@ use Rattle.toml_names.specs.model.Data.{IsDataOf, Kinds, fact_at}
 use Rattle.toml_names.specs.model.Documents.{IsDocumentIn}
 use Rattle.toml_names.specs.mentions.Mentions.{named}
 use Rattle.toml_names.specs.reader.Names.{AreGood}
-use Rattle.toml_names.proofs.Proved.{first_is_data, lines_join}
+use Rattle.toml_names.proofs.Proved.{lines_have_data}
 use Rattle.toml_edits.specs.declared.fault.EditFault.{EditFault}
 use Rattle.toml_edits.specs.Edits.{Change}
 use Rattle.toml_edits.specs.Edits as edits
@@ -106,7 +106,5 @@ module _ (profile : Profile) (places : Places) (set : NameSet) (old : Kinds) (cs
     led_beside new lead = leads_beside profile set cs old new are (subst (λ k. Lead profile cs k new) (fun_ext of) lead)
 
 -- the lines of a document have data
-pub lines_have_data : (profile : Profile) (text : List ℕ) (d : Doc) → IsDocumentIn profile text → Spells d text → IsDataOf (named d.lines) (fact_at (named d.lines))
-lines_have_data profile text d document spelled =
-    let good = subst (λ (e : Doc). AreGood e.lines) (one_tree document.1 d text document.2 spelled) document.3 in
-    first_is_data (named d.lines) (lines_join d.lines good.0)
+pub has_data : (profile : Profile) (text : List ℕ) (d : Doc) → IsDocumentIn profile text → Spells d text → IsDataOf (named d.lines) (fact_at (named d.lines))
+has_data profile text d document spelled = lines_have_data d.lines (subst (λ (e : Doc). AreGood e.lines) (one_tree document.1 d text document.2 spelled) document.3).0

@@ -5,10 +5,12 @@ use Rattle.toml_tree.specs.Tree.{Line}
 use Rattle.toml_names.specs.model.Data.{IsDataOf, fact_at, kind_at}
 use Rattle.toml_names.specs.model.Places.{place}
 use Rattle.toml_names.specs.mentions.Mentions.{named}
+use Rattle.toml_names.specs.reader.LineNames.{StandFor}
+use Rattle.toml_names.specs.reader.Reading.{lines_of}
 use Rattle.toml_edits.specs.Edits.{change}
 use Rattle.toml_editor.specs.Making.{TellsAny}
 use Rattle.toml_editor.proofs.Judgements.{any_tells}
-use Rattle.toml_editor.proofs.NearFaults.{any_of_all, led_beside, lines_have_data}
+use Rattle.toml_editor.proofs.NearFaults.{any_of_all, has_data, led_beside}
 use Rattle.toml_editor.proofs.editing.make_text.Goals as goal
 
 pub returns-in-Err-clause-told : goal.returns-in-Err-clause-told
@@ -17,8 +19,8 @@ returns-in-Err-clause-told c =
     let text = text_of c.args.source in
     let cs = map change c.args.edits.now in
     let old = fact_at (named d.lines) in
-    let facts = lines_have_data c.args.profile text d c.requires.read.document c.requires.read.spelled in
-    let near = c.in_ok-data.ensures old (subst (λ (ls : List Line). IsDataOf (named ls) old) (sym c.requires.read.taken) facts) in
+    let facts = has_data c.args.profile text d c.requires.read.document c.requires.read.spelled in
+    let near = c.in_ok-data.ensures (lines_of c.args.reader) c.names.ensures old (subst (λ (ls : List Line). IsDataOf (named ls) old) (sym c.requires.read.taken) facts) in
     let part = kind_at c.in_ok-data.«data».root in
     let told = subst (λ (ls : List Line). TellsAny c.args.profile (place (named ls)) cs part c.in-Err.fault) c.requires.read.taken c.in-Err.ensures.told in
     any_tells c.args.profile text cs d old c.in-Err.fault c.requires.read.document c.requires.read.spelled facts
@@ -30,14 +32,14 @@ returns-clause-made c =
     let text = text_of c.args.source in
     let cs = map change c.args.edits.now in
     let old = fact_at (named d.lines) in
-    let facts = lines_have_data c.args.profile text d c.requires.read.document c.requires.read.spelled in
-    let near = c.in_ok-data.ensures old (subst (λ (ls : List Line). IsDataOf (named ls) old) (sym c.requires.read.taken) facts) in
+    let facts = has_data c.args.profile text d c.requires.read.document c.requires.read.spelled in
+    let near = c.in_ok-data.ensures (lines_of c.args.reader) c.names.ensures old (subst (λ (ls : List Line). IsDataOf (named ls) old) (sym c.requires.read.taken) facts) in
     let new = kind_at c.make_all.new.«data».root in
     record {
-      made = record {
+      is_made = record {
         tree = d;
         spelled = c.requires.read.spelled;
-        taken = c.requires.read.taken;
+        taken = subst (StandFor c.into_names.result) c.requires.read.taken c.into_names.ensures;
         old = old;
         facts = facts;
         leads = led_beside c.args.profile (place (named d.lines)) c.in_ok-touched.touched old cs c.in_ok-touched.ensures (kind_at c.in_ok-data.«data».root) near new c.in_default.ensures.made;

@@ -1,0 +1,27 @@
+use Rattle.std.proofs.Common.{◌∙◌, ap, map, string_bytes, subst, sym}
+use Rattle.toml_tree.specs.Document.{document}
+use Rattle.toml_edits.specs.Edits.{change}
+use Rattle.toml_units.specs.Units.{units}
+use Rattle.toml_units.specs.View.{all_units}
+use Rattle.toml_checker.specs.Outer.{TellOuter}
+use Rattle.toml_editor.specs.Editing.{IsMadeText, IsReadAs}
+use Rattle.toml_editor.proofs.editing.make_document.Goals as goal
+
+pub returns-clause-work : goal.returns-clause-work
+returns-clause-work c =
+    let before = c.args.before.now in
+    let cs = map change c.args.edits.now in
+    let d = document c.in_ok-source.doc in
+    let read = c.in_ok-source.ensures.read in
+    let edited = c.in_ok-made.edited in
+    let told = c.in_ok-wanted.ensures d before read.spelled (ap all_units c.deref.ensures.value ∙ c.in_ok-units.ensures) in
+    let read_here : IsReadAs c.args.profile before before d = record { text_is = λ _. before; within = read.within; spelled = read.spelled; of_profile = read.of_profile } in
+    record {
+      document = c.in_ok-reader.ensures.document c.args.profile read_here;
+      tree = d;
+      spelled = read.spelled;
+      units = c.in_ok-units.ensures;
+      newlines = c.in_ok-newlines.ensures;
+      wanted = (d, read.spelled, told);
+      made = subst (λ t. IsMadeText c.args.profile t cs c.in_ok-made.made (string_bytes edited.text) edited.pieces.items) read.text_is c.in_ok-made.ensures.made;
+    }
