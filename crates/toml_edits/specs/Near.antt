@@ -23,6 +23,7 @@ Touches c n = Begins (place c) n ⊎ Renames c n
 abbrev pub IsNear : NameSet → Change → Type 0
 IsNear names c = (n : List ℕ) → Touches c n → has_name names n ≡ true
 
+-- the set has each name that edits of the list touch
 abbrev pub AreNear : NameSet → List Change → Type 0
 AreNear names [] = Unit {0}
 AreNear names (c ∷ cs) = IsNear names c × AreNear names cs
