@@ -69,12 +69,15 @@ same_beside : (names : NameSet) (old new : Kinds) (a : Address) (b : Bool) → c
 same_beside names old new a true is = refl
 same_beside names old new a false is = is
 
-pub leads_beside : LeadsBeside
-leads_beside profile names [] old new are lead = λ a. same_beside names old new a (is_hidden names a) (lead a)
-leads_beside profile names (c ∷ cs) old new are (fault, mid, after, lead) =
+led_beside : (profile : Profile) (names : NameSet) (cs : List Change) (old new : Kinds) → AreNear names cs → Lead profile cs (near names old) new → Lead profile cs old (beside names old new)
+led_beside profile names [] old new are lead = λ a. same_beside names old new a (is_hidden names a) (lead a)
+led_beside profile names (c ∷ cs) old new are (fault, mid, after, lead) =
     let all = beside names old mid in
-    let rest : Lead profile cs all (beside names all new) = leads_beside profile names cs all new are.1 (subst (λ (f : Kinds). Lead profile cs f new) (sym (near_again profile names c are.0 old mid fault after)) lead) in
+    let rest : Lead profile cs all (beside names all new) = led_beside profile names cs all new are.1 (subst (λ (f : Kinds). Lead profile cs f new) (sym (near_again profile names c are.0 old mid fault after)) lead) in
     (fault_all profile names c are.0 old None fault, all, after_beside profile names c are.0 old mid fault after, subst (Lead profile cs all) (beside_twice names old mid new) rest)
+
+pub leads_beside : LeadsBeside
+leads_beside profile names cs old part new are same lead = led_beside profile names cs old new are (subst (λ (f : Kinds). Lead profile cs f new) (fun_ext same) lead)
 
 pub leads_near : LeadsNear
 leads_near profile names [] old new are lead = λ a. ap (λ k. cond (is_hidden names a) None k) (lead a)

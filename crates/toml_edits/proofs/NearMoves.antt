@@ -1,5 +1,5 @@
 -- What an edit near the names of a set makes of data is moved by a carrier that leaves alone what is beside them.
-use Rattle.std.proofs.Common.{◌≡◌, ℕ, List, [], ◌∷◌, ◌++◌, Option, Some, None, true, refl, sym, ap, subst, ◌∙◌, append-nil}
+use Rattle.std.proofs.Common.{◌≡◌, inr, ℕ, List, [], ◌∷◌, ◌++◌, Option, Some, None, true, refl, sym, ap, subst, ◌∙◌, append-nil}
 use Rattle.std.proofs.lemmas.Option.{none-some}
 use Rattle.toml_tree.specs.declared.profile.Profile.{Profile}
 use Rattle.toml_names.specs.declared.model.address.Step.TheVariants.{Name, Index}
@@ -14,6 +14,7 @@ use Rattle.toml_edits.specs.Carry.{Carrier, carry, carry_below, inserting, nowhe
 use Rattle.toml_edits.specs.Edits.{Change, set, insert, rename, remove, new_section, new_element, place}
 use Rattle.toml_edits.specs.Near.{IsNear, StartsIn}
 use Rattle.toml_edits.proofs.Along.{by_parts}
+use Rattle.toml_edits.proofs.NearNames.{near_starts}
 use Rattle.toml_edits.proofs.HiddenFacts.{Agree, IsPlacedApart, Leaves}
 use Rattle.toml_edits.proofs.NearCarriers.{all_stay, below_leaves, first_shown, insert_leaves, remove_leaves, rename_leaves, shown_below, shown_element, shown_front}
 
@@ -65,50 +66,53 @@ element_moved profile names at q i old new near other is (Some k) here moves = r
   after = λ f g agree m. (q, i, is, subst (λ o. AddsElement q at o f g) (sym here ∙ agree q (shown_front names at q (Index i ∷ []) near is)) m);
 }
 
-pub moved : (profile : Profile) (names : NameSet) (c : Change) (old new : Kinds) → IsNear names c → ¬ (place c ≡ []) → IsAfter profile c old new → Moved profile names c old new
-moved profile names (set at value) old new near other (v, good, moves) = record {
+led : (profile : Profile) (names : NameSet) (c : Change) (old new : Kinds) → StartsIn names (place c) → IsNear names c → ¬ (place c ≡ []) → IsAfter profile c old new → Moved profile names c old new
+led profile names (set at value) old new starts near other (v, good, moves) = record {
   carrier = carry_below at nowhere;
   at = at;
   value = v;
-  leaves = set_leaves names at near other;
-  apart = placed_below names at v near other;
+  leaves = set_leaves names at starts other;
+  apart = placed_below names at v starts other;
   moves = moves;
   after = λ f g agree m. (v, good, m);
 }
-moved profile names (insert at value) old new near other (v, good, moves) = record {
+led profile names (insert at value) old new starts near other (v, good, moves) = record {
   carrier = carry (insert at value);
   at = at;
   value = v;
-  leaves = by_parts (λ o p. StartsIn names p → Leaves (is_hidden names) (inserting o)) (λ h. all_stay names) (insert_leaves names) at near;
-  apart = placed_below names at v near other;
+  leaves = by_parts (λ o p. StartsIn names p → Leaves (is_hidden names) (inserting o)) (λ h. all_stay names) (insert_leaves names) at starts;
+  apart = placed_below names at v starts other;
   moves = moves;
   after = λ f g agree m. (v, good, m);
 }
-moved profile names (rename at to) old new near other moves = record {
+led profile names (rename at to) old new starts near other moves = record {
   carrier = carry (rename at to);
   at = [];
   value = nothing;
-  leaves = by_parts (λ o p. StartsIn names p → ((n : List ℕ) → p ≡ Name n ∷ [] → has_name names to ≡ true) → Leaves (is_hidden names) (renaming o to)) (λ h k. all_stay names) (rename_leaves names to) at near.0 near.1;
+  leaves = by_parts (λ o p. StartsIn names p → ((n : List ℕ) → p ≡ Name n ∷ [] → has_name names to ≡ true) → Leaves (is_hidden names) (renaming o to)) (λ h k. all_stay names) (rename_leaves names to) at starts (λ n is. near to (inr (refl, n, is)));
   apart = nothing_placed names [];
   moves = moves;
   after = λ f g agree m. m;
 }
-moved profile names (remove at) old new near other moves = record {
+led profile names (remove at) old new starts near other moves = record {
   carrier = carry (remove at);
   at = [];
   value = nothing;
-  leaves = by_parts (λ o p. StartsIn names p → Leaves (is_hidden names) (removing o)) (λ h. all_stay names) (remove_leaves names) at near;
+  leaves = by_parts (λ o p. StartsIn names p → Leaves (is_hidden names) (removing o)) (λ h. all_stay names) (remove_leaves names) at starts;
   apart = nothing_placed names [];
   moves = moves;
   after = λ f g agree m. m;
 }
-moved profile names (new_section at) old new near other moves = record {
+led profile names (new_section at) old new starts near other moves = record {
   carrier = Some;
   at = at;
   value = an_empty_table;
   leaves = all_stay names;
-  apart = placed_below names at an_empty_table near other;
+  apart = placed_below names at an_empty_table starts other;
   moves = moves;
   after = λ f g agree m. m;
 }
-moved profile names (new_element at) old new near other (q, i, is, adds) = element_moved profile names at q i old new near other is (old q) refl adds
+led profile names (new_element at) old new starts near other (q, i, is, adds) = element_moved profile names at q i old new starts other is (old q) refl adds
+
+pub moved : (profile : Profile) (names : NameSet) (c : Change) (old new : Kinds) → IsNear names c → ¬ (place c ≡ []) → IsAfter profile c old new → Moved profile names c old new
+moved profile names c old new near = led profile names c old new (near_starts names c near) near

@@ -14,7 +14,7 @@ use Rattle.toml_edits.specs.After.{Comes, Moves, AddsElement, nothing, an_empty_
 use Rattle.toml_edits.specs.Carry.{Carrier, carry, carry_below, nowhere, up_from, inserting, parted}
 use Rattle.toml_edits.specs.Edits.{set, insert, rename, remove, new_section, new_element}
 use Rattle.toml_edits.specs.Faults.{IsFault}
-use Rattle.toml_edits.specs.ListLaws.{StaysClosed}
+use Rattle.toml_edits.specs.ListLaws.{StaysClosed, LeadsStayClosed}
 use Rattle.toml_edits.specs.ValueTexts.{IsGoodValue}
 use Rattle.toml_edits.proofs.Along.{ends}
 use Rattle.toml_edits.proofs.Fronts.{IsFrontal, below_front, nowhere_front, carried_front}
@@ -173,3 +173,7 @@ stays_closed profile (rename at to) old new closed fault after = moves_closed (c
 stays_closed profile (remove at) old new closed fault after = moves_closed (carry (remove at)) [] nothing old new after (carried_front (remove at)) closed nothing_closed (no_parent new)
 stays_closed profile (new_section at) old new closed fault after = moves_closed Some at an_empty_table old new after (carried_front (new_section at)) closed empty_closed (section_parent profile at old new fault after)
 stays_closed profile (new_element at) old new closed fault after = element_closed profile at after.0 after.1 old new closed fault after.2 (old after.0) refl after.3
+
+pub leads_stay_closed : LeadsStayClosed
+leads_stay_closed profile [] old new closed lead = λ at s none. sym (lead (at ++ s ∷ [])) ∙ closed at s (lead at ∙ none)
+leads_stay_closed profile (c ∷ cs) old new closed (fault, mid, after, lead) = leads_stay_closed profile cs mid new (stays_closed profile c old mid closed fault after) lead

@@ -39,6 +39,10 @@ ListsCarryApart = (profile : Profile) (cs : List Change) (old new : Kinds) → I
 abbrev pub StaysClosed : Type 0
 StaysClosed = (profile : Profile) (c : Change) (old new : Kinds) → IsClosed old → IsFault profile c old None → IsAfter profile c old new → IsClosed new
 
+-- They stay so under a list of edits none of which has a fault.
+abbrev pub LeadsStayClosed : Type 0
+LeadsStayClosed = (profile : Profile) (cs : List Change) (old new : Kinds) → IsClosed old → Lead profile cs old new → IsClosed new
+
 -- Each index in data is below 2^63.
 abbrev pub DataIndicesAreLow : Type 0
 DataIndicesAreLow = (d : Datum) (a : Address) → IsSome (kind_at d a) → IsLow (2 ^ 63) a

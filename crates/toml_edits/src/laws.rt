@@ -1,7 +1,7 @@
 //! Laws over the definitions: nothing is run.
 ghost use Rattle.toml_edits.specs.EditList.{BadListIsNone, OneEditList};
-ghost use Rattle.toml_edits.specs.ListLaws.{CarriedOn, CarriedStands, DataIndicesAreLow, FaultOrLead, ListsCarryApart, OneFirstFault, OneLead, StaysClosed};
-ghost use Rattle.toml_edits.specs.NearLaws.{FaultsNear, FaultBeside, HiddenStays, LeadsBeside, LeadsNear};
+ghost use Rattle.toml_edits.specs.ListLaws.{CarriedOn, CarriedStands, DataIndicesAreLow, FaultOrLead, LeadsStayClosed, ListsCarryApart, OneFirstFault, OneLead, StaysClosed};
+ghost use Rattle.toml_edits.specs.NearLaws.{FaultsNear, FaultBeside, HiddenStays, LeadsBeside, LeadsNear, NearStarts};
 ghost use Rattle.toml_edits.specs.Laws.{CarriedAlong, CarriedFront, CarriedApart, DataAreClosed, ElementIsEmpty, NewTablesStay, OneAfter, SectionIsEmpty, SetCarries};
 
 /// What is below an address is carried along with it, unless the edit is below the address or a `set` at it. A
@@ -13,11 +13,12 @@ pub fn carried()
     ensures apart { CarriedApart }
 {}
 
-/// In data nothing stands below an address where nothing does; an edit without a fault leaves it so. Each index in data
-/// is below 2^63.
+/// In data nothing stands below an address where nothing does; an edit without a fault leaves it so, and a list of such
+/// edits. Each index in data is below 2^63.
 pub fn closed()
     ensures data { DataAreClosed }
     ensures stays { StaysClosed }
+    ensures leads { LeadsStayClosed }
     ensures indices { DataIndicesAreLow }
 {}
 
@@ -58,11 +59,14 @@ pub fn edit_lists()
 {}
 
 /// Edits near the names of a set may be made on the data near these. What they make of them, with all else left as it was,
-/// is what they make of all, and the first fault is the same.
+/// is what they make of all; what they make of all has the same near the names, and all else as it was; the first fault is
+/// the same. One such edit has on data near the names, beside anything else, the fault that it has on them, and the set
+/// has the first name of its address.
 pub fn near()
     ensures beside { LeadsBeside }
     ensures near { LeadsNear }
     ensures stays { HiddenStays }
     ensures faults { FaultsNear }
     ensures fault { FaultBeside }
+    ensures starts { NearStarts }
 {}

@@ -1,4 +1,5 @@
 use Rattle.toml_edits.proofs.NearLists.{leads_beside, leads_near, hidden_stays, faults_near, fault_beside}
+use Rattle.toml_edits.proofs.NearNames.{near_starts}
 use Rattle.toml_edits.proofs.laws.near.Goals as goal
 
 pub returns-clause-beside : goal.returns-clause-beside
@@ -15,3 +16,6 @@ returns-clause-faults c = faults_near
 
 pub returns-clause-fault : goal.returns-clause-fault
 returns-clause-fault c = fault_beside
+
+pub returns-clause-starts : goal.returns-clause-starts
+returns-clause-starts c = near_starts
