@@ -5,17 +5,14 @@ use Rattle.toml_tree.specs.declared.profile.Profile.{Profile}
 use Rattle.toml_names.specs.declared.model.datum.Data.{Data}
 use Rattle.toml_names.specs.declared.model.name_set.NameSet.{NameSet}
 use Rattle.toml_names.specs.model.Addresses.{Address}
-use Rattle.toml_names.specs.model.Beside.{beside, near}
+use Rattle.toml_names.specs.model.Beside.{near}
 use Rattle.toml_names.specs.model.Data.{Kinds, kind_at}
 use Rattle.toml_edits.specs.Edits.{Change}
 use Rattle.toml_edits.specs.Lists.{Lead}
 use Rattle.toml_edits.specs.Near.{AreNear}
-use Rattle.toml_edits.proofs.Proved.{leads_beside, leads_near}
+use Rattle.toml_edits.proofs.Proved.{leads_near}
 use Rattle.toml_checker.specs.Documents.{AreDefined}
 
 module _ (profile : Profile) (cs : List Change) (set : NameSet) (are : AreNear set cs) (old : Kinds) (part : Data) (of : (a : Address) → kind_at part.root a ≡ near set old a) where
-  pub made : (new : Kinds) → Lead profile cs (kind_at part.root) new → Lead profile cs old (beside set old new)
-  made new lead = leads_beside profile set cs old new are (subst (λ (k : Kinds). Lead profile cs k new) (fun_ext of) lead)
-
   pub not_made : ¬ AreDefined profile cs (kind_at part.root) → ¬ AreDefined profile cs old
   not_made none (new, lead) = none (near set new, subst (λ (k : Kinds). Lead profile cs k (near set new)) (sym (fun_ext of)) (leads_near profile set cs old new are lead))

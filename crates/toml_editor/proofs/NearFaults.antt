@@ -1,6 +1,6 @@
 -- What edits tell of the data that they can touch, they tell of all data.
 use Rattle.std.proofs.Math.Path.{fun_ext}
-use Rattle.std.proofs.Common.{◌≡◌, inl, inr, ℕ, zero, suc, List, [], ◌∷◌, ◌++◌, take, Option, Some, None, Bool, true, false, cond, not, refl, sym, ap, subst, ◌∙◌}
+use Rattle.std.proofs.Common.{◌≡◌, inl, inr, ℕ, zero, suc, List, [], ◌∷◌, ◌++◌, take, Option, Some, None, false, cond, not, refl, sym, ap, subst, ◌∙◌}
 use Rattle.std.proofs.lemmas.Option.{same_Some}
 use Rattle.std.specs.Prelude.{IsSome, slice_get}
 use Rattle.toml_tree.specs.Spells.{Spells}
@@ -21,9 +21,8 @@ use Rattle.toml_edits.specs.declared.fault.EditFault.{EditFault}
 use Rattle.toml_edits.specs.Edits.{Change}
 use Rattle.toml_edits.specs.Edits as edits
 use Rattle.toml_edits.specs.Faults.{IsFault}
-use Rattle.toml_edits.specs.Lists.{Lead}
 use Rattle.toml_edits.specs.Near.{AreNear, IsNear, StartsIn}
-use Rattle.toml_edits.proofs.Proved.{leads_beside, fault_beside}
+use Rattle.toml_edits.proofs.Proved.{leads_beside, fault_beside, near_starts}
 use Rattle.toml_editor.specs.Edited.{Places, SoFar, OfDefined, MayBeSpread, TakesLastElement}
 use Rattle.toml_editor.specs.Making.{TellsAny}
 use Rattle.toml_editor.specs.declared.fault.EditorFault.{EditorFault}
@@ -60,8 +59,8 @@ fault_on : (profile : Profile) (set : NameSet) (old : Kinds) (found : Option Edi
 fault_on profile set old found c mid is h = fault_beside profile set c old mid is found h
 
 spread_on : (places : Places) (set : NameSet) (old : Kinds) (i : ℕ) (c : Change) (mid : Kinds) → IsNear set c → MayBeSpread places i c mid → MayBeSpread places i c (beside set old mid)
-spread_on places set old i (edits.set at value) mid is (inl e) = inl (sym (shown set old mid at (starts set at is)) ∙ e)
-spread_on places set old i (edits.set at value) mid is (inr e) = inr (sym (shown set old mid at (starts set at is)) ∙ e)
+spread_on places set old i (edits.set at value) mid is (inl e) = inl (sym (shown set old mid at (starts set at (near_starts set (edits.set at value) is))) ∙ e)
+spread_on places set old i (edits.set at value) mid is (inr e) = inr (sym (shown set old mid at (starts set at (near_starts set (edits.set at value) is))) ∙ e)
 spread_on places set old i (edits.insert at value) mid is h = h
 spread_on places set old i (edits.rename at to) mid is h = absurd h
 spread_on places set old i (edits.remove at) mid is h = absurd h
@@ -70,7 +69,8 @@ spread_on places set old i (edits.new_element at) mid is h = h
 
 last_on : (set : NameSet) (old : Kinds) (c : Change) (mid : Kinds) → IsNear set c → TakesLastElement c mid → TakesLastElement c (beside set old mid)
 last_on set old (edits.remove at) mid is (q, e, some, none) =
-    (q, e, subst IsSome (shown set old mid at (starts set at is)) some, sym (shown set old mid (element q 1) (starts_beside set q (Index 0) 1 (subst (StartsIn set) e is) refl)) ∙ none)
+    let begins = near_starts set (edits.remove at) is in
+    (q, e, subst IsSome (shown set old mid at (starts set at begins)) some, sym (shown set old mid (element q 1) (starts_beside set q (Index 0) 1 (subst (StartsIn set) e begins) refl)) ∙ none)
 last_on set old (edits.set at value) mid is h = absurd h
 last_on set old (edits.insert at value) mid is h = absurd h
 last_on set old (edits.rename at to) mid is h = absurd h
@@ -80,7 +80,7 @@ last_on set old (edits.new_element at) mid is h = absurd h
 module _ (profile : Profile) (places : Places) (set : NameSet) (old : Kinds) (cs : List Change) (are : AreNear set cs) where
   so : (i : ℕ) (P : Change → Kinds → Type 0) → ((c : Change) (mid : Kinds) → IsNear set c → P c mid → P c (beside set old mid)) → SoFar profile cs (near set old) i P → SoFar profile cs old i P
   so i P on (mid, lead, c, is, p) =
-      (beside set old mid, leads_beside profile set (take i cs) old mid (near_front set i cs are) lead, c, is, on c mid (near_one set i cs c is are) p)
+      (beside set old mid, leads_beside profile set (take i cs) old (near set old) mid (near_front set i cs are) (λ at. refl) lead, c, is, on c mid (near_one set i cs c is are) p)
 
   defined_on : (P : Change → Kinds → Type 0) → ((c : Change) (mid : Kinds) → IsNear set c → P c mid → P c (beside set old mid)) → (c : Change) (mid : Kinds) → IsNear set c → OfDefined profile P c mid → OfDefined profile P c (beside set old mid)
   defined_on P on c mid is (none, p) = (fault_on profile set old None c mid is none, on c mid is p)
@@ -97,13 +97,9 @@ module _ (profile : Profile) (places : Places) (set : NameSet) (old : Kinds) (cs
   any_near (faults.Unverified r) h = absurd h
 
   module _ (part : Kinds) (of : (a : Address) → part a ≡ near set old a) where
-    -- what is told of the near data is told of all,
+    -- what is told of the near data is told of all
     pub any_of_all : (fault : EditorFault) → TellsAny profile places cs part fault → TellsAny profile places cs old fault
     any_of_all fault h = any_near fault (subst (λ k. TellsAny profile places cs k fault) (fun_ext of) h)
-
-    -- and what is made of them is made of all.
-    pub led_beside : (new : Kinds) → Lead profile cs part new → Lead profile cs old (beside set old new)
-    led_beside new lead = leads_beside profile set cs old new are (subst (λ k. Lead profile cs k new) (fun_ext of) lead)
 
 -- the lines of a document have data
 pub has_data : (profile : Profile) (text : List ℕ) (d : Doc) → IsDocumentIn profile text → Spells d text → IsDataOf (named d.lines) (fact_at (named d.lines))

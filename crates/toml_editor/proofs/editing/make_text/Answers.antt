@@ -8,9 +8,10 @@ use Rattle.toml_names.specs.mentions.Mentions.{named}
 use Rattle.toml_names.specs.reader.LineNames.{StandFor}
 use Rattle.toml_names.specs.reader.Reading.{lines_of}
 use Rattle.toml_edits.specs.Edits.{change}
+use Rattle.toml_edits.proofs.Proved.{leads_beside}
 use Rattle.toml_editor.specs.Making.{TellsAny}
 use Rattle.toml_editor.proofs.Judgements.{any_tells}
-use Rattle.toml_editor.proofs.NearFaults.{any_of_all, has_data, led_beside}
+use Rattle.toml_editor.proofs.NearFaults.{any_of_all, has_data}
 use Rattle.toml_editor.proofs.editing.make_text.Goals as goal
 
 pub returns-in-Err-clause-told : goal.returns-in-Err-clause-told
@@ -24,7 +25,7 @@ returns-in-Err-clause-told c =
     let part = kind_at c.in_ok-data.«data».root in
     let told = subst (λ (ls : List Line). TellsAny c.args.profile (place (named ls)) cs part c.in-Err.fault) c.requires.read.taken c.in-Err.ensures.told in
     any_tells c.args.profile text cs d old c.in-Err.fault c.requires.read.document c.requires.read.spelled facts
-    (any_of_all c.args.profile (place (named d.lines)) c.in_ok-touched.touched old cs c.in_ok-touched.ensures part near c.in-Err.fault told)
+    (any_of_all c.args.profile (place (named d.lines)) c.in_ok-touched.touched old cs c.in_ok-touched.ensures.near part near c.in-Err.fault told)
 
 pub returns-clause-made : goal.returns-clause-made
 returns-clause-made c =
@@ -42,7 +43,7 @@ returns-clause-made c =
         taken = subst (StandFor c.into_names.result) c.requires.read.taken c.into_names.ensures;
         old = old;
         facts = facts;
-        leads = led_beside c.args.profile (place (named d.lines)) c.in_ok-touched.touched old cs c.in_ok-touched.ensures (kind_at c.in_ok-data.«data».root) near new c.in_default.ensures.made;
+        leads = leads_beside c.args.profile c.in_ok-touched.touched cs old (kind_at c.in_ok-data.«data».root) new c.in_ok-touched.ensures.near near c.in_default.ensures.made;
       };
       pieces = c.in_ok-edited.ensures;
     }
