@@ -16,6 +16,7 @@ use Rattle.toml_names.specs.declared.model.address.Step.TheVariants.{Name, Index
 use Rattle.toml_names.specs.mentions.Mentions.{a_scalar, an_array, a_table}
 use Rattle.toml_names.specs.model.Addresses.{Address}
 use Rattle.toml_names.specs.model.Data.{Kinds, within}
+use Rattle.toml_names.specs.tree.Held.{below_in}
 use Rattle.toml_names.specs.reader.Parts as parts
 use Rattle.toml_names.specs.reader.Parts.{IsPart, part_kinds, plain_members}
 use Rattle.toml_names.specs.tree.Nodes.{Spot}
@@ -67,6 +68,10 @@ items_tagged f (g ∷ gs) i (item j js) each t =
     )
 
 module _ (nodes : List Spot) (id : ℕ) where
+  within_is : (o : Option ℕ) (at : Address) → below_in nodes o at ≡ within (option_map (part_kinds nodes) o) at
+  within_is None at = refl
+  within_is (Some k) at = refl
+
   pub items_more : (items : List ℕ) (i d : ℕ) (old now mid new : List ℕ) (later : Bool) → i < length items → AreWritten (map (part_kinds nodes) (take i items)) old now later → mid ≡ now ++ comma_if later
       → WritesTagged (part_kinds nodes (get_or items i d)) mid new → AreWritten (map (part_kinds nodes) (take (i + 1) items)) old new true
   items_more items i d old now mid new later at t comma w =
@@ -85,7 +90,7 @@ module _ (nodes : List Spot) (id : ℕ) where
           here,
           items_tagged (part_kinds nodes id) (map (part_kinds nodes) items) 0 (items_of t.items)
               (λ j at. let same : 0 + j ≡ j = omega arith in
-              ap (λ k. part_kinds nodes id (Index k ∷ at)) same ∙ are.each j at ∙ ap (λ (o : Option Kinds). within o at) (sym (slice_get-map (part_kinds nodes) items j))) all,
+              ap (λ k. part_kinds nodes id (Index k ∷ at)) same ∙ are.each j at ∙ within_is (slice_get items j) at ∙ ap (λ (o : Option Kinds). within o at) (sym (slice_get-map (part_kinds nodes) items j))) all,
         );
         is = closed ∙ (sym (t.text []) ∙ ap (λ js. old ++ compact_text (array (items_of js))) (append-nil t.items));
       }
