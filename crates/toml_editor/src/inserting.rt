@@ -73,12 +73,14 @@ impl<'x> Tree<'x> {
         spelled: &'x [String],
         new: Value<'x>,
     ) -> Result<bool, AllocError> {
-        let first = Position { slot: 0, index: 0 };
-        match self.last_pair(first) {
-            Some(behind) => self.insert_behind(doc, behind, at, 0, spelled, new),
+        match self.last_root_pair() {
+            Some(behind) => {
+                self.root_end = behind;
+                self.insert_behind(doc, behind, at, 0, spelled, new)
+            }
             None => {
                 let line = self.pair_line(at, 0, spelled, new, self.style)?;
-                self.put(first, line)
+                self.put(Position { slot: 0, index: 0 }, line)
             }
         }
     }

@@ -32,7 +32,8 @@ impl<'x> Tree<'x> {
             Some(place) if self.depth(place) < at.steps().len() => {
                 self.remove_inside(doc, place, at)?;
             }
-            _ => {
+            Some(place) => self.remove_line(doc, place.slot, at)?,
+            None => {
                 if !self.leaves_elements(at)? {
                     return Ok(false);
                 }
@@ -43,13 +44,42 @@ impl<'x> Tree<'x> {
         Ok(true)
     }
 
+    /// Takes out the line of the slot whose value stands at the address: no other line is at it or below.
+    fn remove_line(&mut self, doc: &Doc<'x>, slot: usize, at: &Address) -> Result<(), AllocError> {
+        let texts = self.texts;
+        let mut parent = self.parent_left(at, slot)?;
+        match self.slots.get_mut(slot) {
+            Some(lines) => lines.remove(texts, doc, at, &mut parent),
+            None => Ok(()),
+        }
+    }
+
+    /// The parent of the address, and whether it is the root or a line that is not at the address, nor below it, mentions it:
+    /// such a line is mostly near before the slot.
+    fn parent_left(&self, at: &Address, slot: usize) -> Result<Parent, AllocError> {
+        let address = parent_of(self.alloc(), at)?;
+        let stays = address.steps().is_empty() || self.is_mentioned_around(slot, &address, at);
+        Ok(Parent { address, stays })
+    }
+
+    /// Whether a line that is not at the other address, nor below it, mentions the address. The slots before this one are asked
+    /// first, the nearest before the others.
+    fn is_mentioned_around(&self, slot: usize, address: &Address, other: &Address) -> bool {
+        let (before, behind) = self.slots.split_at(slot.min(self.slots.len()));
+        before
+            .iter()
+            .rev()
+            .any(|near| near.is_mentioned(address, other))
+            || behind.iter().any(|near| near.is_mentioned(address, other))
+    }
+
     /// Whether the address is not that of an element, or another element of its array stays.
     fn leaves_elements(&self, at: &Address) -> Result<bool, AllocError> {
         if !matches!(at.steps().last(), Some(Step::Index(_))) {
             return Ok(true);
         }
         let array = parent_of(self.alloc(), at)?;
-        Ok(self.is_mentioned(&array, at))
+        Ok(self.is_mentioned_around(0, &array, at))
     }
 
     /// Takes something out of the value of a line.
@@ -71,22 +101,13 @@ impl<'x> Tree<'x> {
     /// becomes the parent as an empty table.
     fn remove_lines(&mut self, doc: &Doc<'x>, at: &Address) -> Result<(), AllocError> {
         let texts = self.texts;
-        let address = parent_of(texts.alloc, at)?;
-        let stays = address.steps().is_empty() || self.is_mentioned(&address, at);
-        let mut parent = Parent { address, stays };
+        let mut parent = self.parent_left(at, 0)?;
         for slot in &mut self.slots {
             if slot.lines.iter().any(|line| line.is_below(at)) {
                 slot.remove(texts, doc, at, &mut parent)?;
             }
         }
         Ok(())
-    }
-
-    /// Whether a line that is not at the other address, nor below it, mentions the address.
-    fn is_mentioned(&self, address: &Address, other: &Address) -> bool {
-        self.slots
-            .iter()
-            .any(|slot| slot.is_mentioned(address, other))
     }
 
     /// Moves the elements behind a removed one of an array of tables.

@@ -21,7 +21,24 @@ impl<'x> Tree<'x> {
             Some(place) if self.depth(place) < at.steps().len() => {
                 self.rename_inside(doc, place, at, spelled)
             }
-            _ => self.rename_lines(doc, at, name, spelled),
+            Some(place) => self.rename_line(doc, place, at, name, spelled),
+            None => self.rename_lines(doc, at, name, spelled),
+        }
+    }
+
+    /// Renames in the line whose value stands at the address: no other line is at it or below.
+    fn rename_line(
+        &mut self,
+        doc: &Doc<'x>,
+        place: Position,
+        at: &Address,
+        name: &Name,
+        spelled: &'x str,
+    ) -> Result<(), AllocError> {
+        let alloc = self.alloc();
+        match self.line_mut(place) {
+            Some(line) => line.rename(alloc, doc, at, name, spelled),
+            None => Ok(()),
         }
     }
 

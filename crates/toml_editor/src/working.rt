@@ -46,6 +46,8 @@ pub(crate) struct Tree<'x> {
     pub(crate) slots: Vec<Slot<'x>>,
     /// The newline of new lines: that of the document's first line, or LF where that has none.
     pub(crate) style: Leaf<'x>,
+    /// Where the last line with a key and a value before the first header was put in, if one was: a guess that is tested.
+    pub(crate) root_end: Position,
 }
 
 impl<'x> Tree<'x> {
@@ -71,6 +73,7 @@ impl<'x> Tree<'x> {
             texts,
             slots,
             style: style_of(doc),
+            root_end: Position { slot: 0, index: 0 },
         })
     }
 
@@ -125,9 +128,20 @@ impl<'x> Tree<'x> {
             Some(Place::KeyVal(line)) | Some(Place::Inside(line)) => self.holder_in(line, at),
             _ => None,
         };
-        if near.is_some() {
+        if near.is_some() || self.is_table(named, at) {
             return near;
         }
+        self.sought_value(at)
+    }
+
+    /// Whether what stands at the address is the root, or a table that a line makes where the document's names have it: then
+    /// no value holds it.
+    fn is_table(&self, named: Option<Place>, at: &Address) -> bool {
+        at.steps().is_empty() || self.near_table(named, at).is_some()
+    }
+
+    /// The line whose value stands at the address, or holds what stands there, by all lines.
+    fn sought_value(&self, at: &Address) -> Option<Position> {
         for slot in 0..self.slots.len() {
             let found = self.holder_in(slot, at);
             if found.is_some() {
@@ -149,14 +163,18 @@ impl<'x> Tree<'x> {
 
     /// Where the table at the address stands. `named` is the place that the document's names have for the address.
     pub(crate) fn table_place(&self, named: Option<Place>, at: &Address) -> Option<TablePlace> {
-        let near = match named {
+        match self.near_table(named, at) {
+            Some(place) => Some(place),
+            None => self.sought_table(at),
+        }
+    }
+
+    /// The same where the document's names have it.
+    fn near_table(&self, named: Option<Place>, at: &Address) -> Option<TablePlace> {
+        match named {
             Some(Place::Header(line)) => self.header_in(line, at),
             Some(Place::Dotted(line)) => self.dotted_in(line, at),
             _ => None,
-        };
-        match near {
-            Some(place) => Some(place),
-            None => self.sought_table(at),
         }
     }
 
@@ -225,6 +243,23 @@ impl<'x> Tree<'x> {
             skip = 0;
         }
         last
+    }
+
+    /// The last line with a key and a value before the first header line. All lines are gone through where one of the root's is
+    /// not found from the guess on.
+    pub(crate) fn last_root_pair(&self) -> Option<Position> {
+        match self.last_pair(self.root_end) {
+            Some(found) if self.is_of_root(found) => Some(found),
+            _ => self.last_pair(Position { slot: 0, index: 0 }),
+        }
+    }
+
+    /// Whether the line at a place has a key and a value and stands in the root.
+    fn is_of_root(&self, at: Position) -> bool {
+        match self.line(at) {
+            Some(line) => line.base == Some(0),
+            None => false,
+        }
     }
 
     /// The last line of a slot with a key and a value, before a header line of it, and whether there is one. So many lines
