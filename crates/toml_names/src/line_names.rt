@@ -2,6 +2,7 @@
 ghost use Rattle.std.specs.Prelude.{◌≡◌, ◌<◌, ◌∷◌, ◌++◌, List, [], length, IfOk};
 ghost use Rattle.toml_tree.specs.Lines.{line as tree_line};
 ghost use Rattle.toml_tree.specs.Tree as spelled;
+ghost use Rattle.toml_names.specs.mentions.Mentions.{named, section};
 ghost use Rattle.toml_names.specs.reader.LineNames.{Enters, Stand, StandFor, Takes, TakesAt};
 ghost use Rattle.toml_names.specs.reader.Texts.{Judges};
 
@@ -77,6 +78,14 @@ impl<'t> LineNames<'t> {
             Some(node) => Ok(Some(self.tree.address(node)?)),
             None => Ok(None),
         }
+    }
+
+    /// The address of the last header's table or element; before any header the root's.
+    pub fn section(&self) -> Result<Address, AllocError>
+        requires stand { Stand self.now }
+        ensures { IfOk result (λ at. (lines : List spelled.Line) → StandFor self.now lines → at ≡ section (named lines)) }
+    {
+        self.tree.address(self.section)
     }
 }
 

@@ -18,7 +18,7 @@ use Rattle.toml_units.proofs.Plain.{plain_is_units}
 abbrev pub IsTaken : List Line → ℕ → List Spanned → Type 0
 IsTaken lines i now = now ++ plain_from (named (take i lines)) i (drop i lines) ≡ plain_units lines
 
-named_from-push : (ls : List Line) (earlier : List Named) (n at : ℕ) (l : Line) → n + length ls ≡ at
+pub named_from-push : (ls : List Line) (earlier : List Named) (n at : ℕ) (l : Line) → n + length ls ≡ at
     → named_from earlier n (ls ++ l ∷ []) ≡ named_from earlier n ls ++ named_by (named_from earlier n ls) at l.expr
 named_from-push [] earlier n at l is =
     let same : n ≡ at = omega arith in

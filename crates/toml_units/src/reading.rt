@@ -6,15 +6,15 @@ ghost use Rattle.toml_tree.specs.Tree.{Line as Lined};
 ghost use Rattle.toml_scalar.specs.declared.fault.SyntaxFault.TheVariants as syntax;
 ghost use Rattle.toml_names.specs.declared.fault.NameFault.TheVariants as names;
 ghost use Rattle.toml_units.specs.Plain.{line_spans};
-ghost use Rattle.toml_units.specs.Reading.{FindsText, HasTaken, SoFar};
+ghost use Rattle.toml_units.specs.Reading.{FindsText, HasTaken, SoFar, TakesNames};
 ghost use Rattle.toml_units.specs.View.{all_units};
 
 use crate::lines::push_line_at;
 use crate::unit::Unit;
 use std::alloc::{AllocError, Global};
-use toml_names::{Address, LineNames, NameFault};
+use toml_names::{Address, LineNames, NameFault, key_address};
 use toml_text::Source;
-use toml_tree::{Line, LineReader, Profile, SyntaxFault};
+use toml_tree::{Expr, Line, LineReader, Profile, SyntaxFault};
 
 /// What is read of a text: what its lines name, its units in text order, and the newline of each of its lines, the empty
 /// text where a line has none.
@@ -25,16 +25,52 @@ pub struct ReadText<'t> {
     pub newlines: Vec<&'t str>,
 }
 
-impl<'t> ReadText<'t> {
+/// What is read so far, and the address of the last header's table or element: the addresses of keys share its names.
+#[derive(Drop)]
+struct Reading<'t> {
+    text: ReadText<'t>,
+    section: Address,
+}
+
+impl<'t> Reading<'t> {
     /// Nothing is read yet.
-    fn new(alloc: Global, source: Source<'t>) -> Result<ReadText<'t>, AllocError>
+    fn new(alloc: Global, source: Source<'t>) -> Result<Reading<'t>, AllocError>
         ensures { IfOk result (λ read. HasTaken read []) }
     {
-        Ok(ReadText {
+        let text = ReadText {
             names: LineNames::new(alloc, source)?,
             units: Vec::new(alloc),
             newlines: Vec::new(alloc),
+        };
+        Ok(Reading {
+            text,
+            section: Address::root(alloc),
         })
+    }
+
+    /// Takes what a line names, and tells the address of its value, table or element.
+    fn take(&mut self, alloc: Global, line: &Line<'t>) -> Result<Option<Address>, NameFault>
+        requires { (lines : List Lined) × HasTaken self.old lines × (length lines < 18446744073709551615) }
+        ensures names { (lines : List Lined) → HasTaken self.old lines → TakesNames lines (tree_line line.now) self.new result }
+        ensures units { self.new.text.units ≡ self.old.text.units }
+        ensures newlines { self.new.text.newlines ≡ self.old.text.newlines }
+    {
+        match line.expr() {
+            Expr::Blank(_) => {
+                self.text.names.take(line)?;
+                Ok(None)
+            }
+            Expr::KeyVal { keyval, .. } => {
+                self.text.names.take(line)?;
+                let at = key_address(alloc, &self.section, &keyval.assign.key)?;
+                Ok(Some(at))
+            }
+            Expr::Std { .. } | Expr::Array { .. } => {
+                let own = self.text.names.take_at(line)?;
+                self.section = self.text.names.section()?;
+                Ok(own)
+            }
+        }
     }
 
     /// Adds the units and the newline of a line whose value, table or element has the address.
@@ -44,12 +80,13 @@ impl<'t> ReadText<'t> {
         own: Option<Address>,
         line: &Line<'t>,
     ) -> Result<(), AllocError>
-        ensures names { self.new.names ≡ self.old.names }
-        ensures units { OnOk result (all_units self.new.units.items ≡ all_units self.old.units.items ++ line_spans own (tree_line line.now).expr) }
-        ensures newlines { OnOk result (map (λ t. t.now) self.new.newlines.items ≡ map (λ t. t.now) self.old.newlines.items ++ (tree_line line.now).newline.text ∷ []) }
+        ensures names { self.new.text.names ≡ self.old.text.names }
+        ensures section { self.new.section ≡ self.old.section }
+        ensures units { OnOk result (all_units self.new.text.units.items ≡ all_units self.old.text.units.items ++ line_spans own (tree_line line.now).expr) }
+        ensures newlines { OnOk result (map (λ t. t.now) self.new.text.newlines.items ≡ map (λ t. t.now) self.old.text.newlines.items ++ (tree_line line.now).newline.text ∷ []) }
     {
-        push_line_at(alloc, &mut self.units, own, line.expr())?;
-        self.newlines.push(line.newline().text)?;
+        push_line_at(alloc, &mut self.text.units, own, line.expr())?;
+        self.text.newlines.push(line.newline().text)?;
         Ok(())
     }
 }
@@ -77,14 +114,14 @@ fn told_syntax(fault: SyntaxFault) -> Result<(), AllocError>
 /// What was read with one line more, which is let go; none where the lines' names break the rules.
 fn with_line<'t>(
     alloc: Global,
-    read: ReadText<'t>,
+    read: Reading<'t>,
     line: Line<'t>,
-) -> Result<Option<ReadText<'t>>, AllocError>
+) -> Result<Option<Reading<'t>>, AllocError>
     requires { (lines : List Lined) × HasTaken read lines × (length lines < 18446744073709551615) }
     ensures { IfOk result (λ more. (lines : List Lined) → HasTaken read.entry lines → SoFar more (lines ++ tree_line line.entry ∷ [])) }
 {
     let mut read = read;
-    match read.names.take_at(&line) {
+    match read.take(alloc, &line) {
         Ok(own) => {
             read.push(alloc, own, &line)?;
             Ok(Some(read))
@@ -99,9 +136,9 @@ fn with_line<'t>(
 /// The same where it may be that names have broken the rules already.
 fn with_next<'t>(
     alloc: Global,
-    so_far: Option<ReadText<'t>>,
+    so_far: Option<Reading<'t>>,
     line: Line<'t>,
-) -> Result<Option<ReadText<'t>>, AllocError>
+) -> Result<Option<Reading<'t>>, AllocError>
     requires { (lines : List Lined) × SoFar so_far lines × (length lines < 18446744073709551615) }
     ensures { IfOk result (λ more. (lines : List Lined) → SoFar so_far.entry lines → SoFar more (lines ++ tree_line line.entry ∷ [])) }
 {
@@ -119,7 +156,7 @@ pub fn read_text<'t>(
 ) -> Result<Option<ReadText<'t>>, AllocError>
     ensures { IfOk result (FindsText profile (text_of source.entry)) }
 {
-    let mut so_far = Some(ReadText::new(alloc, source)?);
+    let mut so_far = Some(Reading::new(alloc, source)?);
     let mut left = Some(LineReader::new(source, profile));
     while let Some(reader) = left {
         match reader.next(alloc) {
@@ -133,5 +170,8 @@ pub fn read_text<'t>(
             }
         }
     }
-    Ok(so_far)
+    match so_far {
+        Some(read) => Ok(Some(read.text)),
+        None => Ok(None),
+    }
 }

@@ -1,4 +1,4 @@
-use Rattle.std.proofs.Common.{◌<◌, ◌+◌, ℕ, List, [], ◌∷◌, ◌++◌, Option, Some, None, Ok, sym, subst, arith}
+use Rattle.std.proofs.Common.{◌<◌, ◌+◌, ℕ, List, [], ◌∷◌, ◌++◌, Option, Some, None, Ok, sym, subst, arith, option_map}
 use Rattle.toml_text.specs.Source.{text_of}
 use Rattle.toml_tree.specs.HandedOut.{HandsOn, HandsOut, left}
 use Rattle.toml_tree.specs.Lines.{line as tree_line}
@@ -7,6 +7,8 @@ use Rattle.toml_tree.specs.declared.line.Line as declared
 use Rattle.toml_tree.specs.declared.line_reader.LineReader.{LineReader}
 use Rattle.toml_tree.specs.declared.profile.Profile.{Profile}
 use Rattle.toml_names.specs.reader.Texts.{AreLeft}
+use Rattle.toml_units.specs.declared.reading.Reading.{Reading}
+use Rattle.toml_units.specs.Reading.{FindsText}
 use Rattle.toml_units.proofs.ReadLines.{finds_text, no_tree}
 use Rattle.toml_units.proofs.reading.read_text.Invariants.{more_left}
 use Rattle.toml_units.proofs.reading.read_text.Goals as goal
@@ -46,8 +48,16 @@ returns-in-Err c =
     let stands : HandsOut c.args.profile text all.front c.in-Some.reader = subst (λ (o : Option LineReader). AreLeft c.args.profile text all.front o) c.in-Some.is all.are in
     no_tree c.args.profile text c.in-Err.fault c.in_ok-told_syntax-in-Err.ensures (c.in-Err.ensures c.args.profile text all.front stands)
 
-pub returns : goal.returns
-returns c =
+pub returns-in-Some-so_far : goal.returns-in-Some-so_far
+returns-in-Some-so_far c =
     let text = text_of c.args.source in
     let all = c.loop-left.invariant in
-    finds_text c.args.profile text all.front (subst (λ (o : Option LineReader). AreLeft c.args.profile text all.front o) c.in_default.is all.are) c.loop-left.so_far all.taken
+    subst (λ (o : Option Reading). FindsText c.args.profile text (option_map (λ r. r.text) o)) c.in-Some-so_far.is
+    (finds_text c.args.profile text all.front (subst (λ (o : Option LineReader). AreLeft c.args.profile text all.front o) c.in_default.is all.are) c.loop-left.so_far all.taken)
+
+pub returns-in-None : goal.returns-in-None
+returns-in-None c =
+    let text = text_of c.args.source in
+    let all = c.loop-left.invariant in
+    subst (λ (o : Option Reading). FindsText c.args.profile text (option_map (λ r. r.text) o)) c.in-None.is
+    (finds_text c.args.profile text all.front (subst (λ (o : Option LineReader). AreLeft c.args.profile text all.front o) c.in_default.is all.are) c.loop-left.so_far all.taken)
