@@ -12,9 +12,7 @@ use toml_edits::{apply, near_names};
 use toml_names::{Address, key_address, read_lines};
 use toml_text::Source;
 use toml_tree::{Expr, Profile, parse_value};
-use toml_units::{
-    Certificate, certificate_text, join, read_text, units, units_at, units_inside,
-};
+use toml_units::{Certificate, certificate_text, join, read_text, units, units_at, units_inside};
 
 const FLOAT: &str = "3.14 = 0xdead_beef\n";
 
@@ -63,7 +61,10 @@ fn has_data_after(alloc: Global, text: &str) -> Option<bool> {
 fn near_data_are_edited(rt: HostRuntime) {
     assert_eq!(rt; has_data_after(rt.alloc(), OUT), Some(true));
     assert_eq!(rt; has_data_after(rt.alloc(), FILE), Some(false));
-    assert_eq!(rt; has_data_after(rt.alloc(), "port = 0x1F\nhost = 1\n"), Some(false));
+    assert_eq!(rt;
+        has_data_after(rt.alloc(), "port = 0x1F\nhost = 1\n"),
+        Some(false)
+    );
 }
 
 fn is_tagged(alloc: Global, wanted: &str) -> Option<bool> {
