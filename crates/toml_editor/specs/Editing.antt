@@ -34,7 +34,7 @@ pub record HasLines (profile : Profile) (text : List ℕ) (d : Doc) (lines : Lis
   pub spelled : Spells d text
   pub taken : lines ≡ d.lines
 
--- the text is a document's of the profile, and the tree and the units are those of the text
+-- the text is a document's of the profile, and the units and the newlines are those of the text
 pub record IsKnown (profile : Profile) (d : Document) : Type 0 where
   pub read : IsRead d
   pub document : IsDocumentIn profile d.text.now

@@ -105,7 +105,7 @@ impl<'d, 't> NameReader<'d, 't> {
     }
 
     /// The address of each line's value, table or element, line by line; none for a blank line. They share the text of
-    /// their names.
+    /// long names.
     pub fn own_addresses(&self) -> Result<Vec<Option<Address>>, AllocError>
         ensures { IfOk result (λ list. AreOwnAddresses (lines_of self.now) list.items) }
     {

@@ -84,7 +84,7 @@ impl Address {
         self.steps
     }
 
-    /// An address of its own that is the same; its names are shared.
+    /// An address of its own that is the same; the texts of long names are shared.
     pub fn copy(&self, alloc: Global) -> Result<Address, AllocError>
         ensures { IfOk result (λ a. a ≡ self.now) }
     {

@@ -129,7 +129,8 @@ impl<'t> NameTree<'t> {
         self.address_by(&[], id)
     }
 
-    /// The address of a node, of which these steps are the last ones of the first nodes: it shares their names.
+    /// The address of a node, of which these steps are the last ones of the first nodes: it shares the texts of their
+    /// long names.
     pub fn address_by(&self, steps: &[Step], id: usize) -> Result<Address, AllocError>
         requires within { id < vec_len self.now.nodes }
         requires tree { IsTree self.now.nodes.items }

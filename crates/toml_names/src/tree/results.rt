@@ -90,7 +90,7 @@ impl<'t> NameTree<'t> {
         Ok(list)
     }
 
-    /// The last step of each node. Addresses that are made of these share their names.
+    /// The last step of each node. Addresses that are made of these share the texts of long names.
     fn last_steps(&self) -> Result<Vec<Step>, AllocError>
         ensures { IfOk result (λ steps. AreSteps self.now.nodes.items steps.items) }
     {
