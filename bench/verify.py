@@ -92,17 +92,19 @@ def array(count):
 
 
 def timed(words, runs, status):
-    """The best processor time of some runs, and the peak memory in megabytes."""
+    """The best processor time of some runs, and the peak memory in megabytes. The memory is what `time` says: a child that
+    is started from here has this program's own memory in its account."""
     best, memory = None, 0
     for _ in range(runs):
-        child = subprocess.Popen(words, stdout=subprocess.DEVNULL, stderr=subprocess.PIPE)
-        error = child.stderr.read()
-        _, code, used = os.wait4(child.pid, 0)
+        with tempfile.NamedTemporaryFile() as told:
+            child = subprocess.Popen(['/usr/bin/time', '-q', '-f', '%M', '-o', told.name] + words, stdout=subprocess.DEVNULL, stderr=subprocess.PIPE)
+            error = child.stderr.read()
+            _, code, used = os.wait4(child.pid, 0)
+            memory = int(told.read()) / 1024
         if os.waitstatus_to_exitcode(code) != status:
             raise SystemExit('%s: %s' % (' '.join(words), error.decode()))
         time = used.ru_utime + used.ru_stime
         best = time if best is None else min(best, time)
-        memory = used.ru_maxrss / 1024
     return best, memory
 
 

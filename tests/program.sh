@@ -218,6 +218,7 @@ cp tables.json lines.json
 { printf '[{"op":"set","at":["a"'; deep 99 ',"a"'; printf '],"value":"2"}]'; } >key.json
 { printf '[{"op":"set","at":["a"],"value":"'; deep 100 '['; deep 100 ']'; printf '"}]'; } >value.json
 { deep 1000 '['; deep 1000 ']'; } >lists.json
+{ printf '[{"op":"remove","at":["a"'; deep 20000 ',"a"'; printf ']}]'; } >long.json
 # deepest NAME WORDS..: each command of the text, with these words behind
 deepest() {
   local text=$1
@@ -241,6 +242,7 @@ deepest() {
   run 0 ok - edit good.toml value.json deep.toml deep.txt
   run 0 yes - verify good.toml value.json deep.toml deep.txt
   run 1 - 'refused 32*' edit good.toml lists.json deep.toml deep.txt
+  run 1 - 'refused 301 0' edit good.toml long.json deep.toml deep.txt
   exit "$failed"
 ) || failed=1
 [ "$failed" -eq 0 ] && echo 'all passed'

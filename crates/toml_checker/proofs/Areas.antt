@@ -1,8 +1,8 @@
 -- What is apart from the area of an edit is left alone by it.
-use Rattle.std.proofs.Common.{◌≡◌, ◌⊎◌, inl, inr, ℕ, List, [], ◌∷◌, ◌++◌, Option, Some, None, Bool, true, false, cond, not, ◌&&◌, ◌||◌, refl, sym, ap, subst, ◌∙◌}
+use Rattle.std.proofs.Common.{◌≡◌, ◌⊎◌, inl, inr, ℕ, List, [], ◌∷◌, ◌++◌, Option, Some, None, Bool, true, false, cond, not, ◌&&◌, refl, sym, ap, subst, ◌∙◌}
 use Rattle.std.proofs.Math.Logic.{∥∥₁_elim}
 use Rattle.std.proofs.Props.{props}
-use Rattle.std.specs.Prelude.{◌↔◌, IsTrue, slice_get, length, option_and_then}
+use Rattle.std.specs.Prelude.{◌↔◌, IsTrue, length, option_and_then}
 use Rattle.toml_names.specs.declared.model.address.Step.{Step}
 use Rattle.toml_names.specs.declared.model.address.Step.TheVariants.{Name, Index}
 use Rattle.toml_names.specs.model.Addresses.{Address, same_step, same_address}
@@ -15,10 +15,10 @@ use Rattle.toml_checker.specs.declared.tables.Part.TheVariants as parts
 use Rattle.toml_checker.specs.declared.fronts.Fronts.{Fronts}
 use Rattle.toml_checker.specs.Areas.{whole_by, whole_of, area, IsApart}
 use Rattle.toml_checker.specs.Fronts.{AreFronts, is_far}
-use Rattle.toml_checker.specs.Plain.{is_above, is_at_or_above, is_elsewhere, is_before, step_is_before, is_named, stands}
+use Rattle.toml_checker.specs.Plain.{is_named, stands}
 use Rattle.toml_checker.specs.Sides.{side}
 use Rattle.toml_checker.proofs.CarriedSoFar.{arrived}
-use Rattle.toml_checker.proofs.Leaving.{set_leaves, insert_name, insert_index, rename_index, rename_name, remove_name, remove_index}
+use Rattle.toml_checker.proofs.Leaving.{set_apart, insert_name, insert_index, rename_index, rename_name, remove_name, remove_index}
 use Rattle.toml_checker.proofs.Parted.{ends, parted_at}
 
 -- what is apart from an address is apart from what stands in it
@@ -43,7 +43,7 @@ whole_apart at a h = by (ends at)
     by (inl is) = ap (λ p. side p a) is ∙ subst (λ p. side (whole_of p) a ≡ Apart) is h
     by (inr w) = ap (λ p. side p a) w.2 ∙ last w.0 w.1 (subst (λ o. side (whole_by o (w.0 ++ w.1 ∷ [])) a ≡ Apart) (parted_at w.0 w.1) (subst (λ p. side (whole_of p) a ≡ Apart) w.2 h))
 
-place_apart : (c : Change) (a : Address) → side (area c) a ≡ Apart → side (place c) a ≡ Apart
+pub place_apart : (c : Change) (a : Address) → side (area c) a ≡ Apart → side (place c) a ≡ Apart
 place_apart (set at value) a h = h
 place_apart (insert at value) a h = whole_apart at a h
 place_apart (rename at to) a h = h
@@ -51,21 +51,15 @@ place_apart (remove at) a h = whole_apart at a h
 place_apart (new_section at) a h = h
 place_apart (new_element at) a h = h
 
-before_apart : (q : Address) (i : ℕ) (a : Address) → side q a ≡ Apart → is_before q i a ≡ true
-before_apart q i a h = ap (λ x. not (is_above x) || step_is_before i (slice_get a (length q))) h
-
 parent_apart : (at q : Address) (i : ℕ) (a : Address) → at ≡ q ++ Index i ∷ [] → side (whole_of at) a ≡ Apart → side q a ≡ Apart
 parent_apart at q i a is h = subst (λ o. side (whole_by o (q ++ Index i ∷ [])) a ≡ Apart) (parted_at q (Index i)) (subst (λ p. side (whole_of p) a ≡ Apart) is h)
-
-elsewhere_apart : (p a : Address) → side p a ≡ Apart → is_elsewhere p a ≡ true
-elsewhere_apart p a h = ap (λ x. not (is_at_or_above x)) h
 
 insert_apart : (at a : Address) → side (whole_of at) a ≡ Apart → inserting (parted at) a ≡ Some a
 insert_apart at a h = by (ends at)
   where
     last : (q : Address) (s : Step) → at ≡ q ++ s ∷ [] → inserting (parted at) a ≡ Some a
     last q (Name n) is = insert_name at q (Name n) n a is refl
-    last q (Index i) is = insert_index at q (Index i) i a is refl (before_apart q i a (parent_apart at q i a is h))
+    last q (Index i) is = insert_index at q (Index i) i a is refl (parent_apart at q i a is h)
 
     by : (at ≡ []) ⊎ ((q : Address) × (s : Step) × (at ≡ q ++ s ∷ [])) → inserting (parted at) a ≡ Some a
     by (inl is) = ap (λ p. inserting (parted p) a) is
@@ -75,7 +69,7 @@ rename_apart : (at : Address) (to : List ℕ) (a : Address) → side at a ≡ Ap
 rename_apart at to a h = by (ends at)
   where
     last : (q : Address) (s : Step) → at ≡ q ++ s ∷ [] → renaming (parted at) to a ≡ Some a
-    last q (Name n) is = rename_name at q (Name n) n to a is refl (elsewhere_apart at a h)
+    last q (Name n) is = rename_name at q (Name n) n to a is refl h
     last q (Index i) is = rename_index at q (Index i) i to a is refl
 
     by : (at ≡ []) ⊎ ((q : Address) × (s : Step) × (at ≡ q ++ s ∷ [])) → renaming (parted at) to a ≡ Some a
@@ -86,22 +80,22 @@ remove_apart : (at a : Address) → side (whole_of at) a ≡ Apart → removing 
 remove_apart at a h = by (ends at)
   where
     last : (q : Address) (s : Step) → at ≡ q ++ s ∷ [] → removing (parted at) a ≡ Some a
-    last q (Name n) is = remove_name at q (Name n) n a is refl (elsewhere_apart at a (whole_apart at a h))
-    last q (Index i) is = remove_index at q (Index i) i a is refl (before_apart q i a (parent_apart at q i a is h))
+    last q (Name n) is = remove_name at q (Name n) n a is refl (whole_apart at a h)
+    last q (Index i) is = remove_index at q (Index i) i a is refl (parent_apart at q i a is h)
 
     by : (at ≡ []) ⊎ ((q : Address) × (s : Step) × (at ≡ q ++ s ∷ [])) → removing (parted at) a ≡ Some a
     by (inl is) = ap (λ p. removing (parted p) a) is
     by (inr w) = last w.0 w.1 w.2
 
-carry_apart : (c : Change) (a : Address) → side (area c) a ≡ Apart → carry c a ≡ Some a
-carry_apart (set at value) a h = set_leaves at a (ap is_above h)
+pub carry_apart : (c : Change) (a : Address) → side (area c) a ≡ Apart → carry c a ≡ Some a
+carry_apart (set at value) a h = set_apart at a h
 carry_apart (insert at value) a h = insert_apart at a h
 carry_apart (rename at to) a h = rename_apart at to a h
 carry_apart (remove at) a h = remove_apart at a h
 carry_apart (new_section at) a h = refl
 carry_apart (new_element at) a h = refl
 
-named_apart : (part : Part) (c : Change) (base : Option ℕ) → is_named part c base Apart ≡ false
+pub named_apart : (part : Part) (c : Change) (base : Option ℕ) → is_named part c base Apart ≡ false
 named_apart parts.Line (set at value) None = refl
 named_apart parts.Line (set at value) (Some n) = refl
 named_apart parts.Line (insert at value) None = refl

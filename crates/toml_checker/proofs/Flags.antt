@@ -63,7 +63,7 @@ seen_front At p a w e = ([], sym w ∙ sym (append-nil p))
 seen_front Apart p a w e = cc
 seen_front Below p a w e = cc
 
-front : (p a : Address) → D (plain.is_at_or_above (side p a)) (IsAtOrAbove p a)
+pub front : (p a : Address) → D (plain.is_at_or_above (side p a)) (IsAtOrAbove p a)
 front p a = (seen_front (side p a) p a (seen p a), back)
   where
     back : IsAtOrAbove p a → plain.is_at_or_above (side p a) ≡ true

@@ -19,6 +19,10 @@ pub mod Sides
 pub mod Leaving
 pub mod Areas
 pub mod AddedSteps
+pub mod RunCovers
+pub mod LeftAbove
+pub mod Passing
+pub mod Running
 pub mod Flags
 pub mod Walked
 pub mod Examples

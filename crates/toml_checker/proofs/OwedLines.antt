@@ -11,7 +11,7 @@ use Rattle.toml_names.specs.declared.model.address.Step.TheVariants.{Name, Index
 use Rattle.toml_names.specs.model.Addresses.{Address, IsAbove, child, same_step}
 use Rattle.toml_names.specs.model.Data.{Kinds}
 use Rattle.toml_names.proofs.Proved.{same_step-self}
-use Rattle.toml_edits.specs.Carry.{Carrier, carry, carry_below, emptied, nowhere, up_from, down_above, to_name, setting, inserting, renaming, removing, parted}
+use Rattle.toml_edits.specs.Carry.{Carrier, carry, carry_below, emptied, nowhere, down_above, to_name, setting, renaming, removing, parted}
 use Rattle.toml_edits.specs.Edits.{Change, set, insert, rename, remove, new_section, new_element, place}
 use Rattle.toml_edits.specs.Faults.{IsFault}
 use Rattle.toml_edits.specs.Lists.{carried, Lead}
@@ -23,7 +23,7 @@ use Rattle.toml_checker.specs.GoneAndChanged.{Removes, Sets, SetsAbove, SetsIt, 
 use Rattle.toml_checker.specs.Owed.{result, Owes, IsOwed}
 use Rattle.toml_checker.specs.Protected.{Stays}
 use Rattle.toml_checker.proofs.Flags.{D, line_gone, line_changed}
-use Rattle.toml_checker.proofs.Leaving.{below_keeps}
+use Rattle.toml_checker.proofs.LeftAbove.{within_stays}
 use Rattle.toml_checker.proofs.Parted.{parted_at, ends}
 use Rattle.toml_checker.proofs.Within.{pair_safe, not_set, at_or_above}
 
@@ -119,40 +119,6 @@ rename_there at a q n to rest is e =
     ap (λ o. renaming o to a) (ap parted is ∙ parted_at q (Name n))
     ∙ down_at q (to_name n to) a (Name n ∷ rest) (Some (Name to ∷ rest)) (e ∙ ap (λ p. p ++ rest) is ∙ behind q (Name n) rest) (named n to rest)
     ∙ ap Some (sym (behind q (Name to) rest))
-
--- what an edit strictly below leaves
-above_stays : (q a : Address) (s : Step) (at : Address) (g : Carrier) → g [] ≡ Some [] → at ≡ q ++ s ∷ [] → IsAbove a at → carry_below q g a ≡ Some a
-above_stays q a s at g nil is w = below_keeps q g a by
-  where
-    by : (r : Address) → a ≡ q ++ r → g r ≡ Some r
-    by [] e = nil
-    by (t ∷ r) e = absurd (omega (arith, ap length e, length-append q (t ∷ r), ap length w.2, length-append a (w.0 ∷ w.1), ap length is, length-append q (s ∷ [])))
-
-set_above : (at a : Address) → IsAbove a at → setting at a ≡ Some a
-set_above [] a w = absurd (omega (arith, ap length w.2, length-append a (w.0 ∷ w.1)))
-set_above (s ∷ p) a w = below_keeps (s ∷ p) emptied a by
-  where
-    by : (r : Address) → a ≡ s ∷ p ++ r → emptied r ≡ Some r
-    by [] e = refl
-    by (t ∷ r) e = absurd (omega (arith, ap length e, length-append p (t ∷ r), ap length w.2, length-append a (w.0 ∷ w.1)))
-
-within_stays : (c : Change) (a : Address) → IsApt c → IsAbove a (place c) → carry c a ≡ Some a
-within_stays (set at value) a h w = set_above at a w
-within_stays (insert at value) a h w = by (ends at)
-  where
-    by : (at ≡ []) ⊎ ((q : Address) × (s : Step) × (at ≡ q ++ s ∷ [])) → inserting (parted at) a ≡ Some a
-    by (inl e) = absurd (h e)
-    by (inr (q, Name n, e)) = ap (λ o. inserting o a) (ap parted e ∙ parted_at q (Name n))
-    by (inr (q, Index i, e)) = ap (λ o. inserting o a) (ap parted e ∙ parted_at q (Index i)) ∙ above_stays q a (Index i) at (up_from i) refl e w
-within_stays (rename at to) a (q, n, e) w = ap (λ o. renaming o to a) (ap parted e ∙ parted_at q (Name n)) ∙ above_stays q a (Name n) at (to_name n to) refl e w
-within_stays (remove at) a h w = by (ends at)
-  where
-    by : (at ≡ []) ⊎ ((q : Address) × (s : Step) × (at ≡ q ++ s ∷ [])) → removing (parted at) a ≡ Some a
-    by (inl e) = absurd (h e)
-    by (inr (q, Name n, e)) = ap (λ o. removing o a) (ap parted e ∙ parted_at q (Name n)) ∙ above_stays q a (Name n) at (carry_below (Name n ∷ []) nowhere) refl e w
-    by (inr (q, Index i, e)) = ap (λ o. removing o a) (ap parted e ∙ parted_at q (Index i)) ∙ above_stays q a (Index i) at (down_above i) refl e w
-within_stays (new_section at) a h w = refl
-within_stays (new_element at) a h w = refl
 
 -- ---- lists
 
@@ -298,7 +264,7 @@ changed_owes c cs None a y b p lb h is stays w e = rename_owes c cs a b h w e
 changed_owes c cs (Some n) a y b p lb h is stays (inl w) e = set_owes c cs a b w e
 changed_owes c cs (Some n) a y b p lb h is stays (inr (inr w)) e = rename_owes c cs a b h w.0 e
 changed_owes c cs (Some n) a y b p lb h is stays (inr (inl w)) e =
-    let here = within_stays c a h w in
+    let here = within_stays c a w in
     let same : y ≡ a = same_Some y a (sym is ∙ here) in
     within_owes c cs n a b p lb h w (subst (λ x. Stays cs (ln (Some x) (Some n) p lb)) same stays) (sym (ap (option_and_then (carried cs)) here) ∙ e)
 

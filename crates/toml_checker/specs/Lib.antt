@@ -22,6 +22,7 @@ pub mod Steps
 pub mod Fronts
 pub mod EditLists
 pub mod Plain
+pub mod Runs
 pub mod Marks
 pub mod Debts
 pub mod Judging

@@ -2,8 +2,6 @@
 use Rattle.std.specs.Prelude.{◌≡◌, ◌↔◌, ◌&&◌, ◌||◌, not, ℕ, Bool, true, false, List, [], ◌∷◌, length, map, option_map, Option, Some, None, slice_get, if◌then◌else◌}
 use Rattle.std.specs.Bool.{nat_lt}
 use Rattle.std.specs.Borrow.{Bor}
-use Rattle.toml_names.specs.declared.model.address.Step.{Step}
-use Rattle.toml_names.specs.declared.model.address.Step.TheVariants.{Name, Index}
 use Rattle.toml_names.specs.model.Addresses.{Address}
 use Rattle.toml_edits.specs.Carry.{carry}
 use Rattle.toml_edits.specs.Edits.{Change, set, rename, remove, place}
@@ -12,8 +10,8 @@ use Rattle.toml_units.specs.declared.unit.UnitKind.{UnitKind}
 use Rattle.toml_units.specs.declared.unit.UnitKind.TheVariants as kinds
 use Rattle.toml_units.specs.Places.{is_line}
 use Rattle.toml_units.specs.Units.{TextUnit}
-use Rattle.toml_checker.specs.declared.moving.Moved.{Moved}
-use Rattle.toml_checker.specs.declared.moving.Moved.TheVariants as moves
+use Rattle.toml_checker.specs.declared.moving.Way.{Way}
+use Rattle.toml_checker.specs.declared.moving.Way.TheVariants.{First, Own}
 use Rattle.toml_checker.specs.declared.side.Side.{Side}
 use Rattle.toml_checker.specs.declared.side.Side.TheVariants.{Apart, Above, At, Below}
 use Rattle.toml_checker.specs.declared.tables.Part.{Part}
@@ -81,27 +79,17 @@ is_named parts.Home c base s = line_is_gone c base s
 is_named parts.Element c base s = part_is_gone c s || is_below s
 is_named parts.Comment c base s = part_is_gone c s
 
--- no element from the index on, of the array at the address, is at the second address or above it
-abbrev pub step_is_before : ℕ → Option Step → Bool
-step_is_before i (Some (Index j)) = nat_lt j i
-step_is_before i (Some (Name n)) = true
-step_is_before i None = true
+-- what is asked for a comment: its line, or itself
+abbrev pub is_of_comment : Part → Bool
+is_of_comment parts.Line = false
+is_of_comment parts.Home = true
+is_of_comment parts.Element = false
+is_of_comment parts.Comment = true
 
-abbrev pub is_before : Address → ℕ → Address → Bool
-is_before p i a = not (is_above (side p a)) || step_is_before i (slice_get a (length p))
-
-abbrev pub is_elsewhere : Address → Address → Bool
-is_elsewhere p a = not (is_at_or_above (side p a))
-
--- where a thing stands that stood at the address
-abbrev pub outcome : Moved → Address → Option Address
-outcome moves.Stays a = Some a
-outcome (moves.To b) a = Some b
-outcome moves.Nowhere a = None
-
-abbrev pub here : Option Address → Address → Address
-here None a = a
-here (Some b) a = b
+-- where a thing stands on its way
+abbrev pub here : Way → Address
+here (First a) = a.now
+here (Own a) = a
 
 -- no edit names it, each where those before it have carried it
 abbrev pub stands : Part → List Change → Option Address → Option ℕ → Bool

@@ -1,31 +1,48 @@
 //! Whether edits carry an address to another.
-ghost use Rattle.std.specs.Prelude.{◌≡◌, ◌↔◌, IsTrue, IfOk, Some, option_map};
+ghost use Rattle.std.specs.Prelude.{◌≡◌, ◌↔◌, IsTrue, IfOk, IfSome, Some, option_map};
 ghost use Rattle.toml_edits.specs.Lists.{carried};
 ghost use Rattle.toml_checker.specs.CarriedTo.{IsCarriedTo};
 ghost use Rattle.toml_checker.specs.EditLists.{changes};
 
-use crate::fronts::EditList;
-use crate::moving::{Moved, moved_by};
-use crate::protection::here;
+use crate::edit_list::EditList;
+use crate::moving::Way;
 use std::alloc::{AllocError, Global};
 use toml_names::Address;
+
+/// Whether the edits carry the one address to the other, where the run or the first steps of the one show it. It takes no
+/// memory.
+fn shown(list: &EditList, from: &Address, to: &Address) -> Option<bool>
+    ensures { IfSome result (λ arrived. IsTrue arrived ↔ (carried (changes list.now) from.now ≡ Some to.now)) }
+{
+    if let Some(run) = &list.run {
+        if run.covers(from.steps()) {
+            return Some(run.brings(from.steps(), to.steps()));
+        }
+    }
+    if list.is_within(from.steps()) {
+        return Some(from.is_same(to));
+    }
+    if list.fronts.is_far(from.steps()) {
+        return Some(from.is_same(to));
+    }
+    None
+}
 
 /// Whether the edits carry the one address to the other. An address is made only where an edit moves it.
 fn arrives(alloc: Global, list: &EditList, from: &Address, to: &Address) -> Result<bool, AllocError>
     ensures { IfOk result (λ arrived. IsTrue arrived ↔ (carried (changes list.now) from.now ≡ Some to.now)) }
 {
-    if list.fronts.is_far(from.steps()) {
-        return Ok(from.is_same(to));
+    if let Some(arrived) = shown(list, from, to) {
+        return Ok(arrived);
     }
-    let mut moved_to = None;
+    let mut way = Way::First(from);
     for edit in list.edits {
-        match moved_by(alloc, edit, here(&moved_to, from))? {
-            Moved::Stays => {}
-            Moved::To(next) => moved_to = Some(next),
-            Moved::Nowhere => return Ok(false),
+        match way.on(alloc, edit)? {
+            Some(next) => way = next,
+            None => return Ok(false),
         }
     }
-    Ok(here(&moved_to, from).is_same(to))
+    Ok(way.at().is_same(to))
 }
 
 /// Whether there is no address, or the edits carry the one to the other.

@@ -1,16 +1,13 @@
 //! The data after edits.
-ghost use Rattle.std.specs.Prelude.{◌≡◌, ◌↔◌, List, IsTrue, IfOk, OnOk, map};
-ghost use Rattle.toml_tree.specs.Tree.{Line};
-ghost use Rattle.toml_names.specs.model.Data.{IsDataOf, Kinds};
-ghost use Rattle.toml_names.specs.mentions.Mentions.{named};
-ghost use Rattle.toml_names.specs.reader.LineNames.{Stand, StandFor};
+ghost use Rattle.std.specs.Prelude.{◌≡◌, IfOk, OnOk, map};
+ghost use Rattle.toml_names.specs.reader.LineNames.{Stand};
 ghost use Rattle.toml_edits.specs.declared.fault.EditFault.TheVariants as faults;
 ghost use Rattle.toml_edits.specs.Edits.{change};
-ghost use Rattle.toml_checker.specs.After.{GivesData, Makes, made_of};
+ghost use Rattle.toml_checker.specs.After.{GivesData, Makes, TellsMade};
 
 use std::alloc::{AllocError, Global};
-use toml_edits::{Edit, EditFault, apply_in, near_names};
-use toml_names::{Data, LineNames, NameSet};
+use toml_edits::{Edit, EditFault, apply_in, near_addresses};
+use toml_names::{AddressSet, Data, LineNames};
 use toml_tree::Profile;
 
 /// What the edits, one after the other, make of data; none where one is not defined on the data so far.
@@ -42,29 +39,29 @@ fn told(fault: EditFault) -> Result<(), AllocError>
     }
 }
 
-/// What edits make of the data of a document: those at the root and below the names that they touch, beside the rest of the
-/// document's own. Only the former are built.
+/// What edits make of the data of a document: those along the addresses that they touch, beside the rest of the document's
+/// own. Only the former are built.
 #[derive(Drop)]
-pub struct Made<'t, 'e> {
+pub struct Made<'t> {
     /// The names of the document.
     pub names: LineNames<'t>,
-    /// The names of the root that the edits touch.
-    pub touched: NameSet<'e>,
-    /// What the edits make at the root and below these names.
+    /// The addresses that the edits touch.
+    pub touched: AddressSet,
+    /// What the edits make along these.
     pub data: Data,
 }
 
 /// What the edits make of the data of the lines taken; none where one is not defined on the data so far.
-pub(crate) fn make<'t, 'e>(
+pub(crate) fn make<'t>(
     alloc: Global,
     names: LineNames<'t>,
-    edits: &'e [Edit],
+    edits: &[Edit],
     profile: Profile,
-) -> Result<Option<Made<'t, 'e>>, AllocError>
+) -> Result<Option<Made<'t>>, AllocError>
     requires { Stand names }
     ensures { IfOk result (Makes profile names.entry (map change edits.now)) }
 {
-    let touched = near_names(alloc, edits)?;
+    let touched = near_addresses(alloc, edits)?;
     let near = names.data_near(&touched)?;
     match data_after(alloc, near, edits, profile)? {
         Some(data) => Ok(Some(Made {
@@ -80,8 +77,7 @@ pub(crate) fn make<'t, 'e>(
 pub(crate) fn are_made(names: LineNames, made: Made) -> Result<bool, AllocError>
     requires new { Stand names }
     requires old { Stand made.names }
-    ensures { IfOk result (λ b. (lines others : List Line) → StandFor names.entry lines → StandFor made.entry.names others → (old : Kinds) → IsDataOf (named others) old
-        → (IsTrue b ↔ IsDataOf (named lines) (made_of made.entry old))) }
+    ensures { IfOk result (TellsMade names.entry made.entry) }
 {
     names.has_data_beside(&made.names, &made.touched, &made.data)
 }

@@ -24,7 +24,7 @@ fn whole_of<'x>(place: &'x [Step]) -> &'x [Step]
 
 /// The address at which all stands, at it or below, that an edit takes away or moves: an edit that shifts elements has the
 /// whole array for its area. What it changes besides stands above. A new table moves nothing: its area is its place.
-fn area<'x>(edit: &'x Edit) -> &'x [Step]
+pub(crate) fn area<'x>(edit: &'x Edit) -> &'x [Step]
     ensures { result.now ≡ area (change edit.now) }
 {
     match edit {
@@ -107,7 +107,7 @@ impl<'e> Fronts<'e> {
 }
 
 /// What the areas of the edits begin with.
-fn fronts_of<'e>(alloc: Global, edits: &'e [Edit]) -> Result<Fronts<'e>, AllocError>
+pub(crate) fn fronts_of<'e>(alloc: Global, edits: &'e [Edit]) -> Result<Fronts<'e>, AllocError>
     ensures { IfOk result (AreFronts (map change edits.now)) }
 {
     let mut fronts = Fronts::none(alloc);
@@ -115,22 +115,4 @@ fn fronts_of<'e>(alloc: Global, edits: &'e [Edit]) -> Result<Fronts<'e>, AllocEr
         fronts.add(area(edit))?;
     }
     Ok(fronts)
-}
-
-/// Edits, with what their areas begin with, so that most addresses need not be asked of each edit.
-#[derive(Drop)]
-pub(crate) struct EditList<'e> {
-    pub(crate) edits: &'e [Edit],
-    pub(crate) fronts: Fronts<'e>,
-    pub ghost fitting: { ∥ AreFronts (map change edits.now) fronts ∥₁ },
-}
-
-impl<'e> EditList<'e> {
-    /// The list of these edits.
-    pub(crate) fn of(alloc: Global, edits: &'e [Edit]) -> Result<EditList<'e>, AllocError>
-        ensures { IfOk result (λ list. list.edits.now ≡ edits.now) }
-    {
-        let fronts = fronts_of(alloc, edits)?;
-        Ok(EditList { edits, fronts })
-    }
 }

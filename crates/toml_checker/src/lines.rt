@@ -2,12 +2,9 @@
 ghost use Rattle.std.specs.Prelude.{◌≡◌, ◌↔◌, ◌&&◌, ◌==◌, IsTrue, IfOk, length, map};
 ghost use Rattle.toml_checker.specs.CarriedTo.{At};
 ghost use Rattle.toml_checker.specs.Debts.{AnyCovers, IsAsked, AreAsked};
-ghost use Rattle.toml_checker.specs.Lines.{NoLinesAdded};
+ghost use Rattle.toml_checker.specs.Lines.{TellsLines};
 ghost use Rattle.toml_edits.specs.Edits.{change};
-ghost use Rattle.toml_tree.specs.Tree.{Doc};
 ghost use Rattle.toml_units.specs.Places.{is_line};
-ghost use Rattle.toml_units.specs.Plain.{spanned};
-ghost use Rattle.toml_units.specs.Units.{units as units_of};
 ghost use Rattle.toml_units.specs.View.{unit, all_units};
 
 use crate::covered::second_marks;
@@ -74,7 +71,7 @@ pub(crate) fn no_lines_added(
     edits: &[Edit],
     pairs: &[(u64, u64)],
 ) -> Result<bool, AllocError>
-    ensures { IfOk result (λ holds. (e : Doc) → lines ≡ length e.lines → all_units units.now ≡ map spanned (units_of e.lines) → (IsTrue holds ↔ NoLinesAdded (map change edits.now) e pairs.now)) }
+    ensures { IfOk result (TellsLines lines (all_units units.now) (map change edits.now) pairs.now) }
 {
     let debts = debts(alloc, edits)?;
     let paired = second_marks(alloc, units.len(), pairs)?;

@@ -10,7 +10,7 @@ ghost use Rattle.toml_checker.specs.Walking.{AreAlike, HaveOneNewline, IsPassed,
 
 use crate::arriving::is_carried_to;
 use crate::documents::Document;
-use crate::fronts::EditList;
+use crate::edit_list::EditList;
 use std::alloc::{AllocError, Global};
 use toml_edits::Edit;
 use toml_text::Span;
@@ -212,10 +212,11 @@ pub(crate) fn pairs_fit(
     requires after { IsRead after }
     ensures { IfOk result (λ holds. OfTrees before.entry after.entry (λ d e. IsTrue holds ↔ PairsFit (map change edits.now) d e pairs.now)) }
 {
-    let list = EditList::of(alloc, edits)?;
+    let mut list = EditList::of(alloc, edits)?;
     let mut one = Passed { units: 0, lines: 0 };
     let mut other = one;
     for pair in pairs {
+        list.come_to(before.units.get(pair.0 as usize));
         match next_fits(alloc, before, one, &list, after, other, *pair)? {
             Some((past, other_past)) => {
                 one = past;

@@ -1,29 +1,32 @@
 //! Which units no edit of a list takes away or changes.
-ghost use Rattle.std.specs.Prelude.{◌≡◌, List, map, Some, IfOk};
+ghost use Rattle.std.specs.Prelude.{◌≡◌, List, map, Some, IfOk, Option, ℕ, true};
 ghost use Rattle.toml_edits.specs.Edits.{change};
 ghost use Rattle.toml_units.specs.Plain.{spanned};
 ghost use Rattle.toml_units.specs.Units.{TextUnit};
 ghost use Rattle.toml_units.specs.View.{all_units};
 ghost use Rattle.toml_checker.specs.EditLists.{changes};
-ghost use Rattle.toml_checker.specs.Plain.{here, stands, home_stands, made_site, line_site, next_line, is_kept, TellProtected};
+ghost use Rattle.toml_checker.specs.Plain.{stands, home_stands, made_site, line_site, next_line, is_kept, TellProtected};
 
-use crate::fronts::EditList;
-use crate::moving::{Moved, moved_by};
+use crate::edit_list::EditList;
+use crate::moving::Way;
 use crate::side::side_of;
-use crate::tables::{Part, is_named};
+use crate::tables::{Part, is_named, is_of_comment};
 use std::alloc::{AllocError, Global};
 use toml_edits::{Edit, place};
 use toml_names::Address;
 use toml_units::{Unit, UnitKind};
 
-/// Where the thing stands that stood at the first address: there, unless it was moved.
-pub(crate) fn here<'a>(moved: &'a Option<Address>, first: &'a Address) -> &'a Address
-    ensures { result.now ≡ here moved.now first.now }
+/// Whether the run or the first steps of the address show that no edit names the part at it.
+fn is_shown(part: Part, list: &EditList, at: &Address) -> bool
+    ensures { (base : Option ℕ) → result ≡ true → stands part (changes list.now) (Some at.now) base ≡ true }
 {
-    match moved {
-        Some(at) => at,
-        None => first,
+    if list.is_covered(at.steps()) {
+        return true;
     }
+    if is_of_comment(part) && list.is_within(at.steps()) {
+        return true;
+    }
+    list.fronts.is_far(at.steps())
 }
 
 /// Whether no edit names the part at the address, each where those before it have carried it. What stands nowhere is named
@@ -37,19 +40,18 @@ fn stands_at(
 ) -> Result<bool, AllocError>
     ensures { IfOk result (λ b. b ≡ stands part (changes list.now) (Some first.now) base) }
 {
-    if list.fronts.is_far(first.steps()) {
+    if is_shown(part, list, first) {
         return Ok(true);
     }
-    let mut moved_to = None;
+    let mut way = Way::First(first);
     for edit in list.edits {
-        let at = here(&moved_to, first);
-        if is_named(part, edit, base, side_of(place(edit).steps(), at.steps())) {
+        let side = side_of(place(edit).steps(), way.at().steps());
+        if is_named(part, edit, base, side) {
             return Ok(false);
         }
-        match moved_by(alloc, edit, at)? {
-            Moved::Stays => {}
-            Moved::To(to) => moved_to = Some(to),
-            Moved::Nowhere => return Ok(true),
+        match way.on(alloc, edit)? {
+            Some(next) => way = next,
+            None => return Ok(true),
         }
     }
     Ok(true)
@@ -124,11 +126,12 @@ fn next_line<'a>(line: Option<&'a Unit>, unit: &'a Unit) -> Option<&'a Unit>
 pub fn protected(alloc: Global, units: &[Unit], edits: &[Edit]) -> Result<Vec<bool>, AllocError>
     ensures { IfOk result (λ flags. (us : List TextUnit) → all_units units.now ≡ map spanned us → TellProtected (map change edits.now) us flags.items) }
 {
-    let list = EditList::of(alloc, edits)?;
+    let mut list = EditList::of(alloc, edits)?;
     let mut flags = Vec::with_capacity(alloc, units.len())?;
     let mut line = None;
     for unit in units {
         line = next_line(line, unit);
+        list.come_to(Some(unit));
         flags.push(is_kept(alloc, &list, line, unit)?)?;
     }
     Ok(flags)

@@ -19,7 +19,7 @@ use crate::texts::Texts;
 use crate::working::Tree;
 use std::alloc::{AllocError, Global};
 use toml_checker::{Document, Made, Reason, Verdict, check_made, newlines_of, outermost};
-use toml_edits::{Edit, near_names};
+use toml_edits::{Edit, near_addresses};
 use toml_names::{NameReader, read_lines};
 use toml_text::{MAX_LEN, Source};
 use toml_tree::{Doc, Profile, parse_in};
@@ -140,7 +140,7 @@ struct Work<'x> {
     units: Vec<Unit>,
     newlines: Vec<&'x str>,
     wanted: Vec<bool>,
-    made: Made<'x, 'x>,
+    made: Made<'x>,
     edited: Edited,
 }
 
@@ -232,13 +232,13 @@ fn make_text<'d, 'x>(
     spelled: &'x [Spelled],
     wanted: &[bool],
     profile: Profile,
-) -> Result<(Made<'x, 'x>, Edited), EditorFault>
+) -> Result<(Made<'x>, Edited), EditorFault>
     requires read { HasLines profile (text_of source) (document doc.now) (lines_of reader) }
     requires spelled { length spelled.now ≡ length edits.now }
     ensures made { IfOk result (λ r. IsMadeText profile (text_of source.entry) (map change edits.now) r.0 (string_bytes r.1.text) r.1.pieces.items) }
     ensures told { IfErr result (Tells profile (text_of source.entry) (map change edits.now)) }
 {
-    let touched = near_names(alloc, edits)?;
+    let touched = near_addresses(alloc, edits)?;
     let mut data = reader.names().data_near(&touched)?;
     let mut tree = Tree::of(Texts { alloc, source }, doc, units)?;
     let read = Read {

@@ -1,13 +1,11 @@
--- Lists of edits near the names of a set: on the data near them, and on all.
+-- Lists of edits: on data of which a part is hidden, and on all.
 use Rattle.std.proofs.Common.{◌≡◌, ℕ, zero, suc, List, [], ◌∷◌, Option, Some, None, Bool, true, false, cond, refl, sym, ap, subst, ◌∙◌}
 use mathlib.Core.Path.{fun_ext}
 use Rattle.toml_tree.specs.declared.profile.Profile.{Profile}
-use Rattle.toml_names.specs.declared.model.name_set.NameSet.{NameSet}
 use Rattle.toml_names.specs.model.Addresses.{Address}
-use Rattle.toml_names.specs.model.Beside.{is_hidden, near, beside}
 use Rattle.toml_names.specs.model.Data.{Kinds}
+use Rattle.toml_names.specs.model.Hidden.{Cover, near, beside}
 use Rattle.toml_edits.specs.declared.fault.EditFault.{EditFault}
-use Rattle.toml_edits.specs.declared.fault.EditFault.TheVariants.{RootNamed}
 use Rattle.toml_edits.specs.After.{IsAfter}
 use Rattle.toml_edits.specs.Edits.{Change}
 use Rattle.toml_edits.specs.Faults.{IsFault}
@@ -20,89 +18,89 @@ use Rattle.toml_edits.proofs.NearRows.{same_fault}
 
 -- ---- one edit
 
-near_agrees : (names : NameSet) (f : Kinds) → Agree (is_hidden names) (near names f) f
-near_agrees names f a low = shown_at (is_hidden names) f a low
+near_agrees : (h : Cover) (f : Kinds) → Agree h (near h f) f
+near_agrees h f a low = shown_at h f a low
 
-agrees_near : (names : NameSet) (f : Kinds) → Agree (is_hidden names) f (near names f)
-agrees_near names f a low = sym (near_agrees names f a low)
+agrees_near : (h : Cover) (f : Kinds) → Agree h f (near h f)
+agrees_near h f a low = sym (near_agrees h f a low)
 
-module _ (profile : Profile) (names : NameSet) (c : Change) (is_near : IsNear names c) where
-  fault_all : (old : Kinds) → (found : Option EditFault) → IsFault profile c (near names old) found → IsFault profile c old found
-  fault_all old = same_fault profile names (near names old) old (near_agrees names old) c is_near
+module _ (profile : Profile) (h : Cover) (c : Change) (is_near : IsNear h c) where
+  fault_all : (old : Kinds) → (found : Option EditFault) → IsFault profile c (near h old) found → IsFault profile c old found
+  fault_all old = same_fault profile h (near h old) old (near_agrees h old) c is_near
 
-  fault_near : (old : Kinds) → (found : Option EditFault) → IsFault profile c old found → IsFault profile c (near names old) found
-  fault_near old = same_fault profile names old (near names old) (agrees_near names old) c is_near
+  fault_near : (old : Kinds) → (found : Option EditFault) → IsFault profile c old found → IsFault profile c (near h old) found
+  fault_near old = same_fault profile h old (near h old) (agrees_near h old) c is_near
 
-  after_near : (old new : Kinds) → IsFault profile c old None → IsAfter profile c old new → IsAfter profile c (near names old) (near names new)
-  after_near old new fault after =
-      let m = moved profile names c old new is_near (fault RootNamed) after in
-      m.after (near names old) (near names new) (agrees_near names old) (moves_shown (is_hidden names) m.carrier m.at m.value m.leaves m.apart old new m.moves)
+  after_near : (old new : Kinds) → IsAfter profile c old new → IsAfter profile c (near h old) (near h new)
+  after_near old new after =
+      let m = moved profile h c old new is_near after in
+      m.after (near h old) (near h new) (agrees_near h old) (moves_shown h m.carrier m.at m.value m.leaves m.apart old new m.moves)
 
-  after_beside : (old new : Kinds) → IsFault profile c (near names old) None → IsAfter profile c (near names old) new → IsAfter profile c old (beside names old new)
-  after_beside old new fault after =
-      let m = moved profile names c (near names old) new is_near (fault RootNamed) after in
-      m.after old (beside names old new) (near_agrees names old) (moves_joined (is_hidden names) m.carrier m.at m.value m.leaves m.apart old new m.moves)
+  after_beside : (old new : Kinds) → IsAfter profile c (near h old) new → IsAfter profile c old (beside h old new)
+  after_beside old new after =
+      let m = moved profile h c (near h old) new is_near after in
+      m.after old (beside h old new) (near_agrees h old) (moves_joined h m.carrier m.at m.value m.leaves m.apart old new m.moves)
 
-  keeps : (old new : Kinds) → IsFault profile c old None → IsAfter profile c old new → (a : Address) → is_hidden names a ≡ true → new a ≡ old a
-  keeps old new fault after =
-      let m = moved profile names c old new is_near (fault RootNamed) after in
-      moves_keep (is_hidden names) m.carrier m.at m.value m.leaves m.apart old new m.moves
+  keeps : (old new : Kinds) → IsAfter profile c old new → (a : Address) → h a ≡ true → new a ≡ old a
+  keeps old new after =
+      let m = moved profile h c old new is_near after in
+      moves_keep h m.carrier m.at m.value m.leaves m.apart old new m.moves
 
   -- near data become near data: what an edit makes of them has nothing that is hidden
-  near_again : (old new : Kinds) → IsFault profile c (near names old) None → IsAfter profile c (near names old) new → near names (beside names old new) ≡ new
-  near_again old new fault after = fun_ext (λ a. by a (is_hidden names a) refl)
+  near_again : (old new : Kinds) → IsAfter profile c (near h old) new → near h (beside h old new) ≡ new
+  near_again old new after = fun_ext (λ a. by a (h a) refl)
     where
-      by : (a : Address) (b : Bool) → is_hidden names a ≡ b → near names (beside names old new) a ≡ new a
-      by a true is = shown_not (is_hidden names) (beside names old new) a is ∙ sym (keeps (near names old) new fault after a is ∙ shown_not (is_hidden names) old a is)
-      by a false is = shown_at (is_hidden names) (beside names old new) a is ∙ joined_new (is_hidden names) old new a is
+      by : (a : Address) (b : Bool) → h a ≡ b → near h (beside h old new) a ≡ new a
+      by a true is = shown_not h (beside h old new) a is ∙ sym (keeps (near h old) new after a is ∙ shown_not h old a is)
+      by a false is = shown_at h (beside h old new) a is ∙ joined_new h old new a is
 
 -- ---- lists
 
-beside_twice : (names : NameSet) (old mid new : Kinds) → beside names (beside names old mid) new ≡ beside names old new
-beside_twice names old mid new = fun_ext (λ a. by a (is_hidden names a))
+beside_twice : (h : Cover) (old mid new : Kinds) → beside h (beside h old mid) new ≡ beside h old new
+beside_twice h old mid new = fun_ext (λ a. by a (h a))
   where
     by : (a : Address) (b : Bool) → cond b (cond b (old a) (mid a)) (new a) ≡ cond b (old a) (new a)
     by a true = refl
     by a false = refl
 
-same_beside : (names : NameSet) (old new : Kinds) (a : Address) (b : Bool) → cond b None (old a) ≡ new a → old a ≡ cond b (old a) (new a)
-same_beside names old new a true is = refl
-same_beside names old new a false is = is
+same_beside : (h : Cover) (old new : Kinds) (a : Address) (b : Bool) → cond b None (old a) ≡ new a → old a ≡ cond b (old a) (new a)
+same_beside h old new a true is = refl
+same_beside h old new a false is = is
 
-led_beside : (profile : Profile) (names : NameSet) (cs : List Change) (old new : Kinds) → AreNear names cs → Lead profile cs (near names old) new → Lead profile cs old (beside names old new)
-led_beside profile names [] old new are lead = λ a. same_beside names old new a (is_hidden names a) (lead a)
-led_beside profile names (c ∷ cs) old new are (fault, mid, after, lead) =
-    let all = beside names old mid in
-    let rest : Lead profile cs all (beside names all new) = led_beside profile names cs all new are.1 (subst (λ (f : Kinds). Lead profile cs f new) (sym (near_again profile names c are.0 old mid fault after)) lead) in
-    (fault_all profile names c are.0 old None fault, all, after_beside profile names c are.0 old mid fault after, subst (Lead profile cs all) (beside_twice names old mid new) rest)
+led_beside : (profile : Profile) (h : Cover) (cs : List Change) (old new : Kinds) → AreNear h cs → Lead profile cs (near h old) new → Lead profile cs old (beside h old new)
+led_beside profile h [] old new are lead = λ a. same_beside h old new a (h a) (lead a)
+led_beside profile h (c ∷ cs) old new are (fault, mid, after, lead) =
+    let all = beside h old mid in
+    let rest : Lead profile cs all (beside h all new) = led_beside profile h cs all new are.1 (subst (λ (f : Kinds). Lead profile cs f new) (sym (near_again profile h c are.0 old mid after)) lead) in
+    (fault_all profile h c are.0 old None fault, all, after_beside profile h c are.0 old mid after, subst (Lead profile cs all) (beside_twice h old mid new) rest)
 
 pub leads_beside : LeadsBeside
-leads_beside profile names cs old part new are same lead = led_beside profile names cs old new are (subst (λ (f : Kinds). Lead profile cs f new) (fun_ext same) lead)
+leads_beside profile h cs old part new are same lead = led_beside profile h cs old new are (subst (λ (f : Kinds). Lead profile cs f new) (fun_ext same) lead)
 
 pub leads_near : LeadsNear
-leads_near profile names [] old new are lead = λ a. ap (λ k. cond (is_hidden names a) None k) (lead a)
-leads_near profile names (c ∷ cs) old new are (fault, mid, after, lead) =
-    (fault_near profile names c are.0 old None fault, near names mid, after_near profile names c are.0 old mid fault after, leads_near profile names cs mid new are.1 lead)
+leads_near profile h [] old new are lead = λ a. ap (λ k. cond (h a) None k) (lead a)
+leads_near profile h (c ∷ cs) old new are (fault, mid, after, lead) =
+    (fault_near profile h c are.0 old None fault, near h mid, after_near profile h c are.0 old mid after, leads_near profile h cs mid new are.1 lead)
 
 pub hidden_stays : HiddenStays
-hidden_stays profile names [] old new are lead a is = sym (lead a)
-hidden_stays profile names (c ∷ cs) old new are (fault, mid, after, lead) a is = hidden_stays profile names cs mid new are.1 lead a is ∙ keeps profile names c are.0 old mid fault after a is
+hidden_stays profile h [] old new are lead a is = sym (lead a)
+hidden_stays profile h (c ∷ cs) old new are (fault, mid, after, lead) a is = hidden_stays profile h cs mid new are.1 lead a is ∙ keeps profile h c are.0 old mid after a is
 
-near_stops : (profile : Profile) (names : NameSet) (cs : List Change) (old : Kinds) → AreNear names cs → (i : ℕ) (x : EditFault) → IsFirstFault profile cs old i x → IsFirstFault profile cs (near names old) i x
-near_stops profile names [] old are i x stop = stop
-near_stops profile names (c ∷ cs) old are zero x stop = fault_near profile names c are.0 old (Some x) stop
-near_stops profile names (c ∷ cs) old are (suc i) x (fault, mid, after, stop) =
-    (fault_near profile names c are.0 old None fault, near names mid, after_near profile names c are.0 old mid fault after, near_stops profile names cs mid are.1 i x stop)
+near_stops : (profile : Profile) (h : Cover) (cs : List Change) (old : Kinds) → AreNear h cs → (i : ℕ) (x : EditFault) → IsFirstFault profile cs old i x → IsFirstFault profile cs (near h old) i x
+near_stops profile h [] old are i x stop = stop
+near_stops profile h (c ∷ cs) old are zero x stop = fault_near profile h c are.0 old (Some x) stop
+near_stops profile h (c ∷ cs) old are (suc i) x (fault, mid, after, stop) =
+    (fault_near profile h c are.0 old None fault, near h mid, after_near profile h c are.0 old mid after, near_stops profile h cs mid are.1 i x stop)
 
-all_stops : (profile : Profile) (names : NameSet) (cs : List Change) (old : Kinds) → AreNear names cs → (i : ℕ) (x : EditFault) → IsFirstFault profile cs (near names old) i x → IsFirstFault profile cs old i x
-all_stops profile names [] old are i x stop = stop
-all_stops profile names (c ∷ cs) old are zero x stop = fault_all profile names c are.0 old (Some x) stop
-all_stops profile names (c ∷ cs) old are (suc i) x (fault, mid, after, stop) =
-    let all = beside names old mid in
-    (fault_all profile names c are.0 old None fault, all, after_beside profile names c are.0 old mid fault after, all_stops profile names cs all are.1 i x (subst (λ (f : Kinds). IsFirstFault profile cs f i x) (sym (near_again profile names c are.0 old mid fault after)) stop))
+all_stops : (profile : Profile) (h : Cover) (cs : List Change) (old : Kinds) → AreNear h cs → (i : ℕ) (x : EditFault) → IsFirstFault profile cs (near h old) i x → IsFirstFault profile cs old i x
+all_stops profile h [] old are i x stop = stop
+all_stops profile h (c ∷ cs) old are zero x stop = fault_all profile h c are.0 old (Some x) stop
+all_stops profile h (c ∷ cs) old are (suc i) x (fault, mid, after, stop) =
+    let all = beside h old mid in
+    (fault_all profile h c are.0 old None fault, all, after_beside profile h c are.0 old mid after, all_stops profile h cs all are.1 i x (subst (λ (f : Kinds). IsFirstFault profile cs f i x) (sym (near_again profile h c are.0 old mid after)) stop))
 
 pub faults_near : FaultsNear
-faults_near profile names cs old are i x = (all_stops profile names cs old are i x, near_stops profile names cs old are i x)
+faults_near profile h cs old are i x = (all_stops profile h cs old are i x, near_stops profile h cs old are i x)
 
 pub fault_beside : FaultBeside
-fault_beside profile names c old new is_near found = same_fault profile names new (beside names old new) (λ a low. sym (joined_new (is_hidden names) old new a low)) c is_near found
+fault_beside profile h c old new is_near found = same_fault profile h new (beside h old new) (λ a low. sym (joined_new h old new a low)) c is_near found

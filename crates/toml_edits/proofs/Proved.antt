@@ -11,4 +11,3 @@ pub use Rattle.toml_edits.proofs.Standing.{carried_stands}
 pub use Rattle.toml_edits.proofs.ListsApart.{lists_carry_apart}
 pub use Rattle.toml_edits.proofs.StaysClosed.{stays_closed, leads_stay_closed}
 pub use Rattle.toml_edits.proofs.NearLists.{leads_beside, leads_near, hidden_stays, faults_near, fault_beside}
-pub use Rattle.toml_edits.proofs.NearNames.{near_starts}

@@ -1,10 +1,10 @@
 -- Steps along an address, and what a carrier below a place makes of it.
 use Rattle.std.proofs.Common.{◌≡◌, ℕ, ◌+◌, ◌-◌, ◌^◌, ◌<◌, ◌≤◌, ◌==◌, List, [], ◌∷◌, ◌++◌, length, take, drop, get_or, Option, Some, None, Bool, true, false, cond, not, refl, sym, ap, ◌∙◌, append_assoc, arith}
-use Rattle.std.specs.Prelude.{option_map}
+use Rattle.std.specs.Prelude.{option_map, set}
 use Rattle.std.specs.Bool.{nat_lt, nat_eq}
 use Rattle.std.specs.Str.{bytes_eq}
 use Rattle.std.proofs.lemmas.Bool.Decides.{nat_tests}
-use Rattle.std.proofs.lemmas.List.{take_more, take-append-drop}
+use Rattle.std.proofs.lemmas.List.{set_at, take_more, take-append-drop}
 use Rattle.toml_names.specs.declared.model.address.Step.{Step}
 use Rattle.toml_names.specs.declared.model.address.Step.TheVariants.{Name, Index}
 use Rattle.toml_names.specs.model.Addresses.{Address, same_step}
@@ -81,6 +81,10 @@ carried_not p c a rest is keep = carried p c a rest (Some rest) is keep ∙ ap S
 -- the same where the next step is known
 pub carried_step : (p : Address) (c : Carrier) (a rest : Address) (s t : Step) (to : Option Address) → a ≡ p ++ s ∷ rest → s ≡ t → c (t ∷ rest) ≡ to → carry_below p c a ≡ option_map (λ r. p ++ r) to
 carried_step p c a rest s t to is same move = carried p c a (t ∷ rest) to (is ∙ ap (λ u. p ++ u ∷ rest) same) move
+
+-- and it alone is set
+pub turned_step : (p : Address) (c : Carrier) (a rest : Address) (s t u : Step) (n : ℕ) → n ≡ length p → a ≡ p ++ s ∷ rest → s ≡ t → c (t ∷ rest) ≡ Some (u ∷ rest) → Some (set a n u) ≡ carry_below p c a
+turned_step p c a rest s t u n count is same move = ap (λ b. Some (set b n u)) is ∙ ap Some (set_at p s rest u n (sym count)) ∙ sym (carried_step p c a rest s t (Some (u ∷ rest)) is same move)
 
 pub kept_step : (p : Address) (c : Carrier) (a rest : Address) (s t : Step) → a ≡ p ++ s ∷ rest → s ≡ t → c (t ∷ rest) ≡ Some (t ∷ rest) → carry_below p c a ≡ Some a
 kept_step p c a rest s t is same keep = carried_not p c a (t ∷ rest) (is ∙ ap (λ u. p ++ u ∷ rest) same) keep

@@ -12,6 +12,7 @@ pub mod NearLaws
 -- words of the code's own contracts
 pub mod Readings
 pub mod Changed
+pub mod Courses
 pub mod Reach
 pub mod Judged
 pub mod Making

@@ -1,37 +1,55 @@
--- Edits on what stands at and below the names of a set, and on nothing beside these.
-use Rattle.std.specs.Prelude.{◌≡◌, ◌⊎◌, ◌↔◌, ℕ, List, [], ◌∷◌, true}
-use Rattle.toml_names.specs.declared.model.address.Step.TheVariants.{Name}
-use Rattle.toml_names.specs.declared.model.name_set.NameSet.{NameSet}
-use Rattle.toml_names.specs.model.Addresses.{Address}
-use Rattle.toml_names.specs.model.NameSets.{has_name}
-use Rattle.toml_edits.specs.Edits.{Change, rename, place}
+-- Edits on what lies along the addresses that they touch, and on nothing beside these.
+use Rattle.std.specs.Prelude.{◌≡◌, ◌⊎◌, ◌↔◌, ◌++◌, ℕ, suc, List, [], ◌∷◌, take, All, true, false}
+use Rattle.toml_names.specs.model.Addresses.{Address, child, element}
+use Rattle.toml_names.specs.model.Hidden.{Cover, is_off_all, is_off_way}
+use Rattle.toml_names.specs.mentions.Rules.{max_steps}
+use Rattle.toml_edits.specs.Edits.{Change, set, insert, rename, remove, new_section, new_element, place}
 
--- the address begins with the name
-abbrev pub Begins : Address → List ℕ → Type 0
-Begins at n = (r : Address) × (at ≡ Name n ∷ r)
+-- the address is that of an element of the array at the other
+abbrev pub IsElementIn : Address → Address → Type 0
+IsElementIn p at = (i : ℕ) × (at ≡ element p i)
 
--- the edit gives a name of the root this name
-abbrev pub Renames : Change → List ℕ → Type 0
-Renames (rename at to) n = (n ≡ to) × (m : List ℕ) × (at ≡ Name m ∷ [])
-Renames c n = ⊥
+-- the first address is that of a member, the other the same with the new name
+abbrev pub IsRenamed : Address → List ℕ → Address → Type 0
+IsRenamed at to p = (q : Address) × (n : List ℕ) × (at ≡ child q n) × (p ≡ child q to)
 
--- the edit touches the name of the root: its place begins with it, or it gives a name of the root this name
-abbrev pub Touches : Change → List ℕ → Type 0
-Touches c n = Begins (place c) n ⊎ Renames c n
+-- an edit at one address moves what is at the other and below it: they are the same, or it moves the elements of an array
+abbrev pub Shifts : Address → Address → Type 0
+Shifts at p = (p ≡ at) ⊎ IsElementIn p at
 
--- the set has each name that the edit touches
-abbrev pub IsNear : NameSet → Change → Type 0
-IsNear names c = (n : List ℕ) → Touches c n → has_name names n ≡ true
+-- the edit moves or makes what is at the address and below it
+abbrev pub Opens : Change → Address → Type 0
+Opens (set at value) p = p ≡ at
+Opens (insert at value) p = Shifts at p
+Opens (rename at to) p = (p ≡ at) ⊎ IsRenamed at to p
+Opens (remove at) p = Shifts at p
+Opens (new_section at) p = p ≡ at
+Opens (new_element at) p = p ≡ at
 
--- the set has each name that edits of the list touch
-abbrev pub AreNear : NameSet → List Change → Type 0
-AreNear names [] = Unit {0}
-AreNear names (c ∷ cs) = IsNear names c × AreNear names cs
+-- nothing is hidden that the edit looks at, moves or makes: no beginning of its place, no element of what stands at one, and
+-- nothing at and below the addresses that it opens
+pub record IsNear (h : Cover) (c : Change) : Type 0 where
+  pub fronts : (q r : Address) → place c ≡ q ++ r → h q ≡ false
+  pub elements : (q r : Address) (i : ℕ) → place c ≡ q ++ r → h (element q i) ≡ false
+  pub opened : (p r : Address) → Opens c p → h (p ++ r) ≡ false
 
--- the set has the first name of the address
-abbrev pub StartsIn : NameSet → Address → Type 0
-StartsIn names at = (n : List ℕ) (r : Address) → at ≡ Name n ∷ r → has_name names n ≡ true
+-- nothing is hidden that edits of the list look at, move or make
+abbrev pub AreNear : Cover → List Change → Type 0
+AreNear h [] = Unit {0}
+AreNear h (c ∷ cs) = IsNear h c × AreNear h cs
 
--- the new set has the names of the old, those that are told, and no others
-abbrev pub GrowsBy : (List ℕ → Type 0) → NameSet → NameSet → Type 0
-GrowsBy Told old new = (n : List ℕ) → (has_name new n ≡ true) ↔ ((has_name old n ≡ true) ⊎ Told n)
+-- the way to an address: its steps, up to one more than an address in data may have
+abbrev pub way_to : Address → Address
+way_to p = take (suc max_steps) p
+
+-- the address is hidden beside the ways to all addresses that are told
+abbrev pub IsBeside : (Address → Type 0) → Address → Type 0
+IsBeside Told a = (p : Address) → Told p → is_off_way (way_to p) a ≡ true
+
+-- hidden is now what was hidden and is beside the ways to all addresses that are told, and nothing else
+abbrev pub OpensMore : (Address → Type 0) → Cover → Cover → Type 0
+OpensMore Told old new = (a : Address) → (new a ≡ true) ↔ ((old a ≡ true) × IsBeside Told a)
+
+-- hidden is what is so where no way goes on and is beside the ways to all that the edits open, and nothing else
+abbrev pub HidesBeside : Cover → List Change → Type 0
+HidesBeside h cs = (a : Address) → (h a ≡ true) ↔ ((is_off_all a ≡ true) × All (λ c. IsBeside (Opens c) a) cs)

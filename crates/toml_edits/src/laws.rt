@@ -1,7 +1,7 @@
 //! Laws over the definitions: nothing is run.
 ghost use Rattle.toml_edits.specs.EditList.{BadListIsNone, OneEditList};
 ghost use Rattle.toml_edits.specs.ListLaws.{CarriedOn, CarriedStands, DataIndicesAreLow, FaultOrLead, LeadsStayClosed, ListsCarryApart, OneFirstFault, OneLead, StaysClosed};
-ghost use Rattle.toml_edits.specs.NearLaws.{FaultsNear, FaultBeside, HiddenStays, LeadsBeside, LeadsNear, NearStarts};
+ghost use Rattle.toml_edits.specs.NearLaws.{FaultsNear, FaultBeside, HiddenStays, LeadsBeside, LeadsNear};
 ghost use Rattle.toml_edits.specs.Laws.{CarriedAlong, CarriedFront, CarriedApart, DataAreClosed, ElementIsEmpty, NewTablesStay, OneAfter, SectionIsEmpty, SetCarries};
 
 /// What is below an address is carried along with it, unless the edit is below the address or a `set` at it. A
@@ -58,15 +58,18 @@ pub fn edit_lists()
     ensures bad { BadListIsNone }
 {}
 
-/// Edits near the names of a set may be made on the data near these. What they make of them, with all else left as it was,
-/// is what they make of all; what they make of all has the same near the names, and all else as it was; the first fault is
-/// the same. One such edit has on data near the names, beside anything else, the fault that it has on them, and the set
-/// has the first name of its address.
+/// Edits from which nothing is hidden that they look at, move or make may be made on the data that are not hidden. What they
+/// make of them, with the hidden as it was, is what they make of all; what they make of all has the same where nothing is
+/// hidden, and else what it had.
 pub fn near()
     ensures beside { LeadsBeside }
     ensures near { LeadsNear }
     ensures stays { HiddenStays }
+{}
+
+/// The first fault of such edits is the same on the data that are not hidden. One such edit has on data, beside anything
+/// hidden, the fault that it has on them.
+pub fn near_faults()
     ensures faults { FaultsNear }
     ensures fault { FaultBeside }
-    ensures starts { NearStarts }
 {}

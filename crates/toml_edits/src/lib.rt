@@ -4,6 +4,7 @@
 mod applying;
 mod carrying;
 mod change;
+mod course;
 mod edit;
 mod fault;
 pub mod laws;
@@ -15,7 +16,8 @@ mod value;
 
 pub use applying::{apply, apply_in};
 pub use carrying::carry;
+pub use course::{Course, course_of};
 pub use edit::{Edit, place};
 pub use fault::{EditFault, EditsFault};
 pub use list::read_edits;
-pub use near::near_names;
+pub use near::near_addresses;

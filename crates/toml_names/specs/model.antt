@@ -1,13 +1,13 @@
 pub mod Addresses
-pub mod Beside
+pub mod AddressSets
 pub mod Building
 pub mod Data
 pub mod DataLaws
 pub mod Documents
+pub mod Hidden
 pub mod Indices
 pub mod Levels
 pub mod Names
-pub mod NameSets
 pub mod Parts
 pub mod Places
 pub mod SameData

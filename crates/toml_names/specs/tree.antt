@@ -11,4 +11,5 @@ pub mod Near
 pub mod Nodes
 pub mod Placing
 pub mod SameBelow
+pub mod Shown
 pub mod Steps

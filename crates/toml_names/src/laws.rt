@@ -4,6 +4,7 @@ ghost use Rattle.toml_names.specs.mentions.Alike.{SectionGoesOn, CountsAdd, Alik
 ghost use Rattle.toml_names.specs.mentions.Clear.{NotNamedIsClear};
 ghost use Rattle.toml_names.specs.model.DataLaws.{LinesHaveOneKind, LineValuesStandAlone, ValuesHaveOneKind, InnerValuesStandAlone, OneData, LinesAreClosed, ValuesAreClosed, LinesHaveData};
 ghost use Rattle.toml_names.specs.mentions.FirstMentions.{FirstMentionsAreThese, OneListOfFirstMentions};
+ghost use Rattle.toml_names.specs.model.Hidden.{ElementsAreNear, FrontsAreNear, WaysAreNear};
 ghost use Rattle.toml_names.specs.model.Indices.{IndicesAreLow, ValueIndicesAreLow};
 ghost use Rattle.toml_names.specs.mentions.Inside.{InsideIsBelow, InsideMoves, BelowIsOfItsLine};
 ghost use Rattle.toml_names.specs.mentions.Joining.{LinesJoin, ValuesJoin, OneKind, FirstIsData, ValuesStandAlone};
@@ -197,4 +198,12 @@ pub fn same_data()
 pub fn placeless()
     ensures lines { PlacesAreNotNamed }
     ensures value { ValuePlacesAreNotNamed }
+{}
+
+/// Beside a way to an address nothing is hidden at and below the address, nor above it, nor at the elements that stand in
+/// what is above it.
+pub fn near_ways()
+    ensures below { WaysAreNear }
+    ensures above { FrontsAreNear }
+    ensures elements { ElementsAreNear }
 {}

@@ -4,6 +4,8 @@
 ghost use Rattle.std.specs.Prelude.{◌≡◌, [], length, IfOk};
 
 #[cfg(test)]
+mod beside_tests;
+#[cfg(test)]
 mod calls;
 mod check;
 mod counting;

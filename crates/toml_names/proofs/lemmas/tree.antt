@@ -1,3 +1,4 @@
+pub mod Across
 pub mod Alike
 pub mod CountsKept
 pub mod Distinct
@@ -25,6 +26,7 @@ pub mod PairEntered
 pub mod Parts
 pub mod PassedFronts
 pub mod Ranks
+pub mod Shown
 pub mod StandsGrown
 pub mod Steps
 pub mod TreeGrown

@@ -1,37 +1,62 @@
--- A tree of names that is another one but for some names of the root, at which data tell what stands.
-use Rattle.std.specs.Prelude.{◌≡◌, ℕ, true, false, List, Option, Some, IsSome, if◌then◌else◌}
-use Rattle.std.specs.BTreeMap.{get_by_text}
+-- A tree of names that is another one where a set of addresses hides it, and elsewhere has what data tell.
+use Rattle.std.specs.Prelude.{◌≡◌, ◌≤◌, ℕ, List, [], ◌∷◌, Option, Some, None, IsSome, slice_get}
+use Rattle.toml_names.specs.declared.model.address.Step.{Step}
+use Rattle.toml_names.specs.declared.model.address.Step.TheVariants.{Name, Index}
+use Rattle.toml_names.specs.declared.model.address_set.AddressSet.{AddressSet}
 use Rattle.toml_names.specs.declared.model.datum.Datum.{Datum}
-use Rattle.toml_names.specs.declared.model.name_set.NameSet.{NameSet}
 use Rattle.toml_names.specs.model.Addresses.{Address}
-use Rattle.toml_names.specs.model.Beside.{beside}
+use Rattle.toml_names.specs.model.AddressSets.{below, hides, is_hidden}
 use Rattle.toml_names.specs.model.Data.{Kinds, kind_at, kind_in}
-use Rattle.toml_names.specs.model.Levels.{Members}
-use Rattle.toml_names.specs.model.NameSets.{has_name}
+use Rattle.toml_names.specs.model.Hidden.{beside}
 use Rattle.toml_names.specs.tree.Held.{below_node, below_in}
 use Rattle.toml_names.specs.tree.Nodes.{Spot}
-use Rattle.toml_names.specs.tree.SameBelow.{child_of}
+use Rattle.toml_names.specs.tree.SameBelow.{child_of, element_of}
+use Rattle.toml_names.specs.tree.Shown.{IsShownIn}
 
--- the tree has what the datum has at the root and below the names of the set, and elsewhere what the other tree has
-abbrev pub HoldsBeside : List Spot → List Spot → NameSet → Datum → Type 0
-HoldsBeside nodes others set d = (at : Address) → beside set (below_node others 0) (kind_at d) at ≡ below_node nodes 0 at
+-- the node one step below a node that may not be there
+abbrev pub step_in : List Spot → Option ℕ → Step → Option ℕ
+step_in nodes None s = None
+step_in nodes (Some id) (Name n) = child_of nodes id n
+step_in nodes (Some id) (Index i) = element_of nodes id i
 
--- what is wanted at a name of the root and below it
-abbrev pub wanted : List Spot → NameSet → Members → List ℕ → Kinds
-wanted others set members n at = if has_name set n then kind_in (get_by_text members n) at else below_in others (child_of others 0 n) at
+-- at the node and below it stands what the datum has, and where the set hides it what the other tree has at its node, if there is one
+abbrev pub HoldsBeside : List Spot → ℕ → List Spot → Option ℕ → AddressSet → Datum → Type 0
+HoldsBeside nodes id others o set d = (at : Address) → beside (is_hidden set) (below_in others o) (kind_at d) at ≡ below_node nodes id at
 
--- it stands at a node that may not be there
-abbrev pub IsWanted : List Spot → List Spot → NameSet → Members → List ℕ → Option ℕ → Type 0
-IsWanted nodes others set members n o = (at : Address) → wanted others set members n at ≡ below_in nodes o at
+-- the same at nodes of a step that may not be there, with what a set has at the step
+abbrev pub IsHeld : List Spot → Option ℕ → List Spot → Option ℕ → Step → Option AddressSet → Kinds → Type 0
+IsHeld nodes id others o s part kinds = (at : Address) → beside (hides part s) (below_in others o) kinds at ≡ below_in nodes id at
 
--- so at each name that the root has
-abbrev pub HoldNames : List Spot → List Spot → NameSet → Members → Type 0
-HoldNames nodes others set members = (n : List ℕ) (id : ℕ) → child_of nodes 0 n ≡ Some id → IsWanted nodes others set members n (Some id)
+-- what a datum has one step below
+abbrev pub kinds_at : Datum → Step → Kinds
+kinds_at d s at = kind_at d (s ∷ at)
 
--- the root has each member's name that the set has,
-abbrev pub HasMembers : List Spot → NameSet → Members → Type 0
-HasMembers nodes set members = (n : List ℕ) → has_name set n ≡ true → IsSome (get_by_text members n) → IsSome (child_of nodes 0 n)
+-- so it is at a name of the node,
+abbrev pub HoldsName : List Spot → ℕ → List Spot → Option ℕ → AddressSet → Datum → List ℕ → Type 0
+HoldsName nodes id others o set d n = IsHeld nodes (Some id) others (step_in others o (Name n)) (Name n) (below set (Name n)) (kinds_at d (Name n))
 
--- and each name of the other root that the set lacks
-abbrev pub HasNamesOf : List Spot → List Spot → NameSet → Type 0
-HasNamesOf nodes others set = (n : List ℕ) → has_name set n ≡ false → IsSome (child_of others 0 n) → IsSome (child_of nodes 0 n)
+-- at each name that it has,
+abbrev pub HoldNames : List Spot → ℕ → List Spot → Option ℕ → AddressSet → Datum → Type 0
+HoldNames nodes id others o set d = (n : List ℕ) (k : ℕ) → child_of nodes id n ≡ Some k → HoldsName nodes k others o set d n
+
+-- and at each index
+abbrev pub HoldElements : List Spot → ℕ → List Spot → Option ℕ → AddressSet → List Datum → Type 0
+HoldElements nodes id others o set items =
+    (i : ℕ) → IsHeld nodes (element_of nodes id i) others (step_in others o (Index i)) (Index i) (below set (Index i)) (kind_in (slice_get items i))
+
+-- the node has each member's name that the set has,
+abbrev pub HasMembers : List Spot → ℕ → AddressSet → Datum → Type 0
+HasMembers nodes id set d = (n : List ℕ) → IsSome (below set (Name n)) → IsSome (kind_at d (Name n ∷ [])) → IsSome (child_of nodes id n)
+
+-- and each name of the other node at which the set hides anything
+abbrev pub HasNamesOf : List Spot → ℕ → List Spot → Option ℕ → AddressSet → Type 0
+HasNamesOf nodes id others o set = (n : List ℕ) → child_of nodes id n ≡ None → IsShownIn others (step_in others o (Name n)) (Name n) (below set (Name n))
+
+-- nothing is hidden of what stands at the other node's elements from an index on
+abbrev pub ShowsBehind : List Spot → Option ℕ → ℕ → AddressSet → Type 0
+ShowsBehind others o from set = (i : ℕ) → from ≤ i → IsShownIn others (step_in others o (Index i)) (Index i) (below set (Index i))
+
+-- the node is of the datum's kind, and below it stands what does below the other node
+pub record HoldsAlone (nodes : List Spot) (id : ℕ) (others : List Spot) (o : Option ℕ) (d : Datum) : Type 0 where
+  pub kind : kind_at d [] ≡ below_node nodes id []
+  pub same : (s : Step) (at : Address) → below_in others o (s ∷ at) ≡ below_node nodes id (s ∷ at)

@@ -1,26 +1,28 @@
--- Data at the root of the tree of names and below some of its names.
-use Rattle.std.specs.Prelude.{◌≡◌, ◌⊎◌, ◌++◌, ℕ, true, false, List, Some, if◌then◌else◌}
-use Rattle.std.specs.BTreeMap.{get_by_text}
-use Rattle.std.specs.Str.{bytes_eq}
+-- The data at a node of the tree of names and below it, of all that a set of addresses does not hide.
+use Rattle.std.specs.Prelude.{◌≡◌, ℕ, List, Option}
+use Rattle.toml_names.specs.declared.model.address.Step.{Step}
+use Rattle.toml_names.specs.declared.model.address_set.AddressSet.{AddressSet}
 use Rattle.toml_names.specs.declared.model.datum.Datum.{Datum}
-use Rattle.toml_names.specs.declared.model.name_set.NameSet.{NameSet}
 use Rattle.toml_names.specs.mentions.Joining.{Joined}
 use Rattle.toml_names.specs.mentions.Mentions.{Named}
 use Rattle.toml_names.specs.model.Addresses.{Address}
-use Rattle.toml_names.specs.model.Beside.{near}
-use Rattle.toml_names.specs.model.Data.{kind_at, fact_at}
-use Rattle.toml_names.specs.model.Levels.{Members}
-use Rattle.toml_names.specs.model.NameSets.{has_name}
-use Rattle.toml_names.specs.tree.Finished.{IsDatumAt}
+use Rattle.toml_names.specs.model.AddressSets.{hides, is_hidden}
+use Rattle.toml_names.specs.model.Data.{kind_at, kind_in}
+use Rattle.toml_names.specs.model.Hidden.{near}
+use Rattle.toml_names.specs.tree.Held.{below_node, below_in}
 use Rattle.toml_names.specs.tree.NameTree.{IsTreeOf}
-use Rattle.toml_names.specs.tree.Nodes.{Spot, address_at}
+use Rattle.toml_names.specs.tree.Nodes.{Spot}
 
--- the datum has what is named at the root and below the names of the set
-abbrev pub IsNearDatum : List Spot → NameSet → Datum → Type 0
-IsNearDatum nodes set d = (ms : List Named) → IsTreeOf nodes ms → Joined ms → (at : Address) → kind_at d at ≡ near set (λ a. fact_at ms (address_at nodes 0 ++ a)) at
+-- the nodes stand for things named of which each joins those before it
+pub record IsSound (nodes : List Spot) : Type 0 where
+  pub things : List Named
+  pub stands : IsTreeOf nodes things
+  pub joined : Joined things
 
--- one member more, the data at the node, if the set has its name
-abbrev pub AddsNear : List Spot → NameSet → List ℕ → ℕ → Members → Members → Type 0
-AddsNear nodes set name id old new =
-    ((has_name set name ≡ false) × ((n : List ℕ) → get_by_text new n ≡ get_by_text old n))
-    ⊎ ((has_name set name ≡ true) × (d : Datum) × IsDatumAt nodes id d × ((n : List ℕ) → get_by_text new n ≡ (if bytes_eq name n then Some d else get_by_text old n)))
+-- the datum has what stands at the node and below it where the set hides nothing
+abbrev pub IsNearDatum : List Spot → ℕ → AddressSet → Datum → Type 0
+IsNearDatum nodes id set d = (at : Address) → kind_at d at ≡ near (is_hidden set) (below_node nodes id) at
+
+-- the same at a step, with what a set has there
+abbrev pub IsNearIn : List Spot → Step → Option AddressSet → Option ℕ → Option Datum → Type 0
+IsNearIn nodes s part o d = (at : Address) → kind_in d at ≡ near (hides part s) (below_in nodes o) at

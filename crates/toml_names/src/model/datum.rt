@@ -3,6 +3,7 @@ ghost use Rattle.std.specs.Prelude.{◌≡◌, ◌↔◌, ◌∷◌, ◌++◌, �
 ghost use Rattle.std.specs.Str.{bytes_eq};
 ghost use Rattle.std.specs.BTreeMap.{get_by_text};
 ghost use Rattle.toml_scalar.specs.Values.{scalar_value};
+ghost use Rattle.toml_names.specs.declared.model.address.Step.TheVariants.{Name, Index};
 ghost use Rattle.toml_names.specs.model.Addresses.{Address};
 ghost use Rattle.toml_names.specs.model.Data.{kind_at, kind_in};
 
@@ -74,6 +75,26 @@ impl Datum {
         ensures found { IsSome result ↔ IsSome (kind_at self.now at.now) }
     {
         self.part(at.steps())
+    }
+
+    /// The member of a name, if it is a table and has one.
+    pub(crate) fn member(&self, name: &str) -> Option<&Datum>
+        ensures { (rest : Address) → kind_in (option_copied result) rest ≡ kind_at self.now (Name name.now ∷ rest) }
+    {
+        let Datum::Table(members) = self else {
+            return None;
+        };
+        members.get(name)
+    }
+
+    /// The elements, if it is an array.
+    pub(crate) fn items(&self) -> &[Datum]
+        ensures { (index : ℕ) (rest : Address) → kind_in (slice_get result.now index) rest ≡ kind_at self.now (Index index ∷ rest) }
+    {
+        let Datum::Array(items) = self else {
+            return &[];
+        };
+        items
     }
 
     /// A datum of its own that is the same.

@@ -2,8 +2,8 @@
 //! change places.
 
 pub mod address;
+pub mod address_set;
 pub mod datum;
 pub mod name;
-pub mod name_set;
 pub mod parts;
 pub mod place;

@@ -42,7 +42,7 @@ impl<'t> NameTree<'t> {
     /// Whether the same stands at the names of two nodes and below them. That the other node has no more names is told by
     /// their count.
     #[cycle(alike)]
-    fn same_names(
+    pub fn same_names(
         &self,
         id: usize,
         other: &NameTree<'_>,
@@ -95,7 +95,7 @@ impl<'t> NameTree<'t> {
 
     /// Whether the same stands at the elements of two nodes and below them.
     #[cycle(alike)]
-    fn same_elements(
+    pub fn same_elements(
         &self,
         id: usize,
         other: &NameTree<'_>,

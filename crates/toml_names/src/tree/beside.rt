@@ -1,65 +1,94 @@
-//! Whether a tree of names is another one but for some names of the root, at which data tell what stands.
-ghost use Rattle.std.specs.Prelude.{◌≡◌, ◌↔◌, ◌<◌, Some, IsSome, IsTrue, IfOk, true, false, vec_len};
-ghost use Rattle.toml_names.specs.mentions.Mentions.{a_table};
-ghost use Rattle.toml_names.specs.model.NameSets.{has_name};
-ghost use Rattle.toml_names.specs.tree.Finished.{IsOfKind};
-ghost use Rattle.toml_names.specs.tree.HeldBeside.{HoldsBeside, HoldNames, IsWanted, HasMembers, HasNamesOf};
+//! Whether a tree of names is another one where a set of addresses hides it, and elsewhere has what data tell.
+ghost use Rattle.std.specs.Prelude.{◌≡◌, ◌↔◌, ◌<◌, [], Some, IsTrue, IfOk, slice_index_or, vec_len};
+ghost use Rattle.toml_names.specs.declared.model.address.Step.TheVariants.{Index};
+ghost use Rattle.toml_names.specs.model.AddressSets.{below};
+ghost use Rattle.toml_names.specs.model.Data.{kind_at};
+ghost use Rattle.toml_names.specs.tree.EnteringLines.{IsWithin};
+ghost use Rattle.toml_names.specs.tree.HeldBeside.{HoldElements, HoldNames, HoldsAlone, HoldsBeside, HoldsName, IsHeld};
 ghost use Rattle.toml_names.specs.tree.NameTree.{IsTree};
-ghost use Rattle.toml_names.specs.tree.SameBelow.{child_of};
+ghost use Rattle.toml_names.specs.tree.Nodes.{nowhere};
 
+use crate::mentions::mention::Kind;
+use crate::model::address_set::AddressSet;
 use crate::model::datum::Datum;
-use crate::model::name_set::NameSet;
+use crate::tree::holding::is_value;
 use crate::tree::name_tree::NameTree;
 use std::alloc::AllocError;
-use std::collections::BTreeMap;
 
 impl<'t> NameTree<'t> {
-    /// Whether the tree has at the root and below the names of the set what the datum has there, and below all other names of
-    /// the root what the other tree has.
+    /// Whether at a node and below it stands what the datum has, and where the set hides it what the other tree has at its
+    /// node, if there is one.
+    #[cycle(beside)]
     pub fn holds_beside(
         &self,
+        id: usize,
         other: &NameTree<'_>,
-        set: &NameSet<'_>,
+        there: Option<usize>,
+        set: &AddressSet,
         datum: &Datum,
     ) -> Result<bool, AllocError>
+        requires within { id < vec_len self.now.nodes }
         requires tree { IsTree self.now.nodes.items }
-        requires table { IsOfKind self.now.nodes.items 0 a_table }
+        requires other_within { IsWithin there other.now.nodes.items }
         requires other_tree { IsTree other.now.nodes.items }
-        ensures { IfOk result (λ b. IsTrue b ↔ HoldsBeside self.now.nodes.items other.now.nodes.items set.now datum.now) }
+        ensures { IfOk result (λ b. IsTrue b ↔ HoldsBeside self.now.nodes.items id other.now.nodes.items there set.now datum.now) }
     {
-        let Datum::Table(members) = datum else {
-            return Ok(false);
-        };
-        if !self.nodes[0].elements().is_empty() {
+        if set.is_whole() {
+            return self.holds(id, datum);
+        }
+        if !self.is_of_kind(id, datum)? {
             return Ok(false);
         }
-        if !self.has_members(set, members) {
+        if !self.has_members(id, set, datum) {
             return Ok(false);
         }
-        if !self.has_names_of(other, set) {
+        if !self.has_names_of(id, other, there, set) {
             return Ok(false);
         }
-        self.hold_names(other, set, members)
+        if !self.hold_names(id, other, there, set, datum)? {
+            return Ok(false);
+        }
+        self.hold_elements(id, other, there, set, datum.items())
     }
 
-    /// Whether at each name of the root stands what is wanted there.
+    /// Whether a node is of the datum's kind, and a scalar of its value.
+    fn is_of_kind(&self, id: usize, datum: &Datum) -> Result<bool, AllocError>
+        requires within { id < vec_len self.now.nodes }
+        ensures { IfOk result (λ b. IsTrue b ↔ (kind_at datum.now [] ≡ Some (slice_index_or self.now.nodes.items id nowhere).kind)) }
+    {
+        match (self.nodes[id].kind(), datum) {
+            (Kind::Table, Datum::Table(_)) => Ok(true),
+            (Kind::Array, Datum::Array(_)) => Ok(true),
+            (Kind::Scalar(kind, token), Datum::Scalar(scalar)) => {
+                is_value(self.alloc, kind, token, scalar)
+            }
+            _ => Ok(false),
+        }
+    }
+
+    /// Whether at each name of a node stands what is wanted there.
+    #[cycle(beside)]
     fn hold_names(
         &self,
+        id: usize,
         other: &NameTree<'_>,
-        set: &NameSet<'_>,
-        members: &BTreeMap<String, Datum>,
+        there: Option<usize>,
+        set: &AddressSet,
+        datum: &Datum,
     ) -> Result<bool, AllocError>
+        requires within { id < vec_len self.now.nodes }
         requires tree { IsTree self.now.nodes.items }
+        requires other_within { IsWithin there other.now.nodes.items }
         requires other_tree { IsTree other.now.nodes.items }
-        ensures { IfOk result (λ b. IsTrue b ↔ HoldNames self.now.nodes.items other.now.nodes.items set.now members.now) }
+        ensures { IfOk result (λ b. IsTrue b ↔ HoldNames self.now.nodes.items id other.now.nodes.items there set.now datum.now) }
     {
-        let Some(names) = self.nodes[0].names() else {
+        let Some(names) = self.nodes[id].names() else {
             return Ok(true);
         };
         let mut guess = 0;
         for place in 0..names.len() {
-            if let Some((name, id)) = names.nth(place) {
-                if !self.holds_name(id, name, &mut guess, other, set, members)? {
+            if let Some((name, below)) = names.nth(place) {
+                if !self.holds_name(below, name, &mut guess, other, there, set, datum)? {
                     return Ok(false);
                 }
             }
@@ -67,105 +96,112 @@ impl<'t> NameTree<'t> {
         Ok(true)
     }
 
-    /// Whether at the node of a name of the root stands what is wanted there. In the other tree the name is looked for first
-    /// at the guessed place, or the next one there that no name of the set has; the next guess is the place behind it.
+    /// Whether at the node of a name stands what is wanted there.
+    #[cycle(beside)]
     fn holds_name(
         &self,
         id: usize,
         name: &str,
         guess: &mut usize,
         other: &NameTree<'_>,
-        set: &NameSet<'_>,
-        members: &BTreeMap<String, Datum>,
+        there: Option<usize>,
+        set: &AddressSet,
+        datum: &Datum,
     ) -> Result<bool, AllocError>
         requires within { id < vec_len self.now.nodes }
         requires tree { IsTree self.now.nodes.items }
+        requires other_within { IsWithin there other.now.nodes.items }
         requires other_tree { IsTree other.now.nodes.items }
-        ensures { IfOk result (λ b. IsTrue b ↔ IsWanted self.now.nodes.items other.now.nodes.items set.now members.now name.now (Some id)) }
+        ensures { IfOk result (λ b. IsTrue b ↔ HoldsName self.now.nodes.items id other.now.nodes.items there set.now datum.now name.now) }
     {
-        if !set.has(name) {
-            let place = other.place_beside(set, *guess);
-            *guess = place.saturating_add(1);
-            return self.same_at(id, other, 0, place, name);
-        }
-        match members.get(name) {
-            Some(member) => self.holds(id, member),
+        let Some(part) = set.below_name(name) else {
+            return self.same_beside(id, name, guess, other, there, set);
+        };
+        match datum.member(name) {
+            Some(member) => {
+                self.holds_beside(id, other, other.child_in(there, name), part, member)
+            }
             None => Ok(false),
         }
     }
 
-    /// Whether each member whose name the set has is a name of the root.
-    fn has_members(&self, set: &NameSet<'_>, members: &BTreeMap<String, Datum>) -> bool
+    /// Whether at each index stands what is wanted there: what the items and the elements of the other node make of it.
+    #[cycle(beside)]
+    fn hold_elements(
+        &self,
+        id: usize,
+        other: &NameTree<'_>,
+        there: Option<usize>,
+        set: &AddressSet,
+        items: &[Datum],
+    ) -> Result<bool, AllocError>
+        requires within { id < vec_len self.now.nodes }
         requires tree { IsTree self.now.nodes.items }
-        ensures { IsTrue result ↔ HasMembers self.now.nodes.items set.now members.now }
-    {
-        for (name, _) in members {
-            if !self.has_or_lacks(name.as_str(), set) {
-                return false;
-            }
-        }
-        true
-    }
-
-    /// Whether the root has the name, unless the set lacks it.
-    fn has_or_lacks(&self, name: &str, set: &NameSet<'_>) -> bool
-        requires tree { IsTree self.now.nodes.items }
-        ensures { IsTrue result ↔ (has_name set.now name.now ≡ true → IsSome (child_of self.now.nodes.items 0 name.now)) }
-    {
-        if !set.has(name) {
-            return true;
-        }
-        self.nodes[0].child(name).is_some()
-    }
-
-    /// Whether each name of the other root is one of this root, unless the set has it.
-    fn has_names_of(&self, other: &NameTree<'_>, set: &NameSet<'_>) -> bool
-        requires tree { IsTree self.now.nodes.items }
+        requires other_within { IsWithin there other.now.nodes.items }
         requires other_tree { IsTree other.now.nodes.items }
-        ensures { IsTrue result ↔ HasNamesOf self.now.nodes.items other.now.nodes.items set.now }
+        ensures { IfOk result (λ b. IsTrue b ↔ HoldElements self.now.nodes.items id other.now.nodes.items there set.now items.now) }
     {
-        let Some(names) = other.nodes[0].names() else {
-            return true;
-        };
-        let mut guess = 0;
-        for place in 0..names.len() {
-            if let Some((name, _)) = names.nth(place) {
-                if !self.has_or_hides(name, &mut guess, set) {
-                    return false;
-                }
+        let elements = self.nodes[id].elements();
+        if elements.len() != items.len() {
+            return Ok(false);
+        }
+        for index in 0..elements.len() {
+            let across = other.element_in(there, index);
+            if !self.holds_element(elements[index], index, other, across, set, &items[index])? {
+                return Ok(false);
             }
         }
-        true
+        Ok(other.shows_behind(there, elements.len(), set))
     }
 
-    /// Whether the root has the name, unless the set has it. It is looked for as in `holds_name`.
-    fn has_or_hides(&self, name: &str, guess: &mut usize, set: &NameSet<'_>) -> bool
+    /// Whether at the node of an element stands what is wanted there: below one that the set lacks the same as below the
+    /// other's.
+    #[cycle(beside)]
+    fn holds_element(
+        &self,
+        id: usize,
+        index: usize,
+        other: &NameTree<'_>,
+        there: Option<usize>,
+        set: &AddressSet,
+        item: &Datum,
+    ) -> Result<bool, AllocError>
+        requires within { id < vec_len self.now.nodes }
         requires tree { IsTree self.now.nodes.items }
-        ensures { IsTrue result ↔ (has_name set.now name.now ≡ false → IsSome (child_of self.now.nodes.items 0 name.now)) }
+        requires other_within { IsWithin there other.now.nodes.items }
+        requires other_tree { IsTree other.now.nodes.items }
+        ensures { IfOk result (λ b. IsTrue b
+            ↔ IsHeld self.now.nodes.items (Some id) other.now.nodes.items there (Index index) (below set.now (Index index)) (kind_at item.now)) }
     {
-        if set.has(name) {
-            return true;
+        match set.below_index(index as u64) {
+            Some(part) => self.holds_beside(id, other, there, part, item),
+            None => self.holds_alone(id, other, there, item),
         }
-        let place = self.place_beside(set, *guess);
-        *guess = place.saturating_add(1);
-        self.nodes[0].child_from(place, name).is_some()
     }
 
-    /// The first place from this one on where the root has a name that the set lacks. Names beside the set mostly stand in
-    /// one order in both trees, so a name is guessed to stand there; no answer depends on it.
-    fn place_beside(&self, set: &NameSet<'_>, from: usize) -> usize
+    /// Whether a node is of the datum's kind, and the same stands below it as below the other node.
+    fn holds_alone(
+        &self,
+        id: usize,
+        other: &NameTree<'_>,
+        there: Option<usize>,
+        datum: &Datum,
+    ) -> Result<bool, AllocError>
+        requires within { id < vec_len self.now.nodes }
         requires tree { IsTree self.now.nodes.items }
+        requires other_within { IsWithin there other.now.nodes.items }
+        requires other_tree { IsTree other.now.nodes.items }
+        ensures { IfOk result (λ b. IsTrue b ↔ HoldsAlone self.now.nodes.items id other.now.nodes.items there datum.now) }
     {
-        let Some(names) = self.nodes[0].names() else {
-            return from;
+        if !self.is_of_kind(id, datum)? {
+            return Ok(false);
+        }
+        let Some(there) = there else {
+            return Ok(self.nodes[id].is_leaf());
         };
-        for place in from..names.len() {
-            if let Some((name, _)) = names.nth(place) {
-                if !set.has(name) {
-                    return place;
-                }
-            }
+        if !self.same_names(id, other, there)? {
+            return Ok(false);
         }
-        from
+        self.same_elements(id, other, there)
     }
 }

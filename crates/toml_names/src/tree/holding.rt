@@ -94,7 +94,7 @@ impl<'t> NameTree<'t> {
 }
 
 /// Whether the scalar is the value that a token of the kind spells.
-fn is_value(
+pub fn is_value(
     alloc: Global,
     kind: ScalarKind,
     token: &str,

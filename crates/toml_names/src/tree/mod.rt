@@ -1,6 +1,7 @@
 //! The tree of names, which takes one line after another: its nodes, the names in a table, what a key, a header and
 //! a line enter, and what the finished tree tells.
 
+pub mod across;
 pub mod alike;
 pub mod beside;
 pub mod entering;
@@ -16,3 +17,4 @@ pub mod node;
 pub mod parts;
 pub mod places;
 pub mod results;
+pub mod shown;

@@ -167,7 +167,7 @@ fn is_mention(role: Role) -> bool
 }
 
 /// The datum of a scalar: the value that its token spells.
-fn scalar_datum(alloc: Global, kind: ScalarKind, token: &str) -> Result<Datum, AllocError>
+pub fn scalar_datum(alloc: Global, kind: ScalarKind, token: &str) -> Result<Datum, AllocError>
     ensures { IfOk result (IsOnly (token_kind kind token.now)) }
 {
     Ok(Datum::Scalar(value_spelled(alloc, kind, token)?))

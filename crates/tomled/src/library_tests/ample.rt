@@ -8,7 +8,7 @@ use crate::verify::run_verify;
 use std::alloc::Global;
 use toml_checker::{Verdict, check, check_in, first_marks, outermost};
 use toml_editor::{edit, edit_in, edit_pieces};
-use toml_edits::{apply, near_names};
+use toml_edits::{apply, near_addresses};
 use toml_names::{Address, key_address, read_lines};
 use toml_text::Source;
 use toml_tree::{Expr, Profile, parse_value};
@@ -49,7 +49,7 @@ fn lines_are_read(rt: HostRuntime) {
 /// Whether what the edits make of the data near them, beside the rest, are the data of the text.
 fn has_data_after(alloc: Global, text: &str) -> Option<bool> {
     let edits = edits(alloc, EDITS)?;
-    let near = near_names(alloc, &edits).ok()?;
+    let near = near_addresses(alloc, &edits).ok()?;
     let old = read_text(alloc, source(FILE)?, Profile::One).ok()??;
     let new = read_text(alloc, source(text)?, Profile::One).ok()??;
     let mut data = old.names.data_near(&near).ok()?;

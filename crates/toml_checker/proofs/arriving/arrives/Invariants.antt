@@ -6,4 +6,4 @@ use Rattle.toml_checker.specs.Plain.{here}
 use Rattle.toml_checker.proofs.arriving.arrives.Given as goal
 
 abbrev pub invariant-loop-edit : goal.invariant-loop-edit
-invariant-loop-edit l = carried (changes l.list) l.from ≡ carried (map change (drop l.edit-index l.list.edits.now)) (here l.moved_to l.from)
+invariant-loop-edit l = carried (changes l.list) l.from ≡ carried (map change (drop l.edit-index l.list.edits.now)) (here l.way)

@@ -1,4 +1,4 @@
-use Rattle.std.proofs.Common.{ℕ, List, None, Some, get_or, map, ap}
+use Rattle.std.proofs.Common.{ℕ, List, None, Some, get_or, map, ap, ◌∙◌}
 use Rattle.std.proofs.lemmas.List.{get_or_default}
 use Rattle.toml_edits.specs.Edits.{Change, change}
 use Rattle.toml_checker.specs.EditLists.{changes}
@@ -12,7 +12,7 @@ returns-in-None c = λ d e hb ha.
     let n = c.loop-pair.pair-index in
     let p : ℕ × ℕ = get_or ps n (0, 0) in
     let low = c.loop-pair-test.true in
-    let h = passes_as (changes c.in_ok-list.list) cs c.args.before c.args.after c.loop-pair.one c.loop-pair.other p c.in_ok-past.field-0 None (ap (map change) c.in_ok-list.ensures) c.in-None.is c.in_ok-past.ensures in
+    let h = passes_as (changes c.come_to.new.self) cs c.args.before c.args.after c.loop-pair.one c.loop-pair.other p c.in_ok-past.field-0 None (ap (map change) (c.come_to.ensures ∙ c.loop-pair.invariant.list)) c.in-None.is c.in_ok-past.ensures in
     give_up cs d e ps n c.loop-pair.one.units c.loop-pair.other.units p low (get_or_default ps n (0, 0) p low) (h d e hb ha) (c.loop-pair.invariant.rest d e hb ha)
 
 pub loop-pair-preserved : goal.loop-pair-preserved
@@ -24,8 +24,9 @@ loop-pair-preserved c =
     let low = c.loop-pair-test.true in
     let past = c.in-Some.past in
     let also = c.in-Some.other_past in
-    let h = passes_as (changes c.in_ok-list.list) cs c.args.before c.args.after c.loop-pair.one c.loop-pair.other p c.in_ok-past.field-0 (Some (past, also)) (ap (map change) c.in_ok-list.ensures) c.in-Some.is c.in_ok-past.ensures in
+    let h = passes_as (changes c.come_to.new.self) cs c.args.before c.args.after c.loop-pair.one c.loop-pair.other p c.in_ok-past.field-0 (Some (past, also)) (ap (map change) (c.come_to.ensures ∙ c.loop-pair.invariant.list)) c.in-Some.is c.in_ok-past.ensures in
     record {
+      list = c.come_to.ensures ∙ c.loop-pair.invariant.list;
       one = h.first_passed;
       other = h.second_passed;
       rest = (λ d e hb ha. go_on cs d e ps n c.loop-pair.one.units c.loop-pair.other.units past.units also.units p low (get_or_default ps n (0, 0) p low) (h.fits d e hb ha) h.first_past h.second_past (c.loop-pair.invariant.rest d e hb ha));

@@ -5,4 +5,4 @@ use Rattle.toml_checker.specs.Plain.{here, stands}
 use Rattle.toml_checker.proofs.protection.stands_at.Given as goal
 
 abbrev pub invariant-loop-edit : goal.invariant-loop-edit
-invariant-loop-edit l = stands l.part (map change (drop l.edit-index l.list.edits.now)) (Some (here l.moved_to l.first)) l.base ≡ stands l.part (changes l.list) (Some l.first) l.base
+invariant-loop-edit l = stands l.part (map change (drop l.edit-index l.list.edits.now)) (Some (here l.way)) l.base ≡ stands l.part (changes l.list) (Some l.first) l.base

@@ -1,9 +1,7 @@
-use Rattle.std.proofs.Common.{◌∙◌, ap, map, string_bytes, subst, sym}
+use Rattle.std.proofs.Common.{◌∙◌, ap, map, string_bytes, subst}
 use Rattle.toml_tree.specs.Document.{document}
 use Rattle.toml_edits.specs.Edits.{change}
-use Rattle.toml_units.specs.Units.{units}
 use Rattle.toml_units.specs.View.{all_units}
-use Rattle.toml_checker.specs.Outer.{TellOuter}
 use Rattle.toml_editor.specs.Editing.{IsMadeText, IsReadAs}
 use Rattle.toml_editor.proofs.editing.make_document.Goals as goal
 

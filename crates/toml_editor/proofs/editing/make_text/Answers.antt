@@ -2,6 +2,7 @@ use Rattle.std.proofs.Common.{List, map, subst, sym}
 use Rattle.toml_text.specs.Source.{text_of}
 use Rattle.toml_tree.specs.Document.{document}
 use Rattle.toml_tree.specs.Tree.{Line}
+use Rattle.toml_names.specs.model.AddressSets.{is_hidden}
 use Rattle.toml_names.specs.model.Data.{IsDataOf, fact_at, kind_at}
 use Rattle.toml_names.specs.model.Places.{place}
 use Rattle.toml_names.specs.mentions.Mentions.{named}
@@ -25,7 +26,7 @@ returns-in-Err-clause-told c =
     let part = kind_at c.in_ok-data.«data».root in
     let told = subst (λ (ls : List Line). TellsAny c.args.profile (place (named ls)) cs part c.in-Err.fault) c.requires.read.taken c.in-Err.ensures.told in
     any_tells c.args.profile text cs d old c.in-Err.fault c.requires.read.document c.requires.read.spelled facts
-    (any_of_all c.args.profile (place (named d.lines)) c.in_ok-touched.touched old cs c.in_ok-touched.ensures.near part near c.in-Err.fault told)
+    (any_of_all c.args.profile (place (named d.lines)) (is_hidden c.in_ok-touched.touched) old cs c.in_ok-touched.ensures.near part near c.in-Err.fault told)
 
 pub returns-clause-made : goal.returns-clause-made
 returns-clause-made c =
@@ -43,7 +44,7 @@ returns-clause-made c =
         taken = subst (StandFor c.into_names.result) c.requires.read.taken c.into_names.ensures;
         old = old;
         facts = facts;
-        leads = leads_beside c.args.profile c.in_ok-touched.touched cs old (kind_at c.in_ok-data.«data».root) new c.in_ok-touched.ensures.near near c.in_default.ensures.made;
+        leads = leads_beside c.args.profile (is_hidden c.in_ok-touched.touched) cs old (kind_at c.in_ok-data.«data».root) new c.in_ok-touched.ensures.near near c.in_default.ensures.made;
       };
       pieces = c.in_ok-edited.ensures;
     }

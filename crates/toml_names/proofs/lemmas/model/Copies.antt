@@ -38,7 +38,7 @@ or_part (Some d) p = Some d
 abbrev pub Completes : Members → List Entry → Members → Type 0
 Completes copies left all = (name : List ℕ) → AreSameIn (or_part (get_by_text copies name) (found name left)) (get_by_text all name)
 
-apart : (k q : List ℕ) → bytes_eq k q ≡ false → bytes_eq q k ≡ false
+pub apart : (k q : List ℕ) → bytes_eq k q ≡ false → bytes_eq q k ≡ false
 apart k q h = search rules
 
 module _ (copies more all : Members) (left rest : List Entry) (e : Entry) (d : Datum) (k : List ℕ) (is : left ≡ e ∷ rest) (key : k ≡ string_bytes e.0) (alike : AreSame d e.1) (there : get_by_text all (string_bytes e.0) ≡ Some e.1) where

@@ -119,7 +119,7 @@ module _ (nodes : List Spot) (tree : IsTree nodes) where
 pub in_none : (nodes : List Spot) (o : Option ℕ) → below_in nodes o [] ≡ None → (IsSome o → IsSome (below_in nodes o [])) → o ≡ None
 in_none nodes o none there = search rules
 
-first_name : (es : List (List ℕ × ℕ)) → ((n : List ℕ) → lookup (bytes_eq n) es ≡ None) → es ≡ []
+pub first_name : (es : List (List ℕ × ℕ)) → ((n : List ℕ) → lookup (bytes_eq n) es ≡ None) → es ≡ []
 first_name [] none = refl
 first_name (e ∷ es) none = let same : bytes_eq e.0 e.0 ≡ true = (bytes_eq-Decides e.0 e.0).1 refl in absurd (none-some e.1 (sym (none e.0) ∙ rw same refl))
 

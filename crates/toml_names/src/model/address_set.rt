@@ -1,0 +1,151 @@
+//! Sets of addresses, to be walked down step by step.
+ghost use Rattle.std.specs.BTreeMap.{get_by_text};
+ghost use Rattle.std.specs.Prelude.{◌≡◌, ◌++◌, ℕ, List, OnOk, option_copied};
+ghost use Rattle.toml_names.specs.declared.model.address.Step.TheVariants.{Name, Index};
+ghost use Rattle.toml_names.specs.model.Addresses.{Address as Steps, child};
+ghost use Rattle.toml_names.specs.model.AddressSets.{AddsElement, AddsName, HidesLess, below, is_hidden, is_whole, last_step};
+ghost use Rattle.toml_names.specs.model.Hidden.{is_off_all};
+
+use crate::model::address::Step;
+use std::alloc::{AllocError, Global};
+use std::collections::BTreeMap;
+
+/// Some addresses. All beside the ways to them is hidden by the set: names that are on no way, with all below them, and
+/// what is below elements that are on none.
+#[derive(Drop)]
+pub struct AddressSet {
+    alloc: Global,
+    // whether the address of the way so far is one of the set: then nothing at it and below it is hidden
+    whole: bool,
+    names: BTreeMap<String, AddressSet>,
+    elements: BTreeMap<u64, AddressSet>,
+}
+
+impl AddressSet {
+    /// No addresses.
+    pub fn new(alloc: Global) -> AddressSet
+        ensures { (at : Steps) → is_hidden result at ≡ is_off_all at }
+    {
+        AddressSet {
+            alloc,
+            whole: false,
+            names: BTreeMap::new(alloc),
+            elements: BTreeMap::new(alloc),
+        }
+    }
+
+    /// Puts an address in. Where that lacks memory, nothing is said of the set any more.
+    pub fn add(&mut self, at: &[Step]) -> Result<(), AllocError>
+        ensures { OnOk result (HidesLess self.old self.new at.now) }
+    {
+        enter(self, at, None)
+    }
+
+    /// Puts in the address of a name in the table at an address. Where that lacks memory, nothing is said of the set any
+    /// more.
+    pub fn add_below(&mut self, parent: &[Step], name: &str) -> Result<(), AllocError>
+        ensures { OnOk result (HidesLess self.old self.new (child parent.now name.now)) }
+    {
+        enter(self, parent, Some(name))
+    }
+
+    /// Whether it has the address of the way so far, and so all that is below it.
+    pub(crate) fn is_whole(&self) -> bool
+        ensures { result ≡ is_whole self.now }
+    {
+        self.whole
+    }
+
+    /// What it has below a name, if anything.
+    pub(crate) fn below_name(&self, name: &str) -> Option<&AddressSet>
+        ensures { option_copied result ≡ below self.now (Name name.now) }
+    {
+        self.names.get(name)
+    }
+
+    /// What it has below an index, if anything.
+    pub(crate) fn below_index(&self, index: u64) -> Option<&AddressSet>
+        ensures { option_copied result ≡ below self.now (Index index) }
+    {
+        self.elements.get(&index)
+    }
+
+    /// The names that it has, and what it has below each.
+    pub(crate) fn names(&self) -> &BTreeMap<String, AddressSet>
+        ensures { (n : List ℕ) → get_by_text result.now n ≡ below self.now (Name n) }
+    {
+        &self.names
+    }
+}
+
+/// Puts in the address to which the steps lead, and the name behind them if there is one. Where the set is whole, it has it.
+#[cycle(enter)]
+fn enter(set: &mut AddressSet, way: &[Step], last: Option<&str>) -> Result<(), AllocError>
+    ensures { OnOk result (HidesLess set.old set.new (way.now ++ last_step last.entry)) }
+{
+    if set.whole {
+        return Ok(());
+    }
+    let Some((step, rest)) = way.split_first() else {
+        return enter_last(set, last);
+    };
+    match step {
+        Step::Name(name) => enter_name(set.alloc, &mut set.names, name.as_str(), rest, last),
+        Step::Index(index) => enter_element(set.alloc, &mut set.elements, *index, rest, last),
+    }
+}
+
+/// The same where no steps are left.
+#[cycle(enter)]
+fn enter_last(set: &mut AddressSet, last: Option<&str>) -> Result<(), AllocError>
+    ensures { OnOk result (HidesLess set.old set.new (last_step last.entry)) }
+{
+    match last {
+        Some(name) => enter_name(set.alloc, &mut set.names, name, &[], None),
+        None => {
+            set.whole = true;
+            Ok(())
+        }
+    }
+}
+
+/// The same behind a name, which may be new.
+#[cycle(enter)]
+fn enter_name(
+    alloc: Global,
+    names: &mut BTreeMap<String, AddressSet>,
+    name: &str,
+    rest: &[Step],
+    last: Option<&str>,
+) -> Result<(), AllocError>
+    ensures { OnOk result (AddsName names.old names.new name.now (rest.now ++ last_step last.entry)) }
+{
+    if let Some(below) = names.get_mut(name) {
+        return enter(below, rest, last);
+    }
+    let mut below = AddressSet::new(alloc);
+    enter(&mut below, rest, last)?;
+    let key = String::from_str(alloc, name)?;
+    names.insert(key, below)?;
+    Ok(())
+}
+
+/// The same behind an index, which may be new.
+#[cycle(enter)]
+fn enter_element(
+    alloc: Global,
+    elements: &mut BTreeMap<u64, AddressSet>,
+    index: u64,
+    rest: &[Step],
+    last: Option<&str>,
+) -> Result<(), AllocError>
+    ensures { OnOk result (AddsElement elements.old elements.new index (rest.now ++ last_step last.entry)) }
+{
+    if let Some(below) = elements.get_mut(&index) {
+        return enter(below, rest, last);
+    }
+    let mut below = AddressSet::new(alloc);
+    enter(&mut below, rest, last)?;
+    elements.insert(index, below)?;
+    Ok(())
+}
