@@ -1,6 +1,7 @@
 //! What stands in arrays and inline tables: entries put in and taken out, with their commas.
 use crate::tree::{Assign, Entries, Entry, Gap, Leaf, Value};
 use std::alloc::{AllocError, Global};
+use std::collections::VecDeque;
 use std::mem;
 
 impl<'t> Entries<'t> {
@@ -8,7 +9,7 @@ impl<'t> Entries<'t> {
     pub(crate) fn none(alloc: Global) -> Entries<'t> {
         Entries {
             opening: Leaf::New("{"),
-            list: Vec::new(alloc),
+            list: VecDeque::new(alloc),
             end: Some(Gap::empty(alloc)),
         }
     }
@@ -27,7 +28,7 @@ impl<'t> Entries<'t> {
         let space = Gap::space(alloc, Leaf::New(" "))?;
         let (before, after) = if let Some(other) = self.list.get_mut(index) {
             (mem::replace(&mut other.before, space), Gap::empty(alloc))
-        } else if let Some(last) = self.list.last_mut() {
+        } else if let Some(last) = self.list.back_mut() {
             (space, mem::replace(&mut last.after, Gap::empty(alloc)))
         } else {
             (
@@ -45,7 +46,7 @@ impl<'t> Entries<'t> {
         if index < self.list.len() {
             self.list.insert(index, entry)?;
         } else {
-            self.list.push(entry)?;
+            self.list.push_back(entry)?;
         }
         Ok(())
     }
@@ -54,13 +55,13 @@ impl<'t> Entries<'t> {
     /// where none follows the one before it. If nothing but whitespace stands between that comma and the next thing on its
     /// far side, that whitespace goes too. All comments and newlines stay.
     pub(crate) fn take_out(&mut self, alloc: Global, marks: &[bool]) -> Result<(), AllocError> {
-        let list = mem::replace(&mut self.list, Vec::new(alloc));
+        let list = mem::replace(&mut self.list, VecDeque::new(alloc));
         let count = list.len();
         let mut left = None;
-        for (index, entry) in list.into_iter().enumerate() {
+        for (index, entry) in list.into_vec().into_iter().enumerate() {
             let entry = behind(entry, left.take())?;
             if !marks.get(index).copied().unwrap_or(false) {
-                self.list.push(entry)?;
+                self.list.push_back(entry)?;
             } else if self.end.is_some() || index + 1 < count {
                 let (before, after) = gaps(entry);
                 left = Some(joined(before, after)?);
@@ -78,9 +79,30 @@ impl<'t> Entries<'t> {
         Ok(())
     }
 
+    /// Takes out the entry with the index in the same way. The others are not gone through.
+    pub(crate) fn take_one(&mut self, alloc: Global, index: usize) -> Result<(), AllocError> {
+        let Some(entry) = self.list.remove(index) else {
+            return Ok(());
+        };
+        let (before, after) = gaps(entry);
+        if let Some(next) = self.list.get_mut(index) {
+            let left = joined(before, after)?;
+            next.before = followed(left, mem::replace(&mut next.before, Gap::empty(alloc)))?;
+            return Ok(());
+        }
+        match self.end.take() {
+            Some(end) => {
+                let left = joined(before, after)?;
+                self.end = Some(followed(left, end)?);
+                Ok(())
+            }
+            None => self.close(before, after),
+        }
+    }
+
     /// The gaps that the last entry leaves, where no comma follows it and it is taken out.
     fn close(&mut self, before: Gap<'t>, after: Gap<'t>) -> Result<(), AllocError> {
-        if let Some(last) = self.list.last_mut() {
+        if let Some(last) = self.list.back_mut() {
             if !before.is_ws() {
                 last.after.join(before)?;
             }

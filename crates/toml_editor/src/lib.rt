@@ -3,6 +3,7 @@
 #![tactic(auto)]
 
 mod editing;
+mod elements;
 mod entries;
 mod fault;
 mod inserting;

@@ -51,23 +51,28 @@ pub(crate) fn below(at: &Address, used: usize) -> &[Step] {
     behind(at.steps(), used)
 }
 
-/// The address with another step at a place.
-pub(crate) fn changed(
-    alloc: Global,
-    at: &Address,
-    place: usize,
-    step: Step,
-) -> Result<Address, AllocError> {
-    let mut steps = at.copy(alloc)?.into_steps();
+/// The address with another step at a place. It takes no memory.
+pub(crate) fn changed(at: Address, place: usize, step: Step) -> Address {
+    let mut steps = at.into_steps();
     if let Some(old) = steps.get_mut(place) {
         *old = step;
     }
-    Ok(Address::of(steps))
+    Address::of(steps)
 }
 
-/// Whether the first address is a beginning of the second.
+/// Whether the first address is a beginning of the second. Its last steps are compared first: elements of one array differ
+/// there.
 pub(crate) fn is_at_or_above(at: &Address, other: &Address) -> bool {
-    at.is_same(other) || at.is_above(other)
+    let (above, steps) = (at.steps(), other.steps());
+    if steps.len() < above.len() {
+        return false;
+    }
+    for place in (0..above.len()).rev() {
+        if !above[place].is_same(&steps[place]) {
+            return false;
+        }
+    }
+    true
 }
 
 impl<'t> Line<'t> {

@@ -13,7 +13,7 @@ use crate::spelled::{Spelled, open_value};
 use crate::tree::Brackets;
 use crate::working::Tree;
 use std::alloc::{AllocError, Global};
-use toml_edits::{Edit, EditFault, apply_in};
+use toml_edits::{Edit, EditFault, apply_in, place};
 use toml_names::{Address, Data, Datum, Name, NameReader, Step};
 use toml_tree::{Doc, Profile};
 
@@ -99,34 +99,30 @@ fn write_edit<'x>(
     edit: &'x Edit,
     spelled: &'x Spelled,
 ) -> Result<bool, AllocError> {
+    let at = tree.elements.own_address(alloc, place(edit))?;
     match edit {
         // The data have taken the value by now, so it is one of the profile, and `None` never comes.
-        Edit::Set { at, value } => match open_value(alloc, value.as_str(), read.profile)? {
-            Some(new) => tree.set(read.doc, read.names.place(at), at, new),
+        Edit::Set { value, .. } => match open_value(alloc, value.as_str(), read.profile)? {
+            Some(new) => tree.set(read.doc, read.names.place(&at), &at, new),
             None => Ok(true),
         },
-        Edit::Insert { at, value } => match open_value(alloc, value.as_str(), read.profile)? {
+        Edit::Insert { value, .. } => match open_value(alloc, value.as_str(), read.profile)? {
             Some(new) => {
-                let parent = parent_of(alloc, at)?;
+                let parent = parent_of(alloc, &at)?;
                 let named = read.names.place(&parent);
-                tree.insert(read.doc, named, parent, at, &spelled.steps, new)
+                tree.insert(read.doc, named, parent, &at, &spelled.steps, new)
             }
             None => Ok(true),
         },
-        Edit::Rename { at, to } => {
+        Edit::Rename { to, .. } => {
             let name = Name::of(String::from_str(alloc, to)?)?;
-            tree.rename(
-                read.doc,
-                read.names.place(at),
-                at,
-                &name,
-                spelled.to.as_str(),
-            )?;
+            let named = read.names.place(&at);
+            tree.rename(read.doc, named, &at, &name, spelled.to.as_str())?;
             Ok(true)
         }
-        Edit::Remove { at } => tree.remove(read.doc, read.names.place(at), at),
-        Edit::Section { at } => write_header(alloc, tree, read, at, Brackets::One, spelled),
-        Edit::Element { at } => write_header(alloc, tree, read, at, Brackets::Two, spelled),
+        Edit::Remove { .. } => tree.remove(read.doc, read.names.place(&at), &at),
+        Edit::Section { .. } => write_header(alloc, tree, read, &at, Brackets::One, spelled),
+        Edit::Element { .. } => write_header(alloc, tree, read, &at, Brackets::Two, spelled),
     }
 }
 

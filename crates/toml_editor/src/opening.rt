@@ -4,6 +4,7 @@ use crate::tree::{
     KeyVal, Leaf, OpenLine, Value,
 };
 use std::alloc::{AllocError, Global};
+use std::collections::VecDeque;
 use toml_text::Span;
 use toml_tree::{Line, Piece};
 
@@ -151,7 +152,7 @@ impl Opener {
         };
         Ok(Entries {
             opening: self.opening(array.whole, "["),
-            list,
+            list: VecDeque::from_vec(list),
             end,
         })
     }
@@ -181,7 +182,7 @@ impl Opener {
         };
         Ok(Entries {
             opening: self.opening(table.whole, "{"),
-            list,
+            list: VecDeque::from_vec(list),
             end,
         })
     }

@@ -2,10 +2,10 @@
 ghost use Rattle.std.specs.Prelude.{IfOk};
 ghost use Rattle.toml_editor.specs.Making.{IsParent};
 
-use crate::lines::{Line, Slot, below, changed, names_in};
+use crate::lines::{Line, Slot, below, names_in};
 use crate::texts::Texts;
 use crate::tree::{Blank, Brackets, Expr, Header, Leaf, OpenLine};
-use crate::working::{Position, Tree};
+use crate::working::{Position, TablePlace, Tree};
 use std::alloc::{AllocError, Global};
 use std::mem;
 use toml_names::{Address, Place, Step};
@@ -34,14 +34,24 @@ impl<'x> Tree<'x> {
             }
             Some(place) => self.remove_line(doc, place.slot, at)?,
             None => {
-                if !self.leaves_elements(at)? {
+                let first = self.first_slot(named, at);
+                if !self.leaves_elements(first, at)? {
                     return Ok(false);
                 }
-                self.remove_lines(doc, at)?;
-                self.move_elements(at)?;
+                self.remove_lines(doc, first, at)?;
+                self.elements.take_out(self.texts.alloc, at)?;
             }
         }
         Ok(true)
+    }
+
+    /// The slot before which no line stands at the address or below. The lines of an element of an array of tables begin with
+    /// its header.
+    fn first_slot(&self, named: Option<Place>, at: &Address) -> usize {
+        match self.near_table(named, at) {
+            Some(TablePlace::Header(header)) if is_element(at) => header.slot,
+            _ => 0,
+        }
     }
 
     /// Takes out the line of the slot whose value stands at the address: no other line is at it or below.
@@ -74,12 +84,12 @@ impl<'x> Tree<'x> {
     }
 
     /// Whether the address is not that of an element, or another element of its array stays.
-    fn leaves_elements(&self, at: &Address) -> Result<bool, AllocError> {
-        if !matches!(at.steps().last(), Some(Step::Index(_))) {
+    fn leaves_elements(&self, first: usize, at: &Address) -> Result<bool, AllocError> {
+        if !is_element(at) {
             return Ok(true);
         }
         let array = parent_of(self.alloc(), at)?;
-        Ok(self.is_mentioned_around(0, &array, at))
+        Ok(self.is_mentioned_around(first, &array, at))
     }
 
     /// Takes something out of the value of a line.
@@ -97,53 +107,43 @@ impl<'x> Tree<'x> {
         }
     }
 
-    /// Takes out all lines at the address and below. Where no other line mentions the parent, the first of them that does
-    /// becomes the parent as an empty table.
-    fn remove_lines(&mut self, doc: &Doc<'x>, at: &Address) -> Result<(), AllocError> {
+    /// Takes out all lines at the address and below, of which the slot has the first or comes before it. Where no other line
+    /// mentions the parent, the first of them that does becomes the parent as an empty table.
+    fn remove_lines(
+        &mut self,
+        doc: &Doc<'x>,
+        first: usize,
+        at: &Address,
+    ) -> Result<(), AllocError> {
         let texts = self.texts;
-        let mut parent = self.parent_left(at, 0)?;
-        for slot in &mut self.slots {
+        let mut parent = self.parent_left(at, first)?;
+        let mut is_met = false;
+        for slot in self.slots.iter_mut().skip(first) {
             if slot.lines.iter().any(|line| line.is_below(at)) {
                 slot.remove(texts, doc, at, &mut parent)?;
+                is_met = true;
             }
-        }
-        Ok(())
-    }
-
-    /// Moves the elements behind a removed one of an array of tables.
-    fn move_elements(&mut self, at: &Address) -> Result<(), AllocError> {
-        let alloc = self.alloc();
-        if let Some((Step::Index(index), above)) = at.steps().split_last() {
-            for slot in &mut self.slots {
-                for line in &mut slot.lines {
-                    line.move_behind(alloc, at, above.len(), *index)?;
-                }
+            // behind the header of a later element no line is one of this
+            if is_met && slot.lines.iter().any(|line| line.begins_beside(at)) {
+                return Ok(());
             }
         }
         Ok(())
     }
 }
 
-impl<'t> Line<'t> {
-    /// Moves a line of a later element of an array by one element.
-    fn move_behind(
-        &mut self,
-        alloc: Global,
-        at: &Address,
-        depth: usize,
-        index: u64,
-    ) -> Result<(), AllocError> {
+impl Line<'_> {
+    /// Whether it is the header of another element of the array of tables whose element stands at the address.
+    fn begins_beside(&self, at: &Address) -> bool {
         let Some(own) = self.at() else {
-            return Ok(());
+            return false;
         };
-        let Some(Step::Index(place)) = own.steps().get(depth) else {
-            return Ok(());
-        };
-        if *place > index && begin_alike(own, at, depth) {
-            let address = changed(alloc, own, depth, Step::Index(*place - 1))?;
-            self.go_to(address);
-        }
-        Ok(())
+        let count = at.steps().len();
+        is_element(at)
+            && is_element(own)
+            && self.is_header()
+            && own.steps().len() == count
+            && begin_alike(own, at, count - 1)
     }
 }
 
@@ -250,6 +250,11 @@ pub(crate) fn parent_of(alloc: Global, at: &Address) -> Result<Address, AllocErr
     let mut steps = at.copy(alloc)?.into_steps();
     let _ = steps.pop();
     Ok(Address::of(steps))
+}
+
+/// Whether the address is that of an element.
+fn is_element(at: &Address) -> bool {
+    matches!(at.steps().last(), Some(Step::Index(_)))
 }
 
 /// Whether the first `depth` steps of both are the same.

@@ -74,7 +74,7 @@ impl<'x> Tree<'x> {
                 }
             }
         }
-        Ok(())
+        self.elements.rename(alloc, at, name)
     }
 }
 
@@ -92,9 +92,9 @@ impl<'t> Line<'t> {
             self.set_part(alloc, doc, part, Leaf::New(spelled))?;
         }
         let place = at.steps().len().saturating_sub(1);
-        if let Some(own) = self.at() {
-            let address = changed(alloc, own, place, Step::Name(name.copy()?))?;
-            self.go_to(address);
+        let step = Step::Name(name.copy()?);
+        if let Some(own) = self.address.take() {
+            self.go_to(changed(own, place, step));
         }
         Ok(())
     }

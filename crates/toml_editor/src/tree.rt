@@ -2,6 +2,7 @@
 //! document, but its pieces are kept or new, and lines, comments, elements and pairs know which unit of the document they
 //! are.
 use std::alloc::{AllocError, Global};
+use std::collections::VecDeque;
 use toml_text::Span;
 
 /// A piece of the working text.
@@ -74,7 +75,8 @@ pub(crate) struct Entries<'t> {
     /// The bracket or the brace with which it begins. What stands before an element may be new or taken out, so this tells
     /// where the element is kept from.
     pub(crate) opening: Leaf<'t>,
-    pub(crate) list: Vec<Entry<'t>>,
+    /// A queue, since elements put in or taken out at the front then move no others.
+    pub(crate) list: VecDeque<Entry<'t>>,
     /// What stands behind the last comma, where one follows the last entry; without an entry all that stands there.
     pub(crate) end: Option<Gap<'t>>,
 }

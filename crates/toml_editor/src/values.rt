@@ -2,6 +2,7 @@
 use crate::texts::Texts;
 use crate::tree::{Assign, Entries, Entry, Key, Leaf, Value};
 use std::alloc::AllocError;
+use std::collections::VecDeque;
 use toml_names::Step;
 
 impl<'t> Texts<'t> {
@@ -24,7 +25,7 @@ impl<'t> Texts<'t> {
     /// The pair whose value lies strictly above what the steps name, and how many parts its key has.
     fn pair_above(
         self,
-        pairs: &[Entry<'t>],
+        pairs: &VecDeque<Entry<'t>>,
         steps: &[Step],
     ) -> Result<Option<(usize, usize)>, AllocError> {
         for (index, pair) in pairs.iter().enumerate() {
@@ -70,7 +71,11 @@ impl<'t> Texts<'t> {
     }
 
     /// The index of the pair whose key has exactly these names.
-    fn pair_at(self, pairs: &[Entry<'t>], steps: &[Step]) -> Result<Option<usize>, AllocError> {
+    fn pair_at(
+        self,
+        pairs: &VecDeque<Entry<'t>>,
+        steps: &[Step],
+    ) -> Result<Option<usize>, AllocError> {
         for (index, pair) in pairs.iter().enumerate() {
             if let Some(assign) = &pair.assign {
                 let parts = assign.key.parts();
@@ -190,19 +195,11 @@ impl<'t> Texts<'t> {
         };
         match (holder, rest) {
             (Value::Array(entries), [Step::Index(index)]) => {
-                self.remove_element(entries, *index as usize)
+                entries.take_one(self.alloc, *index as usize)
             }
             (Value::Inline(entries), _) => self.remove_pairs(entries, rest),
             _ => Ok(()),
         }
-    }
-
-    fn remove_element(self, entries: &mut Entries<'t>, index: usize) -> Result<(), AllocError> {
-        let mut marks = Vec::with_capacity(self.alloc, entries.list.len())?;
-        for place in 0..entries.list.len() {
-            marks.push(place == index)?;
-        }
-        entries.take_out(self.alloc, &marks)
     }
 
     /// Takes out all pairs at or below the steps. Where no other pair mentions the parent, which is a table of dotted keys,

@@ -1,4 +1,5 @@
 //! Where things stand in the working tree.
+use crate::elements::Elements;
 use crate::lines::{Body, Kept, Line, Slot};
 use crate::texts::Texts;
 use crate::tree::{Leaf, Value};
@@ -44,6 +45,8 @@ pub(crate) enum TablePlace {
 pub(crate) struct Tree<'x> {
     pub(crate) texts: Texts<'x>,
     pub(crate) slots: Vec<Slot<'x>>,
+    /// Which elements of arrays of tables are gone. All addresses below are by the indices of the document.
+    pub(crate) elements: Elements,
     /// The newline of new lines: that of the document's first line, or LF where that has none.
     pub(crate) style: Leaf<'x>,
     /// Where the last line with a key and a value before the first header was put in, if one was: a guess that is tested.
@@ -72,6 +75,7 @@ impl<'x> Tree<'x> {
         Ok(Tree {
             texts,
             slots,
+            elements: Elements::all(texts.alloc),
             style: style_of(doc),
             root_end: Position { slot: 0, index: 0 },
         })
@@ -170,7 +174,7 @@ impl<'x> Tree<'x> {
     }
 
     /// The same where the document's names have it.
-    fn near_table(&self, named: Option<Place>, at: &Address) -> Option<TablePlace> {
+    pub(crate) fn near_table(&self, named: Option<Place>, at: &Address) -> Option<TablePlace> {
         match named {
             Some(Place::Header(line)) => self.header_in(line, at),
             Some(Place::Dotted(line)) => self.dotted_in(line, at),

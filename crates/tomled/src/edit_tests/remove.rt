@@ -339,3 +339,56 @@ kept 1¶1 2¶
 fn parents_that_would_vanish(rt: HostRuntime) -> Result<(), Fail> {
     assert_edited(&rt, rt.alloc(), VANISHING, 16)
 }
+
+/// Elements of arrays of tables taken out, and edits of those behind them.
+const ELEMENTS: &str = r#"
+[[a]]¶x = 1¶[[a]]¶x = 2¶[[a]]¶x = 3¶
+[{"op":"remove","at":["a",0]},{"op":"set","at":["a",0,"x"],"value":"9"}]
+[[a]]¶x = 9¶[[a]]¶x = 3¶
+kept 1¶2 0¶4 2¶5 3¶6 4¶
+
+[[a]]¶x = 1¶[[a]]¶x = 2¶[[a]]¶x = 3¶
+[{"op":"remove","at":["a",1]},{"op":"remove","at":["a",1]}]
+[[a]]¶x = 1¶
+kept 1¶0 0¶1 1¶6 2¶
+
+// A new element behind those that are left.
+[[a]]¶x = 1¶[[a]]¶x = 2¶
+[{"op":"remove","at":["a",0]},{"op":"element","at":["a",1]},{"op":"insert","at":["a",1,"y"],"value":"3"}]
+[[a]]¶x = 2¶[[a]]¶y = 3¶
+kept 1¶2 0¶3 1¶4 4¶
+
+// The array under another name.
+[[a]]¶x = 1¶[[a]]¶x = 2¶[[a]]¶x = 3¶
+[{"op":"remove","at":["a",0]},{"op":"rename","at":["a"],"to":"b"},{"op":"remove","at":["b",0]},{"op":"set","at":["b",0,"x"],"value":"9"}]
+[[b]]¶x = 9¶
+kept 1¶6 2¶
+
+// An array in an element, and then an element before that one.
+[[a]]¶[[a.b]]¶y = 1¶[[a.b]]¶y = 2¶[[a]]¶[[a.b]]¶y = 3¶[[a.b]]¶y = 4¶
+[{"op":"remove","at":["a",1,"b",0]},{"op":"remove","at":["a",0]},{"op":"set","at":["a",0,"b",0,"y"],"value":"9"}]
+[[a]]¶[[a.b]]¶y = 9¶
+kept 1¶5 0¶8 1¶10 3¶
+
+// The array whole, and a new one of its name.
+[[a]]¶x = 1¶[[a]]¶x = 2¶
+[{"op":"remove","at":["a",0]},{"op":"remove","at":["a"]},{"op":"element","at":["a",0]},{"op":"insert","at":["a",0,"z"],"value":"1"}]
+[[a]]¶z = 1¶
+kept 1¶4 2¶
+
+// Other tables between the elements.
+[[a]]¶[a.t]¶k = 1¶[z]¶k = 2¶[[a]]¶[a.t]¶k = 3¶
+[{"op":"remove","at":["a",0]},{"op":"set","at":["a",0,"t","k"],"value":"9"}]
+[z]¶k = 2¶[[a]]¶[a.t]¶k = 9¶
+kept 1¶3 0¶4 1¶5 2¶6 3¶8 5¶
+
+[[a]]¶x = 1¶[[a]]¶x = 2¶[z]¶
+[{"op":"remove","at":["a",0]},{"op":"section","at":["a",0,"s"]},{"op":"insert","at":["a",0,"s","k"],"value":"1"}]
+[[a]]¶x = 2¶[a.s]¶k = 1¶[z]¶
+kept 1¶2 0¶3 1¶4 4¶5 5¶
+"#;
+
+#[test]
+fn elements_taken_out(rt: HostRuntime) -> Result<(), Fail> {
+    assert_edited(&rt, rt.alloc(), ELEMENTS, 8)
+}

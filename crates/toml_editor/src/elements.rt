@@ -1,0 +1,136 @@
+//! Which elements of arrays of tables were taken out.
+//!
+//! The address of a line keeps the indices that it has in the document: else an element that is taken out would move all
+//! lines behind it.
+use crate::lines::{changed, is_at_or_above};
+use std::alloc::{AllocError, Global};
+use toml_names::{Address, Name, Step};
+
+/// The elements that were taken out of an array of tables.
+#[derive(Drop)]
+struct Gone {
+    /// Where the array stands, by the indices of the document.
+    array: Address,
+    /// Their indices in the document, which rise.
+    indices: Vec<u64>,
+}
+
+/// Those of all arrays of tables.
+#[derive(Drop)]
+pub(crate) struct Elements {
+    gone: Vec<Gone>,
+}
+
+impl Elements {
+    /// None was taken out.
+    pub(crate) fn all(alloc: Global) -> Elements {
+        Elements {
+            gone: Vec::new(alloc),
+        }
+    }
+
+    /// The address by the indices of the document, where its own ones count the elements that are left.
+    pub(crate) fn own_address(&self, alloc: Global, at: &Address) -> Result<Address, AllocError> {
+        let mut steps = Vec::with_capacity(alloc, at.steps().len())?;
+        for step in at.steps() {
+            let own = match step {
+                Step::Index(index) => Step::Index(self.own_index(&steps, *index)),
+                Step::Name(_) => step.copy()?,
+            };
+            steps.push(own)?;
+        }
+        Ok(Address::of(steps))
+    }
+
+    /// The index in the document of an element of the array that these steps lead to.
+    fn own_index(&self, array: &[Step], index: u64) -> u64 {
+        for gone in &self.gone {
+            if gone.is_of(array) {
+                return index.saturating_add(gone.count_before(index));
+            }
+        }
+        index
+    }
+
+    /// What stood at the address goes; the address has the indices of the document.
+    pub(crate) fn take_out(&mut self, alloc: Global, at: &Address) -> Result<(), AllocError> {
+        self.gone.retain(|gone| !is_at_or_above(at, &gone.array));
+        match at.steps().split_last() {
+            Some((Step::Index(index), array)) => self.take_element(alloc, at, array, *index),
+            _ => Ok(()),
+        }
+    }
+
+    /// The element with the index goes, of the array right above its address.
+    fn take_element(
+        &mut self,
+        alloc: Global,
+        at: &Address,
+        array: &[Step],
+        index: u64,
+    ) -> Result<(), AllocError> {
+        for gone in &mut self.gone {
+            if gone.is_of(array) {
+                return gone.put(index);
+            }
+        }
+        let mut indices = Vec::new(alloc);
+        indices.push(index)?;
+        let mut steps = at.copy(alloc)?.into_steps();
+        let _ = steps.pop();
+        self.gone.push(Gone {
+            array: Address::of(steps),
+            indices,
+        })?;
+        Ok(())
+    }
+
+    /// The last step of the address becomes another name, above and at the arrays below it.
+    pub(crate) fn rename(
+        &mut self,
+        alloc: Global,
+        at: &Address,
+        name: &Name,
+    ) -> Result<(), AllocError> {
+        let place = at.steps().len().saturating_sub(1);
+        for gone in &mut self.gone {
+            if is_at_or_above(at, &gone.array) {
+                let array = gone.array.copy(alloc)?;
+                gone.array = changed(array, place, Step::Name(name.copy()?));
+            }
+        }
+        Ok(())
+    }
+}
+
+impl Gone {
+    /// Whether the array is the one that the steps lead to.
+    fn is_of(&self, array: &[Step]) -> bool {
+        let own = self.array.steps();
+        own.len() == array.len()
+            && own
+                .iter()
+                .zip(array)
+                .all(|(step, other)| step.is_same(other))
+    }
+
+    /// How many elements are gone before the one that has the index among those that are left.
+    fn count_before(&self, index: u64) -> u64 {
+        let (mut low, mut high) = (0, self.indices.len());
+        while low < high {
+            let middle = low + (high - low) / 2;
+            match self.indices.get(middle) {
+                Some(gone) if gone.saturating_sub(middle as u64) <= index => low = middle + 1,
+                _ => high = middle,
+            }
+        }
+        low as u64
+    }
+
+    /// One element more is gone.
+    fn put(&mut self, index: u64) -> Result<(), AllocError> {
+        let place = self.indices.partition_point(|gone| *gone < index);
+        self.indices.insert(place, index)?;
+        Ok(())
+    }
+}
