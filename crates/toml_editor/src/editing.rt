@@ -16,7 +16,7 @@ use crate::making::{Read, make_all};
 use crate::pairing::names_all;
 use crate::spelled::{Spelled, spell_all};
 use crate::texts::Texts;
-use crate::working::Tree;
+use crate::working::{Before, Tree};
 use std::alloc::{AllocError, Global};
 use toml_checker::{Document, Made, Reason, Verdict, check_made, newlines_of, outermost};
 use toml_edits::{Edit, near_addresses};
@@ -240,16 +240,17 @@ fn make_text<'d, 'x>(
 {
     let touched = near_addresses(alloc, edits)?;
     let mut data = reader.names().data_near(&touched)?;
-    let mut tree = Tree::of(Texts { alloc, source }, doc, units)?;
+    let before = Before { doc, units };
+    let mut tree = Tree::of(Texts { alloc, source }, before)?;
     let read = Read {
-        doc,
+        before,
         names: &reader,
         profile,
     };
     if let Err(fault) = make_all(alloc, &mut tree, read, &mut data, edits, spelled) {
         return Err(fault);
     }
-    let edited = write_out(alloc, source, doc, &tree, wanted)?;
+    let edited = write_out(alloc, source, before, &tree, wanted)?;
     let made = Made {
         names: reader.into_names(),
         touched,
@@ -262,15 +263,15 @@ fn make_text<'d, 'x>(
 fn write_out<'x>(
     alloc: Global,
     source: Source<'x>,
-    doc: &Doc<'x>,
+    before: Before<'_, 'x>,
     tree: &Tree<'x>,
     wanted: &[bool],
 ) -> Result<Edited, AllocError>
     ensures { IfOk result (λ e. ArePieces (text_of source.entry) (string_bytes e.text) e.pieces.items) }
 {
-    let pieces = tree.pieces(source, doc.mark())?.into_list();
+    let pieces = tree.pieces(source, before.doc.mark())?.into_list();
     let text = join(alloc, source, &pieces)?;
-    let certificate = tree.certificate(wanted)?;
+    let certificate = tree.certificate(before.units, wanted)?;
     Ok(Edited {
         pieces,
         text,

@@ -2,17 +2,16 @@
 use crate::lines::{Line, below};
 use crate::sections::NewHeader;
 use crate::tree::{Brackets, Expr, KeyVal, Leaf, Value};
-use crate::working::{Position, TablePlace, Tree};
+use crate::working::{Before, Position, TablePlace, Tree};
 use std::alloc::AllocError;
 use toml_names::{Address, Place, Step};
-use toml_tree::Doc;
 
 impl<'x> Tree<'x> {
     /// Puts a value in at the address; `spelled` are the spellings of its steps, and `named` is the place that the document's
     /// names have for the parent. It answers `false` where the parent is no table, and no array in a value.
     pub(crate) fn insert(
         &mut self,
-        doc: &Doc<'x>,
+        before: Before<'_, 'x>,
         named: Option<Place>,
         parent: Address,
         at: &Address,
@@ -22,27 +21,27 @@ impl<'x> Tree<'x> {
         let Some((last, above)) = at.steps().split_last() else {
             return Ok(false);
         };
-        if let Some(place) = self.value_line(named, &parent) {
-            return self.insert_inside(doc, place, at, spelled, new);
+        if let Some(place) = self.value_line(before, named, &parent) {
+            return self.insert_inside(before, place, at, spelled, new);
         }
         if matches!(last, Step::Index(_)) {
             return Ok(false);
         }
         if above.is_empty() {
-            return self.insert_at_root(doc, at, spelled, new);
+            return self.insert_at_root(before, at, spelled, new);
         }
-        match self.table_place(named, &parent) {
+        match self.table_place(before, named, &parent) {
             Some(TablePlace::Header(header)) => {
-                let behind = self.last_pair(header.next()).unwrap_or(header);
-                self.insert_behind(doc, behind, at, above.len(), spelled, new)
+                let behind = self.last_pair(before, header.next()).unwrap_or(header);
+                self.insert_behind(before, behind, at, above.len(), spelled, new)
             }
             Some(TablePlace::Dotted(line)) => {
-                let base = self.base(line);
-                let behind = self.last_pair(line).unwrap_or(line);
-                self.insert_behind(doc, behind, at, base, spelled, new)
+                let base = self.base(before, line);
+                let behind = self.last_pair(before, line).unwrap_or(line);
+                self.insert_behind(before, behind, at, base, spelled, new)
             }
             Some(TablePlace::Implicit(header)) => {
-                self.insert_before(header, at, parent, spelled, new)
+                self.insert_before(before, header, at, parent, spelled, new)
             }
             None => Ok(false),
         }
@@ -51,15 +50,15 @@ impl<'x> Tree<'x> {
     /// Puts a value in inside the value of a line.
     fn insert_inside(
         &mut self,
-        doc: &Doc<'x>,
+        before: Before<'_, 'x>,
         place: Position,
         at: &Address,
         spelled: &'x [String],
         new: Value<'x>,
     ) -> Result<bool, AllocError> {
         let texts = self.texts;
-        let used = self.depth(place);
-        match self.value_at(doc, place)? {
+        let used = self.depth(before, place);
+        match self.value_at(before, place)? {
             Some(value) => texts.insert_in(value, below(at, used), spelled, new),
             None => Ok(false),
         }
@@ -68,19 +67,19 @@ impl<'x> Tree<'x> {
     /// Puts a line in behind the last one with a key and a value before the first header, or as the first line.
     fn insert_at_root(
         &mut self,
-        doc: &Doc<'x>,
+        before: Before<'_, 'x>,
         at: &Address,
         spelled: &'x [String],
         new: Value<'x>,
     ) -> Result<bool, AllocError> {
-        match self.last_root_pair() {
+        match self.last_root_pair(before) {
             Some(behind) => {
                 self.root_end = behind;
-                self.insert_behind(doc, behind, at, 0, spelled, new)
+                self.insert_behind(before, behind, at, 0, spelled, new)
             }
             None => {
                 let line = self.pair_line(at, 0, spelled, new, self.style)?;
-                self.put(Position { slot: 0, index: 0 }, line)
+                self.put(before, Position { slot: 0, index: 0 }, line)
             }
         }
     }
@@ -88,39 +87,40 @@ impl<'x> Tree<'x> {
     /// Puts a line in behind another; its table's address has `base` steps.
     fn insert_behind(
         &mut self,
-        doc: &Doc<'x>,
+        before: Before<'_, 'x>,
         behind: Position,
         at: &Address,
         base: usize,
         spelled: &'x [String],
         new: Value<'x>,
     ) -> Result<bool, AllocError> {
-        let newline = self.newline_behind(doc, behind)?;
+        let newline = self.newline_behind(before, behind)?;
         let line = self.pair_line(at, base, spelled, new, newline)?;
-        self.put(behind.next(), line)
+        self.put(before, behind.next(), line)
     }
 
     /// The newline of a line that is put in behind another. Where this one was the last line of the text, it gets the newline
     /// of new lines, and the new one has none.
     pub(crate) fn newline_behind(
         &mut self,
-        doc: &Doc<'x>,
+        before: Before<'_, 'x>,
         behind: Position,
     ) -> Result<Leaf<'x>, AllocError> {
         let (alloc, style) = (self.alloc(), self.style);
-        if let Some(line) = self.line_mut(behind) {
-            if line.is_last() {
-                line.end_in(alloc, doc, style)?;
-                return Ok(Leaf::EMPTY);
-            }
+        if !self.is_last(behind) {
+            return Ok(style);
         }
-        Ok(style)
+        if let Some(line) = self.line_mut(before, behind)? {
+            line.end_in(alloc, before.doc, style)?;
+        }
+        Ok(Leaf::EMPTY)
     }
 
     /// Puts a header line for the parent, and a line behind it, in before another.
     fn insert_before(
         &mut self,
-        before: Position,
+        before: Before<'_, 'x>,
+        next: Position,
         at: &Address,
         parent: Address,
         spelled: &'x [String],
@@ -134,7 +134,7 @@ impl<'x> Tree<'x> {
             spelled,
         };
         let above = header.line(alloc, style)?;
-        Ok(self.put(before, line)? && self.put(before, above)?)
+        Ok(self.put(before, next, line)? && self.put(before, next, above)?)
     }
 
     /// A line with the key of the steps below its table, whose address has `base` steps.
@@ -155,14 +155,26 @@ impl<'x> Tree<'x> {
         Line::new(self.alloc(), Some(address), Some(base), expr, newline)
     }
 
-    /// Puts a line in at a place.
-    pub(crate) fn put(&mut self, at: Position, line: Line<'x>) -> Result<bool, AllocError> {
-        match self.slots.get_mut(at.slot) {
-            Some(slot) => {
-                slot.put(at.index, line)?;
-                Ok(true)
-            }
-            None => Ok(false),
+    /// Puts a line in at a place: before the one that stands there, or behind the last one of the slot.
+    pub(crate) fn put(
+        &mut self,
+        before: Before<'_, 'x>,
+        at: Position,
+        line: Line<'x>,
+    ) -> Result<bool, AllocError> {
+        let alloc = self.alloc();
+        let Some(slot) = self.slots.get_mut(at.slot) else {
+            return Ok(false);
+        };
+        slot.open(alloc, before.units)?;
+        let Some(lines) = slot.opened() else {
+            return Ok(false);
+        };
+        if at.index < lines.len() {
+            lines.insert(at.index, line)?;
+        } else {
+            lines.push(line)?;
         }
+        Ok(true)
     }
 }

@@ -6,6 +6,7 @@ use std::alloc::{AllocError, Global};
 use toml_names::{Address, Step};
 use toml_text::Span;
 use toml_tree::Doc;
+use toml_units::Unit;
 
 /// A line that is as it was.
 #[derive(Clone, Copy)]
@@ -18,9 +19,8 @@ pub(crate) struct Kept {
     pub(crate) is_tables: bool,
     /// Whether it is the last line, which ends in no newline.
     pub(crate) is_last: bool,
-    /// The number of its first unit, and how many it has.
+    /// The number of its first unit, which is the line itself.
     pub(crate) first: usize,
-    pub(crate) count: usize,
 }
 
 /// What stands on a line.
@@ -40,10 +40,23 @@ pub(crate) struct Line<'t> {
     pub(crate) body: Body<'t>,
 }
 
+/// A line by what finds it.
+#[derive(Clone, Copy)]
+pub(crate) struct Seen<'a> {
+    /// Where its value, table or element stands; none for a blank line.
+    pub(crate) address: Option<&'a Address>,
+    /// Of a line with a key and a value: how many steps the address of the table has in which it stands.
+    pub(crate) base: Option<usize>,
+    /// Whether it is the header of an array of tables.
+    pub(crate) is_tables: bool,
+}
+
 /// The lines that now stand where one line of the document stood, in text order.
 #[derive(Drop)]
-pub(crate) struct Slot<'t> {
-    pub(crate) lines: Vec<Line<'t>>,
+pub(crate) enum Slot<'t> {
+    /// The line of the document, as it was; its address is that of its unit.
+    Kept(Kept),
+    Lines(Vec<Line<'t>>),
 }
 
 /// The steps of the address behind the first so many.
@@ -75,23 +88,102 @@ pub(crate) fn is_at_or_above(at: &Address, other: &Address) -> bool {
     true
 }
 
-impl<'t> Line<'t> {
-    /// The address, if the line has one.
-    pub(crate) fn at(&self) -> Option<&Address> {
-        self.address.as_ref()
-    }
-
+impl Seen<'_> {
     /// How many steps its address has.
-    pub(crate) fn steps(&self) -> usize {
-        match self.at() {
+    pub(crate) fn steps(self) -> usize {
+        match self.address {
             Some(address) => address.steps().len(),
             None => 0,
         }
     }
 
     /// Whether it is a header line.
-    pub(crate) fn is_header(&self) -> bool {
+    pub(crate) fn is_header(self) -> bool {
         self.address.is_some() && self.base.is_none()
+    }
+
+    /// Whether it is the header line of what stands at the address.
+    pub(crate) fn is_header_of(self, at: &Address) -> bool {
+        match (self.base, self.address) {
+            (None, Some(own)) => own.is_same(at),
+            _ => false,
+        }
+    }
+
+    /// Whether it stands at the address or below it.
+    pub(crate) fn is_below(self, at: &Address) -> bool {
+        match self.address {
+            Some(own) => is_at_or_above(at, own),
+            None => false,
+        }
+    }
+
+    /// Whether its value is what stands at the address, or holds it.
+    pub(crate) fn holds(self, at: &Address) -> bool {
+        match (self.base, self.address) {
+            (Some(_), Some(own)) => is_at_or_above(own, at),
+            _ => false,
+        }
+    }
+
+    /// Whether the address is that of a table which dotted keys make, its own one among them.
+    pub(crate) fn is_dotted_in(self, at: &Address) -> bool {
+        match (self.base, self.address) {
+            (Some(base), Some(own)) => base < at.steps().len() && at.is_above(own),
+            _ => false,
+        }
+    }
+
+    /// Whether its own key mentions the address: a keyval each table that its key passes, and its value; a header each table
+    /// and element that its key passes, and what it stands for.
+    pub(crate) fn mentions(self, at: &Address) -> bool {
+        if !self.is_below(at) {
+            return false;
+        }
+        match self.base {
+            Some(base) => base < at.steps().len(),
+            None => !self.passes_on(at),
+        }
+    }
+
+    /// Whether a header's key passes from an array of tables, at the address, on to an element of it.
+    fn passes_on(self, at: &Address) -> bool {
+        let (Some(own), count) = (self.address, at.steps().len()) else {
+            return false;
+        };
+        let is_own = self.is_tables && own.steps().len() == count.saturating_add(1);
+        matches!(own.steps().get(count), Some(Step::Index(_))) && !is_own
+    }
+
+    /// Which part of its key stands for the address, if one does.
+    pub(crate) fn part_of(self, at: &Address) -> Option<usize> {
+        match self.base {
+            Some(base) => at.steps().len().checked_sub(base.saturating_add(1)),
+            None => names_in(at.steps()).checked_sub(1),
+        }
+    }
+}
+
+impl Kept {
+    /// The line by what finds it.
+    fn seen(self, units: &[Unit]) -> Seen<'_> {
+        let unit = units.get(self.first);
+        Seen {
+            address: unit.and_then(|line| line.address.as_ref()),
+            base: unit.and_then(|line| line.base),
+            is_tables: self.is_tables,
+        }
+    }
+}
+
+impl<'t> Line<'t> {
+    /// The line by what finds it.
+    pub(crate) fn seen(&self) -> Seen<'_> {
+        Seen {
+            address: self.address.as_ref(),
+            base: self.base,
+            is_tables: self.is_tables(),
+        }
     }
 
     /// Whether it is the header of an array of tables.
@@ -115,59 +207,6 @@ impl<'t> Line<'t> {
         match &self.body {
             Body::Kept(kept) => kept.span.start == kept.span.end,
             Body::Open(line) => line.has_no_bytes(),
-        }
-    }
-
-    /// Whether it stands at the address or below it.
-    pub(crate) fn is_below(&self, at: &Address) -> bool {
-        match self.at() {
-            Some(own) => is_at_or_above(at, own),
-            None => false,
-        }
-    }
-
-    /// Whether its value is what stands at the address, or holds it.
-    pub(crate) fn holds(&self, at: &Address) -> bool {
-        match (self.base, self.at()) {
-            (Some(_), Some(own)) => is_at_or_above(own, at),
-            _ => false,
-        }
-    }
-
-    /// Whether the address is that of a table which dotted keys make, its own one among them.
-    pub(crate) fn is_dotted_in(&self, at: &Address) -> bool {
-        match (self.base, self.at()) {
-            (Some(base), Some(own)) => base < at.steps().len() && at.is_above(own),
-            _ => false,
-        }
-    }
-
-    /// Whether its own key mentions the address: a keyval each table that its key passes, and its value; a header each table
-    /// and element that its key passes, and what it stands for.
-    pub(crate) fn mentions(&self, at: &Address) -> bool {
-        if !self.is_below(at) {
-            return false;
-        }
-        match self.base {
-            Some(base) => base < at.steps().len(),
-            None => !self.passes_on(at),
-        }
-    }
-
-    /// Whether a header's key passes from an array of tables, at the address, on to an element of it.
-    fn passes_on(&self, at: &Address) -> bool {
-        let (Some(own), count) = (self.at(), at.steps().len()) else {
-            return false;
-        };
-        let is_own = self.is_tables() && own.steps().len() == count.saturating_add(1);
-        matches!(own.steps().get(count), Some(Step::Index(_))) && !is_own
-    }
-
-    /// Which part of its key stands for the address, if one does.
-    pub(crate) fn part_of(&self, at: &Address) -> Option<usize> {
-        match self.base {
-            Some(base) => at.steps().len().checked_sub(base.saturating_add(1)),
-            None => names_in(at.steps()).checked_sub(1),
         }
     }
 
@@ -268,20 +307,77 @@ pub(crate) fn names_in(steps: &[Step]) -> usize {
 }
 
 impl<'t> Slot<'t> {
-    /// A slot with one line.
-    pub(crate) fn of(alloc: Global, line: Line<'t>) -> Result<Slot<'t>, AllocError> {
-        let mut lines = Vec::with_capacity(alloc, 1)?;
-        lines.push(line)?;
-        Ok(Slot { lines })
+    /// How many lines stand there.
+    pub(crate) fn count(&self) -> usize {
+        match self {
+            Slot::Kept(_) => 1,
+            Slot::Lines(lines) => lines.len(),
+        }
     }
 
-    /// Puts a line in before the one with the index, or behind the last one.
-    pub(crate) fn put(&mut self, index: usize, line: Line<'t>) -> Result<(), AllocError> {
-        if index < self.lines.len() {
-            self.lines.insert(index, line)?;
-        } else {
-            self.lines.push(line)?;
+    /// A line, by its index, to be looked at; the units are those of the document.
+    pub(crate) fn seen<'a>(&'a self, units: &'a [Unit], index: usize) -> Option<Seen<'a>> {
+        match self {
+            Slot::Kept(kept) if index == 0 => Some(kept.seen(units)),
+            Slot::Kept(_) => None,
+            Slot::Lines(lines) => Some(lines.get(index)?.seen()),
+        }
+    }
+
+    /// Whether one of its lines stands at the address or below.
+    pub(crate) fn is_below(&self, units: &[Unit], at: &Address) -> bool {
+        match self {
+            Slot::Kept(kept) => kept.seen(units).is_below(at),
+            Slot::Lines(lines) => lines.iter().any(|line| line.seen().is_below(at)),
+        }
+    }
+
+    /// Whether the line with the index is the last one, which ends in no newline.
+    pub(crate) fn is_last(&self, index: usize) -> bool {
+        match self {
+            Slot::Kept(kept) => kept.is_last,
+            Slot::Lines(lines) => lines.get(index).is_some_and(|line| line.is_last()),
+        }
+    }
+
+    /// Whether the line with the index has no bytes, and ends in no newline.
+    pub(crate) fn has_no_bytes(&self, index: usize) -> bool {
+        match self {
+            Slot::Kept(kept) => kept.span.start == kept.span.end,
+            Slot::Lines(lines) => lines.get(index).is_some_and(|line| line.has_no_bytes()),
+        }
+    }
+
+    /// Makes its line one that can be changed, if it is none yet.
+    pub(crate) fn open(&mut self, alloc: Global, units: &[Unit]) -> Result<(), AllocError> {
+        if let Slot::Kept(kept) = self {
+            let kept = *kept;
+            let seen = kept.seen(units);
+            let address = match seen.address {
+                Some(own) => Some(own.copy(alloc)?),
+                None => None,
+            };
+            let mut lines = Vec::with_capacity(alloc, 1)?;
+            lines.push(Line {
+                address,
+                base: seen.base,
+                body: Body::Kept(kept),
+            })?;
+            *self = Slot::Lines(lines);
         }
         Ok(())
+    }
+
+    /// Its lines, if it is opened.
+    pub(crate) fn opened(&mut self) -> Option<&mut Vec<Line<'t>>> {
+        match self {
+            Slot::Kept(_) => None,
+            Slot::Lines(lines) => Some(lines),
+        }
+    }
+
+    /// The line with the index, if it is opened.
+    pub(crate) fn line_mut(&mut self, index: usize) -> Option<&mut Line<'t>> {
+        self.opened()?.get_mut(index)
     }
 }

@@ -11,16 +11,16 @@ use crate::removing::parent_of;
 use crate::sections::{NewHeader, is_element_in_value, is_right_in_value};
 use crate::spelled::{Spelled, open_value};
 use crate::tree::Brackets;
-use crate::working::Tree;
+use crate::working::{Before, Tree};
 use std::alloc::{AllocError, Global};
 use toml_edits::{Edit, EditFault, apply_in, place};
 use toml_names::{Address, Data, Datum, Name, NameReader, Step};
-use toml_tree::{Doc, Profile};
+use toml_tree::Profile;
 
 /// What was read of the document, in the profile, by which the edits are made on its working tree.
 #[derive(Clone, Copy)]
 pub(crate) struct Read<'a, 'd, 't> {
-    pub(crate) doc: &'a Doc<'t>,
+    pub(crate) before: Before<'a, 't>,
     pub(crate) names: &'a NameReader<'d, 't>,
     pub(crate) profile: Profile,
 }
@@ -103,24 +103,24 @@ fn write_edit<'x>(
     match edit {
         // The data have taken the value by now, so it is one of the profile, and `None` never comes.
         Edit::Set { value, .. } => match open_value(alloc, value.as_str(), read.profile)? {
-            Some(new) => tree.set(read.doc, read.names.place(&at), &at, new),
+            Some(new) => tree.set(read.before, read.names.place(&at), &at, new),
             None => Ok(true),
         },
         Edit::Insert { value, .. } => match open_value(alloc, value.as_str(), read.profile)? {
             Some(new) => {
                 let parent = parent_of(alloc, &at)?;
                 let named = read.names.place(&parent);
-                tree.insert(read.doc, named, parent, &at, &spelled.steps, new)
+                tree.insert(read.before, named, parent, &at, &spelled.steps, new)
             }
             None => Ok(true),
         },
         Edit::Rename { to, .. } => {
             let name = Name::of(String::from_str(alloc, to)?)?;
             let named = read.names.place(&at);
-            tree.rename(read.doc, named, &at, &name, spelled.to.as_str())?;
+            tree.rename(read.before, named, &at, &name, spelled.to.as_str())?;
             Ok(true)
         }
-        Edit::Remove { .. } => tree.remove(read.doc, read.names.place(&at), &at),
+        Edit::Remove { .. } => tree.remove(read.before, read.names.place(&at), &at),
         Edit::Section { .. } => write_header(alloc, tree, read, &at, Brackets::One, spelled),
         Edit::Element { .. } => write_header(alloc, tree, read, &at, Brackets::Two, spelled),
     }
@@ -143,7 +143,7 @@ fn write_header<'x>(
         brackets,
         spelled: &spelled.steps,
     };
-    tree.add_header(read.doc, named, above, new)
+    tree.add_header(read.before, named, above, new)
 }
 
 /// Whether the place of the edit with this number may be spread over several expressions.

@@ -1,14 +1,16 @@
 //! The certificate, read off the working tree: which unit of the document each of its units is.
-use crate::lines::{Body, Line};
+use crate::lines::{Body, Line, Slot};
 use crate::tree::{Comment, Entries, Entry, Expr, Gap, GapPart, OpenLine, Value};
 use crate::working::Tree;
 use std::alloc::{AllocError, Global};
-use toml_units::Certificate;
+use toml_units::{Certificate, Unit, UnitKind};
 
 /// Units that are counted in text order, an outer one before what lies in it.
 #[derive(Drop)]
 struct Numbering<'a> {
-    /// Which units of the document are paired.
+    /// Those of the document.
+    units: &'a [Unit],
+    /// Which of these are paired.
     wanted: &'a [bool],
     /// The number of the next unit of the edited text.
     next: u64,
@@ -17,16 +19,19 @@ struct Numbering<'a> {
 
 impl Tree<'_> {
     /// The certificate that pairs the wanted units of the document, where they still stand.
-    pub(crate) fn certificate(&self, wanted: &[bool]) -> Result<Certificate, AllocError> {
+    pub(crate) fn certificate(
+        &self,
+        units: &[Unit],
+        wanted: &[bool],
+    ) -> Result<Certificate, AllocError> {
         let mut numbering = Numbering {
+            units,
             wanted,
             next: 0,
             pairs: Vec::new(self.alloc()),
         };
         for slot in &self.slots {
-            for line in &slot.lines {
-                numbering.line(line)?;
-            }
+            numbering.slot(slot)?;
         }
         Ok(Certificate {
             pairs: numbering.pairs,
@@ -46,19 +51,41 @@ impl Numbering<'_> {
         Ok(())
     }
 
-    fn line(&mut self, line: &Line<'_>) -> Result<(), AllocError> {
-        match &line.body {
-            Body::Kept(kept) => self.kept(kept.first, kept.count),
-            Body::Open(open) => self.open_line(open),
+    fn slot(&mut self, slot: &Slot<'_>) -> Result<(), AllocError> {
+        match slot {
+            Slot::Kept(kept) => self.kept(kept.first),
+            Slot::Lines(lines) => self.lines(lines),
         }
     }
 
-    /// The units of a line that is as it was.
-    fn kept(&mut self, first: usize, count: usize) -> Result<(), AllocError> {
-        for number in first..first.saturating_add(count) {
+    fn lines(&mut self, lines: &[Line<'_>]) -> Result<(), AllocError> {
+        for line in lines {
+            match &line.body {
+                Body::Kept(kept) => self.kept(kept.first)?,
+                Body::Open(open) => self.open_line(open)?,
+            }
+        }
+        Ok(())
+    }
+
+    /// The units of a line that is as it was: its own, and those up to the next line.
+    fn kept(&mut self, first: usize) -> Result<(), AllocError> {
+        self.unit(Some(first))?;
+        for number in first.saturating_add(1)..self.units.len() {
+            if self.is_line(number) {
+                return Ok(());
+            }
             self.unit(Some(number))?;
         }
         Ok(())
+    }
+
+    /// Whether the unit of the document with this number is a line.
+    fn is_line(&self, number: usize) -> bool {
+        match self.units.get(number) {
+            Some(unit) => unit.kind == UnitKind::Line,
+            None => false,
+        }
     }
 
     fn open_line(&mut self, line: &OpenLine<'_>) -> Result<(), AllocError> {

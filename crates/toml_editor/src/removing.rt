@@ -2,14 +2,15 @@
 ghost use Rattle.std.specs.Prelude.{IfOk};
 ghost use Rattle.toml_editor.specs.Making.{IsParent};
 
-use crate::lines::{Line, Slot, below, names_in};
+use crate::lines::{Line, Seen, Slot, below, names_in};
 use crate::texts::Texts;
 use crate::tree::{Blank, Brackets, Expr, Header, Leaf, OpenLine};
-use crate::working::{Position, TablePlace, Tree};
+use crate::working::{Before, Position, TablePlace, Tree};
 use std::alloc::{AllocError, Global};
 use std::mem;
 use toml_names::{Address, Place, Step};
 use toml_tree::Doc;
+use toml_units::Unit;
 
 /// What is left of the first removed line that mentions the parent, where no line that stays does.
 #[derive(Drop)]
@@ -24,21 +25,21 @@ impl<'x> Tree<'x> {
     /// tables: without its header there would be no array.
     pub(crate) fn remove(
         &mut self,
-        doc: &Doc<'x>,
+        before: Before<'_, 'x>,
         named: Option<Place>,
         at: &Address,
     ) -> Result<bool, AllocError> {
-        match self.value_line(named, at) {
-            Some(place) if self.depth(place) < at.steps().len() => {
-                self.remove_inside(doc, place, at)?;
+        match self.value_line(before, named, at) {
+            Some(place) if self.depth(before, place) < at.steps().len() => {
+                self.remove_inside(before, place, at)?;
             }
-            Some(place) => self.remove_line(doc, place.slot, at)?,
+            Some(place) => self.remove_line(before, place.slot, at)?,
             None => {
-                let first = self.first_slot(named, at);
-                if !self.leaves_elements(first, at)? {
+                let first = self.first_slot(before, named, at);
+                if !self.leaves_elements(before, first, at)? {
                     return Ok(false);
                 }
-                self.remove_lines(doc, first, at)?;
+                self.remove_lines(before, first, at)?;
                 self.elements.take_out(self.texts.alloc, at)?;
             }
         }
@@ -47,61 +48,86 @@ impl<'x> Tree<'x> {
 
     /// The slot before which no line stands at the address or below. The lines of an element of an array of tables begin with
     /// its header.
-    fn first_slot(&self, named: Option<Place>, at: &Address) -> usize {
-        match self.near_table(named, at) {
+    fn first_slot(&self, before: Before<'_, 'x>, named: Option<Place>, at: &Address) -> usize {
+        match self.near_table(before, named, at) {
             Some(TablePlace::Header(header)) if is_element(at) => header.slot,
             _ => 0,
         }
     }
 
     /// Takes out the line of the slot whose value stands at the address: no other line is at it or below.
-    fn remove_line(&mut self, doc: &Doc<'x>, slot: usize, at: &Address) -> Result<(), AllocError> {
+    fn remove_line(
+        &mut self,
+        before: Before<'_, 'x>,
+        slot: usize,
+        at: &Address,
+    ) -> Result<(), AllocError> {
         let texts = self.texts;
-        let mut parent = self.parent_left(at, slot)?;
+        let mut parent = self.parent_left(before, at, slot)?;
         match self.slots.get_mut(slot) {
-            Some(lines) => lines.remove(texts, doc, at, &mut parent),
+            Some(lines) => lines.remove(texts, before, at, &mut parent),
             None => Ok(()),
         }
     }
 
     /// The parent of the address, and whether it is the root or a line that is not at the address, nor below it, mentions it:
     /// such a line is mostly near before the slot.
-    fn parent_left(&self, at: &Address, slot: usize) -> Result<Parent, AllocError> {
+    fn parent_left(
+        &self,
+        before: Before<'_, 'x>,
+        at: &Address,
+        slot: usize,
+    ) -> Result<Parent, AllocError> {
         let address = parent_of(self.alloc(), at)?;
-        let stays = address.steps().is_empty() || self.is_mentioned_around(slot, &address, at);
+        let stays = address.steps().is_empty()
+            || self.is_mentioned_around(before, slot, &address, at);
         Ok(Parent { address, stays })
     }
 
     /// Whether a line that is not at the other address, nor below it, mentions the address. The slots before this one are asked
     /// first, the nearest before the others.
-    fn is_mentioned_around(&self, slot: usize, address: &Address, other: &Address) -> bool {
-        let (before, behind) = self.slots.split_at(slot.min(self.slots.len()));
-        before
+    fn is_mentioned_around(
+        &self,
+        before: Before<'_, 'x>,
+        slot: usize,
+        address: &Address,
+        other: &Address,
+    ) -> bool {
+        let units = before.units;
+        let (above, behind) = self.slots.split_at(slot.min(self.slots.len()));
+        above
             .iter()
             .rev()
-            .any(|near| near.is_mentioned(address, other))
-            || behind.iter().any(|near| near.is_mentioned(address, other))
+            .any(|near| near.is_mentioned(units, address, other))
+            || behind
+                .iter()
+                .any(|near| near.is_mentioned(units, address, other))
     }
 
     /// Whether the address is not that of an element, or another element of its array stays.
-    fn leaves_elements(&self, first: usize, at: &Address) -> Result<bool, AllocError> {
+    fn leaves_elements(
+        &self,
+        before: Before<'_, 'x>,
+        first: usize,
+        at: &Address,
+    ) -> Result<bool, AllocError> {
         if !is_element(at) {
             return Ok(true);
         }
         let array = parent_of(self.alloc(), at)?;
-        Ok(self.is_mentioned_around(first, &array, at))
+        Ok(self.is_mentioned_around(before, first, &array, at))
     }
 
     /// Takes something out of the value of a line.
     fn remove_inside(
         &mut self,
-        doc: &Doc<'x>,
+        before: Before<'_, 'x>,
         place: Position,
         at: &Address,
     ) -> Result<(), AllocError> {
         let texts = self.texts;
-        let used = self.depth(place);
-        match self.value_at(doc, place)? {
+        let used = self.depth(before, place);
+        match self.value_at(before, place)? {
             Some(value) => texts.remove_in(value, below(at, used)),
             None => Ok(()),
         }
@@ -111,20 +137,20 @@ impl<'x> Tree<'x> {
     /// mentions the parent, the first of them that does becomes the parent as an empty table.
     fn remove_lines(
         &mut self,
-        doc: &Doc<'x>,
+        before: Before<'_, 'x>,
         first: usize,
         at: &Address,
     ) -> Result<(), AllocError> {
         let texts = self.texts;
-        let mut parent = self.parent_left(at, first)?;
+        let mut parent = self.parent_left(before, at, first)?;
         let mut is_met = false;
         for slot in self.slots.iter_mut().skip(first) {
-            if slot.lines.iter().any(|line| line.is_below(at)) {
-                slot.remove(texts, doc, at, &mut parent)?;
+            if slot.is_below(before.units, at) {
+                slot.remove(texts, before, at, &mut parent)?;
                 is_met = true;
             }
             // behind the header of a later element no line is one of this
-            if is_met && slot.lines.iter().any(|line| line.begins_beside(at)) {
+            if is_met && slot.begins_beside(before.units, at) {
                 return Ok(());
             }
         }
@@ -132,10 +158,10 @@ impl<'x> Tree<'x> {
     }
 }
 
-impl Line<'_> {
+impl Seen<'_> {
     /// Whether it is the header of another element of the array of tables whose element stands at the address.
-    fn begins_beside(&self, at: &Address) -> bool {
-        let Some(own) = self.at() else {
+    fn begins_beside(self, at: &Address) -> bool {
+        let Some(own) = self.address else {
             return false;
         };
         let count = at.steps().len();
@@ -148,30 +174,51 @@ impl Line<'_> {
 }
 
 impl<'t> Slot<'t> {
+    /// Whether one of its lines is the header of another element of the array.
+    fn begins_beside(&self, units: &[Unit], at: &Address) -> bool {
+        for index in 0..self.count() {
+            if let Some(line) = self.seen(units, index) {
+                if line.begins_beside(at) {
+                    return true;
+                }
+            }
+        }
+        false
+    }
+
     /// Whether a line of it that is not at the other address, nor below it, mentions the address.
-    fn is_mentioned(&self, address: &Address, other: &Address) -> bool {
-        self.lines
-            .iter()
-            .any(|line| line.mentions(address) && !line.is_below(other))
+    fn is_mentioned(&self, units: &[Unit], address: &Address, other: &Address) -> bool {
+        for index in 0..self.count() {
+            if let Some(line) = self.seen(units, index) {
+                if line.mentions(address) && !line.is_below(other) {
+                    return true;
+                }
+            }
+        }
+        false
     }
 
     /// Takes out its lines at the address and below.
     fn remove(
         &mut self,
         texts: Texts<'t>,
-        doc: &Doc<'t>,
+        before: Before<'_, 't>,
         at: &Address,
         parent: &mut Parent,
     ) -> Result<(), AllocError> {
+        self.open(texts.alloc, before.units)?;
+        let Some(lines) = self.opened() else {
+            return Ok(());
+        };
         let mut left = Vec::new(texts.alloc);
-        for line in mem::replace(&mut self.lines, Vec::new(texts.alloc)) {
-            if !line.is_below(at) {
+        for line in mem::replace(lines, Vec::new(texts.alloc)) {
+            if !line.seen().is_below(at) {
                 left.push(line)?;
-            } else if let Some(rest) = removed(texts, doc, line, parent)? {
+            } else if let Some(rest) = removed(texts, before.doc, line, parent)? {
                 left.push(rest)?;
             }
         }
-        self.lines = left;
+        *lines = left;
         Ok(())
     }
 }
@@ -183,7 +230,7 @@ fn removed<'t>(
     line: Line<'t>,
     parent: &mut Parent,
 ) -> Result<Option<Line<'t>>, AllocError> {
-    if !parent.stays && line.mentions(&parent.address) {
+    if !parent.stays && line.seen().mentions(&parent.address) {
         parent.stays = true;
         return Ok(Some(emptied(texts, doc, line, &parent.address)?));
     }

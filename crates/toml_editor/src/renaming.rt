@@ -1,8 +1,8 @@
 //! `rename`: each key part that stands for the address, in headers, keys of lines and keys of pairs, becomes the spelling of
 //! the new name.
-use crate::lines::{Line, below, changed};
+use crate::lines::{Line, Slot, below, changed};
 use crate::tree::{Expr, Leaf};
-use crate::working::{Position, Tree};
+use crate::working::{Before, Position, Tree};
 use std::alloc::{AllocError, Global};
 use toml_names::{Address, Name, Place, Step};
 use toml_tree::Doc;
@@ -11,33 +11,33 @@ impl<'x> Tree<'x> {
     /// Renames what stands at the address, and carries the addresses of lines at it and below.
     pub(crate) fn rename(
         &mut self,
-        doc: &Doc<'x>,
+        before: Before<'_, 'x>,
         named: Option<Place>,
         at: &Address,
         name: &Name,
         spelled: &'x str,
     ) -> Result<(), AllocError> {
-        match self.value_line(named, at) {
-            Some(place) if self.depth(place) < at.steps().len() => {
-                self.rename_inside(doc, place, at, spelled)
+        match self.value_line(before, named, at) {
+            Some(place) if self.depth(before, place) < at.steps().len() => {
+                self.rename_inside(before, place, at, spelled)
             }
-            Some(place) => self.rename_line(doc, place, at, name, spelled),
-            None => self.rename_lines(doc, at, name, spelled),
+            Some(place) => self.rename_line(before, place, at, name, spelled),
+            None => self.rename_lines(before, at, name, spelled),
         }
     }
 
     /// Renames in the line whose value stands at the address: no other line is at it or below.
     fn rename_line(
         &mut self,
-        doc: &Doc<'x>,
+        before: Before<'_, 'x>,
         place: Position,
         at: &Address,
         name: &Name,
         spelled: &'x str,
     ) -> Result<(), AllocError> {
         let alloc = self.alloc();
-        match self.line_mut(place) {
-            Some(line) => line.rename(alloc, doc, at, name, spelled),
+        match self.line_mut(before, place)? {
+            Some(line) => line.rename(alloc, before.doc, at, name, spelled),
             None => Ok(()),
         }
     }
@@ -45,14 +45,14 @@ impl<'x> Tree<'x> {
     /// Renames inside the value of a line.
     fn rename_inside(
         &mut self,
-        doc: &Doc<'x>,
+        before: Before<'_, 'x>,
         place: Position,
         at: &Address,
         spelled: &'x str,
     ) -> Result<(), AllocError> {
         let texts = self.texts;
-        let used = self.depth(place);
-        match self.value_at(doc, place)? {
+        let used = self.depth(before, place);
+        match self.value_at(before, place)? {
             Some(value) => texts.rename_in(value, below(at, used), spelled),
             None => Ok(()),
         }
@@ -61,20 +61,41 @@ impl<'x> Tree<'x> {
     /// Renames in the lines at the address and below.
     fn rename_lines(
         &mut self,
-        doc: &Doc<'x>,
+        before: Before<'_, 'x>,
         at: &Address,
         name: &Name,
         spelled: &'x str,
     ) -> Result<(), AllocError> {
         let alloc = self.alloc();
         for slot in &mut self.slots {
-            for line in &mut slot.lines {
-                if line.is_below(at) {
-                    line.rename(alloc, doc, at, name, spelled)?;
-                }
+            if slot.is_below(before.units, at) {
+                slot.open(alloc, before.units)?;
+                slot.rename(alloc, before.doc, at, name, spelled)?;
             }
         }
         self.elements.rename(alloc, at, name)
+    }
+}
+
+impl<'t> Slot<'t> {
+    /// Renames in its lines at the address or below, if it is opened.
+    fn rename(
+        &mut self,
+        alloc: Global,
+        doc: &Doc<'t>,
+        at: &Address,
+        name: &Name,
+        spelled: &'t str,
+    ) -> Result<(), AllocError> {
+        let Some(lines) = self.opened() else {
+            return Ok(());
+        };
+        for line in lines {
+            if line.seen().is_below(at) {
+                line.rename(alloc, doc, at, name, spelled)?;
+            }
+        }
+        Ok(())
     }
 }
 
@@ -88,7 +109,7 @@ impl<'t> Line<'t> {
         name: &Name,
         spelled: &'t str,
     ) -> Result<(), AllocError> {
-        if let Some(part) = self.part_of(at) {
+        if let Some(part) = self.seen().part_of(at) {
             self.set_part(alloc, doc, part, Leaf::New(spelled))?;
         }
         let place = at.steps().len().saturating_sub(1);

@@ -6,10 +6,10 @@ ghost use Rattle.toml_editor.specs.Making.{places_of};
 use crate::lines::{Line, Slot};
 use crate::removing::parent_of;
 use crate::tree::{Brackets, Expr, Header, Key, Leaf, OpenLine};
-use crate::working::{Position, Tree};
+use crate::working::{Before, Position, Tree};
 use std::alloc::{AllocError, Global};
 use toml_names::{Address, NameReader, Place, Step};
-use toml_tree::Doc;
+use toml_units::Unit;
 
 /// A header line that is to be put in.
 #[derive(Clone, Copy)]
@@ -38,42 +38,46 @@ impl<'x> Tree<'x> {
     /// the document's names have for it. It answers `false` where that is a value, or would lie in one.
     pub(crate) fn add_header(
         &mut self,
-        doc: &Doc<'x>,
+        before: Before<'_, 'x>,
         named: Option<Place>,
         above: Address,
         new: NewHeader<'_, 'x>,
     ) -> Result<bool, AllocError> {
-        if self.value_line(named, &above).is_some() {
+        if self.value_line(before, named, &above).is_some() {
             return Ok(false);
         }
-        match self.behind_element(innermost_element(above)) {
+        match self.behind_element(before, innermost_element(above)) {
             Some(next) => {
                 let line = new.line(self.alloc(), self.style)?;
-                self.put(next, line)
+                self.put(before, next, line)
             }
-            None => self.add_last(doc, new),
+            None => self.add_last(before, new),
         }
     }
 
     /// Puts a header line in before the last line where that has no bytes, else behind it.
-    fn add_last(&mut self, doc: &Doc<'x>, new: NewHeader<'_, 'x>) -> Result<bool, AllocError> {
+    fn add_last(
+        &mut self,
+        before: Before<'_, 'x>,
+        new: NewHeader<'_, 'x>,
+    ) -> Result<bool, AllocError> {
         let Some(last) = self.last_line() else {
             return Ok(false);
         };
         if self.has_no_bytes(last) {
             let line = new.line(self.alloc(), self.style)?;
-            return self.put(last, line);
+            return self.put(before, last, line);
         }
-        let newline = self.newline_behind(doc, last)?;
+        let newline = self.newline_behind(before, last)?;
         let line = new.line(self.alloc(), newline)?;
-        self.put(last.next(), line)
+        self.put(before, last.next(), line)
     }
 
     /// The last line.
     fn last_line(&self) -> Option<Position> {
         let mut last = None;
         for (number, slot) in self.slots.iter().enumerate() {
-            if let Some(index) = slot.lines.len().checked_sub(1) {
+            if let Some(index) = slot.count().checked_sub(1) {
                 last = Some(Position {
                     slot: number,
                     index,
@@ -85,18 +89,18 @@ impl<'x> Tree<'x> {
 
     /// Whether the line at a place has no bytes, and ends in no newline.
     fn has_no_bytes(&self, at: Position) -> bool {
-        match self.line(at) {
-            Some(line) => line.has_no_bytes(),
+        match self.slots.get(at.slot) {
+            Some(slot) => slot.has_no_bytes(at.index),
             None => false,
         }
     }
 
     /// The first header line behind the last one that stands at the element or below it.
-    fn behind_element(&self, element: Option<Address>) -> Option<Position> {
+    fn behind_element(&self, before: Before<'_, 'x>, element: Option<Address>) -> Option<Position> {
         let element = element?;
         let mut walk = Walk::Before;
         for (number, slot) in self.slots.iter().enumerate() {
-            walk = slot.walked(number, &element, walk);
+            walk = slot.walked(before.units, number, &element, walk);
         }
         match walk {
             Walk::Behind(next) => Some(next),
@@ -107,11 +111,13 @@ impl<'x> Tree<'x> {
 
 impl Slot<'_> {
     /// Goes on with a walk through its lines.
-    fn walked(&self, slot: usize, element: &Address, walk: Walk) -> Walk {
+    fn walked(&self, units: &[Unit], slot: usize, element: &Address, walk: Walk) -> Walk {
         let mut walk = walk;
-        for (index, line) in self.lines.iter().enumerate() {
-            if line.is_header() {
-                walk = walk.past(line.is_below(element), Position { slot, index });
+        for index in 0..self.count() {
+            if let Some(line) = self.seen(units, index) {
+                if line.is_header() {
+                    walk = walk.past(line.is_below(element), Position { slot, index });
+                }
             }
         }
         walk

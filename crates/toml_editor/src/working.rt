@@ -1,6 +1,6 @@
 //! Where things stand in the working tree.
 use crate::elements::Elements;
-use crate::lines::{Body, Kept, Line, Slot};
+use crate::lines::{Kept, Line, Seen, Slot};
 use crate::texts::Texts;
 use crate::tree::{Leaf, Value};
 use std::alloc::{AllocError, Global};
@@ -37,10 +37,17 @@ pub(crate) enum TablePlace {
     Implicit(Position),
 }
 
+/// The document before the edits, as the working tree looks at it.
+#[derive(Clone, Copy)]
+pub(crate) struct Before<'a, 'x> {
+    pub(crate) doc: &'a Doc<'x>,
+    pub(crate) units: &'a [Unit],
+}
+
 /// The working tree. There is a slot for each line of the document, and in it the lines that now stand there.
 ///
 /// It holds neither the document nor its names: each lifetime that its type would name for them makes all its methods dearer
-/// to prove. Who asks for a line or a table says where the names have it, and who opens a line hands in the document.
+/// to prove. Who asks for a line or a table hands in the document, and says where the names have it.
 #[derive(Drop)]
 pub(crate) struct Tree<'x> {
     pub(crate) texts: Texts<'x>,
@@ -54,29 +61,23 @@ pub(crate) struct Tree<'x> {
 }
 
 impl<'x> Tree<'x> {
-    /// The tree of a document with these names and units.
-    pub(crate) fn of(
-        texts: Texts<'x>,
-        doc: &Doc<'x>,
-        units: &[Unit],
-    ) -> Result<Tree<'x>, AllocError> {
-        let firsts = first_units(texts.alloc, units)?;
-        let mut slots = Vec::with_capacity(texts.alloc, doc.lines().len())?;
-        for (number, line) in doc.lines().iter().enumerate() {
-            let first = firsts.get(number).copied().unwrap_or(units.len());
-            let next = firsts
-                .get(number.saturating_add(1))
-                .copied()
-                .unwrap_or(units.len());
-            let kept = kept_line(number, line, first, next.saturating_sub(first));
-            let line = numbered(texts.alloc, kept, units.get(first))?;
-            slots.push(Slot::of(texts.alloc, line)?)?;
+    /// The tree of a document that is as it was.
+    pub(crate) fn of(texts: Texts<'x>, before: Before<'_, 'x>) -> Result<Tree<'x>, AllocError> {
+        let lines = before.doc.lines();
+        let mut slots = Vec::with_capacity(texts.alloc, lines.len())?;
+        for (first, unit) in before.units.iter().enumerate() {
+            if unit.kind == UnitKind::Line {
+                let number = slots.len();
+                if let Some(line) = lines.get(number) {
+                    slots.push(Slot::Kept(kept_line(number, line, first)))?;
+                }
+            }
         }
         Ok(Tree {
             texts,
             slots,
             elements: Elements::all(texts.alloc),
-            style: style_of(doc),
+            style: style_of(before.doc),
             root_end: Position { slot: 0, index: 0 },
         })
     }
@@ -85,41 +86,58 @@ impl<'x> Tree<'x> {
         self.texts.alloc
     }
 
-    /// The line at a place.
-    pub(crate) fn line(&self, at: Position) -> Option<&Line<'x>> {
-        self.slots.get(at.slot)?.lines.get(at.index)
+    /// The line at a place, to be looked at.
+    pub(crate) fn seen<'a>(&'a self, before: Before<'a, 'x>, at: Position) -> Option<Seen<'a>> {
+        self.slots.get(at.slot)?.seen(before.units, at.index)
+    }
+
+    /// Whether the line at a place is the last one, which ends in no newline.
+    pub(crate) fn is_last(&self, at: Position) -> bool {
+        match self.slots.get(at.slot) {
+            Some(slot) => slot.is_last(at.index),
+            None => false,
+        }
     }
 
     /// The line at a place, to be changed.
-    pub(crate) fn line_mut(&mut self, at: Position) -> Option<&mut Line<'x>> {
-        self.slots.get_mut(at.slot)?.lines.get_mut(at.index)
+    pub(crate) fn line_mut(
+        &mut self,
+        before: Before<'_, 'x>,
+        at: Position,
+    ) -> Result<Option<&mut Line<'x>>, AllocError> {
+        let alloc = self.texts.alloc;
+        let Some(slot) = self.slots.get_mut(at.slot) else {
+            return Ok(None);
+        };
+        slot.open(alloc, before.units)?;
+        Ok(slot.line_mut(at.index))
     }
 
     /// The value of the line at a place, to be changed, if it has one; the line is opened for it.
     pub(crate) fn value_at(
         &mut self,
-        doc: &Doc<'x>,
+        before: Before<'_, 'x>,
         at: Position,
     ) -> Result<Option<&mut Value<'x>>, AllocError> {
         let alloc = self.texts.alloc;
-        let Some(line) = self.line_mut(at) else {
+        let Some(line) = self.line_mut(before, at)? else {
             return Ok(None);
         };
-        line.open(alloc, doc)?;
+        line.open(alloc, before.doc)?;
         Ok(line.value())
     }
 
     /// How many steps the address of the line at a place has.
-    pub(crate) fn depth(&self, at: Position) -> usize {
-        match self.line(at) {
+    pub(crate) fn depth(&self, before: Before<'_, 'x>, at: Position) -> usize {
+        match self.seen(before, at) {
             Some(line) => line.steps(),
             None => 0,
         }
     }
 
     /// How many steps the address of the table has in which the line at a place stands.
-    pub(crate) fn base(&self, at: Position) -> usize {
-        match self.line(at) {
+    pub(crate) fn base(&self, before: Before<'_, 'x>, at: Position) -> usize {
+        match self.seen(before, at) {
             Some(line) => line.base.unwrap_or(0),
             None => 0,
         }
@@ -127,27 +145,34 @@ impl<'x> Tree<'x> {
 
     /// The line whose value stands at the address, or holds what stands there. `named` is the place that the document's names
     /// have for the address.
-    pub(crate) fn value_line(&self, named: Option<Place>, at: &Address) -> Option<Position> {
+    pub(crate) fn value_line(
+        &self,
+        before: Before<'_, 'x>,
+        named: Option<Place>,
+        at: &Address,
+    ) -> Option<Position> {
         let near = match named {
-            Some(Place::KeyVal(line)) | Some(Place::Inside(line)) => self.holder_in(line, at),
+            Some(Place::KeyVal(line)) | Some(Place::Inside(line)) => {
+                self.holder_in(before, line, at)
+            }
             _ => None,
         };
-        if near.is_some() || self.is_table(named, at) {
+        if near.is_some() || self.is_table(before, named, at) {
             return near;
         }
-        self.sought_value(at)
+        self.sought_value(before, at)
     }
 
     /// Whether what stands at the address is the root, or a table that a line makes where the document's names have it: then
     /// no value holds it.
-    fn is_table(&self, named: Option<Place>, at: &Address) -> bool {
-        at.steps().is_empty() || self.near_table(named, at).is_some()
+    fn is_table(&self, before: Before<'_, 'x>, named: Option<Place>, at: &Address) -> bool {
+        at.steps().is_empty() || self.near_table(before, named, at).is_some()
     }
 
     /// The line whose value stands at the address, or holds what stands there, by all lines.
-    fn sought_value(&self, at: &Address) -> Option<Position> {
+    fn sought_value(&self, before: Before<'_, 'x>, at: &Address) -> Option<Position> {
         for slot in 0..self.slots.len() {
-            let found = self.holder_in(slot, at);
+            let found = self.holder_in(before, slot, at);
             if found.is_some() {
                 return found;
             }
@@ -156,9 +181,10 @@ impl<'x> Tree<'x> {
     }
 
     /// The line of a slot whose value stands at the address, or holds what stands there.
-    fn holder_in(&self, slot: usize, at: &Address) -> Option<Position> {
-        for (index, line) in self.slots.get(slot)?.lines.iter().enumerate() {
-            if line.holds(at) {
+    fn holder_in(&self, before: Before<'_, 'x>, slot: usize, at: &Address) -> Option<Position> {
+        let lines = self.slots.get(slot)?;
+        for index in 0..lines.count() {
+            if lines.seen(before.units, index)?.holds(at) {
                 return Some(Position { slot, index });
             }
         }
@@ -166,46 +192,57 @@ impl<'x> Tree<'x> {
     }
 
     /// Where the table at the address stands. `named` is the place that the document's names have for the address.
-    pub(crate) fn table_place(&self, named: Option<Place>, at: &Address) -> Option<TablePlace> {
-        match self.near_table(named, at) {
+    pub(crate) fn table_place(
+        &self,
+        before: Before<'_, 'x>,
+        named: Option<Place>,
+        at: &Address,
+    ) -> Option<TablePlace> {
+        match self.near_table(before, named, at) {
             Some(place) => Some(place),
-            None => self.sought_table(at),
+            None => self.sought_table(before, at),
         }
     }
 
     /// The same where the document's names have it.
-    pub(crate) fn near_table(&self, named: Option<Place>, at: &Address) -> Option<TablePlace> {
+    pub(crate) fn near_table(
+        &self,
+        before: Before<'_, 'x>,
+        named: Option<Place>,
+        at: &Address,
+    ) -> Option<TablePlace> {
         match named {
-            Some(Place::Header(line)) => self.header_in(line, at),
-            Some(Place::Dotted(line)) => self.dotted_in(line, at),
+            Some(Place::Header(line)) => self.header_in(before, line, at),
+            Some(Place::Dotted(line)) => self.dotted_in(before, line, at),
             _ => None,
         }
     }
 
     /// Where the table at the address stands, by all lines: a header comes before a dotted key, and that before a longer
     /// header.
-    fn sought_table(&self, at: &Address) -> Option<TablePlace> {
+    fn sought_table(&self, before: Before<'_, 'x>, at: &Address) -> Option<TablePlace> {
         let mut dotted = None;
         let mut implicit = None;
         for slot in 0..self.slots.len() {
-            let header = self.header_in(slot, at);
+            let header = self.header_in(before, slot, at);
             if header.is_some() {
                 return header;
             }
             if dotted.is_none() {
-                dotted = self.dotted_in(slot, at);
+                dotted = self.dotted_in(before, slot, at);
             }
             if implicit.is_none() {
-                implicit = self.implicit_in(slot, at);
+                implicit = self.implicit_in(before, slot, at);
             }
         }
         dotted.or(implicit)
     }
 
     /// The header line of a slot that makes the table.
-    fn header_in(&self, slot: usize, at: &Address) -> Option<TablePlace> {
-        for (index, line) in self.slots.get(slot)?.lines.iter().enumerate() {
-            if line.is_header() && line.at()?.is_same(at) {
+    fn header_in(&self, before: Before<'_, 'x>, slot: usize, at: &Address) -> Option<TablePlace> {
+        let lines = self.slots.get(slot)?;
+        for index in 0..lines.count() {
+            if lines.seen(before.units, index)?.is_header_of(at) {
                 return Some(TablePlace::Header(Position { slot, index }));
             }
         }
@@ -213,9 +250,10 @@ impl<'x> Tree<'x> {
     }
 
     /// The line of a slot whose dotted key makes the table.
-    fn dotted_in(&self, slot: usize, at: &Address) -> Option<TablePlace> {
-        for (index, line) in self.slots.get(slot)?.lines.iter().enumerate() {
-            if line.is_dotted_in(at) {
+    fn dotted_in(&self, before: Before<'_, 'x>, slot: usize, at: &Address) -> Option<TablePlace> {
+        let lines = self.slots.get(slot)?;
+        for index in 0..lines.count() {
+            if lines.seen(before.units, index)?.is_dotted_in(at) {
                 return Some(TablePlace::Dotted(Position { slot, index }));
             }
         }
@@ -223,8 +261,10 @@ impl<'x> Tree<'x> {
     }
 
     /// The first header line of a slot that stands below the table.
-    fn implicit_in(&self, slot: usize, at: &Address) -> Option<TablePlace> {
-        for (index, line) in self.slots.get(slot)?.lines.iter().enumerate() {
+    fn implicit_in(&self, before: Before<'_, 'x>, slot: usize, at: &Address) -> Option<TablePlace> {
+        let lines = self.slots.get(slot)?;
+        for index in 0..lines.count() {
+            let line = lines.seen(before.units, index)?;
             if line.is_header() && line.is_below(at) {
                 return Some(TablePlace::Implicit(Position { slot, index }));
             }
@@ -233,11 +273,11 @@ impl<'x> Tree<'x> {
     }
 
     /// The last line with a key and a value from the place on, before the next header line.
-    pub(crate) fn last_pair(&self, from: Position) -> Option<Position> {
+    pub(crate) fn last_pair(&self, before: Before<'_, 'x>, from: Position) -> Option<Position> {
         let mut last = None;
         let mut skip = from.index;
         for slot in from.slot..self.slots.len() {
-            let (found, ends) = self.pairs_in(slot, skip);
+            let (found, ends) = self.pairs_in(before, slot, skip);
             if found.is_some() {
                 last = found;
             }
@@ -251,16 +291,16 @@ impl<'x> Tree<'x> {
 
     /// The last line with a key and a value before the first header line. All lines are gone through where one of the root's is
     /// not found from the guess on.
-    pub(crate) fn last_root_pair(&self) -> Option<Position> {
-        match self.last_pair(self.root_end) {
-            Some(found) if self.is_of_root(found) => Some(found),
-            _ => self.last_pair(Position { slot: 0, index: 0 }),
+    pub(crate) fn last_root_pair(&self, before: Before<'_, 'x>) -> Option<Position> {
+        match self.last_pair(before, self.root_end) {
+            Some(found) if self.is_of_root(before, found) => Some(found),
+            _ => self.last_pair(before, Position { slot: 0, index: 0 }),
         }
     }
 
     /// Whether the line at a place has a key and a value and stands in the root.
-    fn is_of_root(&self, at: Position) -> bool {
-        match self.line(at) {
+    fn is_of_root(&self, before: Before<'_, 'x>, at: Position) -> bool {
+        match self.seen(before, at) {
             Some(line) => line.base == Some(0),
             None => false,
         }
@@ -268,12 +308,20 @@ impl<'x> Tree<'x> {
 
     /// The last line of a slot with a key and a value, before a header line of it, and whether there is one. So many lines
     /// are passed over.
-    fn pairs_in(&self, slot: usize, skip: usize) -> (Option<Position>, bool) {
-        let Some(slot_lines) = self.slots.get(slot) else {
+    fn pairs_in(
+        &self,
+        before: Before<'_, 'x>,
+        slot: usize,
+        skip: usize,
+    ) -> (Option<Position>, bool) {
+        let Some(lines) = self.slots.get(slot) else {
             return (None, true);
         };
         let mut last = None;
-        for (index, line) in slot_lines.lines.iter().enumerate().skip(skip) {
+        for index in skip..lines.count() {
+            let Some(line) = lines.seen(before.units, index) else {
+                return (last, false);
+            };
             if line.is_header() {
                 return (last, true);
             }
@@ -285,8 +333,8 @@ impl<'x> Tree<'x> {
     }
 }
 
-/// A line of the document that is as it was.
-fn kept_line(number: usize, line: &ReadLine<'_>, first: usize, count: usize) -> Kept {
+/// A line of the document that is as it was, by its number and that of its first unit.
+fn kept_line(number: usize, line: &ReadLine<'_>, first: usize) -> Kept {
     let (ws, is_tables) = match line.expr() {
         Expr::Blank(blank) => (blank.ws, false),
         Expr::KeyVal { ws, .. } | Expr::Std { ws, .. } => (*ws, false),
@@ -301,36 +349,7 @@ fn kept_line(number: usize, line: &ReadLine<'_>, first: usize, count: usize) -> 
         is_tables,
         is_last: line.newline().text.is_empty(),
         first,
-        count,
     }
-}
-
-/// The line with the address and the base that its unit has.
-fn numbered<'x>(alloc: Global, kept: Kept, unit: Option<&Unit>) -> Result<Line<'x>, AllocError> {
-    let mut address = None;
-    let mut base = None;
-    if let Some(line) = unit {
-        base = line.base;
-        if let Some(own) = &line.address {
-            address = Some(own.copy(alloc)?);
-        }
-    }
-    Ok(Line {
-        address,
-        base,
-        body: Body::Kept(kept),
-    })
-}
-
-/// The numbers of the units that are lines.
-fn first_units(alloc: Global, units: &[Unit]) -> Result<Vec<usize>, AllocError> {
-    let mut firsts = Vec::new(alloc);
-    for (number, unit) in units.iter().enumerate() {
-        if unit.kind == UnitKind::Line {
-            firsts.push(number)?;
-        }
-    }
-    Ok(firsts)
 }
 
 /// The newline of the first line, or LF where it has none.

@@ -2,7 +2,7 @@
 ghost use Rattle.std.specs.Prelude.{◌≡◌, IfOk};
 ghost use Rattle.toml_text.specs.Source.{text_of};
 
-use crate::lines::{Body, Line};
+use crate::lines::{Body, Line, Slot};
 use crate::pieces::Pieces;
 use crate::tree::{
     Assign, Blank, Brackets, Entries, Entry, Expr, Gap, GapPart, Header, Key, OpenLine, Value,
@@ -24,22 +24,32 @@ impl<'t> Tree<'t> {
         let mut pieces = Pieces::none(self.alloc(), source);
         pieces.keep(mark.span())?;
         for slot in &self.slots {
-            for line in &slot.lines {
-                pieces.line(line)?;
-            }
+            pieces.slot(slot)?;
         }
         Ok(pieces)
     }
 }
 
 impl<'t> Pieces<'t> {
-    fn line(&mut self, line: &Line<'t>) -> Result<(), AllocError>
+    fn slot(&mut self, slot: &Slot<'t>) -> Result<(), AllocError>
         ensures { self.new ≡ self.old }
     {
-        match &line.body {
-            Body::Kept(kept) => self.keep(kept.span),
-            Body::Open(open) => self.open_line(open),
+        match slot {
+            Slot::Kept(kept) => self.keep(kept.span),
+            Slot::Lines(lines) => self.lines(lines),
         }
+    }
+
+    fn lines(&mut self, lines: &[Line<'t>]) -> Result<(), AllocError>
+        ensures { self.new ≡ self.old }
+    {
+        for line in lines {
+            match &line.body {
+                Body::Kept(kept) => self.keep(kept.span)?,
+                Body::Open(open) => self.open_line(open)?,
+            }
+        }
+        Ok(())
     }
 
     fn open_line(&mut self, line: &OpenLine<'t>) -> Result<(), AllocError>
