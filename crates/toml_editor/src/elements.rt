@@ -46,7 +46,7 @@ impl Elements {
     fn own_index(&self, array: &[Step], index: u64) -> u64 {
         for gone in &self.gone {
             if gone.is_of(array) {
-                return index.saturating_add(gone.count_before(index));
+                return gone.own_index(index);
             }
         }
         index
@@ -114,17 +114,16 @@ impl Gone {
                 .all(|(step, other)| step.is_same(other))
     }
 
-    /// How many elements are gone before the one that has the index among those that are left.
-    fn count_before(&self, index: u64) -> u64 {
-        let (mut low, mut high) = (0, self.indices.len());
-        while low < high {
-            let middle = low + (high - low) / 2;
-            match self.indices.get(middle) {
-                Some(gone) if gone.saturating_sub(middle as u64) <= index => low = middle + 1,
-                _ => high = middle,
+    /// The index in the document of the element that has the index among those that are left.
+    fn own_index(&self, index: u64) -> u64 {
+        let mut own = index;
+        for gone in &self.indices {
+            if *gone > own {
+                return own;
             }
+            own = own.saturating_add(1);
         }
-        low as u64
+        own
     }
 
     /// One element more is gone.

@@ -22,7 +22,7 @@ impl<'t> Entries<'t> {
         &mut self,
         alloc: Global,
         index: usize,
-        assign: Option<Assign<'t>>,
+        assign: Option<Box<Assign<'t>>>,
         value: Value<'t>,
     ) -> Result<(), AllocError> {
         let space = Gap::space(alloc, Leaf::New(" "))?;

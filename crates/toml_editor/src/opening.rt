@@ -74,6 +74,12 @@ impl Opener {
     }
 
     fn gap<'t>(&mut self, gap: &toml_tree::Gap<'t>) -> Result<Gap<'t>, AllocError> {
+        if gap.lines().is_empty() {
+            return Gap::space(self.alloc, self.leaf(gap.ws()));
+        }
+        if let Some(lines) = self.bare_lines(gap) {
+            return Gap::one(self.alloc, GapPart::Newline(Leaf::Kept(lines)));
+        }
         let mut opened = Gap::empty(self.alloc);
         for line in gap.lines() {
             opened.push_ws(self.leaf(line.blank.ws))?;
@@ -86,6 +92,21 @@ impl Opener {
         }
         opened.push_ws(self.leaf(gap.ws()))?;
         Ok(opened)
+    }
+
+    /// Where a gap with lines of the document stands, if no comment is on them: then it needs no parts.
+    fn bare_lines(self, gap: &toml_tree::Gap<'_>) -> Option<Span> {
+        let _ = self.next?;
+        for line in gap.lines() {
+            if line.blank.comment.is_some() {
+                return None;
+            }
+        }
+        let first = gap.lines().first()?;
+        Some(Span {
+            start: first.blank.ws.start,
+            end: gap.ws().span().end,
+        })
     }
 
     fn key<'t>(self, key: &toml_tree::Key<'t>) -> Result<Key<'t>, AllocError> {
@@ -171,7 +192,7 @@ impl Opener {
             list.push(Entry {
                 origin,
                 before,
-                assign: Some(keyval.assign),
+                assign: Some(Box::new(self.alloc, keyval.assign)?),
                 value: keyval.value,
                 after,
             })?;

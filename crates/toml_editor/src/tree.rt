@@ -32,6 +32,7 @@ pub(crate) struct Gap<'t> {
 #[derive(Drop)]
 pub(crate) enum GapPart<'t> {
     Ws(Leaf<'t>),
+    /// A newline, or newlines of the document with the whitespace around them.
     Newline(Leaf<'t>),
     Comment(Comment<'t>),
 }
@@ -88,8 +89,8 @@ pub(crate) struct Entry<'t> {
     /// Which unit of the document it is; none where an edit has written it.
     pub(crate) origin: Option<usize>,
     pub(crate) before: Gap<'t>,
-    /// A pair's key; an element has none.
-    pub(crate) assign: Option<Assign<'t>>,
+    /// A pair's key; an element has none, and most entries are elements.
+    pub(crate) assign: Option<Box<Assign<'t>>>,
     pub(crate) value: Value<'t>,
     pub(crate) after: Gap<'t>,
 }
@@ -183,11 +184,19 @@ impl<'t> Gap<'t> {
         }
     }
 
+    /// A gap of this one part.
+    pub(crate) fn one(alloc: Global, part: GapPart<'t>) -> Result<Gap<'t>, AllocError> {
+        let mut parts = Vec::with_capacity(alloc, 1)?;
+        parts.push(part)?;
+        Ok(Gap { parts })
+    }
+
     /// A gap of this whitespace.
     pub(crate) fn space(alloc: Global, ws: Leaf<'t>) -> Result<Gap<'t>, AllocError> {
-        let mut gap = Gap::empty(alloc);
-        gap.push_ws(ws)?;
-        Ok(gap)
+        if ws.is_empty() {
+            return Ok(Gap::empty(alloc));
+        }
+        Gap::one(alloc, GapPart::Ws(ws))
     }
 
     /// Puts whitespace behind it, unless it has no bytes.

@@ -135,7 +135,7 @@ impl<'t> Texts<'t> {
             (Value::Inline(entries), _) => {
                 let used = spelled.len().saturating_sub(rest.len());
                 let (_, parts) = spelled.split_at(used);
-                let assign = self.assign(parts)?;
+                let assign = Box::new(self.alloc, self.assign(parts)?)?;
                 let count = entries.list.len();
                 entries.put(self.alloc, count, Some(assign), new)?;
                 Ok(true)
