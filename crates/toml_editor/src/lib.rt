@@ -6,6 +6,7 @@ mod editing;
 mod entries;
 mod fault;
 mod inserting;
+pub mod laws;
 mod lines;
 mod making;
 mod numbering;
