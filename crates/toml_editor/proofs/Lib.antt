@@ -4,3 +4,5 @@ pub mod Judgements
 pub mod NearFaults
 mod Each
 mod Tidy
+pub mod written
+pub mod Proved

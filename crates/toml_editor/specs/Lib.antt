@@ -4,10 +4,17 @@ pub mod Edited
 -- words of the code's own contracts
 pub mod Making
 pub mod Editing
--- what a plain edit writes: nothing is proved of it yet
+-- what a plain edit writes, and the laws of it
 pub mod Lines
 pub mod Setting
 pub mod Inserting
 pub mod Removing
 pub mod Renaming
 pub mod Written
+pub mod SetLaws
+pub mod Blocks
+pub mod InsertLaws
+pub mod RemoveLaws
+pub mod RenameLaws
+pub mod Bares
+pub mod Steps

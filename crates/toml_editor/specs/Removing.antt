@@ -1,5 +1,4 @@
 -- `remove` of a name at the root that is one line: the line goes with its newline; a last line leaves one of no bytes.
--- Nothing is proved of it yet.
 use Rattle.std.specs.Prelude.{List, [], ◌∷◌, length, ◌==◌, if◌then◌else◌, None}
 use Rattle.toml_tree.specs.Tree.{BlankLine, KeyValLine, TableLine, ArrayTableLine, Line}
 use Rattle.toml_names.specs.model.Addresses.{Address, same_address, below}

@@ -1,5 +1,4 @@
 -- The text after one plain edit.
--- Nothing is proved of it yet.
 use Rattle.std.specs.Prelude.{◌≡◌, true, ℕ, List, [], ◌∷◌, ◌++◌, Any, length, ◌==◌, if◌then◌else◌}
 use Rattle.toml_tree.specs.Profiles.{SpellsIn, IsValueIn}
 use Rattle.toml_tree.specs.Spells.{joined, lines_parts}

@@ -7,6 +7,7 @@ mod elements;
 mod entries;
 mod fault;
 mod inserting;
+pub mod laws;
 mod lines;
 mod making;
 mod numbering;

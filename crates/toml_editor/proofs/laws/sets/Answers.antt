@@ -1,0 +1,7 @@
+use Rattle.toml_editor.proofs.written.SetFormed.{set_forms}
+use Rattle.toml_editor.proofs.written.SetKept.{set_rules, set_short, set_data}
+use Rattle.toml_editor.proofs.written.SetNamed.{set_names}
+use Rattle.toml_editor.proofs.laws.sets.Goals as goal
+
+pub returns : goal.returns
+returns c = record { names = set_names; rules = set_rules; short = set_short; «data» = set_data; forms = set_forms }

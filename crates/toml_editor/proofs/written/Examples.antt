@@ -1,0 +1,193 @@
+-- Examples, computed: each text was written by hand. The edited document is
+--
+--     a.b = [1, {c = 2}] # x
+--     [t]
+--     c = 3
+--     [[u]]
+--     c = 4
+--     [u.v]
+--
+-- whose last line has no newline. The others are `d = 1`, `e = 2`, and an inline table over several lines.
+use Rattle.std.proofs.Common.{◌≡◌, ℕ, Some, None, List, [], ◌∷◌, ◌++◌, refl}
+use Rattle.toml_scalar.specs.Values.{name_of}
+use Rattle.toml_scalar.specs.declared.kind.ScalarKind.TheVariants as kinds
+use Rattle.toml_tree.specs.Spells.{joined, lines_parts}
+use Rattle.toml_tree.specs.Tree.{Piece, Blank, Key, Assign, Gap, Value, Scalar, Last, More, MorePairs, ClosePairs, LastPair, Header, Expr, KeyValLine, TableLine, ArrayTableLine, Line}
+use Rattle.toml_names.specs.declared.model.address.Step.TheVariants.{Name, Index}
+use Rattle.toml_editor.specs.Inserting.{insert_lines}
+use Rattle.toml_editor.specs.Lines.{fresh, array_of, inline_of}
+use Rattle.toml_editor.specs.Removing.{remove_lines}
+use Rattle.toml_editor.specs.Renaming.{rename_lines}
+use Rattle.toml_editor.specs.Setting.{set_lines}
+
+-- ---- trees
+
+abbrev empty : Piece
+empty = fresh []
+
+abbrev space : Piece
+space = fresh (0x20 ∷ [])
+
+abbrev no_gap : Gap
+no_gap = record { lines = []; ws = empty }
+
+abbrev key : ℕ → Key
+key letter = record { first = fresh (letter ∷ []); rest = [] }
+
+abbrev dotted : ℕ → ℕ → Key
+dotted one two = record { first = fresh (one ∷ []); rest = record { before_dot = empty; after_dot = empty; part = fresh (two ∷ []) } ∷ [] }
+
+abbrev assign : Key → Assign
+assign k = record { key = k; before_equals = space; after_equals = space }
+
+abbrev digit : ℕ → Value
+digit d = Scalar kinds.Integer (fresh (d ∷ []))
+
+abbrev no_tail : Blank
+no_tail = record { ws = empty; comment = None }
+
+abbrev header : Key → Header
+header k = record { before = empty; key = k; after = empty }
+
+abbrev ended : Expr → Line
+ended e = record { expr = e; newline = fresh (0x0A ∷ []) }
+
+abbrev keyval : Key → Value → Expr
+keyval k v = KeyValLine empty (record { assign = assign k; value = v }) no_tail
+
+abbrev nested : Value
+nested = array_of (More no_gap (digit 0x31) no_gap (Last (record { lines = []; ws = space }) (inline_of (LastPair no_gap (assign (key 0x63)) (digit 0x32) no_gap)) no_gap))
+
+abbrev document : List Line
+document =
+    ended (KeyValLine empty (record { assign = assign (dotted 0x61 0x62); value = nested }) (record { ws = space; comment = Some (fresh (0x23 ∷ 0x20 ∷ 0x78 ∷ [])) }))
+    ∷ ended (TableLine empty (header (key 0x74)) no_tail)
+    ∷ ended (keyval (key 0x63) (digit 0x33))
+    ∷ ended (ArrayTableLine empty (header (key 0x75)) no_tail)
+    ∷ ended (keyval (key 0x63) (digit 0x34))
+    ∷ record { expr = TableLine empty (header (dotted 0x75 0x76)) no_tail; newline = empty } ∷ []
+
+abbrev pairs : List Line
+pairs = ended (keyval (key 0x64) (digit 0x31)) ∷ record { expr = keyval (key 0x65) (digit 0x32); newline = empty } ∷ []
+
+-- a table over three lines, with a comment and a last comma
+abbrev over_lines : List Line
+over_lines =
+    let comment : Gap = record { lines = record { blank = record { ws = space; comment = Some (fresh (0x23 ∷ 0x79 ∷ [])) }; newline = fresh (0x0A ∷ []) } ∷ []; ws = empty } in
+    let opened : Gap = record { lines = record { blank = no_tail; newline = fresh (0x0A ∷ []) } ∷ []; ws = space } in
+    record { expr = keyval (key 0x70) (inline_of (MorePairs opened (assign (key 0x63)) (digit 0x31) no_gap (ClosePairs comment))); newline = empty } ∷ []
+
+-- ---- the lines of the texts
+
+-- `a.b = [1, {c = 2}] # x`
+abbrev first : List ℕ
+first = 0x61 ∷ 0x2E ∷ 0x62 ∷ 0x20 ∷ 0x3D ∷ 0x20 ∷ 0x5B ∷ 0x31 ∷ 0x2C ∷ 0x20 ∷ 0x7B ∷ 0x63 ∷ 0x20 ∷ 0x3D ∷ 0x20 ∷ 0x32 ∷ 0x7D ∷ 0x5D ∷ 0x20 ∷ 0x23 ∷ 0x20 ∷ 0x78 ∷ 0x0A ∷ []
+
+-- `[t]`
+abbrev table : List ℕ
+table = 0x5B ∷ 0x74 ∷ 0x5D ∷ 0x0A ∷ []
+
+-- `c = 3`
+abbrev third : List ℕ
+third = 0x63 ∷ 0x20 ∷ 0x3D ∷ 0x20 ∷ 0x33 ∷ 0x0A ∷ []
+
+-- `[[u]]`
+abbrev array : List ℕ
+array = 0x5B ∷ 0x5B ∷ 0x75 ∷ 0x5D ∷ 0x5D ∷ 0x0A ∷ []
+
+-- `c = 4`
+abbrev fourth : List ℕ
+fourth = 0x63 ∷ 0x20 ∷ 0x3D ∷ 0x20 ∷ 0x34 ∷ 0x0A ∷ []
+
+-- `[u.v]`
+abbrev last : List ℕ
+last = 0x5B ∷ 0x75 ∷ 0x2E ∷ 0x76 ∷ 0x5D ∷ []
+
+abbrev nine : Value
+nine = digit 0x39
+
+-- the texts that trees spell
+abbrev text : List Line → List ℕ
+text lines = joined (lines_parts lines)
+
+same : text document ≡ first ++ table ++ third ++ array ++ fourth ++ last
+unfolding name_of
+same = refl
+
+-- ---- rename
+
+-- a name in an inline table in an array, to one that is no bare key: `a.b = [1, {"x y" = 2}] # x`
+renamed_inside : text (rename_lines (Name (0x61 ∷ []) ∷ Name (0x62 ∷ []) ∷ Index 1 ∷ Name (0x63 ∷ []) ∷ []) (0x78 ∷ 0x20 ∷ 0x79 ∷ []) document) ≡ (0x61 ∷ 0x2E ∷ 0x62 ∷ 0x20 ∷ 0x3D ∷ 0x20 ∷ 0x5B ∷ 0x31 ∷ 0x2C ∷ 0x20 ∷ 0x7B ∷ 0x22 ∷ 0x78 ∷ 0x20 ∷ 0x79 ∷ 0x22 ∷ 0x20 ∷ 0x3D ∷ 0x20 ∷ 0x32 ∷ 0x7D ∷ 0x5D ∷ 0x20 ∷ 0x23 ∷ 0x20 ∷ 0x78 ∷ 0x0A ∷ []) ++ table ++ third ++ array ++ fourth ++ last
+unfolding name_of
+renamed_inside = refl
+
+-- the first part of a dotted key: `z.b = [1, {c = 2}] # x`
+renamed_dotted : text (rename_lines (Name (0x61 ∷ []) ∷ []) (0x7A ∷ []) document) ≡ (0x7A ∷ 0x2E ∷ 0x62 ∷ 0x20 ∷ 0x3D ∷ 0x20 ∷ 0x5B ∷ 0x31 ∷ 0x2C ∷ 0x20 ∷ 0x7B ∷ 0x63 ∷ 0x20 ∷ 0x3D ∷ 0x20 ∷ 0x32 ∷ 0x7D ∷ 0x5D ∷ 0x20 ∷ 0x23 ∷ 0x20 ∷ 0x78 ∷ 0x0A ∷ []) ++ table ++ third ++ array ++ fourth ++ last
+unfolding name_of
+renamed_dotted = refl
+
+-- an array of tables, in each header that passes it: `[[w]]` and `[w.v]`
+renamed_array : text (rename_lines (Name (0x75 ∷ []) ∷ []) (0x77 ∷ []) document) ≡ first ++ table ++ third ++ (0x5B ∷ 0x5B ∷ 0x77 ∷ 0x5D ∷ 0x5D ∷ 0x0A ∷ []) ++ fourth ++ (0x5B ∷ 0x77 ∷ 0x2E ∷ 0x76 ∷ 0x5D ∷ [])
+unfolding name_of
+renamed_array = refl
+
+-- a name in an element of it: `w = 4`
+renamed_in_element : text (rename_lines (Name (0x75 ∷ []) ∷ Index 0 ∷ Name (0x63 ∷ []) ∷ []) (0x77 ∷ []) document) ≡ first ++ table ++ third ++ array ++ (0x77 ∷ 0x20 ∷ 0x3D ∷ 0x20 ∷ 0x34 ∷ 0x0A ∷ []) ++ last
+unfolding name_of
+renamed_in_element = refl
+
+-- in a table over several lines
+renamed_over_lines : text (rename_lines (Name (0x70 ∷ []) ∷ Name (0x63 ∷ []) ∷ []) (0x7A ∷ []) over_lines) ≡ 0x70 ∷ 0x20 ∷ 0x3D ∷ 0x20 ∷ 0x7B ∷ 0x0A ∷ 0x20 ∷ 0x7A ∷ 0x20 ∷ 0x3D ∷ 0x20 ∷ 0x31 ∷ 0x2C ∷ 0x20 ∷ 0x23 ∷ 0x79 ∷ 0x0A ∷ 0x7D ∷ []
+unfolding name_of
+renamed_over_lines = refl
+
+-- ---- set
+
+-- `a.b = [1, {c = 9}] # x`
+set_inside : text (set_lines (Name (0x61 ∷ []) ∷ Name (0x62 ∷ []) ∷ Index 1 ∷ Name (0x63 ∷ []) ∷ []) nine document) ≡ (0x61 ∷ 0x2E ∷ 0x62 ∷ 0x20 ∷ 0x3D ∷ 0x20 ∷ 0x5B ∷ 0x31 ∷ 0x2C ∷ 0x20 ∷ 0x7B ∷ 0x63 ∷ 0x20 ∷ 0x3D ∷ 0x20 ∷ 0x39 ∷ 0x7D ∷ 0x5D ∷ 0x20 ∷ 0x23 ∷ 0x20 ∷ 0x78 ∷ 0x0A ∷ []) ++ table ++ third ++ array ++ fourth ++ last
+unfolding name_of
+set_inside = refl
+
+-- `a.b = [9, {c = 2}] # x`
+set_element : text (set_lines (Name (0x61 ∷ []) ∷ Name (0x62 ∷ []) ∷ Index 0 ∷ []) nine document) ≡ (0x61 ∷ 0x2E ∷ 0x62 ∷ 0x20 ∷ 0x3D ∷ 0x20 ∷ 0x5B ∷ 0x39 ∷ 0x2C ∷ 0x20 ∷ 0x7B ∷ 0x63 ∷ 0x20 ∷ 0x3D ∷ 0x20 ∷ 0x32 ∷ 0x7D ∷ 0x5D ∷ 0x20 ∷ 0x23 ∷ 0x20 ∷ 0x78 ∷ 0x0A ∷ []) ++ table ++ third ++ array ++ fourth ++ last
+unfolding name_of
+set_element = refl
+
+-- the value of a line below a header: `c = 9`
+set_line : text (set_lines (Name (0x74 ∷ []) ∷ Name (0x63 ∷ []) ∷ []) nine document) ≡ first ++ table ++ (0x63 ∷ 0x20 ∷ 0x3D ∷ 0x20 ∷ 0x39 ∷ 0x0A ∷ []) ++ array ++ fourth ++ last
+unfolding name_of
+set_line = refl
+
+-- in a table over several lines
+set_over_lines : text (set_lines (Name (0x70 ∷ []) ∷ Name (0x63 ∷ []) ∷ []) nine over_lines) ≡ 0x70 ∷ 0x20 ∷ 0x3D ∷ 0x20 ∷ 0x7B ∷ 0x0A ∷ 0x20 ∷ 0x63 ∷ 0x20 ∷ 0x3D ∷ 0x20 ∷ 0x39 ∷ 0x2C ∷ 0x20 ∷ 0x23 ∷ 0x79 ∷ 0x0A ∷ 0x7D ∷ []
+unfolding name_of
+set_over_lines = refl
+
+-- ---- insert
+
+-- behind the last keyval line before the first header, with the newline of the style: `"z z" = 9`, CR, LF
+inserted : text (insert_lines (0x7A ∷ 0x20 ∷ 0x7A ∷ []) nine (0x0D ∷ 0x0A ∷ []) document) ≡ first ++ (0x22 ∷ 0x7A ∷ 0x20 ∷ 0x7A ∷ 0x22 ∷ 0x20 ∷ 0x3D ∷ 0x20 ∷ 0x39 ∷ 0x0D ∷ 0x0A ∷ []) ++ table ++ third ++ array ++ fourth ++ last
+unfolding name_of
+inserted = refl
+
+-- behind the last line, which gets the newline
+inserted_last : text (insert_lines (0x66 ∷ []) nine (0x0D ∷ 0x0A ∷ []) pairs) ≡ 0x64 ∷ 0x20 ∷ 0x3D ∷ 0x20 ∷ 0x31 ∷ 0x0A ∷ 0x65 ∷ 0x20 ∷ 0x3D ∷ 0x20 ∷ 0x32 ∷ 0x0D ∷ 0x0A ∷ 0x66 ∷ 0x20 ∷ 0x3D ∷ 0x20 ∷ 0x39 ∷ []
+unfolding name_of
+inserted_last = refl
+
+-- before the first line, where no keyval line stands before a header
+inserted_first : text (insert_lines (0x66 ∷ []) nine (0x0A ∷ []) (record { expr = TableLine empty (header (key 0x74)) no_tail; newline = empty } ∷ [])) ≡ 0x66 ∷ 0x20 ∷ 0x3D ∷ 0x20 ∷ 0x39 ∷ 0x0A ∷ 0x5B ∷ 0x74 ∷ 0x5D ∷ []
+unfolding name_of
+inserted_first = refl
+
+-- ---- remove
+
+-- the last line, which leaves one of no bytes
+removed_last : text (remove_lines (Name (0x65 ∷ []) ∷ []) pairs) ≡ 0x64 ∷ 0x20 ∷ 0x3D ∷ 0x20 ∷ 0x31 ∷ 0x0A ∷ []
+unfolding name_of
+removed_last = refl
+
+-- another one
+removed_first : text (remove_lines (Name (0x64 ∷ []) ∷ []) pairs) ≡ 0x65 ∷ 0x20 ∷ 0x3D ∷ 0x20 ∷ 0x32 ∷ []
+unfolding name_of
+removed_first = refl

@@ -1,0 +1,125 @@
+-- What is kept by a `remove` at the root: the forms, the rules, the data.
+use Rattle.std.proofs.Common.{◌≡◌, ℕ, ◌+◌, ◌==◌, ◌⊎◌, Bool, true, false, cond, inl, inr, List, [], ◌∷◌, ◌++◌, length, refl, sym, ap, ◌∙◌, subst, true≢false}
+use Rattle.toml_text.specs.Forms.{IsNewline}
+use Rattle.toml_tree.specs.Spells.{EachIs, IsExpr, AreLines}
+use Rattle.toml_tree.specs.Tree.{Value, Expr, BlankLine, KeyValLine, TableLine, ArrayTableLine, Line}
+use Rattle.toml_names.specs.declared.model.address.Step.TheVariants.{Name}
+use Rattle.toml_names.specs.declared.mentions.mention.Role.TheVariants.{Valued}
+use Rattle.toml_names.specs.model.Addresses.{Address, same_address, below}
+use Rattle.toml_names.specs.mentions.Keys.{key_names}
+use Rattle.toml_names.specs.mentions.Mentions.{Named, named, named_by, root, section, value_named}
+use Rattle.toml_names.specs.mentions.Rules.{KeepsRules}
+use Rattle.toml_names.specs.model.Places.{IsNamed}
+use Rattle.toml_names.specs.mentions.Clear.{IsClear}
+use Rattle.toml_names.proofs.Proved.{line_values_stand_alone, not_named_is_clear}
+use Rattle.toml_editor.specs.Blocks.{IsPut, root_pair, named_plain}
+use Rattle.toml_editor.specs.RemoveLaws.{RemoveForms, RemoveGood, RemoveData}
+use Rattle.toml_editor.specs.Lines.{lines_from}
+use Rattle.toml_editor.specs.Removing.{remove_line, remove_lines, left_behind, empty_line}
+use Rattle.toml_editor.proofs.written.BlockFacts.{each_old, pairs_old, has_old, has_new, pairs_back, pairs_between}
+use Rattle.toml_editor.proofs.written.Clear.{IsUnder}
+use Rattle.toml_editor.proofs.Each.{each_append, each_back, each_weaker}
+use Rattle.toml_editor.proofs.written.InsertKept.{block_under}
+use Rattle.toml_editor.proofs.written.Pairwise.{PairsAre, Goes, Alone, pairs_of_all, Has, has_of_any, any_of_has, from_has}
+use Rattle.toml_editor.proofs.written.RemoveNamed.{remove_names}
+use Rattle.toml_editor.proofs.written.SetKept.{F, clear_under, carried_clear, clear_carried}
+use Rattle.toml_editor.proofs.written.Unplain.{pairs_plain, rules_plain, plain_rules, short_plain, plain_short, each_plain, has_plain, plain_has}
+
+-- ---- forms
+
+before_lines : (l : Line) (ls : List Line) → IsExpr l.expr → IsNewline l.newline.text → AreLines ls → AreLines (l ∷ ls)
+before_lines l [] e n is = absurd is
+before_lines l (m ∷ ms) e n is = (e, n, is)
+
+module _ (p : Address) where
+  -- a line stays, or leaves what is left behind
+  pub two_ways : (xs : List Named) (l : Line) → (remove_line p xs l ≡ l ∷ []) ⊎ (remove_line p xs l ≡ left_behind l)
+  two_ways xs l = by l.expr refl
+    where
+      by : (e : Expr) → l.expr ≡ e → (remove_line p xs l ≡ l ∷ []) ⊎ (remove_line p xs l ≡ left_behind l)
+      by (BlankLine b) is = inl (rw is refl)
+      by (TableLine ws header tail) is = inl (rw is refl)
+      by (ArrayTableLine ws header tail) is = inl (rw is refl)
+      by (KeyValLine ws pair tail) is = at_test (same_address (below (section xs) (key_names pair.assign.key)) p) refl
+        where
+          removed : remove_line p xs l ≡ cond (same_address (below (section xs) (key_names pair.assign.key)) p) (left_behind l) (l ∷ [])
+          removed = rw is refl
+
+          at_test : (b : Bool) → same_address (below (section xs) (key_names pair.assign.key)) p ≡ b → (remove_line p xs l ≡ l ∷ []) ⊎ (remove_line p xs l ≡ left_behind l)
+          at_test true same = inr (removed ∙ ap (λ b. cond b (left_behind l) (l ∷ [])) same)
+          at_test false other = inl (removed ∙ ap (λ b. cond b (left_behind l) (l ∷ [])) other)
+
+  newline_some : (bs : List ℕ) → IsNewline bs → (length bs == 0) ≡ false
+  newline_some bs (inl is) = ap (λ l. length l == 0) is
+  newline_some bs (inr is) = ap (λ l. length l == 0) is
+
+  lines_formed : (ls : List Line) (xs : List Named) (n : ℕ) → AreLines ls → AreLines (lines_from (remove_line p) xs n ls)
+  lines_formed [] xs n is = is
+  lines_formed (l ∷ []) xs n is =
+      elim (two_ways xs l) [
+        | inl stays ↦ subst (λ r. AreLines (r ++ [])) (sym stays) is
+        | inr goes ↦ subst (λ r. AreLines (r ++ [])) (sym (goes ∙ ap (λ bs. cond (length bs == 0) (empty_line ∷ []) []) is.1)) ((tt, tt), refl)
+      ]
+  lines_formed (l ∷ m ∷ ms) xs n is =
+      let rest = lines_formed (m ∷ ms) (xs ++ named_by xs n l.expr) (n + 1) is.2 in
+      let kept = lines_from (remove_line p) (xs ++ named_by xs n l.expr) (n + 1) (m ∷ ms) in
+      elim (two_ways xs l) [
+        | inl stays ↦ subst (λ r. AreLines (r ++ kept)) (sym stays) (before_lines l kept is.0 is.1 rest)
+        | inr goes ↦ subst (λ r. AreLines (r ++ kept)) (sym (goes ∙ ap (λ b. cond b (empty_line ∷ []) []) (newline_some l.newline.text is.1))) rest
+      ]
+
+pub remove_forms : RemoveForms
+remove_forms p lines is = lines_formed p lines (root ∷ []) 0 is
+
+-- ---- rules
+
+pub remove_good : RemoveGood
+remove_good name lines there good =
+    let found = remove_names name lines there good.0 in
+    let lines' = remove_lines (Name name ∷ []) lines in (
+      plain_rules lines' (pairs_old (named_plain lines') (root_pair name found.0) (named_plain lines) found.1 Goes (rules_plain lines good.0)),
+      plain_short lines' (each_old (named_plain lines') (root_pair name found.0) (named_plain lines) found.1 _ (short_plain lines good.1)),
+    )
+
+-- ---- data
+
+abbrev Apart : List ℕ → Named → Type 0
+Apart name m = ¬ (m.address ≡ Name name ∷ [])
+
+-- beside the pair nothing is at its address
+apart_rest : (name : List ℕ) (v : Value) (old new : List Named) → IsPut old (root_pair name v) new → PairsAre Alone new → EachIs (Apart name) old
+apart_rest name v old new put alone =
+    let parts = subst (PairsAre Alone) put.after alone in
+    let behind = (pairs_back Alone put.front (root_pair name v ++ put.back) parts).0 in
+    subst (EachIs (Apart name)) (sym put.before)
+    (each_append (Apart name) put.front put.back
+    (each_weaker (λ x. EachIs (Alone x) (root_pair name v ++ put.back)) (Apart name) (λ x h here. true≢false ((h.0 here).1)) put.front (pairs_between Alone put.front (root_pair name v ++ put.back) parts))
+    (each_weaker (Alone (value_named 0 Valued (Name name ∷ []) v)) (Apart name) (λ x h here. true≢false ((h (sym here)).0)) put.back (each_back (Alone (value_named 0 Valued (Name name ∷ []) v)) (Rattle.toml_names.specs.mentions.Mentions.inside 0 (Name name ∷ []) v) put.back behind)))
+
+pub remove_data : RemoveData
+remove_data profile name lines old after there keeps is is' =
+    let p = Name name ∷ [] in
+    let lines' = remove_lines p lines in
+    let found = remove_names name lines there keeps in
+    let v = found.0 in
+    let put = found.1 in
+    let keeps' : KeepsRules (named lines') = plain_rules lines' (pairs_old (named_plain lines') (root_pair name v) (named_plain lines) put Goes (rules_plain lines keeps)) in
+    let alone : PairsAre Alone (named_plain lines) = pairs_plain lines Alone (λ x y h. h) (pairs_of_all Alone (named lines) (line_values_stand_alone lines keeps)) in
+    let apart = apart_rest name v (named_plain lines') (named_plain lines) put alone in
+    let free : ¬ IsNamed (named lines') p = λ named_there. from_has (Apart name) (λ m. m.address ≡ p) ⊥ (λ m a here. a here) (named_plain lines') apart (has_plain lines' (λ m. m.address ≡ p) (has_of_any _ (named lines') named_there)) in
+    let clear = each_plain lines' (λ m. IsClear p m.address) (not_named_is_clear lines' p keeps' free) in
+    record {
+      carried = λ a b k have to.
+          let go = carried_clear p b a to in
+          let fact : Has (F p v b k) (named_plain lines) = has_plain lines (F p v b k) (has_of_any _ (named lines) ((is b k).0 have)) in
+          let left : Has (F p v b k) (named_plain lines') = elim (has_new (named_plain lines') (root_pair name v) (named_plain lines) put (F p v b k) fact) [
+            | inl w ↦ w
+            | inr w ↦ absurd (from_has (λ m. IsUnder p m.address) (F p v b k) ⊥ (λ m under f. clear_under p b go.1 (subst (IsUnder p) f.0 under)) (root_pair name v) (block_under p v 0) w)
+          ] in
+          ap after go.0 ∙ (is' b k).1 (any_of_has _ (named lines') (plain_has lines' (F p v b k) left));
+      placed = λ r k have. cc;
+      no_other = λ a k have.
+          let fact : Has (F p v a k) (named_plain lines') = has_plain lines' (F p v a k) (has_of_any _ (named lines') ((is' a k).0 have)) in
+          let cleared : IsClear p a = from_has (λ m. IsClear p m.address) (F p v a k) (IsClear p a) (λ m c f. subst (IsClear p) f.0 c) (named_plain lines') clear fact in
+          inl (a, (is a k).1 (any_of_has _ (named lines) (plain_has lines (F p v a k) (has_old (named_plain lines') (root_pair name v) (named_plain lines) put (F p v a k) fact))), clear_carried p a cleared);
+    }

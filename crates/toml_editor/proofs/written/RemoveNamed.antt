@@ -1,0 +1,184 @@
+-- What is named after a `remove` at the root.
+use Rattle.std.proofs.Common.{◌≡◌, ℕ, ◌+◌, ◌==◌, Bool, true, false, cond, ◌⊎◌, inl, inr, List, [], ◌∷◌, ◌++◌, length, refl, sym, ap, ap₂, ◌∙◌, subst, subst₂, true≢false, append-nil}
+use Rattle.std.proofs.lemmas.Bool.{cond-true, cond-false}
+use Rattle.toml_tree.specs.Spells.{EachIs}
+use Rattle.toml_tree.specs.Tree.{Assign, Value, Expr, BlankLine, KeyValLine, TableLine, ArrayTableLine, Line}
+use Rattle.toml_names.specs.declared.model.address.Step.TheVariants.{Name}
+use Rattle.toml_names.specs.declared.mentions.mention.Role.TheVariants.{Valued}
+use Rattle.toml_names.specs.model.Addresses.{Address, IsAbove, same_address, child, below}
+use Rattle.toml_names.specs.mentions.Keys.{Key, key_names, part_name, rest_names}
+use Rattle.toml_names.specs.mentions.Mentions.{Named, named, named_by, root, pair_named, fronts, value_named, inside, section, followed, entered, ends_table, ends_tables}
+use Rattle.toml_names.specs.mentions.Alike.{AreAlike}
+use Rattle.toml_names.proofs.Proved.{inside_is_below, line_values_stand_alone}
+use Rattle.toml_editor.specs.Blocks.{IsPut, root_pair}
+use Rattle.toml_editor.specs.RemoveLaws.{RemoveNames}
+use Rattle.toml_editor.specs.Lines.{lines_from}
+use Rattle.toml_editor.specs.Removing.{remove_line, remove_lines, left_behind, empty_line}
+use Rattle.toml_editor.proofs.written.Alike.{alike_self, alike_pair}
+use Rattle.toml_editor.proofs.written.Behind.{put_behind, put_here}
+use Rattle.toml_editor.proofs.written.BlockFacts.{pairs_back, pairs_between}
+use Rattle.toml_editor.proofs.Each.{each_front, each_back, each_weaker, each_append}
+use Rattle.toml_editor.proofs.written.Pairwise.{PairsAre, Alone, Has, has_of_any, has_parts, from_has, pairs_of_all}
+use Rattle.toml_editor.proofs.written.Plain.{next_alike, behind, behind_alike, plain_is}
+use Rattle.toml_editor.proofs.written.Clear.{same_is, self}
+use Rattle.toml_editor.proofs.written.Unplain.{pairs_plain, has_plain}
+
+-- no value has the address
+abbrev NoPair : Address → List Named → Type 0
+NoPair p = EachIs (λ m. m.address ≡ p → ¬ (m.role ≡ Valued))
+
+module _ (name : List ℕ) where
+  abbrev p : Address
+  p = Name name ∷ []
+
+  abbrev IsPair : Named → Type 0
+  IsPair m = (m.address ≡ p) × (m.role ≡ Valued)
+
+  -- one step: where a key of a pair ends there, the pair stands in the root, and has that one name
+  one_step : (s : Address) (n : List ℕ) (ns : Key) → below s (n ∷ ns) ≡ p → (s ≡ []) × (n ≡ name) × (ns ≡ [])
+  one_step [] n [] is = (refl, (let e : Name n ≡ Name name = cc in cc), refl)
+  one_step [] n (m ∷ ns) is = cc
+  one_step (t ∷ []) n ns is = cc
+  one_step (t ∷ u ∷ s) n ns is = cc
+
+  not_above : (a : Address) → ¬ (a ≡ []) → ¬ IsAbove a p
+  not_above [] some above = some refl
+  not_above (s ∷ []) some (t, r, is) = cc
+  not_above (s ∷ u ∷ a) some (t, r, is) = cc
+
+  below_some : (s : Address) (n : List ℕ) (ns : Key) → ¬ (below s (n ∷ ns) ≡ [])
+  below_some [] n ns is = cc
+  below_some (t ∷ s) n ns is = cc
+
+  fronts_none : (line : ℕ) (key : Key) (at : Address) → NoPair p (fronts line at key)
+  fronts_none line [] at = tt
+  fronts_none line (n ∷ []) at = tt
+  fronts_none line (n ∷ m ∷ more) at = ((λ here role. cc), fronts_none line (m ∷ more) (child at n))
+
+  inside_none : (line : ℕ) (to : Address) (v : Value) → ¬ (to ≡ []) → NoPair p (inside line to v)
+  inside_none line to v some =
+      each_weaker (λ m. IsAbove to m.address) (λ m. m.address ≡ p → ¬ (m.role ≡ Valued)) (λ m above here role. not_above to some (subst (IsAbove to) here above)) (inside line to v)
+      (inside_is_below line v to)
+
+  -- a pair elsewhere
+  pair_none : (line : ℕ) (s : Address) (a : Assign) (v : Value) → ¬ (below s (key_names a.key) ≡ p) → NoPair p (pair_named line s a v)
+  pair_none line s a v apart =
+      let to = below s (key_names a.key) in
+      each_append _ (fronts line s (key_names a.key)) (value_named line Valued to v ∷ inside line to v) (fronts_none line (key_names a.key) s)
+      ((λ here role. apart here), inside_none line to v (below_some s (part_name a.key.first) (rest_names a.key.rest)))
+
+  followed_none : (ns : Key) (n : List ℕ) (line : ℕ) (ms : List Named) (end : Address → List Named) (at : Address) → ((here : Address) → NoPair p (end here)) → NoPair p (followed line ms end at (n ∷ ns))
+  followed_none [] n line ms end at ends = ends (child at n)
+  followed_none (m ∷ ns) n line ms end at ends = ((λ here role. cc), followed_none ns m line ms end (entered ms (child at n)) ends)
+
+  -- a line that stays
+  abbrev Stays : List Named → Line → Type 0
+  Stays xs l = (remove_line p xs l ≡ l ∷ []) × ((ys : List Named) → AreAlike xs ys → NoPair p (named_by ys 0 l.expr))
+
+  -- a line that goes
+  record Goes_away (xs : List Named) (l : Line) : Type 0 where
+    at_root : section xs ≡ []
+    value : Value
+    gone : remove_line p xs l ≡ left_behind l
+    names : (ys : List Named) → AreAlike xs ys → named_by ys 0 l.expr ≡ root_pair name value
+    alike : (ys : List Named) → AreAlike xs ys → AreAlike ys (ys ++ root_pair name value)
+
+  line_by : (xs : List Named) (l : Line) → Stays xs l ⊎ Goes_away xs l
+  line_by xs l = by l.expr refl
+    where
+      by : (e : Expr) → l.expr ≡ e → Stays xs l ⊎ Goes_away xs l
+      by (BlankLine b) is = inl ((rw is refl), (λ ys alike. rw is tt))
+      by (TableLine ws header tail) is = inl ((rw is refl), (λ ys alike. subst (λ e. NoPair p (named_by ys 0 e)) (sym is) (followed_none (rest_names header.key.rest) (part_name header.key.first) 0 ys (ends_table 0) [] (λ here. ((λ h role. cc), tt)))))
+      by (ArrayTableLine ws header tail) is = inl ((rw is refl), (λ ys alike. subst (λ e. NoPair p (named_by ys 0 e)) (sym is) (followed_none (rest_names header.key.rest) (part_name header.key.first) 0 ys (ends_tables 0 ys) [] (λ here. ((λ h role. cc), ((λ h role. cc), tt))))))
+      by (KeyValLine ws pair tail) is = at_test (same_address (below (section xs) (key_names pair.assign.key)) p) refl
+        where
+          to : Address
+          to = below (section xs) (key_names pair.assign.key)
+
+          removed : remove_line p xs l ≡ cond (same_address to p) (left_behind l) (l ∷ [])
+          removed = rw is refl
+
+          at_test : (b : Bool) → same_address to p ≡ b → Stays xs l ⊎ Goes_away xs l
+          at_test false other = inl (
+            removed ∙ cond-false _ _ _ other,
+            (λ ys alike.
+                subst (λ e. NoPair p (named_by ys 0 e)) (sym is)
+                (pair_none 0 (section ys) pair.assign pair.value (λ here. true≢false (sym (subst (λ a. same_address a p ≡ true) (sym (ap (λ s. below s (key_names pair.assign.key)) alike.sections ∙ here)) (self p)) ∙ other)))),
+          )
+          at_test true same =
+              let steps = one_step (section xs) (part_name pair.assign.key.first) (rest_names pair.assign.key.rest) (same_is to p same) in
+              let key : key_names pair.assign.key ≡ name ∷ [] = ap₂ (λ n ns. n ∷ ns) steps.1 steps.2 in
+              let root_is : (ys : List Named) → AreAlike xs ys → pair_named 0 (section ys) pair.assign pair.value ≡ root_pair name pair.value = λ ys alike.
+              ap (λ s. pair_named 0 s pair.assign pair.value) (sym alike.sections ∙ steps.0)
+              ∙ ap (λ k. fronts 0 [] k ++ (value_named 0 Valued (below [] k) pair.value ∷ inside 0 (below [] k) pair.value)) key in
+              inr (record {
+                at_root = steps.0;
+                value = pair.value;
+                gone = removed ∙ cond-true _ _ _ same;
+                names = λ ys alike. ap (named_by ys 0) is ∙ root_is ys alike;
+                alike = λ ys alike. subst (λ new. AreAlike ys (ys ++ new)) (root_is ys alike) (alike_pair ys ys (alike_self ys) 0 (section ys) pair.assign pair.value);
+              })
+
+  -- where no pair has the address, all lines stay
+  none_gone : (ls : List Line) (xs ys : List Named) (n : ℕ) → AreAlike xs ys → NoPair p (behind ys ls) → lines_from (remove_line p) xs n ls ≡ ls
+  none_gone [] xs ys n alike none = refl
+  none_gone (l ∷ ls) xs ys n alike none =
+      elim (line_by xs l) [
+        | inl stays ↦
+            ap (λ r. r ++ lines_from (remove_line p) (xs ++ named_by xs n l.expr) (n + 1) ls) stays.0
+            ∙ ap (λ r. l ∷ r) (none_gone ls (xs ++ named_by xs n l.expr) (ys ++ named_by ys 0 l.expr) (n + 1) (next_alike xs ys n l.expr alike) (each_back _ (named_by ys 0 l.expr) (behind (ys ++ named_by ys 0 l.expr) ls) none))
+        | inr goes ↦ absurd ((subst (NoPair p) (goes.names ys alike) (each_front _ (named_by ys 0 l.expr) (behind (ys ++ named_by ys 0 l.expr) ls) none)).0 refl refl)
+      ]
+
+  left_names : (ys : List Named) (l : Line) (ls : List Line) → behind ys (left_behind l ++ ls) ≡ behind ys ls
+  left_names ys l ls = by (length l.newline.text == 0)
+    where
+      by : (b : Bool) → behind ys (cond b (empty_line ∷ []) [] ++ ls) ≡ behind ys ls
+      by true = ap (λ r. behind r ls) (append-nil ys)
+      by false = refl
+
+  taken_out : (ls : List Line) (xs ys : List Named) (n : ℕ) → AreAlike xs ys → PairsAre Alone (behind ys ls) → Has IsPair (behind ys ls) → (v : Value) × IsPut (behind ys (lines_from (remove_line p) xs n ls)) (root_pair name v) (behind ys ls)
+  taken_out [] xs ys n alike alone there = absurd there
+  taken_out (l ∷ ls) xs ys n alike alone there = by (line_by xs l) (λ here. taken_out ls (xs ++ named_by xs n l.expr) (ys ++ named_by ys 0 l.expr) (n + 1) next (pairs_back Alone new_ones rest alone) here)
+    where
+      new_ones : List Named
+      new_ones = named_by ys 0 l.expr
+
+      rest : List Named
+      rest = behind (ys ++ named_by ys 0 l.expr) ls
+
+      next : AreAlike (xs ++ named_by xs n l.expr) (ys ++ named_by ys 0 l.expr)
+      next = next_alike xs ys n l.expr alike
+
+      kept : List Line
+      kept = lines_from (remove_line p) (xs ++ named_by xs n l.expr) (n + 1) ls
+
+      further : NoPair p new_ones → Has IsPair new_ones ⊎ Has IsPair rest → Has IsPair rest
+      further none (inl here) = absurd (from_has (λ m. m.address ≡ p → ¬ (m.role ≡ Valued)) IsPair ⊥ (λ m not is. not is.0 is.1) new_ones none here)
+      further none (inr here) = here
+
+      by : Stays xs l ⊎ Goes_away xs l → (Has IsPair rest → (v : Value) × IsPut (behind (ys ++ named_by ys 0 l.expr) kept) (root_pair name v) rest)
+          → (v : Value) × IsPut (behind ys (remove_line p xs l ++ kept)) (root_pair name v) (new_ones ++ rest)
+      by (inl stays) more =
+          let found = more (further (stays.1 ys alike) (has_parts IsPair new_ones rest there)) in
+          (found.0, subst (λ r. IsPut (behind ys (r ++ kept)) (root_pair name found.0) (new_ones ++ rest)) (sym stays.0) (put_behind new_ones (behind (ys ++ named_by ys 0 l.expr) kept) (root_pair name found.0) rest found.1))
+      by (inr goes) more =
+          let names = goes.names ys alike in
+          let none : NoPair p rest =
+          each_weaker (Alone (value_named 0 Valued p goes.value)) (λ m. m.address ≡ p → ¬ (m.role ≡ Valued)) (λ m apart here role. true≢false ((apart (sym here)).0)) rest
+          (subst (λ b. EachIs (λ x. EachIs (Alone x) rest) b) names (pairs_between Alone new_ones rest alone)).0 in
+          let same : kept ≡ ls = none_gone ls (xs ++ named_by xs n l.expr) (ys ++ named_by ys 0 l.expr) (n + 1) next none in
+          let left : behind ys (remove_line p xs l ++ kept) ≡ behind ys ls = ap₂ (λ a b. behind ys (a ++ b)) goes.gone same ∙ left_names ys l ls in
+          let right : new_ones ++ rest ≡ root_pair name goes.value ++ behind ys ls = ap₂ (λ a b. a ++ b) names (ap (λ b. behind (ys ++ b) ls) names ∙ sym (behind_alike ls ys (ys ++ root_pair name goes.value) (goes.alike ys alike))) in
+          (goes.value, subst₂ (λ a b. IsPut a (root_pair name goes.value) b) (sym left) (sym right) (put_here (root_pair name goes.value) (behind ys ls)))
+
+pub remove_names : RemoveNames
+remove_names name lines there keeps =
+    let alone : PairsAre Alone (root ∷ behind (root ∷ []) lines) = subst (PairsAre Alone) (plain_is lines) (pairs_plain lines Alone (λ x y h. h) (pairs_of_all Alone (named lines) (line_values_stand_alone lines keeps))) in
+    let here : Has (IsPair name) (root ∷ behind (root ∷ []) lines) = subst (Has (IsPair name)) (plain_is lines) (has_plain lines (IsPair name) (has_of_any _ (named lines) there)) in
+    let found = taken_out name lines (root ∷ []) (root ∷ []) 0 (alike_self (root ∷ [])) alone.1 (in_rest here) in
+    (found.0, subst₂ (λ s t. IsPut s (root_pair name found.0) t) (sym (plain_is (remove_lines (Name name ∷ []) lines))) (sym (plain_is lines)) (put_behind (root ∷ []) (behind (root ∷ []) (remove_lines (Name name ∷ []) lines)) (root_pair name found.0) (behind (root ∷ []) lines) found.1))
+  where
+    in_rest : Has (IsPair name) (root ∷ behind (root ∷ []) lines) → Has (IsPair name) (behind (root ∷ []) lines)
+    in_rest (inl is) = let e = is.0 in cc
+    in_rest (inr h) = h

@@ -1,0 +1,174 @@
+-- Plain edits, from text to text.
+use Rattle.std.proofs.Common.{◌≡◌, ◌⊎◌, inl, inr, ℕ, ◌+◌, ◌<◌, List, [], ◌∷◌, ◌++◌, length, Some, None, IsSome, refl, sym, ap, ap₂, ◌∙◌, subst, subst₂}
+use Rattle.std.specs.Prelude.{◌↔◌}
+use Rattle.toml_text.specs.Forms.{IsNewline}
+use Rattle.toml_tree.specs.Places.{put_lines, put_doc}
+use Rattle.toml_tree.specs.Profiles.{AreLinesOfProfile, SpellsIn}
+use Rattle.toml_tree.specs.Spells.{Spells, AreLines, joined, lines_parts, mark_of}
+use Rattle.toml_tree.specs.Tree.{Piece, Line, Doc}
+use Rattle.toml_tree.specs.declared.profile.Profile.{Profile}
+use Rattle.toml_tree.proofs.Proved.{one_tree, one_value, put_doc_spells, put_lines_of_profile, put_lines_same}
+use Rattle.toml_names.specs.declared.model.address.Step.{Step}
+use Rattle.toml_names.specs.declared.model.address.Step.TheVariants.{Name, Index}
+use Rattle.toml_names.specs.mentions.Mentions.{Named, named}
+use Rattle.toml_names.specs.mentions.Rules.{KeepsRules, IsShort, max_steps}
+use Rattle.toml_names.specs.model.Addresses.{Address, child}
+use Rattle.toml_names.specs.model.Data.{Kinds, IsDataOf, IsFact, fact_at}
+use Rattle.toml_names.specs.model.Places.{IsNamed}
+use Rattle.toml_names.specs.reader.Names.{AreGood}
+use Rattle.toml_names.proofs.Proved.{lines_have_data, places_are_not_named}
+use Rattle.toml_edits.specs.After.{IsAfter}
+use Rattle.toml_edits.specs.Edits.{Change, set, insert, rename, remove, new_section, new_element}
+use Rattle.toml_edits.specs.Faults.{IsFault}
+use Rattle.toml_edits.specs.declared.fault.EditFault.TheVariants.{RootNamed, NotAName, AlreadyThere, AddressLength}
+use Rattle.toml_edits.proofs.Proved.{one_after}
+use Rattle.toml_editor.specs.Inserting.{insert_lines}
+use Rattle.toml_editor.specs.Removing.{remove_lines}
+use Rattle.toml_editor.specs.Renaming.{rename_lines}
+use Rattle.toml_editor.specs.Setting.{set_lines}
+use Rattle.toml_editor.specs.Steps.{IsPlain, GoodTextsAreDocuments, PlainIsWritten, PlainStep, PlainSteps, AreWritten, OneWritten, OneListWritten}
+use Rattle.toml_editor.specs.Written.{AreEdited, HasPair}
+use Rattle.toml_editor.proofs.written.Fitting.{all_fit, keeps_value, unnamed, last_step}
+use Rattle.toml_editor.proofs.written.InsertFormed.{insert_forms}
+use Rattle.toml_editor.proofs.written.InsertKept.{insert_rules, insert_short, insert_data}
+use Rattle.toml_editor.proofs.written.Profiled.{set_of_profile, insert_of_profile, remove_of_profile, rename_of_profile}
+use Rattle.toml_editor.proofs.written.RemoveKept.{remove_forms, remove_good, remove_data}
+use Rattle.toml_editor.proofs.written.RenameFormed.{rename_forms}
+use Rattle.toml_editor.proofs.written.RenameKept.{rename_good, rename_data}
+use Rattle.toml_editor.proofs.written.SetFormed.{set_forms}
+use Rattle.toml_editor.proofs.written.SetKept.{set_rules, set_short, set_data}
+
+pub good_texts_are_documents : GoodTextsAreDocuments
+good_texts_are_documents profile text within = (
+  (λ g. (within, g.1.tree, g.1.spelled.0, g.1.good, g.1.spelled.1)),
+  (λ d. (fact_at (named d.1.lines), record { tree = d.1; spelled = (d.2, d.4); good = d.3; facts = lines_have_data d.1.lines d.3.0 })),
+)
+
+edited_lines : (profile : Profile) (c : Change) (style : List ℕ) (lines : List Line) (old now : Kinds) → IsAfter profile c old now → IsPlain lines c → (new : List Line) × AreEdited profile c style lines new
+edited_lines profile (set p text) style lines old now after there = let v = after.1.value.tree in (set_lines p v lines, (v, after.1.value.is_value, there, refl))
+edited_lines profile (insert p text) style lines old now after (name, at) = let v = after.1.value.tree in (insert_lines name v style lines, (v, after.1.value.is_value, name, at, refl))
+edited_lines profile (rename p to) style lines old now after plain = (rename_lines p to lines, refl)
+edited_lines profile (remove p) style lines old now after (name, at, there) = (remove_lines p lines, (name, at, there, refl))
+edited_lines profile (new_section p) style lines old now after plain = absurd plain
+edited_lines profile (new_element p) style lines old now after plain = absurd plain
+
+pub plain_is_written : PlainIsWritten
+plain_is_written profile c style before old now good after plain =
+    let new = edited_lines profile c style good.tree.lines old now after plain in
+    (good.tree.mark.text ++ joined (lines_parts new.0), (good.tree, good.spelled, new.0, new.1, refl))
+
+-- what is known of the new lines
+record AreNew (profile : Profile) (c : Change) (old : Kinds) (new : List Line) : Type 0 where
+  forms : AreLines new
+  profiled : AreLinesOfProfile profile new
+  good : AreGood new
+  after : (kinds : Kinds) → IsDataOf (named new) kinds → IsAfter profile c old kinds
+
+module _ (profile : Profile) (style : List ℕ) (newline : IsNewline style) (lines : List Line) (old : Kinds) (forms : AreLines lines) (profiled : AreLinesOfProfile profile lines) (good : AreGood lines) (is : IsDataOf (named lines) old) where
+  edited : (c : Change) (now : Kinds) (new : List Line) → IsFault profile c old None → IsAfter profile c old now → AreEdited profile c style lines new → AreNew profile c old new
+  edited (set p text) now new none after (v, value, there, made) =
+      let apart : ¬ (p ≡ []) = none RootNamed in
+      let fit = all_fit profile text v after.0 value after.1 p (λ r some low. none AddressLength (inr (after.0, after.1, r, some, low))) in
+      let short = set_short p v lines apart there good fit in
+      subst (AreNew profile (set p text) old) (sym made) (record {
+        forms = set_forms p v lines forms value.0.form short;
+        profiled = set_of_profile profile p v lines profiled value.1;
+        good = (set_rules p v lines apart there good.0 (keeps_value profile text v after.0 value after.1), short);
+        after = λ kinds is'. set_data profile p text v lines after.0 old kinds apart there good.0 value after.1 is is';
+      })
+  edited (insert p text) now new none after (v, value, name, at, made) =
+      let fit = all_fit profile text v after.0 value after.1 (Name name ∷ []) (λ r some low. none AddressLength (inr (after.0, after.1, r, some, subst (λ x. max_steps < length x + length r) (sym at) low))) in
+      let free : ¬ IsNamed (named lines) (Name name ∷ []) = unnamed lines old (Name name ∷ []) is (λ some. none AlreadyThere ([], name, at, subst (λ x. IsSome (old x)) (sym at) some)) in
+      subst (AreNew profile (insert p text) old) (sym made) (record {
+        forms = insert_forms name v style lines forms newline value.0.form value.0.shallow;
+        profiled = insert_of_profile profile name v style lines profiled value.1;
+        good = (insert_rules name v style lines free good.0 (keeps_value profile text v after.0 value after.1), insert_short name v style lines good.1 fit);
+        after = λ kinds is'. subst (λ x. IsAfter profile (insert x text) old kinds) (sym at) (insert_data profile name text v style lines after.0 old kinds value after.1 is is');
+      })
+  edited (rename p to) now new none after made = by (last_step p)
+    where
+      by : (p ≡ []) ⊎ ((q : Address) × (s : Step) × (p ≡ q ++ s ∷ [])) → AreNew profile (rename p to) old new
+      by (inl root) = absurd (none RootNamed root)
+      by (inr (q, Index i, at)) = absurd (none NotAName (q, i, at))
+      by (inr (q, Name n, at)) =
+          let free : ¬ IsNamed (named lines) (child q to) = unnamed lines old (child q to) is (λ some. none AlreadyThere (q, n, at, some)) in
+          subst₂ (λ x l. AreNew profile (rename x to) old l) (sym at) (sym (made ∙ ap (λ x. rename_lines x to lines) at)) (record {
+            forms = rename_forms (child q n) to lines forms;
+            profiled = rename_of_profile profile (child q n) to lines profiled;
+            good = rename_good q n to lines free good;
+            after = λ kinds is'. rename_data profile q n to lines old kinds free good.0 is is';
+          })
+  edited (remove p) now new none after (name, at, there, made) =
+      let there' = subst (λ x. HasPair lines x) at there in
+      subst₂ (λ x l. AreNew profile (remove x) old l) (sym at) (sym (made ∙ ap (λ x. remove_lines x lines) at)) (record {
+        forms = remove_forms (Name name ∷ []) lines forms;
+        profiled = remove_of_profile profile (Name name ∷ []) lines profiled;
+        good = remove_good name lines there' good;
+        after = λ kinds is'. remove_data profile name lines old kinds there' good.0 is is';
+      })
+  edited (new_section p) now new none after made = absurd made
+  edited (new_element p) now new none after made = absurd made
+
+-- two maps that are equal at each address are the data of the same
+same_data : (ms : List Named) (f g : Kinds) → IsDataOf ms f → ((a : Address) → f a ≡ g a) → IsDataOf ms g
+same_data ms f g is same a k = subst (λ o. (o ≡ Some k) ↔ IsFact ms a k) (same a) (is a k)
+
+pub plain_step : PlainStep
+plain_step profile c style before after old now newline good none is_after (d, spells, new, made, text) =
+    let same : d ≡ good.tree = one_tree d good.tree before spells.0 good.spelled.0 in
+    let made' : AreEdited profile c style good.tree.lines new = subst (λ (x : Doc). AreEdited profile c style x.lines new) same made in
+    let known = edited profile style newline good.tree.lines old good.spelled.0.lines.forms good.spelled.1 good.good good.facts c now new none is_after made' in
+    let mark : good.tree.mark ≡ record { start = 0; text = mark_of before } = good.spelled.0.mark in
+    let at = length (mark_of before) in
+    let whole : mark_of before ++ joined (lines_parts new) ≡ after = sym (text ∙ ap (λ (x : Doc). x.mark.text ++ joined (lines_parts new)) same ∙ ap (λ (x : Piece). x.text ++ joined (lines_parts new)) mark) in
+    let first = lines_have_data new known.good.0 in
+    let facts : IsDataOf (named new) now = same_data (named new) (fact_at (named new)) now first (one_after profile c old (fact_at (named new)) now (known.after (fact_at (named new)) first) is_after) in
+    let names : named (put_lines at new) ≡ named new = places_are_not_named (put_lines at new) new (put_lines_same new at) in (
+      record {
+        tree = put_doc (mark_of before) new;
+        spelled = (subst (Spells (put_doc (mark_of before) new)) whole (put_doc_spells before new known.forms), (put_lines_of_profile profile new at).0 known.profiled);
+        good = subst (λ ms. KeepsRules ms × IsShort ms) (sym names) known.good;
+        facts = subst (λ ms. IsDataOf ms now) (sym names) facts;
+      },
+      sym mark,
+    )
+
+pub plain_steps : PlainSteps
+plain_steps profile [] style before after old now newline good lead written = (
+  record {
+    tree = good.tree;
+    spelled = subst (SpellsIn profile good.tree) written good.spelled;
+    good = good.good;
+    facts = same_data (named good.tree.lines) old now good.facts lead;
+  },
+  refl,
+)
+plain_steps profile (c ∷ cs) style before after old now newline good lead written =
+    let one = plain_step profile c style before written.0 old lead.1 newline good lead.0 lead.2 written.1 in
+    let more = plain_steps profile cs style written.0 after lead.1 now newline one.0 lead.3 written.2 in
+    (more.0, more.1 ∙ one.1)
+
+-- ---- one text
+
+first_name : (m n : List ℕ) (p : Address) → p ≡ Name m ∷ [] → p ≡ Name n ∷ [] → m ≡ n
+first_name m n p a b = let e : Name m ∷ [] ≡ Name n ∷ [] = sym a ∙ b in cc
+
+one_edited : (profile : Profile) (c : Change) (style : List ℕ) (old one two : List Line) → AreEdited profile c style old one → AreEdited profile c style old two → one ≡ two
+one_edited profile (set p text) style old one two (v, value, there, is) (w, value', there', is') = is ∙ ap (λ x. set_lines p x old) (one_value v w 0 text value.0 value'.0) ∙ sym is'
+one_edited profile (insert p text) style old one two (v, value, m, at, is) (w, value', n, at', is') = is ∙ ap₂ (λ x k. insert_lines k x style old) (one_value v w 0 text value.0 value'.0) (first_name m n p at at') ∙ sym is'
+one_edited profile (rename p to) style old one two is is' = is ∙ sym is'
+one_edited profile (remove p) style old one two (m, at, there, is) (n, at', there', is') = is ∙ sym is'
+one_edited profile (new_section p) style old one two is is' = absurd is
+one_edited profile (new_element p) style old one two is is' = absurd is
+
+pub one_written : OneWritten
+one_written profile c style before one two (d, spells, new, made, text) (e, spells', new', made', text') =
+    let same : d ≡ e = one_tree d e before spells.0 spells'.0 in
+    let lines : new ≡ new' = one_edited profile c style e.lines new new' (subst (λ (x : Doc). AreEdited profile c style x.lines new) same made) made' in
+    text ∙ ap₂ (λ (x : Doc) ls. x.mark.text ++ joined (lines_parts ls)) same lines ∙ sym text'
+
+pub one_list_written : OneListWritten
+one_list_written profile [] style before one two is is' = sym is ∙ is'
+one_list_written profile (c ∷ cs) style before one two (between, is, more) (between', is', more') =
+    let same : between ≡ between' = one_written profile c style before between between' is is' in
+    one_list_written profile cs style between' one two (subst (λ b. AreWritten profile cs style b one) same more) more'

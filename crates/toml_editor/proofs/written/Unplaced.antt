@@ -1,0 +1,215 @@
+-- An edit of a tree without places is the edit, without its places.
+use Rattle.std.proofs.Common.{◌≡◌, ℕ, ◌+◌, ◌==◌, Bool, true, false, cond, List, [], ◌∷◌, ◌++◌, map, length, refl, sym, ap, ap₂, ◌∙◌}
+use Rattle.std.proofs.lemmas.List.{map-append}
+use Rattle.toml_scalar.specs.Spelling.{spelled}
+use Rattle.toml_tree.specs.Tree.{Piece, Dotted, Key, Assign, Value, Scalar, Array, Inline, Items, Close, Last, More, Pairs, ClosePairs, LastPair, MorePairs, Header, Expr, BlankLine, KeyValLine, TableLine, ArrayTableLine, Line}
+use Rattle.toml_names.specs.model.Addresses.{Address, same_address, child, element, below}
+use Rattle.toml_names.specs.mentions.Keys.{part_name, key_names}
+use Rattle.toml_names.specs.mentions.Mentions.{Named, named_by, root, section, entered}
+use Rattle.toml_editor.specs.Inserting.{new_line, line_behind, has_pair, insert_behind}
+use Rattle.toml_editor.specs.Lines.{fresh, array_of, inline_of, lines_from}
+use Rattle.toml_tree.specs.Bare.{bare, bare_blank, bare_dotted, bare_key, bare_assign, bare_gap, bare_value, bare_items, bare_pairs, bare_header, bare_expr, bare_line}
+use Rattle.toml_tree.proofs.Proved.{bare_items_text, bare_pairs_text}
+use Rattle.toml_editor.specs.Bares.{SetBares, InsertBares, RenameBares, RemoveBares}
+use Rattle.toml_editor.specs.Removing.{remove_line, left_behind, empty_line}
+use Rattle.toml_editor.specs.Renaming.{rename_part, rename_rest, rename_key, rename_assign, rename_value, rename_items, rename_pairs, rename_header, rename_expr, rename_line}
+use Rattle.toml_editor.specs.Setting.{set_at, set_within, set_items, set_pairs, set_expr, set_line}
+use Rattle.toml_editor.proofs.written.BareNames.{key_bared, line_bared}
+
+array_bared : (is : Items) → bare_value (array_of is) ≡ array_of (bare_items is)
+array_bared is = ap (λ t. Array (fresh (0x5B ∷ t)) (bare_items is)) (sym (bare_items_text is))
+
+inline_bared : (ps : Pairs) → bare_value (inline_of ps) ≡ inline_of (bare_pairs ps)
+inline_bared ps = ap (λ t. Inline (fresh (0x7B ∷ t)) (bare_pairs ps)) (sym (bare_pairs_text ps))
+
+-- line by line
+from_bared : (f g : List Named → Line → List Line) → ((xs : List Named) (l : Line) → map bare_line (f xs l) ≡ g xs (bare_line l)) → (ls : List Line) (xs : List Named) (n : ℕ) → map bare_line (lines_from f xs n ls) ≡ lines_from g xs n (map bare_line ls)
+from_bared f g same [] xs n = refl
+from_bared f g same (l ∷ ls) xs n =
+    map-append bare_line (f xs l) (lines_from f (xs ++ named_by xs n l.expr) (n + 1) ls)
+    ∙ ap₂ (λ a b. a ++ b) (same xs l)
+    (from_bared f g same ls (xs ++ named_by xs n l.expr) (n + 1) ∙ ap (λ new. lines_from g (xs ++ new) (n + 1) (map bare_line ls)) (sym (line_bared xs n l.expr)))
+
+-- ---- set
+
+module _ (p : Address) (new : Value) where
+  at_bared : (at : Address) (v w : Value) → bare_value v ≡ w → bare_value (set_at p new at v) ≡ set_at p (bare_value new) at w
+  at_bared at v w is = by (same_address at p)
+    where
+      by : (b : Bool) → bare_value (cond b new v) ≡ cond b (bare_value new) w
+      by true = refl
+      by false = is
+
+  -- in a pair, whose key is the same without places
+  pair_at : (at : Address) (a : Assign) (v : Value) → ((to : Address) → bare_value (set_within p new to v) ≡ set_within p (bare_value new) to (bare_value v))
+      → bare_value (set_at p new (below at (key_names a.key)) (set_within p new (below at (key_names a.key)) v))
+      ≡ set_at p (bare_value new) (below at (key_names (bare_key a.key))) (set_within p (bare_value new) (below at (key_names (bare_key a.key))) (bare_value v))
+  pair_at at a v within =
+      let to = below at (key_names a.key) in
+      at_bared to (set_within p new to v) (set_within p (bare_value new) to (bare_value v)) (within to)
+      ∙ ap (λ k. set_at p (bare_value new) (below at k) (set_within p (bare_value new) (below at k) (bare_value v))) (sym (key_bared a.key))
+
+  mutual
+    set_bared : (v : Value) (at : Address) → bare_value (set_within p new at v) ≡ set_within p (bare_value new) at (bare_value v)
+    set_bared (Scalar kind text) at = refl
+    set_bared (Array whole items) at = array_bared (set_items p new at 0 items) ∙ ap array_of (items_set items at 0)
+    set_bared (Inline whole pairs) at = inline_bared (set_pairs p new at pairs) ∙ ap inline_of (pairs_set pairs at)
+
+    items_set : (items : Items) (at : Address) (i : ℕ) → bare_items (set_items p new at i items) ≡ set_items p (bare_value new) at i (bare_items items)
+    items_set (Close g) at i = refl
+    items_set (Last g v h) at i = ap (λ x. Last (bare_gap g) x (bare_gap h)) (at_bared (element at i) (set_within p new (element at i) v) (set_within p (bare_value new) (element at i) (bare_value v)) (set_bared v (element at i)))
+    items_set (More g v h is) at i =
+        ap₂ (λ x y. More (bare_gap g) x (bare_gap h) y) (at_bared (element at i) (set_within p new (element at i) v) (set_within p (bare_value new) (element at i) (bare_value v)) (set_bared v (element at i))) (items_set is at (i + 1))
+
+    pairs_set : (pairs : Pairs) (at : Address) → bare_pairs (set_pairs p new at pairs) ≡ set_pairs p (bare_value new) at (bare_pairs pairs)
+    pairs_set (ClosePairs g) at = refl
+    pairs_set (LastPair g a v h) at = ap (λ x. LastPair (bare_gap g) (bare_assign a) x (bare_gap h)) (pair_at at a v (λ to. set_bared v to))
+    pairs_set (MorePairs g a v h ps) at = ap₂ (λ x y. MorePairs (bare_gap g) (bare_assign a) x (bare_gap h) y) (pair_at at a v (λ to. set_bared v to)) (pairs_set ps at)
+
+  expr_set : (at : Address) (e : Expr) → bare_expr (set_expr p new at e) ≡ set_expr p (bare_value new) at (bare_expr e)
+  expr_set at (BlankLine b) = refl
+  expr_set at (KeyValLine ws k b) = ap (λ (x : Value). KeyValLine (bare ws) (record { assign = bare_assign k.assign; value = x }) (bare_blank b)) (pair_at at k.assign k.value (λ to. set_bared k.value to))
+  expr_set at (TableLine ws h b) = refl
+  expr_set at (ArrayTableLine ws h b) = refl
+
+  set_line_bared : (xs : List Named) (l : Line) → map bare_line (set_line p new xs l) ≡ set_line p (bare_value new) xs (bare_line l)
+  set_line_bared xs l = ap (λ (e : Expr). record { expr = e; newline = bare l.newline } ∷ []) (expr_set (section xs) l.expr)
+
+pub set_bares : SetBares
+set_bares p new lines = from_bared (set_line p new) (set_line p (bare_value new)) (set_line_bared p new) lines (root ∷ []) 0
+
+-- ---- insert
+
+module _ (name : List ℕ) (v : Value) (style : List ℕ) where
+  behind_bared : (l : Line) (ls : List Line) → map bare_line (line_behind name v style l ls) ≡ line_behind name (bare_value v) style (bare_line l) (map bare_line ls)
+  behind_bared l [] = refl
+  behind_bared l (m ∷ ms) = refl
+
+  has_bared : (ls : List Line) → has_pair (map bare_line ls) ≡ has_pair ls
+  has_bared [] = refl
+  has_bared (l ∷ ls) = by l.expr (has_bared ls)
+    where
+      by : (e : Expr) → has_pair (map bare_line ls) ≡ has_pair ls
+          → ◌≡◌ {A = Bool} (elim (bare_expr e) [ BlankLine b ↦ has_pair (map bare_line ls) | KeyValLine ws pair tail ↦ true | TableLine ws header tail ↦ false | ArrayTableLine ws header tail ↦ false ])
+          (elim e [ BlankLine b ↦ has_pair ls | KeyValLine ws pair tail ↦ true | TableLine ws header tail ↦ false | ArrayTableLine ws header tail ↦ false ])
+      by (BlankLine b) same = same
+      by (KeyValLine ws k b) same = refl
+      by (TableLine ws h b) same = refl
+      by (ArrayTableLine ws h b) same = refl
+
+  last_bared : (ls : List Line) → map bare_line (insert_behind name v style ls) ≡ insert_behind name (bare_value v) style (map bare_line ls)
+  last_bared [] = refl
+  last_bared (l ∷ ls) = by (has_pair ls) (last_bared ls) ∙ ap (λ b. cond b (bare_line l ∷ insert_behind name (bare_value v) style (map bare_line ls)) (line_behind name (bare_value v) style (bare_line l) (map bare_line ls))) (sym (has_bared ls))
+    where
+      by : (b : Bool) → map bare_line (insert_behind name v style ls) ≡ insert_behind name (bare_value v) style (map bare_line ls)
+          → map bare_line (cond b (l ∷ insert_behind name v style ls) (line_behind name v style l ls)) ≡ cond b (bare_line l ∷ insert_behind name (bare_value v) style (map bare_line ls)) (line_behind name (bare_value v) style (bare_line l) (map bare_line ls))
+      by true more = ap (λ r. bare_line l ∷ r) more
+      by false more = behind_bared l ls
+
+pub insert_bares : InsertBares
+insert_bares name v style lines = by (has_pair lines) ∙ ap (λ b. cond b (insert_behind name (bare_value v) style (map bare_line lines)) (new_line name (bare_value v) style ∷ map bare_line lines)) (sym (has_bared name v style lines))
+  where
+    by : (b : Bool) → map bare_line (cond b (insert_behind name v style lines) (new_line name v style ∷ lines)) ≡ cond b (insert_behind name (bare_value v) style (map bare_line lines)) (new_line name (bare_value v) style ∷ map bare_line lines)
+    by true = last_bared name v style lines
+    by false = refl
+
+-- ---- rename
+
+module _ (p : Address) (to : List ℕ) where
+  part_bared : (here : Address) (part : Piece) → bare (rename_part p to here part) ≡ rename_part p to here (bare part)
+  part_bared here part = by (same_address here p)
+    where
+      by : (b : Bool) → bare (cond b (fresh (spelled to)) part) ≡ cond b (fresh (spelled to)) (bare part)
+      by true = refl
+      by false = refl
+
+  rest_bared : (enter : Address → Address) (ds : List Dotted) (here : Address) → map bare_dotted (rename_rest p to enter here ds) ≡ rename_rest p to enter here (map bare_dotted ds)
+  rest_bared enter [] here = refl
+  rest_bared enter (d ∷ ds) here =
+      let next = child (enter here) (part_name d.part) in
+      ap₂ (λ (x : Piece) (r : List Dotted). record { before_dot = bare d.before_dot; after_dot = bare d.after_dot; part = x } ∷ r) (part_bared next d.part) (rest_bared enter ds next)
+
+  rename_key_bared : (enter : Address → Address) (at : Address) (k : Key) → bare_key (rename_key p to enter at k) ≡ rename_key p to enter at (bare_key k)
+  rename_key_bared enter at k =
+      let here = child at (part_name k.first) in
+      ap₂ (λ (x : Piece) (r : List Dotted). record { first = x; rest = r }) (part_bared here k.first) (rest_bared enter k.rest here)
+
+  assign_bared : (at : Address) (a : Assign) → bare_assign (rename_assign p to at a) ≡ rename_assign p to at (bare_assign a)
+  assign_bared at a = ap (λ (k : Key). record { key = k; before_equals = bare a.before_equals; after_equals = bare a.after_equals }) (rename_key_bared (λ here. here) at a.key)
+
+  in_pair : (at : Address) (a : Assign) (v : Value) → ((here : Address) → bare_value (rename_value p to here v) ≡ rename_value p to here (bare_value v))
+      → bare_value (rename_value p to (below at (key_names a.key)) v) ≡ rename_value p to (below at (key_names (bare_key a.key))) (bare_value v)
+  in_pair at a v within = within (below at (key_names a.key)) ∙ ap (λ k. rename_value p to (below at k) (bare_value v)) (sym (key_bared a.key))
+
+  mutual
+    value_bared : (v : Value) (at : Address) → bare_value (rename_value p to at v) ≡ rename_value p to at (bare_value v)
+    value_bared (Scalar kind text) at = refl
+    value_bared (Array whole items) at = array_bared (rename_items p to at 0 items) ∙ ap array_of (items_bared items at 0)
+    value_bared (Inline whole pairs) at = inline_bared (rename_pairs p to at pairs) ∙ ap inline_of (pairs_bared pairs at)
+
+    items_bared : (items : Items) (at : Address) (i : ℕ) → bare_items (rename_items p to at i items) ≡ rename_items p to at i (bare_items items)
+    items_bared (Close g) at i = refl
+    items_bared (Last g v h) at i = ap (λ x. Last (bare_gap g) x (bare_gap h)) (value_bared v (element at i))
+    items_bared (More g v h is) at i = ap₂ (λ x y. More (bare_gap g) x (bare_gap h) y) (value_bared v (element at i)) (items_bared is at (i + 1))
+
+    pairs_bared : (pairs : Pairs) (at : Address) → bare_pairs (rename_pairs p to at pairs) ≡ rename_pairs p to at (bare_pairs pairs)
+    pairs_bared (ClosePairs g) at = refl
+    pairs_bared (LastPair g a v h) at = ap₂ (λ x y. LastPair (bare_gap g) x y (bare_gap h)) (assign_bared at a) (in_pair at a v (λ here. value_bared v here))
+    pairs_bared (MorePairs g a v h ps) at =
+        ap₂ (λ x y. MorePairs (bare_gap g) x y (bare_gap h) (bare_pairs (rename_pairs p to at ps))) (assign_bared at a) (in_pair at a v (λ here. value_bared v here))
+        ∙ ap (λ y. MorePairs (bare_gap g) (rename_assign p to at (bare_assign a)) (rename_value p to (below at (key_names (bare_key a.key))) (bare_value v)) (bare_gap h) y) (pairs_bared ps at)
+
+  header_bared : (xs : List Named) (h : Header) → bare_header (rename_header p to xs h) ≡ rename_header p to xs (bare_header h)
+  header_bared xs h = ap (λ (k : Key). record { before = bare h.before; key = k; after = bare h.after }) (rename_key_bared (entered xs) [] h.key)
+
+  expr_bared : (xs : List Named) (e : Expr) → bare_expr (rename_expr p to xs e) ≡ rename_expr p to xs (bare_expr e)
+  expr_bared xs (BlankLine b) = refl
+  expr_bared xs (KeyValLine ws k b) =
+      ap₂ (λ (x : Assign) (y : Value). KeyValLine (bare ws) (record { assign = x; value = y }) (bare_blank b)) (assign_bared (section xs) k.assign) (in_pair (section xs) k.assign k.value (λ here. value_bared k.value here))
+  expr_bared xs (TableLine ws h b) = ap (λ x. TableLine (bare ws) x (bare_blank b)) (header_bared xs h)
+  expr_bared xs (ArrayTableLine ws h b) = ap (λ x. ArrayTableLine (bare ws) x (bare_blank b)) (header_bared xs h)
+
+  rename_line_bared : (xs : List Named) (l : Line) → map bare_line (rename_line p to xs l) ≡ rename_line p to xs (bare_line l)
+  rename_line_bared xs l = ap (λ (e : Expr). record { expr = e; newline = bare l.newline } ∷ []) (expr_bared xs l.expr)
+
+pub rename_bares : RenameBares
+rename_bares p to lines = from_bared (rename_line p to) (rename_line p to) (rename_line_bared p to) lines (root ∷ []) 0
+
+-- ---- remove
+
+left_bared : (l : Line) → map bare_line (left_behind l) ≡ left_behind (bare_line l)
+left_bared l = by (length l.newline.text == 0)
+  where
+    by : (b : Bool) → map bare_line (cond b (empty_line ∷ []) []) ≡ cond b (empty_line ∷ []) []
+    by true = refl
+    by false = refl
+
+remove_line_bared : (p : Address) (xs : List Named) (l : Line) → map bare_line (remove_line p xs l) ≡ remove_line p xs (bare_line l)
+remove_line_bared p xs l = by l.expr
+  where
+    by : (e : Expr) → ◌≡◌ {A = List Line}
+        (map bare_line (elim e [
+          | BlankLine b ↦ l ∷ []
+          | KeyValLine ws pair tail ↦ cond (same_address (below (section xs) (key_names pair.assign.key)) p) (left_behind l) (l ∷ [])
+          | TableLine ws header tail ↦ l ∷ []
+          | ArrayTableLine ws header tail ↦ l ∷ []
+        ]))
+        (elim (bare_expr e) [
+          | BlankLine b ↦ bare_line l ∷ []
+          | KeyValLine ws pair tail ↦ cond (same_address (below (section xs) (key_names pair.assign.key)) p) (left_behind (bare_line l)) (bare_line l ∷ [])
+          | TableLine ws header tail ↦ bare_line l ∷ []
+          | ArrayTableLine ws header tail ↦ bare_line l ∷ []
+        ])
+    by (BlankLine b) = refl
+    by (KeyValLine ws k b) =
+        at_test (same_address (below (section xs) (key_names k.assign.key)) p)
+        ∙ ap (λ ks. cond (same_address (below (section xs) ks) p) (left_behind (bare_line l)) (bare_line l ∷ [])) (sym (key_bared k.assign.key))
+      where
+        at_test : (t : Bool) → map bare_line (cond t (left_behind l) (l ∷ [])) ≡ cond t (left_behind (bare_line l)) (bare_line l ∷ [])
+        at_test true = left_bared l
+        at_test false = refl
+    by (TableLine ws h b) = refl
+    by (ArrayTableLine ws h b) = refl
+
+pub remove_bares : RemoveBares
+remove_bares p lines = from_bared (remove_line p) (remove_line p) (remove_line_bared p) lines (root ∷ []) 0

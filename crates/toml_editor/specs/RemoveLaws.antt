@@ -1,0 +1,40 @@
+-- Laws of `remove` of a name at the root that is one line, over the lines before and after it.
+use Rattle.std.specs.Prelude.{ℕ, List, [], ◌∷◌}
+use Rattle.toml_tree.specs.Profiles.{AreLinesOfProfile}
+use Rattle.toml_tree.specs.Spells.{AreLines}
+use Rattle.toml_tree.specs.Tree.{Value, Line}
+use Rattle.toml_tree.specs.declared.profile.Profile.{Profile}
+use Rattle.toml_names.specs.declared.model.address.Step.TheVariants.{Name}
+use Rattle.toml_names.specs.mentions.Mentions.{named}
+use Rattle.toml_names.specs.mentions.Rules.{KeepsRules}
+use Rattle.toml_names.specs.model.Addresses.{Address}
+use Rattle.toml_names.specs.model.Data.{Kinds, IsDataOf}
+use Rattle.toml_names.specs.reader.Names.{AreGood}
+use Rattle.toml_edits.specs.After.{IsAfter}
+use Rattle.toml_edits.specs.Edits.{remove}
+use Rattle.toml_editor.specs.Blocks.{IsPut, root_pair, named_plain}
+use Rattle.toml_editor.specs.Removing.{remove_lines}
+use Rattle.toml_editor.specs.Written.{HasPair}
+
+-- Law: the old lines name what the new ones do, and the name's value in the root.
+abbrev pub RemoveNames : Type 0
+RemoveNames = (name : List ℕ) (lines : List Line) → HasPair lines (Name name ∷ []) → KeepsRules (named lines)
+    → (v : Value) × IsPut (named_plain (remove_lines (Name name ∷ []) lines)) (root_pair name v) (named_plain lines)
+
+-- Law: the table rules and the bound on addresses are kept.
+abbrev pub RemoveGood : Type 0
+RemoveGood = (name : List ℕ) (lines : List Line) → HasPair lines (Name name ∷ []) → AreGood lines → AreGood (remove_lines (Name name ∷ []) lines)
+
+-- Law: the new lines have the data that the edit makes of those of the old.
+abbrev pub RemoveData : Type 0
+RemoveData = (profile : Profile) (name : List ℕ) (lines : List Line) (old after : Kinds) → HasPair lines (Name name ∷ []) → KeepsRules (named lines)
+    → IsDataOf (named lines) old → IsDataOf (named (remove_lines (Name name ∷ []) lines)) after → IsAfter profile (remove (Name name ∷ [])) old after
+
+-- Law: the lines are in the forms.
+abbrev pub RemoveForms : Type 0
+RemoveForms = (p : Address) (lines : List Line) → AreLines lines → AreLines (remove_lines p lines)
+
+-- Law: they are of each profile of which the old ones are.
+abbrev pub RemoveOfProfile : Type 0
+RemoveOfProfile = (profile : Profile) (p : Address) (lines : List Line) → AreLinesOfProfile profile lines
+    → AreLinesOfProfile profile (remove_lines p lines)

@@ -1,0 +1,74 @@
+-- Plain edits, from text to text.
+use Rattle.std.specs.Prelude.{◌≡◌, ◌↔◌, List, [], ◌∷◌, ℕ, None}
+use Rattle.toml_text.specs.Forms.{IsNewline}
+use Rattle.toml_text.specs.Limit.{IsText}
+use Rattle.toml_tree.specs.Profiles.{SpellsIn}
+use Rattle.toml_tree.specs.Spells.{AreLines}
+use Rattle.toml_tree.specs.Tree.{Doc, Line}
+use Rattle.toml_tree.specs.declared.profile.Profile.{Profile}
+use Rattle.toml_names.specs.declared.model.address.Step.TheVariants.{Name}
+use Rattle.toml_names.specs.mentions.Mentions.{named}
+use Rattle.toml_names.specs.model.Data.{Kinds, IsDataOf}
+use Rattle.toml_names.specs.model.Documents.{IsDocumentIn}
+use Rattle.toml_names.specs.reader.Names.{AreGood}
+use Rattle.toml_edits.specs.After.{IsAfter}
+use Rattle.toml_edits.specs.Edits.{Change, set, insert, rename, remove}
+use Rattle.toml_edits.specs.Faults.{IsFault}
+use Rattle.toml_edits.specs.Lists.{Lead}
+use Rattle.toml_editor.specs.Written.{HasValue, HasPair, IsWritten, style_of}
+
+-- a text that a good tree of the profile spells, and its data
+pub record IsGoodText (profile : Profile) (text : List ℕ) (kinds : Kinds) : Type 0 where
+  pub tree : Doc
+  pub spelled : SpellsIn profile tree text
+  pub good : AreGood tree.lines
+  pub facts : IsDataOf (named tree.lines) kinds
+
+-- Law: within the limit of a text the good texts are the documents of the profile.
+abbrev pub GoodTextsAreDocuments : Type 0
+GoodTextsAreDocuments = (profile : Profile) (text : List ℕ) → IsText text → ((kinds : Kinds) × IsGoodText profile text kinds) ↔ IsDocumentIn profile text
+
+-- the edit is plain on these lines: a `set` where a value stands, a `rename`, an `insert` of a name at the root, a `remove` of one that is a line
+abbrev pub IsPlain : List Line → Change → Type 0
+IsPlain lines (set p text) = HasValue lines p
+IsPlain lines (insert p text) = (name : List ℕ) × (p ≡ Name name ∷ [])
+IsPlain lines (rename p to) = Unit {0}
+IsPlain lines (remove p) = (name : List ℕ) × (p ≡ Name name ∷ []) × HasPair lines p
+IsPlain lines _ = ⊥
+
+-- Law: a plain edit that makes something of the data writes a text.
+abbrev pub PlainIsWritten : Type 0
+PlainIsWritten = (profile : Profile) (c : Change) (style before : List ℕ) (old now : Kinds) (good : IsGoodText profile before old)
+    → IsAfter profile c old now → IsPlain good.tree.lines c → (after : List ℕ) × IsWritten profile c style before after
+
+-- Law: what a plain edit without a fault writes of a good text is a good text, its data are what the edit makes of the data before, and
+-- the mark is kept.
+abbrev pub PlainStep : Type 0
+PlainStep = (profile : Profile) (c : Change) (style before after : List ℕ) (old now : Kinds) → IsNewline style
+    → (good : IsGoodText profile before old) → IsFault profile c old None → IsAfter profile c old now → IsWritten profile c style before after
+    → (new : IsGoodText profile after now) × (new.tree.mark ≡ good.tree.mark)
+
+-- the edits one after the other, each on the text written so far
+abbrev pub AreWritten : Profile → List Change → List ℕ → List ℕ → List ℕ → Type 0
+AreWritten profile [] style before after = before ≡ after
+AreWritten profile (c ∷ cs) style before after = (between : List ℕ) × IsWritten profile c style before between × AreWritten profile cs style between after
+
+-- Law: so it is of a list of plain edits that leads from the data before to other data.
+abbrev pub PlainSteps : Type 0
+PlainSteps = (profile : Profile) (cs : List Change) (style before after : List ℕ) (old now : Kinds) → IsNewline style
+    → (good : IsGoodText profile before old) → Lead profile cs old now → AreWritten profile cs style before after
+    → (new : IsGoodText profile after now) × (new.tree.mark ≡ good.tree.mark)
+
+-- Law: an edit writes one text,
+abbrev pub OneWritten : Type 0
+OneWritten = (profile : Profile) (c : Change) (style before one two : List ℕ)
+    → IsWritten profile c style before one → IsWritten profile c style before two → one ≡ two
+
+-- and so do edits one after the other.
+abbrev pub OneListWritten : Type 0
+OneListWritten = (profile : Profile) (cs : List Change) (style before one two : List ℕ)
+    → AreWritten profile cs style before one → AreWritten profile cs style before two → one ≡ two
+
+-- Law: the style of lines in the forms is a newline.
+abbrev pub StyleIsNewline : Type 0
+StyleIsNewline = (lines : List Line) → AreLines lines → IsNewline (style_of lines)

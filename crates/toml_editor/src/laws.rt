@@ -1,0 +1,85 @@
+//! Laws over the definitions of what plain edits write: nothing is run.
+ghost use Rattle.toml_editor.specs.Bares.{SetBares, InsertBares, RemoveBares, RenameBares};
+ghost use Rattle.toml_editor.specs.InsertLaws.{InsertNames, InsertRules, InsertShort, InsertData, InsertForms, InsertOfProfile};
+ghost use Rattle.toml_editor.specs.RemoveLaws.{RemoveNames, RemoveGood, RemoveData, RemoveForms, RemoveOfProfile};
+ghost use Rattle.toml_editor.specs.RenameLaws.{RenameNames, RenameGood, RenameData, RenameForms, RenameOfProfile};
+ghost use Rattle.toml_editor.specs.SetLaws.{SetNames, SetRules, SetShort, SetData, SetForms, SetOfProfile, SetElsewhere};
+ghost use Rattle.toml_editor.specs.Steps.{GoodTextsAreDocuments, PlainIsWritten, PlainStep, PlainSteps, OneWritten, OneListWritten, StyleIsNewline};
+
+/// After a `set` the lines name what they named, the new value in the place of the old. They keep the table rules and the
+/// bound on addresses, where the value keeps them at its address; they have the data that the edit makes, and are
+/// in the forms.
+pub fn sets()
+    ensures names { SetNames }
+    ensures rules { SetRules }
+    ensures short { SetShort }
+    ensures data { SetData }
+    ensures forms { SetForms }
+{}
+
+/// After an `insert` of a name at the root the lines name what they named, and the name's value. They keep the table rules
+/// and the bound on addresses, where the root had no such name and the value keeps them below it; they have the data that
+/// the edit makes, and are in the forms.
+pub fn inserts()
+    ensures names { InsertNames }
+    ensures rules { InsertRules }
+    ensures short { InsertShort }
+    ensures data { InsertData }
+    ensures forms { InsertForms }
+{}
+
+/// After a `remove` of a name at the root that is one line the lines name what they named, without the name's value. They
+/// keep the table rules and the bound on addresses, have the data that the edit makes, and are in the forms.
+pub fn removes()
+    ensures names { RemoveNames }
+    ensures good { RemoveGood }
+    ensures data { RemoveData }
+    ensures forms { RemoveForms }
+{}
+
+/// After a `rename` to a name that is not there the lines name what they named, each thing at its new address. They keep
+/// the table rules and the bound on addresses, have the data that the edit makes, and are in the forms.
+pub fn renames()
+    ensures names { RenameNames }
+    ensures good { RenameGood }
+    ensures data { RenameData }
+    ensures forms { RenameForms }
+{}
+
+/// Edited lines are of each profile of which the lines were before and the new value, if there is one.
+pub fn profiles()
+    ensures set { SetOfProfile }
+    ensures insert { InsertOfProfile }
+    ensures remove { RemoveOfProfile }
+    ensures rename { RenameOfProfile }
+{}
+
+/// A `set` leaves a value as it was, places aside, if the address does not lie in it. The newline of new lines is one.
+pub fn kept()
+    ensures elsewhere { SetElsewhere }
+    ensures style { StyleIsNewline }
+{}
+
+/// An edit of a tree without places gives the edited tree, without its places.
+pub fn bares()
+    ensures set { SetBares }
+    ensures insert { InsertBares }
+    ensures remove { RemoveBares }
+    ensures rename { RenameBares }
+{}
+
+/// Within the limit of a text the good texts are the documents of the profile.
+pub fn good_texts()
+    ensures { GoodTextsAreDocuments }
+{}
+
+/// A plain edit that makes something of the data writes a text, and no other one; a list of them writes no two. Where an
+/// edit has no fault, what it writes of a good text is a good text of the same profile, with the data that the edit makes
+/// and the mark that it had; so it is of a list that leads from the one data to the other.
+pub fn plain_edits()
+    ensures written { PlainIsWritten }
+    ensures one { OneWritten }
+    ensures step { PlainStep }
+    ensures one_list { OneListWritten }
+    ensures steps { PlainSteps }
+{}
