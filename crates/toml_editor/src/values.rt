@@ -28,10 +28,10 @@ impl<'t> Texts<'t> {
         pairs: &VecDeque<Entry<'t>>,
         steps: &[Step],
     ) -> Result<Option<(usize, usize)>, AllocError> {
-        for (index, pair) in pairs.iter().enumerate() {
-            if let Some(assign) = &pair.assign {
-                let parts = assign.key.parts();
-                if parts < steps.len() && self.common(&assign.key, steps)? == parts {
+        for index in 0..pairs.len() {
+            if let Some(key) = key_at(pairs, index) {
+                let parts = key.parts();
+                if parts < steps.len() && self.common(key, steps)? == parts {
                     return Ok(Some((index, parts)));
                 }
             }
@@ -76,10 +76,10 @@ impl<'t> Texts<'t> {
         pairs: &VecDeque<Entry<'t>>,
         steps: &[Step],
     ) -> Result<Option<usize>, AllocError> {
-        for (index, pair) in pairs.iter().enumerate() {
-            if let Some(assign) = &pair.assign {
-                let parts = assign.key.parts();
-                if parts == steps.len() && self.common(&assign.key, steps)? == parts {
+        for index in 0..pairs.len() {
+            if let Some(key) = key_at(pairs, index) {
+                let parts = key.parts();
+                if parts == steps.len() && self.common(key, steps)? == parts {
                     return Ok(Some(index));
                 }
             }
@@ -258,6 +258,11 @@ impl<'t> Texts<'t> {
     pub(crate) fn empty_table(self) -> Result<Value<'t>, AllocError> {
         Ok(Value::Inline(Box::new(self.alloc, Entries::none(self.alloc))?))
     }
+}
+
+/// The key of the pair with the index.
+fn key_at<'a, 't>(pairs: &'a VecDeque<Entry<'t>>, index: usize) -> Option<&'a Key<'t>> {
+    Some(&pairs.get(index)?.assign.as_ref()?.key)
 }
 
 /// The steps behind the first so many.

@@ -138,10 +138,12 @@ impl<'t> Pieces<'t> {
     fn entries(&mut self, entries: &Entries<'t>) -> Result<(), AllocError>
         ensures { self.new ≡ self.old }
     {
-        for (index, entry) in entries.list.iter().enumerate() {
-            if index > 0 {
+        let mut is_behind = false;
+        for entry in &entries.list {
+            if is_behind {
                 self.symbol(",")?;
             }
+            is_behind = true;
             self.entry(entry)?;
         }
         if let Some(end) = &entries.end {
