@@ -1,5 +1,7 @@
 //! Calls that no other test makes by themselves, with ample memory: each answers, and what is wanted. `check_made` goes by
 //! `edit`.
+ghost use Rattle.std.specs.Prelude.{IfSome};
+ghost use Rattle.toml_names.specs.reader.LineNames.{Stand};
 
 use crate::library_tests::worked::{data, doc, edits, names, source};
 use crate::rows::is_told;
@@ -12,7 +14,9 @@ use toml_edits::{apply, near_addresses};
 use toml_names::{Address, key_address, read_lines};
 use toml_text::Source;
 use toml_tree::{Expr, Profile, parse_value};
-use toml_units::{Certificate, certificate_text, join, read_text, units, units_at, units_inside};
+use toml_units::{
+    Certificate, ReadText, certificate_text, join, read_text, units, units_at, units_inside,
+};
 
 const FLOAT: &str = "3.14 = 0xdead_beef\n";
 
@@ -46,12 +50,19 @@ fn lines_are_read(rt: HostRuntime) {
     assert_eq!(rt; count_units(rt.alloc()), Some(2));
 }
 
+/// What is read of a document line by line.
+fn read_document<'t>(alloc: Global, text: &'t str) -> Option<ReadText<'t>>
+    ensures { IfSome result (λ read. Stand read.names) }
+{
+    read_text(alloc, source(text)?, Profile::One).ok()?
+}
+
 /// Whether what the edits make of the data near them, beside the rest, are the data of the text.
 fn has_data_after(alloc: Global, text: &str) -> Option<bool> {
     let edits = edits(alloc, EDITS)?;
     let near = near_addresses(alloc, &edits).ok()?;
-    let old = read_text(alloc, source(FILE)?, Profile::One).ok()??;
-    let new = read_text(alloc, source(text)?, Profile::One).ok()??;
+    let old = read_document(alloc, FILE)?;
+    let new = read_document(alloc, text)?;
     let mut data = old.names.data_near(&near).ok()?;
     apply(alloc, &mut data, edits.first()?).ok()?;
     new.names.has_data_beside(&old.names, &near, &data).ok()
