@@ -48,7 +48,7 @@ impl<'x> Tree<'x> {
 
     /// The slot before which no line stands at the address or below. The lines of an element of an array of tables begin with
     /// its header.
-    fn first_slot(&self, before: Before<'_, 'x>, named: Option<Place>, at: &Address) -> usize {
+    pub(crate) fn first_slot(&self, before: Before<'_, 'x>, named: Option<Place>, at: &Address) -> usize {
         match self.near_table(before, named, at) {
             Some(TablePlace::Header(header)) if is_element(at) => header.slot,
             _ => 0,
@@ -160,7 +160,7 @@ impl<'x> Tree<'x> {
 
 impl Seen<'_> {
     /// Whether it is the header of another element of the array of tables whose element stands at the address.
-    fn begins_beside(self, at: &Address) -> bool {
+    pub(crate) fn begins_beside(self, at: &Address) -> bool {
         let Some(own) = self.address else {
             return false;
         };
@@ -169,7 +169,7 @@ impl Seen<'_> {
             && is_element(own)
             && self.is_header()
             && own.steps().len() == count
-            && begin_alike(own, at, count - 1)
+            && begin_alike(own, at, count.saturating_sub(1))
     }
 }
 
@@ -177,10 +177,11 @@ impl<'t> Slot<'t> {
     /// Whether one of its lines is the header of another element of the array.
     fn begins_beside(&self, units: &[Unit], at: &Address) -> bool {
         for index in 0..self.count() {
-            if let Some(line) = self.seen(units, index) {
-                if line.begins_beside(at) {
-                    return true;
-                }
+            let Some(line) = self.seen(units, index) else {
+                return false;
+            };
+            if line.begins_beside(at) {
+                return true;
             }
         }
         false
@@ -189,10 +190,11 @@ impl<'t> Slot<'t> {
     /// Whether a line of it that is not at the other address, nor below it, mentions the address.
     fn is_mentioned(&self, units: &[Unit], address: &Address, other: &Address) -> bool {
         for index in 0..self.count() {
-            if let Some(line) = self.seen(units, index) {
-                if line.mentions(address) && !line.is_below(other) {
-                    return true;
-                }
+            let Some(line) = self.seen(units, index) else {
+                return false;
+            };
+            if line.mentions(address) && !line.is_below(other) {
+                return true;
             }
         }
         false

@@ -44,12 +44,18 @@ impl<'t> Pieces<'t> {
         ensures { self.new ≡ self.old }
     {
         for line in lines {
-            match &line.body {
-                Body::Kept(kept) => self.keep(kept.span)?,
-                Body::Open(open) => self.open_line(open)?,
-            }
+            self.line(line)?;
         }
         Ok(())
+    }
+
+    fn line(&mut self, line: &Line<'t>) -> Result<(), AllocError>
+        ensures { self.new ≡ self.old }
+    {
+        match &line.body {
+            Body::Kept(kept) => self.keep(kept.span),
+            Body::Open(open) => self.open_line(open),
+        }
     }
 
     fn open_line(&mut self, line: &OpenLine<'t>) -> Result<(), AllocError>
