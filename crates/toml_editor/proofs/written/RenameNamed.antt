@@ -10,7 +10,7 @@ use Rattle.toml_names.specs.declared.mentions.mention.Role.{Role}
 use Rattle.toml_names.specs.declared.mentions.mention.Role.TheVariants as roles
 use Rattle.toml_names.specs.model.Addresses.{Address, same_address, child, element, below}
 use Rattle.toml_names.specs.mentions.Keys.{Key, key_names, part_name, rest_names}
-use Rattle.toml_names.specs.mentions.Mentions.{Named, named, named_by, named_from, root, value_named, table_at, kind_of, inside, elements, members, fronts, pair_named, section, section_from, is_section, is_tables, is_tables_at, count_tables, entered, followed, ends_table, ends_tables}
+use Rattle.toml_names.specs.mentions.Mentions.{Named, named, named_by, named_from, root, value_named, table_at, kind_of, inside, elements, members, fronts, pair_named, section, section_from, is_section, is_tables, count_tables, entered, followed, ends_table, ends_tables}
 use Rattle.toml_names.specs.mentions.Clear.{IsClear}
 use Rattle.toml_names.proofs.Proved.{not_named_is_clear}
 use Rattle.toml_editor.specs.RenameLaws.{moved, moved_one, RenameNames}
