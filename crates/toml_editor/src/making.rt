@@ -8,7 +8,9 @@ ghost use Rattle.toml_editor.specs.Making.{HasOne, IsMade, IsMany, TellsAny, Tel
 
 use crate::fault::EditorFault;
 use crate::removing::parent_of;
-use crate::sections::{NewHeader, is_element_in_value, is_right_in_value};
+use crate::sections::{
+    Above, NewHeader, innermost_element, is_element_in_value, is_right_in_value,
+};
 use crate::spelled::{Spelled, open_value};
 use crate::tree::Brackets;
 use crate::working::{Before, Tree};
@@ -136,14 +138,24 @@ fn write_header<'x>(
     brackets: Brackets,
     spelled: &'x Spelled,
 ) -> Result<bool, AllocError> {
-    let above = parent_of(alloc, at)?;
-    let named = read.names.place(&above);
+    let parent = parent_of(alloc, at)?;
+    let element = innermost_element(alloc, &parent)?;
+    let near = match &element {
+        Some(element) => read.names.place(element),
+        None => None,
+    };
+    let above = Above {
+        named: read.names.place(&parent),
+        at: parent,
+        element,
+        near,
+    };
     let new = NewHeader {
         at,
         brackets,
         spelled: &spelled.steps,
     };
-    tree.add_header(read.before, named, above, new)
+    tree.add_header(read.before, above, new)
 }
 
 /// Whether the place of the edit with this number may be spread over several expressions.

@@ -48,7 +48,12 @@ impl<'x> Tree<'x> {
 
     /// The slot before which no line stands at the address or below. The lines of an element of an array of tables begin with
     /// its header.
-    pub(crate) fn first_slot(&self, before: Before<'_, 'x>, named: Option<Place>, at: &Address) -> usize {
+    pub(crate) fn first_slot(
+        &self,
+        before: Before<'_, 'x>,
+        named: Option<Place>,
+        at: &Address,
+    ) -> usize {
         match self.near_table(before, named, at) {
             Some(TablePlace::Header(header)) if is_element(at) => header.slot,
             _ => 0,
@@ -175,7 +180,7 @@ impl Seen<'_> {
 
 impl<'t> Slot<'t> {
     /// Whether one of its lines is the header of another element of the array.
-    fn begins_beside(&self, units: &[Unit], at: &Address) -> bool {
+    fn begins_beside<'a>(&'a self, units: &'a [Unit], at: &Address) -> bool {
         for index in 0..self.count() {
             let Some(line) = self.seen(units, index) else {
                 return false;
@@ -188,7 +193,7 @@ impl<'t> Slot<'t> {
     }
 
     /// Whether a line of it that is not at the other address, nor below it, mentions the address.
-    fn is_mentioned(&self, units: &[Unit], address: &Address, other: &Address) -> bool {
+    fn is_mentioned<'a>(&'a self, units: &'a [Unit], address: &Address, other: &Address) -> bool {
         for index in 0..self.count() {
             let Some(line) = self.seen(units, index) else {
                 return false;

@@ -3,7 +3,7 @@ ghost use Rattle.std.specs.Prelude.{IfOk, IsTrue};
 ghost use Rattle.toml_editor.specs.Edited.{IsElementInValue, IsInValue, IsRightInValue};
 ghost use Rattle.toml_editor.specs.Making.{places_of};
 
-use crate::lines::{Line, Slot};
+use crate::lines::{Line, Seen, Slot};
 use crate::removing::parent_of;
 use crate::tree::{Brackets, Expr, Header, Key, Leaf, OpenLine};
 use crate::working::{Before, Position, Tree};
@@ -21,6 +21,18 @@ pub(crate) struct NewHeader<'a, 'x> {
     pub(crate) spelled: &'x [String],
 }
 
+/// What stands above the table or the element of a header line that is to be put in.
+#[derive(Drop)]
+pub(crate) struct Above {
+    /// The address right above its own.
+    pub(crate) at: Address,
+    /// The place that the document's names have for it.
+    pub(crate) named: Option<Place>,
+    /// The innermost element of an array of tables there or above, if there is one, and its place by the same names.
+    pub(crate) element: Option<Address>,
+    pub(crate) near: Option<Place>,
+}
+
 /// How far a walk through the lines has come that looks for the header line behind all lines of an element.
 #[derive(Clone, Copy)]
 enum Walk {
@@ -30,23 +42,27 @@ enum Walk {
     Within,
     /// The first header line behind the last one of the element.
     Behind(Position),
+    /// The same, where another element of the array has begun, so that no line of this one follows.
+    Ended(Position),
 }
 
 impl<'x> Tree<'x> {
     /// Puts a header line in, behind all lines of the innermost element of an array of tables in which it is to stand, else
-    /// at the end of the text. `above` is the address right above that of its table or element, and `named` is the place that
-    /// the document's names have for it. It answers `false` where that is a value, or would lie in one.
+    /// at the end of the text. It answers `false` where a value stands right above it, or holds what stands there.
     pub(crate) fn add_header(
         &mut self,
         before: Before<'_, 'x>,
-        named: Option<Place>,
-        above: Address,
+        above: Above,
         new: NewHeader<'_, 'x>,
     ) -> Result<bool, AllocError> {
-        if self.value_line(before, named, &above).is_some() {
+        if self.value_line(before, above.named, &above.at).is_some() {
             return Ok(false);
         }
-        match self.behind_element(before, innermost_element(above)) {
+        let next = match &above.element {
+            Some(element) => self.behind_element(before, above.near, element),
+            None => None,
+        };
+        match next {
             Some(next) => {
                 let line = new.line(self.alloc(), self.style)?;
                 self.put(before, next, line)
@@ -75,16 +91,12 @@ impl<'x> Tree<'x> {
 
     /// The last line.
     fn last_line(&self) -> Option<Position> {
-        let mut last = None;
-        for (number, slot) in self.slots.iter().enumerate() {
-            if let Some(index) = slot.count().checked_sub(1) {
-                last = Some(Position {
-                    slot: number,
-                    index,
-                });
+        for slot in (0..self.slots.len()).rev() {
+            if let Some(index) = self.slots[slot].count().checked_sub(1) {
+                return Some(Position { slot, index });
             }
         }
-        last
+        None
     }
 
     /// Whether the line at a place has no bytes, and ends in no newline.
@@ -95,15 +107,23 @@ impl<'x> Tree<'x> {
         }
     }
 
-    /// The first header line behind the last one that stands at the element or below it.
-    fn behind_element(&self, before: Before<'_, 'x>, element: Option<Address>) -> Option<Position> {
-        let element = element?;
+    /// The first header line behind the last one that stands at the element or below it. `named` is the place that the
+    /// document's names have for the element.
+    fn behind_element(
+        &self,
+        before: Before<'_, 'x>,
+        named: Option<Place>,
+        element: &Address,
+    ) -> Option<Position> {
         let mut walk = Walk::Before;
-        for (number, slot) in self.slots.iter().enumerate() {
-            walk = slot.walked(before.units, number, &element, walk);
+        for slot in self.first_slot(before, named, element)..self.slots.len() {
+            walk = self.slots[slot].walked(before.units, slot, element, walk);
+            if let Walk::Ended(next) = walk {
+                return Some(next);
+            }
         }
         match walk {
-            Walk::Behind(next) => Some(next),
+            Walk::Behind(next) | Walk::Ended(next) => Some(next),
             Walk::Before | Walk::Within => None,
         }
     }
@@ -111,13 +131,14 @@ impl<'x> Tree<'x> {
 
 impl Slot<'_> {
     /// Goes on with a walk through its lines.
-    fn walked(&self, units: &[Unit], slot: usize, element: &Address, walk: Walk) -> Walk {
+    fn walked<'a>(&'a self, units: &'a [Unit], slot: usize, element: &Address, walk: Walk) -> Walk {
         let mut walk = walk;
         for index in 0..self.count() {
-            if let Some(line) = self.seen(units, index) {
-                if line.is_header() {
-                    walk = walk.past(line.is_below(element), Position { slot, index });
-                }
+            let Some(line) = self.seen(units, index) else {
+                return walk;
+            };
+            if line.is_header() {
+                walk = walk.past(line, element, Position { slot, index });
             }
         }
         walk
@@ -125,12 +146,19 @@ impl Slot<'_> {
 }
 
 impl Walk {
-    /// The walk past a header line at a place, which is one of the element or not.
-    fn past(self, is_of_element: bool, at: Position) -> Walk {
-        match self {
-            _ if is_of_element => Walk::Within,
-            Walk::Within => Walk::Behind(at),
-            Walk::Before | Walk::Behind(_) => self,
+    /// The walk past a header line at a place.
+    fn past(self, line: Seen<'_>, element: &Address, at: Position) -> Walk {
+        let next = match self {
+            Walk::Ended(_) => return self,
+            _ if line.is_below(element) => return Walk::Within,
+            Walk::Before => return Walk::Before,
+            Walk::Within => at,
+            Walk::Behind(next) => next,
+        };
+        if line.begins_beside(element) {
+            Walk::Ended(next)
+        } else {
+            Walk::Behind(next)
         }
     }
 }
@@ -167,14 +195,17 @@ fn names_key<'t>(
 }
 
 /// The element at the address, or the innermost one above it.
-fn innermost_element(at: Address) -> Option<Address> {
+pub(crate) fn innermost_element(
+    alloc: Global,
+    at: &Address,
+) -> Result<Option<Address>, AllocError> {
     let count = steps_to_index(at.steps());
     if count == 0 {
-        return None;
+        return Ok(None);
     }
-    let mut steps = at.into_steps();
+    let mut steps = at.copy(alloc)?.into_steps();
     steps.truncate(count);
-    Some(Address::of(steps))
+    Ok(Some(Address::of(steps)))
 }
 
 /// How many steps there are up to the last index, it among them; none where there is no index.
