@@ -2,8 +2,5 @@ use Rattle.std.proofs.Common.{◌≡◌}
 use Rattle.toml_text.specs.Source.{text_of}
 use Rattle.toml_editor.proofs.working.Tree.pieces.Given as goal
 
-abbrev pub invariant-loop-line : goal.invariant-loop-line
-invariant-loop-line l = l.pieces ≡ text_of l.source
-
 abbrev pub invariant-loop-slot : goal.invariant-loop-slot
 invariant-loop-slot l = l.pieces ≡ text_of l.source
