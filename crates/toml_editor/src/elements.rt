@@ -1,17 +1,17 @@
 //! Which elements of arrays of tables were taken out.
 //!
-//! The address of a line keeps the indices that it has in the document: else an element that is taken out would move all
-//! lines behind it.
-use crate::lines::{changed, is_at_or_above};
+//! The address of a line counts the elements as if none had been taken out, new ones behind those of the document: else an
+//! element that goes would move all lines behind it. Such an address is called *uncut* here.
+use crate::lines::{changed, is_at_or_above, is_same_way};
 use std::alloc::{AllocError, Global};
 use toml_names::{Address, Name, Step};
 
 /// The elements that were taken out of an array of tables.
 #[derive(Drop)]
 struct Gone {
-    /// Where the array stands, by the indices of the document.
+    /// Where the array stands, uncut.
     array: Address,
-    /// Their indices in the document, which rise.
+    /// Their indices, uncut, which rise.
     indices: Vec<u64>,
 }
 
@@ -29,12 +29,12 @@ impl Elements {
         }
     }
 
-    /// The address by the indices of the document, where its own ones count the elements that are left.
-    pub(crate) fn own_address(&self, alloc: Global, at: &Address) -> Result<Address, AllocError> {
+    /// The uncut address of what stands at the address, which counts the elements that are left.
+    pub(crate) fn uncut(&self, alloc: Global, at: &Address) -> Result<Address, AllocError> {
         let mut steps = Vec::with_capacity(alloc, at.steps().len())?;
         for step in at.steps() {
             let own = match step {
-                Step::Index(index) => Step::Index(self.own_index(&steps, *index)),
+                Step::Index(index) => Step::Index(self.uncut_index(&steps, *index)),
                 Step::Name(_) => step.copy()?,
             };
             steps.push(own)?;
@@ -42,17 +42,17 @@ impl Elements {
         Ok(Address::of(steps))
     }
 
-    /// The index in the document of an element of the array that these steps lead to.
-    fn own_index(&self, array: &[Step], index: u64) -> u64 {
+    /// The uncut index of an element of the array that these steps lead to.
+    fn uncut_index(&self, array: &[Step], index: u64) -> u64 {
         for gone in &self.gone {
             if gone.is_of(array) {
-                return gone.own_index(index);
+                return gone.uncut(index);
             }
         }
         index
     }
 
-    /// What stood at the address goes; the address has the indices of the document.
+    /// What stood at the uncut address goes.
     pub(crate) fn take_out(&mut self, alloc: Global, at: &Address) -> Result<(), AllocError> {
         self.gone.retain(|gone| !is_at_or_above(at, &gone.array));
         match at.steps().split_last() {
@@ -85,7 +85,7 @@ impl Elements {
         Ok(())
     }
 
-    /// The last step of the address becomes another name, above and at the arrays below it.
+    /// The last step of the uncut address becomes another name, for the arrays at it and below.
     pub(crate) fn rename(
         &mut self,
         alloc: Global,
@@ -106,16 +106,11 @@ impl Elements {
 impl Gone {
     /// Whether the array is the one that the steps lead to.
     fn is_of(&self, array: &[Step]) -> bool {
-        let own = self.array.steps();
-        own.len() == array.len()
-            && own
-                .iter()
-                .zip(array)
-                .all(|(step, other)| step.is_same(other))
+        is_same_way(self.array.steps(), array)
     }
 
-    /// The index in the document of the element that has the index among those that are left.
-    fn own_index(&self, index: u64) -> u64 {
+    /// The uncut index of the element that has the index among those that are left.
+    fn uncut(&self, index: u64) -> u64 {
         let mut own = index;
         for gone in &self.indices {
             if *gone > own {

@@ -73,10 +73,13 @@ pub(crate) fn changed(at: Address, place: usize, step: Step) -> Address {
     Address::of(steps)
 }
 
-/// Whether the first address is a beginning of the second. Its last steps are compared first: elements of one array differ
-/// there.
+/// Whether the first address is a beginning of the second.
 pub(crate) fn is_at_or_above(at: &Address, other: &Address) -> bool {
-    let (above, steps) = (at.steps(), other.steps());
+    begins(at.steps(), other.steps())
+}
+
+/// Whether the steps begin with the first ones. The last of these are compared first: elements of one array differ there.
+fn begins(above: &[Step], steps: &[Step]) -> bool {
     if steps.len() < above.len() {
         return false;
     }
@@ -86,6 +89,16 @@ pub(crate) fn is_at_or_above(at: &Address, other: &Address) -> bool {
         }
     }
     true
+}
+
+/// Whether the steps are the same.
+pub(crate) fn is_same_way(one: &[Step], other: &[Step]) -> bool {
+    one.len() == other.len() && begins(one, other)
+}
+
+/// Whether the address is that of an element.
+pub(crate) fn is_element(at: &Address) -> bool {
+    matches!(at.steps().last(), Some(Step::Index(_)))
 }
 
 impl Seen<'_> {
@@ -153,6 +166,20 @@ impl Seen<'_> {
         };
         let is_own = self.is_tables && own.steps().len() == count.saturating_add(1);
         matches!(own.steps().get(count), Some(Step::Index(_))) && !is_own
+    }
+
+    /// Whether it is the header of a later element of the array of tables whose element stands at the address. New elements come
+    /// last, and so do their indices.
+    pub(crate) fn begins_later(self, at: &Address) -> bool {
+        let Some(own) = self.address else {
+            return false;
+        };
+        match (own.steps().split_last(), at.steps().split_last()) {
+            (Some((Step::Index(index), array)), Some((Step::Index(element), other))) => {
+                self.is_header() && index > element && is_same_way(array, other)
+            }
+            _ => false,
+        }
     }
 
     /// Which part of its key stands for the address, if one does.

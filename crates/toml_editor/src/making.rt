@@ -101,7 +101,7 @@ fn write_edit<'x>(
     edit: &'x Edit,
     spelled: &'x Spelled,
 ) -> Result<bool, AllocError> {
-    let at = tree.elements.own_address(alloc, place(edit))?;
+    let at = tree.elements.uncut(alloc, place(edit))?;
     match edit {
         // The data have taken the value by now, so it is one of the profile, and `None` never comes.
         Edit::Set { value, .. } => match open_value(alloc, value.as_str(), read.profile)? {

@@ -2,7 +2,7 @@
 ghost use Rattle.std.specs.Prelude.{IfOk};
 ghost use Rattle.toml_editor.specs.Making.{IsParent};
 
-use crate::lines::{Line, Seen, Slot, below, names_in};
+use crate::lines::{Line, Slot, below, is_element, names_in};
 use crate::texts::Texts;
 use crate::tree::{Blank, Brackets, Expr, Header, Leaf, OpenLine};
 use crate::working::{Before, Position, TablePlace, Tree};
@@ -155,7 +155,7 @@ impl<'x> Tree<'x> {
                 is_met = true;
             }
             // behind the header of a later element no line is one of this
-            if is_met && slot.begins_beside(before.units, at) {
+            if is_met && slot.begins_later(before.units, at) {
                 return Ok(());
             }
         }
@@ -163,29 +163,14 @@ impl<'x> Tree<'x> {
     }
 }
 
-impl Seen<'_> {
-    /// Whether it is the header of another element of the array of tables whose element stands at the address.
-    pub(crate) fn begins_beside(self, at: &Address) -> bool {
-        let Some(own) = self.address else {
-            return false;
-        };
-        let count = at.steps().len();
-        is_element(at)
-            && is_element(own)
-            && self.is_header()
-            && own.steps().len() == count
-            && begin_alike(own, at, count.saturating_sub(1))
-    }
-}
-
 impl<'t> Slot<'t> {
-    /// Whether one of its lines is the header of another element of the array.
-    fn begins_beside<'a>(&'a self, units: &'a [Unit], at: &Address) -> bool {
+    /// Whether one of its lines is the header of a later element of the array.
+    fn begins_later<'a>(&'a self, units: &'a [Unit], at: &Address) -> bool {
         for index in 0..self.count() {
             let Some(line) = self.seen(units, index) else {
                 return false;
             };
-            if line.begins_beside(at) {
+            if line.begins_later(at) {
                 return true;
             }
         }
@@ -304,20 +289,4 @@ pub(crate) fn parent_of(alloc: Global, at: &Address) -> Result<Address, AllocErr
     let mut steps = at.copy(alloc)?.into_steps();
     let _ = steps.pop();
     Ok(Address::of(steps))
-}
-
-/// Whether the address is that of an element.
-fn is_element(at: &Address) -> bool {
-    matches!(at.steps().last(), Some(Step::Index(_)))
-}
-
-/// Whether the first `depth` steps of both are the same.
-fn begin_alike(one: &Address, other: &Address, depth: usize) -> bool {
-    let pairs = one.steps().iter().zip(other.steps()).take(depth);
-    for (step, same) in pairs {
-        if !step.is_same(same) {
-            return false;
-        }
-    }
-    true
 }

@@ -69,8 +69,7 @@ impl<'x> Tree<'x> {
         let alloc = self.alloc();
         for slot in &mut self.slots {
             if slot.is_below(before.units, at) {
-                slot.open(alloc, before.units)?;
-                slot.rename(alloc, before.doc, at, name, spelled)?;
+                slot.rename(alloc, before, at, name, spelled)?;
             }
         }
         self.elements.rename(alloc, at, name)
@@ -78,21 +77,22 @@ impl<'x> Tree<'x> {
 }
 
 impl<'t> Slot<'t> {
-    /// Renames in its lines at the address or below, if it is opened.
+    /// Renames in its lines at the address or below.
     fn rename(
         &mut self,
         alloc: Global,
-        doc: &Doc<'t>,
+        before: Before<'_, 't>,
         at: &Address,
         name: &Name,
         spelled: &'t str,
     ) -> Result<(), AllocError> {
+        self.open(alloc, before.units)?;
         let Some(lines) = self.opened() else {
             return Ok(());
         };
         for line in lines {
             if line.seen().is_below(at) {
-                line.rename(alloc, doc, at, name, spelled)?;
+                line.rename(alloc, before.doc, at, name, spelled)?;
             }
         }
         Ok(())

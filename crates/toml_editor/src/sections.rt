@@ -155,7 +155,7 @@ impl Walk {
             Walk::Within => at,
             Walk::Behind(next) => next,
         };
-        if line.begins_beside(element) {
+        if line.begins_later(element) {
             Walk::Ended(next)
         } else {
             Walk::Behind(next)

@@ -52,7 +52,7 @@ pub(crate) struct Before<'a, 'x> {
 pub(crate) struct Tree<'x> {
     pub(crate) texts: Texts<'x>,
     pub(crate) slots: Vec<Slot<'x>>,
-    /// Which elements of arrays of tables are gone. All addresses below are by the indices of the document.
+    /// Which elements of arrays of tables are gone. All addresses here are uncut.
     pub(crate) elements: Elements,
     /// The newline of new lines: that of the document's first line, or LF where that has none.
     pub(crate) style: Leaf<'x>,

@@ -386,9 +386,15 @@ kept 1¶3 0¶4 1¶5 2¶6 3¶8 5¶
 [{"op":"remove","at":["a",0]},{"op":"section","at":["a",0,"s"]},{"op":"insert","at":["a",0,"s","k"],"value":"1"}]
 [[a]]¶x = 2¶[a.s]¶k = 1¶[z]¶
 kept 1¶2 0¶3 1¶4 4¶5 5¶
+
+// New elements side by side, the line behind them gone, and a table in the later one.
+[[a]]¶[z]¶[y]¶
+[{"op":"element","at":["a",0,"b",0]},{"op":"element","at":["a",0,"b",1]},{"op":"remove","at":["z"]},{"op":"section","at":["a",0,"b",1,"c"]},{"op":"remove","at":["a",0,"b",1]}]
+[[a]]¶[[a.b]]¶[y]¶
+kept 1¶0 0¶2 2¶3 3¶
 "#;
 
 #[test]
 fn elements_taken_out(rt: HostRuntime) -> Result<(), Fail> {
-    assert_edited(&rt, rt.alloc(), ELEMENTS, 8)
+    assert_edited(&rt, rt.alloc(), ELEMENTS, 9)
 }
