@@ -23,12 +23,15 @@ RemoveNames = (name : List ℕ) (lines : List Line) → HasPair lines (Name name
 
 -- Law: the table rules and the bound on addresses are kept.
 abbrev pub RemoveGood : Type 0
-RemoveGood = (name : List ℕ) (lines : List Line) → HasPair lines (Name name ∷ []) → AreGood lines → AreGood (remove_lines (Name name ∷ []) lines)
+RemoveGood = (name : List ℕ) (lines : List Line) → HasPair lines (Name name ∷ [])
+    → AreGood lines → AreGood (remove_lines (Name name ∷ []) lines)
 
 -- Law: the new lines have the data that the edit makes of those of the old.
 abbrev pub RemoveData : Type 0
-RemoveData = (profile : Profile) (name : List ℕ) (lines : List Line) (old after : Kinds) → HasPair lines (Name name ∷ []) → KeepsRules (named lines)
-    → IsDataOf (named lines) old → IsDataOf (named (remove_lines (Name name ∷ []) lines)) after → IsAfter profile (remove (Name name ∷ [])) old after
+RemoveData = (profile : Profile) (name : List ℕ) (lines : List Line) (old after : Kinds)
+    → HasPair lines (Name name ∷ []) → KeepsRules (named lines)
+    → IsDataOf (named lines) old → IsDataOf (named (remove_lines (Name name ∷ []) lines)) after
+    → IsAfter profile (remove (Name name ∷ [])) old after
 
 -- Law: the lines are in the forms.
 abbrev pub RemoveForms : Type 0

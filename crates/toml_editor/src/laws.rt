@@ -2,8 +2,8 @@
 ghost use Rattle.toml_editor.specs.Bares.{SetBares, InsertBares, RemoveBares, RenameBares};
 ghost use Rattle.toml_editor.specs.InsertLaws.{InsertNames, InsertRules, InsertShort, InsertData, InsertForms, InsertOfProfile};
 ghost use Rattle.toml_editor.specs.RemoveLaws.{RemoveNames, RemoveGood, RemoveData, RemoveForms, RemoveOfProfile};
-ghost use Rattle.toml_editor.specs.RenameLaws.{RenameNames, RenameGood, RenameData, RenameForms, RenameOfProfile};
-ghost use Rattle.toml_editor.specs.SetLaws.{SetNames, SetRules, SetShort, SetData, SetForms, SetOfProfile, SetElsewhere};
+ghost use Rattle.toml_editor.specs.RenameLaws.{RenameNames, RenameGood, RenameData, RenameForms, RenameOfProfile, RenameKeepsLine};
+ghost use Rattle.toml_editor.specs.SetLaws.{SetNames, SetRules, SetShort, SetData, SetForms, SetOfProfile, SetWithin, SetElsewhere, SetKeepsLine};
 ghost use Rattle.toml_editor.specs.Steps.{GoodTextsAreDocuments, PlainIsWritten, PlainStep, PlainSteps, OneWritten, OneListWritten, StyleIsNewline};
 
 /// After a `set` the lines name what they named, the new value in the place of the old. They keep the table rules and the
@@ -54,13 +54,19 @@ pub fn profiles()
     ensures rename { RenameOfProfile }
 {}
 
-/// A `set` leaves a value as it was, places aside, if the address does not lie in it. The newline of new lines is one.
+/// Places aside, a `set` leaves what stands in a value as it was, if the address does not lie in the value, and the value
+/// itself, if it does not stand at the address either. A line stays what it is and where it is, if a `set` is neither at
+/// its value nor in it; if a `rename` is at no part of a key in it. The newline of new lines is LF or CR LF.
 pub fn kept()
+    ensures within { SetWithin }
     ensures elsewhere { SetElsewhere }
+    ensures set { SetKeepsLine }
+    ensures rename { RenameKeepsLine }
     ensures style { StyleIsNewline }
 {}
 
-/// An edit of a tree without places gives the edited tree, without its places.
+/// Where the pieces of a tree stand does not count: without its places, the edited tree is what the edit makes of the tree
+/// without its places.
 pub fn bares()
     ensures set { SetBares }
     ensures insert { InsertBares }
