@@ -1,5 +1,5 @@
 -- Laws of `insert` of a name at the root, over the lines before and after it.
-use Rattle.std.specs.Prelude.{ℕ, List, [], ◌∷◌, ◌≤◌, ◌+◌, length, All}
+use Rattle.std.specs.Prelude.{◌≡◌, ◌⊎◌, ℕ, List, [], ◌∷◌, ◌++◌, ◌≤◌, ◌+◌, length, All}
 use Rattle.toml_text.specs.Forms.{IsNewline}
 use Rattle.toml_tree.specs.Profiles.{IsValueIn, IsValueOfProfile, AreLinesOfProfile}
 use Rattle.toml_tree.specs.Spells.{IsValue, AreLines, depth, max_depth}
@@ -14,7 +14,7 @@ use Rattle.toml_edits.specs.After.{IsAfter}
 use Rattle.toml_edits.specs.Edits.{insert}
 use Rattle.toml_edits.specs.ValueTexts.{IsGoodValue}
 use Rattle.toml_editor.specs.Blocks.{IsPut, root_pair, named_plain}
-use Rattle.toml_editor.specs.Inserting.{insert_lines}
+use Rattle.toml_editor.specs.Inserting.{new_line, line_behind, insert_lines}
 
 -- Law: the new lines name what the old ones did, and the name's value in the root.
 abbrev pub InsertNames : Type 0
@@ -48,3 +48,10 @@ InsertForms = (name : List ℕ) (v : Value) (style : List ℕ) (lines : List Lin
 abbrev pub InsertOfProfile : Type 0
 InsertOfProfile = (profile : Profile) (name : List ℕ) (v : Value) (style : List ℕ) (lines : List Line)
     → AreLinesOfProfile profile lines → IsValueOfProfile profile v → AreLinesOfProfile profile (insert_lines name v style lines)
+
+-- Law: one line is put in, before all others or behind one of them; those stay what they are, but for a last line's newline.
+abbrev pub InsertKeepsLines : Type 0
+InsertKeepsLines = (name : List ℕ) (v : Value) (style : List ℕ) (lines : List Line)
+    → (insert_lines name v style lines ≡ new_line name v style ∷ lines)
+    ⊎ ((front : List Line) × (l : Line) × (back : List Line) × (lines ≡ front ++ l ∷ back)
+    × (insert_lines name v style lines ≡ front ++ line_behind name v style l back))

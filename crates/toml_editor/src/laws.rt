@@ -1,7 +1,7 @@
 //! Laws over the definitions of what plain edits write: nothing is run.
 ghost use Rattle.toml_editor.specs.Bares.{SetBares, InsertBares, RemoveBares, RenameBares};
-ghost use Rattle.toml_editor.specs.InsertLaws.{InsertNames, InsertRules, InsertShort, InsertData, InsertForms, InsertOfProfile};
-ghost use Rattle.toml_editor.specs.RemoveLaws.{RemoveNames, RemoveGood, RemoveData, RemoveForms, RemoveOfProfile};
+ghost use Rattle.toml_editor.specs.InsertLaws.{InsertNames, InsertRules, InsertShort, InsertData, InsertForms, InsertOfProfile, InsertKeepsLines};
+ghost use Rattle.toml_editor.specs.RemoveLaws.{RemoveNames, RemoveGood, RemoveData, RemoveForms, RemoveOfProfile, RemoveKeepsLines};
 ghost use Rattle.toml_editor.specs.RenameLaws.{RenameNames, RenameGood, RenameData, RenameForms, RenameOfProfile, RenameKeepsLine};
 ghost use Rattle.toml_editor.specs.SetLaws.{SetNames, SetRules, SetShort, SetData, SetForms, SetOfProfile, SetWithin, SetElsewhere, SetKeepsLine};
 ghost use Rattle.toml_editor.specs.Steps.{GoodTextsAreDocuments, PlainIsWritten, PlainStep, PlainSteps, OneWritten, OneListWritten, StyleIsNewline};
@@ -55,14 +55,21 @@ pub fn profiles()
 {}
 
 /// Places aside, a `set` leaves what stands in a value as it was, if the address does not lie in the value, and the value
-/// itself, if it does not stand at the address either. A line stays what it is and where it is, if a `set` is neither at
-/// its value nor in it; if a `rename` is at no part of a key in it. The newline of new lines is LF or CR LF.
+/// itself, if it does not stand at the address either. The newline of new lines is LF or CR LF.
 pub fn kept()
     ensures within { SetWithin }
     ensures elsewhere { SetElsewhere }
+    ensures style { StyleIsNewline }
+{}
+
+/// Places aside, a line stays what it is and where it is, if a `set` is neither at its value nor in it; if a `rename` is at
+/// no part of a key in it. An `insert` puts in one line, and a `remove` takes out the line of the name; all others stay,
+/// but that a last line gets a newline before the new one, and leaves one of no bytes.
+pub fn kept_lines()
     ensures set { SetKeepsLine }
     ensures rename { RenameKeepsLine }
-    ensures style { StyleIsNewline }
+    ensures insert { InsertKeepsLines }
+    ensures remove { RemoveKeepsLines }
 {}
 
 /// Where the pieces of a tree stand does not count: without its places, the edited tree is what the edit makes of the tree
