@@ -17,9 +17,9 @@ pub fn sets()
     ensures forms { SetForms }
 {}
 
-/// After an `insert` of a name at the root the lines name what they named, and the name's value. They keep the table rules
-/// and the bound on addresses, where the root had no such name and the value keeps them below it; they have the data that
-/// the edit makes, and are in the forms.
+/// After an `insert` of a name at the root the lines name what they named, and the name's value. They keep the table rules,
+/// where the root had no such name and the value keeps them, and the bound on addresses, where each address in the value
+/// has at most 99 steps; they have the data that the edit makes, and are in the forms.
 pub fn inserts()
     ensures names { InsertNames }
     ensures rules { InsertRules }
@@ -72,7 +72,7 @@ pub fn kept_lines()
     ensures remove { RemoveKeepsLines }
 {}
 
-/// Where the pieces of a tree stand does not count: without its places, the edited tree is what the edit makes of the tree
+/// Where the pieces of a tree stand does not count: the edited tree, without its places, is what the edit makes of the tree
 /// without its places.
 pub fn bares()
     ensures set { SetBares }

@@ -176,9 +176,10 @@ module _ (name : List ℕ) where
       by (inl stays) more =
           let both = more (further (stays.1 ys alike) (has_parts IsPair new_ones rest there)) in
           let found = both.0 in
-          let gone = both.1 in
-          ((found.0, subst (λ r. IsPut (behind ys (r ++ kept)) (root_pair name found.0) (new_ones ++ rest)) (sym stays.0) (put_behind new_ones (behind (ys ++ named_by ys 0 l.expr) kept) (root_pair name found.0) rest found.1)),
-          (l ∷ gone.0, gone.1, gone.2, ap (λ r. l ∷ r) gone.3, gone.4, ap (λ r. r ++ kept) stays.0 ∙ ap (λ r. l ∷ r) gone.5))
+          let gone = both.1 in (
+            (found.0, subst (λ r. IsPut (behind ys (r ++ kept)) (root_pair name found.0) (new_ones ++ rest)) (sym stays.0) (put_behind new_ones (behind (ys ++ named_by ys 0 l.expr) kept) (root_pair name found.0) rest found.1)),
+            (l ∷ gone.0, gone.1, gone.2, ap (λ r. l ∷ r) gone.3, gone.4, ap (λ r. r ++ kept) stays.0 ∙ ap (λ r. l ∷ r) gone.5),
+          )
       by (inr goes) more =
           let names = goes.names ys alike in
           let none : NoPair p rest =
@@ -186,9 +187,10 @@ module _ (name : List ℕ) where
           (subst (λ b. EachIs (λ x. EachIs (Alone x) rest) b) names (pairs_between Alone new_ones rest alone)).0 in
           let same : kept ≡ ls = none_gone ls (xs ++ named_by xs n l.expr) (ys ++ named_by ys 0 l.expr) (n + 1) next none in
           let left : behind ys (remove_line p xs l ++ kept) ≡ behind ys ls = ap₂ (λ a b. behind ys (a ++ b)) goes.gone same ∙ left_names ys l ls in
-          let right : new_ones ++ rest ≡ root_pair name goes.value ++ behind ys ls = ap₂ (λ a b. a ++ b) names (ap (λ b. behind (ys ++ b) ls) names ∙ sym (behind_alike ls ys (ys ++ root_pair name goes.value) (goes.alike ys alike))) in
-          ((goes.value, subst₂ (λ a b. IsPut a (root_pair name goes.value) b) (sym left) (sym right) (put_here (root_pair name goes.value) (behind ys ls))),
-          ([], l, ls, refl, goes.own, ap₂ (λ a b. a ++ b) goes.gone same))
+          let right : new_ones ++ rest ≡ root_pair name goes.value ++ behind ys ls = ap₂ (λ a b. a ++ b) names (ap (λ b. behind (ys ++ b) ls) names ∙ sym (behind_alike ls ys (ys ++ root_pair name goes.value) (goes.alike ys alike))) in (
+            (goes.value, subst₂ (λ a b. IsPut a (root_pair name goes.value) b) (sym left) (sym right) (put_here (root_pair name goes.value) (behind ys ls))),
+            ([], l, ls, refl, goes.own, ap₂ (λ a b. a ++ b) goes.gone same),
+          )
 
 -- both, from the root on
 from_root : (name : List ℕ) (lines : List Line) → HasPair lines (p name) → KeepsRules (named lines)

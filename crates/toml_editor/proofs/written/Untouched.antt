@@ -1,7 +1,6 @@
 -- Lines that an edit does not touch.
 use Rattle.std.proofs.Common.{◌≡◌, ◌⊎◌, inl, inr, ℕ, ◌+◌, Bool, true, false, Some, List, [], ◌∷◌, ◌++◌, map, length, slice_get, refl, sym, ap, ap₂, ◌∙◌, true≢false}
 use Rattle.std.proofs.lemmas.Bool.{cond-true, cond-false}
-use Rattle.toml_scalar.specs.Spelling.{spelled}
 use Rattle.toml_tree.specs.Bare.{bare, bare_blank, bare_dotted, bare_key, bare_assign, bare_gap, bare_value, bare_items, bare_pairs, bare_header, bare_expr, bare_line, bare_lines}
 use Rattle.toml_tree.specs.Spells.{IsValue, AreItems, ArePairs, IsExpr}
 use Rattle.toml_tree.specs.Tree.{Piece, Dotted, Key, Assign, Value, Scalar, Array, Inline, Items, Close, Last, More, Pairs, ClosePairs, LastPair, MorePairs, Header, Expr, BlankLine, KeyValLine, TableLine, ArrayTableLine, Line}
@@ -18,7 +17,7 @@ use Rattle.toml_editor.specs.Lines.{fresh, array_of, inline_of, lines_from}
 use Rattle.toml_editor.specs.RenameLaws.{HasNoPart, IsBesideKeys, RenameKeepsLine}
 use Rattle.toml_editor.specs.Renaming.{rename_part, rename_rest, rename_key, rename_assign, rename_value, rename_items, rename_pairs, rename_header, rename_expr}
 use Rattle.toml_editor.specs.SetLaws.{IsBesideValue, SetKeepsLine}
-use Rattle.toml_editor.specs.Setting.{set_within, set_value, set_expr}
+use Rattle.toml_editor.specs.Setting.{set_value, set_expr}
 use Rattle.toml_editor.proofs.written.Clear.{differ}
 use Rattle.toml_editor.proofs.written.Elsewhere.{beyond, set_within_kept}
 use Rattle.toml_editor.proofs.written.Unplaced.{array_bared, inline_bared, set_bared}
