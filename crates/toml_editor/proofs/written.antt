@@ -25,3 +25,4 @@ pub mod SetNamed
 pub mod Steps
 pub mod Unplaced
 pub mod Unplain
+pub mod Untouched

@@ -1,4 +1,4 @@
--- Edits of a tree without places.
+-- Edits of trees, places aside.
 use Rattle.std.specs.Prelude.{◌≡◌, ℕ, List}
 use Rattle.toml_tree.specs.Bare.{bare_value, bare_lines}
 use Rattle.toml_tree.specs.Tree.{Value, Line}
@@ -8,10 +8,11 @@ use Rattle.toml_editor.specs.Removing.{remove_lines}
 use Rattle.toml_editor.specs.Renaming.{rename_lines}
 use Rattle.toml_editor.specs.Setting.{set_lines}
 
--- Laws: an edit of a tree without its places is the edited tree without its places. So a tree may be edited again and again before its
--- text is written and read.
+-- Laws: where the pieces of a tree stand does not count. The edited tree, without its places, is what the edit makes of the tree
+-- without its places.
 abbrev pub SetBares : Type 0
-SetBares = (p : Address) (new : Value) (lines : List Line) → bare_lines (set_lines p new lines) ≡ set_lines p (bare_value new) (bare_lines lines)
+SetBares = (p : Address) (new : Value) (lines : List Line)
+    → bare_lines (set_lines p new lines) ≡ set_lines p (bare_value new) (bare_lines lines)
 
 abbrev pub InsertBares : Type 0
 InsertBares = (name : List ℕ) (v : Value) (style : List ℕ) (lines : List Line)
@@ -21,4 +22,5 @@ abbrev pub RemoveBares : Type 0
 RemoveBares = (p : Address) (lines : List Line) → bare_lines (remove_lines p lines) ≡ remove_lines p (bare_lines lines)
 
 abbrev pub RenameBares : Type 0
-RenameBares = (p : Address) (to : List ℕ) (lines : List Line) → bare_lines (rename_lines p to lines) ≡ rename_lines p to (bare_lines lines)
+RenameBares = (p : Address) (to : List ℕ) (lines : List Line)
+    → bare_lines (rename_lines p to lines) ≡ rename_lines p to (bare_lines lines)

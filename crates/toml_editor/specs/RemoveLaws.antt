@@ -1,19 +1,20 @@
 -- Laws of `remove` of a name at the root that is one line, over the lines before and after it.
-use Rattle.std.specs.Prelude.{ℕ, List, [], ◌∷◌}
+use Rattle.std.specs.Prelude.{◌≡◌, ℕ, List, [], ◌∷◌, ◌++◌}
 use Rattle.toml_tree.specs.Profiles.{AreLinesOfProfile}
 use Rattle.toml_tree.specs.Spells.{AreLines}
-use Rattle.toml_tree.specs.Tree.{Value, Line}
+use Rattle.toml_tree.specs.Tree.{Value, Expr, BlankLine, KeyValLine, TableLine, ArrayTableLine, Line}
 use Rattle.toml_tree.specs.declared.profile.Profile.{Profile}
 use Rattle.toml_names.specs.declared.model.address.Step.TheVariants.{Name}
-use Rattle.toml_names.specs.mentions.Mentions.{named}
+use Rattle.toml_names.specs.mentions.Keys.{key_names}
+use Rattle.toml_names.specs.mentions.Mentions.{Named, named, section}
 use Rattle.toml_names.specs.mentions.Rules.{KeepsRules}
-use Rattle.toml_names.specs.model.Addresses.{Address}
+use Rattle.toml_names.specs.model.Addresses.{Address, below}
 use Rattle.toml_names.specs.model.Data.{Kinds, IsDataOf}
 use Rattle.toml_names.specs.reader.Names.{AreGood}
 use Rattle.toml_edits.specs.After.{IsAfter}
 use Rattle.toml_edits.specs.Edits.{remove}
 use Rattle.toml_editor.specs.Blocks.{IsPut, root_pair, named_plain}
-use Rattle.toml_editor.specs.Removing.{remove_lines}
+use Rattle.toml_editor.specs.Removing.{left_behind, remove_lines}
 use Rattle.toml_editor.specs.Written.{HasPair}
 
 -- Law: the old lines name what the new ones do, and the name's value in the root.
@@ -23,12 +24,15 @@ RemoveNames = (name : List ℕ) (lines : List Line) → HasPair lines (Name name
 
 -- Law: the table rules and the bound on addresses are kept.
 abbrev pub RemoveGood : Type 0
-RemoveGood = (name : List ℕ) (lines : List Line) → HasPair lines (Name name ∷ []) → AreGood lines → AreGood (remove_lines (Name name ∷ []) lines)
+RemoveGood = (name : List ℕ) (lines : List Line) → HasPair lines (Name name ∷ [])
+    → AreGood lines → AreGood (remove_lines (Name name ∷ []) lines)
 
 -- Law: the new lines have the data that the edit makes of those of the old.
 abbrev pub RemoveData : Type 0
-RemoveData = (profile : Profile) (name : List ℕ) (lines : List Line) (old after : Kinds) → HasPair lines (Name name ∷ []) → KeepsRules (named lines)
-    → IsDataOf (named lines) old → IsDataOf (named (remove_lines (Name name ∷ []) lines)) after → IsAfter profile (remove (Name name ∷ [])) old after
+RemoveData = (profile : Profile) (name : List ℕ) (lines : List Line) (old after : Kinds)
+    → HasPair lines (Name name ∷ []) → KeepsRules (named lines)
+    → IsDataOf (named lines) old → IsDataOf (named (remove_lines (Name name ∷ []) lines)) after
+    → IsAfter profile (remove (Name name ∷ [])) old after
 
 -- Law: the lines are in the forms.
 abbrev pub RemoveForms : Type 0
@@ -38,3 +42,17 @@ RemoveForms = (p : Address) (lines : List Line) → AreLines lines → AreLines 
 abbrev pub RemoveOfProfile : Type 0
 RemoveOfProfile = (profile : Profile) (p : Address) (lines : List Line) → AreLinesOfProfile profile lines
     → AreLinesOfProfile profile (remove_lines p lines)
+
+-- the line has a value, which stands at the address
+abbrev pub HasValueAt : Address → List Named → Expr → Type 0
+HasValueAt p earlier (BlankLine b) = ⊥
+HasValueAt p earlier (KeyValLine ws pair tail) = below (section earlier) (key_names pair.assign.key) ≡ p
+HasValueAt p earlier (TableLine ws header tail) = ⊥
+HasValueAt p earlier (ArrayTableLine ws header tail) = ⊥
+
+-- Law: the line of the name goes; all others stay what they are.
+abbrev pub RemoveKeepsLines : Type 0
+RemoveKeepsLines = (name : List ℕ) (lines : List Line) → HasPair lines (Name name ∷ []) → KeepsRules (named lines)
+    → (front : List Line) × (l : Line) × (back : List Line) × (lines ≡ front ++ l ∷ back)
+    × HasValueAt (Name name ∷ []) (named front) l.expr
+    × (remove_lines (Name name ∷ []) lines ≡ front ++ (left_behind l ++ back))

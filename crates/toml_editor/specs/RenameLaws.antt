@@ -1,13 +1,15 @@
 -- Laws of `rename`, over the lines before and after it.
-use Rattle.std.specs.Prelude.{◌≡◌, ℕ, List, [], ◌∷◌, map, if◌then◌else◌}
+use Rattle.std.specs.Prelude.{◌≡◌, ℕ, List, [], ◌∷◌, ◌++◌, map, length, if◌then◌else◌, Some, slice_get}
+use Rattle.toml_tree.specs.Bare.{bare_line, bare_lines}
 use Rattle.toml_tree.specs.Profiles.{AreLinesOfProfile}
-use Rattle.toml_tree.specs.Spells.{AreLines}
-use Rattle.toml_tree.specs.Tree.{Line}
+use Rattle.toml_tree.specs.Spells.{IsExpr, AreLines, EachIs}
+use Rattle.toml_tree.specs.Tree.{Expr, BlankLine, KeyValLine, TableLine, ArrayTableLine, Line}
 use Rattle.toml_tree.specs.declared.profile.Profile.{Profile}
 use Rattle.toml_names.specs.declared.model.address.Step.TheVariants.{Name}
-use Rattle.toml_names.specs.mentions.Mentions.{Named, named}
+use Rattle.toml_names.specs.mentions.Keys.{Key, key_names}
+use Rattle.toml_names.specs.mentions.Mentions.{Named, named, section, entered}
 use Rattle.toml_names.specs.mentions.Rules.{KeepsRules}
-use Rattle.toml_names.specs.model.Addresses.{Address, same_step, child}
+use Rattle.toml_names.specs.model.Addresses.{Address, IsAbove, same_step, child, below}
 use Rattle.toml_names.specs.model.Data.{Kinds, IsDataOf}
 use Rattle.toml_names.specs.model.Places.{IsNamed}
 use Rattle.toml_names.specs.reader.Names.{AreGood}
@@ -37,8 +39,9 @@ RenameGood = (q : Address) (n to : List ℕ) (lines : List Line) → ¬ IsNamed 
 
 -- Law: then the new lines have the data that the edit makes of those of the old.
 abbrev pub RenameData : Type 0
-RenameData = (profile : Profile) (q : Address) (n to : List ℕ) (lines : List Line) (old after : Kinds) → ¬ IsNamed (named lines) (child q to)
-    → KeepsRules (named lines) → IsDataOf (named lines) old → IsDataOf (named (rename_lines (child q n) to lines)) after
+RenameData = (profile : Profile) (q : Address) (n to : List ℕ) (lines : List Line) (old after : Kinds)
+    → ¬ IsNamed (named lines) (child q to) → KeepsRules (named lines)
+    → IsDataOf (named lines) old → IsDataOf (named (rename_lines (child q n) to lines)) after
     → IsAfter profile (rename (child q n) to) old after
 
 -- Law: the lines are in the forms.
@@ -49,3 +52,26 @@ RenameForms = (p : Address) (to : List ℕ) (lines : List Line) → AreLines lin
 abbrev pub RenameOfProfile : Type 0
 RenameOfProfile = (profile : Profile) (p : Address) (to : List ℕ) (lines : List Line) → AreLinesOfProfile profile lines
     → AreLinesOfProfile profile (rename_lines p to lines)
+
+-- the addresses for which the parts of a key stand, the first of them in the table at the address
+abbrev pub stood_for : (Address → Address) → Address → Key → List Address
+stood_for enter at [] = []
+stood_for enter at (n ∷ ns) = child at n ∷ stood_for enter (enter (child at n)) ns
+
+-- no part of the key stands for the address
+abbrev pub HasNoPart : Address → (Address → Address) → Address → Key → Type 0
+HasNoPart p enter at key = EachIs (λ here. ¬ (here ≡ p)) (stood_for enter at key)
+
+-- no part of a key in the line stands for the address: neither of the line's own key, nor of one in its value
+abbrev pub IsBesideKeys : Address → List Named → Expr → Type 0
+IsBesideKeys p earlier (BlankLine b) = Unit {0}
+IsBesideKeys p earlier (KeyValLine ws pair tail) =
+    let key = key_names pair.assign.key in
+    HasNoPart p (λ here. here) (section earlier) key × ¬ IsAbove (below (section earlier) key) p
+IsBesideKeys p earlier (TableLine ws header tail) = HasNoPart p (entered earlier) [] (key_names header.key)
+IsBesideKeys p earlier (ArrayTableLine ws header tail) = HasNoPart p (entered earlier) [] (key_names header.key)
+
+-- Law: such a line stays what it is and where it is, places aside.
+abbrev pub RenameKeepsLine : Type 0
+RenameKeepsLine = (p : Address) (to : List ℕ) (front back : List Line) (l : Line) → IsExpr l.expr → IsBesideKeys p (named front) l.expr
+    → slice_get (bare_lines (rename_lines p to (front ++ l ∷ back))) (length front) ≡ Some (bare_line l)

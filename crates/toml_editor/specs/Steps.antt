@@ -26,9 +26,11 @@ pub record IsGoodText (profile : Profile) (text : List ℕ) (kinds : Kinds) : Ty
 
 -- Law: within the limit of a text the good texts are the documents of the profile.
 abbrev pub GoodTextsAreDocuments : Type 0
-GoodTextsAreDocuments = (profile : Profile) (text : List ℕ) → IsText text → ((kinds : Kinds) × IsGoodText profile text kinds) ↔ IsDocumentIn profile text
+GoodTextsAreDocuments = (profile : Profile) (text : List ℕ) → IsText text
+    → ((kinds : Kinds) × IsGoodText profile text kinds) ↔ IsDocumentIn profile text
 
--- the edit is plain on these lines: a `set` where a value stands, a `rename`, an `insert` of a name at the root, a `remove` of one that is a line
+-- the edit is plain on these lines: a `set` where a value stands, a `rename`, an `insert` of a name at the root, a `remove` of one
+-- that is a line
 abbrev pub IsPlain : List Line → Change → Type 0
 IsPlain lines (set p text) = HasValue lines p
 IsPlain lines (insert p text) = (name : List ℕ) × (p ≡ Name name ∷ [])
@@ -45,13 +47,15 @@ PlainIsWritten = (profile : Profile) (c : Change) (style before : List ℕ) (old
 -- the mark is kept.
 abbrev pub PlainStep : Type 0
 PlainStep = (profile : Profile) (c : Change) (style before after : List ℕ) (old now : Kinds) → IsNewline style
-    → (good : IsGoodText profile before old) → IsFault profile c old None → IsAfter profile c old now → IsWritten profile c style before after
+    → (good : IsGoodText profile before old) → IsFault profile c old None → IsAfter profile c old now
+    → IsWritten profile c style before after
     → (new : IsGoodText profile after now) × (new.tree.mark ≡ good.tree.mark)
 
 -- the edits one after the other, each on the text written so far
 abbrev pub AreWritten : Profile → List Change → List ℕ → List ℕ → List ℕ → Type 0
 AreWritten profile [] style before after = before ≡ after
-AreWritten profile (c ∷ cs) style before after = (between : List ℕ) × IsWritten profile c style before between × AreWritten profile cs style between after
+AreWritten profile (c ∷ cs) style before after =
+    (between : List ℕ) × IsWritten profile c style before between × AreWritten profile cs style between after
 
 -- Law: so it is of a list of plain edits that leads from the data before to other data.
 abbrev pub PlainSteps : Type 0

@@ -31,11 +31,14 @@ HasPair lines p = Any (λ m. (m.address ≡ p) × (m.role ≡ Valued)) (named li
 -- the lines after a plain edit; `style` is that of the text before all edits
 abbrev pub AreEdited : Profile → Change → List ℕ → List Line → List Line → Type 0
 AreEdited profile (set p text) style old new = (v : Value) × IsValueIn profile v text × HasValue old p × (new ≡ set_lines p v old)
-AreEdited profile (insert p text) style old new = (v : Value) × IsValueIn profile v text × (name : List ℕ) × (p ≡ Name name ∷ []) × (new ≡ insert_lines name v style old)
+AreEdited profile (insert p text) style old new =
+    (v : Value) × IsValueIn profile v text × (name : List ℕ) × (p ≡ Name name ∷ []) × (new ≡ insert_lines name v style old)
 AreEdited profile (rename p to) style old new = new ≡ rename_lines p to old
 AreEdited profile (remove p) style old new = (name : List ℕ) × (p ≡ Name name ∷ []) × HasPair old p × (new ≡ remove_lines p old)
 AreEdited profile _ style old new = ⊥
 
 -- the text after it, the mark kept
 abbrev pub IsWritten : Profile → Change → List ℕ → List ℕ → List ℕ → Type 0
-IsWritten profile c style before after = (d : Doc) × SpellsIn profile d before × (new : List Line) × AreEdited profile c style d.lines new × (after ≡ d.mark.text ++ joined (lines_parts new))
+IsWritten profile c style before after =
+    (d : Doc) × SpellsIn profile d before × (new : List Line) × AreEdited profile c style d.lines new
+    × (after ≡ d.mark.text ++ joined (lines_parts new))

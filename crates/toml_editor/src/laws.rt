@@ -1,9 +1,9 @@
 //! Laws over the definitions of what plain edits write: nothing is run.
 ghost use Rattle.toml_editor.specs.Bares.{SetBares, InsertBares, RemoveBares, RenameBares};
-ghost use Rattle.toml_editor.specs.InsertLaws.{InsertNames, InsertRules, InsertShort, InsertData, InsertForms, InsertOfProfile};
-ghost use Rattle.toml_editor.specs.RemoveLaws.{RemoveNames, RemoveGood, RemoveData, RemoveForms, RemoveOfProfile};
-ghost use Rattle.toml_editor.specs.RenameLaws.{RenameNames, RenameGood, RenameData, RenameForms, RenameOfProfile};
-ghost use Rattle.toml_editor.specs.SetLaws.{SetNames, SetRules, SetShort, SetData, SetForms, SetOfProfile, SetElsewhere};
+ghost use Rattle.toml_editor.specs.InsertLaws.{InsertNames, InsertRules, InsertShort, InsertData, InsertForms, InsertOfProfile, InsertKeepsLines};
+ghost use Rattle.toml_editor.specs.RemoveLaws.{RemoveNames, RemoveGood, RemoveData, RemoveForms, RemoveOfProfile, RemoveKeepsLines};
+ghost use Rattle.toml_editor.specs.RenameLaws.{RenameNames, RenameGood, RenameData, RenameForms, RenameOfProfile, RenameKeepsLine};
+ghost use Rattle.toml_editor.specs.SetLaws.{SetNames, SetRules, SetShort, SetData, SetForms, SetOfProfile, SetWithin, SetElsewhere, SetKeepsLine};
 ghost use Rattle.toml_editor.specs.Steps.{GoodTextsAreDocuments, PlainIsWritten, PlainStep, PlainSteps, OneWritten, OneListWritten, StyleIsNewline};
 
 /// After a `set` the lines name what they named, the new value in the place of the old. They keep the table rules and the
@@ -17,9 +17,9 @@ pub fn sets()
     ensures forms { SetForms }
 {}
 
-/// After an `insert` of a name at the root the lines name what they named, and the name's value. They keep the table rules
-/// and the bound on addresses, where the root had no such name and the value keeps them below it; they have the data that
-/// the edit makes, and are in the forms.
+/// After an `insert` of a name at the root the lines name what they named, and the name's value. They keep the table rules,
+/// where the root had no such name and the value keeps them, and the bound on addresses, where each address in the value
+/// has at most 99 steps; they have the data that the edit makes, and are in the forms.
 pub fn inserts()
     ensures names { InsertNames }
     ensures rules { InsertRules }
@@ -54,13 +54,26 @@ pub fn profiles()
     ensures rename { RenameOfProfile }
 {}
 
-/// A `set` leaves a value as it was, places aside, if the address does not lie in it. The newline of new lines is one.
+/// Places aside, a `set` leaves what stands in a value as it was, if the address does not lie in the value, and the value
+/// itself, if it does not stand at the address either. The newline of new lines is LF or CR LF.
 pub fn kept()
+    ensures within { SetWithin }
     ensures elsewhere { SetElsewhere }
     ensures style { StyleIsNewline }
 {}
 
-/// An edit of a tree without places gives the edited tree, without its places.
+/// Places aside, a line stays what it is and where it is, if a `set` is neither at its value nor in it; if a `rename` is at
+/// no part of a key in it. An `insert` puts in one line, and a `remove` takes out the line of the name; all others stay,
+/// but that a last line gets a newline before the new one, and leaves one of no bytes.
+pub fn kept_lines()
+    ensures set { SetKeepsLine }
+    ensures rename { RenameKeepsLine }
+    ensures insert { InsertKeepsLines }
+    ensures remove { RemoveKeepsLines }
+{}
+
+/// Where the pieces of a tree stand does not count: the edited tree, without its places, is what the edit makes of the tree
+/// without its places.
 pub fn bares()
     ensures set { SetBares }
     ensures insert { InsertBares }

@@ -8,7 +8,7 @@ use Rattle.toml_names.specs.declared.model.address.Step.{Step}
 use Rattle.toml_names.specs.declared.model.address.Step.TheVariants.{Name, Index}
 use Rattle.toml_names.specs.model.Addresses.{Address, IsAbove, element, below}
 use Rattle.toml_names.specs.mentions.Keys.{key_names, part_name, rest_names}
-use Rattle.toml_editor.specs.SetLaws.{SetElsewhere}
+use Rattle.toml_editor.specs.SetLaws.{SetWithin, SetElsewhere}
 use Rattle.toml_editor.specs.Steps.{StyleIsNewline}
 use Rattle.toml_editor.specs.Lines.{fresh, array_of, inline_of}
 use Rattle.toml_tree.specs.Bare.{bare_key, bare_assign, bare_gap, bare_value, bare_items, bare_pairs}
@@ -17,7 +17,7 @@ use Rattle.toml_tree.proofs.Proved.{bare_items_text, bare_pairs_text}
 use Rattle.toml_editor.proofs.written.Clear.{differ}
 
 -- a step further, and what is below that
-beyond : (at : Address) (s : Step) (more p : Address) → ¬ IsAbove at p → ¬ (at ++ s ∷ more ≡ p) × ¬ IsAbove (at ++ s ∷ more) p
+pub beyond : (at : Address) (s : Step) (more p : Address) → ¬ IsAbove at p → ¬ (at ++ s ∷ more ≡ p) × ¬ IsAbove (at ++ s ∷ more) p
 beyond at s more p not = (
   (λ is. not (s, more, sym is)),
   (λ above. not (s, more ++ above.0 ∷ above.1, above.2 ∙ append_assoc at (s ∷ more) (above.0 ∷ above.1))),
@@ -54,8 +54,11 @@ module _ (p : Address) (new : Value) where
     pairs_kept (LastPair g a v h) at is not = ap (λ x. LastPair (bare_gap g) (bare_assign a) x (bare_gap h)) (kept_pair at a v not (λ to far. kept v to is.2 far))
     pairs_kept (MorePairs g a v h ps) at is not = ap₂ (λ x y. MorePairs (bare_gap g) (bare_assign a) x (bare_gap h) y) (kept_pair at a v not (λ to far. kept v to is.2 far)) (pairs_kept ps at is.4 not)
 
+pub set_within_kept : SetWithin
+set_within_kept p new at v is not = kept p new v at is not
+
 pub set_elsewhere : SetElsewhere
-set_elsewhere p new at v is not = kept p new v at is not
+set_elsewhere p new at v is clear = kept_at p new at (set_within p new at (bare_value v)) (bare_value v) clear.apart (kept p new v at is clear.not_above)
 
 newline_or : (bs : List ℕ) → (bs ≡ []) ⊎ IsNewline bs → IsNewline (cond (length bs == 0) (0x0A ∷ []) bs)
 newline_or bs (inl is) = subst (λ x. IsNewline (cond (length x == 0) (0x0A ∷ []) x)) (sym is) (inl refl)

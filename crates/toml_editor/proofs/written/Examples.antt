@@ -7,18 +7,19 @@
 --     c = 4
 --     [u.v]
 --
--- whose last line has no newline. The others are `d = 1`, `e = 2`, and an inline table over several lines.
+-- whose last line has no newline. Others are `d = 1`, `e = 2`, an inline table over several lines, and one with CR LF and whitespace.
 use Rattle.std.proofs.Common.{◌≡◌, ℕ, Some, None, List, [], ◌∷◌, ◌++◌, refl}
 use Rattle.toml_scalar.specs.Values.{name_of}
 use Rattle.toml_scalar.specs.declared.kind.ScalarKind.TheVariants as kinds
 use Rattle.toml_tree.specs.Spells.{joined, lines_parts}
-use Rattle.toml_tree.specs.Tree.{Piece, Blank, Key, Assign, Gap, Value, Scalar, Last, More, MorePairs, ClosePairs, LastPair, Header, Expr, KeyValLine, TableLine, ArrayTableLine, Line}
+use Rattle.toml_tree.specs.Tree.{Piece, Blank, Key, Assign, Gap, Value, Scalar, Last, More, MorePairs, ClosePairs, LastPair, Header, Expr, BlankLine, KeyValLine, TableLine, ArrayTableLine, Line}
 use Rattle.toml_names.specs.declared.model.address.Step.TheVariants.{Name, Index}
 use Rattle.toml_editor.specs.Inserting.{insert_lines}
 use Rattle.toml_editor.specs.Lines.{fresh, array_of, inline_of}
 use Rattle.toml_editor.specs.Removing.{remove_lines}
 use Rattle.toml_editor.specs.Renaming.{rename_lines}
 use Rattle.toml_editor.specs.Setting.{set_lines}
+use Rattle.toml_editor.specs.Written.{style_of}
 
 -- ---- trees
 
@@ -191,3 +192,147 @@ removed_last = refl
 removed_first : text (remove_lines (Name (0x64 ∷ []) ∷ []) pairs) ≡ 0x65 ∷ 0x20 ∷ 0x3D ∷ 0x20 ∷ 0x32 ∷ []
 unfolding name_of
 removed_first = refl
+
+-- ---- the newline of new lines
+
+-- a line that ends in these bytes
+abbrev ending : List ℕ → Line
+ending newline = record { expr = keyval (key 0x64) (digit 0x31); newline = fresh newline }
+
+-- that of the first line, whatever those behind it have
+style_cr_lf : style_of (ending (0x0D ∷ 0x0A ∷ []) ∷ ending (0x0A ∷ []) ∷ ending [] ∷ []) ≡ 0x0D ∷ 0x0A ∷ []
+style_cr_lf = refl
+
+style_lf : style_of (ending (0x0A ∷ []) ∷ ending (0x0D ∷ 0x0A ∷ []) ∷ ending [] ∷ []) ≡ 0x0A ∷ []
+style_lf = refl
+
+-- LF, where the first line has none, and where there is no line
+style_unended : style_of (ending [] ∷ []) ≡ 0x0A ∷ []
+style_unended = refl
+
+style_of_none : style_of [] ≡ 0x0A ∷ []
+style_of_none = refl
+
+-- ---- what is kept: each line ends in CR LF, and all whitespace stands somewhere (here a tab is written \t)
+--
+--     # one
+--       x = 1 # two
+--     # three
+--     \ty . z  =\t2\t# four
+--      [ a\t.  b ] # five
+--     \t[[  v . w\t]]
+--     \tc = 3 # six
+--
+-- whose last line is of no bytes
+
+abbrev tab : Piece
+tab = fresh (0x09 ∷ [])
+
+abbrev spaces : Piece
+spaces = fresh (0x20 ∷ 0x20 ∷ [])
+
+abbrev remark : Piece → List ℕ → Blank
+remark ws word = record { ws = ws; comment = Some (fresh (0x23 ∷ 0x20 ∷ word)) }
+
+-- the words of the comments
+abbrev one : List ℕ
+one = 0x6F ∷ 0x6E ∷ 0x65 ∷ []
+
+abbrev two : List ℕ
+two = 0x74 ∷ 0x77 ∷ 0x6F ∷ []
+
+abbrev three : List ℕ
+three = 0x74 ∷ 0x68 ∷ 0x72 ∷ 0x65 ∷ 0x65 ∷ []
+
+abbrev four : List ℕ
+four = 0x66 ∷ 0x6F ∷ 0x75 ∷ 0x72 ∷ []
+
+abbrev five : List ℕ
+five = 0x66 ∷ 0x69 ∷ 0x76 ∷ 0x65 ∷ []
+
+abbrev six : List ℕ
+six = 0x73 ∷ 0x69 ∷ 0x78 ∷ []
+
+abbrev spaced : ℕ → Piece → Piece → ℕ → Key
+spaced letter before after other = record { first = fresh (letter ∷ []); rest = record { before_dot = before; after_dot = after; part = fresh (other ∷ []) } ∷ [] }
+
+abbrev crlf : Expr → Line
+crlf e = record { expr = e; newline = fresh (0x0D ∷ 0x0A ∷ []) }
+
+abbrev whitespace : List Line
+whitespace =
+    crlf (BlankLine (remark empty one))
+    ∷ crlf (KeyValLine spaces (record { assign = assign (key 0x78); value = digit 0x31 }) (remark space two))
+    ∷ crlf (BlankLine (remark empty three))
+    ∷ crlf (KeyValLine tab (record { assign = record { key = spaced 0x79 space space 0x7A; before_equals = spaces; after_equals = tab }; value = digit 0x32 }) (remark tab four))
+    ∷ crlf (TableLine space (record { before = space; key = spaced 0x61 tab spaces 0x62; after = space }) (remark space five))
+    ∷ crlf (ArrayTableLine tab (record { before = spaces; key = spaced 0x76 space space 0x77; after = tab }) no_tail)
+    ∷ crlf (KeyValLine tab (record { assign = assign (key 0x63); value = digit 0x33 }) (remark space six))
+    ∷ record { expr = BlankLine no_tail; newline = empty } ∷ []
+
+-- its lines: `# one`
+abbrev line_one : List ℕ
+line_one = 0x23 ∷ 0x20 ∷ 0x6F ∷ 0x6E ∷ 0x65 ∷ 0x0D ∷ 0x0A ∷ []
+
+-- `  x = 1 # two`
+abbrev line_two : List ℕ
+line_two = 0x20 ∷ 0x20 ∷ 0x78 ∷ 0x20 ∷ 0x3D ∷ 0x20 ∷ 0x31 ∷ 0x20 ∷ 0x23 ∷ 0x20 ∷ 0x74 ∷ 0x77 ∷ 0x6F ∷ 0x0D ∷ 0x0A ∷ []
+
+-- `# three`
+abbrev line_three : List ℕ
+line_three = 0x23 ∷ 0x20 ∷ 0x74 ∷ 0x68 ∷ 0x72 ∷ 0x65 ∷ 0x65 ∷ 0x0D ∷ 0x0A ∷ []
+
+-- `\ty . z  =\t2\t# four`
+abbrev line_four : List ℕ
+line_four = 0x09 ∷ 0x79 ∷ 0x20 ∷ 0x2E ∷ 0x20 ∷ 0x7A ∷ 0x20 ∷ 0x20 ∷ 0x3D ∷ 0x09 ∷ 0x32 ∷ 0x09 ∷ 0x23 ∷ 0x20 ∷ 0x66 ∷ 0x6F ∷ 0x75 ∷ 0x72 ∷ 0x0D ∷ 0x0A ∷ []
+
+-- ` [ a\t.  b ] # five`
+abbrev line_five : List ℕ
+line_five = 0x20 ∷ 0x5B ∷ 0x20 ∷ 0x61 ∷ 0x09 ∷ 0x2E ∷ 0x20 ∷ 0x20 ∷ 0x62 ∷ 0x20 ∷ 0x5D ∷ 0x20 ∷ 0x23 ∷ 0x20 ∷ 0x66 ∷ 0x69 ∷ 0x76 ∷ 0x65 ∷ 0x0D ∷ 0x0A ∷ []
+
+-- `\t[[  v . w\t]]`
+abbrev line_array : List ℕ
+line_array = 0x09 ∷ 0x5B ∷ 0x5B ∷ 0x20 ∷ 0x20 ∷ 0x76 ∷ 0x20 ∷ 0x2E ∷ 0x20 ∷ 0x77 ∷ 0x09 ∷ 0x5D ∷ 0x5D ∷ 0x0D ∷ 0x0A ∷ []
+
+-- `\tc = 3 # six`
+abbrev line_six : List ℕ
+line_six = 0x09 ∷ 0x63 ∷ 0x20 ∷ 0x3D ∷ 0x20 ∷ 0x33 ∷ 0x20 ∷ 0x23 ∷ 0x20 ∷ 0x73 ∷ 0x69 ∷ 0x78 ∷ 0x0D ∷ 0x0A ∷ []
+
+same_whitespace : text whitespace ≡ line_one ++ line_two ++ line_three ++ line_four ++ line_five ++ line_array ++ line_six
+unfolding name_of
+same_whitespace = refl
+
+-- `set` in the last element of the array: `\tc = 9 # six`
+whitespace_set : text (set_lines (Name (0x76 ∷ []) ∷ Name (0x77 ∷ []) ∷ Index 0 ∷ Name (0x63 ∷ []) ∷ []) nine whitespace) ≡ line_one ++ line_two ++ line_three ++ line_four ++ line_five ++ line_array ++ (0x09 ∷ 0x63 ∷ 0x20 ∷ 0x3D ∷ 0x20 ∷ 0x39 ∷ 0x20 ∷ 0x23 ∷ 0x20 ∷ 0x73 ∷ 0x69 ∷ 0x78 ∷ 0x0D ∷ 0x0A ∷ [])
+unfolding name_of
+whitespace_set = refl
+
+-- `set` of a dotted key's value: `\ty . z  =\t9\t# four`
+whitespace_set_dotted : text (set_lines (Name (0x79 ∷ []) ∷ Name (0x7A ∷ []) ∷ []) nine whitespace) ≡ line_one ++ line_two ++ line_three ++ (0x09 ∷ 0x79 ∷ 0x20 ∷ 0x2E ∷ 0x20 ∷ 0x7A ∷ 0x20 ∷ 0x20 ∷ 0x3D ∷ 0x09 ∷ 0x39 ∷ 0x09 ∷ 0x23 ∷ 0x20 ∷ 0x66 ∷ 0x6F ∷ 0x75 ∷ 0x72 ∷ 0x0D ∷ 0x0A ∷ []) ++ line_five ++ line_array ++ line_six
+unfolding name_of
+whitespace_set_dotted = refl
+
+-- `insert` behind the last line before the headers: `n = 9`
+whitespace_insert : text (insert_lines (0x6E ∷ []) nine (style_of whitespace) whitespace) ≡ line_one ++ line_two ++ line_three ++ line_four ++ (0x6E ∷ 0x20 ∷ 0x3D ∷ 0x20 ∷ 0x39 ∷ 0x0D ∷ 0x0A ∷ []) ++ line_five ++ line_array ++ line_six
+unfolding name_of
+whitespace_insert = refl
+
+-- `remove` between lines with comments
+whitespace_remove : text (remove_lines (Name (0x78 ∷ []) ∷ []) whitespace) ≡ line_one ++ line_three ++ line_four ++ line_five ++ line_array ++ line_six
+unfolding name_of
+whitespace_remove = refl
+
+-- `rename` in a header: ` [ a\t.  q ] # five`
+whitespace_rename : text (rename_lines (Name (0x61 ∷ []) ∷ Name (0x62 ∷ []) ∷ []) (0x71 ∷ []) whitespace) ≡ line_one ++ line_two ++ line_three ++ line_four ++ (0x20 ∷ 0x5B ∷ 0x20 ∷ 0x61 ∷ 0x09 ∷ 0x2E ∷ 0x20 ∷ 0x20 ∷ 0x71 ∷ 0x20 ∷ 0x5D ∷ 0x20 ∷ 0x23 ∷ 0x20 ∷ 0x66 ∷ 0x69 ∷ 0x76 ∷ 0x65 ∷ 0x0D ∷ 0x0A ∷ []) ++ line_array ++ line_six
+unfolding name_of
+whitespace_rename = refl
+
+-- in a dotted key: `\tq . z  =\t2\t# four`
+whitespace_rename_dotted : text (rename_lines (Name (0x79 ∷ []) ∷ []) (0x71 ∷ []) whitespace) ≡ line_one ++ line_two ++ line_three ++ (0x09 ∷ 0x71 ∷ 0x20 ∷ 0x2E ∷ 0x20 ∷ 0x7A ∷ 0x20 ∷ 0x20 ∷ 0x3D ∷ 0x09 ∷ 0x32 ∷ 0x09 ∷ 0x23 ∷ 0x20 ∷ 0x66 ∷ 0x6F ∷ 0x75 ∷ 0x72 ∷ 0x0D ∷ 0x0A ∷ []) ++ line_five ++ line_array ++ line_six
+unfolding name_of
+whitespace_rename_dotted = refl
+
+-- in the header of an array of tables: `\t[[  v . q\t]]`
+whitespace_rename_array : text (rename_lines (Name (0x76 ∷ []) ∷ Name (0x77 ∷ []) ∷ []) (0x71 ∷ []) whitespace) ≡ line_one ++ line_two ++ line_three ++ line_four ++ line_five ++ (0x09 ∷ 0x5B ∷ 0x5B ∷ 0x20 ∷ 0x20 ∷ 0x76 ∷ 0x20 ∷ 0x2E ∷ 0x20 ∷ 0x71 ∷ 0x09 ∷ 0x5D ∷ 0x5D ∷ 0x0D ∷ 0x0A ∷ []) ++ line_six
+unfolding name_of
+whitespace_rename_array = refl

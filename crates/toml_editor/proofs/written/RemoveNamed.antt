@@ -7,12 +7,14 @@ use Rattle.toml_names.specs.declared.model.address.Step.TheVariants.{Name}
 use Rattle.toml_names.specs.declared.mentions.mention.Role.TheVariants.{Valued}
 use Rattle.toml_names.specs.model.Addresses.{Address, IsAbove, same_address, child, below}
 use Rattle.toml_names.specs.mentions.Keys.{Key, key_names, part_name, rest_names}
-use Rattle.toml_names.specs.mentions.Mentions.{Named, named, named_by, root, pair_named, fronts, value_named, inside, section, followed, entered, ends_table, ends_tables}
+use Rattle.toml_names.specs.mentions.Mentions.{Named, named, named_by, named_from, root, pair_named, fronts, value_named, inside, section, followed, entered, ends_table, ends_tables}
 use Rattle.toml_names.specs.mentions.Alike.{AreAlike}
+use Rattle.toml_names.specs.mentions.Rules.{KeepsRules}
 use Rattle.toml_names.proofs.Proved.{inside_is_below, line_values_stand_alone}
 use Rattle.toml_editor.specs.Blocks.{IsPut, root_pair}
-use Rattle.toml_editor.specs.RemoveLaws.{RemoveNames}
+use Rattle.toml_editor.specs.RemoveLaws.{RemoveNames, RemoveKeepsLines, HasValueAt}
 use Rattle.toml_editor.specs.Lines.{lines_from}
+use Rattle.toml_editor.specs.Written.{HasPair}
 use Rattle.toml_editor.specs.Removing.{remove_line, remove_lines, left_behind, empty_line}
 use Rattle.toml_editor.proofs.written.Alike.{alike_self, alike_pair}
 use Rattle.toml_editor.proofs.written.Behind.{put_behind, put_here}
@@ -78,6 +80,7 @@ module _ (name : List ℕ) where
   -- a line that goes
   record Goes_away (xs : List Named) (l : Line) : Type 0 where
     at_root : section xs ≡ []
+    own : HasValueAt p xs l.expr
     value : Value
     gone : remove_line p xs l ≡ left_behind l
     names : (ys : List Named) → AreAlike xs ys → named_by ys 0 l.expr ≡ root_pair name value
@@ -113,6 +116,7 @@ module _ (name : List ℕ) where
               ∙ ap (λ k. fronts 0 [] k ++ (value_named 0 Valued (below [] k) pair.value ∷ inside 0 (below [] k) pair.value)) key in
               inr (record {
                 at_root = steps.0;
+                own = subst (HasValueAt p xs) (sym is) (same_is to p same);
                 value = pair.value;
                 gone = removed ∙ cond-true _ _ _ same;
                 names = λ ys alike. ap (named_by ys 0) is ∙ root_is ys alike;
@@ -137,7 +141,17 @@ module _ (name : List ℕ) where
       by true = ap (λ r. behind r ls) (append-nil ys)
       by false = refl
 
-  taken_out : (ls : List Line) (xs ys : List Named) (n : ℕ) → AreAlike xs ys → PairsAre Alone (behind ys ls) → Has IsPair (behind ys ls) → (v : Value) × IsPut (behind ys (lines_from (remove_line p) xs n ls)) (root_pair name v) (behind ys ls)
+  -- one line is gone, and what it named
+  abbrev Gone : List Named → ℕ → List Line → Type 0
+  Gone xs n ls =
+      (front : List Line) × (l : Line) × (back : List Line) × (ls ≡ front ++ l ∷ back) × HasValueAt p (named_from xs n front) l.expr
+      × (lines_from (remove_line p) xs n ls ≡ front ++ (left_behind l ++ back))
+
+  abbrev Unnamed : List Named → List Line → List Line → Type 0
+  Unnamed ys new old = (v : Value) × IsPut (behind ys new) (root_pair name v) (behind ys old)
+
+  taken_out : (ls : List Line) (xs ys : List Named) (n : ℕ) → AreAlike xs ys → PairsAre Alone (behind ys ls) → Has IsPair (behind ys ls)
+      → Unnamed ys (lines_from (remove_line p) xs n ls) ls × Gone xs n ls
   taken_out [] xs ys n alike alone there = absurd there
   taken_out (l ∷ ls) xs ys n alike alone there = by (line_by xs l) (λ here. taken_out ls (xs ++ named_by xs n l.expr) (ys ++ named_by ys 0 l.expr) (n + 1) next (pairs_back Alone new_ones rest alone) here)
     where
@@ -157,11 +171,15 @@ module _ (name : List ℕ) where
       further none (inl here) = absurd (from_has (λ m. m.address ≡ p → ¬ (m.role ≡ Valued)) IsPair ⊥ (λ m not is. not is.0 is.1) new_ones none here)
       further none (inr here) = here
 
-      by : Stays xs l ⊎ Goes_away xs l → (Has IsPair rest → (v : Value) × IsPut (behind (ys ++ named_by ys 0 l.expr) kept) (root_pair name v) rest)
-          → (v : Value) × IsPut (behind ys (remove_line p xs l ++ kept)) (root_pair name v) (new_ones ++ rest)
+      by : Stays xs l ⊎ Goes_away xs l → (Has IsPair rest → Unnamed (ys ++ named_by ys 0 l.expr) kept ls × Gone (xs ++ named_by xs n l.expr) (n + 1) ls)
+          → Unnamed ys (remove_line p xs l ++ kept) (l ∷ ls) × Gone xs n (l ∷ ls)
       by (inl stays) more =
-          let found = more (further (stays.1 ys alike) (has_parts IsPair new_ones rest there)) in
-          (found.0, subst (λ r. IsPut (behind ys (r ++ kept)) (root_pair name found.0) (new_ones ++ rest)) (sym stays.0) (put_behind new_ones (behind (ys ++ named_by ys 0 l.expr) kept) (root_pair name found.0) rest found.1))
+          let both = more (further (stays.1 ys alike) (has_parts IsPair new_ones rest there)) in
+          let found = both.0 in
+          let gone = both.1 in (
+            (found.0, subst (λ r. IsPut (behind ys (r ++ kept)) (root_pair name found.0) (new_ones ++ rest)) (sym stays.0) (put_behind new_ones (behind (ys ++ named_by ys 0 l.expr) kept) (root_pair name found.0) rest found.1)),
+            (l ∷ gone.0, gone.1, gone.2, ap (λ r. l ∷ r) gone.3, gone.4, ap (λ r. r ++ kept) stays.0 ∙ ap (λ r. l ∷ r) gone.5),
+          )
       by (inr goes) more =
           let names = goes.names ys alike in
           let none : NoPair p rest =
@@ -169,16 +187,27 @@ module _ (name : List ℕ) where
           (subst (λ b. EachIs (λ x. EachIs (Alone x) rest) b) names (pairs_between Alone new_ones rest alone)).0 in
           let same : kept ≡ ls = none_gone ls (xs ++ named_by xs n l.expr) (ys ++ named_by ys 0 l.expr) (n + 1) next none in
           let left : behind ys (remove_line p xs l ++ kept) ≡ behind ys ls = ap₂ (λ a b. behind ys (a ++ b)) goes.gone same ∙ left_names ys l ls in
-          let right : new_ones ++ rest ≡ root_pair name goes.value ++ behind ys ls = ap₂ (λ a b. a ++ b) names (ap (λ b. behind (ys ++ b) ls) names ∙ sym (behind_alike ls ys (ys ++ root_pair name goes.value) (goes.alike ys alike))) in
-          (goes.value, subst₂ (λ a b. IsPut a (root_pair name goes.value) b) (sym left) (sym right) (put_here (root_pair name goes.value) (behind ys ls)))
+          let right : new_ones ++ rest ≡ root_pair name goes.value ++ behind ys ls = ap₂ (λ a b. a ++ b) names (ap (λ b. behind (ys ++ b) ls) names ∙ sym (behind_alike ls ys (ys ++ root_pair name goes.value) (goes.alike ys alike))) in (
+            (goes.value, subst₂ (λ a b. IsPut a (root_pair name goes.value) b) (sym left) (sym right) (put_here (root_pair name goes.value) (behind ys ls))),
+            ([], l, ls, refl, goes.own, ap₂ (λ a b. a ++ b) goes.gone same),
+          )
 
-pub remove_names : RemoveNames
-remove_names name lines there keeps =
+-- both, from the root on
+from_root : (name : List ℕ) (lines : List Line) → HasPair lines (p name) → KeepsRules (named lines)
+    → Unnamed name (root ∷ []) (remove_lines (p name) lines) lines × Gone name (root ∷ []) 0 lines
+from_root name lines there keeps =
     let alone : PairsAre Alone (root ∷ behind (root ∷ []) lines) = subst (PairsAre Alone) (plain_is lines) (pairs_plain lines Alone (λ x y h. h) (pairs_of_all Alone (named lines) (line_values_stand_alone lines keeps))) in
     let here : Has (IsPair name) (root ∷ behind (root ∷ []) lines) = subst (Has (IsPair name)) (plain_is lines) (has_plain lines (IsPair name) (has_of_any _ (named lines) there)) in
-    let found = taken_out name lines (root ∷ []) (root ∷ []) 0 (alike_self (root ∷ [])) alone.1 (in_rest here) in
-    (found.0, subst₂ (λ s t. IsPut s (root_pair name found.0) t) (sym (plain_is (remove_lines (Name name ∷ []) lines))) (sym (plain_is lines)) (put_behind (root ∷ []) (behind (root ∷ []) (remove_lines (Name name ∷ []) lines)) (root_pair name found.0) (behind (root ∷ []) lines) found.1))
+    taken_out name lines (root ∷ []) (root ∷ []) 0 (alike_self (root ∷ [])) alone.1 (in_rest here)
   where
     in_rest : Has (IsPair name) (root ∷ behind (root ∷ []) lines) → Has (IsPair name) (behind (root ∷ []) lines)
     in_rest (inl is) = let e = is.0 in cc
     in_rest (inr h) = h
+
+pub remove_names : RemoveNames
+remove_names name lines there keeps =
+    let found = (from_root name lines there keeps).0 in
+    (found.0, subst₂ (λ s t. IsPut s (root_pair name found.0) t) (sym (plain_is (remove_lines (Name name ∷ []) lines))) (sym (plain_is lines)) (put_behind (root ∷ []) (behind (root ∷ []) (remove_lines (Name name ∷ []) lines)) (root_pair name found.0) (behind (root ∷ []) lines) found.1))
+
+pub remove_keeps_lines : RemoveKeepsLines
+remove_keeps_lines name lines there keeps = (from_root name lines there keeps).1

@@ -16,10 +16,10 @@ use Rattle.toml_editor.specs.Renaming.{rename_part, rename_rest, rename_key, ren
 use Rattle.toml_editor.specs.Setting.{set_at, set_within, set_items, set_pairs, set_expr, set_line}
 use Rattle.toml_editor.proofs.written.BareNames.{key_bared, line_bared}
 
-array_bared : (is : Items) → bare_value (array_of is) ≡ array_of (bare_items is)
+pub array_bared : (is : Items) → bare_value (array_of is) ≡ array_of (bare_items is)
 array_bared is = ap (λ t. Array (fresh (0x5B ∷ t)) (bare_items is)) (sym (bare_items_text is))
 
-inline_bared : (ps : Pairs) → bare_value (inline_of ps) ≡ inline_of (bare_pairs ps)
+pub inline_bared : (ps : Pairs) → bare_value (inline_of ps) ≡ inline_of (bare_pairs ps)
 inline_bared ps = ap (λ t. Inline (fresh (0x7B ∷ t)) (bare_pairs ps)) (sym (bare_pairs_text ps))
 
 -- line by line
@@ -50,7 +50,7 @@ module _ (p : Address) (new : Value) where
       ∙ ap (λ k. set_at p (bare_value new) (below at k) (set_within p (bare_value new) (below at k) (bare_value v))) (sym (key_bared a.key))
 
   mutual
-    set_bared : (v : Value) (at : Address) → bare_value (set_within p new at v) ≡ set_within p (bare_value new) at (bare_value v)
+    pub set_bared : (v : Value) (at : Address) → bare_value (set_within p new at v) ≡ set_within p (bare_value new) at (bare_value v)
     set_bared (Scalar kind text) at = refl
     set_bared (Array whole items) at = array_bared (set_items p new at 0 items) ∙ ap array_of (items_set items at 0)
     set_bared (Inline whole pairs) at = inline_bared (set_pairs p new at pairs) ∙ ap inline_of (pairs_set pairs at)
