@@ -10,6 +10,7 @@ pub mod Fitting
 pub mod InsertFormed
 pub mod InsertKept
 pub mod InsertNamed
+pub mod Made
 pub mod Moved
 pub mod Pairwise
 pub mod Plain
@@ -19,9 +20,19 @@ pub mod RemoveNamed
 pub mod RenameFormed
 pub mod RenameKept
 pub mod RenameNamed
+pub mod RenameTexts
 pub mod SetFormed
 pub mod SetKept
 pub mod SetNamed
+pub mod SetTexts
 pub mod Steps
+pub mod Texts
+pub mod Together
+pub mod UnitsAlike
+pub mod UnitsGone
+pub mod UnitsPut
+pub mod UnitsRenamed
+pub mod UnitsSet
+pub mod UnitsTaken
 pub mod Unplaced
 pub mod Unplain

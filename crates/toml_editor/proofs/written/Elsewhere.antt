@@ -17,7 +17,7 @@ use Rattle.toml_tree.proofs.Proved.{bare_items_text, bare_pairs_text}
 use Rattle.toml_editor.proofs.written.Clear.{differ}
 
 -- a step further, and what is below that
-beyond : (at : Address) (s : Step) (more p : Address) → ¬ IsAbove at p → ¬ (at ++ s ∷ more ≡ p) × ¬ IsAbove (at ++ s ∷ more) p
+pub beyond : (at : Address) (s : Step) (more p : Address) → ¬ IsAbove at p → ¬ (at ++ s ∷ more ≡ p) × ¬ IsAbove (at ++ s ∷ more) p
 beyond at s more p not = (
   (λ is. not (s, more, sym is)),
   (λ above. not (s, more ++ above.0 ∷ above.1, above.2 ∙ append_assoc at (s ∷ more) (above.0 ∷ above.1))),

@@ -50,7 +50,7 @@ module _ (p : Address) (new : Value) where
       ∙ ap (λ k. set_at p (bare_value new) (below at k) (set_within p (bare_value new) (below at k) (bare_value v))) (sym (key_bared a.key))
 
   mutual
-    set_bared : (v : Value) (at : Address) → bare_value (set_within p new at v) ≡ set_within p (bare_value new) at (bare_value v)
+    pub set_bared : (v : Value) (at : Address) → bare_value (set_within p new at v) ≡ set_within p (bare_value new) at (bare_value v)
     set_bared (Scalar kind text) at = refl
     set_bared (Array whole items) at = array_bared (set_items p new at 0 items) ∙ ap array_of (items_set items at 0)
     set_bared (Inline whole pairs) at = inline_bared (set_pairs p new at pairs) ∙ ap inline_of (pairs_set pairs at)
