@@ -29,6 +29,8 @@ pub mod Steps
 pub mod Texts
 pub mod Together
 pub mod UnitsAlike
+pub mod UnitsBare
+pub mod UnitsCarried
 pub mod UnitsGone
 pub mod UnitsPut
 pub mod UnitsRenamed
@@ -36,3 +38,11 @@ pub mod UnitsSet
 pub mod UnitsTaken
 pub mod Unplaced
 pub mod Unplain
+pub mod Way
+pub mod WayBlock
+pub mod WayComments
+pub mod WayFits
+pub mod WayPut
+pub mod WayRenamed
+pub mod WayWhole
+pub mod WayZip

@@ -1,5 +1,5 @@
 -- Law of the units after a `set`.
-use Rattle.std.specs.Prelude.{◌≡◌, ◌⊎◌, ℕ, Bool, true, false, List, [], ◌∷◌, ◌++◌, Some}
+use Rattle.std.specs.Prelude.{◌≡◌, ◌⊎◌, ℕ, Bool, true, false, List, [], ◌∷◌, ◌++◌, Some, IsSome}
 use Rattle.toml_tree.specs.Spells.{joined, value_parts, IsValue, AreLines}
 use Rattle.toml_tree.specs.Tree.{Value, Line}
 use Rattle.toml_names.specs.mentions.Mentions.{named}
@@ -34,20 +34,21 @@ HoldsValue p u = (u.address ≡ Some p) × (is_comment u.kind ≡ false)
 abbrev pub IsExchanged : List ℕ → List ℕ → List ℕ → Type 0
 IsExchanged run a b = (front old back : List ℕ) × (a ≡ front ++ (old ++ back)) × (b ≡ front ++ (run ++ back))
 
--- the unit with another value
+-- the unit with another value; of lines those with a key have one
 pub record HasNewValue (new : Value) (u w : TextUnit) : Type 0 where
+  pub keyed : u.kind ≡ kinds.Line → IsSome u.base
   pub kind : w.kind ≡ u.kind
   pub address : w.address ≡ u.address
   pub base : w.base ≡ u.base
   pub text : IsExchanged (joined (value_parts new)) u.piece.text w.piece.text
 
 -- What stands for a unit after a `set`: nothing, if it lies in the old value; itself with the new value, and what is in that, if the value is its
--- own; else itself as the edit leaves it.
+-- own; else itself, where it was, as the edit leaves it.
 abbrev pub IsSetTo : Address → List ℕ → Value → TextUnit → List TextUnit → Type 0
 IsSetTo p text new u ws =
     (LiesInValue p u × (ws ≡ []))
     ⊎ (HoldsValue p u × (w : TextUnit) × HasNewValue new u w × (ws ≡ w ∷ inside p new))
-    ⊎ (¬ LiesInValue p u × ¬ HoldsValue p u × (w : TextUnit) × IsCarried (set p text) u w × (ws ≡ w ∷ []))
+    ⊎ (¬ LiesInValue p u × ¬ HoldsValue p u × (w : TextUnit) × IsCarried (set p text) u w × (w.address ≡ u.address) × (ws ≡ w ∷ []))
 
 -- the second list is made of the first: a list for each, one behind the other
 abbrev pub AreMadeOf : {A B : Type 0} → (A → List B → Type 0) → List A → List B → Type 0

@@ -83,7 +83,7 @@ carried_moved n to (s ∷ q) (t ∷ a) = by (same_step s t) (same_step t s) (fli
 abbrev Parts : Type 0
 Parts = Address × Step
 
-parted_at : (q : Address) (s : Step) → parted (q ++ s ∷ []) ≡ Some (q, s)
+pub parted_at : (q : Address) (s : Step) → parted (q ++ s ∷ []) ≡ Some (q, s)
 parted_at [] s = refl
 parted_at (t ∷ []) s = refl
 parted_at (t ∷ u ∷ q) s = ap (option_map (λ (w : Parts). (t ∷ w.0, w.1))) (parted_at (u ∷ q) s)

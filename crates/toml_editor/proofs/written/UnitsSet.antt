@@ -1,5 +1,5 @@
 -- The units after a `set`.
-use Rattle.std.proofs.Common.{◌≡◌, ◌⊎◌, inl, inr, ℕ, ◌+◌, Bool, true, false, cond, map, Option, Some, None, option_and_then, List, [], ◌∷◌, ◌++◌, length, refl, sym, ap, ◌∙◌, subst, true≢false, append_assoc, append-nil}
+use Rattle.std.proofs.Common.{◌≡◌, ◌⊎◌, inl, inr, ℕ, ◌+◌, Bool, true, false, cond, map, Option, Some, None, option_and_then, List, [], ◌∷◌, ◌++◌, length, refl, sym, ap, ◌∙◌, subst, true≢false, append_assoc, append-nil, IsSome}
 use Rattle.toml_tree.specs.Pieces.{piece_of, expr_piece}
 use Rattle.toml_tree.specs.Spells.{joined, value_parts, assign_parts, keyval_parts, blank_parts, IsValue, AreItems, ArePairs, IsExpr, EachIs}
 use Rattle.toml_tree.specs.Tree.{Piece, Blank, Assign, GapLine, Gap, Value, Scalar, Array, Inline, Items, Close, Last, More, Pairs, ClosePairs, LastPair, MorePairs, Expr, BlankLine, KeyValLine, TableLine, ArrayTableLine, Line}
@@ -62,7 +62,7 @@ module _ (p : Address) (text : List ℕ) (new : Value) (formed : IsValue new) wh
   comment kind is a stays not None = refl
   comment kind is a stays not (Some piece) =
       let u : TextUnit = record { kind = kind; piece = piece; address = a; base = None } in
-      (u ∷ [], [], inr (inr (not piece, (λ holds. true≢false (sym is ∙ holds.1)), u, record { kind = refl; address = sym stays; base = refl; text = λ line n. refl }, refl)), refl, refl)
+      (u ∷ [], [], inr (inr (not piece, (λ holds. true≢false (sym is ∙ holds.1)), u, record { kind = refl; address = sym stays; base = refl; text = λ line n. refl }, refl, refl)), refl, refl)
 
   carried_clear : (at : Address) → ¬ IsAbove p at → option_and_then (carry c) (Some at) ≡ Some at
   carried_clear at not = set_stays p at not
@@ -95,12 +95,12 @@ module _ (p : Address) (text : List ℕ) (new : Value) (formed : IsValue new) wh
   holder kind base at piece v = record { kind = kind; piece = piece v; address = Some at; base = base }
 
   -- what is in a value stays or is exchanged
-  holding : (kind : UnitKind) (base : Option ℕ) (piece : Value → Piece) (v : Value) (at : Address) → is_comment kind ≡ false → ¬ IsAbove p at
+  holding : (kind : UnitKind) (base : Option ℕ) (piece : Value → Piece) (v : Value) (at : Address) → is_comment kind ≡ false → (kind ≡ kinds.Line → IsSome base) → ¬ IsAbove p at
       → IsExchanged (joined (value_parts new)) (piece v).text (piece new).text
       → ((line : Option TextUnit) → ¬ IsChanged kind c (standing (holder kind base at piece v) line) → (piece (set_within p new at v)).text ≡ (piece v).text)
       → (IsClear p at → Made (inside at v) (inside at (set_within p new at v)))
       → Made (holder kind base at piece v ∷ inside at v) (holder kind base at piece (set_value p new at v) ∷ inside at (set_value p new at v))
-  holding kind base piece v at plain not_above exchanged kept within = by (same_address at p) refl
+  holding kind base piece v at plain keyed not_above exchanged kept within = by (same_address at p) refl
     where
       by : (b : Bool) → same_address at p ≡ b
           → Made (holder kind base at piece v ∷ inside at v) (holder kind base at piece (cond b new (set_within p new at v)) ∷ inside at (cond b new (set_within p new at v)))
@@ -109,7 +109,7 @@ module _ (p : Address) (text : List ℕ) (new : Value) (formed : IsValue new) wh
           let w = holder kind base at piece new in (
             w ∷ inside at new,
             [],
-            inr (inl ((ap Some is, plain), w, record { kind = refl; address = refl; base = refl; text = exchanged }, ap (λ (a : Address). w ∷ inside a new) is)),
+            inr (inl ((ap Some is, plain), w, record { keyed = keyed; kind = refl; address = refl; base = refl; text = exchanged }, ap (λ (a : Address). w ∷ inside a new) is)),
             sym (append-nil (w ∷ inside at new)),
             none_made p text new (inside at v) (value_in p v at (inr is)),
           )
@@ -118,7 +118,7 @@ module _ (p : Address) (text : List ℕ) (new : Value) (formed : IsValue new) wh
           let w = holder kind base at piece (set_within p new at v) in (
             w ∷ [],
             inside at (set_within p new at v),
-            inr (inr ((λ lies. not_in at clear kind lies.1), (λ holds. let e = holds.0 in clear.apart cc), w, record { kind = refl; address = sym (carried_clear at not_above); base = refl; text = kept }, refl)),
+            inr (inr ((λ lies. not_in at clear kind lies.1), (λ holds. let e = holds.0 in clear.apart cc), w, record { kind = refl; address = sym (carried_clear at not_above); base = refl; text = kept }, refl, refl)),
             refl,
             within clear,
           )
@@ -126,7 +126,7 @@ module _ (p : Address) (text : List ℕ) (new : Value) (formed : IsValue new) wh
   an_element : (v : Value) (at : Address) → IsValue v → ¬ IsAbove p at → (IsClear p at → Made (inside at v) (inside at (set_within p new at v)))
       → Made (element_unit at v ∷ inside at v) (element_unit at (set_value p new at v) ∷ inside at (set_value p new at v))
   an_element v at is not_above within =
-      holding kinds.Element None piece_of v at refl not_above
+      holding kinds.Element None piece_of v at refl (λ is. cc) not_above
       ([], (piece_of v).text, [], sym (append-nil (piece_of v).text), piece_text new formed ∙ sym (append-nil (joined (value_parts new))))
       (λ line not. piece_within v ∙ within_text p new v at is not ∙ sym (piece_text v is))
       within
@@ -154,7 +154,7 @@ module _ (p : Address) (text : List ℕ) (new : Value) (formed : IsValue new) wh
       (pair_unit at (record { assign = a; value = set_value p new (below at (key_names a.key)) v }) ∷ inside (below at (key_names a.key)) (set_value p new (below at (key_names a.key)) v))
   a_pair a v at is not_above within =
       let to = below at (key_names a.key) in
-      holding kinds.Pair (Some (length at)) (pair_piece a) v to refl not_above (exchanged_pair a v)
+      holding kinds.Pair (Some (length at)) (pair_piece a) v to refl (λ is. cc) not_above (exchanged_pair a v)
       (λ line not. both_texts (assign_parts a) (assign_parts a) (value_parts (set_within p new to v)) (value_parts v) refl (within_text p new v to is (λ above. not (inr (inl above)))))
       within
 
@@ -245,7 +245,7 @@ module _ (p : Address) (text : List ℕ) (new : Value) (formed : IsValue new) wh
       let u : TextUnit = record { kind = kinds.Line; piece = expr_piece e; address = Some at; base = None } in (
         u ∷ [],
         comment_units kinds.TailComment (Some at) o,
-        inr (inr ((λ lies. true≢false (sym lies.0)), (λ holds. let e = holds.0 in clear.apart cc), u, record { kind = refl; address = sym (carried_clear at clear.not_above); base = refl; text = λ line not. refl }, refl)),
+        inr (inr ((λ lies. true≢false (sym lies.0)), (λ holds. let e = holds.0 in clear.apart cc), u, record { kind = refl; address = sym (carried_clear at clear.not_above); base = refl; text = λ line not. refl }, refl, refl)),
         refl,
         tail at clear.not_above o,
       )
@@ -259,7 +259,7 @@ module _ (p : Address) (text : List ℕ) (new : Value) (formed : IsValue new) wh
       let u : TextUnit = record { kind = kinds.Line; piece = expr_piece (BlankLine b); address = None; base = None } in (
         u ∷ [],
         tail_units None b,
-        inr (inr ((λ lies. true≢false (sym lies.0)), (λ holds. let e = holds.0 in cc), u, record { kind = refl; address = refl; base = refl; text = λ line not. refl }, refl)),
+        inr (inr ((λ lies. true≢false (sym lies.0)), (λ holds. let e = holds.0 in cc), u, record { kind = refl; address = refl; base = refl; text = λ line not. refl }, refl, refl)),
         refl,
         comment kinds.TailComment refl None refl (λ piece lies. true≢false (sym lies.0)) b.comment,
       )
@@ -273,7 +273,7 @@ module _ (p : Address) (text : List ℕ) (new : Value) (formed : IsValue new) wh
       let tails = comment_units kinds.TailComment (Some to) b.comment in
       glue (holder kinds.Line (Some (length at)) to (line_piece ws kv.assign b) kv.value ∷ inside to kv.value) tails
       (holder kinds.Line (Some (length at)) to (line_piece ws kv.assign b) (put to kv.value) ∷ inside to (put to kv.value)) tails
-      (holding kinds.Line (Some (length at)) (line_piece ws kv.assign b) kv.value to refl far
+      (holding kinds.Line (Some (length at)) (line_piece ws kv.assign b) kv.value to refl (λ is. refl) far
       (exchanged_line ws kv.assign b kv.value)
       (λ line not. ap (λ t. ws.text ++ t) (both_texts (keyval_parts (record { assign = kv.assign; value = set_within p new to kv.value })) (keyval_parts kv) (blank_parts b) (blank_parts b)
       (both_texts (assign_parts kv.assign) (assign_parts kv.assign) (value_parts (set_within p new to kv.value)) (value_parts kv.value) refl (within_text p new kv.value to is.1.1 (λ above. not (inr (inl above))))) refl))
