@@ -42,7 +42,9 @@ pub mod Way
 pub mod WayBlock
 pub mod WayComments
 pub mod WayFits
+pub mod WayHeld
 pub mod WayPut
 pub mod WayRenamed
+pub mod WaySet
 pub mod WayWhole
 pub mod WayZip

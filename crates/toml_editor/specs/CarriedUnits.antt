@@ -6,7 +6,7 @@ use Rattle.toml_tree.specs.declared.profile.Profile.{Profile}
 use Rattle.toml_names.specs.model.Addresses.{Address}
 use Rattle.toml_names.specs.model.Data.{Kinds}
 use Rattle.toml_edits.specs.After.{IsAfter}
-use Rattle.toml_edits.specs.Edits.{Change, insert, rename}
+use Rattle.toml_edits.specs.Edits.{Change, set, insert, rename}
 use Rattle.toml_edits.specs.Faults.{IsFault}
 use Rattle.toml_units.specs.Units.{units}
 use Rattle.toml_checker.specs.Comments.{NoCommentsAdded}
@@ -36,3 +36,7 @@ RenameIsCarried = (p : Address) (to : List ℕ) → HavePartners (rename p to)
 -- Law: and of an `insert` at the root.
 abbrev pub InsertIsCarried : Type 0
 InsertIsCarried = (p : Address) (value : List ℕ) → HavePartners (insert p value)
+
+-- Law: and of a `set` where a value stands.
+abbrev pub SetIsCarried : Type 0
+SetIsCarried = (p : Address) (value : List ℕ) → HavePartners (set p value)

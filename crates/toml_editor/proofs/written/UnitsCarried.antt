@@ -12,18 +12,23 @@ use Rattle.toml_names.specs.mentions.Mentions.{named}
 use Rattle.toml_names.specs.model.Addresses.{Address, child}
 use Rattle.toml_names.specs.model.Data.{Kinds}
 use Rattle.toml_names.specs.model.Places.{IsNamed}
-use Rattle.toml_edits.specs.Edits.{Change, insert, rename}
-use Rattle.toml_edits.specs.declared.fault.EditFault.TheVariants.{RootNamed, NotAName, AlreadyThere}
+use Rattle.toml_edits.specs.Edits.{Change, insert, rename, set}
+use Rattle.toml_edits.specs.declared.fault.EditFault.TheVariants.{RootNamed, NotAName, AlreadyThere, AddressLength}
 use Rattle.toml_units.specs.Units.{inside}
 use Rattle.toml_checker.specs.Comments.{AreWritten, texts}
-use Rattle.toml_editor.specs.CarriedUnits.{ArePartners, RenameIsCarried, InsertIsCarried}
+use Rattle.toml_editor.specs.CarriedUnits.{ArePartners, RenameIsCarried, InsertIsCarried, SetIsCarried}
 use Rattle.toml_editor.specs.Inserting.{insert_lines}
 use Rattle.toml_editor.specs.Renaming.{rename_lines}
 use Rattle.toml_editor.specs.Steps.{IsGoodText}
-use Rattle.toml_editor.proofs.written.Fitting.{unnamed, last_step}
+use Rattle.toml_editor.proofs.written.Fitting.{unnamed, last_step, all_fit}
 use Rattle.toml_editor.proofs.written.InsertFormed.{insert_forms}
 use Rattle.toml_editor.proofs.written.RenameFormed.{rename_forms}
 use Rattle.toml_editor.proofs.written.WayComments.{comments}
+use Rattle.toml_editor.specs.Setting.{set_lines}
+use Rattle.toml_editor.specs.Written.{HasValue}
+use Rattle.toml_editor.proofs.written.SetKept.{set_short}
+use Rattle.toml_editor.proofs.written.SetFormed.{set_forms}
+use Rattle.toml_editor.proofs.written.WaySet.{set_way}
 use Rattle.toml_editor.proofs.written.WayPut.{insert_way}
 use Rattle.toml_editor.proofs.written.WayRenamed.{rename_way}
 use Rattle.toml_editor.proofs.written.WayWhole.{HasWay, partners, same_seen, same_newlines}
@@ -70,3 +75,18 @@ insert_is_carried p value profile style before after old now newline good none i
     by_way profile (insert p value) before after old now good new (texts (comments (inside [] v)) ∷ []) (insert_lines name v style lines) ((v, is_value.0, refl), tt)
     (insert_forms name v style lines good.spelled.0.lines.forms newline is_value.0.form is_value.0.shallow) text_is
     (subst (λ x. HasWay (insert x value) (texts (comments (inside [] v)) ∷ []) lines (insert_lines name v style lines)) (sym at) (insert_way name value v style lines))
+
+pub set_is_carried : SetIsCarried
+set_is_carried p value profile style before after old now newline good none is_after (d, spells, edited, (v, is_value, there, made), text) new =
+    let same : d ≡ good.tree = one_tree d good.tree before spells.0 good.spelled.0 in
+    let lines = good.tree.lines in
+    let there' : HasValue lines p = subst (λ (x : Doc). HasValue x.lines p) same there in
+    let lines_are : edited ≡ set_lines p v lines = made ∙ ap (λ (x : Doc). set_lines p v x.lines) same in
+    let text_is : after ≡ good.tree.mark.text ++ joined (lines_parts (set_lines p v lines)) =
+    text ∙ ap (λ (x : Doc). x.mark.text ++ joined (lines_parts edited)) same ∙ ap (λ ls. good.tree.mark.text ++ joined (lines_parts ls)) lines_are in
+    let apart : ¬ (p ≡ []) = none RootNamed in
+    let fit = all_fit profile value v is_after.0 is_value is_after.1 p (λ r some low. none AddressLength (inr (is_after.0, is_after.1, r, some, low))) in
+    let short = set_short p v lines apart there' good.good fit in
+    by_way profile (set p value) before after old now good new (texts (comments (inside [] v)) ∷ []) (set_lines p v lines) ((v, is_value.0, refl), tt)
+    (set_forms p v lines good.spelled.0.lines.forms is_value.0.form short) text_is
+    (set_way p value v lines apart good.spelled.0.lines.forms is_value.0.form there' good.good.0)

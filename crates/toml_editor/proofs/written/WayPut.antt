@@ -20,10 +20,10 @@ use Rattle.toml_editor.specs.UnitBlocks.{root_line, pair_text}
 use Rattle.toml_editor.proofs.Each.{each_append}
 use Rattle.toml_editor.proofs.written.Way.{new, olds, news}
 use Rattle.toml_editor.proofs.written.WayBlock.{line_after, olds_append, news_append, added_append, fits_append, new_fits, new_olds, new_news, new_adds, lines_append, inside_lines, same_comments, inside_asked}
-use Rattle.toml_editor.proofs.written.WayComments.{comments}
+use Rattle.toml_editor.proofs.written.WayComments.{added, comments}
 use Rattle.toml_editor.proofs.written.WayFits.{Matches, IsAsked, SameNewline, newlines}
 use Rattle.toml_editor.proofs.written.WayRenamed.{zip_adds}
-use Rattle.toml_editor.proofs.written.WayWhole.{HasWay}
+use Rattle.toml_editor.proofs.written.WayWhole.{HasWay, as_many}
 use Rattle.toml_editor.proofs.written.WayZip.{IsNear, lost_line, no_comment_lost, carried_to, zip, lines_in, zip_olds, zip_news, zip_fits}
 use Rattle.toml_editor.proofs.written.UnitsPut.{IsPutWell, put_lines}
 
@@ -103,9 +103,9 @@ module _ (name text : List ℕ) (v : Value) where
             ∙ well.back_ends x
             ∙ ap (slice_get after) (let e = ap lines_in news_head in let f = ap lines_in (new_news block) in
             let g : lines_in front + suc x ≡ ((0 + lines_in (news head)) + lines_in (news (map new block))) + x = omega (arith, e, f, block_lines) in g)))));
-        comments_are =
+        comments_few = λ t. as_many t (texts (comments (added (head ++ (map new block ++ tail))))) (ts ++ []) (
             ap (λ us. texts (comments us)) (added_append head (map new block ++ tail) ∙ ap₂ (λ x y. x ++ y) (zip_adds front front) (added_append (map new block) tail ∙ ap₂ (λ x y. x ++ y) (new_adds block) (zip_adds back back)) ∙ append-nil block)
-            ∙ ap (λ us. texts (comments us)) (append-nil (inside p v)) ∙ same_comments p v ∙ sym (append-nil ts);
+            ∙ ap (λ us. texts (comments us)) (append-nil (inside p v)) ∙ same_comments p v ∙ sym (append-nil ts));
       }
     where
       front_same : {before after : List (List ℕ)} {us ws : List TextUnit} (well : IsPutWell us block ws before after) (x : ℕ) → x < lines_in well.put.front → SameNewline (c ∷ []) (ts ∷ []) before after (0 + x) (0 + x)

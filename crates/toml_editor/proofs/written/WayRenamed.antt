@@ -27,7 +27,7 @@ use Rattle.toml_editor.proofs.written.Moved.{moved_root}
 use Rattle.toml_editor.proofs.written.RenameKept.{renamed_moved, parted_at}
 use Rattle.toml_editor.proofs.written.WayComments.{added, comments}
 use Rattle.toml_editor.proofs.written.WayFits.{Matches, SameNewline, newlines}
-use Rattle.toml_editor.proofs.written.WayWhole.{HasWay}
+use Rattle.toml_editor.proofs.written.WayWhole.{HasWay, as_many}
 use Rattle.toml_editor.proofs.written.WayZip.{unchanged, IsNear, lost_line, no_comment_lost, carried_to, zip, zip_olds, zip_news, zip_fits}
 use Rattle.toml_editor.proofs.written.UnitsRenamed.{rename_units}
 
@@ -118,5 +118,5 @@ module _ (q : Address) (n to : List ℕ) where
         news_are = zip_news (IsCarried c) us ws together;
         fits = zip_fits (c ∷ []) ([] ∷ []) (newlines lines) (newlines (rename_lines p to lines)) (IsCarried c) (matches (newlines lines) (newlines (rename_lines p to lines))) us ws together None 0 0
             (λ x low. inl (ap (λ ns. slice_get ns (0 + x)) (sym ends)));
-        comments_are = ap (λ xs. texts (comments xs)) (zip_adds us ws);
+        comments_few = λ t. as_many t (texts (comments (added (zip us ws)))) [] (ap (λ xs. texts (comments xs)) (zip_adds us ws));
       }

@@ -1,12 +1,12 @@
 -- From a way between lines to pairs between texts.
-use Rattle.std.proofs.Common.{◌≡◌, ℕ, ◌+◌, Option, None, List, [], ◌∷◌, map, refl, sym, ap, ◌∙◌, subst, arith}
+use Rattle.std.proofs.Common.{◌≡◌, ◌≤◌, ℕ, ◌+◌, Option, None, List, [], ◌∷◌, map, refl, sym, ap, ◌∙◌, subst, arith}
 use Rattle.std.specs.Prelude.{◌↔◌}
 use Rattle.std.specs.List.{flat_map}
 use Rattle.toml_tree.specs.Bare.{bare_lines}
 use Rattle.toml_tree.specs.Tree.{Line, Doc}
 use Rattle.toml_edits.specs.Edits.{Change}
 use Rattle.toml_units.specs.Units.{TextUnit, units}
-use Rattle.toml_checker.specs.Comments.{texts, AreWritten}
+use Rattle.toml_checker.specs.Comments.{texts, times, AreWritten}
 use Rattle.toml_checker.specs.Pairs.{IsFirst}
 use Rattle.toml_checker.specs.Plain.{Site, site, next_line}
 use Rattle.toml_checker.specs.Protected.{IsProtected}
@@ -24,7 +24,7 @@ pub record HasWay (c : Change) (written : List (List (List ℕ))) (lines edited 
   pub olds_are : olds way ≡ units lines
   pub news_are : news way ≡ units edited
   pub fits : Fits (c ∷ []) written (newlines lines) (newlines edited) None 0 0 way
-  pub comments_are : texts (comments (added way)) ≡ flat_map (λ ts. ts) written
+  pub comments_few : (t : List ℕ) → times t (texts (comments (added way))) ≤ times t (flat_map (λ ts. ts) written)
 
 none_lost : (cs : List Change) (written : List (List (List ℕ))) (before after : List (List ℕ)) (s : List Step) (line : Option Site) (a b : ℕ) → Fits cs written before after line a b s → NoneLost cs line s
 none_lost cs written before after [] line a b fit = tt
@@ -62,9 +62,13 @@ module _ (c : Change) (written : List (List (List ℕ))) (d e : Doc) (edited : L
           named = first_is;
           fit = pairs_fit cs written d e h.way place fit;
           lines = no_lines_added cs written d e h.way (λ none. cc) place is fit;
-          comments = no_comments_added cs written (newlines d.lines) (newlines e.lines) e h.way are fit is h.comments_are;
+          comments = no_comments_added cs written (newlines d.lines) (newlines e.lines) e h.way are fit is h.comments_few;
         },
       )
+
+-- what is the same is not more
+pub as_many : (t : List ℕ) (xs ys : List (List ℕ)) → xs ≡ ys → times t xs ≤ times t ys
+as_many t xs ys is = let e = ap (times t) is in omega (arith, e)
 
 -- ---- the tree of the text
 
