@@ -14,3 +14,9 @@ pub use Rattle.toml_editor.proofs.written.Profiled.{set_of_profile, insert_of_pr
 pub use Rattle.toml_editor.proofs.written.Elsewhere.{set_elsewhere, style_is_newline}
 pub use Rattle.toml_editor.proofs.written.Unplaced.{set_bares, insert_bares, remove_bares, rename_bares}
 pub use Rattle.toml_editor.proofs.written.Steps.{good_texts_are_documents, plain_is_written, plain_step, plain_steps, one_written, one_list_written}
+pub use Rattle.toml_editor.proofs.written.UnitsPut.{insert_units}
+pub use Rattle.toml_editor.proofs.written.UnitsTaken.{remove_units}
+pub use Rattle.toml_editor.proofs.written.UnitsRenamed.{rename_units}
+pub use Rattle.toml_editor.proofs.written.UnitsSet.{set_units}
+pub use Rattle.toml_editor.proofs.written.UnitsBare.{units_of_bares}
+pub use Rattle.toml_editor.proofs.written.UnitsCarried.{rename_is_carried, insert_is_carried, set_is_carried}

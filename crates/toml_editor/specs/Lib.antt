@@ -17,4 +17,10 @@ pub mod InsertLaws
 pub mod RemoveLaws
 pub mod RenameLaws
 pub mod Bares
+-- what it does to the units
+pub mod UnitBlocks
+pub mod RenamedUnits
+pub mod ChangedUnits
+pub mod BareUnits
 pub mod Steps
+pub mod CarriedUnits

@@ -1,9 +1,14 @@
 //! Laws over the definitions of what plain edits write: nothing is run.
 ghost use Rattle.toml_editor.specs.Bares.{SetBares, InsertBares, RemoveBares, RenameBares};
+ghost use Rattle.toml_editor.specs.BareUnits.{UnitsOfBares};
+ghost use Rattle.toml_editor.specs.CarriedUnits.{RenameIsCarried, InsertIsCarried, SetIsCarried};
+ghost use Rattle.toml_editor.specs.ChangedUnits.{SetUnits};
 ghost use Rattle.toml_editor.specs.InsertLaws.{InsertNames, InsertRules, InsertShort, InsertData, InsertForms, InsertOfProfile, InsertKeepsLines};
 ghost use Rattle.toml_editor.specs.RemoveLaws.{RemoveNames, RemoveGood, RemoveData, RemoveForms, RemoveOfProfile, RemoveKeepsLines};
 ghost use Rattle.toml_editor.specs.RenameLaws.{RenameNames, RenameGood, RenameData, RenameForms, RenameOfProfile, RenameKeepsLine};
+ghost use Rattle.toml_editor.specs.RenamedUnits.{RenameUnits};
 ghost use Rattle.toml_editor.specs.SetLaws.{SetNames, SetRules, SetShort, SetData, SetForms, SetOfProfile, SetWithin, SetElsewhere, SetKeepsLine};
+ghost use Rattle.toml_editor.specs.UnitBlocks.{InsertUnits, RemoveUnits};
 ghost use Rattle.toml_editor.specs.Steps.{GoodTextsAreDocuments, PlainIsWritten, PlainStep, PlainSteps, OneWritten, OneListWritten, StyleIsNewline};
 
 /// After a `set` the lines name what they named, the new value in the place of the old. They keep the table rules and the
@@ -79,6 +84,29 @@ pub fn bares()
     ensures insert { InsertBares }
     ensures remove { RemoveBares }
     ensures rename { RenameBares }
+{}
+
+/// The units of edited lines. After an `insert` at the root they are those of before, and between two lines those of the new
+/// line; after a `remove` of a line at the root they are those of before without its own, where a last line leaves one of no
+/// bytes. After a `rename` to a name that is free they are those of before, one by one, of the same kind and base, at the
+/// carried address, with the same text unless the edit changes the unit. After a `set` what lay in the old value is gone, the
+/// unit that has the value has the new one, what is in that comes behind it, and all others are as after a `rename`, where
+/// they were. The units of lines without places are those of the lines, without places.
+pub fn units()
+    ensures insert { InsertUnits }
+    ensures remove { RemoveUnits }
+    ensures rename { RenameUnits }
+    ensures set { SetUnits }
+    ensures bares { UnitsOfBares }
+{}
+
+/// A good text and what a `rename`, an `insert` at the root, or a `set` where a value stands writes of it without a fault have
+/// pairs of partners: they name just the units of the first that the edit neither takes away nor changes, each fits, and the second has no line and no
+/// comment that the edit does not ask for.
+pub fn carried()
+    ensures rename { RenameIsCarried }
+    ensures insert { InsertIsCarried }
+    ensures set { SetIsCarried }
 {}
 
 /// Within the limit of a text the good texts are the documents of the profile.

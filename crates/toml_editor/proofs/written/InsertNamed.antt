@@ -32,20 +32,20 @@ module _ (name : List ℕ) (v : Value) (style : List ℕ) where
   put_line xs l (m ∷ ms) at_root = put_behind (named_by xs 0 l.expr) (behind (xs ++ named_by xs 0 l.expr) (m ∷ ms)) (root_pair name v) _ (put_first (xs ++ named_by xs 0 l.expr) (m ∷ ms) at_root)
 
   -- a keyval line, or a blank one before more, leaves the root
-  stays : (xs : List Named) (e : Expr) → section xs ≡ [] → (b : Bool) → elim e [ BlankLine t ↦ b | KeyValLine ws pair tail ↦ true | TableLine ws header tail ↦ false | ArrayTableLine ws header tail ↦ false ] ≡ true → section (xs ++ named_by xs 0 e) ≡ []
-  stays xs (BlankLine t) at_root b is = ap section (append-nil xs) ∙ at_root
-  stays xs (KeyValLine ws pair tail) at_root b is = section_pair xs 0 (section xs) pair.assign pair.value ∙ at_root
-  stays xs (TableLine ws header tail) at_root b is = absurd (true≢false (sym is))
-  stays xs (ArrayTableLine ws header tail) at_root b is = absurd (true≢false (sym is))
+  pub stays : (xs : List Named) (n : ℕ) (e : Expr) → section xs ≡ [] → (b : Bool) → elim e [ BlankLine t ↦ b | KeyValLine ws pair tail ↦ true | TableLine ws header tail ↦ false | ArrayTableLine ws header tail ↦ false ] ≡ true → section (xs ++ named_by xs n e) ≡ []
+  stays xs n (BlankLine t) at_root b is = ap section (append-nil xs) ∙ at_root
+  stays xs n (KeyValLine ws pair tail) at_root b is = section_pair xs n (section xs) pair.assign pair.value ∙ at_root
+  stays xs n (TableLine ws header tail) at_root b is = absurd (true≢false (sym is))
+  stays xs n (ArrayTableLine ws header tail) at_root b is = absurd (true≢false (sym is))
 
   put_last : (ls : List Line) (xs : List Named) → section xs ≡ [] → has_pair ls ≡ true → IsPut (behind xs ls) (root_pair name v) (behind xs (insert_behind name v style ls))
   put_last [] xs at_root has = absurd (true≢false (sym has))
-  put_last (l ∷ ls) xs at_root has = by (has_pair ls) refl (λ h. put_last ls (xs ++ named_by xs 0 l.expr) (stays xs l.expr at_root (has_pair ls) has) h)
+  put_last (l ∷ ls) xs at_root has = by (has_pair ls) refl (λ h. put_last ls (xs ++ named_by xs 0 l.expr) (stays xs 0 l.expr at_root (has_pair ls) has) h)
     where
       by : (b : Bool) → has_pair ls ≡ b → (has_pair ls ≡ true → IsPut (behind (xs ++ named_by xs 0 l.expr) ls) (root_pair name v) (behind (xs ++ named_by xs 0 l.expr) (insert_behind name v style ls)))
           → IsPut (behind xs (l ∷ ls)) (root_pair name v) (behind xs (cond b (l ∷ insert_behind name v style ls) (line_behind name v style l ls)))
       by true is more = put_behind (named_by xs 0 l.expr) _ (root_pair name v) _ (more is)
-      by false is more = put_line xs l ls (stays xs l.expr at_root (has_pair ls) has)
+      by false is more = put_line xs l ls (stays xs 0 l.expr at_root (has_pair ls) has)
 
   put_lines : (lines : List Line) → IsPut (behind (root ∷ []) lines) (root_pair name v) (behind (root ∷ []) (insert_lines name v style lines))
   put_lines lines = by (has_pair lines) refl

@@ -1,8 +1,9 @@
 -- What is named after a `remove` at the root.
-use Rattle.std.proofs.Common.{◌≡◌, ℕ, ◌+◌, ◌==◌, Bool, true, false, cond, ◌⊎◌, inl, inr, List, [], ◌∷◌, ◌++◌, length, refl, sym, ap, ap₂, ◌∙◌, subst, subst₂, true≢false, append-nil}
+use Rattle.std.proofs.Common.{◌≡◌, ℕ, ◌+◌, ◌==◌, Bool, true, false, cond, ◌⊎◌, inl, inr, Option, Some, List, [], ◌∷◌, ◌++◌, length, refl, sym, ap, ap₂, ◌∙◌, subst, subst₂, true≢false, append-nil}
 use Rattle.std.proofs.lemmas.Bool.{cond-true, cond-false}
 use Rattle.toml_tree.specs.Spells.{EachIs}
-use Rattle.toml_tree.specs.Tree.{Assign, Value, Expr, BlankLine, KeyValLine, TableLine, ArrayTableLine, Line}
+use Rattle.toml_tree.specs.Pieces.{expr_piece}
+use Rattle.toml_tree.specs.Tree.{Piece, Assign, Value, Expr, BlankLine, KeyValLine, TableLine, ArrayTableLine, Line}
 use Rattle.toml_names.specs.declared.model.address.Step.TheVariants.{Name}
 use Rattle.toml_names.specs.declared.mentions.mention.Role.TheVariants.{Valued}
 use Rattle.toml_names.specs.model.Addresses.{Address, IsAbove, same_address, child, below}
@@ -11,6 +12,10 @@ use Rattle.toml_names.specs.mentions.Mentions.{Named, named, named_by, named_fro
 use Rattle.toml_names.specs.mentions.Alike.{AreAlike}
 use Rattle.toml_names.specs.mentions.Rules.{KeepsRules}
 use Rattle.toml_names.proofs.Proved.{inside_is_below, line_values_stand_alone}
+use Rattle.toml_units.specs.Units.{TextUnit, line_units, comment_units}
+use Rattle.toml_units.specs.Units.{inside as inside_value}
+use Rattle.toml_units.specs.declared.unit.UnitKind.TheVariants as kinds
+use Rattle.toml_editor.specs.UnitBlocks.{root_line}
 use Rattle.toml_editor.specs.Blocks.{IsPut, root_pair}
 use Rattle.toml_editor.specs.RemoveLaws.{RemoveNames, RemoveKeepsLines, HasValueAt}
 use Rattle.toml_editor.specs.Lines.{lines_from}
@@ -26,18 +31,18 @@ use Rattle.toml_editor.proofs.written.Clear.{same_is, self}
 use Rattle.toml_editor.proofs.written.Unplain.{pairs_plain, has_plain}
 
 -- no value has the address
-abbrev NoPair : Address → List Named → Type 0
+abbrev pub NoPair : Address → List Named → Type 0
 NoPair p = EachIs (λ m. m.address ≡ p → ¬ (m.role ≡ Valued))
 
 module _ (name : List ℕ) where
-  abbrev p : Address
+  abbrev pub p : Address
   p = Name name ∷ []
 
-  abbrev IsPair : Named → Type 0
+  abbrev pub IsPair : Named → Type 0
   IsPair m = (m.address ≡ p) × (m.role ≡ Valued)
 
   -- one step: where a key of a pair ends there, the pair stands in the root, and has that one name
-  one_step : (s : Address) (n : List ℕ) (ns : Key) → below s (n ∷ ns) ≡ p → (s ≡ []) × (n ≡ name) × (ns ≡ [])
+  pub one_step : (s : Address) (n : List ℕ) (ns : Key) → below s (n ∷ ns) ≡ p → (s ≡ []) × (n ≡ name) × (ns ≡ [])
   one_step [] n [] is = (refl, (let e : Name n ≡ Name name = cc in cc), refl)
   one_step [] n (m ∷ ns) is = cc
   one_step (t ∷ []) n ns is = cc
@@ -63,30 +68,36 @@ module _ (name : List ℕ) where
       (inside_is_below line v to)
 
   -- a pair elsewhere
-  pair_none : (line : ℕ) (s : Address) (a : Assign) (v : Value) → ¬ (below s (key_names a.key) ≡ p) → NoPair p (pair_named line s a v)
+  pub pair_none : (line : ℕ) (s : Address) (a : Assign) (v : Value) → ¬ (below s (key_names a.key) ≡ p) → NoPair p (pair_named line s a v)
   pair_none line s a v apart =
       let to = below s (key_names a.key) in
       each_append _ (fronts line s (key_names a.key)) (value_named line Valued to v ∷ inside line to v) (fronts_none line (key_names a.key) s)
       ((λ here role. apart here), inside_none line to v (below_some s (part_name a.key.first) (rest_names a.key.rest)))
 
-  followed_none : (ns : Key) (n : List ℕ) (line : ℕ) (ms : List Named) (end : Address → List Named) (at : Address) → ((here : Address) → NoPair p (end here)) → NoPair p (followed line ms end at (n ∷ ns))
+  pub followed_none : (ns : Key) (n : List ℕ) (line : ℕ) (ms : List Named) (end : Address → List Named) (at : Address) → ((here : Address) → NoPair p (end here)) → NoPair p (followed line ms end at (n ∷ ns))
   followed_none [] n line ms end at ends = ends (child at n)
   followed_none (m ∷ ns) n line ms end at ends = ((λ here role. cc), followed_none ns m line ms end (entered ms (child at n)) ends)
 
+  -- a keyval line's units
+  abbrev block : Piece → Address → ℕ → Value → Option Piece → List TextUnit
+  block piece at base v comment =
+      record { kind = kinds.Line; piece = piece; address = Some at; base = Some base } ∷ (inside_value at v ++ comment_units kinds.TailComment (Some at) comment)
+
   -- a line that stays
-  abbrev Stays : List Named → Line → Type 0
+  abbrev pub Stays : List Named → Line → Type 0
   Stays xs l = (remove_line p xs l ≡ l ∷ []) × ((ys : List Named) → AreAlike xs ys → NoPair p (named_by ys 0 l.expr))
 
   -- a line that goes
-  record Goes_away (xs : List Named) (l : Line) : Type 0 where
-    at_root : section xs ≡ []
-    own : HasValueAt p xs l.expr
-    value : Value
-    gone : remove_line p xs l ≡ left_behind l
-    names : (ys : List Named) → AreAlike xs ys → named_by ys 0 l.expr ≡ root_pair name value
-    alike : (ys : List Named) → AreAlike xs ys → AreAlike ys (ys ++ root_pair name value)
+  pub record Goes_away (xs : List Named) (l : Line) : Type 0 where
+    pub at_root : section xs ≡ []
+    pub own : HasValueAt p xs l.expr
+    pub value : Value
+    pub gone : remove_line p xs l ≡ left_behind l
+    pub names : (ys : List Named) → AreAlike xs ys → named_by ys 0 l.expr ≡ root_pair name value
+    pub alike : (ys : List Named) → AreAlike xs ys → AreAlike ys (ys ++ root_pair name value)
+    pub units : (piece : Piece) × (comment : Option Piece) × (line_units xs l.expr ≡ root_line piece name value comment)
 
-  line_by : (xs : List Named) (l : Line) → Stays xs l ⊎ Goes_away xs l
+  pub line_by : (xs : List Named) (l : Line) → Stays xs l ⊎ Goes_away xs l
   line_by xs l = by l.expr refl
     where
       by : (e : Expr) → l.expr ≡ e → Stays xs l ⊎ Goes_away xs l
@@ -121,10 +132,15 @@ module _ (name : List ℕ) where
                 gone = removed ∙ cond-true _ _ _ same;
                 names = λ ys alike. ap (named_by ys 0) is ∙ root_is ys alike;
                 alike = λ ys alike. subst (λ new. AreAlike ys (ys ++ new)) (root_is ys alike) (alike_pair ys ys (alike_self ys) 0 (section ys) pair.assign pair.value);
+                units = (
+                  expr_piece (KeyValLine ws pair tail),
+                  tail.comment,
+                  ap (line_units xs) is ∙ ap₂ (λ s k. block (expr_piece (KeyValLine ws pair tail)) (below s k) (length s) pair.value tail.comment) steps.0 key,
+                );
               })
 
   -- where no pair has the address, all lines stay
-  none_gone : (ls : List Line) (xs ys : List Named) (n : ℕ) → AreAlike xs ys → NoPair p (behind ys ls) → lines_from (remove_line p) xs n ls ≡ ls
+  pub none_gone : (ls : List Line) (xs ys : List Named) (n : ℕ) → AreAlike xs ys → NoPair p (behind ys ls) → lines_from (remove_line p) xs n ls ≡ ls
   none_gone [] xs ys n alike none = refl
   none_gone (l ∷ ls) xs ys n alike none =
       elim (line_by xs l) [

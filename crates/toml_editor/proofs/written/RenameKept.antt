@@ -83,12 +83,12 @@ carried_moved n to (s ∷ q) (t ∷ a) = by (same_step s t) (same_step t s) (fli
 abbrev Parts : Type 0
 Parts = Address × Step
 
-parted_at : (q : Address) (s : Step) → parted (q ++ s ∷ []) ≡ Some (q, s)
+pub parted_at : (q : Address) (s : Step) → parted (q ++ s ∷ []) ≡ Some (q, s)
 parted_at [] s = refl
 parted_at (t ∷ []) s = refl
 parted_at (t ∷ u ∷ q) s = ap (option_map (λ (w : Parts). (t ∷ w.0, w.1))) (parted_at (u ∷ q) s)
 
-renamed_moved : (q : Address) (n to : List ℕ) (a : Address) → carry (rename (child q n) to) a ≡ Some (moved q n to a)
+pub renamed_moved : (q : Address) (n to : List ℕ) (a : Address) → carry (rename (child q n) to) a ≡ Some (moved q n to a)
 renamed_moved q n to a = ap (λ o. renaming o to a) (parted_at q (Name n)) ∙ carried_moved n to q a
 
 -- ---- data

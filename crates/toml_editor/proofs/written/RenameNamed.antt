@@ -23,7 +23,7 @@ use Rattle.toml_editor.proofs.written.InsertNamed.{spelled_again}
 use Rattle.toml_editor.proofs.written.Moved.{moved_root, moved_name, moved_index, moved_same}
 
 -- the names of a key with the parts that stand for p renamed
-abbrev new_names : Address → List ℕ → (Address → Address) → Address → Key → Key
+abbrev pub new_names : Address → List ℕ → (Address → Address) → Address → Key → Key
 new_names p to enter at [] = []
 new_names p to enter at (n ∷ ns) = cond (same_address (child at n) p) to n ∷ new_names p to enter (enter (child at n)) ns
 
@@ -39,23 +39,23 @@ rest_named p to enter [] here = refl
 rest_named p to enter (d ∷ ds) here =
     ap₂ (λ x y. x ∷ y) (part_named p to (child (enter here) (part_name d.part)) d.part) (rest_named p to enter ds (child (enter here) (part_name d.part)))
 
-key_named : (p : Address) (to : List ℕ) (enter : Address → Address) (at : Address) (k : tree.Key) → key_names (rename_key p to enter at k) ≡ new_names p to enter at (key_names k)
+pub key_named : (p : Address) (to : List ℕ) (enter : Address → Address) (at : Address) (k : tree.Key) → key_names (rename_key p to enter at k) ≡ new_names p to enter at (key_names k)
 key_named p to enter at k = ap₂ (λ x y. x ∷ y) (part_named p to (child at (part_name k.first)) k.first) (rest_named p to enter k.rest (child at (part_name k.first)))
 
 module _ (q : Address) (n to : List ℕ) where
-  abbrev p : Address
+  abbrev pub p : Address
   p = child q n
 
-  abbrev go : Address → Address
+  abbrev pub go : Address → Address
   go = moved q n to
 
-  abbrev one : Named → Named
+  abbrev pub one : Named → Named
   one = moved_one q n to
 
-  child_moved : (at : Address) (m : List ℕ) → child (go at) (cond (same_address (child at m) p) to m) ≡ go (child at m)
+  pub child_moved : (at : Address) (m : List ℕ) → child (go at) (cond (same_address (child at m) p) to m) ≡ go (child at m)
   child_moved at m = sym (moved_name n to q at m)
 
-  element_moved : (at : Address) (i : ℕ) → element (go at) i ≡ go (element at i)
+  pub element_moved : (at : Address) (i : ℕ) → element (go at) i ≡ go (element at i)
   element_moved at i = sym (moved_index n to q at i)
 
   both : (xs ys xs' ys' : List Named) → xs' ≡ map one xs → ys' ≡ map one ys → xs' ++ ys' ≡ map one (xs ++ ys)
@@ -63,7 +63,7 @@ module _ (q : Address) (n to : List ℕ) where
 
   -- ---- keys of pairs
 
-  abbrev stay : Address → Address
+  abbrev pub stay : Address → Address
   stay here = here
 
   fronts_moved : (ns : Key) (m : List ℕ) (line : ℕ) (at : Address) → fronts line (go at) (new_names p to stay at (m ∷ ns)) ≡ map one (fronts line at (m ∷ ns))
@@ -72,7 +72,7 @@ module _ (q : Address) (n to : List ℕ) where
       ap (λ (a : Address). table_at line roles.Dotted a ∷ fronts line a (new_names p to stay (child at m) (k ∷ ns))) (child_moved at m)
       ∙ ap (λ l. table_at line roles.Dotted (go (child at m)) ∷ l) (fronts_moved ns k line (child at m))
 
-  below_moved : (ns : Key) (m : List ℕ) (at : Address) → below (go at) (new_names p to stay at (m ∷ ns)) ≡ go (below at (m ∷ ns))
+  pub below_moved : (ns : Key) (m : List ℕ) (at : Address) → below (go at) (new_names p to stay at (m ∷ ns)) ≡ go (below at (m ∷ ns))
   below_moved [] m at = child_moved at m
   below_moved (k ∷ ns) m at =
       sym (below-cons (go at) (cond (same_address (child at m) p) to m) (new_names p to stay (child at m) (k ∷ ns)))
@@ -123,7 +123,7 @@ module _ (q : Address) (n to : List ℕ) where
 
   -- ---- what was named before
 
-  section_moved : (ms : List Named) (at : Address) → section_from (go at) (map one ms) ≡ go (section_from at ms)
+  pub section_moved : (ms : List Named) (at : Address) → section_from (go at) (map one ms) ≡ go (section_from at ms)
   section_moved [] at = refl
   section_moved (m ∷ ms) at = ap (λ a. section_from a (map one ms)) (by (is_section m.role)) ∙ section_moved ms (cond (is_section m.role) m.address at)
     where
@@ -131,13 +131,13 @@ module _ (q : Address) (n to : List ℕ) where
       by true = refl
       by false = refl
 
-  abbrev Free : Address → Type 0
+  abbrev pub Free : Address → Type 0
   Free = IsClear (child q to)
 
-  abbrev AllFree : List Named → Type 0
+  abbrev pub AllFree : List Named → Type 0
   AllFree = EachIs (λ m. Free m.address)
 
-  count_moved : (ms : List Named) (at : Address) → AllFree ms → Free at → count_tables (map one ms) (go at) ≡ count_tables ms at
+  pub count_moved : (ms : List Named) (at : Address) → AllFree ms → Free at → count_tables (map one ms) (go at) ≡ count_tables ms at
   count_moved [] at free here = refl
   count_moved (m ∷ ms) at free here =
       let more = count_moved ms at free.1 here in
@@ -159,14 +159,14 @@ module _ (q : Address) (n to : List ℕ) where
   -- ---- headers
 
   module _ (xs : List Named) (free : AllFree xs) where
-    entered_free : (at : Address) → Free (entered xs at) → Free at
+    pub entered_free : (at : Address) → Free (entered xs at) → Free at
     entered_free at mentioned = by (count_tables xs at == 0) refl mentioned
       where
         by : (b : Bool) → (count_tables xs at == 0) ≡ b → Free (cond b at (element at (count_tables xs at - 1))) → Free at
         by true is here = here
         by false other here = counted xs at free other
 
-    entered_moved : (at : Address) → Free at → entered (map one xs) (go at) ≡ go (entered xs at)
+    pub entered_moved : (at : Address) → Free at → entered (map one xs) (go at) ≡ go (entered xs at)
     entered_moved at here =
         ap (λ k. cond (k == 0) (go at) (element (go at) (k - 1))) (count_moved xs at free here)
         ∙ by (count_tables xs at == 0)
@@ -197,7 +197,7 @@ module _ (q : Address) (n to : List ℕ) where
         ∙ ap (λ a. followed line (map one xs) f a (new_names p to (entered xs) [] (key_names h.key))) (sym (moved_root n to q))
         ∙ followed_moved (rest_names h.key.rest) (part_name h.key.first) line e f [] ends all
 
-    line_moved : (line : ℕ) (e : Expr) → AllFree (named_by xs line e) → named_by (map one xs) line (rename_expr p to xs e) ≡ map one (named_by xs line e)
+    pub line_moved : (line : ℕ) (e : Expr) → AllFree (named_by xs line e) → named_by (map one xs) line (rename_expr p to xs e) ≡ map one (named_by xs line e)
     line_moved line (BlankLine b) all = refl
     line_moved line (KeyValLine ws kv tail) all =
         ap (λ s. pair_named line s (rename_assign p to (section xs) kv.assign) (rename_value p to (below (section xs) (key_names kv.assign.key)) kv.value))

@@ -76,14 +76,14 @@ module _ (p : Address) (new : Value) where
 
   -- ---- keys
 
-  fronts_clear : (line : ℕ) (key : Key) (at : Address) → IsClear p at → AreValuesAt p (fronts line at key) → AllClear p (fronts line at key)
+  pub fronts_clear : (line : ℕ) (key : Key) (at : Address) → IsClear p at → AreValuesAt p (fronts line at key) → AllClear p (fronts line at key)
   fronts_clear line [] at clear values = tt
   fronts_clear line (n ∷ []) at clear values = tt
   fronts_clear line (n ∷ m ∷ more) at clear values =
       let here : IsClear p (child at n) = clear_more (Name n) clear (λ is. true≢false (sym (values.0 (sym is)))) in
       (here, fronts_clear line (m ∷ more) (child at n) here values.1)
 
-  end_not_above : (line : ℕ) (ns : Key) (n : List ℕ) (at : Address) → IsClear p at → AreValuesAt p (fronts line at (n ∷ ns)) → ¬ IsAbove p (below at (n ∷ ns))
+  pub end_not_above : (line : ℕ) (ns : Key) (n : List ℕ) (at : Address) → IsClear p at → AreValuesAt p (fronts line at (n ∷ ns)) → ¬ IsAbove p (below at (n ∷ ns))
   end_not_above line [] n at clear values = not_above_more (Name n) clear
   end_not_above line (m ∷ ns) n at clear values =
       let here : IsClear p (child at n) = clear_more (Name n) clear (λ is. true≢false (sym (values.0 (sym is)))) in
@@ -134,7 +134,7 @@ module _ (p : Address) (new : Value) where
   lone_no_tables Dotted h = refl
   lone_no_tables Element h = refl
 
-  no_tables : (ms : List Named) → AreValuesAt p ms → count_tables ms p ≡ 0
+  pub no_tables : (ms : List Named) → AreValuesAt p ms → count_tables ms p ≡ 0
   no_tables [] values = refl
   no_tables (m ∷ ms) values = by (same_address m.address p) refl (no_tables ms values.1)
     where
@@ -159,7 +159,7 @@ module _ (p : Address) (new : Value) where
           let there : ¬ (p ≡ here) = λ is. true≢false (sym (ap (λ k. k == 0) (subst (λ a. count_tables earlier a ≡ 0) is none)) ∙ other) in
           clear_more (Index (count_tables earlier here - 1)) (record { apart = there; not_above = not_above }) apart
 
-  followed_clear : (ns : Key) (n : List ℕ) (line : ℕ) (earlier : List Named) (end : Address → List Named) (at : Address) → count_tables earlier p ≡ 0
+  pub followed_clear : (ns : Key) (n : List ℕ) (line : ℕ) (earlier : List Named) (end : Address → List Named) (at : Address) → count_tables earlier p ≡ 0
       → ((here : Address) → ¬ IsAbove p here → AreValuesAt p (end here) → AllClear p (end here))
       → IsClear p at → AreValuesAt p (followed line earlier end at (n ∷ ns)) → AllClear p (followed line earlier end at (n ∷ ns))
   followed_clear [] n line earlier end at none ends clear values = ends (child at n) (not_above_more (Name n) clear) values
@@ -167,10 +167,10 @@ module _ (p : Address) (new : Value) where
       let here = entered_clear earlier (child at n) none (not_above_more (Name n) clear) (λ is. true≢false (sym (values.0 (sym is)))) in
       (here, followed_clear ns m line earlier end (entered earlier (child at n)) none ends here values.1)
 
-  table_clear : (line : ℕ) (here : Address) → ¬ IsAbove p here → AreValuesAt p (ends_table line here) → AllClear p (ends_table line here)
+  pub table_clear : (line : ℕ) (here : Address) → ¬ IsAbove p here → AreValuesAt p (ends_table line here) → AllClear p (ends_table line here)
   table_clear line here not_above values = (record { apart = λ is. true≢false (sym (values.0 (sym is))); not_above = not_above }, tt)
 
-  tables_clear : (line : ℕ) (earlier : List Named) (here : Address) → ¬ IsAbove p here → AreValuesAt p (ends_tables line earlier here) → AllClear p (ends_tables line earlier here)
+  pub tables_clear : (line : ℕ) (earlier : List Named) (here : Address) → ¬ IsAbove p here → AreValuesAt p (ends_tables line earlier here) → AllClear p (ends_tables line earlier here)
   tables_clear line earlier here not_above values =
       let array : IsClear p here = record { apart = λ is. true≢false (sym (values.0 (sym is))); not_above = not_above } in
       (array, (clear_more (Index (count_tables earlier here)) array (λ is. true≢false (sym (values.1.0 (sym is)))), tt))
@@ -181,10 +181,10 @@ module _ (p : Address) (new : Value) where
 
   -- ---- lines
 
-  record OneLine (xs ys : List Named) (n : ℕ) (e : Expr) : Type 0 where
-    names : named_by ys n (set_expr p new (section xs) e) ≡ swapped p new (named_by xs n e)
-    alike : AreAlike (xs ++ named_by xs n e) (ys ++ named_by ys n (set_expr p new (section xs) e))
-    clear : IsClear p (section (xs ++ named_by xs n e))
+  pub record OneLine (xs ys : List Named) (n : ℕ) (e : Expr) : Type 0 where
+    pub names : named_by ys n (set_expr p new (section xs) e) ≡ swapped p new (named_by xs n e)
+    pub alike : AreAlike (xs ++ named_by xs n e) (ys ++ named_by ys n (set_expr p new (section xs) e))
+    pub clear : IsClear p (section (xs ++ named_by xs n e))
 
   -- a line that stays as it is
   same_line : (xs ys : List Named) (n : ℕ) (e : Expr) → AreAlike xs ys → IsClear p (section xs) → set_expr p new (section xs) e ≡ e → AllClear p (named_by xs n e) → OneLine xs ys n e
@@ -196,11 +196,11 @@ module _ (p : Address) (new : Value) where
         clear = subst (IsClear p) (sym (section_from-append xs (named_by xs n e) [])) (section_clear (named_by xs n e) (section xs) clear all);
       }
 
-  root_apart : (at : Address) → IsClear p at → ¬ (p ≡ [])
+  pub root_apart : (at : Address) → IsClear p at → ¬ (p ≡ [])
   root_apart [] c e = c.apart e
   root_apart (s ∷ at) c e = c.not_above (s, at, ap (λ l. l ++ s ∷ at) (sym e))
 
-  one_line : (xs ys : List Named) (n : ℕ) (e : Expr) → AreAlike xs ys → IsClear p (section xs) → AreValuesAt p (xs ++ named_by xs n e) → OneLine xs ys n e
+  pub one_line : (xs ys : List Named) (n : ℕ) (e : Expr) → AreAlike xs ys → IsClear p (section xs) → AreValuesAt p (xs ++ named_by xs n e) → OneLine xs ys n e
   one_line xs ys n (BlankLine b) alike clear values = same_line xs ys n (BlankLine b) alike clear refl tt
   one_line xs ys n (KeyValLine ws kv tail) alike clear values =
       let at = section xs in

@@ -1,0 +1,114 @@
+-- The way of an `insert` at the root.
+use Rattle.std.proofs.Common.{◌≡◌, inl, inr, ◌<◌, ◌+◌, ℕ, suc, Option, Some, None, List, [], ◌∷◌, ◌++◌, map, refl, sym, ap, ap₂, ◌∙◌, subst, true≢false, arith, append-nil}
+use Rattle.std.specs.Prelude.{slice_get, option_and_then}
+use Rattle.toml_tree.specs.Spells.{EachIs}
+use Rattle.toml_tree.specs.Tree.{Value, Line}
+use Rattle.toml_names.specs.declared.model.address.Step.TheVariants.{Name}
+use Rattle.toml_names.specs.model.Addresses.{Address}
+use Rattle.toml_edits.specs.Carry.{carry}
+use Rattle.toml_edits.specs.Edits.{Change, insert}
+use Rattle.toml_units.specs.declared.unit.UnitKind.TheVariants as kinds
+use Rattle.toml_units.specs.Units.{TextUnit, inside}
+use Rattle.toml_checker.specs.CarriedTo.{At}
+use Rattle.toml_checker.specs.Comments.{texts}
+use Rattle.toml_checker.specs.Owed.{IsOwed}
+use Rattle.toml_checker.specs.Plain.{Site}
+use Rattle.toml_editor.specs.Inserting.{insert_lines}
+use Rattle.toml_editor.specs.Lines.{fresh}
+use Rattle.toml_editor.specs.RenamedUnits.{GoTogether}
+use Rattle.toml_editor.specs.UnitBlocks.{root_line, pair_text}
+use Rattle.toml_editor.proofs.Each.{each_append}
+use Rattle.toml_editor.proofs.written.Way.{new, olds, news}
+use Rattle.toml_editor.proofs.written.WayBlock.{line_after, olds_append, news_append, added_append, fits_append, new_fits, new_olds, new_news, new_adds, lines_append, inside_lines, same_comments, inside_asked}
+use Rattle.toml_editor.proofs.written.WayComments.{added, comments}
+use Rattle.toml_editor.proofs.written.WayFits.{Matches, IsAsked, SameNewline, newlines}
+use Rattle.toml_editor.proofs.written.WayRenamed.{zip_adds}
+use Rattle.toml_editor.proofs.written.WayWhole.{HasWay, as_many}
+use Rattle.toml_editor.proofs.written.WayZip.{IsNear, lost_line, no_comment_lost, carried_to, zip, lines_in, zip_olds, zip_news, zip_fits}
+use Rattle.toml_editor.proofs.written.UnitsPut.{IsPutWell, put_lines}
+
+pub all_same : (us : List TextUnit) → GoTogether (λ u w. u ≡ w) us us
+all_same [] = tt
+all_same (u ∷ us) = (refl, all_same us)
+
+module _ (name text : List ℕ) (v : Value) where
+  abbrev p : Address
+  p = Name name ∷ []
+
+  abbrev c : Change
+  c = insert p text
+
+  abbrev ts : List (List ℕ)
+  ts = texts (comments (inside [] v))
+
+  owed : (a : Address) → IsNear p a → IsOwed (c ∷ []) a
+  owed a (inl below) = inl (p, p, refl, refl, inr below)
+  owed a (inr (s, rest, is)) = inl (p, p, refl, refl, inl (s ∷ rest, is))
+
+  matches : (before after : List (List ℕ)) (line : Option Site) (a b : ℕ) (u w : TextUnit) → u ≡ w → (u.kind ≡ kinds.Line → SameNewline (c ∷ []) (ts ∷ []) before after a b)
+      → Matches (c ∷ []) (ts ∷ []) before after line a b u w
+  matches before after line a b u w is same = subst (Matches (c ∷ []) (ts ∷ []) before after line a b u) is (record {
+    kind = refl;
+    kept = λ here. record {
+      text = refl;
+      address = carried_to c u.address u.address (stays u.address) (λ x at. (x, refl));
+      newline = same;
+    };
+    lost = λ gone. (
+      (λ is_line. let l = lost_line c tt line u is_line gone in subst (λ o. At o (IsOwed (c ∷ []))) (sym l.1) (owed l.0 l.2)),
+      no_comment_lost c tt line u gone,
+    );
+  })
+    where
+      stays : (o : Option Address) → o ≡ option_and_then (carry c) o
+      stays None = refl
+      stays (Some x) = refl
+
+  abbrev block : List TextUnit
+  block = root_line (fresh (pair_text name v)) name v None
+
+  block_asked : (before after : List (List ℕ)) → EachIs (λ w. (k : ℕ) → IsAsked (c ∷ []) (ts ∷ []) before after k w) block
+  block_asked before after = (
+    (λ k. record { line = λ is. inl (owed p (inl ([], sym (append-nil p)))); comment = λ is. absurd (true≢false (sym is)) }),
+    each_append _ (inside p v) [] (inside_asked c v before after) tt,
+  )
+
+  pub insert_way : (style : List ℕ) (lines : List Line) → HasWay c (ts ∷ []) lines (insert_lines name v style lines)
+  insert_way style lines =
+      let well = put_lines name v style lines in
+      let front = well.put.front in
+      let back = well.put.back in
+      let before = newlines lines in
+      let after = newlines (insert_lines name v style lines) in
+      let head = zip front front in
+      let tail = zip back back in
+      let olds_head = zip_olds (λ u w. u ≡ w) front front (all_same front) in
+      let news_head = zip_news (λ u w. u ≡ w) front front (all_same front) in
+      let olds_tail = zip_olds (λ u w. u ≡ w) back back (all_same back) in
+      let news_tail = zip_news (λ u w. u ≡ w) back back (all_same back) in
+      let block_lines : lines_in block ≡ 1 = (let none = lines_append (inside p v) [] in let zero = inside_lines p v in omega (arith, none, zero)) in
+      record {
+        way = head ++ (map new block ++ tail);
+        olds_are = olds_append head (map new block ++ tail) ∙ ap₂ (λ x y. x ++ y) olds_head (olds_append (map new block) tail ∙ ap₂ (λ x y. x ++ y) (new_olds block) olds_tail) ∙ sym well.put.before;
+        news_are = news_append head (map new block ++ tail) ∙ ap₂ (λ x y. x ++ y) news_head (news_append (map new block) tail ∙ ap₂ (λ x y. x ++ y) (new_news block) news_tail) ∙ sym well.put.after;
+        fits =
+            fits_append (c ∷ []) (ts ∷ []) before after head (map new block ++ tail) None 0 0
+            (zip_fits (c ∷ []) (ts ∷ []) before after (λ u w. u ≡ w) (matches before after) front front (all_same front) None 0 0 (λ x low. front_same well x low))
+            (fits_append (c ∷ []) (ts ∷ []) before after (map new block) tail (line_after None head) (0 + lines_in (olds head)) (0 + lines_in (news head))
+            (new_fits (c ∷ []) (ts ∷ []) before after block (line_after None head) (0 + lines_in (olds head)) (0 + lines_in (news head)) (block_asked before after))
+            (zip_fits (c ∷ []) (ts ∷ []) before after (λ u w. u ≡ w) (matches before after) back back (all_same back) (line_after (line_after None head) (map new block))
+            ((0 + lines_in (olds head)) + lines_in (olds (map new block))) ((0 + lines_in (news head)) + lines_in (news (map new block)))
+            (λ x low. inl (
+            ap (slice_get before) (let e = ap lines_in olds_head in let f = ap lines_in (new_olds block) in let g : ((0 + lines_in (olds head)) + lines_in (olds (map new block))) + x ≡ lines_in front + x = omega (arith, e, f) in g)
+            ∙ well.back_ends x
+            ∙ ap (slice_get after) (let e = ap lines_in news_head in let f = ap lines_in (new_news block) in
+            let g : lines_in front + suc x ≡ ((0 + lines_in (news head)) + lines_in (news (map new block))) + x = omega (arith, e, f, block_lines) in g)))));
+        comments_few = λ t. as_many t (texts (comments (added (head ++ (map new block ++ tail))))) (ts ++ []) (
+            ap (λ us. texts (comments us)) (added_append head (map new block ++ tail) ∙ ap₂ (λ x y. x ++ y) (zip_adds front front) (added_append (map new block) tail ∙ ap₂ (λ x y. x ++ y) (new_adds block) (zip_adds back back)) ∙ append-nil block)
+            ∙ ap (λ us. texts (comments us)) (append-nil (inside p v)) ∙ same_comments p v ∙ sym (append-nil ts));
+      }
+    where
+      front_same : {before after : List (List ℕ)} {us ws : List TextUnit} (well : IsPutWell us block ws before after) (x : ℕ) → x < lines_in well.put.front → SameNewline (c ∷ []) (ts ∷ []) before after (0 + x) (0 + x)
+      front_same {before} {after} well x low =
+          let e : x ≡ 0 + x = omega arith in
+          subst (λ n. SameNewline (c ∷ []) (ts ∷ []) before after n n) e (elim (well.front_ends x low) [ inl is ↦ inl is | inr last ↦ inr (inl last) ])

@@ -1,0 +1,61 @@
+-- Law of the units after a `set`.
+use Rattle.std.specs.Prelude.{◌≡◌, ◌⊎◌, ℕ, Bool, true, false, List, [], ◌∷◌, ◌++◌, Some, IsSome}
+use Rattle.toml_tree.specs.Spells.{joined, value_parts, IsValue, AreLines}
+use Rattle.toml_tree.specs.Tree.{Value, Line}
+use Rattle.toml_names.specs.mentions.Mentions.{named}
+use Rattle.toml_names.specs.mentions.Rules.{KeepsRules}
+use Rattle.toml_names.specs.model.Addresses.{Address, IsAbove}
+use Rattle.toml_edits.specs.Edits.{set}
+use Rattle.toml_units.specs.declared.unit.UnitKind.{UnitKind}
+use Rattle.toml_units.specs.declared.unit.UnitKind.TheVariants as kinds
+use Rattle.toml_units.specs.Units.{TextUnit, inside, units}
+use Rattle.toml_checker.specs.CarriedTo.{At}
+use Rattle.toml_checker.specs.Comments.{is_comment}
+use Rattle.toml_editor.specs.RenamedUnits.{IsCarried}
+use Rattle.toml_editor.specs.Setting.{set_lines}
+use Rattle.toml_editor.specs.Written.{HasValue}
+
+-- what may stand in a value
+abbrev pub is_inner : UnitKind → Bool
+is_inner kinds.Element = true
+is_inner kinds.Pair = true
+is_inner kinds.InnerComment = true
+is_inner _ = false
+
+-- the unit lies in the value at the address: below it, or it is a comment of the array or inline table there
+abbrev pub LiesInValue : Address → TextUnit → Type 0
+LiesInValue p u = (is_inner u.kind ≡ true) × At u.address (λ a. IsAbove p a ⊎ ((a ≡ p) × (u.kind ≡ kinds.InnerComment)))
+
+-- that value is the unit's: of an element, a pair or a line
+abbrev pub HoldsValue : Address → TextUnit → Type 0
+HoldsValue p u = (u.address ≡ Some p) × (is_comment u.kind ≡ false)
+
+-- the second text is the first with `run` in the place of a run of its bytes
+abbrev pub IsExchanged : List ℕ → List ℕ → List ℕ → Type 0
+IsExchanged run a b = (front old back : List ℕ) × (a ≡ front ++ (old ++ back)) × (b ≡ front ++ (run ++ back))
+
+-- the unit with another value; of lines those with a key have one
+pub record HasNewValue (new : Value) (u w : TextUnit) : Type 0 where
+  pub keyed : u.kind ≡ kinds.Line → IsSome u.base
+  pub kind : w.kind ≡ u.kind
+  pub address : w.address ≡ u.address
+  pub base : w.base ≡ u.base
+  pub text : IsExchanged (joined (value_parts new)) u.piece.text w.piece.text
+
+-- What stands for a unit after a `set`: nothing, if it lies in the old value; itself with the new value, and what is in that, if the value is its
+-- own; else itself, where it was, as the edit leaves it.
+abbrev pub IsSetTo : Address → List ℕ → Value → TextUnit → List TextUnit → Type 0
+IsSetTo p text new u ws =
+    (LiesInValue p u × (ws ≡ []))
+    ⊎ (HoldsValue p u × (w : TextUnit) × HasNewValue new u w × (ws ≡ w ∷ inside p new))
+    ⊎ (¬ LiesInValue p u × ¬ HoldsValue p u × (w : TextUnit) × IsCarried (set p text) u w × (w.address ≡ u.address) × (ws ≡ w ∷ []))
+
+-- the second list is made of the first: a list for each, one behind the other
+abbrev pub AreMadeOf : {A B : Type 0} → (A → List B → Type 0) → List A → List B → Type 0
+AreMadeOf R [] ws = ws ≡ []
+AreMadeOf R (u ∷ us) ws = (here rest : List _) × R u here × (ws ≡ here ++ rest) × AreMadeOf R us rest
+
+-- Law: the units of the new lines are what stands for those of the old ones, in order.
+abbrev pub SetUnits : Type 0
+SetUnits = (p : Address) (text : List ℕ) (new : Value) (lines : List Line) → ¬ (p ≡ []) → AreLines lines → IsValue new → HasValue lines p → KeepsRules (named lines)
+    → AreMadeOf (IsSetTo p text new) (units lines) (units (set_lines p new lines))

@@ -1,0 +1,66 @@
+-- Laws of the units after `insert` and `remove` at the root: one block more, or one less, between two lines. The newline of a line is
+-- in no unit. All other units are as they were, with their pieces: a piece of edited lines has the place that it had before.
+use Rattle.std.specs.Prelude.{◌≡◌, ℕ, List, [], ◌∷◌, ◌++◌, Option, Some, None}
+use Rattle.toml_scalar.specs.Spelling.{spelled}
+use Rattle.toml_tree.specs.Spells.{joined, value_parts, AreLines}
+use Rattle.toml_tree.specs.Tree.{Piece, Value, Line}
+use Rattle.toml_names.specs.declared.model.address.Step.TheVariants.{Name}
+use Rattle.toml_names.specs.mentions.Mentions.{named}
+use Rattle.toml_names.specs.mentions.Rules.{KeepsRules}
+use Rattle.toml_units.specs.declared.unit.UnitKind.TheVariants as kinds
+use Rattle.toml_units.specs.Units.{TextUnit, inside, comment_units, units}
+use Rattle.toml_editor.specs.Inserting.{insert_lines}
+use Rattle.toml_editor.specs.Lines.{fresh}
+use Rattle.toml_editor.specs.Removing.{remove_lines}
+use Rattle.toml_editor.specs.Written.{HasPair}
+
+-- a keyval line of a name in the root: itself, what lies in its value, and its comment
+abbrev pub root_line : Piece → List ℕ → Value → Option Piece → List TextUnit
+root_line piece name v comment =
+    let at = Some (Name name ∷ []) in
+    record { kind = kinds.Line; piece = piece; address = at; base = Some 0 } ∷ (inside (Name name ∷ []) v ++ comment_units kinds.TailComment at comment)
+
+-- a line of no bytes
+abbrev pub line_of_nothing : TextUnit
+line_of_nothing = record { kind = kinds.Line; piece = fresh []; address = None; base = None }
+
+-- the units go on with a line, or end
+abbrev pub BeginWithLine : List TextUnit → Type 0
+BeginWithLine [] = Unit {0}
+BeginWithLine (u ∷ us) = u.kind ≡ kinds.Line
+
+-- the second list is the first with the block put in before a line, or at the end
+pub record IsBlockPut (old block new : List TextUnit) : Type 0 where
+  pub front : List TextUnit
+  pub back : List TextUnit
+  pub before : old ≡ front ++ back
+  pub after : new ≡ front ++ (block ++ back)
+  pub next : BeginWithLine back
+
+-- what is left of a line that is taken out: a line of no bytes, if it was the last one
+abbrev pub left_of : List TextUnit → List TextUnit
+left_of [] = line_of_nothing ∷ []
+left_of (u ∷ us) = []
+
+-- the second list is the first with the block taken out before a line, or at the end
+pub record IsBlockTaken (old block new : List TextUnit) : Type 0 where
+  pub front : List TextUnit
+  pub back : List TextUnit
+  pub before : old ≡ front ++ (block ++ back)
+  pub after : new ≡ front ++ (left_of back ++ back)
+  pub next : BeginWithLine back
+
+-- the bytes of a new line, but for its newline
+abbrev pub pair_text : List ℕ → Value → List ℕ
+pair_text name v = spelled name ++ 0x20 ∷ 0x3D ∷ 0x20 ∷ joined (value_parts v)
+
+-- Law: the units of the new lines are those of the old ones and those of the new line.
+abbrev pub InsertUnits : Type 0
+InsertUnits = (name : List ℕ) (v : Value) (style : List ℕ) (lines : List Line)
+    → IsBlockPut (units lines) (root_line (fresh (pair_text name v)) name v None) (units (insert_lines name v style lines))
+
+-- Law: the units of the new lines are those of the old ones without those of the name's line.
+abbrev pub RemoveUnits : Type 0
+RemoveUnits = (name : List ℕ) (lines : List Line) → AreLines lines → HasPair lines (Name name ∷ []) → KeepsRules (named lines)
+    → (piece : Piece) × (v : Value) × (comment : Option Piece)
+    × IsBlockTaken (units lines) (root_line piece name v comment) (units (remove_lines (Name name ∷ []) lines))
