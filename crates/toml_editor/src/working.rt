@@ -163,9 +163,12 @@ impl<'x> Tree<'x> {
         self.sought_value(before, at)
     }
 
-    /// Whether what stands at the address is the root, or a table that a line makes where the document's names have it: then
-    /// no value holds it.
+    /// Whether what stands at the address is the root, or a table or an array of tables that a line makes, or has below it,
+    /// where the document's names have it: then no value holds it.
     fn is_table(&self, before: Before<'_, 'x>, named: Option<Place>, at: &Address) -> bool {
+        if let Some(Place::Tables(line)) | Some(Place::Implicit(line)) = named {
+            return self.implicit_in(before, line, at).is_some();
+        }
         at.steps().is_empty() || self.near_table(before, named, at).is_some()
     }
 
