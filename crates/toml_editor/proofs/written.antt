@@ -47,5 +47,6 @@ pub mod WayHeld
 pub mod WayPut
 pub mod WayRenamed
 pub mod WaySet
+pub mod WayTaken
 pub mod WayWhole
 pub mod WayZip

@@ -3,10 +3,9 @@ use Rattle.std.specs.Prelude.{◌↔◌, ℕ, List, [], ◌∷◌, None}
 use Rattle.toml_text.specs.Forms.{IsNewline}
 use Rattle.toml_tree.specs.Tree.{Doc}
 use Rattle.toml_tree.specs.declared.profile.Profile.{Profile}
-use Rattle.toml_names.specs.model.Addresses.{Address}
 use Rattle.toml_names.specs.model.Data.{Kinds}
 use Rattle.toml_edits.specs.After.{IsAfter}
-use Rattle.toml_edits.specs.Edits.{Change, set, insert, rename}
+use Rattle.toml_edits.specs.Edits.{Change}
 use Rattle.toml_edits.specs.Faults.{IsFault}
 use Rattle.toml_units.specs.Units.{units}
 use Rattle.toml_checker.specs.Comments.{NoCommentsAdded}
@@ -23,20 +22,8 @@ pub record ArePartners (cs : List Change) (d e : Doc) (ps : List (ℕ × ℕ)) :
   pub lines : NoLinesAdded cs e ps
   pub comments : NoCommentsAdded cs e ps
 
--- what a good text and the text after an edit without a fault have: pairs of partners
-abbrev pub HavePartners : Change → Type 0
-HavePartners c = (profile : Profile) (style before after : List ℕ) (old now : Kinds) → IsNewline style → (good : IsGoodText profile before old)
+-- Law: a good text and what a plain edit without a fault writes of it have pairs of partners.
+abbrev pub PlainIsCarried : Type 0
+PlainIsCarried = (c : Change) (profile : Profile) (style before after : List ℕ) (old now : Kinds) → IsNewline style → (good : IsGoodText profile before old)
     → IsFault profile c old None → IsAfter profile c old now → IsWritten profile c style before after → (new : IsGoodText profile after now)
     → (ps : List (ℕ × ℕ)) × ArePartners (c ∷ []) good.tree new.tree ps
-
--- Law: so it is of a `rename`.
-abbrev pub RenameIsCarried : Type 0
-RenameIsCarried = (p : Address) (to : List ℕ) → HavePartners (rename p to)
-
--- Law: and of an `insert` at the root.
-abbrev pub InsertIsCarried : Type 0
-InsertIsCarried = (p : Address) (value : List ℕ) → HavePartners (insert p value)
-
--- Law: and of a `set` where a value stands.
-abbrev pub SetIsCarried : Type 0
-SetIsCarried = (p : Address) (value : List ℕ) → HavePartners (set p value)

@@ -1,7 +1,7 @@
 //! Laws over the definitions of what plain edits write: nothing is run.
 ghost use Rattle.toml_editor.specs.Bares.{SetBares, InsertBares, RemoveBares, RenameBares};
 ghost use Rattle.toml_editor.specs.BareUnits.{UnitsOfBares};
-ghost use Rattle.toml_editor.specs.CarriedUnits.{RenameIsCarried, InsertIsCarried, SetIsCarried};
+ghost use Rattle.toml_editor.specs.CarriedUnits.{PlainIsCarried};
 ghost use Rattle.toml_editor.specs.ChangedUnits.{SetUnits};
 ghost use Rattle.toml_editor.specs.InsertLaws.{InsertNames, InsertRules, InsertShort, InsertData, InsertForms, InsertOfProfile, InsertKeepsLines};
 ghost use Rattle.toml_editor.specs.RemoveLaws.{RemoveNames, RemoveGood, RemoveData, RemoveForms, RemoveOfProfile, RemoveKeepsLines};
@@ -100,13 +100,11 @@ pub fn units()
     ensures bares { UnitsOfBares }
 {}
 
-/// A good text and what a `rename`, an `insert` at the root, or a `set` where a value stands writes of it without a fault have
-/// pairs of partners: they name just the units of the first that the edit neither takes away nor changes, each fits, and the second has no line and no
-/// comment that the edit does not ask for.
+/// A good text and what a plain edit writes of it without a fault have pairs of partners: they name just the units of the
+/// first that the edit neither takes away nor changes, each pair fits, and the second has no line and no comment that the
+/// edit does not ask for.
 pub fn carried()
-    ensures rename { RenameIsCarried }
-    ensures insert { InsertIsCarried }
-    ensures set { SetIsCarried }
+    ensures { PlainIsCarried }
 {}
 
 /// Within the limit of a text the good texts are the documents of the profile.

@@ -16,6 +16,7 @@ use Rattle.toml_editor.specs.Blocks.{IsPut, root_pair, named_plain}
 use Rattle.toml_editor.specs.RemoveLaws.{RemoveForms, RemoveGood, RemoveData}
 use Rattle.toml_editor.specs.Lines.{lines_from}
 use Rattle.toml_editor.specs.Removing.{remove_line, remove_lines, left_behind, empty_line}
+use Rattle.toml_editor.specs.Written.{HasPair}
 use Rattle.toml_editor.proofs.written.BlockFacts.{each_old, pairs_old, has_old, has_new, pairs_back, pairs_between}
 use Rattle.toml_editor.proofs.written.Clear.{IsUnder}
 use Rattle.toml_editor.proofs.Each.{each_append, each_back, each_weaker}
@@ -96,6 +97,18 @@ apart_rest name v old new put alone =
     (each_weaker (λ x. EachIs (Alone x) (root_pair name v ++ put.back)) (Apart name) (λ x h here. true≢false ((h.0 here).1)) put.front (pairs_between Alone put.front (root_pair name v ++ put.back) parts))
     (each_weaker (Alone (value_named 0 Valued (Name name ∷ []) v)) (Apart name) (λ x h here. true≢false ((h (sym here)).0)) put.back (each_back (Alone (value_named 0 Valued (Name name ∷ []) v)) (Rattle.toml_names.specs.mentions.Mentions.inside 0 (Name name ∷ []) v) put.back behind)))
 
+-- so nothing that is left is named at it or below it
+pub left_clear : (name : List ℕ) (lines : List Line) → HasPair lines (Name name ∷ []) → KeepsRules (named lines) → EachIs (λ m. IsClear (Name name ∷ []) m.address) (named (remove_lines (Name name ∷ []) lines))
+left_clear name lines there keeps =
+    let p = Name name ∷ [] in
+    let lines' = remove_lines p lines in
+    let found = remove_names name lines there keeps in
+    let keeps' : KeepsRules (named lines') = plain_rules lines' (pairs_old (named_plain lines') (root_pair name found.0) (named_plain lines) found.1 Goes (rules_plain lines keeps)) in
+    let alone : PairsAre Alone (named_plain lines) = pairs_plain lines Alone (λ x y h. h) (pairs_of_all Alone (named lines) (line_values_stand_alone lines keeps)) in
+    let apart = apart_rest name found.0 (named_plain lines') (named_plain lines) found.1 alone in
+    let free : ¬ IsNamed (named lines') p = λ named_there. from_has (Apart name) (λ m. m.address ≡ p) ⊥ (λ m a here. a here) (named_plain lines') apart (has_plain lines' (λ m. m.address ≡ p) (has_of_any _ (named lines') named_there)) in
+    not_named_is_clear lines' p keeps' free
+
 pub remove_data : RemoveData
 remove_data profile name lines old after there keeps is is' =
     let p = Name name ∷ [] in
@@ -103,11 +116,7 @@ remove_data profile name lines old after there keeps is is' =
     let found = remove_names name lines there keeps in
     let v = found.0 in
     let put = found.1 in
-    let keeps' : KeepsRules (named lines') = plain_rules lines' (pairs_old (named_plain lines') (root_pair name v) (named_plain lines) put Goes (rules_plain lines keeps)) in
-    let alone : PairsAre Alone (named_plain lines) = pairs_plain lines Alone (λ x y h. h) (pairs_of_all Alone (named lines) (line_values_stand_alone lines keeps)) in
-    let apart = apart_rest name v (named_plain lines') (named_plain lines) put alone in
-    let free : ¬ IsNamed (named lines') p = λ named_there. from_has (Apart name) (λ m. m.address ≡ p) ⊥ (λ m a here. a here) (named_plain lines') apart (has_plain lines' (λ m. m.address ≡ p) (has_of_any _ (named lines') named_there)) in
-    let clear = each_plain lines' (λ m. IsClear p m.address) (not_named_is_clear lines' p keeps' free) in
+    let clear = each_plain lines' (λ m. IsClear p m.address) (left_clear name lines there keeps) in
     record {
       carried = λ a b k have to.
           let go = carried_clear p b a to in

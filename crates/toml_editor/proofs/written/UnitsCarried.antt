@@ -1,22 +1,34 @@
 -- What plain edits carry along, from text to text.
-use Rattle.std.proofs.Common.{◌≡◌, ◌⊎◌, inl, inr, ℕ, List, [], ◌∷◌, ◌++◌, length, refl, sym, ap, ◌∙◌, subst}
+use Rattle.std.proofs.Common.{◌≡◌, ◌⊎◌, inl, inr, ℕ, List, [], ◌∷◌, ◌++◌, length, refl, sym, ap, ◌∙◌, subst, Option, Some, None, IfSome, IsSome, map, ap₂, subst₂, true≢false}
 use Rattle.toml_tree.specs.Bare.{bare_lines}
 use Rattle.toml_tree.specs.Places.{put_doc}
-use Rattle.toml_tree.specs.Spells.{Spells, AreLines, joined, lines_parts, mark_of}
+use Rattle.toml_tree.specs.Spells.{Spells, AreLines, joined, lines_parts, mark_of, EachIs}
 use Rattle.toml_tree.specs.Tree.{Piece, Line, Doc}
 use Rattle.toml_tree.specs.declared.profile.Profile.{Profile}
 use Rattle.toml_tree.proofs.Proved.{one_tree, put_doc_spells, put_lines_same}
 use Rattle.toml_names.specs.declared.model.address.Step.{Step}
 use Rattle.toml_names.specs.declared.model.address.Step.TheVariants.{Name, Index}
-use Rattle.toml_names.specs.mentions.Mentions.{named}
+use Rattle.toml_names.specs.mentions.Mentions.{named, Kind}
 use Rattle.toml_names.specs.model.Addresses.{Address, child}
-use Rattle.toml_names.specs.model.Data.{Kinds}
+use Rattle.toml_names.specs.model.Data.{Kinds, IsDataOf, fact_at}
 use Rattle.toml_names.specs.model.Places.{IsNamed}
-use Rattle.toml_edits.specs.Edits.{Change, insert, rename, set}
+use Rattle.toml_edits.specs.Edits.{Change, insert, rename, set, remove, new_section, new_element}
 use Rattle.toml_edits.specs.declared.fault.EditFault.TheVariants.{RootNamed, NotAName, AlreadyThere, AddressLength}
-use Rattle.toml_units.specs.Units.{inside}
+use Rattle.toml_units.specs.Units.{inside, TextUnit, units}
 use Rattle.toml_checker.specs.Comments.{AreWritten, texts}
-use Rattle.toml_editor.specs.CarriedUnits.{ArePartners, RenameIsCarried, InsertIsCarried, SetIsCarried}
+use Rattle.toml_names.specs.mentions.Clear.{IsClear}
+use Rattle.toml_names.specs.mentions.Rules.{KeepsRules}
+use Rattle.toml_names.proofs.Proved.{lines_have_data, places_are_not_named}
+use Rattle.toml_units.proofs.Proved.{units_are_named}
+use Rattle.toml_editor.specs.Removing.{remove_lines}
+use Rattle.toml_editor.proofs.written.RemoveKept.{remove_forms, remove_good, left_clear}
+use Rattle.toml_editor.proofs.written.Pairwise.{has_of_any, from_has}
+use Rattle.toml_editor.proofs.written.Way.{Seen, seen}
+use Rattle.toml_editor.proofs.written.WayTaken.{remove_way}
+use Rattle.toml_edits.specs.After.{IsAfter}
+use Rattle.toml_edits.specs.Faults.{IsFault}
+use Rattle.toml_text.specs.Forms.{IsNewline}
+use Rattle.toml_editor.specs.CarriedUnits.{ArePartners, PlainIsCarried}
 use Rattle.toml_editor.specs.Inserting.{insert_lines}
 use Rattle.toml_editor.specs.Renaming.{rename_lines}
 use Rattle.toml_editor.specs.Steps.{IsGoodText}
@@ -25,7 +37,7 @@ use Rattle.toml_editor.proofs.written.InsertFormed.{insert_forms}
 use Rattle.toml_editor.proofs.written.RenameFormed.{rename_forms}
 use Rattle.toml_editor.proofs.written.WayComments.{comments}
 use Rattle.toml_editor.specs.Setting.{set_lines}
-use Rattle.toml_editor.specs.Written.{HasValue}
+use Rattle.toml_editor.specs.Written.{HasValue, HasPair, IsWritten}
 use Rattle.toml_editor.proofs.written.SetKept.{set_short}
 use Rattle.toml_editor.proofs.written.SetFormed.{set_forms}
 use Rattle.toml_editor.proofs.written.WaySet.{set_way}
@@ -45,7 +57,13 @@ module _ (profile : Profile) (c : Change) (before after : List ℕ) (old now : K
       let bares : bare_lines new.tree.lines ≡ bare_lines edited = ap (λ (d : Doc). bare_lines d.lines) same ∙ put_lines_same edited at in
       partners c written good.tree new.tree edited way are (same_seen new.tree.lines edited bares) (same_newlines new.tree.lines edited bares)
 
-pub rename_is_carried : RenameIsCarried
+-- what is to be shown of an edit
+abbrev HavePartners : Change → Type 0
+HavePartners c = (profile : Profile) (style before after : List ℕ) (old now : Kinds) → IsNewline style → (good : IsGoodText profile before old)
+    → IsFault profile c old None → IsAfter profile c old now → IsWritten profile c style before after → (new : IsGoodText profile after now)
+    → (ps : List (ℕ × ℕ)) × ArePartners (c ∷ []) good.tree new.tree ps
+
+rename_is_carried : (p : Address) (to : List ℕ) → HavePartners (rename p to)
 rename_is_carried p to profile style before after old now newline good none is_after (d, spells, edited, made, text) new = by (last_step p)
   where
     same : d ≡ good.tree
@@ -65,7 +83,7 @@ rename_is_carried p to profile style before after old now newline good none is_a
         by_way profile (rename p to) before after old now good new ([] ∷ []) (rename_lines p to good.tree.lines) (refl, tt) (rename_forms p to good.tree.lines good.spelled.0.lines.forms) text_is
         (subst (λ x. HasWay (rename x to) ([] ∷ []) good.tree.lines (rename_lines x to good.tree.lines)) (sym at) (rename_way q n to good.tree.lines good.spelled.0.lines.forms free good.good.0))
 
-pub insert_is_carried : InsertIsCarried
+insert_is_carried : (p : Address) (value : List ℕ) → HavePartners (insert p value)
 insert_is_carried p value profile style before after old now newline good none is_after (d, spells, edited, (v, is_value, name, at, made), text) new =
     let same : d ≡ good.tree = one_tree d good.tree before spells.0 good.spelled.0 in
     let lines = good.tree.lines in
@@ -76,7 +94,7 @@ insert_is_carried p value profile style before after old now newline good none i
     (insert_forms name v style lines good.spelled.0.lines.forms newline is_value.0.form is_value.0.shallow) text_is
     (subst (λ x. HasWay (insert x value) (texts (comments (inside [] v)) ∷ []) lines (insert_lines name v style lines)) (sym at) (insert_way name value v style lines))
 
-pub set_is_carried : SetIsCarried
+set_is_carried : (p : Address) (value : List ℕ) → HavePartners (set p value)
 set_is_carried p value profile style before after old now newline good none is_after (d, spells, edited, (v, is_value, there, made), text) new =
     let same : d ≡ good.tree = one_tree d good.tree before spells.0 good.spelled.0 in
     let lines = good.tree.lines in
@@ -90,3 +108,53 @@ set_is_carried p value profile style before after old now newline good none is_a
     by_way profile (set p value) before after old now good new (texts (comments (inside [] v)) ∷ []) (set_lines p v lines) ((v, is_value.0, refl), tt)
     (set_forms p v lines good.spelled.0.lines.forms is_value.0.form short) text_is
     (set_way p value v lines apart good.spelled.0.lines.forms is_value.0.form there' good.good.0)
+
+-- units of edited lines are at addresses that their lines name
+address_clear : (p : Address) (lines : List Line) → AreLines lines → KeepsRules (named lines) → EachIs (λ m. IsClear p m.address) (named lines) → EachIs (λ u. (a : Address) → u.address ≡ Some a → IsClear p a) (units lines)
+address_clear p lines forms keeps clear =
+    let d = put_doc (mark_of []) lines in
+    let facts = lines_have_data lines keeps in
+    let names : named d.lines ≡ named lines = places_are_not_named d.lines lines (put_lines_same lines 0) in
+    let there = units_are_named d (mark_of [] ++ joined (lines_parts lines)) (put_doc_spells [] lines forms) (fact_at (named lines)) (subst (λ ms. IsDataOf ms (fact_at (named lines))) (sym names) facts) in
+    of_seen (units d.lines) (units lines) (same_seen d.lines lines (put_lines_same lines 0)) there
+  where
+    clear_of : (a : Address) → IsSome (fact_at (named lines) a) → IsClear p a
+    clear_of a some = by (fact_at (named lines) a) refl some
+      where
+        by : (o : Option Kind) → fact_at (named lines) a ≡ o → IsSome o → IsClear p a
+        by None is some = absurd (true≢false (sym some))
+        by (Some k) is some =
+            from_has (λ m. IsClear p m.address) (λ m. (m.address ≡ a) × (m.kind ≡ k)) (IsClear p a) (λ m c f. subst (IsClear p) f.0 c) (named lines) clear
+            (has_of_any _ (named lines) ((lines_have_data lines keeps a k).0 is))
+
+    of_seen : (us ws : List TextUnit) → map seen us ≡ map seen ws → EachIs (λ (u : TextUnit). IfSome u.address (λ a. IsSome (fact_at (named lines) a))) us
+        → EachIs (λ (w : TextUnit). (a : Address) → w.address ≡ Some a → IsClear p a) ws
+    of_seen us [] is there = tt
+    of_seen [] (w ∷ ws) is there = cc
+    of_seen (u ∷ us) (w ∷ ws) is there =
+        let same : seen u ≡ seen w = cc in (
+          (λ a at. clear_of a (subst (λ o. IfSome o (λ b. IsSome (fact_at (named lines) b))) (ap (λ (x : Seen). x.address) same ∙ at) there.0)),
+          of_seen us ws (let e : map seen us ≡ map seen ws = cc in e) there.1,
+        )
+
+remove_is_carried : (p : Address) → HavePartners (remove p)
+remove_is_carried p profile style before after old now newline good none is_after (d, spells, edited, (name, at, there, made), text) new =
+    let same : d ≡ good.tree = one_tree d good.tree before spells.0 good.spelled.0 in
+    let lines = good.tree.lines in
+    let there' : HasPair lines (Name name ∷ []) = subst₂ (λ (x : Doc) q. HasPair x.lines q) same at there in
+    let lines_are : edited ≡ remove_lines (Name name ∷ []) lines = made ∙ ap₂ (λ (x : Doc) q. remove_lines q x.lines) same at in
+    let text_is : after ≡ good.tree.mark.text ++ joined (lines_parts (remove_lines (Name name ∷ []) lines)) =
+    text ∙ ap (λ (x : Doc). x.mark.text ++ joined (lines_parts edited)) same ∙ ap (λ ls. good.tree.mark.text ++ joined (lines_parts ls)) lines_are in
+    let forms = remove_forms (Name name ∷ []) lines good.spelled.0.lines.forms in
+    let far = address_clear (Name name ∷ []) (remove_lines (Name name ∷ []) lines) forms (remove_good name lines there' good.good).0 (left_clear name lines there' good.good.0) in
+    subst (λ q. (ps : List (ℕ × ℕ)) × ArePartners (remove q ∷ []) good.tree new.tree ps) (sym at)
+    (by_way profile (remove (Name name ∷ [])) before after old now good new ([] ∷ []) (remove_lines (Name name ∷ []) lines) (refl, tt) forms text_is
+    (remove_way name lines good.spelled.0.lines.forms there' good.good.0 far))
+
+pub plain_is_carried : PlainIsCarried
+plain_is_carried (set p value) = set_is_carried p value
+plain_is_carried (insert p value) = insert_is_carried p value
+plain_is_carried (rename p to) = rename_is_carried p to
+plain_is_carried (remove p) = remove_is_carried p
+plain_is_carried (new_section p) = λ profile style before after old now newline good none is_after written new. absurd written.3
+plain_is_carried (new_element p) = λ profile style before after old now newline good none is_after written new. absurd written.3
