@@ -8,13 +8,13 @@ use Rattle.toml_names.specs.model.Addresses.{Address, IsAbove, same_step}
 use Rattle.toml_names.proofs.Proved.{same_step-equal}
 use Rattle.toml_edits.specs.Carry.{carry_below, emptied, setting}
 use Rattle.toml_editor.specs.Setting.{set_within}
-use Rattle.toml_editor.proofs.written.Elsewhere.{set_elsewhere}
+use Rattle.toml_editor.proofs.written.Elsewhere.{set_within_kept}
 use Rattle.toml_editor.proofs.written.Unplaced.{set_bared}
 
 pub within_text : (p : Address) (new : Value) (v : Value) (at : Address) → IsValue v → ¬ IsAbove at p → joined (value_parts (set_within p new at v)) ≡ joined (value_parts v)
 within_text p new v at is not =
     sym (bare_value_text (set_within p new at v))
-    ∙ ap (λ x. joined (value_parts x)) (set_bared p new v at ∙ set_elsewhere p (bare_value new) at v is not)
+    ∙ ap (λ x. joined (value_parts x)) (set_bared p new v at ∙ set_within_kept p (bare_value new) at v is not)
     ∙ bare_value_text v
 
 below_stays : (p a : Address) → ¬ IsAbove p a → carry_below p emptied a ≡ Some a
