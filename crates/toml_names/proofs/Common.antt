@@ -64,7 +64,7 @@ pub use Rattle.toml_names.specs.model.Data.{kind_at, kind_in, Kinds, within, IsD
 pub use Rattle.toml_names.specs.model.DataLaws.{OneData, LinesAreClosed, ValuesAreClosed, LinesHaveOneKind, LineValuesStandAlone, ValuesHaveOneKind, InnerValuesStandAlone}
 pub use Rattle.toml_names.specs.model.Levels.{Members, Elements, ScalarLevel, ArrayLevel, TableLevel, DatumIsOneOfThree, DatumHasRoot, ArrayAtRoot, ArrayAtIndex, ArrayAtName, TableAtRoot, TableAtName, TableAtIndex, NothingBelowScalar, IndexIsWithin, NameHasMember}
 pub use Rattle.toml_names.specs.model.Places.{first_line, same_role, line_above, in_value, place, IsNamed, IsNotIn, IsOutside, NoPlace, or_else, outside, IsFirstIn, IsInside, IsPlace, PlacesAreFound, PlaceIsFound}
-pub use Rattle.toml_names.specs.model.SameData.{AreSameIn, AreSame, SameScalars, SameArrays, SameTables}
+pub use Rattle.toml_names.specs.model.SameData.{AreMembersOf, AreSame, AreSameElements, AreSameIn, AreSameMembers, HasAllNames, SameScalars, SameArrays, SameTables}
 pub use Rattle.toml_names.specs.reader.Names.{header_end, own_address, AreOwnAddresses, is_own, line_address, AreGood, IsRedefined, RefusedAreBad, LineAddresses, NoLineAddress, IsLong, OneRefusal, RefusesNames}
 pub use Rattle.toml_names.specs.reader.Reading.{IsReader, AreNames, ranked, rank_in, ReaderState, lines_of, RefusesLine, StaysShort, RefusesEntry, Known}
 pub use Rattle.toml_names.specs.tree.EnteringHeaders.{PassedFronts, table_names, tables_names, next_table, EntersHeader, AddsTable}

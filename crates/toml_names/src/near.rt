@@ -1,12 +1,8 @@
 //! What the names of lines tell of the data near the ways of a set of addresses, and beside them.
-ghost use Rattle.std.specs.Prelude.{◌≡◌, ◌↔◌, List, IsTrue, IfOk};
-ghost use Rattle.toml_tree.specs.Tree.{Line};
-ghost use Rattle.toml_names.specs.mentions.Mentions.{named};
-ghost use Rattle.toml_names.specs.model.Addresses.{Address as Steps};
+ghost use Rattle.std.specs.Prelude.{IfOk};
 ghost use Rattle.toml_names.specs.model.AddressSets.{is_hidden};
-ghost use Rattle.toml_names.specs.model.Data.{Kinds, IsDataOf, kind_at};
-ghost use Rattle.toml_names.specs.model.Hidden.{beside, near};
-ghost use Rattle.toml_names.specs.reader.LineNames.{Stand, StandFor};
+ghost use Rattle.toml_names.specs.model.Data.{kind_at};
+ghost use Rattle.toml_names.specs.reader.LineNames.{AreDataNear, Stand, TellsDataBeside};
 
 use crate::line_names::LineNames;
 use crate::model::address_set::AddressSet;
@@ -18,8 +14,7 @@ impl<'t> LineNames<'t> {
     /// left out, and an element beside them stands alone.
     pub fn data_near(&self, set: &AddressSet) -> Result<Data, AllocError>
         requires stand { Stand self.now }
-        ensures { IfOk result (λ d. (lines : List Line) → StandFor self.now lines → (kinds : Kinds) → IsDataOf (named lines) kinds
-            → (at : Steps) → kind_at d.root at ≡ near (is_hidden set.now) kinds at) }
+        ensures { IfOk result (λ d. AreDataNear self.now (is_hidden set.now) (kind_at d.root)) }
     {
         Ok(Data {
             root: self.tree.datum_near(0, set)?,
@@ -37,8 +32,7 @@ impl<'t> LineNames<'t> {
     ) -> Result<bool, AllocError>
         requires stand { Stand self.now }
         requires other { Stand other.now }
-        ensures { IfOk result (λ b. (lines others : List Line) → StandFor self.now lines → StandFor other.now others → (old : Kinds) → IsDataOf (named others) old
-            → (IsTrue b ↔ IsDataOf (named lines) (beside (is_hidden set.now) old (kind_at «data».now.root)))) }
+        ensures { IfOk result (TellsDataBeside self.now other.now (is_hidden set.now) (kind_at «data».now.root)) }
     {
         self.tree
             .holds_beside(0, &other.tree, Some(0), set, &data.root)

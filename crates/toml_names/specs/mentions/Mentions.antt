@@ -26,8 +26,11 @@ abbrev pub value_or_empty : Option ScalarValue → ScalarValue
 value_or_empty None = Text []
 value_or_empty (Some v) = v
 
+abbrev pub token_value : ScalarKind → List ℕ → ScalarValue
+token_value kind text = value_or_empty (scalar_of kind text)
+
 abbrev pub token_kind : ScalarKind → List ℕ → Kind
-token_kind kind text = a_scalar (value_or_empty (scalar_of kind text))
+token_kind kind text = a_scalar (token_value kind text)
 
 abbrev pub kind_of : Value → Kind
 kind_of (Scalar kind p) = token_kind kind p.text

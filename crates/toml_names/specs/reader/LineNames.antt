@@ -1,10 +1,12 @@
 -- What the names of lines that are let go stand for, and what they answer to one more line.
-use Rattle.std.specs.Prelude.{◌≡◌, ◌∷◌, ◌++◌, ℕ, List, [], length, Option, option_map, Result, Ok, Err}
+use Rattle.std.specs.Prelude.{◌≡◌, ◌↔◌, ◌∷◌, ◌++◌, ℕ, Bool, IsTrue, List, [], length, Option, option_map, Result, Ok, Err}
 use Rattle.toml_tree.specs.Tree.{Line}
 use Rattle.toml_names.specs.declared.fault.NameFault.{NameFault}
 use Rattle.toml_names.specs.declared.line_names.LineNames.{LineNames as Names}
 use Rattle.toml_names.specs.mentions.Mentions.{named}
 use Rattle.toml_names.specs.model.Addresses.{Address}
+use Rattle.toml_names.specs.model.Data.{Kinds, IsDataOf}
+use Rattle.toml_names.specs.model.Hidden.{Cover, beside, near}
 use Rattle.toml_names.specs.reader.Names.{AreGood, RefusesNames, own_address}
 use Rattle.toml_names.specs.reader.Reading.{IsReader}
 use Rattle.toml_names.specs.tree.EnteringLines.{IsWithin}
@@ -44,6 +46,16 @@ pub record IsEntered (lines : List Line) (l : Line) (names : Names) (node : Opti
 abbrev pub Enters : List Line → Line → Names → Result (Option ℕ) NameFault → Type 0
 Enters lines l names (Ok node) = IsEntered lines l names node
 Enters lines l names (Err fault) = RefusesNames (lines ++ l ∷ []) fault
+
+-- the data are those of the lines, where nothing is hidden
+abbrev pub AreDataNear : Names → Cover → Kinds → Type 0
+AreDataNear names hidden found = (lines : List Line) → StandFor names lines → (kinds : Kinds) → IsDataOf (named lines) kinds
+    → (at : Address) → found at ≡ near hidden kinds at
+
+-- the answer is yes exactly where the data are those of the lines, and where they are hidden those of the other lines
+abbrev pub TellsDataBeside : Names → Names → Cover → Kinds → Bool → Type 0
+TellsDataBeside names other hidden new answer = (lines others : List Line) → StandFor names lines → StandFor other others
+    → (old : Kinds) → IsDataOf (named others) old → (IsTrue answer ↔ IsDataOf (named lines) (beside hidden old new))
 
 -- Law: lines for which names stand are good.
 abbrev pub TakenAreGood : Type 0

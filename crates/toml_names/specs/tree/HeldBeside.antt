@@ -10,14 +10,8 @@ use Rattle.toml_names.specs.model.Data.{Kinds, kind_at, kind_in}
 use Rattle.toml_names.specs.model.Hidden.{beside}
 use Rattle.toml_names.specs.tree.Held.{below_node, below_in}
 use Rattle.toml_names.specs.tree.Nodes.{Spot}
-use Rattle.toml_names.specs.tree.SameBelow.{child_of, element_of}
+use Rattle.toml_names.specs.tree.SameBelow.{child_of, element_of, step_in}
 use Rattle.toml_names.specs.tree.Shown.{IsShownIn}
-
--- the node one step below a node that may not be there
-abbrev pub step_in : List Spot → Option ℕ → Step → Option ℕ
-step_in nodes None s = None
-step_in nodes (Some id) (Name n) = child_of nodes id n
-step_in nodes (Some id) (Index i) = element_of nodes id i
 
 -- at the node and below it stands what the datum has, and where the set hides it what the other tree has at its node, if there is one
 abbrev pub HoldsBeside : List Spot → ℕ → List Spot → Option ℕ → AddressSet → Datum → Type 0
@@ -27,13 +21,17 @@ HoldsBeside nodes id others o set d = (at : Address) → beside (is_hidden set) 
 abbrev pub IsHeld : List Spot → Option ℕ → List Spot → Option ℕ → Step → Option AddressSet → Kinds → Type 0
 IsHeld nodes id others o s part kinds = (at : Address) → beside (hides part s) (below_in others o) kinds at ≡ below_in nodes id at
 
+-- the same with a whole set
+abbrev pub IsHeldAtStep : List Spot → Option ℕ → List Spot → Option ℕ → AddressSet → Step → Kinds → Type 0
+IsHeldAtStep nodes id others o set s = IsHeld nodes id others o s (below set s)
+
 -- what a datum has one step below
 abbrev pub kinds_at : Datum → Step → Kinds
 kinds_at d s at = kind_at d (s ∷ at)
 
 -- so it is at a name of the node,
 abbrev pub HoldsName : List Spot → ℕ → List Spot → Option ℕ → AddressSet → Datum → List ℕ → Type 0
-HoldsName nodes id others o set d n = IsHeld nodes (Some id) others (step_in others o (Name n)) (Name n) (below set (Name n)) (kinds_at d (Name n))
+HoldsName nodes id others o set d n = IsHeldAtStep nodes (Some id) others (step_in others o (Name n)) set (Name n) (kinds_at d (Name n))
 
 -- at each name that it has,
 abbrev pub HoldNames : List Spot → ℕ → List Spot → Option ℕ → AddressSet → Datum → Type 0
@@ -42,15 +40,19 @@ HoldNames nodes id others o set d = (n : List ℕ) (k : ℕ) → child_of nodes 
 -- and at each index
 abbrev pub HoldElements : List Spot → ℕ → List Spot → Option ℕ → AddressSet → List Datum → Type 0
 HoldElements nodes id others o set items =
-    (i : ℕ) → IsHeld nodes (element_of nodes id i) others (step_in others o (Index i)) (Index i) (below set (Index i)) (kind_in (slice_get items i))
+    (i : ℕ) → IsHeldAtStep nodes (element_of nodes id i) others (step_in others o (Index i)) set (Index i) (kind_in (slice_get items i))
 
 -- the node has each member's name that the set has,
 abbrev pub HasMembers : List Spot → ℕ → AddressSet → Datum → Type 0
 HasMembers nodes id set d = (n : List ℕ) → IsSome (below set (Name n)) → IsSome (kind_at d (Name n ∷ [])) → IsSome (child_of nodes id n)
 
--- and each name of the other node at which the set hides anything
+-- and a name at which the set hides anything of what stands at another node,
+abbrev pub HasOrShows : List Spot → ℕ → List Spot → Option ℕ → AddressSet → List ℕ → Type 0
+HasOrShows nodes id others p set n = child_of nodes id n ≡ None → IsShownIn others p (Name n) (below set (Name n))
+
+-- so each name of that node
 abbrev pub HasNamesOf : List Spot → ℕ → List Spot → Option ℕ → AddressSet → Type 0
-HasNamesOf nodes id others o set = (n : List ℕ) → child_of nodes id n ≡ None → IsShownIn others (step_in others o (Name n)) (Name n) (below set (Name n))
+HasNamesOf nodes id others o set = (n : List ℕ) → HasOrShows nodes id others (step_in others o (Name n)) set n
 
 -- nothing is hidden of what stands at the other node's elements from an index on
 abbrev pub ShowsBehind : List Spot → Option ℕ → ℕ → AddressSet → Type 0

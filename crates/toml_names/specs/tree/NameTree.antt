@@ -1,5 +1,5 @@
 -- The tree of names, and what was named: which of the one stand for which of the other.
-use Rattle.std.specs.Prelude.{ℕ, ◌≡◌, ◌<◌, ◌≤◌, if◌then◌else◌, List, [], ◌∷◌, ◌++◌, length, Some, None, slice_get, slice_index_or}
+use Rattle.std.specs.Prelude.{ℕ, ◌≡◌, ◌<◌, ◌≤◌, if◌then◌else◌, List, [], ◌∷◌, ◌++◌, length, Option, Some, None, slice_get, slice_index_or}
 use Rattle.std.specs.Map.{lookup}
 use Rattle.std.specs.Str.{bytes_eq}
 use Rattle.toml_names.specs.declared.model.address.Step.{Step}
@@ -59,6 +59,10 @@ pub record KeepsAddresses (old new : List Spot) : Type 0 where
   pub longer : length old ≤ length new
   pub same : (k : ℕ) → k < length old → address_at new k ≡ address_at old k
 
+-- the node of this one is where headers go on: in the last table of an array, or in the table itself
+abbrev pub IsInner : List Spot → ℕ → ℕ → Type 0
+IsInner nodes id inner = (ms : List Named) → IsTreeOf nodes ms → address_at nodes inner ≡ entered ms (address_at nodes id)
+
 -- the nodes stand for what was named before, and now for what is made too, which keeps the rules
 pub record Enters (old new : List Spot) (made : List Named) : Type 0 where
   pub tree : IsTree new
@@ -74,18 +78,30 @@ Clashes nodes made at = (ms : List Named) → IsTreeOf nodes ms → misfit ms ma
 abbrev pub ClashesAfter : List Spot → (List Named → List Named) → Address → Type 0
 ClashesAfter nodes made at = (ms : List Named) → IsTreeOf nodes ms → misfit ms (made ms) ≡ Some at
 
+-- the root, named in the role
+abbrev pub root_as : Role → Kind → Named
+root_as r k = record { address = []; role = r; kind = k; line = 0 }
+
+-- where a name leads from the node
+abbrev pub LeadsBy : List Spot → ℕ → List ℕ → Option ℕ → Type 0
+LeadsBy nodes at n to = (d : Spot) → lookup (bytes_eq n) (slice_index_or nodes at d).children ≡ to
+
+-- the node has no elements
+abbrev pub HasNoElements : List Spot → ℕ → Type 0
+HasNoElements nodes id = (d : Spot) → (slice_index_or nodes id d).elements ≡ []
+
 -- Where a name leads from the node `above`: to a node that was there, among the same nodes; or nowhere, and then to a new one.
 abbrev pub IsFound : List Spot → List Spot → ℕ → List ℕ → Role → Kind → ℕ → Found → Type 0
 IsFound old new above n r k line (Known id) =
-    (new ≡ old) × ((d : Spot) → lookup (bytes_eq n) (slice_index_or old above d).children ≡ Some id)
+    (new ≡ old) × LeadsBy old above n (Some id)
 IsFound old new above n r k line (New id) =
     (id ≡ length old)
-    × ((d : Spot) → lookup (bytes_eq n) (slice_index_or old above d).children ≡ None)
+    × LeadsBy old above n None
     × ((d : Spot) → new ≡ grown old above (slice_index_or old above d) (Name n) r k line)
 
 -- the name leads nowhere from the node
 abbrev pub IsAbsent : List Spot → ℕ → List ℕ → Type 0
-IsAbsent nodes at n = (d : Spot) → lookup (bytes_eq n) (slice_index_or nodes at d).children ≡ None
+IsAbsent nodes at n = LeadsBy nodes at n None
 
 -- the node has the address
 pub record LeadsTo (nodes : List Spot) (id : ℕ) (at : Address) : Type 0 where

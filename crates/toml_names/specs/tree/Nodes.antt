@@ -100,6 +100,9 @@ marked s r line = record s { role = role_after s.role r; line = if same_role (ro
 abbrev pub noted : List Spot → ℕ → Spot → Role → ℕ → List Spot
 noted nodes k here r line = slice_set nodes k (marked here r line)
 
+abbrev pub IsNotedOnce : List Spot → List Spot → ℕ → Role → ℕ → Type 0
+IsNotedOnce old new k r line = (d : Spot) → new ≡ noted old k (slice_index_or old k d) r line
+
 -- a node without the last name, or the last element, that was linked
 abbrev pub without_name : Spot → Spot
 without_name s = record s { children = take (length s.children - 1) s.children }

@@ -1,12 +1,15 @@
 -- Where things stand in the text, by the nodes of the tree of names.
 use Rattle.std.specs.Prelude.{◌≡◌, ◌++◌, ◌∷◌, ℕ, List, [], Option, Some, None, if◌then◌else◌, slice_index_or}
+use Rattle.toml_tree.specs.Tree.{Line}
 use Rattle.toml_names.specs.declared.mentions.mention.Role.{Role}
 use Rattle.toml_names.specs.declared.mentions.mention.Role.TheVariants.{Passed, Header, Dotted, Valued, Tables, Element, Bare}
 use Rattle.toml_names.specs.declared.model.place.Place.{Place}
 use Rattle.toml_names.specs.declared.model.place.Place.TheVariants as places
 use Rattle.toml_names.specs.model.Addresses.{Address}
 use Rattle.toml_names.specs.tree.Nodes.{Spot, addresses, place_of, nowhere}
-use Rattle.toml_names.specs.model.Places.{same_role}
+use Rattle.toml_names.specs.mentions.Mentions.{named}
+use Rattle.toml_names.specs.model.Places.{place, same_role}
+use Rattle.toml_names.specs.tree.NameTree.{IsTreeOf}
 
 -- a line, or else another
 abbrev pub first_of : Option ℕ → Option ℕ → Option ℕ
@@ -26,6 +29,10 @@ value_there nodes (Some k) = value_line (slice_index_or nodes k nowhere)
 abbrev pub value_along : List Spot → Address → Address → Option ℕ
 value_along nodes at [] = None
 value_along nodes at (s ∷ rest) = first_of (value_there nodes (place_of at (addresses nodes))) (value_along nodes (at ++ s ∷ []) rest)
+
+-- the place of what stands at the address, for whichever lines the nodes stand
+abbrev pub IsPlaceOf : List Spot → Address → Option Place → Type 0
+IsPlaceOf nodes at p = (lines : List Line) → IsTreeOf nodes (named lines) → p ≡ place (named lines) at
 
 -- the node at the address, and the line of the first value above it
 abbrev pub IsWalked : List Spot → Address → Option (ℕ × Option ℕ) → Type 0

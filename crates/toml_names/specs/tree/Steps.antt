@@ -8,7 +8,7 @@ use Rattle.toml_names.specs.declared.tree.name_tree.NameTree.{NameTree as Tree}
 use Rattle.toml_names.specs.model.Addresses.{Address}
 use Rattle.toml_names.specs.mentions.Mentions.{Kind}
 use Rattle.toml_names.specs.tree.NameTree.{IsTree}
-use Rattle.toml_names.specs.tree.Nodes.{Spot, address_at, grown, noted, undone}
+use Rattle.toml_names.specs.tree.Nodes.{IsNotedOnce, Spot, address_at, grown, undone}
 use Rattle.toml_names.specs.mentions.Rules.{may_follow}
 
 -- the nodes are a tree, and this is one of them
@@ -41,7 +41,7 @@ pub record Grows (old new : List Spot) (above : ℕ) (r : Role) (k : Kind) (line
 -- the node's mark lets the role follow, and it is named once more
 pub record IsNoted (old new : List Spot) (id : ℕ) (r : Role) (line : ℕ) : Type 0 where
   pub goes : (d : Spot) → may_follow (slice_index_or old id d).role r ≡ true
-  pub nodes : (d : Spot) → new ≡ noted old id (slice_index_or old id d) r line
+  pub nodes : IsNotedOnce old new id r line
 
 -- the node has the address, and its mark does not let the role follow
 pub record IsBarred (nodes : List Spot) (id : ℕ) (r : Role) (a : Address) : Type 0 where

@@ -1,11 +1,12 @@
 //! The data of a document: tables, arrays and scalars.
-ghost use Rattle.std.specs.Prelude.{◌≡◌, ◌↔◌, ◌∷◌, ◌++◌, ℕ, List, slice_get, IsTrue, IsSome, IfOk, OnOk, if◌then◌else◌, option_copied};
-ghost use Rattle.std.specs.Str.{bytes_eq};
+ghost use Rattle.std.specs.Prelude.{◌≡◌, ◌↔◌, ◌∷◌, ◌++◌, ℕ, List, slice_get, IsTrue, IsSome, IfOk, OnOk, option_copied};
 ghost use Rattle.std.specs.BTreeMap.{get_by_text};
 ghost use Rattle.toml_scalar.specs.Values.{scalar_value};
 ghost use Rattle.toml_names.specs.declared.model.address.Step.TheVariants.{Name, Index};
 ghost use Rattle.toml_names.specs.model.Addresses.{Address};
 ghost use Rattle.toml_names.specs.model.Data.{kind_at, kind_in};
+ghost use Rattle.toml_names.specs.model.Parts.{HasMemberPut};
+ghost use Rattle.toml_names.specs.model.SameData.{AreMembersOf, AreSameElements, AreSameMembers, HasAllNames};
 
 use crate::model::address::{Address, Step};
 use std::alloc::{AllocError, Global};
@@ -128,7 +129,7 @@ pub fn same(one: &Datum, other: &Datum) -> bool
 /// Whether the elements of two arrays are the same, index by index.
 #[cycle(same)]
 fn same_items(one: &[Datum], other: &[Datum]) -> bool
-    ensures { IsTrue result ↔ ((index : ℕ) (at : Address) → kind_in (slice_get one.now index) at ≡ kind_in (slice_get other.now index) at) }
+    ensures { IsTrue result ↔ AreSameElements one.now other.now }
 {
     if one.len() != other.len() {
         return false;
@@ -144,7 +145,7 @@ fn same_items(one: &[Datum], other: &[Datum]) -> bool
 /// Whether each member of a table is in another table under its name, and the same.
 #[cycle(same)]
 fn same_members(one: &BTreeMap<String, Datum>, other: &BTreeMap<String, Datum>) -> bool
-    ensures { IsTrue result ↔ ((name : List ℕ) → IsSome (get_by_text one.now name) → (at : Address) → kind_in (get_by_text one.now name) at ≡ kind_in (get_by_text other.now name) at) }
+    ensures { IsTrue result ↔ AreMembersOf one.now other.now }
 {
     for (name, member) in one {
         match other.get(name.as_str()) {
@@ -161,7 +162,7 @@ fn same_members(one: &BTreeMap<String, Datum>, other: &BTreeMap<String, Datum>) 
 
 /// Whether a table has each name of another one.
 fn has_names(table: &BTreeMap<String, Datum>, other: &BTreeMap<String, Datum>) -> bool
-    ensures { IsTrue result ↔ ((name : List ℕ) → IsSome (get_by_text other.now name) → IsSome (get_by_text table.now name)) }
+    ensures { IsTrue result ↔ HasAllNames table.now other.now }
 {
     for (name, _) in other {
         if !table.contains_key(name.as_str()) {
@@ -192,7 +193,7 @@ fn copy_scalar(alloc: Global, scalar: &Scalar) -> Result<Scalar, AllocError>
 /// Elements of their own that are the same, index by index.
 #[cycle(copy)]
 fn copy_items(alloc: Global, items: &[Datum]) -> Result<Vec<Datum>, AllocError>
-    ensures { IfOk result (λ copies. (index : ℕ) (at : Address) → kind_in (slice_get copies.items index) at ≡ kind_in (slice_get items.now index) at) }
+    ensures { IfOk result (λ copies. AreSameElements copies.items items.now) }
 {
     let mut copies = Vec::new(alloc);
     for item in items {
@@ -207,7 +208,7 @@ fn copy_members(
     alloc: Global,
     members: &BTreeMap<String, Datum>,
 ) -> Result<BTreeMap<String, Datum>, AllocError>
-    ensures { IfOk result (λ copies. (name : List ℕ) (at : Address) → kind_in (get_by_text copies name) at ≡ kind_in (get_by_text members.now name) at) }
+    ensures { IfOk result (λ copies. AreSameMembers copies members.now) }
 {
     let mut copies = BTreeMap::new(alloc);
     for (name, member) in members {
@@ -224,7 +225,7 @@ pub fn add_member(
     name: &str,
     member: Datum,
 ) -> Result<(), AllocError>
-    ensures { OnOk result ((n : List ℕ) → get_by_text members.new n ≡ (if bytes_eq name.now n then Some member else get_by_text members.old n)) }
+    ensures { OnOk result (HasMemberPut name.now member members.old members.new) }
 {
     let key = String::from_str(alloc, name)?;
     members.insert(key, member)?;

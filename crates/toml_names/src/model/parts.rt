@@ -1,10 +1,9 @@
 //! Parts of data that change places: taken out and put back, no memory taken.
 ghost use Rattle.std.specs.BTreeMap.{get_by_text};
-ghost use Rattle.std.specs.Prelude.{◌≡◌, ◌∷◌, [], ◌<◌, ◌≤◌, List, ℕ, Some, None, cond, IsSome, slice_get, slice_set, vec_len};
-ghost use Rattle.std.specs.Str.{bytes_eq};
+ghost use Rattle.std.specs.Prelude.{◌≡◌, ◌∷◌, [], ◌<◌, ◌≤◌, Some, None, IsSome, slice_get, slice_set, vec_len};
 ghost use Rattle.toml_names.specs.model.Addresses.{Address};
-ghost use Rattle.toml_names.specs.model.Building.{with_child};
 ghost use Rattle.toml_names.specs.model.Data.{kind_at};
+ghost use Rattle.toml_names.specs.model.Parts.{AreBothSame, HasMemberPut, HasPartPut};
 
 use crate::model::address::Step;
 use crate::model::datum::Datum;
@@ -14,7 +13,7 @@ use std::mem;
 /// Puts a member where one is, and gives the one before; where none is it gives the new one back.
 fn swap_member(members: &mut BTreeMap<String, Datum>, name: &str, part: Datum) -> Datum
     ensures before { IsSome (get_by_text members.old name.now) → get_by_text members.old name.now ≡ Some result }
-    ensures after { IsSome (get_by_text members.old name.now) → (n : List ℕ) → get_by_text members.new n ≡ cond (bytes_eq name.now n) (Some part) (get_by_text members.old n) }
+    ensures after { IsSome (get_by_text members.old name.now) → HasMemberPut name.now part members.old members.new }
     ensures none { get_by_text members.old name.now ≡ None → (members.new.entries ≡ members.old.entries) × (result ≡ part) }
 {
     match members.get_mut(name) {
@@ -40,8 +39,8 @@ impl Datum {
     /// as it is and the part comes back.
     pub fn swap_child(self, step: &Step, part: Datum) -> (Datum, Datum)
         ensures before { IsSome (kind_at self (step.now ∷ [])) → (at : Address) → kind_at result.1 at ≡ kind_at self (step.now ∷ at) }
-        ensures after { IsSome (kind_at self (step.now ∷ [])) → (at : Address) → kind_at result.0 at ≡ with_child step.now (kind_at part) (kind_at self) at }
-        ensures none { kind_at self (step.now ∷ []) ≡ None → (at : Address) → (kind_at result.0 at ≡ kind_at self at) × (kind_at result.1 at ≡ kind_at part at) }
+        ensures after { IsSome (kind_at self (step.now ∷ [])) → HasPartPut step.now part self result.0 }
+        ensures none { kind_at self (step.now ∷ []) ≡ None → AreBothSame result (self, part) }
     {
         match (step, self) {
             (Step::Index(index), Datum::Array(mut items)) => {

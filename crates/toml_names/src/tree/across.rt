@@ -1,12 +1,11 @@
-//! The names of a node, and those of a node of another tree that it is compared with.
-ghost use Rattle.std.specs.Prelude.{◌≡◌, ◌↔◌, ◌<◌, [], ◌∷◌, Some, None, IsSome, IsTrue, IfOk, vec_len};
+//! The names and elements of a node, and those of a node of another tree that it is compared with.
+ghost use Rattle.std.specs.Prelude.{◌≡◌, ◌↔◌, ◌<◌, Some, IsSome, IsTrue, IfOk, vec_len};
 ghost use Rattle.toml_names.specs.declared.model.address.Step.TheVariants.{Name, Index};
 ghost use Rattle.toml_names.specs.model.AddressSets.{below};
 ghost use Rattle.toml_names.specs.tree.EnteringLines.{IsWithin};
-ghost use Rattle.toml_names.specs.tree.HeldBeside.{HasMembers, HasNamesOf, ShowsBehind, step_in};
+ghost use Rattle.toml_names.specs.tree.HeldBeside.{HasMembers, HasNamesOf, HasOrShows, ShowsBehind};
 ghost use Rattle.toml_names.specs.tree.NameTree.{IsTree};
-ghost use Rattle.toml_names.specs.tree.SameBelow.{SameIn, child_of};
-ghost use Rattle.toml_names.specs.tree.Shown.{IsShownIn};
+ghost use Rattle.toml_names.specs.tree.SameBelow.{SameAtName, child_of, step_in};
 
 use crate::model::address_set::AddressSet;
 use crate::model::datum::Datum;
@@ -127,8 +126,7 @@ impl<'t> NameTree<'t> {
         requires tree { IsTree self.now.nodes.items }
         requires other_within { across < vec_len other.now.nodes }
         requires other_tree { IsTree other.now.nodes.items }
-        ensures { IsTrue result
-            ↔ (child_of self.now.nodes.items id name.now ≡ None → IsShownIn other.now.nodes.items (Some across) (Name name.now) (below set.now (Name name.now))) }
+        ensures { IsTrue result ↔ HasOrShows self.now.nodes.items id other.now.nodes.items (Some across) set.now name.now }
     {
         let Some(part) = set.below_name(name) else {
             let place = self.place_beside(id, set, *guess);
@@ -157,7 +155,7 @@ impl<'t> NameTree<'t> {
         requires tree { IsTree self.now.nodes.items }
         requires other_within { IsWithin there other.now.nodes.items }
         requires other_tree { IsTree other.now.nodes.items }
-        ensures { IfOk result (λ b. IsTrue b ↔ SameIn self.now.nodes.items (Some id) other.now.nodes.items (step_in other.now.nodes.items there (Name name.now))) }
+        ensures { IfOk result (λ b. IsTrue b ↔ SameAtName self.now.nodes.items id other.now.nodes.items there name.now) }
     {
         let Some(there) = there else {
             return Ok(false);

@@ -1,11 +1,10 @@
 //! Whether the same stands in two trees of names, at a node of each and below it. As in `holding.rt` nothing is built for
 //! that, and all is judged by the links of the nodes. Of two scalars that are spelled alike no value is made.
 ghost use Rattle.std.specs.Prelude.{◌≡◌, ◌↔◌, ◌<◌, IsTrue, IfOk, Some, vec_len};
-ghost use Rattle.toml_scalar.specs.Values.{scalar_of as value_of};
-ghost use Rattle.toml_names.specs.mentions.Mentions.{value_or_empty};
+ghost use Rattle.toml_names.specs.mentions.Mentions.{token_value};
 ghost use Rattle.toml_names.specs.mentions.View.{kind as kind_of};
 ghost use Rattle.toml_names.specs.tree.NameTree.{IsTree};
-ghost use Rattle.toml_names.specs.tree.SameBelow.{SameBelow, SameNames, SameElements, SameIn, child_of};
+ghost use Rattle.toml_names.specs.tree.SameBelow.{SameBelow, SameNames, SameElements, SameAtName};
 
 use crate::meaning::scalars::value_spelled;
 use crate::mentions::mention::Kind;
@@ -85,7 +84,7 @@ impl<'t> NameTree<'t> {
         requires tree { IsTree self.now.nodes.items }
         requires other_within { other_id < vec_len other.now.nodes }
         requires other_tree { IsTree other.now.nodes.items }
-        ensures { IfOk result (λ b. IsTrue b ↔ SameIn self.now.nodes.items (Some id) other.now.nodes.items (child_of other.now.nodes.items other_id name.now)) }
+        ensures { IfOk result (λ b. IsTrue b ↔ SameAtName self.now.nodes.items id other.now.nodes.items (Some other_id) name.now) }
     {
         match other.nodes[other_id].child_from(place, name) {
             Some(there) => self.same_below(id, other, there),
@@ -143,7 +142,7 @@ fn is_same_value(
     other_kind: ScalarKind,
     other_token: &str,
 ) -> Result<bool, AllocError>
-    ensures { IfOk result (λ b. IsTrue b ↔ (value_or_empty (value_of kind token.now) ≡ value_or_empty (value_of other_kind other_token.now))) }
+    ensures { IfOk result (λ b. IsTrue b ↔ (token_value kind token.now ≡ token_value other_kind other_token.now)) }
 {
     if kind == other_kind && token == other_token {
         return Ok(true);

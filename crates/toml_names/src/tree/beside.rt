@@ -1,10 +1,9 @@
 //! Whether a tree of names is another one where a set of addresses hides it, and elsewhere has what data tell.
 ghost use Rattle.std.specs.Prelude.{◌≡◌, ◌↔◌, ◌<◌, [], Some, IsTrue, IfOk, slice_index_or, vec_len};
 ghost use Rattle.toml_names.specs.declared.model.address.Step.TheVariants.{Index};
-ghost use Rattle.toml_names.specs.model.AddressSets.{below};
 ghost use Rattle.toml_names.specs.model.Data.{kind_at};
 ghost use Rattle.toml_names.specs.tree.EnteringLines.{IsWithin};
-ghost use Rattle.toml_names.specs.tree.HeldBeside.{HoldElements, HoldNames, HoldsAlone, HoldsBeside, HoldsName, IsHeld};
+ghost use Rattle.toml_names.specs.tree.HeldBeside.{HoldElements, HoldNames, HoldsAlone, HoldsBeside, HoldsName, IsHeldAtStep};
 ghost use Rattle.toml_names.specs.tree.NameTree.{IsTree};
 ghost use Rattle.toml_names.specs.tree.Nodes.{nowhere};
 
@@ -170,8 +169,9 @@ impl<'t> NameTree<'t> {
         requires tree { IsTree self.now.nodes.items }
         requires other_within { IsWithin there other.now.nodes.items }
         requires other_tree { IsTree other.now.nodes.items }
-        ensures { IfOk result (λ b. IsTrue b
-            ↔ IsHeld self.now.nodes.items (Some id) other.now.nodes.items there (Index index) (below set.now (Index index)) (kind_at item.now)) }
+        ensures { let nodes = self.now.nodes.items in
+            let others = other.now.nodes.items in
+            IfOk result (λ b. IsTrue b ↔ IsHeldAtStep nodes (Some id) others there set.now (Index index) (kind_at item.now)) }
     {
         match set.below_index(index as u64) {
             Some(part) => self.holds_beside(id, other, there, part, item),

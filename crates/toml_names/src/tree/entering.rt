@@ -7,7 +7,7 @@ ghost use Rattle.toml_names.specs.mentions.Keys.{part_name, key_names};
 ghost use Rattle.toml_names.specs.mentions.KeyParts.{value_key_parts, keyval_key_parts};
 ghost use Rattle.toml_names.specs.mentions.Mentions.{fronts, inside, is_tables, pair_named};
 ghost use Rattle.toml_names.specs.tree.LongKeys.{CanEnterKey, FollowedFronts};
-ghost use Rattle.toml_names.specs.tree.NameTree.{IsAbsent, Clashes, EntersInside, EntersTo, name_at};
+ghost use Rattle.toml_names.specs.tree.NameTree.{IsAbsent, Clashes, EntersInside, EntersTo, HasNoElements, name_at};
 ghost use Rattle.toml_names.specs.tree.Nodes.{Spot, address_at};
 ghost use Rattle.toml_names.specs.tree.Steps.{GoesOn, Grows, IsNode, Steps};
 ghost use Rattle.toml_names.specs.mentions.View.{kind as kind_of};
@@ -70,7 +70,7 @@ impl<'t> NameTree<'t> {
             Steps 1 self.old self.new result
             (EntersTo before after entry (child (address_at before at) name))
             (Clashes before entry) }
-        ensures lone { IfOk result (λ id. (id ≡ length self.old.nodes.items) × ((d : Spot) → (slice_index_or self.new.nodes.items id d).elements ≡ [])) }
+        ensures lone { IfOk result (λ id. (id ≡ length self.old.nodes.items) × HasNoElements self.new.nodes.items id) }
     {
         match self.find_or_grow(at, part, Role::Valued, kind, line)? {
             Found::Known(id) => Err(EnterFault::Clash(self.address(id)?)),

@@ -1,5 +1,5 @@
 //! Headers and whole lines entered into the tree of names.
-ghost use Rattle.std.specs.Prelude.{◌∷◌, ◌≡◌, ◌<◌, List, length, MatchOption, slice_index_or, true, []};
+ghost use Rattle.std.specs.Prelude.{◌∷◌, ◌≡◌, ◌<◌, length, MatchOption, slice_index_or, true, []};
 ghost use Rattle.toml_tree.specs.Lines.{line as tree_line};
 ghost use Rattle.toml_tree.specs.View.{piece, key as tree_key};
 ghost use Rattle.toml_names.specs.declared.mentions.mention.Role.TheVariants.{Passed, Bare};
@@ -11,7 +11,7 @@ ghost use Rattle.toml_names.specs.mentions.KeyParts.{expr_key_parts};
 ghost use Rattle.toml_names.specs.tree.LongKeys.{CanEnterHeaders, IsLongEntry, IsLongKey};
 ghost use Rattle.toml_names.specs.mentions.Mentions as mentions;
 ghost use Rattle.toml_names.specs.mentions.Mentions.{table_at, entered, ends_tables};
-ghost use Rattle.toml_names.specs.tree.NameTree.{IsAbsent, IsTree, IsTreeOf, ClashesAfter, Passes};
+ghost use Rattle.toml_names.specs.tree.NameTree.{IsAbsent, IsInner, IsTree, ClashesAfter, Passes};
 ghost use Rattle.toml_names.specs.tree.EnteringHeaders.{AddsTable, PassedFronts};
 ghost use Rattle.toml_names.specs.tree.Nodes.{Spot, address_at};
 ghost use Rattle.toml_names.specs.tree.Steps.{IsNode, Steps};
@@ -34,7 +34,7 @@ impl<'t> NameTree<'t> {
     pub fn inner(&self, id: usize) -> usize
         requires there { IsNode self.now.nodes.items id }
         ensures within { result < length self.now.nodes.items }
-        ensures entered { (ms : List mentions.Named) → IsTreeOf self.now.nodes.items ms → address_at self.now.nodes.items result ≡ entered ms (address_at self.now.nodes.items id) }
+        ensures entered { IsInner self.now.nodes.items id result }
     {
         match self.nodes[id].role() {
             Role::Tables => self.nodes[id].elements().last().copied().unwrap_or(id),

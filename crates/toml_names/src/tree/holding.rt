@@ -2,11 +2,11 @@
 //! made, to be compared, and let go. All is judged by the links of the nodes, whatever the kinds are, so a scalar is asked
 //! whether something hangs under it too.
 ghost use Rattle.std.specs.Prelude.{◌≡◌, ◌↔◌, ◌<◌, IsTrue, IfOk, vec_len};
-ghost use Rattle.toml_scalar.specs.Values.{scalar_of as value_of, scalar_value};
+ghost use Rattle.toml_scalar.specs.Values.{scalar_value};
 ghost use Rattle.toml_names.specs.declared.model.datum.Datum.{Table, Array};
 ghost use Rattle.toml_names.specs.tree.Finished.{IsOfKind};
 ghost use Rattle.toml_names.specs.tree.Held.{Holds};
-ghost use Rattle.toml_names.specs.mentions.Mentions.{a_table, an_array, value_or_empty};
+ghost use Rattle.toml_names.specs.mentions.Mentions.{a_table, an_array, token_value};
 ghost use Rattle.toml_names.specs.tree.NameTree.{IsTree};
 
 use crate::meaning::scalars::value_spelled;
@@ -100,7 +100,7 @@ pub fn is_value(
     token: &str,
     scalar: &Scalar,
 ) -> Result<bool, AllocError>
-    ensures { IfOk result (λ b. IsTrue b ↔ (value_or_empty (value_of kind token.now) ≡ scalar_value scalar.now)) }
+    ensures { IfOk result (λ b. IsTrue b ↔ (token_value kind token.now ≡ scalar_value scalar.now)) }
 {
     let value = value_spelled(alloc, kind, token)?;
     Ok(is_same(&value, scalar))

@@ -1,7 +1,5 @@
 //! The tree of names, and the changes that a line makes in it.
 ghost use Rattle.std.specs.Prelude.{◌∷◌, ◌≡◌, ◌+◌, ◌<◌, ◌≤◌, length, min, true, false, MatchOption, OnOk, OnErr, IfOk, slice_index_or, vec_len, []};
-ghost use Rattle.std.specs.Map.{lookup};
-ghost use Rattle.std.specs.Str.{bytes_eq};
 ghost use Rattle.toml_tree.specs.View.{piece};
 ghost use Rattle.toml_names.specs.declared.mentions.mention.Role.TheVariants.{Bare};
 ghost use Rattle.toml_names.specs.model.Addresses.{Address};
@@ -9,8 +7,8 @@ ghost use Rattle.toml_names.specs.mentions.Keys.{part_name};
 ghost use Rattle.toml_names.specs.mentions.Local.{role_after};
 ghost use Rattle.toml_names.specs.mentions.Mentions as mentions;
 ghost use Rattle.toml_names.specs.mentions.Mentions.{is_tables};
-ghost use Rattle.toml_names.specs.tree.NameTree.{IsAbsent, IsTree, IsTreeOf, IsFound};
-ghost use Rattle.toml_names.specs.tree.Nodes.{Spot, AreSteps, address_at, last_step, noted, reverted, undone};
+ghost use Rattle.toml_names.specs.tree.NameTree.{HasNoElements, IsAbsent, IsFound, IsTree, IsTreeOf, LeadsBy, root_as};
+ghost use Rattle.toml_names.specs.tree.Nodes.{Spot, AreSteps, IsNotedOnce, address_at, last_step, reverted, undone};
 ghost use Rattle.toml_names.specs.tree.Steps.{GoesOn, Grows, IsBarred, IsNode, IsNoted, Steps};
 ghost use Rattle.toml_names.specs.mentions.View.{kind as kind_of};
 
@@ -81,8 +79,8 @@ impl<'t> NameTree<'t> {
         kind: Kind<'t>,
     ) -> Result<NameTree<'t>, AllocError>
         requires { is_tables role ≡ false }
-        ensures root { IfOk result (λ t. IsTreeOf t.nodes.items (record { address = []; role = role; kind = kind_of kind.entry; line = 0 } ∷ [])) }
-        ensures lone { IfOk result (λ t. (length t.nodes.items ≡ 1) × ((d : Spot) → (slice_index_or t.nodes.items 0 d).elements ≡ [])) }
+        ensures root { IfOk result (λ t. IsTreeOf t.nodes.items (root_as role (kind_of kind.entry) ∷ [])) }
+        ensures lone { IfOk result (λ t. (length t.nodes.items ≡ 1) × HasNoElements t.nodes.items 0) }
         ensures changes { IfOk result (λ t. t.changes.items ≡ []) }
         ensures lookups { IfOk result (λ t. t.lookups ≡ 0) }
     {
@@ -110,7 +108,7 @@ impl<'t> NameTree<'t> {
     /// The node that a key part's name leads to from a node: a look-up, which is counted.
     pub fn find(&mut self, at: usize, part: &Piece<'t>) -> Result<Option<usize>, AllocError>
         requires within { at < vec_len self.old.nodes }
-        ensures found { IfOk result (λ to. (d : Spot) → lookup (bytes_eq (part_name (piece part.now))) (slice_index_or self.old.nodes.items at d).children ≡ to) }
+        ensures found { IfOk result (LeadsBy self.old.nodes.items at (part_name (piece part.now))) }
         ensures nodes { self.new.nodes ≡ self.old.nodes }
         ensures counted { OnOk result (self.new.lookups ≡ min (self.old.lookups + 1) 18446744073709551615) }
         ensures goes_on { GoesOn 1 self.old self.new }
@@ -194,7 +192,9 @@ impl<'t> NameTree<'t> {
         line: usize,
     ) -> Result<Found, AllocError>
         requires there { IsNode self.old.nodes.items above }
-        ensures found { IfOk result (IsFound self.old.nodes.items self.new.nodes.items above (part_name (piece part.entry)) role (kind_of kind.entry) line) }
+        ensures found { let before = self.old.nodes.items in
+            let name = part_name (piece part.entry) in
+            IfOk result (IsFound before self.new.nodes.items above name role (kind_of kind.entry) line) }
         ensures kept { OnErr result (self.new.nodes.items ≡ self.old.nodes.items) }
         ensures counted { OnOk result (self.new.lookups ≡ min (self.old.lookups + 1) 18446744073709551615) }
         ensures goes_on { GoesOn 1 self.old self.new }
@@ -271,7 +271,7 @@ impl<'t> NameTree<'t> {
     /// A node is named once more.
     pub fn note(&mut self, at: usize, role: Role, line: usize) -> Result<(), AllocError>
         requires { at < vec_len self.old.nodes }
-        ensures noted { OnOk result ((d : Spot) → self.new.nodes.items ≡ noted self.old.nodes.items at (slice_index_or self.old.nodes.items at d) role line) }
+        ensures noted { OnOk result (IsNotedOnce self.old.nodes.items self.new.nodes.items at role line) }
         ensures kept { OnErr result (self.new.nodes.items ≡ self.old.nodes.items) }
         ensures goes_on { GoesOn 0 self.old self.new }
     {

@@ -1,11 +1,8 @@
 //! Where the things of the data stand in the text, by the finished tree of names.
-ghost use Rattle.std.specs.Prelude.{◌≡◌, ◌∷◌, ◌++◌, ◌<◌, [], List, slice_index_or, vec_len};
-ghost use Rattle.toml_tree.specs.Tree as spelled;
-ghost use Rattle.toml_names.specs.mentions.Mentions as mentions;
-ghost use Rattle.toml_names.specs.tree.NameTree.{IsTree, IsTreeOf};
+ghost use Rattle.std.specs.Prelude.{◌≡◌, ◌∷◌, ◌++◌, ◌<◌, [], slice_index_or, vec_len};
+ghost use Rattle.toml_names.specs.tree.NameTree.{IsTree};
 ghost use Rattle.toml_names.specs.tree.Nodes.{Spot, address_at, addresses, place_of};
-ghost use Rattle.toml_names.specs.model.Places.{place};
-ghost use Rattle.toml_names.specs.tree.Placing.{IsWalked, first_of, own_place, value_line};
+ghost use Rattle.toml_names.specs.tree.Placing.{IsPlaceOf, IsWalked, first_of, own_place, value_line};
 
 use crate::mentions::mention::Role;
 use crate::model::address::{Address, Step};
@@ -16,7 +13,7 @@ impl<'t> NameTree<'t> {
     /// Where what stands at the address stands in the text; none where nothing is named there.
     pub fn place(&self, at: &Address) -> Option<Place>
         requires tree { IsTree self.now.nodes.items }
-        ensures { (lines : List spelled.Line) → IsTreeOf self.now.nodes.items (mentions.named lines) → result ≡ place (mentions.named lines) at.now }
+        ensures { IsPlaceOf self.now.nodes.items at.now result }
     {
         if at.steps().is_empty() {
             return Some(Place::Root);

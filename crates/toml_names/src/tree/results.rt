@@ -1,17 +1,11 @@
 //! What the finished tree of names tells: the data, the first mentions, and whether addresses are short.
-ghost use Rattle.std.specs.Prelude.{◌≡◌, ◌<◌, ◌≤◌, ◌↔◌, ℕ, List, Option, IsTrue, IfOk, Some, map, option_map, slice_get, slice_index_or, length, vec_len};
-ghost use Rattle.toml_names.specs.declared.mentions.mention.Role.TheVariants.{Bare};
-ghost use Rattle.toml_names.specs.model.Addresses.{Address};
+ghost use Rattle.std.specs.Prelude.{◌≡◌, ◌<◌, ◌≤◌, ◌↔◌, ℕ, Option, IsTrue, IfOk, map, option_map, slice_index_or, length, vec_len};
 ghost use Rattle.toml_names.specs.model.Building.{IsOnly};
 ghost use Rattle.toml_names.specs.tree.EnteringLines.{IsWithin};
-ghost use Rattle.toml_names.specs.tree.Finished.{IsDatumAt, IsOfKind};
-ghost use Rattle.toml_names.specs.mentions.FirstMentions.{first_mentions};
-ghost use Rattle.toml_names.specs.mentions.Joining.{Joined};
-ghost use Rattle.toml_names.specs.mentions.Mentions as mentions;
+ghost use Rattle.toml_names.specs.tree.Finished.{AreFirstMentions, AreRanks, AreShortFrom, IsDatumAt, IsOfKind};
 ghost use Rattle.toml_names.specs.mentions.Mentions.{a_table, an_array, is_mentioned, token_kind};
-ghost use Rattle.toml_names.specs.tree.NameTree.{IsTree, IsTreeOf};
-ghost use Rattle.toml_names.specs.tree.Nodes.{Spot, AreSteps, address_at};
-ghost use Rattle.toml_names.specs.mentions.Rules.{max_steps};
+ghost use Rattle.toml_names.specs.tree.NameTree.{IsTree};
+ghost use Rattle.toml_names.specs.tree.Nodes.{AreSteps, address_at};
 
 use crate::meaning::scalars::value_spelled;
 use crate::mentions::mention::{Kind, Role};
@@ -78,7 +72,7 @@ impl<'t> NameTree<'t> {
     /// The addresses of the mentions, each once, in the order of their first mentions.
     pub fn first_mentions(&self) -> Result<Vec<Address>, AllocError>
         requires tree { IsTree self.now.nodes.items }
-        ensures { IfOk result (λ list. (ms : List mentions.Named) → IsTreeOf self.now.nodes.items ms → Joined ms → list.items ≡ first_mentions ms) }
+        ensures { IfOk result (λ list. AreFirstMentions self.now.nodes.items list.items) }
     {
         let steps = self.last_steps()?;
         let mut list = Vec::new(self.alloc);
@@ -132,9 +126,7 @@ impl<'t> NameTree<'t> {
     pub fn ranks(&self) -> Result<Vec<usize>, AllocError>
         requires tree { IsTree self.now.nodes.items }
         ensures all { IfOk result (λ list. vec_len list ≡ vec_len self.now.nodes) }
-        ensures places { IfOk result (λ list. (ms : List mentions.Named) (k : ℕ) (d : Spot) → IsTreeOf self.now.nodes.items ms → Joined ms → k < vec_len self.now.nodes
-            → ((slice_index_or self.now.nodes.items k d).role ≡ Bare → ⊥)
-            → slice_get (first_mentions ms) (slice_index_or list.items k 0) ≡ Some (address_at self.now.nodes.items k)) }
+        ensures places { IfOk result (λ list. AreRanks self.now.nodes.items list.items) }
     {
         let mut ranks = Vec::with_capacity(self.alloc, self.nodes.len())?;
         let mut count = 0;
@@ -151,7 +143,7 @@ impl<'t> NameTree<'t> {
     pub fn are_short_from(&self, start: usize) -> bool
         requires within { start ≤ vec_len self.now.nodes }
         requires tree { IsTree self.now.nodes.items }
-        ensures { IsTrue result ↔ ((k : ℕ) → start ≤ k → k < length self.now.nodes.items → length (address_at self.now.nodes.items k) ≤ max_steps) }
+        ensures { IsTrue result ↔ AreShortFrom start self.now.nodes.items }
     {
         self.nodes[start..]
             .iter()

@@ -1,5 +1,5 @@
 -- Data that have the same at each address.
-use Rattle.toml_names.proofs.Common.{◌≡◌, ◌↔◌, ℕ, ◌<◌, ◌≤◌, Bool, true, false, List, [], ◌∷◌, length, Option, Some, None, IsSome, IsTrue, is_some, String, Vec, Global, string_bytes, nat_cmp, is_eq, ⊎_elim, refl, sym, ap, subst, ◌∙◌, true≢false, arith, rules, cases_lt, slice_get_past, slice_get_within, slice_get-get_or, is_eq-slice_cmp, bytes_eq-Decides, slice_get, is_at, get_by_text, slice_cmp, lookup, scalar_value, Name, Index, Datum, Table, Address, kind_at, kind_in, Members, Kind, a_scalar, AreSame, AreSameIn, SameScalars, SameArrays, SameTables}
+use Rattle.toml_names.proofs.Common.{◌≡◌, ◌↔◌, ℕ, ◌<◌, ◌≤◌, Bool, true, false, List, [], ◌∷◌, length, Option, Some, None, IsSome, IsTrue, is_some, String, Vec, Global, string_bytes, nat_cmp, is_eq, ⊎_elim, refl, sym, ap, subst, ◌∙◌, true≢false, arith, rules, cases_lt, slice_get_past, slice_get_within, slice_get-get_or, is_eq-slice_cmp, bytes_eq-Decides, slice_get, is_at, get_by_text, slice_cmp, lookup, scalar_value, Name, Index, Datum, Table, Address, kind_at, kind_in, Members, Kind, a_scalar, AreMembersOf, AreSame, AreSameElements, AreSameIn, AreSameMembers, HasAllNames, SameScalars, SameArrays, SameTables}
 use Rattle.toml_scalar.specs.declared.scalar.Scalar.{Scalar as Value}
 use Rattle.toml_names.specs.declared.model.datum.Datum.{Scalar, Array}
 use Rattle.toml_names.proofs.lemmas.model.Levels.{scalar-here, scalar-below, array-here, array-item, array-name, table-here, table-member, table-index, has_kind, scalar_from_kind, array_from_kind, table_from_kind}
@@ -34,13 +34,10 @@ scalars_alike s t = (there, λ alike. inner (sym (scalar-here s) ∙ alike [] �
 
 -- ---- arrays
 
-abbrev pub AlikeItems : List Datum → List Datum → Type 0
-AlikeItems ds es = (index : ℕ) → AreSameIn (slice_get ds index) (slice_get es index)
-
 pub arrays_alike : SameArrays
 arrays_alike v w = (there, λ alike index at. sym (array-item v index at) ∙ alike (Index index ∷ at) ∙ array-item w index at)
   where
-    there : AlikeItems v.items w.items → AreSame (Array v) (Array w)
+    there : AreSameElements v.items w.items → AreSame (Array v) (Array w)
     there alike [] = array-here v ∙ sym (array-here w)
     there alike (Name n ∷ at) = array-name v n at ∙ sym (array-name w n at)
     there alike (Index i ∷ at) = array-item v i at ∙ alike i at ∙ sym (array-item w i at)
@@ -52,48 +49,42 @@ some_within (d ∷ ds) i low = ap is_some (slice_get-get_or (d ∷ ds) i d low)
 within_some : (ds : List Datum) (i : ℕ) → IsSome (slice_get ds i) → i < length ds
 within_some ds i some = search (rules, true≢false, slice_get_within)
 
-no_longer : (ds es : List Datum) → AlikeItems ds es → length es ≤ length ds
+no_longer : (ds es : List Datum) → AreSameElements ds es → length es ≤ length ds
 no_longer ds es alike = ⊎_elim
     (λ low. let h : length ds < length ds = within_some ds (length ds) (there_too (slice_get es (length ds)) (slice_get ds (length ds)) (λ at. sym (alike (length ds) at)) (some_within es (length ds) low)) in absurd (omega arith))
     (λ le. le)
     (cases_lt (length ds) (length es))
 
-pub lengths_alike : (ds es : List Datum) → AlikeItems ds es → length ds ≡ length es
+pub lengths_alike : (ds es : List Datum) → AreSameElements ds es → length ds ≡ length es
 lengths_alike ds es alike = search (rules, no_longer)
 
 -- arrays of one length with like elements at each index
-pub items_alike : (ds es : List Datum) (count : ℕ) → length ds ≡ length es → length ds ≤ count → ((i : ℕ) → i < count → AreSameIn (slice_get ds i) (slice_get es i)) → AlikeItems ds es
+pub items_alike : (ds es : List Datum) (count : ℕ) → length ds ≡ length es → length ds ≤ count → ((i : ℕ) → i < count → AreSameIn (slice_get ds i) (slice_get es i)) → AreSameElements ds es
 items_alike ds es count long all each = search (rules, slice_get_past, cases_lt)
 
 -- ---- tables
 
-abbrev pub HasLike : Members → Members → Type 0
-HasLike m n = (name : List ℕ) → IsSome (get_by_text m name) → AreSameIn (get_by_text m name) (get_by_text n name)
-
-abbrev pub HasNames : Members → Members → Type 0
-HasNames m n = (name : List ℕ) → IsSome (get_by_text n name) → IsSome (get_by_text m name)
-
 member_alike : (o p : Option Datum) → (IsSome o → AreSameIn o p) → (IsSome p → IsSome o) → AreSameIn o p
 member_alike o p like there = search rules
 
-pub tables_like : (m n : Members) → ((name : List ℕ) → AreSameIn (get_by_text m name) (get_by_text n name)) → AreSame (Table m) (Table n)
+pub tables_like : (m n : Members) → AreSameMembers m n → AreSame (Table m) (Table n)
 tables_like m n like [] = table-here m ∙ sym (table-here n)
 tables_like m n like (Index i ∷ at) = table-index m i at ∙ sym (table-index n i at)
 tables_like m n like (Name k ∷ at) = table-member m k at ∙ like k at ∙ sym (table-member n k at)
 
-pub tables_alike : (m n : Members) → HasLike m n → HasNames m n → AreSame (Table m) (Table n)
+pub tables_alike : (m n : Members) → AreMembersOf m n → HasAllNames m n → AreSame (Table m) (Table n)
 tables_alike m n like names = tables_like m n (λ name. member_alike (get_by_text m name) (get_by_text n name) (like name) (names name))
 
-members_alike : (m n : Members) → AreSame (Table m) (Table n) → (name : List ℕ) → AreSameIn (get_by_text m name) (get_by_text n name)
+members_alike : (m n : Members) → AreSame (Table m) (Table n) → AreSameMembers m n
 members_alike m n alike name at = sym (table-member m name at) ∙ alike (Name name ∷ at) ∙ table-member n name at
 
 pub tables_same : SameTables
 tables_same m n = (tables_like m n, members_alike m n)
 
-pub has_like : (m n : Members) → AreSame (Table m) (Table n) → HasLike m n
+pub has_like : (m n : Members) → AreSame (Table m) (Table n) → AreMembersOf m n
 has_like m n alike name some = members_alike m n alike name
 
-pub has_names : (m n : Members) → AreSame (Table m) (Table n) → HasNames m n
+pub has_names : (m n : Members) → AreSame (Table m) (Table n) → HasAllNames m n
 has_names m n alike name some = there_too (get_by_text n name) (get_by_text m name) (λ at. sym (members_alike m n alike name at)) some
 
 abbrev pub Entry : Type 0
@@ -126,14 +117,14 @@ HasEach m = Each (λ name d. IsSome (get_by_text m name))
 abbrev pub HasLikeEach : Members → List Entry → Type 0
 HasLikeEach n = Each (λ name d. AreSameIn (Some d) (get_by_text n name))
 
-pub HasNames-from_each : (m n : Members) → HasEach m n.entries → HasNames m n
+pub HasNames-from_each : (m n : Members) → HasEach m n.entries → HasAllNames m n
 HasNames-from_each m n each name some = by (get_by_text n name) refl some
   where
     by : (o : Option Datum) → get_by_text n name ≡ o → IsSome o → IsSome (get_by_text m name)
     by None is h = absurd (true≢false (sym h))
     by (Some d) is h = each_found (λ name d. IsSome (get_by_text m name)) n.entries each name d is
 
-pub HasLike-from_each : (m n : Members) → HasLikeEach n m.entries → HasLike m n
+pub HasLike-from_each : (m n : Members) → HasLikeEach n m.entries → AreMembersOf m n
 HasLike-from_each m n each name some = by (get_by_text m name) refl some
   where
     by : (o : Option Datum) → get_by_text m name ≡ o → IsSome o → AreSameIn o (get_by_text n name)
@@ -148,13 +139,13 @@ decided e f = (λ h. f.0 (e.0 h), λ b. e.1 (f.1 b))
 pub scalars_decided : (r : Bool) (s t : Value) → IsTrue r ↔ (scalar_value s ≡ scalar_value t) → IsTrue r ↔ AreSame (Scalar s) (Scalar t)
 scalars_decided r s t e = decided e (scalars_alike s t)
 
-pub arrays_decided : (r : Bool) (v w : Vec Datum Global) (ds es : List Datum) → ds ≡ v.items → es ≡ w.items → IsTrue r ↔ AlikeItems ds es → IsTrue r ↔ AreSame (Array v) (Array w)
-arrays_decided r v w ds es p q e = decided (subst (λ xs. IsTrue r ↔ AlikeItems xs w.items) p (subst (λ ys. IsTrue r ↔ AlikeItems ds ys) q e)) (arrays_alike v w)
+pub arrays_decided : (r : Bool) (v w : Vec Datum Global) (ds es : List Datum) → ds ≡ v.items → es ≡ w.items → IsTrue r ↔ AreSameElements ds es → IsTrue r ↔ AreSame (Array v) (Array w)
+arrays_decided r v w ds es p q e = decided (subst (λ xs. IsTrue r ↔ AreSameElements xs w.items) p (subst (λ ys. IsTrue r ↔ AreSameElements ds ys) q e)) (arrays_alike v w)
 
-pub tables_decided : (r : Bool) (m n : Members) → HasLike m n → IsTrue r ↔ HasNames m n → IsTrue r ↔ AreSame (Table m) (Table n)
+pub tables_decided : (r : Bool) (m n : Members) → AreMembersOf m n → IsTrue r ↔ HasAllNames m n → IsTrue r ↔ AreSame (Table m) (Table n)
 tables_decided r m n like e = (λ h. tables_alike m n like (e.0 h), λ alike. e.1 (has_names m n alike))
 
-pub tables_apart : (r : Bool) (m n : Members) → IsTrue r ↔ HasLike m n → r ≡ false → IsTrue r ↔ AreSame (Table m) (Table n)
+pub tables_apart : (r : Bool) (m n : Members) → IsTrue r ↔ AreMembersOf m n → r ≡ false → IsTrue r ↔ AreSame (Table m) (Table n)
 tables_apart r m n e refused = (λ h. absurd (true≢false (sym h ∙ refused)), λ alike. e.1 (has_like m n alike))
 
 pub accepted : {A : Type 0} → A → IsTrue true ↔ A

@@ -1,7 +1,7 @@
 -- Arrays and tables that are copied part by part.
-use Rattle.toml_names.proofs.Common.{◌≡◌, ℕ, ◌+◌, ◌<◌, ◌≤◌, Bool, true, false, cond, List, [], ◌∷◌, ◌++◌, length, map, take, get_or, Option, Some, None, string_bytes, nat_cmp, is_eq, bytes_eq, refl, sym, ap, ◌∙◌, rules, take_more, take_all, map-append, is_eq-slice_cmp, bytes_eq-Decides, slice_get, is_at, get_by_text, slice_cmp, lookup, Datum, Kinds, kind_at, kind_in, within, Members, AreSame, AreSameIn}
+use Rattle.toml_names.proofs.Common.{◌≡◌, ℕ, ◌+◌, ◌<◌, ◌≤◌, Bool, true, false, cond, List, [], ◌∷◌, ◌++◌, length, map, take, get_or, Option, Some, None, string_bytes, nat_cmp, is_eq, bytes_eq, refl, sym, ap, ◌∙◌, rules, take_more, take_all, map-append, is_eq-slice_cmp, bytes_eq-Decides, slice_get, is_at, get_by_text, slice_cmp, lookup, Datum, Kinds, kind_at, kind_in, within, Members, AreSame, AreSameElements, AreSameIn, AreSameMembers}
 use mathlib.Core.Path.{fun_ext}
-use Rattle.toml_names.proofs.lemmas.model.Alike.{AlikeItems, Entry}
+use Rattle.toml_names.proofs.lemmas.model.Alike.{Entry}
 use Rattle.toml_names.proofs.lemmas.model.Levels.{item_part}
 
 -- ---- arrays
@@ -19,7 +19,7 @@ copied_more items copies count d e low is copied alike =
     ∙ sym (map-append kind_at (take count items) (get_or items count e ∷ []))
     ∙ ap (map kind_at) (sym (take_more items count e low))
 
-pub copied_all : (items copies : List Datum) (count : ℕ) → length items ≤ count → AreCopied count items copies → AlikeItems copies items
+pub copied_all : (items copies : List Datum) (count : ℕ) → length items ≤ count → AreCopied count items copies → AreSameElements copies items
 copied_all items copies count past copied index at =
     sym (item_part copies index at)
     ∙ ap (λ (ks : List Kinds). within (slice_get ks index) at) (copied ∙ ap (map kind_at) (take_all count items past))
@@ -37,6 +37,13 @@ or_part (Some d) p = Some d
 -- with what is left the copies are like all members
 abbrev pub Completes : Members → List Entry → Members → Type 0
 Completes copies left all = (name : List ℕ) → AreSameIn (or_part (get_by_text copies name) (found name left)) (get_by_text all name)
+
+or_none : (o : Option Datum) → or_part o None ≡ o
+or_none None = refl
+or_none (Some d) = refl
+
+pub completed : (copies all : Members) → Completes copies [] all → AreSameMembers copies all
+completed copies all done name at = ap (λ o. kind_in o at) (sym (or_none (get_by_text copies name))) ∙ done name at
 
 pub apart : (k q : List ℕ) → bytes_eq k q ≡ false → bytes_eq q k ≡ false
 apart k q h = search rules

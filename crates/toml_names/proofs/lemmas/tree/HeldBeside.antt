@@ -3,8 +3,8 @@ use Rattle.toml_names.proofs.Common.{◌≡◌, ◌↔◌, ℕ, ◌+◌, ◌<◌
 use Rattle.toml_names.specs.declared.model.address_set.AddressSet.{AddressSet}
 use Rattle.toml_names.specs.model.AddressSets.{below, hides, is_hidden, is_whole}
 use Rattle.toml_names.specs.tree.EnteringLines.{IsWithin}
-use Rattle.toml_names.specs.tree.HeldBeside.{HasMembers, HasNamesOf, HoldElements, HoldNames, HoldsAlone, HoldsBeside, HoldsName, IsHeld, ShowsBehind, kinds_at, step_in}
-use Rattle.toml_names.specs.tree.SameBelow.{SameElements, SameIn, SameNames, child_of, element_of}
+use Rattle.toml_names.specs.tree.HeldBeside.{HasMembers, HasNamesOf, HoldElements, HoldNames, HoldsAlone, HoldsBeside, HoldsName, IsHeld, ShowsBehind, kinds_at}
+use Rattle.toml_names.specs.tree.SameBelow.{SameElements, SameIn, SameNames, child_of, element_of, step_in}
 use Rattle.toml_names.specs.tree.Shown.{IsShownIn}
 use Rattle.toml_names.proofs.lemmas.model.Alike.{Each, Entry, each_found, kind_there, part_there}
 use Rattle.toml_names.proofs.lemmas.model.Changes.{step_there}

@@ -1,13 +1,13 @@
-use Rattle.toml_names.proofs.Common.{◌≡◌, ◌+◌, Some, List, string_cmp, subst, sym, All-turn, get, deref_pair, Datum}
-use Rattle.toml_names.proofs.lemmas.model.Alike.{AlikeItems, arrays_alike, tables_like}
-use Rattle.toml_names.proofs.lemmas.model.Copies.{AreCopied, copied_more, copied_all, completes_more}
+use Rattle.toml_names.proofs.Common.{◌≡◌, ◌+◌, Some, List, string_cmp, subst, sym, All-turn, get, deref_pair, AreSameElements, Datum}
+use Rattle.toml_names.proofs.lemmas.model.Alike.{arrays_alike, tables_like}
+use Rattle.toml_names.proofs.lemmas.model.Copies.{AreCopied, Completes, copied_more, copied_all, completed, completes_more}
 use Rattle.toml_names.proofs.model.datum.+copy.Goals as goal
 
 pub Datum::copy-returns-in_ok-copy_items-in-Array : goal.Datum::copy-returns-in_ok-copy_items-in-Array
 Datum::copy-returns-in_ok-copy_items-in-Array t c =
     rw c.in-Array.is
     ((arrays_alike c.in_ok-copy_items-in-Array.field-0 c.in-Array.items).0
-    (subst (λ (ds : List Datum). AlikeItems (c.in_ok-copy_items-in-Array.field-0).items ds) c.deref.ensures.value c.in_ok-copy_items-in-Array.ensures))
+    (subst (λ (ds : List Datum). AreSameElements (c.in_ok-copy_items-in-Array.field-0).items ds) c.deref.ensures.value c.in_ok-copy_items-in-Array.ensures))
 
 pub Datum::copy-returns-in_ok-copy_members-in-Table : goal.Datum::copy-returns-in_ok-copy_members-in-Table
 Datum::copy-returns-in_ok-copy_members-in-Table t c = rw c.in-Table.is (tables_like c.in_ok-copy_members-in-Table.field-0 c.in-Table.members c.in_ok-copy_members-in-Table.ensures)
@@ -27,3 +27,6 @@ copy_members-loop-name-preserved t c =
     All-turn deref_pair (λ e. get string_cmp c.args.members.now e.0 ≡ Some e.1) _ _ _ _ _ _ _ gives.6 gives.0 c.loop-name.yielded_by c.in-Some.is c.next.ensures.steps in
     completes_more c.loop-name.copies c.add_member.new.members c.args.members.now c.loop-name.name-iterator c.next.new.self (c.in-Some.name.now, c.in-Some.member.now) c.in_ok-copied.copied c.as_str.result.now
     c.in-Some.ensures.steps c.as_str.ensures.value c.in_ok-copied.ensures there c.loop-name.invariant c.in_ok-add_member.ensures
+
+pub copy_members-returns : goal.copy_members-returns
+copy_members-returns t c = completed c.loop-name.copies c.args.members.now (subst (λ es. Completes c.loop-name.copies es c.args.members.now) c.in-None.ensures.steps.0 c.loop-name.invariant)

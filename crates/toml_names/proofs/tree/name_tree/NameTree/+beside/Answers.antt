@@ -1,12 +1,13 @@
 use Rattle.toml_names.proofs.Common.{◌≡◌, ◌<◌, ◌+◌, ℕ, List, [], ◌∷◌, Some, length, sym, ap, subst, ◌∙◌, true≢false, none-some, arith, take_all, slice_get, slice_get-get_or, slice_get_read, option_copied, lookup, bytes_eq, EachIs, Spot, Name, Index, Address, kind_at, kind_in}
 use Rattle.toml_names.specs.model.AddressSets.{below}
-use Rattle.toml_names.specs.tree.HeldBeside.{IsHeld, ShowsBehind, step_in}
+use Rattle.toml_names.specs.tree.HeldBeside.{IsHeld, ShowsBehind}
 use Rattle.toml_names.proofs.lemmas.model.Alike.{accepted, refused}
 use Rattle.toml_names.proofs.lemmas.tree.Alike.{pairs_more, told_too, child_read, element_read}
 use Rattle.toml_names.proofs.lemmas.tree.HeldBeside.{IsHeldAt, kind_held, names_held, indices_held, held_by_parts, others_had, each_held, names_by_parts, lengths_held, behind_shown, held_more, held_all, names_all, member_held, no_member_held, by_items, held_item}
 use Rattle.toml_names.proofs.lemmas.tree.NodeData.{low_in, below_name, below_element, node_read}
 use Rattle.toml_names.proofs.tree.name_tree.NameTree.+beside.Goals as goal
 use Rattle.toml_names.proofs.tree.name_tree.NameTree.+beside.Goals.{hold_names-in-Some-nth+in_ok-holds_name+else-not-branch, hold_names-in_default-nth}
+use Rattle.toml_names.specs.tree.SameBelow.{step_in}
 
 -- ---- elements
 

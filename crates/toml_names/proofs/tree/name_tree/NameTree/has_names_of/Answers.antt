@@ -1,7 +1,6 @@
 use Rattle.toml_names.proofs.Common.{◌<◌, ◌+◌, [], Some, length, sym, subst, ap, ◌∙◌, true≢false, none-some, arith, take_all, slice_get-get_or, EachIs, Spot, Name, lookup, bytes_eq}
 use Rattle.toml_names.specs.model.AddressSets.{below}
 use Rattle.toml_names.specs.tree.EnteringLines.{IsWithin}
-use Rattle.toml_names.specs.tree.HeldBeside.{step_in}
 use Rattle.toml_names.specs.tree.Shown.{IsShownIn}
 use Rattle.toml_names.proofs.lemmas.model.Alike.{accepted, refused}
 use Rattle.toml_names.proofs.lemmas.tree.Alike.{pairs_more, child_read}
@@ -9,6 +8,7 @@ use Rattle.toml_names.proofs.lemmas.tree.HeldBeside.{IsThere, names_there}
 use Rattle.toml_names.proofs.lemmas.tree.NodeData.{node_read, below_name}
 use Rattle.toml_names.proofs.tree.name_tree.NameTree.has_names_of.Goals as goal
 use Rattle.toml_names.proofs.tree.name_tree.NameTree.has_names_of.Goals.{in-Some-nth+else-not-has_or_shows, in_default-nth}
+use Rattle.toml_names.specs.tree.SameBelow.{step_in}
 
 pub has_or_shows-requires-clause-other_within : goal.has_or_shows-requires-clause-other_within
 has_or_shows-requires-clause-other_within c =

@@ -1,10 +1,10 @@
 use Rattle.toml_names.proofs.Common.{ap, Name}
-use Rattle.toml_names.specs.tree.HeldBeside.{step_in}
 use Rattle.toml_names.proofs.lemmas.model.Alike.{refused}
 use Rattle.toml_names.proofs.lemmas.tree.Alike.{same_nowhere}
 use Rattle.toml_names.proofs.lemmas.tree.NearData.{not_some}
 use Rattle.toml_names.proofs.lemmas.tree.NodeData.{low_in}
 use Rattle.toml_names.proofs.tree.name_tree.NameTree.same_beside.Goals as goal
+use Rattle.toml_names.specs.tree.SameBelow.{step_in}
 
 pub returns-in_default : goal.returns-in_default
 returns-in_default c =
