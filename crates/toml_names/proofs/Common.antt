@@ -47,7 +47,7 @@ pub use Rattle.toml_names.specs.declared.model.place.Place.{Place}
 pub use Rattle.toml_names.specs.declared.tree.name_tree.Change.{Change}
 pub use Rattle.toml_names.specs.declared.tree.name_tree.Found.TheVariants.{New}
 pub use Rattle.toml_names.specs.mentions.Alike.{CountsAdd, AreAlike, AlikeNameTheSame, AlikeStayAlike, PairsLeaveAlike, SectionGoesOn}
-pub use Rattle.toml_names.specs.mentions.Clear.{IsClear, NotNamedIsClear}
+pub use Rattle.toml_names.specs.mentions.Clear.{AreClear, AreValuesAt, ClearOfRoot, HasNoPair, HeadersAreClear, IsClear, NotAboveNext, NotNamedIsClear, SectionIsClear}
 pub use Rattle.toml_names.specs.mentions.FirstMentions.{first_named, first_mentions, is_named, IsMentioned, ComesFirst, IsFirstMentions, OneListOfFirstMentions, FirstMentionsAreThese}
 pub use Rattle.toml_names.specs.mentions.Inside.{InsideIsBelow, shifted, InsideMoves, BelowIsOfItsLine}
 pub use Rattle.toml_names.specs.mentions.Joining.{JoinAll, Joined, is_lone, Joins, IsFree, IsAgain, ValuesJoin, OneKind, FirstIsData, ValuesStandAlone, LinesJoin}

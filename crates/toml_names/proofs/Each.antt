@@ -1,5 +1,5 @@
 -- What holds of each, of every two and of some of a list, by recursion.
-use Rattle.toml_names.proofs.Common.{◌≡◌, zero, suc, ◌⊎◌, inl, inr, List, [], ◌∷◌, ◌++◌, All, Any, AllPairs, refl, sym, subst, arith, All-head, All-tail, EachIs}
+use Rattle.toml_names.proofs.Common.{◌≡◌, zero, suc, ◌⊎◌, inl, inr, List, [], ◌∷◌, ◌++◌, All, Any, AllPairs, refl, sym, subst, arith, All-head, All-tail, All-nil, All-cons, EachIs}
 
 -- ---- each
 
@@ -35,6 +35,17 @@ pairs_of_all R (x ∷ xs) h = (
   each_of_all (R x) xs (λ k d low. h zero (suc k) d (omega arith) (omega (arith, low))),
   pairs_of_all R xs (λ i j d low high. h (suc i) (suc j) d (omega (arith, low)) (omega (arith, high))),
 )
+
+pub all_of_each : {A : Type 0} (P : A → Type 0) (xs : List A) → EachIs P xs → All P xs
+all_of_each P [] h = All-nil P
+all_of_each P (x ∷ xs) h = All-cons P x xs h.0 (all_of_each P xs h.1)
+
+pub all_of_pairs : {A : Type 0} (R : A → A → Type 0) (xs : List A) → PairsAre R xs → AllPairs R xs
+all_of_pairs R [] h i j d low high = absurd (omega (arith, high))
+all_of_pairs R (x ∷ xs) h zero zero d low high = absurd (omega (arith, low))
+all_of_pairs R (x ∷ xs) h (suc i) zero d low high = absurd (omega (arith, low))
+all_of_pairs R (x ∷ xs) h zero (suc j) d low high = all_of_each (R x) xs h.0 j d (omega (arith, high))
+all_of_pairs R (x ∷ xs) h (suc i) (suc j) d low high = all_of_pairs R xs h.1 i j d (omega (arith, low)) (omega (arith, high))
 
 -- ---- some
 

@@ -3,7 +3,8 @@ pub use Rattle.toml_names.proofs.lemmas.model.Alike.{scalars_alike, arrays_alike
 pub use Rattle.toml_names.proofs.lemmas.mentions.NextLine.{alike_name_the_same, alike_stay_alike, pairs_leave_alike}
 pub use Rattle.toml_names.proofs.lemmas.mentions.AllLines.{lines_join, lines_have_data}
 pub use Rattle.toml_names.proofs.lemmas.model.Changes.{array-within, table-has, has_part, step_there, hole_there}
-pub use Rattle.toml_names.proofs.lemmas.mentions.Clear.{not_named_is_clear}
+pub use Rattle.toml_names.proofs.lemmas.mentions.BelowValues.{section_is_clear, headers_are_clear}
+pub use Rattle.toml_names.proofs.lemmas.mentions.Clear.{not_above_next, clear_of_root, not_named_is_clear}
 pub use Rattle.toml_names.proofs.lemmas.mentions.Clear.{one_data, lines_are_closed, values_are_closed}
 pub use Rattle.toml_names.proofs.lemmas.model.Equal.{same_step-equal, same_step-self, same_address-decides}
 pub use Rattle.toml_names.proofs.lemmas.mentions.Offences.{rules_are_of_mentions}
@@ -24,7 +25,8 @@ pub use Rattle.toml_names.proofs.lemmas.mentions.LineAddresses.{line_is_named, t
 pub use Rattle.toml_names.proofs.lemmas.mentions.PlaceFound.{below_is_of_its_line, place_is_found}
 pub use Rattle.toml_names.proofs.lemmas.mentions.PlacesFound.{above_is_above, places_are_found}
 pub use Rattle.toml_names.proofs.lemmas.mentions.PlacesNone.{inside_is_below, no_place}
-pub use Rattle.toml_names.proofs.lemmas.mentions.Placeless.{places_are_not_named, value_places_are_not_named}
+pub use Rattle.toml_names.proofs.lemmas.mentions.Placeless.{key_places_are_not_named, line_places_are_not_named, places_are_not_named, value_places_are_not_named}
+pub use Rattle.toml_names.proofs.lemmas.mentions.RulesKept.{some_keep_rules, more_keep_rules, moved_keep_rules, value_keeps_rules}
 pub use Rattle.toml_names.proofs.lemmas.mentions.OneRefusal.{refused_are_bad}
 pub use Rattle.toml_names.proofs.lemmas.mentions.AllLines.{lines_have_one_kind, line_values_stand_alone, values_have_one_kind, inner_values_stand_alone}
 pub use Rattle.toml_names.proofs.lemmas.reader.OneMoreLine.{taken_are_good, fronts_are_good}

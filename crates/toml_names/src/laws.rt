@@ -1,12 +1,12 @@
 //! Laws over the definitions: nothing is run.
 ghost use Rattle.toml_names.specs.model.Addresses.{SameStepIsEqual, StepIsSame, SameIsEqual, AboveIsAbove};
 ghost use Rattle.toml_names.specs.mentions.Alike.{SectionGoesOn, CountsAdd, AlikeNameTheSame, AlikeStayAlike, PairsLeaveAlike};
-ghost use Rattle.toml_names.specs.mentions.Clear.{NotNamedIsClear};
+ghost use Rattle.toml_names.specs.mentions.Clear.{NotAboveNext, ClearOfRoot, SectionIsClear, HeadersAreClear, NotNamedIsClear};
 ghost use Rattle.toml_names.specs.model.DataLaws.{LinesHaveOneKind, LineValuesStandAlone, ValuesHaveOneKind, InnerValuesStandAlone, OneData, LinesAreClosed, ValuesAreClosed, LinesHaveData};
 ghost use Rattle.toml_names.specs.mentions.FirstMentions.{FirstMentionsAreThese, OneListOfFirstMentions};
 ghost use Rattle.toml_names.specs.model.Hidden.{ElementsAreNear, FrontsAreNear, WaysAreNear};
 ghost use Rattle.toml_names.specs.model.Indices.{IndicesAreLow, ValueIndicesAreLow};
-ghost use Rattle.toml_names.specs.mentions.Inside.{InsideIsBelow, InsideMoves, BelowIsOfItsLine};
+ghost use Rattle.toml_names.specs.mentions.Inside.{InsideIsBelow, InsideMoves, ValueKeepsRules, BelowIsOfItsLine};
 ghost use Rattle.toml_names.specs.mentions.Joining.{LinesJoin, ValuesJoin, OneKind, FirstIsData, ValuesStandAlone};
 ghost use Rattle.toml_names.specs.model.Levels.{ScalarLevel, ArrayLevel, TableLevel, DatumIsOneOfThree, DatumHasRoot, ArrayAtRoot, ArrayAtIndex, ArrayAtName, IndexIsWithin, TableAtRoot, TableAtName, TableAtIndex, NameHasMember, NothingBelowScalar};
 ghost use Rattle.toml_names.specs.mentions.Local.{LastRoleDecides};
@@ -14,9 +14,9 @@ ghost use Rattle.toml_names.specs.reader.LineNames.{TakenAreGood};
 ghost use Rattle.toml_names.specs.reader.Names.{FrontsAreGood, RefusedAreBad, OneRefusal, LineAddresses, NoLineAddress};
 ghost use Rattle.toml_names.specs.mentions.OwnAddresses.{LineIsNamed, NamedHasLine, ThemselvesDiffer, OwnAddressesDiffer, OwnAddressIsNamed, OwnAddressHasFact};
 ghost use Rattle.toml_names.specs.model.Parts.{DatumHasPart, StepIsThere, PartIsThere};
-ghost use Rattle.toml_names.specs.mentions.Placeless.{PlacesAreNotNamed, ValuePlacesAreNotNamed};
+ghost use Rattle.toml_names.specs.mentions.Placeless.{KeyPlacesAreNotNamed, LinePlacesAreNotNamed, PlacesAreNotNamed, ValuePlacesAreNotNamed};
 ghost use Rattle.toml_names.specs.model.Places.{PlacesAreFound, NoPlace, PlaceIsFound};
-ghost use Rattle.toml_names.specs.mentions.Rules.{NoMisfit, MisfitIsFirst, RulesAreOfMentions};
+ghost use Rattle.toml_names.specs.mentions.Rules.{NoMisfit, MisfitIsFirst, SomeKeepRules, MoreKeepRules, MovedKeepRules, RulesAreOfMentions};
 ghost use Rattle.toml_names.specs.model.SameData.{SameScalars, SameArrays, SameTables};
 
 /// Steps that are the same are equal, and so are addresses, and equal ones are the same; an address is above those of
@@ -34,6 +34,16 @@ pub fn rules()
     ensures none { NoMisfit }
     ensures first { MisfitIsFirst }
     ensures mentions { RulesAreOfMentions }
+{}
+
+/// Of mentions that keep the rules some do too, if they stand in one order, and they do so with others in between that keep
+/// them and are at other addresses. Mentions that are moved, each in its role, keep the rules just where they did before, if
+/// two come to one address exactly where they had one. A value that keeps them alone does so at each address.
+pub fn kept_rules()
+    ensures some { SomeKeepRules }
+    ensures more { MoreKeepRules }
+    ensures moved { MovedKeepRules }
+    ensures value { ValueKeepsRules }
 {}
 
 /// Lines of which the names are refused, memory aside, are not good, and there is one fault for which they are.
@@ -98,9 +108,15 @@ pub fn indices()
     ensures values { ValueIndicesAreLow }
 {}
 
-/// Under the rules, where an address is not named, nothing is named at it or below it.
+/// What is named is clear of an address where it is neither at it nor below it. From one step to the next it stays so, but for
+/// the address itself; so it is of headers where only values are named at the address, and, under the rules, of all that is
+/// named where nothing is named at it.
 pub fn clear()
-    ensures { NotNamedIsClear }
+    ensures next { NotAboveNext }
+    ensures root { ClearOfRoot }
+    ensures section { SectionIsClear }
+    ensures headers { HeadersAreClear }
+    ensures not_named { NotNamedIsClear }
 {}
 
 /// Where a thing stands is read off the mentions of its address; what has no place is not named. Under the rules each
@@ -194,8 +210,10 @@ pub fn same_data()
     ensures tables { SameTables }
 {}
 
-/// Lines, and values, that are the same but for where their pieces stand name the same.
+/// Keys, lines and values that are the same but for where their pieces stand name the same.
 pub fn placeless()
+    ensures key { KeyPlacesAreNotNamed }
+    ensures line { LinePlacesAreNotNamed }
     ensures lines { PlacesAreNotNamed }
     ensures value { ValuePlacesAreNotNamed }
 {}

@@ -1,12 +1,13 @@
 //! The names of a document: all at once (`read_names`, `read_lines`), and what a reader of its lines then tells: its data, places
 //! and addresses.
-ghost use Rattle.std.specs.Prelude.{◌≡◌, ◌↔◌, ◌≤◌, IsTrue, option_map, option_and_then, slice_get, map, IfOk, IfErr, OnOk};
+ghost use Rattle.std.specs.Prelude.{◌≡◌, ◌↔◌, ◌≤◌, IsTrue, option_and_then, slice_get, map, IfOk, IfErr, OnOk};
 ghost use Rattle.toml_tree.specs.Document.{document};
 ghost use Rattle.toml_tree.specs.Lines.{line as tree_line};
 ghost use Rattle.toml_names.specs.model.Data.{IsDataOf, kind_at};
 ghost use Rattle.toml_names.specs.mentions.FirstMentions.{first_mentions};
 ghost use Rattle.toml_names.specs.mentions.KeyParts.{all_key_parts};
 ghost use Rattle.toml_names.specs.mentions.Mentions.{named as named_of};
+ghost use Rattle.toml_names.specs.model.Addresses.{lent};
 ghost use Rattle.toml_names.specs.reader.Names.{AreGood, AreOwnAddresses, RefusesNames, line_address};
 ghost use Rattle.toml_names.specs.model.Places.{place};
 ghost use Rattle.toml_names.specs.reader.Reading.{lines_of, rank_in};
@@ -59,7 +60,7 @@ impl Names<'_, '_> {
 
     /// The address of a line's value, table or element; none for a blank line. Lines are counted from 0.
     pub fn address_of(&self, line: usize) -> Option<&Address>
-        ensures { option_map (λ a. a.now) result ≡ line_address self.now.named line }
+        ensures { lent result ≡ line_address self.now.named line }
     {
         let rank = rank_of_line(&self.own, line)?;
         self.first.get(rank)

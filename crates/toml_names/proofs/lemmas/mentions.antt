@@ -23,6 +23,7 @@ pub mod PlaceFound
 pub mod Placeless
 pub mod PlacesFound
 pub mod PlacesNone
+pub mod RulesKept
 pub mod TablesJoin
 pub mod ValuesAbove
 pub mod Within

@@ -1,10 +1,11 @@
 -- Where what a value names inside it stands, and what else stands there.
-use Rattle.std.specs.Prelude.{◌≡◌, ◌++◌, ℕ, List, map}
+use Rattle.std.specs.Prelude.{◌≡◌, ◌∷◌, ◌++◌, ℕ, List, map}
 use Rattle.toml_tree.specs.Spells.{EachIs}
 use Rattle.toml_tree.specs.Tree.{Value, Line}
+use Rattle.toml_names.specs.declared.mentions.mention.Role.{Role}
 use Rattle.toml_names.specs.declared.mentions.mention.Role.TheVariants.{Valued}
 use Rattle.toml_names.specs.model.Addresses.{Address, IsAbove}
-use Rattle.toml_names.specs.mentions.Mentions.{Named, named, inside}
+use Rattle.toml_names.specs.mentions.Mentions.{Named, named, inside, value_named, value_facts}
 use Rattle.toml_names.specs.mentions.Rules.{KeepsRules}
 
 -- the same thing in a line, below another address
@@ -18,6 +19,11 @@ InsideIsBelow = (line : ℕ) (v : Value) (at : Address) → EachIs (λ m. IsAbov
 -- and moves along with it.
 abbrev pub InsideMoves : Type 0
 InsideMoves = (line old : ℕ) (v : Value) (p at : Address) → inside line (p ++ at) v ≡ map (shifted line p) (inside old at v)
+
+-- Law: where a value alone keeps the rules, it does so at each address and in each role.
+abbrev pub ValueKeepsRules : Type 0
+ValueKeepsRules = (line : ℕ) (role : Role) (p : Address) (v : Value) → KeepsRules (value_facts v)
+    → KeepsRules (value_named line role p v ∷ inside line p v)
 
 -- Under the rules only the line of a value names anything strictly below it.
 abbrev pub BelowIsOfItsLine : Type 0

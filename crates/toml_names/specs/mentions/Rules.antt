@@ -1,6 +1,7 @@
 -- The table rules, and the first mention that breaks them.
-use Rattle.std.specs.Prelude.{◌≡◌, ◌≤◌, ◌||◌, not, ℕ, Bool, true, false, ◌↔◌, if◌then◌else◌, List, [], ◌∷◌, ◌++◌, length, filter, All, AllPairs, Option, Some, None}
+use Rattle.std.specs.Prelude.{◌≡◌, ◌≢◌, ◌≤◌, ◌||◌, not, ℕ, Bool, true, false, ◌↔◌, if◌then◌else◌, List, [], ◌∷◌, ◌++◌, length, map, filter, All, AllPairs, Option, Some, None}
 use Rattle.std.specs.List.{list_all}
+use Rattle.toml_tree.specs.Spells.{EachIs}
 use Rattle.toml_names.specs.declared.mentions.mention.Role.{Role}
 use Rattle.toml_names.specs.declared.mentions.mention.Role.TheVariants.{Passed, Header, Dotted, Tables, Element, Bare}
 use Rattle.toml_names.specs.model.Addresses.{Address, same_address}
@@ -58,6 +59,20 @@ NoMisfit = (ms : List Named) → (misfit [] ms ≡ None) ↔ KeepsRules ms
 
 abbrev pub MisfitIsFirst : Type 0
 MisfitIsFirst = (earlier new : List Named) (at : Address) → KeepsRules earlier → misfit earlier new ≡ Some at → IsFirstOffence earlier new at
+
+-- Laws: where mentions keep the rules, those do that are left when some are taken out;
+abbrev pub SomeKeepRules : Type 0
+SomeKeepRules = (front block back : List Named) → KeepsRules (front ++ (block ++ back)) → KeepsRules (front ++ back)
+
+-- those do that stand there when others are put in, which keep them and are at other addresses;
+abbrev pub MoreKeepRules : Type 0
+MoreKeepRules = (front block back : List Named) → KeepsRules (front ++ back) → KeepsRules block
+    → EachIs (λ m. EachIs (λ b. m.address ≢ b.address) block) (front ++ back) → KeepsRules (front ++ (block ++ back))
+
+-- and mentions in the same roles at other addresses keep them just so, where two have one address exactly if they had one.
+abbrev pub MovedKeepRules : Type 0
+MovedKeepRules = (f : Named → Named) (ms : List Named) → ((m : Named) → (f m).role ≡ m.role)
+    → AllPairs (λ e l. ((f e).address ≡ (f l).address) ↔ (e.address ≡ l.address)) ms → KeepsRules ms ↔ KeepsRules (map f ms)
 
 -- Law: what is no mention has no part in the rules.
 abbrev pub RulesAreOfMentions : Type 0

@@ -1,5 +1,6 @@
 -- Addresses: lists of steps, a step a name, as its bytes, or an index.
-use Rattle.std.specs.Prelude.{◌≡◌, ◌↔◌, ℕ, Bool, true, false, ◌&&◌, ◌==◌, List, [], ◌∷◌, ◌++◌, map}
+use Rattle.std.specs.Prelude.{◌≡◌, ◌↔◌, ℕ, Bool, true, false, ◌&&◌, ◌==◌, List, [], ◌∷◌, ◌++◌, map, Option, option_map}
+use Rattle.std.specs.Borrow.{Bor}
 use Rattle.std.specs.Cmp.Lexicographic.{pointwise}
 use Rattle.std.specs.Str.{bytes_eq}
 use Rattle.toml_names.specs.declared.model.address.Step.{Step}
@@ -7,6 +8,10 @@ use Rattle.toml_names.specs.declared.model.address.Step.TheVariants.{Name, Index
 
 abbrev pub Address : Type 0
 Address = List Step
+
+-- one that is lent, if there is one
+abbrev pub lent : Option (Bor Address) → Option Address
+lent = option_map (λ (a : Bor Address). a.now)
 
 abbrev pub same_step : Step → Step → Bool
 same_step (Name m) (Name n) = bytes_eq m n

@@ -1,5 +1,5 @@
 -- Addresses that another is neither at nor above. The data of what is named are one map, in which nothing stands below nothing.
-use Rattle.toml_names.proofs.Common.{◌≡◌, Bool, cond, ◌⊎◌, inl, inr, [], ◌∷◌, ◌++◌, Option, Some, None, refl, sym, ap, ◌∙◌, rules, none-some, Step, Address, IsAbove, IsClear, NotNamedIsClear, fact_at, Kind, Named, named, List, subst, append_assoc, append-nil, Line, Kinds, IsDataOf, IsClosed, OneData, LinesAreClosed, ValuesAreClosed, JoinAll, Joined, root}
+use Rattle.toml_names.proofs.Common.{◌≡◌, Bool, cond, ◌⊎◌, inl, inr, [], ◌∷◌, ◌++◌, Option, Some, None, refl, sym, ap, ◌∙◌, rules, none-some, Step, Address, IsAbove, IsClear, NotAboveNext, ClearOfRoot, NotNamedIsClear, fact_at, Kind, Named, named, List, subst, append_assoc, append-nil, Line, Kinds, IsDataOf, IsClosed, OneData, LinesAreClosed, ValuesAreClosed, JoinAll, Joined, root}
 use Rattle.toml_names.proofs.lemmas.mentions.AllLines.{lines_join, new_from, named_from-is}
 use Rattle.toml_names.proofs.Each.{Has, each_weaker, has_of_any, any_of_has, has_weaker, members_self}
 use Rattle.toml_names.proofs.lemmas.mentions.OfOneKind.{first_is_data}
@@ -63,14 +63,14 @@ above_step (v ∷ p) (u ∷ at) s (t, r, is) =
     lift (inl e) head = inl (ap (λ x. x ∷ p) (sym head) ∙ ap (λ l. u ∷ l) e)
     lift (inr (w, rest, e)) head = inr (w, rest, ap (λ x. x ∷ at) head ∙ ap (λ l. v ∷ l) e)
 
-pub not_above_more : {p at : Address} (s : Step) → IsClear p at → ¬ IsAbove p (at ++ s ∷ [])
-not_above_more {p} {at} s clear above = elim (above_step p at s above) [ inl e ↦ clear.apart e | inr a ↦ clear.not_above a ]
+pub not_above_next : NotAboveNext
+not_above_next p at s clear above = elim (above_step p at s above) [ inl e ↦ clear.apart e | inr a ↦ clear.not_above a ]
 
 pub clear_more : {p at : Address} (s : Step) → IsClear p at → ¬ (p ≡ at ++ s ∷ []) → IsClear p (at ++ s ∷ [])
-clear_more s clear apart = record { apart = apart; not_above = not_above_more s clear }
+clear_more {p} {at} s clear apart = record { apart = apart; not_above = not_above_next p at s clear }
 
-pub clear_root : (p : Address) → ¬ (p ≡ []) → IsClear p []
-clear_root p apart = record { apart = apart; not_above = λ above. no_cons p above.0 above.1 above.2 }
+pub clear_of_root : ClearOfRoot
+clear_of_root p apart = record { apart = apart; not_above = λ above. no_cons p above.0 above.1 above.2 }
 
 pub clear_cond : (p a b : Address) (t : Bool) → IsClear p a → IsClear p b → IsClear p (cond t a b)
 clear_cond p a b t x y = search rules

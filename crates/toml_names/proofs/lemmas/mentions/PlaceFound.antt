@@ -1,9 +1,9 @@
 -- Under the rules each thing has one place, the one that is found.
-use Rattle.toml_names.proofs.Common.{◌≡◌, ◌⊎◌, inl, inr, ℕ, Bool, true, false, List, [], ◌∷◌, ◌++◌, Option, Some, None, refl, sym, ap, subst, ◌∙◌, true≢false, rules, cond-true, All-head, All-tail, EachIs, Line, Step, Role, Passed, Header, Dotted, Valued, Tables, Element, Bare, Place, Address, IsAbove, BelowIsOfItsLine, is_lone, mark_of, Named, root, named, IsNamed, IsNotIn, IsFirstIn, IsInside, IsOutside, IsPlace, PlaceIsFound, first_line, line_above, outside, in_value, place_of_mark, KeepsRules}
+use Rattle.toml_names.proofs.Common.{AreValuesAt, ◌≡◌, ◌⊎◌, inl, inr, ℕ, Bool, true, false, List, [], ◌∷◌, ◌++◌, Option, Some, None, refl, sym, ap, subst, ◌∙◌, true≢false, rules, cond-true, All-head, All-tail, EachIs, Line, Step, Role, Passed, Header, Dotted, Valued, Tables, Element, Bare, Place, Address, IsAbove, BelowIsOfItsLine, is_lone, mark_of, Named, root, named, IsNamed, IsNotIn, IsFirstIn, IsInside, IsOutside, IsPlace, PlaceIsFound, first_line, line_above, outside, in_value, place_of_mark, KeepsRules}
 use Rattle.toml_names.specs.declared.model.place.Place.TheVariants as places
 use Rattle.toml_names.specs.model.Places.{inside}
 use Rattle.toml_names.proofs.lemmas.mentions.AllLines.{named_from-is, lines_join, line_values_stand_alone}
-use Rattle.toml_names.proofs.lemmas.mentions.BelowValues.{AreValuesAt, IsHere, below_values}
+use Rattle.toml_names.proofs.lemmas.mentions.BelowValues.{IsHere, below_values}
 use Rattle.toml_names.proofs.Each.{Has, PairsAre, pairs_of_all, has_of_any, has_right, has_weaker, from_two, members_self, each_weaker, taken, of_member}
 use Rattle.toml_names.proofs.lemmas.model.Equal.{same_address-self}
 use Rattle.toml_names.proofs.lemmas.mentions.FirstLines.{AreHolding, holding_under_rules, may_hold, marks_hold, inside-some, outside-mark, skip, stop}

@@ -2,10 +2,10 @@
 use Rattle.toml_names.proofs.Common.{◌≡◌, ℕ, ◌+◌, List, [], ◌∷◌, ◌++◌, map, refl, sym, ap, ap₂, ◌∙◌, rules, Assign, Value, Scalar, Array, Inline, Items, Close, Last, More, Pairs, ClosePairs, LastPair, MorePairs, Expr, Line, Role, Valued, Bare, Address, element, key_names, part_name, rest_names, Named, kind_of, value_named, inside, elements, members, pair_named, named, named_by, named_from, root, value_facts}
 use Rattle.toml_tree.specs.Bare.{bare_dotted, bare_key, bare_assign, bare_value, bare_items, bare_pairs, bare_expr, bare_line}
 use Rattle.toml_tree.specs.Tree.{Dotted, Key}
-use Rattle.toml_names.specs.mentions.Placeless.{PlacesAreNotNamed, ValuePlacesAreNotNamed}
+use Rattle.toml_names.specs.mentions.Placeless.{KeyPlacesAreNotNamed, LinePlacesAreNotNamed, PlacesAreNotNamed, ValuePlacesAreNotNamed}
 
-key_bared : (k : Key) → key_names (bare_key k) ≡ key_names k
-key_bared k = ap (λ r. part_name k.first ∷ r) (by k.rest)
+pub key_places_are_not_named : KeyPlacesAreNotNamed
+key_places_are_not_named k = ap (λ r. part_name k.first ∷ r) (by k.rest)
   where
     by : (ds : List Dotted) → rest_names (map bare_dotted ds) ≡ rest_names ds
     by [] = refl
@@ -18,7 +18,7 @@ block_bared : (v : Value) (line : ℕ) (role : Role) (at : Address) → inside l
 block_bared v line role at within = ap₂ (λ k l. record { address = at; role = role; kind = k; line = line } ∷ l) (kind_bared v) within
 
 pair_bared : (a : Assign) (v : Value) (line : ℕ) (at : Address) → ((here : Address) → inside line here (bare_value v) ≡ inside line here v) → pair_named line at (bare_assign a) (bare_value v) ≡ pair_named line at a v
-pair_bared a v line at within = search (rules, key_bared, block_bared)
+pair_bared a v line at within = search (rules, key_places_are_not_named, block_bared)
 
 mutual
   inside_bared : (v : Value) (line : ℕ) (at : Address) → inside line at (bare_value v) ≡ inside line at v
@@ -36,12 +36,12 @@ mutual
   members_bared (LastPair g a v h) line at = pair_bared a v line at (λ here. inside_bared v line here)
   members_bared (MorePairs g a v h ps) line at = ap₂ (λ s t. s ++ t) (pair_bared a v line at (λ here. inside_bared v line here)) (members_bared ps line at)
 
-line_bared : (ms : List Named) (line : ℕ) (e : Expr) → named_by ms line (bare_expr e) ≡ named_by ms line e
-line_bared ms line e = search (rules, pair_bared, inside_bared, key_bared)
+pub line_places_are_not_named : LinePlacesAreNotNamed
+line_places_are_not_named ms line e = search (rules, pair_bared, inside_bared, key_places_are_not_named)
 
 from_bared : (ls : List Line) (ms : List Named) (line : ℕ) → named_from ms line (map bare_line ls) ≡ named_from ms line ls
 from_bared [] ms line = refl
-from_bared (l ∷ ls) ms line = ap (λ new. named_from (ms ++ new) (line + 1) (map bare_line ls)) (line_bared ms line l.expr) ∙ from_bared ls (ms ++ named_by ms line l.expr) (line + 1)
+from_bared (l ∷ ls) ms line = ap (λ new. named_from (ms ++ new) (line + 1) (map bare_line ls)) (line_places_are_not_named ms line l.expr) ∙ from_bared ls (ms ++ named_by ms line l.expr) (line + 1)
 
 named_bared : (ls : List Line) → named (map bare_line ls) ≡ named ls
 named_bared ls = from_bared ls (root ∷ []) 0
