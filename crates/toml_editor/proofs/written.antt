@@ -1,5 +1,4 @@
 pub mod Alike
-pub mod BareNames
 pub mod Behind
 pub mod BlockFacts
 pub mod Clear
@@ -29,7 +28,6 @@ pub mod Steps
 pub mod Texts
 pub mod Together
 pub mod UnitsAlike
-pub mod UnitsBare
 pub mod UnitsCarried
 pub mod UnitsGone
 pub mod UnitsPut

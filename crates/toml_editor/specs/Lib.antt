@@ -21,6 +21,5 @@ pub mod Bares
 pub mod UnitBlocks
 pub mod RenamedUnits
 pub mod ChangedUnits
-pub mod BareUnits
 pub mod Steps
 pub mod CarriedUnits

@@ -1,6 +1,5 @@
 //! Laws over the definitions of what plain edits write: nothing is run.
 ghost use Rattle.toml_editor.specs.Bares.{SetBares, InsertBares, RemoveBares, RenameBares};
-ghost use Rattle.toml_editor.specs.BareUnits.{UnitsOfBares};
 ghost use Rattle.toml_editor.specs.CarriedUnits.{PlainIsCarried};
 ghost use Rattle.toml_editor.specs.ChangedUnits.{SetUnits};
 ghost use Rattle.toml_editor.specs.InsertLaws.{InsertNames, InsertRules, InsertShort, InsertData, InsertForms, InsertOfProfile, InsertKeepsLines};
@@ -91,13 +90,12 @@ pub fn bares()
 /// bytes. After a `rename` to a name that is free they are those of before, one by one, of the same kind and base, at the
 /// carried address, with the same text unless the edit changes the unit. After a `set` what lay in the old value is gone, the
 /// unit that has the value has the new one, what is in that comes behind it, and all others are as after a `rename`, where
-/// they were. The units of lines without places are those of the lines, without places.
+/// they were.
 pub fn units()
     ensures insert { InsertUnits }
     ensures remove { RemoveUnits }
     ensures rename { RenameUnits }
     ensures set { SetUnits }
-    ensures bares { UnitsOfBares }
 {}
 
 /// A good text and what a plain edit writes of it without a fault have pairs of partners: they name just the units of the

@@ -10,6 +10,7 @@ use Rattle.toml_names.specs.declared.model.address.Step.TheVariants.{Name, Index
 use Rattle.toml_names.specs.model.Addresses.{Address, same_step}
 use Rattle.toml_names.proofs.Proved.{same_step-equal, same_step-self}
 use Rattle.toml_edits.specs.Carry.{Carrier, carry_below, setting, emptied, up_from, down_above, to_name, parted}
+use Rattle.toml_edits.specs.Courses.{LeadOn, LeadToNoIndex}
 
 pub same_next : (p : Address) (s t : Step) (a b : Address) → p ++ s ∷ a ≡ p ++ t ∷ b → s ≡ t
 same_next [] s t a b e = cc
@@ -99,6 +100,24 @@ carry_elsewhere (s ∷ p) c (t ∷ a) here h = by (same_step s t) refl (λ m. ca
     by : (b : Bool) → same_step s t ≡ b → (((u : Step) (r : Address) → a ≡ p ++ u ∷ r → ⊥) → carry_below p c a ≡ Some a) → cond b (option_map (λ r. t ∷ r) (carry_below p c a)) (Some (t ∷ a)) ≡ Some (t ∷ a)
     by false e next = refl
     by true e next = ap (option_map (λ r. t ∷ r)) (next (λ u r w. h u r (ap (λ v. v ∷ a) (sym (same_step-equal s t e)) ∙ ap (λ x. s ∷ x) w)))
+
+-- where steps lead on by a name they do by no index
+pub by_name : (p : Address) (s : Step) (n : List ℕ) (r a : Address) → LeadOn p s r a → s ≡ Name n → LeadToNoIndex p a
+by_name p s n r a is name i way =
+    let same : Name n ≡ Index i = sym name ∙ same_next p s (Index i) r way.0 (sym is ∙ way.1) in
+    cc
+
+-- one that keeps the place itself and what is at and below a name
+pub carry_no_index : (p : Address) (c : Carrier) (a : Address) → c [] ≡ Some [] → ((n : List ℕ) (r : Address) → c (Name n ∷ r) ≡ Some (Name n ∷ r)) → LeadToNoIndex p a → carry_below p c a ≡ Some a
+carry_no_index [] c [] here names h = here
+carry_no_index [] c (Name n ∷ a) here names h = names n a
+carry_no_index [] c (Index i ∷ a) here names h = absurd (h i (a, refl))
+carry_no_index (s ∷ p) c [] here names h = refl
+carry_no_index (s ∷ p) c (t ∷ a) here names h = by (same_step s t) refl (carry_no_index p c a here names)
+  where
+    by : (b : Bool) → same_step s t ≡ b → (LeadToNoIndex p a → carry_below p c a ≡ Some a) → cond b (option_map (λ r. t ∷ r) (carry_below p c a)) (Some (t ∷ a)) ≡ Some (t ∷ a)
+    by false e next = refl
+    by true e next = ap (option_map (λ r. t ∷ r)) (next (λ i w. h i (w.0, ap (λ v. v ∷ a) (sym (same_step-equal s t e)) ∙ ap (λ x. s ∷ x) w.1)))
 
 pub parted_of : (place q : Address) (s t : Step) → place ≡ q ++ s ∷ [] → s ≡ t → parted place ≡ Some (q, t)
 parted_of place q s t is same = ap parted is ∙ parted_at q s ∙ ap (λ (u : Step). Some (q, u)) same

@@ -2,10 +2,12 @@
 -- in the old they come from.
 use Rattle.std.specs.Prelude.{◌≡◌, ◌<◌, ◌+◌, ◌-◌, ◌==◌, ℕ, List, [], ◌∷◌, Some, None, IsSome, if◌then◌else◌}
 use Rattle.std.specs.Bool.{nat_lt}
+use Rattle.std.specs.BTreeMap.{get_by_text}
 use Rattle.std.specs.Str.{bytes_eq}
 use Rattle.toml_names.specs.declared.model.address.Step.TheVariants.{Name, Index}
 use Rattle.toml_names.specs.model.Addresses.{Address, same_step}
 use Rattle.toml_names.specs.model.Data.{Kinds, kind_at}
+use Rattle.toml_names.specs.model.Levels.{Members}
 use Rattle.toml_names.specs.mentions.Mentions.{a_table, an_array}
 use Rattle.toml_edits.specs.declared.change.DatumChange.{DatumChange}
 use Rattle.toml_edits.specs.declared.change.DatumChange.TheVariants.{Put, AddMember, AddElement, Rename, DropMember, DropElement}
@@ -50,3 +52,8 @@ IsApplicable (AddElement i d) kinds = (kinds [] ≡ Some an_array) × ((j : ℕ)
 IsApplicable (Rename from to) kinds = (kinds [] ≡ Some a_table) × IsSome (kinds (Name from.now ∷ [])) × (kinds (Name to.now ∷ []) ≡ None)
 IsApplicable (DropMember n) kinds = IsSome (kinds (Name n.now ∷ []))
 IsApplicable (DropElement i) kinds = IsSome (kinds (Index i ∷ []))
+
+-- the new members have under the new name what the old ones have under the old one, which is gone, and are the old ones elsewhere
+abbrev pub HasMemberRenamed : List ℕ → List ℕ → Members → Members → Type 0
+HasMemberRenamed from to old new =
+    (n : List ℕ) → get_by_text new n ≡ (if bytes_eq to n then get_by_text old from else if bytes_eq from n then None else get_by_text old n)

@@ -3,6 +3,7 @@ pub mod Carry
 pub mod After
 pub mod ValueTexts
 pub mod Faults
+pub mod Applied
 pub mod EditList
 pub mod Laws
 pub mod Lists

@@ -3,8 +3,7 @@ ghost use Rattle.std.specs.Prelude.{◌≡◌, ◌⊎◌, ◌↔◌, ◌∷◌, 
 ghost use Rattle.toml_names.specs.declared.model.address.Step.TheVariants.{Name};
 ghost use Rattle.toml_names.specs.model.Addresses.{Address, child};
 ghost use Rattle.toml_names.specs.model.Data.{kind_at};
-ghost use Rattle.toml_edits.specs.After.{IsAfter};
-ghost use Rattle.toml_edits.specs.declared.fault.EditFault.TheVariants.{NoMemory};
+ghost use Rattle.toml_edits.specs.Applied.{IsApplied, IsRefused};
 ghost use Rattle.toml_edits.specs.Edits.{change, set, insert, rename, remove};
 ghost use Rattle.toml_edits.specs.Faults.{IsFault};
 ghost use Rattle.toml_edits.specs.Judged.{IsFitting, IsStepFault, IsJudged};
@@ -24,8 +23,8 @@ use toml_tree::Profile;
 
 /// Applies an edit to data, the text of its value read in profile 1: `apply_in` with `Profile::One`.
 pub fn apply(alloc: Global, data: &mut Data, edit: &Edit) -> Result<(), EditFault>
-    ensures fault { IfErr result (λ x. (x ≡ NoMemory) ⊎ IsFault One (change edit.now) (kind_at «data».old.root) (Some x)) }
-    ensures ok { OnOk result (IsFault One (change edit.now) (kind_at «data».old.root) None × IsAfter One (change edit.now) (kind_at «data».old.root) (kind_at «data».new.root)) }
+    ensures fault { IfErr result (IsRefused One (change edit.now) (kind_at «data».old.root)) }
+    ensures ok { OnOk result (IsApplied One (change edit.now) (kind_at «data».old.root) (kind_at «data».new.root)) }
     ensures err { OnErr result ((at : Address) → kind_at «data».new.root at ≡ kind_at «data».old.root at) }
 {
     apply_in(alloc, data, edit, Profile::One)
@@ -56,8 +55,8 @@ pub fn apply_in(
     edit: &Edit,
     profile: Profile,
 ) -> Result<(), EditFault>
-    ensures fault { IfErr result (λ x. (x ≡ NoMemory) ⊎ IsFault profile (change edit.now) (kind_at «data».old.root) (Some x)) }
-    ensures ok { OnOk result (IsFault profile (change edit.now) (kind_at «data».old.root) None × IsAfter profile (change edit.now) (kind_at «data».old.root) (kind_at «data».new.root)) }
+    ensures fault { IfErr result (IsRefused profile (change edit.now) (kind_at «data».old.root)) }
+    ensures ok { OnOk result (IsApplied profile (change edit.now) (kind_at «data».old.root) (kind_at «data».new.root)) }
     ensures err { OnErr result ((at : Address) → kind_at «data».new.root at ≡ kind_at «data».old.root at) }
 {
     let root = &mut data.root;
@@ -72,8 +71,8 @@ pub fn apply_in(
 }
 
 fn remove(alloc: Global, root: &mut Datum, at: &[Step]) -> Result<(), EditFault>
-    ensures fault { (profile : Profile) → IfErr result (λ x. (x ≡ NoMemory) ⊎ IsFault profile (remove at.now) (kind_at root.old) (Some x)) }
-    ensures ok { (profile : Profile) → OnOk result (IsFault profile (remove at.now) (kind_at root.old) None × IsAfter profile (remove at.now) (kind_at root.old) (kind_at root.new)) }
+    ensures fault { (profile : Profile) → IfErr result (IsRefused profile (remove at.now) (kind_at root.old)) }
+    ensures ok { (profile : Profile) → OnOk result (IsApplied profile (remove at.now) (kind_at root.old) (kind_at root.new)) }
     ensures err { OnErr result ((p : Address) → kind_at root.new p ≡ kind_at root.old p) }
 {
     let Some((last, parent)) = at.split_last() else {
@@ -89,8 +88,8 @@ fn remove(alloc: Global, root: &mut Datum, at: &[Step]) -> Result<(), EditFault>
 }
 
 fn rename(alloc: Global, root: &mut Datum, at: &[Step], to: &str) -> Result<(), EditFault>
-    ensures fault { (profile : Profile) → IfErr result (λ x. (x ≡ NoMemory) ⊎ IsFault profile (rename at.now to.now) (kind_at root.old) (Some x)) }
-    ensures ok { (profile : Profile) → OnOk result (IsFault profile (rename at.now to.now) (kind_at root.old) None × IsAfter profile (rename at.now to.now) (kind_at root.old) (kind_at root.new)) }
+    ensures fault { (profile : Profile) → IfErr result (IsRefused profile (rename at.now to.now) (kind_at root.old)) }
+    ensures ok { (profile : Profile) → OnOk result (IsApplied profile (rename at.now to.now) (kind_at root.old) (kind_at root.new)) }
     ensures err { OnErr result ((p : Address) → kind_at root.new p ≡ kind_at root.old p) }
 {
     let Some((last, parent)) = at.split_last() else {
@@ -135,8 +134,8 @@ fn set(
     text: &str,
     profile: Profile,
 ) -> Result<(), EditFault>
-    ensures fault { IfErr result (λ x. (x ≡ NoMemory) ⊎ IsFault profile (set at.now text.now) (kind_at root.old) (Some x)) }
-    ensures ok { OnOk result (IsFault profile (set at.now text.now) (kind_at root.old) None × IsAfter profile (set at.now text.now) (kind_at root.old) (kind_at root.new)) }
+    ensures fault { IfErr result (IsRefused profile (set at.now text.now) (kind_at root.old)) }
+    ensures ok { OnOk result (IsApplied profile (set at.now text.now) (kind_at root.old) (kind_at root.new)) }
     ensures err { OnErr result ((p : Address) → kind_at root.new p ≡ kind_at root.old p) }
 {
     let value = value_to_set(alloc, &*root, at, text, profile)?;
@@ -173,8 +172,8 @@ fn insert(
     text: &str,
     profile: Profile,
 ) -> Result<(), EditFault>
-    ensures fault { IfErr result (λ x. (x ≡ NoMemory) ⊎ IsFault profile (insert at.now text.now) (kind_at root.old) (Some x)) }
-    ensures ok { OnOk result (IsFault profile (insert at.now text.now) (kind_at root.old) None × IsAfter profile (insert at.now text.now) (kind_at root.old) (kind_at root.new)) }
+    ensures fault { IfErr result (IsRefused profile (insert at.now text.now) (kind_at root.old)) }
+    ensures ok { OnOk result (IsApplied profile (insert at.now text.now) (kind_at root.old) (kind_at root.new)) }
     ensures err { OnErr result ((p : Address) → kind_at root.new p ≡ kind_at root.old p) }
 {
     let Some((last, parent)) = at.split_last() else {

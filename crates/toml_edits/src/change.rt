@@ -5,8 +5,9 @@ ghost use Rattle.std.specs.Prelude.{◌≡◌, ◌≤◌, ◌++◌, [], List, �
 ghost use Rattle.std.specs.Str.{bytes_eq};
 ghost use Rattle.toml_names.specs.model.Addresses.{Address};
 ghost use Rattle.toml_names.specs.model.Data.{kind_at};
+ghost use Rattle.toml_names.specs.model.Parts.{HasMemberPut};
 ghost use Rattle.toml_edits.specs.declared.fault.EditFault.TheVariants.{NoMemory};
-ghost use Rattle.toml_edits.specs.Changed.{below, changed, IsApplicable};
+ghost use Rattle.toml_edits.specs.Changed.{below, changed, HasMemberRenamed, IsApplicable};
 
 use crate::fault::EditFault;
 use std::alloc::{AllocError, Global};
@@ -43,7 +44,7 @@ fn add_member(
     name: &str,
     part: Datum,
 ) -> Result<(), AllocError>
-    ensures ok { OnOk result ((n : List ℕ) → get_by_text members.new n ≡ cond (bytes_eq name.now n) (Some part) (get_by_text members.old n)) }
+    ensures ok { OnOk result (HasMemberPut name.now part members.old members.new) }
     ensures err { OnErr result (members.new.entries ≡ members.old.entries) }
 {
     let key = String::from_str(alloc, name)?;
@@ -61,7 +62,7 @@ fn take_member(members: &mut BTreeMap<String, Datum>, name: &str) -> Option<Datu
 /// Puts a member where one is.
 fn put_member(members: &mut BTreeMap<String, Datum>, name: &str, part: Datum)
     requires { IsSome (get_by_text members.old name.now) }
-    ensures { (n : List ℕ) → get_by_text members.new n ≡ cond (bytes_eq name.now n) (Some part) (get_by_text members.old n) }
+    ensures { HasMemberPut name.now part members.old members.new }
 {
     if let Some(member) = members.get_mut(name) {
         *member = part;
@@ -77,7 +78,7 @@ fn rename_member(
 ) -> Result<(), AllocError>
     requires from { IsSome (get_by_text members.old from.now) }
     requires to { get_by_text members.old to.now ≡ None }
-    ensures ok { OnOk result ((n : List ℕ) → get_by_text members.new n ≡ cond (bytes_eq to.now n) (get_by_text members.old from.now) (cond (bytes_eq from.now n) None (get_by_text members.old n))) }
+    ensures ok { OnOk result (HasMemberRenamed from.now to.now members.old members.new) }
     ensures err { OnErr result (members.new.entries ≡ members.old.entries) }
 {
     add_member(alloc, members, to, hole())?;

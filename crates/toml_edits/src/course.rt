@@ -1,9 +1,8 @@
 //! What an edit does to the address of a thing. Nothing here takes memory.
-ghost use Rattle.std.specs.Prelude.{◌≡◌, ◌≢◌, ◌++◌, ◌∷◌, List, MatchOption};
-ghost use Rattle.toml_names.specs.declared.model.address.Step.{Step as PlainStep};
+ghost use Rattle.std.specs.Prelude.{◌≡◌, MatchOption};
 ghost use Rattle.toml_edits.specs.Carry.{setting, inserting, renaming, removing, parted, carry_below, nowhere, up_from, down_above, to_name};
 ghost use Rattle.toml_edits.specs.Carry as moves;
-ghost use Rattle.toml_edits.specs.Courses.{arrives};
+ghost use Rattle.toml_edits.specs.Courses.{LeadElsewhere, LeadNoFurther, LeadOn, LeadTo, LeadToIndex, LeadToNoIndex, arrives};
 ghost use Rattle.toml_edits.specs.Edits.{change};
 
 use crate::edit::Edit;
@@ -24,7 +23,7 @@ pub enum Course<'e> {
 
 /// What is left of the steps below a place, if they lead to it or below it.
 fn below<'a>(place: &[Step], steps: &'a [Step]) -> Option<&'a [Step]>
-    ensures { MatchOption result ((rest : List PlainStep) → steps.now ≢ place.now ++ rest) (λ rest. steps.now ≡ place.now ++ rest.now) }
+    ensures { MatchOption result (LeadElsewhere place.now steps.now) (λ rest. LeadTo place.now rest.now steps.now) }
 {
     let mut left = steps;
     for step in place {
@@ -39,9 +38,20 @@ fn below<'a>(place: &[Step], steps: &'a [Step]) -> Option<&'a [Step]>
 
 /// The next step on the way from the place, and what is left behind it, if the steps lead below the place.
 fn next<'a>(place: &[Step], steps: &'a [Step]) -> Option<(&'a Step, &'a [Step])>
-    ensures { MatchOption result ((step : PlainStep) (rest : List PlainStep) → steps.now ≢ place.now ++ step ∷ rest) (λ way. steps.now ≡ place.now ++ way.0.now ∷ way.1.now) }
+    ensures { MatchOption result (LeadNoFurther place.now steps.now) (λ way. LeadOn place.now way.0.now way.1.now steps.now) }
 {
     below(place, steps)?.split_first()
+}
+
+/// The index to which the steps lead on from the parent, if they do to one.
+fn next_index(parent: &[Step], steps: &[Step]) -> Option<u64>
+    ensures { MatchOption result (LeadToNoIndex parent.now steps.now) (λ i. LeadToIndex parent.now i steps.now) }
+{
+    let (step, _) = next(parent, steps)?;
+    match step {
+        Step::Index(index) => Some(*index),
+        Step::Name(_) => None,
+    }
 }
 
 /// `set`: what is strictly below the place goes.
@@ -77,19 +87,16 @@ fn course_insert<'e>(place: &[Step], steps: &[Step]) -> Course<'e>
 fn course_up<'e>(parent: &[Step], from: u64, steps: &[Step]) -> Course<'e>
     ensures { arrives result steps.now ≡ carry_below parent.now (up_from from) steps.now }
 {
-    let Some((step, _)) = next(parent, steps) else {
+    let Some(index) = next_index(parent, steps) else {
         return Course::Stays;
     };
-    let Step::Index(index) = step else {
-        return Course::Stays;
-    };
-    if *index < from {
+    if index < from {
         return Course::Stays;
     }
-    if *index == u64::MAX {
+    if index == u64::MAX {
         return Course::Nowhere;
     }
-    Course::ToIndex(parent.len(), *index + 1)
+    Course::ToIndex(parent.len(), index + 1)
 }
 
 /// `rename`: what is at or below the place has the new name in its step.
@@ -138,19 +145,16 @@ fn course_remove<'e>(place: &[Step], steps: &[Step]) -> Course<'e>
 fn course_down<'e>(parent: &[Step], removed: u64, steps: &[Step]) -> Course<'e>
     ensures { arrives result steps.now ≡ carry_below parent.now (down_above removed) steps.now }
 {
-    let Some((step, _)) = next(parent, steps) else {
+    let Some(index) = next_index(parent, steps) else {
         return Course::Stays;
     };
-    let Step::Index(index) = step else {
-        return Course::Stays;
-    };
-    if *index < removed {
+    if index < removed {
         return Course::Stays;
     }
-    if *index == removed {
+    if index == removed {
         return Course::Nowhere;
     }
-    Course::ToIndex(parent.len(), *index - 1)
+    Course::ToIndex(parent.len(), index - 1)
 }
 
 /// What is at or below the place, nowhere.

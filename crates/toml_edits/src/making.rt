@@ -3,8 +3,8 @@ ghost use Rattle.std.specs.Prelude.{◌≡◌, ◌⊎◌, ◌↔◌, [], Some, N
 ghost use Rattle.toml_names.specs.model.Addresses.{Address};
 ghost use Rattle.toml_names.specs.model.Data.{kind_at, kind_in};
 ghost use Rattle.toml_names.specs.mentions.Mentions.{a_table};
-ghost use Rattle.toml_edits.specs.After.{IsAfter, an_empty_table, one_empty_table};
-ghost use Rattle.toml_edits.specs.declared.fault.EditFault.TheVariants.{NoMemory};
+ghost use Rattle.toml_edits.specs.Applied.{IsApplied, IsRefused};
+ghost use Rattle.toml_edits.specs.After.{an_empty_table, one_empty_table};
 ghost use Rattle.toml_edits.specs.Edits.{new_section, new_element};
 ghost use Rattle.toml_edits.specs.Faults.{IsFault, IsElementOf, IsNextIndex};
 ghost use Rattle.toml_edits.specs.Making.{IsPlaceOf};
@@ -34,8 +34,8 @@ fn one_empty_table(alloc: Global) -> Result<Datum, AllocError>
 
 /// Makes an empty table that is a member of a table.
 pub(crate) fn section(alloc: Global, root: &mut Datum, at: &[Step]) -> Result<(), EditFault>
-    ensures fault { (profile : Profile) → IfErr result (λ x. (x ≡ NoMemory) ⊎ IsFault profile (new_section at.now) (kind_at root.old) (Some x)) }
-    ensures ok { (profile : Profile) → OnOk result (IsFault profile (new_section at.now) (kind_at root.old) None × IsAfter profile (new_section at.now) (kind_at root.old) (kind_at root.new)) }
+    ensures fault { (profile : Profile) → IfErr result (IsRefused profile (new_section at.now) (kind_at root.old)) }
+    ensures ok { (profile : Profile) → OnOk result (IsApplied profile (new_section at.now) (kind_at root.old) (kind_at root.new)) }
     ensures err { OnErr result ((p : Address) → kind_at root.new p ≡ kind_at root.old p) }
 {
     if let Some(fault) = section_fault(&*root, at) {
@@ -157,8 +157,8 @@ fn element_fault(root: &Datum, at: &[Step], place: ElementPlace<'_>) -> Option<E
 
 /// Makes an empty table that is the last element of an array, and the array where there is none.
 pub(crate) fn element(alloc: Global, root: &mut Datum, at: &[Step]) -> Result<(), EditFault>
-    ensures fault { (profile : Profile) → IfErr result (λ x. (x ≡ NoMemory) ⊎ IsFault profile (new_element at.now) (kind_at root.old) (Some x)) }
-    ensures ok { (profile : Profile) → OnOk result (IsFault profile (new_element at.now) (kind_at root.old) None × IsAfter profile (new_element at.now) (kind_at root.old) (kind_at root.new)) }
+    ensures fault { (profile : Profile) → IfErr result (IsRefused profile (new_element at.now) (kind_at root.old)) }
+    ensures ok { (profile : Profile) → OnOk result (IsApplied profile (new_element at.now) (kind_at root.old) (kind_at root.new)) }
     ensures err { OnErr result ((p : Address) → kind_at root.new p ≡ kind_at root.old p) }
 {
     if at.is_empty() {

@@ -23,6 +23,7 @@ pub mod Decimals
 pub mod Certificates
 pub mod UnitLines
 pub mod Twins
+pub mod Bares
 pub mod Bases
 pub mod Standing
 pub mod Read

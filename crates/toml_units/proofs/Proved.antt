@@ -1,6 +1,7 @@
 -- The proofs of the laws of src/laws.rt, for the crates above.
 pub use Rattle.toml_units.proofs.Alike.{units_are_alike}
 pub use Rattle.toml_units.proofs.Apart.{units_are_apart}
+pub use Rattle.toml_units.proofs.Bares.{units_of_bares}
 pub use Rattle.toml_units.proofs.Bases.{units_are_based, lines_are_units}
 pub use Rattle.toml_units.proofs.InLines.{units_are_behind_the_mark}
 pub use Rattle.toml_units.proofs.MovedUnits.{inside_moves}

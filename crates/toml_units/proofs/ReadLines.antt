@@ -15,8 +15,8 @@ use Rattle.toml_names.specs.reader.LineNames.{StandFor}
 use Rattle.toml_names.specs.reader.Names.{AreGood, own_address}
 use Rattle.toml_units.specs.declared.reading.Reading.{Reading}
 use Rattle.toml_units.specs.Plain.{line_spans, plain_from, plain_units}
-use Rattle.toml_units.specs.Reading.{FindsText, HasNames, HasTaken, SoFar, newlines}
-use Rattle.toml_units.specs.View.{all_units}
+use Rattle.toml_units.specs.Reading.{AddsText, FindsText, HasNames, HasTaken, SoFar, newlines}
+use Rattle.toml_units.specs.View.{AddsUnits}
 use Rattle.toml_names.proofs.Proved.{pairs_leave_alike}
 use Rattle.toml_units.proofs.AllLines.{named_from-push}
 use Rattle.toml_units.proofs.Plain.{plain_is_units}
@@ -64,7 +64,7 @@ newlines_push (k ∷ lines) l = ap (λ ns. k.newline.text ∷ ns) (newlines_push
 
 -- one more line was taken
 pub took : (read mid new : Reading) (lines : List Line) (l : Line) (own : Option Address) → HasTaken read lines → HasNames lines l mid own → new.text.names ≡ mid.text.names → new.section ≡ mid.section
-    → all_units new.text.units.items ≡ all_units read.text.units.items ++ line_spans own l.expr → map (λ t. t.now) new.text.newlines.items ≡ map (λ t. t.now) read.text.newlines.items ++ l.newline.text ∷ []
+    → AddsUnits read.text.units.items new.text.units.items (line_spans own l.expr) → AddsText read.text.newlines.items new.text.newlines.items l.newline.text
     → HasTaken new (lines ++ l ∷ [])
 took read mid new lines l own h taken names at units ends = record {
   names = subst (λ n. StandFor n (lines ++ l ∷ [])) (sym names) taken.names;

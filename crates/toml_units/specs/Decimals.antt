@@ -21,6 +21,10 @@ BeginsWithNoDigit (b ∷ bs) = is_ascii_digit b ≡ false
 abbrev pub BeginsWithNoNumber : List ℕ → Type 0
 BeginsWithNoNumber bytes = (n : ℕ) (rest : List ℕ) → n < 2 ^ 64 → BeginsWithNoDigit rest → ¬ (bytes ≡ number_text n ++ rest)
 
+-- the number is at the front, up to its last digit
+abbrev pub BeginsWithNumber : List ℕ → ℕ → List ℕ → Type 0
+BeginsWithNumber bytes n rest = (bytes ≡ number_text n ++ rest) × BeginsWithNoDigit rest
+
 -- Law: the text of a number that the code can hold is what `{}` writes of it.
 abbrev pub NumbersAreDecimal : Type 0
 NumbersAreDecimal = (n : ℕ) → n < 2 ^ 64 → number_text n ≡ decimal n

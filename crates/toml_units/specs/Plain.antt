@@ -1,16 +1,20 @@
 -- The plain function of units: spans, read off the pieces.
 use Rattle.std.specs.Prelude.{◌≡◌, ◌+◌, ◌-◌, ℕ, List, [], ◌∷◌, ◌++◌, length, map, Option, Some, None}
 use Rattle.toml_tree.specs.Spells.{Spells, SpellsValue}
-use Rattle.toml_tree.specs.Tree.{Gap, Value, Scalar, Array, Inline, Items, Close, Last, More, Pairs, ClosePairs, LastPair, MorePairs, KeyVal, Expr, BlankLine, KeyValLine, TableLine, ArrayTableLine, Line, Doc}
+use Rattle.toml_tree.specs.Tree.{Piece, Gap, Value, Scalar, Array, Inline, Items, Close, Last, More, Pairs, ClosePairs, LastPair, MorePairs, KeyVal, Expr, BlankLine, KeyValLine, TableLine, ArrayTableLine, Line, Doc}
 use Rattle.toml_tree.specs.ReadingValues.{Element as ArrayElement, Member}
 use Rattle.toml_tree.specs.Pieces.{piece_of, expr_start}
 use Rattle.toml_names.specs.model.Addresses.{Address, element}
 use Rattle.toml_names.specs.mentions.Keys.{key_names}
 use Rattle.toml_names.specs.mentions.Mentions.{Named, root, named_by}
 use Rattle.toml_names.specs.reader.Names.{own_address}
+use Rattle.toml_units.specs.declared.unit.Unit.{Unit as Made}
+use Rattle.toml_units.specs.declared.unit.UnitKind.{UnitKind}
 use Rattle.toml_units.specs.declared.unit.UnitKind.TheVariants as kinds
 use Rattle.toml_units.specs.Ends.{piece_end, expr_end}
-use Rattle.toml_units.specs.Units.{gap_units, element_unit, pair_address, tail_units, inside, units}
+use Rattle.toml_text.specs.declared.span.Span.{Span}
+use Rattle.toml_units.specs.Units.{comment_units, gap_units, element_unit, pair_address, tail_units, inside, units}
+use Rattle.toml_units.specs.View.{all_units}
 pub use Rattle.toml_units.specs.View.{Spanned, spanned}
 
 -- a pair goes as far as its value
@@ -71,10 +75,22 @@ element_units at i e = map spanned (gap_units at e.before) ++ ((spanned (element
 abbrev pub pair_units : Address → Member → List Spanned
 pair_units at m = map spanned (gap_units at m.before) ++ ((pair_span at m.pair ∷ plain_inside (pair_address at m.pair.assign) m.pair.value) ++ map spanned (gap_units at m.after))
 
+-- a comment, if there is one
+abbrev pub comment_spans : UnitKind → Option Address → Option Piece → List Spanned
+comment_spans kind at comment = map spanned (comment_units kind at comment)
+
+-- a unit that has a value, at the value's address, and what lies in the value
+abbrev pub valued_units : UnitKind → Span → Option ℕ → Address → Value → List Spanned
+valued_units kind span base here v = record { kind = kind; start = span.start; stop = span.end; address = Some here; base = base } ∷ plain_inside here v
+
 -- the gap behind a last comma
 abbrev pub end_units : Address → Option Gap → List Spanned
 end_units at None = []
 end_units at (Some g) = map spanned (gap_units at g)
+
+-- the code's units are those that lie in the value alone, if it spells a text
+abbrev pub AreInside : Value → List Made → Type 0
+AreInside v us = (n : ℕ) (text : List ℕ) → SpellsValue v n text → all_units us ≡ map spanned (inside [] v)
 
 -- Law: of a document these are the units.
 abbrev pub PlainIsUnits : Type 0

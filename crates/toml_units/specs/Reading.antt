@@ -1,5 +1,6 @@
 -- What is read of a text line by line.
 use Rattle.std.specs.Prelude.{◌≡◌, ◌∷◌, ◌++◌, [], ℕ, List, Option, MatchOption, Result, Ok, Err, map}
+use Rattle.std.specs.Borrow.{Bor}
 use Rattle.toml_tree.specs.HandedOut.{AreLinesIn}
 use Rattle.toml_tree.specs.Tree.{Line}
 use Rattle.toml_tree.specs.declared.profile.Profile.{Profile}
@@ -15,6 +16,14 @@ use Rattle.toml_units.specs.Plain.{plain_units}
 use Rattle.toml_units.specs.Units.{units}
 use Rattle.toml_units.specs.View.{spanned, all_units}
 
+-- texts that are lent
+abbrev pub lent_texts : List (Bor (List ℕ)) → List (List ℕ)
+lent_texts = map (λ (t : Bor (List ℕ)). t.now)
+
+-- the new ones are the old ones and this behind them
+abbrev pub AddsText : List (Bor (List ℕ)) → List (Bor (List ℕ)) → List ℕ → Type 0
+AddsText old new t = lent_texts new ≡ lent_texts old ++ t ∷ []
+
 -- the newlines of lines, the empty text where a line has none
 abbrev pub newlines : List Line → List (List ℕ)
 newlines lines = map (λ (l : Line). l.newline.text) lines
@@ -23,7 +32,7 @@ newlines lines = map (λ (l : Line). l.newline.text) lines
 pub record HasTaken (read : Reading) (lines : List Line) : Type 0 where
   pub names : StandFor read.text.names lines
   pub units : all_units read.text.units.items ≡ plain_units lines
-  pub newlines : map (λ t. t.now) read.text.newlines.items ≡ newlines lines
+  pub newlines : lent_texts read.text.newlines.items ≡ newlines lines
   pub section_is : read.section ≡ section (named lines)
 
 -- what one line more names was taken, and the address is that of what it stands for; or the names of the lines with it are refused
@@ -46,7 +55,7 @@ pub record IsTextRead (profile : Profile) (text : List ℕ) (read : ReadText) : 
   pub are : AreLinesIn profile text lines
   pub names : StandFor read.names lines
   pub units : all_units read.units.items ≡ map spanned (units lines)
-  pub newlines : map (λ t. t.now) read.newlines.items ≡ newlines lines
+  pub newlines : lent_texts read.newlines.items ≡ newlines lines
 
 -- that of the text; without it the text is no document of the profile
 abbrev pub FindsText : Profile → List ℕ → Option ReadText → Type 0

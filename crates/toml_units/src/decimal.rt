@@ -1,9 +1,9 @@
 //! Numbers in decimal, read from bytes.
-ghost use Rattle.std.specs.Prelude.{◌≡◌, ◌↔◌, ◌<◌, ◌≤◌, ◌+◌, ◌*◌, ◌^◌, ◌++◌, length, IsTrue, MatchOption, SomeIff};
+ghost use Rattle.std.specs.Prelude.{◌≡◌, ◌↔◌, ◌<◌, ◌≤◌, ◌+◌, ◌*◌, ◌^◌, length, IsTrue, MatchOption, SomeIff};
 ghost use Rattle.std.specs.Char.{is_ascii_digit, digit_value};
 ghost use Rattle.std.specs.List.{prefix_len};
 ghost use Rattle.std.specs.Str.Parse.{digits_value};
-ghost use Rattle.toml_units.specs.Decimals.{number_text, IsPlain, BeginsWithNoDigit, BeginsWithNoNumber};
+ghost use Rattle.toml_units.specs.Decimals.{IsPlain, BeginsWithNoNumber, BeginsWithNumber};
 
 /// How many digits stand at the front.
 fn digits_len(bytes: &[u8]) -> usize
@@ -53,7 +53,7 @@ fn is_plain(digits: &[u8]) -> bool
 
 /// The number at the front, if it has no leading zero and is below 2^64, and what stands behind its digits.
 pub fn read_number(bytes: &[u8]) -> Option<(u64, &[u8])>
-    ensures { MatchOption result (BeginsWithNoNumber bytes.now) (λ r. (bytes.now ≡ number_text r.0 ++ r.1.now) × BeginsWithNoDigit r.1.now) }
+    ensures { MatchOption result (BeginsWithNoNumber bytes.now) (λ r. BeginsWithNumber bytes.now r.0 r.1.now) }
 {
     let (digits, behind) = bytes.split_at(digits_len(bytes));
     if !is_plain(digits) {

@@ -1,14 +1,14 @@
 //! The units of lines and of documents.
-ghost use Rattle.std.specs.Prelude.{◌≡◌, ◌<◌, ◌∷◌, ◌++◌, [], ℕ, Option, None, IsTrue, slice_index_or, length, map, option_map, OnOk, IfOk};
+ghost use Rattle.std.specs.Prelude.{◌≡◌, ◌<◌, ◌∷◌, [], ℕ, Option, None, IsTrue, slice_index_or, length, map, OnOk, IfOk};
 ghost use Rattle.toml_tree.specs.Document.{document};
 ghost use Rattle.toml_tree.specs.View.{blank, key as tree_key, expr};
 ghost use Rattle.toml_names.specs.mentions.Keys.{key_names};
-ghost use Rattle.toml_names.specs.model.Addresses.{Address as Steps};
+ghost use Rattle.toml_names.specs.model.Addresses.{Address as Steps, lent};
 ghost use Rattle.toml_names.specs.mentions.Mentions.{named};
 ghost use Rattle.toml_names.specs.reader.Names.{AreOwnAddresses};
 ghost use Rattle.toml_units.specs.Ends.{blank_end, expr_end};
 ghost use Rattle.toml_units.specs.Plain.{own_base, line_span, line_spans};
-ghost use Rattle.toml_units.specs.View.{spanned, all_units};
+ghost use Rattle.toml_units.specs.View.{AddsUnits, spanned, all_units};
 ghost use Rattle.toml_tree.specs.Pieces.{expr_start};
 ghost use Rattle.toml_units.specs.Units.{units as units_of};
 
@@ -58,7 +58,7 @@ fn parts(key: &Key) -> usize
 
 /// The base of a line, read off its own address.
 fn own_base(own: Option<&Address>, e: &Expr) -> Option<usize>
-    ensures { result ≡ own_base (option_map (λ a. a.now) own.entry) (expr e.now) }
+    ensures { result ≡ own_base (lent own.entry) (expr e.now) }
 {
     match e {
         Expr::KeyVal { keyval, .. } => {
@@ -76,7 +76,7 @@ fn push_line(
     own: Option<&Address>,
     e: &Expr,
 ) -> Result<(), AllocError>
-    ensures { OnOk result (all_units units.new.items ≡ all_units units.old.items ++ line_spans (option_map (λ a. a.now) own.entry) (expr e.now)) }
+    ensures { OnOk result (AddsUnits units.old.items units.new.items (line_spans (lent own.entry) (expr e.now))) }
 {
     units.push(Unit {
         kind: UnitKind::Line,
@@ -118,7 +118,7 @@ pub(crate) fn push_line_at(
     own: Option<Address>,
     e: &Expr,
 ) -> Result<(), AllocError>
-    ensures { OnOk result (all_units units.new.items ≡ all_units units.old.items ++ line_spans own (expr e.now)) }
+    ensures { OnOk result (AddsUnits units.old.items units.new.items (line_spans own (expr e.now))) }
 {
     if !is_lone(e) {
         return push_line(alloc, units, own.as_ref(), e);

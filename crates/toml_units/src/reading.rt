@@ -1,13 +1,13 @@
 //! A text read line by line: what its lines name, and its units. No line is kept.
-ghost use Rattle.std.specs.Prelude.{◌≡◌, ◌<◌, ◌∷◌, ◌++◌, List, [], length, map, IfOk, OnOk};
+ghost use Rattle.std.specs.Prelude.{◌≡◌, ◌<◌, ◌∷◌, ◌++◌, List, [], length, IfOk, OnOk};
 ghost use Rattle.toml_text.specs.Source.{text_of};
 ghost use Rattle.toml_tree.specs.Lines.{line as tree_line};
 ghost use Rattle.toml_tree.specs.Tree.{Line as Lined};
 ghost use Rattle.toml_scalar.specs.declared.fault.SyntaxFault.TheVariants as syntax;
 ghost use Rattle.toml_names.specs.declared.fault.NameFault.TheVariants as names;
 ghost use Rattle.toml_units.specs.Plain.{line_spans};
-ghost use Rattle.toml_units.specs.Reading.{FindsText, HasTaken, SoFar, TakesNames};
-ghost use Rattle.toml_units.specs.View.{all_units};
+ghost use Rattle.toml_units.specs.Reading.{AddsText, FindsText, HasTaken, SoFar, TakesNames};
+ghost use Rattle.toml_units.specs.View.{AddsUnits};
 
 use crate::lines::push_line_at;
 use crate::unit::Unit;
@@ -82,8 +82,10 @@ impl<'t> Reading<'t> {
     ) -> Result<(), AllocError>
         ensures names { self.new.text.names ≡ self.old.text.names }
         ensures section { self.new.section ≡ self.old.section }
-        ensures units { OnOk result (all_units self.new.text.units.items ≡ all_units self.old.text.units.items ++ line_spans own (tree_line line.now).expr) }
-        ensures newlines { OnOk result (map (λ t. t.now) self.new.text.newlines.items ≡ map (λ t. t.now) self.old.text.newlines.items ++ (tree_line line.now).newline.text ∷ []) }
+        ensures units { let old = self.old.text.units.items in
+            OnOk result (AddsUnits old self.new.text.units.items (line_spans own (tree_line line.now).expr)) }
+        ensures newlines { let old = self.old.text.newlines.items in
+            OnOk result (AddsText old self.new.text.newlines.items (tree_line line.now).newline.text) }
     {
         push_line_at(alloc, &mut self.text.units, own, line.expr())?;
         self.text.newlines.push(line.newline().text)?;

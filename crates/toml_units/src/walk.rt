@@ -1,11 +1,11 @@
 //! The units of values.
-ghost use Rattle.std.specs.Prelude.{ℕ, List, ◌≡◌, [], ◌∷◌, ◌++◌, Some, map, option_map, OnOk, IfOk};
+ghost use Rattle.std.specs.Prelude.{◌≡◌, map, option_map, OnOk, IfOk};
 ghost use Rattle.toml_tree.specs.View.{piece, gap, value, element as tree_element, member};
-ghost use Rattle.toml_units.specs.Plain.{spanned, plain_inside, element_units, pair_units, end_units};
+ghost use Rattle.toml_names.specs.model.Addresses.{lent};
+ghost use Rattle.toml_units.specs.Plain.{AreInside, comment_spans, element_units, end_units, pair_units, plain_inside, spanned, valued_units};
 ghost use Rattle.toml_tree.specs.Pieces.{piece_of};
-ghost use Rattle.toml_tree.specs.Spells.{SpellsValue};
-ghost use Rattle.toml_units.specs.Units.{comment_units, gap_units, inside};
-ghost use Rattle.toml_units.specs.View.{unit, all_units};
+ghost use Rattle.toml_units.specs.Units.{gap_units};
+ghost use Rattle.toml_units.specs.View.{AddsUnits};
 
 use crate::unit::{Unit, UnitKind};
 use std::alloc::{AllocError, Global};
@@ -15,7 +15,7 @@ use toml_tree::{Gap, Item, Pair, Piece, Value};
 
 /// An address of its own that is the same, where there is one.
 pub fn copied(alloc: Global, at: Option<&Address>) -> Result<Option<Address>, AllocError>
-    ensures { IfOk result (λ own. own ≡ option_map (λ a. a.now) at.entry) }
+    ensures { IfOk result (λ own. own ≡ lent at.entry) }
 {
     match at {
         Some(address) => Ok(Some(address.copy(alloc)?)),
@@ -31,7 +31,7 @@ pub fn push_comment(
     at: Option<&Address>,
     comment: Option<Piece>,
 ) -> Result<(), AllocError>
-    ensures { OnOk result (all_units units.new.items ≡ all_units units.old.items ++ map spanned (comment_units kind (option_map (λ a. a.now) at.entry) (option_map piece comment.entry))) }
+    ensures { OnOk result (AddsUnits units.old.items units.new.items (comment_spans kind (lent at.entry) (option_map piece comment.entry))) }
 {
     if let Some(found) = comment {
         units.push(Unit {
@@ -46,7 +46,7 @@ pub fn push_comment(
 
 /// Adds the comments of a gap of the array or inline table at the address.
 fn push_gap(alloc: Global, units: &mut Vec<Unit>, at: &Address, g: &Gap) -> Result<(), AllocError>
-    ensures { OnOk result (all_units units.new.items ≡ all_units units.old.items ++ map spanned (gap_units at.now (gap g.now))) }
+    ensures { OnOk result (AddsUnits units.old.items units.new.items (map spanned (gap_units at.now (gap g.now)))) }
 {
     for line in g.lines() {
         push_comment(
@@ -67,7 +67,7 @@ fn push_end(
     at: &Address,
     end: &Option<Gap>,
 ) -> Result<(), AllocError>
-    ensures { OnOk result (all_units units.new.items ≡ all_units units.old.items ++ end_units at.now (option_map gap end.now)) }
+    ensures { OnOk result (AddsUnits units.old.items units.new.items (end_units at.now (option_map gap end.now))) }
 {
     match end {
         Some(g) => push_gap(alloc, units, at, g),
@@ -94,7 +94,7 @@ pub fn push_inside(
     at: &Address,
     v: &Value,
 ) -> Result<(), AllocError>
-    ensures { OnOk result (all_units units.new.items ≡ all_units units.old.items ++ plain_inside at.now (value v.now)) }
+    ensures { OnOk result (AddsUnits units.old.items units.new.items (plain_inside at.now (value v.now))) }
 {
     match v {
         Value::Scalar(_, _) => Ok(()),
@@ -122,7 +122,7 @@ fn push_element(
     index: u64,
     item: &Item,
 ) -> Result<(), AllocError>
-    ensures { OnOk result (all_units units.new.items ≡ all_units units.old.items ++ element_units at.now index (tree_element item.now)) }
+    ensures { OnOk result (AddsUnits units.old.items units.new.items (element_units at.now index (tree_element item.now))) }
 {
     push_gap(alloc, units, at, &item.before)?;
     let here = at.element(alloc, index)?;
@@ -147,7 +147,7 @@ fn push_pair(
     at: &Address,
     pair: &Pair,
 ) -> Result<(), AllocError>
-    ensures { OnOk result (all_units units.new.items ≡ all_units units.old.items ++ pair_units at.now (member pair.now)) }
+    ensures { OnOk result (AddsUnits units.old.items units.new.items (pair_units at.now (member pair.now))) }
 {
     push_gap(alloc, units, at, &pair.before)?;
     let keyval = &pair.keyval;
@@ -180,7 +180,7 @@ fn push_valued(
     here: Address,
     v: &Value,
 ) -> Result<(), AllocError>
-    ensures { OnOk result (all_units units.new.items ≡ all_units units.old.items ++ unit (record { kind = kind; span = span; address = Some here; base = base }) ∷ plain_inside here (value v.now)) }
+    ensures { OnOk result (AddsUnits units.old.items units.new.items (valued_units kind span base here (value v.now))) }
 {
     // most values have nothing in them, and then the address is not copied
     if let Value::Scalar(_, _) = v {
@@ -204,7 +204,7 @@ fn push_valued(
 /// What lies in a value, in text order, an outer unit before what lies in it. The value's own address is taken to be the
 /// root's, and the places are those of the text of which it is a tree.
 pub fn units_inside(alloc: Global, v: &Value) -> Result<Vec<Unit>, AllocError>
-    ensures { IfOk result (λ us. (n : ℕ) (text : List ℕ) → SpellsValue (value v.now) n text → all_units us.items ≡ map spanned (inside [] (value v.now))) }
+    ensures { IfOk result (λ us. AreInside (value v.now) us.items) }
 {
     let mut units = Vec::new(alloc);
     push_inside(alloc, &mut units, &Address::root(alloc), v)?;

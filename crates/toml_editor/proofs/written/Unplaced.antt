@@ -6,6 +6,7 @@ use Rattle.toml_tree.specs.Tree.{Piece, Dotted, Key, Assign, Value, Scalar, Arra
 use Rattle.toml_names.specs.model.Addresses.{Address, same_address, child, element, below}
 use Rattle.toml_names.specs.mentions.Keys.{part_name, key_names}
 use Rattle.toml_names.specs.mentions.Mentions.{Named, named_by, root, section, entered}
+use Rattle.toml_names.proofs.Proved.{key_places_are_not_named, line_places_are_not_named}
 use Rattle.toml_editor.specs.Inserting.{new_line, line_behind, has_pair, insert_behind}
 use Rattle.toml_editor.specs.Lines.{fresh, array_of, inline_of, lines_from}
 use Rattle.toml_tree.specs.Bare.{bare, bare_blank, bare_dotted, bare_key, bare_assign, bare_gap, bare_value, bare_items, bare_pairs, bare_header, bare_expr, bare_line}
@@ -14,7 +15,6 @@ use Rattle.toml_editor.specs.Bares.{SetBares, InsertBares, RenameBares, RemoveBa
 use Rattle.toml_editor.specs.Removing.{remove_line, left_behind, empty_line}
 use Rattle.toml_editor.specs.Renaming.{rename_part, rename_rest, rename_key, rename_assign, rename_value, rename_items, rename_pairs, rename_header, rename_expr, rename_line}
 use Rattle.toml_editor.specs.Setting.{set_at, set_within, set_items, set_pairs, set_expr, set_line}
-use Rattle.toml_editor.proofs.written.BareNames.{key_bared, line_bared}
 
 pub array_bared : (is : Items) → bare_value (array_of is) ≡ array_of (bare_items is)
 array_bared is = ap (λ t. Array (fresh (0x5B ∷ t)) (bare_items is)) (sym (bare_items_text is))
@@ -28,7 +28,7 @@ from_bared f g same [] xs n = refl
 from_bared f g same (l ∷ ls) xs n =
     map-append bare_line (f xs l) (lines_from f (xs ++ named_by xs n l.expr) (n + 1) ls)
     ∙ ap₂ (λ a b. a ++ b) (same xs l)
-    (from_bared f g same ls (xs ++ named_by xs n l.expr) (n + 1) ∙ ap (λ new. lines_from g (xs ++ new) (n + 1) (map bare_line ls)) (sym (line_bared xs n l.expr)))
+    (from_bared f g same ls (xs ++ named_by xs n l.expr) (n + 1) ∙ ap (λ new. lines_from g (xs ++ new) (n + 1) (map bare_line ls)) (sym (line_places_are_not_named xs n l.expr)))
 
 -- ---- set
 
@@ -47,7 +47,7 @@ module _ (p : Address) (new : Value) where
   pair_at at a v within =
       let to = below at (key_names a.key) in
       at_bared to (set_within p new to v) (set_within p (bare_value new) to (bare_value v)) (within to)
-      ∙ ap (λ k. set_at p (bare_value new) (below at k) (set_within p (bare_value new) (below at k) (bare_value v))) (sym (key_bared a.key))
+      ∙ ap (λ k. set_at p (bare_value new) (below at k) (set_within p (bare_value new) (below at k) (bare_value v))) (sym (key_places_are_not_named a.key))
 
   mutual
     pub set_bared : (v : Value) (at : Address) → bare_value (set_within p new at v) ≡ set_within p (bare_value new) at (bare_value v)
@@ -139,7 +139,7 @@ module _ (p : Address) (to : List ℕ) where
 
   in_pair : (at : Address) (a : Assign) (v : Value) → ((here : Address) → bare_value (rename_value p to here v) ≡ rename_value p to here (bare_value v))
       → bare_value (rename_value p to (below at (key_names a.key)) v) ≡ rename_value p to (below at (key_names (bare_key a.key))) (bare_value v)
-  in_pair at a v within = within (below at (key_names a.key)) ∙ ap (λ k. rename_value p to (below at k) (bare_value v)) (sym (key_bared a.key))
+  in_pair at a v within = within (below at (key_names a.key)) ∙ ap (λ k. rename_value p to (below at k) (bare_value v)) (sym (key_places_are_not_named a.key))
 
   mutual
     value_bared : (v : Value) (at : Address) → bare_value (rename_value p to at v) ≡ rename_value p to at (bare_value v)
@@ -203,7 +203,7 @@ remove_line_bared p xs l = by l.expr
     by (BlankLine b) = refl
     by (KeyValLine ws k b) =
         at_test (same_address (below (section xs) (key_names k.assign.key)) p)
-        ∙ ap (λ ks. cond (same_address (below (section xs) ks) p) (left_behind (bare_line l)) (bare_line l ∷ [])) (sym (key_bared k.assign.key))
+        ∙ ap (λ ks. cond (same_address (below (section xs) ks) p) (left_behind (bare_line l)) (bare_line l ∷ [])) (sym (key_places_are_not_named k.assign.key))
       where
         at_test : (t : Bool) → map bare_line (cond t (left_behind l) (l ∷ [])) ≡ cond t (left_behind (bare_line l)) (bare_line l ∷ [])
         at_test true = left_bared l

@@ -11,9 +11,9 @@ use Rattle.toml_checker.specs.Pairs.{IsFirst}
 use Rattle.toml_checker.specs.Plain.{Site, site, next_line}
 use Rattle.toml_checker.specs.Protected.{IsProtected}
 use Rattle.toml_checker.proofs.Proved.{flags_tell}
-use Rattle.toml_editor.specs.BareUnits.{bare_unit}
+use Rattle.toml_units.specs.Bares.{bare_unit}
 use Rattle.toml_editor.specs.CarriedUnits.{ArePartners}
-use Rattle.toml_editor.proofs.written.UnitsBare.{units_of_bares}
+use Rattle.toml_units.proofs.Proved.{units_of_bares}
 use Rattle.toml_editor.proofs.written.Way.{Step, both, old, new, olds, news, seen, pairs, NoneLost, first_of, of_first, Stands, whole, one_line}
 use Rattle.toml_editor.proofs.written.WayComments.{added, comments, no_comments_added}
 use Rattle.toml_editor.proofs.written.WayFits.{Fits, newlines, Place, pairs_fit, no_lines_added, unit_kind, seen_kind}

@@ -1,4 +1,3 @@
-use Rattle.toml_editor.proofs.written.UnitsBare.{units_of_bares}
 use Rattle.toml_editor.proofs.written.UnitsPut.{insert_units}
 use Rattle.toml_editor.proofs.written.UnitsTaken.{remove_units}
 use Rattle.toml_editor.proofs.written.UnitsRenamed.{rename_units}
@@ -6,4 +5,4 @@ use Rattle.toml_editor.proofs.written.UnitsSet.{set_units}
 use Rattle.toml_editor.proofs.laws.units.Goals as goal
 
 pub returns : goal.returns
-returns c = record { insert = insert_units; remove = remove_units; rename = rename_units; set = set_units; bares = units_of_bares }
+returns c = record { insert = insert_units; remove = remove_units; rename = rename_units; set = set_units }

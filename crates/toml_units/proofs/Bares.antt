@@ -3,21 +3,23 @@ use Rattle.std.proofs.Common.{◌≡◌, ℕ, ◌+◌, Option, Some, None, List,
 use Rattle.std.proofs.lemmas.List.{map-append}
 use Rattle.toml_tree.specs.Bare.{bare, bare_comment, bare_blank, bare_dotted, bare_key, bare_assign, bare_gap_line, bare_gap, bare_value, bare_items, bare_pairs, bare_keyval, bare_header, bare_expr, bare_line}
 use Rattle.toml_tree.specs.Pieces.{piece_of, expr_piece}
-use Rattle.toml_tree.specs.Spells.{piece, symbol, joined, all_parts, comment_parts, blank_parts, dotted_parts, key_parts, equals_parts, assign_parts, value_parts, keyval_parts, header_parts, expr_parts}
+use Rattle.toml_tree.specs.Spells.{Part, piece, symbol, joined, all_parts, comment_parts, blank_parts, dotted_parts, key_parts, equals_parts, assign_parts, value_parts, keyval_parts, header_parts, expr_parts}
 use Rattle.toml_tree.specs.Tree.{Piece, Blank, Dotted, Key, Assign, GapLine, Gap, Value, Scalar, Array, Inline, Items, Close, Last, More, Pairs, ClosePairs, LastPair, MorePairs, KeyVal, Header, Expr, BlankLine, KeyValLine, TableLine, ArrayTableLine, Line}
-use Rattle.toml_tree.proofs.Proved.{bare_value_text}
+use Rattle.toml_tree.proofs.Proved.{bare_value_text, parts_join}
 use Rattle.toml_names.specs.mentions.Keys.{key_names}
 use Rattle.toml_names.specs.mentions.Mentions.{Named, named_by, root, section, count_tables}
 use Rattle.toml_names.specs.model.Addresses.{Address, element, below}
 use Rattle.toml_names.specs.reader.Names.{header_end, own_address}
+use Rattle.toml_names.proofs.Proved.{key_places_are_not_named, line_places_are_not_named}
 use Rattle.toml_units.specs.Units.{TextUnit, comment_units, gap_line_units, gap_units, element_unit, pair_unit, inside, elements, members, inside_line, line_base, line_units, units_from}
 use Rattle.toml_units.specs.declared.unit.UnitKind.{UnitKind}
 use Rattle.toml_units.specs.declared.unit.UnitKind.TheVariants as kinds
-use Rattle.toml_editor.specs.BareUnits.{bare_unit, UnitsOfBares}
-use Rattle.toml_editor.proofs.written.BareNames.{key_bared, line_bared}
-use Rattle.toml_editor.proofs.written.Texts.{both_texts}
+use Rattle.toml_units.specs.Bares.{bare_unit, UnitsOfBares}
 
 -- ---- texts
+
+both_texts : (a b c d : List Part) → joined a ≡ joined b → joined c ≡ joined d → joined (a ++ c) ≡ joined (b ++ d)
+both_texts a b c d first second = parts_join a c ∙ ap₂ (λ s t. s ++ t) first second ∙ sym (parts_join b d)
 
 rest_text : (ds : List Dotted) → joined (all_parts dotted_parts (map bare_dotted ds)) ≡ joined (all_parts dotted_parts ds)
 rest_text [] = refl
@@ -77,7 +79,7 @@ elem_bared v at within = ap₂ (λ (p : Piece) us. record { kind = kinds.Element
 pair_bared : (a : Assign) (v : Value) (at : Address) → inside (below at (key_names a.key)) (bare_value v) ≡ map bare_unit (inside (below at (key_names a.key)) v)
     → pair_unit at (record { assign = bare_assign a; value = bare_value v }) ∷ inside (below at (key_names (bare_key a.key))) (bare_value v) ≡ map bare_unit (pair_unit at (record { assign = a; value = v }) ∷ inside (below at (key_names a.key)) v)
 pair_bared a v at within =
-    ap (λ k. record { kind = kinds.Pair; piece = record { start = 0; text = joined (keyval_parts (bare_keyval (record { assign = a; value = v }))) }; address = Some (below at k); base = Some (length at) } ∷ inside (below at k) (bare_value v)) (key_bared a.key)
+    ap (λ k. record { kind = kinds.Pair; piece = record { start = 0; text = joined (keyval_parts (bare_keyval (record { assign = a; value = v }))) }; address = Some (below at k); base = Some (length at) } ∷ inside (below at k) (bare_value v)) (key_places_are_not_named a.key)
     ∙ ap₂ (λ t us. record { kind = kinds.Pair; piece = record { start = 0; text = t }; address = Some (below at (key_names a.key)); base = Some (length at) } ∷ us) (keyval_text (record { assign = a; value = v })) within
 
 between : (g h : Gap) (at : Address) (us vs us' vs' : List TextUnit) → us' ≡ map bare_unit us → vs' ≡ map bare_unit vs
@@ -109,9 +111,9 @@ mutual
 
 own_bared : (xs : List Named) (e : Expr) → own_address xs (bare_expr e) ≡ own_address xs e
 own_bared xs (BlankLine b) = refl
-own_bared xs (KeyValLine ws k b) = ap (λ key. Some (below (section xs) key)) (key_bared k.assign.key)
-own_bared xs (TableLine ws h b) = ap (λ key. Some (header_end xs [] key)) (key_bared h.key)
-own_bared xs (ArrayTableLine ws h b) = ap (λ key. Some (element (header_end xs [] key) (count_tables xs (header_end xs [] key)))) (key_bared h.key)
+own_bared xs (KeyValLine ws k b) = ap (λ key. Some (below (section xs) key)) (key_places_are_not_named k.assign.key)
+own_bared xs (TableLine ws h b) = ap (λ key. Some (header_end xs [] key)) (key_places_are_not_named h.key)
+own_bared xs (ArrayTableLine ws h b) = ap (λ key. Some (element (header_end xs [] key) (count_tables xs (header_end xs [] key)))) (key_places_are_not_named h.key)
 
 base_bared : (xs : List Named) (e : Expr) → line_base xs (bare_expr e) ≡ line_base xs e
 base_bared xs (BlankLine b) = refl
@@ -142,7 +144,7 @@ lines_bared : (ls : List Line) (xs : List Named) (n : ℕ) → units_from xs n (
 lines_bared [] xs n = refl
 lines_bared (l ∷ ls) xs n =
     both (line_units xs l.expr) (units_from (xs ++ named_by xs n l.expr) (n + 1) ls) (line_units xs (bare_expr l.expr)) _ (line_units_bared xs l.expr)
-    (ap (λ new. units_from (xs ++ new) (n + 1) (map bare_line ls)) (line_bared xs n l.expr) ∙ lines_bared ls (xs ++ named_by xs n l.expr) (n + 1))
+    (ap (λ new. units_from (xs ++ new) (n + 1) (map bare_line ls)) (line_places_are_not_named xs n l.expr) ∙ lines_bared ls (xs ++ named_by xs n l.expr) (n + 1))
 
 pub units_of_bares : UnitsOfBares
 units_of_bares lines = lines_bared lines (root ∷ []) 0
