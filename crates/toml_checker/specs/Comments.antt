@@ -67,8 +67,8 @@ AreNewComments ps us = AreNewFrom ps us 0 us
 abbrev pub times : List ℕ → List (List ℕ) → ℕ
 times t ts = count_by (bytes_eq t) ts
 
--- Every comment of the new text is paired, or lies inside a paired unit, or is a comment in an array or an inline table that an edit has written; and of
--- these last ones no text stands more often than in the values of all the edits.
+-- Every comment of the new text is paired, or lies inside a paired unit, or is a comment in an array or an inline table that an edit has
+-- written; and of these last ones no text stands more often than in the values of all the edits.
 pub record NoCommentsAdded (cs : List Change) (e : Doc) (ps : List (ℕ × ℕ)) : Type 0 where
   pub written : List (List (List ℕ))
   pub written_are : AreWritten cs written

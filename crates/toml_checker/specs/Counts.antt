@@ -1,5 +1,5 @@
 -- How often texts stand in lists.
-use Rattle.std.specs.Prelude.{ℕ, List, map, count_by}
+use Rattle.std.specs.Prelude.{◌≡◌, ◌+◌, ℕ, List, map, count_by, if◌then◌else◌}
 use Rattle.std.specs.Borrow.{Bor}
 use Rattle.std.specs.BTreeMap.{BTreeMap, get_by}
 use Rattle.std.specs.Cmp.Lexicographic.{slice_cmp}
@@ -23,3 +23,7 @@ Counts = BTreeMap Text ℕ
 -- how often a map says that it is
 abbrev pub count_of : Counts → List ℕ → ℕ
 count_of m t = unwrap_or (get_by (λ k. slice_cmp nat_cmp t k.now) m) 0
+
+-- the new counts have the text once more, and each other one as often
+abbrev pub HasOneMore : List ℕ → Counts → Counts → Type 0
+HasOneMore text old new = (t : List ℕ) → count_of new t ≡ (if bytes_eq text t then count_of old t + 1 else count_of old t)

@@ -1,6 +1,8 @@
 -- Marks on units, by their places.
-use Rattle.std.specs.Prelude.{◌≡◌, ◌⊎◌, ◌<◌, ◌≤◌, ℕ, Bool, true, false, if◌then◌else◌, List, map, Option, Some, None, nat_le, slice_index_or}
+use Rattle.std.specs.Prelude.{◌≡◌, ◌↔◌, ◌⊎◌, ◌<◌, ◌≤◌, ℕ, Bool, true, false, if◌then◌else◌, List, length, map, Option, Some, None, nat_le, slice_index_or}
+use Rattle.toml_units.specs.declared.unit.Unit.{Unit as Made}
 use Rattle.toml_units.specs.Plain.{Spanned}
+use Rattle.toml_units.specs.View.{all_units}
 
 -- the unit at the place is marked
 abbrev pub IsSet : List Bool → ℕ → Type 0
@@ -21,6 +23,13 @@ IsHeld ends marks i = IsSet marks i ⊎ EndsWithin ends marks i
 -- it is marked, and does not end so
 abbrev pub IsFree : List ℕ → List Bool → ℕ → Type 0
 IsFree ends marks i = IsSet marks i × ¬ (EndsWithin ends marks i)
+
+-- the flags tell so of each of the code's units
+abbrev pub TellHeld : List Made → List Bool → List Bool → Type 0
+TellHeld us marks flags = (i : ℕ) → i < length us → (IsSet flags i ↔ IsHeld (stops (all_units us)) marks i)
+
+abbrev pub TellFree : List Made → List Bool → List Bool → Type 0
+TellFree us marks flags = (i : ℕ) → i < length us → (IsSet flags i ↔ IsFree (stops (all_units us)) marks i)
 
 -- the furthest end of marked units so far, and behind one more that may be marked
 abbrev pub further : ℕ → ℕ → ℕ

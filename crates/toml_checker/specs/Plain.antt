@@ -10,6 +10,7 @@ use Rattle.toml_units.specs.declared.unit.UnitKind.{UnitKind}
 use Rattle.toml_units.specs.declared.unit.UnitKind.TheVariants as kinds
 use Rattle.toml_units.specs.Places.{is_line}
 use Rattle.toml_units.specs.Units.{TextUnit}
+use Rattle.toml_units.specs.View.{all_units, spanned}
 use Rattle.toml_checker.specs.declared.moving.Way.{Way}
 use Rattle.toml_checker.specs.declared.moving.Way.TheVariants.{First, Own}
 use Rattle.toml_checker.specs.declared.side.Side.{Side}
@@ -139,6 +140,10 @@ flags cs = flags_from cs None
 -- the flags tell of each unit whether it is protected
 abbrev pub TellProtected : List Change → List TextUnit → List Bool → Type 0
 TellProtected cs us fs = (length fs ≡ length us) × ((i : ℕ) → (slice_get fs i ≡ Some true) ↔ IsProtected cs us i)
+
+-- they tell so of the units that are the code's
+abbrev pub TellProtectedOf : List Made → List Change → List Bool → Type 0
+TellProtectedOf made cs fs = (us : List TextUnit) → all_units made ≡ map spanned us → TellProtected cs us fs
 
 -- Law: those of the plain function do.
 abbrev pub FlagsTell : Type 0

@@ -28,6 +28,10 @@ AreUnitsOf doc us = all_units us ≡ map spanned (units (document doc).lines)
 abbrev pub AreNewlinesOf : Parsed → List Text → Type 0
 AreNewlinesOf doc ts = plain ts ≡ newlines (document doc).lines
 
+-- it holds of each tree that spells the text and has these units
+abbrev pub OfTreeWith : List ℕ → List Made → (Doc → Type 0) → Type 0
+OfTreeWith text us P = (d : Doc) → Spells d text → all_units us ≡ map spanned (units d.lines) → P d
+
 -- the tree spells the text; the units are its units, and the newlines those of its lines
 pub record IsReadAs (d : Document) (tree : Doc) : Type 0 where
   pub spelled : Spells tree d.text.now

@@ -36,7 +36,9 @@ pub record BringsTo (run : Run) (a b : Address) : Type 0 where
   pub to : b ≡ run.array.now ++ Index other ∷ rest
   pub brought : BringsElement run index other
 
--- a run of the edits. No element of it is brought below 0 (`low`), so that each is brought to some index. The array stays where it is, and so does what is above it, and no edit takes away a comment of these or the line of one. What is at or below an element of the run no edit names, and the edits carry it to where the run brings it
+-- A run of the edits. No element of it is brought below 0 (`low`), so that each is brought to some index. The array stays where it is, and
+-- so does what is above it, and no edit takes away a comment of these or the line of one. What is at or below an element of the run no
+-- edit names, and the edits carry it to where the run brings it.
 pub record IsRun (cs : List Change) (run : Run) : Type 0 where
   pub low : run.before ≤ run.to
   pub holder_carries : (a : Address) → IsAtOrAbove a run.array.now → carried cs a ≡ Some a

@@ -1,5 +1,5 @@
 -- Units walked past in order, and what two units are found to have in common.
-use Rattle.std.specs.Prelude.{◌≡◌, ◌⊎◌, ◌<◌, ◌≤◌, ◌+◌, ℕ, List, [], ◌∷◌, Option, MatchOption, length, take, count_by, slice_get, slice_range}
+use Rattle.std.specs.Prelude.{◌≡◌, ◌↔◌, ◌⊎◌, ◌<◌, ◌≤◌, ◌+◌, ℕ, Bool, IsTrue, List, [], ◌∷◌, Option, MatchOption, length, take, count_by, slice_get, slice_range}
 use Rattle.toml_tree.specs.Tree.{Doc}
 use Rattle.toml_edits.specs.Edits.{Change}
 use Rattle.toml_units.specs.declared.unit.Unit.{Unit as Made}
@@ -57,6 +57,10 @@ pub record NextFits (cs : List Change) (d e : Doc) (i k : ℕ) (p : ℕ × ℕ) 
 -- so it is of the trees of two documents that were read
 abbrev pub OfTrees : Document → Document → (Doc → Doc → Type 0) → Type 0
 OfTrees b a P = (d e : Doc) → IsReadAs b d → IsReadAs a e → P d e
+
+-- the answer tells whether it is so
+abbrev pub TellsOfTrees : Document → Document → (Doc → Doc → Type 0) → Bool → Type 0
+TellsOfTrees b a P holds = OfTrees b a (λ d e. IsTrue holds ↔ P d e)
 
 -- the units of a pair that fits were walked past too
 pub record IsPairPassed (cs : List Change) (b a : Document) (first second : Passed) (p : ℕ × ℕ) (past : Passed × Passed) : Type 0 where

@@ -1,5 +1,6 @@
 //! Whether edits carry an address to another.
-ghost use Rattle.std.specs.Prelude.{◌≡◌, ◌↔◌, IsTrue, IfOk, IfSome, Some, option_map};
+ghost use Rattle.std.specs.Prelude.{◌≡◌, ◌↔◌, IsTrue, IfOk, IfSome, Some};
+ghost use Rattle.toml_names.specs.model.Addresses.{lent};
 ghost use Rattle.toml_edits.specs.Lists.{carried};
 ghost use Rattle.toml_checker.specs.CarriedTo.{IsCarriedTo};
 ghost use Rattle.toml_checker.specs.EditLists.{changes};
@@ -52,7 +53,7 @@ pub(crate) fn is_carried_to(
     from: Option<&Address>,
     to: Option<&Address>,
 ) -> Result<bool, AllocError>
-    ensures { IfOk result (λ arrived. IsTrue arrived ↔ IsCarriedTo (changes list.now) (option_map (λ a. a.now) from.entry) (option_map (λ a. a.now) to.entry)) }
+    ensures { IfOk result (λ arrived. IsTrue arrived ↔ IsCarriedTo (changes list.now) (lent from.entry) (lent to.entry)) }
 {
     match (from, to) {
         (None, None) => Ok(true),

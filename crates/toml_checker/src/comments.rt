@@ -1,12 +1,10 @@
 //! That no comment is added unasked.
-ghost use Rattle.std.specs.Prelude.{◌≡◌, ◌↔◌, List, IsTrue, IfOk, map};
+ghost use Rattle.std.specs.Prelude.{◌↔◌, IsTrue, IfOk, map};
 ghost use Rattle.toml_checker.specs.Comments.{NoCommentsAdded};
 ghost use Rattle.toml_checker.specs.WrittenComments.{HaveValues, IsAllowed};
 ghost use Rattle.toml_edits.specs.Edits.{change};
-ghost use Rattle.toml_tree.specs.Spells.{EachIs, Spells};
-ghost use Rattle.toml_tree.specs.Tree.{Doc};
-ghost use Rattle.toml_units.specs.Plain.{spanned};
-ghost use Rattle.toml_units.specs.Units.{units as units_of};
+ghost use Rattle.toml_tree.specs.Spells.{EachIs};
+ghost use Rattle.toml_checker.specs.Reading.{OfTreeWith};
 ghost use Rattle.toml_units.specs.View.{unit, all_units};
 
 use crate::counting::no_more;
@@ -39,8 +37,9 @@ fn are_allowed(written: &[Written], text: &[u8], comments: &[&Unit]) -> bool
 }
 
 /// Whether each comment of a document is paired, or lies inside a paired unit, or is a comment of an array or an inline
-/// table that an edit has written; and of these last ones no text stands more often than in the values of all the edits. The units are those
-/// of the document, whose text it is, the pairs' second numbers count them, and no edit's value is refused in the profile.
+/// table that an edit has written; and of these last ones no text stands more often than in the values of all the edits. The
+/// units are those of the document, whose text it is, the pairs' second numbers count them, and no edit's value is refused
+/// in the profile.
 pub(crate) fn no_comments_added(
     alloc: Global,
     text: &[u8],
@@ -50,7 +49,7 @@ pub(crate) fn no_comments_added(
     profile: Profile,
 ) -> Result<bool, AllocError>
     requires { HaveValues profile (map change edits.now) }
-    ensures { IfOk result (λ holds. (e : Doc) → Spells e text.now → all_units units.now ≡ map spanned (units_of e.lines) → (IsTrue holds ↔ NoCommentsAdded (map change edits.now) e pairs.now)) }
+    ensures { IfOk result (λ holds. OfTreeWith text.now units.now (λ e. IsTrue holds ↔ NoCommentsAdded (map change edits.now) e pairs.now)) }
 {
     let written = all_written(alloc, edits, profile)?;
     let paired = second_marks(alloc, units.len(), pairs)?;

@@ -1,7 +1,6 @@
 //! How often texts stand in lists.
-ghost use Rattle.std.specs.Prelude.{◌≡◌, ◌↔◌, ◌<◌, ◌≤◌, ◌+◌, ◌^◌, ℕ, List, IsTrue, IfOk, OnOk, cond};
-ghost use Rattle.std.specs.Str.{bytes_eq};
-ghost use Rattle.toml_checker.specs.Counts.{seen, count_of};
+ghost use Rattle.std.specs.Prelude.{◌≡◌, ◌↔◌, ◌<◌, ◌≤◌, ◌+◌, ◌^◌, ℕ, List, IsTrue, IfOk, OnOk};
+ghost use Rattle.toml_checker.specs.Counts.{HasOneMore, count_of, seen};
 
 use std::alloc::{AllocError, Global};
 use std::collections::BTreeMap;
@@ -9,7 +8,7 @@ use std::collections::BTreeMap;
 /// Counts a text once more.
 fn add_one<'t>(counts: &mut BTreeMap<&'t [u8], u64>, text: &'t [u8]) -> Result<(), AllocError>
     requires { count_of counts.old text.now + 1 < 2 ^ 64 }
-    ensures { OnOk result ((t : List ℕ) → count_of counts.new t ≡ cond (bytes_eq text.now t) (count_of counts.old t + 1) (count_of counts.old t)) }
+    ensures { OnOk result (HasOneMore text.now counts.old counts.new) }
 {
     let count = counts.get(text).copied().unwrap_or(0);
     counts.insert(text, count + 1)?;
@@ -19,7 +18,7 @@ fn add_one<'t>(counts: &mut BTreeMap<&'t [u8], u64>, text: &'t [u8]) -> Result<(
 /// Takes a text once, if there is one left.
 fn take_one(counts: &mut BTreeMap<&[u8], u64>, text: &[u8]) -> bool
     ensures had { IsTrue result ↔ (0 < count_of counts.old text.now) }
-    ensures left { IsTrue result → (t : List ℕ) → count_of counts.old t ≡ cond (bytes_eq text.now t) (count_of counts.new t + 1) (count_of counts.new t) }
+    ensures left { IsTrue result → HasOneMore text.now counts.new counts.old }
 {
     if let Some(count) = counts.get_mut(text) {
         if *count > 0 {

@@ -1,8 +1,7 @@
 //! Which units are marked, or lie inside a marked one.
-ghost use Rattle.std.specs.Prelude.{◌≡◌, ◌↔◌, ◌<◌, ◌⊎◌, ℕ, IsTrue, IfOk, length, vec_len, List};
-ghost use Rattle.toml_checker.specs.Marks.{IsSet, IsHeld, stops, reach_with, reaches};
+ghost use Rattle.std.specs.Prelude.{◌≡◌, ◌↔◌, ◌<◌, ◌⊎◌, ℕ, IfOk, length, vec_len};
+ghost use Rattle.toml_checker.specs.Marks.{IsSet, TellHeld, reach_with, reaches};
 ghost use Rattle.toml_checker.specs.Pairs.{IsFirst, IsSecond};
-ghost use Rattle.toml_units.specs.View.{all_units};
 
 use std::alloc::{AllocError, Global};
 use toml_units::Unit;
@@ -39,7 +38,7 @@ pub(crate) fn covered(
 ) -> Result<Vec<bool>, AllocError>
     requires { length marks.now ≡ length units.now }
     ensures len { IfOk result (λ v. vec_len v ≡ length units.now) }
-    ensures held { IfOk result (λ v. (i : ℕ) → i < length units.now → (IsSet v.items i ↔ IsHeld (stops (all_units units.now)) marks.now i)) }
+    ensures held { IfOk result (λ v. TellHeld units.now marks.now v.items) }
 {
     let mut covered = Vec::new(alloc);
     let mut reach = None;

@@ -1,14 +1,7 @@
 //! That nothing protected is lost.
-ghost use Rattle.std.specs.Prelude.{◌≡◌, ◌↔◌, ◌<◌, ◌⊎◌, ℕ, IsTrue, IfOk, length, vec_len, List, map};
-ghost use Rattle.toml_checker.specs.Kept.{AllKept};
+ghost use Rattle.std.specs.Prelude.{◌≡◌, ◌↔◌, ◌<◌, ℕ, IsTrue, IfOk, length, vec_len};
+ghost use Rattle.toml_checker.specs.Kept.{TellsAllKept};
 ghost use Rattle.toml_checker.specs.Marks.{IsSet};
-ghost use Rattle.toml_checker.specs.Protected.{IsProtected};
-ghost use Rattle.toml_edits.specs.Edits.{Change};
-ghost use Rattle.toml_tree.specs.Spells.{Spells};
-ghost use Rattle.toml_tree.specs.Tree.{Doc};
-ghost use Rattle.toml_units.specs.Plain.{spanned};
-ghost use Rattle.toml_units.specs.Units.{units as units_of};
-ghost use Rattle.toml_units.specs.View.{all_units};
 
 use crate::covered::{covered, first_marks};
 use std::alloc::{AllocError, Global};
@@ -49,8 +42,7 @@ pub(crate) fn all_kept(
     pairs: &[(u64, u64)],
 ) -> Result<bool, AllocError>
     requires { length protected.now ≡ length units.now }
-    ensures { IfOk result (λ holds. (cs : List Change) (d : Doc) (text : List ℕ) → Spells d text → all_units units.now ≡ map spanned (units_of d.lines)
-        → ((i : ℕ) → IsSet protected.now i ↔ IsProtected cs (units_of d.lines) i) → (IsTrue holds ↔ AllKept cs d pairs.now)) }
+    ensures { IfOk result (TellsAllKept units.now protected.now pairs.now) }
 {
     let paired = first_marks(alloc, units.len(), pairs)?;
     let holders = both(alloc, protected, &paired)?;

@@ -1,13 +1,8 @@
 //! Which protected units lie in no other one.
-ghost use Rattle.std.specs.Prelude.{◌≡◌, ◌↔◌, ◌<◌, ◌&&◌, not, ℕ, List, IfOk, false, length, map, slice_index_or, vec_len};
-ghost use Rattle.toml_tree.specs.Spells.{Spells};
-ghost use Rattle.toml_tree.specs.Tree.{Doc};
+ghost use Rattle.std.specs.Prelude.{◌≡◌, ◌&&◌, not, IfOk, false, length, map, slice_index_or, vec_len};
 ghost use Rattle.toml_edits.specs.Edits.{change};
-ghost use Rattle.toml_units.specs.Plain.{spanned};
-ghost use Rattle.toml_units.specs.Units.{units as units_of};
-ghost use Rattle.toml_units.specs.View.{all_units};
-ghost use Rattle.toml_checker.specs.Marks.{IsFree, IsSet, stops};
-ghost use Rattle.toml_checker.specs.Outer.{TellOuter};
+ghost use Rattle.toml_checker.specs.Marks.{TellFree};
+ghost use Rattle.toml_checker.specs.Outer.{TellOuterOf};
 
 use crate::covered::{reach_with, reaches};
 use crate::protection::protected;
@@ -36,7 +31,7 @@ fn is_marked(marks: &[bool], index: usize) -> bool
 /// in no other marked one.
 fn free(alloc: Global, units: &[Unit], marks: &[bool]) -> Result<Vec<bool>, AllocError>
     ensures len { IfOk result (λ v. vec_len v ≡ length units.now) }
-    ensures free { IfOk result (λ v. (i : ℕ) → i < length units.now → (IsSet v.items i ↔ IsFree (stops (all_units units.now)) marks.now i)) }
+    ensures free { IfOk result (λ v. TellFree units.now marks.now v.items) }
 {
     let mut free = Vec::new(alloc);
     let mut reach = None;
@@ -52,8 +47,7 @@ fn free(alloc: Global, units: &[Unit], marks: &[bool]) -> Result<Vec<bool>, Allo
 /// Which units of a document are protected under the edits and lie in no other protected unit. All protected units are these
 /// and those that lie in them.
 pub fn outermost(alloc: Global, units: &[Unit], edits: &[Edit]) -> Result<Vec<bool>, AllocError>
-    ensures { IfOk result (λ flags. (d : Doc) (text : List ℕ) → Spells d text → all_units units.now ≡ map spanned (units_of d.lines)
-        → TellOuter (map change edits.now) (units_of d.lines) flags.items) }
+    ensures { IfOk result (λ flags. TellOuterOf units.now (map change edits.now) flags.items) }
 {
     let flags = protected(alloc, units, edits)?;
     let outer = free(alloc, units, &flags)?;

@@ -6,7 +6,7 @@ ghost use Rattle.toml_checker.specs.Counts.{plain};
 ghost use Rattle.toml_checker.specs.EditLists.{changes};
 ghost use Rattle.toml_checker.specs.Pairs.{PairsFit, StandsAs};
 ghost use Rattle.toml_checker.specs.Reading.{IsRead};
-ghost use Rattle.toml_checker.specs.Walking.{AreAlike, HaveOneNewline, IsPassed, IsSpot, IsWithin, OfTrees, PassesPair, Reaches, lines_in};
+ghost use Rattle.toml_checker.specs.Walking.{AreAlike, HaveOneNewline, IsPassed, IsSpot, IsWithin, PassesPair, Reaches, TellsOfTrees, lines_in};
 
 use crate::arriving::is_carried_to;
 use crate::documents::Document;
@@ -154,7 +154,7 @@ fn stands_as(
 ) -> Result<bool, AllocError>
     requires first { IsSpot before first }
     requires second { IsSpot after second }
-    ensures { IfOk result (λ holds. OfTrees before.entry after.entry (λ d e. IsTrue holds ↔ StandsAs (changes list.now) d e first.units second.units)) }
+    ensures { IfOk result (TellsOfTrees before.entry after.entry (λ d e. StandsAs (changes list.now) d e first.units second.units)) }
 {
     let one = &before.units[first.units];
     let other = &after.units[second.units];
@@ -210,7 +210,7 @@ pub(crate) fn pairs_fit(
 ) -> Result<bool, AllocError>
     requires before { IsRead before }
     requires after { IsRead after }
-    ensures { IfOk result (λ holds. OfTrees before.entry after.entry (λ d e. IsTrue holds ↔ PairsFit (map change edits.now) d e pairs.now)) }
+    ensures { IfOk result (TellsOfTrees before.entry after.entry (λ d e. PairsFit (map change edits.now) d e pairs.now)) }
 {
     let mut list = EditList::of(alloc, edits)?;
     let mut one = Passed { units: 0, lines: 0 };

@@ -1,11 +1,8 @@
 //! Which units no edit of a list takes away or changes.
-ghost use Rattle.std.specs.Prelude.{◌≡◌, List, map, Some, IfOk, Option, ℕ, true};
+ghost use Rattle.std.specs.Prelude.{◌≡◌, map, Some, IfOk, Option, ℕ, true};
 ghost use Rattle.toml_edits.specs.Edits.{change};
-ghost use Rattle.toml_units.specs.Plain.{spanned};
-ghost use Rattle.toml_units.specs.Units.{TextUnit};
-ghost use Rattle.toml_units.specs.View.{all_units};
 ghost use Rattle.toml_checker.specs.EditLists.{changes};
-ghost use Rattle.toml_checker.specs.Plain.{stands, home_stands, made_site, line_site, next_line, is_kept, TellProtected};
+ghost use Rattle.toml_checker.specs.Plain.{stands, home_stands, made_site, line_site, next_line, is_kept, TellProtectedOf};
 
 use crate::edit_list::EditList;
 use crate::moving::Way;
@@ -124,7 +121,7 @@ fn next_line<'a>(line: Option<&'a Unit>, unit: &'a Unit) -> Option<&'a Unit>
 ///
 /// A new section or element takes nothing away, and is among the edits of any kind.
 pub fn protected(alloc: Global, units: &[Unit], edits: &[Edit]) -> Result<Vec<bool>, AllocError>
-    ensures { IfOk result (λ flags. (us : List TextUnit) → all_units units.now ≡ map spanned us → TellProtected (map change edits.now) us flags.items) }
+    ensures { IfOk result (λ flags. TellProtectedOf units.now (map change edits.now) flags.items) }
 {
     let mut list = EditList::of(alloc, edits)?;
     let mut flags = Vec::with_capacity(alloc, units.len())?;

@@ -1,8 +1,8 @@
 //! Runs: elements of one array that edits treat alike, so that the edits need be asked once for all of them.
-ghost use Rattle.std.specs.Prelude.{◌≡◌, ◌≤◌, ◌<◌, ◌↔◌, ◌++◌, ◌∷◌, ◌≢◌, ℕ, IsTrue, IfSome, MatchOption, map, option_map};
-ghost use Rattle.toml_names.specs.model.Addresses.{Address as Steps};
+ghost use Rattle.std.specs.Prelude.{◌≡◌, ◌≤◌, ◌<◌, ◌↔◌, ◌++◌, ◌∷◌, IsTrue, IfSome, MatchOption, map, option_map};
 ghost use Rattle.toml_names.specs.declared.model.address.Step.TheVariants.{Index};
 ghost use Rattle.toml_edits.specs.Carry.{parted};
+ghost use Rattle.toml_edits.specs.Courses.{LeadOn, LeadToNoIndex};
 ghost use Rattle.toml_edits.specs.Edits.{change, place as place_of};
 ghost use Rattle.toml_checker.specs.CarriedTo.{IsAtOrAbove};
 ghost use Rattle.toml_checker.specs.Runs.{HasElement, BringsElement, BringsTo, IsCovered, IsFresh, IsMadeFor, IsRun, Follows, LeavesHolders, Passes, Without, WithNew, WithGone, array_by, shifted};
@@ -31,7 +31,7 @@ pub(crate) struct Run<'e> {
 
 /// The index of the element to which the steps lead from the front, and what is left behind it.
 fn next_index<'a>(front: &[Step], steps: &'a [Step]) -> Option<(u64, &'a [Step])>
-    ensures { MatchOption result ((i : ℕ) (rest : Steps) → steps.now ≢ front.now ++ Index i ∷ rest) (λ way. steps.now ≡ front.now ++ Index way.0 ∷ way.1.now) }
+    ensures { MatchOption result (LeadToNoIndex front.now steps.now) (λ way. LeadOn front.now (Index way.0) way.1.now steps.now) }
 {
     let Side::Above = side_of(front, steps) else {
         return None;

@@ -103,21 +103,21 @@ carry_elsewhere (s ∷ p) c (t ∷ a) here h = by (same_step s t) refl (λ m. ca
 
 -- where steps lead on by a name they do by no index
 pub by_name : (p : Address) (s : Step) (n : List ℕ) (r a : Address) → LeadOn p s r a → s ≡ Name n → LeadToNoIndex p a
-by_name p s n r a is name i way =
-    let same : Name n ≡ Index i = sym name ∙ same_next p s (Index i) r way.0 (sym is ∙ way.1) in
+by_name p s n r a is name i rest way =
+    let same : Name n ≡ Index i = sym name ∙ same_next p s (Index i) r rest (sym is ∙ way) in
     cc
 
 -- one that keeps the place itself and what is at and below a name
 pub carry_no_index : (p : Address) (c : Carrier) (a : Address) → c [] ≡ Some [] → ((n : List ℕ) (r : Address) → c (Name n ∷ r) ≡ Some (Name n ∷ r)) → LeadToNoIndex p a → carry_below p c a ≡ Some a
 carry_no_index [] c [] here names h = here
 carry_no_index [] c (Name n ∷ a) here names h = names n a
-carry_no_index [] c (Index i ∷ a) here names h = absurd (h i (a, refl))
+carry_no_index [] c (Index i ∷ a) here names h = absurd (h i a refl)
 carry_no_index (s ∷ p) c [] here names h = refl
 carry_no_index (s ∷ p) c (t ∷ a) here names h = by (same_step s t) refl (carry_no_index p c a here names)
   where
     by : (b : Bool) → same_step s t ≡ b → (LeadToNoIndex p a → carry_below p c a ≡ Some a) → cond b (option_map (λ r. t ∷ r) (carry_below p c a)) (Some (t ∷ a)) ≡ Some (t ∷ a)
     by false e next = refl
-    by true e next = ap (option_map (λ r. t ∷ r)) (next (λ i w. h i (w.0, ap (λ v. v ∷ a) (sym (same_step-equal s t e)) ∙ ap (λ x. s ∷ x) w.1)))
+    by true e next = ap (option_map (λ r. t ∷ r)) (next (λ i r w. h i r (ap (λ v. v ∷ a) (sym (same_step-equal s t e)) ∙ ap (λ x. s ∷ x) w)))
 
 pub parted_of : (place q : Address) (s t : Step) → place ≡ q ++ s ∷ [] → s ≡ t → parted place ≡ Some (q, t)
 parted_of place q s t is same = ap parted is ∙ parted_at q s ∙ ap (λ (u : Step). Some (q, u)) same

@@ -32,4 +32,4 @@ abbrev pub LeadToIndex : Address → ℕ → Address → Type 0
 LeadToIndex place i steps = (rest : Address) × LeadOn place (Index i) rest steps
 
 abbrev pub LeadToNoIndex : Address → Address → Type 0
-LeadToNoIndex place steps = (i : ℕ) → ¬ LeadToIndex place i steps
+LeadToNoIndex place steps = (i : ℕ) (rest : Address) → ¬ LeadOn place (Index i) rest steps
