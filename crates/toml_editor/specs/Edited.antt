@@ -74,8 +74,8 @@ IsRightInValue places at = (q : Address) × (s : Step) × (at ≡ q ++ s ∷ [])
 abbrev pub IsElementInValue : Places → Address → Type 0
 IsElementInValue places at = (q : Address) × (s : Step) × (at ≡ q ++ s ∷ []) × (IsInValue (places q) ⊎ IsRightInValue places q)
 
--- A value for a table or an array, or a new element of an array: its place may be spread over lines. A section or an element of an array of tables: of the
--- first edit only where its header line would stand in a value; what later ones stand in is not said.
+-- A value for a table or an array, or a new element of an array: its place may be spread over lines. A section or an element of an array
+-- of tables: of the first edit only where its header line would stand in a value; what later ones stand in is not said.
 abbrev pub MayBeSpread : Places → ℕ → Change → Kinds → Type 0
 MayBeSpread places index (set at value) kinds = (kinds at ≡ Some a_table) ⊎ (kinds at ≡ Some an_array)
 MayBeSpread places index (insert at value) kinds = (q : Address) × (i : ℕ) × (at ≡ element q i)
@@ -100,7 +100,8 @@ RefusesText profile before (Names fault) = (¬ IsDocumentIn profile before) × I
 RefusesText profile before NoMemory = Unit {0}
 RefusesText profile before _ = ⊥
 
--- what a fault of the editor tells: of an edit only where the text is a document; of a result that is too long or that the judge refuses, and of want of memory, it tells nothing
+-- what a fault of the editor tells: of an edit only where the text is a document; of a result that is too long or that the judge refuses,
+-- and of want of memory, it tells nothing
 abbrev pub Tells : Profile → List ℕ → List Change → EditorFault → Type 0
 Tells profile before cs (Edit index fault) = IsDocumentIn profile before × OnDataSoFar profile before cs index (λ c kinds. IsFault profile c kinds (Some fault))
 Tells profile before cs (Spread index) = IsDocumentIn profile before × OfTree before (λ d. OnDataSoFar profile before cs index (OfDefined profile (MayBeSpread (place (named d.lines)) index)))

@@ -1,5 +1,5 @@
 -- What the steps of an edit hand on to each other.
-use Rattle.std.specs.Prelude.{◌≡◌, ℕ, List, Bool, map, string_bytes}
+use Rattle.std.specs.Prelude.{◌≡◌, ◌↔◌, ◌<◌, ℕ, List, Bool, true, Some, length, map, slice_get, string_bytes}
 use Rattle.toml_text.specs.Limit.{IsText}
 use Rattle.toml_tree.specs.Profiles.{IsOfProfile}
 use Rattle.toml_tree.specs.Spells.{Spells}
@@ -17,8 +17,10 @@ use Rattle.toml_checker.specs.After.{IsMadeOf}
 use Rattle.toml_checker.specs.Counts.{plain}
 use Rattle.toml_checker.specs.Documents.{OfTree}
 use Rattle.toml_checker.specs.Outer.{TellOuter}
+use Rattle.toml_checker.specs.Pairs.{IsFirst}
 use Rattle.toml_checker.specs.Reading.{IsRead}
 use Rattle.toml_editor.specs.Edited.{ArePieces, IsEdited}
+use Rattle.toml_editor.specs.declared.editing.Edited.{Edited}
 use Rattle.toml_editor.specs.declared.editing.Work.{Work}
 
 -- the bytes are read as this text, and this tree, of the profile, spells it
@@ -27,6 +29,10 @@ pub record IsReadAs (profile : Profile) (before text : List ℕ) (d : Doc) : Typ
   pub within : IsText before
   pub spelled : Spells d before
   pub of_profile : IsOfProfile profile d
+
+-- it holds of each profile by which the bytes are read as themselves and the tree
+abbrev pub OfReadTree : List ℕ → Doc → (Profile → Type 0) → Type 0
+OfReadTree before d P = (profile : Profile) → IsReadAs profile before before d → P profile
 
 -- the text is a document's of the profile, the tree spells it, and these are its lines
 pub record HasLines (profile : Profile) (text : List ℕ) (d : Doc) (lines : List Line) : Type 0 where
@@ -44,10 +50,20 @@ pub record IsMadeText (profile : Profile) (before : List ℕ) (cs : List Change)
   pub is_made : IsMadeOf profile before cs made
   pub pieces : ArePieces before after list
 
+abbrev pub IsMadeAs : Profile → List ℕ → List Change → Made → Edited → Type 0
+IsMadeAs profile before cs made e = IsMadeText profile before cs made (string_bytes e.text) e.pieces.items
+
 -- the text is certified to be what the edits make of the first one, and the pieces of that one are it
 pub record IsEditedText (profile : Profile) (before : List ℕ) (cs : List Change) (after : List ℕ) (list : List Piece) (ps : List (ℕ × ℕ)) : Type 0 where
   pub edited : IsEdited profile before cs after ps
   pub pieces : ArePieces before after list
+
+abbrev pub IsEditedAs : Profile → List ℕ → List Change → Edited → Type 0
+IsEditedAs profile before cs e = IsEditedText profile before cs (string_bytes e.text) e.pieces.items e.certificate.pairs.items
+
+-- of the first units, of which the flags tell which are wanted, the pairs name just these first
+abbrev pub NameWanted : List Bool → List (ℕ × ℕ) → Type 0
+NameWanted wanted ps = (i : ℕ) → i < length wanted → ((slice_get wanted i ≡ Some true) ↔ IsFirst ps i)
 
 -- the flags tell which units of the text are outer protected ones
 abbrev pub TellsWanted : List ℕ → List Change → List Bool → Type 0
@@ -61,4 +77,4 @@ pub record IsWork (profile : Profile) (before : List ℕ) (cs : List Change) (wo
   pub units : all_units work.units.items ≡ map spanned (units tree.lines)
   pub newlines : plain work.newlines.items ≡ newlines tree.lines
   pub wanted : TellsWanted before cs work.wanted.items
-  pub made : IsMadeText profile before cs work.made (string_bytes work.edited.text) work.edited.pieces.items
+  pub made : IsMadeAs profile before cs work.made work.edited

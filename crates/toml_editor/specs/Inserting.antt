@@ -1,8 +1,8 @@
 -- `insert` of a name at the root: a new line.
 use Rattle.std.specs.Prelude.{ℕ, Bool, true, false, List, [], ◌∷◌, if◌then◌else◌, None}
 use Rattle.toml_scalar.specs.Spelling.{spelled}
+use Rattle.toml_tree.specs.Bare.{fresh}
 use Rattle.toml_tree.specs.Tree.{Assign, Value, Expr, BlankLine, KeyValLine, TableLine, ArrayTableLine, Line}
-use Rattle.toml_editor.specs.Lines.{fresh}
 
 -- the name, ` = ` and the value, without indentation
 abbrev pub new_assign : List ℕ → Assign

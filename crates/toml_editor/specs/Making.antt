@@ -9,7 +9,7 @@ use Rattle.toml_names.specs.model.Places.{place}
 use Rattle.toml_names.specs.mentions.Mentions.{a_table, an_array, named}
 use Rattle.toml_names.specs.reader.Reading.{ReaderState, lines_of}
 use Rattle.toml_names.specs.declared.model.address.Step.TheVariants.{Index}
-use Rattle.toml_edits.specs.After.{IsAfter}
+use Rattle.toml_edits.specs.Applied.{IsApplied}
 use Rattle.toml_edits.specs.Edits.{Change}
 use Rattle.toml_edits.specs.Faults.{IsFault}
 use Rattle.toml_editor.specs.Edited.{Places, SoFar, OfDefined, MayBeSpread, TakesLastElement}
@@ -18,7 +18,7 @@ use Rattle.toml_editor.specs.declared.fault.EditorFault.TheVariants.{Edit, Sprea
 
 -- the edit has no fault on the one data, and makes the other of them
 abbrev pub IsMade : Profile → Change → Datum → Datum → Type 0
-IsMade profile c old new = IsFault profile c (kind_at old) None × IsAfter profile c (kind_at old) (kind_at new)
+IsMade profile c old new = IsApplied profile c (kind_at old) (kind_at new)
 
 -- what was found is a table or an array
 abbrev pub IsMany : Option Datum → Type 0

@@ -1,10 +1,11 @@
 -- `remove` of a name at the root that is one line: the line goes with its newline; a last line leaves one of no bytes.
 use Rattle.std.specs.Prelude.{List, [], ◌∷◌, length, ◌==◌, if◌then◌else◌, None}
+use Rattle.toml_tree.specs.Bare.{fresh}
 use Rattle.toml_tree.specs.Tree.{BlankLine, KeyValLine, TableLine, ArrayTableLine, Line}
 use Rattle.toml_names.specs.model.Addresses.{Address, same_address, below}
 use Rattle.toml_names.specs.mentions.Keys.{key_names}
 use Rattle.toml_names.specs.mentions.Mentions.{Named, section}
-use Rattle.toml_editor.specs.Lines.{fresh, each_line}
+use Rattle.toml_editor.specs.Lines.{each_line}
 
 abbrev pub empty_line : Line
 empty_line = record { expr = BlankLine (record { ws = fresh []; comment = None }); newline = fresh [] }

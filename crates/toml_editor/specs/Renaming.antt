@@ -2,11 +2,12 @@
 -- with it, before an element's index is put on.
 use Rattle.std.specs.Prelude.{ℕ, ◌+◌, List, [], ◌∷◌, if◌then◌else◌}
 use Rattle.toml_scalar.specs.Spelling.{spelled}
+use Rattle.toml_tree.specs.Bare.{fresh}
 use Rattle.toml_tree.specs.Tree.{Piece, Dotted, Key, Assign, Value, Scalar, Array, Inline, Items, Close, Last, More, Pairs, ClosePairs, LastPair, MorePairs, Header, Expr, BlankLine, KeyValLine, TableLine, ArrayTableLine, Line}
 use Rattle.toml_names.specs.model.Addresses.{Address, same_address, child, element, below}
 use Rattle.toml_names.specs.mentions.Keys.{part_name, key_names}
 use Rattle.toml_names.specs.mentions.Mentions.{Named, section, entered}
-use Rattle.toml_editor.specs.Lines.{fresh, array_of, inline_of, each_line}
+use Rattle.toml_editor.specs.Lines.{array_of, inline_of, each_line}
 
 -- a part that stands for `here`
 abbrev pub rename_part : Address → List ℕ → Address → Piece → Piece

@@ -2,6 +2,7 @@
 -- in no unit. All other units are as they were, with their pieces: a piece of edited lines has the place that it had before.
 use Rattle.std.specs.Prelude.{◌≡◌, ℕ, List, [], ◌∷◌, ◌++◌, Option, Some, None}
 use Rattle.toml_scalar.specs.Spelling.{spelled}
+use Rattle.toml_tree.specs.Bare.{fresh}
 use Rattle.toml_tree.specs.Spells.{joined, value_parts, AreLines}
 use Rattle.toml_tree.specs.Tree.{Piece, Value, Line}
 use Rattle.toml_names.specs.declared.model.address.Step.TheVariants.{Name}
@@ -10,7 +11,6 @@ use Rattle.toml_names.specs.mentions.Rules.{KeepsRules}
 use Rattle.toml_units.specs.declared.unit.UnitKind.TheVariants as kinds
 use Rattle.toml_units.specs.Units.{TextUnit, inside, comment_units, units}
 use Rattle.toml_editor.specs.Inserting.{insert_lines}
-use Rattle.toml_editor.specs.Lines.{fresh}
 use Rattle.toml_editor.specs.Removing.{remove_lines}
 use Rattle.toml_editor.specs.Written.{HasPair}
 

@@ -2,14 +2,13 @@
 ghost use Rattle.std.specs.Prelude.{◌≡◌, IfOk, IfErr, OnOk, length, map, string_bytes};
 ghost use Rattle.toml_text.specs.Source.{text_of};
 ghost use Rattle.toml_tree.specs.Document.{document};
-ghost use Rattle.toml_tree.specs.declared.profile.Profile.{Profile};
 ghost use Rattle.toml_tree.specs.declared.profile.Profile.TheVariants.{One};
 ghost use Rattle.toml_names.specs.model.Documents.{IsDocumentIn};
 ghost use Rattle.toml_names.specs.reader.Reading.{lines_of};
 ghost use Rattle.toml_edits.specs.Edits.{change};
 ghost use Rattle.toml_checker.specs.Reading.{AreUnitsOf};
 ghost use Rattle.toml_editor.specs.Edited.{IsEdited, ArePieces, IsEditedInPieces, RefusesText, Tells};
-ghost use Rattle.toml_editor.specs.Editing.{HasLines, IsEditedText, IsKnown, IsMadeText, IsReadAs, IsWork, TellsWanted};
+ghost use Rattle.toml_editor.specs.Editing.{HasLines, IsEditedAs, IsKnown, IsMadeAs, IsReadAs, IsWork, OfReadTree, TellsWanted};
 
 use crate::fault::EditorFault;
 use crate::making::{Read, make_all};
@@ -97,7 +96,7 @@ fn edit_document(
     edits: &[Edit],
     profile: Profile,
 ) -> Result<Edited, EditorFault>
-    ensures edited { IfOk result (λ e. IsEditedText profile before.now (map change edits.now) (string_bytes e.text) e.pieces.items e.certificate.pairs.items) }
+    ensures edited { IfOk result (IsEditedAs profile before.now (map change edits.now)) }
     ensures told { IfErr result (Tells profile before.now (map change edits.now)) }
 {
     let spelled = spell_all(alloc, edits)?;
@@ -114,7 +113,7 @@ fn edit_with<'x>(
     profile: Profile,
 ) -> Result<Edited, EditorFault>
     requires { length spelled.now ≡ length edits.now }
-    ensures edited { IfOk result (λ e. IsEditedText profile before.now (map change edits.now) (string_bytes e.text) e.pieces.items e.certificate.pairs.items) }
+    ensures edited { IfOk result (IsEditedAs profile before.now (map change edits.now)) }
     ensures told { IfErr result (Tells profile before.now (map change edits.now)) }
 {
     let work = make_document(alloc, before, edits, spelled, profile)?;
@@ -193,9 +192,9 @@ fn certify(
     profile: Profile,
 ) -> Result<Edited, EditorFault>
     requires known { IsKnown profile before }
-    requires made { IsMadeText profile before.text.now (map change edits.now) made (string_bytes edited.text) edited.pieces.items }
+    requires made { IsMadeAs profile before.text.now (map change edits.now) made edited }
     requires wanted { TellsWanted before.text.now (map change edits.now) wanted.now }
-    ensures edited { IfOk result (λ e. IsEditedText profile before.entry.text.now (map change edits.now) (string_bytes e.text) e.pieces.items e.certificate.pairs.items) }
+    ensures edited { IfOk result (IsEditedAs profile before.entry.text.now (map change edits.now)) }
     ensures told { IfErr result (Tells profile before.entry.text.now (map change edits.now)) }
 {
     if edited.text.len() > MAX_LEN {
@@ -235,7 +234,7 @@ fn make_text<'d, 'x>(
 ) -> Result<(Made<'x>, Edited), EditorFault>
     requires read { HasLines profile (text_of source) (document doc.now) (lines_of reader) }
     requires spelled { length spelled.now ≡ length edits.now }
-    ensures made { IfOk result (λ r. IsMadeText profile (text_of source.entry) (map change edits.now) r.0 (string_bytes r.1.text) r.1.pieces.items) }
+    ensures made { IfOk result (λ r. IsMadeAs profile (text_of source.entry) (map change edits.now) r.0 r.1) }
     ensures told { IfErr result (Tells profile (text_of source.entry) (map change edits.now)) }
 {
     let touched = near_addresses(alloc, edits)?;
@@ -305,9 +304,9 @@ fn named_lines<'d, 't>(
     before: &[u8],
     doc: &'d Doc<'t>,
 ) -> Result<NameReader<'d, 't>, EditorFault>
-    ensures document { (profile : Profile) → IsReadAs profile before.now before.now (document doc.now) → OnOk result (IsDocumentIn profile before.now) }
+    ensures document { OfReadTree before.now (document doc.now) (λ profile. OnOk result (IsDocumentIn profile before.now)) }
     ensures taken { IfOk result (λ reader. lines_of reader ≡ (document doc.now).lines) }
-    ensures refused { (profile : Profile) → IsReadAs profile before.now before.now (document doc.now) → IfErr result (RefusesText profile before.now) }
+    ensures refused { OfReadTree before.now (document doc.now) (λ profile. IfErr result (RefusesText profile before.now)) }
 {
     match read_lines(alloc, doc) {
         Ok(reader) => Ok(reader),

@@ -39,7 +39,8 @@ pub(crate) fn make_all<'x>(
 ) -> Result<(), EditorFault>
     requires { length spelled.now ≡ length edits.now }
     ensures made { OnOk result (Lead read.entry.profile (map change edits.now) (kind_at «data».old.root) (kind_at «data».new.root)) }
-    ensures told { IfErr result (TellsAny read.entry.profile (places_of read.entry.names.now) (map change edits.now) (kind_at «data».old.root)) }
+    ensures told { let places = places_of read.entry.names.now in
+        IfErr result (TellsAny read.entry.profile places (map change edits.now) (kind_at «data».old.root)) }
 {
     for (index, edit) in edits.iter().enumerate() {
         if let Err(fault) = make(alloc, tree, read, data, edit, &spelled[index], index) {
@@ -60,7 +61,8 @@ fn make<'x>(
     index: usize,
 ) -> Result<(), EditorFault>
     ensures ok { OnOk result (IsMade read.entry.profile (change edit.now) «data».old.root «data».new.root) }
-    ensures told { IfErr result (TellsOne read.entry.profile (places_of read.entry.names.now) index (change edit.now) (kind_at «data».old.root)) }
+    ensures told { let places = places_of read.entry.names.now in
+        IfErr result (TellsOne read.entry.profile places index (change edit.now) (kind_at «data».old.root)) }
 {
     let spread = may_be_spread(alloc, data, read.names, edit, index)?;
     let only = is_only_element(data, edit);

@@ -11,11 +11,12 @@
 use Rattle.std.proofs.Common.{◌≡◌, ℕ, Some, None, List, [], ◌∷◌, ◌++◌, refl}
 use Rattle.toml_scalar.specs.Values.{name_of}
 use Rattle.toml_scalar.specs.declared.kind.ScalarKind.TheVariants as kinds
+use Rattle.toml_tree.specs.Bare.{fresh}
 use Rattle.toml_tree.specs.Spells.{joined, lines_parts}
 use Rattle.toml_tree.specs.Tree.{Piece, Blank, Key, Assign, Gap, Value, Scalar, Last, More, MorePairs, ClosePairs, LastPair, Header, Expr, BlankLine, KeyValLine, TableLine, ArrayTableLine, Line}
 use Rattle.toml_names.specs.declared.model.address.Step.TheVariants.{Name, Index}
 use Rattle.toml_editor.specs.Inserting.{insert_lines}
-use Rattle.toml_editor.specs.Lines.{fresh, array_of, inline_of}
+use Rattle.toml_editor.specs.Lines.{array_of, inline_of}
 use Rattle.toml_editor.specs.Removing.{remove_lines}
 use Rattle.toml_editor.specs.Renaming.{rename_lines}
 use Rattle.toml_editor.specs.Setting.{set_lines}

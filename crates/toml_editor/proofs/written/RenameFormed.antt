@@ -3,13 +3,14 @@ use Rattle.std.proofs.Common.{◌≡◌, ℕ, ◌+◌, ◌≤◌, max, Bool, tru
 use Rattle.toml_scalar.specs.Names.{IsKeyPart}
 use Rattle.toml_scalar.specs.Spelling.{spelled}
 use Rattle.toml_scalar.proofs.Proved.{spelled_names}
+use Rattle.toml_tree.specs.Bare.{fresh}
 use Rattle.toml_tree.specs.Spells.{EachIs, IsDotted, IsKey, IsAssign, IsValue, AreItems, ArePairs, IsHeader, IsExpr, AreLines, depth, items_depth, pairs_depth, max_depth}
 use Rattle.toml_tree.specs.Tree.{Piece, Dotted, Key, Assign, Value, Scalar, Array, Inline, Items, Close, Last, More, Pairs, ClosePairs, LastPair, MorePairs, Header, Expr, BlankLine, KeyValLine, TableLine, ArrayTableLine, Line}
 use Rattle.toml_names.specs.model.Addresses.{Address, same_address, child, element, below}
 use Rattle.toml_names.specs.mentions.Keys.{part_name, key_names}
 use Rattle.toml_names.specs.mentions.Mentions.{Named, named_by, root, section, entered}
 use Rattle.toml_editor.specs.RenameLaws.{RenameForms}
-use Rattle.toml_editor.specs.Lines.{fresh, lines_from}
+use Rattle.toml_editor.specs.Lines.{lines_from}
 use Rattle.toml_editor.specs.Renaming.{rename_part, rename_rest, rename_key, rename_assign, rename_value, rename_items, rename_pairs, rename_header, rename_expr, rename_line}
 
 module _ (p : Address) (to : List ℕ) where

@@ -3,6 +3,7 @@ use Rattle.std.proofs.Common.{◌≡◌, ℕ, ◌+◌, ◌-◌, ◌==◌, ◌&&�
 use Rattle.std.proofs.lemmas.List.{map-append}
 use Rattle.std.proofs.lemmas.Bool.{cond-false}
 use Rattle.toml_scalar.specs.Spelling.{spelled}
+use Rattle.toml_tree.specs.Bare.{fresh}
 use Rattle.toml_tree.specs.Spells.{EachIs}
 use Rattle.toml_tree.specs.Tree.{Piece, Dotted, Assign, Value, Scalar, Array, Inline, Items, Close, Last, More, Pairs, ClosePairs, LastPair, MorePairs, KeyVal, Expr, BlankLine, KeyValLine, TableLine, ArrayTableLine, Line, Header}
 use Rattle.toml_tree.specs.Tree as tree
@@ -14,7 +15,7 @@ use Rattle.toml_names.specs.mentions.Mentions.{Named, named, named_by, named_fro
 use Rattle.toml_names.specs.mentions.Clear.{IsClear}
 use Rattle.toml_names.proofs.Proved.{not_named_is_clear}
 use Rattle.toml_editor.specs.RenameLaws.{moved, moved_one, RenameNames}
-use Rattle.toml_editor.specs.Lines.{fresh, lines_from}
+use Rattle.toml_editor.specs.Lines.{lines_from}
 use Rattle.toml_editor.specs.Renaming.{rename_part, rename_rest, rename_key, rename_assign, rename_value, rename_items, rename_pairs, rename_header, rename_expr, rename_line, rename_lines}
 use Rattle.toml_editor.proofs.written.Clear.{below-cons, same_is}
 use Rattle.toml_editor.proofs.Each.{each_front, each_back}

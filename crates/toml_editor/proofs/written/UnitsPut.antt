@@ -2,6 +2,7 @@
 use Rattle.std.proofs.Common.{◌≡◌, ℕ, ◌+◌, Bool, true, false, cond, Some, None, List, [], ◌∷◌, ◌++◌, length, refl, sym, ap, ap₂, ◌∙◌, append_assoc, append-nil, true≢false, ◌⊎◌, inl, inr, ◌<◌, zero, suc, arith, Option}
 use Rattle.std.specs.Prelude.{slice_get}
 use Rattle.toml_scalar.specs.Spelling.{spelled}
+use Rattle.toml_tree.specs.Bare.{fresh}
 use Rattle.toml_tree.specs.Spells.{joined, value_parts, piece}
 use Rattle.toml_tree.specs.Tree.{Piece, Value, Expr, BlankLine, KeyValLine, TableLine, ArrayTableLine, Line}
 use Rattle.toml_tree.proofs.Proved.{parts_join}
@@ -13,7 +14,6 @@ use Rattle.toml_names.specs.mentions.Mentions.{Named, named_by, root, section}
 use Rattle.toml_units.specs.Units.{TextUnit, line_units, inside, comment_units, units_from, units}
 use Rattle.toml_units.specs.declared.unit.UnitKind.TheVariants as kinds
 use Rattle.toml_editor.specs.Inserting.{new_assign, new_expr, new_line, line_behind, has_pair, insert_behind, insert_lines}
-use Rattle.toml_editor.specs.Lines.{fresh}
 use Rattle.toml_editor.specs.UnitBlocks.{BeginWithLine, IsBlockPut, root_line, pair_text, InsertUnits}
 use Rattle.toml_editor.proofs.written.Alike.{alike_self, alike_pair}
 use Rattle.toml_editor.proofs.written.InsertNamed.{spelled_again, stays}

@@ -8,8 +8,8 @@ use Rattle.toml_names.specs.mentions.Keys.{part_name, key_names}
 use Rattle.toml_names.specs.mentions.Mentions.{Named, named_by, root, section, entered}
 use Rattle.toml_names.proofs.Proved.{key_places_are_not_named, line_places_are_not_named}
 use Rattle.toml_editor.specs.Inserting.{new_line, line_behind, has_pair, insert_behind}
-use Rattle.toml_editor.specs.Lines.{fresh, array_of, inline_of, lines_from}
-use Rattle.toml_tree.specs.Bare.{bare, bare_blank, bare_dotted, bare_key, bare_assign, bare_gap, bare_value, bare_items, bare_pairs, bare_header, bare_expr, bare_line}
+use Rattle.toml_editor.specs.Lines.{array_of, inline_of, lines_from}
+use Rattle.toml_tree.specs.Bare.{fresh, bare, bare_blank, bare_dotted, bare_key, bare_assign, bare_gap, bare_value, bare_items, bare_pairs, bare_header, bare_expr, bare_line}
 use Rattle.toml_tree.proofs.Proved.{bare_items_text, bare_pairs_text}
 use Rattle.toml_editor.specs.Bares.{SetBares, InsertBares, RenameBares, RemoveBares}
 use Rattle.toml_editor.specs.Removing.{remove_line, left_behind, empty_line}

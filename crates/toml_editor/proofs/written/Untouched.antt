@@ -1,7 +1,7 @@
 -- Lines that an edit does not touch.
 use Rattle.std.proofs.Common.{◌≡◌, ◌⊎◌, inl, inr, ℕ, ◌+◌, Bool, true, false, Some, List, [], ◌∷◌, ◌++◌, map, length, slice_get, refl, sym, ap, ap₂, ◌∙◌, true≢false}
 use Rattle.std.proofs.lemmas.Bool.{cond-true, cond-false}
-use Rattle.toml_tree.specs.Bare.{bare, bare_blank, bare_dotted, bare_key, bare_assign, bare_gap, bare_value, bare_items, bare_pairs, bare_header, bare_expr, bare_line, bare_lines}
+use Rattle.toml_tree.specs.Bare.{fresh, bare, bare_blank, bare_dotted, bare_key, bare_assign, bare_gap, bare_value, bare_items, bare_pairs, bare_header, bare_expr, bare_line, bare_lines}
 use Rattle.toml_tree.specs.Spells.{IsValue, AreItems, ArePairs, IsExpr}
 use Rattle.toml_tree.specs.Tree.{Piece, Dotted, Key, Assign, Value, Scalar, Array, Inline, Items, Close, Last, More, Pairs, ClosePairs, LastPair, MorePairs, Header, Expr, BlankLine, KeyValLine, TableLine, ArrayTableLine, Line}
 use Rattle.toml_tree.proofs.Proved.{bare_items_text, bare_pairs_text}
@@ -13,7 +13,7 @@ use Rattle.toml_names.specs.mentions.Mentions.{Named, named, named_by, named_fro
 use Rattle.toml_names.specs.model.Addresses.{Address, IsAbove, child, element, below}
 use Rattle.toml_editor.specs.InsertLaws.{InsertKeepsLines}
 use Rattle.toml_editor.specs.Inserting.{new_line, line_behind, has_pair, insert_behind, insert_lines}
-use Rattle.toml_editor.specs.Lines.{fresh, array_of, inline_of, lines_from}
+use Rattle.toml_editor.specs.Lines.{array_of, inline_of, lines_from}
 use Rattle.toml_editor.specs.RenameLaws.{HasNoPart, IsBesideKeys, RenameKeepsLine}
 use Rattle.toml_editor.specs.Renaming.{rename_part, rename_rest, rename_key, rename_assign, rename_value, rename_items, rename_pairs, rename_header, rename_expr}
 use Rattle.toml_editor.specs.SetLaws.{IsBesideValue, SetKeepsLine}

@@ -1,6 +1,7 @@
 -- The way of an `insert` at the root.
 use Rattle.std.proofs.Common.{◌≡◌, inl, inr, ◌<◌, ◌+◌, ℕ, suc, Option, Some, None, List, [], ◌∷◌, ◌++◌, map, refl, sym, ap, ap₂, ◌∙◌, subst, true≢false, arith, append-nil}
 use Rattle.std.specs.Prelude.{slice_get, option_and_then}
+use Rattle.toml_tree.specs.Bare.{fresh}
 use Rattle.toml_tree.specs.Spells.{EachIs}
 use Rattle.toml_tree.specs.Tree.{Value, Line}
 use Rattle.toml_names.specs.declared.model.address.Step.TheVariants.{Name}
@@ -14,7 +15,6 @@ use Rattle.toml_checker.specs.Comments.{texts}
 use Rattle.toml_checker.specs.Owed.{IsOwed}
 use Rattle.toml_checker.specs.Plain.{Site}
 use Rattle.toml_editor.specs.Inserting.{insert_lines}
-use Rattle.toml_editor.specs.Lines.{fresh}
 use Rattle.toml_editor.specs.RenamedUnits.{GoTogether}
 use Rattle.toml_editor.specs.UnitBlocks.{root_line, pair_text}
 use Rattle.toml_editor.proofs.Each.{each_append}

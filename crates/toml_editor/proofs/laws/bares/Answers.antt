@@ -1,4 +1,4 @@
-use Rattle.toml_editor.proofs.written.Unplaced.{set_bares, insert_bares, rename_bares, remove_bares}
+use Rattle.toml_editor.proofs.Proved.{set_bares, insert_bares, rename_bares, remove_bares}
 use Rattle.toml_editor.proofs.laws.bares.Goals as goal
 
 pub returns : goal.returns

@@ -1,4 +1,4 @@
-use Rattle.toml_editor.proofs.written.UnitsCarried.{plain_is_carried}
+use Rattle.toml_editor.proofs.Proved.{plain_is_carried}
 use Rattle.toml_editor.proofs.laws.carried.Goals as goal
 
 pub returns : goal.returns

@@ -1,4 +1,4 @@
-use Rattle.toml_editor.proofs.written.Steps.{good_texts_are_documents}
+use Rattle.toml_editor.proofs.Proved.{good_texts_are_documents}
 use Rattle.toml_editor.proofs.laws.good_texts.Goals as goal
 
 pub returns : goal.returns

@@ -1,6 +1,4 @@
-use Rattle.toml_editor.proofs.written.InsertFormed.{insert_forms}
-use Rattle.toml_editor.proofs.written.InsertKept.{insert_rules, insert_short, insert_data}
-use Rattle.toml_editor.proofs.written.InsertNamed.{insert_names}
+use Rattle.toml_editor.proofs.Proved.{insert_forms, insert_rules, insert_short, insert_data, insert_names}
 use Rattle.toml_editor.proofs.laws.inserts.Goals as goal
 
 pub returns : goal.returns

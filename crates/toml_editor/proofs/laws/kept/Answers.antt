@@ -1,4 +1,4 @@
-use Rattle.toml_editor.proofs.written.Elsewhere.{set_within_kept, set_elsewhere, style_is_newline}
+use Rattle.toml_editor.proofs.Proved.{set_within_kept, set_elsewhere, style_is_newline}
 use Rattle.toml_editor.proofs.laws.kept.Goals as goal
 
 pub returns : goal.returns

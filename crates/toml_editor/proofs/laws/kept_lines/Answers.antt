@@ -1,5 +1,4 @@
-use Rattle.toml_editor.proofs.written.RemoveNamed.{remove_keeps_lines}
-use Rattle.toml_editor.proofs.written.Untouched.{set_keeps_line, rename_keeps_line, insert_keeps_lines}
+use Rattle.toml_editor.proofs.Proved.{remove_keeps_lines, set_keeps_line, rename_keeps_line, insert_keeps_lines}
 use Rattle.toml_editor.proofs.laws.kept_lines.Goals as goal
 
 pub returns : goal.returns

@@ -1,4 +1,4 @@
-use Rattle.toml_editor.proofs.written.Steps.{plain_is_written, plain_step, plain_steps, one_written, one_list_written}
+use Rattle.toml_editor.proofs.Proved.{plain_is_written, plain_step, plain_steps, one_written, one_list_written}
 use Rattle.toml_editor.proofs.laws.plain_edits.Goals as goal
 
 pub returns : goal.returns

@@ -1,4 +1,4 @@
-use Rattle.toml_editor.proofs.written.Profiled.{set_of_profile, insert_of_profile, remove_of_profile, rename_of_profile}
+use Rattle.toml_editor.proofs.Proved.{set_of_profile, insert_of_profile, remove_of_profile, rename_of_profile}
 use Rattle.toml_editor.proofs.laws.profiles.Goals as goal
 
 pub returns : goal.returns

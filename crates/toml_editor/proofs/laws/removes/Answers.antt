@@ -1,5 +1,4 @@
-use Rattle.toml_editor.proofs.written.RemoveKept.{remove_forms, remove_good, remove_data}
-use Rattle.toml_editor.proofs.written.RemoveNamed.{remove_names}
+use Rattle.toml_editor.proofs.Proved.{remove_forms, remove_good, remove_data, remove_names}
 use Rattle.toml_editor.proofs.laws.removes.Goals as goal
 
 pub returns : goal.returns

@@ -1,6 +1,4 @@
-use Rattle.toml_editor.proofs.written.RenameFormed.{rename_forms}
-use Rattle.toml_editor.proofs.written.RenameKept.{rename_good, rename_data}
-use Rattle.toml_editor.proofs.written.RenameNamed.{rename_names}
+use Rattle.toml_editor.proofs.Proved.{rename_forms, rename_good, rename_data, rename_names}
 use Rattle.toml_editor.proofs.laws.renames.Goals as goal
 
 pub returns : goal.returns

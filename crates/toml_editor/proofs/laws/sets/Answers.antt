@@ -1,6 +1,4 @@
-use Rattle.toml_editor.proofs.written.SetFormed.{set_forms}
-use Rattle.toml_editor.proofs.written.SetKept.{set_rules, set_short, set_data}
-use Rattle.toml_editor.proofs.written.SetNamed.{set_names}
+use Rattle.toml_editor.proofs.Proved.{set_forms, set_rules, set_short, set_data, set_names}
 use Rattle.toml_editor.proofs.laws.sets.Goals as goal
 
 pub returns : goal.returns

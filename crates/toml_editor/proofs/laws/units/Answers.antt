@@ -1,7 +1,4 @@
-use Rattle.toml_editor.proofs.written.UnitsPut.{insert_units}
-use Rattle.toml_editor.proofs.written.UnitsTaken.{remove_units}
-use Rattle.toml_editor.proofs.written.UnitsRenamed.{rename_units}
-use Rattle.toml_editor.proofs.written.UnitsSet.{set_units}
+use Rattle.toml_editor.proofs.Proved.{insert_units, remove_units, rename_units, set_units}
 use Rattle.toml_editor.proofs.laws.units.Goals as goal
 
 pub returns : goal.returns
