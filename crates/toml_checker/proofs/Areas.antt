@@ -9,6 +9,7 @@ use Rattle.toml_names.specs.model.Addresses.{Address, same_step, same_address}
 use Rattle.toml_edits.specs.Carry.{carry, inserting, renaming, removing, parted}
 use Rattle.toml_edits.specs.Edits.{Change, set, insert, rename, remove, new_section, new_element, place}
 use Rattle.toml_edits.specs.Lists.{carried}
+use Rattle.toml_edits.proofs.Proved.{parted_at_last}
 use Rattle.toml_checker.specs.declared.side.Side.TheVariants.{Apart}
 use Rattle.toml_checker.specs.declared.tables.Part.{Part}
 use Rattle.toml_checker.specs.declared.tables.Part.TheVariants as parts
@@ -19,7 +20,7 @@ use Rattle.toml_checker.specs.Plain.{is_named, stands}
 use Rattle.toml_checker.specs.Sides.{side}
 use Rattle.toml_checker.proofs.CarriedSoFar.{arrived}
 use Rattle.toml_checker.proofs.Leaving.{set_apart, insert_name, insert_index, rename_index, rename_name, remove_name, remove_index}
-use Rattle.toml_checker.proofs.Parted.{ends, parted_at}
+use Rattle.toml_checker.proofs.Parted.{ends}
 
 -- what is apart from an address is apart from what stands in it
 pub apart_below : (q : Address) (s : Step) (a : Address) → side q a ≡ Apart → side (q ++ s ∷ []) a ≡ Apart
@@ -41,7 +42,7 @@ whole_apart at a h = by (ends at)
 
     by : (at ≡ []) ⊎ ((q : Address) × (s : Step) × (at ≡ q ++ s ∷ [])) → side at a ≡ Apart
     by (inl is) = ap (λ p. side p a) is ∙ subst (λ p. side (whole_of p) a ≡ Apart) is h
-    by (inr w) = ap (λ p. side p a) w.2 ∙ last w.0 w.1 (subst (λ o. side (whole_by o (w.0 ++ w.1 ∷ [])) a ≡ Apart) (parted_at w.0 w.1) (subst (λ p. side (whole_of p) a ≡ Apart) w.2 h))
+    by (inr w) = ap (λ p. side p a) w.2 ∙ last w.0 w.1 (subst (λ o. side (whole_by o (w.0 ++ w.1 ∷ [])) a ≡ Apart) (parted_at_last w.0 w.1) (subst (λ p. side (whole_of p) a ≡ Apart) w.2 h))
 
 pub place_apart : (c : Change) (a : Address) → side (area c) a ≡ Apart → side (place c) a ≡ Apart
 place_apart (set at value) a h = h
@@ -52,7 +53,7 @@ place_apart (new_section at) a h = h
 place_apart (new_element at) a h = h
 
 parent_apart : (at q : Address) (i : ℕ) (a : Address) → at ≡ q ++ Index i ∷ [] → side (whole_of at) a ≡ Apart → side q a ≡ Apart
-parent_apart at q i a is h = subst (λ o. side (whole_by o (q ++ Index i ∷ [])) a ≡ Apart) (parted_at q (Index i)) (subst (λ p. side (whole_of p) a ≡ Apart) is h)
+parent_apart at q i a is h = subst (λ o. side (whole_by o (q ++ Index i ∷ [])) a ≡ Apart) (parted_at_last q (Index i)) (subst (λ p. side (whole_of p) a ≡ Apart) is h)
 
 insert_apart : (at a : Address) → side (whole_of at) a ≡ Apart → inserting (parted at) a ≡ Some a
 insert_apart at a h = by (ends at)
@@ -154,10 +155,10 @@ whole_root [] h = refl
 whole_root (s ∷ at) h = cc
 
 pub whole_name : (at q : Address) (s : Step) (n : List ℕ) → at ≡ q ++ s ∷ [] → s ≡ Name n → at ≡ whole_of at
-whole_name at q s n is same = sym (ap (λ o. whole_by o at) (ap parted is ∙ parted_at q s ∙ ap (λ (u : Step). Some (q, u)) same))
+whole_name at q s n is same = sym (ap (λ o. whole_by o at) (ap parted is ∙ parted_at_last q s ∙ ap (λ (u : Step). Some (q, u)) same))
 
 pub whole_index : (at q : Address) (s : Step) (i : ℕ) → at ≡ q ++ s ∷ [] → s ≡ Index i → q ≡ whole_of at
-whole_index at q s i is same = sym (ap (λ o. whole_by o at) (ap parted is ∙ parted_at q s ∙ ap (λ (u : Step). Some (q, u)) same))
+whole_index at q s i is same = sym (ap (λ o. whole_by o at) (ap parted is ∙ parted_at_last q s ∙ ap (λ (u : Step). Some (q, u)) same))
 
 -- ---- what the fronts of a list show to be far
 

@@ -6,9 +6,9 @@ use Rattle.toml_names.specs.declared.model.address.Step.TheVariants.{Name, Index
 use Rattle.toml_names.specs.model.Addresses.{Address, same_step}
 use Rattle.toml_names.proofs.Proved.{same_step-equal}
 use Rattle.toml_edits.specs.Carry.{Carrier, carry_below, emptied, nowhere, up_from, down_above, to_name, setting, inserting, renaming, removing, parted}
+use Rattle.toml_edits.proofs.Proved.{parted_at_last}
 use Rattle.toml_checker.specs.declared.side.Side.TheVariants.{Apart}
 use Rattle.toml_checker.specs.Sides.{side}
-use Rattle.toml_checker.proofs.Parted.{parted_at}
 use Rattle.toml_checker.proofs.Sides.{side_past, side_of_front}
 
 -- what the carrier keeps of all at or below the place stays
@@ -58,7 +58,7 @@ past q s place a r is e h = sym (ap (λ p. side p a) is ∙ ap (side (q ++ s ∷
 -- ---- the edits, by their last steps
 
 pub parted_of : (place q : Address) (s t : Step) → place ≡ q ++ s ∷ [] → s ≡ t → parted place ≡ Some (q, t)
-parted_of place q s t is same = ap parted is ∙ parted_at q s ∙ ap (λ (u : Step). Some (q, u)) same
+parted_of place q s t is same = ap parted is ∙ parted_at_last q s ∙ ap (λ (u : Step). Some (q, u)) same
 
 pub insert_name : (place q : Address) (s : Step) (n : List ℕ) (a : Address) → place ≡ q ++ s ∷ [] → s ≡ Name n → inserting (parted place) a ≡ Some a
 insert_name place q s n a is same = rw (parted_of place q s (Name n) is same) refl

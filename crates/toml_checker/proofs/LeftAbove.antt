@@ -7,6 +7,7 @@ use Rattle.toml_names.specs.model.Addresses.{Address, IsAbove, same_step}
 use Rattle.toml_names.proofs.Proved.{same_step-equal}
 use Rattle.toml_edits.specs.Carry.{Carrier, carry, carry_below, emptied, nowhere, up_from, down_above, to_name, setting, inserting, renaming, removing, parted}
 use Rattle.toml_edits.specs.Edits.{Change, set, insert, rename, remove, new_section, new_element, place}
+use Rattle.toml_edits.proofs.Proved.{parted_at_last}
 use Rattle.toml_checker.specs.declared.side.Side.TheVariants.{Apart, Below}
 use Rattle.toml_checker.specs.declared.tables.Part.{Part}
 use Rattle.toml_checker.specs.declared.tables.Part.TheVariants as parts
@@ -17,7 +18,7 @@ use Rattle.toml_checker.specs.Runs.{LeavesHolders}
 use Rattle.toml_checker.specs.Sides.{side}
 use Rattle.toml_checker.proofs.Areas.{carry_apart, place_apart, named_apart, whole_name, whole_index}
 use Rattle.toml_checker.proofs.Leaving.{below_keeps}
-use Rattle.toml_checker.proofs.Parted.{parted_at, ends}
+use Rattle.toml_checker.proofs.Parted.{ends}
 use Rattle.toml_checker.proofs.Sides.{sides_are_right}
 use Rattle.toml_checker.proofs.Within.{shorter_above}
 
@@ -44,20 +45,20 @@ within_stays (insert at value) a w = by (ends at)
   where
     by : (at ≡ []) ⊎ ((q : Address) × (s : Step) × (at ≡ q ++ s ∷ [])) → inserting (parted at) a ≡ Some a
     by (inl e) = ap (λ p. inserting (parted p) a) e
-    by (inr (q, Name n, e)) = ap (λ o. inserting o a) (ap parted e ∙ parted_at q (Name n))
-    by (inr (q, Index i, e)) = ap (λ o. inserting o a) (ap parted e ∙ parted_at q (Index i)) ∙ above_stays q a (Index i) at (up_from i) refl e w
+    by (inr (q, Name n, e)) = ap (λ o. inserting o a) (ap parted e ∙ parted_at_last q (Name n))
+    by (inr (q, Index i, e)) = ap (λ o. inserting o a) (ap parted e ∙ parted_at_last q (Index i)) ∙ above_stays q a (Index i) at (up_from i) refl e w
 within_stays (rename at to) a w = by (ends at)
   where
     by : (at ≡ []) ⊎ ((q : Address) × (s : Step) × (at ≡ q ++ s ∷ [])) → renaming (parted at) to a ≡ Some a
     by (inl e) = ap (λ p. renaming (parted p) to a) e
-    by (inr (q, Name n, e)) = ap (λ o. renaming o to a) (ap parted e ∙ parted_at q (Name n)) ∙ above_stays q a (Name n) at (to_name n to) refl e w
-    by (inr (q, Index i, e)) = ap (λ o. renaming o to a) (ap parted e ∙ parted_at q (Index i))
+    by (inr (q, Name n, e)) = ap (λ o. renaming o to a) (ap parted e ∙ parted_at_last q (Name n)) ∙ above_stays q a (Name n) at (to_name n to) refl e w
+    by (inr (q, Index i, e)) = ap (λ o. renaming o to a) (ap parted e ∙ parted_at_last q (Index i))
 within_stays (remove at) a w = by (ends at)
   where
     by : (at ≡ []) ⊎ ((q : Address) × (s : Step) × (at ≡ q ++ s ∷ [])) → removing (parted at) a ≡ Some a
     by (inl e) = ap (λ p. removing (parted p) a) e
-    by (inr (q, Name n, e)) = ap (λ o. removing o a) (ap parted e ∙ parted_at q (Name n)) ∙ above_stays q a (Name n) at (carry_below (Name n ∷ []) nowhere) refl e w
-    by (inr (q, Index i, e)) = ap (λ o. removing o a) (ap parted e ∙ parted_at q (Index i)) ∙ above_stays q a (Index i) at (down_above i) refl e w
+    by (inr (q, Name n, e)) = ap (λ o. removing o a) (ap parted e ∙ parted_at_last q (Name n)) ∙ above_stays q a (Name n) at (carry_below (Name n ∷ []) nowhere) refl e w
+    by (inr (q, Index i, e)) = ap (λ o. removing o a) (ap parted e ∙ parted_at_last q (Index i)) ∙ above_stays q a (Index i) at (down_above i) refl e w
 within_stays (new_section at) a w = refl
 within_stays (new_element at) a w = refl
 

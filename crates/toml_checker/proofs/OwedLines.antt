@@ -16,7 +16,7 @@ use Rattle.toml_edits.specs.Edits.{Change, set, insert, rename, remove, new_sect
 use Rattle.toml_edits.specs.Faults.{IsFault}
 use Rattle.toml_edits.specs.Lists.{carried, Lead}
 use Rattle.toml_edits.specs.declared.fault.EditFault.TheVariants.{RootNamed, NotAName}
-use Rattle.toml_edits.proofs.Proved.{carried_along, carried_front}
+use Rattle.toml_edits.proofs.Proved.{carried_along, carried_front, parted_at_last}
 use Rattle.toml_units.specs.declared.unit.UnitKind.TheVariants as kinds
 use Rattle.toml_checker.specs.CarriedTo.{IsAtOrAbove}
 use Rattle.toml_checker.specs.GoneAndChanged.{Removes, Sets, SetsAbove, SetsIt, Renames, LineIsGone, LineIsChanged, Standing}
@@ -24,7 +24,7 @@ use Rattle.toml_checker.specs.Owed.{result, Owes, IsOwed}
 use Rattle.toml_checker.specs.Protected.{Stays}
 use Rattle.toml_checker.proofs.Flags.{D, line_gone, line_changed}
 use Rattle.toml_checker.proofs.LeftAbove.{within_stays}
-use Rattle.toml_checker.proofs.Parted.{parted_at, ends}
+use Rattle.toml_checker.proofs.Parted.{ends}
 use Rattle.toml_checker.proofs.Within.{pair_safe, not_set, at_or_above}
 
 -- ---- edits without a fault
@@ -105,10 +105,10 @@ remove_nowhere at a n (rest, is) = by (ends at)
     by : (at ≡ []) ⊎ ((q : Address) × (s : Step) × (at ≡ q ++ s ∷ [])) → removing (parted at) a ≡ None
     by (inl e) = absurd (n e)
     by (inr (q, Name m, e)) =
-        ap (λ o. removing o a) (ap parted e ∙ parted_at q (Name m))
+        ap (λ o. removing o a) (ap parted e ∙ parted_at_last q (Name m))
         ∙ down_at q (carry_below (Name m ∷ []) nowhere) a (Name m ∷ rest) None (is ∙ ap (λ p. p ++ rest) e ∙ behind q (Name m) rest) (away m rest)
     by (inr (q, Index i, e)) =
-        ap (λ o. removing o a) (ap parted e ∙ parted_at q (Index i))
+        ap (λ o. removing o a) (ap parted e ∙ parted_at_last q (Index i))
         ∙ down_at q (down_above i) a (Index i ∷ rest) None (is ∙ ap (λ p. p ++ rest) e ∙ behind q (Index i) rest) (dropped i rest)
 
 named : (n to : List ℕ) (rest : Address) → to_name n to (Name n ∷ rest) ≡ Some (Name to ∷ rest)
@@ -116,7 +116,7 @@ named n to rest = let e : same_step (Name n) (Name n) ≡ true = same_step-self 
 
 rename_there : (at a q : Address) (n to : List ℕ) (rest : Address) → at ≡ child q n → a ≡ at ++ rest → renaming (parted at) to a ≡ Some (child q to ++ rest)
 rename_there at a q n to rest is e =
-    ap (λ o. renaming o to a) (ap parted is ∙ parted_at q (Name n))
+    ap (λ o. renaming o to a) (ap parted is ∙ parted_at_last q (Name n))
     ∙ down_at q (to_name n to) a (Name n ∷ rest) (Some (Name to ∷ rest)) (e ∙ ap (λ p. p ++ rest) is ∙ behind q (Name n) rest) (named n to rest)
     ∙ ap Some (sym (behind q (Name to) rest))
 
@@ -185,7 +185,7 @@ set_owes (new_element at) cs a b is e = absurd is
 rename_owes : (c : Change) (cs : List Change) (a b : Address) → IsApt c → Renames c a → carried (c ∷ cs) a ≡ Some b → IsOwed (c ∷ cs) b
 rename_owes (rename at to) cs a b (q, n, is) (rest, e) h =
     let f = fronts cs (child q to) rest b (sym (ap (option_and_then (carried cs)) (rename_there at a q n to rest is e)) ∙ h) in
-    inl (child q to, f.0, ap (option_map (λ (w : Address × Step). child w.0 to)) (ap parted is ∙ parted_at q (Name n)), f.1, inr f.2)
+    inl (child q to, f.0, ap (option_map (λ (w : Address × Step). child w.0 to)) (ap parted is ∙ parted_at_last q (Name n)), f.1, inr f.2)
 rename_owes (set at value) cs a b h w e = absurd w
 rename_owes (insert at value) cs a b h w e = absurd w
 rename_owes (remove at) cs a b h w e = absurd w
@@ -207,7 +207,7 @@ within_owes (rename at to) cs n a b p lb (q, m, at_is) (s, r, is) stays e =
     inl (
       child q to,
       b ++ (w.0 ++ Name to ∷ []),
-      ap (option_map (λ (x : Address × Step). child x.0 to)) (ap parted at_is ∙ parted_at q (Name m)),
+      ap (option_map (λ (x : Address × Step). child x.0 to)) (ap parted at_is ∙ parted_at_last q (Name m)),
       ap (λ x. carried cs (child x to)) w.1 ∙ ap (carried cs) (append_assoc a w.0 (Name to ∷ [])) ∙ along cs n (Some a) a b (w.0 ++ Name to ∷ []) p lb refl stays e,
       inl (w.0 ++ Name to ∷ [], refl),
     )
@@ -217,7 +217,7 @@ within_owes (remove at) cs n a b p lb h (s, r, is) stays e = by (ends at)
     by (inl none) = absurd (h none)
     by (inr (q, t, at_is)) =
         let w = parent_below a q s t r (sym at_is ∙ is) in
-        inl (q, b ++ w.0, ap (option_map (λ (x : Address × Step). x.0)) (ap parted at_is ∙ parted_at q t), ap (carried cs) w.1 ∙ along cs n (Some a) a b w.0 p lb refl stays e, (w.0, refl))
+        inl (q, b ++ w.0, ap (option_map (λ (x : Address × Step). x.0)) (ap parted at_is ∙ parted_at_last q t), ap (carried cs) w.1 ∙ along cs n (Some a) a b w.0 p lb refl stays e, (w.0, refl))
 within_owes (new_section at) cs n a b p lb h w stays e = place_owes (new_section at) cs n a b p lb refl (λ x v. inl v) w stays e
 within_owes (new_element at) cs n a b p lb h w stays e = place_owes (new_element at) cs n a b p lb refl (λ x v. inl v) w stays e
 

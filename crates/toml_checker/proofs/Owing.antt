@@ -1,11 +1,12 @@
 -- What edits owe, by debts.
-use Rattle.std.proofs.Common.{◌≡◌, ℕ, ◌+◌, ◌<◌, ◌↔◌, ◌⊎◌, inl, inr, List, [], ◌∷◌, ◌++◌, length, drop, get_or, Option, Some, refl, sym, ap, subst, ◌∙◌}
+use Rattle.std.proofs.Common.{◌≡◌, ℕ, ◌+◌, ◌<◌, ◌↔◌, ◌⊎◌, inl, inr, List, [], ◌∷◌, ◌++◌, length, drop, get_or, Option, Some, sym, ap, subst, ◌∙◌}
 use Rattle.std.specs.Prelude.{option_map}
 use Rattle.std.proofs.lemmas.List.{drop_more}
 use Rattle.toml_names.specs.declared.model.address.Step.{Step}
 use Rattle.toml_names.specs.model.Addresses.{Address}
 use Rattle.toml_edits.specs.Carry.{parted}
 use Rattle.toml_edits.specs.Edits.{Change}
+use Rattle.toml_edits.proofs.Proved.{parted_at_last}
 use Rattle.toml_checker.specs.declared.debts.Debt.{Debt}
 use Rattle.toml_checker.specs.Debts.{Covers, AnyCovers, IsOwedBy}
 use Rattle.toml_checker.specs.Owed.{IsOwed}
@@ -13,13 +14,8 @@ use Rattle.toml_checker.specs.Owed.{IsOwed}
 abbrev Parts : Type 0
 Parts = Address × Step
 
-parted_at : (q : Address) (s : Step) → parted (q ++ s ∷ []) ≡ Some (q, s)
-parted_at [] s = refl
-parted_at (t ∷ []) s = refl
-parted_at (t ∷ u ∷ q) s = ap (option_map (λ (w : Parts). (t ∷ w.0, w.1))) (parted_at (u ∷ q) s)
-
 pub parent_of : (at q : Address) (s : Step) (own : Address) → at ≡ q ++ s ∷ [] → own ≡ q → ◌≡◌ {A = Option Address} (Some own) (option_map (λ (w : Parts). w.0) (parted at))
-parent_of at q s own is same = ap Some same ∙ sym (ap (option_map (λ (w : Parts). w.0)) (ap parted is ∙ parted_at q s))
+parent_of at q s own is same = ap Some same ∙ sym (ap (option_map (λ (w : Parts). w.0)) (ap parted is ∙ parted_at_last q s))
 
 pub one_covers : (ds : List Debt) (i : ℕ) (d : Debt) (a : Address) → i < length ds → d ≡ get_or ds i d → Covers d a → AnyCovers (drop i ds) a ↔ AnyCovers ds a → AnyCovers ds a
 one_covers ds i d a low is h all =

@@ -1,14 +1,9 @@
 -- An address is the root's, or has a parent and a last step.
 use Rattle.std.proofs.Common.{◌≡◌, ◌⊎◌, inl, inr, [], ◌∷◌, ◌++◌, Option, Some, None, refl, sym, ap, subst}
-use Rattle.std.specs.Prelude.{option_map}
 use Rattle.toml_names.specs.declared.model.address.Step.{Step}
 use Rattle.toml_names.specs.model.Addresses.{Address}
 use Rattle.toml_edits.specs.Carry.{parted}
-
-pub parted_at : (q : Address) (s : Step) → parted (q ++ s ∷ []) ≡ Some (q, s)
-parted_at [] s = refl
-parted_at (t ∷ []) s = refl
-parted_at (t ∷ u ∷ q) s = ap (option_map (λ (w : Address × Step). (t ∷ w.0, w.1))) (parted_at (u ∷ q) s)
+use Rattle.toml_edits.proofs.Proved.{parted_at_last}
 
 pub ends : (p : Address) → (p ≡ []) ⊎ ((q : Address) × (s : Step) × (p ≡ q ++ s ∷ []))
 ends [] = inl refl
@@ -24,4 +19,4 @@ by_parts Claim root step at = by (ends at)
   where
     by : (at ≡ []) ⊎ ((q : Address) × (s : Step) × (at ≡ q ++ s ∷ [])) → Claim (parted at) at
     by (inl is) = subst (λ p. Claim (parted p) p) (sym is) root
-    by (inr w) = subst (λ p. Claim (parted p) p) (sym w.2) (subst (λ o. Claim o (w.0 ++ w.1 ∷ [])) (sym (parted_at w.0 w.1)) (step w.0 w.1))
+    by (inr w) = subst (λ p. Claim (parted p) p) (sym w.2) (subst (λ o. Claim o (w.0 ++ w.1 ∷ [])) (sym (parted_at_last w.0 w.1)) (step w.0 w.1))

@@ -9,7 +9,7 @@ use Rattle.toml_names.proofs.Proved.{same_step-equal}
 use Rattle.toml_edits.specs.Carry.{Carrier, carry_below, emptied, nowhere, up_from, down_above, to_name, setting, inserting, renaming, removing, parted}
 use Rattle.toml_edits.specs.Edits.{set, insert, rename, remove, new_section, new_element}
 use Rattle.toml_edits.specs.Laws.{CarriedAlong}
-use Rattle.toml_edits.proofs.Ways.{parted_at}
+use Rattle.toml_edits.proofs.LastStep.{parted_at_last}
 
 -- an address is the root's, or has a last step
 pub ends : (p : Address) → (p ≡ []) ⊎ ((q : Address) × (s : Step) × (p ≡ q ++ s ∷ []))
@@ -26,7 +26,7 @@ by_parts Claim root step at = by (ends at)
   where
     by : (at ≡ []) ⊎ ((q : Address) × (s : Step) × (at ≡ q ++ s ∷ [])) → Claim (parted at) at
     by (inl is) = subst (λ p. Claim (parted p) p) (sym is) root
-    by (inr w) = subst (λ p. Claim (parted p) p) (sym w.2) (subst (λ o. Claim o (w.0 ++ w.1 ∷ [])) (sym (parted_at w.0 w.1)) (step w.0 w.1))
+    by (inr w) = subst (λ p. Claim (parted p) p) (sym w.2) (subst (λ o. Claim o (w.0 ++ w.1 ∷ [])) (sym (parted_at_last w.0 w.1)) (step w.0 w.1))
 
 -- what is below is carried along
 abbrev pub GoesAlong : Carrier → Address → Address → Type 0

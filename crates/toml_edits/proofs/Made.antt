@@ -18,7 +18,7 @@ use Rattle.toml_edits.specs.Edits.{set, insert}
 use Rattle.toml_edits.specs.Faults.{IsFault}
 use Rattle.toml_edits.specs.ValueTexts.{IsGoodValue}
 use Rattle.toml_edits.proofs.Found.{none_of, some_of, some_none}
-use Rattle.toml_edits.proofs.LastStep.{parted_at}
+use Rattle.toml_edits.proofs.LastStep.{parted_at_last}
 use Rattle.toml_edits.proofs.Moved.{IndicesFit, moves_below, moves_put, moves_drop, moves_alike, moves_add, moves_in, moves_out, moves_name}
 
 -- ---- the same moves, said otherwise
@@ -103,20 +103,20 @@ indices_fit_at (s ∷ p) d = let part = has_part s d in fit_in (kind_at d) s p p
 
 pub removes_member : (d : Datum) (at q : Address) (n : List ℕ) (g : Kinds) → at ≡ child q n → ((p : Address) → g p ≡ below q (below (Name n ∷ []) (λ part. nothing)) (kind_at d) p) → Moves (removing (parted at)) [] nothing (kind_at d) g
 removes_member d at q n g is made =
-    moves_nothing (removing (parted at)) (carry_below q (carry_below (Name n ∷ []) nowhere)) (q ++ Name n ∷ []) (kind_at d) _ g (ap removing (ap parted is ∙ parted_at q (Name n))) made
+    moves_nothing (removing (parted at)) (carry_below q (carry_below (Name n ∷ []) nowhere)) (q ++ Name n ∷ []) (kind_at d) _ g (ap removing (ap parted is ∙ parted_at_last q (Name n))) made
     (moves_below q (carry_below (Name n ∷ []) nowhere) (Name n ∷ []) nothing (kind_at d) (below (Name n ∷ []) (λ part. nothing))
     (moves_below (Name n ∷ []) nowhere [] nothing (λ r. kind_at d (q ++ r)) (λ part. nothing) (moves_drop _)))
 
 pub removes_element : (d : Datum) (at q : Address) (i : ℕ) (g : Kinds) → at ≡ element q i → ((p : Address) → g p ≡ below q (shifted_out i) (kind_at d) p) → Moves (removing (parted at)) [] nothing (kind_at d) g
 removes_element d at q i g is made =
-    moves_nothing (removing (parted at)) (carry_below q (down_above i)) (q ++ []) (kind_at d) _ g (ap removing (ap parted is ∙ parted_at q (Index i))) made
+    moves_nothing (removing (parted at)) (carry_below q (down_above i)) (q ++ []) (kind_at d) _ g (ap removing (ap parted is ∙ parted_at_last q (Index i))) made
     (moves_below q (down_above i) [] nothing (kind_at d) (shifted_out i) (moves_out i (λ r. kind_at d (q ++ r))))
 
 -- ---- rename
 
 pub renames_member : (d : Datum) (at q : Address) (n to : List ℕ) (g : Kinds) → at ≡ child q n → ¬ IsSome (kind_at d (child q to)) → ((p : Address) → g p ≡ below q (renamed n to) (kind_at d) p) → Moves (renaming (parted at) to) [] nothing (kind_at d) g
 renames_member d at q n to g is free made =
-    moves_nothing (renaming (parted at) to) (carry_below q (to_name n to)) (q ++ []) (kind_at d) _ g (ap (λ x. renaming x to) (ap parted is ∙ parted_at q (Name n))) made
+    moves_nothing (renaming (parted at) to) (carry_below q (to_name n to)) (q ++ []) (kind_at d) _ g (ap (λ x. renaming x to) (ap parted is ∙ parted_at_last q (Name n))) made
     (moves_below q (to_name n to) [] nothing (kind_at d) (renamed n to) (moves_name n to (λ r. kind_at d (q ++ r)) (none_below d q (Name to) (none_of _ free))))
 
 pub may_rename : (d : Datum) (at q : Address) (n to : List ℕ) → at ≡ child q n → IsSome (kind_at d at) → ¬ IsSome (kind_at d (child q to))
@@ -173,12 +173,12 @@ module _ (profile : Profile) (d : Datum) (at q : Address) (text : List ℕ) (v g
   pub inserts_member : (n : List ℕ) → at ≡ child q n → IsGoodValue profile text v → ((p : Address) → g p ≡ below q (below (Name n ∷ []) (λ part. v)) (kind_at d) p) → IsAfter profile (insert at text) (kind_at d) g
   inserts_member n is good made =
       let empty : kind_at d (q ++ Name n ∷ []) ≡ None = none_of _ (λ some. free AlreadyThere (q, n, is, subst (λ p. IsSome (kind_at d p)) (sym is) some)) in
-      (v, good, moves_as (inserting (parted at)) Some at (q ++ Name n ∷ []) v (kind_at d) _ g (ap inserting (ap parted is ∙ parted_at q (Name n))) is made (adds (kind_at d) v q (Name n) (none_below d q (Name n) empty)))
+      (v, good, moves_as (inserting (parted at)) Some at (q ++ Name n ∷ []) v (kind_at d) _ g (ap inserting (ap parted is ∙ parted_at_last q (Name n))) is made (adds (kind_at d) v q (Name n) (none_below d q (Name n) empty)))
 
   pub inserts_element : (i : ℕ) → at ≡ element q i → IsGoodValue profile text v → ((p : Address) → g p ≡ below q (shifted_in i v) (kind_at d) p) → IsAfter profile (insert at text) (kind_at d) g
   inserts_element i is good made = (
     v,
     good,
-    moves_as (inserting (parted at)) (carry_below q (up_from i)) at (q ++ Index i ∷ []) v (kind_at d) _ g (ap inserting (ap parted is ∙ parted_at q (Index i))) is made
+    moves_as (inserting (parted at)) (carry_below q (up_from i)) at (q ++ Index i ∷ []) v (kind_at d) _ g (ap inserting (ap parted is ∙ parted_at_last q (Index i))) is made
         (moves_below q (up_from i) (Index i ∷ []) v (kind_at d) (shifted_in i v) (moves_in i v (λ r. kind_at d (q ++ r)) (indices_fit_at q d))),
   )

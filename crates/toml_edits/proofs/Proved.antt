@@ -3,6 +3,7 @@ pub use Rattle.toml_edits.proofs.Along.{carried_along}
 pub use Rattle.toml_edits.proofs.Apart.{carried_apart, data_are_closed}
 pub use Rattle.toml_edits.proofs.Emptied.{set_carries}
 pub use Rattle.toml_edits.proofs.Fronts.{carried_front}
+pub use Rattle.toml_edits.proofs.LastStep.{parted_at_last}
 pub use Rattle.toml_edits.proofs.LowIndices.{indices_are_low}
 pub use Rattle.toml_edits.proofs.Once.{one_after}
 pub use Rattle.toml_edits.proofs.OneList.{one_edit_list, bad_list_is_none}

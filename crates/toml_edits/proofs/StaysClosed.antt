@@ -18,9 +18,9 @@ use Rattle.toml_edits.specs.ListLaws.{StaysClosed, LeadsStayClosed}
 use Rattle.toml_edits.specs.ValueTexts.{IsGoodValue}
 use Rattle.toml_edits.proofs.Along.{ends}
 use Rattle.toml_edits.proofs.Fronts.{IsFrontal, below_front, nowhere_front, carried_front}
-use Rattle.toml_edits.proofs.LastStep.{no_root, same_last, same_parent}
+use Rattle.toml_edits.proofs.LastStep.{no_root, same_last, same_parent, parted_at_last}
 use Rattle.toml_edits.proofs.Standing.{Has}
-use Rattle.toml_edits.proofs.Ways.{carried, carry_joined, parted_at}
+use Rattle.toml_edits.proofs.Ways.{carried, carry_joined}
 
 prefix_same : (to rest a : Address) (s : Step) → a ++ s ∷ [] ≡ to ++ rest → length to ≡ length a → a ≡ to
 prefix_same [] rest [] s e l = refl
@@ -122,7 +122,7 @@ insert_parent profile at value v old new fault moves q s is = by (old q) refl
   where
     by : (o : Option Kind) → old q ≡ o → Has new q
     by None e = absurd (fault NoSuchPlace (q, s, is, e))
-    by (Some k) e = (k, moves.carried q q k e (ap (λ x. inserting x q) (ap parted is ∙ parted_at q s) ∙ insert_keeps q s))
+    by (Some k) e = (k, moves.carried q q k e (ap (λ x. inserting x q) (ap parted is ∙ parted_at_last q s) ∙ insert_keeps q s))
 
 -- ---- new tables
 

@@ -11,6 +11,7 @@ use Rattle.toml_names.specs.model.Addresses.{Address, same_step}
 use Rattle.toml_names.proofs.Proved.{same_step-equal, same_step-self}
 use Rattle.toml_edits.specs.Carry.{Carrier, carry_below, setting, emptied, up_from, down_above, to_name, parted}
 use Rattle.toml_edits.specs.Courses.{LeadOn, LeadToNoIndex}
+use Rattle.toml_edits.proofs.LastStep.{parted_at_last}
 
 pub same_next : (p : Address) (s t : Step) (a b : Address) → p ++ s ∷ a ≡ p ++ t ∷ b → s ≡ t
 same_next [] s t a b e = cc
@@ -67,11 +68,6 @@ carry_joined [] q c a = refl
 carry_joined (s ∷ p) q c [] = refl
 carry_joined (s ∷ p) q c (t ∷ a) = ap (λ o. cond (same_step s t) (option_map (λ r. t ∷ r) o) (Some (t ∷ a))) (carry_joined p q c a)
 
-pub parted_at : (q : Address) (s : Step) → parted (q ++ s ∷ []) ≡ Some (q, s)
-parted_at [] s = refl
-parted_at (t ∷ []) s = refl
-parted_at (t ∷ u ∷ q) s = ap (option_map (λ (w : Address × Step). (t ∷ w.0, w.1))) (parted_at (u ∷ q) s)
-
 -- at or below the place, what is left is carried as the carrier says
 pub carried : (p : Address) (c : Carrier) (a rest : Address) (to : Option Address) → a ≡ p ++ rest → c rest ≡ to → carry_below p c a ≡ option_map (λ r. p ++ r) to
 carried p c a rest to is move = ap (carry_below p c) is ∙ carry_down p c rest ∙ ap (option_map (λ r. p ++ r)) move
@@ -120,7 +116,7 @@ carry_no_index (s ∷ p) c (t ∷ a) here names h = by (same_step s t) refl (car
     by true e next = ap (option_map (λ r. t ∷ r)) (next (λ i r w. h i r (ap (λ v. v ∷ a) (sym (same_step-equal s t e)) ∙ ap (λ x. s ∷ x) w)))
 
 pub parted_of : (place q : Address) (s t : Step) → place ≡ q ++ s ∷ [] → s ≡ t → parted place ≡ Some (q, t)
-parted_of place q s t is same = ap parted is ∙ parted_at q s ∙ ap (λ (u : Step). Some (q, u)) same
+parted_of place q s t is same = ap parted is ∙ parted_at_last q s ∙ ap (λ (u : Step). Some (q, u)) same
 
 pub parted_none : (place : Address) → length place ≡ 0 → parted place ≡ None
 parted_none [] h = refl

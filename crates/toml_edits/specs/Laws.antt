@@ -1,5 +1,5 @@
 -- Laws of edits, over the definitions alone.
-use Rattle.std.specs.Prelude.{◌≡◌, ℕ, List, ◌∷◌, ◌++◌, length, Some, None, IsSome, option_map}
+use Rattle.std.specs.Prelude.{◌≡◌, ℕ, List, [], ◌∷◌, ◌++◌, length, Some, None, IsSome, option_map}
 use Rattle.toml_tree.specs.declared.profile.Profile.{Profile}
 use Rattle.toml_names.specs.declared.model.address.Step.{Step}
 use Rattle.toml_names.specs.declared.model.datum.Datum.{Datum}
@@ -7,7 +7,7 @@ use Rattle.toml_names.specs.model.Addresses.{Address, IsAbove, element}
 use Rattle.toml_names.specs.model.Data.{Kinds, kind_at, IsClosed}
 use Rattle.toml_names.specs.mentions.Mentions.{a_table, an_array}
 use Rattle.toml_edits.specs.After.{IsAfter}
-use Rattle.toml_edits.specs.Carry.{Carrier, carry, carry_below, nowhere}
+use Rattle.toml_edits.specs.Carry.{Carrier, carry, carry_below, nowhere, parted}
 use Rattle.toml_edits.specs.Edits.{Change, set, new_section, new_element, place}
 use Rattle.toml_edits.specs.Faults.{IsFault}
 
@@ -19,6 +19,10 @@ IsNotSet _ a = Unit {0}
 -- Where the place edited is not strictly below an address, what is below the address is carried along with it.
 abbrev pub CarriedAlong : Type 0
 CarriedAlong = (c : Change) (a r : Address) → ¬ IsAbove a (place c) → IsNotSet c a → carry c (a ++ r) ≡ option_map (λ b. b ++ r) (carry c a)
+
+-- An address that ends with a step is parted into what is before that and the step.
+abbrev pub PartedAtLast : Type 0
+PartedAtLast = (q : Address) (s : Step) → parted (q ++ s ∷ []) ≡ Some (q, s)
 
 -- A beginning of what is carried is carried to a beginning of the same length.
 pub record Front (c : Carrier) (a b : Address) : Type 0 where

@@ -2,15 +2,16 @@
 ghost use Rattle.toml_edits.specs.EditList.{BadListIsNone, OneEditList};
 ghost use Rattle.toml_edits.specs.ListLaws.{CarriedOn, CarriedStands, DataIndicesAreLow, FaultOrLead, LeadsStayClosed, ListsCarryApart, OneFirstFault, OneLead, StaysClosed};
 ghost use Rattle.toml_edits.specs.NearLaws.{FaultsNear, FaultBeside, HiddenStays, LeadsBeside, LeadsNear};
-ghost use Rattle.toml_edits.specs.Laws.{CarriedAlong, CarriedFront, CarriedApart, DataAreClosed, ElementIsEmpty, NewTablesStay, OneAfter, SectionIsEmpty, SetCarries};
+ghost use Rattle.toml_edits.specs.Laws.{CarriedAlong, CarriedFront, CarriedApart, DataAreClosed, ElementIsEmpty, NewTablesStay, OneAfter, PartedAtLast, SectionIsEmpty, SetCarries};
 
 /// What is below an address is carried along with it, unless the edit is below the address or a `set` at it. A
 /// beginning of what is carried is carried to a beginning as long. Where no fault holds, and nothing stands below
-/// nothing, no two things are carried to one address.
+/// nothing, no two things are carried to one address. An address that ends with a step is parted there.
 pub fn carried()
     ensures along { CarriedAlong }
     ensures front { CarriedFront }
     ensures apart { CarriedApart }
+    ensures parted { PartedAtLast }
 {}
 
 /// In data nothing stands below an address where nothing does; an edit without a fault leaves it so, and a list of such
