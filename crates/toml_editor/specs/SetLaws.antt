@@ -1,12 +1,11 @@
 -- Laws of `set`, over the lines before and after it.
-use Rattle.std.specs.Prelude.{◌≡◌, true, ℕ, List, [], ◌∷◌, ◌++◌, flat_map, ◌≤◌, ◌+◌, length, All, if◌then◌else◌, Some, slice_get}
+use Rattle.std.specs.Prelude.{◌≡◌, ℕ, List, [], ◌∷◌, ◌++◌, flat_map, ◌≤◌, ◌+◌, length, All, if◌then◌else◌, Some, slice_get}
 use Rattle.toml_tree.specs.Bare.{bare_value, bare_line, bare_lines}
 use Rattle.toml_tree.specs.Profiles.{IsValueIn, IsValueOfProfile, AreLinesOfProfile}
-use Rattle.toml_tree.specs.Spells.{IsValue, IsExpr, AreLines, EachIs}
+use Rattle.toml_tree.specs.Spells.{IsValue, IsExpr, AreLines}
 use Rattle.toml_tree.specs.Tree.{Value, Expr, BlankLine, KeyValLine, TableLine, ArrayTableLine, Line}
 use Rattle.toml_tree.specs.declared.profile.Profile.{Profile}
-use Rattle.toml_names.specs.mentions.Clear.{IsClear}
-use Rattle.toml_names.specs.mentions.Joining.{is_lone}
+use Rattle.toml_names.specs.mentions.Clear.{AreValuesAt, IsClear}
 use Rattle.toml_names.specs.mentions.Keys.{key_names}
 use Rattle.toml_names.specs.mentions.Mentions.{Named, named, section, value_named, inside, value_facts}
 use Rattle.toml_names.specs.mentions.Rules.{KeepsRules, IsShort, max_steps}
@@ -28,10 +27,6 @@ swapped_one p new m =
 
 abbrev pub swapped : Address → Value → List Named → List Named
 swapped p new = flat_map (swapped_one p new)
-
--- only values are named at the address
-abbrev pub AreValuesAt : Address → List Named → Type 0
-AreValuesAt p = EachIs (λ m. m.address ≡ p → is_lone m.role ≡ true)
 
 -- Law: the new lines name what the old ones did, the new value in the place of the old one.
 abbrev pub SetNames : Type 0

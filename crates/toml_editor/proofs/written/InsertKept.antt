@@ -1,5 +1,5 @@
 -- What is kept by an `insert` at the root: the table rules, the bound on addresses, the data.
-use Rattle.std.proofs.Common.{◌≡◌, ℕ, inl, inr, Some, [], ◌∷◌, ◌++◌, refl, sym, ap, ◌∙◌, subst, append-nil}
+use Rattle.std.proofs.Common.{◌≡◌, ℕ, List, inl, inr, Some, [], ◌∷◌, ◌++◌, refl, sym, ap, ◌∙◌, subst, append-nil}
 use Rattle.toml_tree.specs.Spells.{EachIs}
 use Rattle.toml_tree.specs.Tree.{Value}
 use Rattle.toml_tree.proofs.Proved.{one_value}
@@ -7,31 +7,40 @@ use Rattle.toml_names.specs.declared.model.address.Step.TheVariants.{Name}
 use Rattle.toml_names.specs.declared.mentions.mention.Role.TheVariants.{Valued}
 use Rattle.toml_names.specs.model.Addresses.{Address, IsAbove}
 use Rattle.toml_names.specs.model.Data.{IsDataOf}
-use Rattle.toml_names.specs.mentions.Mentions.{Kind, named, value_facts, inside}
+use Rattle.toml_names.specs.mentions.Mentions.{Kind, Named, named, value_facts, inside}
 use Rattle.toml_names.specs.mentions.Clear.{IsClear}
-use Rattle.toml_names.proofs.Proved.{inside_is_below, not_named_is_clear}
+use Rattle.toml_names.proofs.Proved.{inside_is_below, not_named_is_clear, more_keep_rules, value_keeps_rules}
+use Rattle.toml_names.specs.mentions.Rules.{KeepsRules}
 use Rattle.toml_editor.specs.Inserting.{insert_lines}
 use Rattle.toml_editor.specs.Blocks.{root_pair, named_plain}
 use Rattle.toml_editor.specs.InsertLaws.{InsertRules, InsertShort, InsertData}
-use Rattle.toml_editor.proofs.written.BlockFacts.{each_put, pairs_put, has_old, has_block, has_new}
+use Rattle.toml_editor.proofs.written.BlockFacts.{each_put, has_old, has_block, has_new}
 use Rattle.toml_editor.proofs.written.Clear.{IsUnder}
 use Rattle.toml_editor.proofs.Each.{each_weaker}
 use Rattle.toml_editor.proofs.written.InsertNamed.{insert_names}
-use Rattle.toml_editor.proofs.written.Pairwise.{Goes, each_of_all, Has, has_of_any, any_of_has}
-use Rattle.toml_editor.proofs.written.SetKept.{F, block, clear_under, block_pairs, block_short, in_block, of_block}
-use Rattle.toml_editor.proofs.written.Unplain.{rules_plain, plain_rules, short_plain, plain_short, each_plain, has_plain, plain_has}
+use Rattle.toml_editor.proofs.written.Pairwise.{each_of_all, Has, has_of_any, any_of_has}
+use Rattle.toml_editor.proofs.written.SetKept.{F, block, clear_under, block_short, in_block, of_block}
+use Rattle.toml_editor.proofs.written.Unplain.{rules_plain, short_plain, plain_short, each_plain, has_plain, plain_has}
 
 pub block_under : (p : Address) (new : Value) (line : ℕ) → EachIs (λ m. IsUnder p m.address) (block p new line Valued)
 block_under p new line = (([], sym (append-nil p)), each_weaker (λ m. IsAbove p m.address) (λ m. IsUnder p m.address) (λ m above. (above.0 ∷ above.1, above.2)) (inside line p new) (inside_is_below line new p))
 
+-- at other addresses than the value and what is in it
+abbrev IsBeside : List ℕ → Value → Named → Type 0
+IsBeside name v m = EachIs (λ b. ¬ (m.address ≡ b.address)) (root_pair name v)
+
 pub insert_rules : InsertRules
 insert_rules name v style lines free keeps good =
     let p = Name name ∷ [] in
-    plain_rules (insert_lines name v style lines)
-    (pairs_put (named_plain lines) (root_pair name v) (named_plain (insert_lines name v style lines)) (insert_names name v style lines)
-    Goes (λ m. IsClear p m.address) (λ m. IsUnder p m.address)
-    (λ x y clear under. ((λ same. absurd (clear_under p x.address clear (subst (IsUnder p) (sym same) under))), (λ same. absurd (clear_under p x.address clear (subst (IsUnder p) same under)))))
-    (rules_plain lines keeps) (block_pairs p v 0 Valued good) (each_plain lines (λ m. IsClear p m.address) (not_named_is_clear lines p keeps free)) (block_under p v 0))
+    let lines' = insert_lines name v style lines in
+    let put = insert_names name v style lines in
+    let clear = each_plain lines (λ m. IsClear p m.address) (not_named_is_clear lines p keeps free) in
+    let beside : (m : Named) → IsClear p m.address → IsBeside name v m =
+    λ m c. each_weaker (λ b. IsUnder p b.address) (λ b. ¬ (m.address ≡ b.address)) (λ b under same. clear_under p m.address c (subst (IsUnder p) (sym same) under)) (root_pair name v) (block_under p v 0) in
+    (rules_plain lines').1
+    (subst KeepsRules (sym put.after)
+    (more_keep_rules put.front (root_pair name v) put.back (subst KeepsRules put.before ((rules_plain lines).0 keeps)) (value_keeps_rules 0 Valued p v good)
+    (subst (EachIs (IsBeside name v)) put.before (each_weaker (λ m. IsClear p m.address) (IsBeside name v) beside (named_plain lines) clear))))
 
 pub insert_short : InsertShort
 insert_short name v style lines short low =

@@ -11,20 +11,20 @@ use Rattle.toml_names.specs.mentions.Mentions.{Named, named, named_by, root, sec
 use Rattle.toml_names.specs.mentions.Rules.{KeepsRules}
 use Rattle.toml_names.specs.model.Places.{IsNamed}
 use Rattle.toml_names.specs.mentions.Clear.{IsClear}
-use Rattle.toml_names.proofs.Proved.{line_values_stand_alone, not_named_is_clear}
+use Rattle.toml_names.proofs.Proved.{line_values_stand_alone, not_named_is_clear, some_keep_rules}
 use Rattle.toml_editor.specs.Blocks.{IsPut, root_pair, named_plain}
 use Rattle.toml_editor.specs.RemoveLaws.{RemoveForms, RemoveGood, RemoveData}
 use Rattle.toml_editor.specs.Lines.{lines_from}
 use Rattle.toml_editor.specs.Removing.{remove_line, remove_lines, left_behind, empty_line}
 use Rattle.toml_editor.specs.Written.{HasPair}
-use Rattle.toml_editor.proofs.written.BlockFacts.{each_old, pairs_old, has_old, has_new, pairs_back, pairs_between}
+use Rattle.toml_editor.proofs.written.BlockFacts.{each_old, has_old, has_new, pairs_back, pairs_between}
 use Rattle.toml_editor.proofs.written.Clear.{IsUnder}
 use Rattle.toml_editor.proofs.Each.{each_append, each_back, each_weaker}
 use Rattle.toml_editor.proofs.written.InsertKept.{block_under}
-use Rattle.toml_editor.proofs.written.Pairwise.{PairsAre, Goes, Alone, pairs_of_all, Has, has_of_any, any_of_has, from_has}
+use Rattle.toml_editor.proofs.written.Pairwise.{PairsAre, Alone, pairs_of_all, Has, has_of_any, any_of_has, from_has}
 use Rattle.toml_editor.proofs.written.RemoveNamed.{remove_names}
 use Rattle.toml_editor.proofs.written.SetKept.{F, clear_under, carried_clear, clear_carried}
-use Rattle.toml_editor.proofs.written.Unplain.{pairs_plain, rules_plain, plain_rules, short_plain, plain_short, each_plain, has_plain, plain_has}
+use Rattle.toml_editor.proofs.written.Unplain.{pairs_plain, rules_plain, short_plain, plain_short, each_plain, has_plain, plain_has}
 
 -- ---- forms
 
@@ -74,11 +74,18 @@ remove_forms p lines is = lines_formed p lines (root ∷ []) 0 is
 
 -- ---- rules
 
+remove_rules : (name : List ℕ) (lines : List Line) → HasPair lines (Name name ∷ []) → KeepsRules (named lines) → KeepsRules (named (remove_lines (Name name ∷ []) lines))
+remove_rules name lines there keeps =
+    let found = remove_names name lines there keeps in
+    let put = found.1 in
+    (rules_plain (remove_lines (Name name ∷ []) lines)).1
+    (subst KeepsRules (sym put.before) (some_keep_rules put.front (root_pair name found.0) put.back (subst KeepsRules put.after ((rules_plain lines).0 keeps))))
+
 pub remove_good : RemoveGood
 remove_good name lines there good =
     let found = remove_names name lines there good.0 in
     let lines' = remove_lines (Name name ∷ []) lines in (
-      plain_rules lines' (pairs_old (named_plain lines') (root_pair name found.0) (named_plain lines) found.1 Goes (rules_plain lines good.0)),
+      remove_rules name lines there good.0,
       plain_short lines' (each_old (named_plain lines') (root_pair name found.0) (named_plain lines) found.1 _ (short_plain lines good.1)),
     )
 
@@ -103,11 +110,10 @@ left_clear name lines there keeps =
     let p = Name name ∷ [] in
     let lines' = remove_lines p lines in
     let found = remove_names name lines there keeps in
-    let keeps' : KeepsRules (named lines') = plain_rules lines' (pairs_old (named_plain lines') (root_pair name found.0) (named_plain lines) found.1 Goes (rules_plain lines keeps)) in
     let alone : PairsAre Alone (named_plain lines) = pairs_plain lines Alone (λ x y h. h) (pairs_of_all Alone (named lines) (line_values_stand_alone lines keeps)) in
     let apart = apart_rest name found.0 (named_plain lines') (named_plain lines) found.1 alone in
     let free : ¬ IsNamed (named lines') p = λ named_there. from_has (Apart name) (λ m. m.address ≡ p) ⊥ (λ m a here. a here) (named_plain lines') apart (has_plain lines' (λ m. m.address ≡ p) (has_of_any _ (named lines') named_there)) in
-    not_named_is_clear lines' p keeps' free
+    not_named_is_clear lines' p (remove_rules name lines there keeps) free
 
 pub remove_data : RemoveData
 remove_data profile name lines old after there keeps is is' =

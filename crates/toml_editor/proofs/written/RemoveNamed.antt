@@ -166,10 +166,21 @@ module _ (name : List ℕ) where
   abbrev Unnamed : List Named → List Line → List Line → Type 0
   Unnamed ys new old = (v : Value) × IsPut (behind ys new) (root_pair name v) (behind ys old)
 
-  taken_out : (ls : List Line) (xs ys : List Named) (n : ℕ) → AreAlike xs ys → PairsAre Alone (behind ys ls) → Has IsPair (behind ys ls)
-      → Unnamed ys (lines_from (remove_line p) xs n ls) ls × Gone xs n ls
-  taken_out [] xs ys n alike alone there = absurd there
-  taken_out (l ∷ ls) xs ys n alike alone there = by (line_by xs l) (λ here. taken_out ls (xs ++ named_by xs n l.expr) (ys ++ named_by ys 0 l.expr) (n + 1) next (pairs_back Alone new_ones rest alone) here)
+  -- what holds of lines of which one is the pair's: it does if that line comes first, and if it does of the lines behind one that stays
+  abbrev pub Claim : Type 1
+  Claim = List Named → List Named → ℕ → List Line → Type 0
+
+  abbrev pub BehindOne : Claim → Type 0
+  BehindOne C = (xs ys : List Named) (n : ℕ) (l : Line) (ls : List Line) → AreAlike xs ys → Stays xs l
+      → C (xs ++ named_by xs n l.expr) (ys ++ named_by ys 0 l.expr) (n + 1) ls → C xs ys n (l ∷ ls)
+
+  abbrev pub AtOne : Claim → Type 0
+  AtOne C = (xs ys : List Named) (n : ℕ) (l : Line) (ls : List Line) → AreAlike xs ys → Goes_away xs l
+      → lines_from (remove_line p) (xs ++ named_by xs n l.expr) (n + 1) ls ≡ ls → C xs ys n (l ∷ ls)
+
+  by_lines : (C : Claim) → BehindOne C → AtOne C → (ls : List Line) (xs ys : List Named) (n : ℕ) → AreAlike xs ys → PairsAre Alone (behind ys ls) → Has IsPair (behind ys ls) → C xs ys n ls
+  by_lines C stays goes [] xs ys n alike alone there = absurd there
+  by_lines C stays goes (l ∷ ls) xs ys n alike alone there = by (line_by xs l) (λ here. by_lines C stays goes ls (xs ++ named_by xs n l.expr) (ys ++ named_by ys 0 l.expr) (n + 1) next (pairs_back Alone new_ones rest alone) here)
     where
       new_ones : List Named
       new_ones = named_by ys 0 l.expr
@@ -180,50 +191,61 @@ module _ (name : List ℕ) where
       next : AreAlike (xs ++ named_by xs n l.expr) (ys ++ named_by ys 0 l.expr)
       next = next_alike xs ys n l.expr alike
 
-      kept : List Line
-      kept = lines_from (remove_line p) (xs ++ named_by xs n l.expr) (n + 1) ls
-
       further : NoPair p new_ones → Has IsPair new_ones ⊎ Has IsPair rest → Has IsPair rest
       further none (inl here) = absurd (from_has (λ m. m.address ≡ p → ¬ (m.role ≡ Valued)) IsPair ⊥ (λ m not is. not is.0 is.1) new_ones none here)
       further none (inr here) = here
 
-      by : Stays xs l ⊎ Goes_away xs l → (Has IsPair rest → Unnamed (ys ++ named_by ys 0 l.expr) kept ls × Gone (xs ++ named_by xs n l.expr) (n + 1) ls)
-          → Unnamed ys (remove_line p xs l ++ kept) (l ∷ ls) × Gone xs n (l ∷ ls)
-      by (inl stays) more =
-          let both = more (further (stays.1 ys alike) (has_parts IsPair new_ones rest there)) in
-          let found = both.0 in
-          let gone = both.1 in (
-            (found.0, subst (λ r. IsPut (behind ys (r ++ kept)) (root_pair name found.0) (new_ones ++ rest)) (sym stays.0) (put_behind new_ones (behind (ys ++ named_by ys 0 l.expr) kept) (root_pair name found.0) rest found.1)),
-            (l ∷ gone.0, gone.1, gone.2, ap (λ r. l ∷ r) gone.3, gone.4, ap (λ r. r ++ kept) stays.0 ∙ ap (λ r. l ∷ r) gone.5),
-          )
-      by (inr goes) more =
-          let names = goes.names ys alike in
+      by : Stays xs l ⊎ Goes_away xs l → (Has IsPair rest → C (xs ++ named_by xs n l.expr) (ys ++ named_by ys 0 l.expr) (n + 1) ls) → C xs ys n (l ∷ ls)
+      by (inl s) more = stays xs ys n l ls alike s (more (further (s.1 ys alike) (has_parts IsPair new_ones rest there)))
+      by (inr g) more =
           let none : NoPair p rest =
-          each_weaker (Alone (value_named 0 Valued p goes.value)) (λ m. m.address ≡ p → ¬ (m.role ≡ Valued)) (λ m apart here role. true≢false ((apart (sym here)).0)) rest
-          (subst (λ b. EachIs (λ x. EachIs (Alone x) rest) b) names (pairs_between Alone new_ones rest alone)).0 in
-          let same : kept ≡ ls = none_gone ls (xs ++ named_by xs n l.expr) (ys ++ named_by ys 0 l.expr) (n + 1) next none in
-          let left : behind ys (remove_line p xs l ++ kept) ≡ behind ys ls = ap₂ (λ a b. behind ys (a ++ b)) goes.gone same ∙ left_names ys l ls in
-          let right : new_ones ++ rest ≡ root_pair name goes.value ++ behind ys ls = ap₂ (λ a b. a ++ b) names (ap (λ b. behind (ys ++ b) ls) names ∙ sym (behind_alike ls ys (ys ++ root_pair name goes.value) (goes.alike ys alike))) in (
-            (goes.value, subst₂ (λ a b. IsPut a (root_pair name goes.value) b) (sym left) (sym right) (put_here (root_pair name goes.value) (behind ys ls))),
-            ([], l, ls, refl, goes.own, ap₂ (λ a b. a ++ b) goes.gone same),
-          )
+          each_weaker (Alone (value_named 0 Valued p g.value)) (λ m. m.address ≡ p → ¬ (m.role ≡ Valued)) (λ m apart here role. true≢false ((apart (sym here)).0)) rest
+          (subst (λ b. EachIs (λ x. EachIs (Alone x) rest) b) (g.names ys alike) (pairs_between Alone new_ones rest alone)).0 in
+          goes xs ys n l ls alike g (none_gone ls (xs ++ named_by xs n l.expr) (ys ++ named_by ys 0 l.expr) (n + 1) next none)
 
--- both, from the root on
-from_root : (name : List ℕ) (lines : List Line) → HasPair lines (p name) → KeepsRules (named lines)
-    → Unnamed name (root ∷ []) (remove_lines (p name) lines) lines × Gone name (root ∷ []) 0 lines
-from_root name lines there keeps =
-    let alone : PairsAre Alone (root ∷ behind (root ∷ []) lines) = subst (PairsAre Alone) (plain_is lines) (pairs_plain lines Alone (λ x y h. h) (pairs_of_all Alone (named lines) (line_values_stand_alone lines keeps))) in
-    let here : Has (IsPair name) (root ∷ behind (root ∷ []) lines) = subst (Has (IsPair name)) (plain_is lines) (has_plain lines (IsPair name) (has_of_any _ (named lines) there)) in
-    taken_out name lines (root ∷ []) (root ∷ []) 0 (alike_self (root ∷ [])) alone.1 (in_rest here)
-  where
-    in_rest : Has (IsPair name) (root ∷ behind (root ∷ []) lines) → Has (IsPair name) (behind (root ∷ []) lines)
-    in_rest (inl is) = let e = is.0 in cc
-    in_rest (inr h) = h
+  -- so it is from the root on
+  pub by_document : (C : Claim) → BehindOne C → AtOne C → (lines : List Line) → HasPair lines p → KeepsRules (named lines) → C (root ∷ []) (root ∷ []) 0 lines
+  by_document C stays goes lines there keeps =
+      let alone : PairsAre Alone (root ∷ behind (root ∷ []) lines) = subst (PairsAre Alone) (plain_is lines) (pairs_plain lines Alone (λ x y h. h) (pairs_of_all Alone (named lines) (line_values_stand_alone lines keeps))) in
+      let here : Has IsPair (root ∷ behind (root ∷ []) lines) = subst (Has IsPair) (plain_is lines) (has_plain lines IsPair (has_of_any _ (named lines) there)) in
+      by_lines C stays goes lines (root ∷ []) (root ∷ []) 0 (alike_self (root ∷ [])) alone.1 (in_rest here)
+    where
+      in_rest : Has IsPair (root ∷ behind (root ∷ []) lines) → Has IsPair (behind (root ∷ []) lines)
+      in_rest (inl is) = let e = is.0 in cc
+      in_rest (inr h) = h
+
+  -- what is named, and which line goes
+  abbrev Taken : Claim
+  Taken xs ys n ls = Unnamed ys (lines_from (remove_line p) xs n ls) ls × Gone xs n ls
+
+  behind_one : BehindOne Taken
+  behind_one xs ys n l ls alike stays both =
+      let kept = lines_from (remove_line p) (xs ++ named_by xs n l.expr) (n + 1) ls in
+      let new_ones = named_by ys 0 l.expr in
+      let found = both.0 in
+      let gone = both.1 in (
+        (found.0, subst (λ r. IsPut (behind ys (r ++ kept)) (root_pair name found.0) (new_ones ++ behind (ys ++ new_ones) ls)) (sym stays.0) (put_behind new_ones (behind (ys ++ new_ones) kept) (root_pair name found.0) (behind (ys ++ new_ones) ls) found.1)),
+        (l ∷ gone.0, gone.1, gone.2, ap (λ r. l ∷ r) gone.3, gone.4, ap (λ r. r ++ kept) stays.0 ∙ ap (λ r. l ∷ r) gone.5),
+      )
+
+  at_one : AtOne Taken
+  at_one xs ys n l ls alike goes same =
+      let kept = lines_from (remove_line p) (xs ++ named_by xs n l.expr) (n + 1) ls in
+      let new_ones = named_by ys 0 l.expr in
+      let names = goes.names ys alike in
+      let left : behind ys (remove_line p xs l ++ kept) ≡ behind ys ls = ap₂ (λ a b. behind ys (a ++ b)) goes.gone same ∙ left_names ys l ls in
+      let right : new_ones ++ behind (ys ++ new_ones) ls ≡ root_pair name goes.value ++ behind ys ls = ap₂ (λ a b. a ++ b) names (ap (λ b. behind (ys ++ b) ls) names ∙ sym (behind_alike ls ys (ys ++ root_pair name goes.value) (goes.alike ys alike))) in (
+        (goes.value, subst₂ (λ a b. IsPut a (root_pair name goes.value) b) (sym left) (sym right) (put_here (root_pair name goes.value) (behind ys ls))),
+        ([], l, ls, refl, goes.own, ap₂ (λ a b. a ++ b) goes.gone same),
+      )
+
+  taken_out : (lines : List Line) → HasPair lines p → KeepsRules (named lines) → Taken (root ∷ []) (root ∷ []) 0 lines
+  taken_out = by_document Taken behind_one at_one
 
 pub remove_names : RemoveNames
 remove_names name lines there keeps =
-    let found = (from_root name lines there keeps).0 in
+    let found = (taken_out name lines there keeps).0 in
     (found.0, subst₂ (λ s t. IsPut s (root_pair name found.0) t) (sym (plain_is (remove_lines (Name name ∷ []) lines))) (sym (plain_is lines)) (put_behind (root ∷ []) (behind (root ∷ []) (remove_lines (Name name ∷ []) lines)) (root_pair name found.0) (behind (root ∷ []) lines) found.1))
 
 pub remove_keeps_lines : RemoveKeepsLines
-remove_keeps_lines name lines there keeps = (from_root name lines there keeps).1
+remove_keeps_lines name lines there keeps = (taken_out name lines there keeps).1

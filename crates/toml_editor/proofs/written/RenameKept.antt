@@ -1,5 +1,5 @@
 -- What is kept by a `rename`: the rules, the bound on addresses, the data at their new addresses.
-use Rattle.std.proofs.Common.{◌≡◌, ℕ, ◌≤◌, Bool, true, false, cond, inl, Option, Some, option_map, List, [], ◌∷◌, ◌++◌, map, length, bytes_eq, refl, sym, ap, ◌∙◌, subst, true≢false}
+use Rattle.std.proofs.Common.{◌≡◌, ℕ, ◌≤◌, Bool, true, false, cond, inl, Option, Some, option_map, List, [], ◌∷◌, map, length, bytes_eq, refl, sym, ap, ◌∙◌, subst, true≢false, arith}
 use Rattle.std.proofs.lemmas.Slice.Eq.{bytes_eq-Decides}
 use Rattle.toml_tree.specs.Spells.{EachIs}
 use Rattle.toml_names.specs.declared.model.address.Step.{Step}
@@ -8,31 +8,27 @@ use Rattle.toml_names.specs.model.Addresses.{Address, same_step, child}
 use Rattle.toml_names.specs.mentions.Mentions.{Kind, Named, named}
 use Rattle.toml_names.specs.mentions.Rules.{KeepsRules, IsShort, max_steps}
 use Rattle.toml_names.specs.mentions.Clear.{IsClear}
-use Rattle.toml_names.proofs.Proved.{not_named_is_clear, same_step-equal, same_step-self}
-use Rattle.toml_edits.specs.Carry.{carry, parted, carry_below, to_name, renaming}
+use Rattle.toml_names.proofs.Proved.{not_named_is_clear, same_step-equal, same_step-self, moved_keep_rules}
+use Rattle.toml_edits.specs.Carry.{carry, carry_below, to_name, renaming}
 use Rattle.toml_edits.specs.Edits.{rename}
+use Rattle.toml_edits.proofs.Proved.{parted_at_last}
 use Rattle.toml_editor.specs.RenameLaws.{moved, moved_one, RenameGood, RenameData}
 use Rattle.toml_editor.specs.Renaming.{rename_lines}
 use Rattle.toml_editor.proofs.Each.{each_weaker}
 use Rattle.toml_editor.proofs.written.Moved.{moved_apart, moved_length}
-use Rattle.toml_editor.proofs.written.Pairwise.{PairsAre, Goes, each_of_all, all_of_each, pairs_of_all, all_of_pairs, pairs_with, Has, has_of_any, any_of_has, has_map, map_has, has_weaker, taken}
+use Rattle.toml_editor.proofs.written.Pairwise.{each_of_all, all_of_each, Has, has_of_any, any_of_has, has_map, map_has, has_weaker, taken}
 use Rattle.toml_editor.proofs.written.RenameNamed.{rename_names}
 
 map_each : {A B : Type 0} (P : B → Type 0) (f : A → B) (xs : List A) → EachIs (λ x. P (f x)) xs → EachIs P (map f xs)
 map_each P f [] h = tt
 map_each P f (x ∷ xs) h = (h.0, map_each P f xs h.1)
 
-map_pairs : {A B : Type 0} (R : B → B → Type 0) (f : A → B) (xs : List A) → PairsAre (λ x y. R (f x) (f y)) xs → PairsAre R (map f xs)
-map_pairs R f [] h = tt
-map_pairs R f (x ∷ xs) h = (map_each (R (f x)) f xs h.0, map_pairs R f xs h.1)
-
 pub rename_good : RenameGood
 rename_good q n to lines free good =
     let names = rename_names q n to lines free good.0 in
-    let clear = not_named_is_clear lines (child q to) good.0 free in
-    let pairs = pairs_of_all Goes (named lines) good.0 in (
-      subst KeepsRules (sym names) (all_of_pairs Goes (map (moved_one q n to) (named lines)) (map_pairs Goes (moved_one q n to) (named lines)
-          (pairs_with (λ m. IsClear (child q to) m.address) Goes Goes (λ x y. Goes (moved_one q n to x) (moved_one q n to y)) (λ x y cx cy goes _ same. goes (moved_apart n to q x.address y.address cx cy same)) (named lines) clear pairs pairs))),
+    let clear = all_of_each (λ m. IsClear (child q to) m.address) (named lines) (not_named_is_clear lines (child q to) good.0 free) in (
+      subst KeepsRules (sym names) ((moved_keep_rules (moved_one q n to) (named lines) (λ m. refl)
+          (λ i j d low high. (λ same. moved_apart n to q _ _ (clear i d (omega (arith, low, high))) (clear j d high) same, λ same. ap (moved q n to) same))).0 good.0),
       subst IsShort (sym names) (all_of_each (λ m. length m.address ≤ max_steps) (map (moved_one q n to) (named lines)) (map_each (λ m. length m.address ≤ max_steps) (moved_one q n to) (named lines)
           (each_weaker (λ m. length m.address ≤ max_steps) (λ m. length (moved q n to m.address) ≤ max_steps) (λ m low. subst (λ k. k ≤ max_steps) (sym (moved_length n to q m.address)) low) (named lines) (each_of_all _ (named lines) good.1)))),
     )
@@ -80,16 +76,8 @@ carried_moved n to (s ∷ q) (t ∷ a) = by (same_step s t) (same_step t s) (fli
     by true false e more = absurd (true≢false e)
     by false true e more = absurd (true≢false (sym e))
 
-abbrev Parts : Type 0
-Parts = Address × Step
-
-pub parted_at : (q : Address) (s : Step) → parted (q ++ s ∷ []) ≡ Some (q, s)
-parted_at [] s = refl
-parted_at (t ∷ []) s = refl
-parted_at (t ∷ u ∷ q) s = ap (option_map (λ (w : Parts). (t ∷ w.0, w.1))) (parted_at (u ∷ q) s)
-
 pub renamed_moved : (q : Address) (n to : List ℕ) (a : Address) → carry (rename (child q n) to) a ≡ Some (moved q n to a)
-renamed_moved q n to a = ap (λ o. renaming o to a) (parted_at q (Name n)) ∙ carried_moved n to q a
+renamed_moved q n to a = ap (λ o. renaming o to a) (parted_at_last q (Name n)) ∙ carried_moved n to q a
 
 -- ---- data
 

@@ -10,16 +10,16 @@ use Rattle.toml_names.specs.model.Data.{IsDataOf}
 use Rattle.toml_names.specs.mentions.Joining.{is_lone}
 use Rattle.toml_names.specs.mentions.Mentions.{Kind, Named, named, value_named, inside, value_facts}
 use Rattle.toml_names.specs.mentions.Rules.{KeepsRules, IsShort, max_steps}
-use Rattle.toml_names.specs.mentions.Clear.{IsClear}
+use Rattle.toml_names.specs.mentions.Clear.{AreValuesAt, IsClear}
 use Rattle.toml_names.specs.mentions.Inside.{shifted}
-use Rattle.toml_names.proofs.Proved.{inside_is_below, inside_moves, line_values_stand_alone, same_step-equal, same_step-self}
+use Rattle.toml_names.proofs.Proved.{inside_is_below, inside_moves, line_values_stand_alone, same_step-equal, same_step-self, value_keeps_rules}
 use Rattle.toml_edits.specs.Carry.{carry_below, nowhere}
-use Rattle.toml_editor.specs.SetLaws.{swapped_one, swapped, AreValuesAt, SetRules, SetShort, SetData}
+use Rattle.toml_editor.specs.SetLaws.{swapped_one, swapped, SetRules, SetShort, SetData}
 use Rattle.toml_editor.specs.Setting.{set_lines}
 use Rattle.toml_editor.specs.Written.{HasValue}
-use Rattle.toml_editor.proofs.written.Clear.{differ, above_false, above_true, above_apart, IsUnder, same_is, self}
+use Rattle.toml_editor.proofs.written.Clear.{differ, above_false, above_true, IsUnder, same_is, self}
 use Rattle.toml_editor.proofs.Each.{each_weaker}
-use Rattle.toml_editor.proofs.written.Pairwise.{PairsAre, Goes, Alone, each_of_all, all_of_each, pairs_of_all, all_of_pairs, each_flat, pairs_flat, pairs_map, pairs_with, Has, has_of_any, any_of_has, has_flat, flat_has, has_weaker, has_map, map_has, all_as_one, taken}
+use Rattle.toml_editor.proofs.written.Pairwise.{PairsAre, Goes, Alone, each_of_all, all_of_each, pairs_of_all, all_of_pairs, each_flat, pairs_flat, pairs_with, Has, has_of_any, any_of_has, has_flat, flat_has, has_weaker, has_map, map_has, all_as_one, taken}
 use Rattle.toml_editor.proofs.written.SetNamed.{set_names}
 
 -- under the rules a value at the address is the only thing there
@@ -28,10 +28,6 @@ values_at p lines there keeps =
     all_as_one (λ m. m.address ≡ p) (λ m. is_lone m.role ≡ true) Alone
     (λ e l here then one alone. elim one [ inl a ↦ true≢false (sym a ∙ (alone (here ∙ sym then)).0) | inr b ↦ true≢false (sym b ∙ (alone (here ∙ sym then)).1) ])
     (named lines) (pairs_of_all Alone (named lines) (line_values_stand_alone lines keeps)) (has_of_any _ (named lines) there)
-
-cancel : (p a b : Address) → p ++ a ≡ p ++ b → a ≡ b
-cancel [] a b is = is
-cancel (s ∷ p) a b is = let rest : p ++ a ≡ p ++ b = cc in cancel p a b rest
 
 pub clear_under : (p a : Address) → IsClear p a → IsUnder p a → ⊥
 clear_under p a clear ([], is) = clear.apart (sym (append-nil p) ∙ sym is)
@@ -64,14 +60,8 @@ module _ (p : Address) (new : Value) where
   inside_at : (line : ℕ) → inside line p new ≡ map (shifted line p) (inside 0 [] new)
   inside_at line = ap (λ a. inside line a new) (sym (append-nil p)) ∙ inside_moves line 0 new p []
 
-  goes_shifted : (line : ℕ) (x y : Named) → Goes x y → Goes (shifted line p x) (shifted line p y)
-  goes_shifted line x y goes same = goes (cancel p x.address y.address same)
-
   pub block_pairs : (line : ℕ) (role : Role) → KeepsRules (value_facts new) → PairsAre Goes (block line role)
-  block_pairs line role keeps = (
-    each_weaker (λ x. IsAbove p x.address) (Goes (value_named line role p new)) (λ x above same. absurd (above_apart p x.address above (sym same))) (inside line p new) (inside_is_below line new p),
-    subst (PairsAre Goes) (sym (inside_at line)) (pairs_map Goes Goes (shifted line p) (goes_shifted line) (inside 0 [] new) (pairs_of_all Goes (value_facts new) keeps).1),
-  )
+  block_pairs line role keeps = pairs_of_all Goes (block line role) (value_keeps_rules line role p new keeps)
 
   one_pairs : KeepsRules (value_facts new) → (m : Named) → PairsAre Goes (swapped_one p new m)
   one_pairs keeps m = by (same_address m.address p) (is_above p m.address)

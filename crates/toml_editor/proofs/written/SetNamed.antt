@@ -1,24 +1,23 @@
 -- What the lines name after a `set`.
-use Rattle.std.proofs.Common.{◌≡◌, ℕ, ◌+◌, ◌-◌, ◌==◌, Bool, true, false, cond, ◌&&◌, List, [], ◌∷◌, ◌++◌, refl, sym, ap, ap₂, ◌∙◌, subst, true≢false, append-nil, arith}
+use Rattle.std.proofs.Common.{◌≡◌, ℕ, ◌+◌, ◌-◌, Bool, true, false, cond, List, [], ◌∷◌, ◌++◌, refl, sym, ap, ap₂, ◌∙◌, subst, true≢false, append-nil}
 use Rattle.std.proofs.lemmas.Grind.{flat_map-append}
 use Rattle.std.proofs.lemmas.Bool.{cond-true, cond-false}
 use Rattle.toml_tree.specs.Spells.{EachIs}
 use Rattle.toml_tree.specs.Tree.{Assign, Value, Scalar, Array, Inline, Items, Close, Last, More, Pairs, ClosePairs, LastPair, MorePairs, Expr, BlankLine, KeyValLine, TableLine, ArrayTableLine, Line}
 use Rattle.toml_names.specs.declared.mentions.mention.Role.{Role}
-use Rattle.toml_names.specs.declared.mentions.mention.Role.TheVariants.{Passed, Header, Dotted, Valued, Tables, Element, Bare}
+use Rattle.toml_names.specs.declared.mentions.mention.Role.TheVariants.{Valued, Bare}
 use Rattle.toml_names.specs.declared.model.address.Step.TheVariants.{Name, Index}
 use Rattle.toml_names.specs.model.Addresses.{Address, IsAbove, same_address, is_above, child, element, below}
 use Rattle.toml_names.specs.mentions.Keys.{Key, key_names, part_name, rest_names}
-use Rattle.toml_names.specs.mentions.Joining.{is_lone}
-use Rattle.toml_names.specs.mentions.Mentions.{Named, named_by, named_from, root, value_named, kind_of, inside, elements, members, fronts, pair_named, section, section_from, is_section, is_tables, count_tables, entered, followed, ends_table, ends_tables}
+use Rattle.toml_names.specs.mentions.Mentions.{Named, named_by, named_from, root, value_named, kind_of, inside, elements, members, fronts, pair_named, section}
 use Rattle.toml_names.specs.mentions.Alike.{AreAlike}
-use Rattle.toml_names.specs.mentions.Clear.{IsClear}
-use Rattle.toml_names.proofs.Proved.{alike_name_the_same, alike_stay_alike, inside_is_below, section_from-append}
+use Rattle.toml_names.specs.mentions.Clear.{AreClear, AreValuesAt, IsClear}
+use Rattle.toml_names.proofs.Proved.{alike_name_the_same, alike_stay_alike, clear_of_root, headers_are_clear, inside_is_below, not_above_next, section_from-append, section_is_clear}
 use Rattle.toml_editor.specs.Lines.{lines_from}
 use Rattle.toml_editor.specs.Setting.{set_within, set_items, set_pairs, set_value, set_expr, set_line}
-use Rattle.toml_editor.specs.SetLaws.{swapped_one, swapped, AreValuesAt, SetNames}
-use Rattle.toml_editor.proofs.written.Alike.{alike_self, alike_pairs, section_pair, adds, count_cons, each_from}
-use Rattle.toml_editor.proofs.written.Clear.{not_above_more, clear_more, clear_root, clear_cond, differ, above_false, above_true, above_apart, below-cons, same_is, self}
+use Rattle.toml_editor.specs.SetLaws.{swapped_one, swapped, SetNames}
+use Rattle.toml_editor.proofs.written.Alike.{alike_self, alike_pairs, section_pair, each_from}
+use Rattle.toml_editor.proofs.written.Clear.{clear_more, differ, above_false, above_true, above_apart, below-cons, same_is, self}
 use Rattle.toml_editor.proofs.Each.{each_front, each_back}
 
 -- ---- what is swapped
@@ -26,11 +25,8 @@ use Rattle.toml_editor.proofs.Each.{each_front, each_back}
 abbrev pub AllAbove : Address → List Named → Type 0
 AllAbove p = EachIs (λ m. IsAbove p m.address)
 
-abbrev pub AllClear : Address → List Named → Type 0
-AllClear p = EachIs (λ m. IsClear p m.address)
-
 module _ (p : Address) (new : Value) where
-  pub kept : (ms : List Named) → AllClear p ms → swapped p new ms ≡ ms
+  pub kept : (ms : List Named) → AreClear p ms → swapped p new ms ≡ ms
   kept [] h = refl
   kept (m ∷ ms) h =
       ap (λ l. l ++ swapped p new ms) (cond-false _ _ _ (differ m.address p (λ is. h.0.apart (sym is))) ∙ cond-false _ _ _ (above_false p m.address h.0.not_above))
@@ -76,7 +72,7 @@ module _ (p : Address) (new : Value) where
 
   -- ---- keys
 
-  pub fronts_clear : (line : ℕ) (key : Key) (at : Address) → IsClear p at → AreValuesAt p (fronts line at key) → AllClear p (fronts line at key)
+  pub fronts_clear : (line : ℕ) (key : Key) (at : Address) → IsClear p at → AreValuesAt p (fronts line at key) → AreClear p (fronts line at key)
   fronts_clear line [] at clear values = tt
   fronts_clear line (n ∷ []) at clear values = tt
   fronts_clear line (n ∷ m ∷ more) at clear values =
@@ -84,7 +80,7 @@ module _ (p : Address) (new : Value) where
       (here, fronts_clear line (m ∷ more) (child at n) here values.1)
 
   pub end_not_above : (line : ℕ) (ns : Key) (n : List ℕ) (at : Address) → IsClear p at → AreValuesAt p (fronts line at (n ∷ ns)) → ¬ IsAbove p (below at (n ∷ ns))
-  end_not_above line [] n at clear values = not_above_more (Name n) clear
+  end_not_above line [] n at clear values = not_above_next p at (Name n) clear
   end_not_above line (m ∷ ns) n at clear values =
       let here : IsClear p (child at n) = clear_more (Name n) clear (λ is. true≢false (sym (values.0 (sym is)))) in
       subst (λ a. ¬ IsAbove p a) (below-cons at n (m ∷ ns)) (end_not_above line ns m (child at n) here values.1)
@@ -108,11 +104,11 @@ module _ (p : Address) (new : Value) where
 
     items_named : (items : Items) (line : ℕ) (at : Address) (i : ℕ) → IsClear p at → AreValuesAt p (elements line at i items) → elements line at i (set_items p new at i items) ≡ swapped p new (elements line at i items)
     items_named (Close g) line at i clear values = refl
-    items_named (Last g v h) line at i clear values = block v line Bare (element at i) (not_above_more (Index i) clear) (λ here. within_named v line (element at i) here values.1)
+    items_named (Last g v h) line at i clear values = block v line Bare (element at i) (not_above_next p at (Index i) clear) (λ here. within_named v line (element at i) here values.1)
     items_named (More g v h is) line at i clear values =
         let here = element at i in
         glue (value_named line Bare here v ∷ inside line here v) (elements line at (i + 1) is) _ _
-        (block v line Bare here (not_above_more (Index i) clear) (λ c. within_named v line here c (each_front _ (inside line here v) (elements line at (i + 1) is) values.1)))
+        (block v line Bare here (not_above_next p at (Index i) clear) (λ c. within_named v line here c (each_front _ (inside line here v) (elements line at (i + 1) is) values.1)))
         (items_named is line at (i + 1) clear (each_back _ (inside line here v) (elements line at (i + 1) is) values.1))
 
     pairs_named : (pairs : Pairs) (line : ℕ) (at : Address) → IsClear p at → AreValuesAt p (members line at pairs) → members line at (set_pairs p new at pairs) ≡ swapped p new (members line at pairs)
@@ -123,62 +119,6 @@ module _ (p : Address) (new : Value) where
         (pair a v line at clear (each_front _ (pair_named line at a v) (members line at ps) values) (λ to c vs. within_named v line to c vs))
         (pairs_named ps line at clear (each_back _ (pair_named line at a v) (members line at ps) values))
 
-  -- ---- headers
-
-  lone_no_tables : (r : Role) → is_lone r ≡ true → is_tables r ≡ false
-  lone_no_tables Tables h = sym h
-  lone_no_tables Valued h = refl
-  lone_no_tables Bare h = refl
-  lone_no_tables Passed h = refl
-  lone_no_tables Header h = refl
-  lone_no_tables Dotted h = refl
-  lone_no_tables Element h = refl
-
-  pub no_tables : (ms : List Named) → AreValuesAt p ms → count_tables ms p ≡ 0
-  no_tables [] values = refl
-  no_tables (m ∷ ms) values = by (same_address m.address p) refl (no_tables ms values.1)
-    where
-      by : (b : Bool) → same_address m.address p ≡ b → count_tables ms p ≡ 0 → count_tables (m ∷ ms) p ≡ 0
-      by true same rest =
-          let plain : is_tables m.role ≡ false = lone_no_tables m.role (values.0 (same_is m.address p same)) in
-          let one : adds p m ≡ 0 = cond-false _ _ _ (ap₂ (λ x y. x && y) same plain) in
-          omega (arith, count_cons m ms p)
-      by false other rest =
-          let one : adds p m ≡ 0 = cond-false _ _ _ (ap (λ x. x && is_tables m.role) other) in
-          omega (arith, count_cons m ms p)
-
-  entered_clear : (earlier : List Named) (here : Address) → count_tables earlier p ≡ 0 → ¬ IsAbove p here → ¬ (p ≡ entered earlier here) → IsClear p (entered earlier here)
-  entered_clear earlier here none not_above apart = by (count_tables earlier here == 0) refl apart
-    where
-      last : Address
-      last = element here (count_tables earlier here - 1)
-
-      by : (b : Bool) → (count_tables earlier here == 0) ≡ b → ¬ (p ≡ cond b here last) → IsClear p (cond b here last)
-      by true is apart = record { apart = apart; not_above = not_above }
-      by false other apart =
-          let there : ¬ (p ≡ here) = λ is. true≢false (sym (ap (λ k. k == 0) (subst (λ a. count_tables earlier a ≡ 0) is none)) ∙ other) in
-          clear_more (Index (count_tables earlier here - 1)) (record { apart = there; not_above = not_above }) apart
-
-  pub followed_clear : (ns : Key) (n : List ℕ) (line : ℕ) (earlier : List Named) (end : Address → List Named) (at : Address) → count_tables earlier p ≡ 0
-      → ((here : Address) → ¬ IsAbove p here → AreValuesAt p (end here) → AllClear p (end here))
-      → IsClear p at → AreValuesAt p (followed line earlier end at (n ∷ ns)) → AllClear p (followed line earlier end at (n ∷ ns))
-  followed_clear [] n line earlier end at none ends clear values = ends (child at n) (not_above_more (Name n) clear) values
-  followed_clear (m ∷ ns) n line earlier end at none ends clear values =
-      let here = entered_clear earlier (child at n) none (not_above_more (Name n) clear) (λ is. true≢false (sym (values.0 (sym is)))) in
-      (here, followed_clear ns m line earlier end (entered earlier (child at n)) none ends here values.1)
-
-  pub table_clear : (line : ℕ) (here : Address) → ¬ IsAbove p here → AreValuesAt p (ends_table line here) → AllClear p (ends_table line here)
-  table_clear line here not_above values = (record { apart = λ is. true≢false (sym (values.0 (sym is))); not_above = not_above }, tt)
-
-  pub tables_clear : (line : ℕ) (earlier : List Named) (here : Address) → ¬ IsAbove p here → AreValuesAt p (ends_tables line earlier here) → AllClear p (ends_tables line earlier here)
-  tables_clear line earlier here not_above values =
-      let array : IsClear p here = record { apart = λ is. true≢false (sym (values.0 (sym is))); not_above = not_above } in
-      (array, (clear_more (Index (count_tables earlier here)) array (λ is. true≢false (sym (values.1.0 (sym is)))), tt))
-
-  section_clear : (ms : List Named) (at : Address) → IsClear p at → AllClear p ms → IsClear p (section_from at ms)
-  section_clear [] at clear all = clear
-  section_clear (m ∷ ms) at clear all = section_clear ms (cond (is_section m.role) m.address at) (clear_cond p m.address at (is_section m.role) all.0 clear) all.1
-
   -- ---- lines
 
   pub record OneLine (xs ys : List Named) (n : ℕ) (e : Expr) : Type 0 where
@@ -187,13 +127,13 @@ module _ (p : Address) (new : Value) where
     pub clear : IsClear p (section (xs ++ named_by xs n e))
 
   -- a line that stays as it is
-  same_line : (xs ys : List Named) (n : ℕ) (e : Expr) → AreAlike xs ys → IsClear p (section xs) → set_expr p new (section xs) e ≡ e → AllClear p (named_by xs n e) → OneLine xs ys n e
+  same_line : (xs ys : List Named) (n : ℕ) (e : Expr) → AreAlike xs ys → IsClear p (section xs) → set_expr p new (section xs) e ≡ e → AreClear p (named_by xs n e) → OneLine xs ys n e
   same_line xs ys n e alike clear is all =
       let same : named_by ys n (set_expr p new (section xs) e) ≡ named_by xs n e = ap (named_by ys n) is ∙ sym (alike_name_the_same xs ys alike n e) in
       record {
         names = same ∙ sym (kept (named_by xs n e) all);
         alike = subst (λ l. AreAlike (xs ++ named_by xs n e) (ys ++ l)) (sym same) (alike_stay_alike xs ys (named_by xs n e) alike);
-        clear = subst (IsClear p) (sym (section_from-append xs (named_by xs n e) [])) (section_clear (named_by xs n e) (section xs) clear all);
+        clear = subst (IsClear p) (sym (section_from-append xs (named_by xs n e) [])) (section_is_clear p (named_by xs n e) (section xs) clear all);
       }
 
   pub root_apart : (at : Address) → IsClear p at → ¬ (p ≡ [])
@@ -213,13 +153,9 @@ module _ (p : Address) (new : Value) where
         clear = subst (IsClear p) (sym (section_pair xs n at kv.assign kv.value)) clear;
       }
   one_line xs ys n (TableLine ws header tail) alike clear values =
-      let new_ones = named_by xs n (TableLine ws header tail) in
-      same_line xs ys n (TableLine ws header tail) alike clear refl
-      (followed_clear (rest_names header.key.rest) (part_name header.key.first) n xs (ends_table n) [] (no_tables xs (each_front _ xs new_ones values)) (table_clear n) (clear_root p (root_apart (section xs) clear)) (each_back _ xs new_ones values))
+      same_line xs ys n (TableLine ws header tail) alike clear refl (headers_are_clear p xs n (TableLine ws header tail) (root_apart (section xs) clear) tt values)
   one_line xs ys n (ArrayTableLine ws header tail) alike clear values =
-      let new_ones = named_by xs n (ArrayTableLine ws header tail) in
-      same_line xs ys n (ArrayTableLine ws header tail) alike clear refl
-      (followed_clear (rest_names header.key.rest) (part_name header.key.first) n xs (ends_tables n xs) [] (no_tables xs (each_front _ xs new_ones values)) (tables_clear n xs) (clear_root p (root_apart (section xs) clear)) (each_back _ xs new_ones values))
+      same_line xs ys n (ArrayTableLine ws header tail) alike clear refl (headers_are_clear p xs n (ArrayTableLine ws header tail) (root_apart (section xs) clear) tt values)
 
   all_lines : (ls : List Line) (xs ys : List Named) (n : ℕ) → AreAlike xs ys → ys ≡ swapped p new xs → IsClear p (section xs) → AreValuesAt p (named_from xs n ls)
       → named_from ys n (lines_from (set_line p new) xs n ls) ≡ swapped p new (named_from xs n ls)
@@ -231,4 +167,4 @@ module _ (p : Address) (new : Value) where
 
 pub set_names : SetNames
 set_names p new lines apart values =
-    all_lines p new lines (root ∷ []) (root ∷ []) 0 (alike_self (root ∷ [])) (sym (kept p new (root ∷ []) (clear_root p apart, tt))) (clear_root p apart) values
+    all_lines p new lines (root ∷ []) (root ∷ []) 0 (alike_self (root ∷ [])) (sym (kept p new (root ∷ []) (clear_of_root p apart, tt))) (clear_of_root p apart) values

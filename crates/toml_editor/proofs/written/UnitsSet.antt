@@ -7,13 +7,13 @@ use Rattle.toml_tree.proofs.Proved.{parts_join}
 use Rattle.toml_names.specs.declared.mentions.mention.Role.TheVariants.{Valued}
 use Rattle.toml_names.specs.declared.model.address.Step.TheVariants.{Index}
 use Rattle.toml_names.specs.mentions.Alike.{AreAlike}
-use Rattle.toml_names.specs.mentions.Clear.{IsClear}
+use Rattle.toml_names.specs.mentions.Clear.{AreClear, AreValuesAt, IsClear}
 use Rattle.toml_names.specs.mentions.Keys.{Key, key_names, part_name, rest_names}
-use Rattle.toml_names.specs.mentions.Mentions.{Named, named, named_by, named_from, root, section, entered, count_tables, followed, ends_table, ends_tables, fronts, value_named, pair_named}
+use Rattle.toml_names.specs.mentions.Mentions.{Named, named_by, named_from, root, section, entered, count_tables, followed, ends_table, ends_tables, fronts, value_named, pair_named}
 use Rattle.toml_names.specs.mentions.Mentions as mentions
 use Rattle.toml_names.specs.model.Addresses.{Address, IsAbove, same_address, child, element, below}
 use Rattle.toml_names.specs.mentions.Inside.{shifted}
-use Rattle.toml_names.proofs.Proved.{inside_moves}
+use Rattle.toml_names.proofs.Proved.{inside_moves, clear_of_root, headers_are_clear, not_above_next}
 use Rattle.toml_names.specs.reader.Names.{header_end}
 use Rattle.toml_edits.specs.Carry.{carry}
 use Rattle.toml_edits.specs.Edits.{Change, set}
@@ -25,14 +25,13 @@ use Rattle.toml_checker.specs.GoneAndChanged.{IsChanged}
 use Rattle.toml_checker.specs.Protected.{standing}
 use Rattle.toml_editor.specs.ChangedUnits.{LiesInValue, IsExchanged, IsSetTo, AreMadeOf, SetUnits}
 use Rattle.toml_editor.specs.Lines.{lines_from}
-use Rattle.toml_editor.specs.SetLaws.{AreValuesAt}
 use Rattle.toml_editor.specs.Setting.{set_within, set_items, set_pairs, set_value, set_expr, set_line}
 use Rattle.toml_editor.proofs.Each.{each_front, each_back}
 use Rattle.toml_editor.proofs.written.Alike.{alike_self, each_from}
-use Rattle.toml_editor.proofs.written.Clear.{not_above_more, clear_root, same_is, self}
+use Rattle.toml_editor.proofs.written.Clear.{same_is, self}
 use Rattle.toml_editor.proofs.written.Made.{made_append}
 use Rattle.toml_editor.proofs.written.SetKept.{values_at}
-use Rattle.toml_editor.proofs.written.SetNamed.{AllClear, end_not_above, followed_clear, table_clear, tables_clear, no_tables, one_line, root_apart}
+use Rattle.toml_editor.proofs.written.SetNamed.{end_not_above, one_line, root_apart}
 use Rattle.toml_editor.proofs.written.SetTexts.{within_text, set_stays}
 use Rattle.toml_editor.proofs.written.Texts.{both_texts, piece_text}
 use Rattle.toml_editor.proofs.written.UnitsAlike.{line_units_alike}
@@ -189,12 +188,12 @@ module _ (p : Address) (text : List ℕ) (new : Value) (formed : IsValue new) wh
     in_items (Close g) at i is clear values = gap g.lines at clear
     in_items (Last g v h) at i is clear values =
         at_end g h at (elem at i v) (elem at i (put (element at i) v)) clear
-        (an_element v (element at i) is.1 (not_above_more (Index i) clear) (λ there. in_value v (element at i) is.1 there values.1))
+        (an_element v (element at i) is.1 (not_above_next p at (Index i) clear) (λ there. in_value v (element at i) is.1 there values.1))
     in_items (More g v h more) at i is clear values =
         let these = mentions.inside 0 (element at i) v in
         let those = mentions.elements 0 at (i + 1) more in
         between g h at (elem at i v) (elem at i (put (element at i) v)) (elements at (i + 1) more) (elements at (i + 1) (set_items p new at (i + 1) more)) clear
-        (an_element v (element at i) is.1 (not_above_more (Index i) clear) (λ there. in_value v (element at i) is.1 there (each_front _ these those values.1)))
+        (an_element v (element at i) is.1 (not_above_next p at (Index i) clear) (λ there. in_value v (element at i) is.1 there (each_front _ these those values.1)))
         (in_items more at (i + 1) is.3 clear (each_back _ these those values.1))
 
     in_pairs : (pairs : Pairs) (at : Address) → ArePairs pairs → IsClear p at → AreValuesAt p (mentions.members 0 at pairs) → Made (members at pairs) (members at (set_pairs p new at pairs))
@@ -250,7 +249,7 @@ module _ (p : Address) (text : List ℕ) (new : Value) (formed : IsValue new) wh
         tail at clear.not_above o,
       )
 
-  end_clear : (ns : Key) (n : List ℕ) (line : ℕ) (xs : List Named) (e : Address → List Named) (at : Address) → AllClear p (followed line xs e at (n ∷ ns)) → AllClear p (e (header_end xs at (n ∷ ns)))
+  end_clear : (ns : Key) (n : List ℕ) (line : ℕ) (xs : List Named) (e : Address → List Named) (at : Address) → AreClear p (followed line xs e at (n ∷ ns)) → AreClear p (e (header_end xs at (n ∷ ns)))
   end_clear [] n line xs e at all = all
   end_clear (m ∷ ns) n line xs e at all = end_clear ns m line xs e (entered xs (child at n)) all.1
 
@@ -280,15 +279,11 @@ module _ (p : Address) (text : List ℕ) (new : Value) (formed : IsValue new) wh
       (λ there. in_value kv.value to is.1.1 there (plain_values n to kv.value rest.1)))
       (tail to far b.comment)
   in_line xs n (TableLine ws h b) is clear values =
-      let new_ones = named_by xs n (TableLine ws h b) in
-      let all = followed_clear p new (rest_names h.key.rest) (part_name h.key.first) n xs (ends_table n) [] (no_tables p new xs (each_front _ xs new_ones values)) (table_clear p new n)
-      (clear_root p (root_apart p new (section xs) clear)) (each_back _ xs new_ones values) in
+      let all = headers_are_clear p xs n (TableLine ws h b) (root_apart p new (section xs) clear) tt values in
       same_line (TableLine ws h b) (header_end xs [] (key_names h.key)) b.comment (end_clear (rest_names h.key.rest) (part_name h.key.first) n xs (ends_table n) [] all).0
   in_line xs n (ArrayTableLine ws h b) is clear values =
-      let new_ones = named_by xs n (ArrayTableLine ws h b) in
       let at = header_end xs [] (key_names h.key) in
-      let all = followed_clear p new (rest_names h.key.rest) (part_name h.key.first) n xs (ends_tables n xs) [] (no_tables p new xs (each_front _ xs new_ones values)) (tables_clear p new n xs)
-      (clear_root p (root_apart p new (section xs) clear)) (each_back _ xs new_ones values) in
+      let all = headers_are_clear p xs n (ArrayTableLine ws h b) (root_apart p new (section xs) clear) tt values in
       same_line (ArrayTableLine ws h b) (element at (count_tables xs at)) b.comment (end_clear (rest_names h.key.rest) (part_name h.key.first) n xs (ends_tables n xs) [] all).1.0
 
   in_lines : (ls : List Line) (xs ys : List Named) (n : ℕ) → EachIs (λ l. IsExpr l.expr) ls → AreAlike xs ys → IsClear p (section xs) → AreValuesAt p (named_from xs n ls)
@@ -305,4 +300,4 @@ module _ (p : Address) (text : List ℕ) (new : Value) (formed : IsValue new) wh
 
 pub set_units : SetUnits
 set_units p text new lines apart is formed there keeps =
-    in_lines p text new formed lines (root ∷ []) (root ∷ []) 0 (each_form lines is) (alike_self (root ∷ [])) (clear_root p apart) (values_at p lines there keeps)
+    in_lines p text new formed lines (root ∷ []) (root ∷ []) 0 (each_form lines is) (alike_self (root ∷ [])) (clear_of_root p apart) (values_at p lines there keeps)

@@ -1,12 +1,13 @@
 -- The rules, the bound on addresses and the data do not see the numbers of lines.
-use Rattle.std.proofs.Common.{List, [], ◌∷◌, map}
+use Rattle.std.proofs.Common.{◌↔◌, List, [], ◌∷◌, map, refl}
 use Rattle.toml_tree.specs.Spells.{EachIs}
 use Rattle.toml_tree.specs.Tree.{Line}
 use Rattle.toml_names.specs.mentions.Mentions.{Named, named}
 use Rattle.toml_names.specs.mentions.Rules.{KeepsRules, IsShort}
+use Rattle.toml_names.proofs.Proved.{moved_keep_rules}
 use Rattle.toml_editor.specs.Blocks.{unnumbered, named_plain}
 use Rattle.toml_editor.proofs.written.Deep.{AllShort}
-use Rattle.toml_editor.proofs.written.Pairwise.{PairsAre, Goes, each_of_all, all_of_each, pairs_of_all, all_of_pairs, pairs_map, Has, has_map, map_has}
+use Rattle.toml_editor.proofs.written.Pairwise.{PairsAre, each_of_all, all_of_each, pairs_map, Has, has_map, map_has}
 
 unmap_each : {A B : Type 0} (P : B → Type 0) (f : A → B) (xs : List A) → EachIs P (map f xs) → EachIs (λ x. P (f x)) xs
 unmap_each P f [] h = tt
@@ -16,19 +17,12 @@ map_each : {A B : Type 0} (P : B → Type 0) (f : A → B) (xs : List A) → Eac
 map_each P f [] h = tt
 map_each P f (x ∷ xs) h = (h.0, map_each P f xs h.1)
 
-unmap_pairs : {A B : Type 0} (R : B → B → Type 0) (f : A → B) (xs : List A) → PairsAre R (map f xs) → PairsAre (λ x y. R (f x) (f y)) xs
-unmap_pairs R f [] h = tt
-unmap_pairs R f (x ∷ xs) h = (unmap_each (R (f x)) f xs h.0, unmap_pairs R f xs h.1)
-
 module _ (lines : List Line) where
   pub pairs_plain : (R : Named → Named → Type 0) → ((x y : Named) → R x y → R (unnumbered x) (unnumbered y)) → PairsAre R (named lines) → PairsAre R (named_plain lines)
   pairs_plain R w h = pairs_map R R unnumbered w (named lines) h
 
-  pub rules_plain : KeepsRules (named lines) → PairsAre Goes (named_plain lines)
-  rules_plain keeps = pairs_map Goes Goes unnumbered (λ x y goes. goes) (named lines) (pairs_of_all Goes (named lines) keeps)
-
-  pub plain_rules : PairsAre Goes (named_plain lines) → KeepsRules (named lines)
-  plain_rules pairs = all_of_pairs Goes (named lines) (unmap_pairs Goes unnumbered (named lines) pairs)
+  pub rules_plain : KeepsRules (named lines) ↔ KeepsRules (named_plain lines)
+  rules_plain = moved_keep_rules unnumbered (named lines) (λ m. refl) (λ i j d low high. (λ same. same, λ same. same))
 
   pub short_plain : IsShort (named lines) → AllShort (named_plain lines)
   short_plain short = map_each _ unnumbered (named lines) (each_of_all _ (named lines) short)

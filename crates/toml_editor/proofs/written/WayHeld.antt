@@ -10,10 +10,10 @@ use Rattle.toml_names.specs.mentions.Mentions.{Named, named_by, named_from, root
 use Rattle.toml_names.specs.mentions.Mentions as mentions
 use Rattle.toml_names.specs.model.Addresses.{Address, same_address, element, below}
 use Rattle.toml_names.specs.reader.Names.{own_address}
+use Rattle.toml_names.specs.mentions.Clear.{AreValuesAt}
 use Rattle.toml_units.specs.Units.{TextUnit, comment_units, gap_line_units, gap_units, element_unit, pair_unit, inside, elements, members, line_units, units_from}
 use Rattle.toml_units.specs.declared.unit.UnitKind.{UnitKind}
 use Rattle.toml_units.specs.declared.unit.UnitKind.TheVariants as kinds
-use Rattle.toml_editor.specs.SetLaws.{AreValuesAt}
 use Rattle.toml_editor.proofs.written.Clear.{same_is}
 use Rattle.toml_editor.proofs.written.Pairwise.{PairsAre, Alone}
 

@@ -13,6 +13,7 @@ use Rattle.toml_names.proofs.Proved.{same_step-self}
 use Rattle.toml_names.specs.model.Places.{IsNamed}
 use Rattle.toml_edits.specs.Carry.{carry}
 use Rattle.toml_edits.specs.Edits.{Change, rename}
+use Rattle.toml_edits.proofs.Proved.{parted_at_last}
 use Rattle.toml_units.specs.declared.unit.UnitKind.TheVariants as kinds
 use Rattle.toml_units.specs.Units.{TextUnit, units}
 use Rattle.toml_checker.specs.CarriedTo.{IsAtOrAbove, At}
@@ -24,7 +25,7 @@ use Rattle.toml_editor.specs.RenameLaws.{moved}
 use Rattle.toml_editor.specs.RenamedUnits.{IsCarried}
 use Rattle.toml_editor.specs.Renaming.{rename_line, rename_lines}
 use Rattle.toml_editor.proofs.written.Moved.{moved_root}
-use Rattle.toml_editor.proofs.written.RenameKept.{renamed_moved, parted_at}
+use Rattle.toml_editor.proofs.written.RenameKept.{renamed_moved}
 use Rattle.toml_editor.proofs.written.WayComments.{added, comments}
 use Rattle.toml_editor.proofs.written.WayFits.{Matches, SameNewline, newlines}
 use Rattle.toml_editor.proofs.written.WayWhole.{HasWay, as_many}
@@ -79,12 +80,12 @@ module _ (q : Address) (n to : List ℕ) where
 
   owed : (a : Address) → IsNear p a → IsOwed (c ∷ []) (moved q n to a)
   owed a (inl (rest, is)) =
-      inl (child q to, child q to, ap (option_map (λ (w : Address × AddressStep). child w.0 to)) (parted_at q (Name n)), refl, inr (rest, ap (moved q n to) is ∙ moved_below q rest))
+      inl (child q to, child q to, ap (option_map (λ (w : Address × AddressStep). child w.0 to)) (parted_at_last q (Name n)), refl, inr (rest, ap (moved q n to) is ∙ moved_below q rest))
   owed a (inr above) =
       inl (
         child q to,
         child q to,
-        ap (option_map (λ (w : Address × AddressStep). child w.0 to)) (parted_at q (Name n)),
+        ap (option_map (λ (w : Address × AddressStep). child w.0 to)) (parted_at_last q (Name n)),
         refl,
         inl (subst (λ x. IsAtOrAbove x (child q to)) (sym (moved_above q a above)) (above_new q a above)),
       )
