@@ -1,21 +1,27 @@
 -- What the reading of a document gives.
 use Rattle.std.specs.Prelude.{◌≡◌, ◌<◌, ◌+◌, ◌⊎◌, ℕ, List, Option, Some, None, option_map, IfSome}
-use Rattle.toml_text.specs.Limit.{max_len}
+use Rattle.toml_text.specs.Limit.{max_len, IsText}
 use Rattle.toml_text.specs.declared.fault.TextFault.{TextFault}
 use Rattle.toml_text.specs.declared.fault.TextFault.TheVariants.{NotUtf8, TooLong}
 use Rattle.toml_scalar.specs.Faults.{place_of}
 use Rattle.toml_scalar.specs.declared.fault.SyntaxFault.{SyntaxFault}
 use Rattle.toml_scalar.specs.declared.fault.SyntaxFault.TheVariants as faults
 use Rattle.toml_tree.specs.Tree.{Line}
+use Rattle.toml_tree.specs.declared.profile.Profile.{Profile}
 use Rattle.toml_names.specs.model.Addresses.{Address}
 use Rattle.toml_names.specs.reader.Names.{IsRedefined, IsLong}
 use Rattle.toml_names.specs.declared.fault.NameFault.{NameFault}
 use Rattle.toml_names.specs.declared.fault.NameFault.TheVariants as names
 use Rattle.toml_names.specs.declared.fault.ReadFault.{ReadFault}
 use Rattle.toml_names.specs.declared.fault.ReadFault.TheVariants as reads
+use Rattle.toml_names.specs.reader.Texts.{GoodText}
 use Rattle.tomled.specs.declared.ending.Ending.{Ending}
 use Rattle.tomled.specs.declared.ending.Ending.TheVariants.{Refused, NoMemory}
 use Rattle.tomled.specs.declared.refusal.Refusal.{Refusal}
+
+-- the bytes are a document of the profile, and it holds of its lines
+abbrev pub IsGoodTextWith : Profile → List ℕ → (List Line → Type 0) → Type 0
+IsGoodTextWith profile bytes P = IsText bytes × (it : GoodText profile bytes) × P it.lines
 
 -- the refusal that stands for lines of which the names are refused
 abbrev pub RefusesLines : List Line → Refusal → Type 0

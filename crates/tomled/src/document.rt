@@ -8,9 +8,8 @@ ghost use Rattle.toml_names.specs.model.Documents.{IsDocumentIn};
 ghost use Rattle.toml_names.specs.mentions.FirstMentions.{first_mentions};
 ghost use Rattle.toml_names.specs.mentions.Mentions.{named};
 ghost use Rattle.toml_names.specs.reader.Parts.{part_kinds};
-ghost use Rattle.toml_names.specs.reader.Texts.{GoodText};
 ghost use Rattle.tomled.specs.Outcomes.{Ends, IsRefused};
-ghost use Rattle.tomled.specs.Reading.{HasNumber, IsNameEnding, IsReadEnding, IsSyntaxEnding, IsTextRefusal, IsNumbered};
+ghost use Rattle.tomled.specs.Reading.{HasNumber, IsGoodTextWith, IsNameEnding, IsReadEnding, IsSyntaxEnding, IsTextRefusal, IsNumbered};
 
 use crate::ending::Ending;
 use crate::refusal::Refusal;
@@ -48,7 +47,7 @@ pub fn judge(alloc: Global, file: &[u8], profile: Profile) -> Result<(), Ending>
 /// The data of a document of the profile, which are lent part by part, or why the bytes are none.
 #[tactic(auto, using(crate::proofs::Judged::no_reading, crate::proofs::Judged::numbered))]
 pub fn read_data(alloc: Global, file: &[u8], profile: Profile) -> Result<NamedText<'_>, Ending>
-    ensures facts { IfOk result (λ whole. IsText file.now × (it : GoodText profile file.now) × IsDataOf (named it.lines) (part_kinds whole 0)) }
+    ensures facts { IfOk result (λ whole. IsGoodTextWith profile file.now (λ lines. IsDataOf (named lines) (part_kinds whole 0))) }
     ensures refused { IfErr result (Ends (IsRefused profile file.now)) }
 {
     let source = read_source(file)?;
@@ -61,7 +60,7 @@ pub fn read_data(alloc: Global, file: &[u8], profile: Profile) -> Result<NamedTe
 /// The addresses that a document of the profile mentions, each once, or why the bytes are none.
 #[tactic(auto, using(crate::proofs::Judged::no_reading, crate::proofs::Judged::numbered))]
 pub fn read_mentions(alloc: Global, file: &[u8], profile: Profile) -> Result<Vec<Address>, Ending>
-    ensures firsts { IfOk result (λ list. IsText file.now × (it : GoodText profile file.now) × (list.items ≡ first_mentions (named it.lines))) }
+    ensures firsts { IfOk result (λ list. IsGoodTextWith profile file.now (λ lines. list.items ≡ first_mentions (named lines))) }
     ensures refused { IfErr result (Ends (IsRefused profile file.now)) }
 {
     let source = read_source(file)?;

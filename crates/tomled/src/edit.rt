@@ -55,7 +55,8 @@ fn edited(alloc: Global, file: &[u8], edits: &[u8], profile: Profile) -> Result<
 /// `ok` and LF, and as files the text and that of the certificate.
 fn good(alloc: Global, text: String, certificate: &Certificate) -> Result<Answer, AllocError>
     ensures printed { IfOk result (λ answer. answer.out.items ≡ codes "ok\n") }
-    ensures files { IfOk result (λ answer. texts_of answer.files.items ≡ string_bytes text ∷ certificate_of certificate.now.pairs.items ∷ []) }
+    ensures files { let texts = string_bytes text ∷ certificate_of certificate.now.pairs.items ∷ [] in
+        IfOk result (λ answer. texts_of answer.files.items ≡ texts) }
 {
     let certificate = certificate_text(alloc, certificate)?;
     Ok(Answer {
