@@ -49,7 +49,8 @@ pub(crate) fn no_comments_added(
     profile: Profile,
 ) -> Result<bool, AllocError>
     requires { HaveValues profile (map change edits.now) }
-    ensures { IfOk result (λ holds. OfTreeWith text.now units.now (λ e. IsTrue holds ↔ NoCommentsAdded (map change edits.now) e pairs.now)) }
+    ensures { let cs = map change edits.now in
+        IfOk result (λ holds. OfTreeWith text.now units.now (λ e. IsTrue holds ↔ NoCommentsAdded cs e pairs.now)) }
 {
     let written = all_written(alloc, edits, profile)?;
     let paired = second_marks(alloc, units.len(), pairs)?;

@@ -31,7 +31,8 @@ pub fn push_comment(
     at: Option<&Address>,
     comment: Option<Piece>,
 ) -> Result<(), AllocError>
-    ensures { OnOk result (AddsUnits units.old.items units.new.items (comment_spans kind (lent at.entry) (option_map piece comment.entry))) }
+    ensures { let new = comment_spans kind (lent at.entry) (option_map piece comment.entry) in
+        OnOk result (AddsUnits units.old.items units.new.items new) }
 {
     if let Some(found) = comment {
         units.push(Unit {
