@@ -153,7 +153,8 @@ impl<'d, 't> NameReader<'d, 't> {
     pub fn into_names(self) -> LineNames<'t>
         ensures { StandFor result (lines_of self.entry) }
     {
-        self.names
+        let NameReader { names, .. } = self;
+        names
     }
 
     /// The lines taken, which are good together.
