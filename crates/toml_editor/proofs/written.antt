@@ -10,6 +10,7 @@ pub mod Fitting
 pub mod InsertFormed
 pub mod InsertKept
 pub mod InsertNamed
+pub mod LastLines
 pub mod Made
 pub mod Moved
 pub mod Pairwise
@@ -44,6 +45,10 @@ pub mod WayBlock
 pub mod WayComments
 pub mod WayFits
 pub mod WayHeld
+pub mod WayKeeps
+pub mod WayKept
+pub mod WayOn
+pub mod WayOwed
 pub mod WayPut
 pub mod WayRenamed
 pub mod WaySet

@@ -105,7 +105,7 @@ added (new w ∷ s) = w ∷ added s
 abbrev pub comments : List TextUnit → List TextUnit
 comments = filter (λ (u : TextUnit). is_comment u.kind)
 
-times_cons : (t x : List ℕ) (ts : List (List ℕ)) → times t (x ∷ ts) ≡ cond (bytes_eq t x) 1 0 + times t ts
+pub times_cons : (t x : List ℕ) (ts : List (List ℕ)) → times t (x ∷ ts) ≡ cond (bytes_eq t x) 1 0 + times t ts
 times_cons t x ts = sum_by-cons (λ y. cond (bytes_eq t y) 1 0) x ts
 
 written_seen : (cs : List Change) (written : List (List (List ℕ))) (x w : TextUnit) → seen x ≡ seen w → IsWritten cs written w → IsWritten cs written x
