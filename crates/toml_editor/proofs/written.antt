@@ -33,6 +33,7 @@ pub mod UnitsAlike
 pub mod UnitsBare
 pub mod UnitsCarried
 pub mod UnitsGone
+pub mod UnitsListed
 pub mod UnitsPut
 pub mod UnitsRenamed
 pub mod UnitsSet

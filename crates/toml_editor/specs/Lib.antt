@@ -24,3 +24,4 @@ pub mod ChangedUnits
 pub mod BareUnits
 pub mod Steps
 pub mod CarriedUnits
+pub mod CarriedLists

@@ -2,6 +2,7 @@
 ghost use Rattle.toml_editor.specs.Bares.{SetBares, InsertBares, RemoveBares, RenameBares};
 ghost use Rattle.toml_editor.specs.BareUnits.{UnitsOfBares};
 ghost use Rattle.toml_editor.specs.CarriedUnits.{PlainIsCarried};
+ghost use Rattle.toml_editor.specs.CarriedLists.{ListIsCarried};
 ghost use Rattle.toml_editor.specs.ChangedUnits.{SetUnits};
 ghost use Rattle.toml_editor.specs.InsertLaws.{InsertNames, InsertRules, InsertShort, InsertData, InsertForms, InsertOfProfile, InsertKeepsLines};
 ghost use Rattle.toml_editor.specs.RemoveLaws.{RemoveNames, RemoveGood, RemoveData, RemoveForms, RemoveOfProfile, RemoveKeepsLines};
@@ -105,6 +106,12 @@ pub fn units()
 /// edit does not ask for.
 pub fn carried()
     ensures { PlainIsCarried }
+{}
+
+/// So it is of a list of plain edits, each without a fault on the data so far: the pairs name just the units of the first
+/// text that no edit of the list takes away or changes.
+pub fn carried_by_lists()
+    ensures { ListIsCarried }
 {}
 
 /// Within the limit of a text the good texts are the documents of the profile.

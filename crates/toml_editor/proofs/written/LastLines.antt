@@ -1,5 +1,5 @@
 -- That a last line has a byte.
-use Rattle.std.proofs.Common.{◌≡◌, inr, ◌<◌, ◌+◌, ℕ, Bool, true, false, Option, Some, None, List, [], ◌∷◌, ◌++◌, length, length-append, refl, sym, ap, ◌∙◌, true≢false, arith}
+use Rattle.std.proofs.Common.{◌≡◌, inr, ◌<◌, ◌+◌, Bool, true, false, Option, Some, None, List, [], ◌∷◌, ◌++◌, length, length-append, refl, sym, ap, ◌∙◌, true≢false, arith}
 use Rattle.toml_tree.specs.Spells.{EachIs, Part, joined, equals_parts, assign_parts, key_parts, value_parts, keyval_parts, blank_parts, expr_parts}
 use Rattle.toml_tree.specs.Tree.{Piece, Blank, KeyVal, Expr, BlankLine, KeyValLine, TableLine, ArrayTableLine}
 use Rattle.toml_tree.proofs.Proved.{parts_join}

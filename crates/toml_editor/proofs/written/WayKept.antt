@@ -24,6 +24,7 @@ use Rattle.toml_editor.proofs.written.LastLines.{LastIsFull, inner_line, inner_i
 use Rattle.toml_editor.proofs.written.UnitsPut.{line_lines}
 use Rattle.toml_editor.proofs.written.Way.{Step, both, old, new, olds, news, one_line, is_here}
 use Rattle.toml_editor.proofs.written.WayBlock.{line_after, lines_append}
+use Rattle.toml_editor.proofs.written.WayComments.{added}
 use Rattle.toml_editor.proofs.written.WayFits.{newlines}
 use Rattle.toml_editor.proofs.written.WayKeeps.{moved_site, Ends, Stays, ComesBlank, Keeps, line_is, line_goes, site_goes, same_ends, next_after}
 use Rattle.toml_editor.proofs.written.WayOwed.{IsOwedBelow}
@@ -94,6 +95,10 @@ same_olds (u ∷ us) = ap (λ l. u ∷ l) (same_olds us)
 pub same_news : (us : List TextUnit) → news (same_way us) ≡ us
 same_news [] = refl
 same_news (u ∷ us) = ap (λ l. u ∷ l) (same_news us)
+
+pub same_adds : (us : List TextUnit) → added (same_way us) ≡ []
+same_adds [] = refl
+same_adds (u ∷ us) = same_adds us
 
 abbrev pub IsFixed : Change → TextUnit → Type 0
 IsFixed c u = (u.address ≡ option_and_then (carry c) u.address) × HeaderIsOwed c u u

@@ -1,13 +1,10 @@
 -- A way of one edit, and a way of others that goes on from there: together they are a way of all.
 use Rattle.std.proofs.Common.{◌≡◌, ◌⊎◌, inl, inr, ◌≤◌, ◌+◌, ℕ, Bool, true, false, cond, ◌&&◌, Option, Some, None, option_map, option_and_then, List, [], ◌∷◌, map, length, refl, sym, ap, ap₂, ◌∙◌, subst, true≢false, arith}
-use Rattle.std.specs.Prelude.{slice_get}
 use Rattle.std.specs.Str.{bytes_eq}
-use Rattle.std.proofs.lemmas.List.Sums.{sum_by-cons}
 use Rattle.toml_names.specs.model.Addresses.{Address}
 use Rattle.toml_edits.specs.Carry.{carry}
 use Rattle.toml_edits.specs.Edits.{Change}
 use Rattle.toml_edits.specs.Lists.{carried}
-use Rattle.toml_units.specs.declared.unit.UnitKind.{UnitKind}
 use Rattle.toml_units.specs.declared.unit.UnitKind.TheVariants as kinds
 use Rattle.toml_units.specs.Units.{TextUnit}
 use Rattle.toml_checker.specs.CarriedTo.{IsCarriedTo, At}
@@ -18,7 +15,7 @@ use Rattle.toml_checker.specs.Plain.{Site, site, next_line, stands}
 use Rattle.toml_editor.specs.BareUnits.{bare_unit}
 use Rattle.toml_editor.proofs.written.Way.{Step, both, old, new, olds, news, one_line, is_here}
 use Rattle.toml_editor.proofs.written.WayComments.{added, comments, times_cons}
-use Rattle.toml_editor.proofs.written.WayFits.{IsPartner, Matches, IsAsked, Fits, SameNewline}
+use Rattle.toml_editor.proofs.written.WayFits.{Matches, IsAsked, Fits}
 use Rattle.toml_editor.proofs.written.WayKeeps.{moved_site, Ends, Stays, ComesBlank, Keeps, no_more, kept_on, moved_on, line_moved_on, line_is}
 use Rattle.toml_editor.proofs.written.WayOwed.{left_true, right_true, along, IsOwedBelow, owed_below, owed_on, below_on, written_on}
 
@@ -225,18 +222,18 @@ module _ (c : Change) (cs : List Change) (ts : List (List ℕ)) (more : List (Li
 
   -- ---- the whole way
 
-  record Whole (line next : Option Site) (a d : ℕ) (s t : List Step) : Type 0 where
-    way : List Step
-    olds_are : olds way ≡ olds s
-    news_are : news way ≡ news t
-    fits : Fits (c ∷ cs) (ts ∷ more) before after line a d way
-    keeps : Keeps (c ∷ cs) before after line next a d way
-    few : (x : List ℕ) → times x (texts (comments (added way))) ≤ times x (texts (comments (added s))) + times x (texts (comments (added t)))
+  pub record Whole (line next : Option Site) (a d : ℕ) (s t : List Step) : Type 0 where
+    pub way : List Step
+    pub olds_are : olds way ≡ olds s
+    pub news_are : news way ≡ news t
+    pub fits : Fits (c ∷ cs) (ts ∷ more) before after line a d way
+    pub keeps : Keeps (c ∷ cs) before after line next a d way
+    pub few : (x : List ℕ) → times x (texts (comments (added way))) ≤ times x (texts (comments (added s))) + times x (texts (comments (added t)))
 
-  abbrev Meets : List Step → List Step → Type 0
+  abbrev pub Meets : List Step → List Step → Type 0
   Meets s t = map bare_unit (news s) ≡ map bare_unit (olds t)
 
-  abbrev GoesOn : List Step → List Step → Type 0
+  abbrev pub GoesOn : List Step → List Step → Type 0
   GoesOn s t = (line mid next : Option Site) (a b d : ℕ) → Fits (c ∷ []) (ts ∷ []) before between line a b s → Keeps (c ∷ []) before between line mid a b s
       → Fits cs more between after mid b d t → Keeps cs between after mid next b d t → Whole line next a d s t
 
@@ -250,7 +247,7 @@ module _ (c : Change) (cs : List Change) (ts : List (List ℕ)) (more : List (Li
         news_are = ap (λ l. v ∷ l) r.news_are;
         fits = (asked fits.0, r.fits);
         keeps = (keeps.0, r.keeps);
-        few = λ x. counted_too (is_comment v.kind) x (r.few x);
+        few = λ x. counted_too r.way (is_comment v.kind) x (r.few x);
       }
     where
       asked : IsAsked cs more between after d v → IsAsked (c ∷ cs) (ts ∷ more) before after d v
@@ -259,10 +256,10 @@ module _ (c : Change) (cs : List Change) (ts : List (List ℕ)) (more : List (Li
         comment = λ comment. let w = is.comment comment in (w.0, inr w.1);
       }
 
-      counted_too : {r : List Step} (z : Bool) (x : List ℕ) → times x (texts (comments (added r))) ≤ times x (texts (comments (added s))) + times x (texts (comments (added t)))
+      counted_too : (r : List Step) (z : Bool) (x : List ℕ) → times x (texts (comments (added r))) ≤ times x (texts (comments (added s))) + times x (texts (comments (added t)))
           → times x (texts (cond z (v ∷ comments (added r)) (comments (added r)))) ≤ times x (texts (comments (added s))) + times x (texts (cond z (v ∷ comments (added t)) (comments (added t))))
-      counted_too {r} true x few = let e = times_cons x v.piece.text (texts (comments (added r))) in let f = times_cons x v.piece.text (texts (comments (added t))) in omega (arith, few, e, f)
-      counted_too {r} false x few = few
+      counted_too r true x few = let e = times_cons x v.piece.text (texts (comments (added r))) in let f = times_cons x v.piece.text (texts (comments (added t))) in omega (arith, few, e, f)
+      counted_too r false x few = few
 
   goes : (u : TextUnit) (s t : List Step) → GoesOn s t → GoesOn (old u ∷ s) t
   goes u s t go line mid next a b d fit keep fits keeps =
@@ -291,7 +288,7 @@ module _ (c : Change) (cs : List Change) (ts : List (List ℕ)) (more : List (Li
   next_keeps w x same mid next b d t = subst (λ (y : TextUnit). Keeps cs between after (next_line mid (site y)) next (b + one_line y.kind) d t) (sym same)
 
   none : (t : List Step) → Meets [] t → GoesOn [] t
-  none [] is line mid next a b d fit keep fits keeps = record { way = []; olds_are = refl; news_are = refl; fits = tt; keeps = tt; few = λ x. omega arith }
+  none [] is = λ line mid next a b d fit keep fits keeps. record { way = []; olds_are = refl; news_are = refl; fits = tt; keeps = tt; few = λ x. omega arith }
   none (both x v ∷ t) is = cc
   none (old x ∷ t) is = cc
   none (new v ∷ t) is = comes v [] t (none t is)

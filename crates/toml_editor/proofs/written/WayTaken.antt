@@ -31,20 +31,16 @@ use Rattle.toml_editor.proofs.Each.{each_front, each_back}
 use Rattle.toml_editor.proofs.written.SetKept.{clear_carried}
 use Rattle.toml_editor.proofs.written.UnitsGone.{value_in}
 use Rattle.toml_editor.proofs.written.UnitsTaken.{AreTaken, lines_taken}
-use Rattle.toml_editor.proofs.written.Way.{Step, both, old, new, olds, news, one_line, is_here}
+use Rattle.toml_editor.proofs.written.Way.{Step, old, new, olds, news, one_line, is_here}
 use Rattle.toml_editor.proofs.written.WayBlock.{line_after, olds_append, news_append, added_append, fits_append, new_olds, new_news, new_adds, lines_append, inside_lines}
 use Rattle.toml_editor.proofs.written.WayComments.{added, comments}
 use Rattle.toml_editor.proofs.written.WayFits.{Matches, Fits, SameNewline, newlines}
 use Rattle.toml_editor.proofs.written.WayKeeps.{ComesBlank, Keeps, next_after}
-use Rattle.toml_editor.proofs.written.WayKept.{HeaderIsOwed, header_named, IsFixed, same_way, same_olds, same_news, same_keeps, new_keeps, old_keeps, keeps_append, count_lines}
+use Rattle.toml_editor.proofs.written.WayKept.{HeaderIsOwed, header_named, IsFixed, same_way, same_olds, same_news, same_adds, same_keeps, new_keeps, old_keeps, keeps_append, count_lines}
 use Rattle.toml_editor.proofs.written.WayWhole.{HasWay, as_many}
 use Rattle.toml_editor.proofs.written.WayZip.{IsNear, lost_line, carried_to, lines_in}
 
 -- ---- units that go, and units that stay
-
-same_adds : (us : List TextUnit) → added (same_way us) ≡ []
-same_adds [] = refl
-same_adds (u ∷ us) = same_adds us
 
 old_olds : (us : List TextUnit) → olds (map old us) ≡ us
 old_olds [] = refl
