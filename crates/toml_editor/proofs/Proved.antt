@@ -21,3 +21,5 @@ pub use Rattle.toml_editor.proofs.written.UnitsSet.{set_units}
 pub use Rattle.toml_editor.proofs.written.UnitsBare.{units_of_bares}
 pub use Rattle.toml_editor.proofs.written.UnitsCarried.{plain_is_carried}
 pub use Rattle.toml_editor.proofs.written.UnitsListed.{list_is_carried}
+pub use Rattle.toml_editor.proofs.written.Certify.{partners_certify, outer_partners_certify, plain_list_is_certified}
+pub use Rattle.toml_editor.proofs.written.OuterPairs.{outer_are_named}

@@ -25,3 +25,4 @@ pub mod BareUnits
 pub mod Steps
 pub mod CarriedUnits
 pub mod CarriedLists
+pub mod CertifiedLists

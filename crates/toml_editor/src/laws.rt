@@ -3,6 +3,7 @@ ghost use Rattle.toml_editor.specs.Bares.{SetBares, InsertBares, RemoveBares, Re
 ghost use Rattle.toml_editor.specs.BareUnits.{UnitsOfBares};
 ghost use Rattle.toml_editor.specs.CarriedUnits.{PlainIsCarried};
 ghost use Rattle.toml_editor.specs.CarriedLists.{ListIsCarried};
+ghost use Rattle.toml_editor.specs.CertifiedLists.{PartnersCertify, OuterAreNamed, OuterPartnersCertify, PlainListIsCertified};
 ghost use Rattle.toml_editor.specs.ChangedUnits.{SetUnits};
 ghost use Rattle.toml_editor.specs.InsertLaws.{InsertNames, InsertRules, InsertShort, InsertData, InsertForms, InsertOfProfile, InsertKeepsLines};
 ghost use Rattle.toml_editor.specs.RemoveLaws.{RemoveNames, RemoveGood, RemoveData, RemoveForms, RemoveOfProfile, RemoveKeepsLines};
@@ -112,6 +113,16 @@ pub fn carried()
 /// text that no edit of the list takes away or changes.
 pub fn carried_by_lists()
     ensures { ListIsCarried }
+{}
+
+/// Within the limit of a text all demands of the judge hold of these pairs, and of those of them alone whose first unit
+/// lies in no other unit that is protected: these name just such units. So for each list of plain edits without a fault
+/// there is a text that it writes, with such pairs, and if it is within the limit the judge's verdict on it is yes.
+pub fn certified()
+    ensures partners { PartnersCertify }
+    ensures named { OuterAreNamed }
+    ensures outer { OuterPartnersCertify }
+    ensures list { PlainListIsCertified }
 {}
 
 /// Within the limit of a text the good texts are the documents of the profile.

@@ -41,22 +41,22 @@ inner_line kinds.Pair is = refl
 pub inner_is_no_line : (kind : UnitKind) → is_inner kind ≡ true → ¬ (kind ≡ kinds.Line)
 inner_is_no_line kind inner is = true≢false (sym (ap is_line is) ∙ inner_line kind inner)
 
-no_lines : (p : Address) (us : List TextUnit) → EachIs (LiesInValue p) us → EachIs (λ (w : TextUnit). ¬ (w.kind ≡ kinds.Line)) us
+pub no_lines : (p : Address) (us : List TextUnit) → EachIs (LiesInValue p) us → EachIs (λ (w : TextUnit). ¬ (w.kind ≡ kinds.Line)) us
 no_lines p [] h = tt
 no_lines p (u ∷ us) h = (inner_is_no_line u.kind h.0.0, no_lines p us h.1)
 
-tail_no_line : (at : Option Address) (o : Option Piece) → EachIs (λ (w : TextUnit). ¬ (w.kind ≡ kinds.Line)) (comment_units kinds.TailComment at o)
+pub tail_no_line : (at : Option Address) (o : Option Piece) → EachIs (λ (w : TextUnit). ¬ (w.kind ≡ kinds.Line)) (comment_units kinds.TailComment at o)
 tail_no_line at None = tt
 tail_no_line at (Some p) = ((λ is. cc), tt)
 
 -- a line with a key and a value has an equals sign
-both_long : (ps qs : List Part) → length (joined (ps ++ qs)) ≡ length (joined ps) + length (joined qs)
+pub both_long : (ps qs : List Part) → length (joined (ps ++ qs)) ≡ length (joined ps) + length (joined qs)
 both_long ps qs = ap length (parts_join ps qs) ∙ length-append (joined ps) (joined qs)
 
 equals_long : (a b : Piece) → 0 < length (joined (equals_parts a b))
 equals_long a b = let e = length-append a.text (0x3D ∷ (b.text ++ [])) in omega (arith, e)
 
-pair_long : (ws : Piece) (k : KeyVal) (b : Blank) → 0 < length (joined (expr_parts (KeyValLine ws k b)))
+pub pair_long : (ws : Piece) (k : KeyVal) (b : Blank) → 0 < length (joined (expr_parts (KeyValLine ws k b)))
 pair_long ws k b =
     let all = length-append ws.text (joined (keyval_parts k ++ blank_parts b)) in
     let line = both_long (keyval_parts k) (blank_parts b) in

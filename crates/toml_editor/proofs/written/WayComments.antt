@@ -22,7 +22,7 @@ use Rattle.toml_editor.proofs.written.WayFits.{Fits}
 
 -- ---- what is covered
 
-le_or : (a b : ℕ) → (a ≤ b) ⊎ (b < a)
+pub le_or : (a b : ℕ) → (a ≤ b) ⊎ (b < a)
 le_or a b = by (leb a b) refl
   where
     by : (t : Bool) → leb a b ≡ t → (a ≤ b) ⊎ (b < a)
@@ -44,7 +44,7 @@ second_or (p ∷ ps) k = by (equal_or p.1 k) (second_or ps k)
     by (inr not) (inl later) = inl (inr later)
     by (inr not) (inr none) = inr (λ h. elim h [ inl here ↦ not here | inr later ↦ none later ])
 
-lies_or : (us : List TextUnit) (j k : ℕ) → LiesInside us j k ⊎ ¬ LiesInside us j k
+pub lies_or : (us : List TextUnit) (j k : ℕ) → LiesInside us j k ⊎ ¬ LiesInside us j k
 lies_or us j k = by (slice_get us j) refl (slice_get us k) refl
   where
     same : (o : Option TextUnit) (x y : TextUnit) → o ≡ Some x → o ≡ Some y → x ≡ y

@@ -110,9 +110,13 @@ line_moved_on c cs (Some l) = ap Some (moved_on c cs l)
 
 -- ---- lines
 
--- whether a line is protected
+-- whether a unit of a kind is protected, a line among them
+pub kind_is : (cs : List Change) (line : Option Site) (u : TextUnit) (kind : UnitKind) → u.kind ≡ kind
+    → is_here cs line u ≡ is_kept kind cs (next_line line (record { kind = kind; address = u.address; base = u.base })) (record { kind = kind; address = u.address; base = u.base })
+kind_is cs line u kind is = ap (λ k. is_kept k cs (next_line line (record { kind = k; address = u.address; base = u.base })) (record { kind = k; address = u.address; base = u.base })) is
+
 pub line_is : (cs : List Change) (line : Option Site) (u : TextUnit) → u.kind ≡ kinds.Line → is_here cs line u ≡ stands parts.Line cs u.address u.base
-line_is cs line u is = ap (λ k. is_kept k cs (next_line line (record { kind = k; address = u.address; base = u.base })) (record { kind = k; address = u.address; base = u.base })) is
+line_is cs line u is = kind_is cs line u kinds.Line is
 
 -- the line goes along
 pub line_goes : (cs : List Change) (line next : Option Site) (u w : TextUnit) → site w ≡ moved_site cs (site u) → (next ≡ option_map (moved_site cs) line) ⊎ (u.kind ≡ kinds.Line)

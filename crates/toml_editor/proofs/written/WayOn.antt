@@ -42,7 +42,7 @@ line_owed c cs base None x kept goes owed header = absurd owed
 line_owed c cs base (Some a) None kept goes owed header = absurd goes
 line_owed c cs None (Some a) (Some b) kept goes owed header =
     let below = below_on c cs a b goes (header refl) in record { owed = owed_below (c ∷ cs) b below; header = λ is. below }
-line_owed c cs (Some n) (Some a) (Some b) kept goes owed header = record { owed = owed_on c cs a b goes (λ rest. along cs a rest n kept) owed; header = λ is. cc }
+line_owed c cs (Some n) (Some a) (Some b) kept goes owed header = record { owed = owed_on c cs a b goes (λ rest. along parts.Line (Some n) tt cs a rest kept) owed; header = λ is. cc }
 
 and_none : (a : Bool) → (a && false) ≡ false
 and_none true = refl

@@ -10,6 +10,7 @@ use Rattle.toml_edits.specs.Lists.{carried}
 use Rattle.toml_edits.proofs.Proved.{carried_along, carried_front}
 use Rattle.toml_units.specs.Units.{TextUnit}
 use Rattle.toml_checker.specs.declared.side.Side.TheVariants as sides
+use Rattle.toml_checker.specs.declared.tables.Part.{Part}
 use Rattle.toml_checker.specs.declared.tables.Part.TheVariants as parts
 use Rattle.toml_checker.specs.CarriedTo.{IsAtOrAbove, IsCarriedTo, At}
 use Rattle.toml_checker.specs.Comments.{IsWritten}
@@ -28,39 +29,64 @@ right_true false b is = absurd (true≢false (sym is))
 
 -- ---- along a list of edits
 
--- a key's value at an address: an edit that does not name it is not below, and does not set it
-below_named : (c : Change) (n : ℕ) → not (is_named parts.Line c (Some n) sides.Below) ≡ false
-below_named (set p text) n = refl
-below_named (insert p text) n = refl
-below_named (rename p to) n = refl
-below_named (remove p) n = refl
-below_named (new_section p) n = refl
-below_named (new_element p) n = refl
+-- what has a value of its own: a line with a key, or a pair, and an element
+abbrev pub HoldsValue : Part → Option ℕ → Type 0
+HoldsValue parts.Line (Some n) = Unit {0}
+HoldsValue parts.Element base = Unit {0}
+HoldsValue _ _ = ⊥
 
-not_below : (c : Change) (a : Address) (n : ℕ) → not (is_named parts.Line c (Some n) (side (place c) a)) ≡ true → ¬ IsAbove a (place c)
-not_below c a n unnamed above =
-    true≢false (sym unnamed ∙ ap (λ s. not (is_named parts.Line c (Some n) s)) ((sides_are_right (place c) a).below.1 above) ∙ below_named c n)
+-- an edit that does not name it is not below its address, and does not set it
+below_named : (part : Part) (base : Option ℕ) → HoldsValue part base → (c : Change) → not (is_named part c base sides.Below) ≡ false
+below_named parts.Line None holds c = absurd holds
+below_named parts.Home base holds c = absurd holds
+below_named parts.Comment base holds c = absurd holds
+below_named parts.Line (Some n) holds (set p text) = refl
+below_named parts.Line (Some n) holds (insert p text) = refl
+below_named parts.Line (Some n) holds (rename p to) = refl
+below_named parts.Line (Some n) holds (remove p) = refl
+below_named parts.Line (Some n) holds (new_section p) = refl
+below_named parts.Line (Some n) holds (new_element p) = refl
+below_named parts.Element base holds (set p text) = refl
+below_named parts.Element base holds (insert p text) = refl
+below_named parts.Element base holds (rename p to) = refl
+below_named parts.Element base holds (remove p) = refl
+below_named parts.Element base holds (new_section p) = refl
+below_named parts.Element base holds (new_element p) = refl
 
-not_set : (c : Change) (a : Address) (n : ℕ) → not (is_named parts.Line c (Some n) (side (place c) a)) ≡ true → IsNotSet c a
-not_set (set p text) a n unnamed = λ is. true≢false (sym unnamed ∙ ap (λ s. not (is_named parts.Line (set p text) (Some n) s)) ((sides_are_right p a).at.1 is))
-not_set (insert p text) a n unnamed = tt
-not_set (rename p to) a n unnamed = tt
-not_set (remove p) a n unnamed = tt
-not_set (new_section p) a n unnamed = tt
-not_set (new_element p) a n unnamed = tt
+set_named : (part : Part) (base : Option ℕ) → HoldsValue part base → (p : Address) (text : List ℕ) → not (is_named part (set p text) base sides.At) ≡ false
+set_named parts.Line None holds p text = absurd holds
+set_named parts.Home base holds p text = absurd holds
+set_named parts.Comment base holds p text = absurd holds
+set_named parts.Line (Some n) holds p text = refl
+set_named parts.Element base holds p text = refl
 
--- what is below a line with a key and a value goes along with it, where no edit names the line
-pub along : (cs : List Change) (a rest : Address) (n : ℕ) → stands parts.Line cs (Some a) (Some n) ≡ true → carried cs (a ++ rest) ≡ option_map (λ b. b ++ rest) (carried cs a)
-along [] a rest n kept = refl
-along (c ∷ cs) a rest n kept =
-    let first = left_true (not (is_named parts.Line c (Some n) (side (place c) a))) (stands parts.Line cs (carry c a) (Some n)) kept in
-    let others = right_true (not (is_named parts.Line c (Some n) (side (place c) a))) (stands parts.Line cs (carry c a) (Some n)) kept in
-    ap (option_and_then (carried cs)) (carried_along c a rest (not_below c a n first) (not_set c a n first)) ∙ on (λ b k. along cs b rest n k) (carry c a) others
-  where
-    on : ((b : Address) → stands parts.Line cs (Some b) (Some n) ≡ true → carried cs (b ++ rest) ≡ option_map (λ x. x ++ rest) (carried cs b))
-        → (o : Option Address) → stands parts.Line cs o (Some n) ≡ true → option_and_then (carried cs) (option_map (λ x. x ++ rest) o) ≡ option_map (λ x. x ++ rest) (option_and_then (carried cs) o)
-    on more None k = refl
-    on more (Some b) k = more b k
+module _ (part : Part) (base : Option ℕ) (holds : HoldsValue part base) where
+  abbrev IsUnnamed : Change → Address → Type 0
+  IsUnnamed c a = not (is_named part c base (side (place c) a)) ≡ true
+
+  not_below : (c : Change) (a : Address) → IsUnnamed c a → ¬ IsAbove a (place c)
+  not_below c a unnamed above = true≢false (sym unnamed ∙ ap (λ s. not (is_named part c base s)) ((sides_are_right (place c) a).below.1 above) ∙ below_named part base holds c)
+
+  not_set : (c : Change) (a : Address) → IsUnnamed c a → IsNotSet c a
+  not_set (set p text) a unnamed = λ is. true≢false (sym unnamed ∙ ap (λ s. not (is_named part (set p text) base s)) ((sides_are_right p a).at.1 is) ∙ set_named part base holds p text)
+  not_set (insert p text) a unnamed = tt
+  not_set (rename p to) a unnamed = tt
+  not_set (remove p) a unnamed = tt
+  not_set (new_section p) a unnamed = tt
+  not_set (new_element p) a unnamed = tt
+
+  -- what is below it goes along with it, where no edit names it
+  pub along : (cs : List Change) (a rest : Address) → stands part cs (Some a) base ≡ true → carried cs (a ++ rest) ≡ option_map (λ b. b ++ rest) (carried cs a)
+  along [] a rest kept = refl
+  along (c ∷ cs) a rest kept =
+      let first = left_true (not (is_named part c base (side (place c) a))) (stands part cs (carry c a) base) kept in
+      let others = right_true (not (is_named part c base (side (place c) a))) (stands part cs (carry c a) base) kept in
+      ap (option_and_then (carried cs)) (carried_along c a rest (not_below c a first) (not_set c a first)) ∙ on (λ b k. along cs b rest k) (carry c a) others
+    where
+      on : ((b : Address) → stands part cs (Some b) base ≡ true → carried cs (b ++ rest) ≡ option_map (λ x. x ++ rest) (carried cs b))
+          → (o : Option Address) → stands part cs o base ≡ true → option_and_then (carried cs) (option_map (λ x. x ++ rest) o) ≡ option_map (λ x. x ++ rest) (option_and_then (carried cs) o)
+      on more None k = refl
+      on more (Some b) k = more b k
 
 -- a beginning of what is carried is carried to a beginning
 pub front : (cs : List Change) (a r b : Address) → carried cs (a ++ r) ≡ Some b → (to rest : Address) × (carried cs a ≡ Some to) × (b ≡ to ++ rest)
