@@ -14,7 +14,7 @@ use Rattle.toml_checker.specs.Demands.{Certified}
 use Rattle.toml_checker.specs.Kept.{AllKept}
 use Rattle.toml_checker.specs.Lines.{NoLinesAdded}
 use Rattle.toml_checker.specs.Pairs.{PairsFit}
-use Rattle.toml_editor.specs.CertifiedLists.{PartnersCertify, OuterPartnersCertify, ArePlain, AreOuterPartners, PlainListIsCertified}
+use Rattle.toml_editor.specs.CertifiedLists.{PartnersCertify, OuterPartnersCertify, ArePlain, PlainListIsCertified}
 use Rattle.toml_editor.specs.Steps.{IsGoodText, AreWritten}
 use Rattle.toml_editor.proofs.written.OuterPairs.{outer_of, outer_pairs_fit, outer_kept, outer_lines, outer_comments}
 use Rattle.toml_editor.proofs.written.Steps.{good_texts_are_documents, plain_is_written, plain_step, plain_steps}

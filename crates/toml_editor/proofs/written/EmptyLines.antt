@@ -1,13 +1,13 @@
 -- Behind a line of no bytes comes a line.
-use Rattle.std.proofs.Common.{◌≡◌, inr, ◌<◌, ◌+◌, ℕ, zero, suc, Option, Some, None, List, [], ◌∷◌, ◌++◌, length, length-append, refl, sym, ap, ◌∙◌, subst, arith}
+use Rattle.std.proofs.Common.{◌≡◌, inr, ◌<◌, ◌+◌, ℕ, zero, suc, Option, Some, None, List, [], ◌∷◌, ◌++◌, length, length-append, refl, ap, ◌∙◌, subst, arith}
 use Rattle.std.specs.Prelude.{slice_get}
 use Rattle.std.proofs.lemmas.Option.{same_Some}
 use Rattle.toml_text.specs.Forms.{IsComment}
-use Rattle.toml_tree.specs.Spells.{EachIs, joined, blank_parts, header_parts, array_header_parts, key_parts, expr_parts, IsBlank, IsExpr, IsCommentOrNone, AreLines}
+use Rattle.toml_tree.specs.Spells.{EachIs, joined, blank_parts, header_parts, array_header_parts, expr_parts, IsExpr, IsCommentOrNone, AreLines}
 use Rattle.toml_tree.specs.Tree.{Piece, Blank, Header, Expr, BlankLine, KeyValLine, TableLine, ArrayTableLine, Line}
 use Rattle.toml_names.specs.mentions.Keys.{key_names}
 use Rattle.toml_names.specs.mentions.Mentions.{Named, named_by, root, section}
-use Rattle.toml_names.specs.model.Addresses.{Address, below}
+use Rattle.toml_names.specs.model.Addresses.{below}
 use Rattle.toml_names.specs.reader.Names.{own_address}
 use Rattle.toml_units.specs.Units.{TextUnit, comment_units, inside, line_unit, line_units, units_from, units}
 use Rattle.toml_units.specs.declared.unit.UnitKind.TheVariants as kinds

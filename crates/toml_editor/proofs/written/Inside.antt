@@ -1,5 +1,5 @@
 -- What lies in a protected unit that is paired has its partner in the unit's partner.
-use Rattle.std.proofs.Common.{◌≡◌, ◌⊎◌, inl, inr, ◌<◌, ◌≤◌, ◌+◌, ◌-◌, ℕ, zero, suc, Bool, true, false, Option, Some, None, IsSome, option_map, List, [], ◌∷◌, ◌++◌, map, refl, sym, ap, ◌∙◌, subst, true≢false, arith, append-nil}
+use Rattle.std.proofs.Common.{◌≡◌, ◌⊎◌, inl, inr, ◌<◌, ◌≤◌, ◌+◌, ◌-◌, ℕ, zero, suc, true, Option, Some, None, IsSome, option_map, List, [], ◌∷◌, ◌++◌, map, refl, sym, ap, ◌∙◌, subst, true≢false, arith, append-nil}
 use Rattle.std.specs.Prelude.{slice_get}
 use Rattle.std.proofs.lemmas.Option.{same_Some}
 use Rattle.toml_tree.specs.Spells.{Spells}
@@ -9,7 +9,6 @@ use Rattle.toml_names.specs.mentions.Rules.{KeepsRules}
 use Rattle.toml_names.specs.model.Addresses.{Address}
 use Rattle.toml_edits.specs.Edits.{Change}
 use Rattle.toml_edits.specs.Lists.{carried}
-use Rattle.toml_units.specs.declared.unit.UnitKind.{UnitKind}
 use Rattle.toml_units.specs.declared.unit.UnitKind.TheVariants as kinds
 use Rattle.toml_units.specs.Alike.{unit_in}
 use Rattle.toml_units.specs.Apart.{AreComments}
@@ -25,7 +24,7 @@ use Rattle.toml_checker.specs.CarriedTo.{IsCarriedTo, At}
 use Rattle.toml_checker.specs.Lines.{IsEmptyEnd}
 use Rattle.toml_checker.specs.Owed.{IsOwed}
 use Rattle.toml_checker.specs.Pairs.{StandsAs, IsSecond}
-use Rattle.toml_checker.specs.Plain.{Site, site, next_line, flags_from, is_kept, stands}
+use Rattle.toml_checker.specs.Plain.{Site, site, next_line, flags_from, stands}
 use Rattle.toml_checker.specs.Protected.{IsProtected}
 use Rattle.toml_checker.proofs.Proved.{flags_tell}
 use Rattle.toml_editor.specs.CarriedUnits.{ArePartners}

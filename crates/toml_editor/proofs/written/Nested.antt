@@ -1,39 +1,20 @@
 -- What lies in a paired unit is paired with what lies in its partner.
-use Rattle.std.proofs.Common.{◌≡◌, ◌⊎◌, inl, inr, ◌<◌, ◌≤◌, ◌+◌, ℕ, zero, suc, Bool, true, false, cond, Option, Some, None, IsSome, option_map, List, [], ◌∷◌, ◌++◌, map, refl, sym, ap, ◌∙◌, subst, true≢false, arith, append-nil}
-use Rattle.std.specs.Prelude.{slice_get, ◌↔◌}
-use Rattle.std.proofs.lemmas.Option.{same_Some, slice_get_within}
+use Rattle.std.proofs.Common.{◌≡◌, ◌⊎◌, inl, inr, ◌<◌, ◌≤◌, ℕ, zero, suc, Bool, true, false, cond, Option, Some, List, [], ◌∷◌, ◌++◌, refl, sym, ap, ◌∙◌, subst, true≢false, arith}
+use Rattle.std.specs.Prelude.{slice_get}
+use Rattle.std.proofs.lemmas.Option.{same_Some}
 use Rattle.toml_tree.specs.Spells.{EachIs, Spells}
 use Rattle.toml_tree.specs.Tree.{Doc}
-use Rattle.toml_names.specs.mentions.Mentions.{named}
-use Rattle.toml_names.specs.mentions.Rules.{KeepsRules}
-use Rattle.toml_names.specs.model.Addresses.{Address}
 use Rattle.toml_edits.specs.Edits.{Change}
-use Rattle.toml_edits.specs.Lists.{carried}
 use Rattle.toml_units.specs.declared.unit.UnitKind.{UnitKind}
 use Rattle.toml_units.specs.declared.unit.UnitKind.TheVariants as kinds
-use Rattle.toml_units.specs.Alike.{Relative, unit_in}
-use Rattle.toml_units.specs.Apart.{EachTwo, IsMember, IsBefore, AreComments}
-use Rattle.toml_units.specs.Bases.{IsBased}
-use Rattle.toml_units.specs.Blocks.{LiesIn, StandsBehind, Block, AreBlocks}
-use Rattle.toml_units.specs.OfLines.{IsOfLine}
-use Rattle.toml_units.specs.Places.{LiesInside, size, is_line, line_with, line_from, line_of}
+use Rattle.toml_units.specs.Apart.{EachTwo, IsMember, IsBefore}
+use Rattle.toml_units.specs.Blocks.{LiesIn, StandsBehind, AreBlocks}
+use Rattle.toml_units.specs.Places.{LiesInside, is_line, line_with, line_from}
 use Rattle.toml_units.specs.Tails.{TailsEnd}
 use Rattle.toml_units.specs.Units.{TextUnit, units}
-use Rattle.toml_units.proofs.Proved.{units_are_apart, units_are_based, units_are_of_lines, units_are_sized, units_are_twins, units_have_addresses, units_nest, holders_are_no_comments, tails_end_lines}
-use Rattle.toml_checker.specs.declared.tables.Part.TheVariants as parts
-use Rattle.toml_checker.specs.CarriedTo.{IsCarriedTo, At}
-use Rattle.toml_checker.specs.Lines.{IsEmptyEnd}
-use Rattle.toml_checker.specs.Owed.{IsOwed}
+use Rattle.toml_units.proofs.Proved.{units_nest}
 use Rattle.toml_checker.specs.Pairs.{RiseFrom, Rise, AllFit, StandsAs, IsFirst, IsSecond}
-use Rattle.toml_checker.specs.Plain.{Site, site, next_line, flags_from}
-use Rattle.toml_checker.specs.Protected.{IsProtected}
-use Rattle.toml_checker.proofs.Proved.{flags_tell}
-use Rattle.toml_editor.specs.CarriedUnits.{ArePartners}
 use Rattle.toml_editor.proofs.Each.{each_get}
-use Rattle.toml_editor.proofs.written.EmptyLines.{empty_ends, behind_empty}
-use Rattle.toml_editor.proofs.written.Way.{is_here}
-use Rattle.toml_editor.proofs.written.WayKeeps.{line_is}
-use Rattle.toml_editor.proofs.written.WayOwed.{along}
 
 -- ---- pairs
 

@@ -1,6 +1,6 @@
 -- The pairs of units that lie in no other protected ones, of pairs of partners.
 use Rattle.std.proofs.Common.{◌≡◌, ◌⊎◌, inl, inr, ◌<◌, ◌+◌, ℕ, zero, suc, Bool, true, false, Option, Some, None, List, [], ◌∷◌, map, refl, sym, ap, ◌∙◌, subst, true≢false, arith}
-use Rattle.std.specs.Prelude.{slice_get, ◌↔◌}
+use Rattle.std.specs.Prelude.{slice_get}
 use Rattle.std.proofs.lemmas.Option.{same_Some}
 use Rattle.toml_tree.specs.Spells.{Spells}
 use Rattle.toml_tree.specs.Tree.{Doc}
@@ -11,7 +11,7 @@ use Rattle.toml_units.specs.Blocks.{end}
 use Rattle.toml_units.specs.Places.{LiesInside}
 use Rattle.toml_units.specs.Units.{TextUnit, units}
 use Rattle.toml_units.specs.declared.unit.UnitKind.TheVariants as kinds
-use Rattle.toml_checker.specs.Comments.{IsCovered, IsNewComment, AreNewFrom, NoCommentsAdded}
+use Rattle.toml_checker.specs.Comments.{IsCovered, AreNewFrom, NoCommentsAdded}
 use Rattle.toml_checker.specs.Kept.{AllKept}
 use Rattle.toml_checker.specs.Lines.{NoLinesAdded}
 use Rattle.toml_checker.specs.Outer.{IsOuter}
