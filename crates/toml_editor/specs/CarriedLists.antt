@@ -10,6 +10,7 @@ use Rattle.toml_editor.specs.Steps.{IsGoodText, AreWritten}
 
 -- Law: a good text and what a list of plain edits without a fault writes of it have pairs of partners.
 abbrev pub ListIsCarried : Type 0
-ListIsCarried = (cs : List Change) (profile : Profile) (style before after : List ℕ) (old now : Kinds) → IsNewline style → (good : IsGoodText profile before old)
+ListIsCarried = (cs : List Change) (profile : Profile) (style before after : List ℕ) (old now : Kinds) → IsNewline style
+    → (good : IsGoodText profile before old)
     → Lead profile cs old now → AreWritten profile cs style before after → (new : IsGoodText profile after now)
     → (ps : List (ℕ × ℕ)) × ArePartners cs good.tree new.tree ps

@@ -21,7 +21,8 @@ use Rattle.toml_editor.proofs.written.Steps.{good_texts_are_documents, plain_is_
 use Rattle.toml_editor.proofs.written.UnitsListed.{list_is_carried}
 
 -- the demands that are not of pairs
-module _ (cs : List Change) (profile : Profile) (style before after : List ℕ) (old now : Kinds) (newline : IsNewline style) (within : IsText before) (still : IsText after) (good : IsGoodText profile before old)
+module _ (cs : List Change) (profile : Profile) (style before after : List ℕ) (old now : Kinds) (newline : IsNewline style)
+    (within : IsText before) (still : IsText after) (good : IsGoodText profile before old)
     (lead : Lead profile cs old now) (written : AreWritten profile cs style before after) (new : IsGoodText profile after now) where
   same_text : (cs : List Change) → AreWritten profile cs style before after → cs ≡ [] → before ≡ after
   same_text [] is none = is
@@ -30,9 +31,11 @@ module _ (cs : List Change) (profile : Profile) (style before after : List ℕ) 
   marks : mark_of before ≡ mark_of after
   marks =
       let made = plain_steps profile cs style before after old now newline good lead written in
-      ap (λ (x : Piece). x.text) (sym good.spelled.0.mark) ∙ ap (λ (x : Piece). x.text) (sym made.1) ∙ ap (λ (x : Piece). x.text) made.0.spelled.0.mark
+      ap (λ (x : Piece). x.text) (sym good.spelled.0.mark) ∙ ap (λ (x : Piece). x.text) (sym made.1)
+      ∙ ap (λ (x : Piece). x.text) made.0.spelled.0.mark
 
-  certified_by : (ps : List (ℕ × ℕ)) → PairsFit cs good.tree new.tree ps → AllKept cs good.tree ps → NoLinesAdded cs new.tree ps → NoCommentsAdded cs new.tree ps → Certified profile before cs after ps
+  certified_by : (ps : List (ℕ × ℕ)) → PairsFit cs good.tree new.tree ps → AllKept cs good.tree ps → NoLinesAdded cs new.tree ps
+      → NoCommentsAdded cs new.tree ps → Certified profile before cs after ps
   certified_by ps fit kept lines comments = record {
     old = (good_texts_are_documents profile before within).0 (old, good);
     new = (good_texts_are_documents profile after still).0 (now, new);
@@ -47,7 +50,8 @@ module _ (cs : List Change) (profile : Profile) (style before after : List ℕ) 
 
 pub partners_certify : PartnersCertify
 partners_certify cs profile style before after old now newline within still good lead written new ps are =
-    certified_by cs profile style before after old now newline within still good lead written new ps are.fit (λ i here. inl ((are.named i).1 here)) are.lines are.comments
+    certified_by cs profile style before after old now newline within still good lead written new ps are.fit
+    (λ i here. inl ((are.named i).1 here)) are.lines are.comments
 
 pub outer_partners_certify : OuterPartnersCertify
 outer_partners_certify cs profile style before after old now newline within still good lead written new os outer =
@@ -59,7 +63,8 @@ outer_partners_certify cs profile style before after old now newline within stil
 
 -- ---- the text
 
-list_is_written : (cs : List Change) (profile : Profile) (style before : List ℕ) (old now : Kinds) → IsNewline style → IsGoodText profile before old → Lead profile cs old now → ArePlain profile cs style before
+list_is_written : (cs : List Change) (profile : Profile) (style before : List ℕ) (old now : Kinds) → IsNewline style
+    → IsGoodText profile before old → Lead profile cs old now → ArePlain profile cs style before
     → (after : List ℕ) × AreWritten profile cs style before after
 list_is_written [] profile style before old now newline good lead plain = (before, refl)
 list_is_written (c ∷ cs) profile style before old now newline good (none, mid, is_after, lead) plain =
@@ -80,6 +85,7 @@ plain_list_is_certified cs profile style before old now newline within good lead
         new = made.0;
         pairs = outer.0;
         partners = record { all = all.0; are = all.1; outer = outer.1 };
-        verdict = λ still os are. outer_partners_certify cs profile style before text.0 old now newline within still good lead text.1 made.0 os are;
+        verdict = λ still os are.
+            outer_partners_certify cs profile style before text.0 old now newline within still good lead text.1 made.0 os are;
       },
     )

@@ -24,7 +24,8 @@ LastIsFull (u ∷ us) = (u.kind ≡ kinds.Line → lines_in us ≡ 0 → ¬ (u.p
 -- it is the second list's, if that has lines
 pub full_behind : (us vs : List TextUnit) → 0 < lines_in vs → LastIsFull vs → LastIsFull (us ++ vs)
 full_behind [] vs some full = full
-full_behind (u ∷ us) vs some full = ((λ is none. let e = lines_append us vs in let f : ⊥ = omega (arith, some, none, e) in absurd f), full_behind us vs some full)
+full_behind (u ∷ us) vs some full =
+    ((λ is none. let e = lines_append us vs in let f : ⊥ = omega (arith, some, none, e) in absurd f), full_behind us vs some full)
 
 -- units that are no lines
 pub full_inner : (us : List TextUnit) → EachIs (λ (u : TextUnit). ¬ (u.kind ≡ kinds.Line)) us → LastIsFull us
@@ -45,7 +46,8 @@ pub no_lines : (p : Address) (us : List TextUnit) → EachIs (LiesInValue p) us 
 no_lines p [] h = tt
 no_lines p (u ∷ us) h = (inner_is_no_line u.kind h.0.0, no_lines p us h.1)
 
-pub tail_no_line : (at : Option Address) (o : Option Piece) → EachIs (λ (w : TextUnit). ¬ (w.kind ≡ kinds.Line)) (comment_units kinds.TailComment at o)
+pub tail_no_line : (at : Option Address) (o : Option Piece)
+    → EachIs (λ (w : TextUnit). ¬ (w.kind ≡ kinds.Line)) (comment_units kinds.TailComment at o)
 tail_no_line at None = tt
 tail_no_line at (Some p) = ((λ is. cc), tt)
 
@@ -74,7 +76,8 @@ full_line xs (KeyValLine ws k b) is =
     let at = below (section xs) (key_names k.assign.key) in (
       (λ line none empty. let some = pair_long ws k b in let zero = ap length empty in let e : ⊥ = omega (arith, some, zero) in absurd e),
       full_inner (inside at k.value ++ comment_units kinds.TailComment (Some at) b.comment)
-          (each_append _ (inside at k.value) (comment_units kinds.TailComment (Some at) b.comment) (no_lines at (inside at k.value) (value_in at k.value at (inr refl))) (tail_no_line (Some at) b.comment)),
+          (each_append _ (inside at k.value) (comment_units kinds.TailComment (Some at) b.comment)
+          (no_lines at (inside at k.value) (value_in at k.value at (inr refl))) (tail_no_line (Some at) b.comment)),
     )
 full_line xs (BlankLine b) is = absurd (true≢false (sym is))
 full_line xs (TableLine ws h b) is = absurd (true≢false (sym is))

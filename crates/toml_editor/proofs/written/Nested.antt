@@ -88,39 +88,48 @@ member_at [] j w is = cc
 member_at (u ∷ us) zero w is = inl (sym (same_Some u w is))
 member_at (u ∷ us) (suc j) w is = inr (member_at us j w is)
 
-pub before_at : (us : List TextUnit) (i j : ℕ) (u w : TextUnit) → i < j → slice_get us i ≡ Some u → slice_get us j ≡ Some w → IsBefore u w us
+pub before_at : (us : List TextUnit) (i j : ℕ) (u w : TextUnit) → i < j → slice_get us i ≡ Some u → slice_get us j ≡ Some w
+    → IsBefore u w us
 before_at [] i j u w low is are = cc
 before_at (x ∷ us) i zero u w low is are = absurd (omega arith)
 before_at (x ∷ us) zero (suc j) u w low is are = inl (sym (same_Some x u is), member_at us j w are)
 before_at (x ∷ us) (suc i) (suc j) u w low is are = inr (before_at us i j u w (omega arith) is are)
 
-pub two_at : (R : TextUnit → TextUnit → Type 0) (us : List TextUnit) (i j : ℕ) (u w : TextUnit) → EachTwo R us → i < j → slice_get us i ≡ Some u → slice_get us j ≡ Some w → R u w
+pub two_at : (R : TextUnit → TextUnit → Type 0) (us : List TextUnit) (i j : ℕ) (u w : TextUnit) → EachTwo R us → i < j
+    → slice_get us i ≡ Some u → slice_get us j ≡ Some w → R u w
 two_at R [] i j u w h low is are = cc
 two_at R (x ∷ us) i zero u w h low is are = absurd (omega arith)
 two_at R (x ∷ us) zero (suc j) u w h low is are = subst (λ (y : TextUnit). R y w) (same_Some x u is) (each_get (R x) us j w h.0 are)
 two_at R (x ∷ us) (suc i) (suc j) u w h low is are = two_at R us i j u w h.1 (omega arith) is are
 
 -- what lies in a unit is no line
-in_inner : (u w : TextUnit) (inner outer : List TextUnit) (j : ℕ) → EachIs (StandsBehind u) outer → slice_get (inner ++ outer) j ≡ Some w → LiesIn u w → slice_get inner j ≡ Some w
-in_inner u w [] outer j behind is lies = let h = each_get (StandsBehind u) outer j w behind is in let f : ⊥ = omega (arith, h.1, lies.1) in absurd f
+in_inner : (u w : TextUnit) (inner outer : List TextUnit) (j : ℕ) → EachIs (StandsBehind u) outer → slice_get (inner ++ outer) j ≡ Some w
+    → LiesIn u w → slice_get inner j ≡ Some w
+in_inner u w [] outer j behind is lies =
+    let h = each_get (StandsBehind u) outer j w behind is in let f : ⊥ = omega (arith, h.1, lies.1) in absurd f
 in_inner u w (x ∷ inner) outer zero behind is lies = is
 in_inner u w (x ∷ inner) outer (suc j) behind is lies = in_inner u w inner outer j behind is lies
 
-no_line_in : (us : List TextUnit) → AreBlocks us → (i j : ℕ) (u w : TextUnit) → i < j → slice_get us i ≡ Some u → slice_get us j ≡ Some w → LiesIn u w → ¬ (w.kind ≡ kinds.Line)
+no_line_in : (us : List TextUnit) → AreBlocks us → (i j : ℕ) (u w : TextUnit) → i < j → slice_get us i ≡ Some u → slice_get us j ≡ Some w
+    → LiesIn u w → ¬ (w.kind ≡ kinds.Line)
 no_line_in [] blocks i j u w low is are lies = cc
 no_line_in (x ∷ us) blocks i zero u w low is are lies = absurd (omega arith)
 no_line_in (x ∷ us) blocks zero (suc j) u w low is are lies =
     let same : x ≡ u = same_Some x u is in
     let b = blocks.0 in
-    let there = in_inner x w b.inner b.outer j b.behind (subst (λ vs. slice_get vs j ≡ Some w) b.is are) (subst (λ (y : TextUnit). LiesIn y w) (sym same) lies) in
+    let there = in_inner x w b.inner b.outer j b.behind (subst (λ vs. slice_get vs j ≡ Some w) b.is are)
+    (subst (λ (y : TextUnit). LiesIn y w) (sym same) lies) in
     each_get (λ (y : TextUnit). ¬ (y.kind ≡ kinds.Line)) b.inner j w b.no_lines there
 no_line_in (x ∷ us) blocks (suc i) (suc j) u w low is are lies = no_line_in us blocks.1 i j u w (omega arith) is are lies
 
-pub no_line_inside : (d : Doc) (text : List ℕ) → Spells d text → (i j : ℕ) (l : LiesInside (units d.lines) i j) → ¬ (l.inner.kind ≡ kinds.Line)
-no_line_inside d text spells i j l = no_line_in (units d.lines) (units_nest d text spells).0 i j l.outer l.inner l.later l.outer_is l.inner_is l.lies
+pub no_line_inside : (d : Doc) (text : List ℕ) → Spells d text → (i j : ℕ) (l : LiesInside (units d.lines) i j)
+    → ¬ (l.inner.kind ≡ kinds.Line)
+no_line_inside d text spells i j l =
+    no_line_in (units d.lines) (units_nest d text spells).0 i j l.outer l.inner l.later l.outer_is l.inner_is l.lies
 
 -- the next unit, where there is one further on
-pub next_at : (us : List TextUnit) (t k : ℕ) (w : TextUnit) → slice_get us k ≡ Some w → t < k → (v : TextUnit) × (slice_get us (suc t) ≡ Some v)
+pub next_at : (us : List TextUnit) (t k : ℕ) (w : TextUnit) → slice_get us k ≡ Some w → t < k → (v : TextUnit)
+    × (slice_get us (suc t) ≡ Some v)
 next_at [] t k w is low = cc
 next_at (u ∷ []) t zero w is low = absurd (omega arith)
 next_at (u ∷ []) t (suc k) w is low = cc
@@ -128,7 +137,8 @@ next_at (u ∷ v ∷ us) t zero w is low = absurd (omega arith)
 next_at (u ∷ v ∷ us) zero (suc k) w is low = (v, refl)
 next_at (u ∷ v ∷ us) (suc t) (suc k) w is low = next_at (v ∷ us) t k w is (omega arith)
 
-pub tail_next : (us : List TextUnit) (t : ℕ) (w v : TextUnit) → TailsEnd us → slice_get us t ≡ Some w → w.kind ≡ kinds.TailComment → slice_get us (suc t) ≡ Some v → v.kind ≡ kinds.Line
+pub tail_next : (us : List TextUnit) (t : ℕ) (w v : TextUnit) → TailsEnd us → slice_get us t ≡ Some w → w.kind ≡ kinds.TailComment
+    → slice_get us (suc t) ≡ Some v → v.kind ≡ kinds.Line
 tail_next [] t w v ends is tail next = cc
 tail_next (u ∷ []) zero w v ends is tail next = cc
 tail_next (u ∷ x ∷ us) zero w v ends is tail next =
@@ -155,7 +165,8 @@ line_kind kinds.InnerComment e = absurd (true≢false (sym e))
 line_kind kinds.Element e = absurd (true≢false (sym e))
 line_kind kinds.Pair e = absurd (true≢false (sym e))
 
-pub nearest : (us : List TextUnit) (line : Option TextUnit) (k : ℕ) (w : TextUnit) → slice_get us k ≡ Some w → ¬ (w.kind ≡ kinds.Line) → NearLine us line k ⊎ (NoLine us k × (line_from line us k ≡ line))
+pub nearest : (us : List TextUnit) (line : Option TextUnit) (k : ℕ) (w : TextUnit) → slice_get us k ≡ Some w → ¬ (w.kind ≡ kinds.Line)
+    → NearLine us line k ⊎ (NoLine us k × (line_from line us k ≡ line))
 nearest [] line k w is plain = cc
 nearest (u ∷ us) line zero w is plain = inr (none, here)
   where
@@ -174,15 +185,35 @@ nearest (u ∷ us) line zero w is plain = inr (none, here)
         by false e = refl
 nearest (u ∷ us) line (suc k) w is plain = by (is_line u.kind) refl (nearest us (line_with line u) k w is plain)
   where
-    by : (b : Bool) → is_line u.kind ≡ b → NearLine us (line_with line u) k ⊎ (NoLine us k × (line_from (line_with line u) us k ≡ line_with line u))
+    by : (b : Bool) → is_line u.kind ≡ b → NearLine us (line_with line u) k
+        ⊎ (NoLine us k × (line_from (line_with line u) us k ≡ line_with line u))
         → NearLine (u ∷ us) line (suc k) ⊎ (NoLine (u ∷ us) (suc k) × (line_from (line_with line u) us k ≡ line))
-    by b e (inl near) = inl (record { place = suc near.place; unit = near.unit; low = omega (arith, near.low); there = near.there; kind_is = near.kind_is; of = near.of; none = none })
+    by b e (inl near) = inl
+        (record {
+          place = suc near.place;
+          unit = near.unit;
+          low = omega
+              (arith, near.low);
+          there = near.there;
+          kind_is = near.kind_is;
+          of = near.of;
+          none = none;
+        })
       where
         none : (x : ℕ) (v : TextUnit) → suc near.place < x → x ≤ suc k → slice_get (u ∷ us) x ≡ Some v → ¬ (v.kind ≡ kinds.Line)
         none zero v low high at = let f : ⊥ = omega (arith, low) in absurd f
         none (suc x) v low high at = near.none x v (omega (arith, low)) (omega (arith, high)) at
     by true e (inr (free, same)) =
-        inl (record { place = 0; unit = u; low = omega arith; there = refl; kind_is = line_kind u.kind e; of = same ∙ ap (λ b. cond b (Some u) line) e; none = none })
+        inl (record {
+          place = 0;
+          unit = u;
+          low = omega arith;
+          there = refl;
+          kind_is = line_kind u.kind e;
+          of = same
+              ∙ ap (λ b. cond b (Some u) line) e;
+          none = none;
+        })
       where
         none : (x : ℕ) (v : TextUnit) → 0 < x → x ≤ suc k → slice_get (u ∷ us) x ≡ Some v → ¬ (v.kind ≡ kinds.Line)
         none zero v low high at = let f : ⊥ = omega (arith, low) in absurd f

@@ -60,7 +60,8 @@ module _ (cs : List Change) (us : List TextUnit) where
   holder_below i zero = inr (λ j low. let e : ⊥ = omega (arith, low) in absurd e)
   holder_below i (suc n) = by (holder_below i n) (lies_or us n i) (protected_or n)
     where
-      by : HasHolder i ⊎ ((j : ℕ) → j < n → LiesInside us j i → ¬ IsProtected cs us j) → LiesInside us n i ⊎ ¬ LiesInside us n i → IsProtected cs us n ⊎ ¬ IsProtected cs us n
+      by : HasHolder i ⊎ ((j : ℕ) → j < n → LiesInside us j i → ¬ IsProtected cs us j) → LiesInside us n i ⊎ ¬ LiesInside us n i
+          → IsProtected cs us n ⊎ ¬ IsProtected cs us n
           → HasHolder i ⊎ ((j : ℕ) → j < suc n → LiesInside us j i → ¬ IsProtected cs us j)
       by (inl has) lies here = inl has
       by (inr none) (inl lies) (inl here) = inl (n, lies, here)
@@ -68,7 +69,9 @@ module _ (cs : List Change) (us : List TextUnit) where
         where
           at : (j : ℕ) → j < suc n → (j ≡ n → ¬ IsProtected cs us j) → LiesInside us j i → ¬ IsProtected cs us j
           at j low last lies = elim (least j n low) [ inl less ↦ none j less lies | inr is ↦ last is ]
-      by (inr none) lies (inr not) = inr (λ j low inside. elim (least j n low) [ inl less ↦ none j less inside | inr is ↦ subst (λ x. ¬ IsProtected cs us x) (sym is) not ])
+      by (inr none) lies (inr not) = inr
+          (λ j low inside. elim
+          (least j n low) [ inl less ↦ none j less inside | inr is ↦ subst (λ x. ¬ IsProtected cs us x) (sym is) not ])
 
   outer_or : (i : ℕ) → IsProtected cs us i → IsOuter cs us i ⊎ HasHolder i
   outer_or i here = elim (holder_below i i) [ inl has ↦ inr has | inr none ↦ inl (here, (λ j lies. none j lies.later lies)) ]
@@ -89,7 +92,12 @@ module _ (cs : List Change) (us : List TextUnit) where
     where
       by : IsOuter cs us i ⊎ HasHolder i → ((j : ℕ) → j < i → IsProtected cs us j → IsOuter cs us j ⊎ IsHeld j) → IsOuter cs us i ⊎ IsHeld i
       by (inl outer) more = inl outer
-      by (inr (j, lies, p)) more = elim (more j lies.later p) [ inl outer ↦ inr (j, lies, outer) | inr held ↦ inr (held.0, inside_inside us held.0 j i held.1 lies, held.2) ]
+      by (inr (j, lies, p)) more = elim
+          (more j lies.later p) [
+            | inl outer ↦ inr (j, lies, outer)
+            | inr held ↦ inr
+                (held.0, inside_inside us held.0 j i held.1 lies, held.2)
+          ]
 
   pub outer_or_held : (i : ℕ) → IsProtected cs us i → IsOuter cs us i ⊎ IsHeld i
   outer_or_held i here = outer_above (suc i) i (omega arith) here
@@ -98,7 +106,8 @@ module _ (cs : List Change) (us : List TextUnit) where
 
   pub outer_of : (ps : List (ℕ × ℕ)) → (os : List (ℕ × ℕ)) × AreOuterOf cs us ps os
   outer_of [] = ([], refl)
-  outer_of (p ∷ ps) = let more = outer_of ps in elim (is_outer_or p.0) [ inl outer ↦ (p ∷ more.0, inl (outer, more.0, refl, more.1)) | inr not ↦ (more.0, inr (not, more.1)) ]
+  outer_of (p ∷ ps) = let more = outer_of ps in elim
+      (is_outer_or p.0) [ inl outer ↦ (p ∷ more.0, inl (outer, more.0, refl, more.1)) | inr not ↦ (more.0, inr (not, more.1)) ]
 
   pub of_outer : (ps os : List (ℕ × ℕ)) → AreOuterOf cs us ps os → (p : ℕ × ℕ) → IsIn p os → IsIn p ps × IsOuter cs us p.0
   of_outer [] os is p there = absurd (subst (IsIn p) is there)
@@ -112,7 +121,8 @@ module _ (cs : List Change) (us : List TextUnit) where
   pub outer_in : (ps os : List (ℕ × ℕ)) → AreOuterOf cs us ps os → (p : ℕ × ℕ) → IsIn p ps → IsOuter cs us p.0 → IsIn p os
   outer_in [] os is p there outer = absurd there
   outer_in (q ∷ ps) os (inl (is_outer, more, is, rest)) p (inl same) outer = subst (IsIn p) (sym is) (inl same)
-  outer_in (q ∷ ps) os (inl (is_outer, more, is, rest)) p (inr later) outer = subst (IsIn p) (sym is) (inr (outer_in ps more rest p later outer))
+  outer_in (q ∷ ps) os (inl (is_outer, more, is, rest)) p (inr later) outer =
+      subst (IsIn p) (sym is) (inr (outer_in ps more rest p later outer))
   outer_in (q ∷ ps) os (inr (not, rest)) p (inl same) outer = absurd (not (subst (λ (x : ℕ × ℕ). IsOuter cs us x.0) (sym same) outer))
   outer_in (q ∷ ps) os (inr (not, rest)) p (inr later) outer = outer_in ps os rest p later outer
 
@@ -122,7 +132,8 @@ module _ (cs : List Change) (us : List TextUnit) where
 
   outer_from : (i k : ℕ) (ps os : List (ℕ × ℕ)) → AreOuterOf cs us ps os → RiseFrom i k ps → RiseFrom i k os
   outer_from i k [] os is rise = subst (RiseFrom i k) (sym is) tt
-  outer_from i k (p ∷ ps) os (inl (outer, more, is, rest)) rise = subst (RiseFrom i k) (sym is) (rise.0, rise.1, outer_from p.0 p.1 ps more rest rise.2)
+  outer_from i k (p ∷ ps) os (inl (outer, more, is, rest)) rise =
+      subst (RiseFrom i k) (sym is) (rise.0, rise.1, outer_from p.0 p.1 ps more rest rise.2)
   outer_from i k (p ∷ ps) os (inr (not, rest)) rise = outer_from i k ps os rest (lower i k p.0 p.1 ps rise.0 rise.1 rise.2)
 
   pub outer_rise : (ps os : List (ℕ × ℕ)) → AreOuterOf cs us ps os → Rise ps → Rise os
@@ -142,12 +153,14 @@ module _ (cs : List Change) (us : List TextUnit) where
 pub outer_are_named : OuterAreNamed
 outer_are_named cs d e os outer i = (
   (λ first. let k = of_first os i first in (of_outer cs (units d.lines) outer.all os outer.outer (i, k.0) k.1).1),
-  (λ is. let k = of_first outer.all i ((outer.are.named i).1 is.0) in in_first os (i, k.0) (outer_in cs (units d.lines) outer.all os outer.outer (i, k.0) k.1 is)),
+  (λ is. let k = of_first outer.all i ((outer.are.named i).1 is.0) in in_first os (i, k.0)
+      (outer_in cs (units d.lines) outer.all os outer.outer (i, k.0) k.1 is)),
 )
 
 -- ---- they meet the demands
 
-module _ (cs : List Change) (d e : Doc) (text other : List ℕ) (spells : Spells d text) (spelled : Spells e other) (keeps : KeepsRules (named e.lines)) (ps : List (ℕ × ℕ)) (are : ArePartners cs d e ps)
+module _ (cs : List Change) (d e : Doc) (text other : List ℕ) (spells : Spells d text) (spelled : Spells e other)
+    (keeps : KeepsRules (named e.lines)) (ps : List (ℕ × ℕ)) (are : ArePartners cs d e ps)
     (os : List (ℕ × ℕ)) (outer : AreOuterOf cs (units d.lines) ps os) where
   abbrev us : List TextUnit
   us = units d.lines
@@ -177,11 +190,15 @@ module _ (cs : List Change) (d e : Doc) (text other : List ℕ) (spells : Spells
   outer_lines k w at line = elim (are.lines k w at line) [
     | inr asked ↦ inr asked
     | inl second ↦
-      let i = of_second ps k second in
-      let s = fits cs d e ps (i.0, k) are.fit.1 i.1 in
-      let is_line : s.first.kind ≡ kinds.Line = s.kind ∙ ap (λ (y : TextUnit). y.kind) (same_Some s.second w (sym s.second_is ∙ at)) ∙ line in
-      inl (in_second os (i.0, k) (in_os i.0 k i.1 (protected_first i.0 k i.1,
-      (λ j lies p. no_line_inside d text spells j i.0 lies (ap (λ (y : TextUnit). y.kind) (same_Some lies.inner s.first (sym lies.inner_is ∙ s.first_is)) ∙ is_line)))))
+        let i = of_second ps k second in
+        let s = fits cs d e ps (i.0, k) are.fit.1 i.1 in
+        let is_line : s.first.kind ≡ kinds.Line =
+        s.kind ∙ ap (λ (y : TextUnit). y.kind) (same_Some s.second w (sym s.second_is ∙ at)) ∙ line in
+        inl (in_second os (i.0, k) (in_os i.0 k i.1 (
+          protected_first i.0 k i.1,
+          (λ j lies p. no_line_inside d text spells j i.0 lies
+              (ap (λ (y : TextUnit). y.kind) (same_Some lies.inner s.first (sym lies.inner_is ∙ s.first_is)) ∙ is_line)),
+        )))
   ]
 
   -- ---- what they cover
@@ -192,8 +209,13 @@ module _ (cs : List Change) (d e : Doc) (text other : List ℕ) (spells : Spells
       elim (outer_or_held cs us i.0 (protected_first i.0 k i.1)) [
         | inl is ↦ inl (in_second os (i.0, k) (in_os i.0 k i.1 is))
         | inr held ↦
-          let l = of_first ps held.0 ((are.named held.0).1 held.2.0) in
-          inr (l.0, stays_inside cs d e text other spells spelled keeps ps are i.0 k held.0 l.0 i.1 l.1 held.1 held.2.0, in_second os (held.0, l.0) (in_os held.0 l.0 l.1 held.2))
+            let l = of_first ps held.0 ((are.named held.0).1 held.2.0) in
+            inr (
+              l.0,
+              stays_inside cs d e text other spells spelled keeps ps are i.0 k held.0 l.0 i.1 l.1 held.1 held.2.0,
+              in_second os
+                  (held.0, l.0) (in_os held.0 l.0 l.1 held.2),
+            )
       ]
 
   covered_still : (k : ℕ) → IsCovered ps ws k → IsCovered os ws k
@@ -212,10 +234,19 @@ module _ (cs : List Change) (d e : Doc) (text other : List ℕ) (spells : Spells
 
   new_still : (k : ℕ) (xs new : List TextUnit) → AreNewFrom ps ws k xs new → AreNewFrom os ws k xs new
   new_still k [] new is = is
-  new_still k (x ∷ xs) new (inl (here, more, is, rest)) = inl ((here.0, (λ covered. here.1 (covered_before k covered))), more, is, new_still (k + 1) xs more rest)
-  new_still k (x ∷ xs) new (inr (not, rest)) = inr ((λ new. not (new.0, (λ covered. new.1 (covered_still k covered)))), new_still (k + 1) xs new rest)
+  new_still k (x ∷ xs) new (inl (here, more, is, rest)) =
+      inl ((here.0, (λ covered. here.1 (covered_before k covered))), more, is, new_still (k + 1) xs more rest)
+  new_still k (x ∷ xs) new (inr (not, rest)) =
+      inr ((λ new. not (new.0, (λ covered. new.1 (covered_still k covered)))), new_still (k + 1) xs new rest)
 
   pub outer_comments : NoCommentsAdded cs e os
   outer_comments =
       let c = are.comments in
-      record { written = c.written; written_are = c.written_are; new = c.new; new_are = new_still 0 ws c.new c.new_are; asked = c.asked; once = c.once }
+      record {
+        written = c.written;
+        written_are = c.written_are;
+        new = c.new;
+        new_are = new_still 0 ws c.new c.new_are;
+        asked = c.asked;
+        once = c.once;
+      }

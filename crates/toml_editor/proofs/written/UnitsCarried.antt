@@ -55,14 +55,17 @@ pub record HasGone (c : Change) (d : Doc) (after : List ℕ) : Type 0 where
   pub way : HasWay (c ∷ []) (comments_in ∷ []) d.lines edited
 
 -- the tree of the text has these lines, but for places
-pub lines_again : (c : Change) (profile : Profile) (before after : List ℕ) (old now : Kinds) (good : IsGoodText profile before old) (new : IsGoodText profile after now) (gone : HasGone c good.tree after)
+pub lines_again : (c : Change) (profile : Profile) (before after : List ℕ) (old now : Kinds) (good : IsGoodText profile before old)
+    (new : IsGoodText profile after now) (gone : HasGone c good.tree after)
     → bare_lines new.tree.lines ≡ bare_lines gone.edited
 lines_again c profile before after old now good new gone =
     let edited = gone.edited in
     let mark : good.tree.mark ≡ record { start = 0; text = mark_of before } = good.spelled.0.mark in
-    let is_text : mark_of before ++ joined (lines_parts edited) ≡ after = sym (gone.text ∙ ap (λ (x : Piece). x.text ++ joined (lines_parts edited)) mark) in
+    let is_text : mark_of before ++ joined (lines_parts edited) ≡ after =
+    sym (gone.text ∙ ap (λ (x : Piece). x.text ++ joined (lines_parts edited)) mark) in
     let same : new.tree ≡ put_doc (mark_of before) edited =
-    one_tree new.tree (put_doc (mark_of before) edited) after new.spelled.0 (subst (Spells (put_doc (mark_of before) edited)) is_text (put_doc_spells before edited gone.forms)) in
+    one_tree new.tree (put_doc (mark_of before) edited) after new.spelled.0
+    (subst (Spells (put_doc (mark_of before) edited)) is_text (put_doc_spells before edited gone.forms)) in
     ap (λ (d : Doc). bare_lines d.lines) same ∙ put_lines_same edited (length (mark_of before))
 
 -- what is to be shown of an edit
@@ -93,7 +96,8 @@ rename_goes p to profile style before after old now newline good none is_after (
           edited = rename_lines p to good.tree.lines;
           forms = rename_forms p to good.tree.lines good.spelled.0.lines.forms;
           text = text_is;
-          way = subst (λ x. HasWay (rename x to ∷ []) ([] ∷ []) good.tree.lines (rename_lines x to good.tree.lines)) (sym at) (rename_way q n to good.tree.lines good.spelled.0.lines.forms free good.good.0);
+          way = subst (λ x. HasWay (rename x to ∷ []) ([] ∷ []) good.tree.lines (rename_lines x to good.tree.lines)) (sym at)
+              (rename_way q n to good.tree.lines good.spelled.0.lines.forms free good.good.0);
         }
 
 insert_goes : (p : Address) (value : List ℕ) → HaveWays (insert p value)
@@ -109,7 +113,8 @@ insert_goes p value profile style before after old now newline good none is_afte
       edited = insert_lines name v style lines;
       forms = insert_forms name v style lines good.spelled.0.lines.forms newline is_value.0.form is_value.0.shallow;
       text = text_is;
-      way = subst (λ x. HasWay (insert x value ∷ []) (texts (comments (inside [] v)) ∷ []) lines (insert_lines name v style lines)) (sym at) (insert_way name value v style lines);
+      way = subst (λ x. HasWay (insert x value ∷ []) (texts (comments (inside [] v)) ∷ []) lines (insert_lines name v style lines)) (sym at)
+          (insert_way name value v style lines);
     }
 
 set_goes : (p : Address) (value : List ℕ) → HaveWays (set p value)
@@ -191,4 +196,5 @@ pub plain_is_carried : PlainIsCarried
 plain_is_carried c profile style before after old now newline good none is_after written new =
     let gone = plain_goes c profile style before after old now newline good none is_after written in
     let bares = lines_again c profile before after old now good new gone in
-    partners (c ∷ []) (gone.comments_in ∷ []) good.tree new.tree gone.edited gone.way (gone.comments_are, tt) (same_seen new.tree.lines gone.edited bares) (same_newlines new.tree.lines gone.edited bares)
+    partners (c ∷ []) (gone.comments_in ∷ []) good.tree new.tree gone.edited gone.way (gone.comments_are, tt)
+    (same_seen new.tree.lines gone.edited bares) (same_newlines new.tree.lines gone.edited bares)

@@ -37,11 +37,14 @@ use Rattle.toml_editor.proofs.written.WayWhole.{HasWay, partners, same_newlines,
 all_here : (line : Option Site) (u : TextUnit) → is_here [] line u ≡ true
 all_here line u = by u.kind u.address u.base
   where
-    home : (line : Option Site) → is_kept kinds.TailComment [] line (record { kind = kinds.TailComment; address = None; base = None }) ≡ true
+    home : (line : Option Site)
+        → is_kept kinds.TailComment [] line (record { kind = kinds.TailComment; address = None; base = None }) ≡ true
     home None = refl
     home (Some l) = refl
 
-    by : (kind : UnitKind) (o : Option Address) (base : Option ℕ) → is_kept kind [] (next_line line (record { kind = kind; address = o; base = base })) (record { kind = kind; address = o; base = base }) ≡ true
+    by : (kind : UnitKind) (o : Option Address) (base : Option ℕ)
+        → is_kept kind [] (next_line line (record { kind = kind; address = o; base = base }))
+        (record { kind = kind; address = o; base = base }) ≡ true
     by kinds.Line o base = refl
     by kinds.Pair o base = refl
     by kinds.Element o base = refl
@@ -56,14 +59,19 @@ module _ (ends : List (List ℕ)) where
   none_fits : (us : List TextUnit) (line : Option Site) (a : ℕ) → Fits [] [] ends ends line a a (same_way us)
   none_fits [] line a = tt
   none_fits (u ∷ us) line a = (
-    record { kind = refl; kept = λ here. record { text = refl; address = stays_there u.address; newline = λ is. inl refl }; lost = λ gone. absurd (true≢false (sym (all_here line u) ∙ gone)) },
+    record {
+      kind = refl;
+      kept = λ here. record { text = refl; address = stays_there u.address; newline = λ is. inl refl };
+      lost = λ gone. absurd (true≢false (sym (all_here line u) ∙ gone));
+    },
     none_fits us (next_line line (site u)) (a + one_line u.kind),
   )
 
   site_stays : (u : TextUnit) → site u ≡ moved_site [] (site u)
   site_stays u = ap (λ o. record { kind = u.kind; address = o; base = u.base }) (sym (no_more u.address))
 
-  none_keeps : (us : List TextUnit) (line next : Option Site) → next ≡ option_map (moved_site []) line → (a : ℕ) → Keeps [] ends ends line next a a (same_way us)
+  none_keeps : (us : List TextUnit) (line next : Option Site) → next ≡ option_map (moved_site []) line → (a : ℕ)
+      → Keeps [] ends ends line next a a (same_way us)
   none_keeps [] line next home a = tt
   none_keeps (u ∷ us) line next home a = (
     record {
@@ -73,7 +81,8 @@ module _ (ends : List (List ℕ)) where
       empty = λ is here none last. last;
       header = λ is none gone. absurd (true≢false (sym (all_here line u) ∙ gone));
     },
-    none_keeps us (next_line line (site u)) (next_line next (site u)) (line_goes [] line next u u (site_stays u) (inl home)) (a + one_line u.kind),
+    none_keeps us (next_line line (site u)) (next_line next (site u)) (line_goes [] line next u u (site_stays u) (inl home))
+        (a + one_line u.kind),
   )
 
 none_way : (lines : List Line) → HasWay [] [] lines lines
@@ -83,7 +92,8 @@ none_way lines = record {
   news_are = same_news (units lines);
   fits = none_fits (newlines lines) (units lines) None 0;
   keeps = none_keeps (newlines lines) (units lines) None None refl 0;
-  comments_few = λ t. as_many t (texts (comments (added (same_way (units lines))))) [] (ap (λ us. texts (comments us)) (same_adds (units lines)));
+  comments_few =
+      λ t. as_many t (texts (comments (added (same_way (units lines))))) [] (ap (λ us. texts (comments us)) (same_adds (units lines)));
 }
 
 -- ---- one edit, and others
@@ -97,14 +107,17 @@ times_append t (x ∷ xs) ys =
     omega (arith, a, b, more)
 
 module _ (c : Change) (cs : List Change) (ts : List (List ℕ)) (more : List (List (List ℕ))) (lines edited mid after : List Line) where
-  way_on : HasWay (c ∷ []) (ts ∷ []) lines edited → bare_lines mid ≡ bare_lines edited → HasWay cs more mid after → HasWay (c ∷ cs) (ts ∷ more) lines after
+  way_on : HasWay (c ∷ []) (ts ∷ []) lines edited → bare_lines mid ≡ bare_lines edited → HasWay cs more mid after
+      → HasWay (c ∷ cs) (ts ∷ more) lines after
   way_on first again second =
       let meets : map bare_unit (news first.way) ≡ map bare_unit (olds second.way) =
-      ap (map bare_unit) first.news_are ∙ sym (units_of_bares edited) ∙ ap units (sym again) ∙ units_of_bares mid ∙ ap (map bare_unit) (sym second.olds_are) in
+      ap (map bare_unit) first.news_are ∙ sym (units_of_bares edited) ∙ ap units (sym again) ∙ units_of_bares mid
+      ∙ ap (map bare_unit) (sym second.olds_are) in
       let ends : newlines edited ≡ newlines mid = same_newlines edited mid (sym again) in
       let fit = subst (λ ns. Fits (c ∷ []) (ts ∷ []) (newlines lines) ns None 0 0 first.way) ends first.fits in
       let keep = subst (λ ns. Keeps (c ∷ []) (newlines lines) ns None None 0 0 first.way) ends first.keeps in
-      let whole = goes_on c cs ts more (newlines lines) (newlines mid) (newlines after) first.way second.way meets None None None 0 0 0 fit keep second.fits second.keeps in
+      let whole = goes_on c cs ts more (newlines lines) (newlines mid)
+      (newlines after) first.way second.way meets None None None 0 0 0 fit keep second.fits second.keeps in
       record {
         way = whole.way;
         olds_are = whole.olds_are ∙ first.olds_are;
@@ -127,11 +140,18 @@ pub record HasListWay (cs : List Change) (d e : Doc) : Type 0 where
   pub comments_are : written.AreWritten cs comments_in
   pub way : HasWay cs comments_in d.lines e.lines
 
-pub list_goes : (cs : List Change) (profile : Profile) (style before after : List ℕ) (old now : Kinds) → IsNewline style → (good : IsGoodText profile before old)
-    → Lead profile cs old now → AreWritten profile cs style before after → (new : IsGoodText profile after now) → HasListWay cs good.tree new.tree
+pub list_goes : (cs : List Change) (profile : Profile) (style before after : List ℕ) (old now : Kinds) → IsNewline style
+    → (good : IsGoodText profile before old)
+    → Lead profile cs old now → AreWritten profile cs style before after → (new : IsGoodText profile after now)
+    → HasListWay cs good.tree new.tree
 list_goes [] profile style before after old now newline good lead is new =
     let same : good.tree ≡ new.tree = one_tree good.tree new.tree after (subst (Spells good.tree) is good.spelled.0) new.spelled.0 in
-    record { comments_in = []; comments_are = tt; way = subst (λ (x : Doc). HasWay [] [] good.tree.lines x.lines) same (none_way good.tree.lines) }
+    record {
+      comments_in = [];
+      comments_are = tt;
+      way = subst (λ (x : Doc). HasWay [] [] good.tree.lines x.lines) same
+          (none_way good.tree.lines);
+    }
 list_goes (c ∷ cs) profile style before after old now newline good (none, mid, is_after, lead) (between, is, more) new =
     let one = plain_step profile c style before between old mid newline good none is_after is in
     let gone = plain_goes c profile style before between old mid newline good none is_after is in
@@ -140,7 +160,9 @@ list_goes (c ∷ cs) profile style before after old now newline good (none, mid,
     record {
       comments_in = gone.comments_in ∷ others.comments_in;
       comments_are = (gone.comments_are, others.comments_are);
-      way = way_on c cs gone.comments_in others.comments_in good.tree.lines gone.edited one.0.tree.lines new.tree.lines gone.way again others.way;
+      way =
+          way_on c cs gone.comments_in others.comments_in good.tree.lines gone.edited one.0.tree.lines new.tree.lines gone.way again
+          others.way;
     }
 
 pub list_is_carried : ListIsCarried

@@ -50,9 +50,11 @@ line_lines xs (TableLine ws h b) = one_and (comment_lines (own_address xs (Table
 line_lines xs (ArrayTableLine ws h b) = one_and (comment_lines (own_address xs (ArrayTableLine ws h b)) b.comment)
 
 some_lines : (xs : List Named) (n : ℕ) (l : Line) (ls : List Line) → 0 < lines_in (units_from xs n (l ∷ ls))
-some_lines xs n l ls = let both = lines_append (line_units xs l.expr) (units_from (xs ++ named_by xs n l.expr) (n + 1) ls) in let one = line_lines xs l.expr in omega (arith, both, one)
+some_lines xs n l ls = let both = lines_append (line_units xs l.expr)
+    (units_from (xs ++ named_by xs n l.expr) (n + 1) ls) in let one = line_lines xs l.expr in omega (arith, both, one)
 
-put_behind : (us old block new : List TextUnit) (before after : List (List ℕ)) (newline : List ℕ) → lines_in us ≡ 1 → 0 < lines_in old → IsPutWell old block new before after
+put_behind : (us old block new : List TextUnit) (before after : List (List ℕ)) (newline : List ℕ) → lines_in us ≡ 1 → 0 < lines_in old
+    → IsPutWell old block new before after
     → IsPutWell (us ++ old) block (us ++ new) (newline ∷ before) (newline ∷ after)
 put_behind us old block new before after newline one some h =
     let put = h.put in
@@ -131,16 +133,22 @@ module _ (name : List ℕ) (v : Value) (style : List ℕ) where
       count : (a : ℕ) → lines_in (line_units xs l.expr) + a ≡ suc a
       count a = let one = line_lines xs l.expr in omega (arith, one)
 
-  put_line : (xs : List Named) (n : ℕ) (l : Line) (ls : List Line) → has_pair (l ∷ ls) ≡ true → has_pair ls ≡ false → section (xs ++ named_by xs n l.expr) ≡ [] → Well (units_from xs n (l ∷ ls)) (units_from xs n (line_behind name v style l ls)) (newlines (l ∷ ls)) (newlines (line_behind name v style l ls))
+  put_line : (xs : List Named) (n : ℕ) (l : Line) (ls : List Line) → has_pair (l ∷ ls) ≡ true → has_pair ls ≡ false
+      → section (xs ++ named_by xs n l.expr) ≡ []
+      → Well (units_from xs n (l ∷ ls)) (units_from xs n (line_behind name v style l ls)) (newlines (l ∷ ls))
+      (newlines (line_behind name v style l ls))
   put_line xs n l [] has none at_root = put_end xs n l (by l.expr has) at_root
     where
-      by : (e : Expr) → elim e [ BlankLine b ↦ false | KeyValLine ws pair tail ↦ true | TableLine ws header tail ↦ false | ArrayTableLine ws header tail ↦ false ] ≡ true → has_key e ≡ true
+      by : (e : Expr)
+          → elim e [ BlankLine b ↦ false | KeyValLine ws k t ↦ true | TableLine ws h t ↦ false | ArrayTableLine ws h t ↦ false ] ≡ true
+          → has_key e ≡ true
       by (KeyValLine ws k b) is = refl
       by (BlankLine b) is = is
       by (TableLine ws h b) is = is
       by (ArrayTableLine ws h b) is = is
   put_line xs n l (m ∷ ms) has none at_root =
-      put_behind (line_units xs l.expr) (units_from (xs ++ named_by xs n l.expr) (n + 1) (m ∷ ms)) block _ (newlines (m ∷ ms)) (style ∷ newlines (m ∷ ms)) l.newline.text (line_lines xs l.expr) (some_lines (xs ++ named_by xs n l.expr) (n + 1) m ms)
+      put_behind (line_units xs l.expr) (units_from (xs ++ named_by xs n l.expr) (n + 1) (m ∷ ms)) block _ (newlines (m ∷ ms))
+      (style ∷ newlines (m ∷ ms)) l.newline.text (line_lines xs l.expr) (some_lines (xs ++ named_by xs n l.expr) (n + 1) m ms)
       (put_first (xs ++ named_by xs n l.expr) (n + 1) (n + 1) (m ∷ ms) style at_root)
 
   put_last : (ls : List Line) (xs : List Named) (n : ℕ) → section xs ≡ [] → has_pair ls ≡ true → Well (units_from xs n ls) (units_from xs n (insert_behind name v style ls)) (newlines ls) (newlines (insert_behind name v style ls))
@@ -157,7 +165,8 @@ module _ (name : List ℕ) (v : Value) (style : List ℕ) where
       by : (b : Bool) → has_pair ls ≡ b
           → (has_pair ls ≡ true → Well (units_from (xs ++ named_by xs n l.expr) (n + 1) ls) (units_from (xs ++ named_by xs n l.expr) (n + 1) (insert_behind name v style ls)) (newlines ls) (newlines (insert_behind name v style ls)))
           → Well (units_from xs n (l ∷ ls)) (units_from xs n (cond b (l ∷ insert_behind name v style ls) (line_behind name v style l ls))) (newlines (l ∷ ls)) (newlines (cond b (l ∷ insert_behind name v style ls) (line_behind name v style l ls)))
-      by true is more = put_behind (line_units xs l.expr) _ block _ (newlines ls) (newlines (insert_behind name v style ls)) l.newline.text (line_lines xs l.expr) (some ls is) (more is)
+      by true is more = put_behind (line_units xs l.expr) _ block _ (newlines ls) (newlines (insert_behind name v style ls)) l.newline.text
+          (line_lines xs l.expr) (some ls is) (more is)
       by false is more = put_line xs n l ls has is here
 
   pub put_lines : (lines : List Line) → Well (units lines) (units (insert_lines name v style lines)) (newlines lines) (newlines (insert_lines name v style lines))

@@ -53,7 +53,8 @@ below_named parts.Element base holds (remove p) = refl
 below_named parts.Element base holds (new_section p) = refl
 below_named parts.Element base holds (new_element p) = refl
 
-set_named : (part : Part) (base : Option ℕ) → HoldsValue part base → (p : Address) (text : List ℕ) → not (is_named part (set p text) base sides.At) ≡ false
+set_named : (part : Part) (base : Option ℕ) → HoldsValue part base → (p : Address) (text : List ℕ)
+    → not (is_named part (set p text) base sides.At) ≡ false
 set_named parts.Line None holds p text = absurd holds
 set_named parts.Home base holds p text = absurd holds
 set_named parts.Comment base holds p text = absurd holds
@@ -65,10 +66,12 @@ module _ (part : Part) (base : Option ℕ) (holds : HoldsValue part base) where
   IsUnnamed c a = not (is_named part c base (side (place c) a)) ≡ true
 
   not_below : (c : Change) (a : Address) → IsUnnamed c a → ¬ IsAbove a (place c)
-  not_below c a unnamed above = true≢false (sym unnamed ∙ ap (λ s. not (is_named part c base s)) ((sides_are_right (place c) a).below.1 above) ∙ below_named part base holds c)
+  not_below c a unnamed above = true≢false
+      (sym unnamed ∙ ap (λ s. not (is_named part c base s)) ((sides_are_right (place c) a).below.1 above) ∙ below_named part base holds c)
 
   not_set : (c : Change) (a : Address) → IsUnnamed c a → IsNotSet c a
-  not_set (set p text) a unnamed = λ is. true≢false (sym unnamed ∙ ap (λ s. not (is_named part (set p text) base s)) ((sides_are_right p a).at.1 is) ∙ set_named part base holds p text)
+  not_set (set p text) a unnamed = λ is. true≢false
+      (sym unnamed ∙ ap (λ s. not (is_named part (set p text) base s)) ((sides_are_right p a).at.1 is) ∙ set_named part base holds p text)
   not_set (insert p text) a unnamed = tt
   not_set (rename p to) a unnamed = tt
   not_set (remove p) a unnamed = tt
@@ -76,32 +79,38 @@ module _ (part : Part) (base : Option ℕ) (holds : HoldsValue part base) where
   not_set (new_element p) a unnamed = tt
 
   -- what is below it goes along with it, where no edit names it
-  pub along : (cs : List Change) (a rest : Address) → stands part cs (Some a) base ≡ true → carried cs (a ++ rest) ≡ option_map (λ b. b ++ rest) (carried cs a)
+  pub along : (cs : List Change) (a rest : Address) → stands part cs (Some a) base ≡ true
+      → carried cs (a ++ rest) ≡ option_map (λ b. b ++ rest) (carried cs a)
   along [] a rest kept = refl
   along (c ∷ cs) a rest kept =
       let first = left_true (not (is_named part c base (side (place c) a))) (stands part cs (carry c a) base) kept in
       let others = right_true (not (is_named part c base (side (place c) a))) (stands part cs (carry c a) base) kept in
-      ap (option_and_then (carried cs)) (carried_along c a rest (not_below c a first) (not_set c a first)) ∙ on (λ b k. along cs b rest k) (carry c a) others
+      ap (option_and_then (carried cs)) (carried_along c a rest (not_below c a first) (not_set c a first))
+      ∙ on (λ b k. along cs b rest k) (carry c a) others
     where
       on : ((b : Address) → stands part cs (Some b) base ≡ true → carried cs (b ++ rest) ≡ option_map (λ x. x ++ rest) (carried cs b))
-          → (o : Option Address) → stands part cs o base ≡ true → option_and_then (carried cs) (option_map (λ x. x ++ rest) o) ≡ option_map (λ x. x ++ rest) (option_and_then (carried cs) o)
+          → (o : Option Address) → stands part cs o base ≡ true
+          → option_and_then (carried cs) (option_map (λ x. x ++ rest) o) ≡ option_map (λ x. x ++ rest) (option_and_then (carried cs) o)
       on more None k = refl
       on more (Some b) k = more b k
 
 -- a beginning of what is carried is carried to a beginning
-pub front : (cs : List Change) (a r b : Address) → carried cs (a ++ r) ≡ Some b → (to rest : Address) × (carried cs a ≡ Some to) × (b ≡ to ++ rest)
+pub front : (cs : List Change) (a r b : Address) → carried cs (a ++ r) ≡ Some b → (to rest : Address) × (carried cs a ≡ Some to)
+    × (b ≡ to ++ rest)
 front [] a r b is = (a, r, refl, sym (same_Some (a ++ r) b is))
 front (c ∷ cs) a r b is = by (λ x y k. front cs x y b k) (carry c (a ++ r)) refl is
   where
     by : ((x y : Address) → carried cs (x ++ y) ≡ Some b → (to rest : Address) × (carried cs x ≡ Some to) × (b ≡ to ++ rest))
-        → (o : Option Address) → carry c (a ++ r) ≡ o → option_and_then (carried cs) o ≡ Some b → (to rest : Address) × (carried (c ∷ cs) a ≡ Some to) × (b ≡ to ++ rest)
+        → (o : Option Address) → carry c (a ++ r) ≡ o → option_and_then (carried cs) o ≡ Some b → (to rest : Address)
+        × (carried (c ∷ cs) a ≡ Some to) × (b ≡ to ++ rest)
     by more None e k = cc
     by more (Some x) e k =
         let f = carried_front c a r x e in
         let g = more f.to f.rest (subst (λ y. carried cs y ≡ Some b) f.whole k) in
         (g.0, g.1, ap (option_and_then (carried cs)) f.carried ∙ g.2, g.3)
 
-pub at_front : (cs : List Change) (p a b : Address) → carried cs a ≡ Some b → IsAtOrAbove p a → (to : Address) × (carried cs p ≡ Some to) × IsAtOrAbove to b
+pub at_front : (cs : List Change) (p a b : Address) → carried cs a ≡ Some b → IsAtOrAbove p a → (to : Address) × (carried cs p ≡ Some to)
+    × IsAtOrAbove to b
 at_front cs p a b goes (rest, is) = let f = front cs p rest b (subst (λ x. carried cs x ≡ Some b) is goes) in (f.0, f.2, (f.1, f.3))
 
 -- ---- what is owed
@@ -136,7 +145,8 @@ which (remove p) r a is = inl is
 which (new_section p) r a is = is
 which (new_element p) r a is = is
 
-owes_on : (c : Change) (r a to b : Address) → (IsAtOrAbove a r → IsAtOrAbove b to) → (IsAtOrAbove r a → IsAtOrAbove to b) → Owes c r a → Owes c to b
+owes_on : (c : Change) (r a to b : Address) → (IsAtOrAbove a r → IsAtOrAbove b to) → (IsAtOrAbove r a → IsAtOrAbove to b) → Owes c r a
+    → Owes c to b
 owes_on (remove p) r a to b up down is = up is
 owes_on (set p text) r a to b up down is = elim is [ inl x ↦ inl (up x) | inr x ↦ inr (down x) ]
 owes_on (insert p text) r a to b up down is = elim is [ inl x ↦ inl (up x) | inr x ↦ inr (down x) ]
@@ -145,7 +155,8 @@ owes_on (new_section p) r a to b up down is = elim is [ inl x ↦ inl (up x) | i
 owes_on (new_element p) r a to b up down is = elim is [ inl x ↦ inl (up x) | inr x ↦ inr (down x) ]
 
 -- what the first edit owes it owes where the others carry it, if what is below goes along
-pub owed_on : (c : Change) (cs : List Change) (a b : Address) → carried cs a ≡ Some b → ((rest : Address) → carried cs (a ++ rest) ≡ option_map (λ x. x ++ rest) (carried cs a)) → IsOwed (c ∷ []) a → IsOwed (c ∷ cs) b
+pub owed_on : (c : Change) (cs : List Change) (a b : Address) → carried cs a ≡ Some b
+    → ((rest : Address) → carried cs (a ++ rest) ≡ option_map (λ x. x ++ rest) (carried cs a)) → IsOwed (c ∷ []) a → IsOwed (c ∷ cs) b
 owed_on c cs a b goes all (inr none) = absurd none
 owed_on c cs a b goes all (inl (r, q, is, same, owes)) =
     let here : r ≡ q = same_Some r q same in
@@ -192,7 +203,8 @@ below_on c cs a b goes (inl (r, q, is, same, owes)) =
 
 -- ---- what is written
 
-pub written_on : (c : Change) (cs : List Change) (ts : List (List ℕ)) (more : List (List (List ℕ))) (w v : TextUnit) → v.piece.text ≡ w.piece.text → IsCarriedTo cs w.address v.address
+pub written_on : (c : Change) (cs : List Change) (ts : List (List ℕ)) (more : List (List (List ℕ))) (w v : TextUnit)
+    → v.piece.text ≡ w.piece.text → IsCarriedTo cs w.address v.address
     → IsWritten (c ∷ []) (ts ∷ []) w → IsWritten (c ∷ cs) (ts ∷ more) v
 written_on c cs ts more w v same goes (inr none) = absurd none
 written_on c cs ts more w v same goes (inl (there, q, is, at)) =
@@ -200,7 +212,8 @@ written_on c cs ts more w v same goes (inl (there, q, is, at)) =
     let f = by w.address v.address goes (subst (λ x. At w.address (IsAtOrAbove x)) (sym here) at) in
     inl (subst (λ t. Contains ts t) (sym same) there, f.0, f.1, f.2)
   where
-    by : (o x : Option Address) → IsCarriedTo cs o x → At o (IsAtOrAbove (place c)) → (to : Address) × (carried cs (place c) ≡ Some to) × At x (IsAtOrAbove to)
+    by : (o x : Option Address) → IsCarriedTo cs o x → At o (IsAtOrAbove (place c)) → (to : Address) × (carried cs (place c) ≡ Some to)
+        × At x (IsAtOrAbove to)
     by None x goes at = absurd at
     by (Some a) None goes at = absurd goes
     by (Some a) (Some b) goes at = at_front cs (place c) a b goes at

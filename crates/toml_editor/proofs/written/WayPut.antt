@@ -92,7 +92,8 @@ module _ (name text : List ℕ) (v : Value) where
   some_lines [] line = inl refl
   some_lines (u ∷ us) line = let e : one_line u.kind ≡ 1 = ap one_line line in inr (omega (arith, e))
 
-  put_keeps : {before after : List (List ℕ)} {us ws : List TextUnit} (well : IsPutWell us block ws before after) → lines_in us ≡ length before → lines_in ws ≡ length after
+  put_keeps : {before after : List (List ℕ)} {us ws : List TextUnit} (well : IsPutWell us block ws before after)
+      → lines_in us ≡ length before → lines_in ws ≡ length after
       → Keeps (c ∷ []) before after None None 0 0 (zip well.put.front well.put.front ++ (map new block ++ zip well.put.back well.put.back))
   put_keeps {before} {after} well old_count new_count =
       let front = well.put.front in
@@ -104,27 +105,34 @@ module _ (name text : List ℕ) (v : Value) where
       let news_block = ap lines_in (new_news block) in
       let old_total : n + lines_in back ≡ length before = sym (lines_append front back) ∙ ap lines_in (sym well.put.before) ∙ old_count in
       let new_total : n + (1 + lines_in back) ≡ length after =
-      (let a = lines_append front (block ++ back) in let b = lines_append block back in let d = ap lines_in well.put.after in omega (arith, a, b, d, block_lines, new_count)) in
+      (let a = lines_append front (block ++ back) in let b = lines_append block back in let d = ap lines_in well.put.after in omega
+      (arith, a, b, d, block_lines, new_count)) in
       subst₂ (λ x y. Keeps (c ∷ []) before after None None 0 0 (x ++ (map new block ++ y))) (sym (zip_same front)) (sym (zip_same back))
       (keeps_append c before after (same_way front) (map new block ++ same_way back) None None 0 0
       (same_keeps c before after front (all_fixed front) None None (inl refl) 0 0
       (λ x low. record {
-      newline = let e : x ≡ 0 + x = omega arith in subst (λ k. (slice_get before k ≡ slice_get after k) ⊎ (k + 1 ≡ length before)) e (well.front_ends x low);
-      last = λ h. let f : ⊥ = omega (arith, low, h, new_total) in absurd f;
+        newline = let e : x ≡ 0 + x = omega arith in subst (λ k. (slice_get before k ≡ slice_get after k) ⊎ (k + 1 ≡ length before)) e
+            (well.front_ends x low);
+        last = λ h. let f : ⊥ = omega (arith, low, h, new_total) in absurd f;
       })
       (elim (some_lines back well.put.next) [
         | inl none ↦ inr (well.full none, omega (arith, old_total))
         | inr some ↦ inl (λ x low h. let f : ⊥ = omega (arith, some, low, h, old_total) in absurd f)
       ]))
-      (keeps_append c before after (map new block) (same_way back) (line_after None (same_way front)) (next_after None (same_way front)) (0 + lines_in (olds (same_way front))) (0 + lines_in (news (same_way front)))
-      (new_keeps c before after block block_blank (line_after None (same_way front)) (next_after None (same_way front)) (0 + lines_in (olds (same_way front))) (0 + lines_in (news (same_way front))))
-      (subst₂ (λ x y. Keeps (c ∷ []) before after (line_after (line_after None (same_way front)) (map new block)) (next_after (next_after None (same_way front)) (map new block)) x y (same_way back))
+      (keeps_append c before after (map new block) (same_way back) (line_after None (same_way front)) (next_after None (same_way front))
+      (0 + lines_in (olds (same_way front))) (0 + lines_in (news (same_way front)))
+      (new_keeps c before after block block_blank (line_after None (same_way front)) (next_after None (same_way front))
+      (0 + lines_in (olds (same_way front))) (0 + lines_in (news (same_way front))))
+      (subst₂ (λ x y. Keeps (c ∷ []) before after (line_after (line_after None (same_way front)) (map new block))
+      (next_after (next_after None (same_way front)) (map new block)) x y (same_way back))
       (let e : n ≡ (0 + lines_in (olds (same_way front))) + lines_in (olds (map new block)) = omega (arith, olds_head, olds_block) in e)
-      (let e : n + 1 ≡ (0 + lines_in (news (same_way front))) + lines_in (news (map new block)) = omega (arith, news_head, news_block, block_lines) in e)
-      (same_keeps c before after back (all_fixed back) (line_after (line_after None (same_way front)) (map new block)) (next_after (next_after None (same_way front)) (map new block)) (inr well.put.next) n (n + 1)
+      (let e : n + 1 ≡ (0 + lines_in (news (same_way front))) + lines_in (news (map new block)) = omega
+      (arith, news_head, news_block, block_lines) in e)
+      (same_keeps c before after back (all_fixed back) (line_after (line_after None (same_way front)) (map new block))
+      (next_after (next_after None (same_way front)) (map new block)) (inr well.put.next) n (n + 1)
       (λ x low. record {
-      newline = inl (well.back_ends x ∙ ap (slice_get after) (let e : n + suc x ≡ (n + 1) + x = omega arith in e));
-      last = λ h. omega (arith, h, old_total, new_total);
+        newline = inl (well.back_ends x ∙ ap (slice_get after) (let e : n + suc x ≡ (n + 1) + x = omega arith in e));
+        last = λ h. omega (arith, h, old_total, new_total);
       })
       (inl (λ x low h. omega (arith, h, old_total, new_total)))))))
     where

@@ -95,7 +95,14 @@ module _ (q : Address) (n to : List ℕ) where
   header u w is line none at gone =
       let h = renamed_header p to at u line none gone in
       subst (λ o. At o (IsOwedBelow (c ∷ []))) (sym (is.address ∙ ap (option_and_then (carry c)) h.1 ∙ renamed_moved q n to h.0))
-      (inl (child q to, child q to, ap (option_map (λ (w : Address × AddressStep). child w.0 to)) (parted_at q (Name n)), refl, (h.2.0, ap (moved q n to) h.2.1 ∙ moved_below q h.2.0)))
+      (inl (
+        child q to,
+        child q to,
+        ap (option_map (λ (w : Address × AddressStep). child w.0 to))
+            (parted_at q (Name n)),
+        refl,
+        (h.2.0, ap (moved q n to) h.2.1 ∙ moved_below q h.2.0),
+      ))
 
   matches : (before after : List (List ℕ)) (line : Option Site) (a b : ℕ) (u w : TextUnit) → IsCarried c u w → (u.kind ≡ kinds.Line → SameNewline (c ∷ []) ([] ∷ []) before after a b)
       → Matches (c ∷ []) ([] ∷ []) before after line a b u w
@@ -114,7 +121,8 @@ module _ (q : Address) (n to : List ℕ) where
     );
   }
 
-  pub rename_way : (lines : List Line) → AreLines lines → ¬ IsNamed (named lines) (child q to) → KeepsRules (named lines) → HasWay (c ∷ []) ([] ∷ []) lines (rename_lines p to lines)
+  pub rename_way : (lines : List Line) → AreLines lines → ¬ IsNamed (named lines) (child q to) → KeepsRules (named lines)
+      → HasWay (c ∷ []) ([] ∷ []) lines (rename_lines p to lines)
   rename_way lines is free keeps =
       let us = units lines in
       let ws = units (rename_lines p to lines) in

@@ -263,7 +263,8 @@ module _ (p : Address) (some : ¬ (p ≡ [])) (text : List ℕ) (v : Value) (bef
     );
     keeps = λ line next home a.
         subst₂ (λ (l : Option Site) (b : ℕ). Keep l next b a m.way) (sym (ap (λ b. cond b (Some (site u)) line) (no_line u.kind lies.0)))
-        (let e : ◌≡◌ {A = ℕ} (one_line u.kind) 0 = ap (λ b. cond {A = ℕ} b 1 0) (no_line u.kind lies.0) in let f : a ≡ a + one_line u.kind = omega (arith, e) in f) (m.keeps line next home a);
+        (let e : ◌≡◌ {A = ℕ} (one_line u.kind) 0 = ap (λ b. cond {A = ℕ} b 1 0)
+        (no_line u.kind lies.0) in let f : a ≡ a + one_line u.kind = omega (arith, e) in f) (m.keeps line next home a);
     none = λ is. m.none (omega (arith, is));
     few = λ low t. m.few (omega (arith, low)) t;
   }
@@ -277,8 +278,10 @@ module _ (p : Address) (some : ¬ (p ≡ [])) (text : List ℕ) (v : Value) (bef
     keeps = λ line next home a.
         let goes = site_goes c u w s.carried.kind s.carried.address s.carried.base in (
           carried_stays c before after ends line next a u w goes home (stays_header u w s),
-          subst (λ k. Keep (next_line line (site u)) (next_line next (site w)) (a + one_line u.kind) (a + one_line k) m.way) (sym s.carried.kind)
-              (m.keeps (next_line line (site u)) (next_line next (site w)) (line_goes (c ∷ []) line next u w goes (inl home)) (a + one_line u.kind)),
+          subst (λ k. Keep (next_line line (site u)) (next_line next (site w)) (a + one_line u.kind) (a + one_line k) m.way)
+              (sym s.carried.kind)
+              (m.keeps (next_line line (site u)) (next_line next (site w)) (line_goes (c ∷ []) line next u w goes (inl home))
+              (a + one_line u.kind)),
         );
     none = λ is. m.none (omega (arith, is));
     few = λ low t. m.few (omega (arith, low)) t;
@@ -314,19 +317,25 @@ module _ (p : Address) (some : ¬ (p ≡ [])) (text : List ℕ) (v : Value) (bef
               (m.fits next (holds_home line u home holds is.keyed) b)))),
         );
         keeps = λ line next home a.
-            let at = site_goes c u w is.kind (is.address ∙ holds.0 ∙ sym (setting_here p) ∙ ap (option_and_then (carry c)) (sym holds.0)) is.base in
+            let at = site_goes c u w is.kind
+            (is.address ∙ holds.0 ∙ sym (setting_here p) ∙ ap (option_and_then (carry c)) (sym holds.0)) is.base in
             let behind = next_line line (site u) in
             let then = next_line next (site w) in
             let b = a + one_line u.kind in (
-              carried_stays c before after ends line next a u w at home (λ is_line none l gone. absurd (true≢false (sym (subst IsSome none (is.keyed is_line))))),
+              carried_stays c before after ends line next a u w at home
+                  (λ is_line none l gone. absurd (true≢false (sym (subst IsSome none (is.keyed is_line))))),
               subst (λ k. Keep behind then b (a + one_line k) (block ++ m.way)) (sym is.kind)
                   (keeps_append c before after block m.way behind then b b
-                  (new_keeps c before after (inside p v) (inner_blank c before after p (inside p v) (value_in p v p (inr refl))) behind then b b)
-                  (subst (λ l. Keep l (next_after then block) (b + lines_in (olds block)) (b + lines_in (news block)) m.way) (sym (new_line_after (inside p v) behind))
-                  (subst (λ l. Keep behind l (b + lines_in (olds block)) (b + lines_in (news block)) m.way) (sym (inner_next p (inside p v) (value_in p v p (inr refl)) then))
+                  (new_keeps c before after (inside p v)
+                  (inner_blank c before after p (inside p v) (value_in p v p (inr refl))) behind then b b)
+                  (subst (λ l. Keep l (next_after then block) (b + lines_in (olds block)) (b + lines_in (news block)) m.way)
+                  (sym (new_line_after (inside p v) behind))
+                  (subst (λ l. Keep behind l (b + lines_in (olds block)) (b + lines_in (news block)) m.way)
+                  (sym (inner_next p (inside p v) (value_in p v p (inr refl)) then))
                   (subst₂ (λ x y. Keep behind then x y m.way)
                   (let e = ap lines_in (new_olds (inside p v)) in let f : b ≡ b + lines_in (olds block) = omega (arith, e) in f)
-                  (let e = ap lines_in (new_news (inside p v)) in let z = inside_lines p v in let f : b ≡ b + lines_in (news block) = omega (arith, e, z) in f)
+                  (let e = ap lines_in (new_news (inside p v)) in let z = inside_lines p v in let f : b ≡ b + lines_in (news block) = omega
+                  (arith, e, z) in f)
                   (m.keeps behind then (line_goes (c ∷ []) line next u w at (inl home)) b))))),
             );
         none = λ is. absurd (let e : ⊥ = omega (arith, is, one) in e);
@@ -341,7 +350,16 @@ module _ (p : Address) (some : ¬ (p ≡ [])) (text : List ℕ) (v : Value) (bef
       new_line_after (x ∷ xs) l = new_line_after xs l
 
   way_of : (us ws : List TextUnit) → AreMadeOf (IsSetTo p text v) us ws → SetWay us ws
-  way_of [] ws made = record { way = []; olds_are = refl; news_are = sym made; fits = λ line home a. tt; keeps = λ line next home a. tt; none = λ is. refl; few = λ low t. omega arith }
+  way_of [] ws made =
+      record {
+        way = [];
+        olds_are = refl;
+        news_are = sym made;
+        fits = λ line home a. tt;
+        keeps = λ line next home a. tt;
+        none = λ is. refl;
+        few = λ low t. omega arith;
+      }
   way_of (u ∷ us) ws (here, rest, inl (lies, gone), is, more) = subst (SetWay (u ∷ us)) (sym (is ∙ ap (λ l. l ++ rest) gone)) (goes u us rest lies (way_of us rest more))
   way_of (u ∷ us) ws (here, rest, inr (inl (holds, w, has, made)), is, more) = subst (SetWay (u ∷ us)) (sym (is ∙ ap (λ l. l ++ rest) made)) (changes u w us rest holds has (way_of us rest more))
   way_of (u ∷ us) ws (here, rest, inr (inr (not_in, not_it, w, carried, same, made)), is, more) =

@@ -207,7 +207,8 @@ module _ (name : List ℕ) (before after : List (List ℕ)) where
 
   -- what is left of the last line
   left_asked : (back : List TextUnit) (k : ℕ) → k + lines_in (left_of back ++ back) ≡ length after → (line : Option Site) (a : ℕ) → Fit line a k (map new (left_of back))
-  left_asked [] k count line a = (record { line = λ is. inr (omega (arith, count), refl, (λ none. cc)); comment = λ is. absurd (true≢false (sym is)) }, tt)
+  left_asked [] k count line a =
+      (record { line = λ is. inr (omega (arith, count), refl, (λ none. cc)); comment = λ is. absurd (true≢false (sym is)) }, tt)
   left_asked (u ∷ us) k count line a = tt
 
 -- behind the block come all lines but what is left
@@ -232,9 +233,14 @@ module _ (name : List ℕ) (lines : List Line) where
   abbrev Keep : Option Site → Option Site → ℕ → ℕ → List Step → Type 0
   Keep = Keeps (remove gone ∷ []) (newlines lines) (newlines edited)
 
-  taken_keeps : (h : AreTaken name (units lines) (units edited) (newlines lines) (newlines edited)) → EachIs (IsFar name (newlines lines) (newlines edited)) h.taken.front → EachIs (IsFar name (newlines lines) (newlines edited)) h.taken.back
-      → lines_in (root_line h.piece name h.value h.comment) ≡ 1 → lines_in h.taken.front + (1 + lines_in h.taken.back) ≡ length (newlines lines) → lines_in h.taken.front + lines_in (left_of h.taken.back ++ h.taken.back) ≡ length (newlines edited)
-      → Keep None None 0 0 (same_way h.taken.front ++ (map old (root_line h.piece name h.value h.comment) ++ (map new (left_of h.taken.back) ++ same_way h.taken.back)))
+  taken_keeps : (h : AreTaken name (units lines) (units edited) (newlines lines) (newlines edited))
+      → EachIs (IsFar name (newlines lines) (newlines edited)) h.taken.front
+      → EachIs (IsFar name (newlines lines) (newlines edited)) h.taken.back
+      → lines_in (root_line h.piece name h.value h.comment) ≡ 1
+      → lines_in h.taken.front + (1 + lines_in h.taken.back) ≡ length (newlines lines)
+      → lines_in h.taken.front + lines_in (left_of h.taken.back ++ h.taken.back) ≡ length (newlines edited)
+      → Keep None None 0 0 (same_way h.taken.front ++
+      (map old (root_line h.piece name h.value h.comment) ++ (map new (left_of h.taken.back) ++ same_way h.taken.back)))
   taken_keeps h front_far back_far block_lines old_total new_total =
       let c = remove gone in
       let before = newlines lines in
@@ -256,23 +262,28 @@ module _ (name : List ℕ) (lines : List Line) where
       keeps_append c before after (same_way front) (map old block ++ (map new left ++ same_way back)) None None 0 0
       (same_keeps c before after front (far_fixed name before after front front_far) None None (inl refl) 0 0
       (λ x low. record {
-      newline = let e : x ≡ 0 + x = omega arith in inl (subst (λ k. slice_get before k ≡ slice_get after k) e (h.front_ends x low));
-      last = λ at. let f : ⊥ = omega (arith, low, some, at, new_total) in absurd f;
+        newline = let e : x ≡ 0 + x = omega arith in inl (subst (λ k. slice_get before k ≡ slice_get after k) e (h.front_ends x low));
+        last = λ at. let f : ⊥ = omega (arith, low, some, at, new_total) in absurd f;
       })
       (inl (λ x low at. let f : ⊥ = omega (arith, low, at, old_total) in absurd f)))
       (subst₂ (λ a b. Keep line next a b (map old block ++ (map new left ++ same_way back)))
-      (let e : n ≡ 0 + lines_in (olds (same_way front)) = omega (arith, olds_head) in e) (let e : n ≡ 0 + lines_in (news (same_way front)) = omega (arith, news_head) in e)
+      (let e : n ≡ 0 + lines_in (olds (same_way front)) = omega (arith, olds_head) in e)
+      (let e : n ≡ 0 + lines_in (news (same_way front)) = omega (arith, news_head) in e)
       (keeps_append c before after (map old block) (map new left ++ same_way back) line next n n
       (old_keeps c before after block line next n n)
       (subst₂ (λ a b. Keep behind mid a b (map new left ++ same_way back))
-      (let e : n + 1 ≡ n + lines_in (olds (map old block)) = omega (arith, olds_block, block_lines) in e) (let e : n ≡ n + lines_in (news (map old block)) = omega (arith, news_block) in e)
+      (let e : n + 1 ≡ n + lines_in (olds (map old block)) = omega (arith, olds_block, block_lines) in e)
+      (let e : n ≡ n + lines_in (news (map old block)) = omega (arith, news_block) in e)
       (keeps_append c before after (map new left) (same_way back) behind mid (n + 1) n
       (new_keeps c before after left (left_blank back) behind mid (n + 1) n)
       (back_keeps h back back_far refl (line_after behind (map new left)) (next_after mid (map new left)) old_total new_total)))))
     where
-      back_keeps : (h : AreTaken name (units lines) (units edited) (newlines lines) (newlines edited)) (back : List TextUnit) → EachIs (IsFar name (newlines lines) (newlines edited)) back → back ≡ h.taken.back → (line next : Option Site)
-          → lines_in h.taken.front + (1 + lines_in h.taken.back) ≡ length (newlines lines) → lines_in h.taken.front + lines_in (left_of h.taken.back ++ h.taken.back) ≡ length (newlines edited)
-          → Keep line next ((lines_in h.taken.front + 1) + lines_in (olds (map new (left_of h.taken.back)))) (lines_in h.taken.front + lines_in (news (map new (left_of h.taken.back)))) (same_way back)
+      back_keeps : (h : AreTaken name (units lines) (units edited) (newlines lines) (newlines edited)) (back : List TextUnit)
+          → EachIs (IsFar name (newlines lines) (newlines edited)) back → back ≡ h.taken.back → (line next : Option Site)
+          → lines_in h.taken.front + (1 + lines_in h.taken.back) ≡ length (newlines lines)
+          → lines_in h.taken.front + lines_in (left_of h.taken.back ++ h.taken.back) ≡ length (newlines edited)
+          → Keep line next ((lines_in h.taken.front + 1) + lines_in (olds (map new (left_of h.taken.back))))
+          (lines_in h.taken.front + lines_in (news (map new (left_of h.taken.back)))) (same_way back)
       back_keeps h [] far is line next old_total new_total = tt
       back_keeps h (u ∷ us) far is line next old_total new_total =
           let n = lines_in h.taken.front in
@@ -280,15 +291,22 @@ module _ (name : List ℕ) (lines : List Line) where
           let zero_new = ap (λ r. lines_in (news (map new (left_of r)))) (sym is) in
           let first : n + (1 + lines_in (u ∷ us)) ≡ length (newlines lines) = ap (λ r. n + (1 + lines_in r)) is ∙ old_total in
           let second : n + lines_in (u ∷ us) ≡ length (newlines edited) = ap (λ r. n + lines_in (left_of r ++ r)) is ∙ new_total in
-          subst₂ (λ a b. Keep line next a b (same_way (u ∷ us))) (let e : n + 1 ≡ (n + 1) + lines_in (olds (map new (left_of h.taken.back))) = omega (arith, zero_old) in e) (let e : n ≡ n + lines_in (news (map new (left_of h.taken.back))) = omega (arith, zero_new) in e)
-          (same_keeps (remove gone) (newlines lines) (newlines edited) (u ∷ us) (far_fixed name (newlines lines) (newlines edited) (u ∷ us) far) line next (inr (subst BeginWithLine (sym is) h.taken.next)) (n + 1) n
+          subst₂ (λ a b. Keep line next a b (same_way (u ∷ us)))
+          (let e : n + 1 ≡ (n + 1) + lines_in (olds (map new (left_of h.taken.back))) = omega (arith, zero_old) in e)
+          (let e : n ≡ n + lines_in (news (map new (left_of h.taken.back))) = omega (arith, zero_new) in e)
+          (same_keeps (remove gone) (newlines lines) (newlines edited) (u ∷ us)
+          (far_fixed name (newlines lines) (newlines edited) (u ∷ us) far) line next (inr (subst BeginWithLine (sym is) h.taken.next))
+          (n + 1) n
           (λ x low. record {
-          newline = inl (ap (slice_get (newlines lines)) (let e : (n + 1) + x ≡ n + suc x = omega arith in e) ∙ h.back_ends x (subst (λ l. x < lines_in l) is low));
-          last = λ at. omega (arith, at, first, second);
+            newline =
+                inl (ap (slice_get (newlines lines)) (let e : (n + 1) + x ≡ n + suc x = omega arith in e)
+                ∙ h.back_ends x (subst (λ l. x < lines_in l) is low));
+            last = λ at. omega (arith, at, first, second);
           })
           (inl (λ x low at. omega (arith, at, first, second))))
 
-  way_by : (h : AreTaken name (units lines) (units edited) (newlines lines) (newlines edited)) → EachIs (IsFar name (newlines lines) (newlines edited)) (units edited) → HasWay (remove gone ∷ []) ([] ∷ []) lines edited
+  way_by : (h : AreTaken name (units lines) (units edited) (newlines lines) (newlines edited))
+      → EachIs (IsFar name (newlines lines) (newlines edited)) (units edited) → HasWay (remove gone ∷ []) ([] ∷ []) lines edited
   way_by h far =
       let front = h.taken.front in
       let back = h.taken.back in
@@ -306,7 +324,9 @@ module _ (name : List ℕ) (lines : List Line) where
       let block_lines : lines_in block ≡ 1 = (let a = lines_append inner tail in let b = inside_lines gone h.value in let c = tail_lines h.comment in omega (arith, a, b, c)) in
       let total : n + lines_in (left ++ back) ≡ length (newlines edited) = sym (lines_append front (left ++ back)) ∙ ap lines_in (sym h.taken.after) ∙ count_lines edited (root ∷ []) 0 in
       let old_total : n + (1 + lines_in back) ≡ length (newlines lines) =
-      (let a = lines_append front (block ++ back) in let b = lines_append block back in let d = ap lines_in h.taken.before in let e = count_lines lines (root ∷ []) 0 in omega (arith, a, b, d, e, block_lines)) in
+      (let a = lines_append front
+      (block ++ back) in let b = lines_append block back in let d = ap lines_in h.taken.before in let e = count_lines lines
+      (root ∷ []) 0 in omega (arith, a, b, d, e, block_lines)) in
       record {
         way = head ++ goes;
         olds_are =
@@ -380,5 +400,6 @@ module _ (name : List ℕ) (lines : List Line) where
           (same_fits name (newlines lines) (newlines edited) (u ∷ us) far line (n + 1) n (inr (subst BeginWithLine (sym is) h.taken.next))
           (λ x low. inl (ap (slice_get (newlines lines)) (let e : (n + 1) + x ≡ n + suc x = omega arith in e) ∙ h.back_ends x (subst (λ l. x < lines_in l) is low))))
 
-  pub remove_way : AreLines lines → HasPair lines gone → KeepsRules (named lines) → EachIs (IsFar name (newlines lines) (newlines edited)) (units edited) → HasWay (remove gone ∷ []) ([] ∷ []) lines edited
+  pub remove_way : AreLines lines → HasPair lines gone → KeepsRules (named lines)
+      → EachIs (IsFar name (newlines lines) (newlines edited)) (units edited) → HasWay (remove gone ∷ []) ([] ∷ []) lines edited
   remove_way is there keeps far = way_by (lines_taken name lines is there keeps) far
