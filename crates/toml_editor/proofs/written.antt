@@ -9,6 +9,7 @@ pub mod Elsewhere
 pub mod EmptyLines
 pub mod Examples
 pub mod Fitting
+pub mod HeadersRenamed
 pub mod InsertFormed
 pub mod InsertKept
 pub mod InsertNamed

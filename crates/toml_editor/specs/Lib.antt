@@ -16,6 +16,7 @@ pub mod Blocks
 pub mod InsertLaws
 pub mod RemoveLaws
 pub mod RenameLaws
+pub mod RenamedHeaders
 pub mod Bares
 -- what it does to the units
 pub mod UnitBlocks

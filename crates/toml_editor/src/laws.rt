@@ -8,6 +8,7 @@ ghost use Rattle.toml_editor.specs.ChangedUnits.{SetUnits};
 ghost use Rattle.toml_editor.specs.InsertLaws.{InsertNames, InsertRules, InsertShort, InsertData, InsertForms, InsertOfProfile, InsertKeepsLines};
 ghost use Rattle.toml_editor.specs.RemoveLaws.{RemoveNames, RemoveGood, RemoveData, RemoveForms, RemoveOfProfile, RemoveKeepsLines};
 ghost use Rattle.toml_editor.specs.RenameLaws.{RenameNames, RenameGood, RenameData, RenameForms, RenameOfProfile, RenameKeepsLine};
+ghost use Rattle.toml_editor.specs.RenamedHeaders.{RenameAlong, RenameAlongElement};
 ghost use Rattle.toml_editor.specs.RenamedUnits.{RenameUnits};
 ghost use Rattle.toml_editor.specs.SetLaws.{SetNames, SetRules, SetShort, SetData, SetForms, SetOfProfile, SetWithin, SetElsewhere, SetKeepsLine};
 ghost use Rattle.toml_editor.specs.UnitBlocks.{InsertUnits, RemoveUnits};
@@ -51,6 +52,13 @@ pub fn renames()
     ensures good { RenameGood }
     ensures data { RenameData }
     ensures forms { RenameForms }
+{}
+
+/// A `rename` finds the parts of a header's key by the header's own address: each stands for the beginning of it up to and
+/// with the part's name.
+pub fn renamed_headers()
+    ensures table { RenameAlong }
+    ensures element { RenameAlongElement }
 {}
 
 /// Edited lines are of each profile of which the lines were before and the new value, if there is one.
