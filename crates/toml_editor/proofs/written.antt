@@ -8,6 +8,7 @@ pub mod Deep
 pub mod Elsewhere
 pub mod EmptyLines
 pub mod Examples
+pub mod Exchanged
 pub mod Fitting
 pub mod HeadersRenamed
 pub mod InsertFormed

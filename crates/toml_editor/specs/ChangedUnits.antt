@@ -34,6 +34,10 @@ HoldsValue p u = (u.address ≡ Some p) × (is_comment u.kind ≡ false)
 abbrev pub IsExchanged : List ℕ → List ℕ → List ℕ → Type 0
 IsExchanged run a b = (front old back : List ℕ) × (a ≡ front ++ (old ++ back)) × (b ≡ front ++ (run ++ back))
 
+-- it is the first, or that with the new value in the place of a run of its bytes
+abbrev pub KeepsBytes : Value → List ℕ → List ℕ → Type 0
+KeepsBytes new a b = (b ≡ a) ⊎ IsExchanged (joined (value_parts new)) a b
+
 -- the unit with another value; of lines those with a key have one
 pub record HasNewValue (new : Value) (u w : TextUnit) : Type 0 where
   pub keyed : u.kind ≡ kinds.Line → IsSome u.base
@@ -43,12 +47,13 @@ pub record HasNewValue (new : Value) (u w : TextUnit) : Type 0 where
   pub text : IsExchanged (joined (value_parts new)) u.piece.text w.piece.text
 
 -- What stands for a unit after a `set`: nothing, if it lies in the old value; itself with the new value, and what is in that, if the value is its
--- own; else itself, where it was, as the edit leaves it.
+-- own; else itself, where it was, as the edit leaves it, with all its bytes, or all but those of a value that the new one takes the place of.
 abbrev pub IsSetTo : Address → List ℕ → Value → TextUnit → List TextUnit → Type 0
 IsSetTo p text new u ws =
     (LiesInValue p u × (ws ≡ []))
     ⊎ (HoldsValue p u × (w : TextUnit) × HasNewValue new u w × (ws ≡ w ∷ inside p new))
-    ⊎ (¬ LiesInValue p u × ¬ HoldsValue p u × (w : TextUnit) × IsCarried (set p text) u w × (w.address ≡ u.address) × (ws ≡ w ∷ []))
+    ⊎ (¬ LiesInValue p u × ¬ HoldsValue p u × (w : TextUnit) × IsCarried (set p text) u w × KeepsBytes new u.piece.text w.piece.text
+    × (w.address ≡ u.address) × (ws ≡ w ∷ []))
 
 -- the second list is made of the first: a list for each, one behind the other
 abbrev pub AreMadeOf : {A B : Type 0} → (A → List B → Type 0) → List A → List B → Type 0

@@ -44,7 +44,7 @@ module _ (p : Address) where
   there [] = 0
   there (m ∷ ms) = one_there m + there ms
 
-  held_append : (us vs : List TextUnit) → held (us ++ vs) ≡ held us + held vs
+  pub held_append : (us vs : List TextUnit) → held (us ++ vs) ≡ held us + held vs
   held_append [] vs = omega arith
   held_append (u ∷ us) vs = let more = held_append us vs in omega (arith, more)
 
@@ -56,7 +56,7 @@ module _ (p : Address) where
   comment_held kind none at None = refl
   comment_held kind none at (Some piece) = let e : ◌≡◌ {A = ℕ} (cond (has_value kind None && stands_there at) 1 0) 0 = ap (λ b. cond {A = ℕ} (b && stands_there at) 1 0) none in omega (arith, e)
 
-  gap_held : (ls : List GapLine) (at : Address) → held (gap_line_units at ls) ≡ 0
+  pub gap_held : (ls : List GapLine) (at : Address) → held (gap_line_units at ls) ≡ 0
   gap_held [] at = refl
   gap_held (l ∷ ls) at =
       let first = comment_held kinds.InnerComment refl (Some at) l.blank.comment in
@@ -64,7 +64,8 @@ module _ (p : Address) where
       let both = held_append (comment_units kinds.InnerComment (Some at) l.blank.comment) (gap_line_units at ls) in
       omega (arith, first, more, both)
 
-  between : (g h : Gap) (at : Address) (us vs : List TextUnit) → held (gap_units at g ++ (us ++ (gap_units at h ++ vs))) ≡ held us + held vs
+  pub between : (g h : Gap) (at : Address) (us vs : List TextUnit)
+      → held (gap_units at g ++ (us ++ (gap_units at h ++ vs))) ≡ held us + held vs
   between g h at us vs =
       let a = held_append (gap_units at g) (us ++ (gap_units at h ++ vs)) in
       let b = held_append us (gap_units at h ++ vs) in
@@ -73,7 +74,7 @@ module _ (p : Address) where
       let e = gap_held h.lines at in
       omega (arith, a, b, c, d, e)
 
-  at_end : (g h : Gap) (at : Address) (us : List TextUnit) → held (gap_units at g ++ (us ++ gap_units at h)) ≡ held us
+  pub at_end : (g h : Gap) (at : Address) (us : List TextUnit) → held (gap_units at g ++ (us ++ gap_units at h)) ≡ held us
   at_end g h at us =
       let a = held_append (gap_units at g) (us ++ gap_units at h) in
       let b = held_append us (gap_units at h) in

@@ -362,7 +362,7 @@ module _ (p : Address) (some : ¬ (p ≡ [])) (text : List ℕ) (v : Value) (bef
       }
   way_of (u ∷ us) ws (here, rest, inl (lies, gone), is, more) = subst (SetWay (u ∷ us)) (sym (is ∙ ap (λ l. l ++ rest) gone)) (goes u us rest lies (way_of us rest more))
   way_of (u ∷ us) ws (here, rest, inr (inl (holds, w, has, made)), is, more) = subst (SetWay (u ∷ us)) (sym (is ∙ ap (λ l. l ++ rest) made)) (changes u w us rest holds has (way_of us rest more))
-  way_of (u ∷ us) ws (here, rest, inr (inr (not_in, not_it, w, carried, same, made)), is, more) =
+  way_of (u ∷ us) ws (here, rest, inr (inr (not_in, not_it, w, carried, bytes, same, made)), is, more) =
       subst (SetWay (u ∷ us)) (sym (is ∙ ap (λ l. l ++ rest) made)) (stays u w us rest (record { not_in = not_in; not_it = not_it; carried = carried; same = same }) (way_of us rest more))
 
 pub set_way : (p : Address) (text : List ℕ) (v : Value) (lines : List Line) → ¬ (p ≡ []) → AreLines lines → IsValue v → HasValue lines p → KeepsRules (named lines)
