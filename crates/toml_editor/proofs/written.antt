@@ -1,9 +1,12 @@
 pub mod Alike
+pub mod Around
+pub mod AroundLines
 pub mod BareNames
 pub mod Behind
 pub mod BlockFacts
 pub mod Certify
 pub mod Clear
+pub mod Closed
 pub mod Deep
 pub mod Elsewhere
 pub mod EmptyLines

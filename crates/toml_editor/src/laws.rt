@@ -101,7 +101,8 @@ pub fn bares()
 /// bytes. After a `rename` to a name that is free they are those of before, one by one, of the same kind and base, at the
 /// carried address, with the same text unless the edit changes the unit. After a `set` what lay in the old value is gone, the
 /// unit that has the value has the new one, what is in that comes behind it, and all others are as after a `rename`, where
-/// they were. The units of lines without places are those of the lines, without places.
+/// they were; one that the edit changes has the new value in the place of a run of its bytes. The units of lines without
+/// places are those of the lines, without places.
 pub fn units()
     ensures insert { InsertUnits }
     ensures remove { RemoveUnits }

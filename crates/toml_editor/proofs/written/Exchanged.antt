@@ -1,12 +1,12 @@
 -- Which bytes a `set` leaves in a value: all, or all but those of a value that stands in it at the address.
-use Rattle.std.proofs.Common.{◌≡◌, inl, inr, ◌≤◌, ◌+◌, ℕ, zero, suc, Bool, true, false, cond, List, [], ◌∷◌, ◌++◌, refl, sym, ap, ap₂, ◌∙◌, subst, subst₂, append-nil, append_assoc, arith}
+use Rattle.std.proofs.Common.{◌≡◌, ◌+◌, ℕ, zero, suc, Bool, true, false, cond, List, [], ◌∷◌, ◌++◌, refl, sym, ap, ap₂, ◌∙◌, subst, subst₂, append-nil, append_assoc, arith}
 use Rattle.toml_tree.specs.Spells.{Part, joined, symbol, gap_parts, assign_parts, value_parts, items_parts, pairs_parts}
 use Rattle.toml_tree.specs.Tree.{Assign, Gap, Value, Scalar, Array, Inline, Items, Close, Last, More, Pairs, ClosePairs, LastPair, MorePairs}
 use Rattle.toml_tree.proofs.Proved.{parts_join}
 use Rattle.toml_names.specs.mentions.Keys.{key_names}
 use Rattle.toml_names.specs.model.Addresses.{Address, same_address, element, below}
 use Rattle.toml_units.specs.Units.{TextUnit, gap_units, element_unit, pair_unit, inside, elements, members}
-use Rattle.toml_editor.specs.ChangedUnits.{IsExchanged, KeepsBytes}
+use Rattle.toml_editor.specs.ChangedUnits.{IsExchanged}
 use Rattle.toml_editor.specs.Setting.{set_within, set_items, set_pairs, set_value}
 use Rattle.toml_editor.proofs.written.WayHeld.{held, between, at_end, gap_held}
 
@@ -153,12 +153,3 @@ module _ (p : Address) (new : Value) where
         (behind_left here (assign_parts a) (value_parts v) (value_parts (set_value p new to v))
         (holder_left to v (held p (inside to v)) (value_left v to)))
         (symbol_left (held p rest) 0x2C (joined (pairs_parts ps)) (joined (pairs_parts (set_pairs p new at ps))) (pairs_left ps at))))
-
-  -- ---- where one value at most stands at the address
-
-  pub left_bytes : (n : ℕ) (a b : List ℕ) → n ≤ 1 → AreLeft n a b → KeepsBytes new a b
-  left_bytes n a b few left = by n refl few
-    where
-      by : (k : ℕ) → n ≡ k → n ≤ 1 → KeepsBytes new a b
-      by zero is few = inl (left.none is)
-      by (suc k) is few = inr (left.one (omega (arith, is, few)))

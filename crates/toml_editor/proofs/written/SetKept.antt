@@ -29,7 +29,7 @@ values_at p lines there keeps =
     (λ e l here then one alone. elim one [ inl a ↦ true≢false (sym a ∙ (alone (here ∙ sym then)).0) | inr b ↦ true≢false (sym b ∙ (alone (here ∙ sym then)).1) ])
     (named lines) (pairs_of_all Alone (named lines) (line_values_stand_alone lines keeps)) (has_of_any _ (named lines) there)
 
-cancel : (p a b : Address) → p ++ a ≡ p ++ b → a ≡ b
+pub cancel : (p a b : Address) → p ++ a ≡ p ++ b → a ≡ b
 cancel [] a b is = is
 cancel (s ∷ p) a b is = let rest : p ++ a ≡ p ++ b = cc in cancel p a b rest
 

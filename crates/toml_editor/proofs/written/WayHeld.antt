@@ -37,10 +37,10 @@ module _ (p : Address) where
   held [] = 0
   held (u ∷ us) = one_held u + held us
 
-  abbrev one_there : Named → ℕ
+  abbrev pub one_there : Named → ℕ
   one_there m = cond (same_address m.address p) 1 0
 
-  abbrev there : List Named → ℕ
+  abbrev pub there : List Named → ℕ
   there [] = 0
   there (m ∷ ms) = one_there m + there ms
 
@@ -88,7 +88,8 @@ module _ (p : Address) where
   abbrev pair : Address → Assign → Value → List TextUnit
   pair at a v = pair_unit at (record { assign = a; value = v }) ∷ inside (below at (key_names a.key)) v
 
-  pair_held : (line : ℕ) (a : Assign) (v : Value) (at : Address) → held (inside (below at (key_names a.key)) v) ≤ there (mentions.inside line (below at (key_names a.key)) v)
+  pub pair_held : (line : ℕ) (a : Assign) (v : Value) (at : Address)
+      → held (inside (below at (key_names a.key)) v) ≤ there (mentions.inside line (below at (key_names a.key)) v)
       → held (pair at a v) ≤ there (pair_named line at a v)
   pair_held line a v at within =
       let to = below at (key_names a.key) in
@@ -101,7 +102,8 @@ module _ (p : Address) where
     value_held (Array whole items) line at = items_held items line at 0
     value_held (Inline whole pairs) line at = pairs_held pairs line at
 
-    items_held : (items : Items) (line : ℕ) (at : Address) (i : ℕ) → held (elements at i items) ≤ there (mentions.elements line at i items)
+    pub items_held : (items : Items) (line : ℕ) (at : Address) (i : ℕ)
+        → held (elements at i items) ≤ there (mentions.elements line at i items)
     items_held (Close g) line at i = let e = gap_held g.lines at in omega (arith, e)
     items_held (Last g v h) line at i = let e = at_end g h at (elem at i v) in let w = value_held v line (element at i) in omega (arith, e, w)
     items_held (More g v h is) line at i =
@@ -111,7 +113,7 @@ module _ (p : Address) where
         let both = there_append (mentions.inside line (element at i) v) (mentions.elements line at (i + 1) is) in
         omega (arith, e, w, more, both)
 
-    pairs_held : (pairs : Pairs) (line : ℕ) (at : Address) → held (members at pairs) ≤ there (mentions.members line at pairs)
+    pub pairs_held : (pairs : Pairs) (line : ℕ) (at : Address) → held (members at pairs) ≤ there (mentions.members line at pairs)
     pairs_held (ClosePairs g) line at = let e = gap_held g.lines at in omega (arith, e)
     pairs_held (LastPair g a v h) line at =
         let e = at_end g h at (pair at a v) in
