@@ -1,5 +1,7 @@
 -- What holds of each element of a list.
-use Rattle.std.proofs.Common.{List, [], ◌∷◌, ◌++◌}
+use Rattle.std.proofs.Common.{◌≡◌, ℕ, zero, suc, List, [], ◌∷◌, ◌++◌, Some, subst}
+use Rattle.std.specs.Prelude.{slice_get}
+use Rattle.std.proofs.lemmas.Option.{same_Some}
 use Rattle.toml_tree.specs.Spells.{EachIs}
 
 pub each_append : {A : Type 0} (P : A → Type 0) (xs ys : List A) → EachIs P xs → EachIs P ys → EachIs P (xs ++ ys)
@@ -17,3 +19,8 @@ each_back P (x ∷ xs) ys h = each_back P xs ys h.1
 pub each_weaker : {A : Type 0} (P Q : A → Type 0) → ((x : A) → P x → Q x) → (xs : List A) → EachIs P xs → EachIs Q xs
 each_weaker P Q f [] h = tt
 each_weaker P Q f (x ∷ xs) h = (f x h.0, each_weaker P Q f xs h.1)
+
+pub each_get : {A : Type 0} (P : A → Type 0) (xs : List A) (j : ℕ) (w : A) → EachIs P xs → slice_get xs j ≡ Some w → P w
+each_get P [] j w h is = cc
+each_get P (x ∷ xs) zero w h is = subst P (same_Some x w is) h.0
+each_get P (x ∷ xs) (suc j) w h is = each_get P xs j w h.1 is

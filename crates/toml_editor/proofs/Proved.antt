@@ -20,3 +20,7 @@ pub use Rattle.toml_editor.proofs.written.UnitsTaken.{remove_units}
 pub use Rattle.toml_editor.proofs.written.UnitsRenamed.{rename_units}
 pub use Rattle.toml_editor.proofs.written.UnitsSet.{set_units}
 pub use Rattle.toml_editor.proofs.written.UnitsCarried.{plain_is_carried}
+pub use Rattle.toml_editor.proofs.written.UnitsListed.{list_is_carried}
+pub use Rattle.toml_editor.proofs.written.Certify.{partners_certify, outer_partners_certify, plain_list_is_certified}
+pub use Rattle.toml_editor.proofs.written.OuterPairs.{outer_are_named}
+pub use Rattle.toml_editor.proofs.written.HeadersRenamed.{rename_along_header, rename_along_element}

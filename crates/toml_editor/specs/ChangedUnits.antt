@@ -1,16 +1,18 @@
 -- Law of the units after a `set`.
-use Rattle.std.specs.Prelude.{◌≡◌, ◌⊎◌, ℕ, Bool, true, false, List, [], ◌∷◌, ◌++◌, Some, IsSome}
+use Rattle.std.specs.Prelude.{◌≡◌, ◌⊎◌, ℕ, Bool, true, false, List, [], ◌∷◌, ◌++◌, Option, Some, IsSome}
 use Rattle.toml_tree.specs.Spells.{joined, value_parts, IsValue, AreLines}
 use Rattle.toml_tree.specs.Tree.{Value, Line}
 use Rattle.toml_names.specs.mentions.Mentions.{named}
 use Rattle.toml_names.specs.mentions.Rules.{KeepsRules}
 use Rattle.toml_names.specs.model.Addresses.{Address, IsAbove}
-use Rattle.toml_edits.specs.Edits.{set}
+use Rattle.toml_edits.specs.Edits.{Change, set}
 use Rattle.toml_units.specs.declared.unit.UnitKind.{UnitKind}
 use Rattle.toml_units.specs.declared.unit.UnitKind.TheVariants as kinds
 use Rattle.toml_units.specs.Units.{TextUnit, inside, units}
 use Rattle.toml_checker.specs.CarriedTo.{At}
 use Rattle.toml_checker.specs.Comments.{is_comment}
+use Rattle.toml_checker.specs.GoneAndChanged.{IsChanged}
+use Rattle.toml_checker.specs.Protected.{standing}
 use Rattle.toml_editor.specs.RenamedUnits.{IsCarried}
 use Rattle.toml_editor.specs.Setting.{set_lines}
 use Rattle.toml_editor.specs.Written.{HasValue}
@@ -42,13 +44,19 @@ pub record HasNewValue (new : Value) (u w : TextUnit) : Type 0 where
   pub base : w.base ≡ u.base
   pub text : IsExchanged (joined (value_parts new)) u.piece.text w.piece.text
 
+-- a unit that the edit changes has the new value in the place of a run of its bytes, whatever line it is of
+abbrev pub Exchanges : Change → Value → TextUnit → TextUnit → Type 0
+Exchanges c new u w =
+    (line : Option TextUnit) → IsChanged u.kind c (standing u line) → IsExchanged (joined (value_parts new)) u.piece.text w.piece.text
+
 -- What stands for a unit after a `set`: nothing, if it lies in the old value; itself with the new value, and what is in that, if the value is its
--- own; else itself, where it was, as the edit leaves it.
+-- own; else itself, where it was, as the edit leaves it: if the edit changes it, with the new value in the place of a run of its bytes.
 abbrev pub IsSetTo : Address → List ℕ → Value → TextUnit → List TextUnit → Type 0
 IsSetTo p text new u ws =
     (LiesInValue p u × (ws ≡ []))
     ⊎ (HoldsValue p u × (w : TextUnit) × HasNewValue new u w × (ws ≡ w ∷ inside p new))
-    ⊎ (¬ LiesInValue p u × ¬ HoldsValue p u × (w : TextUnit) × IsCarried (set p text) u w × (w.address ≡ u.address) × (ws ≡ w ∷ []))
+    ⊎ (¬ LiesInValue p u × ¬ HoldsValue p u × (w : TextUnit) × IsCarried (set p text) u w × Exchanges (set p text) new u w
+    × (w.address ≡ u.address) × (ws ≡ w ∷ []))
 
 -- the second list is made of the first: a list for each, one behind the other
 abbrev pub AreMadeOf : {A B : Type 0} → (A → List B → Type 0) → List A → List B → Type 0

@@ -16,6 +16,7 @@ pub mod Blocks
 pub mod InsertLaws
 pub mod RemoveLaws
 pub mod RenameLaws
+pub mod RenamedHeaders
 pub mod Bares
 -- what it does to the units
 pub mod UnitBlocks
@@ -23,3 +24,5 @@ pub mod RenamedUnits
 pub mod ChangedUnits
 pub mod Steps
 pub mod CarriedUnits
+pub mod CarriedLists
+pub mod CertifiedLists

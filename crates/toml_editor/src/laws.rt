@@ -1,10 +1,13 @@
 //! Laws over the definitions of what plain edits write: nothing is run.
 ghost use Rattle.toml_editor.specs.Bares.{SetBares, InsertBares, RemoveBares, RenameBares};
 ghost use Rattle.toml_editor.specs.CarriedUnits.{PlainIsCarried};
+ghost use Rattle.toml_editor.specs.CarriedLists.{ListIsCarried};
+ghost use Rattle.toml_editor.specs.CertifiedLists.{PartnersCertify, OuterAreNamed, OuterPartnersCertify, PlainListIsCertified};
 ghost use Rattle.toml_editor.specs.ChangedUnits.{SetUnits};
 ghost use Rattle.toml_editor.specs.InsertLaws.{InsertNames, InsertRules, InsertShort, InsertData, InsertForms, InsertOfProfile, InsertKeepsLines};
 ghost use Rattle.toml_editor.specs.RemoveLaws.{RemoveNames, RemoveGood, RemoveData, RemoveForms, RemoveOfProfile, RemoveKeepsLines};
 ghost use Rattle.toml_editor.specs.RenameLaws.{RenameNames, RenameGood, RenameData, RenameForms, RenameOfProfile, RenameKeepsLine};
+ghost use Rattle.toml_editor.specs.RenamedHeaders.{RenameAlong, RenameAlongElement};
 ghost use Rattle.toml_editor.specs.RenamedUnits.{RenameUnits};
 ghost use Rattle.toml_editor.specs.SetLaws.{SetNames, SetRules, SetShort, SetData, SetForms, SetOfProfile, SetWithin, SetElsewhere, SetKeepsLine};
 ghost use Rattle.toml_editor.specs.UnitBlocks.{InsertUnits, RemoveUnits};
@@ -50,6 +53,13 @@ pub fn renames()
     ensures forms { RenameForms }
 {}
 
+/// A `rename` finds the parts of a header's key by the header's own address: each stands for the beginning of it up to and
+/// with the part's name.
+pub fn renamed_headers()
+    ensures table { RenameAlong }
+    ensures element { RenameAlongElement }
+{}
+
 /// Edited lines are of each profile of which the lines were before and the new value, if there is one.
 pub fn profiles()
     ensures set { SetOfProfile }
@@ -90,7 +100,7 @@ pub fn bares()
 /// bytes. After a `rename` to a name that is free they are those of before, one by one, of the same kind and base, at the
 /// carried address, with the same text unless the edit changes the unit. After a `set` what lay in the old value is gone, the
 /// unit that has the value has the new one, what is in that comes behind it, and all others are as after a `rename`, where
-/// they were.
+/// they were; one that the edit changes has the new value in the place of a run of its bytes.
 pub fn units()
     ensures insert { InsertUnits }
     ensures remove { RemoveUnits }
@@ -103,6 +113,22 @@ pub fn units()
 /// edit does not ask for.
 pub fn carried()
     ensures { PlainIsCarried }
+{}
+
+/// So it is of a list of plain edits, each without a fault on the data so far: the pairs name just the units of the first
+/// text that no edit of the list takes away or changes.
+pub fn carried_by_lists()
+    ensures { ListIsCarried }
+{}
+
+/// Within the limit of a text all demands of the judge hold of these pairs, and of those of them alone whose first unit
+/// lies in no other unit that is protected: these name just such units. So for each list of plain edits without a fault
+/// there is a text that it writes, with such pairs, and if it is within the limit the judge's verdict on it is yes.
+pub fn certified()
+    ensures partners { PartnersCertify }
+    ensures named { OuterAreNamed }
+    ensures outer { OuterPartnersCertify }
+    ensures list { PlainListIsCertified }
 {}
 
 /// Within the limit of a text the good texts are the documents of the profile.

@@ -15,7 +15,7 @@ use Rattle.toml_names.specs.model.Places.{IsNamed}
 use Rattle.toml_edits.specs.Edits.{Change, insert, rename, set, remove, new_section, new_element}
 use Rattle.toml_edits.specs.declared.fault.EditFault.TheVariants.{RootNamed, NotAName, AlreadyThere, AddressLength}
 use Rattle.toml_units.specs.Units.{inside, TextUnit, units}
-use Rattle.toml_checker.specs.Comments.{AreWritten, texts}
+use Rattle.toml_checker.specs.Comments.{AreCommentsIn, texts}
 use Rattle.toml_names.specs.mentions.Clear.{IsClear}
 use Rattle.toml_names.specs.mentions.Rules.{KeepsRules}
 use Rattle.toml_names.proofs.Proved.{lines_have_data, places_are_not_named}
@@ -28,7 +28,7 @@ use Rattle.toml_editor.proofs.written.WayTaken.{remove_way}
 use Rattle.toml_edits.specs.After.{IsAfter}
 use Rattle.toml_edits.specs.Faults.{IsFault}
 use Rattle.toml_text.specs.Forms.{IsNewline}
-use Rattle.toml_editor.specs.CarriedUnits.{ArePartners, PlainIsCarried}
+use Rattle.toml_editor.specs.CarriedUnits.{PlainIsCarried}
 use Rattle.toml_editor.specs.Inserting.{insert_lines}
 use Rattle.toml_editor.specs.Renaming.{rename_lines}
 use Rattle.toml_editor.specs.Steps.{IsGoodText}
@@ -45,26 +45,36 @@ use Rattle.toml_editor.proofs.written.WayPut.{insert_way}
 use Rattle.toml_editor.proofs.written.WayRenamed.{rename_way}
 use Rattle.toml_editor.proofs.written.WayWhole.{HasWay, partners, same_seen, same_newlines}
 
--- the tree of the text that the edited lines make
-module _ (profile : Profile) (c : Change) (before after : List ℕ) (old now : Kinds) (good : IsGoodText profile before old) (new : IsGoodText profile after now) where
-  pub by_way : (written : List (List (List ℕ))) (edited : List Line) → AreWritten (c ∷ []) written → AreLines edited → after ≡ good.tree.mark.text ++ joined (lines_parts edited)
-      → HasWay c written good.tree.lines edited → (ps : List (ℕ × ℕ)) × ArePartners (c ∷ []) good.tree new.tree ps
-  by_way written edited are forms text way =
-      let mark : good.tree.mark ≡ record { start = 0; text = mark_of before } = good.spelled.0.mark in
-      let at = length (mark_of before) in
-      let is_text : mark_of before ++ joined (lines_parts edited) ≡ after = sym (text ∙ ap (λ (x : Piece). x.text ++ joined (lines_parts edited)) mark) in
-      let same : new.tree ≡ put_doc (mark_of before) edited = one_tree new.tree (put_doc (mark_of before) edited) after new.spelled.0 (subst (Spells (put_doc (mark_of before) edited)) is_text (put_doc_spells before edited forms)) in
-      let bares : bare_lines new.tree.lines ≡ bare_lines edited = ap (λ (d : Doc). bare_lines d.lines) same ∙ put_lines_same edited at in
-      partners c written good.tree new.tree edited way are (same_seen new.tree.lines edited bares) (same_newlines new.tree.lines edited bares)
+-- a way to lines that make the text
+pub record HasGone (c : Change) (d : Doc) (after : List ℕ) : Type 0 where
+  pub comments_in : List (List ℕ)
+  pub comments_are : AreCommentsIn c comments_in
+  pub edited : List Line
+  pub forms : AreLines edited
+  pub text : after ≡ d.mark.text ++ joined (lines_parts edited)
+  pub way : HasWay (c ∷ []) (comments_in ∷ []) d.lines edited
+
+-- the tree of the text has these lines, but for places
+pub lines_again : (c : Change) (profile : Profile) (before after : List ℕ) (old now : Kinds) (good : IsGoodText profile before old)
+    (new : IsGoodText profile after now) (gone : HasGone c good.tree after)
+    → bare_lines new.tree.lines ≡ bare_lines gone.edited
+lines_again c profile before after old now good new gone =
+    let edited = gone.edited in
+    let mark : good.tree.mark ≡ record { start = 0; text = mark_of before } = good.spelled.0.mark in
+    let is_text : mark_of before ++ joined (lines_parts edited) ≡ after =
+    sym (gone.text ∙ ap (λ (x : Piece). x.text ++ joined (lines_parts edited)) mark) in
+    let same : new.tree ≡ put_doc (mark_of before) edited =
+    one_tree new.tree (put_doc (mark_of before) edited) after new.spelled.0
+    (subst (Spells (put_doc (mark_of before) edited)) is_text (put_doc_spells before edited gone.forms)) in
+    ap (λ (d : Doc). bare_lines d.lines) same ∙ put_lines_same edited (length (mark_of before))
 
 -- what is to be shown of an edit
-abbrev HavePartners : Change → Type 0
-HavePartners c = (profile : Profile) (style before after : List ℕ) (old now : Kinds) → IsNewline style → (good : IsGoodText profile before old)
-    → IsFault profile c old None → IsAfter profile c old now → IsWritten profile c style before after → (new : IsGoodText profile after now)
-    → (ps : List (ℕ × ℕ)) × ArePartners (c ∷ []) good.tree new.tree ps
+abbrev HaveWays : Change → Type 0
+HaveWays c = (profile : Profile) (style before after : List ℕ) (old now : Kinds) → IsNewline style → (good : IsGoodText profile before old)
+    → IsFault profile c old None → IsAfter profile c old now → IsWritten profile c style before after → HasGone c good.tree after
 
-rename_is_carried : (p : Address) (to : List ℕ) → HavePartners (rename p to)
-rename_is_carried p to profile style before after old now newline good none is_after (d, spells, edited, made, text) new = by (last_step p)
+rename_goes : (p : Address) (to : List ℕ) → HaveWays (rename p to)
+rename_goes p to profile style before after old now newline good none is_after (d, spells, edited, made, text) = by (last_step p)
   where
     same : d ≡ good.tree
     same = one_tree d good.tree before spells.0 good.spelled.0
@@ -75,27 +85,40 @@ rename_is_carried p to profile style before after old now newline good none is_a
     text_is : after ≡ good.tree.mark.text ++ joined (lines_parts (rename_lines p to good.tree.lines))
     text_is = text ∙ ap (λ (x : Doc). x.mark.text ++ joined (lines_parts edited)) same ∙ ap (λ ls. good.tree.mark.text ++ joined (lines_parts ls)) lines_are
 
-    by : (p ≡ []) ⊎ ((q : Address) × (s : Step) × (p ≡ q ++ s ∷ [])) → (ps : List (ℕ × ℕ)) × ArePartners (rename p to ∷ []) good.tree new.tree ps
+    by : (p ≡ []) ⊎ ((q : Address) × (s : Step) × (p ≡ q ++ s ∷ [])) → HasGone (rename p to) good.tree after
     by (inl root) = absurd (none RootNamed root)
     by (inr (q, Index i, at)) = absurd (none NotAName (q, i, at))
     by (inr (q, Name n, at)) =
         let free : ¬ IsNamed (named good.tree.lines) (child q to) = unnamed good.tree.lines old (child q to) good.facts (λ some. none AlreadyThere (q, n, at, some)) in
-        by_way profile (rename p to) before after old now good new ([] ∷ []) (rename_lines p to good.tree.lines) (refl, tt) (rename_forms p to good.tree.lines good.spelled.0.lines.forms) text_is
-        (subst (λ x. HasWay (rename x to) ([] ∷ []) good.tree.lines (rename_lines x to good.tree.lines)) (sym at) (rename_way q n to good.tree.lines good.spelled.0.lines.forms free good.good.0))
+        record {
+          comments_in = [];
+          comments_are = refl;
+          edited = rename_lines p to good.tree.lines;
+          forms = rename_forms p to good.tree.lines good.spelled.0.lines.forms;
+          text = text_is;
+          way = subst (λ x. HasWay (rename x to ∷ []) ([] ∷ []) good.tree.lines (rename_lines x to good.tree.lines)) (sym at)
+              (rename_way q n to good.tree.lines good.spelled.0.lines.forms free good.good.0);
+        }
 
-insert_is_carried : (p : Address) (value : List ℕ) → HavePartners (insert p value)
-insert_is_carried p value profile style before after old now newline good none is_after (d, spells, edited, (v, is_value, name, at, made), text) new =
+insert_goes : (p : Address) (value : List ℕ) → HaveWays (insert p value)
+insert_goes p value profile style before after old now newline good none is_after (d, spells, edited, (v, is_value, name, at, made), text) =
     let same : d ≡ good.tree = one_tree d good.tree before spells.0 good.spelled.0 in
     let lines = good.tree.lines in
     let lines_are : edited ≡ insert_lines name v style lines = made ∙ ap (λ (x : Doc). insert_lines name v style x.lines) same in
     let text_is : after ≡ good.tree.mark.text ++ joined (lines_parts (insert_lines name v style lines)) =
     text ∙ ap (λ (x : Doc). x.mark.text ++ joined (lines_parts edited)) same ∙ ap (λ ls. good.tree.mark.text ++ joined (lines_parts ls)) lines_are in
-    by_way profile (insert p value) before after old now good new (texts (comments (inside [] v)) ∷ []) (insert_lines name v style lines) ((v, is_value.0, refl), tt)
-    (insert_forms name v style lines good.spelled.0.lines.forms newline is_value.0.form is_value.0.shallow) text_is
-    (subst (λ x. HasWay (insert x value) (texts (comments (inside [] v)) ∷ []) lines (insert_lines name v style lines)) (sym at) (insert_way name value v style lines))
+    record {
+      comments_in = texts (comments (inside [] v));
+      comments_are = (v, is_value.0, refl);
+      edited = insert_lines name v style lines;
+      forms = insert_forms name v style lines good.spelled.0.lines.forms newline is_value.0.form is_value.0.shallow;
+      text = text_is;
+      way = subst (λ x. HasWay (insert x value ∷ []) (texts (comments (inside [] v)) ∷ []) lines (insert_lines name v style lines)) (sym at)
+          (insert_way name value v style lines);
+    }
 
-set_is_carried : (p : Address) (value : List ℕ) → HavePartners (set p value)
-set_is_carried p value profile style before after old now newline good none is_after (d, spells, edited, (v, is_value, there, made), text) new =
+set_goes : (p : Address) (value : List ℕ) → HaveWays (set p value)
+set_goes p value profile style before after old now newline good none is_after (d, spells, edited, (v, is_value, there, made), text) =
     let same : d ≡ good.tree = one_tree d good.tree before spells.0 good.spelled.0 in
     let lines = good.tree.lines in
     let there' : HasValue lines p = subst (λ (x : Doc). HasValue x.lines p) same there in
@@ -105,9 +128,14 @@ set_is_carried p value profile style before after old now newline good none is_a
     let apart : ¬ (p ≡ []) = none RootNamed in
     let fit = all_fit profile value v is_after.0 is_value is_after.1 p (λ r some low. none AddressLength (inr (is_after.0, is_after.1, r, some, low))) in
     let short = set_short p v lines apart there' good.good fit in
-    by_way profile (set p value) before after old now good new (texts (comments (inside [] v)) ∷ []) (set_lines p v lines) ((v, is_value.0, refl), tt)
-    (set_forms p v lines good.spelled.0.lines.forms is_value.0.form short) text_is
-    (set_way p value v lines apart good.spelled.0.lines.forms is_value.0.form there' good.good.0)
+    record {
+      comments_in = texts (comments (inside [] v));
+      comments_are = (v, is_value.0, refl);
+      edited = set_lines p v lines;
+      forms = set_forms p v lines good.spelled.0.lines.forms is_value.0.form short;
+      text = text_is;
+      way = set_way p value v lines apart good.spelled.0.lines.forms is_value.0.form there' good.good.0;
+    }
 
 -- units of edited lines are at addresses that their lines name
 address_clear : (p : Address) (lines : List Line) → AreLines lines → KeepsRules (named lines) → EachIs (λ m. IsClear p m.address) (named lines) → EachIs (λ u. (a : Address) → u.address ≡ Some a → IsClear p a) (units lines)
@@ -137,8 +165,8 @@ address_clear p lines forms keeps clear =
           of_seen us ws (let e : map seen us ≡ map seen ws = cc in e) there.1,
         )
 
-remove_is_carried : (p : Address) → HavePartners (remove p)
-remove_is_carried p profile style before after old now newline good none is_after (d, spells, edited, (name, at, there, made), text) new =
+remove_goes : (p : Address) → HaveWays (remove p)
+remove_goes p profile style before after old now newline good none is_after (d, spells, edited, (name, at, there, made), text) =
     let same : d ≡ good.tree = one_tree d good.tree before spells.0 good.spelled.0 in
     let lines = good.tree.lines in
     let there' : HasPair lines (Name name ∷ []) = subst₂ (λ (x : Doc) q. HasPair x.lines q) same at there in
@@ -147,14 +175,26 @@ remove_is_carried p profile style before after old now newline good none is_afte
     text ∙ ap (λ (x : Doc). x.mark.text ++ joined (lines_parts edited)) same ∙ ap (λ ls. good.tree.mark.text ++ joined (lines_parts ls)) lines_are in
     let forms = remove_forms (Name name ∷ []) lines good.spelled.0.lines.forms in
     let far = address_clear (Name name ∷ []) (remove_lines (Name name ∷ []) lines) forms (remove_good name lines there' good.good).0 (left_clear name lines there' good.good.0) in
-    subst (λ q. (ps : List (ℕ × ℕ)) × ArePartners (remove q ∷ []) good.tree new.tree ps) (sym at)
-    (by_way profile (remove (Name name ∷ [])) before after old now good new ([] ∷ []) (remove_lines (Name name ∷ []) lines) (refl, tt) forms text_is
-    (remove_way name lines good.spelled.0.lines.forms there' good.good.0 far))
+    subst (λ q. HasGone (remove q) good.tree after) (sym at) (record {
+      comments_in = [];
+      comments_are = refl;
+      edited = remove_lines (Name name ∷ []) lines;
+      forms = forms;
+      text = text_is;
+      way = remove_way name lines good.spelled.0.lines.forms there' good.good.0 far;
+    })
+
+pub plain_goes : (c : Change) → HaveWays c
+plain_goes (set p value) = set_goes p value
+plain_goes (insert p value) = insert_goes p value
+plain_goes (rename p to) = rename_goes p to
+plain_goes (remove p) = remove_goes p
+plain_goes (new_section p) = λ profile style before after old now newline good none is_after written. absurd written.3
+plain_goes (new_element p) = λ profile style before after old now newline good none is_after written. absurd written.3
 
 pub plain_is_carried : PlainIsCarried
-plain_is_carried (set p value) = set_is_carried p value
-plain_is_carried (insert p value) = insert_is_carried p value
-plain_is_carried (rename p to) = rename_is_carried p to
-plain_is_carried (remove p) = remove_is_carried p
-plain_is_carried (new_section p) = λ profile style before after old now newline good none is_after written new. absurd written.3
-plain_is_carried (new_element p) = λ profile style before after old now newline good none is_after written new. absurd written.3
+plain_is_carried c profile style before after old now newline good none is_after written new =
+    let gone = plain_goes c profile style before after old now newline good none is_after written in
+    let bares = lines_again c profile before after old now good new gone in
+    partners (c ∷ []) (gone.comments_in ∷ []) good.tree new.tree gone.edited gone.way (gone.comments_are, tt)
+    (same_seen new.tree.lines gone.edited bares) (same_newlines new.tree.lines gone.edited bares)

@@ -17,6 +17,7 @@ use Rattle.toml_editor.specs.Inserting.{new_assign, new_expr, new_line, line_beh
 use Rattle.toml_editor.specs.UnitBlocks.{BeginWithLine, IsBlockPut, root_line, pair_text, InsertUnits}
 use Rattle.toml_editor.proofs.written.Alike.{alike_self, alike_pair}
 use Rattle.toml_editor.proofs.written.InsertNamed.{spelled_again, stays}
+use Rattle.toml_editor.proofs.written.LastLines.{LastIsFull, full_behind, full_line, has_key}
 use Rattle.toml_editor.proofs.written.WayBlock.{inside_lines, lines_append}
 use Rattle.toml_editor.proofs.written.WayFits.{newlines}
 use Rattle.toml_editor.proofs.written.WayZip.{lines_in}
@@ -31,6 +32,7 @@ pub record IsPutWell (old block new : List TextUnit) (before after : List (List 
   pub put : IsBlockPut old block new
   pub front_ends : (a : ℕ) → a < lines_in put.front → (slice_get before a ≡ slice_get after a) ⊎ (a + 1 ≡ length before)
   pub back_ends : (a : ℕ) → slice_get before (lines_in put.front + a) ≡ slice_get after (lines_in put.front + suc a)
+  pub full : put.back ≡ [] → LastIsFull put.front
 
 one_and : {n : ℕ} → n ≡ 0 → 1 + n ≡ 1
 one_and {n} is = omega (arith, is)
@@ -47,9 +49,14 @@ line_lines xs (KeyValLine ws k b) =
 line_lines xs (TableLine ws h b) = one_and (comment_lines (own_address xs (TableLine ws h b)) b.comment)
 line_lines xs (ArrayTableLine ws h b) = one_and (comment_lines (own_address xs (ArrayTableLine ws h b)) b.comment)
 
-put_behind : (us old block new : List TextUnit) (before after : List (List ℕ)) (newline : List ℕ) → lines_in us ≡ 1 → IsPutWell old block new before after
+some_lines : (xs : List Named) (n : ℕ) (l : Line) (ls : List Line) → 0 < lines_in (units_from xs n (l ∷ ls))
+some_lines xs n l ls = let both = lines_append (line_units xs l.expr)
+    (units_from (xs ++ named_by xs n l.expr) (n + 1) ls) in let one = line_lines xs l.expr in omega (arith, both, one)
+
+put_behind : (us old block new : List TextUnit) (before after : List (List ℕ)) (newline : List ℕ) → lines_in us ≡ 1 → 0 < lines_in old
+    → IsPutWell old block new before after
     → IsPutWell (us ++ old) block (us ++ new) (newline ∷ before) (newline ∷ after)
-put_behind us old block new before after newline one h =
+put_behind us old block new before after newline one some h =
     let put = h.put in
     let all : lines_in (us ++ put.front) ≡ suc (lines_in put.front) = lines_append us put.front ∙ ap (λ n. n + lines_in put.front) one ∙ (let e : 1 + lines_in put.front ≡ suc (lines_in put.front) = omega arith in e) in
     record {
@@ -65,6 +72,9 @@ put_behind us old block new before after newline one h =
           ap (slice_get (newline ∷ before)) (let e : lines_in (us ++ put.front) + a ≡ suc (lines_in put.front + a) = omega (arith, all) in e)
           ∙ h.back_ends a
           ∙ ap (slice_get (newline ∷ after)) (let e : suc (lines_in put.front + suc a) ≡ lines_in (us ++ put.front) + suc a = omega (arith, all) in e);
+      full = λ none.
+          let is : lines_in old ≡ lines_in put.front = ap lines_in (put.before ∙ ap (λ b. put.front ++ b) none ∙ append-nil put.front) in
+          full_behind us put.front (omega (arith, some, is)) (h.full none);
     }
   where
     ends : (a : ℕ) → a < suc (lines_in h.put.front) → (slice_get (newline ∷ before) a ≡ slice_get (newline ∷ after) a) ⊎ (a + 1 ≡ length (newline ∷ before))
@@ -101,12 +111,13 @@ module _ (name : List ℕ) (v : Value) (style : List ℕ) where
     };
     front_ends = λ a low. let e : ⊥ = omega (arith, low) in absurd e;
     back_ends = λ a. ap (slice_get (newlines ls)) (let e : 0 + a ≡ a = omega arith in e) ∙ ap (slice_get (ending ∷ newlines ls)) (let e : suc a ≡ 0 + suc a = omega arith in e);
+    full = λ none. tt;
   }
 
   -- the last line gets a newline
-  put_end : (xs : List Named) (n : ℕ) (l : Line) → section (xs ++ named_by xs n l.expr) ≡ []
+  put_end : (xs : List Named) (n : ℕ) (l : Line) → has_key l.expr ≡ true → section (xs ++ named_by xs n l.expr) ≡ []
       → Well (line_units xs l.expr ++ []) (line_units xs l.expr ++ (line_units (xs ++ named_by xs n l.expr) (new_expr name v) ++ [])) (l.newline.text ∷ []) (style ∷ [] ∷ [])
-  put_end xs n l at_root = record {
+  put_end xs n l keyed at_root = record {
     put = record {
       front = line_units xs l.expr;
       back = [];
@@ -116,15 +127,28 @@ module _ (name : List ℕ) (v : Value) (style : List ℕ) where
     };
     front_ends = λ a low. let one = line_lines xs l.expr in inr (omega (arith, low, one));
     back_ends = λ a. ap (slice_get (l.newline.text ∷ [])) (count a) ∙ ap (slice_get (style ∷ [] ∷ [])) (sym (count (suc a)));
+    full = λ none. full_line xs l.expr keyed;
   }
     where
       count : (a : ℕ) → lines_in (line_units xs l.expr) + a ≡ suc a
       count a = let one = line_lines xs l.expr in omega (arith, one)
 
-  put_line : (xs : List Named) (n : ℕ) (l : Line) (ls : List Line) → section (xs ++ named_by xs n l.expr) ≡ [] → Well (units_from xs n (l ∷ ls)) (units_from xs n (line_behind name v style l ls)) (newlines (l ∷ ls)) (newlines (line_behind name v style l ls))
-  put_line xs n l [] at_root = put_end xs n l at_root
-  put_line xs n l (m ∷ ms) at_root =
-      put_behind (line_units xs l.expr) (units_from (xs ++ named_by xs n l.expr) (n + 1) (m ∷ ms)) block _ (newlines (m ∷ ms)) (style ∷ newlines (m ∷ ms)) l.newline.text (line_lines xs l.expr)
+  put_line : (xs : List Named) (n : ℕ) (l : Line) (ls : List Line) → has_pair (l ∷ ls) ≡ true → has_pair ls ≡ false
+      → section (xs ++ named_by xs n l.expr) ≡ []
+      → Well (units_from xs n (l ∷ ls)) (units_from xs n (line_behind name v style l ls)) (newlines (l ∷ ls))
+      (newlines (line_behind name v style l ls))
+  put_line xs n l [] has none at_root = put_end xs n l (by l.expr has) at_root
+    where
+      by : (e : Expr)
+          → elim e [ BlankLine b ↦ false | KeyValLine ws k t ↦ true | TableLine ws h t ↦ false | ArrayTableLine ws h t ↦ false ] ≡ true
+          → has_key e ≡ true
+      by (KeyValLine ws k b) is = refl
+      by (BlankLine b) is = is
+      by (TableLine ws h b) is = is
+      by (ArrayTableLine ws h b) is = is
+  put_line xs n l (m ∷ ms) has none at_root =
+      put_behind (line_units xs l.expr) (units_from (xs ++ named_by xs n l.expr) (n + 1) (m ∷ ms)) block _ (newlines (m ∷ ms))
+      (style ∷ newlines (m ∷ ms)) l.newline.text (line_lines xs l.expr) (some_lines (xs ++ named_by xs n l.expr) (n + 1) m ms)
       (put_first (xs ++ named_by xs n l.expr) (n + 1) (n + 1) (m ∷ ms) style at_root)
 
   put_last : (ls : List Line) (xs : List Named) (n : ℕ) → section xs ≡ [] → has_pair ls ≡ true → Well (units_from xs n ls) (units_from xs n (insert_behind name v style ls)) (newlines ls) (newlines (insert_behind name v style ls))
@@ -134,14 +158,16 @@ module _ (name : List ℕ) (v : Value) (style : List ℕ) where
       here : section (xs ++ named_by xs n l.expr) ≡ []
       here = stays name v style xs n l.expr at_root (has_pair ls) has
 
-      next : List Named
-      next = xs ++ named_by xs n l.expr
+      some : (ls : List Line) → has_pair ls ≡ true → 0 < lines_in (units_from (xs ++ named_by xs n l.expr) (n + 1) ls)
+      some [] has = absurd (true≢false (sym has))
+      some (m ∷ ms) has = some_lines (xs ++ named_by xs n l.expr) (n + 1) m ms
 
       by : (b : Bool) → has_pair ls ≡ b
           → (has_pair ls ≡ true → Well (units_from (xs ++ named_by xs n l.expr) (n + 1) ls) (units_from (xs ++ named_by xs n l.expr) (n + 1) (insert_behind name v style ls)) (newlines ls) (newlines (insert_behind name v style ls)))
           → Well (units_from xs n (l ∷ ls)) (units_from xs n (cond b (l ∷ insert_behind name v style ls) (line_behind name v style l ls))) (newlines (l ∷ ls)) (newlines (cond b (l ∷ insert_behind name v style ls) (line_behind name v style l ls)))
-      by true is more = put_behind (line_units xs l.expr) _ block _ (newlines ls) (newlines (insert_behind name v style ls)) l.newline.text (line_lines xs l.expr) (more is)
-      by false is more = put_line xs n l ls here
+      by true is more = put_behind (line_units xs l.expr) _ block _ (newlines ls) (newlines (insert_behind name v style ls)) l.newline.text
+          (line_lines xs l.expr) (some ls is) (more is)
+      by false is more = put_line xs n l ls has is here
 
   pub put_lines : (lines : List Line) → Well (units lines) (units (insert_lines name v style lines)) (newlines lines) (newlines (insert_lines name v style lines))
   put_lines lines = by (has_pair lines) refl

@@ -22,7 +22,7 @@ use Rattle.toml_editor.proofs.written.WayFits.{Fits}
 
 -- ---- what is covered
 
-le_or : (a b : ℕ) → (a ≤ b) ⊎ (b < a)
+pub le_or : (a b : ℕ) → (a ≤ b) ⊎ (b < a)
 le_or a b = by (leb a b) refl
   where
     by : (t : Bool) → leb a b ≡ t → (a ≤ b) ⊎ (b < a)
@@ -44,7 +44,7 @@ second_or (p ∷ ps) k = by (equal_or p.1 k) (second_or ps k)
     by (inr not) (inl later) = inl (inr later)
     by (inr not) (inr none) = inr (λ h. elim h [ inl here ↦ not here | inr later ↦ none later ])
 
-lies_or : (us : List TextUnit) (j k : ℕ) → LiesInside us j k ⊎ ¬ LiesInside us j k
+pub lies_or : (us : List TextUnit) (j k : ℕ) → LiesInside us j k ⊎ ¬ LiesInside us j k
 lies_or us j k = by (slice_get us j) refl (slice_get us k) refl
   where
     same : (o : Option TextUnit) (x y : TextUnit) → o ≡ Some x → o ≡ Some y → x ≡ y
@@ -105,7 +105,7 @@ added (new w ∷ s) = w ∷ added s
 abbrev pub comments : List TextUnit → List TextUnit
 comments = filter (λ (u : TextUnit). is_comment u.kind)
 
-times_cons : (t x : List ℕ) (ts : List (List ℕ)) → times t (x ∷ ts) ≡ cond (bytes_eq t x) 1 0 + times t ts
+pub times_cons : (t x : List ℕ) (ts : List (List ℕ)) → times t (x ∷ ts) ≡ cond (bytes_eq t x) 1 0 + times t ts
 times_cons t x ts = sum_by-cons (λ y. cond (bytes_eq t y) 1 0) x ts
 
 written_seen : (cs : List Change) (written : List (List (List ℕ))) (x w : TextUnit) → seen x ≡ seen w → IsWritten cs written w → IsWritten cs written x

@@ -44,7 +44,7 @@ module _ (cs : List Change) (written : List (List (List ℕ))) (before after : L
     pub lost : is_here cs line u ≡ false → (w.kind ≡ kinds.Line → At w.address (IsOwed cs)) × (is_comment w.kind ≡ false)
 
   pub record IsAsked (b : ℕ) (w : TextUnit) : Type 0 where
-    pub line : w.kind ≡ kinds.Line → At w.address (IsOwed cs) ⊎ ((b + 1 ≡ length after) × (w.piece.text ≡ []))
+    pub line : w.kind ≡ kinds.Line → At w.address (IsOwed cs) ⊎ ((b + 1 ≡ length after) × (w.piece.text ≡ []) × ¬ (cs ≡ []))
     pub comment : is_comment w.kind ≡ true → (w.kind ≡ kinds.InnerComment) × IsWritten cs written w
 
   abbrev pub Fits : Option Site → ℕ → ℕ → List Step → Type 0
@@ -141,11 +141,17 @@ module _ (cs : List Change) (written : List (List (List ℕ))) (d e : Doc) where
   asked_more : (q : ℕ × ℕ) (ps : List (ℕ × ℕ)) (k : ℕ) (w : TextUnit) → Asked ps k w → Asked (q ∷ ps) k w
   asked_more q ps k w is line = elim (is line) [ inl second ↦ inl (inr second) | inr other ↦ inr other ]
 
-  asked_here : (k b : ℕ) (x : TextUnit) (w : TextUnit) → ¬ (cs ≡ []) → line_number ws k ≡ b → seen x ≡ seen w
-      → At w.address (IsOwed cs) ⊎ ((b + 1 ≡ length (newlines e.lines)) × (w.piece.text ≡ [])) → At x.address (IsOwed cs) ⊎ IsEmptyEnd cs e k x
-  asked_here k b x w some count same (inl owed) = inl (subst (λ a. At a (IsOwed cs)) (sym (ap (λ (y : Seen). y.address) same)) owed)
-  asked_here k b x w some count same (inr last) =
-      inr (ap (λ n. n + 1) count ∙ last.0 ∙ length-map e.lines (λ (l : Line). l.newline.text), ap (λ (y : Seen). y.text) same ∙ last.1, some)
+  asked_here : (k b : ℕ) (x : TextUnit) (w : TextUnit) → line_number ws k ≡ b → seen x ≡ seen w
+      → At w.address (IsOwed cs) ⊎ ((b + 1 ≡ length (newlines e.lines)) × (w.piece.text ≡ []) × ¬ (cs ≡ [])) → At x.address (IsOwed cs)
+      ⊎ IsEmptyEnd cs e k x
+  asked_here k b x w count same (inl owed) = inl (subst (λ a. At a (IsOwed cs)) (sym (ap (λ (y : Seen). y.address) same)) owed)
+  asked_here k b x w count same (inr last) =
+      inr (
+        ap (λ n. n + 1) count ∙ last.0 ∙ length-map e.lines (λ (l : Line). l.newline.text),
+        ap (λ (y : Seen). y.text) same
+            ∙ last.1,
+        last.2,
+      )
 
   got_here : (k b : ℕ) (x w : TextUnit) (rest : List Seen) → Stands seen_kind (map seen ws) k b (seen w ∷ rest) → slice_get ws (k + 0) ≡ Some x → seen x ≡ seen w
   got_here k b x w rest p is =
@@ -154,10 +160,11 @@ module _ (cs : List Change) (written : List (List (List ℕ))) (d e : Doc) where
       let e : got.0 ≡ x = cc in
       ap seen (sym e) ∙ got.2
 
-  lines_asked : (s : List Step) (line : Option Site) (i k a b : ℕ) → ¬ (cs ≡ []) → Place i k a b s → Fit line a b s → (m : ℕ) (x : TextUnit) → m < length (news s) → slice_get ws (k + m) ≡ Some x
+  lines_asked : (s : List Step) (line : Option Site) (i k a b : ℕ) → Place i k a b s → Fit line a b s → (m : ℕ) (x : TextUnit)
+      → m < length (news s) → slice_get ws (k + m) ≡ Some x
       → Asked (pairs cs line i k s) (k + m) x
-  lines_asked [] line i k a b some p fit m x low is = let e : ⊥ = omega (arith, low) in absurd e
-  lines_asked (both u w ∷ s) line i k a b some p fit zero x low is = by (is_here cs line u) refl
+  lines_asked [] line i k a b p fit m x low is = let e : ⊥ = omega (arith, low) in absurd e
+  lines_asked (both u w ∷ s) line i k a b p fit zero x low is = by (is_here cs line u) refl
     where
       same : seen x ≡ seen w
       same = got_here k b x w (map seen (news s)) p.new is
@@ -166,27 +173,32 @@ module _ (cs : List Change) (written : List (List (List ℕ))) (d e : Doc) where
       by true is is_line = inl (inl (omega arith))
       by false is is_line =
           inr (inl (subst (λ a. At a (IsOwed cs)) (sym (ap (λ (y : Seen). y.address) same)) ((fit.0.lost is).0 (sym (ap seen_kind same) ∙ is_line))))
-  lines_asked (both u w ∷ s) line i k a b some p fit (suc m) x low is =
+  lines_asked (both u w ∷ s) line i k a b p fit (suc m) x low is =
       by (is_here cs line u)
       (subst (λ n. Asked (pairs cs (next_line line (site u)) (i + 1) (k + 1) s) n x) (let e : (k + 1) + m ≡ k + suc m = omega arith in e)
-      (lines_asked s (next_line line (site u)) (i + 1) (k + 1) (a + one_line u.kind) (b + one_line w.kind) some (on_both i k a b u w s p) fit.1 m x (omega (arith, low)) (ap (slice_get ws) (let e : (k + 1) + m ≡ k + suc m = omega arith in e) ∙ is)))
+      (lines_asked s (next_line line (site u)) (i + 1) (k + 1) (a + one_line u.kind) (b + one_line w.kind)
+      (on_both i k a b u w s p) fit.1 m x (omega (arith, low))
+      (ap (slice_get ws) (let e : (k + 1) + m ≡ k + suc m = omega arith in e) ∙ is)))
     where
       by : (t : Bool) → Asked (pairs cs (next_line line (site u)) (i + 1) (k + 1) s) (k + suc m) x
           → Asked (cond t ((i, k) ∷ pairs cs (next_line line (site u)) (i + 1) (k + 1) s) (pairs cs (next_line line (site u)) (i + 1) (k + 1) s)) (k + suc m) x
       by true more = asked_more (i, k) (pairs cs (next_line line (site u)) (i + 1) (k + 1) s) (k + suc m) x more
       by false more = more
-  lines_asked (old u ∷ s) line i k a b some p fit m x low is = lines_asked s (next_line line (site u)) (i + 1) k (a + one_line u.kind) b some (on_old i k a b u s p) fit.1 m x low is
-  lines_asked (new w ∷ s) line i k a b some p fit zero x low is =
+  lines_asked (old u ∷ s) line i k a b p fit m x low is =
+      lines_asked s (next_line line (site u)) (i + 1) k (a + one_line u.kind) b (on_old i k a b u s p) fit.1 m x low is
+  lines_asked (new w ∷ s) line i k a b p fit zero x low is =
       let same = got_here k b x w (map seen (news s)) p.new is in
       let count : line_number ws (k + 0) ≡ b = ap (line_number ws) (let e : k + 0 ≡ k = omega arith in e) ∙ sym (count_map ws k) ∙ p.new.lines in
-      λ is_line. inr (asked_here (k + 0) b x w some count same (fit.0.line (sym (ap seen_kind same) ∙ is_line)))
-  lines_asked (new w ∷ s) line i k a b some p fit (suc m) x low is =
+      λ is_line. inr (asked_here (k + 0) b x w count same (fit.0.line (sym (ap seen_kind same) ∙ is_line)))
+  lines_asked (new w ∷ s) line i k a b p fit (suc m) x low is =
       subst (λ n. Asked (pairs cs line i (k + 1) s) n x) (let e : (k + 1) + m ≡ k + suc m = omega arith in e)
-      (lines_asked s line i (k + 1) a (b + one_line w.kind) some (on_new i k a b w s p) fit.1 m x (omega (arith, low)) (ap (slice_get ws) (let e : (k + 1) + m ≡ k + suc m = omega arith in e) ∙ is))
+      (lines_asked s line i (k + 1) a (b + one_line w.kind) (on_new i k a b w s p) fit.1 m x (omega (arith, low))
+      (ap (slice_get ws) (let e : (k + 1) + m ≡ k + suc m = omega arith in e) ∙ is))
 
-  pub no_lines_added : (s : List Step) → ¬ (cs ≡ []) → Place 0 0 0 0 s → map seen ws ≡ map seen (news s) → Fit None 0 0 s → NoLinesAdded cs e (pairs cs None 0 0 s)
-  no_lines_added s some p is fit k w at line =
+  pub no_lines_added : (s : List Step) → Place 0 0 0 0 s → map seen ws ≡ map seen (news s) → Fit None 0 0 s
+      → NoLinesAdded cs e (pairs cs None 0 0 s)
+  no_lines_added s p is fit k w at line =
       let low : k < length (news s) = omega (arith, slice_get_within ws k w at, sym (length-map ws seen) ∙ ap length is ∙ length-map (news s) seen) in
       let zero_in : k ≡ 0 + k = omega arith in
       subst (λ n. IsSecond (pairs cs None 0 0 s) n ⊎ At w.address (IsOwed cs) ⊎ IsEmptyEnd cs e n w) (sym zero_in)
-      (lines_asked s None 0 0 0 0 some p fit k w low (ap (slice_get ws) (sym zero_in) ∙ at) line)
+      (lines_asked s None 0 0 0 0 p fit k w low (ap (slice_get ws) (sym zero_in) ∙ at) line)

@@ -37,14 +37,14 @@ module _ (p : Address) where
   held [] = 0
   held (u ∷ us) = one_held u + held us
 
-  abbrev one_there : Named → ℕ
+  abbrev pub one_there : Named → ℕ
   one_there m = cond (same_address m.address p) 1 0
 
-  abbrev there : List Named → ℕ
+  abbrev pub there : List Named → ℕ
   there [] = 0
   there (m ∷ ms) = one_there m + there ms
 
-  held_append : (us vs : List TextUnit) → held (us ++ vs) ≡ held us + held vs
+  pub held_append : (us vs : List TextUnit) → held (us ++ vs) ≡ held us + held vs
   held_append [] vs = omega arith
   held_append (u ∷ us) vs = let more = held_append us vs in omega (arith, more)
 
@@ -56,7 +56,7 @@ module _ (p : Address) where
   comment_held kind none at None = refl
   comment_held kind none at (Some piece) = let e : ◌≡◌ {A = ℕ} (cond (has_value kind None && stands_there at) 1 0) 0 = ap (λ b. cond {A = ℕ} (b && stands_there at) 1 0) none in omega (arith, e)
 
-  gap_held : (ls : List GapLine) (at : Address) → held (gap_line_units at ls) ≡ 0
+  pub gap_held : (ls : List GapLine) (at : Address) → held (gap_line_units at ls) ≡ 0
   gap_held [] at = refl
   gap_held (l ∷ ls) at =
       let first = comment_held kinds.InnerComment refl (Some at) l.blank.comment in
@@ -64,7 +64,8 @@ module _ (p : Address) where
       let both = held_append (comment_units kinds.InnerComment (Some at) l.blank.comment) (gap_line_units at ls) in
       omega (arith, first, more, both)
 
-  between : (g h : Gap) (at : Address) (us vs : List TextUnit) → held (gap_units at g ++ (us ++ (gap_units at h ++ vs))) ≡ held us + held vs
+  pub between : (g h : Gap) (at : Address) (us vs : List TextUnit)
+      → held (gap_units at g ++ (us ++ (gap_units at h ++ vs))) ≡ held us + held vs
   between g h at us vs =
       let a = held_append (gap_units at g) (us ++ (gap_units at h ++ vs)) in
       let b = held_append us (gap_units at h ++ vs) in
@@ -73,7 +74,7 @@ module _ (p : Address) where
       let e = gap_held h.lines at in
       omega (arith, a, b, c, d, e)
 
-  at_end : (g h : Gap) (at : Address) (us : List TextUnit) → held (gap_units at g ++ (us ++ gap_units at h)) ≡ held us
+  pub at_end : (g h : Gap) (at : Address) (us : List TextUnit) → held (gap_units at g ++ (us ++ gap_units at h)) ≡ held us
   at_end g h at us =
       let a = held_append (gap_units at g) (us ++ gap_units at h) in
       let b = held_append us (gap_units at h) in
@@ -87,7 +88,8 @@ module _ (p : Address) where
   abbrev pair : Address → Assign → Value → List TextUnit
   pair at a v = pair_unit at (record { assign = a; value = v }) ∷ inside (below at (key_names a.key)) v
 
-  pair_held : (line : ℕ) (a : Assign) (v : Value) (at : Address) → held (inside (below at (key_names a.key)) v) ≤ there (mentions.inside line (below at (key_names a.key)) v)
+  pub pair_held : (line : ℕ) (a : Assign) (v : Value) (at : Address)
+      → held (inside (below at (key_names a.key)) v) ≤ there (mentions.inside line (below at (key_names a.key)) v)
       → held (pair at a v) ≤ there (pair_named line at a v)
   pair_held line a v at within =
       let to = below at (key_names a.key) in
@@ -100,7 +102,8 @@ module _ (p : Address) where
     value_held (Array whole items) line at = items_held items line at 0
     value_held (Inline whole pairs) line at = pairs_held pairs line at
 
-    items_held : (items : Items) (line : ℕ) (at : Address) (i : ℕ) → held (elements at i items) ≤ there (mentions.elements line at i items)
+    pub items_held : (items : Items) (line : ℕ) (at : Address) (i : ℕ)
+        → held (elements at i items) ≤ there (mentions.elements line at i items)
     items_held (Close g) line at i = let e = gap_held g.lines at in omega (arith, e)
     items_held (Last g v h) line at i = let e = at_end g h at (elem at i v) in let w = value_held v line (element at i) in omega (arith, e, w)
     items_held (More g v h is) line at i =
@@ -110,7 +113,7 @@ module _ (p : Address) where
         let both = there_append (mentions.inside line (element at i) v) (mentions.elements line at (i + 1) is) in
         omega (arith, e, w, more, both)
 
-    pairs_held : (pairs : Pairs) (line : ℕ) (at : Address) → held (members at pairs) ≤ there (mentions.members line at pairs)
+    pub pairs_held : (pairs : Pairs) (line : ℕ) (at : Address) → held (members at pairs) ≤ there (mentions.members line at pairs)
     pairs_held (ClosePairs g) line at = let e = gap_held g.lines at in omega (arith, e)
     pairs_held (LastPair g a v h) line at =
         let e = at_end g h at (pair at a v) in

@@ -1,5 +1,5 @@
 -- The way of an `insert` at the root.
-use Rattle.std.proofs.Common.{◌≡◌, inl, inr, ◌<◌, ◌+◌, ℕ, suc, Option, Some, None, List, [], ◌∷◌, ◌++◌, map, refl, sym, ap, ap₂, ◌∙◌, subst, true≢false, arith, append-nil}
+use Rattle.std.proofs.Common.{◌≡◌, ◌⊎◌, inl, inr, ◌<◌, ◌+◌, ℕ, suc, Option, Some, None, List, [], ◌∷◌, ◌++◌, map, length, refl, sym, ap, ap₂, ◌∙◌, subst, subst₂, true≢false, arith, append-nil}
 use Rattle.std.specs.Prelude.{slice_get, option_and_then}
 use Rattle.toml_tree.specs.Bare.{fresh}
 use Rattle.toml_tree.specs.Spells.{EachIs}
@@ -16,13 +16,17 @@ use Rattle.toml_checker.specs.Owed.{IsOwed}
 use Rattle.toml_checker.specs.Plain.{Site}
 use Rattle.toml_editor.specs.Inserting.{insert_lines}
 use Rattle.toml_editor.specs.RenamedUnits.{GoTogether}
-use Rattle.toml_editor.specs.UnitBlocks.{root_line, pair_text}
+use Rattle.toml_editor.specs.UnitBlocks.{BeginWithLine, root_line, pair_text}
 use Rattle.toml_editor.proofs.Each.{each_append}
-use Rattle.toml_editor.proofs.written.Way.{new, olds, news}
+use Rattle.toml_editor.proofs.written.Way.{both, new, olds, news, one_line}
 use Rattle.toml_editor.proofs.written.WayBlock.{line_after, olds_append, news_append, added_append, fits_append, new_fits, new_olds, new_news, new_adds, lines_append, inside_lines, same_comments, inside_asked}
 use Rattle.toml_editor.proofs.written.WayComments.{added, comments}
 use Rattle.toml_editor.proofs.written.WayFits.{Matches, IsAsked, SameNewline, newlines}
 use Rattle.toml_editor.proofs.written.WayRenamed.{zip_adds}
+use Rattle.toml_editor.proofs.written.WayKeeps.{ComesBlank, Keeps, next_after}
+use Rattle.toml_editor.proofs.written.WayKept.{IsFixed, insert_header, same_way, same_keeps, same_olds, same_news, new_keeps, inner_blank, keeps_append, count_lines}
+use Rattle.toml_editor.proofs.written.UnitsGone.{value_in}
+use Rattle.toml_names.specs.mentions.Mentions.{root}
 use Rattle.toml_editor.proofs.written.WayWhole.{HasWay, as_many}
 use Rattle.toml_editor.proofs.written.WayZip.{IsNear, lost_line, no_comment_lost, carried_to, zip, lines_in, zip_olds, zip_news, zip_fits}
 use Rattle.toml_editor.proofs.written.UnitsPut.{IsPutWell, put_lines}
@@ -73,7 +77,76 @@ module _ (name text : List ℕ) (v : Value) where
     each_append _ (inside p v) [] (inside_asked c v before after) tt,
   )
 
-  pub insert_way : (style : List ℕ) (lines : List Line) → HasWay c (ts ∷ []) lines (insert_lines name v style lines)
+  all_fixed : (us : List TextUnit) → EachIs (IsFixed c) us
+  all_fixed [] = tt
+  all_fixed (u ∷ us) = ((stays u.address, insert_header p text u u), all_fixed us)
+    where
+      stays : (o : Option Address) → o ≡ option_and_then (carry c) o
+      stays None = refl
+      stays (Some x) = refl
+
+  block_lines : lines_in block ≡ 1
+  block_lines = let none = lines_append (inside p v) [] in let zero = inside_lines p v in omega (arith, none, zero)
+
+  some_lines : (us : List TextUnit) → BeginWithLine us → (us ≡ []) ⊎ (0 < lines_in us)
+  some_lines [] line = inl refl
+  some_lines (u ∷ us) line = let e : one_line u.kind ≡ 1 = ap one_line line in inr (omega (arith, e))
+
+  put_keeps : {before after : List (List ℕ)} {us ws : List TextUnit} (well : IsPutWell us block ws before after)
+      → lines_in us ≡ length before → lines_in ws ≡ length after
+      → Keeps (c ∷ []) before after None None 0 0 (zip well.put.front well.put.front ++ (map new block ++ zip well.put.back well.put.back))
+  put_keeps {before} {after} well old_count new_count =
+      let front = well.put.front in
+      let back = well.put.back in
+      let n = lines_in front in
+      let olds_head = ap lines_in (same_olds front) in
+      let news_head = ap lines_in (same_news front) in
+      let olds_block = ap lines_in (new_olds block) in
+      let news_block = ap lines_in (new_news block) in
+      let old_total : n + lines_in back ≡ length before = sym (lines_append front back) ∙ ap lines_in (sym well.put.before) ∙ old_count in
+      let new_total : n + (1 + lines_in back) ≡ length after =
+      (let a = lines_append front (block ++ back) in let b = lines_append block back in let d = ap lines_in well.put.after in omega
+      (arith, a, b, d, block_lines, new_count)) in
+      subst₂ (λ x y. Keeps (c ∷ []) before after None None 0 0 (x ++ (map new block ++ y))) (sym (zip_same front)) (sym (zip_same back))
+      (keeps_append c before after (same_way front) (map new block ++ same_way back) None None 0 0
+      (same_keeps c before after front (all_fixed front) None None (inl refl) 0 0
+      (λ x low. record {
+        newline = let e : x ≡ 0 + x = omega arith in subst (λ k. (slice_get before k ≡ slice_get after k) ⊎ (k + 1 ≡ length before)) e
+            (well.front_ends x low);
+        last = λ h. let f : ⊥ = omega (arith, low, h, new_total) in absurd f;
+      })
+      (elim (some_lines back well.put.next) [
+        | inl none ↦ inr (well.full none, omega (arith, old_total))
+        | inr some ↦ inl (λ x low h. let f : ⊥ = omega (arith, some, low, h, old_total) in absurd f)
+      ]))
+      (keeps_append c before after (map new block) (same_way back) (line_after None (same_way front)) (next_after None (same_way front))
+      (0 + lines_in (olds (same_way front))) (0 + lines_in (news (same_way front)))
+      (new_keeps c before after block block_blank (line_after None (same_way front)) (next_after None (same_way front))
+      (0 + lines_in (olds (same_way front))) (0 + lines_in (news (same_way front))))
+      (subst₂ (λ x y. Keeps (c ∷ []) before after (line_after (line_after None (same_way front)) (map new block))
+      (next_after (next_after None (same_way front)) (map new block)) x y (same_way back))
+      (let e : n ≡ (0 + lines_in (olds (same_way front))) + lines_in (olds (map new block)) = omega (arith, olds_head, olds_block) in e)
+      (let e : n + 1 ≡ (0 + lines_in (news (same_way front))) + lines_in (news (map new block)) = omega
+      (arith, news_head, news_block, block_lines) in e)
+      (same_keeps c before after back (all_fixed back) (line_after (line_after None (same_way front)) (map new block))
+      (next_after (next_after None (same_way front)) (map new block)) (inr well.put.next) n (n + 1)
+      (λ x low. record {
+        newline = inl (well.back_ends x ∙ ap (slice_get after) (let e : n + suc x ≡ (n + 1) + x = omega arith in e));
+        last = λ h. omega (arith, h, old_total, new_total);
+      })
+      (inl (λ x low h. omega (arith, h, old_total, new_total)))))))
+    where
+      zip_same : (us : List TextUnit) → zip us us ≡ same_way us
+      zip_same [] = refl
+      zip_same (u ∷ us) = ap (λ l. both u u ∷ l) (zip_same us)
+
+      block_blank : EachIs (ComesBlank (c ∷ []) before after) block
+      block_blank = (
+        (λ is none. cc),
+        each_append _ (inside p v) [] (inner_blank c before after p (inside p v) (value_in p v p (inr refl))) tt,
+      )
+
+  pub insert_way : (style : List ℕ) (lines : List Line) → HasWay (c ∷ []) (ts ∷ []) lines (insert_lines name v style lines)
   insert_way style lines =
       let well = put_lines name v style lines in
       let front = well.put.front in
@@ -86,7 +159,6 @@ module _ (name text : List ℕ) (v : Value) where
       let news_head = zip_news (λ u w. u ≡ w) front front (all_same front) in
       let olds_tail = zip_olds (λ u w. u ≡ w) back back (all_same back) in
       let news_tail = zip_news (λ u w. u ≡ w) back back (all_same back) in
-      let block_lines : lines_in block ≡ 1 = (let none = lines_append (inside p v) [] in let zero = inside_lines p v in omega (arith, none, zero)) in
       record {
         way = head ++ (map new block ++ tail);
         olds_are = olds_append head (map new block ++ tail) ∙ ap₂ (λ x y. x ++ y) olds_head (olds_append (map new block) tail ∙ ap₂ (λ x y. x ++ y) (new_olds block) olds_tail) ∙ sym well.put.before;
@@ -103,6 +175,7 @@ module _ (name text : List ℕ) (v : Value) where
             ∙ well.back_ends x
             ∙ ap (slice_get after) (let e = ap lines_in news_head in let f = ap lines_in (new_news block) in
             let g : lines_in front + suc x ≡ ((0 + lines_in (news head)) + lines_in (news (map new block))) + x = omega (arith, e, f, block_lines) in g)))));
+        keeps = put_keeps well (count_lines lines (root ∷ []) 0) (count_lines (insert_lines name v style lines) (root ∷ []) 0);
         comments_few = λ t. as_many t (texts (comments (added (head ++ (map new block ++ tail))))) (ts ++ []) (
             ap (λ us. texts (comments us)) (added_append head (map new block ++ tail) ∙ ap₂ (λ x y. x ++ y) (zip_adds front front) (added_append (map new block) tail ∙ ap₂ (λ x y. x ++ y) (new_adds block) (zip_adds back back)) ∙ append-nil block)
             ∙ ap (λ us. texts (comments us)) (append-nil (inside p v)) ∙ same_comments p v ∙ sym (append-nil ts));

@@ -28,6 +28,8 @@ use Rattle.toml_editor.proofs.written.Moved.{moved_root}
 use Rattle.toml_editor.proofs.written.RenameKept.{renamed_moved}
 use Rattle.toml_editor.proofs.written.WayComments.{added, comments}
 use Rattle.toml_editor.proofs.written.WayFits.{Matches, SameNewline, newlines}
+use Rattle.toml_editor.proofs.written.WayKept.{HeaderIsOwed, renamed_header, zip_keeps}
+use Rattle.toml_editor.proofs.written.WayOwed.{IsOwedBelow}
 use Rattle.toml_editor.proofs.written.WayWhole.{HasWay, as_many}
 use Rattle.toml_editor.proofs.written.WayZip.{unchanged, IsNear, lost_line, no_comment_lost, carried_to, zip, zip_olds, zip_news, zip_fits}
 use Rattle.toml_editor.proofs.written.UnitsRenamed.{rename_units}
@@ -90,6 +92,19 @@ module _ (q : Address) (n to : List ℕ) where
         inl (subst (λ x. IsAtOrAbove x (child q to)) (sym (moved_above q a above)) (above_new q a above)),
       )
 
+  header : (u w : TextUnit) → IsCarried c u w → HeaderIsOwed c u w
+  header u w is line none at gone =
+      let h = renamed_header p to at u line none gone in
+      subst (λ o. At o (IsOwedBelow (c ∷ []))) (sym (is.address ∙ ap (option_and_then (carry c)) h.1 ∙ renamed_moved q n to h.0))
+      (inl (
+        child q to,
+        child q to,
+        ap (option_map (λ (w : Address × AddressStep). child w.0 to))
+            (parted_at q (Name n)),
+        refl,
+        (h.2.0, ap (moved q n to) h.2.1 ∙ moved_below q h.2.0),
+      ))
+
   matches : (before after : List (List ℕ)) (line : Option Site) (a b : ℕ) (u w : TextUnit) → IsCarried c u w → (u.kind ≡ kinds.Line → SameNewline (c ∷ []) ([] ∷ []) before after a b)
       → Matches (c ∷ []) ([] ∷ []) before after line a b u w
   matches before after line a b u w is same = record {
@@ -107,7 +122,8 @@ module _ (q : Address) (n to : List ℕ) where
     );
   }
 
-  pub rename_way : (lines : List Line) → AreLines lines → ¬ IsNamed (named lines) (child q to) → KeepsRules (named lines) → HasWay c ([] ∷ []) lines (rename_lines p to lines)
+  pub rename_way : (lines : List Line) → AreLines lines → ¬ IsNamed (named lines) (child q to) → KeepsRules (named lines)
+      → HasWay (c ∷ []) ([] ∷ []) lines (rename_lines p to lines)
   rename_way lines is free keeps =
       let us = units lines in
       let ws = units (rename_lines p to lines) in
@@ -119,5 +135,6 @@ module _ (q : Address) (n to : List ℕ) where
         news_are = zip_news (IsCarried c) us ws together;
         fits = zip_fits (c ∷ []) ([] ∷ []) (newlines lines) (newlines (rename_lines p to lines)) (IsCarried c) (matches (newlines lines) (newlines (rename_lines p to lines))) us ws together None 0 0
             (λ x low. inl (ap (λ ns. slice_get ns (0 + x)) (sym ends)));
+        keeps = zip_keeps c (newlines lines) (newlines (rename_lines p to lines)) (sym ends) header us ws together None None refl 0;
         comments_few = λ t. as_many t (texts (comments (added (zip us ws)))) [] (ap (λ xs. texts (comments xs)) (zip_adds us ws));
       }

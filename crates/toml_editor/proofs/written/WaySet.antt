@@ -32,12 +32,15 @@ use Rattle.toml_editor.specs.Written.{HasValue}
 use Rattle.toml_editor.proofs.written.Clear.{self}
 use Rattle.toml_editor.proofs.written.Pairwise.{Alone, pairs_of_all}
 use Rattle.toml_editor.proofs.written.SetKept.{values_at}
+use Rattle.toml_editor.proofs.written.UnitsGone.{value_in}
 use Rattle.toml_editor.proofs.written.UnitsSet.{set_units}
 use Rattle.toml_editor.proofs.written.Way.{Step, both, old, new, olds, news, one_line, is_here}
 use Rattle.toml_editor.proofs.written.WayBlock.{line_after, olds_append, news_append, added_append, fits_append, new_fits, new_olds, new_news, new_adds, inside_lines, same_comments, inside_asked}
 use Rattle.toml_editor.proofs.written.WayComments.{added, comments}
 use Rattle.toml_editor.proofs.written.WayFits.{Matches, Fits, newlines}
 use Rattle.toml_editor.proofs.written.WayHeld.{has_value, stands_there, one_held, held, lines_held, one_there_only}
+use Rattle.toml_editor.proofs.written.WayKeeps.{moved_site, Keeps, line_goes, site_goes, next_after}
+use Rattle.toml_editor.proofs.written.WayKept.{HeaderIsOwed, header_named, carried_stays, new_keeps, inner_blank, inner_next, keeps_append}
 use Rattle.toml_editor.proofs.written.WayWhole.{HasWay, as_many}
 use Rattle.toml_editor.proofs.written.WayZip.{unchanged, IsNear, lost_line, carried_to, lines_in}
 
@@ -53,6 +56,15 @@ and_false false is = refl
 below_goes : (p : Address) (s : AddressStep) (rest : Address) → carry_below p emptied (p ++ s ∷ rest) ≡ None
 below_goes [] s rest = refl
 below_goes (t ∷ p) s rest = cond-true _ _ _ (same_step-self t) ∙ ap (option_map (λ r. t ∷ r)) (below_goes p s rest)
+
+-- the place stays
+setting_here : (p : Address) → option_and_then (setting p) (Some p) ≡ Some p
+setting_here [] = refl
+setting_here (s ∷ p) = here (s ∷ p)
+  where
+    here : (p : Address) → carry_below p emptied p ≡ Some p
+    here [] = refl
+    here (t ∷ p) = cond-true _ _ _ (same_step-self t) ∙ ap (option_map (λ r. t ∷ r)) (here p)
 
 not_below : (p a : Address) → setting p a ≡ Some a → ¬ (p ≡ []) → ¬ IsAbove p a
 not_below [] a is some above = some refl
@@ -212,13 +224,30 @@ module _ (p : Address) (some : ¬ (p ≡ [])) (text : List ℕ) (v : Value) (bef
     );
   }
 
+  -- a line of a header stays
+  stays_header : (u w : TextUnit) → Stays u w → HeaderIsOwed c u w
+  stays_header u w s is none line gone = let h = header_named c line u is none gone in absurd (by h.0 h.1 (side p h.0) refl h.2)
+    where
+      by : (a : Address) → u.address ≡ Some a → (t : Side) → side p a ≡ t → is_named parts.Line c None t ≡ true → ⊥
+      by a at sides.Above lies is = far u w s a at ((sides_are_right p a).above.0 lies)
+      by a at sides.At lies named = s.not_it (at ∙ ap Some (sym ((sides_are_right p a).at.0 lies)), ap is_comment is)
+      by a at sides.Apart lies is = true≢false (sym is)
+      by a at sides.Below lies is = true≢false (sym is)
+
   -- ---- the way
+
+  abbrev Keep : Option Site → Option Site → ℕ → ℕ → List Step → Type 0
+  Keep = Keeps (c ∷ []) before after
+
+  abbrev Goes : Option Site → Option Site → Type 0
+  Goes line next = next ≡ option_map (moved_site (c ∷ [])) line
 
   record SetWay (us ws : List TextUnit) : Type 0 where
     way : List Step
     olds_are : olds way ≡ us
     news_are : news way ≡ ws
     fits : (line : Option Site) → IsHome line → (a : ℕ) → Fit line a a way
+    keeps : (line next : Option Site) → Goes line next → (a : ℕ) → Keep line next a a way
     none : held p us ≡ 0 → added way ≡ []
     few : held p us ≤ 1 → (t : List ℕ) → times t (texts (comments (added way))) ≤ times t ts
 
@@ -232,6 +261,10 @@ module _ (p : Address) (some : ¬ (p ≡ [])) (text : List ℕ) (v : Value) (bef
       subst₂ (λ (l : Option Site) (b : ℕ). Fit l b a m.way) (sym (ap (λ b. cond b (Some (site u)) line) (no_line u.kind lies.0)))
           (let e : ◌≡◌ {A = ℕ} (one_line u.kind) 0 = ap (λ b. cond {A = ℕ} b 1 0) (no_line u.kind lies.0) in let f : a ≡ a + one_line u.kind = omega (arith, e) in f) (m.fits line home a),
     );
+    keeps = λ line next home a.
+        subst₂ (λ (l : Option Site) (b : ℕ). Keep l next b a m.way) (sym (ap (λ b. cond b (Some (site u)) line) (no_line u.kind lies.0)))
+        (let e : ◌≡◌ {A = ℕ} (one_line u.kind) 0 = ap (λ b. cond {A = ℕ} b 1 0)
+        (no_line u.kind lies.0) in let f : a ≡ a + one_line u.kind = omega (arith, e) in f) (m.keeps line next home a);
     none = λ is. m.none (omega (arith, is));
     few = λ low t. m.few (omega (arith, low)) t;
   }
@@ -242,6 +275,14 @@ module _ (p : Address) (some : ¬ (p ≡ [])) (text : List ℕ) (v : Value) (bef
     olds_are = ap (λ l. u ∷ l) m.olds_are;
     news_are = ap (λ l. w ∷ l) m.news_are;
     fits = λ line home a. (stays_match line a u w home s, subst (λ k. Fit (next_line line (site u)) (a + one_line u.kind) (a + one_line k) m.way) (sym s.carried.kind) (m.fits (next_line line (site u)) (stays_home line u w home s) (a + one_line u.kind)));
+    keeps = λ line next home a.
+        let goes = site_goes c u w s.carried.kind s.carried.address s.carried.base in (
+          carried_stays c before after ends line next a u w goes home (stays_header u w s),
+          subst (λ k. Keep (next_line line (site u)) (next_line next (site w)) (a + one_line u.kind) (a + one_line k) m.way)
+              (sym s.carried.kind)
+              (m.keeps (next_line line (site u)) (next_line next (site w)) (line_goes (c ∷ []) line next u w goes (inl home))
+              (a + one_line u.kind)),
+        );
     none = λ is. m.none (omega (arith, is));
     few = λ low t. m.few (omega (arith, low)) t;
   }
@@ -275,6 +316,28 @@ module _ (p : Address) (some : ¬ (p ≡ [])) (text : List ℕ) (v : Value) (bef
               (let e = ap lines_in (new_news (inside p v)) in let z = inside_lines p v in let f : b ≡ b + lines_in (news block) = omega (arith, e, z) in f))
               (m.fits next (holds_home line u home holds is.keyed) b)))),
         );
+        keeps = λ line next home a.
+            let at = site_goes c u w is.kind
+            (is.address ∙ holds.0 ∙ sym (setting_here p) ∙ ap (option_and_then (carry c)) (sym holds.0)) is.base in
+            let behind = next_line line (site u) in
+            let then = next_line next (site w) in
+            let b = a + one_line u.kind in (
+              carried_stays c before after ends line next a u w at home
+                  (λ is_line none l gone. absurd (true≢false (sym (subst IsSome none (is.keyed is_line))))),
+              subst (λ k. Keep behind then b (a + one_line k) (block ++ m.way)) (sym is.kind)
+                  (keeps_append c before after block m.way behind then b b
+                  (new_keeps c before after (inside p v)
+                  (inner_blank c before after p (inside p v) (value_in p v p (inr refl))) behind then b b)
+                  (subst (λ l. Keep l (next_after then block) (b + lines_in (olds block)) (b + lines_in (news block)) m.way)
+                  (sym (new_line_after (inside p v) behind))
+                  (subst (λ l. Keep behind l (b + lines_in (olds block)) (b + lines_in (news block)) m.way)
+                  (sym (inner_next p (inside p v) (value_in p v p (inr refl)) then))
+                  (subst₂ (λ x y. Keep behind then x y m.way)
+                  (let e = ap lines_in (new_olds (inside p v)) in let f : b ≡ b + lines_in (olds block) = omega (arith, e) in f)
+                  (let e = ap lines_in (new_news (inside p v)) in let z = inside_lines p v in let f : b ≡ b + lines_in (news block) = omega
+                  (arith, e, z) in f)
+                  (m.keeps behind then (line_goes (c ∷ []) line next u w at (inl home)) b))))),
+            );
         none = λ is. absurd (let e : ⊥ = omega (arith, is, one) in e);
         few = λ low t.
             let rest = m.none (omega (arith, low, one)) in
@@ -287,14 +350,23 @@ module _ (p : Address) (some : ¬ (p ≡ [])) (text : List ℕ) (v : Value) (bef
       new_line_after (x ∷ xs) l = new_line_after xs l
 
   way_of : (us ws : List TextUnit) → AreMadeOf (IsSetTo p text v) us ws → SetWay us ws
-  way_of [] ws made = record { way = []; olds_are = refl; news_are = sym made; fits = λ line home a. tt; none = λ is. refl; few = λ low t. omega arith }
+  way_of [] ws made =
+      record {
+        way = [];
+        olds_are = refl;
+        news_are = sym made;
+        fits = λ line home a. tt;
+        keeps = λ line next home a. tt;
+        none = λ is. refl;
+        few = λ low t. omega arith;
+      }
   way_of (u ∷ us) ws (here, rest, inl (lies, gone), is, more) = subst (SetWay (u ∷ us)) (sym (is ∙ ap (λ l. l ++ rest) gone)) (goes u us rest lies (way_of us rest more))
   way_of (u ∷ us) ws (here, rest, inr (inl (holds, w, has, made)), is, more) = subst (SetWay (u ∷ us)) (sym (is ∙ ap (λ l. l ++ rest) made)) (changes u w us rest holds has (way_of us rest more))
-  way_of (u ∷ us) ws (here, rest, inr (inr (not_in, not_it, w, carried, same, made)), is, more) =
+  way_of (u ∷ us) ws (here, rest, inr (inr (not_in, not_it, w, carried, bytes, same, made)), is, more) =
       subst (SetWay (u ∷ us)) (sym (is ∙ ap (λ l. l ++ rest) made)) (stays u w us rest (record { not_in = not_in; not_it = not_it; carried = carried; same = same }) (way_of us rest more))
 
 pub set_way : (p : Address) (text : List ℕ) (v : Value) (lines : List Line) → ¬ (p ≡ []) → AreLines lines → IsValue v → HasValue lines p → KeepsRules (named lines)
-    → HasWay (set p text) (texts (comments (inside [] v)) ∷ []) lines (set_lines p v lines)
+    → HasWay (set p text ∷ []) (texts (comments (inside [] v)) ∷ []) lines (set_lines p v lines)
 set_way p text v lines some is formed at keeps =
     let ends = sym (set_newlines p v lines (root ∷ []) 0) in
     let m = way_of p some text v (newlines lines) (newlines (set_lines p v lines)) ends (units lines) (units (set_lines p v lines)) (set_units p text v lines some is formed at keeps) in
@@ -305,5 +377,6 @@ set_way p text v lines some is formed at keeps =
       olds_are = m.olds_are;
       news_are = m.news_are;
       fits = m.fits None refl 0;
+      keeps = m.keeps None None refl 0;
       comments_few = λ t. let a = m.few few t in let b = as_many t ts (ts ++ []) (sym (append-nil ts)) in omega (arith, a, b);
     }

@@ -5,7 +5,7 @@ use Rattle.toml_tree.specs.Spells.{EachIs, AreLines}
 use Rattle.toml_tree.specs.Tree.{Piece, Line}
 use Rattle.toml_names.specs.declared.model.address.Step.TheVariants.{Name}
 use Rattle.toml_names.specs.mentions.Clear.{IsClear}
-use Rattle.toml_names.specs.mentions.Mentions.{Named, named, named_by, root}
+use Rattle.toml_names.specs.mentions.Mentions.{named, root}
 use Rattle.toml_names.specs.mentions.Rules.{KeepsRules}
 use Rattle.toml_names.specs.model.Addresses.{Address, IsAbove}
 use Rattle.toml_edits.specs.Carry.{carry}
@@ -13,7 +13,7 @@ use Rattle.toml_edits.specs.Edits.{Change, remove}
 use Rattle.toml_units.specs.declared.unit.UnitKind.{UnitKind}
 use Rattle.toml_units.specs.declared.unit.UnitKind.TheVariants as kinds
 use Rattle.toml_units.specs.Places.{is_line}
-use Rattle.toml_units.specs.Units.{TextUnit, comment_units, inside, units_from, line_units, units}
+use Rattle.toml_units.specs.Units.{TextUnit, comment_units, inside, units}
 use Rattle.toml_checker.specs.declared.side.Side.{Side}
 use Rattle.toml_checker.specs.declared.side.Side.TheVariants as sides
 use Rattle.toml_checker.specs.declared.tables.Part.TheVariants as parts
@@ -30,39 +30,17 @@ use Rattle.toml_editor.specs.Written.{HasPair}
 use Rattle.toml_editor.proofs.Each.{each_front, each_back}
 use Rattle.toml_editor.proofs.written.SetKept.{clear_carried}
 use Rattle.toml_editor.proofs.written.UnitsGone.{value_in}
-use Rattle.toml_editor.proofs.written.UnitsPut.{line_lines}
 use Rattle.toml_editor.proofs.written.UnitsTaken.{AreTaken, lines_taken}
-use Rattle.toml_editor.proofs.written.Way.{Step, both, old, new, olds, news, one_line, is_here}
+use Rattle.toml_editor.proofs.written.Way.{Step, old, new, olds, news, one_line, is_here}
 use Rattle.toml_editor.proofs.written.WayBlock.{line_after, olds_append, news_append, added_append, fits_append, new_olds, new_news, new_adds, lines_append, inside_lines}
 use Rattle.toml_editor.proofs.written.WayComments.{added, comments}
 use Rattle.toml_editor.proofs.written.WayFits.{Matches, Fits, SameNewline, newlines}
+use Rattle.toml_editor.proofs.written.WayKeeps.{ComesBlank, Keeps, next_after}
+use Rattle.toml_editor.proofs.written.WayKept.{HeaderIsOwed, header_named, IsFixed, same_way, same_olds, same_news, same_adds, same_keeps, new_keeps, old_keeps, keeps_append, count_lines}
 use Rattle.toml_editor.proofs.written.WayWhole.{HasWay, as_many}
 use Rattle.toml_editor.proofs.written.WayZip.{IsNear, lost_line, carried_to, lines_in}
 
-count_lines : (ls : List Line) (xs : List Named) (n : ℕ) → lines_in (units_from xs n ls) ≡ length (newlines ls)
-count_lines [] xs n = refl
-count_lines (l ∷ ls) xs n =
-    let one = line_lines xs l.expr in
-    let more = count_lines ls (xs ++ named_by xs n l.expr) (n + 1) in
-    let both = lines_append (line_units xs l.expr) (units_from (xs ++ named_by xs n l.expr) (n + 1) ls) in
-    omega (arith, one, more, both)
-
 -- ---- units that go, and units that stay
-
-abbrev pub same_way : List TextUnit → List Step
-same_way = map (λ u. both u u)
-
-same_olds : (us : List TextUnit) → olds (same_way us) ≡ us
-same_olds [] = refl
-same_olds (u ∷ us) = ap (λ l. u ∷ l) (same_olds us)
-
-same_news : (us : List TextUnit) → news (same_way us) ≡ us
-same_news [] = refl
-same_news (u ∷ us) = ap (λ l. u ∷ l) (same_news us)
-
-same_adds : (us : List TextUnit) → added (same_way us) ≡ []
-same_adds [] = refl
-same_adds (u ∷ us) = same_adds us
 
 old_olds : (us : List TextUnit) → olds (map old us) ≡ us
 old_olds [] = refl
@@ -143,6 +121,10 @@ module _ (name : List ℕ) (before after : List (List ℕ)) where
       by kinds.InnerComment (Some a) base far (inl home) lost = absurd (true≢false (sym (ap₂ (λ x y. x && y) home (self_side a (far a refl) (side p a) refl)) ∙ lost))
       by kinds.InnerComment o base far (inr e) lost = cc
 
+  stays : (o : Option Address) → ((a : Address) → o ≡ Some a → IsClear p a) → o ≡ option_and_then (carry c) o
+  stays None far = refl
+  stays (Some x) far = sym (clear_carried p x (far x refl))
+
   matches : (line : Option Site) (a b : ℕ) (u : TextUnit) → IsFar u → IsHome line ⊎ (u.kind ≡ kinds.Line) → (u.kind ≡ kinds.Line → SameNewline (c ∷ []) ([] ∷ []) before after a b) → Matches (c ∷ []) ([] ∷ []) before after line a b u u
   matches line a b u far home same = record {
     kind = refl;
@@ -152,10 +134,6 @@ module _ (name : List ℕ) (before after : List (List ℕ)) where
       comment_kept line u far home gone,
     );
   }
-    where
-      stays : (o : Option Address) → ((a : Address) → o ≡ Some a → IsClear p a) → o ≡ option_and_then (carry c) o
-      stays None far = refl
-      stays (Some x) far = sym (clear_carried p x (far x refl))
 
   same_fits : (us : List TextUnit) → EachIs IsFar us → (line : Option Site) (a b : ℕ) → IsHome line ⊎ BeginWithLine us → ((x : ℕ) → x < lines_in us → SameNewline (c ∷ []) ([] ∷ []) before after (a + x) (b + x)) → Fit line a b (same_way us)
   same_fits [] far line a b home same = tt
@@ -167,6 +145,20 @@ module _ (name : List ℕ) (before after : List (List ℕ)) where
         (λ x low. subst₂ (SameNewline (c ∷ []) ([] ∷ []) before after) (let e : a + (one_line u.kind + x) ≡ (a + one_line u.kind) + x = omega arith in e)
         (let e : b + (one_line u.kind + x) ≡ (b + one_line u.kind) + x = omega arith in e) (same (one_line u.kind + x) (omega (arith, low)))),
   )
+
+  -- a line of a header stays
+  far_header : (u : TextUnit) → IsFar u → HeaderIsOwed c u u
+  far_header u far is none line gone = let h = header_named c line u is none gone in absurd (by (far h.0 h.1) (side p h.0) refl h.2)
+    where
+      by : {a : Address} → IsClear p a → (s : Side) → side p a ≡ s → is_named parts.Line c None s ≡ true → ⊥
+      by {a} clear sides.Above at is = clear.not_above ((sides_are_right p a).above.0 at)
+      by {a} clear sides.At at is = clear.apart ((sides_are_right p a).at.0 at)
+      by clear sides.Apart at is = true≢false (sym is)
+      by clear sides.Below at is = true≢false (sym is)
+
+  pub far_fixed : (us : List TextUnit) → EachIs IsFar us → EachIs (IsFixed c) us
+  far_fixed [] far = tt
+  far_fixed (u ∷ us) far = ((stays u.address far.0, far_header u far.0), far_fixed us far.1)
 
   -- ---- the line that goes
 
@@ -215,7 +207,8 @@ module _ (name : List ℕ) (before after : List (List ℕ)) where
 
   -- what is left of the last line
   left_asked : (back : List TextUnit) (k : ℕ) → k + lines_in (left_of back ++ back) ≡ length after → (line : Option Site) (a : ℕ) → Fit line a k (map new (left_of back))
-  left_asked [] k count line a = (record { line = λ is. inr (omega (arith, count), refl); comment = λ is. absurd (true≢false (sym is)) }, tt)
+  left_asked [] k count line a =
+      (record { line = λ is. inr (omega (arith, count), refl, (λ none. cc)); comment = λ is. absurd (true≢false (sym is)) }, tt)
   left_asked (u ∷ us) k count line a = tt
 
 -- behind the block come all lines but what is left
@@ -229,7 +222,91 @@ module _ (name : List ℕ) (lines : List Line) where
   abbrev Fitting : Option Site → ℕ → ℕ → List Step → Type 0
   Fitting = Fits (remove gone ∷ []) ([] ∷ []) (newlines lines) (newlines edited)
 
-  way_by : (h : AreTaken name (units lines) (units edited) (newlines lines) (newlines edited)) → EachIs (IsFar name (newlines lines) (newlines edited)) (units edited) → HasWay (remove gone) ([] ∷ []) lines edited
+  left_lines : (back : List TextUnit) → BeginWithLine back → 0 < lines_in (left_of back ++ back)
+  left_lines [] line = omega arith
+  left_lines (u ∷ us) line = let e : one_line u.kind ≡ 1 = ap one_line line in omega (arith, e)
+
+  left_blank : (back : List TextUnit) → EachIs (ComesBlank (remove gone ∷ []) (newlines lines) (newlines edited)) (left_of back)
+  left_blank [] = ((λ is none. refl), tt)
+  left_blank (u ∷ us) = tt
+
+  abbrev Keep : Option Site → Option Site → ℕ → ℕ → List Step → Type 0
+  Keep = Keeps (remove gone ∷ []) (newlines lines) (newlines edited)
+
+  taken_keeps : (h : AreTaken name (units lines) (units edited) (newlines lines) (newlines edited))
+      → EachIs (IsFar name (newlines lines) (newlines edited)) h.taken.front
+      → EachIs (IsFar name (newlines lines) (newlines edited)) h.taken.back
+      → lines_in (root_line h.piece name h.value h.comment) ≡ 1
+      → lines_in h.taken.front + (1 + lines_in h.taken.back) ≡ length (newlines lines)
+      → lines_in h.taken.front + lines_in (left_of h.taken.back ++ h.taken.back) ≡ length (newlines edited)
+      → Keep None None 0 0 (same_way h.taken.front ++
+      (map old (root_line h.piece name h.value h.comment) ++ (map new (left_of h.taken.back) ++ same_way h.taken.back)))
+  taken_keeps h front_far back_far block_lines old_total new_total =
+      let c = remove gone in
+      let before = newlines lines in
+      let after = newlines edited in
+      let front = h.taken.front in
+      let back = h.taken.back in
+      let left = left_of back in
+      let block = root_line h.piece name h.value h.comment in
+      let n = lines_in front in
+      let some = left_lines back h.taken.next in
+      let line = line_after None (same_way front) in
+      let next = next_after None (same_way front) in
+      let behind = line_after line (map old block) in
+      let mid = next_after next (map old block) in
+      let olds_head = ap lines_in (same_olds front) in
+      let news_head = ap lines_in (same_news front) in
+      let olds_block = ap lines_in (old_olds block) in
+      let news_block = ap lines_in (old_news block) in
+      keeps_append c before after (same_way front) (map old block ++ (map new left ++ same_way back)) None None 0 0
+      (same_keeps c before after front (far_fixed name before after front front_far) None None (inl refl) 0 0
+      (λ x low. record {
+        newline = let e : x ≡ 0 + x = omega arith in inl (subst (λ k. slice_get before k ≡ slice_get after k) e (h.front_ends x low));
+        last = λ at. let f : ⊥ = omega (arith, low, some, at, new_total) in absurd f;
+      })
+      (inl (λ x low at. let f : ⊥ = omega (arith, low, at, old_total) in absurd f)))
+      (subst₂ (λ a b. Keep line next a b (map old block ++ (map new left ++ same_way back)))
+      (let e : n ≡ 0 + lines_in (olds (same_way front)) = omega (arith, olds_head) in e)
+      (let e : n ≡ 0 + lines_in (news (same_way front)) = omega (arith, news_head) in e)
+      (keeps_append c before after (map old block) (map new left ++ same_way back) line next n n
+      (old_keeps c before after block line next n n)
+      (subst₂ (λ a b. Keep behind mid a b (map new left ++ same_way back))
+      (let e : n + 1 ≡ n + lines_in (olds (map old block)) = omega (arith, olds_block, block_lines) in e)
+      (let e : n ≡ n + lines_in (news (map old block)) = omega (arith, news_block) in e)
+      (keeps_append c before after (map new left) (same_way back) behind mid (n + 1) n
+      (new_keeps c before after left (left_blank back) behind mid (n + 1) n)
+      (back_keeps h back back_far refl (line_after behind (map new left)) (next_after mid (map new left)) old_total new_total)))))
+    where
+      back_keeps : (h : AreTaken name (units lines) (units edited) (newlines lines) (newlines edited)) (back : List TextUnit)
+          → EachIs (IsFar name (newlines lines) (newlines edited)) back → back ≡ h.taken.back → (line next : Option Site)
+          → lines_in h.taken.front + (1 + lines_in h.taken.back) ≡ length (newlines lines)
+          → lines_in h.taken.front + lines_in (left_of h.taken.back ++ h.taken.back) ≡ length (newlines edited)
+          → Keep line next ((lines_in h.taken.front + 1) + lines_in (olds (map new (left_of h.taken.back))))
+          (lines_in h.taken.front + lines_in (news (map new (left_of h.taken.back)))) (same_way back)
+      back_keeps h [] far is line next old_total new_total = tt
+      back_keeps h (u ∷ us) far is line next old_total new_total =
+          let n = lines_in h.taken.front in
+          let zero_old = ap (λ r. lines_in (olds (map new (left_of r)))) (sym is) in
+          let zero_new = ap (λ r. lines_in (news (map new (left_of r)))) (sym is) in
+          let first : n + (1 + lines_in (u ∷ us)) ≡ length (newlines lines) = ap (λ r. n + (1 + lines_in r)) is ∙ old_total in
+          let second : n + lines_in (u ∷ us) ≡ length (newlines edited) = ap (λ r. n + lines_in (left_of r ++ r)) is ∙ new_total in
+          subst₂ (λ a b. Keep line next a b (same_way (u ∷ us)))
+          (let e : n + 1 ≡ (n + 1) + lines_in (olds (map new (left_of h.taken.back))) = omega (arith, zero_old) in e)
+          (let e : n ≡ n + lines_in (news (map new (left_of h.taken.back))) = omega (arith, zero_new) in e)
+          (same_keeps (remove gone) (newlines lines) (newlines edited) (u ∷ us)
+          (far_fixed name (newlines lines) (newlines edited) (u ∷ us) far) line next (inr (subst BeginWithLine (sym is) h.taken.next))
+          (n + 1) n
+          (λ x low. record {
+            newline =
+                inl (ap (slice_get (newlines lines)) (let e : (n + 1) + x ≡ n + suc x = omega arith in e)
+                ∙ h.back_ends x (subst (λ l. x < lines_in l) is low));
+            last = λ at. omega (arith, at, first, second);
+          })
+          (inl (λ x low at. omega (arith, at, first, second))))
+
+  way_by : (h : AreTaken name (units lines) (units edited) (newlines lines) (newlines edited))
+      → EachIs (IsFar name (newlines lines) (newlines edited)) (units edited) → HasWay (remove gone ∷ []) ([] ∷ []) lines edited
   way_by h far =
       let front = h.taken.front in
       let back = h.taken.back in
@@ -246,6 +323,10 @@ module _ (name : List ℕ) (lines : List Line) where
       let n = lines_in front in
       let block_lines : lines_in block ≡ 1 = (let a = lines_append inner tail in let b = inside_lines gone h.value in let c = tail_lines h.comment in omega (arith, a, b, c)) in
       let total : n + lines_in (left ++ back) ≡ length (newlines edited) = sym (lines_append front (left ++ back)) ∙ ap lines_in (sym h.taken.after) ∙ count_lines edited (root ∷ []) 0 in
+      let old_total : n + (1 + lines_in back) ≡ length (newlines lines) =
+      (let a = lines_append front
+      (block ++ back) in let b = lines_append block back in let d = ap lines_in h.taken.before in let e = count_lines lines
+      (root ∷ []) 0 in omega (arith, a, b, d, e, block_lines)) in
       record {
         way = head ++ goes;
         olds_are =
@@ -265,6 +346,7 @@ module _ (name : List ℕ) (lines : List Line) where
             (fits_append (remove gone ∷ []) ([] ∷ []) (newlines lines) (newlines edited) (map new left) (same_way back) (line_after (line_after None head) (map old block)) (n + 1) n
             (left_asked name (newlines lines) (newlines edited) back n total (line_after (line_after None head) (map old block)) (n + 1))
             (back_stays h (line_after (line_after (line_after None head) (map old block)) (map new left)) back back_far refl)))));
+        keeps = taken_keeps h front_far back_far block_lines old_total total;
         comments_few = λ t. as_many t (texts (comments (added (head ++ goes)))) []
             (ap (λ us. texts (comments us)) (added_append head goes ∙ ap₂ (λ x y. x ++ y) (same_adds front) (added_append (map old block) last ∙ ap₂ (λ x y. x ++ y) (old_adds block) (added_append (map new left) (same_way back) ∙ ap₂ (λ x y. x ++ y) (new_adds left) (same_adds back))))
             ∙ ap (λ us. texts (comments us)) (append-nil left) ∙ left_silent back);
@@ -318,5 +400,6 @@ module _ (name : List ℕ) (lines : List Line) where
           (same_fits name (newlines lines) (newlines edited) (u ∷ us) far line (n + 1) n (inr (subst BeginWithLine (sym is) h.taken.next))
           (λ x low. inl (ap (slice_get (newlines lines)) (let e : (n + 1) + x ≡ n + suc x = omega arith in e) ∙ h.back_ends x (subst (λ l. x < lines_in l) is low))))
 
-  pub remove_way : AreLines lines → HasPair lines gone → KeepsRules (named lines) → EachIs (IsFar name (newlines lines) (newlines edited)) (units edited) → HasWay (remove gone) ([] ∷ []) lines edited
+  pub remove_way : AreLines lines → HasPair lines gone → KeepsRules (named lines)
+      → EachIs (IsFar name (newlines lines) (newlines edited)) (units edited) → HasWay (remove gone ∷ []) ([] ∷ []) lines edited
   remove_way is there keeps far = way_by (lines_taken name lines is there keeps) far

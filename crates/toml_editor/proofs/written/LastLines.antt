@@ -1,0 +1,84 @@
+-- That a last line has a byte.
+use Rattle.std.proofs.Common.{◌≡◌, inr, ◌<◌, ◌+◌, Bool, true, false, Option, Some, None, List, [], ◌∷◌, ◌++◌, length, length-append, refl, sym, ap, ◌∙◌, true≢false, arith}
+use Rattle.toml_tree.specs.Spells.{EachIs, Part, joined, equals_parts, assign_parts, key_parts, value_parts, keyval_parts, blank_parts, expr_parts}
+use Rattle.toml_tree.specs.Tree.{Piece, Blank, KeyVal, Expr, BlankLine, KeyValLine, TableLine, ArrayTableLine}
+use Rattle.toml_tree.proofs.Proved.{parts_join}
+use Rattle.toml_names.specs.mentions.Keys.{key_names}
+use Rattle.toml_names.specs.mentions.Mentions.{Named, section}
+use Rattle.toml_names.specs.model.Addresses.{Address, below}
+use Rattle.toml_units.specs.Places.{is_line}
+use Rattle.toml_units.specs.Units.{TextUnit, comment_units, inside, line_units}
+use Rattle.toml_units.specs.declared.unit.UnitKind.{UnitKind}
+use Rattle.toml_units.specs.declared.unit.UnitKind.TheVariants as kinds
+use Rattle.toml_editor.specs.ChangedUnits.{is_inner, LiesInValue}
+use Rattle.toml_editor.proofs.Each.{each_append}
+use Rattle.toml_editor.proofs.written.UnitsGone.{value_in}
+use Rattle.toml_editor.proofs.written.WayBlock.{lines_append}
+use Rattle.toml_editor.proofs.written.WayZip.{lines_in}
+
+-- the last of the units that are lines has a byte
+abbrev pub LastIsFull : List TextUnit → Type 0
+LastIsFull [] = Unit {0}
+LastIsFull (u ∷ us) = (u.kind ≡ kinds.Line → lines_in us ≡ 0 → ¬ (u.piece.text ≡ [])) × LastIsFull us
+
+-- it is the second list's, if that has lines
+pub full_behind : (us vs : List TextUnit) → 0 < lines_in vs → LastIsFull vs → LastIsFull (us ++ vs)
+full_behind [] vs some full = full
+full_behind (u ∷ us) vs some full =
+    ((λ is none. let e = lines_append us vs in let f : ⊥ = omega (arith, some, none, e) in absurd f), full_behind us vs some full)
+
+-- units that are no lines
+pub full_inner : (us : List TextUnit) → EachIs (λ (u : TextUnit). ¬ (u.kind ≡ kinds.Line)) us → LastIsFull us
+full_inner [] h = tt
+full_inner (u ∷ us) h = ((λ is none. absurd (h.0 is)), full_inner us h.1)
+
+pub inner_line : (k : UnitKind) → is_inner k ≡ true → is_line k ≡ false
+inner_line kinds.Line is = absurd (true≢false (sym is))
+inner_line kinds.TailComment is = refl
+inner_line kinds.InnerComment is = refl
+inner_line kinds.Element is = refl
+inner_line kinds.Pair is = refl
+
+pub inner_is_no_line : (kind : UnitKind) → is_inner kind ≡ true → ¬ (kind ≡ kinds.Line)
+inner_is_no_line kind inner is = true≢false (sym (ap is_line is) ∙ inner_line kind inner)
+
+pub no_lines : (p : Address) (us : List TextUnit) → EachIs (LiesInValue p) us → EachIs (λ (w : TextUnit). ¬ (w.kind ≡ kinds.Line)) us
+no_lines p [] h = tt
+no_lines p (u ∷ us) h = (inner_is_no_line u.kind h.0.0, no_lines p us h.1)
+
+pub tail_no_line : (at : Option Address) (o : Option Piece)
+    → EachIs (λ (w : TextUnit). ¬ (w.kind ≡ kinds.Line)) (comment_units kinds.TailComment at o)
+tail_no_line at None = tt
+tail_no_line at (Some p) = ((λ is. cc), tt)
+
+-- a line with a key and a value has an equals sign
+pub both_long : (ps qs : List Part) → length (joined (ps ++ qs)) ≡ length (joined ps) + length (joined qs)
+both_long ps qs = ap length (parts_join ps qs) ∙ length-append (joined ps) (joined qs)
+
+equals_long : (a b : Piece) → 0 < length (joined (equals_parts a b))
+equals_long a b = let e = length-append a.text (0x3D ∷ (b.text ++ [])) in omega (arith, e)
+
+pub pair_long : (ws : Piece) (k : KeyVal) (b : Blank) → 0 < length (joined (expr_parts (KeyValLine ws k b)))
+pair_long ws k b =
+    let all = length-append ws.text (joined (keyval_parts k ++ blank_parts b)) in
+    let line = both_long (keyval_parts k) (blank_parts b) in
+    let pair = both_long (assign_parts k.assign) (value_parts k.value) in
+    let assign = both_long (key_parts k.assign.key) (equals_parts k.assign.before_equals k.assign.after_equals) in
+    let some = equals_long k.assign.before_equals k.assign.after_equals in
+    omega (arith, all, line, pair, assign, some)
+
+abbrev pub has_key : Expr → Bool
+has_key (KeyValLine ws k b) = true
+has_key _ = false
+
+pub full_line : (xs : List Named) (e : Expr) → has_key e ≡ true → LastIsFull (line_units xs e)
+full_line xs (KeyValLine ws k b) is =
+    let at = below (section xs) (key_names k.assign.key) in (
+      (λ line none empty. let some = pair_long ws k b in let zero = ap length empty in let e : ⊥ = omega (arith, some, zero) in absurd e),
+      full_inner (inside at k.value ++ comment_units kinds.TailComment (Some at) b.comment)
+          (each_append _ (inside at k.value) (comment_units kinds.TailComment (Some at) b.comment)
+          (no_lines at (inside at k.value) (value_in at k.value at (inr refl))) (tail_no_line (Some at) b.comment)),
+    )
+full_line xs (BlankLine b) is = absurd (true≢false (sym is))
+full_line xs (TableLine ws h b) is = absurd (true≢false (sym is))
+full_line xs (ArrayTableLine ws h b) is = absurd (true≢false (sym is))

@@ -1,0 +1,16 @@
+-- What lists of plain edits carry along: the units that no edit of the list names have their partners.
+use Rattle.std.specs.Prelude.{ℕ, List}
+use Rattle.toml_text.specs.Forms.{IsNewline}
+use Rattle.toml_tree.specs.declared.profile.Profile.{Profile}
+use Rattle.toml_names.specs.model.Data.{Kinds}
+use Rattle.toml_edits.specs.Edits.{Change}
+use Rattle.toml_edits.specs.Lists.{Lead}
+use Rattle.toml_editor.specs.CarriedUnits.{ArePartners}
+use Rattle.toml_editor.specs.Steps.{IsGoodText, AreWritten}
+
+-- Law: a good text and what a list of plain edits without a fault writes of it have pairs of partners.
+abbrev pub ListIsCarried : Type 0
+ListIsCarried = (cs : List Change) (profile : Profile) (style before after : List ℕ) (old now : Kinds) → IsNewline style
+    → (good : IsGoodText profile before old)
+    → Lead profile cs old now → AreWritten profile cs style before after → (new : IsGoodText profile after now)
+    → (ps : List (ℕ × ℕ)) × ArePartners cs good.tree new.tree ps
