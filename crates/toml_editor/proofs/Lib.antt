@@ -4,5 +4,7 @@ pub mod Judgements
 pub mod NearFaults
 mod Each
 mod Tidy
+mod Out
+mod Outlined
 pub mod written
 pub mod Proved
