@@ -6,5 +6,6 @@ mod Each
 mod Tidy
 mod Out
 mod Outlined
+mod TreeOutlined
 pub mod written
 pub mod Proved

@@ -20,3 +20,4 @@ pub use Rattle.toml_editor.proofs.written.UnitsRenamed.{rename_units}
 pub use Rattle.toml_editor.proofs.written.UnitsSet.{set_units}
 pub use Rattle.toml_editor.proofs.written.UnitsBare.{units_of_bares}
 pub use Rattle.toml_editor.proofs.written.UnitsCarried.{plain_is_carried}
+pub use Rattle.toml_editor.proofs.TreeOutlined.{value_outlined_is, line_outlined_is, lines_outlined_are}
