@@ -7,5 +7,6 @@ mod Tidy
 mod Out
 mod Outlined
 mod TreeOutlined
+mod Numbered
 pub mod written
 pub mod Proved

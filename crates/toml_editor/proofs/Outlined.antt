@@ -15,7 +15,7 @@ entry_first behind e rest =
     let v = value_outlined e.value in
     let a = own_assign_outlined e.assign in
     ap (λ r. comma_if behind ++ r) (sym (append_assoc e.before (a ++ (v ++ e.after)) rest
-      ∙ ap (λ r. e.before ++ r) (append_assoc a (v ++ e.after) rest ∙ ap (λ r. a ++ r) (append_assoc v e.after rest))))
+    ∙ ap (λ r. e.before ++ r) (append_assoc a (v ++ e.after) rest ∙ ap (λ r. a ++ r) (append_assoc v e.after rest))))
 
 -- it is written, the others are left
 pub entry_written : (behind : Bool) (e : EntryOutline) (es : List EntryOutline) (end : Option (List ℕ)) (out mid new : List ℕ) → mid ≡ out ++ comma_if behind → new ≡ mid ++ entry_outlined e
@@ -48,9 +48,9 @@ entries_closed behind rest es end gap old out mid new none some comma here so_fa
 
 -- what stands between brackets or braces, by what the working tree has there
 entries_is : (e : Entries) → entries e ≡ record {
-      opening = leaf_text (out-Entries e).opening;
-      entries = entries_of (map entry (out-Entries e).list.items) (option_map gap_text (out-Entries e).end);
-    }
+  opening = leaf_text (out-Entries e).opening;
+  entries = entries_of (map entry (out-Entries e).list.items) (option_map gap_text (out-Entries e).end);
+}
 entries_is = fold_out-Entries ValueOutline Enclosed EntryOutline value_step entries_step entry_step
 
 -- so it is with all of them

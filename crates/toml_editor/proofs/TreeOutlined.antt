@@ -19,7 +19,7 @@ assign_is : (a : Assign) → assign_outlined (assign_outline a) ≡ joined (assi
 assign_is a =
     let equals = equals_parts a.before_equals a.after_equals in
     let after : a.before_equals.text ++ (0x3D ∷ a.after_equals.text) ≡ joined equals =
-        ap (λ r. a.before_equals.text ++ (0x3D ∷ r)) (sym (append-nil a.after_equals.text)) in
+    ap (λ r. a.before_equals.text ++ (0x3D ∷ r)) (sym (append-nil a.after_equals.text)) in
     ap₂ (λ r s. a.key.first.text ++ (r ++ s)) (dotted_is a.key.rest) after
     ∙ ap (λ r. a.key.first.text ++ r) (sym (parts_join (all_parts dotted_parts a.key.rest) equals))
 
@@ -31,19 +31,19 @@ closed behind gap close = append_assoc (comma_if behind) gap (close ∷ [])
 entry_is : (behind : Bool) (g h : Gap) (a : List Part) (v : Value) (own rest : List ℕ) (tail : List Part) (close : ℕ) → own ≡ joined a → value_outlined (value_outline v) ≡ joined (value_parts v)
     → rest ++ close ∷ [] ≡ joined tail
     → (comma_if behind ++ (gap_spelled g ++ (own ++ (value_outlined (value_outline v) ++ (gap_spelled h ++ rest))))) ++ close ∷ []
-      ≡ comma_if behind ++ joined (gap_parts g ++ (a ++ (value_parts v ++ (gap_parts h ++ tail))))
+    ≡ comma_if behind ++ joined (gap_parts g ++ (a ++ (value_parts v ++ (gap_parts h ++ tail))))
 entry_is behind g h a v own rest tail close own_is value_is tail_is =
     let text = value_outlined (value_outline v) in
     let closing = close ∷ [] in
     append_assoc (comma_if behind) (gap_spelled g ++ (own ++ (text ++ (gap_spelled h ++ rest)))) closing
     ∙ ap (λ r. comma_if behind ++ r)
-      (append_assoc (gap_spelled g) (own ++ (text ++ (gap_spelled h ++ rest))) closing
-      ∙ before (gap_parts g) (a ++ (value_parts v ++ (gap_parts h ++ tail))) _
-        (append_assoc own (text ++ (gap_spelled h ++ rest)) closing ∙ ap (λ r. r ++ ((text ++ (gap_spelled h ++ rest)) ++ closing)) own_is
-        ∙ before a (value_parts v ++ (gap_parts h ++ tail)) _
-          (append_assoc text (gap_spelled h ++ rest) closing ∙ ap (λ r. r ++ ((gap_spelled h ++ rest) ++ closing)) value_is
-          ∙ before (value_parts v) (gap_parts h ++ tail) _
-            (append_assoc (gap_spelled h) rest closing ∙ before (gap_parts h) tail _ tail_is))))
+    (append_assoc (gap_spelled g) (own ++ (text ++ (gap_spelled h ++ rest))) closing
+    ∙ before (gap_parts g) (a ++ (value_parts v ++ (gap_parts h ++ tail))) _
+    (append_assoc own (text ++ (gap_spelled h ++ rest)) closing ∙ ap (λ r. r ++ ((text ++ (gap_spelled h ++ rest)) ++ closing)) own_is
+    ∙ before a (value_parts v ++ (gap_parts h ++ tail)) _
+    (append_assoc text (gap_spelled h ++ rest) closing ∙ ap (λ r. r ++ ((gap_spelled h ++ rest) ++ closing)) value_is
+    ∙ before (value_parts v) (gap_parts h ++ tail) _
+    (append_assoc (gap_spelled h) rest closing ∙ before (gap_parts h) tail _ tail_is))))
 
 mutual
   pub value_outlined_is : ValueIsOutlined

@@ -10,6 +10,7 @@ ghost use Rattle.toml_edits.specs.Edits.{change};
 ghost use Rattle.toml_checker.specs.Reading.{AreUnitsOf};
 ghost use Rattle.toml_editor.specs.Edited.{IsEdited, ArePieces, IsEditedInPieces, RefusesText, Tells};
 ghost use Rattle.toml_editor.specs.Editing.{HasLines, IsEditedText, IsKnown, IsMadeText, IsReadAs, IsWork, TellsWanted};
+ghost use Rattle.toml_editor.specs.Numbering.{PairsOf};
 ghost use Rattle.toml_editor.specs.Writing.{WritesOut};
 
 use crate::fault::EditorFault;
@@ -270,6 +271,7 @@ fn write_out<'x>(
 ) -> Result<Edited, AllocError>
     ensures pieces { IfOk result (λ e. ArePieces (text_of source.entry) (string_bytes e.text) e.pieces.items) }
     ensures written { IfOk result (λ e. WritesOut (text_of source.entry) (document before.entry.doc.now).mark.text tree.now.slots.items (string_bytes e.text)) }
+    ensures paired { IfOk result (λ e. PairsOf before.entry.units.now wanted.now tree.now.slots.items e.certificate.pairs.items) }
 {
     let pieces = tree.pieces(source, before.doc.mark())?.into_list();
     let text = join(alloc, source, &pieces)?;

@@ -11,4 +11,4 @@ invariant-entries-loop-entry l =
     let end = option_map gap_text (out-Entries l.entries).end in
     (l.self.before ≡ l.fn.self.before)
     × (l.self.out ++ entries_outlined l.is_behind (entries_of (map entry (deque_iter_rest l.entry-iterator)) end)
-      ≡ l.fn.self.out ++ entries_outlined false (entries_of (map entry (deque_iter_rest l.initial.entry-iterator)) end))
+    ≡ l.fn.self.out ++ entries_outlined false (entries_of (map entry (deque_iter_rest l.initial.entry-iterator)) end))

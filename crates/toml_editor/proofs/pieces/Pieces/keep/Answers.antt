@@ -41,11 +41,11 @@ returns-clause-kept c held =
     let left = c.take_kept.new.pieces.items in
     let span = c.args.span in
     let out : joined_text text c.push.new.self.items ≡ joined_text text p.list.items ++ slice_range text span.start span.end =
-        rw c.in_ok-push.ensures.items
-        (elim c.match-take_kept.branch [
-          | in-Some w ↦
-              rw (w.start-is, w.in-Some.ensures.1)
-              (joined_touching text p.end left w.in-Some.last span (subst (AreTidyUpTo text p.end) w.in-Some.ensures.1 c.self.invariant) w.in-Some.ensures.0 held.order)
-          | in-None w ↦ rw (w.start-is, w.in-None.ensures.0) (joined_more text p.list.items (Kept span))
-        ]) in
+    rw c.in_ok-push.ensures.items
+    (elim c.match-take_kept.branch [
+      | in-Some w ↦
+          rw (w.start-is, w.in-Some.ensures.1)
+          (joined_touching text p.end left w.in-Some.last span (subst (AreTidyUpTo text p.end) w.in-Some.ensures.1 c.self.invariant) w.in-Some.ensures.0 held.order)
+      | in-None w ↦ rw (w.start-is, w.in-None.ensures.0) (joined_more text p.list.items (Kept span))
+    ]) in
     (search rules, search rules)

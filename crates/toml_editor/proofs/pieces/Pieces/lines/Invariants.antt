@@ -7,4 +7,4 @@ abbrev pub invariant-loop-line : goal.invariant-loop-line
 invariant-loop-line l =
     (l.self.before ≡ l.fn.self.before)
     × ((text : List ℕ) → SpellAll (SpellsLine l.fn.self.before) l.lines text
-      → SpelledSoFar (SpellsLine l.fn.self.before) l.fn.self.out l.lines l.line-index l.self.out text)
+    → SpelledSoFar (SpellsLine l.fn.self.before) l.fn.self.out l.lines l.line-index l.self.out text)

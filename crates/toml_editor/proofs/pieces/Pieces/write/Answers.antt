@@ -40,12 +40,12 @@ returns c =
     let bytes = c.args.text.now in
     let new = c.push_str.new.self in
     let out : joined_text text c.push.new.self.items ≡ joined_text text p.list.items ++ bytes =
-        rw c.in_ok-push.ensures.items
-        (elim c.match-take_new.branch [
-          | in-Some w ↦ rw w.in-Some.ensures (joined_longer text left (New w.in-Some.last) (New new) bytes (rw w.new-is at c.in_ok-push_str.ensures.bytes))
-          | in-None w ↦
-              let empty : string_bytes c.match-take_new.new ≡ [] = rw w.new-is w.new-new.ensures.bytes in
-              let is : string_bytes new ≡ bytes = c.in_ok-push_str.ensures.bytes ∙ ap (λ r. r ++ bytes) empty in
-              rw w.in-None.ensures.0 (joined_more text p.list.items (New new) ∙ ap (λ r. joined_text text p.list.items ++ r) is)
-        ]) in
+    rw c.in_ok-push.ensures.items
+    (elim c.match-take_new.branch [
+      | in-Some w ↦ rw w.in-Some.ensures (joined_longer text left (New w.in-Some.last) (New new) bytes (rw w.new-is at c.in_ok-push_str.ensures.bytes))
+      | in-None w ↦
+          let empty : string_bytes c.match-take_new.new ≡ [] = rw w.new-is w.new-new.ensures.bytes in
+          let is : string_bytes new ≡ bytes = c.in_ok-push_str.ensures.bytes ∙ ap (λ r. r ++ bytes) empty in
+          rw w.in-None.ensures.0 (joined_more text p.list.items (New new) ∙ ap (λ r. joined_text text p.list.items ++ r) is)
+    ]) in
     (search rules, search rules)

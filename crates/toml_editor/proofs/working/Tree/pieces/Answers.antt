@@ -6,10 +6,12 @@ use Rattle.toml_editor.proofs.working.Tree.pieces.Goals as goal
 
 pub loop-slot-preserved : goal.loop-slot-preserved
 loop-slot-preserved c =
-    let start = c.place.new.self in
-    (c.slot.ensures.before ∙ c.loop-slot.invariant.0, λ text spelled.
-      spelled_on (SpellsSlot start.before) start.out c.deref-slot-items.result.now c.loop-slot.slot-index c.slot-item.result c.loop-slot.pieces.out c.slot.new.self.out text c.loop-slot-test.true c.slot-item.is
-      (λ t h. search rules) (c.loop-slot.invariant.1 text spelled))
+    let start = c.place.new.self in (
+      c.slot.ensures.before ∙ c.loop-slot.invariant.0,
+      λ text spelled.
+          spelled_on (SpellsSlot start.before) start.out c.deref-slot-items.result.now c.loop-slot.slot-index c.slot-item.result c.loop-slot.pieces.out c.slot.new.self.out text c.loop-slot-test.true c.slot-item.is
+          (λ t h. search rules) (c.loop-slot.invariant.1 text spelled),
+    )
 
 pub returns-clause-written : goal.returns-clause-written
 returns-clause-written c text spelled =

@@ -8,4 +8,4 @@ abbrev pub invariant-loop-slot : goal.invariant-loop-slot
 invariant-loop-slot l =
     (l.pieces.before ≡ l.initial.pieces.before)
     × ((text : List ℕ) → SpellAll (SpellsSlot l.initial.pieces.before) l.slot-items text
-      → SpelledSoFar (SpellsSlot l.initial.pieces.before) l.initial.pieces.out l.slot-items l.slot-index l.pieces.out text)
+    → SpelledSoFar (SpellsSlot l.initial.pieces.before) l.initial.pieces.out l.slot-items l.slot-index l.pieces.out text)
