@@ -4,5 +4,9 @@ pub mod Judgements
 pub mod NearFaults
 mod Each
 mod Tidy
+mod Out
+mod Outlined
+mod TreeOutlined
+mod Numbered
 pub mod written
 pub mod Proved

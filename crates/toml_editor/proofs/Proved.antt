@@ -24,3 +24,4 @@ pub use Rattle.toml_editor.proofs.written.UnitsListed.{list_is_carried}
 pub use Rattle.toml_editor.proofs.written.Certify.{partners_certify, outer_partners_certify, plain_list_is_certified}
 pub use Rattle.toml_editor.proofs.written.OuterPairs.{outer_are_named}
 pub use Rattle.toml_editor.proofs.written.HeadersRenamed.{rename_along_header, rename_along_element}
+pub use Rattle.toml_editor.proofs.TreeOutlined.{value_outlined_is, line_outlined_is, lines_outlined_are}

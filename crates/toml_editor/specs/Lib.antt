@@ -4,6 +4,12 @@ pub mod Edited
 -- words of the code's own contracts
 pub mod Making
 pub mod Editing
+-- what the working tree stands for
+pub mod Outlines
+pub mod OpenOutlines
+pub mod TreeOutlines
+pub mod Writing
+pub mod Numbering
 -- what a plain edit writes, and the laws of it
 pub mod Lines
 pub mod Setting

@@ -9,6 +9,8 @@ ghost use Rattle.toml_edits.specs.Edits.{change};
 ghost use Rattle.toml_checker.specs.Reading.{AreUnitsOf};
 ghost use Rattle.toml_editor.specs.Edited.{IsEdited, ArePieces, IsEditedInPieces, RefusesText, Tells};
 ghost use Rattle.toml_editor.specs.Editing.{HasLines, IsEditedAs, IsKnown, IsMadeAs, IsReadAs, IsWork, OfReadTree, TellsWanted};
+ghost use Rattle.toml_editor.specs.Numbering.{PairsOf};
+ghost use Rattle.toml_editor.specs.Writing.{WritesOut};
 
 use crate::fault::EditorFault;
 use crate::making::{Read, make_all};
@@ -266,7 +268,9 @@ fn write_out<'x>(
     tree: &Tree<'x>,
     wanted: &[bool],
 ) -> Result<Edited, AllocError>
-    ensures { IfOk result (λ e. ArePieces (text_of source.entry) (string_bytes e.text) e.pieces.items) }
+    ensures pieces { IfOk result (λ e. ArePieces (text_of source.entry) (string_bytes e.text) e.pieces.items) }
+    ensures written { IfOk result (λ e. WritesOut (text_of source.entry) (document before.entry.doc.now).mark.text tree.now.slots.items (string_bytes e.text)) }
+    ensures paired { IfOk result (λ e. PairsOf before.entry.units.now wanted.now tree.now.slots.items e.certificate.pairs.items) }
 {
     let pieces = tree.pieces(source, before.doc.mark())?.into_list();
     let text = join(alloc, source, &pieces)?;

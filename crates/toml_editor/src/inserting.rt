@@ -106,12 +106,12 @@ impl<'x> Tree<'x> {
         before: Before<'_, 'x>,
         behind: Position,
     ) -> Result<Leaf<'x>, AllocError> {
-        let (alloc, style) = (self.alloc(), self.style);
+        let (texts, style) = (self.texts, self.style);
         if !self.is_last(behind) {
             return Ok(style);
         }
         if let Some(line) = self.line_mut(before, behind)? {
-            line.end_in(alloc, before.doc, style)?;
+            line.end_in(texts, before.doc, style)?;
         }
         Ok(Leaf::EMPTY)
     }

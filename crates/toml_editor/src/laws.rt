@@ -10,6 +10,7 @@ ghost use Rattle.toml_editor.specs.RenameLaws.{RenameNames, RenameGood, RenameDa
 ghost use Rattle.toml_editor.specs.RenamedHeaders.{RenameAlong, RenameAlongElement};
 ghost use Rattle.toml_editor.specs.RenamedUnits.{RenameUnits};
 ghost use Rattle.toml_editor.specs.SetLaws.{SetNames, SetRules, SetShort, SetData, SetForms, SetOfProfile, SetWithin, SetElsewhere, SetKeepsLine};
+ghost use Rattle.toml_editor.specs.TreeOutlines.{ValueIsOutlined, LineIsOutlined, LinesAreOutlined};
 ghost use Rattle.toml_editor.specs.UnitBlocks.{InsertUnits, RemoveUnits};
 ghost use Rattle.toml_editor.specs.Steps.{GoodTextsAreDocuments, PlainIsWritten, PlainStep, PlainSteps, OneWritten, OneListWritten, StyleIsNewline};
 
@@ -145,4 +146,11 @@ pub fn plain_edits()
     ensures step { PlainStep }
     ensures one_list { OneListWritten }
     ensures steps { PlainSteps }
+{}
+
+/// A value, a line and lines spell the texts of their outlines.
+pub fn outlines()
+    ensures value { ValueIsOutlined }
+    ensures line { LineIsOutlined }
+    ensures lines { LinesAreOutlined }
 {}

@@ -1,5 +1,6 @@
 //! The lines of the working tree: kept as they stand in the document until an edit changes something on them.
 use crate::opening::Opener;
+use crate::texts::Texts;
 use crate::tree::{Blank, Brackets, Expr, Leaf, OpenLine, Value};
 use crate::values::behind;
 use std::alloc::{AllocError, Global};
@@ -238,11 +239,11 @@ impl<'t> Line<'t> {
     }
 
     /// Makes it a line with its pieces, if it is none yet; the document is the one whose lines are kept.
-    pub(crate) fn open(&mut self, alloc: Global, doc: &Doc<'t>) -> Result<(), AllocError> {
+    pub(crate) fn open(&mut self, texts: Texts<'t>, doc: &Doc<'t>) -> Result<(), AllocError> {
         if let Body::Kept(kept) = self.body {
             if let Some(line) = doc.lines().get(kept.line) {
-                let opened = Opener::kept(alloc, kept.first).line(line)?;
-                self.body = Body::Open(Box::new(alloc, opened)?);
+                let opened = Opener::kept(texts, kept.first).line(line)?;
+                self.body = Body::Open(Box::new(texts.alloc, opened)?);
             }
         }
         Ok(())
@@ -267,11 +268,11 @@ impl<'t> Line<'t> {
     /// Gives it another newline.
     pub(crate) fn end_in(
         &mut self,
-        alloc: Global,
+        texts: Texts<'t>,
         doc: &Doc<'t>,
         newline: Leaf<'t>,
     ) -> Result<(), AllocError> {
-        self.open(alloc, doc)?;
+        self.open(texts, doc)?;
         if let Some(open) = self.opened() {
             open.newline = newline;
         }

@@ -1,4 +1,9 @@
 //! The certificate, read off the working tree: which unit of the document each of its units is.
+ghost use Rattle.std.specs.Prelude.{◌≡◌, ◌<◌, ◌∷◌, [], IfOk, length, slice_index_or};
+ghost use Rattle.toml_units.specs.Places.{is_line};
+ghost use Rattle.toml_units.specs.declared.unit.Unit.{Unit as TextUnit};
+ghost use Rattle.toml_editor.specs.Numbering.{Counts, PairsOf, all_origins, comment_origins, entries_origins, entry_origins, expr_origins, gap_origins, gap_part_origins, kept_origins, line_origins, own_origins, slot_origins, value_origins};
+
 use crate::lines::{Body, Line, Slot};
 use crate::tree::{Comment, Entries, Entry, Expr, Gap, GapPart, OpenLine, Value};
 use crate::working::Tree;
@@ -23,7 +28,9 @@ impl Tree<'_> {
         &self,
         units: &[Unit],
         wanted: &[bool],
-    ) -> Result<Certificate, AllocError> {
+    ) -> Result<Certificate, AllocError>
+        ensures { IfOk result (λ c. PairsOf units.now wanted.now self.now.slots.items c.pairs.items) }
+    {
         let mut numbering = Numbering {
             units,
             wanted,
@@ -41,7 +48,9 @@ impl Tree<'_> {
 
 impl Numbering<'_> {
     /// Counts a unit, and pairs it if it is a wanted one of the document.
-    fn unit(&mut self, origin: Option<usize>) -> Result<(), AllocError> {
+    fn unit(&mut self, origin: Option<usize>) -> Result<(), AllocError>
+        ensures { Counts (origin ∷ []) self.old self.new result }
+    {
         if let Some(number) = origin {
             if self.wanted.get(number).copied().unwrap_or(false) {
                 self.pairs.push((number as u64, self.next))?;
@@ -51,27 +60,42 @@ impl Numbering<'_> {
         Ok(())
     }
 
-    fn slot(&mut self, slot: &Slot<'_>) -> Result<(), AllocError> {
+    fn slot(&mut self, slot: &Slot<'_>) -> Result<(), AllocError>
+        ensures { Counts (slot_origins self.old.units.now slot.now) self.old self.new result }
+    {
         match slot {
             Slot::Kept(kept) => self.kept(kept.first),
             Slot::Lines(lines) => self.lines(lines),
         }
     }
 
-    fn lines(&mut self, lines: &[Line<'_>]) -> Result<(), AllocError> {
+    fn lines(&mut self, lines: &[Line<'_>]) -> Result<(), AllocError>
+        ensures { Counts (all_origins (own_origins self.old.units.now) lines.now) self.old self.new result }
+    {
         for line in lines {
-            match &line.body {
-                Body::Kept(kept) => self.kept(kept.first)?,
-                Body::Open(open) => self.open_line(open)?,
-            }
+            self.line(line)?;
         }
         Ok(())
     }
 
+    fn line(&mut self, line: &Line<'_>) -> Result<(), AllocError>
+        ensures { Counts (own_origins self.old.units.now line.now) self.old self.new result }
+    {
+        match &line.body {
+            Body::Kept(kept) => self.kept(kept.first),
+            Body::Open(open) => self.open_line(open),
+        }
+    }
+
     /// The units of a line that is as it was: its own, and those up to the next line.
-    fn kept(&mut self, first: usize) -> Result<(), AllocError> {
+    fn kept(&mut self, first: usize) -> Result<(), AllocError>
+        ensures { Counts (kept_origins self.old.units.now first) self.old self.new result }
+    {
         self.unit(Some(first))?;
-        for number in first.saturating_add(1)..self.units.len() {
+        if first >= self.units.len() {
+            return Ok(());
+        }
+        for number in first + 1..self.units.len() {
             if self.is_line(number) {
                 return Ok(());
             }
@@ -81,22 +105,33 @@ impl Numbering<'_> {
     }
 
     /// Whether the unit of the document with this number is a line.
-    fn is_line(&self, number: usize) -> bool {
-        match self.units.get(number) {
-            Some(unit) => unit.kind == UnitKind::Line,
-            None => false,
-        }
+    fn is_line(&self, number: usize) -> bool
+        requires { number < length self.now.units.now }
+        ensures { (d : TextUnit) → result ≡ is_line (slice_index_or self.now.units.now number d).kind }
+    {
+        matches!(self.units[number].kind, UnitKind::Line)
     }
 
-    fn open_line(&mut self, line: &OpenLine<'_>) -> Result<(), AllocError> {
+    fn open_line(&mut self, line: &OpenLine<'_>) -> Result<(), AllocError>
+        ensures { Counts (line_origins line.now) self.old self.new result }
+    {
         self.unit(line.origin)?;
-        if let Expr::Pair(pair) = &line.expr {
-            self.value(&pair.value)?;
-        }
-        self.comment(line.tail.comment.as_ref())
+        self.expr(&line.expr)?;
+        self.comment(&line.tail.comment)
     }
 
-    fn comment(&mut self, comment: Option<&Comment<'_>>) -> Result<(), AllocError> {
+    fn expr(&mut self, expr: &Expr<'_>) -> Result<(), AllocError>
+        ensures { Counts (expr_origins expr.now) self.old self.new result }
+    {
+        match expr {
+            Expr::Pair(pair) => self.value(&pair.value),
+            Expr::Blank | Expr::Header(_) => Ok(()),
+        }
+    }
+
+    fn comment(&mut self, comment: &Option<Comment<'_>>) -> Result<(), AllocError>
+        ensures { Counts (comment_origins comment.now) self.old self.new result }
+    {
         match comment {
             Some(comment) => self.unit(comment.origin),
             None => Ok(()),
@@ -104,7 +139,9 @@ impl Numbering<'_> {
     }
 
     #[cycle(numbering)]
-    fn value(&mut self, value: &Value<'_>) -> Result<(), AllocError> {
+    fn value(&mut self, value: &Value<'_>) -> Result<(), AllocError>
+        ensures { Counts (value_origins value.now) self.old self.new result }
+    {
         match value {
             Value::Scalar(_) => Ok(()),
             Value::Array(entries) | Value::Inline(entries) => self.entries(entries),
@@ -112,8 +149,10 @@ impl Numbering<'_> {
     }
 
     #[cycle(numbering)]
-    fn entries(&mut self, entries: &Entries<'_>) -> Result<(), AllocError> {
-        for entry in &entries.list {
+    fn entries(&mut self, entries: &Entries<'_>) -> Result<(), AllocError>
+        ensures { Counts (entries_origins entries.now) self.old self.new result }
+    {
+        for entry in entries.list.iter() {
             self.entry(entry)?;
         }
         match &entries.end {
@@ -123,19 +162,30 @@ impl Numbering<'_> {
     }
 
     #[cycle(numbering)]
-    fn entry(&mut self, entry: &Entry<'_>) -> Result<(), AllocError> {
+    fn entry(&mut self, entry: &Entry<'_>) -> Result<(), AllocError>
+        ensures { Counts (entry_origins entry.now) self.old self.new result }
+    {
         self.gap(&entry.before)?;
         self.unit(entry.origin)?;
         self.value(&entry.value)?;
         self.gap(&entry.after)
     }
 
-    fn gap(&mut self, gap: &Gap<'_>) -> Result<(), AllocError> {
+    fn gap(&mut self, gap: &Gap<'_>) -> Result<(), AllocError>
+        ensures { Counts (gap_origins gap.now) self.old self.new result }
+    {
         for part in &gap.parts {
-            if let GapPart::Comment(comment) = part {
-                self.unit(comment.origin)?;
-            }
+            self.gap_part(part)?;
         }
         Ok(())
+    }
+
+    fn gap_part(&mut self, part: &GapPart<'_>) -> Result<(), AllocError>
+        ensures { Counts (gap_part_origins part.now) self.old self.new result }
+    {
+        match part {
+            GapPart::Comment(comment) => self.unit(comment.origin),
+            GapPart::Ws(_) | GapPart::Newline(_) => Ok(()),
+        }
     }
 }

@@ -1,49 +1,54 @@
 //! The tree of a document, or of a value that an edit brings, as a part of the working tree.
+use crate::texts::Texts;
 use crate::tree::{
     Assign, Blank, Brackets, Comment, Dotted, Entries, Entry, Expr, Gap, GapPart, Header, Key,
     KeyVal, Leaf, OpenLine, Value,
 };
-use std::alloc::{AllocError, Global};
+use std::alloc::AllocError;
 use std::collections::VecDeque;
 use toml_text::Span;
 use toml_tree::{Line, Piece};
 
 /// Opens trees, a unit at a time.
 #[derive(Clone, Copy)]
-pub(crate) struct Opener {
-    alloc: Global,
+pub(crate) struct Opener<'t> {
+    /// The text of which the tree is.
+    texts: Texts<'t>,
     /// The number of the next unit of the document; none where an edit brings the tree.
     next: Option<usize>,
 }
 
-impl Opener {
+impl<'t> Opener<'t> {
     /// Opens what stands in the document; this is the number of its first unit.
-    pub(crate) fn kept(alloc: Global, first: usize) -> Opener {
+    pub(crate) fn kept(texts: Texts<'t>, first: usize) -> Opener<'t> {
         Opener {
-            alloc,
+            texts,
             next: Some(first),
         }
     }
 
     /// Opens what an edit brings.
-    pub(crate) fn new(alloc: Global) -> Opener {
-        Opener { alloc, next: None }
+    pub(crate) fn new(texts: Texts<'t>) -> Opener<'t> {
+        Opener { texts, next: None }
     }
 
-    fn leaf<'t>(self, piece: Piece<'t>) -> Leaf<'t> {
+    fn leaf(self, piece: Piece<'t>) -> Leaf<'t> {
         match self.next {
-            Some(_) => Leaf::Kept(piece.span()),
+            Some(_) => Leaf::Kept {
+                start: piece.start,
+                text: piece.text,
+            },
             None => Leaf::New(piece.text),
         }
     }
 
     /// The bracket or the brace, of one byte, with which the value begins.
-    fn opening<'t>(self, whole: Piece<'t>, mark: &'static str) -> Leaf<'t> {
+    fn opening(self, whole: Piece<'t>, mark: &'static str) -> Leaf<'t> {
         match self.next {
-            Some(_) => Leaf::Kept(Span {
+            Some(_) => Leaf::Kept {
                 start: whole.start,
-                end: whole.start.saturating_add(1),
-            }),
+                text: mark,
+            },
             None => Leaf::New(mark),
         }
     }
@@ -55,14 +60,14 @@ impl Opener {
         here
     }
 
-    fn comment<'t>(&mut self, comment: Piece<'t>) -> Comment<'t> {
+    fn comment(&mut self, comment: Piece<'t>) -> Comment<'t> {
         Comment {
             origin: self.origin(),
             text: self.leaf(comment),
         }
     }
 
-    fn blank<'t>(&mut self, blank: toml_tree::Blank<'t>) -> Blank<'t> {
+    fn blank(&mut self, blank: toml_tree::Blank<'t>) -> Blank<'t> {
         let comment = match blank.comment {
             Some(comment) => Some(self.comment(comment)),
             None => None,
@@ -73,14 +78,14 @@ impl Opener {
         }
     }
 
-    fn gap<'t>(&mut self, gap: &toml_tree::Gap<'t>) -> Result<Gap<'t>, AllocError> {
+    fn gap(&mut self, gap: &toml_tree::Gap<'t>) -> Result<Gap<'t>, AllocError> {
         if gap.lines().is_empty() {
-            return Gap::space(self.alloc, self.leaf(gap.ws()));
+            return Gap::space(self.texts.alloc, self.leaf(gap.ws()));
         }
         if let Some(lines) = self.bare_lines(gap) {
-            return Gap::one(self.alloc, GapPart::Newline(Leaf::Kept(lines)));
+            return Gap::one(self.texts.alloc, GapPart::Newline(lines));
         }
-        let mut opened = Gap::empty(self.alloc);
+        let mut opened = Gap::empty(self.texts.alloc);
         for line in gap.lines() {
             opened.push_ws(self.leaf(line.blank.ws))?;
             if let Some(comment) = line.blank.comment {
@@ -94,8 +99,8 @@ impl Opener {
         Ok(opened)
     }
 
-    /// Where a gap with lines of the document stands, if no comment is on them: then it needs no parts.
-    fn bare_lines(self, gap: &toml_tree::Gap<'_>) -> Option<Span> {
+    /// A gap with lines of the document, if no comment is on them: then it needs no parts.
+    fn bare_lines(self, gap: &toml_tree::Gap<'t>) -> Option<Leaf<'t>> {
         let _ = self.next?;
         for line in gap.lines() {
             if line.blank.comment.is_some() {
@@ -103,14 +108,21 @@ impl Opener {
             }
         }
         let first = gap.lines().first()?;
-        Some(Span {
+        let span = Span {
             start: first.blank.ws.start,
             end: gap.ws().span().end,
+        };
+        if !self.texts.source.holds(span) {
+            return None;
+        }
+        Some(Leaf::Kept {
+            start: span.start,
+            text: self.texts.source.slice(span),
         })
     }
 
-    fn key<'t>(self, key: &toml_tree::Key<'t>) -> Result<Key<'t>, AllocError> {
-        let mut rest = Vec::with_capacity(self.alloc, key.rest.len())?;
+    fn key(self, key: &toml_tree::Key<'t>) -> Result<Key<'t>, AllocError> {
+        let mut rest = Vec::with_capacity(self.texts.alloc, key.rest.len())?;
         for dotted in &key.rest {
             rest.push(Dotted {
                 before_dot: self.leaf(dotted.before_dot),
@@ -124,7 +136,7 @@ impl Opener {
         })
     }
 
-    fn assign<'t>(self, assign: &toml_tree::Assign<'t>) -> Result<Assign<'t>, AllocError> {
+    fn assign(self, assign: &toml_tree::Assign<'t>) -> Result<Assign<'t>, AllocError> {
         Ok(Assign {
             key: self.key(&assign.key)?,
             before_equals: self.leaf(assign.before_equals),
@@ -134,26 +146,23 @@ impl Opener {
 
     /// A value with all that stands in it.
     #[cycle(opening)]
-    pub(crate) fn value<'t>(
-        &mut self,
-        value: &toml_tree::Value<'t>,
-    ) -> Result<Value<'t>, AllocError> {
+    pub(crate) fn value(&mut self, value: &toml_tree::Value<'t>) -> Result<Value<'t>, AllocError> {
         match value {
             toml_tree::Value::Scalar(_, token) => Ok(Value::Scalar(self.leaf(*token))),
             toml_tree::Value::Array(array) => {
                 let entries = self.array(array)?;
-                Ok(Value::Array(Box::new(self.alloc, entries)?))
+                Ok(Value::Array(Box::new(self.texts.alloc, entries)?))
             }
             toml_tree::Value::Inline(table) => {
                 let entries = self.inline(table)?;
-                Ok(Value::Inline(Box::new(self.alloc, entries)?))
+                Ok(Value::Inline(Box::new(self.texts.alloc, entries)?))
             }
         }
     }
 
     #[cycle(opening)]
-    fn array<'t>(&mut self, array: &toml_tree::Array<'t>) -> Result<Entries<'t>, AllocError> {
-        let mut list = Vec::with_capacity(self.alloc, array.items.len())?;
+    fn array(&mut self, array: &toml_tree::Array<'t>) -> Result<Entries<'t>, AllocError> {
+        let mut list = Vec::with_capacity(self.texts.alloc, array.items.len())?;
         for item in &array.items {
             let before = self.gap(&item.before)?;
             let origin = self.origin();
@@ -179,11 +188,8 @@ impl Opener {
     }
 
     #[cycle(opening)]
-    fn inline<'t>(
-        &mut self,
-        table: &toml_tree::InlineTable<'t>,
-    ) -> Result<Entries<'t>, AllocError> {
-        let mut list = Vec::with_capacity(self.alloc, table.pairs.len())?;
+    fn inline(&mut self, table: &toml_tree::InlineTable<'t>) -> Result<Entries<'t>, AllocError> {
+        let mut list = Vec::with_capacity(self.texts.alloc, table.pairs.len())?;
         for pair in &table.pairs {
             let before = self.gap(&pair.before)?;
             let origin = self.origin();
@@ -192,7 +198,7 @@ impl Opener {
             list.push(Entry {
                 origin,
                 before,
-                assign: Some(Box::new(self.alloc, keyval.assign)?),
+                assign: Some(Box::new(self.texts.alloc, keyval.assign)?),
                 value: keyval.value,
                 after,
             })?;
@@ -209,14 +215,14 @@ impl Opener {
     }
 
     #[cycle(opening)]
-    fn keyval<'t>(&mut self, pair: &toml_tree::KeyVal<'t>) -> Result<KeyVal<'t>, AllocError> {
+    fn keyval(&mut self, pair: &toml_tree::KeyVal<'t>) -> Result<KeyVal<'t>, AllocError> {
         Ok(KeyVal {
             assign: self.assign(&pair.assign)?,
             value: self.value(&pair.value)?,
         })
     }
 
-    fn header<'t>(
+    fn header(
         self,
         brackets: Brackets,
         header: &toml_tree::Header<'t>,
@@ -230,7 +236,7 @@ impl Opener {
     }
 
     /// A line with all that stands on it.
-    pub(crate) fn line<'t>(&mut self, line: &Line<'t>) -> Result<OpenLine<'t>, AllocError> {
+    pub(crate) fn line(&mut self, line: &Line<'t>) -> Result<OpenLine<'t>, AllocError> {
         let origin = self.origin();
         let (ws, expr, tail) = match line.expr() {
             toml_tree::Expr::Blank(blank) => (Leaf::EMPTY, Expr::Blank, *blank),

@@ -1,7 +1,10 @@
 //! The pieces of the edited text: kept spans of the text before the edits, and new texts.
-ghost use Rattle.std.specs.Prelude.{◌≡◌, ◌↔◌, IsTrue};
-ghost use Rattle.toml_text.specs.Source.{text_of};
-ghost use Rattle.toml_editor.specs.Tidy.{AreTidy, IsKeptTo, IsNew, EndsWith, TakesKept, TakesNew};
+ghost use Rattle.std.specs.Prelude.{◌≡◌, ◌↔◌, [], IsTrue, slice_range};
+ghost use Rattle.toml_text.specs.Source.{IsHeld, text_of};
+ghost use Rattle.toml_editor.specs.Edited.{ArePieces};
+ghost use Rattle.toml_editor.specs.OpenOutlines.{leaf_text};
+ghost use Rattle.toml_editor.specs.Tidy.{IsKeptTo, IsNew, EndsWith, TakesKept, TakesNew};
+ghost use Rattle.toml_editor.specs.Writing.{Writes};
 
 use crate::tree::Leaf;
 use std::alloc::{AllocError, Global};
@@ -23,13 +26,14 @@ pub(crate) struct Pieces<'t> {
 }
 
 impl<'t> Model for Pieces<'t> {
-    ghost use Rattle.std.specs.Prelude.{ℕ, List};
     ghost use Rattle.toml_text.specs.Source.{text_of};
+    ghost use Rattle.toml_units.specs.Pieces.{joined_text};
     ghost use Rattle.toml_editor.specs.Tidy.{AreTidyUpTo};
+    ghost use Rattle.toml_editor.specs.Writing.{Written};
 
-    ghost Value = { List ℕ };
+    ghost Value = { Written };
 
-    ghost view = { λ p. text_of p.source };
+    ghost view = { λ p. record { before = text_of p.source; out = joined_text (text_of p.source) p.list.items } };
 
     ghost invariant = { λ p. AreTidyUpTo (text_of p.source) p.end p.list.items };
 }
@@ -37,7 +41,7 @@ impl<'t> Model for Pieces<'t> {
 impl<'t> Pieces<'t> {
     /// No pieces.
     pub(crate) fn none(alloc: Global, source: Source<'t>) -> Pieces<'t>
-        ensures { result ≡ text_of source.entry }
+        ensures { result ≡ record { before = text_of source.entry; out = [] } }
     {
         Pieces {
             alloc,
@@ -50,24 +54,25 @@ impl<'t> Pieces<'t> {
 
     /// The pieces.
     pub(crate) fn into_list(self) -> Vec<Piece>
-        ensures { AreTidy self.entry result.items }
+        ensures { ArePieces self.entry.before self.entry.out result.items }
     {
         self.list
     }
 
     /// Writes a piece of the working tree.
     pub(crate) fn leaf(&mut self, leaf: Leaf<'t>) -> Result<(), AllocError>
-        ensures { self.new ≡ self.old }
+        ensures { Writes (leaf_text leaf.entry) self.old self.new result }
     {
         match leaf {
-            Leaf::Kept(span) => self.keep(span),
+            Leaf::Kept { start, text } => self.place(start, text),
             Leaf::New(text) => self.write(text),
         }
     }
 
     /// Keeps a span. One that does not lie behind the last one is written as a new text.
     pub(crate) fn keep(&mut self, span: Span) -> Result<(), AllocError>
-        ensures { self.new ≡ self.old }
+        ensures before { self.new.before ≡ self.old.before }
+        ensures kept { IsHeld self.old.before span → Writes (slice_range self.old.before span.start span.end) self.old self.new result }
     {
         if !self.source.holds(span) {
             return Ok(());
@@ -91,7 +96,7 @@ impl<'t> Pieces<'t> {
 
     /// Writes a new text.
     fn write(&mut self, text: &str) -> Result<(), AllocError>
-        ensures { self.new ≡ self.old }
+        ensures { Writes text.now self.old self.new result }
     {
         if text.is_empty() {
             return Ok(());
@@ -119,16 +124,24 @@ impl<'t> Pieces<'t> {
     /// Writes a symbol between two pieces. It is kept where it stands in the text before the edits behind the piece that was
     /// written last.
     pub(crate) fn symbol(&mut self, text: &str) -> Result<(), AllocError>
-        ensures { self.new ≡ self.old }
+        ensures { Writes text.now self.old self.new result }
     {
-        if let Some(start) = self.at {
-            let span = Span {
-                start,
-                end: start.saturating_add(text.len()),
-            };
-            if self.source.holds(span) && self.source.slice(span) == text {
-                return self.keep(span);
-            }
+        match self.at {
+            Some(start) => self.place(start, text),
+            None => self.write(text),
+        }
+    }
+
+    /// Writes a text, and keeps it where it stands there in the text before the edits.
+    pub(crate) fn place(&mut self, start: usize, text: &str) -> Result<(), AllocError>
+        ensures { Writes text.now self.old self.new result }
+    {
+        let span = Span {
+            start,
+            end: start.saturating_add(text.len()),
+        };
+        if self.source.holds(span) && self.source.slice(span) == text {
+            return self.keep(span);
         }
         self.write(text)
     }

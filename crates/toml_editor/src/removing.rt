@@ -244,7 +244,7 @@ fn emptied<'t>(
         Some(base) => parent.steps().len().saturating_sub(base),
         None => names_in(parent.steps()),
     };
-    line.open(texts.alloc, doc)?;
+    line.open(texts, doc)?;
     if let Some(open) = line.opened() {
         open.empty(texts, parts)?;
     }

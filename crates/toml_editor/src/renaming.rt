@@ -1,9 +1,10 @@
 //! `rename`: each key part that stands for the address, in headers, keys of lines and keys of pairs, becomes the spelling of
 //! the new name.
 use crate::lines::{Line, Slot, below, changed};
+use crate::texts::Texts;
 use crate::tree::{Expr, Leaf};
 use crate::working::{Before, Position, Tree};
-use std::alloc::{AllocError, Global};
+use std::alloc::AllocError;
 use toml_names::{Address, Name, Place, Step};
 use toml_tree::Doc;
 
@@ -35,9 +36,9 @@ impl<'x> Tree<'x> {
         name: &Name,
         spelled: &'x str,
     ) -> Result<(), AllocError> {
-        let alloc = self.alloc();
+        let texts = self.texts;
         match self.line_mut(before, place)? {
-            Some(line) => line.rename(alloc, before.doc, at, name, spelled),
+            Some(line) => line.rename(texts, before.doc, at, name, spelled),
             None => Ok(()),
         }
     }
@@ -66,13 +67,13 @@ impl<'x> Tree<'x> {
         name: &Name,
         spelled: &'x str,
     ) -> Result<(), AllocError> {
-        let alloc = self.alloc();
+        let texts = self.texts;
         for slot in &mut self.slots {
             if slot.is_below(before.units, at) {
-                slot.rename(alloc, before, at, name, spelled)?;
+                slot.rename(texts, before, at, name, spelled)?;
             }
         }
-        self.elements.rename(alloc, at, name)
+        self.elements.rename(texts.alloc, at, name)
     }
 }
 
@@ -80,19 +81,19 @@ impl<'t> Slot<'t> {
     /// Renames in its lines at the address or below.
     fn rename(
         &mut self,
-        alloc: Global,
+        texts: Texts<'t>,
         before: Before<'_, 't>,
         at: &Address,
         name: &Name,
         spelled: &'t str,
     ) -> Result<(), AllocError> {
-        self.open(alloc, before.units)?;
+        self.open(texts.alloc, before.units)?;
         let Some(lines) = self.opened() else {
             return Ok(());
         };
         for line in lines {
             if line.seen().is_below(at) {
-                line.rename(alloc, before.doc, at, name, spelled)?;
+                line.rename(texts, before.doc, at, name, spelled)?;
             }
         }
         Ok(())
@@ -103,14 +104,14 @@ impl<'t> Line<'t> {
     /// Renames in a line at the address or below.
     fn rename(
         &mut self,
-        alloc: Global,
+        texts: Texts<'t>,
         doc: &Doc<'t>,
         at: &Address,
         name: &Name,
         spelled: &'t str,
     ) -> Result<(), AllocError> {
         if let Some(part) = self.seen().part_of(at) {
-            self.set_part(alloc, doc, part, Leaf::New(spelled))?;
+            self.set_part(texts, doc, part, Leaf::New(spelled))?;
         }
         let place = at.steps().len().saturating_sub(1);
         let step = Step::Name(name.copy()?);
@@ -123,12 +124,12 @@ impl<'t> Line<'t> {
     /// Changes a part of its key.
     fn set_part(
         &mut self,
-        alloc: Global,
+        texts: Texts<'t>,
         doc: &Doc<'t>,
         part: usize,
         leaf: Leaf<'t>,
     ) -> Result<(), AllocError> {
-        self.open(alloc, doc)?;
+        self.open(texts, doc)?;
         if let Some(open) = self.opened() {
             match &mut open.expr {
                 Expr::Blank => {}

@@ -2,6 +2,7 @@
 ghost use Rattle.std.specs.Prelude.{◌≡◌, IfOk, length, vec_len};
 
 use crate::opening::Opener;
+use crate::texts::Texts;
 use crate::tree::Value;
 use std::alloc::{AllocError, Global};
 use toml_edits::Edit;
@@ -55,7 +56,7 @@ pub(crate) fn open_value<'t>(
         return Ok(None);
     };
     match parse_value_in(alloc, source, profile) {
-        Ok(value) => Ok(Some(Opener::new(alloc).value(&value)?)),
+        Ok(value) => Ok(Some(Opener::new(Texts { alloc, source }).value(&value)?)),
         Err(SyntaxFault::NoMemory) => Err(AllocError),
         Err(_) => Ok(None),
     }

@@ -13,23 +13,9 @@ pub(crate) struct Texts<'t> {
 }
 
 impl<'t> Texts<'t> {
-    /// The text of a piece.
-    pub(crate) fn text(self, leaf: Leaf<'t>) -> &'t str {
-        match leaf {
-            Leaf::Kept(span) => {
-                if self.source.holds(span) {
-                    self.source.slice(span)
-                } else {
-                    ""
-                }
-            }
-            Leaf::New(text) => text,
-        }
-    }
-
     /// Whether the key part has this name.
     fn is_name(self, part: Leaf<'t>, name: &Name) -> Result<bool, AllocError> {
-        Ok(match name_of(self.alloc, self.text(part))? {
+        Ok(match name_of(self.alloc, part.text())? {
             Some(found) => found.as_str() == name.as_str(),
             None => false,
         })

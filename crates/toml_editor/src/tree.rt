@@ -3,13 +3,12 @@
 //! are.
 use std::alloc::{AllocError, Global};
 use std::collections::VecDeque;
-use toml_text::Span;
 
 /// A piece of the working text.
 #[derive(Clone, Copy)]
 pub(crate) enum Leaf<'t> {
-    /// It stands here in the text before the edits.
-    Kept(Span),
+    /// It begins here in the text before the edits.
+    Kept { start: usize, text: &'t str },
     /// An edit has written it.
     New(&'t str),
 }
@@ -150,12 +149,16 @@ impl<'t> Leaf<'t> {
     /// The piece of no bytes.
     pub(crate) const EMPTY: Leaf<'static> = Leaf::New("");
 
+    /// Its text.
+    pub(crate) fn text(self) -> &'t str {
+        match self {
+            Leaf::Kept { text, .. } | Leaf::New(text) => text,
+        }
+    }
+
     /// Whether it has no bytes.
     pub(crate) fn is_empty(self) -> bool {
-        match self {
-            Leaf::Kept(span) => span.start == span.end,
-            Leaf::New(text) => text.is_empty(),
-        }
+        self.text().is_empty()
     }
 }
 

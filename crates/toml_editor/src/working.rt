@@ -119,11 +119,11 @@ impl<'x> Tree<'x> {
         before: Before<'_, 'x>,
         at: Position,
     ) -> Result<Option<&mut Value<'x>>, AllocError> {
-        let alloc = self.texts.alloc;
+        let texts = self.texts;
         let Some(line) = self.line_mut(before, at)? else {
             return Ok(None);
         };
-        line.open(alloc, before.doc)?;
+        line.open(texts, before.doc)?;
         Ok(line.value())
     }
 

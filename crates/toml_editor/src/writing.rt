@@ -1,6 +1,9 @@
 //! The working tree written as pieces.
-ghost use Rattle.std.specs.Prelude.{◌≡◌, IfOk};
+ghost use Rattle.std.specs.Prelude.{◌≡◌, ℕ, List, IfOk, false};
 ghost use Rattle.toml_text.specs.Source.{text_of};
+ghost use Rattle.toml_editor.specs.OpenOutlines.{gap_text, assign as assign_outline, blank_text, entries as entries_outline, entry as entry_outline, entry_outlined, header as header_outline, key_text, line as line_outline, value as value_outline};
+ghost use Rattle.toml_editor.specs.Outlines.{assign_outlined, entries_outlined, expr_outlined, line_outlined, value_outlined};
+ghost use Rattle.toml_editor.specs.Writing.{SpellAll, SpellsLine, SpellsSlot, Writes, WritesOut};
 
 use crate::lines::{Body, Line, Slot};
 use crate::pieces::Pieces;
@@ -19,10 +22,11 @@ impl<'t> Tree<'t> {
         source: Source<'t>,
         mark: Piece<'t>,
     ) -> Result<Pieces<'t>, AllocError>
-        ensures { IfOk result (λ pieces. pieces ≡ text_of source.entry) }
+        ensures before { IfOk result (λ pieces. pieces.before ≡ text_of source.entry) }
+        ensures written { IfOk result (λ pieces. WritesOut (text_of source.entry) mark.entry.text.now self.now.slots.items pieces.out) }
     {
         let mut pieces = Pieces::none(self.alloc(), source);
-        pieces.keep(mark.span())?;
+        pieces.place(mark.start, mark.text)?;
         for slot in &self.slots {
             pieces.slot(slot)?;
         }
@@ -32,7 +36,8 @@ impl<'t> Tree<'t> {
 
 impl<'t> Pieces<'t> {
     fn slot(&mut self, slot: &Slot<'t>) -> Result<(), AllocError>
-        ensures { self.new ≡ self.old }
+        ensures before { self.new.before ≡ self.old.before }
+        ensures written { (text : List ℕ) → SpellsSlot self.old.before slot.now text → Writes text self.old self.new result }
     {
         match slot {
             Slot::Kept(kept) => self.keep(kept.span),
@@ -41,7 +46,8 @@ impl<'t> Pieces<'t> {
     }
 
     fn lines(&mut self, lines: &[Line<'t>]) -> Result<(), AllocError>
-        ensures { self.new ≡ self.old }
+        ensures before { self.new.before ≡ self.old.before }
+        ensures written { (text : List ℕ) → SpellAll (SpellsLine self.old.before) lines.now text → Writes text self.old self.new result }
     {
         for line in lines {
             self.line(line)?;
@@ -50,7 +56,8 @@ impl<'t> Pieces<'t> {
     }
 
     fn line(&mut self, line: &Line<'t>) -> Result<(), AllocError>
-        ensures { self.new ≡ self.old }
+        ensures before { self.new.before ≡ self.old.before }
+        ensures written { (text : List ℕ) → SpellsLine self.old.before line.now text → Writes text self.old self.new result }
     {
         match &line.body {
             Body::Kept(kept) => self.keep(kept.span),
@@ -59,7 +66,7 @@ impl<'t> Pieces<'t> {
     }
 
     fn open_line(&mut self, line: &OpenLine<'t>) -> Result<(), AllocError>
-        ensures { self.new ≡ self.old }
+        ensures { Writes (line_outlined (line_outline line.now)) self.old self.new result }
     {
         self.begin(line.origin);
         self.leaf(line.ws)?;
@@ -76,7 +83,7 @@ impl<'t> Pieces<'t> {
     }
 
     fn header(&mut self, header: &Header<'t>) -> Result<(), AllocError>
-        ensures { self.new ≡ self.old }
+        ensures { Writes (expr_outlined (header_outline header.now)) self.old self.new result }
     {
         let (opening, closing) = match header.brackets {
             Brackets::One => ("[", "]"),
@@ -90,7 +97,7 @@ impl<'t> Pieces<'t> {
     }
 
     fn blank(&mut self, blank: &Blank<'t>) -> Result<(), AllocError>
-        ensures { self.new ≡ self.old }
+        ensures { Writes (blank_text blank.now) self.old self.new result }
     {
         self.leaf(blank.ws)?;
         match &blank.comment {
@@ -100,7 +107,7 @@ impl<'t> Pieces<'t> {
     }
 
     fn key(&mut self, key: &Key<'t>) -> Result<(), AllocError>
-        ensures { self.new ≡ self.old }
+        ensures { Writes (key_text key.now) self.old self.new result }
     {
         self.leaf(key.first)?;
         for dotted in &key.rest {
@@ -113,7 +120,7 @@ impl<'t> Pieces<'t> {
     }
 
     fn assign(&mut self, assign: &Assign<'t>) -> Result<(), AllocError>
-        ensures { self.new ≡ self.old }
+        ensures { Writes (assign_outlined (assign_outline assign.now)) self.old self.new result }
     {
         self.key(&assign.key)?;
         self.leaf(assign.before_equals)?;
@@ -123,7 +130,7 @@ impl<'t> Pieces<'t> {
 
     #[cycle(writing)]
     fn value(&mut self, value: &Value<'t>) -> Result<(), AllocError>
-        ensures { self.new ≡ self.old }
+        ensures { Writes (value_outlined (value_outline value.now)) self.old self.new result }
     {
         match value {
             Value::Scalar(token) => self.leaf(*token),
@@ -142,10 +149,10 @@ impl<'t> Pieces<'t> {
 
     #[cycle(writing)]
     fn entries(&mut self, entries: &Entries<'t>) -> Result<(), AllocError>
-        ensures { self.new ≡ self.old }
+        ensures { Writes (entries_outlined false (entries_outline entries.now).entries) self.old self.new result }
     {
         let mut is_behind = false;
-        for entry in &entries.list {
+        for entry in entries.list.iter() {
             if is_behind {
                 self.symbol(",")?;
             }
@@ -153,7 +160,7 @@ impl<'t> Pieces<'t> {
             self.entry(entry)?;
         }
         if let Some(end) = &entries.end {
-            if !entries.list.is_empty() {
+            if is_behind {
                 self.symbol(",")?;
             }
             self.gap(end)?;
@@ -163,7 +170,7 @@ impl<'t> Pieces<'t> {
 
     #[cycle(writing)]
     fn entry(&mut self, entry: &Entry<'t>) -> Result<(), AllocError>
-        ensures { self.new ≡ self.old }
+        ensures { Writes (entry_outlined (entry_outline entry.now)) self.old self.new result }
     {
         self.gap(&entry.before)?;
         if let Some(assign) = &entry.assign {
@@ -174,7 +181,7 @@ impl<'t> Pieces<'t> {
     }
 
     fn gap(&mut self, gap: &Gap<'t>) -> Result<(), AllocError>
-        ensures { self.new ≡ self.old }
+        ensures { Writes (gap_text gap.now) self.old self.new result }
     {
         for part in &gap.parts {
             match part {

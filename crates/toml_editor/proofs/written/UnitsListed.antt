@@ -18,11 +18,11 @@ use Rattle.toml_checker.specs.CarriedTo.{IsCarriedTo}
 use Rattle.toml_checker.specs.Comments.{texts, times}
 use Rattle.toml_checker.specs.Comments as written
 use Rattle.toml_checker.specs.Plain.{Site, site, next_line, is_kept}
-use Rattle.toml_editor.specs.BareUnits.{bare_unit}
+use Rattle.toml_units.specs.Bares.{bare_unit}
 use Rattle.toml_editor.specs.CarriedLists.{ListIsCarried}
 use Rattle.toml_editor.specs.Steps.{IsGoodText, AreWritten}
 use Rattle.toml_editor.proofs.written.Steps.{plain_step}
-use Rattle.toml_editor.proofs.written.UnitsBare.{units_of_bares}
+use Rattle.toml_units.proofs.Proved.{units_of_bares}
 use Rattle.toml_editor.proofs.written.UnitsCarried.{plain_goes, lines_again}
 use Rattle.toml_editor.proofs.written.Way.{news, olds, one_line, is_here}
 use Rattle.toml_editor.proofs.written.WayComments.{added, comments, times_cons}

@@ -1,4 +1,7 @@
-use Rattle.std.proofs.Common.{rules, arith, subst, ◌≤◌}
+use Rattle.std.proofs.Common.{rules, arith, subst, ◌≡◌, ◌≤◌, ◌++◌, slice_range}
+use Rattle.toml_units.specs.Pieces.{joined_text}
+use Rattle.toml_units.specs.declared.piece.Piece.TheVariants.{Kept}
+use Rattle.toml_editor.proofs.Out.{joined_more, joined_touching}
 use Rattle.toml_text.specs.Source.{text_of, IsHeld}
 use Rattle.toml_editor.proofs.Tidy.{kept_grown, kept_more, left_of_kept, tidy_later}
 use Rattle.toml_editor.specs.Tidy.{AreTidyUpTo}
@@ -30,3 +33,19 @@ invariant_of-self-2 c =
           rw (w.start-is, w.in-None.ensures.0)
           (kept_more text p.end p.list.items c.self.invariant c.args.span held (omega arith) (omega (arith, held.order)) w.in-None.ensures.1)
     ])
+
+pub returns-clause-kept : goal.returns-clause-kept
+returns-clause-kept c held =
+    let p = c.self.inside in
+    let text = text_of p.source in
+    let left = c.take_kept.new.pieces.items in
+    let span = c.args.span in
+    let out : joined_text text c.push.new.self.items ≡ joined_text text p.list.items ++ slice_range text span.start span.end =
+    rw c.in_ok-push.ensures.items
+    (elim c.match-take_kept.branch [
+      | in-Some w ↦
+          rw (w.start-is, w.in-Some.ensures.1)
+          (joined_touching text p.end left w.in-Some.last span (subst (AreTidyUpTo text p.end) w.in-Some.ensures.1 c.self.invariant) w.in-Some.ensures.0 held.order)
+      | in-None w ↦ rw (w.start-is, w.in-None.ensures.0) (joined_more text p.list.items (Kept span))
+    ]) in
+    (search rules, search rules)

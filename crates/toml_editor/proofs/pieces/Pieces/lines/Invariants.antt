@@ -1,5 +1,10 @@
-use Rattle.std.proofs.Common.{◌≡◌}
+use Rattle.std.proofs.Common.{◌≡◌, ℕ, List}
+use Rattle.toml_editor.proofs.Out.{SpelledSoFar}
+use Rattle.toml_editor.specs.Writing.{SpellAll, SpellsLine}
 use Rattle.toml_editor.proofs.pieces.Pieces.lines.Given as goal
 
 abbrev pub invariant-loop-line : goal.invariant-loop-line
-invariant-loop-line l = l.self ≡ l.fn.self
+invariant-loop-line l =
+    (l.self.before ≡ l.fn.self.before)
+    × ((text : List ℕ) → SpellAll (SpellsLine l.fn.self.before) l.lines text
+    → SpelledSoFar (SpellsLine l.fn.self.before) l.fn.self.out l.lines l.line-index l.self.out text)

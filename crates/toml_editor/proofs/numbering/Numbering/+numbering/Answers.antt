@@ -1,0 +1,76 @@
+use Rattle.std.proofs.Common.{◌≡◌, ◌++◌, ◌∷◌, ◌∙◌, [], ap, sym, subst, append_assoc, append-nil, refl}
+use Rattle.std.proofs.lemmas.List.{nil_from_length}
+use Rattle.std.proofs.lemmas.Result.{on_ok_weaker}
+use Rattle.std.specs.VecDeque.Iter.{deque_iter_rest}
+use Rattle.toml_editor.specs.declared.tree.Value.TheViews.{out-Entries, out-Entry}
+use Rattle.toml_editor.proofs.Numbered.{more_counted, all_counted, then, entries_are, entry_is}
+use Rattle.toml_editor.specs.Numbering.{Numbers, all_origins, end_origins, entry_origins, entries_origins, gap_origins, value_origins}
+use Rattle.toml_editor.proofs.numbering.Numbering.+numbering.Goals as goal
+
+pub entries-loop-entry-preserved : goal.entries-loop-entry-preserved
+entries-loop-entry-preserved t c =
+    let so_far = c.loop-entry.invariant in
+    let end = end_origins (out-Entries c.args.entries.now).end in
+    let here = entry_origins c.in-Some.entry.now in
+    let left = all_origins entry_origins (deque_iter_rest c.next.new.self) in
+    let split = ap (λ es. all_origins entry_origins es ++ end) c.in-Some.ensures.steps ∙ append_assoc here left end in (
+      c.in_ok-entry.ensures.0 ∙ so_far.0,
+      c.in_ok-entry.ensures.1 ∙ so_far.1,
+      more_counted (all_origins entry_origins (deque_iter_rest c.into_iter-entry-iterator.result) ++ end) here (left ++ end) (all_origins entry_origins (deque_iter_rest c.loop-entry.entry-iterator) ++ end)
+          c.args.self.now c.loop-entry.self c.entry.new.self so_far.1 split so_far.2 c.in_ok-entry.ensures.2,
+    )
+
+pub entries-returns-in-Some-end : goal.entries-returns-in-Some-end
+entries-returns-in-Some-end t c =
+    let so_far = c.loop-entry.invariant in
+    let es = c.args.entries.now in
+    let end = end_origins (out-Entries es).end in
+    let all = deque_iter_rest c.into_iter-entry-iterator.result in
+    let rest = deque_iter_rest c.loop-entry.entry-iterator in
+    let none = ap (λ es. all_origins entry_origins es ++ end) (nil_from_length rest c.in-None.ensures.steps.0) in
+    let is = ap end_origins c.in-Some-end.is in
+    let whole = entries_are es all (ap deque_iter_rest c.into_iter-entry-iterator.ensures.into_iter_gives ∙ c.iter-entry-items.ensures.rest) in (
+      c.gap.ensures.0 ∙ so_far.0,
+      c.gap.ensures.1 ∙ so_far.1,
+      on_ok_weaker c.gap.result (λ here.
+          subst (λ os. Numbers os c.args.self.now c.gap.new.self) whole
+          (all_counted (all_origins entry_origins all ++ end) [] c.args.self.now c.gap.new.self refl
+          (more_counted (all_origins entry_origins all ++ end) end [] (all_origins entry_origins rest ++ end) c.args.self.now c.loop-entry.self c.gap.new.self so_far.1
+          (none ∙ sym (append-nil end)) so_far.2 (subst (λ os. Numbers os c.loop-entry.self c.gap.new.self) (sym is) here)))) c.gap.ensures.2,
+    )
+
+pub entries-returns-in-None-end : goal.entries-returns-in-None-end
+entries-returns-in-None-end t c =
+    let so_far = c.loop-entry.invariant in
+    let es = c.args.entries.now in
+    let end = end_origins (out-Entries es).end in
+    let all = deque_iter_rest c.into_iter-entry-iterator.result in
+    let rest = deque_iter_rest c.loop-entry.entry-iterator in
+    let none = ap (λ es. all_origins entry_origins es ++ end) (nil_from_length rest c.in-None.ensures.steps.0) ∙ ap end_origins c.in-None-end.is in
+    let whole = entries_are es all (ap deque_iter_rest c.into_iter-entry-iterator.ensures.into_iter_gives ∙ c.iter-entry-items.ensures.rest) in (
+      so_far.0,
+      so_far.1,
+      subst (λ os. Numbers os c.args.self.now c.loop-entry.self) whole
+          (all_counted (all_origins entry_origins all ++ end) (all_origins entry_origins rest ++ end) c.args.self.now c.loop-entry.self none so_far.2),
+    )
+
+pub entry-returns : goal.entry-returns
+entry-returns t c =
+    let e = c.args.entry.now in
+    let o = out-Entry e in
+    let before = gap_origins o.before in
+    let own = o.origin ∷ [] in
+    let inner = value_origins o.value in
+    let start = c.args.self.now in
+    let wanted = c.in_ok-gap.ensures.1 in
+    let first = then before own start c.gap.new.self c.unit.new.self wanted c.in_ok-gap.ensures.2 c.in_ok-unit.ensures.2 in
+    let second = then (before ++ own) inner start c.unit.new.self c.value.new.self (c.in_ok-unit.ensures.1 ∙ wanted) first c.in_ok-value.ensures.2 in
+    let same = c.in_ok-value.ensures.1 ∙ c.in_ok-unit.ensures.1 ∙ wanted in
+    let is : ((before ++ own) ++ inner) ++ gap_origins o.after ≡ entry_origins e =
+    append_assoc (before ++ own) inner (gap_origins o.after) ∙ append_assoc before own (inner ++ gap_origins o.after) ∙ sym (entry_is e) in (
+      c.gap-2.ensures.0 ∙ c.in_ok-value.ensures.0 ∙ c.in_ok-unit.ensures.0 ∙ c.in_ok-gap.ensures.0,
+      c.gap-2.ensures.1 ∙ same,
+      on_ok_weaker c.gap-2.result (λ here.
+          subst (λ os. Numbers os start c.gap-2.new.self) is
+          (then ((before ++ own) ++ inner) (gap_origins o.after) start c.value.new.self c.gap-2.new.self same second here)) c.gap-2.ensures.2,
+    )
