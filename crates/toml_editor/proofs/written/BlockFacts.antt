@@ -6,6 +6,10 @@ use Rattle.toml_editor.specs.Blocks.{IsPut}
 use Rattle.toml_editor.proofs.Each.{each_append, each_front, each_back}
 use Rattle.toml_editor.proofs.written.Pairwise.{PairsAre, Has, has_append_left, has_append_right, has_parts}
 
+pub pairs_front : {A : Type 0} (R : A → A → Type 0) (xs ys : List A) → PairsAre R (xs ++ ys) → PairsAre R xs
+pairs_front R [] ys h = tt
+pairs_front R (x ∷ xs) ys h = (each_front (R x) xs ys h.0, pairs_front R xs ys h.1)
+
 pub pairs_back : {A : Type 0} (R : A → A → Type 0) (xs ys : List A) → PairsAre R (xs ++ ys) → PairsAre R ys
 pairs_back R [] ys h = h
 pairs_back R (x ∷ xs) ys h = pairs_back R xs ys h.1

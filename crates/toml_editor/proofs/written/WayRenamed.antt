@@ -100,7 +100,7 @@ module _ (q : Address) (n to : List ℕ) where
         child q to,
         child q to,
         ap (option_map (λ (w : Address × AddressStep). child w.0 to))
-            (parted_at q (Name n)),
+            (parted_at_last q (Name n)),
         refl,
         (h.2.0, ap (moved q n to) h.2.1 ∙ moved_below q h.2.0),
       ))
