@@ -1,0 +1,7 @@
+use Rattle.toml_editor.proofs.editing.edit.Goals as goal
+
+pub returns-clause-edited : goal.returns-clause-edited
+returns-clause-edited c = c.edit_in.ensures.edited
+
+pub returns-clause-told : goal.returns-clause-told
+returns-clause-told c = c.edit_in.ensures.told

@@ -1,0 +1,4 @@
+use Rattle.toml_editor.proofs.editing.edit_in.Goals as goal
+
+pub returns-clause-edited : goal.returns-clause-edited
+returns-clause-edited c = c.in_ok-edited.ensures.edited.edited
