@@ -7,5 +7,10 @@ mod Tidy
 mod Out
 mod Outlined
 mod TreeOutlined
+mod Lying
+mod Opened
+mod OpenedEach
+mod OpenedGap
+mod OpenedLine
 pub mod written
 pub mod Proved

@@ -9,6 +9,7 @@ pub mod Outlines
 pub mod OpenOutlines
 pub mod TreeOutlines
 pub mod Writing
+pub mod Opening
 -- what a plain edit writes, and the laws of it
 pub mod Lines
 pub mod Setting
