@@ -8,5 +8,10 @@ mod Out
 mod Outlined
 mod TreeOutlined
 mod Numbered
+mod Lying
+mod Opened
+mod OpenedEach
+mod OpenedGap
+mod OpenedLine
 pub mod written
 pub mod Proved

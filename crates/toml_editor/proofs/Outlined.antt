@@ -3,9 +3,11 @@ use Rattle.std.proofs.Common.{◌≡◌, ◌∙◌, ℕ, Bool, true, false, List
 use Rattle.std.specs.Prelude.{option_map}
 use Rattle.toml_editor.specs.declared.tree.Entries.{Entries}
 use Rattle.toml_editor.specs.declared.tree.Entry.{Entry}
-use Rattle.toml_editor.specs.declared.tree.Value.TheViews.{out-Entries}
-use Rattle.toml_editor.specs.declared.tree.Value.TheFolds.{fold_out-Entries}
-use Rattle.toml_editor.specs.OpenOutlines.{EntryOutline, Enclosed, entry, entries, entry_outlined, entries_of, gap_text, leaf_text, value_step, entries_step, entry_step}
+use Rattle.toml_editor.specs.declared.tree.Value.{Value}
+use Rattle.toml_editor.specs.declared.tree.Value.TheOpen.{Entries-F, Entry-F}
+use Rattle.toml_editor.specs.declared.tree.Value.TheViews.{out-Entries, roll-Entries, roll-Entry}
+use Rattle.toml_editor.specs.declared.tree.Value.TheFolds.{fold_out-Entries, fold-roll-Entries, fold-roll-Entry}
+use Rattle.toml_editor.specs.OpenOutlines.{EntryOutline, Enclosed, entry, entries, entry_outlined, entries_of, gap_text, leaf_text, assign, value, value_step, entries_step, entry_step}
 use Rattle.toml_editor.specs.Outlines.{End, ValueOutline, comma_if, entries_outlined, own_assign_outlined, value_outlined}
 
 -- the first entry, with a comma where one stands before it, and all behind it
@@ -59,3 +61,13 @@ pub entries_whole : (e : Entries) (all : List Entry) (old : List ℕ) → all �
 entries_whole e all old is =
     ap (λ es. old ++ entries_outlined false (entries_of (map entry es) (option_map gap_text (out-Entries e).end))) is
     ∙ ap (λ w. old ++ entries_outlined false w.entries) (sym (entries_is e))
+
+-- entries that are made of these
+pub entries_made : (e : Entries-F Value Entries Entry)
+    → entries (roll-Entries e) ≡ record { opening = leaf_text e.opening; entries = entries_of (map entry e.list.items) (option_map gap_text e.end) }
+entries_made = fold-roll-Entries ValueOutline Enclosed EntryOutline value_step entries_step entry_step
+
+-- an entry that is made of these
+pub entry_made : (e : Entry-F Value Entries Entry)
+    → entry (roll-Entry e) ≡ record { before = gap_text e.before; assign = option_map (λ a. assign a.value) e.assign; value = value e.value; after = gap_text e.after }
+entry_made = fold-roll-Entry ValueOutline Enclosed EntryOutline value_step entries_step entry_step

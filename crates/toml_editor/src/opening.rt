@@ -1,4 +1,15 @@
 //! The tree of a document, or of a value that an edit brings, as a part of the working tree.
+ghost use Rattle.std.specs.Prelude.{◌≡◌, IfOk, IfSome, option_map};
+ghost use Rattle.toml_text.specs.Source.{text_of};
+ghost use Rattle.toml_tree.specs.Lines.{line as tree_line};
+ghost use Rattle.toml_tree.specs.Spells.{gap_parts};
+ghost use Rattle.toml_tree.specs.View.{assign as tree_assign, gap as tree_gap, header as tree_header, key as tree_key, keyval as tree_keyval, value as tree_value};
+ghost use Rattle.toml_editor.specs.OpenOutlines.{assign as assign_outlined, comment_text, header as header_outlined, leaf_text};
+ghost use Rattle.toml_editor.specs.OpenOutlines.{opening_brackets, closing_brackets};
+ghost use Rattle.toml_editor.specs.Opening.{IsKeyOpened, Lie, OpensArray, OpensGap, OpensInline, OpensKeyVal, OpensLine, OpensValue};
+ghost use Rattle.toml_editor.specs.Opening.{array_tree, inline_tree};
+ghost use Rattle.toml_editor.specs.TreeOutlines.{assign_outline, gap_spelled, header_outline};
+
 use crate::texts::Texts;
 use crate::tree::{
     Assign, Blank, Brackets, Comment, Dotted, Entries, Entry, Expr, Gap, GapPart, Header, Key,
@@ -20,7 +31,9 @@ pub(crate) struct Opener<'t> {
 
 impl<'t> Opener<'t> {
     /// Opens what stands in the document; this is the number of its first unit.
-    pub(crate) fn kept(texts: Texts<'t>, first: usize) -> Opener<'t> {
+    pub(crate) fn kept(texts: Texts<'t>, first: usize) -> Opener<'t>
+        ensures { result.texts ≡ texts.entry }
+    {
         Opener {
             texts,
             next: Some(first),
@@ -28,11 +41,15 @@ impl<'t> Opener<'t> {
     }
 
     /// Opens what an edit brings.
-    pub(crate) fn new(texts: Texts<'t>) -> Opener<'t> {
+    pub(crate) fn new(texts: Texts<'t>) -> Opener<'t>
+        ensures { result.texts ≡ texts.entry }
+    {
         Opener { texts, next: None }
     }
 
-    fn leaf(self, piece: Piece<'t>) -> Leaf<'t> {
+    fn leaf(self, piece: Piece<'t>) -> Leaf<'t>
+        ensures { leaf_text result ≡ piece.entry.text.now }
+    {
         match self.next {
             Some(_) => Leaf::Kept {
                 start: piece.start,
@@ -43,7 +60,9 @@ impl<'t> Opener<'t> {
     }
 
     /// The bracket or the brace, of one byte, with which the value begins.
-    fn opening(self, whole: Piece<'t>, mark: &'static str) -> Leaf<'t> {
+    fn opening(self, whole: Piece<'t>, mark: &'static str) -> Leaf<'t>
+        ensures { leaf_text result ≡ mark.entry.now }
+    {
         match self.next {
             Some(_) => Leaf::Kept {
                 start: whole.start,
@@ -54,20 +73,29 @@ impl<'t> Opener<'t> {
     }
 
     /// The number of the unit that is opened now.
-    fn origin(&mut self) -> Option<usize> {
+    fn origin(&mut self) -> Option<usize>
+        ensures { self.new.texts ≡ self.old.texts }
+    {
         let here = self.next;
         self.next = here.map(|number| number.saturating_add(1));
         here
     }
 
-    fn comment(&mut self, comment: Piece<'t>) -> Comment<'t> {
+    fn comment(&mut self, comment: Piece<'t>) -> Comment<'t>
+        ensures texts { self.new.texts ≡ self.old.texts }
+        ensures opened { leaf_text result.text ≡ comment.entry.text.now }
+    {
         Comment {
             origin: self.origin(),
             text: self.leaf(comment),
         }
     }
 
-    fn blank(&mut self, blank: toml_tree::Blank<'t>) -> Blank<'t> {
+    fn blank(&mut self, blank: toml_tree::Blank<'t>) -> Blank<'t>
+        ensures texts { self.new.texts ≡ self.old.texts }
+        ensures ws { leaf_text result.ws ≡ blank.entry.ws.text.now }
+        ensures comment { option_map (λ c. leaf_text c.text) result.comment ≡ option_map (λ p. p.text.now) blank.entry.comment }
+    {
         let comment = match blank.comment {
             Some(comment) => Some(self.comment(comment)),
             None => None,
@@ -78,7 +106,10 @@ impl<'t> Opener<'t> {
         }
     }
 
-    fn gap(&mut self, gap: &toml_tree::Gap<'t>) -> Result<Gap<'t>, AllocError> {
+    fn gap(&mut self, gap: &toml_tree::Gap<'t>) -> Result<Gap<'t>, AllocError>
+        ensures texts { self.new.texts ≡ self.old.texts }
+        ensures opened { OpensGap self.old.texts (tree_gap gap.now) result }
+    {
         if gap.lines().is_empty() {
             return Gap::space(self.texts.alloc, self.leaf(gap.ws()));
         }
@@ -100,7 +131,9 @@ impl<'t> Opener<'t> {
     }
 
     /// A gap with lines of the document, if no comment is on them: then it needs no parts.
-    fn bare_lines(self, gap: &toml_tree::Gap<'t>) -> Option<Leaf<'t>> {
+    fn bare_lines(self, gap: &toml_tree::Gap<'t>) -> Option<Leaf<'t>>
+        ensures { IfSome result (λ l. Lie (text_of self.entry.texts.source) (gap_parts (tree_gap gap.now)) → leaf_text l ≡ gap_spelled (tree_gap gap.now)) }
+    {
         let _ = self.next?;
         for line in gap.lines() {
             if line.blank.comment.is_some() {
@@ -121,7 +154,9 @@ impl<'t> Opener<'t> {
         })
     }
 
-    fn key(self, key: &toml_tree::Key<'t>) -> Result<Key<'t>, AllocError> {
+    fn key(self, key: &toml_tree::Key<'t>) -> Result<Key<'t>, AllocError>
+        ensures { IfOk result (IsKeyOpened (tree_key key.now)) }
+    {
         let mut rest = Vec::with_capacity(self.texts.alloc, key.rest.len())?;
         for dotted in &key.rest {
             rest.push(Dotted {
@@ -136,7 +171,9 @@ impl<'t> Opener<'t> {
         })
     }
 
-    fn assign(self, assign: &toml_tree::Assign<'t>) -> Result<Assign<'t>, AllocError> {
+    fn assign(self, assign: &toml_tree::Assign<'t>) -> Result<Assign<'t>, AllocError>
+        ensures { IfOk result (λ a. assign_outlined a ≡ assign_outline (tree_assign assign.now)) }
+    {
         Ok(Assign {
             key: self.key(&assign.key)?,
             before_equals: self.leaf(assign.before_equals),
@@ -146,7 +183,10 @@ impl<'t> Opener<'t> {
 
     /// A value with all that stands in it.
     #[cycle(opening)]
-    pub(crate) fn value(&mut self, value: &toml_tree::Value<'t>) -> Result<Value<'t>, AllocError> {
+    pub(crate) fn value(&mut self, value: &toml_tree::Value<'t>) -> Result<Value<'t>, AllocError>
+        ensures texts { self.new.texts ≡ self.old.texts }
+        ensures opened { OpensValue self.old.texts (tree_value value.now) result }
+    {
         match value {
             toml_tree::Value::Scalar(_, token) => Ok(Value::Scalar(self.leaf(*token))),
             toml_tree::Value::Array(array) => {
@@ -161,7 +201,10 @@ impl<'t> Opener<'t> {
     }
 
     #[cycle(opening)]
-    fn array(&mut self, array: &toml_tree::Array<'t>) -> Result<Entries<'t>, AllocError> {
+    fn array(&mut self, array: &toml_tree::Array<'t>) -> Result<Entries<'t>, AllocError>
+        ensures texts { self.new.texts ≡ self.old.texts }
+        ensures opened { OpensArray self.old.texts (array_tree array.now) result }
+    {
         let mut list = Vec::with_capacity(self.texts.alloc, array.items.len())?;
         for item in &array.items {
             let before = self.gap(&item.before)?;
@@ -188,7 +231,10 @@ impl<'t> Opener<'t> {
     }
 
     #[cycle(opening)]
-    fn inline(&mut self, table: &toml_tree::InlineTable<'t>) -> Result<Entries<'t>, AllocError> {
+    fn inline(&mut self, table: &toml_tree::InlineTable<'t>) -> Result<Entries<'t>, AllocError>
+        ensures texts { self.new.texts ≡ self.old.texts }
+        ensures opened { OpensInline self.old.texts (inline_tree table.now) result }
+    {
         let mut list = Vec::with_capacity(self.texts.alloc, table.pairs.len())?;
         for pair in &table.pairs {
             let before = self.gap(&pair.before)?;
@@ -215,7 +261,10 @@ impl<'t> Opener<'t> {
     }
 
     #[cycle(opening)]
-    fn keyval(&mut self, pair: &toml_tree::KeyVal<'t>) -> Result<KeyVal<'t>, AllocError> {
+    fn keyval(&mut self, pair: &toml_tree::KeyVal<'t>) -> Result<KeyVal<'t>, AllocError>
+        ensures texts { self.new.texts ≡ self.old.texts }
+        ensures opened { OpensKeyVal self.old.texts (tree_keyval pair.now) result }
+    {
         Ok(KeyVal {
             assign: self.assign(&pair.assign)?,
             value: self.value(&pair.value)?,
@@ -226,7 +275,9 @@ impl<'t> Opener<'t> {
         self,
         brackets: Brackets,
         header: &toml_tree::Header<'t>,
-    ) -> Result<Header<'t>, AllocError> {
+    ) -> Result<Header<'t>, AllocError>
+        ensures { IfOk result (λ h. header_outlined h ≡ header_outline (opening_brackets brackets) (closing_brackets brackets) (tree_header header.now)) }
+    {
         Ok(Header {
             brackets,
             before: self.leaf(header.before),
@@ -236,7 +287,10 @@ impl<'t> Opener<'t> {
     }
 
     /// A line with all that stands on it.
-    pub(crate) fn line(&mut self, line: &Line<'t>) -> Result<OpenLine<'t>, AllocError> {
+    pub(crate) fn line(&mut self, line: &Line<'t>) -> Result<OpenLine<'t>, AllocError>
+        ensures texts { self.new.texts ≡ self.old.texts }
+        ensures opened { OpensLine self.old.texts (tree_line line.now) result }
+    {
         let origin = self.origin();
         let (ws, expr, tail) = match line.expr() {
             toml_tree::Expr::Blank(blank) => (Leaf::EMPTY, Expr::Blank, *blank),

@@ -1,6 +1,9 @@
 //! The working tree: the lines of the text as the edits made so far have left them. It has the shapes of the tree of a
 //! document, but its pieces are kept or new, and lines, comments, elements and pairs know which unit of the document they
 //! are.
+ghost use Rattle.std.specs.Prelude.{◌≡◌, ◌↔◌, ◌++◌, [], IfOk, OnOk, IsTrue};
+ghost use Rattle.toml_editor.specs.OpenOutlines.{leaf_text, gap_part_text, gap_text};
+
 use std::alloc::{AllocError, Global};
 use std::collections::VecDeque;
 
@@ -150,14 +153,18 @@ impl<'t> Leaf<'t> {
     pub(crate) const EMPTY: Leaf<'static> = Leaf::New("");
 
     /// Its text.
-    pub(crate) fn text(self) -> &'t str {
+    pub(crate) fn text(self) -> &'t str
+        ensures { result.now ≡ leaf_text self.entry }
+    {
         match self {
             Leaf::Kept { text, .. } | Leaf::New(text) => text,
         }
     }
 
     /// Whether it has no bytes.
-    pub(crate) fn is_empty(self) -> bool {
+    pub(crate) fn is_empty(self) -> bool
+        ensures { IsTrue result ↔ (leaf_text self.entry ≡ []) }
+    {
         self.text().is_empty()
     }
 }
@@ -181,21 +188,27 @@ impl Blank<'_> {
 
 impl<'t> Gap<'t> {
     /// A gap of nothing.
-    pub(crate) fn empty(alloc: Global) -> Gap<'t> {
+    pub(crate) fn empty(alloc: Global) -> Gap<'t>
+        ensures { gap_text result ≡ [] }
+    {
         Gap {
             parts: Vec::new(alloc),
         }
     }
 
     /// A gap of this one part.
-    pub(crate) fn one(alloc: Global, part: GapPart<'t>) -> Result<Gap<'t>, AllocError> {
+    pub(crate) fn one(alloc: Global, part: GapPart<'t>) -> Result<Gap<'t>, AllocError>
+        ensures { IfOk result (λ g. gap_text g ≡ gap_part_text part.entry) }
+    {
         let mut parts = Vec::with_capacity(alloc, 1)?;
         parts.push(part)?;
         Ok(Gap { parts })
     }
 
     /// A gap of this whitespace.
-    pub(crate) fn space(alloc: Global, ws: Leaf<'t>) -> Result<Gap<'t>, AllocError> {
+    pub(crate) fn space(alloc: Global, ws: Leaf<'t>) -> Result<Gap<'t>, AllocError>
+        ensures { IfOk result (λ g. gap_text g ≡ leaf_text ws.entry) }
+    {
         if ws.is_empty() {
             return Ok(Gap::empty(alloc));
         }
@@ -203,7 +216,9 @@ impl<'t> Gap<'t> {
     }
 
     /// Puts whitespace behind it, unless it has no bytes.
-    pub(crate) fn push_ws(&mut self, ws: Leaf<'t>) -> Result<(), AllocError> {
+    pub(crate) fn push_ws(&mut self, ws: Leaf<'t>) -> Result<(), AllocError>
+        ensures { OnOk result (gap_text self.new ≡ gap_text self.old ++ leaf_text ws.entry) }
+    {
         if !ws.is_empty() {
             self.parts.push(GapPart::Ws(ws))?;
         }

@@ -1,0 +1,119 @@
+use Rattle.std.proofs.Common.{◌≡◌, ◌++◌, ◌∙◌, ◌∷◌, [], ap, sym, subst, map, arith, refl}
+use Rattle.std.proofs.lemmas.List.{drop_all, map-append}
+use Rattle.std.specs.Prelude.{option_map}
+use Rattle.toml_text.specs.Source.{text_of}
+use Rattle.toml_tree.specs.Spells.{EachIs}
+use Rattle.toml_tree.specs.View.{piece, gap, element, member}
+use Rattle.toml_tree.specs.declared.tree.Value.TheViews.{out-Array, out-InlineTable}
+use Rattle.toml_editor.specs.OpenOutlines.{entry, gap_text, leaf_text}
+use Rattle.toml_editor.specs.Outlines as outline
+use Rattle.toml_editor.specs.TreeOutlines.{gap_spelled}
+use Rattle.toml_editor.proofs.Out.{dropped}
+use Rattle.toml_editor.proofs.Outlined.{entries_made}
+use Rattle.toml_editor.proofs.Opened.{ElementLies, MemberLies, EndLies, array_lies, inline_lies, element_outline, member_outline}
+use Rattle.toml_editor.proofs.OpenedEach.{OpenedSoFar, opened_on, opened_all, in_text, element_opened, member_opened, end_opened, array_opened, inline_opened, keyval_opened}
+use Rattle.toml_editor.proofs.opening.Opener.+opening.Goals as goal
+use Rattle.toml_editor.proofs.opening.Opener.+opening.Goals.{array-in-Some+in_ok-gap-in-Some, array-in-None, inline-in-Some+in_ok-gap-in-Some, inline-in-None}
+
+pub array-loop-item-init : goal.array-loop-item-init
+array-loop-item-init t c = (
+  refl,
+  λ lies.
+      let a = out-Array c.args.array.now in
+      let text = text_of c.args.self.now.texts.source in
+      let inside = array_lies text (piece a.whole) (map element a.items.items) a.end lies in
+      let each = subst (λ xs. EachIs (ElementLies text) (map element xs)) (sym c.deref-item-items.ensures.value) inside.0 in
+      (each, ap (λ es. map entry es ++ map element_outline (map element c.deref-item-items.result.now)) c.in_ok-list.ensures.items),
+)
+
+pub array-loop-item-preserved : goal.array-loop-item-preserved
+array-loop-item-preserved t c =
+    let item = c.item-item.result in
+    let items = c.deref-item-items.result.now in
+    let here = c.loop-item in
+    let now = c.args.self.now.texts in
+    let text = text_of now.source in
+    let first = here.invariant.0 in
+    let second = c.origin-origin.ensures ∙ c.gap.ensures.texts ∙ first in
+    let third = c.value.ensures.texts ∙ second in
+    let left = ap (map element) (dropped items here.item-index item c.loop-item-test.true c.item-item.is) in
+    let new = map-append entry here.list.items (_ ∷ []) in
+    let opened = element_opened text item c.in_ok-before.before c.in_ok-after.after c.in_ok-value.value c.origin-origin.result
+    (in_text _ now _ first c.in_ok-before.ensures.opened) (in_text _ now _ second c.in_ok-value.ensures.opened) (in_text _ now _ third c.in_ok-after.ensures.opened) in (
+      c.gap-in-loop-item.ensures.texts ∙ third,
+      λ lies.
+          subst (OpenedSoFar (ElementLies text) element_outline (map element items) (map element _)) (sym (ap (map entry) c.in_ok-push.ensures.items ∙ new))
+          (opened_on (ElementLies text) element_outline (map element items) _ _ (element item) (map entry here.list.items) _ left opened (here.invariant.1 lies)),
+    )
+
+pub array-returns-clause-opened : goal.array-returns-clause-opened
+array-returns-clause-opened t c lies =
+    let a = out-Array c.args.array.now in
+    let now = c.args.self.now.texts in
+    let text = text_of now.source in
+    let items = c.deref-item-items.result.now in
+    let here = c.loop-item in
+    let none = ap (map element) (drop_all here.item-index items (omega (arith, c.loop-item-test.false))) in
+    let all = ap (map entry) c.from_vec.ensures.items ∙ opened_all (ElementLies text) element_outline (map element items) _ (map entry here.list.items) none (here.invariant.1 lies)
+    ∙ ap (λ xs. map element_outline (map element xs)) c.deref-item-items.ensures.value in
+    let end : EndLies text a.end → option_map gap_text c.match-array.end ≡ option_map (λ g. gap_spelled (gap g)) a.end = elim c.match-array.branch [
+      | array-in-Some+in_ok-gap-in-Some w ↦
+          end_opened text a.end w.in-Some.gap c.match-array.end w.in_ok-gap-in-Some.field-0 w.in-Some.is w.end-is (in_text _ now _ here.invariant.0 w.in_ok-gap-in-Some.ensures.opened)
+      | array-in-None w ↦ λ e. ap (option_map gap_text) w.end-is ∙ ap (option_map (λ g. gap_spelled (gap g))) (sym w.in-None.is)
+    ] in
+    ap (λ e. outline.Listed e.opening e.entries) (entries_made (record { opening = c.opening.result; list = c.from_vec.result; end = c.match-array.end }))
+    ∙ array_opened text (piece a.whole) (map element a.items.items) a.end (leaf_text c.opening.result) (map entry c.from_vec.result.items) (option_map gap_text c.match-array.end)
+    c.opening.ensures all end lies
+
+pub inline-loop-pair-init : goal.inline-loop-pair-init
+inline-loop-pair-init t c = (
+  refl,
+  λ lies.
+      let a = out-InlineTable c.args.table.now in
+      let text = text_of c.args.self.now.texts.source in
+      let inside = inline_lies text (piece a.whole) (map member a.pairs.items) a.end lies in
+      let each = subst (λ xs. EachIs (MemberLies text) (map member xs)) (sym c.deref-pair-items.ensures.value) inside.0 in
+      (each, ap (λ es. map entry es ++ map member_outline (map member c.deref-pair-items.result.now)) c.in_ok-list.ensures.items),
+)
+
+pub inline-loop-pair-preserved : goal.inline-loop-pair-preserved
+inline-loop-pair-preserved t c =
+    let item = c.pair-item.result in
+    let items = c.deref-pair-items.result.now in
+    let here = c.loop-pair in
+    let now = c.args.self.now.texts in
+    let text = text_of now.source in
+    let first = here.invariant.0 in
+    let second = c.origin-origin.ensures ∙ c.gap.ensures.texts ∙ first in
+    let third = c.keyval.ensures.texts ∙ second in
+    let left = ap (map member) (dropped items here.pair-index item c.loop-pair-test.true c.pair-item.is) in
+    let new = map-append entry here.list.items (_ ∷ []) in
+    let opened = member_opened text item c.in_ok-before.before c.in_ok-after.after c.in_ok-keyval.keyval.assign c.in_ok-new.field-0 c.in_ok-keyval.keyval.value c.origin-origin.result c.in_ok-new.ensures.ok
+    (in_text _ now _ first c.in_ok-before.ensures.opened) (in_text _ now _ second c.in_ok-keyval.ensures.opened) (in_text _ now _ third c.in_ok-after.ensures.opened) in (
+      c.gap-in-loop-pair.ensures.texts ∙ third,
+      λ lies.
+          subst (OpenedSoFar (MemberLies text) member_outline (map member items) (map member _)) (sym (ap (map entry) c.in_ok-push.ensures.items ∙ new))
+          (opened_on (MemberLies text) member_outline (map member items) _ _ (member item) (map entry here.list.items) _ left opened (here.invariant.1 lies)),
+    )
+
+pub inline-returns-clause-opened : goal.inline-returns-clause-opened
+inline-returns-clause-opened t c lies =
+    let a = out-InlineTable c.args.table.now in
+    let now = c.args.self.now.texts in
+    let text = text_of now.source in
+    let items = c.deref-pair-items.result.now in
+    let here = c.loop-pair in
+    let none = ap (map member) (drop_all here.pair-index items (omega (arith, c.loop-pair-test.false))) in
+    let all = ap (map entry) c.from_vec.ensures.items ∙ opened_all (MemberLies text) member_outline (map member items) _ (map entry here.list.items) none (here.invariant.1 lies)
+    ∙ ap (λ xs. map member_outline (map member xs)) c.deref-pair-items.ensures.value in
+    let end : EndLies text a.end → option_map gap_text c.match-table.end ≡ option_map (λ g. gap_spelled (gap g)) a.end = elim c.match-table.branch [
+      | inline-in-Some+in_ok-gap-in-Some w ↦
+          end_opened text a.end w.in-Some.gap c.match-table.end w.in_ok-gap-in-Some.field-0 w.in-Some.is w.end-is (in_text _ now _ here.invariant.0 w.in_ok-gap-in-Some.ensures.opened)
+      | inline-in-None w ↦ λ e. ap (option_map gap_text) w.end-is ∙ ap (option_map (λ g. gap_spelled (gap g))) (sym w.in-None.is)
+    ] in
+    ap (λ e. outline.Braced e.opening e.entries) (entries_made (record { opening = c.opening.result; list = c.from_vec.result; end = c.match-table.end }))
+    ∙ inline_opened text (piece a.whole) (map member a.pairs.items) a.end (leaf_text c.opening.result) (map entry c.from_vec.result.items) (option_map gap_text c.match-table.end)
+    c.opening.ensures all end lies
+
+pub keyval-returns-clause-opened : goal.keyval-returns-clause-opened
+keyval-returns-clause-opened t c = keyval_opened (text_of c.args.self.now.texts.source) c.args.pair.now _ _ c.in_ok-assign.ensures c.in_ok-value.ensures.opened
