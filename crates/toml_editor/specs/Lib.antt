@@ -10,6 +10,7 @@ pub mod OpenOutlines
 pub mod TreeOutlines
 pub mod Writing
 pub mod Opening
+pub mod OpeningLines
 -- what a plain edit writes, and the laws of it
 pub mod Lines
 pub mod Setting
