@@ -13,5 +13,6 @@ mod Opened
 mod OpenedEach
 mod OpenedGap
 mod OpenedLine
+mod OpenedBody
 pub mod written
 pub mod Proved

@@ -11,6 +11,7 @@ pub mod TreeOutlines
 pub mod Writing
 pub mod Numbering
 pub mod Opening
+pub mod OpeningLines
 -- what a plain edit writes, and the laws of it
 pub mod Lines
 pub mod Setting

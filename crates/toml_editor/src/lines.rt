@@ -1,4 +1,10 @@
 //! The lines of the working tree: kept as they stand in the document until an edit changes something on them.
+ghost use Rattle.std.specs.Prelude.{◌≡◌, IfOk, OnOk, None, []};
+ghost use Rattle.toml_tree.specs.Document.{document};
+ghost use Rattle.toml_editor.specs.OpenOutlines.{expr as expr_outlined, leaf_text};
+ghost use Rattle.toml_editor.specs.OpeningLines.{HasOutline, OpensBody, OpensToEndIn, alone};
+ghost use Rattle.toml_editor.specs.Outlines.{Nothing};
+
 use crate::opening::Opener;
 use crate::texts::Texts;
 use crate::tree::{Blank, Brackets, Expr, Leaf, OpenLine, Value};
@@ -239,7 +245,11 @@ impl<'t> Line<'t> {
     }
 
     /// Makes it a line with its pieces, if it is none yet; the document is the one whose lines are kept.
-    pub(crate) fn open(&mut self, texts: Texts<'t>, doc: &Doc<'t>) -> Result<(), AllocError> {
+    pub(crate) fn open(&mut self, texts: Texts<'t>, doc: &Doc<'t>) -> Result<(), AllocError>
+        ensures address { self.new.address ≡ self.old.address }
+        ensures base { self.new.base ≡ self.old.base }
+        ensures opened { OnOk result (OpensBody texts.entry (document doc.now).lines self.old.body self.new.body) }
+    {
         if let Body::Kept(kept) = self.body {
             if let Some(line) = doc.lines().get(kept.line) {
                 let opened = Opener::kept(texts, kept.first).line(line)?;
@@ -271,9 +281,13 @@ impl<'t> Line<'t> {
         texts: Texts<'t>,
         doc: &Doc<'t>,
         newline: Leaf<'t>,
-    ) -> Result<(), AllocError> {
+    ) -> Result<(), AllocError>
+        ensures address { self.new.address ≡ self.old.address }
+        ensures base { self.new.base ≡ self.old.base }
+        ensures opened { OnOk result (OpensToEndIn (leaf_text newline.entry) texts.entry (document doc.now).lines self.old.body self.new.body) }
+    {
         self.open(texts, doc)?;
-        if let Some(open) = self.opened() {
+        if let Body::Open(open) = &mut self.body {
             open.newline = newline;
         }
         Ok(())
@@ -286,7 +300,11 @@ impl<'t> Line<'t> {
         base: Option<usize>,
         expr: Expr<'t>,
         newline: Leaf<'t>,
-    ) -> Result<Line<'t>, AllocError> {
+    ) -> Result<Line<'t>, AllocError>
+        ensures address { IfOk result (λ l. l.address ≡ address) }
+        ensures base { IfOk result (λ l. l.base ≡ base) }
+        ensures outline { IfOk result (λ l. HasOutline (alone (expr_outlined expr.entry) (leaf_text newline.entry)) l.body) }
+    {
         let tail = Blank {
             ws: Leaf::EMPTY,
             comment: None,
@@ -306,7 +324,9 @@ impl<'t> Line<'t> {
     }
 
     /// The last line of no bytes.
-    pub(crate) fn empty(alloc: Global) -> Result<Line<'t>, AllocError> {
+    pub(crate) fn empty(alloc: Global) -> Result<Line<'t>, AllocError>
+        ensures { IfOk result (λ l. (l.address ≡ None) × HasOutline (alone Nothing []) l.body) }
+    {
         Line::new(alloc, None, None, Expr::Blank, Leaf::EMPTY)
     }
 

@@ -1,0 +1,44 @@
+-- What stands on a line is opened, by the lines of the document.
+use Rattle.std.proofs.Common.{◌≡◌, ◌∙◌, ℕ, List, map, Option, Some, None, refl, ap, sym, subst, rules, Bor}
+use Rattle.std.specs.Global.{Box}
+use Rattle.std.specs.Option.{option_copied}
+use Rattle.std.specs.Slice.{IsGetResult}
+use Rattle.std.specs.Prelude.{option_map, slice_get, MatchOption}
+use Rattle.std.proofs.lemmas.Option.{slice_get-map, slice_get_past, slice_get-get_or}
+use Rattle.toml_text.specs.Source.{text_of}
+use Rattle.toml_tree.specs.Lines.{line as tree_line}
+use Rattle.toml_tree.specs.Spells.{line_parts}
+use Rattle.toml_tree.specs.Tree as tree
+use Rattle.toml_tree.specs.declared.line.Line.{Line}
+use Rattle.toml_editor.specs.declared.lines.Body.{Body}
+use Rattle.toml_editor.specs.declared.lines.Body.TheVariants as bodies
+use Rattle.toml_editor.specs.declared.lines.Kept.{Kept}
+use Rattle.toml_editor.specs.declared.texts.Texts.{Texts}
+use Rattle.toml_editor.specs.declared.tree.OpenLine.{OpenLine}
+use Rattle.toml_editor.specs.Opening.{Lie}
+use Rattle.toml_editor.specs.OpeningLines.{OpensBody, IsOpened}
+use Rattle.toml_editor.specs.OpenOutlines.{line}
+use Rattle.toml_editor.specs.TreeOutlines.{line_outline}
+
+-- what `get` of a slice answers
+pub item_got : {X : Type 0} (xs : List X) (i : ℕ) (r : Option (Bor X)) → IsGetResult xs i i r → option_copied r ≡ slice_get xs i
+item_got xs i r h = search (rules, slice_get_past, slice_get-get_or)
+
+-- the document has the line
+pub body_opened : (texts : Texts) (ls : List Line) (all : List tree.Line) (old : Body) (kept : Kept) (l : Line) (opened : OpenLine) (b : Box OpenLine)
+    → old ≡ bodies.Kept kept → map tree_line ls ≡ all → Some l ≡ slice_get ls kept.line → b.value ≡ opened
+    → (Lie (text_of texts.source) (line_parts (tree_line l)) → line opened ≡ line_outline (tree_line l)) → OpensBody texts all old (bodies.Open b)
+body_opened texts ls all old kept l opened b is are found made opens =
+    let there : Some (tree_line l) ≡ slice_get all kept.line =
+        ap (option_map tree_line) found ∙ sym (slice_get-map tree_line ls kept.line) ∙ ap (λ xs. slice_get xs kept.line) are in
+    let some : IsOpened texts (tree_line l) (bodies.Open b) = (b, refl, λ lies. ap line made ∙ opens lies) in
+    subst (λ body. OpensBody texts all body (bodies.Open b)) (sym is)
+    (subst (λ o. MatchOption o (bodies.Open b ≡ bodies.Kept kept) (λ x. IsOpened texts x (bodies.Open b))) there some)
+
+-- it has none
+pub body_stays : (texts : Texts) (ls : List Line) (all : List tree.Line) (old : Body) (kept : Kept) → old ≡ bodies.Kept kept → map tree_line ls ≡ all
+    → None ≡ slice_get ls kept.line → OpensBody texts all old old
+body_stays texts ls all old kept is are none =
+    let lacks : None ≡ slice_get all kept.line = ap (option_map tree_line) none ∙ sym (slice_get-map tree_line ls kept.line) ∙ ap (λ xs. slice_get xs kept.line) are in
+    subst (λ body. OpensBody texts all body body) (sym is)
+    (subst (λ o. MatchOption o (bodies.Kept kept ≡ bodies.Kept kept) (λ x. IsOpened texts x (bodies.Kept kept))) lacks refl)
