@@ -30,7 +30,7 @@ pub body_opened : (texts : Texts) (ls : List Line) (all : List tree.Line) (old :
     → (Lie (text_of texts.source) (line_parts (tree_line l)) → line opened ≡ line_outline (tree_line l)) → OpensBody texts all old (bodies.Open b)
 body_opened texts ls all old kept l opened b is are found made opens =
     let there : Some (tree_line l) ≡ slice_get all kept.line =
-        ap (option_map tree_line) found ∙ sym (slice_get-map tree_line ls kept.line) ∙ ap (λ xs. slice_get xs kept.line) are in
+    ap (option_map tree_line) found ∙ sym (slice_get-map tree_line ls kept.line) ∙ ap (λ xs. slice_get xs kept.line) are in
     let some : IsOpened texts (tree_line l) (bodies.Open b) = (b, refl, λ lies. ap line made ∙ opens lies) in
     subst (λ body. OpensBody texts all body (bodies.Open b)) (sym is)
     (subst (λ o. MatchOption o (bodies.Open b ≡ bodies.Kept kept) (λ x. IsOpened texts x (bodies.Open b))) there some)

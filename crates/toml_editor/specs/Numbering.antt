@@ -1,4 +1,5 @@
--- The certificate as it is read off the working tree: which unit of the document each of its units is.
+-- The certificate as it is read off the working tree: which unit of the document each of its units is. That these are the units of
+-- the written text, in the order of `units`, no law says yet.
 use Rattle.std.specs.Prelude.{◌≡◌, ◌<◌, ℕ, ◌+◌, Bool, false, List, [], ◌∷◌, ◌++◌, drop, length, Option, Some, None, Result, OnOk, slice_index_or, if◌then◌else◌}
 use Rattle.std.specs.declared.alloc.AllocError.{AllocError}
 use Rattle.toml_editor.specs.declared.tree.Comment.{Comment}

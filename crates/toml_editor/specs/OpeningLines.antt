@@ -1,12 +1,11 @@
 -- What lines of the working tree are once they are opened, and new ones.
-use Rattle.std.specs.Prelude.{◌≡◌, ℕ, List, [], Option, Some, None, MatchOption, slice_get}
+use Rattle.std.specs.Prelude.{◌≡◌, ℕ, List, [], None, MatchOption, slice_get}
 use Rattle.std.specs.Global.{Box}
 use Rattle.toml_text.specs.Source.{text_of}
 use Rattle.toml_tree.specs.Spells.{line_parts}
 use Rattle.toml_tree.specs.Tree as tree
 use Rattle.toml_editor.specs.declared.lines.Body.{Body}
 use Rattle.toml_editor.specs.declared.lines.Body.TheVariants as bodies
-use Rattle.toml_editor.specs.declared.lines.Line.{Line}
 use Rattle.toml_editor.specs.declared.texts.Texts.{Texts}
 use Rattle.toml_editor.specs.declared.tree.OpenLine.{OpenLine}
 use Rattle.toml_editor.specs.Opening.{Lie}
@@ -20,9 +19,10 @@ HasOutline is body = (opened : Box OpenLine) × (body ≡ bodies.Open opened) ×
 
 -- a line of the document is opened: it has that line's outline where that stands in the text
 abbrev pub IsOpened : Texts → tree.Line → Body → Type 0
-IsOpened texts l body = (opened : Box OpenLine) × (body ≡ bodies.Open opened) × (Lie (text_of texts.source) (line_parts l) → line opened.value ≡ line_outline l)
+IsOpened texts l body =
+    (opened : Box OpenLine) × (body ≡ bodies.Open opened) × (Lie (text_of texts.source) (line_parts l) → line opened.value ≡ line_outline l)
 
--- What was opened before stays as it was, and so does what the document does not have.
+-- What was opened before stays as it was, and so does what the document does not have. Which units its parts are is not said.
 abbrev pub OpensBody : Texts → List tree.Line → Body → Body → Type 0
 OpensBody texts lines (bodies.Open opened) new = new ≡ bodies.Open opened
 OpensBody texts lines (bodies.Kept kept) new = MatchOption (slice_get lines kept.line) (new ≡ bodies.Kept kept) (λ l. IsOpened texts l new)
@@ -39,15 +39,3 @@ OpensToEndIn newline texts lines old new = (opened : Body) × OpensBody texts li
 -- the outline of a line on which nothing stands before and behind this
 abbrev pub alone : ExprOutline → List ℕ → LineOutline
 alone expr newline = record { ws = []; expr = expr; tail = []; comment = None; newline = newline }
-
--- the pieces of a line, if it has them, and the line with other pieces
-abbrev pub pieces_of : Body → Option OpenLine
-pieces_of (bodies.Open opened) = Some opened.value
-pieces_of (bodies.Kept kept) = None
-
-abbrev pub body_with : Body → OpenLine → Body
-body_with (bodies.Open opened) l = bodies.Open (record opened { value = l })
-body_with (bodies.Kept kept) l = bodies.Kept kept
-
-abbrev pub with_pieces : Line → OpenLine → Line
-with_pieces l opened = record l { body = body_with l.body opened }

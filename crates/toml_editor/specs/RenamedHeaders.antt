@@ -25,8 +25,8 @@ rename_along p to here (Name n ∷ steps) k =
     let next = child here n in
     record { first = rename_part p to next k.first; rest = rename_rest_along p to next steps k.rest }
 
--- Laws: a part of a header's key stands for the beginning of the header's own address up to and with the part's name. That is where
--- the key ends, for the header of a table,
+-- Laws: a part of a header's key stands for the beginning of the header's own address up to and with the part's name: for the header
+-- of a table, whose address is where its key ends,
 abbrev pub RenameAlong : Type 0
 RenameAlong = (xs : List Named) (k : Key) (p : Address) (to : List ℕ)
     → rename_key p to (entered xs) [] k ≡ rename_along p to [] (header_end xs [] (key_names k)) k

@@ -47,7 +47,7 @@ line_outline l = elim l.expr [
   | ArrayTableLine ws h tail ↦ line_of ws.text (header_outline (0x5B ∷ 0x5B ∷ []) (0x5D ∷ 0x5D ∷ []) h) tail l.newline
 ]
 
--- Law: a value, a line and lines spell the texts of their outlines.
+-- Laws: a value, a line and lines spell the texts of their outlines, so these leave out no byte.
 abbrev pub ValueIsOutlined : Type 0
 ValueIsOutlined = (v : Value) → value_outlined (value_outline v) ≡ joined (value_parts v)
 

@@ -269,7 +269,8 @@ fn write_out<'x>(
     wanted: &[bool],
 ) -> Result<Edited, AllocError>
     ensures pieces { IfOk result (λ e. ArePieces (text_of source.entry) (string_bytes e.text) e.pieces.items) }
-    ensures written { IfOk result (λ e. WritesOut (text_of source.entry) (document before.entry.doc.now).mark.text tree.now.slots.items (string_bytes e.text)) }
+    ensures written { let mark = (document before.entry.doc.now).mark.text in
+        IfOk result (λ e. WritesOut (text_of source.entry) mark tree.now.slots.items (string_bytes e.text)) }
     ensures paired { IfOk result (λ e. PairsOf before.entry.units.now wanted.now tree.now.slots.items e.certificate.pairs.items) }
 {
     let pieces = tree.pieces(source, before.doc.mark())?.into_list();

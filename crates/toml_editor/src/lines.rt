@@ -284,7 +284,8 @@ impl<'t> Line<'t> {
     ) -> Result<(), AllocError>
         ensures address { self.new.address ≡ self.old.address }
         ensures base { self.new.base ≡ self.old.base }
-        ensures opened { OnOk result (OpensToEndIn (leaf_text newline.entry) texts.entry (document doc.now).lines self.old.body self.new.body) }
+        ensures opened { let lines = (document doc.now).lines in
+            OnOk result (OpensToEndIn (leaf_text newline.entry) texts.entry lines self.old.body self.new.body) }
     {
         self.open(texts, doc)?;
         if let Body::Open(open) = &mut self.body {

@@ -132,7 +132,8 @@ impl<'t> Opener<'t> {
 
     /// A gap with lines of the document, if no comment is on them: then it needs no parts.
     fn bare_lines(self, gap: &toml_tree::Gap<'t>) -> Option<Leaf<'t>>
-        ensures { IfSome result (λ l. Lie (text_of self.entry.texts.source) (gap_parts (tree_gap gap.now)) → leaf_text l ≡ gap_spelled (tree_gap gap.now)) }
+        ensures { let all = tree_gap gap.now in
+            IfSome result (λ l. Lie (text_of self.entry.texts.source) (gap_parts all) → leaf_text l ≡ gap_spelled all) }
     {
         let _ = self.next?;
         for line in gap.lines() {
@@ -276,7 +277,8 @@ impl<'t> Opener<'t> {
         brackets: Brackets,
         header: &toml_tree::Header<'t>,
     ) -> Result<Header<'t>, AllocError>
-        ensures { IfOk result (λ h. header_outlined h ≡ header_outline (opening_brackets brackets) (closing_brackets brackets) (tree_header header.now)) }
+        ensures { let outline = header_outline (opening_brackets brackets) (closing_brackets brackets) in
+            IfOk result (λ h. header_outlined h ≡ outline (tree_header header.now)) }
     {
         Ok(Header {
             brackets,
