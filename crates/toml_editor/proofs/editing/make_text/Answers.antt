@@ -46,5 +46,5 @@ returns-clause-made c =
         facts = facts;
         leads = leads_beside c.args.profile (is_hidden c.in_ok-touched.touched) cs old (kind_at c.in_ok-data.«data».root) new c.in_ok-touched.ensures.near near c.in_default.ensures.made;
       };
-      pieces = c.in_ok-edited.ensures;
+      pieces = c.in_ok-edited.ensures.pieces;
     }
