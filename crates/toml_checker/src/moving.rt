@@ -18,7 +18,7 @@ pub enum Way<'a> {
 
 impl<'a> Way<'a> {
     /// Where the thing stands now.
-    pub fn at(&self) -> &Address
+    pub(crate) fn at(&self) -> &Address
         ensures { result.now ≡ here self.now }
     {
         match self {
@@ -38,7 +38,7 @@ impl<'a> Way<'a> {
     }
 
     /// The same behind one edit more; none where the thing then stands nowhere.
-    pub fn on(self, alloc: Global, edit: &Edit) -> Result<Option<Way<'a>>, AllocError>
+    pub(crate) fn on(self, alloc: Global, edit: &Edit) -> Result<Option<Way<'a>>, AllocError>
         ensures { IfOk result (λ next. option_map here next ≡ carry (change edit.now) (here self.entry)) }
     {
         match course_of(edit, self.at().steps()) {

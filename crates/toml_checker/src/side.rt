@@ -18,7 +18,7 @@ pub enum Side {
 }
 
 /// Where the place lies. It takes no memory, and stops at the first steps that differ.
-pub fn side_of(place: &[Step], steps: &[Step]) -> Side
+pub(crate) fn side_of(place: &[Step], steps: &[Step]) -> Side
     ensures { result ≡ side place.now steps.now }
 {
     let mut left = steps;

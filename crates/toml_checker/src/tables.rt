@@ -128,7 +128,7 @@ pub(crate) fn is_of_comment(part: Part) -> bool
 }
 
 /// Whether the edit, whose place lies so, names what is asked for.
-pub fn is_named(part: Part, edit: &Edit, base: Option<usize>, side: Side) -> bool
+pub(crate) fn is_named(part: Part, edit: &Edit, base: Option<usize>, side: Side) -> bool
     ensures { result ≡ is_named part (change edit.now) base side }
 {
     match part {

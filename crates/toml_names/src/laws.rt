@@ -36,7 +36,7 @@ pub fn rules()
     ensures mentions { RulesAreOfMentions }
 {}
 
-/// Of mentions that keep the rules some do too, if they stand in one order, and they do so with others in between that keep
+/// Mentions that keep the rules still do where some in a row are taken out, and where others are put in between that keep
 /// them and are at other addresses. Mentions that are moved, each in its role, keep the rules just where they did before, if
 /// two come to one address exactly where they had one. A value that keeps them alone does so at each address.
 pub fn kept_rules()
@@ -108,9 +108,9 @@ pub fn indices()
     ensures values { ValueIndicesAreLow }
 {}
 
-/// What is named is clear of an address where it is neither at it nor below it. From one step to the next it stays so, but for
-/// the address itself; so it is of headers where only values are named at the address, and, under the rules, of all that is
-/// named where nothing is named at it.
+/// What is named is clear of an address where it is neither at it nor below it. Where only values are named at an address that
+/// is not the root, no header names anything at it or below it. Under the rules, where an address is not named, nothing is
+/// named at it or below it.
 pub fn clear()
     ensures next { NotAboveNext }
     ensures root { ClearOfRoot }

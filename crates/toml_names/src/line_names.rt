@@ -98,7 +98,7 @@ pub enum Judged<'t> {
 
 impl<'t> Judged<'t> {
     /// The same of one line more.
-    pub fn with(self, line: &Line<'t>) -> Judged<'t>
+    pub(crate) fn with(self, line: &Line<'t>) -> Judged<'t>
         requires { (lines : List spelled.Line) × Judges self lines × (length lines < 18446744073709551615) }
         ensures { (lines : List spelled.Line) → Judges self.entry lines → Judges result (lines ++ tree_line line.now ∷ []) }
     {

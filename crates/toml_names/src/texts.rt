@@ -49,7 +49,7 @@ fn judge_line<'t>(judged: Judged<'t>, line: Line<'t>) -> Judged<'t>
 
 /// The tree of all that the lines of a text name. The first line that is refused is remembered while the syntax is read to
 /// the end, since a text that no tree spells is refused for that first.
-pub fn enter_text<'t>(
+pub(crate) fn enter_text<'t>(
     alloc: Global,
     source: Source<'t>,
     profile: Profile,

@@ -3,14 +3,14 @@ ghost use Rattle.std.specs.Prelude.{◌≡◌, SomeIff};
 ghost use Rattle.toml_scalar.specs.Booleans.{IsBool, is_bool, bool_value};
 
 /// `boolean = true / false`
-pub fn is_bool(run: &[u8]) -> bool
+pub(crate) fn is_bool(run: &[u8]) -> bool
     ensures { result ≡ is_bool run.now }
 {
     matches!(run, b"true" | b"false")
 }
 
 /// The value of a boolean, and `None` for any other run.
-pub fn read_bool(run: &[u8]) -> Option<bool>
+pub(crate) fn read_bool(run: &[u8]) -> Option<bool>
     ensures { SomeIff result (IsBool run.now) (bool_value run.now) }
 {
     match run {

@@ -5,7 +5,7 @@ ghost use Rattle.toml_scalar.specs.MomentRuns.{is_day};
 use jiff::civil::Date;
 
 /// Whether the month exists, and has the day.
-pub fn is_day(year: u16, month: u8, day: u8) -> bool
+pub(crate) fn is_day(year: u16, month: u8, day: u8) -> bool
     requires year { year ≤ 9999 }
     requires month { month < 100 }
     requires day { day < 100 }

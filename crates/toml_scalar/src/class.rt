@@ -6,7 +6,7 @@ ghost use Rattle.toml_scalar.specs.Runs.{is_value_byte};
 
 /// Whether a bare key may have the byte.
 #[inline]
-pub fn is_bare(byte: u8) -> bool
+pub(crate) fn is_bare(byte: u8) -> bool
     ensures { result ≡ is_bare byte }
 {
     matches!(byte, b'A'..=b'Z' | b'a'..=b'z' | b'0'..=b'9' | b'-' | b'_')
@@ -14,14 +14,14 @@ pub fn is_bare(byte: u8) -> bool
 
 /// Whether a value that is no string, array or inline table may have the byte.
 #[inline]
-pub fn is_value_byte(byte: u8) -> bool
+pub(crate) fn is_value_byte(byte: u8) -> bool
     ensures { result ≡ is_value_byte byte }
 {
     matches!(byte, b'A'..=b'Z' | b'a'..=b'z' | b'0'..=b'9' | b'+' | b'-' | b'.' | b'_' | b':')
 }
 
 /// How many bytes at the front a bare key may have.
-pub fn bare_len(bytes: &[u8]) -> usize
+pub(crate) fn bare_len(bytes: &[u8]) -> usize
     ensures { result ≡ run_len is_bare bytes.now }
 {
     for (i, byte) in bytes.iter().enumerate() {
@@ -33,7 +33,7 @@ pub fn bare_len(bytes: &[u8]) -> usize
 }
 
 /// How many bytes at the front a value that is no string, array or inline table may have.
-pub fn value_run_len(bytes: &[u8]) -> usize
+pub(crate) fn value_run_len(bytes: &[u8]) -> usize
     ensures run { result ≡ run_len is_value_byte bytes.now }
     ensures within { result ≤ length bytes.now }
 {

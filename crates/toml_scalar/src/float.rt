@@ -11,7 +11,7 @@ use crate::integer::{are_digits, is_decimal};
 use std::alloc::{AllocError, Global};
 
 /// `float = float-int-part ( exp / frac [ exp ] ) / special-float`
-pub fn is_float(run: &[u8]) -> bool
+pub(crate) fn is_float(run: &[u8]) -> bool
     ensures { result ≡ is_float run.now }
 {
     is_special_float(run) || is_number_float(run)
@@ -95,7 +95,7 @@ fn is_power(bytes: &[u8]) -> bool
 
 /// What a float stands for: its spelling without underscores and without a leading `+`, with `E` as `e`,
 /// and `-nan` as `nan`.
-pub fn float_text(alloc: Global, run: &str) -> Result<String, AllocError>
+pub(crate) fn float_text(alloc: Global, run: &str) -> Result<String, AllocError>
     requires { is_float run.now ≡ true }
     ensures { IfOk result (λ text. string_bytes text ≡ float_text run.now) }
 {

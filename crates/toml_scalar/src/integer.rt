@@ -7,14 +7,14 @@ ghost use Rattle.toml_scalar.specs.IntegerRuns.{are_digits, is_unsigned, is_deci
 /// Whether the run is an integer of whatever size.
 ///
 /// `integer = dec-int / hex-int / oct-int / bin-int`
-pub fn is_integer_form(run: &[u8]) -> bool
+pub(crate) fn is_integer_form(run: &[u8]) -> bool
     ensures { result ≡ is_integer_form run.now }
 {
     is_decimal(run) || is_based(run)
 }
 
 /// `dec-int = [ minus / plus ] unsigned-dec-int`
-pub fn is_decimal(run: &[u8]) -> bool
+pub(crate) fn is_decimal(run: &[u8]) -> bool
     ensures { result ≡ is_decimal run.now }
 {
     match run {
@@ -49,7 +49,7 @@ fn is_based(run: &[u8]) -> bool
 
 /// Digits of a base, and each underscore between two of them; in base 10
 /// `zero-prefixable-int = DIGIT *( DIGIT / underscore DIGIT )`
-pub fn are_digits(base: u64, bytes: &[u8]) -> bool
+pub(crate) fn are_digits(base: u64, bytes: &[u8]) -> bool
     ensures { result ≡ are_digits base bytes.now }
 {
     let mut was_digit = false;
@@ -66,7 +66,7 @@ pub fn are_digits(base: u64, bytes: &[u8]) -> bool
 }
 
 /// Whether the number of an integer lies in -2^63 to 2^63 - 1.
-pub fn fits_integer(run: &[u8]) -> bool
+pub(crate) fn fits_integer(run: &[u8]) -> bool
     ensures { result ≡ fits_integer run.now }
 {
     let (unsigned, largest) = match run {
@@ -78,7 +78,7 @@ pub fn fits_integer(run: &[u8]) -> bool
 }
 
 /// The number of an integer, unless it lies outside -2^63 to 2^63 - 1.
-pub fn read_integer(run: &[u8]) -> Option<i64>
+pub(crate) fn read_integer(run: &[u8]) -> Option<i64>
     ensures { SomeIff result (FitsInteger run.now) (integer_value run.now) }
 {
     match run {

@@ -17,7 +17,7 @@ const DATE_LEN: usize = 10;
 /// The kind of a date or a time, where the run is one.
 ///
 /// `date-time = offset-date-time / local-date-time / local-date / local-time`
-pub fn moment_kind(run: &[u8]) -> Option<MomentKind>
+pub(crate) fn moment_kind(run: &[u8]) -> Option<MomentKind>
     ensures { result ≡ moment_kind run.now }
 {
     let (date, rest) = run.split_at(run.len().min(DATE_LEN));
@@ -50,7 +50,7 @@ fn kind_behind_date(rest: &[u8]) -> Option<MomentKind>
 }
 
 /// Whether the run is ten bytes `DDDD-DD-DD` in digits, of whatever numbers.
-pub fn is_date_shape(run: &[u8]) -> bool
+pub(crate) fn is_date_shape(run: &[u8]) -> bool
     ensures { result ≡ is_date_shape run.now }
 {
     match run {
@@ -195,7 +195,7 @@ fn is_delimiter(byte: u8) -> bool
 }
 
 /// The spelling with the delimiter written `T`, and `z` written `Z`.
-pub fn moment_text(alloc: Global, run: &str) -> Result<String, AllocError>
+pub(crate) fn moment_text(alloc: Global, run: &str) -> Result<String, AllocError>
     requires { IsSome (moment_kind run.now) }
     ensures { IfOk result (λ s. string_bytes s ≡ moment_text run.now) }
 {

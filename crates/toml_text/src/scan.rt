@@ -33,7 +33,7 @@ pub fn newline_len(bytes: &[u8]) -> usize
 
 /// The length of the comment at the front, or 0.
 #[tactic(auto, using(crate::proofs::Marks::comment_unmarked))]
-pub fn comment_len(bytes: &[u8]) -> usize
+pub(crate) fn comment_len(bytes: &[u8]) -> usize
     ensures { result ≡ comment_len bytes.now }
 {
     match bytes {

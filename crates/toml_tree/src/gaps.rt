@@ -50,7 +50,7 @@ impl<'t> Reader<'t> {
     }
 
     /// `ws-comment-newline`: what it mostly is, whitespace alone or one line, takes no list of lines.
-    pub fn gap(&mut self, alloc: Global) -> Result<Gap<'t>, SyntaxFault>
+    pub(crate) fn gap(&mut self, alloc: Global) -> Result<Gap<'t>, SyntaxFault>
         ensures { Reads gap (cursor self.old) (cursor self.new) result (gap_at (cursor self.old)) }
     {
         let first = match self.gap_step()? {
@@ -77,7 +77,11 @@ impl<'t> Reader<'t> {
     /// The gap before or behind a pair: whitespace alone in profile 1, which takes no memory.
     #[inline]
     #[tactic(auto, unfolding(crate::specs::ReadingValues::pair_gap_at))]
-    pub fn pair_gap(&mut self, alloc: Global, profile: Profile) -> Result<Gap<'t>, SyntaxFault>
+    pub(crate) fn pair_gap(
+        &mut self,
+        alloc: Global,
+        profile: Profile,
+    ) -> Result<Gap<'t>, SyntaxFault>
         ensures { Reads gap (cursor self.old) (cursor self.new) result (pair_gap_at profile (cursor self.old)) }
     {
         match profile {

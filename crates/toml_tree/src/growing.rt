@@ -4,7 +4,7 @@ ghost use Rattle.std.specs.Prelude.{◌≡◌, ◌∷◌, ◌++◌, OnOk, []};
 use std::alloc::AllocError;
 
 /// Adds a thing at the end. The first takes room for itself alone: a vector that grows by itself takes room for four.
-pub fn push_sparing<T: Drop>(list: &mut Vec<T>, thing: T) -> Result<(), AllocError>
+pub(crate) fn push_sparing<T: Drop>(list: &mut Vec<T>, thing: T) -> Result<(), AllocError>
     ensures items { OnOk result (list.new.items ≡ list.old.items ++ thing ∷ []) }
 {
     if list.is_empty() {

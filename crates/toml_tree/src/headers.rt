@@ -64,7 +64,11 @@ impl<'t> Reader<'t> {
 
     /// `table ws [ comment ]`, behind whitespace
     #[tactic(auto, unfolding(crate::specs::ReadingLines::header_line_at))]
-    pub fn header_line(&mut self, alloc: Global, ws: Piece<'t>) -> Result<Expr<'t>, SyntaxFault>
+    pub(crate) fn header_line(
+        &mut self,
+        alloc: Global,
+        ws: Piece<'t>,
+    ) -> Result<Expr<'t>, SyntaxFault>
         ensures { Reads expr (cursor self.old) (cursor self.new) result (header_line_at (piece ws.entry) (cursor self.old)) }
     {
         if self.is_bracket_next() {

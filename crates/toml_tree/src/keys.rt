@@ -16,7 +16,7 @@ use toml_scalar::{SyntaxFault, begins_key, scan_key};
 
 impl<'t> Reader<'t> {
     /// Whether a key begins here.
-    pub fn is_at_key(&self) -> bool
+    pub(crate) fn is_at_key(&self) -> bool
         ensures { result ≡ begins is_key_start (cursor self.now).rest }
     {
         begins_key(self.rest())
@@ -70,7 +70,7 @@ impl<'t> Reader<'t> {
 
     /// `key`
     #[tactic(auto, unfolding(crate::specs::Reading::key_at))]
-    pub fn key(&mut self, alloc: Global) -> Result<Key<'t>, SyntaxFault>
+    pub(crate) fn key(&mut self, alloc: Global) -> Result<Key<'t>, SyntaxFault>
         ensures { Reads key (cursor self.old) (cursor self.new) result (key_at (cursor self.old)) }
     {
         let first = self.part()?;
@@ -93,7 +93,7 @@ impl<'t> Reader<'t> {
 
     /// A key and `=` behind it.
     #[tactic(auto, unfolding(crate::specs::Reading::assign_at))]
-    pub fn assign(&mut self, alloc: Global) -> Result<Assign<'t>, SyntaxFault>
+    pub(crate) fn assign(&mut self, alloc: Global) -> Result<Assign<'t>, SyntaxFault>
         ensures { Reads assign (cursor self.old) (cursor self.new) result (assign_at (cursor self.old)) }
     {
         let key = self.key(alloc)?;

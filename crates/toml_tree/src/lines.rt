@@ -69,7 +69,11 @@ impl<'t> Reader<'t> {
     }
 
     /// All lines.
-    pub fn lines(&mut self, alloc: Global, profile: Profile) -> Result<Vec<Line<'t>>, SyntaxFault>
+    pub(crate) fn lines(
+        &mut self,
+        alloc: Global,
+        profile: Profile,
+    ) -> Result<Vec<Line<'t>>, SyntaxFault>
         ensures { Reads (λ v. map line v.items) (cursor self.old) (cursor self.new) result (lines_at profile (cursor self.old)) }
     {
         let mut lines = Vec::new(alloc);

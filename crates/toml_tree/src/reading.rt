@@ -18,7 +18,7 @@ use toml_text::Span;
 impl<'t> Reader<'t> {
     /// What stands from here on.
     #[inline]
-    pub fn rest(&self) -> &'t [u8]
+    pub(crate) fn rest(&self) -> &'t [u8]
         ensures { result.now ≡ (cursor self.now).rest }
     {
         let end = self.source.len();
@@ -30,7 +30,7 @@ impl<'t> Reader<'t> {
     }
 
     /// Takes what stands up to `end`.
-    pub fn take_to(&mut self, end: usize) -> Piece<'t>
+    pub(crate) fn take_to(&mut self, end: usize) -> Piece<'t>
         requires order { self.old.at ≤ end }
         requires bound { IsCharBoundary (text_of self.old.source) end }
         ensures piece { piece result ≡ here (end - self.old.at) (cursor self.old) }
@@ -44,7 +44,7 @@ impl<'t> Reader<'t> {
     }
 
     /// The piece from here up to where the other reader stands.
-    pub fn up_to(mut self, last: &Reader<'t>) -> Piece<'t>
+    pub(crate) fn up_to(mut self, last: &Reader<'t>) -> Piece<'t>
         requires { IsAhead (cursor self) (cursor last.now) }
         ensures { piece result ≡ up_to (cursor last.now) (cursor self.entry) }
     {
@@ -53,7 +53,7 @@ impl<'t> Reader<'t> {
 
     /// Whether this byte stands here.
     #[inline]
-    pub fn begins(&self, byte: u8) -> bool
+    pub(crate) fn begins(&self, byte: u8) -> bool
         ensures { result ≡ begins (is_byte byte) (cursor self.now).rest }
     {
         match self.rest() {
@@ -63,7 +63,7 @@ impl<'t> Reader<'t> {
     }
 
     /// Takes the byte if it stands here.
-    pub fn eat(&mut self, byte: u8) -> bool
+    pub(crate) fn eat(&mut self, byte: u8) -> bool
         requires { byte < 128 }
         ensures value { result ≡ begins (is_byte byte) (cursor self.old).rest }
         ensures after { cursor self.new ≡ (if begins (is_byte byte) (cursor self.old).rest then ahead 1 (cursor self.old) else cursor self.old) }
@@ -78,14 +78,14 @@ impl<'t> Reader<'t> {
     }
 
     /// The refusal for what stands here: `BadCharacter` for a control character, else `Expected`.
-    pub fn refuse(&self) -> SyntaxFault
+    pub(crate) fn refuse(&self) -> SyntaxFault
         ensures { IsAt self.now.at result }
     {
         SyntaxFault::of_byte(self.rest(), self.at)
     }
 
     /// `ws`
-    pub fn ws(&mut self) -> Piece<'t>
+    pub(crate) fn ws(&mut self) -> Piece<'t>
         ensures piece { piece result ≡ (run_at is_ws (cursor self.old)).0 }
         ensures after { cursor self.new ≡ (run_at is_ws (cursor self.old)).1 }
         ensures onward { Onward (cursor self.old) (cursor self.new) }
@@ -95,7 +95,7 @@ impl<'t> Reader<'t> {
     }
 
     /// The newline, or an empty piece.
-    pub fn newline(&mut self) -> Piece<'t>
+    pub(crate) fn newline(&mut self) -> Piece<'t>
         ensures piece { piece result ≡ here (newline_len (cursor self.old).rest) (cursor self.old) }
         ensures after { cursor self.new ≡ ahead (newline_len (cursor self.old).rest) (cursor self.old) }
         ensures onward { Onward (cursor self.old) (cursor self.new) }
@@ -107,7 +107,7 @@ impl<'t> Reader<'t> {
     }
 
     /// `comment`, if one stands here.
-    pub fn comment(&mut self) -> Option<Piece<'t>>
+    pub(crate) fn comment(&mut self) -> Option<Piece<'t>>
         ensures piece { option_map piece result ≡ (comment_at (cursor self.old)).0 }
         ensures after { cursor self.new ≡ (comment_at (cursor self.old)).1 }
         ensures onward { Onward (cursor self.old) (cursor self.new) }
@@ -120,7 +120,7 @@ impl<'t> Reader<'t> {
 
     /// `ws [ comment ]`
     #[tactic(auto, unfolding(crate::specs::Reading::blank_at))]
-    pub fn blank(&mut self) -> Blank<'t>
+    pub(crate) fn blank(&mut self) -> Blank<'t>
         ensures value { blank result ≡ (blank_at (cursor self.old)).0 }
         ensures after { cursor self.new ≡ (blank_at (cursor self.old)).1 }
         ensures onward { Onward (cursor self.old) (cursor self.new) }

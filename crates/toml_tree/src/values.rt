@@ -50,7 +50,7 @@ impl<'t> Reader<'t> {
 
     /// `val`, nesting at most so deep.
     #[cycle(value)]
-    pub fn value(
+    pub(crate) fn value(
         &mut self,
         alloc: Global,
         deep: usize,
@@ -274,7 +274,7 @@ impl<'t> Reader<'t> {
     /// `keyval`, its value nesting at most so deep.
     #[cycle(value)]
     #[tactic(auto, unfolding(crate::specs::ReadingValues::keyval_at))]
-    pub fn keyval(
+    pub(crate) fn keyval(
         &mut self,
         alloc: Global,
         deep: usize,

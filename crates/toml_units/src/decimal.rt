@@ -52,7 +52,7 @@ fn is_plain(digits: &[u8]) -> bool
 }
 
 /// The number at the front, if it has no leading zero and is below 2^64, and what stands behind its digits.
-pub fn read_number(bytes: &[u8]) -> Option<(u64, &[u8])>
+pub(crate) fn read_number(bytes: &[u8]) -> Option<(u64, &[u8])>
     ensures { MatchOption result (BeginsWithNoNumber bytes.now) (λ r. BeginsWithNumber bytes.now r.0 r.1.now) }
 {
     let (digits, behind) = bytes.split_at(digits_len(bytes));

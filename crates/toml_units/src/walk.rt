@@ -14,7 +14,7 @@ use toml_text::Span;
 use toml_tree::{Gap, Item, Pair, Piece, Value};
 
 /// An address of its own that is the same, where there is one.
-pub fn copied(alloc: Global, at: Option<&Address>) -> Result<Option<Address>, AllocError>
+pub(crate) fn copied(alloc: Global, at: Option<&Address>) -> Result<Option<Address>, AllocError>
     ensures { IfOk result (λ own. own ≡ lent at.entry) }
 {
     match at {
@@ -24,7 +24,7 @@ pub fn copied(alloc: Global, at: Option<&Address>) -> Result<Option<Address>, Al
 }
 
 /// Adds a comment, where there is one.
-pub fn push_comment(
+pub(crate) fn push_comment(
     alloc: Global,
     units: &mut Vec<Unit>,
     kind: UnitKind,
@@ -89,7 +89,7 @@ fn whole<'t>(v: &Value<'t>) -> Piece<'t>
 
 /// Adds what lies in a value at the address.
 #[cycle(inside)]
-pub fn push_inside(
+pub(crate) fn push_inside(
     alloc: Global,
     units: &mut Vec<Unit>,
     at: &Address,

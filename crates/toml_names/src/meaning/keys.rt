@@ -16,7 +16,7 @@ use toml_scalar::name_of;
 use toml_tree::{Key, Value};
 
 /// What a value is.
-pub fn kind_of<'t>(v: &Value<'t>) -> Kind<'t>
+pub(crate) fn kind_of<'t>(v: &Value<'t>) -> Kind<'t>
     ensures { kind result ≡ kind_of (value v.now) }
 {
     match v {
@@ -28,7 +28,7 @@ pub fn kind_of<'t>(v: &Value<'t>) -> Kind<'t>
 
 /// The name that the text of a key part spells, lent where it is the text itself; an empty one for a text that is no key
 /// part.
-pub fn spelled_name<'t>(alloc: Global, text: &'t str) -> Result<CowStr<'t>, AllocError>
+pub(crate) fn spelled_name<'t>(alloc: Global, text: &'t str) -> Result<CowStr<'t>, AllocError>
     ensures { IfOk result (λ name. cow_str_bytes name ≡ spelled_name text.now) }
 {
     match name_of(alloc, text)? {
@@ -38,7 +38,7 @@ pub fn spelled_name<'t>(alloc: Global, text: &'t str) -> Result<CowStr<'t>, Allo
 }
 
 /// The name that the text of a key part spells, as a name of its own.
-pub fn own_name(alloc: Global, text: &str) -> Result<Name, AllocError>
+pub(crate) fn own_name(alloc: Global, text: &str) -> Result<Name, AllocError>
     ensures { IfOk result (λ name. name ≡ spelled_name text.now) }
 {
     let name = spelled_name(alloc, text)?;

@@ -8,7 +8,7 @@ use crate::mentions::mention::Role;
 pub const MAX_STEPS: usize = 100;
 
 /// Whether an address that was mentioned in the first role may be mentioned in the second.
-pub fn may_follow(earlier: Role, later: Role) -> bool
+pub(crate) fn may_follow(earlier: Role, later: Role) -> bool
     ensures { result ≡ may_follow earlier later }
 {
     matches!(

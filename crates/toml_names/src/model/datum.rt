@@ -219,7 +219,7 @@ fn copy_members(
 }
 
 /// Puts a member into a table under a name.
-pub fn add_member(
+pub(crate) fn add_member(
     alloc: Global,
     members: &mut BTreeMap<String, Datum>,
     name: &str,

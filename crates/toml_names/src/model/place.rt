@@ -24,7 +24,7 @@ pub enum Place {
 }
 
 /// Whether the roles are the same.
-pub fn same_role(one: Role, other: Role) -> bool
+pub(crate) fn same_role(one: Role, other: Role) -> bool
     ensures { result ≡ same_role one other }
 {
     matches!(

@@ -14,7 +14,7 @@ use std::alloc::AllocError;
 
 impl<'t> NameTree<'t> {
     /// The node of a name of a node, if there are both.
-    pub fn child_in(&self, id: Option<usize>, name: &str) -> Option<usize>
+    pub(crate) fn child_in(&self, id: Option<usize>, name: &str) -> Option<usize>
         requires within { IsWithin id self.now.nodes.items }
         requires tree { IsTree self.now.nodes.items }
         ensures child { result ≡ step_in self.now.nodes.items id (Name name.now) }
@@ -27,7 +27,7 @@ impl<'t> NameTree<'t> {
     }
 
     /// The node of an element of a node, if there are both.
-    pub fn element_in(&self, id: Option<usize>, index: usize) -> Option<usize>
+    pub(crate) fn element_in(&self, id: Option<usize>, index: usize) -> Option<usize>
         requires within { IsWithin id self.now.nodes.items }
         requires tree { IsTree self.now.nodes.items }
         ensures element { result ≡ step_in self.now.nodes.items id (Index index) }
@@ -40,7 +40,7 @@ impl<'t> NameTree<'t> {
     }
 
     /// Whether the set hides nothing of what stands at the elements of a node from this index on.
-    pub fn shows_behind(&self, id: Option<usize>, from: usize, set: &AddressSet) -> bool
+    pub(crate) fn shows_behind(&self, id: Option<usize>, from: usize, set: &AddressSet) -> bool
         requires within { IsWithin id self.now.nodes.items }
         requires tree { IsTree self.now.nodes.items }
         ensures { IsTrue result ↔ ShowsBehind self.now.nodes.items id from set.now }
@@ -52,7 +52,7 @@ impl<'t> NameTree<'t> {
     }
 
     /// Whether each member whose name the set has is a name of the node.
-    pub fn has_members(&self, id: usize, set: &AddressSet, datum: &Datum) -> bool
+    pub(crate) fn has_members(&self, id: usize, set: &AddressSet, datum: &Datum) -> bool
         requires within { id < vec_len self.now.nodes }
         requires tree { IsTree self.now.nodes.items }
         ensures { IsTrue result ↔ HasMembers self.now.nodes.items id set.now datum.now }
@@ -81,7 +81,7 @@ impl<'t> NameTree<'t> {
     }
 
     /// Whether the node has each name of the other node at which the set hides anything.
-    pub fn has_names_of(
+    pub(crate) fn has_names_of(
         &self,
         id: usize,
         other: &NameTree<'_>,
@@ -142,7 +142,7 @@ impl<'t> NameTree<'t> {
     /// Whether at the node of a name that the set lacks the same stands as at that name of the other node, if there is one.
     /// There the name is looked for first at the guessed place, or the next one with a name that the set lacks; the next
     /// guess is the place behind it.
-    pub fn same_beside(
+    pub(crate) fn same_beside(
         &self,
         id: usize,
         name: &str,

@@ -15,7 +15,7 @@ use toml_scalar::{ScalarKind, is_same};
 impl<'t> NameTree<'t> {
     /// Whether at a node and below it the same stands as at a node of another tree and below that.
     #[cycle(alike)]
-    pub fn same_below(
+    pub(crate) fn same_below(
         &self,
         id: usize,
         other: &NameTree<'_>,
@@ -41,7 +41,7 @@ impl<'t> NameTree<'t> {
     /// Whether the same stands at the names of two nodes and below them. That the other node has no more names is told by
     /// their count.
     #[cycle(alike)]
-    pub fn same_names(
+    pub(crate) fn same_names(
         &self,
         id: usize,
         other: &NameTree<'_>,
@@ -72,7 +72,7 @@ impl<'t> NameTree<'t> {
     /// Whether the same stands at a node and below it as at a name of a node of another tree, which is looked for at the
     /// place first, and below that.
     #[cycle(alike)]
-    pub fn same_at(
+    pub(crate) fn same_at(
         &self,
         id: usize,
         other: &NameTree<'_>,
@@ -94,7 +94,7 @@ impl<'t> NameTree<'t> {
 
     /// Whether the same stands at the elements of two nodes and below them.
     #[cycle(alike)]
-    pub fn same_elements(
+    pub(crate) fn same_elements(
         &self,
         id: usize,
         other: &NameTree<'_>,

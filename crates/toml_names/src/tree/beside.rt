@@ -18,7 +18,7 @@ impl<'t> NameTree<'t> {
     /// Whether at a node and below it stands what the datum has, and where the set hides it what the other tree has at its
     /// node, if there is one.
     #[cycle(beside)]
-    pub fn holds_beside(
+    pub(crate) fn holds_beside(
         &self,
         id: usize,
         other: &NameTree<'_>,

@@ -21,7 +21,7 @@ use toml_tree::{Key, KeyVal, Piece, Value};
 impl<'t> NameTree<'t> {
     /// Enters a name of the table of a node in a role other than a value's or that of an array of tables; none where the
     /// name is new and only names that are there are followed.
-    pub fn enter(
+    pub(crate) fn enter(
         &mut self,
         known: bool,
         at: usize,
@@ -55,7 +55,7 @@ impl<'t> NameTree<'t> {
     }
 
     /// Enters a value's own name: nothing may stand there.
-    pub fn enter_valued(
+    pub(crate) fn enter_valued(
         &mut self,
         at: usize,
         part: Piece<'t>,
@@ -112,7 +112,7 @@ impl<'t> NameTree<'t> {
     /// Enters what a pair names in the table of a node, and gives the node of its value; none where a front of its key is
     /// new and only names that are there are followed.
     #[cycle(entering)]
-    pub fn enter_pair(
+    pub(crate) fn enter_pair(
         &mut self,
         known: bool,
         at: usize,
@@ -142,7 +142,12 @@ impl<'t> NameTree<'t> {
 
     /// Enters what the value of a node names inside it.
     #[cycle(entering)]
-    pub fn enter_inside(&mut self, id: usize, v: &Value<'t>, line: usize) -> Result<(), EnterFault>
+    pub(crate) fn enter_inside(
+        &mut self,
+        id: usize,
+        v: &Value<'t>,
+        line: usize,
+    ) -> Result<(), EnterFault>
         requires there { IsNode self.old.nodes.items id }
         requires lone { (d : Spot) → (slice_index_or self.old.nodes.items id d).elements ≡ [] }
         ensures { let before = self.old.nodes.items in

@@ -5,7 +5,7 @@ use toml_text::{Source, Span};
 use toml_tree::{Doc, Expr, Key, KeyVal, Line, Piece, Value};
 
 /// A hash of all bytes of a text.
-pub fn key_of_text(source: Source<'_>) -> u64 {
+pub(crate) fn key_of_text(source: Source<'_>) -> u64 {
     let mut hasher = DefaultHasher::new();
     let all = Span {
         start: 0,
@@ -16,7 +16,7 @@ pub fn key_of_text(source: Source<'_>) -> u64 {
 }
 
 /// A hash of the key parts of a document, in text order.
-pub fn key_of(doc: &Doc<'_>) -> u64 {
+pub(crate) fn key_of(doc: &Doc<'_>) -> u64 {
     let mut hasher = DefaultHasher::new();
     for line in doc.lines() {
         feed_line(&mut hasher, line);
@@ -25,7 +25,7 @@ pub fn key_of(doc: &Doc<'_>) -> u64 {
 }
 
 /// A hash of the key parts of a value, in text order.
-pub fn key_in(value: &Value<'_>) -> u64 {
+pub(crate) fn key_in(value: &Value<'_>) -> u64 {
     let mut hasher = DefaultHasher::new();
     feed_value(&mut hasher, value);
     hasher.finish()

@@ -9,7 +9,7 @@ pub struct NameHashing {
 
 impl NameHashing {
     /// Hashing with the key.
-    pub fn keyed(key: u64) -> NameHashing {
+    pub(crate) fn keyed(key: u64) -> NameHashing {
         NameHashing { key }
     }
 }

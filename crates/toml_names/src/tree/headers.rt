@@ -31,7 +31,7 @@ pub struct Entered {
 
 impl<'t> NameTree<'t> {
     /// Where a header goes on at a node: in the last table of an array, or in the table itself.
-    pub fn inner(&self, id: usize) -> usize
+    pub(crate) fn inner(&self, id: usize) -> usize
         requires there { IsNode self.now.nodes.items id }
         ensures within { result < length self.now.nodes.items }
         ensures entered { IsInner self.now.nodes.items id result }
@@ -76,7 +76,7 @@ impl<'t> NameTree<'t> {
 
     /// Passes through the proper fronts of a header's key, from the root, and gives the table of the last of them and the
     /// key's last part; none where the key is too long and one of the fronts is new.
-    pub fn pass_fronts(
+    pub(crate) fn pass_fronts(
         &mut self,
         key: &Key<'t>,
         line: usize,
@@ -105,7 +105,7 @@ impl<'t> NameTree<'t> {
 
     /// Enters a header of an array of tables under a name of the table of a node: the array, and its next element, whose
     /// node it gives.
-    pub fn enter_tables(
+    pub(crate) fn enter_tables(
         &mut self,
         at: usize,
         part: Piece<'t>,
@@ -143,7 +143,7 @@ impl<'t> NameTree<'t> {
 
     /// Enters what a line names, the last header's table being at a node; none where it goes and its key alone is too
     /// long.
-    pub fn enter_line(
+    pub(crate) fn enter_line(
         &mut self,
         at: usize,
         number: usize,

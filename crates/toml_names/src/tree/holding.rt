@@ -20,7 +20,7 @@ use toml_scalar::{Scalar, ScalarKind, is_same};
 impl<'t> NameTree<'t> {
     /// Whether the datum has what stands at the node's address and below it, and nothing else.
     #[cycle(holds)]
-    pub fn holds(&self, id: usize, datum: &Datum) -> Result<bool, AllocError>
+    pub(crate) fn holds(&self, id: usize, datum: &Datum) -> Result<bool, AllocError>
         requires within { id < vec_len self.now.nodes }
         requires tree { IsTree self.now.nodes.items }
         ensures { IfOk result (λ b. IsTrue b ↔ Holds self.now.nodes.items id datum.now) }
@@ -94,7 +94,7 @@ impl<'t> NameTree<'t> {
 }
 
 /// Whether the scalar is the value that a token of the kind spells.
-pub fn is_value(
+pub(crate) fn is_value(
     alloc: Global,
     kind: ScalarKind,
     token: &str,

@@ -23,7 +23,7 @@ use toml_tree::{Key, KeyVal, Value};
 impl<'t> NameTree<'t> {
     /// Enters a pair in the table of a node, and gives the node of its value; none where it goes, its value is a scalar
     /// and its address is too long.
-    pub fn pair_unless_long(
+    pub(crate) fn pair_unless_long(
         &mut self,
         at: usize,
         pair: &KeyVal<'t>,
@@ -48,7 +48,7 @@ impl<'t> NameTree<'t> {
     }
 
     /// Enters a table's header, and gives the table's node; none where it goes and its address is too long.
-    pub fn table_unless_long(
+    pub(crate) fn table_unless_long(
         &mut self,
         key: &Key<'t>,
         line: usize,
@@ -70,7 +70,7 @@ impl<'t> NameTree<'t> {
 
     /// Enters a header of an array of tables, and gives the node of the array's next element; none where it goes and its
     /// address is too long.
-    pub fn tables_unless_long(
+    pub(crate) fn tables_unless_long(
         &mut self,
         key: &Key<'t>,
         line: usize,
@@ -92,7 +92,7 @@ impl<'t> NameTree<'t> {
 }
 
 /// Whether a key, from an address of so many steps, is too long for an address.
-pub fn is_long(depth: usize, key: &Key<'_>) -> bool
+pub(crate) fn is_long(depth: usize, key: &Key<'_>) -> bool
     ensures { IsTrue result → max_steps < depth + length (key_names (tree_key key.now)) }
 {
     depth.saturating_add(key.rest.len()) >= MAX_STEPS

@@ -37,7 +37,7 @@ impl<'t> Model for NameMap<'t> {
 
 impl<'t> NameMap<'t> {
     /// No names.
-    pub fn new(alloc: Global) -> NameMap<'t>
+    pub(crate) fn new(alloc: Global) -> NameMap<'t>
         ensures { result ≡ [] }
     {
         NameMap {
@@ -47,7 +47,7 @@ impl<'t> NameMap<'t> {
     }
 
     /// How many names there are.
-    pub fn len(&self) -> usize
+    pub(crate) fn len(&self) -> usize
         ensures count { result ≡ length self.now }
         ensures distinct { AreDistinct self.now }
     {
@@ -58,7 +58,7 @@ impl<'t> NameMap<'t> {
     }
 
     /// The node of a name.
-    pub fn get(&self, name: &str) -> Option<usize>
+    pub(crate) fn get(&self, name: &str) -> Option<usize>
         ensures { result ≡ lookup (bytes_eq name.now) self.now }
     {
         if let Some(id) = find(&self.few, name) {
@@ -71,7 +71,7 @@ impl<'t> NameMap<'t> {
     }
 
     /// The name at a place, and its node.
-    pub fn nth(&self, index: usize) -> Option<(&str, usize)>
+    pub(crate) fn nth(&self, index: usize) -> Option<(&str, usize)>
         ensures pair { option_map (λ e. (e.0.now, e.1)) result ≡ slice_get self.now index }
         ensures found { IfSome result (λ e. lookup (bytes_eq e.0.now) self.now ≡ Some e.1) }
     {
@@ -84,7 +84,7 @@ impl<'t> NameMap<'t> {
     }
 
     /// The node of a name, which is looked for at the place first: where it stands there, nothing is hashed.
-    pub fn get_from(&self, place: usize, name: &str) -> Option<usize>
+    pub(crate) fn get_from(&self, place: usize, name: &str) -> Option<usize>
         ensures { result ≡ lookup (bytes_eq name.now) self.now }
     {
         if let Some((known, id)) = self.nth(place) {
@@ -96,7 +96,7 @@ impl<'t> NameMap<'t> {
     }
 
     /// The node that a name leads to; a name that leads nowhere goes last, with `id`.
-    pub fn find_or_insert(
+    pub(crate) fn find_or_insert(
         &mut self,
         alloc: Global,
         hashing: NameHashing,
@@ -123,7 +123,7 @@ impl<'t> NameMap<'t> {
     }
 
     /// Drops the last name, if there is one.
-    pub fn drop_last(&mut self)
+    pub(crate) fn drop_last(&mut self)
         ensures { self.new ≡ take (length self.old - 1) self.old }
     {
         if drop_last_behind(&mut self.rest) {

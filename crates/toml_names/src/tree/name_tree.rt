@@ -72,7 +72,7 @@ pub struct NameTree<'t> {
 
 impl<'t> NameTree<'t> {
     /// A tree of one node, the root: it is of this kind, and named in this role.
-    pub fn new(
+    pub(crate) fn new(
         alloc: Global,
         hashing: NameHashing,
         role: Role,
@@ -106,7 +106,7 @@ impl<'t> NameTree<'t> {
     }
 
     /// The node that a key part's name leads to from a node: a look-up, which is counted.
-    pub fn find(&mut self, at: usize, part: &Piece<'t>) -> Result<Option<usize>, AllocError>
+    pub(crate) fn find(&mut self, at: usize, part: &Piece<'t>) -> Result<Option<usize>, AllocError>
         requires within { at < vec_len self.old.nodes }
         ensures found { IfOk result (LeadsBy self.old.nodes.items at (part_name (piece part.now))) }
         ensures nodes { self.new.nodes ≡ self.old.nodes }
@@ -119,7 +119,7 @@ impl<'t> NameTree<'t> {
     }
 
     /// The address of a node.
-    pub fn address(&self, id: usize) -> Result<Address, AllocError>
+    pub(crate) fn address(&self, id: usize) -> Result<Address, AllocError>
         requires within { id < vec_len self.now.nodes }
         requires tree { IsTree self.now.nodes.items }
         ensures { IfOk result (λ a. a ≡ address_at self.now.nodes.items id) }
@@ -129,7 +129,7 @@ impl<'t> NameTree<'t> {
 
     /// The address of a node, of which these steps are the last ones of the first nodes: it shares the texts of their
     /// long names.
-    pub fn address_by(&self, steps: &[Step], id: usize) -> Result<Address, AllocError>
+    pub(crate) fn address_by(&self, steps: &[Step], id: usize) -> Result<Address, AllocError>
         requires within { id < vec_len self.now.nodes }
         requires tree { IsTree self.now.nodes.items }
         requires steps { AreSteps self.now.nodes.items steps.now }
@@ -171,7 +171,7 @@ impl<'t> NameTree<'t> {
     }
 
     /// The step from the node above a node to it; of the root, which has none, some step.
-    pub fn last_step(&self, id: usize) -> Result<Step, AllocError>
+    pub(crate) fn last_step(&self, id: usize) -> Result<Step, AllocError>
         requires { id < vec_len self.now.nodes }
         ensures { IfOk result (λ step. (d : Spot) → step ≡ last_step (slice_index_or self.now.nodes.items id d)) }
     {
@@ -183,7 +183,7 @@ impl<'t> NameTree<'t> {
     }
 
     /// The node that a key part's name leads to, or else a new one for it: a look-up, which is counted.
-    pub fn find_or_grow(
+    pub(crate) fn find_or_grow(
         &mut self,
         above: usize,
         part: Piece<'t>,
@@ -217,7 +217,7 @@ impl<'t> NameTree<'t> {
 
     /// The node that a key part's name leads to, or else a new one for it; none where it leads nowhere and only names that
     /// are there are followed. A look-up, which is counted.
-    pub fn follow(
+    pub(crate) fn follow(
         &mut self,
         known: bool,
         above: usize,
@@ -243,7 +243,7 @@ impl<'t> NameTree<'t> {
     }
 
     /// A new node, for the next element of an array.
-    pub fn grow_element(
+    pub(crate) fn grow_element(
         &mut self,
         above: usize,
         role: Role,
@@ -269,7 +269,7 @@ impl<'t> NameTree<'t> {
     }
 
     /// A node is named once more.
-    pub fn note(&mut self, at: usize, role: Role, line: usize) -> Result<(), AllocError>
+    pub(crate) fn note(&mut self, at: usize, role: Role, line: usize) -> Result<(), AllocError>
         requires { at < vec_len self.old.nodes }
         ensures noted { OnOk result (IsNotedOnce self.old.nodes.items self.new.nodes.items at role line) }
         ensures kept { OnErr result (self.new.nodes.items ≡ self.old.nodes.items) }
@@ -291,7 +291,7 @@ impl<'t> NameTree<'t> {
     }
 
     /// Names a node once more, if that goes with its mark.
-    pub fn mention(&mut self, id: usize, role: Role, line: usize) -> Result<(), EnterFault>
+    pub(crate) fn mention(&mut self, id: usize, role: Role, line: usize) -> Result<(), EnterFault>
         requires there { IsNode self.old.nodes.items id }
         ensures { Steps 0 self.old self.new result
             (λ _. IsNoted self.old.nodes.items self.new.nodes.items id role line)
@@ -305,7 +305,7 @@ impl<'t> NameTree<'t> {
     }
 
     /// The nodes as they were before the changes.
-    pub fn undo(&mut self)
+    pub(crate) fn undo(&mut self)
         ensures nodes { self.new.nodes.items ≡ undone self.old.changes.items self.old.nodes.items }
         ensures changes { self.new.changes.items ≡ [] }
         ensures lookups { self.new.lookups ≡ self.old.lookups }

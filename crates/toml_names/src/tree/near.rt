@@ -19,7 +19,7 @@ use std::collections::BTreeMap;
 impl<'t> NameTree<'t> {
     /// The data at a node and below it, of all that the set does not hide.
     #[cycle(near)]
-    pub fn datum_near(&self, id: usize, set: &AddressSet) -> Result<Datum, AllocError>
+    pub(crate) fn datum_near(&self, id: usize, set: &AddressSet) -> Result<Datum, AllocError>
         requires within { id < vec_len self.now.nodes }
         requires sound { IsSound self.now.nodes.items }
         ensures { IfOk result (IsNearDatum self.now.nodes.items id set.now) }

@@ -61,7 +61,13 @@ impl<'t> Node<'t> {
     ghost use Rattle.toml_names.specs.mentions.View.{kind as kind_of};
 
     /// A node that leads nowhere.
-    pub fn leaf(under: Under<'t>, depth: usize, role: Role, what: Kind<'t>, line: usize) -> Node<'t>
+    pub(crate) fn leaf(
+        under: Under<'t>,
+        depth: usize,
+        role: Role,
+        what: Kind<'t>,
+        line: usize,
+    ) -> Node<'t>
         ensures { result ≡ leaf (under_of under.entry) depth role (kind_of what.entry) line }
     {
         Node {
@@ -75,42 +81,42 @@ impl<'t> Node<'t> {
     }
 
     /// Where it hangs.
-    pub fn under(&self) -> Under<'t>
+    pub(crate) fn under(&self) -> Under<'t>
         ensures { under_of result ≡ self.now.under }
     {
         self.under
     }
 
     /// How many steps its address has.
-    pub fn depth(&self) -> usize
+    pub(crate) fn depth(&self) -> usize
         ensures { result ≡ self.now.depth }
     {
         self.depth
     }
 
     /// The mark of its address: one role, which stands for all in which the address was named.
-    pub fn role(&self) -> Role
+    pub(crate) fn role(&self) -> Role
         ensures { result ≡ self.now.role }
     {
         self.role
     }
 
     /// What stands at its address.
-    pub fn kind(&self) -> Kind<'t>
+    pub(crate) fn kind(&self) -> Kind<'t>
         ensures { kind_of result ≡ self.now.kind }
     {
         self.kind
     }
 
     /// The first line that named it in the mark's role, from 0.
-    pub fn line(&self) -> usize
+    pub(crate) fn line(&self) -> usize
         ensures { result ≡ self.now.line }
     {
         self.line
     }
 
     /// Sets the mark and its line.
-    pub fn remark(&mut self, role: Role, line: usize)
+    pub(crate) fn remark(&mut self, role: Role, line: usize)
         ensures { self.new ≡ remarked self.old role line }
     {
         self.role = role;
@@ -118,14 +124,14 @@ impl<'t> Node<'t> {
     }
 
     /// Whether nothing hangs under it.
-    pub fn is_leaf(&self) -> bool
+    pub(crate) fn is_leaf(&self) -> bool
         ensures { IsTrue result ↔ ((self.now.children ≡ []) × (self.now.elements ≡ [])) }
     {
         self.name_count() == 0 && self.elements().is_empty()
     }
 
     /// How many names lead on from it. No two are the same.
-    pub fn name_count(&self) -> usize
+    pub(crate) fn name_count(&self) -> usize
         ensures count { result ≡ length self.now.children }
         ensures distinct { AreDistinct self.now.children }
     {
@@ -136,7 +142,7 @@ impl<'t> Node<'t> {
     }
 
     /// The node of a name.
-    pub fn child(&self, name: &str) -> Option<usize>
+    pub(crate) fn child(&self, name: &str) -> Option<usize>
         ensures { result ≡ lookup (bytes_eq name.now) self.now.children }
     {
         match &self.below {
@@ -146,7 +152,7 @@ impl<'t> Node<'t> {
     }
 
     /// The node of a name, which is looked for at the place first.
-    pub fn child_from(&self, place: usize, name: &str) -> Option<usize>
+    pub(crate) fn child_from(&self, place: usize, name: &str) -> Option<usize>
         ensures { result ≡ lookup (bytes_eq name.now) self.now.children }
     {
         match &self.below {
@@ -156,7 +162,7 @@ impl<'t> Node<'t> {
     }
 
     /// The names in it and their nodes, in the order of their first mentions; nothing where it has had none.
-    pub fn names(&self) -> Option<&NameMap<'t>>
+    pub(crate) fn names(&self) -> Option<&NameMap<'t>>
         ensures some { IfSome result (λ names. names.now ≡ self.now.children) }
         ensures none { IfNone result (self.now.children ≡ []) }
     {
@@ -167,7 +173,7 @@ impl<'t> Node<'t> {
     }
 
     /// The nodes of its elements.
-    pub fn elements(&self) -> &[usize]
+    pub(crate) fn elements(&self) -> &[usize]
         ensures { result.now ≡ self.now.elements }
     {
         match &self.below {
@@ -177,7 +183,7 @@ impl<'t> Node<'t> {
     }
 
     /// The node that a name leads to; a name that leads nowhere is linked to `id`.
-    pub fn find_or_link(
+    pub(crate) fn find_or_link(
         &mut self,
         alloc: Global,
         hashing: NameHashing,
@@ -202,7 +208,7 @@ impl<'t> Node<'t> {
     }
 
     /// The name that was linked last leads nowhere again.
-    pub fn unlink_name(&mut self)
+    pub(crate) fn unlink_name(&mut self)
         ensures { self.new ≡ without_name self.old }
     {
         if let Some(below) = &mut self.below {
@@ -211,7 +217,7 @@ impl<'t> Node<'t> {
     }
 
     /// A new last element.
-    pub fn link_element(&mut self, alloc: Global, id: usize) -> Result<(), AllocError>
+    pub(crate) fn link_element(&mut self, alloc: Global, id: usize) -> Result<(), AllocError>
         ensures linked { OnOk result ((index : ℕ) → self.new ≡ linked self.old (Index index) id) }
         ensures unchanged { OnErr result (self.new ≡ self.old) }
     {
@@ -230,7 +236,7 @@ impl<'t> Node<'t> {
     }
 
     /// The element that was linked last is no more.
-    pub fn unlink_element(&mut self)
+    pub(crate) fn unlink_element(&mut self)
         ensures { self.new ≡ without_element self.old }
     {
         if let Some(below) = &mut self.below {

@@ -26,7 +26,7 @@ pub enum Shape {
 
 impl<'t> NameTree<'t> {
     /// What stands at a node. The value of a scalar is made here.
-    pub fn shape(&self, id: usize) -> Result<Shape, AllocError>
+    pub(crate) fn shape(&self, id: usize) -> Result<Shape, AllocError>
         requires within { id < vec_len self.now.nodes }
         requires tree { IsTree self.now.nodes.items }
         ensures { IfOk result (λ shape. part_kinds self.now.nodes.items id [] ≡ Some (shape_kind shape)) }
@@ -41,7 +41,7 @@ impl<'t> NameTree<'t> {
     }
 
     /// The nodes of the elements of a node.
-    pub fn items(&self, id: usize) -> &[usize]
+    pub(crate) fn items(&self, id: usize) -> &[usize]
         requires within { id < vec_len self.now.nodes }
         requires tree { IsTree self.now.nodes.items }
         ensures { AreItems self.now.nodes.items id result.now }
@@ -50,7 +50,7 @@ impl<'t> NameTree<'t> {
     }
 
     /// The names in a node and their nodes, in the order of the names' bytes.
-    pub fn members(&self, id: usize) -> Result<Vec<(&str, usize)>, AllocError>
+    pub(crate) fn members(&self, id: usize) -> Result<Vec<(&str, usize)>, AllocError>
         requires within { id < vec_len self.now.nodes }
         requires tree { IsTree self.now.nodes.items }
         ensures { IfOk result (λ members. AreMembers self.now.nodes.items id (plain_members members.items)) }

@@ -11,7 +11,7 @@ use crate::tree::name_tree::NameTree;
 
 impl<'t> NameTree<'t> {
     /// Where what stands at the address stands in the text; none where nothing is named there.
-    pub fn place(&self, at: &Address) -> Option<Place>
+    pub(crate) fn place(&self, at: &Address) -> Option<Place>
         requires tree { IsTree self.now.nodes.items }
         ensures { IsPlaceOf self.now.nodes.items at.now result }
     {

@@ -20,7 +20,7 @@ use toml_scalar::ScalarKind;
 impl<'t> NameTree<'t> {
     /// The data at a node: what stands at its address and below.
     #[cycle(datum)]
-    pub fn datum(&self, id: usize) -> Result<Datum, AllocError>
+    pub(crate) fn datum(&self, id: usize) -> Result<Datum, AllocError>
         requires within { id < vec_len self.now.nodes }
         requires tree { IsTree self.now.nodes.items }
         ensures { IfOk result (IsDatumAt self.now.nodes.items id) }
@@ -70,7 +70,7 @@ impl<'t> NameTree<'t> {
     }
 
     /// The addresses of the mentions, each once, in the order of their first mentions.
-    pub fn first_mentions(&self) -> Result<Vec<Address>, AllocError>
+    pub(crate) fn first_mentions(&self) -> Result<Vec<Address>, AllocError>
         requires tree { IsTree self.now.nodes.items }
         ensures { IfOk result (λ list. AreFirstMentions self.now.nodes.items list.items) }
     {
@@ -96,7 +96,10 @@ impl<'t> NameTree<'t> {
     }
 
     /// The addresses of nodes, where there are any.
-    pub fn addresses_of(&self, nodes: &[Option<usize>]) -> Result<Vec<Option<Address>>, AllocError>
+    pub(crate) fn addresses_of(
+        &self,
+        nodes: &[Option<usize>],
+    ) -> Result<Vec<Option<Address>>, AllocError>
         requires within { (l : ℕ) (d : Option ℕ) → l < length nodes.now → IsWithin (slice_index_or nodes.now l d) self.now.nodes.items }
         requires tree { IsTree self.now.nodes.items }
         ensures { IfOk result (λ list. list.items ≡ map (option_map (address_at self.now.nodes.items)) nodes.now) }
@@ -123,7 +126,7 @@ impl<'t> NameTree<'t> {
     }
 
     /// How many nodes before each node are mentions: the place of its address among the first mentions, if it is one.
-    pub fn ranks(&self) -> Result<Vec<usize>, AllocError>
+    pub(crate) fn ranks(&self) -> Result<Vec<usize>, AllocError>
         requires tree { IsTree self.now.nodes.items }
         ensures all { IfOk result (λ list. vec_len list ≡ vec_len self.now.nodes) }
         ensures places { IfOk result (λ list. AreRanks self.now.nodes.items list.items) }
@@ -140,7 +143,7 @@ impl<'t> NameTree<'t> {
     }
 
     /// Whether no address of the nodes from this one on has more than 100 steps.
-    pub fn are_short_from(&self, start: usize) -> bool
+    pub(crate) fn are_short_from(&self, start: usize) -> bool
         requires within { start ≤ vec_len self.now.nodes }
         requires tree { IsTree self.now.nodes.items }
         ensures { IsTrue result ↔ AreShortFrom start self.now.nodes.items }
@@ -159,7 +162,11 @@ fn is_mention(role: Role) -> bool
 }
 
 /// The datum of a scalar: the value that its token spells.
-pub fn scalar_datum(alloc: Global, kind: ScalarKind, token: &str) -> Result<Datum, AllocError>
+pub(crate) fn scalar_datum(
+    alloc: Global,
+    kind: ScalarKind,
+    token: &str,
+) -> Result<Datum, AllocError>
     ensures { IfOk result (IsOnly (token_kind kind token.now)) }
 {
     Ok(Datum::Scalar(value_spelled(alloc, kind, token)?))

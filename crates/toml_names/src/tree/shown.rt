@@ -11,7 +11,7 @@ use crate::tree::name_tree::NameTree;
 impl<'t> NameTree<'t> {
     /// Whether the set hides nothing of what stands at a node and below it.
     #[cycle(shown)]
-    pub fn is_shown(&self, id: usize, set: &AddressSet) -> bool
+    pub(crate) fn is_shown(&self, id: usize, set: &AddressSet) -> bool
         requires within { id < vec_len self.now.nodes }
         requires tree { IsTree self.now.nodes.items }
         ensures { IsTrue result ↔ IsShown self.now.nodes.items id set.now }
@@ -60,7 +60,7 @@ impl<'t> NameTree<'t> {
 
     /// The same of what stands at the elements of a node from this index on.
     #[cycle(shown)]
-    pub fn are_elements_shown(&self, id: usize, from: usize, set: &AddressSet) -> bool
+    pub(crate) fn are_elements_shown(&self, id: usize, from: usize, set: &AddressSet) -> bool
         requires within { id < vec_len self.now.nodes }
         requires tree { IsTree self.now.nodes.items }
         ensures { IsTrue result ↔ AreElementsShown self.now.nodes.items id from set.now }

@@ -63,7 +63,7 @@ fn letter(byte: u8) -> Option<char>
 /// The escape of which this stands behind the `\`.
 ///
 /// `escaped = escape escape-seq-char`
-pub fn escape(bytes: &[u8]) -> Option<EscapedChar>
+pub(crate) fn escape(bytes: &[u8]) -> Option<EscapedChar>
     ensures value { result ≡ option_map escaped_char (escape_at bytes.now) }
     ensures within { IfSome result (λ e. e.len ≤ length bytes.now) }
 {
@@ -81,7 +81,7 @@ pub fn escape(bytes: &[u8]) -> Option<EscapedChar>
 /// How many bytes of the escape or the dropped stretch stand behind the `\`.
 ///
 /// `mlb-escaped-nl = escape ws newline *( wschar / newline )`
-pub fn multi_line_escape_len(bytes: &[u8]) -> Option<usize>
+pub(crate) fn multi_line_escape_len(bytes: &[u8]) -> Option<usize>
     ensures value { result ≡ option_map behind_len (multi_line_escape_at bytes.now) }
     ensures within { IfSome result (λ n. n ≤ length bytes.now) }
 {

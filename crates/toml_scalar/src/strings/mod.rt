@@ -10,5 +10,5 @@ mod steps;
 mod value;
 
 pub use kind::StringKind;
-pub use scan::{body_len, kind_at, string_len};
-pub use value::read_string;
+pub(crate) use scan::{body_len, kind_at, string_len};
+pub(crate) use value::read_string;

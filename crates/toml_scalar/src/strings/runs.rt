@@ -9,7 +9,7 @@ use toml_text::{newline_len, unmarked_len, ws_len};
 /// How many bytes at the front stand for themselves in a basic string.
 ///
 /// `basic-unescaped = wschar / %x21 / %x23-5B / %x5D-7E / non-ascii`
-pub fn basic_len(bytes: &[u8]) -> usize
+pub(crate) fn basic_len(bytes: &[u8]) -> usize
     ensures run { result ≡ run_len is_basic bytes.now }
     ensures within { result ≤ length bytes.now }
 {
@@ -19,7 +19,7 @@ pub fn basic_len(bytes: &[u8]) -> usize
 /// How many bytes at the front stand for themselves in a literal string.
 ///
 /// `literal-char = %x09 / %x20-26 / %x28-7E / non-ascii`
-pub fn literal_len(bytes: &[u8]) -> usize
+pub(crate) fn literal_len(bytes: &[u8]) -> usize
     ensures run { result ≡ run_len is_literal bytes.now }
     ensures within { result ≤ length bytes.now }
 {
@@ -27,7 +27,7 @@ pub fn literal_len(bytes: &[u8]) -> usize
 }
 
 /// How many bytes at the front are the mark.
-pub fn mark_len(mark: u8, bytes: &[u8]) -> usize
+pub(crate) fn mark_len(mark: u8, bytes: &[u8]) -> usize
     ensures run { result ≡ run_len (is_byte mark) bytes.now }
     ensures within { result ≤ length bytes.now }
 {
@@ -57,7 +57,7 @@ fn spaces_len(bytes: &[u8]) -> usize
 }
 
 /// The length of the whitespace, the newline and the spaces at the front, or 0 if there is no such newline.
-pub fn dropped_len(bytes: &[u8]) -> usize
+pub(crate) fn dropped_len(bytes: &[u8]) -> usize
     ensures value { result ≡ dropped_len bytes.now }
     ensures within { result ≤ length bytes.now }
 {

@@ -16,7 +16,7 @@ fn begins_three(mark: u8, bytes: &[u8]) -> bool
 }
 
 /// The kind of the string that the marks at the front open.
-pub fn kind_at(bytes: &[u8]) -> Option<StringKind>
+pub(crate) fn kind_at(bytes: &[u8]) -> Option<StringKind>
     ensures { result ≡ kind_at bytes.now }
 {
     let [mark, ..] = bytes else {
@@ -32,7 +32,7 @@ pub fn kind_at(bytes: &[u8]) -> Option<StringKind>
 }
 
 /// How many marks open a string of the kind, and close it.
-pub fn marks_len(kind: StringKind) -> usize
+pub(crate) fn marks_len(kind: StringKind) -> usize
     ensures { result ≡ marks_len kind }
 {
     match kind {
@@ -42,7 +42,7 @@ pub fn marks_len(kind: StringKind) -> usize
 }
 
 /// The length of the first newline, which is none of the value, or 0.
-pub fn first_len(kind: StringKind, bytes: &[u8]) -> usize
+pub(crate) fn first_len(kind: StringKind, bytes: &[u8]) -> usize
     ensures value { result ≡ first_len kind bytes.now }
     ensures within { result ≤ length bytes.now }
 {
@@ -53,7 +53,7 @@ pub fn first_len(kind: StringKind, bytes: &[u8]) -> usize
 }
 
 /// The length of the rest of a string, of which this stands behind the opening marks and the first newline.
-pub fn body_len(kind: StringKind, bytes: &[u8]) -> Option<usize>
+pub(crate) fn body_len(kind: StringKind, bytes: &[u8]) -> Option<usize>
     ensures value { result ≡ body_len kind bytes.now }
     ensures within { IfSome result (λ n. n ≤ length bytes.now) }
 {
@@ -69,7 +69,7 @@ pub fn body_len(kind: StringKind, bytes: &[u8]) -> Option<usize>
 /// The length of the longest string at the front, where one stands there.
 ///
 /// `string = ml-basic-string / basic-string / ml-literal-string / literal-string`
-pub fn string_len(bytes: &[u8]) -> Option<usize>
+pub(crate) fn string_len(bytes: &[u8]) -> Option<usize>
     ensures value { result ≡ string_len bytes.now }
     ensures within { IfSome result (λ n. n ≤ length bytes.now) }
 {

@@ -94,7 +94,7 @@ fn multi_line_literal(bytes: &[u8]) -> Option<Advance>
 }
 
 /// On over what stands at the front, in a string of the kind.
-pub fn step(kind: StringKind, bytes: &[u8]) -> Option<Advance>
+pub(crate) fn step(kind: StringKind, bytes: &[u8]) -> Option<Advance>
     ensures { Advances kind bytes.now result }
 {
     match kind {

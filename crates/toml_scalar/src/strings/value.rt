@@ -97,7 +97,7 @@ fn string_value(alloc: Global, text: &str) -> Result<String, AllocError>
 
 /// The value of a text, if it is a string.
 #[tactic(auto, using(crate::proofs::Wholes::not_whole, crate::proofs::Wholes::no_string))]
-pub fn read_string(alloc: Global, text: &str) -> Result<Option<String>, AllocError>
+pub(crate) fn read_string(alloc: Global, text: &str) -> Result<Option<String>, AllocError>
     ensures { IfOk result (λ value. option_map string_bytes value ≡ string_value text.now) }
 {
     match string_len(text.as_bytes()) {
