@@ -14,7 +14,7 @@ encoded : (rest : List ℕ) → 0xEF ∷ 0xBB ∷ 0xBF ∷ rest ≡ encode_utf8 
 unfolding encode_utf8
 encoded rest = refl
 
-mark_cut : (bs : List ℕ) → IsUtf8 bs → IsCharBoundary bs (length (mark_of bs))
+pub mark_cut : (bs : List ℕ) → IsUtf8 bs → IsCharBoundary bs (length (mark_of bs))
 mark_cut [] u = IsCharBoundary-start [] u
 mark_cut (a ∷ []) u = IsCharBoundary-start (a ∷ []) u
 mark_cut (a ∷ b ∷ []) u = IsCharBoundary-start (a ∷ b ∷ []) u

@@ -12,6 +12,7 @@ pub mod Exact
 pub mod HandedOut
 pub mod ExactValues
 pub mod Cuts
+pub mod Marked
 pub mod Pieces
 pub mod Aheads
 pub mod Formed

@@ -11,5 +11,6 @@ pub use Rattle.toml_tree.proofs.MovedBack.{moved_value_spells, moved_keyval_spel
 pub use Rattle.toml_tree.proofs.Bared.{bare_value_text, bare_items_text, bare_pairs_text, bare_lines_text}
 pub use Rattle.toml_tree.proofs.PutSame.{put_value_same, put_lines_same}
 pub use Rattle.toml_tree.proofs.Put.{put_value_spells, put_lines_spell, put_doc_spells}
+pub use Rattle.toml_tree.proofs.Marked.{mark_ends_at_char, text_is_spelled}
 pub use Rattle.toml_tree.proofs.Unmarked.{lines_unmarked}
 pub use Rattle.toml_tree.proofs.Views.{value_scalar, value_array, value_inline, keyval_is}

@@ -13,6 +13,7 @@ pub mod Moved
 pub mod Inner
 pub mod Bare
 pub mod Places
+pub mod MarkedTexts
 pub mod ViewLaws
 pub mod ReadingValues
 -- words of the code's own contracts

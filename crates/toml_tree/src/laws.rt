@@ -6,6 +6,7 @@ ghost use Rattle.toml_tree.specs.Parts.{PartsJoin, SizesAdd, FrontIsPlaced, Back
 ghost use Rattle.toml_tree.specs.Moved.{MovedValueSpells, MovedKeyValSpells, MovedExprSpells, MovedValueText, MovedKeyValText, MovedExprText};
 ghost use Rattle.toml_tree.specs.Inner.{LinesInside, KeyValInside, ValueOfKeyVal, ValuesInside, KeyValsInside};
 ghost use Rattle.toml_tree.specs.Bare.{BareValueText, BareItemsText, BarePairsText, BareLinesText, BareValueOfProfile, BareLinesOfProfile};
+ghost use Rattle.toml_tree.specs.MarkedTexts.{MarkEndsAtChar, TextIsSpelled};
 ghost use Rattle.toml_tree.specs.Places.{PutValueIsSame, PutLinesAreSame, PutValueSpells, PutLinesSpell, LinesHaveNoMark, PutDocSpells, PutValueOfProfile, PutLinesOfProfile};
 ghost use Rattle.toml_tree.specs.ViewLaws.{ViewOfScalar, ViewOfArray, ViewOfInline, ViewOfKeyVal};
 
@@ -118,4 +119,10 @@ pub fn views()
     ensures array { ViewOfArray }
     ensures inline { ViewOfInline }
     ensures keyval { ViewOfKeyVal }
+{}
+
+/// A document's text is its mark, or nothing, and its lines, and these begin where a character does.
+pub fn marked_texts()
+    ensures text { TextIsSpelled }
+    ensures mark { MarkEndsAtChar }
 {}

@@ -3,7 +3,7 @@ pub use Rattle.toml_units.proofs.Alike.{units_are_alike}
 pub use Rattle.toml_units.proofs.Apart.{units_are_apart}
 pub use Rattle.toml_units.proofs.Bares.{units_of_bares}
 pub use Rattle.toml_units.proofs.Bases.{units_are_based, lines_are_units}
-pub use Rattle.toml_units.proofs.InLines.{units_are_behind_the_mark}
+pub use Rattle.toml_units.proofs.InLines.{line_no_lines, units_are_behind_the_mark}
 pub use Rattle.toml_units.proofs.MovedUnits.{inside_moves}
 pub use Rattle.toml_units.proofs.Order.{outer_comes_first}
 pub use Rattle.toml_units.proofs.Under.{inside_is_under}

@@ -5,9 +5,11 @@ use Rattle.toml_tree.specs.Spells.{EachIs}
 use Rattle.toml_tree.specs.Tree.{Expr, BlankLine, KeyValLine, TableLine, ArrayTableLine, Line}
 use Rattle.toml_names.specs.model.Addresses.{Address, below}
 use Rattle.toml_names.specs.mentions.Keys.{Key}
+use Rattle.toml_names.specs.mentions.Mentions.{Named}
+use Rattle.toml_names.specs.reader.Names.{own_address}
 use Rattle.toml_units.specs.declared.unit.UnitKind.TheVariants as kinds
 use Rattle.toml_units.specs.Places.{is_line}
-use Rattle.toml_units.specs.Units.{TextUnit, units}
+use Rattle.toml_units.specs.Units.{TextUnit, inside_line, units}
 
 -- the unit's address is a table's, of so many steps, and goes on with a key
 pub record GoesOn (n : ℕ) (u : TextUnit) : Type 0 where
@@ -49,3 +51,7 @@ AreLines (u ∷ us) (l ∷ ls) = (u.piece ≡ expr_piece l.expr) × HasBase u l.
 -- Law: the units that are lines are the lines of the document.
 abbrev pub LinesAreUnits : Type 0
 LinesAreUnits = (lines : List Line) → AreLines (lines_of (units lines)) lines
+
+-- Law: what lies on a line is no line.
+abbrev pub InsideAreNoLines : Type 0
+InsideAreNoLines = (earlier : List Named) (e : Expr) → EachIs (λ w. ¬ (w.kind ≡ kinds.Line)) (inside_line (own_address earlier e) e)

@@ -37,7 +37,7 @@ NotAboveNext = (p at : Address) (s : Step) → IsClear p at → ¬ IsAbove p (at
 abbrev pub ClearOfRoot : Type 0
 ClearOfRoot = (p : Address) → ¬ (p ≡ []) → IsClear p []
 
--- the table of the last header is clear where all that is named is, and the table before it.
+-- and, where it is clear of all that is named and of a table, of the table of the last header, that one where there is none.
 abbrev pub SectionIsClear : Type 0
 SectionIsClear = (p : Address) (ms : List Named) (at : Address) → IsClear p at → AreClear p ms → IsClear p (section_from at ms)
 

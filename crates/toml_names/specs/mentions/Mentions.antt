@@ -26,6 +26,7 @@ abbrev pub value_or_empty : Option ScalarValue → ScalarValue
 value_or_empty None = Text []
 value_or_empty (Some v) = v
 
+-- the value that a token spells, the empty text where it spells none
 abbrev pub token_value : ScalarKind → List ℕ → ScalarValue
 token_value kind text = value_or_empty (scalar_of kind text)
 

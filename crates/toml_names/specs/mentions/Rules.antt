@@ -60,7 +60,7 @@ NoMisfit = (ms : List Named) → (misfit [] ms ≡ None) ↔ KeepsRules ms
 abbrev pub MisfitIsFirst : Type 0
 MisfitIsFirst = (earlier new : List Named) (at : Address) → KeepsRules earlier → misfit earlier new ≡ Some at → IsFirstOffence earlier new at
 
--- Laws: where mentions keep the rules, those do that are left when some are taken out;
+-- Laws: where mentions keep the rules, those do that are left when some in a row are taken out;
 abbrev pub SomeKeepRules : Type 0
 SomeKeepRules = (front block back : List Named) → KeepsRules (front ++ (block ++ back)) → KeepsRules (front ++ back)
 

@@ -9,7 +9,7 @@ use Rattle.toml_names.specs.declared.model.address.Step.TheVariants.{Name, Index
 abbrev pub Address : Type 0
 Address = List Step
 
--- one that is lent, if there is one
+-- an address that is lent, if there is one
 abbrev pub lent : Option (Bor Address) → Option Address
 lent = option_map (λ (a : Bor Address). a.now)
 

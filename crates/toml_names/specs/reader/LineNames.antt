@@ -52,7 +52,7 @@ abbrev pub AreDataNear : Names → Cover → Kinds → Type 0
 AreDataNear names hidden found = (lines : List Line) → StandFor names lines → (kinds : Kinds) → IsDataOf (named lines) kinds
     → (at : Address) → found at ≡ near hidden kinds at
 
--- the answer is yes exactly where the data are those of the lines, and where they are hidden those of the other lines
+-- the answer is yes exactly where the lines have these data where nothing is hidden, and elsewhere what the other lines have
 abbrev pub TellsDataBeside : Names → Names → Cover → Kinds → Bool → Type 0
 TellsDataBeside names other hidden new answer = (lines others : List Line) → StandFor names lines → StandFor other others
     → (old : Kinds) → IsDataOf (named others) old → (IsTrue answer ↔ IsDataOf (named lines) (beside hidden old new))

@@ -21,7 +21,7 @@ HoldsBeside nodes id others o set d = (at : Address) → beside (is_hidden set) 
 abbrev pub IsHeld : List Spot → Option ℕ → List Spot → Option ℕ → Step → Option AddressSet → Kinds → Type 0
 IsHeld nodes id others o s part kinds = (at : Address) → beside (hides part s) (below_in others o) kinds at ≡ below_in nodes id at
 
--- the same with a whole set
+-- the same, with what the set has at the step
 abbrev pub IsHeldAtStep : List Spot → Option ℕ → List Spot → Option ℕ → AddressSet → Step → Kinds → Type 0
 IsHeldAtStep nodes id others o set s = IsHeld nodes id others o s (below set s)
 
@@ -46,11 +46,11 @@ HoldElements nodes id others o set items =
 abbrev pub HasMembers : List Spot → ℕ → AddressSet → Datum → Type 0
 HasMembers nodes id set d = (n : List ℕ) → IsSome (below set (Name n)) → IsSome (kind_at d (Name n ∷ [])) → IsSome (child_of nodes id n)
 
--- and a name at which the set hides anything of what stands at another node,
+-- it has the name, or the set hides nothing of what the other node has there,
 abbrev pub HasOrShows : List Spot → ℕ → List Spot → Option ℕ → AddressSet → List ℕ → Type 0
 HasOrShows nodes id others p set n = child_of nodes id n ≡ None → IsShownIn others p (Name n) (below set (Name n))
 
--- so each name of that node
+-- so it is of each name of the other node
 abbrev pub HasNamesOf : List Spot → ℕ → List Spot → Option ℕ → AddressSet → Type 0
 HasNamesOf nodes id others o set = (n : List ℕ) → HasOrShows nodes id others (step_in others o (Name n)) set n
 

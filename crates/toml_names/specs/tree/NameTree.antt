@@ -59,7 +59,7 @@ pub record KeepsAddresses (old new : List Spot) : Type 0 where
   pub longer : length old ≤ length new
   pub same : (k : ℕ) → k < length old → address_at new k ≡ address_at old k
 
--- the node of this one is where headers go on: in the last table of an array, or in the table itself
+-- `inner` is where a header goes on at this node: the node of the last table of an array of tables, else the node itself
 abbrev pub IsInner : List Spot → ℕ → ℕ → Type 0
 IsInner nodes id inner = (ms : List Named) → IsTreeOf nodes ms → address_at nodes inner ≡ entered ms (address_at nodes id)
 

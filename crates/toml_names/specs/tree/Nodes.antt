@@ -100,6 +100,7 @@ marked s r line = record s { role = role_after s.role r; line = if same_role (ro
 abbrev pub noted : List Spot → ℕ → Spot → Role → ℕ → List Spot
 noted nodes k here r line = slice_set nodes k (marked here r line)
 
+-- the node is named once more, and nothing else changes
 abbrev pub IsNotedOnce : List Spot → List Spot → ℕ → Role → ℕ → Type 0
 IsNotedOnce old new k r line = (d : Spot) → new ≡ noted old k (slice_index_or old k d) r line
 

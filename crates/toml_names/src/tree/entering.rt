@@ -38,7 +38,8 @@ impl<'t> NameTree<'t> {
             let name = part_name (piece part.entry) in
             let entry = name_at before at name role (kind_of kind.entry) line ∷ [] in
             Steps 1 self.old self.new result
-            (λ r. MatchOption r ((known ≡ true) × IsAbsent before at name) (EntersTo before after entry (child (address_at before at) name)))
+            (λ r. MatchOption r ((known ≡ true) × IsAbsent before at name)
+            (EntersTo before after entry (child (address_at before at) name)))
             (Clashes before entry) }
     {
         let found = match self.follow(known, at, part, role, kind, line)? {

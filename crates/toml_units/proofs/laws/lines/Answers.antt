@@ -1,4 +1,5 @@
 use Rattle.toml_units.proofs.Bases.{units_are_based, lines_are_units}
+use Rattle.toml_units.proofs.InLines.{line_no_lines}
 use Rattle.toml_units.proofs.UnitLines.{units_are_of_lines}
 use Rattle.toml_units.proofs.laws.lines.Goals as goal
 
@@ -10,3 +11,6 @@ returns-clause-bases c = units_are_based
 
 pub returns-clause-each : goal.returns-clause-each
 returns-clause-each c = lines_are_units
+
+pub returns-clause-inside : goal.returns-clause-inside
+returns-clause-inside c = line_no_lines
