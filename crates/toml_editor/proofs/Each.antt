@@ -1,5 +1,5 @@
 -- What holds of each element of a list.
-use Rattle.std.proofs.Common.{◌≡◌, ℕ, zero, suc, List, [], ◌∷◌, ◌++◌, Some, subst}
+use Rattle.std.proofs.Common.{◌≡◌, ℕ, zero, suc, List, [], ◌∷◌, ◌++◌, map, Some, subst}
 use Rattle.std.specs.Prelude.{slice_get}
 use Rattle.std.proofs.lemmas.Option.{same_Some}
 use Rattle.toml_tree.specs.Spells.{EachIs}
@@ -24,3 +24,11 @@ pub each_get : {A : Type 0} (P : A → Type 0) (xs : List A) (j : ℕ) (w : A) �
 each_get P [] j w h is = cc
 each_get P (x ∷ xs) zero w h is = subst P (same_Some x w is) h.0
 each_get P (x ∷ xs) (suc j) w h is = each_get P xs j w h.1 is
+
+pub each_map : {A B : Type 0} (P : B → Type 0) (f : A → B) (xs : List A) → EachIs (λ x. P (f x)) xs → EachIs P (map f xs)
+each_map P f [] h = tt
+each_map P f (x ∷ xs) h = (h.0, each_map P f xs h.1)
+
+pub map_each : {A B : Type 0} (P : B → Type 0) (f : A → B) (xs : List A) → EachIs P (map f xs) → EachIs (λ x. P (f x)) xs
+map_each P f [] h = tt
+map_each P f (x ∷ xs) h = (h.0, map_each P f xs h.1)

@@ -1,18 +1,47 @@
 pub mod Shapes
 pub mod MadeEdits
+pub mod MakesExact
+pub mod PlainMade
 pub mod Judgements
 pub mod NearFaults
 mod Each
+mod Beginning
+mod Sought
+mod Placed
+mod Put
+mod SpelledOne
+mod Alone
+mod Changed
+mod SetAway
+mod SetStanding
+mod OneByOne
+mod Renamed
+mod RenamedSlots
+mod Removed
+mod RemovedOne
+mod RenameWritten
 mod Tidy
 mod Out
+mod StandingOut
+mod WrittenOut
 mod Outlined
 mod TreeOutlined
+pub mod SetOutlined
+pub mod RenameOutlined
+mod OpenEntries
+mod SetInside
+mod KeysRenamed
+mod RenameInside
+mod RenameAway
 mod Numbered
 mod Lying
+mod LinesLie
+mod Started
 mod Opened
 mod OpenedEach
 mod OpenedGap
 mod OpenedLine
 mod OpenedBody
+mod OpenedOrigins
 pub mod written
 pub mod Proved

@@ -26,10 +26,13 @@ map_push : (xs ys : List Given) → map change (xs ++ ys) ≡ map change xs ++ m
 map_push [] ys = refl
 map_push (x ∷ xs) ys = ap (λ zs. change x ∷ zs) (map_push xs ys)
 
+-- one more is taken
+pub taken_on : (es : List Given) (i : ℕ) (e : Given) → i < length es → e ≡ get_or es i e → map change (take (i + 1) es) ≡ map change (take i es) ++ change e ∷ []
+taken_on es i e low is = ap (map change) (take_more es i e low ∙ ap (λ x. take i es ++ x ∷ []) (sym is)) ∙ map_push (take i es) (e ∷ [])
+
 pub led_on : (profile : Profile) (es : List Given) (i : ℕ) (e : Given) (old : Kinds) (mid new : Datum) → i < length es → e ≡ get_or es i e → Lead profile (map change (take i es)) old (kind_at mid) → IsMade profile (change e) mid new → Lead profile (map change (take (i + 1) es)) old (kind_at new)
 led_on profile es i e old mid new low is lead made =
-    let parts : map change (take (i + 1) es) ≡ map change (take i es) ++ change e ∷ [] = ap (map change) (take_more es i e low ∙ ap (λ x. take i es ++ x ∷ []) (sym is)) ∙ map_push (take i es) (e ∷ []) in
-    subst (λ cs. Lead profile cs old (kind_at new)) (sym parts) (lead_more profile (map change (take i es)) (change e) old mid new lead made)
+    subst (λ cs. Lead profile cs old (kind_at new)) (sym (taken_on es i e low is)) (lead_more profile (map change (take i es)) (change e) old mid new lead made)
 
 take_map : (n : ℕ) (es : List Given) → take n (map change es) ≡ map change (take n es)
 take_map zero es = refl

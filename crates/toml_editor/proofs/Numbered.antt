@@ -1,5 +1,5 @@
 -- Units that are counted one behind the other.
-use Rattle.std.proofs.Common.{◌≡◌, ◌∙◌, ◌+◌, ◌<◌, ◌≤◌, ℕ, suc, Bool, true, false, cond, List, [], ◌∷◌, ◌++◌, map, Option, Some, None, length, length-append, drop, get_or, refl, ap, ap₂, sym, subst, arith, append_assoc, append-nil, slice_index_or}
+use Rattle.std.proofs.Common.{◌≡◌, ◌∙◌, ◌+◌, ◌<◌, ◌≤◌, ℕ, suc, Bool, true, false, cond, List, [], ◌∷◌, ◌++◌, map, Some, None, length, length-append, drop, get_or, refl, ap, ap₂, sym, subst, arith, append_assoc, append-nil, slice_index_or}
 use Rattle.std.proofs.lemmas.List.{drop_all, get_or_default}
 use Rattle.toml_editor.proofs.Out.{dropped}
 use Rattle.toml_units.specs.Places.{is_line}
@@ -9,7 +9,7 @@ use Rattle.toml_editor.specs.declared.tree.Entries.{Entries}
 use Rattle.toml_editor.specs.declared.tree.Entry.{Entry}
 use Rattle.toml_editor.specs.declared.tree.Value.TheViews.{out-Entries, out-Entry}
 use Rattle.toml_editor.specs.declared.tree.Value.TheFolds.{fold_out-Entries, fold_out-Entry}
-use Rattle.toml_editor.specs.Numbering.{Origins, Numbers, all_origins, tail_origins, end_origins, gap_origins, value_origins, entries_origins, entry_origins, value_step, entries_step, entry_step, pairs_from}
+use Rattle.toml_editor.specs.Numbering.{Origins, Numbers, all_origins, tail_origins, end_origins, gap_origins, value_origins, entries_origins, entry_origins, value_origins_step, entries_origins_step, entry_origins_step, pairs_from}
 
 pairs_append : (wanted : List Bool) (n : ℕ) (os ps : Origins) → pairs_from wanted n (os ++ ps) ≡ pairs_from wanted n os ++ pairs_from wanted (n + length os) ps
 pairs_append wanted n [] ps = ap (λ m. pairs_from wanted m ps) (omega arith)
@@ -38,8 +38,11 @@ then os ps a b c same first others room =
 abbrev pub CountedUpTo : Origins → Origins → Numbering → Numbering → Type 0
 CountedUpTo all rest a b = (front : Origins) × (all ≡ front ++ rest) × Numbers front a b
 
+pub nothing_counted : (a : Numbering) → Numbers [] a a
+nothing_counted a room = (omega arith, sym (append-nil a.pairs.items))
+
 pub none_counted : (all : Origins) (a : Numbering) → CountedUpTo all all a a
-none_counted all a = ([], refl, λ room. (omega arith, sym (append-nil a.pairs.items)))
+none_counted all a = ([], refl, nothing_counted a)
 
 pub more_counted : (all os rest left : Origins) (a b c : Numbering) → b.wanted ≡ a.wanted → left ≡ os ++ rest → CountedUpTo all left a b → Numbers os b c → CountedUpTo all rest a c
 more_counted all os rest left a b c same is (front, split, so_far) here =
@@ -65,9 +68,9 @@ last_counted f xs i a b past so_far = all_counted (all_origins f xs) (all_origin
 
 -- the units of entries, and of what stands behind the last comma
 entries_step_is : (e : Entries) → entries_origins e ≡ all_origins (λ o. o) (map entry_origins (out-Entries e).list.items) ++ end_origins (out-Entries e).end
-entries_step_is = fold_out-Entries Origins Origins Origins value_step entries_step entry_step
+entries_step_is = fold_out-Entries Origins Origins Origins value_origins_step entries_origins_step entry_origins_step
 
-all_mapped : (es : List Entry) → all_origins (λ o. o) (map entry_origins es) ≡ all_origins entry_origins es
+pub all_mapped : (es : List Entry) → all_origins (λ o. o) (map entry_origins es) ≡ all_origins entry_origins es
 all_mapped [] = refl
 all_mapped (e ∷ es) = ap (λ r. entry_origins e ++ r) (all_mapped es)
 
@@ -76,8 +79,19 @@ entries_are e all is =
     ap (λ es. all_origins entry_origins es ++ end_origins (out-Entries e).end) is
     ∙ sym (entries_step_is e ∙ ap (λ r. r ++ end_origins (out-Entries e).end) (all_mapped (out-Entries e).list.items))
 
+-- all entries are counted, and then what stands behind the last comma
+pub entries_counted : (e : Entries) (all rest : List Entry) (a b c : Numbering) → all ≡ (out-Entries e).list.items → rest ≡ [] → b.wanted ≡ a.wanted
+    → CountedUpTo (all_origins entry_origins all ++ end_origins (out-Entries e).end) (all_origins entry_origins rest ++ end_origins (out-Entries e).end) a b
+    → Numbers (end_origins (out-Entries e).end) b c → Numbers (entries_origins e) a c
+entries_counted e all rest a b c is none same so_far here =
+    let end = end_origins (out-Entries e).end in
+    let whole = all_origins entry_origins all ++ end in
+    let left = ap (λ es. all_origins entry_origins es ++ end) none in
+    subst (λ os. Numbers os a c) (entries_are e all is)
+    (all_counted whole [] a c refl (more_counted whole end [] (all_origins entry_origins rest ++ end) a b c same (left ∙ sym (append-nil end)) so_far here))
+
 pub entry_is : (e : Entry) → entry_origins e ≡ gap_origins (out-Entry e).before ++ ((out-Entry e).origin ∷ (value_origins (out-Entry e).value ++ gap_origins (out-Entry e).after))
-entry_is = fold_out-Entry Origins Origins Origins value_step entries_step entry_step
+entry_is = fold_out-Entry Origins Origins Origins value_origins_step entries_origins_step entry_origins_step
 
 first_left : (us : List TextUnit) (n : ℕ) → n < length us → (u : TextUnit) × (drop n us ≡ u ∷ drop (n + 1) us) × ((b : Bool) → ((d : TextUnit) → is_line (get_or us n d).kind ≡ b) → is_line u.kind ≡ b)
 first_left [] n low = absurd (omega (arith, low))

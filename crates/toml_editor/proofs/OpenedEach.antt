@@ -1,5 +1,6 @@
 -- The loops that open elements and pairs one by one.
-use Rattle.std.proofs.Common.{◌≡◌, ◌∙◌, ℕ, List, [], ◌∷◌, ◌++◌, map, Option, Some, None, refl, ap, ap₂, sym, subst, append_assoc, append-nil}
+use Rattle.std.proofs.Common.{◌≡◌, ◌∙◌, ◌+◌, ◌<◌, ◌≤◌, ℕ, List, [], ◌∷◌, ◌++◌, map, length, drop, get_or, Option, Some, None, refl, ap, ap₂, sym, subst, append_assoc, append-nil}
+use Rattle.std.proofs.lemmas.List.{drop_all, map-append}
 use Rattle.std.specs.Global.{Box}
 use Rattle.std.specs.Prelude.{option_map}
 use Rattle.toml_text.specs.Source.{text_of}
@@ -17,10 +18,12 @@ use Rattle.toml_tree.specs.Tree.{Piece, Array, Inline}
 use Rattle.toml_tree.specs.View as view
 use Rattle.toml_tree.specs.View.{gap, element, member, array_items, table_pairs, value_step, array_step, inline_step, item_step, keyval_step, pair_step}
 use Rattle.toml_editor.proofs.Lying.{lie_back}
+use Rattle.toml_editor.proofs.Out.{dropped}
 use Rattle.toml_editor.proofs.Opened.{ElementLies, MemberLies, EndLies, array_lies, inline_lies, element_outline, member_outline}
 use Rattle.toml_editor.proofs.Outlined.{entry_made}
 use Rattle.toml_editor.specs.declared.texts.Texts.{Texts}
 use Rattle.toml_editor.specs.declared.tree.Assign.{Assign}
+use Rattle.toml_editor.specs.declared.tree.Entry.{Entry}
 use Rattle.toml_editor.specs.declared.tree.Gap.{Gap}
 use Rattle.toml_editor.specs.declared.tree.Value.{Value}
 use Rattle.toml_editor.specs.declared.tree.Value.TheViews.{roll-Entry}
@@ -35,7 +38,7 @@ abbrev pub OpenedSoFar : {A : Type 0} → (A → Type 0) → (A → EntryOutline
 OpenedSoFar Lies outlined all left so_far = EachIs Lies left × (so_far ++ map outlined left ≡ map outlined all)
 
 -- one more is opened
-pub opened_on : {A : Type 0} (Lies : A → Type 0) (outlined : A → EntryOutline) (all left rest : List A) (x : A) (so_far : List EntryOutline) (e : EntryOutline) → left ≡ x ∷ rest
+opened_on : {A : Type 0} (Lies : A → Type 0) (outlined : A → EntryOutline) (all left rest : List A) (x : A) (so_far : List EntryOutline) (e : EntryOutline) → left ≡ x ∷ rest
     → (Lies x → e ≡ outlined x) → OpenedSoFar Lies outlined all left so_far → OpenedSoFar Lies outlined all rest (so_far ++ e ∷ [])
 opened_on Lies outlined all left rest x so_far e is opens (lie, are) =
     let each = subst (EachIs Lies) is lie in (
@@ -45,8 +48,30 @@ opened_on Lies outlined all left rest x so_far e is opens (lie, are) =
     )
 
 -- all are opened
-pub opened_all : {A : Type 0} (Lies : A → Type 0) (outlined : A → EntryOutline) (all left : List A) (so_far : List EntryOutline) → left ≡ [] → OpenedSoFar Lies outlined all left so_far → so_far ≡ map outlined all
+opened_all : {A : Type 0} (Lies : A → Type 0) (outlined : A → EntryOutline) (all left : List A) (so_far : List EntryOutline) → left ≡ [] → OpenedSoFar Lies outlined all left so_far → so_far ≡ map outlined all
 opened_all Lies outlined all left so_far none (lie, are) = sym (append-nil so_far) ∙ ap (λ xs. so_far ++ map outlined xs) (sym none) ∙ are
+
+-- so it is of a list that is walked from its beginning: before the first,
+pub none_opened : {A : Type 0} (Lies : A → Type 0) (outlined : A → EntryOutline) (all : List A) (list : List Entry) → list ≡ [] → EachIs Lies all
+    → OpenedSoFar Lies outlined all all (map entry list)
+none_opened Lies outlined all list none lie = (lie, ap (λ es. map entry es ++ map outlined all) none)
+
+-- with one more,
+pub one_opened : {A X : Type 0} (Lies : A → Type 0) (outlined : A → EntryOutline) (of : X → A) (items : List X) (i : ℕ) (x : X) → i < length items → x ≡ get_or items i x
+    → (list new : List Entry) (e : Entry) → new ≡ list ++ e ∷ [] → (Lies (of x) → entry e ≡ outlined (of x))
+    → OpenedSoFar Lies outlined (map of items) (map of (drop i items)) (map entry list)
+    → OpenedSoFar Lies outlined (map of items) (map of (drop (i + 1) items)) (map entry new)
+one_opened Lies outlined of items i x low there list new e is opens so_far =
+    subst (OpenedSoFar Lies outlined (map of items) (map of (drop (i + 1) items))) (sym (ap (map entry) is ∙ map-append entry list (e ∷ [])))
+    (opened_on Lies outlined (map of items) _ _ (of x) (map entry list) (entry e) (ap (map of) (dropped items i x low there)) opens so_far)
+
+-- and behind the last
+pub all_opened : {A X : Type 0} (Lies : A → Type 0) (outlined : A → EntryOutline) (of : X → A) (items own : List X) (i : ℕ) → length items ≤ i → items ≡ own
+    → (list new : List Entry) → new ≡ list → OpenedSoFar Lies outlined (map of items) (map of (drop i items)) (map entry list)
+    → map entry new ≡ map outlined (map of own)
+all_opened Lies outlined of items own i past is list new same so_far =
+    ap (map entry) same ∙ opened_all Lies outlined (map of items) _ (map entry list) (ap (map of) (drop_all i items past)) so_far
+    ∙ ap (λ xs. map outlined (map of xs)) is
 
 -- what holds where parts stand in a text holds where they stand in the text that is still the opener's
 pub in_text : {P : Type 0} (old now : Texts) (ps : List Part) → old ≡ now → (Lie (text_of old.source) ps → P) → Lie (text_of now.source) ps → P

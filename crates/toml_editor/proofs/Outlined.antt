@@ -1,14 +1,19 @@
 -- The text of entries, one after the other.
-use Rattle.std.proofs.Common.{◌≡◌, ◌∙◌, ℕ, Bool, true, false, List, [], ◌∷◌, ◌++◌, map, Option, Some, None, ap, sym, append_assoc, append-nil}
+use Rattle.std.proofs.Common.{◌≡◌, ◌∙◌, ℕ, Bool, true, false, List, [], ◌∷◌, ◌++◌, map, Option, Some, None, ap, sym, append_assoc, append-nil, Box}
+use Rattle.std.specs.Global.{Global}
 use Rattle.std.specs.Prelude.{option_map}
 use Rattle.toml_editor.specs.declared.tree.Entries.{Entries}
 use Rattle.toml_editor.specs.declared.tree.Entry.{Entry}
+use Rattle.toml_editor.specs.declared.tree.Leaf.{Leaf}
 use Rattle.toml_editor.specs.declared.tree.Value.{Value}
+use Rattle.toml_editor.specs.declared.tree.Value.TheOpen as layer
 use Rattle.toml_editor.specs.declared.tree.Value.TheOpen.{Entries-F, Entry-F}
-use Rattle.toml_editor.specs.declared.tree.Value.TheViews.{out-Entries, roll-Entries, roll-Entry}
-use Rattle.toml_editor.specs.declared.tree.Value.TheFolds.{fold_out-Entries, fold-roll-Entries, fold-roll-Entry}
+use Rattle.toml_editor.specs.declared.tree.Value.TheViews.{out-Entries, out-Entry, roll-Entries, roll-Entry}
+use Rattle.toml_editor.specs.declared.tree.Value.TheFolds.{fold-roll-Value, fold_out-Entries, fold_out-Entry, fold-roll-Entries, fold-roll-Entry}
+use Rattle.toml_editor.specs.declared.tree.Value.TheVariants as variants
+use Rattle.toml_editor.specs.declared.tree.Value.TheVariants.{rolls-Scalar, rolls-Array, rolls-Inline}
 use Rattle.toml_editor.specs.OpenOutlines.{EntryOutline, Enclosed, entry, entries, entry_outlined, entries_of, gap_text, leaf_text, assign, value, value_step, entries_step, entry_step}
-use Rattle.toml_editor.specs.Outlines.{End, ValueOutline, comma_if, entries_outlined, own_assign_outlined, value_outlined}
+use Rattle.toml_editor.specs.Outlines.{Braced, End, Listed, Token, ValueOutline, comma_if, entries_outlined, own_assign_outlined, value_outlined}
 
 -- the first entry, with a comma where one stands before it, and all behind it
 entry_first : (behind : Bool) (e : EntryOutline) (rest : List ℕ)
@@ -49,11 +54,20 @@ entries_closed behind rest es end gap old out mid new none some comma here so_fa
     ∙ ap (λ e. out ++ entries_outlined behind (End e)) (sym some) ∙ ap (λ r. out ++ entries_outlined behind (entries_of r end)) (sym none) ∙ so_far
 
 -- what stands between brackets or braces, by what the working tree has there
-entries_is : (e : Entries) → entries e ≡ record {
+pub entries_is : (e : Entries) → entries e ≡ record {
   opening = leaf_text (out-Entries e).opening;
   entries = entries_of (map entry (out-Entries e).list.items) (option_map gap_text (out-Entries e).end);
 }
 entries_is = fold_out-Entries ValueOutline Enclosed EntryOutline value_step entries_step entry_step
+
+-- an entry, by what the working tree has there
+pub entry_is : (e : Entry) → entry e ≡ record {
+  before = gap_text (out-Entry e).before;
+  assign = option_map (λ a. assign a.value) (out-Entry e).assign;
+  value = value (out-Entry e).value;
+  after = gap_text (out-Entry e).after;
+}
+entry_is = fold_out-Entry ValueOutline Enclosed EntryOutline value_step entries_step entry_step
 
 -- so it is with all of them
 pub entries_whole : (e : Entries) (all : List Entry) (old : List ℕ) → all ≡ (out-Entries e).list.items
@@ -61,6 +75,16 @@ pub entries_whole : (e : Entries) (all : List Entry) (old : List ℕ) → all �
 entries_whole e all old is =
     ap (λ es. old ++ entries_outlined false (entries_of (map entry es) (option_map gap_text (out-Entries e).end))) is
     ∙ ap (λ w. old ++ entries_outlined false w.entries) (sym (entries_is e))
+
+-- a value by its variant
+pub scalar_made : (l : Leaf) → value (variants.Scalar l) ≡ Token (leaf_text l)
+scalar_made l = ap value (sym (rolls-Scalar l)) ∙ fold-roll-Value ValueOutline Enclosed EntryOutline value_step entries_step entry_step (layer.Scalar l)
+
+pub array_made : (b : Box Entries Global) → value (variants.Array b) ≡ Listed (entries b.value).opening (entries b.value).entries
+array_made b = ap value (sym (rolls-Array b)) ∙ fold-roll-Value ValueOutline Enclosed EntryOutline value_step entries_step entry_step (layer.Array b)
+
+pub inline_made : (b : Box Entries Global) → value (variants.Inline b) ≡ Braced (entries b.value).opening (entries b.value).entries
+inline_made b = ap value (sym (rolls-Inline b)) ∙ fold-roll-Value ValueOutline Enclosed EntryOutline value_step entries_step entry_step (layer.Inline b)
 
 -- entries that are made of these
 pub entries_made : (e : Entries-F Value Entries Entry)

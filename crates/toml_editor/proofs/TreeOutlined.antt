@@ -3,8 +3,8 @@ use Rattle.std.proofs.Common.{◌≡◌, ◌∙◌, ℕ, Bool, true, false, List
 use Rattle.std.specs.Prelude.{option_map}
 use Rattle.toml_tree.proofs.Proved.{parts_join}
 use Rattle.toml_tree.specs.Spells.{Part, piece, symbol, joined, all_parts, gap_parts, dotted_parts, key_parts, equals_parts, assign_parts, value_parts, items_parts, pairs_parts, keyval_parts, blank_parts, comment_parts, header_parts, array_header_parts, expr_parts, line_parts, lines_parts}
-use Rattle.toml_tree.specs.Tree.{Piece, Blank, Dotted, Assign, Gap, Value, Scalar, Array, Inline, Items, Close, Last, More, Pairs, ClosePairs, LastPair, MorePairs, KeyVal, Header, Expr, BlankLine, KeyValLine, TableLine, ArrayTableLine, Line}
-use Rattle.toml_editor.specs.Outlines.{comma_if, comment_outlined, dotted_outlined, assign_outlined, value_outlined, entries_outlined, expr_outlined, line_outlined, lines_outlined}
+use Rattle.toml_tree.specs.Tree.{Piece, Blank, Dotted, Assign, Gap, Value, Scalar, Array, Inline, Items, Close, Last, More, Pairs, ClosePairs, LastPair, MorePairs, Header, Expr, BlankLine, KeyValLine, TableLine, ArrayTableLine}
+use Rattle.toml_editor.specs.Outlines.{comma_if, comment_outlined, dotted_outlined, assign_outlined, value_outlined, entries_outlined, line_outlined}
 use Rattle.toml_editor.specs.TreeOutlines.{gap_spelled, dotted_outline, assign_outline, value_outline, items_outline, pairs_outline, line_outline, ValueIsOutlined, LineIsOutlined, LinesAreOutlined}
 
 -- texts one behind the other, where the first is that of some parts

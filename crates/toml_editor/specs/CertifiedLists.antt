@@ -55,7 +55,7 @@ ArePlain profile (c ∷ cs) style before =
     ((d : Doc) → SpellsIn profile d before → IsPlain d.lines c)
     × ((between : List ℕ) → IsWritten profile c style before between → ArePlain profile cs style between)
 
--- the text that a list of edits writes; within the limit of a text the verdict on it is yes, by its outer partners, of which there are some
+-- the text is good and has outer partners with the first one; within the limit of a text the verdict is yes by any such
 pub record IsCertifiedText (profile : Profile) (before : List ℕ) (old now : Kinds) (cs : List Change) (good : IsGoodText profile before old)
     (after : List ℕ) : Type 0 where
   pub new : IsGoodText profile after now

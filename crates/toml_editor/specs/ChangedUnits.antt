@@ -13,6 +13,7 @@ use Rattle.toml_checker.specs.CarriedTo.{At}
 use Rattle.toml_checker.specs.Comments.{is_comment}
 use Rattle.toml_checker.specs.GoneAndChanged.{IsChanged}
 use Rattle.toml_checker.specs.Protected.{standing}
+use Rattle.toml_editor.specs.Held.{HoldAt}
 use Rattle.toml_editor.specs.RenamedUnits.{IsCarried}
 use Rattle.toml_editor.specs.Setting.{set_lines}
 use Rattle.toml_editor.specs.Written.{HasValue}
@@ -32,30 +33,32 @@ LiesInValue p u = (is_inner u.kind ≡ true) × At u.address (λ a. IsAbove p a 
 abbrev pub HoldsValue : Address → TextUnit → Type 0
 HoldsValue p u = (u.address ≡ Some p) × (is_comment u.kind ≡ false)
 
--- the second text is the first with `run` in the place of a run of its bytes
-abbrev pub IsExchanged : List ℕ → List ℕ → List ℕ → Type 0
-IsExchanged run a b = (front old back : List ℕ) × (a ≡ front ++ (old ++ back)) × (b ≡ front ++ (run ++ back))
+-- the second text is the first with the new value's text in the place of that of an old one
+abbrev pub IsExchanged : (Value → Type 0) → Value → List ℕ → List ℕ → Type 0
+IsExchanged IsOld new a b =
+    (old : Value) × (front back : List ℕ) × IsOld old
+    × (a ≡ front ++ (joined (value_parts old) ++ back)) × (b ≡ front ++ (joined (value_parts new) ++ back))
 
 -- the unit with another value; of lines those with a key have one
-pub record HasNewValue (new : Value) (u w : TextUnit) : Type 0 where
+pub record HasNewValue (IsOld : Value → Type 0) (new : Value) (u w : TextUnit) : Type 0 where
   pub keyed : u.kind ≡ kinds.Line → IsSome u.base
   pub kind : w.kind ≡ u.kind
   pub address : w.address ≡ u.address
   pub base : w.base ≡ u.base
-  pub text : IsExchanged (joined (value_parts new)) u.piece.text w.piece.text
+  pub text : IsExchanged IsOld new u.piece.text w.piece.text
 
--- a unit that the edit changes has the new value in the place of a run of its bytes, whatever line it is of
-abbrev pub Exchanges : Change → Value → TextUnit → TextUnit → Type 0
-Exchanges c new u w =
-    (line : Option TextUnit) → IsChanged u.kind c (standing u line) → IsExchanged (joined (value_parts new)) u.piece.text w.piece.text
+-- a unit that the edit changes has the new value in the place of the old one, whatever line it is of
+abbrev pub Exchanges : Change → (Value → Type 0) → Value → TextUnit → TextUnit → Type 0
+Exchanges c IsOld new u w =
+    (line : Option TextUnit) → IsChanged u.kind c (standing u line) → IsExchanged IsOld new u.piece.text w.piece.text
 
 -- What stands for a unit after a `set`: nothing, if it lies in the old value; itself with the new value, and what is in that, if the value is its
--- own; else itself, where it was, as the edit leaves it: if the edit changes it, with the new value in the place of a run of its bytes.
-abbrev pub IsSetTo : Address → List ℕ → Value → TextUnit → List TextUnit → Type 0
-IsSetTo p text new u ws =
+-- own; else itself, where it was, as the edit leaves it: if the edit changes it, with the new value in the place of the old one.
+abbrev pub IsSetTo : Address → List ℕ → (Value → Type 0) → Value → TextUnit → List TextUnit → Type 0
+IsSetTo p text IsOld new u ws =
     (LiesInValue p u × (ws ≡ []))
-    ⊎ (HoldsValue p u × (w : TextUnit) × HasNewValue new u w × (ws ≡ w ∷ inside p new))
-    ⊎ (¬ LiesInValue p u × ¬ HoldsValue p u × (w : TextUnit) × IsCarried (set p text) u w × Exchanges (set p text) new u w
+    ⊎ (HoldsValue p u × (w : TextUnit) × HasNewValue IsOld new u w × (ws ≡ w ∷ inside p new))
+    ⊎ (¬ LiesInValue p u × ¬ HoldsValue p u × (w : TextUnit) × IsCarried (set p text) u w × Exchanges (set p text) IsOld new u w
     × (w.address ≡ u.address) × (ws ≡ w ∷ []))
 
 -- the second list is made of the first: a list for each, one behind the other
@@ -63,7 +66,7 @@ abbrev pub AreMadeOf : {A B : Type 0} → (A → List B → Type 0) → List A �
 AreMadeOf R [] ws = ws ≡ []
 AreMadeOf R (u ∷ us) ws = (here rest : List _) × R u here × (ws ≡ here ++ rest) × AreMadeOf R us rest
 
--- Law: the units of the new lines are what stands for those of the old ones, in order.
+-- Law: the units of the new lines are what stands for those of the old ones, in order; an old value is one that stands at the address.
 abbrev pub SetUnits : Type 0
 SetUnits = (p : Address) (text : List ℕ) (new : Value) (lines : List Line) → ¬ (p ≡ []) → AreLines lines → IsValue new → HasValue lines p → KeepsRules (named lines)
-    → AreMadeOf (IsSetTo p text new) (units lines) (units (set_lines p new lines))
+    → AreMadeOf (IsSetTo p text (HoldAt lines p) new) (units lines) (units (set_lines p new lines))

@@ -1,6 +1,6 @@
 -- What the editor answers.
-use Rattle.std.specs.Prelude.{◌≡◌, ◌⊎◌, ◌↔◌, ℕ, List, [], ◌∷◌, ◌++◌, take, Option, Some, None, IsSome, slice_get}
-use Rattle.toml_text.specs.Limit.{IsText}
+use Rattle.std.specs.Prelude.{◌≡◌, ◌⊎◌, ◌↔◌, ◌<◌, ℕ, List, [], ◌∷◌, ◌++◌, length, take, Option, Some, None, IsSome, slice_get}
+use Rattle.toml_text.specs.Limit.{IsText, max_len}
 use Rattle.toml_text.specs.Source.{IsFaultOf}
 use Rattle.toml_tree.specs.Profiles.{IsOfProfile}
 use Rattle.toml_tree.specs.Document.{Refuses}
@@ -21,9 +21,10 @@ use Rattle.toml_units.specs.declared.piece.Piece.{Piece}
 use Rattle.toml_units.specs.Pieces.{joined_text}
 use Rattle.toml_units.specs.Units.{units}
 use Rattle.toml_checker.specs.Demands.{Certified}
-use Rattle.toml_checker.specs.Documents.{OfTree, OfData}
+use Rattle.toml_checker.specs.Documents.{AreDefined, OfTree, OfData}
 use Rattle.toml_checker.specs.Outer.{IsOuter}
 use Rattle.toml_checker.specs.Pairs.{IsFirst}
+use Rattle.toml_editor.specs.PlainTexts.{IsNoPlainList, WritesPlain}
 use Rattle.toml_editor.specs.Tidy.{AreTidy}
 use Rattle.toml_editor.specs.declared.fault.EditorFault.{EditorFault}
 use Rattle.toml_editor.specs.declared.fault.EditorFault.TheVariants.{Text, Syntax, Names, Edit, Spread, LastElement, TooLong, Unverified, NoMemory}
@@ -32,10 +33,12 @@ use Rattle.toml_editor.specs.declared.fault.EditorFault.TheVariants.{Text, Synta
 abbrev pub NamesOuter : List ℕ → List Change → List (ℕ × ℕ) → Type 0
 NamesOuter before cs ps = OfTree before (λ d. (i : ℕ) → IsFirst ps i ↔ IsOuter cs (units d.lines) i)
 
--- the text is certified to be what the edits make of the first one, by pairs that name the outer protected units
+-- The text is certified to be what the edits make of the first one, by pairs that name the outer protected units. Of plain edits it is
+-- the one that they write.
 pub record IsEdited (profile : Profile) (before : List ℕ) (cs : List Change) (after : List ℕ) (ps : List (ℕ × ℕ)) : Type 0 where
   pub certified : Certified profile before cs after ps
   pub outer : NamesOuter before cs ps
+  pub plain : WritesPlain profile before cs after
 
 -- the pieces, which are tidy, are the text
 pub record ArePieces (before after : List ℕ) (pieces : List Piece) : Type 0 where
@@ -100,12 +103,19 @@ RefusesText profile before (Names fault) = (¬ IsDocumentIn profile before) × I
 RefusesText profile before NoMemory = Unit {0}
 RefusesText profile before _ = ⊥
 
--- what a fault of the editor tells: of an edit only where the text is a document; of a result that is too long or that the judge refuses,
--- and of want of memory, it tells nothing
+-- the text is a document, and each edit is defined on the data so far
+abbrev pub AreDefinedOn : Profile → List ℕ → List Change → Type 0
+AreDefinedOn profile before cs = IsDocumentIn profile before × OfData before (AreDefined profile cs)
+
+-- What a fault of the editor tells. Of an edit: that the text is a document, and the fault is the edit's on the data so far. That its
+-- place is spread, or that it takes a last element: that it is defined on these data, and that the list is not one of plain edits. That
+-- the result is too long: all edits are defined, and where they are plain, what they write is too long. That the judge refuses it: all
+-- edits are defined. Of want of memory: nothing.
 abbrev pub Tells : Profile → List ℕ → List Change → EditorFault → Type 0
 Tells profile before cs (Edit index fault) = IsDocumentIn profile before × OnDataSoFar profile before cs index (λ c kinds. IsFault profile c kinds (Some fault))
 Tells profile before cs (Spread index) = IsDocumentIn profile before × OfTree before (λ d. OnDataSoFar profile before cs index (OfDefined profile (MayBeSpread (place (named d.lines)) index)))
-Tells profile before cs (LastElement index) = IsDocumentIn profile before × OnDataSoFar profile before cs index (OfDefined profile TakesLastElement)
-Tells profile before cs TooLong = Unit {0}
-Tells profile before cs (Unverified reason) = Unit {0}
+    × IsNoPlainList profile before cs
+Tells profile before cs (LastElement index) = IsDocumentIn profile before × OnDataSoFar profile before cs index (OfDefined profile TakesLastElement) × IsNoPlainList profile before cs
+Tells profile before cs TooLong = AreDefinedOn profile before cs × ((after : List ℕ) × WritesPlain profile before cs after × (max_len < length after))
+Tells profile before cs (Unverified reason) = AreDefinedOn profile before cs
 Tells profile before cs fault = RefusesText profile before fault

@@ -20,6 +20,7 @@ use Rattle.toml_checker.specs.Outer.{TellOuter}
 use Rattle.toml_checker.specs.Pairs.{IsFirst}
 use Rattle.toml_checker.specs.Reading.{IsRead}
 use Rattle.toml_editor.specs.Edited.{ArePieces, IsEdited}
+use Rattle.toml_editor.specs.PlainTexts.{WritesPlain}
 use Rattle.toml_editor.specs.declared.editing.Edited.{Edited}
 use Rattle.toml_editor.specs.declared.editing.Work.{Work}
 
@@ -30,7 +31,7 @@ pub record IsReadAs (profile : Profile) (before text : List ℕ) (d : Doc) : Typ
   pub spelled : Spells d before
   pub of_profile : IsOfProfile profile d
 
--- it holds of each profile by which the bytes are read as themselves and the tree
+-- it holds for each profile in which the bytes are a text that this tree spells
 abbrev pub OfReadTree : List ℕ → Doc → (Profile → Type 0) → Type 0
 OfReadTree before d P = (profile : Profile) → IsReadAs profile before before d → P profile
 
@@ -45,11 +46,14 @@ pub record IsKnown (profile : Profile) (d : Document) : Type 0 where
   pub read : IsRead d
   pub document : IsDocumentIn profile d.text.now
 
--- the data are what the edits make of those of the first text, and the pieces of that one are the second
+-- the data are what the edits make of those of the first text, of plain edits the second text is the one that they write, and the pieces
+-- of the first are it
 pub record IsMadeText (profile : Profile) (before : List ℕ) (cs : List Change) (made : Made) (after : List ℕ) (list : List Piece) : Type 0 where
   pub is_made : IsMadeOf profile before cs made
+  pub plain : WritesPlain profile before cs after
   pub pieces : ArePieces before after list
 
+-- the same of what the code hands on: its text and its pieces
 abbrev pub IsMadeAs : Profile → List ℕ → List Change → Made → Edited → Type 0
 IsMadeAs profile before cs made e = IsMadeText profile before cs made (string_bytes e.text) e.pieces.items
 
@@ -58,10 +62,11 @@ pub record IsEditedText (profile : Profile) (before : List ℕ) (cs : List Chang
   pub edited : IsEdited profile before cs after ps
   pub pieces : ArePieces before after list
 
+-- and its pairs
 abbrev pub IsEditedAs : Profile → List ℕ → List Change → Edited → Type 0
 IsEditedAs profile before cs e = IsEditedText profile before cs (string_bytes e.text) e.pieces.items e.certificate.pairs.items
 
--- of the first units, of which the flags tell which are wanted, the pairs name just these first
+-- of the units that have a flag the pairs name first just those whose flag is set
 abbrev pub NameWanted : List Bool → List (ℕ × ℕ) → Type 0
 NameWanted wanted ps = (i : ℕ) → i < length wanted → ((slice_get wanted i ≡ Some true) ↔ IsFirst ps i)
 

@@ -8,13 +8,33 @@ pub mod Editing
 pub mod Outlines
 pub mod OpenOutlines
 pub mod TreeOutlines
+pub mod SetOutlines
+pub mod RenameOutlines
+pub mod Apart
+pub mod Opening
+pub mod Standing
+pub mod InsertStanding
+pub mod Stands
+pub mod Starting
 pub mod Writing
 pub mod Numbering
-pub mod Opening
 pub mod OpeningLines
+pub mod Leading
+pub mod RenamingIn
+pub mod RenameStanding
+pub mod Becoming
+pub mod SpelledEdits
+pub mod Seeing
+pub mod Placing
+pub mod Putting
+pub mod Changing
+pub mod RemoveStanding
+pub mod RemovingIn
+pub mod OpenOrigins
 -- what a plain edit writes, and the laws of it
 pub mod Lines
 pub mod Setting
+pub mod Held
 pub mod Inserting
 pub mod Removing
 pub mod Renaming
@@ -34,3 +54,7 @@ pub mod Steps
 pub mod CarriedUnits
 pub mod CarriedLists
 pub mod CertifiedLists
+-- that the code writes it
+pub mod StandingLaws
+pub mod PlainTexts
+pub mod Exact

@@ -49,25 +49,25 @@ end_origins None = []
 end_origins (Some g) = gap_origins g
 
 -- one level of a value, of the levels below it those of their units
-abbrev pub value_step : Value-F Origins Origins Origins → Origins
-value_step (layer.Scalar token) = []
-value_step (layer.Array entries) = entries.value
-value_step (layer.Inline entries) = entries.value
+abbrev pub value_origins_step : Value-F Origins Origins Origins → Origins
+value_origins_step (layer.Scalar token) = []
+value_origins_step (layer.Array entries) = entries.value
+value_origins_step (layer.Inline entries) = entries.value
 
-abbrev pub entries_step : Entries-F Origins Origins Origins → Origins
-entries_step e = all_origins (λ o. o) e.list.items ++ end_origins e.end
+abbrev pub entries_origins_step : Entries-F Origins Origins Origins → Origins
+entries_origins_step e = all_origins (λ o. o) e.list.items ++ end_origins e.end
 
-abbrev pub entry_step : Entry-F Origins Origins Origins → Origins
-entry_step e = gap_origins e.before ++ (e.origin ∷ (e.value ++ gap_origins e.after))
+abbrev pub entry_origins_step : Entry-F Origins Origins Origins → Origins
+entry_origins_step e = gap_origins e.before ++ (e.origin ∷ (e.value ++ gap_origins e.after))
 
 abbrev pub value_origins : Value → Origins
-value_origins = fold-Value Origins Origins Origins value_step entries_step entry_step
+value_origins = fold-Value Origins Origins Origins value_origins_step entries_origins_step entry_origins_step
 
 abbrev pub entries_origins : Entries → Origins
-entries_origins = fold-Entries Origins Origins Origins value_step entries_step entry_step
+entries_origins = fold-Entries Origins Origins Origins value_origins_step entries_origins_step entry_origins_step
 
 abbrev pub entry_origins : Entry → Origins
-entry_origins = fold-Entry Origins Origins Origins value_step entries_step entry_step
+entry_origins = fold-Entry Origins Origins Origins value_origins_step entries_origins_step entry_origins_step
 
 abbrev pub expr_origins : Expr → Origins
 expr_origins exprs.Blank = []

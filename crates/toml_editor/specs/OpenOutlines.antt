@@ -1,5 +1,5 @@
 -- The outlines of what stands in the working tree.
-use Rattle.std.specs.Prelude.{ℕ, List, [], ◌∷◌, ◌++◌, map, Option, Some, None, option_map}
+use Rattle.std.specs.Prelude.{ℕ, List, [], ◌∷◌, ◌++◌, map, Option, option_map}
 use Rattle.toml_editor.specs.declared.tree.Leaf.{Leaf}
 use Rattle.toml_editor.specs.declared.tree.Leaf.TheVariants as leaves
 use Rattle.toml_editor.specs.declared.tree.Blank.{Blank}
@@ -52,6 +52,7 @@ assign a = record { first = leaf_text a.key.first; rest = map dotted a.key.rest.
 abbrev pub key_text : Key → List ℕ
 key_text k = leaf_text k.first ++ dotted_outlined (map dotted k.rest.items)
 
+-- a comment, where there is one
 abbrev pub comment_text : Option Comment → List ℕ
 comment_text c = comment_outlined (option_map (λ c. leaf_text c.text) c)
 
@@ -65,6 +66,7 @@ pub record EntryOutline : Type 0 where
   pub value : ValueOutline
   pub after : List ℕ
 
+-- its text
 abbrev pub entry_outlined : EntryOutline → List ℕ
 entry_outlined e = e.before ++ (own_assign_outlined e.assign ++ (value_outlined e.value ++ e.after))
 

@@ -1,10 +1,13 @@
 -- What opening makes of trees: what is opened has the outline of the tree, where the tree's parts stand in the text.
-use Rattle.std.specs.Prelude.{◌≡◌, ℕ, List, ◌++◌, map, length, Result, IfOk}
+use Rattle.std.specs.Prelude.{◌≡◌, ℕ, List, ◌++◌, map, length, Option, MatchOption, Result, IfOk}
 use Rattle.std.specs.declared.alloc.AllocError.{AllocError}
 use Rattle.toml_text.specs.Source.{text_of}
+use Rattle.toml_text.specs.Limit.{IsText}
+use Rattle.toml_tree.specs.Profiles.{IsNoValue, IsValueIn}
 use Rattle.toml_tree.specs.Spells.{Part, Placed, joined, gap_parts, value_parts, keyval_parts, line_parts}
 use Rattle.toml_tree.specs.Tree as tree
 use Rattle.toml_tree.specs.View.{piece, element, member, array_items, table_pairs}
+use Rattle.toml_tree.specs.declared.profile.Profile.{Profile}
 use Rattle.toml_tree.specs.declared.tree.Array.{Array}
 use Rattle.toml_tree.specs.declared.tree.InlineTable.{InlineTable}
 use Rattle.toml_tree.specs.declared.tree.Value.TheViews.{out-Array, out-InlineTable}
@@ -32,7 +35,8 @@ pub record LieAt (text : List ℕ) (at : ℕ) (ps : List Part) : Type 0 where
 abbrev pub Lie : List ℕ → List Part → Type 0
 Lie text ps = (at : ℕ) × LieAt text at ps
 
--- What is opened has the outline where the parts stand in the text: a gap of more lines is read from the text itself.
+-- What is opened has the outline where the parts stand in the text: a gap with newlines and no comment is one piece,
+-- read from the text itself.
 abbrev pub OpensAs : {A : Type 0} → {B : Type 0} → Texts → List Part → (A → B) → B → Result A AllocError → Type 0
 OpensAs texts ps outlined is result = IfOk result (λ a. Lie (text_of texts.source) ps → outlined a ≡ is)
 
@@ -41,6 +45,13 @@ OpensGap texts g = OpensAs texts (gap_parts g) gap_text (gap_spelled g)
 
 abbrev pub OpensValue : Texts → tree.Value → Result Value AllocError → Type 0
 OpensValue texts v = OpensAs texts (value_parts v) value (value_outline v)
+
+-- The text of a value that an edit brings: it is a value of the profile, and what is opened has its outline; within the limit of a text
+-- there is none only where it is no value of the profile.
+abbrev pub OpensText : Profile → List ℕ → Option Value → Type 0
+OpensText profile text found =
+    MatchOption found (IsText text → IsNoValue profile text)
+    (λ opened. (v : tree.Value) × IsValueIn profile v text × (value opened ≡ value_outline v))
 
 -- what stands between the brackets of an array, or the braces of an inline table
 abbrev pub OpensArray : Texts → tree.Value → Result Entries AllocError → Type 0

@@ -1,6 +1,6 @@
 -- Outlines: what stands on a line by its texts, in text order. An outline has neither places nor kinds of scalars, and what stands between
--- the values of an array or an inline table, but for the commas, is one text. A line of a tree and a line of the working tree that
--- spell the same have one outline.
+-- the values of an array or an inline table, but for the commas, is one text. A line of a tree has the outline of the line of
+-- the working tree that is opened of it.
 use Rattle.std.specs.Prelude.{ℕ, Bool, true, false, List, [], ◌∷◌, ◌++◌, Option, Some, None, if◌then◌else◌}
 
 -- `.` between whitespace, and the key part behind it

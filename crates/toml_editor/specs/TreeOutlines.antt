@@ -1,7 +1,7 @@
 -- The outlines of trees, and what they spell.
-use Rattle.std.specs.Prelude.{◌≡◌, ℕ, List, [], ◌∷◌, map, Option, Some, None, option_map}
+use Rattle.std.specs.Prelude.{◌≡◌, ℕ, List, [], ◌∷◌, map, Some, None, option_map}
 use Rattle.toml_tree.specs.Spells.{joined, gap_parts, value_parts, line_parts, lines_parts}
-use Rattle.toml_tree.specs.Tree.{Piece, Blank, Dotted, Assign, Gap, Value, Scalar, Array, Inline, Items, Close, Last, More, Pairs, ClosePairs, LastPair, MorePairs, Header, Expr, BlankLine, KeyValLine, TableLine, ArrayTableLine, Line}
+use Rattle.toml_tree.specs.Tree.{Piece, Blank, Dotted, Assign, Gap, Value, Scalar, Array, Inline, Items, Close, Last, More, Pairs, ClosePairs, LastPair, MorePairs, Header, BlankLine, KeyValLine, TableLine, ArrayTableLine, Line}
 use Rattle.toml_editor.specs.Outlines as outline
 use Rattle.toml_editor.specs.Outlines.{DottedOutline, AssignOutline, ValueOutline, EntriesOutline, ExprOutline, LineOutline, value_outlined, line_outlined, lines_outlined}
 

@@ -1,14 +1,18 @@
 -- What is written of the working tree.
-use Rattle.std.specs.Prelude.{◌≡◌, ℕ, List, [], ◌∷◌, ◌++◌, Result, OnOk, slice_range}
+use Rattle.std.specs.Prelude.{◌≡◌, ℕ, List, [], ◌∷◌, ◌++◌, map, Result, OnOk, slice_range}
 use Rattle.std.specs.declared.alloc.AllocError.{AllocError}
 use Rattle.toml_text.specs.Source.{IsHeld}
+use Rattle.toml_tree.specs.Spells.{Spells, joined, lines_parts}
+use Rattle.toml_tree.specs.Tree as tree
 use Rattle.toml_editor.specs.declared.lines.Body.TheVariants as bodies
 use Rattle.toml_editor.specs.declared.lines.Kept.{Kept}
 use Rattle.toml_editor.specs.declared.lines.Line.{Line}
 use Rattle.toml_editor.specs.declared.lines.Slot.{Slot}
 use Rattle.toml_editor.specs.declared.lines.Slot.TheVariants as slots
 use Rattle.toml_editor.specs.OpenOutlines.{line}
-use Rattle.toml_editor.specs.Outlines.{line_outlined}
+use Rattle.toml_editor.specs.Outlines.{line_outlined, lines_outlined}
+use Rattle.toml_editor.specs.Standing.{Read, Standing, standing}
+use Rattle.toml_editor.specs.Stands.{Stands}
 
 -- the text before the edits, and what is written so far
 pub record Written : Type 0 where
@@ -39,10 +43,17 @@ abbrev pub SpellsSlot : List ℕ → Slot → List ℕ → Type 0
 SpellsSlot before (slots.Kept kept) text = SpellsKept before kept text
 SpellsSlot before (slots.Lines lines) text = SpellAll (SpellsLine before) lines.items text
 
--- the slots of the working tree spell the text
-abbrev pub SpellSlots : List ℕ → List Slot → List ℕ → Type 0
-SpellSlots before = SpellAll (SpellsSlot before)
-
--- all is written: the mark, and what the slots spell
+-- All is written: the mark, and the lines that the slots stand for.
 abbrev pub WritesOut : List ℕ → List ℕ → List Slot → List ℕ → Type 0
-WritesOut before mark slots out = (text : List ℕ) → SpellSlots before slots text → out ≡ mark ++ text
+WritesOut before mark slots out =
+    (read : Read) (ss : List Standing) → Stands before read slots ss → out ≡ mark ++ lines_outlined (map (λ (s : Standing). s.outline) ss)
+
+-- Laws: where the slots stand for the lines of a tree, the mark and the text of these lines are written;
+abbrev pub LinesAreWritten : Type 0
+LinesAreWritten = (before mark : List ℕ) (read : Read) (slots : List Slot) (lines : List tree.Line) (out : List ℕ)
+    → WritesOut before mark slots out → Stands before read slots (standing lines) → out ≡ mark ++ joined (lines_parts lines)
+
+-- where they stand for the lines of the text, the text.
+abbrev pub TextIsWritten : Type 0
+TextIsWritten = (text : List ℕ) (d : tree.Doc) (read : Read) (slots : List Slot) (out : List ℕ) → Spells d text
+    → WritesOut text d.mark.text slots out → Stands text read slots (standing d.lines) → out ≡ text

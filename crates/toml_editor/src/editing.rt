@@ -10,6 +10,7 @@ ghost use Rattle.toml_checker.specs.Reading.{AreUnitsOf};
 ghost use Rattle.toml_editor.specs.Edited.{IsEdited, ArePieces, IsEditedInPieces, RefusesText, Tells};
 ghost use Rattle.toml_editor.specs.Editing.{HasLines, IsEditedAs, IsKnown, IsMadeAs, IsReadAs, IsWork, OfReadTree, TellsWanted};
 ghost use Rattle.toml_editor.specs.Numbering.{PairsOf};
+ghost use Rattle.toml_editor.specs.SpelledEdits.{AreSpelled};
 ghost use Rattle.toml_editor.specs.Writing.{WritesOut};
 
 use crate::fault::EditorFault;
@@ -50,7 +51,8 @@ pub fn edit(
 /// it pairs each unit that no edit names and that lies in no other such unit, and no others.
 ///
 /// The document and the values of the edits are read in the profile. The text and the certificate are judged in it before
-/// they are handed out. Faults are told in the order of `EditorFault`.
+/// they are handed out. Of plain edits (a `set` where a value stands, a `rename`, an `insert` of a name at the root, a `remove`
+/// of one there that is a line) the text is the one that their definition gives, byte for byte (`WritesPlain`). Faults are told in the order of `EditorFault`.
 pub fn edit_in(
     alloc: Global,
     before: &[u8],
@@ -114,7 +116,8 @@ fn edit_with<'x>(
     spelled: &'x [Spelled],
     profile: Profile,
 ) -> Result<Edited, EditorFault>
-    requires { length spelled.now ≡ length edits.now }
+    requires count { length spelled.now ≡ length edits.now }
+    requires spelled { AreSpelled (map change edits.now) spelled.now }
     ensures edited { IfOk result (IsEditedAs profile before.now (map change edits.now)) }
     ensures told { IfErr result (Tells profile before.now (map change edits.now)) }
 {
@@ -153,7 +156,8 @@ fn make_document<'x>(
     spelled: &'x [Spelled],
     profile: Profile,
 ) -> Result<Work<'x>, EditorFault>
-    requires { length spelled.now ≡ length edits.now }
+    requires count { length spelled.now ≡ length edits.now }
+    requires spelled { AreSpelled (map change edits.now) spelled.now }
     ensures work { IfOk result (IsWork profile before.now (map change edits.now)) }
     ensures told { IfErr result (Tells profile before.now (map change edits.now)) }
 {
@@ -161,9 +165,13 @@ fn make_document<'x>(
     let reader = named_lines(alloc, before, &doc)?;
     let units = read_units(alloc, &doc, &reader)?;
     let wanted = outermost(alloc, &units, edits)?;
-    let (made, edited) = make_text(
+    let made_text = make_text(
         alloc, source, &doc, reader, &units, edits, spelled, &wanted, profile,
-    )?;
+    );
+    let (made, edited) = match made_text {
+        Ok((made, edited)) => (made, edited),
+        Err(fault) => return Err(fault),
+    };
     let newlines = newlines_of(alloc, &doc)?;
     Ok(Work {
         units,
@@ -235,7 +243,9 @@ fn make_text<'d, 'x>(
     profile: Profile,
 ) -> Result<(Made<'x>, Edited), EditorFault>
     requires read { HasLines profile (text_of source) (document doc.now) (lines_of reader) }
-    requires spelled { length spelled.now ≡ length edits.now }
+    requires units { AreUnitsOf doc.now units.now }
+    requires count { length spelled.now ≡ length edits.now }
+    requires spelled { AreSpelled (map change edits.now) spelled.now }
     ensures made { IfOk result (λ r. IsMadeAs profile (text_of source.entry) (map change edits.now) r.0 r.1) }
     ensures told { IfErr result (Tells profile (text_of source.entry) (map change edits.now)) }
 {

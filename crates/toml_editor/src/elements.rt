@@ -2,6 +2,9 @@
 //!
 //! The address of a line counts the elements as if none had been taken out, new ones behind those of the document: else an
 //! element that goes would move all lines behind it. Such an address is called *uncut* here.
+ghost use Rattle.std.specs.Prelude.{◌≡◌, IfOk, OnOk};
+ghost use Rattle.toml_editor.specs.Starting.{NoneIsGone};
+
 use crate::lines::{changed, is_at_or_above, is_same_way};
 use std::alloc::{AllocError, Global};
 use toml_names::{Address, Name, Step};
@@ -23,27 +26,40 @@ pub(crate) struct Elements {
 
 impl Elements {
     /// None was taken out.
-    pub(crate) fn all(alloc: Global) -> Elements {
+    pub(crate) fn all(alloc: Global) -> Elements
+        ensures { NoneIsGone result }
+    {
         Elements {
             gone: Vec::new(alloc),
         }
     }
 
     /// The uncut address of what stands at the address, which counts the elements that are left.
-    pub(crate) fn uncut(&self, alloc: Global, at: &Address) -> Result<Address, AllocError> {
+    pub(crate) fn uncut(&self, alloc: Global, at: &Address) -> Result<Address, AllocError>
+        ensures { IfOk result (λ a. NoneIsGone self.now → a ≡ at.now) }
+    {
         let mut steps = Vec::with_capacity(alloc, at.steps().len())?;
         for step in at.steps() {
-            let own = match step {
-                Step::Index(index) => Step::Index(self.uncut_index(&steps, *index)),
-                Step::Name(_) => step.copy()?,
-            };
+            let own = self.uncut_step(&steps, step)?;
             steps.push(own)?;
         }
         Ok(Address::of(steps))
     }
 
+    /// The uncut step behind these steps, which are uncut. It takes no memory.
+    fn uncut_step(&self, above: &[Step], step: &Step) -> Result<Step, AllocError>
+        ensures { IfOk result (λ s. NoneIsGone self.now → s ≡ step.now) }
+    {
+        match step {
+            Step::Index(index) => Ok(Step::Index(self.uncut_index(above, *index))),
+            Step::Name(_) => step.copy(),
+        }
+    }
+
     /// The uncut index of an element of the array that these steps lead to.
-    fn uncut_index(&self, array: &[Step], index: u64) -> u64 {
+    fn uncut_index(&self, array: &[Step], index: u64) -> u64
+        ensures { NoneIsGone self.now → result ≡ index }
+    {
         for gone in &self.gone {
             if gone.is_of(array) {
                 return gone.uncut(index);
@@ -91,7 +107,9 @@ impl Elements {
         alloc: Global,
         at: &Address,
         name: &Name,
-    ) -> Result<(), AllocError> {
+    ) -> Result<(), AllocError>
+        ensures { OnOk result (NoneIsGone self.old → NoneIsGone self.new) }
+    {
         let place = at.steps().len().saturating_sub(1);
         for gone in &mut self.gone {
             if is_at_or_above(at, &gone.array) {

@@ -1,10 +1,24 @@
 //! `insert`: an element of an array, a pair of an inline table, or a line with a key and a value.
-use crate::lines::{Line, below};
+ghost use Rattle.std.specs.Prelude.{◌≡◌, ◌++◌, ◌∷◌, [], IfOk, OnOk, drop, false, take};
+ghost use Rattle.toml_text.specs.Source.{text_of};
+ghost use Rattle.toml_tree.specs.Document.{document};
+ghost use Rattle.toml_tree.specs.Tree as tree;
+ghost use Rattle.toml_editor.specs.OpenOutlines.{leaf_text, value};
+ghost use Rattle.toml_editor.specs.Putting.{EndsBefore, EndsOne, EndsSlot, EndsSlots, InsertsLines, IsElsewhere, IsRootLine, PutsBehind, PutsSlot, PutsSlots};
+ghost use Rattle.toml_editor.specs.Seeing.{read_by};
+ghost use Rattle.toml_editor.specs.Starting.{read_of};
+ghost use Rattle.toml_editor.specs.Stands.{KeepsRest};
+
+use crate::inside::Inside;
+use crate::lines::{Line, Slot};
 use crate::sections::NewHeader;
+use crate::texts::Texts;
 use crate::tree::{Brackets, Expr, KeyVal, Leaf, Value};
 use crate::working::{Before, Position, TablePlace, Tree};
-use std::alloc::AllocError;
+use std::alloc::{AllocError, Global};
 use toml_names::{Address, Place, Step};
+use toml_tree::Doc;
+use toml_units::Unit;
 
 impl<'x> Tree<'x> {
     /// Puts a value in at the address; `spelled` are the spellings of its steps, and `named` is the place that the document's
@@ -17,18 +31,42 @@ impl<'x> Tree<'x> {
         at: &Address,
         spelled: &'x [String],
         new: Value<'x>,
-    ) -> Result<bool, AllocError> {
+    ) -> Result<bool, AllocError>
+        ensures rest { OnOk result (KeepsRest self.old self.new) }
+        ensures root { let text = text_of self.old.texts.source in
+            let style = leaf_text self.old.style in
+            let old = self.old.slots.items in
+            let now = self.new.slots.items in
+            let read = read_of before.entry in
+            OnOk result (InsertsLines at.now spelled.now (value new.entry) style text read old now) }
+    {
+        if is_at_root(at) {
+            self.insert_at_root(before, at, spelled, new)
+        } else {
+            self.insert_below(before, named, parent, at, spelled, new)
+        }
+    }
+
+    /// The same of what is no name at the root.
+    fn insert_below(
+        &mut self,
+        before: Before<'_, 'x>,
+        named: Option<Place>,
+        parent: Address,
+        at: &Address,
+        spelled: &'x [String],
+        new: Value<'x>,
+    ) -> Result<bool, AllocError>
+        ensures { OnOk result (KeepsRest self.old self.new) }
+    {
         let Some((last, above)) = at.steps().split_last() else {
             return Ok(false);
         };
         if let Some(place) = self.value_line(before, named, &parent) {
-            return self.insert_inside(before, place, at, spelled, new);
+            return self.change_value(before, place, at, Inside::Insert { spelled, new });
         }
         if matches!(last, Step::Index(_)) {
             return Ok(false);
-        }
-        if above.is_empty() {
-            return self.insert_at_root(before, at, spelled, new);
         }
         match self.table_place(before, named, &parent) {
             Some(TablePlace::Header(header)) => {
@@ -47,23 +85,6 @@ impl<'x> Tree<'x> {
         }
     }
 
-    /// Puts a value in inside the value of a line.
-    fn insert_inside(
-        &mut self,
-        before: Before<'_, 'x>,
-        place: Position,
-        at: &Address,
-        spelled: &'x [String],
-        new: Value<'x>,
-    ) -> Result<bool, AllocError> {
-        let texts = self.texts;
-        let used = self.depth(before, place);
-        match self.value_at(before, place)? {
-            Some(value) => texts.insert_in(value, below(at, used), spelled, new),
-            None => Ok(false),
-        }
-    }
-
     /// Puts a line in behind the last one with a key and a value before the first header, or as the first line.
     fn insert_at_root(
         &mut self,
@@ -71,7 +92,15 @@ impl<'x> Tree<'x> {
         at: &Address,
         spelled: &'x [String],
         new: Value<'x>,
-    ) -> Result<bool, AllocError> {
+    ) -> Result<bool, AllocError>
+        ensures rest { OnOk result (KeepsRest self.old self.new) }
+        ensures root { let text = text_of self.old.texts.source in
+            let style = leaf_text self.old.style in
+            let old = self.old.slots.items in
+            let now = self.new.slots.items in
+            let read = read_of before.entry in
+            OnOk result (InsertsLines at.now spelled.now (value new.entry) style text read old now) }
+    {
         match self.last_root_pair(before) {
             Some(behind) => {
                 self.root_end = behind;
@@ -93,7 +122,15 @@ impl<'x> Tree<'x> {
         base: usize,
         spelled: &'x [String],
         new: Value<'x>,
-    ) -> Result<bool, AllocError> {
+    ) -> Result<bool, AllocError>
+        ensures rest { OnOk result (KeepsRest self.old self.new) }
+        ensures put { let texts = self.old.texts in
+            let style = leaf_text self.old.style in
+            let old = self.old.slots.items in
+            let now = self.new.slots.items in
+            let read = read_of before.entry in
+            OnOk result (PutsBehind at.now base spelled.now (value new.entry) style texts read behind old now) }
+    {
         let newline = self.newline_behind(before, behind)?;
         let line = self.pair_line(at, base, spelled, new, newline)?;
         self.put(before, behind.next(), line)
@@ -105,14 +142,19 @@ impl<'x> Tree<'x> {
         &mut self,
         before: Before<'_, 'x>,
         behind: Position,
-    ) -> Result<Leaf<'x>, AllocError> {
-        let (texts, style) = (self.texts, self.style);
+    ) -> Result<Leaf<'x>, AllocError>
+        ensures rest { OnOk result (KeepsRest self.old self.new) }
+        ensures ended { let texts = self.old.texts in
+            let style = leaf_text self.old.style in
+            let old = self.old.slots.items in
+            let now = self.new.slots.items in
+            let read = read_of before.entry in
+            IfOk result (λ newline. EndsBefore style texts read behind old now (leaf_text newline)) }
+    {
         if !self.is_last(behind) {
-            return Ok(style);
+            return Ok(self.style);
         }
-        if let Some(line) = self.line_mut(before, behind)? {
-            line.end_in(texts, before.doc, style)?;
-        }
+        end_at(&mut self.slots, self.texts, before, behind, self.style)?;
         Ok(Leaf::EMPTY)
     }
 
@@ -125,7 +167,9 @@ impl<'x> Tree<'x> {
         parent: Address,
         spelled: &'x [String],
         new: Value<'x>,
-    ) -> Result<bool, AllocError> {
+    ) -> Result<bool, AllocError>
+        ensures { OnOk result (KeepsRest self.old self.new) }
+    {
         let (alloc, style) = (self.alloc(), self.style);
         let line = self.pair_line(at, parent.steps().len(), spelled, new, style)?;
         let header = NewHeader {
@@ -145,7 +189,9 @@ impl<'x> Tree<'x> {
         spelled: &'x [String],
         new: Value<'x>,
         newline: Leaf<'x>,
-    ) -> Result<Line<'x>, AllocError> {
+    ) -> Result<Line<'x>, AllocError>
+        ensures { IfOk result (IsRootLine at.now base spelled.now (value new.entry) (leaf_text newline.entry)) }
+    {
         let (_, parts) = spelled.split_at(base.min(spelled.len()));
         let expr = Expr::Pair(KeyVal {
             assign: self.texts.assign(parts)?,
@@ -161,20 +207,121 @@ impl<'x> Tree<'x> {
         before: Before<'_, 'x>,
         at: Position,
         line: Line<'x>,
-    ) -> Result<bool, AllocError> {
-        let alloc = self.alloc();
-        let Some(slot) = self.slots.get_mut(at.slot) else {
-            return Ok(false);
-        };
-        slot.open(alloc, before.units)?;
-        let Some(lines) = slot.opened() else {
-            return Ok(false);
-        };
-        if at.index < lines.len() {
-            lines.insert(at.index, line)?;
-        } else {
-            lines.push(line)?;
+    ) -> Result<bool, AllocError>
+        ensures rest { OnOk result (KeepsRest self.old self.new) }
+        ensures put { let old = self.old.slots.items in
+            let now = self.new.slots.items in
+            OnOk result (PutsSlots (read_of before.entry) at line.entry old now) }
+    {
+        put_at(&mut self.slots, self.texts.alloc, before, at, line)
+    }
+}
+
+/// Whether the address is that of a name at the root.
+fn is_at_root(at: &Address) -> bool
+    ensures { result ≡ false → IsElsewhere at.now }
+{
+    matches!(at.steps(), [Step::Name(_)])
+}
+
+/// Puts a line in at a place, if there is such a slot: before the one that stands there, or behind the last one of the slot.
+fn put_at<'t>(
+    slots: &mut Vec<Slot<'t>>,
+    alloc: Global,
+    before: Before<'_, 't>,
+    at: Position,
+    line: Line<'t>,
+) -> Result<bool, AllocError>
+    ensures { OnOk result (PutsSlots (read_of before.entry) at line.entry slots.old.items slots.new.items) }
+{
+    match slots.get_mut(at.slot) {
+        Some(slot) => slot.put(alloc, before, at.index, line),
+        None => Ok(false),
+    }
+}
+
+/// Puts a line in among others: before the one with the index, or behind the last one.
+fn put_in<'t>(lines: &mut Vec<Line<'t>>, index: usize, line: Line<'t>) -> Result<(), AllocError>
+    ensures { OnOk result (lines.new.items ≡ take index lines.old.items ++ line.entry ∷ drop index lines.old.items) }
+{
+    if index < lines.len() {
+        lines.insert(index, line)?;
+    } else {
+        lines.push(line)?;
+    }
+    Ok(())
+}
+
+/// Gives the line at a place another newline, if there is one.
+fn end_at<'t>(
+    slots: &mut Vec<Slot<'t>>,
+    texts: Texts<'t>,
+    before: Before<'_, 't>,
+    at: Position,
+    newline: Leaf<'t>,
+) -> Result<(), AllocError>
+    ensures { let read = read_of before.entry in
+        OnOk result (EndsSlots (leaf_text newline.entry) texts.entry read at slots.old.items slots.new.items) }
+{
+    match slots.get_mut(at.slot) {
+        Some(slot) => slot.end_in(texts, before, at.index, newline),
+        None => Ok(()),
+    }
+}
+
+/// The same of the line with the index, if there is one.
+fn end_one<'t>(
+    lines: &mut Vec<Line<'t>>,
+    texts: Texts<'t>,
+    doc: &Doc<'t>,
+    index: usize,
+    newline: Leaf<'t>,
+) -> Result<(), AllocError>
+    ensures { let read = (document doc.now).lines in
+        OnOk result (EndsOne (leaf_text newline.entry) texts.entry read index lines.old.items lines.new.items) }
+{
+    match lines.get_mut(index) {
+        Some(line) => line.end_in(texts, doc, newline),
+        None => Ok(()),
+    }
+}
+
+impl<'t> Slot<'t> {
+    /// Puts a line in among its own: before the one with the index, or behind the last one.
+    fn put(
+        &mut self,
+        alloc: Global,
+        before: Before<'_, 't>,
+        index: usize,
+        line: Line<'t>,
+    ) -> Result<bool, AllocError>
+        ensures { OnOk result (PutsSlot (read_of before.entry) index line.entry self.old self.new) }
+    {
+        self.open(alloc, before.units)?;
+        match self {
+            Slot::Lines(lines) => {
+                put_in(lines, index, line)?;
+                Ok(true)
+            }
+            Slot::Kept(_) => Ok(false),
         }
-        Ok(true)
+    }
+
+    /// Gives its line with the index another newline, if there is one.
+    fn end_in(
+        &mut self,
+        texts: Texts<'t>,
+        before: Before<'_, 't>,
+        index: usize,
+        newline: Leaf<'t>,
+    ) -> Result<(), AllocError>
+        ensures { let read = read_of before.entry in
+            OnOk result (EndsSlot (leaf_text newline.entry) texts.entry read index self.old self.new) }
+    {
+        self.open(texts.alloc, before.units)?;
+        match self {
+            Slot::Lines(lines) => end_one(lines, texts, before.doc, index, newline),
+            Slot::Kept(_) => Ok(()),
+        }
     }
 }

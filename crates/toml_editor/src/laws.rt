@@ -9,10 +9,15 @@ ghost use Rattle.toml_editor.specs.RemoveLaws.{RemoveNames, RemoveGood, RemoveDa
 ghost use Rattle.toml_editor.specs.RenameLaws.{RenameNames, RenameGood, RenameData, RenameForms, RenameOfProfile, RenameKeepsLine};
 ghost use Rattle.toml_editor.specs.RenamedHeaders.{RenameAlong, RenameAlongElement};
 ghost use Rattle.toml_editor.specs.RenamedUnits.{RenameUnits};
+ghost use Rattle.toml_editor.specs.StandingLaws.{PlacesDoNotStand, RenameStands, RulesOrder, SetStands, ValueStands, InsertStands, RootComesFirst, PairStands, RemoveStands};
+ghost use Rattle.toml_editor.specs.RenameOutlines.{RenameIsOutlined};
 ghost use Rattle.toml_editor.specs.SetLaws.{SetNames, SetRules, SetShort, SetData, SetForms, SetOfProfile, SetWithin, SetElsewhere, SetKeepsLine};
+ghost use Rattle.toml_editor.specs.SetOutlines.{SetIsOutlined};
+ghost use Rattle.toml_editor.specs.OpenOrigins.{NewAreUnnumbered, RunIsNumbered};
 ghost use Rattle.toml_editor.specs.TreeOutlines.{ValueIsOutlined, LineIsOutlined, LinesAreOutlined};
 ghost use Rattle.toml_editor.specs.UnitBlocks.{InsertUnits, RemoveUnits};
 ghost use Rattle.toml_editor.specs.Steps.{GoodTextsAreDocuments, PlainIsWritten, PlainStep, PlainSteps, OneWritten, OneListWritten, StyleIsNewline};
+ghost use Rattle.toml_editor.specs.Writing.{LinesAreWritten, TextIsWritten};
 
 /// After a `set` the lines name what they named, the new value in the place of the old. They keep the table rules and the
 /// bound on addresses, where the value keeps them at its address; they have the data that the edit makes, and are
@@ -101,7 +106,7 @@ pub fn bares()
 /// bytes. After a `rename` to a name that is free they are those of before, one by one, of the same kind and base, at the
 /// carried address, with the same text unless the edit changes the unit. After a `set` what lay in the old value is gone, the
 /// unit that has the value has the new one, what is in that comes behind it, and all others are as after a `rename`, where
-/// they were; one that the edit changes has the new value in the place of a run of its bytes.
+/// they were; one that the edit changes has the new value in the place of one that stood at the address.
 pub fn units()
     ensures insert { InsertUnits }
     ensures remove { RemoveUnits }
@@ -148,9 +153,47 @@ pub fn plain_edits()
     ensures steps { PlainSteps }
 {}
 
-/// A value, a line and lines spell the texts of their outlines.
+/// A value, a line and lines spell the texts of their outlines. What a `set` and a `rename` make of a value's tree they make of
+/// its outline.
 pub fn outlines()
     ensures value { ValueIsOutlined }
     ensures line { LineIsOutlined }
     ensures lines { LinesAreOutlined }
+    ensures set { SetIsOutlined }
+    ensures rename { RenameIsOutlined }
+{}
+
+/// Lines by what finds them. Where their pieces stand does not count. Under the table rules no line stands at the value of
+/// another, or in it. A value that lines name stands on one of them or in its value, and the lines after a `set` of it are what
+/// the `set` makes of the lines; so it is of a `rename` to a name that is free, and of a `remove` at the root, whose value is
+/// that of one of the lines.
+pub fn standing()
+    ensures places { PlacesDoNotStand }
+    ensures order { RulesOrder }
+    ensures value { ValueStands }
+    ensures set { SetStands }
+    ensures rename { RenameStands }
+    ensures pair { PairStands }
+    ensures remove { RemoveStands }
+{}
+
+/// Of lines in the forms those of the root come first, and the lines after an `insert` of a name there are what it makes of
+/// the lines, by what finds them.
+pub fn standing_inserted()
+    ensures root { RootComesFirst }
+    ensures insert { InsertStands }
+{}
+
+/// Units that are numbered from a number on have the numbers from it on, where these stay below 64 bits. Without a first
+/// number none has one.
+pub fn opened_units()
+    ensures numbered { RunIsNumbered }
+    ensures new { NewAreUnnumbered }
+{}
+
+/// Where the working tree stands for the lines of a tree, the mark and the text of these lines are written: of the lines of
+/// a text that text.
+pub fn written_out()
+    ensures lines { LinesAreWritten }
+    ensures text { TextIsWritten }
 {}

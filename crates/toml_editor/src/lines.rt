@@ -1,13 +1,21 @@
 //! The lines of the working tree: kept as they stand in the document until an edit changes something on them.
-ghost use Rattle.std.specs.Prelude.{◌≡◌, IfOk, OnOk, None, []};
+ghost use Rattle.std.specs.Prelude.{◌≡◌, ◌≤◌, ◌∷◌, IfOk, List, OnOk, None, [], drop, length, set};
+ghost use Rattle.std.specs.List.{list_any};
 ghost use Rattle.toml_tree.specs.Document.{document};
+ghost use Rattle.toml_tree.specs.Tree.{Line as ReadLine};
+ghost use Rattle.toml_editor.specs.declared.lines.Line.{Line as WorkingLine};
 ghost use Rattle.toml_editor.specs.OpenOutlines.{expr as expr_outlined, leaf_text};
 ghost use Rattle.toml_editor.specs.OpeningLines.{HasOutline, OpensBody, OpensToEndIn, alone};
 ghost use Rattle.toml_editor.specs.Outlines.{Nothing};
+ghost use Rattle.toml_editor.specs.RenameStanding.{names_in};
+ghost use Rattle.toml_editor.specs.Seeing.{FindsIn, SeesLine, kept_found, line_found, read_by, seen};
+ghost use Rattle.toml_editor.specs.Putting.{LineIsLast, SlotIsLast};
+ghost use Rattle.toml_editor.specs.Stands.{OpensSlot, kept_line};
+ghost use Rattle.toml_editor.specs.Standing.{Read, begins, is_below, lies_below, slot_standing};
 
 use crate::opening::Opener;
 use crate::texts::Texts;
-use crate::tree::{Blank, Brackets, Expr, Leaf, OpenLine, Value};
+use crate::tree::{Blank, Brackets, Expr, Leaf, OpenLine};
 use crate::values::behind;
 use std::alloc::{AllocError, Global};
 use toml_names::{Address, Step};
@@ -58,6 +66,19 @@ pub(crate) struct Seen<'a> {
     pub(crate) is_tables: bool,
 }
 
+/// What a line is sought as.
+#[derive(Clone, Copy)]
+pub(crate) enum Sought {
+    /// Its value is what stands at the address, or holds it.
+    Holder,
+    /// It is the header line of what stands at the address.
+    Header,
+    /// Its dotted key makes the table at the address.
+    Dotted,
+    /// It is a header line at the address or below it.
+    HeaderBelow,
+}
+
 /// The lines that now stand where one line of the document stood, in text order.
 #[derive(Drop)]
 pub(crate) enum Slot<'t> {
@@ -67,12 +88,16 @@ pub(crate) enum Slot<'t> {
 }
 
 /// The steps of the address behind the first so many.
-pub(crate) fn below(at: &Address, used: usize) -> &[Step] {
+pub(crate) fn below(at: &Address, used: usize) -> &[Step]
+    ensures { result.now ≡ drop used at.now }
+{
     behind(at.steps(), used)
 }
 
 /// The address with another step at a place. It takes no memory.
-pub(crate) fn changed(at: Address, place: usize, step: Step) -> Address {
+pub(crate) fn changed(at: Address, place: usize, step: Step) -> Address
+    ensures { result ≡ set at place step }
+{
     let mut steps = at.into_steps();
     if let Some(old) = steps.get_mut(place) {
         *old = step;
@@ -81,12 +106,16 @@ pub(crate) fn changed(at: Address, place: usize, step: Step) -> Address {
 }
 
 /// Whether the first address is a beginning of the second.
-pub(crate) fn is_at_or_above(at: &Address, other: &Address) -> bool {
+pub(crate) fn is_at_or_above(at: &Address, other: &Address) -> bool
+    ensures { result ≡ begins at.now other.now }
+{
     begins(at.steps(), other.steps())
 }
 
 /// Whether the steps begin with the first ones. The last of these are compared first: elements of one array differ there.
-fn begins(above: &[Step], steps: &[Step]) -> bool {
+fn begins(above: &[Step], steps: &[Step]) -> bool
+    ensures { result ≡ begins above.now steps.now }
+{
     if steps.len() < above.len() {
         return false;
     }
@@ -108,111 +137,48 @@ pub(crate) fn is_element(at: &Address) -> bool {
     matches!(at.steps().last(), Some(Step::Index(_)))
 }
 
-impl Seen<'_> {
-    /// How many steps its address has.
-    pub(crate) fn steps(self) -> usize {
-        match self.address {
-            Some(address) => address.steps().len(),
-            None => 0,
-        }
-    }
-
-    /// Whether it is a header line.
-    pub(crate) fn is_header(self) -> bool {
-        self.address.is_some() && self.base.is_none()
-    }
-
-    /// Whether it is the header line of what stands at the address.
-    pub(crate) fn is_header_of(self, at: &Address) -> bool {
-        match (self.base, self.address) {
-            (None, Some(own)) => own.is_same(at),
-            _ => false,
-        }
-    }
-
-    /// Whether it stands at the address or below it.
-    pub(crate) fn is_below(self, at: &Address) -> bool {
-        match self.address {
-            Some(own) => is_at_or_above(at, own),
-            None => false,
-        }
-    }
-
-    /// Whether its value is what stands at the address, or holds it.
-    pub(crate) fn holds(self, at: &Address) -> bool {
-        match (self.base, self.address) {
-            (Some(_), Some(own)) => is_at_or_above(own, at),
-            _ => false,
-        }
-    }
-
-    /// Whether the address is that of a table which dotted keys make, its own one among them.
-    pub(crate) fn is_dotted_in(self, at: &Address) -> bool {
-        match (self.base, self.address) {
-            (Some(base), Some(own)) => base < at.steps().len() && at.is_above(own),
-            _ => false,
-        }
-    }
-
-    /// Whether its own key mentions the address: a keyval each table that its key passes, and its value; a header each table
-    /// and element that its key passes, and what it stands for.
-    pub(crate) fn mentions(self, at: &Address) -> bool {
-        if !self.is_below(at) {
-            return false;
-        }
-        match self.base {
-            Some(base) => base < at.steps().len(),
-            None => !self.passes_on(at),
-        }
-    }
-
-    /// Whether a header's key passes from an array of tables, at the address, on to an element of it.
-    fn passes_on(self, at: &Address) -> bool {
-        let (Some(own), count) = (self.address, at.steps().len()) else {
-            return false;
-        };
-        let is_own = self.is_tables && own.steps().len() == count.saturating_add(1);
-        matches!(own.steps().get(count), Some(Step::Index(_))) && !is_own
-    }
-
-    /// Whether it is the header of a later element of the array of tables whose element stands at the address. New elements come
-    /// last, and so do their indices.
-    pub(crate) fn begins_later(self, at: &Address) -> bool {
-        let Some(own) = self.address else {
-            return false;
-        };
-        match (own.steps().split_last(), at.steps().split_last()) {
-            (Some((Step::Index(index), array)), Some((Step::Index(element), other))) => {
-                self.is_header() && index > element && is_same_way(array, other)
-            }
-            _ => false,
-        }
-    }
-
-    /// Which part of its key stands for the address, if one does.
-    pub(crate) fn part_of(self, at: &Address) -> Option<usize> {
-        match self.base {
-            Some(base) => at.steps().len().checked_sub(base.saturating_add(1)),
-            None => names_in(at.steps()).checked_sub(1),
-        }
-    }
-}
-
 impl Kept {
     /// The line by what finds it.
-    fn seen(self, units: &[Unit]) -> Seen<'_> {
-        let unit = units.get(self.first);
-        Seen {
-            address: unit.and_then(|line| line.address.as_ref()),
-            base: unit.and_then(|line| line.base),
-            is_tables: self.is_tables,
+    fn seen(self, units: &[Unit]) -> Seen<'_>
+        ensures { seen result ≡ kept_found units.now self }
+    {
+        let is_tables = self.is_tables;
+        match units.get(self.first) {
+            Some(unit) => Seen {
+                address: unit.address.as_ref(),
+                base: unit.base,
+                is_tables,
+            },
+            None => Seen {
+                address: None,
+                base: None,
+                is_tables,
+            },
         }
+    }
+
+    /// The line with an address of its own; the units are those of the document.
+    fn as_line<'t>(self, alloc: Global, units: &[Unit]) -> Result<Line<'t>, AllocError>
+        ensures { IfOk result (λ l. l ≡ kept_line units.now self) }
+    {
+        let seen = self.seen(units);
+        let address = match seen.address {
+            Some(own) => Some(own.copy(alloc)?),
+            None => None,
+        };
+        Ok(Line {
+            address,
+            base: seen.base,
+            body: Body::Kept(self),
+        })
     }
 }
 
 impl<'t> Line<'t> {
     /// The line by what finds it.
-    pub(crate) fn seen(&self) -> Seen<'_> {
+    pub(crate) fn seen(&self) -> Seen<'_>
+        ensures { seen result ≡ line_found self.now }
+    {
         Seen {
             address: self.address.as_ref(),
             base: self.base,
@@ -229,7 +195,9 @@ impl<'t> Line<'t> {
     }
 
     /// Whether it is the last line, which ends in no newline.
-    pub(crate) fn is_last(&self) -> bool {
+    pub(crate) fn is_last(&self) -> bool
+        ensures { LineIsLast self.now result }
+    {
         match &self.body {
             Body::Kept(kept) => kept.is_last,
             Body::Open(line) => line.newline.is_empty(),
@@ -264,14 +232,6 @@ impl<'t> Line<'t> {
         match &mut self.body {
             Body::Open(line) => Some(line),
             Body::Kept(_) => None,
-        }
-    }
-
-    /// Its value, if it is opened and has one.
-    pub(crate) fn value(&mut self) -> Option<&mut Value<'t>> {
-        match &mut self.opened()?.expr {
-            Expr::Pair(pair) => Some(&mut pair.value),
-            Expr::Blank | Expr::Header(_) => None,
         }
     }
 
@@ -326,14 +286,9 @@ impl<'t> Line<'t> {
 
     /// The last line of no bytes.
     pub(crate) fn empty(alloc: Global) -> Result<Line<'t>, AllocError>
-        ensures { IfOk result (λ l. (l.address ≡ None) × HasOutline (alone Nothing []) l.body) }
+        ensures { IfOk result (λ l. (l.address ≡ None) × (l.base ≡ None) × HasOutline (alone Nothing []) l.body) }
     {
         Line::new(alloc, None, None, Expr::Blank, Leaf::EMPTY)
-    }
-
-    /// Gives it another address.
-    pub(crate) fn go_to(&mut self, address: Address) {
-        self.address = Some(address);
     }
 }
 
@@ -348,16 +303,44 @@ impl Expr<'_> {
 }
 
 /// How many of the steps are names.
-pub(crate) fn names_in(steps: &[Step]) -> usize {
-    steps
-        .iter()
-        .filter(|step| matches!(step, Step::Name(_)))
-        .count()
+pub(crate) fn names_in(steps: &[Step]) -> usize
+    ensures { result ≡ names_in steps.now }
+{
+    let mut count = 0;
+    for step in steps {
+        count += names_of(step);
+    }
+    count
+}
+
+/// One for a name, and none for an index.
+fn names_of(step: &Step) -> usize
+    ensures counts { result ≡ names_in (step.now ∷ []) }
+    ensures most { result ≤ 1 }
+{
+    match step {
+        Step::Name(_) => 1,
+        Step::Index(_) => 0,
+    }
+}
+
+/// Whether one of the lines stands at the address or below.
+fn is_any_below(lines: &[Line<'_>], at: &Address) -> bool
+    ensures { result ≡ list_any (λ (l : WorkingLine). lies_below at.now l.address) lines.now }
+{
+    for line in lines {
+        if line.seen().is_below(at) {
+            return true;
+        }
+    }
+    false
 }
 
 impl<'t> Slot<'t> {
     /// How many lines stand there.
-    pub(crate) fn count(&self) -> usize {
+    pub(crate) fn count(&self) -> usize
+        ensures { (read : Read) → result ≡ length (slot_standing read self.now) }
+    {
         match self {
             Slot::Kept(_) => 1,
             Slot::Lines(lines) => lines.len(),
@@ -365,7 +348,9 @@ impl<'t> Slot<'t> {
     }
 
     /// A line, by its index, to be looked at; the units are those of the document.
-    pub(crate) fn seen<'a>(&'a self, units: &'a [Unit], index: usize) -> Option<Seen<'a>> {
+    pub(crate) fn seen<'a>(&'a self, units: &'a [Unit], index: usize) -> Option<Seen<'a>>
+        ensures { SeesLine units.now self.now index result }
+    {
         match self {
             Slot::Kept(kept) if index == 0 => Some(kept.seen(units)),
             Slot::Kept(_) => None,
@@ -373,19 +358,39 @@ impl<'t> Slot<'t> {
         }
     }
 
+    /// The index of its first line that is what is sought.
+    pub(crate) fn find<'a>(&'a self, units: &'a [Unit], what: Sought, at: &Address) -> Option<usize>
+        ensures { FindsIn what at.now units.now self.now result }
+    {
+        for index in 0..self.count() {
+            let line = self.seen(units, index)?;
+            if line.is_sought(what, at) {
+                return Some(index);
+            }
+        }
+        None
+    }
+
     /// Whether one of its lines stands at the address or below.
-    pub(crate) fn is_below(&self, units: &[Unit], at: &Address) -> bool {
+    pub(crate) fn is_below(&self, units: &[Unit], at: &Address) -> bool
+        ensures { (lines : List ReadLine) → result ≡ list_any (is_below at.now) (slot_standing (read_by units.now lines) self.now) }
+    {
         match self {
             Slot::Kept(kept) => kept.seen(units).is_below(at),
-            Slot::Lines(lines) => lines.iter().any(|line| line.seen().is_below(at)),
+            Slot::Lines(lines) => is_any_below(lines, at),
         }
     }
 
     /// Whether the line with the index is the last one, which ends in no newline.
-    pub(crate) fn is_last(&self, index: usize) -> bool {
+    pub(crate) fn is_last(&self, index: usize) -> bool
+        ensures { SlotIsLast self.now index result }
+    {
         match self {
             Slot::Kept(kept) => kept.is_last,
-            Slot::Lines(lines) => lines.get(index).is_some_and(|line| line.is_last()),
+            Slot::Lines(lines) => match lines.get(index) {
+                Some(line) => line.is_last(),
+                None => false,
+            },
         }
     }
 
@@ -398,20 +403,13 @@ impl<'t> Slot<'t> {
     }
 
     /// Makes its line one that can be changed, if it is none yet.
-    pub(crate) fn open(&mut self, alloc: Global, units: &[Unit]) -> Result<(), AllocError> {
+    pub(crate) fn open(&mut self, alloc: Global, units: &[Unit]) -> Result<(), AllocError>
+        ensures { OnOk result (OpensSlot units.now self.old self.new) }
+    {
         if let Slot::Kept(kept) = self {
-            let kept = *kept;
-            let seen = kept.seen(units);
-            let address = match seen.address {
-                Some(own) => Some(own.copy(alloc)?),
-                None => None,
-            };
+            let line = kept.as_line(alloc, units)?;
             let mut lines = Vec::with_capacity(alloc, 1)?;
-            lines.push(Line {
-                address,
-                base: seen.base,
-                body: Body::Kept(kept),
-            })?;
+            lines.push(line)?;
             *self = Slot::Lines(lines);
         }
         Ok(())

@@ -1,10 +1,15 @@
 //! One edit after the other, on the data and on the working tree.
 ghost use Rattle.std.specs.Prelude.{◌≡◌, IfErr, IfOk, IsTrue, OnOk, Some, length, map, option_copied};
 ghost use Rattle.toml_names.specs.model.Data.{kind_at};
+ghost use Rattle.toml_scalar.specs.Spelling.{spelled};
 ghost use Rattle.toml_edits.specs.Edits.{change, remove};
 ghost use Rattle.toml_edits.specs.Lists.{Lead};
 ghost use Rattle.toml_editor.specs.Edited.{MayBeSpread, TakesLastElement};
+ghost use Rattle.toml_editor.specs.Exact.{AreNotPlain, IsNotPlain, MakesAll, MakesOne, OfSpread, WritesEdit, WritesInsert, WritesRename, WritesSet};
 ghost use Rattle.toml_editor.specs.Making.{HasOne, IsMade, IsMany, TellsAny, TellsOne, TellsRow, places_of};
+ghost use Rattle.toml_editor.specs.SpelledEdits.{AreSpelled, IsSpelled};
+ghost use Rattle.toml_editor.specs.Starting.{NoneIsGone, read_of};
+ghost use Rattle.toml_editor.specs.Stands.{KeepsRest};
 
 use crate::fault::EditorFault;
 use crate::removing::parent_of;
@@ -37,10 +42,14 @@ pub(crate) fn make_all<'x>(
     edits: &'x [Edit],
     spelled: &'x [Spelled],
 ) -> Result<(), EditorFault>
-    requires { length spelled.now ≡ length edits.now }
+    requires count { length spelled.now ≡ length edits.now }
+    requires spelled { AreSpelled (map change edits.now) spelled.now }
     ensures made { OnOk result (Lead read.entry.profile (map change edits.now) (kind_at «data».old.root) (kind_at «data».new.root)) }
     ensures told { let places = places_of read.entry.names.now in
         IfErr result (TellsAny read.entry.profile places (map change edits.now) (kind_at «data».old.root)) }
+    ensures exact { OnOk result (MakesAll read.entry.profile (read_of read.entry.before) (map change edits.now) tree.old tree.new) }
+    ensures spread { let from = read_of read.entry.before in
+        IfErr result (OfSpread (AreNotPlain read.entry.profile from (map change edits.now) tree.old)) }
 {
     for (index, edit) in edits.iter().enumerate() {
         if let Err(fault) = make(alloc, tree, read, data, edit, &spelled[index], index) {
@@ -60,9 +69,12 @@ fn make<'x>(
     spelled: &'x Spelled,
     index: usize,
 ) -> Result<(), EditorFault>
+    requires { IsSpelled (change edit.now) spelled.now }
     ensures ok { OnOk result (IsMade read.entry.profile (change edit.now) «data».old.root «data».new.root) }
     ensures told { let places = places_of read.entry.names.now in
         IfErr result (TellsOne read.entry.profile places index (change edit.now) (kind_at «data».old.root)) }
+    ensures exact { OnOk result (MakesOne read.entry.profile (read_of read.entry.before) (change edit.now) tree.old tree.new) }
+    ensures spread { IfErr result (OfSpread (IsNotPlain read.entry.profile (read_of read.entry.before) (change edit.now) tree.old)) }
 {
     let spread = may_be_spread(alloc, data, read.names, edit, index)?;
     let only = is_only_element(data, edit);
@@ -102,32 +114,84 @@ fn write_edit<'x>(
     read: Read<'_, '_, 'x>,
     edit: &'x Edit,
     spelled: &'x Spelled,
-) -> Result<bool, AllocError> {
+) -> Result<bool, AllocError>
+    requires { IsSpelled (change edit.now) spelled.now }
+    ensures { IfOk result (WritesEdit read.entry.profile (read_of read.entry.before) (change edit.now) tree.old tree.new) }
+{
     let at = tree.elements.uncut(alloc, place(edit))?;
     match edit {
-        // The data have taken the value by now, so it is one of the profile, and `None` never comes.
-        Edit::Set { value, .. } => match open_value(alloc, value.as_str(), read.profile)? {
-            Some(new) => tree.set(read.before, read.names.place(&at), &at, new),
-            None => Ok(true),
-        },
-        Edit::Insert { value, .. } => match open_value(alloc, value.as_str(), read.profile)? {
-            Some(new) => {
-                let parent = parent_of(alloc, &at)?;
-                let named = read.names.place(&parent);
-                tree.insert(read.before, named, parent, &at, &spelled.steps, new)
-            }
-            None => Ok(true),
-        },
+        Edit::Set { value, .. } => write_set(alloc, tree, read, &at, value.as_str()),
+        Edit::Insert { value, .. } => {
+            write_insert(alloc, tree, read, &at, value.as_str(), &spelled.steps)
+        }
         Edit::Rename { to, .. } => {
-            let name = Name::of(String::from_str(alloc, to)?)?;
-            let named = read.names.place(&at);
-            tree.rename(read.before, named, &at, &name, spelled.to.as_str())?;
+            write_rename(alloc, tree, read, &at, to.as_str(), spelled.to.as_str())?;
             Ok(true)
         }
         Edit::Remove { .. } => tree.remove(read.before, read.names.place(&at), &at),
         Edit::Section { .. } => write_header(alloc, tree, read, &at, Brackets::One, spelled),
         Edit::Element { .. } => write_header(alloc, tree, read, &at, Brackets::Two, spelled),
     }
+}
+
+/// Puts the value of a `set` in on the working tree. It answers `false` where no single value stands there.
+fn write_set<'x>(
+    alloc: Global,
+    tree: &mut Tree<'x>,
+    read: Read<'_, '_, 'x>,
+    at: &Address,
+    value: &'x str,
+) -> Result<bool, AllocError>
+    ensures rest { OnOk result (KeepsRest tree.old tree.new) }
+    ensures set { IfOk result (WritesSet read.entry.profile (read_of read.entry.before) at.now value.now tree.old tree.new) }
+{
+    match open_value(alloc, value, read.profile)? {
+        Some(new) => tree.set(read.before, read.names.place(at), at, new),
+        // The data have taken the value by now, so it is one of the profile.
+        None => Ok(true),
+    }
+}
+
+/// Puts the value of an `insert` in on the working tree; the steps of its address are spelled so. It answers `false` where the
+/// parent is no table, and no array in a value.
+fn write_insert<'x>(
+    alloc: Global,
+    tree: &mut Tree<'x>,
+    read: Read<'_, '_, 'x>,
+    at: &Address,
+    value: &'x str,
+    steps: &'x [String],
+) -> Result<bool, AllocError>
+    ensures rest { OnOk result (KeepsRest tree.old tree.new) }
+    ensures insert { let read_here = read_of read.entry.before in
+        OnOk result (WritesInsert read.entry.profile read_here at.now value.now steps.now tree.old tree.new) }
+{
+    match open_value(alloc, value, read.profile)? {
+        Some(new) => {
+            let parent = parent_of(alloc, at)?;
+            let named = read.names.place(&parent);
+            tree.insert(read.before, named, parent, at, steps, new)
+        }
+        // The data have taken the value by now, so it is one of the profile.
+        None => Ok(true),
+    }
+}
+
+/// Gives what stands at the address another name on the working tree, which is spelled so.
+fn write_rename<'x>(
+    alloc: Global,
+    tree: &mut Tree<'x>,
+    read: Read<'_, '_, 'x>,
+    at: &Address,
+    to: &str,
+    spelling: &'x str,
+) -> Result<(), AllocError>
+    requires { spelling.now ≡ spelled to.now }
+    ensures { OnOk result (NoneIsGone tree.old.elements → WritesRename (read_of read.entry.before) at.now to.now tree.old tree.new) }
+{
+    let name = Name::of(String::from_str(alloc, to)?)?;
+    let named = read.names.place(at);
+    tree.rename(read.before, named, at, &name, spelling)
 }
 
 /// Puts the header line of a new table, or of a new element, in on the working tree. It answers `false` where it would stand

@@ -1,10 +1,12 @@
 //! The tree of a document, or of a value that an edit brings, as a part of the working tree.
-ghost use Rattle.std.specs.Prelude.{◌≡◌, IfOk, IfSome, option_map};
+ghost use Rattle.std.specs.Prelude.{◌≡◌, [], ◌∷◌, IfOk, IfSome, None, Some, option_map};
 ghost use Rattle.toml_text.specs.Source.{text_of};
 ghost use Rattle.toml_tree.specs.Lines.{line as tree_line};
 ghost use Rattle.toml_tree.specs.Spells.{gap_parts};
 ghost use Rattle.toml_tree.specs.View.{assign as tree_assign, gap as tree_gap, header as tree_header, key as tree_key, keyval as tree_keyval, value as tree_value};
 ghost use Rattle.toml_editor.specs.OpenOutlines.{assign as assign_outlined, comment_text, header as header_outlined, leaf_text};
+ghost use Rattle.toml_editor.specs.Numbering.{comment_origins, entries_origins, gap_origins, line_origins, value_origins};
+ghost use Rattle.toml_editor.specs.OpenOrigins.{RunFrom, RunsAs, next_number};
 ghost use Rattle.toml_editor.specs.OpenOutlines.{opening_brackets, closing_brackets};
 ghost use Rattle.toml_editor.specs.Opening.{IsKeyOpened, Lie, OpensArray, OpensGap, OpensInline, OpensKeyVal, OpensLine, OpensValue};
 ghost use Rattle.toml_editor.specs.Opening.{array_tree, inline_tree};
@@ -32,7 +34,8 @@ pub(crate) struct Opener<'t> {
 impl<'t> Opener<'t> {
     /// Opens what stands in the document; this is the number of its first unit.
     pub(crate) fn kept(texts: Texts<'t>, first: usize) -> Opener<'t>
-        ensures { result.texts ≡ texts.entry }
+        ensures texts { result.texts ≡ texts.entry }
+        ensures next { result.next ≡ Some first }
     {
         Opener {
             texts,
@@ -42,7 +45,8 @@ impl<'t> Opener<'t> {
 
     /// Opens what an edit brings.
     pub(crate) fn new(texts: Texts<'t>) -> Opener<'t>
-        ensures { result.texts ≡ texts.entry }
+        ensures texts { result.texts ≡ texts.entry }
+        ensures next { result.next ≡ None }
     {
         Opener { texts, next: None }
     }
@@ -74,7 +78,9 @@ impl<'t> Opener<'t> {
 
     /// The number of the unit that is opened now.
     fn origin(&mut self) -> Option<usize>
-        ensures { self.new.texts ≡ self.old.texts }
+        ensures texts { self.new.texts ≡ self.old.texts }
+        ensures here { result ≡ self.old.next }
+        ensures next { self.new.next ≡ next_number self.old.next }
     {
         let here = self.next;
         self.next = here.map(|number| number.saturating_add(1));
@@ -84,6 +90,7 @@ impl<'t> Opener<'t> {
     fn comment(&mut self, comment: Piece<'t>) -> Comment<'t>
         ensures texts { self.new.texts ≡ self.old.texts }
         ensures opened { leaf_text result.text ≡ comment.entry.text.now }
+        ensures numbered { RunFrom self.old.next (result.origin ∷ []) self.new.next }
     {
         Comment {
             origin: self.origin(),
@@ -95,6 +102,7 @@ impl<'t> Opener<'t> {
         ensures texts { self.new.texts ≡ self.old.texts }
         ensures ws { leaf_text result.ws ≡ blank.entry.ws.text.now }
         ensures comment { option_map (λ c. leaf_text c.text) result.comment ≡ option_map (λ p. p.text.now) blank.entry.comment }
+        ensures numbered { RunFrom self.old.next (comment_origins result.comment) self.new.next }
     {
         let comment = match blank.comment {
             Some(comment) => Some(self.comment(comment)),
@@ -109,6 +117,7 @@ impl<'t> Opener<'t> {
     fn gap(&mut self, gap: &toml_tree::Gap<'t>) -> Result<Gap<'t>, AllocError>
         ensures texts { self.new.texts ≡ self.old.texts }
         ensures opened { OpensGap self.old.texts (tree_gap gap.now) result }
+        ensures numbered { RunsAs gap_origins self.old.next self.new.next result }
     {
         if gap.lines().is_empty() {
             return Gap::space(self.texts.alloc, self.leaf(gap.ws()));
@@ -187,6 +196,7 @@ impl<'t> Opener<'t> {
     pub(crate) fn value(&mut self, value: &toml_tree::Value<'t>) -> Result<Value<'t>, AllocError>
         ensures texts { self.new.texts ≡ self.old.texts }
         ensures opened { OpensValue self.old.texts (tree_value value.now) result }
+        ensures numbered { RunsAs value_origins self.old.next self.new.next result }
     {
         match value {
             toml_tree::Value::Scalar(_, token) => Ok(Value::Scalar(self.leaf(*token))),
@@ -205,6 +215,7 @@ impl<'t> Opener<'t> {
     fn array(&mut self, array: &toml_tree::Array<'t>) -> Result<Entries<'t>, AllocError>
         ensures texts { self.new.texts ≡ self.old.texts }
         ensures opened { OpensArray self.old.texts (array_tree array.now) result }
+        ensures numbered { RunsAs entries_origins self.old.next self.new.next result }
     {
         let mut list = Vec::with_capacity(self.texts.alloc, array.items.len())?;
         for item in &array.items {
@@ -235,6 +246,7 @@ impl<'t> Opener<'t> {
     fn inline(&mut self, table: &toml_tree::InlineTable<'t>) -> Result<Entries<'t>, AllocError>
         ensures texts { self.new.texts ≡ self.old.texts }
         ensures opened { OpensInline self.old.texts (inline_tree table.now) result }
+        ensures numbered { RunsAs entries_origins self.old.next self.new.next result }
     {
         let mut list = Vec::with_capacity(self.texts.alloc, table.pairs.len())?;
         for pair in &table.pairs {
@@ -265,6 +277,7 @@ impl<'t> Opener<'t> {
     fn keyval(&mut self, pair: &toml_tree::KeyVal<'t>) -> Result<KeyVal<'t>, AllocError>
         ensures texts { self.new.texts ≡ self.old.texts }
         ensures opened { OpensKeyVal self.old.texts (tree_keyval pair.now) result }
+        ensures numbered { RunsAs (λ p. value_origins p.value) self.old.next self.new.next result }
     {
         Ok(KeyVal {
             assign: self.assign(&pair.assign)?,
@@ -292,6 +305,7 @@ impl<'t> Opener<'t> {
     pub(crate) fn line(&mut self, line: &Line<'t>) -> Result<OpenLine<'t>, AllocError>
         ensures texts { self.new.texts ≡ self.old.texts }
         ensures opened { OpensLine self.old.texts (tree_line line.now) result }
+        ensures numbered { RunsAs line_origins self.old.next self.new.next result }
     {
         let origin = self.origin();
         let (ws, expr, tail) = match line.expr() {

@@ -13,7 +13,8 @@ use toml_text::{Source, Span};
 use toml_units::Piece;
 
 /// Pieces that are written one behind the other. No piece is empty, new texts that meet are one, and so are kept spans that
-/// touch. They stand for the text before the edits. Where memory runs out the piece that was written last may be lost.
+/// touch. Clauses see them as the text before the edits and what is written so
+/// far. Where memory runs out the piece that was written last may be lost.
 #[derive(Drop)]
 pub(crate) struct Pieces<'t> {
     alloc: Global,

@@ -1,8 +1,14 @@
 //! `remove`: elements and pairs in a value, and lines.
-ghost use Rattle.std.specs.Prelude.{IfOk};
+ghost use Rattle.std.specs.Prelude.{◌≡◌, IfOk, OnOk, length, true};
 ghost use Rattle.toml_editor.specs.Making.{IsParent};
+ghost use Rattle.toml_editor.specs.RemovingIn.{LeavesBehind, LeavesLines, LeavesOf, LeavesSlot, LeavesSlots, RemovesLines};
+ghost use Rattle.toml_editor.specs.Seeing.{IsSoughtAt};
+ghost use Rattle.toml_editor.specs.declared.lines.Sought.TheVariants.{Holder};
+ghost use Rattle.toml_editor.specs.Starting.{read_of};
+ghost use Rattle.toml_editor.specs.Stands.{KeepsRest};
 
-use crate::lines::{Line, Slot, below, is_element, names_in};
+use crate::inside::Inside;
+use crate::lines::{Line, Slot, is_element, names_in};
 use crate::texts::Texts;
 use crate::tree::{Blank, Brackets, Expr, Header, Leaf, OpenLine};
 use crate::working::{Before, Position, TablePlace, Tree};
@@ -28,21 +34,49 @@ impl<'x> Tree<'x> {
         before: Before<'_, 'x>,
         named: Option<Place>,
         at: &Address,
-    ) -> Result<bool, AllocError> {
+    ) -> Result<bool, AllocError>
+        ensures { OnOk result (RemovesLines at.now (read_of before.entry) self.old self.new) }
+    {
         match self.value_line(before, named, at) {
-            Some(place) if self.depth(before, place) < at.steps().len() => {
-                self.remove_inside(before, place, at)?;
+            Some(place) => {
+                self.remove_value(before, place, at)?;
+                Ok(true)
             }
-            Some(place) => self.remove_line(before, place.slot, at)?,
-            None => {
-                let first = self.first_slot(before, named, at);
-                if !self.leaves_elements(before, first, at)? {
-                    return Ok(false);
-                }
-                self.remove_lines(before, first, at)?;
-                self.elements.take_out(self.texts.alloc, at)?;
-            }
+            None => self.remove_table(before, named, at),
         }
+    }
+
+    /// Takes out the value at the address: the line at the place has it, or holds it.
+    fn remove_value(
+        &mut self,
+        before: Before<'_, 'x>,
+        place: Position,
+        at: &Address,
+    ) -> Result<(), AllocError>
+        ensures { let read = read_of before.entry in
+            OnOk result (IsSoughtAt Holder at.now read self.old.slots.items place → RemovesLines at.now read self.old self.new) }
+    {
+        if self.depth(before, place) < at.steps().len() {
+            self.change_value(before, place, at, Inside::Remove)?;
+            Ok(())
+        } else {
+            self.remove_line(before, place.slot, at)
+        }
+    }
+
+    /// The same of what no line's value is, or holds.
+    fn remove_table(
+        &mut self,
+        before: Before<'_, 'x>,
+        named: Option<Place>,
+        at: &Address,
+    ) -> Result<bool, AllocError> {
+        let first = self.first_slot(before, named, at);
+        if !self.leaves_elements(before, first, at)? {
+            return Ok(false);
+        }
+        self.remove_lines(before, first, at)?;
+        self.elements.take_out(self.texts.alloc, at)?;
         Ok(true)
     }
 
@@ -66,13 +100,13 @@ impl<'x> Tree<'x> {
         before: Before<'_, 'x>,
         slot: usize,
         at: &Address,
-    ) -> Result<(), AllocError> {
-        let texts = self.texts;
+    ) -> Result<(), AllocError>
+        ensures rest { OnOk result (KeepsRest self.old self.new) }
+        ensures slots { let units = before.entry.units.now in
+            OnOk result (length at.now ≡ 1 → LeavesSlots at.now units slot self.old.slots.items self.new.slots.items) }
+    {
         let mut parent = self.parent_left(before, at, slot)?;
-        match self.slots.get_mut(slot) {
-            Some(lines) => lines.remove(texts, before, at, &mut parent),
-            None => Ok(()),
-        }
+        remove_in(&mut self.slots, self.texts, before, slot, at, &mut parent)
     }
 
     /// The parent of the address, and whether it is the root or a line that is not at the address, nor below it, mentions it:
@@ -82,7 +116,9 @@ impl<'x> Tree<'x> {
         before: Before<'_, 'x>,
         at: &Address,
         slot: usize,
-    ) -> Result<Parent, AllocError> {
+    ) -> Result<Parent, AllocError>
+        ensures { IfOk result (λ parent. length at.now ≡ 1 → parent.stays ≡ true) }
+    {
         let address = parent_of(self.alloc(), at)?;
         let stays = address.steps().is_empty()
             || self.is_mentioned_around(before, slot, &address, at);
@@ -121,21 +157,6 @@ impl<'x> Tree<'x> {
         }
         let array = parent_of(self.alloc(), at)?;
         Ok(self.is_mentioned_around(before, first, &array, at))
-    }
-
-    /// Takes something out of the value of a line.
-    fn remove_inside(
-        &mut self,
-        before: Before<'_, 'x>,
-        place: Position,
-        at: &Address,
-    ) -> Result<(), AllocError> {
-        let texts = self.texts;
-        let used = self.depth(before, place);
-        match self.value_at(before, place)? {
-            Some(value) => texts.remove_in(value, below(at, used)),
-            None => Ok(()),
-        }
     }
 
     /// Takes out all lines at the address and below, of which the slot has the first or comes before it. Where no other line
@@ -197,21 +218,69 @@ impl<'t> Slot<'t> {
         before: Before<'_, 't>,
         at: &Address,
         parent: &mut Parent,
-    ) -> Result<(), AllocError> {
+    ) -> Result<(), AllocError>
+        ensures { OnOk result (parent.old.stays ≡ true → LeavesSlot at.now before.entry.units.now self.old self.new) }
+    {
         self.open(texts.alloc, before.units)?;
-        let Some(lines) = self.opened() else {
-            return Ok(());
-        };
-        let mut left = Vec::new(texts.alloc);
-        for line in mem::replace(lines, Vec::new(texts.alloc)) {
-            if !line.seen().is_below(at) {
-                left.push(line)?;
-            } else if let Some(rest) = removed(texts, before.doc, line, parent)? {
-                left.push(rest)?;
-            }
+        match self {
+            Slot::Lines(lines) => remove_from(lines, texts, before.doc, at, parent),
+            Slot::Kept(_) => Ok(()),
         }
-        *lines = left;
-        Ok(())
+    }
+}
+
+/// Takes out the lines of the slot at the address and below, if there is such a slot.
+fn remove_in<'t>(
+    slots: &mut Vec<Slot<'t>>,
+    texts: Texts<'t>,
+    before: Before<'_, 't>,
+    slot: usize,
+    at: &Address,
+    parent: &mut Parent,
+) -> Result<(), AllocError>
+    ensures { let units = before.entry.units.now in
+        OnOk result (parent.old.stays ≡ true → LeavesSlots at.now units slot slots.old.items slots.new.items) }
+{
+    match slots.get_mut(slot) {
+        Some(lines) => lines.remove(texts, before, at, parent),
+        None => Ok(()),
+    }
+}
+
+/// Takes out the lines at the address and below.
+fn remove_from<'t>(
+    lines: &mut Vec<Line<'t>>,
+    texts: Texts<'t>,
+    doc: &Doc<'t>,
+    at: &Address,
+    parent: &mut Parent,
+) -> Result<(), AllocError>
+    ensures { OnOk result (parent.old.stays ≡ true → LeavesLines at.now lines.old.items lines.new.items) }
+{
+    let old = mem::replace(lines, Vec::new(texts.alloc));
+    for line in old {
+        if let Some(left) = left_of(texts, doc, line, at, parent)? {
+            lines.push(left)?;
+        }
+    }
+    Ok(())
+}
+
+/// What is left of a line once what stands at the address and below is taken out.
+fn left_of<'t>(
+    texts: Texts<'t>,
+    doc: &Doc<'t>,
+    line: Line<'t>,
+    at: &Address,
+    parent: &mut Parent,
+) -> Result<Option<Line<'t>>, AllocError>
+    ensures parent { OnOk result (parent.old.stays ≡ true → parent.new.stays ≡ true) }
+    ensures left { IfOk result (λ left. parent.old.stays ≡ true → LeavesOf at.now line.entry left) }
+{
+    if line.seen().is_below(at) {
+        removed(texts, doc, line, parent)
+    } else {
+        Ok(Some(line))
     }
 }
 
@@ -221,7 +290,10 @@ fn removed<'t>(
     doc: &Doc<'t>,
     line: Line<'t>,
     parent: &mut Parent,
-) -> Result<Option<Line<'t>>, AllocError> {
+) -> Result<Option<Line<'t>>, AllocError>
+    ensures parent { OnOk result (parent.old.stays ≡ true → parent.new.stays ≡ true) }
+    ensures left { IfOk result (λ left. parent.old.stays ≡ true → LeavesBehind line.entry left) }
+{
     if !parent.stays && line.seen().mentions(&parent.address) {
         parent.stays = true;
         return Ok(Some(emptied(texts, doc, line, &parent.address)?));

@@ -1,8 +1,18 @@
 //! `rename`: each key part that stands for the address, in headers, keys of lines and keys of pairs, becomes the spelling of
 //! the new name.
-use crate::lines::{Line, Slot, below, changed};
+ghost use Rattle.std.specs.Prelude.{◌≡◌, OnOk, Option, Some, option_map};
+ghost use Rattle.toml_text.specs.Source.{text_of};
+ghost use Rattle.toml_tree.specs.Document.{document};
+ghost use Rattle.toml_editor.specs.Becoming.{BodyBecomes, LineBecomes, LinesBecome, OpenBecomes, RenamesLines, SlotAtBecomes, SlotBecomes, SlotsBecome};
+ghost use Rattle.toml_editor.specs.OpenOutlines.{leaf_text, line as line_outlined};
+ghost use Rattle.toml_editor.specs.RenameStanding.{line_part_with, part_number, rename_below, rename_own, renamed_address};
+ghost use Rattle.toml_editor.specs.Standing.{is_below, line_standing};
+ghost use Rattle.toml_editor.specs.Starting.{NoneIsGone, read_of};
+
+use crate::inside::Inside;
+use crate::lines::{Body, Line, Slot, changed};
 use crate::texts::Texts;
-use crate::tree::{Expr, Leaf};
+use crate::tree::{Expr, Leaf, OpenLine};
 use crate::working::{Before, Position, Tree};
 use std::alloc::AllocError;
 use toml_names::{Address, Name, Place, Step};
@@ -17,45 +27,30 @@ impl<'x> Tree<'x> {
         at: &Address,
         name: &Name,
         spelled: &'x str,
-    ) -> Result<(), AllocError> {
+    ) -> Result<(), AllocError>
+        ensures renames { let read = read_of before.entry in
+            let text = text_of self.old.texts.source in
+            OnOk result (RenamesLines at.now name.now spelled.now text read self.old.slots.items self.new.slots.items) }
+        ensures texts { OnOk result (self.new.texts ≡ self.old.texts) }
+        ensures style { OnOk result (self.new.style ≡ self.old.style) }
+        ensures elements { OnOk result (NoneIsGone self.old.elements → NoneIsGone self.new.elements) }
+    {
         match self.value_line(before, named, at) {
             Some(place) if self.depth(before, place) < at.steps().len() => {
-                self.rename_inside(before, place, at, spelled)
+                self.change_value(before, place, at, Inside::Rename(spelled))?;
+                Ok(())
             }
-            Some(place) => self.rename_line(before, place, at, name, spelled),
+            // No other line is at it or below.
+            Some(place) => rename_in_slot(
+                &mut self.slots,
+                self.texts,
+                before,
+                place.slot,
+                at,
+                name,
+                spelled,
+            ),
             None => self.rename_lines(before, at, name, spelled),
-        }
-    }
-
-    /// Renames in the line whose value stands at the address: no other line is at it or below.
-    fn rename_line(
-        &mut self,
-        before: Before<'_, 'x>,
-        place: Position,
-        at: &Address,
-        name: &Name,
-        spelled: &'x str,
-    ) -> Result<(), AllocError> {
-        let texts = self.texts;
-        match self.line_mut(before, place)? {
-            Some(line) => line.rename(texts, before.doc, at, name, spelled),
-            None => Ok(()),
-        }
-    }
-
-    /// Renames inside the value of a line.
-    fn rename_inside(
-        &mut self,
-        before: Before<'_, 'x>,
-        place: Position,
-        at: &Address,
-        spelled: &'x str,
-    ) -> Result<(), AllocError> {
-        let texts = self.texts;
-        let used = self.depth(before, place);
-        match self.value_at(before, place)? {
-            Some(value) => texts.rename_in(value, below(at, used), spelled),
-            None => Ok(()),
         }
     }
 
@@ -66,19 +61,81 @@ impl<'x> Tree<'x> {
         at: &Address,
         name: &Name,
         spelled: &'x str,
-    ) -> Result<(), AllocError> {
-        let texts = self.texts;
-        for slot in &mut self.slots {
-            if slot.is_below(before.units, at) {
-                slot.rename(texts, before, at, name, spelled)?;
-            }
-        }
-        self.elements.rename(texts.alloc, at, name)
+    ) -> Result<(), AllocError>
+        ensures slots { let read = read_of before.entry in
+            let rename = rename_below at.now name.now spelled.now in
+            OnOk result (SlotsBecome self.old.texts read rename self.old.slots.items self.new.slots.items) }
+        ensures texts { OnOk result (self.new.texts ≡ self.old.texts) }
+        ensures style { OnOk result (self.new.style ≡ self.old.style) }
+        ensures elements { OnOk result (NoneIsGone self.old.elements → NoneIsGone self.new.elements) }
+    {
+        rename_in_slots(&mut self.slots, self.texts, before, at, name, spelled)?;
+        self.elements.rename(self.texts.alloc, at, name)
     }
 }
 
+/// Renames in the lines of a slot at the address or below, if there is one with the index.
+fn rename_in_slot<'t>(
+    slots: &mut Vec<Slot<'t>>,
+    texts: Texts<'t>,
+    before: Before<'_, 't>,
+    index: usize,
+    at: &Address,
+    name: &Name,
+    spelled: &'t str,
+) -> Result<(), AllocError>
+    ensures { let read = read_of before.entry in
+        let rename = rename_below at.now name.now spelled.now in
+        OnOk result (SlotAtBecomes texts.entry read rename index slots.old.items slots.new.items) }
+{
+    match slots.get_mut(index) {
+        Some(slot) => slot.rename(texts, before, at, name, spelled),
+        None => Ok(()),
+    }
+}
+
+/// The same in all slots.
+fn rename_in_slots<'t>(
+    slots: &mut Vec<Slot<'t>>,
+    texts: Texts<'t>,
+    before: Before<'_, 't>,
+    at: &Address,
+    name: &Name,
+    spelled: &'t str,
+) -> Result<(), AllocError>
+    ensures { let read = read_of before.entry in
+        let rename = rename_below at.now name.now spelled.now in
+        OnOk result (SlotsBecome texts.entry read rename slots.old.items slots.new.items) }
+{
+    for index in 0..slots.len() {
+        if let Some(slot) = slots.get_mut(index) {
+            slot.rename_below(texts, before, at, name, spelled)?;
+        }
+    }
+    Ok(())
+}
+
 impl<'t> Slot<'t> {
-    /// Renames in its lines at the address or below.
+    /// Renames in its lines at the address or below. Without such a line it stays as it is.
+    fn rename_below(
+        &mut self,
+        texts: Texts<'t>,
+        before: Before<'_, 't>,
+        at: &Address,
+        name: &Name,
+        spelled: &'t str,
+    ) -> Result<(), AllocError>
+        ensures { let rename = rename_below at.now name.now spelled.now in
+            OnOk result (SlotBecomes texts.entry (read_of before.entry) rename self.old self.new) }
+    {
+        if self.is_below(before.units, at) {
+            self.rename(texts, before, at, name, spelled)
+        } else {
+            Ok(())
+        }
+    }
+
+    /// Opens it, and renames in its lines at the address or below.
     fn rename(
         &mut self,
         texts: Texts<'t>,
@@ -86,21 +143,59 @@ impl<'t> Slot<'t> {
         at: &Address,
         name: &Name,
         spelled: &'t str,
-    ) -> Result<(), AllocError> {
+    ) -> Result<(), AllocError>
+        ensures { let rename = rename_below at.now name.now spelled.now in
+            OnOk result (SlotBecomes texts.entry (read_of before.entry) rename self.old self.new) }
+    {
         self.open(texts.alloc, before.units)?;
-        let Some(lines) = self.opened() else {
-            return Ok(());
-        };
-        for line in lines {
-            if line.seen().is_below(at) {
-                line.rename(texts, before.doc, at, name, spelled)?;
-            }
+        match self {
+            Slot::Lines(lines) => rename_in_lines(lines, texts, before.doc, at, name, spelled),
+            Slot::Kept(_) => Ok(()),
         }
-        Ok(())
     }
 }
 
+/// Renames in the lines at the address or below.
+fn rename_in_lines<'t>(
+    lines: &mut Vec<Line<'t>>,
+    texts: Texts<'t>,
+    doc: &Doc<'t>,
+    at: &Address,
+    name: &Name,
+    spelled: &'t str,
+) -> Result<(), AllocError>
+    ensures { let read = (document doc.now).lines in
+        let rename = rename_below at.now name.now spelled.now in
+        OnOk result (LinesBecome texts.entry read rename lines.old.items lines.new.items) }
+{
+    for index in 0..lines.len() {
+        if let Some(line) = lines.get_mut(index) {
+            line.rename_below(texts, doc, at, name, spelled)?;
+        }
+    }
+    Ok(())
+}
+
 impl<'t> Line<'t> {
+    /// Renames in it, if it stands at the address or below.
+    fn rename_below(
+        &mut self,
+        texts: Texts<'t>,
+        doc: &Doc<'t>,
+        at: &Address,
+        name: &Name,
+        spelled: &'t str,
+    ) -> Result<(), AllocError>
+        ensures { let rename = rename_below at.now name.now spelled.now in
+            OnOk result (LineBecomes texts.entry (document doc.now).lines rename self.old self.new) }
+    {
+        if self.seen().is_below(at) {
+            self.rename(texts, doc, at, name, spelled)
+        } else {
+            Ok(())
+        }
+    }
+
     /// Renames in a line at the address or below.
     fn rename(
         &mut self,
@@ -109,14 +204,43 @@ impl<'t> Line<'t> {
         at: &Address,
         name: &Name,
         spelled: &'t str,
-    ) -> Result<(), AllocError> {
-        if let Some(part) = self.seen().part_of(at) {
-            self.set_part(texts, doc, part, Leaf::New(spelled))?;
+    ) -> Result<(), AllocError>
+        ensures { let rename = rename_own at.now name.now spelled.now in
+            OnOk result (LineBecomes texts.entry (document doc.now).lines rename self.old self.new) }
+    {
+        self.rename_key(texts, doc, at, spelled)?;
+        self.carry(at, name)
+    }
+
+    /// Gives the part of its key that stands for the address, if one does, the spelling.
+    fn rename_key(
+        &mut self,
+        texts: Texts<'t>,
+        doc: &Doc<'t>,
+        at: &Address,
+        spelled: &'t str,
+    ) -> Result<(), AllocError>
+        ensures address { self.new.address ≡ self.old.address }
+        ensures base { self.new.base ≡ self.old.base }
+        ensures body { let rename = line_part_with (part_number at.now self.old.base) spelled.now in
+            OnOk result (BodyBecomes texts.entry (document doc.now).lines rename self.old.body self.new.body) }
+    {
+        match self.seen().part_of(at) {
+            Some(part) => self.set_part(texts, doc, part, Leaf::New(spelled)),
+            None => Ok(()),
         }
+    }
+
+    /// Puts the name in the place of the last step of the address, in its own address, which begins with that.
+    fn carry(&mut self, at: &Address, name: &Name) -> Result<(), AllocError>
+        ensures body { self.new.body ≡ self.old.body }
+        ensures base { self.new.base ≡ self.old.base }
+        ensures address { OnOk result (self.new.address ≡ option_map (renamed_address at.now name.now) self.old.address) }
+    {
         let place = at.steps().len().saturating_sub(1);
         let step = Step::Name(name.copy()?);
         if let Some(own) = self.address.take() {
-            self.go_to(changed(own, place, step));
+            self.address = Some(changed(own, place, step));
         }
         Ok(())
     }
@@ -128,15 +252,39 @@ impl<'t> Line<'t> {
         doc: &Doc<'t>,
         part: usize,
         leaf: Leaf<'t>,
-    ) -> Result<(), AllocError> {
+    ) -> Result<(), AllocError>
+        ensures address { self.new.address ≡ self.old.address }
+        ensures base { self.new.base ≡ self.old.base }
+        ensures body { let changed = line_part_with (Some part) (leaf_text leaf.entry) in
+            OnOk result (BodyBecomes texts.entry (document doc.now).lines changed self.old.body self.new.body) }
+    {
         self.open(texts, doc)?;
-        if let Some(open) = self.opened() {
-            match &mut open.expr {
-                Expr::Blank => {}
-                Expr::Pair(pair) => pair.assign.key.set_part(part, leaf),
-                Expr::Header(header) => header.key.set_part(part, leaf),
-            }
-        }
+        self.body.set_part(part, leaf);
         Ok(())
+    }
+}
+
+impl<'t> Body<'t> {
+    /// Changes a part of the key of what is opened.
+    fn set_part(&mut self, part: usize, leaf: Leaf<'t>)
+        ensures { OpenBecomes (line_part_with (Some part) (leaf_text leaf.entry)) self.old self.new }
+    {
+        match self {
+            Body::Open(open) => open.set_part(part, leaf),
+            Body::Kept(_) => {}
+        }
+    }
+}
+
+impl<'t> OpenLine<'t> {
+    /// Changes a part of its key.
+    fn set_part(&mut self, part: usize, leaf: Leaf<'t>)
+        ensures { line_outlined self.new ≡ line_part_with (Some part) (leaf_text leaf.entry) (line_outlined self.old) }
+    {
+        match &mut self.expr {
+            Expr::Blank => {}
+            Expr::Pair(pair) => pair.assign.key.set_part(part, leaf),
+            Expr::Header(header) => header.key.set_part(part, leaf),
+        }
     }
 }

@@ -1,5 +1,11 @@
 //! `set`: the bytes of the value at the address become those of the edit's value.
-use crate::lines::below;
+ghost use Rattle.std.specs.Prelude.{◌≡◌, IfOk, OnOk};
+ghost use Rattle.toml_text.specs.Source.{text_of};
+ghost use Rattle.toml_editor.specs.Starting.{read_of};
+ghost use Rattle.toml_editor.specs.OpenOutlines.{value};
+ghost use Rattle.toml_editor.specs.Stands.{KeepsRest, SetsLines};
+
+use crate::inside::Inside;
 use crate::tree::Value;
 use crate::working::{Before, Tree};
 use std::alloc::AllocError;
@@ -14,14 +20,14 @@ impl<'x> Tree<'x> {
         named: Option<Place>,
         at: &Address,
         new: Value<'x>,
-    ) -> Result<bool, AllocError> {
-        let texts = self.texts;
-        let Some(place) = self.value_line(before, named, at) else {
-            return Ok(false);
-        };
-        let used = self.depth(before, place);
-        match self.value_at(before, place)? {
-            Some(value) => texts.set_in(value, below(at, used), new),
+    ) -> Result<bool, AllocError>
+        ensures set { let read = read_of before.entry in
+            let text = text_of self.old.texts.source in
+            IfOk result (λ done. SetsLines at.now (value new.entry) text read self.old.slots.items self.new.slots.items done) }
+        ensures rest { OnOk result (KeepsRest self.old self.new) }
+    {
+        match self.value_line(before, named, at) {
+            Some(place) => self.change_value(before, place, at, Inside::Set(new)),
             None => Ok(false),
         }
     }

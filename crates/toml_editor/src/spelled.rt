@@ -1,11 +1,16 @@
 //! The texts that edits bring: their values read, and their names spelled.
-ghost use Rattle.std.specs.Prelude.{◌≡◌, IfOk, length, vec_len};
+ghost use Rattle.std.specs.Prelude.{◌≡◌, IfOk, IfSome, length, map, string_bytes, vec_len};
+ghost use Rattle.toml_edits.specs.Edits.{change};
+ghost use Rattle.toml_editor.specs.Numbering.{value_origins};
+ghost use Rattle.toml_editor.specs.OpenOrigins.{AreNew};
+ghost use Rattle.toml_editor.specs.Opening.{OpensText};
+ghost use Rattle.toml_editor.specs.SpelledEdits.{AreSpelled, AreSteps, IsNewName, IsSpelled, step_spelled};
 
 use crate::opening::Opener;
 use crate::texts::Texts;
 use crate::tree::Value;
 use std::alloc::{AllocError, Global};
-use toml_edits::Edit;
+use toml_edits::{Edit, place};
 use toml_names::{Address, Step};
 use toml_scalar::{SyntaxFault, spell_key};
 use toml_text::Source;
@@ -22,7 +27,8 @@ pub(crate) struct Spelled {
 
 /// The spellings of the edits, one for each.
 pub(crate) fn spell_all(alloc: Global, edits: &[Edit]) -> Result<Vec<Spelled>, AllocError>
-    ensures { IfOk result (λ list. vec_len list ≡ length edits.now) }
+    ensures count { IfOk result (λ list. vec_len list ≡ length edits.now) }
+    ensures spelled { IfOk result (λ list. AreSpelled (map change edits.now) list.items) }
 {
     let mut list = Vec::with_capacity(alloc, edits.len())?;
     for edit in edits {
@@ -31,19 +37,24 @@ pub(crate) fn spell_all(alloc: Global, edits: &[Edit]) -> Result<Vec<Spelled>, A
     Ok(list)
 }
 
-fn spell(alloc: Global, edit: &Edit) -> Result<Spelled, AllocError> {
-    let (at, to) = match edit {
-        Edit::Set { at, .. }
-        | Edit::Insert { at, .. }
-        | Edit::Remove { at }
-        | Edit::Section { at }
-        | Edit::Element { at } => (at, String::new(alloc)),
-        Edit::Rename { at, to } => (at, spell_key(alloc, to)?),
-    };
+/// The spellings of an edit.
+fn spell(alloc: Global, edit: &Edit) -> Result<Spelled, AllocError>
+    ensures { IfOk result (λ s. IsSpelled (change edit.now) s) }
+{
     Ok(Spelled {
-        steps: spellings(alloc, at)?,
-        to,
+        steps: spellings(alloc, place(edit))?,
+        to: new_name(alloc, edit)?,
     })
+}
+
+/// The spelling of the new name that an edit brings, if it brings one.
+fn new_name(alloc: Global, edit: &Edit) -> Result<String, AllocError>
+    ensures { IfOk result (IsNewName (change edit.now)) }
+{
+    match edit {
+        Edit::Rename { to, .. } => spell_key(alloc, to),
+        _ => Ok(String::new(alloc)),
+    }
 }
 
 /// The text of a value of the profile as a part of the working tree, if it is one.
@@ -51,7 +62,10 @@ pub(crate) fn open_value<'t>(
     alloc: Global,
     text: &'t str,
     profile: Profile,
-) -> Result<Option<Value<'t>>, AllocError> {
+) -> Result<Option<Value<'t>>, AllocError>
+    ensures opened { IfOk result (OpensText profile text.now) }
+    ensures new { IfOk result (λ found. IfSome found (λ v. AreNew (value_origins v))) }
+{
     let Ok(source) = Source::new(text.as_bytes()) else {
         return Ok(None);
     };
@@ -63,13 +77,23 @@ pub(crate) fn open_value<'t>(
 }
 
 /// The spelling of each step.
-fn spellings(alloc: Global, at: &Address) -> Result<Vec<String>, AllocError> {
-    let mut list = Vec::with_capacity(alloc, at.steps().len())?;
-    for step in at.steps() {
-        list.push(match step {
-            Step::Name(name) => spell_key(alloc, name.as_str())?,
-            Step::Index(_) => String::new(alloc),
-        })?;
+fn spellings(alloc: Global, at: &Address) -> Result<Vec<String>, AllocError>
+    ensures { IfOk result (λ list. AreSteps at.now list.items) }
+{
+    let steps = at.steps();
+    let mut list = Vec::with_capacity(alloc, steps.len())?;
+    for step in steps {
+        list.push(spelling(alloc, step)?)?;
     }
     Ok(list)
+}
+
+/// The spelling of a step.
+fn spelling(alloc: Global, step: &Step) -> Result<String, AllocError>
+    ensures { IfOk result (λ text. string_bytes text ≡ step_spelled step.now) }
+{
+    match step {
+        Step::Name(name) => spell_key(alloc, name.as_str()),
+        Step::Index(_) => Ok(String::new(alloc)),
+    }
 }

@@ -2,6 +2,7 @@
 //! document, but its pieces are kept or new, and lines, comments, elements and pairs know which unit of the document they
 //! are.
 ghost use Rattle.std.specs.Prelude.{◌≡◌, ◌↔◌, ◌++◌, [], IfOk, OnOk, IsTrue};
+ghost use Rattle.toml_editor.specs.Numbering.{gap_origins, gap_part_origins};
 ghost use Rattle.toml_editor.specs.OpenOutlines.{leaf_text, gap_part_text, gap_text};
 
 use std::alloc::{AllocError, Global};
@@ -189,7 +190,8 @@ impl Blank<'_> {
 impl<'t> Gap<'t> {
     /// A gap of nothing.
     pub(crate) fn empty(alloc: Global) -> Gap<'t>
-        ensures { gap_text result ≡ [] }
+        ensures text { gap_text result ≡ [] }
+        ensures origins { gap_origins result ≡ [] }
     {
         Gap {
             parts: Vec::new(alloc),
@@ -198,7 +200,8 @@ impl<'t> Gap<'t> {
 
     /// A gap of this one part.
     pub(crate) fn one(alloc: Global, part: GapPart<'t>) -> Result<Gap<'t>, AllocError>
-        ensures { IfOk result (λ g. gap_text g ≡ gap_part_text part.entry) }
+        ensures text { IfOk result (λ g. gap_text g ≡ gap_part_text part.entry) }
+        ensures origins { IfOk result (λ g. gap_origins g ≡ gap_part_origins part.entry) }
     {
         let mut parts = Vec::with_capacity(alloc, 1)?;
         parts.push(part)?;
@@ -207,7 +210,8 @@ impl<'t> Gap<'t> {
 
     /// A gap of this whitespace.
     pub(crate) fn space(alloc: Global, ws: Leaf<'t>) -> Result<Gap<'t>, AllocError>
-        ensures { IfOk result (λ g. gap_text g ≡ leaf_text ws.entry) }
+        ensures text { IfOk result (λ g. gap_text g ≡ leaf_text ws.entry) }
+        ensures origins { IfOk result (λ g. gap_origins g ≡ []) }
     {
         if ws.is_empty() {
             return Ok(Gap::empty(alloc));
@@ -217,7 +221,8 @@ impl<'t> Gap<'t> {
 
     /// Puts whitespace behind it, unless it has no bytes.
     pub(crate) fn push_ws(&mut self, ws: Leaf<'t>) -> Result<(), AllocError>
-        ensures { OnOk result (gap_text self.new ≡ gap_text self.old ++ leaf_text ws.entry) }
+        ensures text { OnOk result (gap_text self.new ≡ gap_text self.old ++ leaf_text ws.entry) }
+        ensures origins { OnOk result (gap_origins self.new ≡ gap_origins self.old) }
     {
         if !ws.is_empty() {
             self.parts.push(GapPart::Ws(ws))?;

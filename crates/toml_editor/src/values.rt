@@ -1,4 +1,12 @@
 //! The four edits inside a value.
+ghost use Rattle.std.specs.Prelude.{◌≡◌, IfOk, OnOk, drop, option_and_then, option_map, slice_get};
+ghost use Rattle.toml_editor.specs.Putting.{AssignsOne};
+ghost use Rattle.toml_editor.specs.Leading.{LeadsOn, SetsEntry, first_index, key_in, leads, led_by, open_names, pair_key};
+ghost use Rattle.toml_editor.specs.OpenOutlines.{assign as assign_outline, entries as entries_outline};
+ghost use Rattle.toml_editor.specs.OpenOutlines.{entry as entry_outline, value as value_outline};
+ghost use Rattle.toml_editor.specs.RenamingIn.{KeysRenamed, RenamesEntry, RenamesIn, key_with, pair_with, reaches};
+ghost use Rattle.toml_editor.specs.Stands.{SetsIn};
+
 use crate::texts::Texts;
 use crate::tree::{Assign, Entries, Entry, Key, Leaf, Value};
 use std::alloc::AllocError;
@@ -18,25 +26,11 @@ impl<'t> Texts<'t> {
                 [Step::Index(index), _, ..] => Some((*index as usize, 1)),
                 _ => None,
             }),
-            Value::Inline(pairs) => self.pair_above(&pairs.list, steps),
+            Value::Inline(pairs) => match steps.split_last() {
+                Some((_, parent)) => self.pair_on(pairs, parent),
+                None => Ok(None),
+            },
         }
-    }
-
-    /// The pair whose value lies strictly above what the steps name, and how many parts its key has.
-    fn pair_above(
-        self,
-        pairs: &VecDeque<Entry<'t>>,
-        steps: &[Step],
-    ) -> Result<Option<(usize, usize)>, AllocError> {
-        for index in 0..pairs.len() {
-            if let Some(key) = key_at(pairs, index) {
-                let parts = key.parts();
-                if parts < steps.len() && self.common(key, steps)? == parts {
-                    return Ok(Some((index, parts)));
-                }
-            }
-        }
-        Ok(None)
     }
 
     /// The innermost value that holds what the steps name, or would hold it, and the steps that are left there.
@@ -58,61 +52,103 @@ impl<'t> Texts<'t> {
         }
     }
 
-    /// The index of the entry that has exactly these steps.
-    fn entry_at(self, holder: &Value<'t>, steps: &[Step]) -> Result<Option<usize>, AllocError> {
-        match holder {
-            Value::Scalar(_) => Ok(None),
-            Value::Array(_) => Ok(match steps {
-                [Step::Index(index)] => Some(*index as usize),
-                _ => None,
-            }),
-            Value::Inline(pairs) => self.pair_at(&pairs.list, steps),
-        }
-    }
-
-    /// The index of the pair whose key has exactly these names.
-    fn pair_at(
-        self,
-        pairs: &VecDeque<Entry<'t>>,
-        steps: &[Step],
-    ) -> Result<Option<usize>, AllocError> {
-        for index in 0..pairs.len() {
-            if let Some(key) = key_at(pairs, index) {
-                let parts = key.parts();
-                if parts == steps.len() && self.common(key, steps)? == parts {
-                    return Ok(Some(index));
-                }
-            }
-        }
-        Ok(None)
-    }
-
     /// Puts a value in place of the one at the steps. It answers `false`, and changes nothing, where no single value stands
     /// there.
+    #[cycle(setting)]
     pub(crate) fn set_in(
         self,
         own: &mut Value<'t>,
         steps: &[Step],
         new: Value<'t>,
-    ) -> Result<bool, AllocError> {
+    ) -> Result<bool, AllocError>
+        ensures { let new = value_outline new.entry in
+            IfOk result (λ done. SetsIn steps.now new (value_outline own.old) (value_outline own.new) done) }
+    {
         if steps.is_empty() {
             *own = new;
             return Ok(true);
         }
-        let Some((holder, rest)) = self.holder(own, steps)? else {
-            return Ok(false);
+        match own {
+            Value::Scalar(_) => Ok(false),
+            Value::Array(elements) => match index_first(steps) {
+                Some(index) => {
+                    let done = self.set_entry(elements, index, behind(steps, 1), new)?;
+                    Ok(done)
+                }
+                None => Ok(false),
+            },
+            Value::Inline(pairs) => match self.pair_on(pairs, steps)? {
+                Some((index, used)) => {
+                    let done = self.set_entry(pairs, index, behind(steps, used), new)?;
+                    Ok(done)
+                }
+                None => Ok(false),
+            },
+        }
+    }
+
+    /// The same in the value of the entry with the index, if there is one.
+    #[cycle(setting)]
+    fn set_entry(
+        self,
+        entries: &mut Entries<'t>,
+        index: usize,
+        steps: &[Step],
+        new: Value<'t>,
+    ) -> Result<bool, AllocError>
+        ensures { let new = value_outline new.entry in
+            IfOk result (λ done. SetsEntry index steps.now new (entries_outline entries.old) (entries_outline entries.new) done) }
+    {
+        match entries.list.get_mut(index) {
+            Some(entry) => {
+                let done = self.set_in(&mut entry.value, steps, new)?;
+                Ok(done)
+            }
+            None => Ok(false),
+        }
+    }
+
+    /// A pair whose value is what the steps name, or holds it: its index, and how many parts its key has.
+    fn pair_on(
+        self,
+        pairs: &Entries<'t>,
+        steps: &[Step],
+    ) -> Result<Option<(usize, usize)>, AllocError>
+        ensures { IfOk result (LeadsOn (entries_outline pairs.now).entries steps.now) }
+    {
+        for index in 0..pairs.list.len() {
+            if let Some(used) = self.key_on(pairs, index, steps)? {
+                return Ok(Some((index, used)));
+            }
+        }
+        Ok(None)
+    }
+
+    /// How many parts the key of the pair with the index has, if the steps begin with all of them.
+    fn key_on(
+        self,
+        pairs: &Entries<'t>,
+        index: usize,
+        steps: &[Step],
+    ) -> Result<Option<usize>, AllocError>
+        ensures { IfOk result (λ used. used ≡ led_by (key_in (entries_outline pairs.now).entries index) steps.now) }
+    {
+        let Some(key) = key_at(&pairs.list, index) else {
+            return Ok(None);
         };
-        let Some(index) = self.entry_at(holder, rest)? else {
+        let leads = self.leads(key, steps)?;
+        Ok(leads.then_some(key.parts()))
+    }
+
+    /// Whether the steps begin with all parts of the key.
+    fn leads(self, key: &Key<'t>, steps: &[Step]) -> Result<bool, AllocError>
+        ensures { IfOk result (λ all. all ≡ leads (open_names key.now) steps.now) }
+    {
+        let parts = key.parts();
+        if steps.len() < parts {
             return Ok(false);
-        };
-        let (Value::Array(entries) | Value::Inline(entries)) = holder else {
-            return Ok(false);
-        };
-        let Some(entry) = entries.list.get_mut(index) else {
-            return Ok(false);
-        };
-        entry.value = new;
-        Ok(true)
+        }
+        Ok(self.common(key, steps)? == parts)
     }
 
     /// Puts a value in at the steps: an element of an array, or a pair of the innermost inline table at or above the parent.
@@ -145,7 +181,9 @@ impl<'t> Texts<'t> {
     }
 
     /// The key of these parts, and ` = `.
-    pub(crate) fn assign(self, parts: &'t [String]) -> Result<Assign<'t>, AllocError> {
+    pub(crate) fn assign(self, parts: &'t [String]) -> Result<Assign<'t>, AllocError>
+        ensures { IfOk result (AssignsOne parts.now) }
+    {
         Ok(Assign {
             key: Key::of(self.alloc, parts)?,
             before_equals: Leaf::New(" "),
@@ -154,18 +192,72 @@ impl<'t> Texts<'t> {
     }
 
     /// Writes another key part wherever one stands for the steps.
+    #[cycle(renaming)]
     pub(crate) fn rename_in(
         self,
         own: &mut Value<'t>,
         steps: &[Step],
         to: &'t str,
-    ) -> Result<(), AllocError> {
-        let Some((holder, rest)) = self.holder(own, steps)? else {
+    ) -> Result<(), AllocError>
+        ensures { OnOk result (RenamesIn steps.now to.now (value_outline own.old) (value_outline own.new)) }
+    {
+        let Some((_, parent)) = steps.split_last() else {
             return Ok(());
         };
-        if let Value::Inline(entries) = holder {
-            for pair in &mut entries.list {
-                self.rename_pair(pair, rest, to)?;
+        match own {
+            Value::Scalar(_) => Ok(()),
+            Value::Array(elements) => match index_first(steps) {
+                Some(index) => {
+                    self.rename_entry(elements, index, behind(steps, 1), to)?;
+                    Ok(())
+                }
+                None => Ok(()),
+            },
+            Value::Inline(pairs) => match self.pair_on(pairs, parent)? {
+                Some((index, used)) => {
+                    self.rename_entry(pairs, index, behind(steps, used), to)?;
+                    Ok(())
+                }
+                None => {
+                    self.rename_keys(pairs, steps, to)?;
+                    Ok(())
+                }
+            },
+        }
+    }
+
+    /// The same in the value of the entry with the index, if there is one.
+    #[cycle(renaming)]
+    fn rename_entry(
+        self,
+        entries: &mut Entries<'t>,
+        index: usize,
+        steps: &[Step],
+        to: &'t str,
+    ) -> Result<(), AllocError>
+        ensures { OnOk result (RenamesEntry index steps.now to.now (entries_outline entries.old) (entries_outline entries.new)) }
+    {
+        match entries.list.get_mut(index) {
+            Some(entry) => {
+                self.rename_in(&mut entry.value, steps, to)?;
+                Ok(())
+            }
+            None => Ok(()),
+        }
+    }
+
+    /// Writes another part in the keys of the pairs, wherever one stands for the steps.
+    fn rename_keys(
+        self,
+        pairs: &mut Entries<'t>,
+        steps: &[Step],
+        to: &'t str,
+    ) -> Result<(), AllocError>
+        ensures { OnOk result (KeysRenamed steps.now to.now (entries_outline pairs.old) (entries_outline pairs.new)) }
+    {
+        for index in 0..pairs.list.len() {
+            if let Some(pair) = pairs.list.get_mut(index) {
+                self.rename_pair(pair, steps, to)?;
             }
         }
         Ok(())
@@ -177,15 +269,37 @@ impl<'t> Texts<'t> {
         pair: &mut Entry<'t>,
         steps: &[Step],
         to: &'t str,
-    ) -> Result<(), AllocError> {
+    ) -> Result<(), AllocError>
+        ensures { OnOk result (entry_outline pair.new ≡ pair_with steps.now to.now (entry_outline pair.old)) }
+    {
         if let Some(assign) = &mut pair.assign {
-            if self.common(&assign.key, steps)? == steps.len() {
-                assign
-                    .key
-                    .set_part(steps.len().saturating_sub(1), Leaf::New(to));
-            }
+            self.rename_key(assign, steps, to)?;
         }
         Ok(())
+    }
+
+    /// Writes another part in the key, if one stands for the steps.
+    fn rename_key(
+        self,
+        assign: &mut Assign<'t>,
+        steps: &[Step],
+        to: &'t str,
+    ) -> Result<(), AllocError>
+        ensures { OnOk result (assign_outline assign.new ≡ key_with steps.now to.now (assign_outline assign.old)) }
+    {
+        if self.reaches(&assign.key, steps)? {
+            assign
+                .key
+                .set_part(steps.len().saturating_sub(1), Leaf::New(to));
+        }
+        Ok(())
+    }
+
+    /// Whether the first parts of the key are the steps, each of them.
+    fn reaches(self, key: &Key<'t>, steps: &[Step]) -> Result<bool, AllocError>
+        ensures { IfOk result (λ all. all ≡ reaches (open_names key.now) steps.now) }
+    {
+        Ok(self.common(key, steps)? == steps.len())
     }
 
     /// Takes out what stands at the steps: an element of an array, or all pairs at or below them.
@@ -261,12 +375,26 @@ impl<'t> Texts<'t> {
 }
 
 /// The key of the pair with the index.
-fn key_at<'a, 't>(pairs: &'a VecDeque<Entry<'t>>, index: usize) -> Option<&'a Key<'t>> {
+fn key_at<'a, 't>(pairs: &'a VecDeque<Entry<'t>>, index: usize) -> Option<&'a Key<'t>>
+    ensures { option_map (λ k. open_names k.now) result ≡ option_and_then pair_key (slice_get pairs.now.items index) }
+{
     Some(&pairs.get(index)?.assign.as_ref()?.key)
 }
 
+/// The index with which the steps begin, if they begin with one.
+fn index_first(steps: &[Step]) -> Option<usize>
+    ensures { result ≡ first_index steps.now }
+{
+    match steps.first() {
+        Some(Step::Index(index)) => Some(*index as usize),
+        _ => None,
+    }
+}
+
 /// The steps behind the first so many.
-pub(crate) fn behind(steps: &[Step], used: usize) -> &[Step] {
+pub(crate) fn behind(steps: &[Step], used: usize) -> &[Step]
+    ensures { result.now ≡ drop used steps.now }
+{
     let (_, rest) = steps.split_at(used.min(steps.len()));
     rest
 }

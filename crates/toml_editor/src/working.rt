@@ -1,8 +1,22 @@
 //! Where things stand in the working tree.
+ghost use Rattle.std.specs.Prelude.{◌≡◌, ◌+◌, ◌<◌, ◌^◌, ℕ, List, IfOk, map, true};
+ghost use Rattle.toml_text.specs.Source.{text_of};
+ghost use Rattle.toml_tree.specs.Document.{document};
+ghost use Rattle.toml_tree.specs.Lines.{line as line_tree};
+ghost use Rattle.toml_tree.specs.Pieces.{expr_start};
+ghost use Rattle.toml_tree.specs.View.{expr as expr_tree};
+ghost use Rattle.toml_editor.specs.OpenOutlines.{leaf_text};
+ghost use Rattle.toml_editor.specs.Stands.{heads_tables};
+ghost use Rattle.toml_editor.specs.Starting.{TakesLine, IsKeptOf, IsReadOf, NoneIsGone, StandAsRead};
+ghost use Rattle.toml_editor.specs.Written.{style_of as newline_style};
+ghost use Rattle.toml_editor.specs.Putting.{IsLastAt};
+ghost use Rattle.toml_editor.specs.Placing.{FindsLast, FindsRootEnd, IsOfRoot, PassesSlot};
+ghost use Rattle.toml_editor.specs.Seeing.{CountsSteps, FindsAny, FindsHolder, FindsLine, FindsTable, FindsValue, HoldsNone, SeesAt};
+
 use crate::elements::Elements;
-use crate::lines::{Kept, Line, Seen, Slot};
+use crate::lines::{Kept, Line, Seen, Slot, Sought};
 use crate::texts::Texts;
-use crate::tree::{Leaf, Value};
+use crate::tree::Leaf;
 use std::alloc::{AllocError, Global};
 use toml_names::{Address, Place};
 use toml_text::Span;
@@ -18,7 +32,10 @@ pub(crate) struct Position {
 
 impl Position {
     /// The place behind it.
-    pub(crate) fn next(self) -> Position {
+    pub(crate) fn next(self) -> Position
+        ensures slot { result.slot ≡ self.slot }
+        ensures index { self.index + 1 < 2 ^ 64 → result.index ≡ self.index + 1 }
+    {
         Position {
             slot: self.slot,
             index: self.index.saturating_add(1),
@@ -62,20 +79,16 @@ pub(crate) struct Tree<'x> {
 
 impl<'x> Tree<'x> {
     /// The tree of a document that is as it was.
-    pub(crate) fn of(texts: Texts<'x>, before: Before<'_, 'x>) -> Result<Tree<'x>, AllocError> {
-        let lines = before.doc.lines();
-        let mut slots = Vec::with_capacity(texts.alloc, lines.len())?;
-        for (first, unit) in before.units.iter().enumerate() {
-            if unit.kind == UnitKind::Line {
-                let number = slots.len();
-                if let Some(line) = lines.get(number) {
-                    slots.push(Slot::Kept(kept_line(number, line, first)))?;
-                }
-            }
-        }
+    pub(crate) fn of(texts: Texts<'x>, before: Before<'_, 'x>) -> Result<Tree<'x>, AllocError>
+        requires { IsReadOf (text_of texts.source) before }
+        ensures stands { IfOk result (λ tree. StandAsRead (text_of texts.entry.source) before.entry tree.slots.items) }
+        ensures texts { IfOk result (λ tree. tree.texts ≡ texts.entry) }
+        ensures elements { IfOk result (λ tree. NoneIsGone tree.elements) }
+        ensures style { IfOk result (λ tree. leaf_text tree.style ≡ newline_style (document before.entry.doc.now).lines) }
+    {
         Ok(Tree {
             texts,
-            slots,
+            slots: kept_slots(texts.alloc, before)?,
             elements: Elements::all(texts.alloc),
             style: style_of(before.doc),
             root_end: Position { slot: 0, index: 0 },
@@ -87,12 +100,16 @@ impl<'x> Tree<'x> {
     }
 
     /// The line at a place, to be looked at.
-    pub(crate) fn seen<'a>(&'a self, before: Before<'a, 'x>, at: Position) -> Option<Seen<'a>> {
+    pub(crate) fn seen<'a>(&'a self, before: Before<'a, 'x>, at: Position) -> Option<Seen<'a>>
+        ensures { SeesAt before.entry.units.now self.now.slots.items at result }
+    {
         self.slots.get(at.slot)?.seen(before.units, at.index)
     }
 
     /// Whether the line at a place is the last one, which ends in no newline.
-    pub(crate) fn is_last(&self, at: Position) -> bool {
+    pub(crate) fn is_last(&self, at: Position) -> bool
+        ensures { IsLastAt self.now.slots.items at result }
+    {
         match self.slots.get(at.slot) {
             Some(slot) => slot.is_last(at.index),
             None => false,
@@ -113,22 +130,10 @@ impl<'x> Tree<'x> {
         Ok(slot.line_mut(at.index))
     }
 
-    /// The value of the line at a place, to be changed, if it has one; the line is opened for it.
-    pub(crate) fn value_at(
-        &mut self,
-        before: Before<'_, 'x>,
-        at: Position,
-    ) -> Result<Option<&mut Value<'x>>, AllocError> {
-        let texts = self.texts;
-        let Some(line) = self.line_mut(before, at)? else {
-            return Ok(None);
-        };
-        line.open(texts, before.doc)?;
-        Ok(line.value())
-    }
-
     /// How many steps the address of the line at a place has.
-    pub(crate) fn depth(&self, before: Before<'_, 'x>, at: Position) -> usize {
+    pub(crate) fn depth(&self, before: Before<'_, 'x>, at: Position) -> usize
+        ensures { CountsSteps before.entry.units.now self.now.slots.items at result }
+    {
         match self.seen(before, at) {
             Some(line) => line.steps(),
             None => 0,
@@ -150,48 +155,73 @@ impl<'x> Tree<'x> {
         before: Before<'_, 'x>,
         named: Option<Place>,
         at: &Address,
-    ) -> Option<Position> {
-        let near = match named {
-            Some(Place::KeyVal(line)) | Some(Place::Inside(line)) => {
-                self.holder_in(before, line, at)
-            }
-            _ => None,
-        };
-        if near.is_some() || self.is_table(before, named, at) {
-            return near;
+    ) -> Option<Position>
+        ensures { FindsValue at.now before.entry.units.now self.now.slots.items result }
+    {
+        if let Some(near) = self.near_value(before, named, at) {
+            return Some(near);
+        }
+        if self.is_table(before, named, at) {
+            return None;
         }
         self.sought_value(before, at)
     }
 
+    /// The same where the document's names have it.
+    fn near_value(
+        &self,
+        before: Before<'_, 'x>,
+        named: Option<Place>,
+        at: &Address,
+    ) -> Option<Position>
+        ensures { FindsHolder at.now before.entry.units.now self.now.slots.items result }
+    {
+        match named {
+            Some(Place::KeyVal(line)) | Some(Place::Inside(line)) => {
+                self.line_in(before, line, Sought::Holder, at)
+            }
+            _ => None,
+        }
+    }
+
     /// Whether what stands at the address is the root, or a table or an array of tables that a line makes, or has below it,
     /// where the document's names have it: then no value holds it.
-    fn is_table(&self, before: Before<'_, 'x>, named: Option<Place>, at: &Address) -> bool {
-        if let Some(Place::Tables(line)) | Some(Place::Implicit(line)) = named {
-            return self.implicit_in(before, line, at).is_some();
+    fn is_table(&self, before: Before<'_, 'x>, named: Option<Place>, at: &Address) -> bool
+        ensures { result ≡ true → HoldsNone at.now before.entry.units.now self.now.slots.items }
+    {
+        match named {
+            Some(Place::Tables(line)) | Some(Place::Implicit(line)) => {
+                self.line_in(before, line, Sought::HeaderBelow, at)
+                    .is_some()
+            }
+            _ => at.steps().is_empty() || self.near_table(before, named, at).is_some(),
         }
-        at.steps().is_empty() || self.near_table(before, named, at).is_some()
     }
 
     /// The line whose value stands at the address, or holds what stands there, by all lines.
-    fn sought_value(&self, before: Before<'_, 'x>, at: &Address) -> Option<Position> {
+    fn sought_value(&self, before: Before<'_, 'x>, at: &Address) -> Option<Position>
+        ensures { FindsAny at.now before.entry.units.now self.now.slots.items result }
+    {
         for slot in 0..self.slots.len() {
-            let found = self.holder_in(before, slot, at);
-            if found.is_some() {
-                return found;
+            if let Some(found) = self.line_in(before, slot, Sought::Holder, at) {
+                return Some(found);
             }
         }
         None
     }
 
-    /// The line of a slot whose value stands at the address, or holds what stands there.
-    fn holder_in(&self, before: Before<'_, 'x>, slot: usize, at: &Address) -> Option<Position> {
-        let lines = self.slots.get(slot)?;
-        for index in 0..lines.count() {
-            if lines.seen(before.units, index)?.holds(at) {
-                return Some(Position { slot, index });
-            }
-        }
-        None
+    /// The first line of a slot that is what is sought.
+    fn line_in(
+        &self,
+        before: Before<'_, 'x>,
+        slot: usize,
+        what: Sought,
+        at: &Address,
+    ) -> Option<Position>
+        ensures { FindsLine what at.now before.entry.units.now self.now.slots.items slot result }
+    {
+        let index = self.slots.get(slot)?.find(before.units, what, at)?;
+        Some(Position { slot, index })
     }
 
     /// Where the table at the address stands. `named` is the place that the document's names have for the address.
@@ -200,7 +230,9 @@ impl<'x> Tree<'x> {
         before: Before<'_, 'x>,
         named: Option<Place>,
         at: &Address,
-    ) -> Option<TablePlace> {
+    ) -> Option<TablePlace>
+        ensures { FindsTable at.now before.entry.units.now self.now.slots.items result }
+    {
         match self.near_table(before, named, at) {
             Some(place) => Some(place),
             None => self.sought_table(before, at),
@@ -213,7 +245,9 @@ impl<'x> Tree<'x> {
         before: Before<'_, 'x>,
         named: Option<Place>,
         at: &Address,
-    ) -> Option<TablePlace> {
+    ) -> Option<TablePlace>
+        ensures { FindsTable at.now before.entry.units.now self.now.slots.items result }
+    {
         match named {
             Some(Place::Header(line)) => self.header_in(before, line, at),
             Some(Place::Dotted(line)) => self.dotted_in(before, line, at),
@@ -223,13 +257,14 @@ impl<'x> Tree<'x> {
 
     /// Where the table at the address stands, by all lines: a header comes before a dotted key, and that before a longer
     /// header.
-    fn sought_table(&self, before: Before<'_, 'x>, at: &Address) -> Option<TablePlace> {
+    fn sought_table(&self, before: Before<'_, 'x>, at: &Address) -> Option<TablePlace>
+        ensures { FindsTable at.now before.entry.units.now self.now.slots.items result }
+    {
         let mut dotted = None;
         let mut implicit = None;
         for slot in 0..self.slots.len() {
-            let header = self.header_in(before, slot, at);
-            if header.is_some() {
-                return header;
+            if let Some(header) = self.header_in(before, slot, at) {
+                return Some(header);
             }
             if dotted.is_none() {
                 dotted = self.dotted_in(before, slot, at);
@@ -242,51 +277,41 @@ impl<'x> Tree<'x> {
     }
 
     /// The header line of a slot that makes the table.
-    fn header_in(&self, before: Before<'_, 'x>, slot: usize, at: &Address) -> Option<TablePlace> {
-        let lines = self.slots.get(slot)?;
-        for index in 0..lines.count() {
-            if lines.seen(before.units, index)?.is_header_of(at) {
-                return Some(TablePlace::Header(Position { slot, index }));
-            }
-        }
-        None
+    fn header_in(&self, before: Before<'_, 'x>, slot: usize, at: &Address) -> Option<TablePlace>
+        ensures { FindsTable at.now before.entry.units.now self.now.slots.items result }
+    {
+        let place = self.line_in(before, slot, Sought::Header, at)?;
+        Some(TablePlace::Header(place))
     }
 
     /// The line of a slot whose dotted key makes the table.
-    fn dotted_in(&self, before: Before<'_, 'x>, slot: usize, at: &Address) -> Option<TablePlace> {
-        let lines = self.slots.get(slot)?;
-        for index in 0..lines.count() {
-            if lines.seen(before.units, index)?.is_dotted_in(at) {
-                return Some(TablePlace::Dotted(Position { slot, index }));
-            }
-        }
-        None
+    fn dotted_in(&self, before: Before<'_, 'x>, slot: usize, at: &Address) -> Option<TablePlace>
+        ensures { FindsTable at.now before.entry.units.now self.now.slots.items result }
+    {
+        let place = self.line_in(before, slot, Sought::Dotted, at)?;
+        Some(TablePlace::Dotted(place))
     }
 
     /// The first header line of a slot that stands below the table.
-    fn implicit_in(&self, before: Before<'_, 'x>, slot: usize, at: &Address) -> Option<TablePlace> {
-        let lines = self.slots.get(slot)?;
-        for index in 0..lines.count() {
-            let line = lines.seen(before.units, index)?;
-            if line.is_header() && line.is_below(at) {
-                return Some(TablePlace::Implicit(Position { slot, index }));
-            }
-        }
-        None
+    fn implicit_in(&self, before: Before<'_, 'x>, slot: usize, at: &Address) -> Option<TablePlace>
+        ensures { FindsTable at.now before.entry.units.now self.now.slots.items result }
+    {
+        let place = self.line_in(before, slot, Sought::HeaderBelow, at)?;
+        Some(TablePlace::Implicit(place))
     }
 
     /// The last line with a key and a value from the place on, before the next header line.
-    pub(crate) fn last_pair(&self, before: Before<'_, 'x>, from: Position) -> Option<Position> {
+    pub(crate) fn last_pair(&self, before: Before<'_, 'x>, from: Position) -> Option<Position>
+        ensures { FindsLast before.entry.units.now self.now.slots.items from result }
+    {
         let mut last = None;
         let mut skip = from.index;
         for slot in from.slot..self.slots.len() {
-            let (found, ends) = self.pairs_in(before, slot, skip);
-            if found.is_some() {
-                last = found;
-            }
+            let (found, ends) = self.pairs_in(before, slot, skip, last);
             if ends {
-                return last;
+                return found;
             }
+            last = found;
             skip = 0;
         }
         last
@@ -294,7 +319,9 @@ impl<'x> Tree<'x> {
 
     /// The last line with a key and a value before the first header line. All lines are gone through where one of the root's is
     /// not found from the guess on.
-    pub(crate) fn last_root_pair(&self, before: Before<'_, 'x>) -> Option<Position> {
+    pub(crate) fn last_root_pair(&self, before: Before<'_, 'x>) -> Option<Position>
+        ensures { FindsRootEnd before.entry.units.now self.now.slots.items result }
+    {
         match self.last_pair(before, self.root_end) {
             Some(found) if self.is_of_root(before, found) => Some(found),
             _ => self.last_pair(before, Position { slot: 0, index: 0 }),
@@ -302,61 +329,108 @@ impl<'x> Tree<'x> {
     }
 
     /// Whether the line at a place has a key and a value and stands in the root.
-    fn is_of_root(&self, before: Before<'_, 'x>, at: Position) -> bool {
+    fn is_of_root(&self, before: Before<'_, 'x>, at: Position) -> bool
+        ensures { result ≡ true → IsOfRoot before.entry.units.now self.now.slots.items at }
+    {
         match self.seen(before, at) {
-            Some(line) => line.base == Some(0),
+            Some(line) => matches!(line.base, Some(0)),
             None => false,
         }
     }
 
-    /// The last line of a slot with a key and a value, before a header line of it, and whether there is one. So many lines
-    /// are passed over.
+    /// The last line of a slot with a key and a value, before a header line of it, or the last one before the slot; and whether
+    /// there is a header line. So many lines are passed over.
     fn pairs_in(
         &self,
         before: Before<'_, 'x>,
         slot: usize,
         skip: usize,
-    ) -> (Option<Position>, bool) {
+        last: Option<Position>,
+    ) -> (Option<Position>, bool)
+        ensures { PassesSlot before.entry.units.now self.now.slots.items slot skip last result.1 result.0 }
+    {
         let Some(lines) = self.slots.get(slot) else {
-            return (None, true);
+            return (last, true);
         };
-        let mut last = None;
+        let mut found = last;
         for index in skip..lines.count() {
             let Some(line) = lines.seen(before.units, index) else {
-                return (last, false);
+                return (found, false);
             };
             if line.is_header() {
-                return (last, true);
+                return (found, true);
             }
-            if line.base.is_some() {
-                last = Some(Position { slot, index });
-            }
+            found = line.pair_at(Position { slot, index }, found);
         }
-        (last, false)
+        (found, false)
     }
 }
 
+/// A slot for each line of the document, which is as it was.
+fn kept_slots<'x>(alloc: Global, before: Before<'_, 'x>) -> Result<Vec<Slot<'x>>, AllocError>
+    ensures { IfOk result (λ slots. (text : List ℕ) → IsReadOf text before.entry → StandAsRead text before.entry slots.items) }
+{
+    let lines = before.doc.lines();
+    let mut slots = Vec::with_capacity(alloc, lines.len())?;
+    for (first, unit) in before.units.iter().enumerate() {
+        if let Some(kept) = kept_of(lines, slots.len(), unit, first) {
+            slots.push(Slot::Kept(kept))?;
+        }
+    }
+    Ok(slots)
+}
+
+/// Of a line's own unit, which has the number `first` among the units, the line, which has the number among the lines; of
+/// another unit none.
+fn kept_of(lines: &[ReadLine<'_>], number: usize, unit: &Unit, first: usize) -> Option<Kept>
+    ensures { TakesLine (map line_tree lines.now) number unit.now first result }
+{
+    if !matches!(unit.kind, UnitKind::Line) {
+        return None;
+    }
+    let line = lines.get(number)?;
+    Some(kept_line(number, line, first))
+}
+
 /// A line of the document that is as it was, by its number and that of its first unit.
-fn kept_line(number: usize, line: &ReadLine<'_>, first: usize) -> Kept {
-    let (ws, is_tables) = match line.expr() {
-        Expr::Blank(blank) => (blank.ws, false),
-        Expr::KeyVal { ws, .. } | Expr::Std { ws, .. } => (*ws, false),
-        Expr::Array { ws, .. } => (*ws, true),
-    };
+fn kept_line(number: usize, line: &ReadLine<'_>, first: usize) -> Kept
+    ensures number { result.line ≡ number }
+    ensures first { result.first ≡ first }
+    ensures kept { IsKeptOf (line_tree line.now) result }
+{
     Kept {
         line: number,
         span: Span {
-            start: ws.start,
+            start: start_of(line.expr()),
             end: line.newline().span().end,
         },
-        is_tables,
+        is_tables: is_tables(line.expr()),
         is_last: line.newline().text.is_empty(),
         first,
     }
 }
 
+/// Where an expression begins, with the whitespace before it.
+fn start_of(expr: &Expr<'_>) -> usize
+    ensures { result ≡ expr_start (expr_tree expr.now) }
+{
+    match expr {
+        Expr::Blank(blank) => blank.ws.start,
+        Expr::KeyVal { ws, .. } | Expr::Std { ws, .. } | Expr::Array { ws, .. } => ws.start,
+    }
+}
+
+/// Whether it is the header of an array of tables.
+fn is_tables(expr: &Expr<'_>) -> bool
+    ensures { result ≡ heads_tables (expr_tree expr.now) }
+{
+    matches!(expr, Expr::Array { .. })
+}
+
 /// The newline of the first line, or LF where it has none.
-fn style_of<'x>(doc: &Doc<'x>) -> Leaf<'x> {
+fn style_of<'x>(doc: &Doc<'x>) -> Leaf<'x>
+    ensures { leaf_text result ≡ newline_style (document doc.now).lines }
+{
     match doc.lines().first() {
         Some(line) if !line.newline().text.is_empty() => Leaf::New(line.newline().text),
         _ => Leaf::New("\n"),

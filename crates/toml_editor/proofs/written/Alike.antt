@@ -8,6 +8,7 @@ use Rattle.toml_names.specs.mentions.Mentions.{Named, named_by, named_from, pair
 use Rattle.toml_names.specs.model.Addresses.{Address}
 use Rattle.toml_names.proofs.Proved.{pairs_leave_alike}
 use Rattle.toml_editor.proofs.Each.{each_front}
+use Rattle.toml_editor.proofs.written.Pairwise.{PairsAre, pairs_front}
 
 pub alike_self : (xs : List Named) → AreAlike xs xs
 alike_self xs = record { sections = refl; counts = λ at. refl }
@@ -42,3 +43,8 @@ count_cons m ms at = sum_by-cons (adds at) m ms
 pub each_from : (P : Named → Type 0) (ls : List Line) (xs : List Named) (n : ℕ) → EachIs P (named_from xs n ls) → EachIs P xs
 each_from P [] xs n h = h
 each_from P (l ∷ ls) xs n h = each_front P xs (named_by xs n l.expr) (each_from P ls (xs ++ named_by xs n l.expr) (n + 1) h)
+
+-- and so of every two
+pub pairs_from : (R : Named → Named → Type 0) (ls : List Line) (xs : List Named) (n : ℕ) → PairsAre R (named_from xs n ls) → PairsAre R xs
+pairs_from R [] xs n h = h
+pairs_from R (l ∷ ls) xs n h = pairs_front R xs (named_by xs n l.expr) (pairs_from R ls (xs ++ named_by xs n l.expr) (n + 1) h)

@@ -9,22 +9,12 @@ use Rattle.toml_names.specs.mentions.Mentions.{Named, named_by, named_from, sect
 use Rattle.toml_names.specs.mentions.Mentions as mentions
 use Rattle.toml_names.specs.model.Addresses.{Address, IsAbove, same_address, element, below}
 use Rattle.toml_units.specs.Units.{element_unit, pair_unit, inside, elements, members}
-use Rattle.toml_editor.proofs.Each.{each_back}
-use Rattle.toml_editor.proofs.written.BlockFacts.{pairs_front}
 use Rattle.toml_editor.proofs.written.Clear.{differ, above_apart, same_is}
 use Rattle.toml_editor.proofs.written.Closed.{HasAt, IsClosed, AreBelow, further, items_below, pairs_below, items_closed, pairs_closed, element_closed, pair_closed, value_closed}
-use Rattle.toml_editor.proofs.written.Pairwise.{PairsAre, Alone, Has, has_append_left, has_append_right, from_has, taken}
+use Rattle.toml_editor.proofs.written.Pairwise.{PairsAre, pairs_front, pairs_back, pairs_between, Alone, Has, has_append_left, has_append_right, from_has, taken}
 use Rattle.toml_editor.proofs.written.WayHeld.{there, held, one_held, value_held, pair_held, items_held, pairs_held, between, at_end}
 
 -- ---- two lists of which no two meet
-
-pub pairs_back : {A : Type 0} (R : A → A → Type 0) (xs ys : List A) → PairsAre R (xs ++ ys) → PairsAre R ys
-pairs_back R [] ys h = h
-pairs_back R (x ∷ xs) ys h = pairs_back R xs ys h.1
-
-across : {A : Type 0} (R : A → A → Type 0) (xs ys : List A) → PairsAre R (xs ++ ys) → EachIs (λ x. EachIs (R x) ys) xs
-across R [] ys h = tt
-across R (x ∷ xs) ys h = (each_back (R x) xs ys h.0, across R xs ys h.1)
 
 -- one that is lone, and one at its address, in the other list
 apart : (xs ys : List Named) → PairsAre Alone (xs ++ ys) → (x y : Named) → Has (λ z. z ≡ x) xs → Has (λ z. z ≡ y) ys → x.address ≡ y.address
@@ -37,7 +27,7 @@ apart xs ys alone x y first second same lone =
       | inl a ↦ true≢false (sym a ∙ ap (λ (z : Named). is_lone z.role) (sym is) ∙ clear.0)
       | inr b ↦ true≢false (sym b ∙ ap (λ (z : Named). is_lone z.role) (sym are) ∙ clear.1)
     ]) ys each second)
-    xs (across Alone xs ys alone) first
+    xs (pairs_between Alone xs ys alone) first
 
 module _ (p : Address) where
   none_there : (ms : List Named) → ¬ HasAt p ms → there p ms ≡ 0

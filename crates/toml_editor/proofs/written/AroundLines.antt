@@ -14,11 +14,10 @@ use Rattle.toml_units.specs.Units.{element_unit, pair_unit, inside, elements, me
 use Rattle.toml_units.specs.declared.unit.UnitKind.TheVariants as kinds
 use Rattle.toml_editor.specs.Written.{HasValue}
 use Rattle.toml_editor.proofs.Each.{each_append, each_back, each_weaker}
-use Rattle.toml_editor.proofs.written.Alike.{each_from}
-use Rattle.toml_editor.proofs.written.Around.{pairs_back, IsSole, sole}
-use Rattle.toml_editor.proofs.written.BlockFacts.{pairs_front}
+use Rattle.toml_editor.proofs.written.Alike.{each_from, pairs_from}
+use Rattle.toml_editor.proofs.written.Around.{IsSole, sole}
 use Rattle.toml_editor.proofs.written.Clear.{above_apart, self}
-use Rattle.toml_editor.proofs.written.Pairwise.{PairsAre, Alone, Has, has_of_any, has_parts, has_weaker, has_each, from_has, pairs_of_all}
+use Rattle.toml_editor.proofs.written.Pairwise.{PairsAre, pairs_back, Alone, Has, has_of_any, has_parts, has_weaker, has_each, from_has, pairs_of_all}
 use Rattle.toml_editor.proofs.written.WayHeld.{held, held_append, between, at_end}
 
 -- fronts of keys are no values
@@ -26,10 +25,6 @@ fronts_pass : (line : ℕ) (key : Key) (at : Address) → EachIs (λ m. is_lone 
 fronts_pass line [] at = tt
 fronts_pass line (n ∷ []) at = tt
 fronts_pass line (n ∷ m ∷ more) at = (refl, fronts_pass line (m ∷ more) (child at n))
-
-pairs_from : (R : Named → Named → Type 0) (ls : List Line) (xs : List Named) (n : ℕ) → PairsAre R (named_from xs n ls) → PairsAre R xs
-pairs_from R [] xs n h = h
-pairs_from R (l ∷ ls) xs n h = pairs_front R xs (named_by xs n l.expr) (pairs_from R ls (xs ++ named_by xs n l.expr) (n + 1) h)
 
 module _ (p : Address) where
   -- a value that is there

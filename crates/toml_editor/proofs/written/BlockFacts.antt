@@ -1,22 +1,11 @@
 -- A block put into a list: its two parts are the first list's, and each of its members is in it.
-use Rattle.std.proofs.Common.{◌⊎◌, inl, inr, List, [], ◌∷◌, ◌++◌, sym, subst}
+use Rattle.std.proofs.Common.{◌⊎◌, inl, inr, List, ◌++◌, sym, subst}
 use Rattle.toml_tree.specs.Spells.{EachIs}
 use Rattle.toml_names.specs.mentions.Mentions.{Named}
 use Rattle.toml_editor.specs.Blocks.{IsPut}
 use Rattle.toml_editor.proofs.Each.{each_append, each_front, each_back}
-use Rattle.toml_editor.proofs.written.Pairwise.{PairsAre, Has, has_append_left, has_append_right, has_parts}
-
-pub pairs_front : {A : Type 0} (R : A → A → Type 0) (xs ys : List A) → PairsAre R (xs ++ ys) → PairsAre R xs
-pairs_front R [] ys h = tt
-pairs_front R (x ∷ xs) ys h = (each_front (R x) xs ys h.0, pairs_front R xs ys h.1)
-
-pub pairs_back : {A : Type 0} (R : A → A → Type 0) (xs ys : List A) → PairsAre R (xs ++ ys) → PairsAre R ys
-pairs_back R [] ys h = h
-pairs_back R (x ∷ xs) ys h = pairs_back R xs ys h.1
-
-pub pairs_between : {A : Type 0} (R : A → A → Type 0) (xs ys : List A) → PairsAre R (xs ++ ys) → EachIs (λ x. EachIs (R x) ys) xs
-pairs_between R [] ys h = tt
-pairs_between R (x ∷ xs) ys h = (each_back (R x) xs ys h.0, pairs_between R xs ys h.1)
+pub use Rattle.toml_editor.proofs.written.Pairwise.{pairs_front, pairs_back, pairs_between}
+use Rattle.toml_editor.proofs.written.Pairwise.{Has, has_append_left, has_append_right, has_parts}
 
 module _ (old block new : List Named) (put : IsPut old block new) where
   pub each_put : (P : Named → Type 0) → EachIs P old → EachIs P block → EachIs P new

@@ -12,7 +12,7 @@ use Rattle.toml_units.specs.declared.unit.UnitKind.{UnitKind}
 use Rattle.toml_units.specs.declared.unit.UnitKind.TheVariants as kinds
 use Rattle.toml_editor.specs.ChangedUnits.{is_inner, LiesInValue}
 use Rattle.toml_editor.proofs.Each.{each_append}
-use Rattle.toml_editor.proofs.written.UnitsGone.{value_in}
+use Rattle.toml_editor.proofs.written.UnitsGone.{inner_line, value_in}
 use Rattle.toml_editor.proofs.written.WayBlock.{lines_append}
 use Rattle.toml_editor.proofs.written.WayZip.{lines_in}
 
@@ -31,13 +31,6 @@ full_behind (u ∷ us) vs some full =
 pub full_inner : (us : List TextUnit) → EachIs (λ (u : TextUnit). ¬ (u.kind ≡ kinds.Line)) us → LastIsFull us
 full_inner [] h = tt
 full_inner (u ∷ us) h = ((λ is none. absurd (h.0 is)), full_inner us h.1)
-
-pub inner_line : (k : UnitKind) → is_inner k ≡ true → is_line k ≡ false
-inner_line kinds.Line is = absurd (true≢false (sym is))
-inner_line kinds.TailComment is = refl
-inner_line kinds.InnerComment is = refl
-inner_line kinds.Element is = refl
-inner_line kinds.Pair is = refl
 
 pub inner_is_no_line : (kind : UnitKind) → is_inner kind ≡ true → ¬ (kind ≡ kinds.Line)
 inner_is_no_line kind inner is = true≢false (sym (ap is_line is) ∙ inner_line kind inner)

@@ -9,14 +9,6 @@ use Rattle.toml_editor.specs.RenameLaws.{moved}
 use Rattle.toml_editor.proofs.written.Clear.{same_is, self}
 use Rattle.toml_editor.proofs.written.SetKept.{clear_under}
 
-and_false : (b : Bool) → (b && false) ≡ false
-and_false true = refl
-and_false false = refl
-
-and_true : (b : Bool) → (b && true) ≡ b
-and_true true = refl
-and_true false = refl
-
 longer : (at : Address) (s : Step) → same_address (at ++ s ∷ []) [] ≡ false
 longer [] s = refl
 longer (t ∷ at) s = refl

@@ -6,7 +6,7 @@ use Rattle.toml_tree.specs.Spells.{EachIs}
 use Rattle.toml_names.specs.mentions.Joining.{is_lone}
 use Rattle.toml_names.specs.mentions.Mentions.{Named}
 use Rattle.toml_names.specs.mentions.Rules.{may_follow}
-use Rattle.toml_editor.proofs.Each.{each_append, each_weaker}
+use Rattle.toml_editor.proofs.Each.{each_append, each_front, each_back, each_weaker}
 
 abbrev pub PairsAre : {A : Type 0} → (A → A → Type 0) → List A → Type 0
 PairsAre R [] = Unit {0}
@@ -44,6 +44,18 @@ all_of_pairs R (x ∷ xs) h (suc i) (suc j) d low high = all_of_pairs R xs h.1 i
 pub pairs_append : {A : Type 0} (R : A → A → Type 0) (xs ys : List A) → PairsAre R xs → PairsAre R ys → EachIs (λ x. EachIs (R x) ys) xs → PairsAre R (xs ++ ys)
 pairs_append R [] ys h k c = k
 pairs_append R (x ∷ xs) ys h k c = (each_append (R x) xs ys h.0 c.0, pairs_append R xs ys h.1 k c.1)
+
+pub pairs_front : {A : Type 0} (R : A → A → Type 0) (xs ys : List A) → PairsAre R (xs ++ ys) → PairsAre R xs
+pairs_front R [] ys h = tt
+pairs_front R (x ∷ xs) ys h = (each_front (R x) xs ys h.0, pairs_front R xs ys h.1)
+
+pub pairs_back : {A : Type 0} (R : A → A → Type 0) (xs ys : List A) → PairsAre R (xs ++ ys) → PairsAre R ys
+pairs_back R [] ys h = h
+pairs_back R (x ∷ xs) ys h = pairs_back R xs ys h.1
+
+pub pairs_between : {A : Type 0} (R : A → A → Type 0) (xs ys : List A) → PairsAre R (xs ++ ys) → EachIs (λ x. EachIs (R x) ys) xs
+pairs_between R [] ys h = tt
+pairs_between R (x ∷ xs) ys h = (each_back (R x) xs ys h.0, pairs_between R xs ys h.1)
 
 pub each_flat : {A B : Type 0} (P : B → Type 0) (f : A → List B) (xs : List A) → EachIs (λ x. EachIs P (f x)) xs → EachIs P (flat_map f xs)
 each_flat P f [] h = tt

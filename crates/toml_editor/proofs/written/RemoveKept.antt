@@ -1,7 +1,6 @@
 -- What is kept by a `remove` at the root: the forms, the rules, the data.
 use Rattle.std.proofs.Common.{◌≡◌, ℕ, ◌+◌, ◌==◌, ◌⊎◌, Bool, true, false, cond, inl, inr, List, [], ◌∷◌, ◌++◌, length, refl, sym, ap, ◌∙◌, subst, true≢false}
-use Rattle.toml_text.specs.Forms.{IsNewline}
-use Rattle.toml_tree.specs.Spells.{EachIs, IsExpr, AreLines}
+use Rattle.toml_tree.specs.Spells.{EachIs, AreLines}
 use Rattle.toml_tree.specs.Tree.{Value, Expr, BlankLine, KeyValLine, TableLine, ArrayTableLine, Line}
 use Rattle.toml_names.specs.declared.model.address.Step.TheVariants.{Name}
 use Rattle.toml_names.specs.declared.mentions.mention.Role.TheVariants.{Valued}
@@ -17,20 +16,17 @@ use Rattle.toml_editor.specs.RemoveLaws.{RemoveForms, RemoveGood, RemoveData}
 use Rattle.toml_editor.specs.Lines.{lines_from}
 use Rattle.toml_editor.specs.Removing.{remove_line, remove_lines, left_behind, empty_line}
 use Rattle.toml_editor.specs.Written.{HasPair}
-use Rattle.toml_editor.proofs.written.BlockFacts.{each_old, has_old, has_new, pairs_back, pairs_between}
+use Rattle.toml_editor.proofs.written.BlockFacts.{each_old, has_old, has_new}
 use Rattle.toml_editor.proofs.written.Clear.{IsUnder}
 use Rattle.toml_editor.proofs.Each.{each_append, each_back, each_weaker}
+use Rattle.toml_editor.proofs.written.Formed.{newline_some, line_before}
 use Rattle.toml_editor.proofs.written.InsertKept.{block_under}
-use Rattle.toml_editor.proofs.written.Pairwise.{PairsAre, Alone, pairs_of_all, Has, has_of_any, any_of_has, from_has}
+use Rattle.toml_editor.proofs.written.Pairwise.{PairsAre, pairs_back, pairs_between, Alone, pairs_of_all, Has, has_of_any, any_of_has, from_has}
 use Rattle.toml_editor.proofs.written.RemoveNamed.{remove_names}
 use Rattle.toml_editor.proofs.written.SetKept.{F, clear_under, carried_clear, clear_carried}
 use Rattle.toml_editor.proofs.written.Unplain.{pairs_plain, rules_plain, short_plain, plain_short, each_plain, has_plain, plain_has}
 
 -- ---- forms
-
-before_lines : (l : Line) (ls : List Line) → IsExpr l.expr → IsNewline l.newline.text → AreLines ls → AreLines (l ∷ ls)
-before_lines l [] e n is = absurd is
-before_lines l (m ∷ ms) e n is = (e, n, is)
 
 module _ (p : Address) where
   -- a line stays, or leaves what is left behind
@@ -50,10 +46,6 @@ module _ (p : Address) where
           at_test true same = inr (removed ∙ ap (λ b. cond b (left_behind l) (l ∷ [])) same)
           at_test false other = inl (removed ∙ ap (λ b. cond b (left_behind l) (l ∷ [])) other)
 
-  newline_some : (bs : List ℕ) → IsNewline bs → (length bs == 0) ≡ false
-  newline_some bs (inl is) = ap (λ l. length l == 0) is
-  newline_some bs (inr is) = ap (λ l. length l == 0) is
-
   lines_formed : (ls : List Line) (xs : List Named) (n : ℕ) → AreLines ls → AreLines (lines_from (remove_line p) xs n ls)
   lines_formed [] xs n is = is
   lines_formed (l ∷ []) xs n is =
@@ -65,7 +57,7 @@ module _ (p : Address) where
       let rest = lines_formed (m ∷ ms) (xs ++ named_by xs n l.expr) (n + 1) is.2 in
       let kept = lines_from (remove_line p) (xs ++ named_by xs n l.expr) (n + 1) (m ∷ ms) in
       elim (two_ways xs l) [
-        | inl stays ↦ subst (λ r. AreLines (r ++ kept)) (sym stays) (before_lines l kept is.0 is.1 rest)
+        | inl stays ↦ subst (λ r. AreLines (r ++ kept)) (sym stays) (line_before l kept is.0 is.1 rest)
         | inr goes ↦ subst (λ r. AreLines (r ++ kept)) (sym (goes ∙ ap (λ b. cond b (empty_line ∷ []) []) (newline_some l.newline.text is.1))) rest
       ]
 

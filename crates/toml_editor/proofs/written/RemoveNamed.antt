@@ -23,9 +23,8 @@ use Rattle.toml_editor.specs.Written.{HasPair}
 use Rattle.toml_editor.specs.Removing.{remove_line, remove_lines, left_behind, empty_line}
 use Rattle.toml_editor.proofs.written.Alike.{alike_self, alike_pair}
 use Rattle.toml_editor.proofs.written.Behind.{put_behind, put_here}
-use Rattle.toml_editor.proofs.written.BlockFacts.{pairs_back, pairs_between}
 use Rattle.toml_editor.proofs.Each.{each_front, each_back, each_weaker, each_append}
-use Rattle.toml_editor.proofs.written.Pairwise.{PairsAre, Alone, Has, has_of_any, has_parts, from_has, pairs_of_all}
+use Rattle.toml_editor.proofs.written.Pairwise.{PairsAre, pairs_back, pairs_between, Alone, Has, has_of_any, has_parts, from_has, pairs_of_all}
 use Rattle.toml_editor.proofs.written.Plain.{next_alike, behind, behind_alike, plain_is}
 use Rattle.toml_editor.proofs.written.Clear.{same_is, self}
 use Rattle.toml_editor.proofs.written.Unplain.{pairs_plain, has_plain}

@@ -1,7 +1,6 @@
 -- What is kept by a `rename`: the rules, the bound on addresses, the data at their new addresses.
 use Rattle.std.proofs.Common.{◌≡◌, ℕ, ◌≤◌, Bool, true, false, cond, inl, Option, Some, option_map, List, [], ◌∷◌, map, length, bytes_eq, refl, sym, ap, ◌∙◌, subst, true≢false, arith}
 use Rattle.std.proofs.lemmas.Slice.Eq.{bytes_eq-Decides}
-use Rattle.toml_tree.specs.Spells.{EachIs}
 use Rattle.toml_names.specs.declared.model.address.Step.{Step}
 use Rattle.toml_names.specs.declared.model.address.Step.TheVariants.{Name, Index}
 use Rattle.toml_names.specs.model.Addresses.{Address, same_step, child}
@@ -14,14 +13,10 @@ use Rattle.toml_edits.specs.Edits.{rename}
 use Rattle.toml_edits.proofs.Proved.{parted_at_last}
 use Rattle.toml_editor.specs.RenameLaws.{moved, moved_one, RenameGood, RenameData}
 use Rattle.toml_editor.specs.Renaming.{rename_lines}
-use Rattle.toml_editor.proofs.Each.{each_weaker}
+use Rattle.toml_editor.proofs.Each.{each_map, each_weaker}
 use Rattle.toml_editor.proofs.written.Moved.{moved_apart, moved_length}
 use Rattle.toml_editor.proofs.written.Pairwise.{each_of_all, all_of_each, Has, has_of_any, any_of_has, has_map, map_has, has_weaker, taken}
 use Rattle.toml_editor.proofs.written.RenameNamed.{rename_names}
-
-map_each : {A B : Type 0} (P : B → Type 0) (f : A → B) (xs : List A) → EachIs (λ x. P (f x)) xs → EachIs P (map f xs)
-map_each P f [] h = tt
-map_each P f (x ∷ xs) h = (h.0, map_each P f xs h.1)
 
 pub rename_good : RenameGood
 rename_good q n to lines free good =
@@ -29,7 +24,7 @@ rename_good q n to lines free good =
     let clear = all_of_each (λ m. IsClear (child q to) m.address) (named lines) (not_named_is_clear lines (child q to) good.0 free) in (
       subst KeepsRules (sym names) ((moved_keep_rules (moved_one q n to) (named lines) (λ m. refl)
           (λ i j d low high. (λ same. moved_apart n to q _ _ (clear i d (omega (arith, low, high))) (clear j d high) same, λ same. ap (moved q n to) same))).0 good.0),
-      subst IsShort (sym names) (all_of_each (λ m. length m.address ≤ max_steps) (map (moved_one q n to) (named lines)) (map_each (λ m. length m.address ≤ max_steps) (moved_one q n to) (named lines)
+      subst IsShort (sym names) (all_of_each (λ m. length m.address ≤ max_steps) (map (moved_one q n to) (named lines)) (each_map (λ m. length m.address ≤ max_steps) (moved_one q n to) (named lines)
           (each_weaker (λ m. length m.address ≤ max_steps) (λ m. length (moved q n to m.address) ≤ max_steps) (λ m low. subst (λ k. k ≤ max_steps) (sym (moved_length n to q m.address)) low) (named lines) (each_of_all _ (named lines) good.1)))),
     )
 

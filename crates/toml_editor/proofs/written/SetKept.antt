@@ -18,7 +18,7 @@ use Rattle.toml_editor.specs.SetLaws.{swapped_one, swapped, SetRules, SetShort, 
 use Rattle.toml_editor.specs.Setting.{set_lines}
 use Rattle.toml_editor.specs.Written.{HasValue}
 use Rattle.toml_editor.proofs.written.Clear.{differ, above_false, above_true, IsUnder, same_is, self}
-use Rattle.toml_editor.proofs.Each.{each_weaker}
+use Rattle.toml_editor.proofs.Each.{each_map, each_weaker}
 use Rattle.toml_editor.proofs.written.Pairwise.{PairsAre, Goes, Alone, each_of_all, all_of_each, pairs_of_all, all_of_pairs, each_flat, pairs_flat, pairs_with, Has, has_of_any, any_of_has, has_flat, flat_has, has_weaker, has_map, map_has, all_as_one, taken}
 use Rattle.toml_editor.proofs.written.SetNamed.{set_names}
 
@@ -98,15 +98,11 @@ module _ (p : Address) (new : Value) where
   abbrev pub ShortAt : Named → Type 0
   ShortAt m = length p + length m.address ≤ max_steps
 
-  map_each : (P : Named → Type 0) (f : Named → Named) (xs : List Named) → EachIs (λ x. P (f x)) xs → EachIs P (map f xs)
-  map_each P f [] h = tt
-  map_each P f (x ∷ xs) h = (h.0, map_each P f xs h.1)
-
   pub block_short : (line : ℕ) (role : Role) → EachIs ShortAt (value_facts new) → EachIs (λ m. length m.address ≤ max_steps) (block line role)
   block_short line role short = (
     (let first = short.0 in omega (arith, first)),
     subst (EachIs (λ m. length m.address ≤ max_steps)) (sym (inside_at line))
-        (map_each (λ m. length m.address ≤ max_steps) (shifted line p) (inside 0 [] new) (each_weaker ShortAt (λ m. length (p ++ m.address) ≤ max_steps) (λ m low. omega (arith, low, length-append p m.address)) (inside 0 [] new) short.1)),
+        (each_map (λ m. length m.address ≤ max_steps) (shifted line p) (inside 0 [] new) (each_weaker ShortAt (λ m. length (p ++ m.address) ≤ max_steps) (λ m low. omega (arith, low, length-append p m.address)) (inside 0 [] new) short.1)),
   )
 
   one_short : EachIs ShortAt (value_facts new) → (m : Named) → length m.address ≤ max_steps → EachIs (λ m. length m.address ≤ max_steps) (swapped_one p new m)

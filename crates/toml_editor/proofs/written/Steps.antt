@@ -7,6 +7,7 @@ use Rattle.toml_tree.specs.Profiles.{AreLinesOfProfile, SpellsIn}
 use Rattle.toml_tree.specs.Spells.{Spells, AreLines, joined, lines_parts, mark_of}
 use Rattle.toml_tree.specs.Tree.{Piece, Line, Doc}
 use Rattle.toml_tree.specs.declared.profile.Profile.{Profile}
+use Rattle.toml_tree.specs.Bare.{bare_lines}
 use Rattle.toml_tree.proofs.Proved.{one_tree, one_value, put_doc_spells, put_lines_of_profile, put_lines_same}
 use Rattle.toml_names.specs.declared.model.address.Step.{Step}
 use Rattle.toml_names.specs.declared.model.address.Step.TheVariants.{Name, Index}
@@ -26,8 +27,8 @@ use Rattle.toml_editor.specs.Inserting.{insert_lines}
 use Rattle.toml_editor.specs.Removing.{remove_lines}
 use Rattle.toml_editor.specs.Renaming.{rename_lines}
 use Rattle.toml_editor.specs.Setting.{set_lines}
-use Rattle.toml_editor.specs.Steps.{IsPlain, GoodTextsAreDocuments, PlainIsWritten, PlainStep, PlainSteps, AreWritten, OneWritten, OneListWritten}
-use Rattle.toml_editor.specs.Written.{AreEdited, HasPair}
+use Rattle.toml_editor.specs.Steps.{IsGoodText, IsPlain, GoodTextsAreDocuments, PlainIsWritten, PlainStep, PlainSteps, AreWritten, OneWritten, OneListWritten}
+use Rattle.toml_editor.specs.Written.{AreEdited, HasPair, IsWritten}
 use Rattle.toml_editor.proofs.written.Fitting.{all_fit, keeps_value, unnamed, last_step}
 use Rattle.toml_editor.proofs.written.InsertFormed.{insert_forms}
 use Rattle.toml_editor.proofs.written.InsertKept.{insert_rules, insert_short, insert_data}
@@ -132,6 +133,14 @@ plain_step profile c style before after old now newline good none is_after (d, s
       },
       sym mark,
     )
+
+-- the lines of the text that is written are the edited ones, but for places
+pub step_lines : (profile : Profile) (c : Change) (style before after : List ℕ) (old now : Kinds) (newline : IsNewline style)
+    (good : IsGoodText profile before old) (none : IsFault profile c old None) (is_after : IsAfter profile c old now)
+    (written : IsWritten profile c style before after)
+    → bare_lines (plain_step profile c style before after old now newline good none is_after written).0.tree.lines ≡ bare_lines written.2
+unfolding plain_step
+step_lines profile c style before after old now newline good none is_after (d, spells, new, made, text) = put_lines_same new (length (mark_of before))
 
 pub plain_steps : PlainSteps
 plain_steps profile [] style before after old now newline good lead written = (

@@ -26,7 +26,7 @@ module _ (xs ys : List Named) (alike : AreAlike xs ys) where
       ap (λ a. header_end xs a (m ∷ more)) (ap (λ k. cond (k == 0) (child at n) (element (child at n) (k - 1))) (alike.counts (child at n)))
       ∙ end_alike (m ∷ more) (entered ys (child at n))
 
-  own_alike : (e : Expr) → own_address xs e ≡ own_address ys e
+  pub own_alike : (e : Expr) → own_address xs e ≡ own_address ys e
   own_alike (BlankLine b) = refl
   own_alike (KeyValLine ws k b) = ap (λ s. Some (below s (key_names k.assign.key))) alike.sections
   own_alike (TableLine ws h b) = ap Some (end_alike (key_names h.key) [])
@@ -34,7 +34,7 @@ module _ (xs ys : List Named) (alike : AreAlike xs ys) where
       let same = end_alike (key_names h.key) [] in
       ap (λ a. Some (element a (count_tables xs a))) same ∙ ap (λ k. Some (element (header_end ys [] (key_names h.key)) k)) (alike.counts (header_end ys [] (key_names h.key)))
 
-  base_alike : (e : Expr) → line_base xs e ≡ line_base ys e
+  pub base_alike : (e : Expr) → line_base xs e ≡ line_base ys e
   base_alike (BlankLine b) = refl
   base_alike (KeyValLine ws k b) = ap (λ s. Some (length s)) alike.sections
   base_alike (TableLine ws h b) = refl

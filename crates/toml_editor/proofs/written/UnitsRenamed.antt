@@ -30,6 +30,7 @@ use Rattle.toml_editor.proofs.written.RenameNamed.{new_names, key_named, element
 use Rattle.toml_editor.proofs.written.RenameTexts.{value_text, keyval_text, header_kept}
 use Rattle.toml_editor.proofs.written.Texts.{both_texts, piece_text}
 use Rattle.toml_editor.proofs.written.Together.{together_append}
+use Rattle.toml_editor.proofs.written.UnitsIn.{of_element, of_pair}
 
 -- each expression is in its form
 pub each_form : (ls : List Line) → AreLines ls → EachIs (λ l. IsExpr l.expr) ls
@@ -120,14 +121,8 @@ module _ (q : Address) (n to : List ℕ) where
       glue (gap_units at g) (us ++ gap_units at h) (gap_units (go at) g) (ws ++ gap_units (go at) h) (gap_lines g.lines at)
       (glue us (gap_units at h) ws (gap_units (go at) h) this (gap_lines h.lines at))
 
-  abbrev elem : Address → ℕ → Value → List TextUnit
-  elem at i v = element_unit (element at i) v ∷ inside (element at i) v
-
   abbrev elem_new : Address → ℕ → Value → List TextUnit
   elem_new at i v = element_unit (element (go at) i) (rename_value p to (element at i) v) ∷ inside (element (go at) i) (rename_value p to (element at i) v)
-
-  abbrev pair : Address → Assign → Value → List TextUnit
-  pair at a v = pair_unit at (record { assign = a; value = v }) ∷ inside (below at (key_names a.key)) v
 
   abbrev pair_new : Address → Assign → Value → List TextUnit
   pair_new at a v =
@@ -143,17 +138,17 @@ module _ (q : Address) (n to : List ℕ) where
     in_items : (items : Items) (at : Address) (i : ℕ) → AreItems items → GoTogether R (elements at i items) (elements (go at) i (rename_items p to at i items))
     in_items (Close g) at i is = gap_lines g.lines at
     in_items (Last g v h) at i is =
-        at_end g h at (elem at i v) (elem_new at i v) (holding _ _ v (element at i) (element (go at) i) (an_element v at i is.1) (element_moved q n to at i) (in_value v (element at i) is.1))
+        at_end g h at (of_element at i v) (elem_new at i v) (holding _ _ v (element at i) (element (go at) i) (an_element v at i is.1) (element_moved q n to at i) (in_value v (element at i) is.1))
     in_items (More g v h more) at i is =
-        between g h at (elem at i v) (elem_new at i v) (elements at (i + 1) more) (elements (go at) (i + 1) (rename_items p to at (i + 1) more))
+        between g h at (of_element at i v) (elem_new at i v) (elements at (i + 1) more) (elements (go at) (i + 1) (rename_items p to at (i + 1) more))
         (holding _ _ v (element at i) (element (go at) i) (an_element v at i is.1) (element_moved q n to at i) (in_value v (element at i) is.1)) (in_items more at (i + 1) is.3)
 
     in_pairs : (pairs : Pairs) (at : Address) → ArePairs pairs → GoTogether R (members at pairs) (members (go at) (rename_pairs p to at pairs))
     in_pairs (ClosePairs g) at is = gap_lines g.lines at
     in_pairs (LastPair g a v h) at is =
-        at_end g h at (pair at a v) (pair_new at a v) (holding _ _ v (below at (key_names a.key)) _ (a_pair a v at) (below_again a.key at) (in_value v (below at (key_names a.key)) is.2))
+        at_end g h at (of_pair at a v) (pair_new at a v) (holding _ _ v (below at (key_names a.key)) _ (a_pair a v at) (below_again a.key at) (in_value v (below at (key_names a.key)) is.2))
     in_pairs (MorePairs g a v h ps) at is =
-        between g h at (pair at a v) (pair_new at a v) (members at ps) (members (go at) (rename_pairs p to at ps))
+        between g h at (of_pair at a v) (pair_new at a v) (members at ps) (members (go at) (rename_pairs p to at ps))
         (holding _ _ v (below at (key_names a.key)) _ (a_pair a v at) (below_again a.key at) (in_value v (below at (key_names a.key)) is.2)) (in_pairs ps at is.4)
 
   -- ---- lines
@@ -190,7 +185,7 @@ module _ (q : Address) (n to : List ℕ) where
         ∙ ap (λ (a : Address). header_end (map one xs) a (new_names p to (entered xs) [] (key_names h.key))) (sym (moved_root n to q))
         ∙ end_moved (rest_names h.key.rest) (part_name h.key.first) line e [] all
 
-    in_line : (line : ℕ) (e : Expr) → IsExpr e → AllFree q n to (named_by xs line e) → GoTogether R (line_units xs e) (line_units (map one xs) (rename_expr p to xs e))
+    pub in_line : (line : ℕ) (e : Expr) → IsExpr e → AllFree q n to (named_by xs line e) → GoTogether R (line_units xs e) (line_units (map one xs) (rename_expr p to xs e))
     in_line line (BlankLine b) is all = make (BlankLine b) (BlankLine b) None None None None refl refl (λ not. refl) (comment kinds.TailComment None b.comment)
     in_line line (KeyValLine ws kv b) is all =
         let s = section xs in

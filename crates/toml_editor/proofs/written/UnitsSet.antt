@@ -25,6 +25,7 @@ use Rattle.toml_checker.specs.Comments.{is_comment}
 use Rattle.toml_checker.specs.GoneAndChanged.{IsChanged}
 use Rattle.toml_checker.specs.Protected.{standing}
 use Rattle.toml_editor.specs.ChangedUnits.{LiesInValue, IsExchanged, IsSetTo, AreMadeOf, SetUnits}
+use Rattle.toml_editor.specs.Held.{StandsAt, StandsWithin, StandsInItems, StandsInPairs, StandsOnLine, StandsFrom, HoldAt}
 use Rattle.toml_editor.specs.Lines.{lines_from}
 use Rattle.toml_editor.specs.Setting.{set_within, set_items, set_pairs, set_value, set_expr, set_line}
 use Rattle.toml_editor.proofs.Each.{each_front, each_back}
@@ -32,7 +33,7 @@ use Rattle.toml_editor.proofs.written.Alike.{alike_self, each_from}
 use Rattle.toml_editor.proofs.written.Around.{IsSole, AreSoleItems, AreSolePairs}
 use Rattle.toml_editor.proofs.written.AroundLines.{IsSoleLine, AreSoleLines, lines_sole}
 use Rattle.toml_editor.proofs.written.Clear.{same_is, self}
-use Rattle.toml_editor.proofs.written.Exchanged.{value_left, behind_left, before_left}
+use Rattle.toml_editor.proofs.written.Exchanged.{AreOld, value_left, behind_left, before_left}
 use Rattle.toml_editor.proofs.written.Made.{made_append}
 use Rattle.toml_editor.proofs.written.Pairwise.{Alone, pairs_of_all}
 use Rattle.toml_editor.proofs.written.SetKept.{values_at}
@@ -41,6 +42,7 @@ use Rattle.toml_editor.proofs.written.SetTexts.{within_text, set_stays}
 use Rattle.toml_editor.proofs.written.Texts.{both_texts, piece_text}
 use Rattle.toml_editor.proofs.written.UnitsAlike.{line_units_alike}
 use Rattle.toml_editor.proofs.written.UnitsGone.{value_in, none_made}
+use Rattle.toml_editor.proofs.written.UnitsIn.{of_element, of_pair}
 use Rattle.toml_editor.proofs.written.UnitsRenamed.{each_form}
 use Rattle.toml_editor.proofs.written.WayHeld.{held, lines_held, one_there_only}
 
@@ -51,15 +53,18 @@ values_map : (p : Address) (ms : List Named) → AreValuesAt p ms → AreValuesA
 values_map p [] values = tt
 values_map p (m ∷ ms) values = (values.0, values_map p ms values.1)
 
-module _ (p : Address) (text : List ℕ) (new : Value) (formed : IsValue new) where
+module _ (p : Address) (text : List ℕ) (IsOld : Value → Type 0) (new : Value) (formed : IsValue new) where
   abbrev c : Change
   c = set p text
 
   abbrev Made : List TextUnit → List TextUnit → Type 0
-  Made = AreMadeOf (IsSetTo p text new)
+  Made = AreMadeOf (IsSetTo p text IsOld new)
+
+  abbrev OldAt : Address → Value → Type 0
+  OldAt at v = AreOld p IsOld new (λ o. StandsAt p o at v)
 
   glue : (us vs ws xs : List TextUnit) → Made us ws → Made vs xs → Made (us ++ vs) (ws ++ xs)
-  glue = made_append (IsSetTo p text new)
+  glue = made_append (IsSetTo p text IsOld new)
 
   -- no edit changes a comment
   comment_unchanged : (kind : UnitKind) → is_comment kind ≡ true → (a : Option Address) (piece : Piece) (line : Option TextUnit)
@@ -124,10 +129,10 @@ module _ (p : Address) (text : List ℕ) (new : Value) (formed : IsValue new) wh
 
   -- what is in a value stays or is exchanged
   holding : (kind : UnitKind) (base : Option ℕ) (piece : Value → Piece) (v : Value) (at : Address) → is_comment kind ≡ false → (kind ≡ kinds.Line → IsSome base) → ¬ IsAbove p at
-      → IsExchanged (joined (value_parts new)) (piece v).text (piece new).text
+      → (at ≡ p → IsExchanged IsOld new (piece v).text (piece new).text)
       → ((line : Option TextUnit) → ¬ IsChanged kind c (standing (holder kind base at piece v) line) → (piece (set_within p new at v)).text ≡ (piece v).text)
       → (¬ (p ≡ at) → (line : Option TextUnit) → IsChanged kind c (standing (holder kind base at piece v) line)
-      → IsExchanged (joined (value_parts new)) (piece v).text (piece (set_within p new at v)).text)
+      → IsExchanged IsOld new (piece v).text (piece (set_within p new at v)).text)
       → (IsClear p at → Made (inside at v) (inside at (set_within p new at v)))
       → Made (holder kind base at piece v ∷ inside at v) (holder kind base at piece (set_value p new at v) ∷ inside at (set_value p new at v))
   holding kind base piece v at plain keyed not_above exchanged kept exchanges within = by (same_address at p) refl
@@ -139,9 +144,9 @@ module _ (p : Address) (text : List ℕ) (new : Value) (formed : IsValue new) wh
           let w = holder kind base at piece new in (
             w ∷ inside at new,
             [],
-            inr (inl ((ap Some is, plain), w, record { keyed = keyed; kind = refl; address = refl; base = refl; text = exchanged }, ap (λ (a : Address). w ∷ inside a new) is)),
+            inr (inl ((ap Some is, plain), w, record { keyed = keyed; kind = refl; address = refl; base = refl; text = exchanged is }, ap (λ (a : Address). w ∷ inside a new) is)),
             sym (append-nil (w ∷ inside at new)),
-            none_made p text new (inside at v) (value_in p v at (inr is)),
+            none_made p text IsOld new (inside at v) (value_in p v at (inr is)),
           )
       by false other =
           let clear : IsClear p at = record { apart = λ is. true≢false (sym (subst (λ a. same_address a p ≡ true) is (self p)) ∙ other); not_above = not_above } in
@@ -167,15 +172,15 @@ module _ (p : Address) (text : List ℕ) (new : Value) (formed : IsValue new) wh
   changed_above at n other (inr (inl above)) = above
   changed_above at n other (inr (inr renamed)) = absurd renamed.0
 
-  an_element : (v : Value) (at : Address) → IsValue v → (IsAbove at p → held p (inside at v) ≡ 1) → ¬ IsAbove p at
+  an_element : (v : Value) (at : Address) → OldAt at v → IsValue v → (IsAbove at p → held p (inside at v) ≡ 1) → ¬ IsAbove p at
       → (IsClear p at → Made (inside at v) (inside at (set_within p new at v)))
       → Made (element_unit at v ∷ inside at v) (element_unit at (set_value p new at v) ∷ inside at (set_value p new at v))
-  an_element v at is one not_above within =
+  an_element v at old is one not_above within =
       holding kinds.Element None piece_of v at refl (λ is. cc) not_above
-      ([], (piece_of v).text, [], sym (append-nil (piece_of v).text), piece_text new formed ∙ sym (append-nil (joined (value_parts new))))
+      (λ here. (v, [], [], old v (inl (here, refl)), piece_text v is ∙ sym (append-nil (joined (value_parts v))), piece_text new formed ∙ sym (append-nil (joined (value_parts new)))))
       (λ line not. piece_within v ∙ within_text p new v at is not ∙ sym (piece_text v is))
-      (λ other line changed. subst₂ (IsExchanged (joined (value_parts new))) (sym (piece_text v is)) (sym (piece_within v))
-      ((value_left p new v at).one (one changed)))
+      (λ other line changed. subst₂ (IsExchanged IsOld new) (sym (piece_text v is)) (sym (piece_within v))
+      ((value_left p IsOld new v at (λ o there. old o (inr there))).one (one changed)))
       within
     where
       piece_within : (v : Value) → (piece_of (set_within p new at v)).text ≡ joined (value_parts (set_within p new at v))
@@ -183,11 +188,12 @@ module _ (p : Address) (text : List ℕ) (new : Value) (formed : IsValue new) wh
       piece_within (Array whole items) = refl
       piece_within (Inline whole pairs) = refl
 
-  exchanged_pair : (a : Assign) (v : Value) → IsExchanged (joined (value_parts new)) (joined (assign_parts a ++ value_parts v)) (joined (assign_parts a ++ value_parts new))
-  exchanged_pair a v = (
+  exchanged_pair : (a : Assign) (v : Value) → IsOld v → IsExchanged IsOld new (joined (assign_parts a ++ value_parts v)) (joined (assign_parts a ++ value_parts new))
+  exchanged_pair a v old = (
+    v,
     joined (assign_parts a),
-    joined (value_parts v),
     [],
+    old,
     parts_join (assign_parts a) (value_parts v) ∙ ap (λ t. joined (assign_parts a) ++ t) (sym (append-nil (joined (value_parts v)))),
     parts_join (assign_parts a) (value_parts new) ∙ ap (λ t. joined (assign_parts a) ++ t) (sym (append-nil (joined (value_parts new)))),
   )
@@ -195,29 +201,23 @@ module _ (p : Address) (text : List ℕ) (new : Value) (formed : IsValue new) wh
   abbrev pair_piece : Assign → Value → Piece
   pair_piece a v = record { start = a.key.first.start; text = joined (keyval_parts (record { assign = a; value = v })) }
 
-  a_pair : (a : Assign) (v : Value) (at : Address) → IsValue v
+  a_pair : (a : Assign) (v : Value) (at : Address) → OldAt (below at (key_names a.key)) v → IsValue v
       → (IsAbove (below at (key_names a.key)) p → held p (inside (below at (key_names a.key)) v) ≡ 1)
       → ¬ IsAbove p (below at (key_names a.key))
       → (IsClear p (below at (key_names a.key)) → Made (inside (below at (key_names a.key)) v) (inside (below at (key_names a.key)) (set_within p new (below at (key_names a.key)) v)))
       → Made (pair_unit at (record { assign = a; value = v }) ∷ inside (below at (key_names a.key)) v)
       (pair_unit at (record { assign = a; value = set_value p new (below at (key_names a.key)) v }) ∷ inside (below at (key_names a.key)) (set_value p new (below at (key_names a.key)) v))
-  a_pair a v at is one not_above within =
+  a_pair a v at old is one not_above within =
       let to = below at (key_names a.key) in
-      holding kinds.Pair (Some (length at)) (pair_piece a) v to refl (λ is. cc) not_above (exchanged_pair a v)
+      holding kinds.Pair (Some (length at)) (pair_piece a) v to refl (λ is. cc) not_above (λ here. exchanged_pair a v (old v (inl (here, refl))))
       (λ line not. both_texts (assign_parts a) (assign_parts a) (value_parts (set_within p new to v)) (value_parts v) refl (within_text p new v to is (λ above. not (inr (inl above)))))
       (λ other line changed.
-      (behind_left p new (held p (inside to v)) (assign_parts a) (value_parts v) (value_parts (set_within p new to v))
-      (value_left p new v to)).one
+      (behind_left p IsOld new (held p (inside to v)) (assign_parts a) (value_parts v) (value_parts (set_within p new to v))
+      (value_left p IsOld new v to (λ o there. old o (inr there)))).one
       (one (changed_above to (length at) other changed)))
       within
 
   -- ---- values
-
-  abbrev elem : Address → ℕ → Value → List TextUnit
-  elem at i v = element_unit (element at i) v ∷ inside (element at i) v
-
-  abbrev pair : Address → Assign → Value → List TextUnit
-  pair at a v = pair_unit at (record { assign = a; value = v }) ∷ inside (below at (key_names a.key)) v
 
   abbrev put : Address → Value → Value
   put = set_value p new
@@ -233,40 +233,41 @@ module _ (p : Address) (text : List ℕ) (new : Value) (formed : IsValue new) wh
       (each_back _ (fronts 0 at (key_names a.key)) (value_named 0 Valued to v ∷ mentions.inside 0 to v) values).1
 
   mutual
-    in_value : (v : Value) (at : Address) → IsValue v → IsSole p v at → IsClear p at → AreValuesAt p (mentions.inside 0 at v)
+    in_value : (v : Value) (at : Address) → AreOld p IsOld new (λ o. StandsWithin p o at v) → IsValue v → IsSole p v at → IsClear p at → AreValuesAt p (mentions.inside 0 at v)
         → Made (inside at v) (inside at (set_within p new at v))
-    in_value (Scalar kind text) at is sole clear values = refl
-    in_value (Array whole items) at is sole clear values = in_items items at 0 is.1 sole clear values
-    in_value (Inline whole pairs) at is sole clear values = in_pairs pairs at is.1 sole clear values
+    in_value (Scalar kind text) at old is sole clear values = refl
+    in_value (Array whole items) at old is sole clear values = in_items items at 0 old is.1 sole clear values
+    in_value (Inline whole pairs) at old is sole clear values = in_pairs pairs at old is.1 sole clear values
 
-    in_items : (items : Items) (at : Address) (i : ℕ) → AreItems items → AreSoleItems p items at i → IsClear p at
+    in_items : (items : Items) (at : Address) (i : ℕ) → AreOld p IsOld new (λ o. StandsInItems p o at i items) → AreItems items → AreSoleItems p items at i → IsClear p at
         → AreValuesAt p (mentions.elements 0 at i items) → Made (elements at i items) (elements at i (set_items p new at i items))
-    in_items (Close g) at i is sole clear values = gap g.lines at clear
-    in_items (Last g v h) at i is sole clear values =
-        at_end g h at (elem at i v) (elem at i (put (element at i) v)) clear
-        (an_element v (element at i) is.1 sole.0 (not_above_next p at (Index i) clear)
-        (λ there. in_value v (element at i) is.1 sole.1 there values.1))
-    in_items (More g v h more) at i is sole clear values =
+    in_items (Close g) at i old is sole clear values = gap g.lines at clear
+    in_items (Last g v h) at i old is sole clear values =
+        at_end g h at (of_element at i v) (of_element at i (put (element at i) v)) clear
+        (an_element v (element at i) old is.1 sole.0 (not_above_next p at (Index i) clear)
+        (λ there. in_value v (element at i) (λ o h. old o (inr h)) is.1 sole.1 there values.1))
+    in_items (More g v h more) at i old is sole clear values =
         let these = mentions.inside 0 (element at i) v in
         let those = mentions.elements 0 at (i + 1) more in
-        between g h at (elem at i v) (elem at i (put (element at i) v)) (elements at (i + 1) more) (elements at (i + 1) (set_items p new at (i + 1) more)) clear
-        (an_element v (element at i) is.1 sole.0.0 (not_above_next p at (Index i) clear)
-        (λ there. in_value v (element at i) is.1 sole.0.1 there (each_front _ these those values.1)))
-        (in_items more at (i + 1) is.3 sole.1 clear (each_back _ these those values.1))
+        between g h at (of_element at i v) (of_element at i (put (element at i) v)) (elements at (i + 1) more) (elements at (i + 1) (set_items p new at (i + 1) more)) clear
+        (an_element v (element at i) (λ o h. old o (inl h)) is.1 sole.0.0 (not_above_next p at (Index i) clear)
+        (λ there. in_value v (element at i) (λ o h. old o (inl (inr h))) is.1 sole.0.1 there (each_front _ these those values.1)))
+        (in_items more at (i + 1) (λ o h. old o (inr h)) is.3 sole.1 clear (each_back _ these those values.1))
 
-    in_pairs : (pairs : Pairs) (at : Address) → ArePairs pairs → AreSolePairs p pairs at → IsClear p at
+    in_pairs : (pairs : Pairs) (at : Address) → AreOld p IsOld new (λ o. StandsInPairs p o at pairs) → ArePairs pairs → AreSolePairs p pairs at → IsClear p at
         → AreValuesAt p (mentions.members 0 at pairs) → Made (members at pairs) (members at (set_pairs p new at pairs))
-    in_pairs (ClosePairs g) at is sole clear values = gap g.lines at clear
-    in_pairs (LastPair g a v h) at is sole clear values =
+    in_pairs (ClosePairs g) at old is sole clear values = gap g.lines at clear
+    in_pairs (LastPair g a v h) at old is sole clear values =
         let to = below at (key_names a.key) in
-        at_end g h at (pair at a v) (pair at a (put to v)) clear
-        (a_pair a v at is.2 sole.0 (pair_end a v at clear values) (λ there. in_value v to is.2 sole.1 there (pair_rest a v at values)))
-    in_pairs (MorePairs g a v h ps) at is sole clear values =
+        at_end g h at (of_pair at a v) (of_pair at a (put to v)) clear
+        (a_pair a v at old is.2 sole.0 (pair_end a v at clear values) (λ there. in_value v to (λ o h. old o (inr h)) is.2 sole.1 there (pair_rest a v at values)))
+    in_pairs (MorePairs g a v h ps) at old is sole clear values =
         let to = below at (key_names a.key) in
         let these = each_front _ (pair_named 0 at a v) (mentions.members 0 at ps) values in
-        between g h at (pair at a v) (pair at a (put to v)) (members at ps) (members at (set_pairs p new at ps)) clear
-        (a_pair a v at is.2 sole.0.0 (pair_end a v at clear these) (λ there. in_value v to is.2 sole.0.1 there (pair_rest a v at these)))
-        (in_pairs ps at is.4 sole.1 clear (each_back _ (pair_named 0 at a v) (mentions.members 0 at ps) values))
+        between g h at (of_pair at a v) (of_pair at a (put to v)) (members at ps) (members at (set_pairs p new at ps)) clear
+        (a_pair a v at (λ o h. old o (inl h)) is.2 sole.0.0 (pair_end a v at clear these)
+        (λ there. in_value v to (λ o h. old o (inl (inr h))) is.2 sole.0.1 there (pair_rest a v at these)))
+        (in_pairs ps at (λ o h. old o (inr h)) is.4 sole.1 clear (each_back _ (pair_named 0 at a v) (mentions.members 0 at ps) values))
 
   -- ---- lines
 
@@ -277,11 +278,12 @@ module _ (p : Address) (text : List ℕ) (new : Value) (formed : IsValue new) wh
   abbrev line_piece : Piece → Assign → Blank → Value → Piece
   line_piece ws a b v = expr_piece (KeyValLine ws (record { assign = a; value = v }) b)
 
-  exchanged_line : (ws : Piece) (a : Assign) (b : Blank) (v : Value) → IsExchanged (joined (value_parts new)) (line_piece ws a b v).text (line_piece ws a b new).text
-  exchanged_line ws a b v = (
+  exchanged_line : (ws : Piece) (a : Assign) (b : Blank) (v : Value) → IsOld v → IsExchanged IsOld new (line_piece ws a b v).text (line_piece ws a b new).text
+  exchanged_line ws a b v old = (
+    v,
     ws.text ++ joined (assign_parts a),
-    joined (value_parts v),
     joined (blank_parts b),
+    old,
     spread v,
     spread new,
   )
@@ -292,15 +294,15 @@ module _ (p : Address) (text : List ℕ) (new : Value) (formed : IsValue new) wh
           ∙ append_assoc (joined (assign_parts a)) (joined (value_parts x)) (joined (blank_parts b)))
           ∙ sym (append_assoc ws.text (joined (assign_parts a)) (joined (value_parts x) ++ joined (blank_parts b)))
 
-  line_exchanges : (ws : Piece) (a : Assign) (v : Value) (b : Blank) (at : Address) → held p (inside at v) ≡ 1
-      → IsExchanged (joined (value_parts new)) (line_piece ws a b v).text (line_piece ws a b (set_within p new at v)).text
-  line_exchanges ws a v b at one =
+  line_exchanges : (ws : Piece) (a : Assign) (v : Value) (b : Blank) (at : Address) → AreOld p IsOld new (λ o. StandsWithin p o at v)
+      → held p (inside at v) ≡ 1 → IsExchanged IsOld new (line_piece ws a b v).text (line_piece ws a b (set_within p new at v)).text
+  line_exchanges ws a v b at old one =
       let n = held p (inside at v) in
       let w = set_within p new at v in
-      (behind_left p new n (spells.piece ws ∷ []) ((assign_parts a ++ value_parts v) ++ blank_parts b)
+      (behind_left p IsOld new n (spells.piece ws ∷ []) ((assign_parts a ++ value_parts v) ++ blank_parts b)
       ((assign_parts a ++ value_parts w) ++ blank_parts b)
-      (before_left p new n (assign_parts a ++ value_parts v) (assign_parts a ++ value_parts w) (blank_parts b)
-      (behind_left p new n (assign_parts a) (value_parts v) (value_parts w) (value_left p new v at)))).one one
+      (before_left p IsOld new n (assign_parts a ++ value_parts v) (assign_parts a ++ value_parts w) (blank_parts b)
+      (behind_left p IsOld new n (assign_parts a) (value_parts v) (value_parts w) (value_left p IsOld new v at old)))).one one
 
   tail : (at : Address) → ¬ IsAbove p at → (o : Option Piece) → Made (comment_units kinds.TailComment (Some at) o) (comment_units kinds.TailComment (Some at) o)
   tail at not o = comment kinds.TailComment refl (Some at) (carried_clear at not) (λ piece lies. true≢false (sym lies.0)) o
@@ -336,9 +338,9 @@ module _ (p : Address) (text : List ℕ) (new : Value) (formed : IsValue new) wh
   end_clear [] n line xs e at all = all
   end_clear (m ∷ ns) n line xs e at all = end_clear ns m line xs e (entered xs (child at n)) all.1
 
-  in_line : (xs : List Named) (n : ℕ) (e : Expr) → IsExpr e → IsSoleLine p xs e → IsClear p (section xs)
+  in_line : (xs : List Named) (n : ℕ) (e : Expr) → AreOld p IsOld new (λ o. StandsOnLine p o (section xs) e) → IsExpr e → IsSoleLine p xs e → IsClear p (section xs)
       → AreValuesAt p (xs ++ named_by xs n e) → Made (line_units xs e) (line_units xs (set_expr p new (section xs) e))
-  in_line xs n (BlankLine b) is sole clear values =
+  in_line xs n (BlankLine b) old is sole clear values =
       let u : TextUnit = record { kind = kinds.Line; piece = expr_piece (BlankLine b); address = None; base = None } in (
         u ∷ [],
         tail_units None b,
@@ -356,7 +358,7 @@ module _ (p : Address) (text : List ℕ) (new : Value) (formed : IsValue new) wh
         refl,
         comment kinds.TailComment refl None refl (λ piece lies. true≢false (sym lies.0)) b.comment,
       )
-  in_line xs n (KeyValLine ws kv b) is sole clear values =
+  in_line xs n (KeyValLine ws kv b) old is sole clear values =
       let at = section xs in
       let to = below at (key_names kv.assign.key) in
       let here = each_back _ xs (pair_named n at kv.assign kv.value) values in
@@ -367,39 +369,39 @@ module _ (p : Address) (text : List ℕ) (new : Value) (formed : IsValue new) wh
       glue (holder kinds.Line (Some (length at)) to (line_piece ws kv.assign b) kv.value ∷ inside to kv.value) tails
       (holder kinds.Line (Some (length at)) to (line_piece ws kv.assign b) (put to kv.value) ∷ inside to (put to kv.value)) tails
       (holding kinds.Line (Some (length at)) (line_piece ws kv.assign b) kv.value to refl (λ is. refl) far
-      (exchanged_line ws kv.assign b kv.value)
+      (λ here. exchanged_line ws kv.assign b kv.value (old kv.value (inl (here, refl))))
       (λ line not. ap (λ t. ws.text ++ t) (both_texts (keyval_parts (record { assign = kv.assign; value = set_within p new to kv.value })) (keyval_parts kv) (blank_parts b) (blank_parts b)
       (both_texts (assign_parts kv.assign) (assign_parts kv.assign) (value_parts (set_within p new to kv.value)) (value_parts kv.value) refl (within_text p new kv.value to is.1.1 (λ above. not (inr (inl above))))) refl))
-      (λ other line changed. line_exchanges ws kv.assign kv.value b to (sole.0 (changed_above to (length at) other changed)))
-      (λ there. in_value kv.value to is.1.1 sole.1 there (plain_values n to kv.value rest.1)))
+      (λ other line changed. line_exchanges ws kv.assign kv.value b to (λ o there. old o (inr there)) (sole.0 (changed_above to (length at) other changed)))
+      (λ there. in_value kv.value to (λ o h. old o (inr h)) is.1.1 sole.1 there (plain_values n to kv.value rest.1)))
       (tail to far b.comment)
-  in_line xs n (TableLine ws h b) is sole clear values =
+  in_line xs n (TableLine ws h b) old is sole clear values =
       let all = headers_are_clear p xs n (TableLine ws h b) (root_apart p new (section xs) clear) tt values in
       same_line (TableLine ws h b) (header_end xs [] (key_names h.key)) b.comment (end_clear (rest_names h.key.rest) (part_name h.key.first) n xs (ends_table n) [] all).0
-  in_line xs n (ArrayTableLine ws h b) is sole clear values =
+  in_line xs n (ArrayTableLine ws h b) old is sole clear values =
       let at = header_end xs [] (key_names h.key) in
       let all = headers_are_clear p xs n (ArrayTableLine ws h b) (root_apart p new (section xs) clear) tt values in
       same_line (ArrayTableLine ws h b) (element at (count_tables xs at)) b.comment (end_clear (rest_names h.key.rest) (part_name h.key.first) n xs (ends_tables n xs) [] all).1.0
 
-  in_lines : (ls : List Line) (xs ys : List Named) (n : ℕ) → EachIs (λ l. IsExpr l.expr) ls → AreSoleLines p ls xs n
+  in_lines : (ls : List Line) (xs ys : List Named) (n : ℕ) → AreOld p IsOld new (λ o. StandsFrom p o xs n ls) → EachIs (λ l. IsExpr l.expr) ls → AreSoleLines p ls xs n
       → AreAlike xs ys
       → IsClear p (section xs) → AreValuesAt p (named_from xs n ls)
       → Made (units_from xs n ls) (units_from ys n (lines_from (set_line p new) xs n ls))
-  in_lines [] xs ys n is sole alike clear values = refl
-  in_lines (l ∷ ls) xs ys n is sole alike clear values =
+  in_lines [] xs ys n old is sole alike clear values = refl
+  in_lines (l ∷ ls) xs ys n old is sole alike clear values =
       let so_far = each_from _ ls (xs ++ named_by xs n l.expr) (n + 1) values in
       let one = one_line p new xs ys n l.expr alike clear so_far in
       let l' = set_expr p new (section xs) l.expr in
       let others = units_from (ys ++ named_by ys n l') (n + 1) (lines_from (set_line p new) (xs ++ named_by xs n l.expr) (n + 1) ls) in
       glue (line_units xs l.expr) (units_from (xs ++ named_by xs n l.expr) (n + 1) ls) (line_units ys l') others
-      (subst (Made (line_units xs l.expr)) (line_units_alike xs ys alike l') (in_line xs n l.expr is.0 sole.0 clear so_far))
-      (in_lines ls (xs ++ named_by xs n l.expr) (ys ++ named_by ys n l') (n + 1) is.1 sole.1 one.alike one.clear values)
+      (subst (Made (line_units xs l.expr)) (line_units_alike xs ys alike l') (in_line xs n l.expr (λ o h. old o (inl h)) is.0 sole.0 clear so_far))
+      (in_lines ls (xs ++ named_by xs n l.expr) (ys ++ named_by ys n l') (n + 1) (λ o h. old o (inr h)) is.1 sole.1 one.alike one.clear values)
 
 pub set_units : SetUnits
 set_units p text new lines apart is formed there keeps =
     let a = lines_held p lines (root ∷ []) 0 in
     let b = one_there_only p (named lines) (values_at p lines there keeps)
     (pairs_of_all Alone (named lines) (line_values_stand_alone lines keeps)) in
-    in_lines p text new formed lines (root ∷ []) (root ∷ []) 0 (each_form lines is)
+    in_lines p text (HoldAt lines p) new formed lines (root ∷ []) (root ∷ []) 0 (λ o h. h) (each_form lines is)
     (lines_sole p lines apart there keeps (omega (arith, a, b))) (alike_self (root ∷ []))
     (clear_of_root p apart) (values_at p lines there keeps)

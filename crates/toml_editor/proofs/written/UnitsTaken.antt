@@ -1,11 +1,10 @@
 -- The units after a `remove` at the root.
-use Rattle.std.proofs.Common.{◌≡◌, ℕ, ◌+◌, ◌<◌, ◌==◌, true, false, cond, inl, inr, Option, List, [], ◌∷◌, ◌++◌, length, refl, sym, ap, ap₂, ◌∙◌, subst, append_assoc, zero, suc, arith}
+use Rattle.std.proofs.Common.{◌≡◌, ℕ, ◌+◌, ◌<◌, ◌==◌, true, false, cond, Option, List, [], ◌∷◌, ◌++◌, length, refl, sym, ap, ap₂, ◌∙◌, subst, append_assoc, zero, suc, arith}
 use Rattle.toml_tree.specs.Spells.{AreLines}
 use Rattle.toml_tree.specs.Tree.{Piece, Value, Line}
-use Rattle.toml_text.specs.Forms.{IsNewline}
 use Rattle.toml_names.specs.declared.model.address.Step.TheVariants.{Name}
 use Rattle.toml_names.specs.mentions.Alike.{AreAlike}
-use Rattle.toml_names.specs.mentions.Mentions.{Named, named, named_by, root}
+use Rattle.toml_names.specs.mentions.Mentions.{Named, named, named_by}
 use Rattle.toml_units.specs.Units.{TextUnit, line_units, units_from, units}
 use Rattle.toml_editor.specs.Blocks.{root_pair}
 use Rattle.toml_editor.specs.Lines.{lines_from}
@@ -18,6 +17,7 @@ use Rattle.toml_editor.proofs.written.WayZip.{lines_in}
 use Rattle.toml_editor.proofs.written.WayFits.{newlines}
 use Rattle.toml_editor.proofs.written.WayBlock.{lines_append}
 use Rattle.toml_editor.proofs.written.Alike.{alike_sym, alike_trans}
+use Rattle.toml_editor.proofs.written.Formed.{newline_some}
 use Rattle.toml_editor.proofs.written.Plain.{next_alike}
 use Rattle.toml_editor.proofs.written.RemoveNamed.{Claim, BehindOne, AtOne, by_document}
 use Rattle.toml_editor.proofs.written.UnitsAlike.{units_alike}
@@ -28,10 +28,6 @@ abbrev AreEnded : List Line → Type 0
 AreEnded [] = Unit {0}
 AreEnded (l ∷ []) = (length l.newline.text == 0) ≡ true
 AreEnded (l ∷ m ∷ ls) = ((length l.newline.text == 0) ≡ false) × AreEnded (m ∷ ls)
-
-newline_some : (bs : List ℕ) → IsNewline bs → (length bs == 0) ≡ false
-newline_some bs (inl is) = ap (λ x. length x == 0) is
-newline_some bs (inr is) = ap (λ x. length x == 0) is
 
 ended : (ls : List Line) → AreLines ls → AreEnded ls
 ended [] is = tt

@@ -16,7 +16,7 @@ use Rattle.toml_checker.specs.Comments.{is_comment, texts}
 use Rattle.toml_checker.specs.Plain.{Site, site, next_line}
 use Rattle.toml_editor.specs.ChangedUnits.{is_inner, LiesInValue}
 use Rattle.toml_editor.proofs.written.Pairwise.{each_of_all}
-use Rattle.toml_editor.proofs.written.UnitsGone.{value_in}
+use Rattle.toml_editor.proofs.written.UnitsGone.{inner_line, value_in}
 use Rattle.toml_editor.proofs.written.Way.{Step, both, old, new, olds, news, one_line}
 use Rattle.toml_editor.proofs.written.WayComments.{added, comments}
 use Rattle.toml_editor.proofs.written.WayFits.{IsAsked, Fits}
@@ -96,14 +96,7 @@ lines_append (u ∷ us) vs = let more = lines_append us vs in omega (arith, more
 
 pub inner_lines : (p : Address) (us : List TextUnit) → EachIs (LiesInValue p) us → lines_in us ≡ 0
 inner_lines p [] h = refl
-inner_lines p (u ∷ us) h = let more = inner_lines p us h.1 in let none = by u.kind h.0.0 in omega (arith, more, none)
-  where
-    by : (k : UnitKind) → is_inner k ≡ true → one_line k ≡ 0
-    by kinds.Line is = absurd (true≢false (sym is))
-    by kinds.TailComment is = refl
-    by kinds.InnerComment is = refl
-    by kinds.Element is = refl
-    by kinds.Pair is = refl
+inner_lines p (u ∷ us) h = let more = inner_lines p us h.1 in let none : ◌≡◌ {A = ℕ} (one_line u.kind) 0 = ap (λ b. cond {A = ℕ} b 1 0) (inner_line u.kind h.0.0) in omega (arith, more, none)
 
 pub inside_lines : (at : Address) (v : Value) → lines_in (inside at v) ≡ 0
 inside_lines at v = inner_lines at (inside at v) (value_in at v at (inr refl))

@@ -11,11 +11,12 @@ use Rattle.toml_names.specs.mentions.Mentions as mentions
 use Rattle.toml_names.specs.model.Addresses.{Address, same_address, element, below}
 use Rattle.toml_names.specs.reader.Names.{own_address}
 use Rattle.toml_names.specs.mentions.Clear.{AreValuesAt}
-use Rattle.toml_units.specs.Units.{TextUnit, comment_units, gap_line_units, gap_units, element_unit, pair_unit, inside, elements, members, line_units, units_from}
+use Rattle.toml_units.specs.Units.{TextUnit, comment_units, gap_line_units, gap_units, inside, elements, members, line_units, units_from}
 use Rattle.toml_units.specs.declared.unit.UnitKind.{UnitKind}
 use Rattle.toml_units.specs.declared.unit.UnitKind.TheVariants as kinds
 use Rattle.toml_editor.proofs.written.Clear.{same_is}
 use Rattle.toml_editor.proofs.written.Pairwise.{PairsAre, Alone}
+use Rattle.toml_editor.proofs.written.UnitsIn.{of_element, of_pair}
 
 -- units that have a value of their own
 abbrev pub has_value : UnitKind → Option ℕ → Bool
@@ -82,15 +83,9 @@ module _ (p : Address) where
       let e = gap_held h.lines at in
       omega (arith, a, b, d, e)
 
-  abbrev elem : Address → ℕ → Value → List TextUnit
-  elem at i v = element_unit (element at i) v ∷ inside (element at i) v
-
-  abbrev pair : Address → Assign → Value → List TextUnit
-  pair at a v = pair_unit at (record { assign = a; value = v }) ∷ inside (below at (key_names a.key)) v
-
   pub pair_held : (line : ℕ) (a : Assign) (v : Value) (at : Address)
       → held (inside (below at (key_names a.key)) v) ≤ there (mentions.inside line (below at (key_names a.key)) v)
-      → held (pair at a v) ≤ there (pair_named line at a v)
+      → held (of_pair at a v) ≤ there (pair_named line at a v)
   pair_held line a v at within =
       let to = below at (key_names a.key) in
       let both = there_append (fronts line at (key_names a.key)) (value_named line roles.Valued to v ∷ mentions.inside line to v) in
@@ -105,9 +100,9 @@ module _ (p : Address) where
     pub items_held : (items : Items) (line : ℕ) (at : Address) (i : ℕ)
         → held (elements at i items) ≤ there (mentions.elements line at i items)
     items_held (Close g) line at i = let e = gap_held g.lines at in omega (arith, e)
-    items_held (Last g v h) line at i = let e = at_end g h at (elem at i v) in let w = value_held v line (element at i) in omega (arith, e, w)
+    items_held (Last g v h) line at i = let e = at_end g h at (of_element at i v) in let w = value_held v line (element at i) in omega (arith, e, w)
     items_held (More g v h is) line at i =
-        let e = between g h at (elem at i v) (elements at (i + 1) is) in
+        let e = between g h at (of_element at i v) (elements at (i + 1) is) in
         let w = value_held v line (element at i) in
         let more = items_held is line at (i + 1) in
         let both = there_append (mentions.inside line (element at i) v) (mentions.elements line at (i + 1) is) in
@@ -116,11 +111,11 @@ module _ (p : Address) where
     pub pairs_held : (pairs : Pairs) (line : ℕ) (at : Address) → held (members at pairs) ≤ there (mentions.members line at pairs)
     pairs_held (ClosePairs g) line at = let e = gap_held g.lines at in omega (arith, e)
     pairs_held (LastPair g a v h) line at =
-        let e = at_end g h at (pair at a v) in
+        let e = at_end g h at (of_pair at a v) in
         let w = pair_held line a v at (value_held v line (below at (key_names a.key))) in
         omega (arith, e, w)
     pairs_held (MorePairs g a v h ps) line at =
-        let e = between g h at (pair at a v) (members at ps) in
+        let e = between g h at (of_pair at a v) (members at ps) in
         let w = pair_held line a v at (value_held v line (below at (key_names a.key))) in
         let more = pairs_held ps line at in
         let both = there_append (pair_named line at a v) (mentions.members line at ps) in

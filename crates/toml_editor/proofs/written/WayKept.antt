@@ -20,8 +20,9 @@ use Rattle.toml_checker.proofs.Proved.{sides_are_right}
 use Rattle.toml_editor.specs.ChangedUnits.{LiesInValue}
 use Rattle.toml_editor.specs.RenamedUnits.{IsCarried, GoTogether}
 use Rattle.toml_editor.specs.UnitBlocks.{BeginWithLine}
-use Rattle.toml_editor.proofs.written.LastLines.{LastIsFull, inner_line, inner_is_no_line}
+use Rattle.toml_editor.proofs.written.LastLines.{LastIsFull, inner_is_no_line}
 use Rattle.toml_editor.proofs.written.UnitsPut.{line_lines}
+use Rattle.toml_editor.proofs.written.UnitsGone.{inner_line}
 use Rattle.toml_editor.proofs.written.Way.{Step, both, old, new, olds, news, one_line, is_here}
 use Rattle.toml_editor.proofs.written.WayBlock.{line_after, lines_append}
 use Rattle.toml_editor.proofs.written.WayComments.{added}

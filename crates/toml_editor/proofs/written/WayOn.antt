@@ -1,6 +1,8 @@
 -- A way of one edit, and a way of others that goes on from there: together they are a way of all.
 use Rattle.std.proofs.Common.{◌≡◌, ◌⊎◌, inl, inr, ◌≤◌, ◌+◌, ℕ, Bool, true, false, cond, ◌&&◌, Option, Some, None, option_map, option_and_then, List, [], ◌∷◌, map, length, refl, sym, ap, ap₂, ◌∙◌, subst, true≢false, arith}
 use Rattle.std.specs.Str.{bytes_eq}
+use Rattle.std.proofs.Math.Bool.{and-false}
+use Rattle.std.proofs.lemmas.Bool.{and_parts}
 use Rattle.toml_names.specs.model.Addresses.{Address}
 use Rattle.toml_edits.specs.Carry.{carry}
 use Rattle.toml_edits.specs.Edits.{Change}
@@ -17,7 +19,7 @@ use Rattle.toml_editor.proofs.written.Way.{Step, both, old, new, olds, news, one
 use Rattle.toml_editor.proofs.written.WayComments.{added, comments, times_cons}
 use Rattle.toml_editor.proofs.written.WayFits.{Matches, IsAsked, Fits}
 use Rattle.toml_editor.proofs.written.WayKeeps.{moved_site, Ends, Stays, ComesBlank, Keeps, no_more, kept_on, moved_on, line_moved_on, line_is}
-use Rattle.toml_editor.proofs.written.WayOwed.{left_true, right_true, along, IsOwedBelow, owed_below, owed_on, below_on, written_on}
+use Rattle.toml_editor.proofs.written.WayOwed.{along, IsOwedBelow, owed_below, owed_on, below_on, written_on}
 
 at_map : {P Q : Address → Type 0} → ((a : Address) → P a → Q a) → (o : Option Address) → At o P → At o Q
 at_map f None h = h
@@ -46,10 +48,6 @@ line_owed c cs None (Some a) (Some b) kept goes owed header =
     let below = below_on c cs a b goes (header refl) in record { owed = owed_below (c ∷ cs) b below; header = λ is. below }
 line_owed c cs (Some n) (Some a) (Some b) kept goes owed header =
     record { owed = owed_on c cs a b goes (λ rest. along parts.Line (Some n) tt cs a rest kept) owed; header = λ is. cc }
-
-and_none : (a : Bool) → (a && false) ≡ false
-and_none true = refl
-and_none false = refl
 
 -- what goes by the first edit
 pub lost_on : (c : Change) (cs : List Change) (line : Option Site) (u : TextUnit) → is_here (c ∷ []) line u ≡ false
@@ -113,10 +111,10 @@ module _ (c : Change) (cs : List Change) (ts : List (List ℕ)) (more : List (Li
     all = kept_on c cs line mid u w k.goes k.home
 
     kept_first : is_here (c ∷ cs) line u ≡ true → is_here (c ∷ []) line u ≡ true
-    kept_first h = left_true (is_here (c ∷ []) line u) (is_here cs mid w) (sym all ∙ h)
+    kept_first h = (and_parts (is_here (c ∷ []) line u) (is_here cs mid w) (sym all ∙ h)).0
 
     kept_then : is_here (c ∷ cs) line u ≡ true → is_here cs mid w ≡ true
-    kept_then h = right_true (is_here (c ∷ []) line u) (is_here cs mid w) (sym all ∙ h)
+    kept_then h = (and_parts (is_here (c ∷ []) line u) (is_here cs mid w) (sym all ∙ h)).1
 
     base_is : w.base ≡ u.base
     base_is = ap (λ (s : Site). s.base) k.goes
@@ -351,7 +349,7 @@ module _ (c : Change) (cs : List Change) (ts : List (List ℕ)) (more : List (Li
         news_are = r.news_are;
         fits = (
           kept_on c cs line mid u w keep.0.goes keep.0.home
-              ∙ ap (λ y. is_here (c ∷ []) line u && y) (here_is mid next b d w x x same ∙ fits.0) ∙ and_none (is_here (c ∷ []) line u),
+              ∙ ap (λ y. is_here (c ∷ []) line u && y) (here_is mid next b d w x x same ∙ fits.0) ∙ and-false (is_here (c ∷ []) line u),
           r.fits,
         );
         keeps = r.keeps;

@@ -1,6 +1,7 @@
 -- What one edit owes, and what it writes, through the edits that follow.
-use Rattle.std.proofs.Common.{◌≡◌, ◌⊎◌, inl, inr, ℕ, Bool, true, false, ◌&&◌, Option, Some, None, option_map, option_and_then, List, [], ◌∷◌, ◌++◌, refl, sym, ap, ◌∙◌, subst, true≢false}
+use Rattle.std.proofs.Common.{◌≡◌, ◌⊎◌, inl, inr, ℕ, true, false, Option, Some, None, option_map, option_and_then, List, [], ◌∷◌, ◌++◌, refl, sym, ap, ◌∙◌, subst, true≢false}
 use Rattle.std.specs.Prelude.{not, Contains}
+use Rattle.std.proofs.lemmas.Bool.{and_parts}
 use Rattle.std.proofs.lemmas.Option.{same_Some}
 use Rattle.toml_names.specs.model.Addresses.{Address, IsAbove}
 use Rattle.toml_edits.specs.Carry.{carry}
@@ -19,13 +20,9 @@ use Rattle.toml_checker.specs.Plain.{stands, is_named}
 use Rattle.toml_checker.specs.Sides.{side}
 use Rattle.toml_checker.proofs.Proved.{sides_are_right}
 
-pub left_true : (a b : Bool) → (a && b) ≡ true → a ≡ true
-left_true true b is = refl
-left_true false b is = is
-
-pub right_true : (a b : Bool) → (a && b) ≡ true → b ≡ true
-right_true true b is = is
-right_true false b is = absurd (true≢false (sym is))
+-- what holds of an address holds of itself, where no edit carries it
+at_itself : (P : Address → Type 0) (r q : Address) → carried [] r ≡ Some q → P q → P r
+at_itself P r q same = subst P (sym (same_Some r q same))
 
 -- ---- along a list of edits
 
@@ -83,8 +80,7 @@ module _ (part : Part) (base : Option ℕ) (holds : HoldsValue part base) where
       → carried cs (a ++ rest) ≡ option_map (λ b. b ++ rest) (carried cs a)
   along [] a rest kept = refl
   along (c ∷ cs) a rest kept =
-      let first = left_true (not (is_named part c base (side (place c) a))) (stands part cs (carry c a) base) kept in
-      let others = right_true (not (is_named part c base (side (place c) a))) (stands part cs (carry c a) base) kept in
+      let (first, others) = and_parts (not (is_named part c base (side (place c) a))) (stands part cs (carry c a) base) kept in
       ap (option_and_then (carried cs)) (carried_along c a rest (not_below c a first) (not_set c a first))
       ∙ on (λ b k. along cs b rest k) (carry c a) others
     where
@@ -159,8 +155,7 @@ pub owed_on : (c : Change) (cs : List Change) (a b : Address) → carried cs a �
     → ((rest : Address) → carried cs (a ++ rest) ≡ option_map (λ x. x ++ rest) (carried cs a)) → IsOwed (c ∷ []) a → IsOwed (c ∷ cs) b
 owed_on c cs a b goes all (inr none) = absurd none
 owed_on c cs a b goes all (inl (r, q, is, same, owes)) =
-    let here : r ≡ q = same_Some r q same in
-    let owes' : Owes c r a = subst (λ x. Owes c x a) (sym here) owes in
+    let owes' = at_itself (λ x. Owes c x a) r q same owes in
     let to = there r (which c r a owes') in
     inl (r, to.0, is, to.1, owes_on c r a to.0 b (up r to.0 to.1) (down r to.0 to.1) owes')
   where
@@ -196,8 +191,7 @@ below_there (new_element p) r a to b was is = is
 pub below_on : (c : Change) (cs : List Change) (a b : Address) → carried cs a ≡ Some b → IsOwedBelow (c ∷ []) a → IsOwedBelow (c ∷ cs) b
 below_on c cs a b goes (inr none) = absurd none
 below_on c cs a b goes (inl (r, q, is, same, owes)) =
-    let here : r ≡ q = same_Some r q same in
-    let owes' : OwesBelow c r a = subst (λ x. OwesBelow c x a) (sym here) owes in
+    let owes' = at_itself (λ x. OwesBelow c x a) r q same owes in
     let f = at_front cs r a b goes (below_which c r a owes') in
     inl (r, f.0, is, f.1, below_there c r a f.0 b owes' f.2)
 
@@ -208,8 +202,7 @@ pub written_on : (c : Change) (cs : List Change) (ts : List (List ℕ)) (more : 
     → IsWritten (c ∷ []) (ts ∷ []) w → IsWritten (c ∷ cs) (ts ∷ more) v
 written_on c cs ts more w v same goes (inr none) = absurd none
 written_on c cs ts more w v same goes (inl (there, q, is, at)) =
-    let here : place c ≡ q = same_Some (place c) q is in
-    let f = by w.address v.address goes (subst (λ x. At w.address (IsAtOrAbove x)) (sym here) at) in
+    let f = by w.address v.address goes (at_itself (λ x. At w.address (IsAtOrAbove x)) (place c) q is at) in
     inl (subst (λ t. Contains ts t) (sym same) there, f.0, f.1, f.2)
   where
     by : (o x : Option Address) → IsCarriedTo cs o x → At o (IsAtOrAbove (place c)) → (to : Address) × (carried cs (place c) ≡ Some to)

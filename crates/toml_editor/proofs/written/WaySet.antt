@@ -1,6 +1,7 @@
 -- The way of a `set`.
-use Rattle.std.proofs.Common.{◌≡◌, ◌⊎◌, inl, inr, ◌≤◌, ◌+◌, ℕ, Bool, true, false, cond, ◌&&◌, Option, Some, None, IsSome, option_map, List, [], ◌∷◌, ◌++◌, map, refl, sym, ap, ap₂, ◌∙◌, subst, subst₂, true≢false, arith, append-nil}
+use Rattle.std.proofs.Common.{◌≡◌, ◌⊎◌, inl, inr, ◌≤◌, ◌+◌, ℕ, true, false, cond, ◌&&◌, Option, Some, None, IsSome, option_map, List, [], ◌∷◌, ◌++◌, map, refl, sym, ap, ap₂, ◌∙◌, subst, subst₂, true≢false, arith, append-nil}
 use Rattle.std.specs.Prelude.{slice_get, option_and_then, not}
+use Rattle.std.proofs.Math.Bool.{and-false}
 use Rattle.std.proofs.lemmas.Bool.{cond-true}
 use Rattle.toml_tree.specs.Spells.{IsValue, AreLines}
 use Rattle.toml_tree.specs.Tree.{Value, Line}
@@ -13,7 +14,6 @@ use Rattle.toml_edits.specs.Carry.{carry, carry_below, emptied, setting}
 use Rattle.toml_edits.specs.Edits.{Change, set}
 use Rattle.toml_units.specs.declared.unit.UnitKind.{UnitKind}
 use Rattle.toml_units.specs.declared.unit.UnitKind.TheVariants as kinds
-use Rattle.toml_units.specs.Places.{is_line}
 use Rattle.toml_units.specs.Units.{TextUnit, inside, units}
 use Rattle.toml_checker.specs.declared.side.Side.{Side}
 use Rattle.toml_checker.specs.declared.side.Side.TheVariants as sides
@@ -25,6 +25,7 @@ use Rattle.toml_checker.specs.Plain.{Site, site, next_line, stands, is_named, is
 use Rattle.toml_checker.specs.Sides.{side}
 use Rattle.toml_checker.proofs.Proved.{sides_are_right}
 use Rattle.toml_editor.specs.ChangedUnits.{is_inner, LiesInValue, HoldsValue, HasNewValue, IsSetTo, AreMadeOf}
+use Rattle.toml_editor.specs.Held.{HoldAt}
 use Rattle.toml_editor.specs.Lines.{lines_from}
 use Rattle.toml_editor.specs.RenamedUnits.{IsCarried}
 use Rattle.toml_editor.specs.Setting.{set_line, set_lines}
@@ -32,7 +33,7 @@ use Rattle.toml_editor.specs.Written.{HasValue}
 use Rattle.toml_editor.proofs.written.Clear.{self}
 use Rattle.toml_editor.proofs.written.Pairwise.{Alone, pairs_of_all}
 use Rattle.toml_editor.proofs.written.SetKept.{values_at}
-use Rattle.toml_editor.proofs.written.UnitsGone.{value_in}
+use Rattle.toml_editor.proofs.written.UnitsGone.{inner_line, value_in}
 use Rattle.toml_editor.proofs.written.UnitsSet.{set_units}
 use Rattle.toml_editor.proofs.written.Way.{Step, both, old, new, olds, news, one_line, is_here}
 use Rattle.toml_editor.proofs.written.WayBlock.{line_after, olds_append, news_append, added_append, fits_append, new_fits, new_olds, new_news, new_adds, inside_lines, same_comments, inside_asked}
@@ -47,10 +48,6 @@ use Rattle.toml_editor.proofs.written.WayZip.{unchanged, IsNear, lost_line, carr
 set_newlines : (p : Address) (v : Value) (ls : List Line) (xs : List Named) (n : ℕ) → newlines (lines_from (set_line p v) xs n ls) ≡ newlines ls
 set_newlines p v [] xs n = refl
 set_newlines p v (l ∷ ls) xs n = ap (λ r. l.newline.text ∷ r) (set_newlines p v ls (xs ++ named_by xs n l.expr) (n + 1))
-
-and_false : (a : Bool) {b : Bool} → b ≡ false → (a && b) ≡ false
-and_false true is = is
-and_false false is = refl
 
 -- what is below goes
 below_goes : (p : Address) (s : AddressStep) (rest : Address) → carry_below p emptied (p ++ s ∷ rest) ≡ None
@@ -71,7 +68,7 @@ not_below [] a is some above = some refl
 not_below (t ∷ p) a is some (s, rest, at) =
     let e : ◌≡◌ {A = Option Address} None (Some a) = sym (ap (setting (t ∷ p)) at ∙ below_goes (t ∷ p) s rest) ∙ is in cc
 
-module _ (p : Address) (some : ¬ (p ≡ [])) (text : List ℕ) (v : Value) (before after : List (List ℕ)) (ends : before ≡ after) where
+module _ (p : Address) (some : ¬ (p ≡ [])) (text : List ℕ) (IsOld : Value → Type 0) (v : Value) (before after : List (List ℕ)) (ends : before ≡ after) where
   abbrev c : Change
   c = set p text
 
@@ -111,15 +108,8 @@ module _ (p : Address) (some : ¬ (p ≡ [])) (text : List ℕ) (v : Value) (bef
       by kinds.Pair (Some a) None inner (inl h) = ap (λ s. not (is_named parts.Line c None s) && true) (above a h)
       by kinds.Pair (Some a) (Some n) inner (inl h) = ap (λ s. not (is_named parts.Line c (Some n) s) && true) (above a h)
       by kinds.Pair (Some a) base inner (inr h) = let e = h.1 in cc
-      by kinds.InnerComment (Some a) base inner (inl h) = and_false (home_stands (c ∷ []) line) (ap (λ s. not (part_is_gone c s) && true) (above a h))
-      by kinds.InnerComment (Some a) base inner (inr h) = and_false (home_stands (c ∷ []) line) (ap (λ s. not (part_is_gone c s) && true) ((sides_are_right p a).at.1 (sym h.0)))
-
-  no_line : (k : UnitKind) → is_inner k ≡ true → is_line k ≡ false
-  no_line kinds.Line is = absurd (true≢false (sym is))
-  no_line kinds.TailComment is = refl
-  no_line kinds.InnerComment is = refl
-  no_line kinds.Element is = refl
-  no_line kinds.Pair is = refl
+      by kinds.InnerComment (Some a) base inner (inl h) = ap (λ s. home_stands (c ∷ []) line && (not (part_is_gone c s) && true)) (above a h) ∙ and-false (home_stands (c ∷ []) line)
+      by kinds.InnerComment (Some a) base inner (inr h) = ap (λ s. home_stands (c ∷ []) line && (not (part_is_gone c s) && true)) ((sides_are_right p a).at.1 (sym h.0)) ∙ and-false (home_stands (c ∷ []) line)
 
   -- ---- what has the value
 
@@ -138,7 +128,7 @@ module _ (p : Address) (some : ¬ (p ≡ [])) (text : List ℕ) (v : Value) (bef
       by kinds.Pair o (Some n) is plain keyed = ap (λ x. stands parts.Line (c ∷ []) x (Some n)) is ∙ ap (λ s. not (is_named parts.Line c (Some n) s) && true) at_it
       by kinds.Element o base is plain keyed = ap (λ x. stands parts.Element (c ∷ []) x base) is ∙ ap (λ s. not (is_named parts.Element c base s) && true) at_it
 
-  holds_match : (line : Option Site) (a : ℕ) (u w : TextUnit) → HoldsValue p u → HasNewValue v u w → Match line a u w
+  holds_match : (line : Option Site) (a : ℕ) (u w : TextUnit) → HoldsValue p u → HasNewValue IsOld v u w → Match line a u w
   holds_match line a u w holds is = record {
     kind = is.kind;
     kept = λ here. absurd (true≢false (sym here ∙ holds_lost line u holds is.keyed));
@@ -258,13 +248,13 @@ module _ (p : Address) (some : ¬ (p ≡ [])) (text : List ℕ) (v : Value) (bef
     news_are = m.news_are;
     fits = λ line home a. (
       lies_lost line u lies,
-      subst₂ (λ (l : Option Site) (b : ℕ). Fit l b a m.way) (sym (ap (λ b. cond b (Some (site u)) line) (no_line u.kind lies.0)))
-          (let e : ◌≡◌ {A = ℕ} (one_line u.kind) 0 = ap (λ b. cond {A = ℕ} b 1 0) (no_line u.kind lies.0) in let f : a ≡ a + one_line u.kind = omega (arith, e) in f) (m.fits line home a),
+      subst₂ (λ (l : Option Site) (b : ℕ). Fit l b a m.way) (sym (ap (λ b. cond b (Some (site u)) line) (inner_line u.kind lies.0)))
+          (let e : ◌≡◌ {A = ℕ} (one_line u.kind) 0 = ap (λ b. cond {A = ℕ} b 1 0) (inner_line u.kind lies.0) in let f : a ≡ a + one_line u.kind = omega (arith, e) in f) (m.fits line home a),
     );
     keeps = λ line next home a.
-        subst₂ (λ (l : Option Site) (b : ℕ). Keep l next b a m.way) (sym (ap (λ b. cond b (Some (site u)) line) (no_line u.kind lies.0)))
+        subst₂ (λ (l : Option Site) (b : ℕ). Keep l next b a m.way) (sym (ap (λ b. cond b (Some (site u)) line) (inner_line u.kind lies.0)))
         (let e : ◌≡◌ {A = ℕ} (one_line u.kind) 0 = ap (λ b. cond {A = ℕ} b 1 0)
-        (no_line u.kind lies.0) in let f : a ≡ a + one_line u.kind = omega (arith, e) in f) (m.keeps line next home a);
+        (inner_line u.kind lies.0) in let f : a ≡ a + one_line u.kind = omega (arith, e) in f) (m.keeps line next home a);
     none = λ is. m.none (omega (arith, is));
     few = λ low t. m.few (omega (arith, low)) t;
   }
@@ -297,7 +287,7 @@ module _ (p : Address) (some : ¬ (p ≡ [])) (text : List ℕ) (v : Value) (bef
       by kinds.Element o base is plain keyed = ap (λ y. cond {A = ℕ} y 1 0) (ap (stands_there p) is ∙ self p)
       by kinds.Pair o base is plain keyed = ap (λ y. cond {A = ℕ} y 1 0) (ap (stands_there p) is ∙ self p)
 
-  changes : (u w : TextUnit) (us ws : List TextUnit) → HoldsValue p u → HasNewValue v u w → SetWay us ws → SetWay (u ∷ us) (w ∷ (inside p v ++ ws))
+  changes : (u w : TextUnit) (us ws : List TextUnit) → HoldsValue p u → HasNewValue IsOld v u w → SetWay us ws → SetWay (u ∷ us) (w ∷ (inside p v ++ ws))
   changes u w us ws holds is m =
       let block = map new (inside p v) in
       let one = holds_one u holds is.keyed in
@@ -349,7 +339,7 @@ module _ (p : Address) (some : ¬ (p ≡ [])) (text : List ℕ) (v : Value) (bef
       new_line_after [] l = refl
       new_line_after (x ∷ xs) l = new_line_after xs l
 
-  way_of : (us ws : List TextUnit) → AreMadeOf (IsSetTo p text v) us ws → SetWay us ws
+  way_of : (us ws : List TextUnit) → AreMadeOf (IsSetTo p text IsOld v) us ws → SetWay us ws
   way_of [] ws made =
       record {
         way = [];
@@ -369,7 +359,7 @@ pub set_way : (p : Address) (text : List ℕ) (v : Value) (lines : List Line) �
     → HasWay (set p text ∷ []) (texts (comments (inside [] v)) ∷ []) lines (set_lines p v lines)
 set_way p text v lines some is formed at keeps =
     let ends = sym (set_newlines p v lines (root ∷ []) 0) in
-    let m = way_of p some text v (newlines lines) (newlines (set_lines p v lines)) ends (units lines) (units (set_lines p v lines)) (set_units p text v lines some is formed at keeps) in
+    let m = way_of p some text (HoldAt lines p) v (newlines lines) (newlines (set_lines p v lines)) ends (units lines) (units (set_lines p v lines)) (set_units p text v lines some is formed at keeps) in
     let ts = texts (comments (inside [] v)) in
     let few : held p (units lines) ≤ 1 = (let a = lines_held p lines (root ∷ []) 0 in let b = one_there_only p (named lines) (values_at p lines at keeps) (pairs_of_all Alone (named lines) (line_values_stand_alone lines keeps)) in omega (arith, a, b)) in
     record {

@@ -29,7 +29,7 @@ use Rattle.toml_editor.specs.UnitBlocks.{root_line, left_of, BeginWithLine}
 use Rattle.toml_editor.specs.Written.{HasPair}
 use Rattle.toml_editor.proofs.Each.{each_front, each_back}
 use Rattle.toml_editor.proofs.written.SetKept.{clear_carried}
-use Rattle.toml_editor.proofs.written.UnitsGone.{value_in}
+use Rattle.toml_editor.proofs.written.UnitsGone.{inner_line, value_in}
 use Rattle.toml_editor.proofs.written.UnitsTaken.{AreTaken, lines_taken}
 use Rattle.toml_editor.proofs.written.Way.{Step, old, new, olds, news, one_line, is_here}
 use Rattle.toml_editor.proofs.written.WayBlock.{line_after, olds_append, news_append, added_append, fits_append, new_olds, new_news, new_adds, lines_append, inside_lines}
@@ -366,14 +366,7 @@ module _ (name : List ℕ) (lines : List Line) where
 
       after_inner : (xs : List TextUnit) → EachIs (LiesInValue gone) xs → line_after (Some (Gone name (newlines lines) (newlines edited))) (map old xs) ≡ Some (Gone name (newlines lines) (newlines edited))
       after_inner [] lies = refl
-      after_inner (x ∷ xs) lies = ap (λ b. line_after (cond b (Some (site x)) (Some (Gone name (newlines lines) (newlines edited)))) (map old xs)) (no_line x.kind lies.0.0) ∙ after_inner xs lies.1
-        where
-          no_line : (k : UnitKind) → is_inner k ≡ true → is_line k ≡ false
-          no_line kinds.Line e = absurd (true≢false (sym e))
-          no_line kinds.TailComment e = refl
-          no_line kinds.InnerComment e = refl
-          no_line kinds.Element e = refl
-          no_line kinds.Pair e = refl
+      after_inner (x ∷ xs) lies = ap (λ b. line_after (cond b (Some (site x)) (Some (Gone name (newlines lines) (newlines edited)))) (map old xs)) (inner_line x.kind lies.0.0) ∙ after_inner xs lies.1
 
       block_goes : (h : AreTaken name (units lines) (units edited) (newlines lines) (newlines edited)) (line : Option Site) (n : ℕ) → Fitting line n n (map old (root_line h.piece name h.value h.comment))
       block_goes h line n =

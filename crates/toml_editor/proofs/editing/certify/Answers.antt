@@ -9,6 +9,6 @@ returns-then-branch-clause-edited c =
     record {
       edited =
           edited c.args.profile c.args.before.text.now c.as_bytes.result.now (string_bytes made.text) (map change c.args.edits.now) made.certificate.pairs.items c.deref.result.now c.args.wanted.now
-          c.in_ok-reason.field-0 c.in_ok-names_all-in-Yes.field-0 c.in_ok-reason.ensures c.in-Yes.is c.as_bytes.ensures.value c.deref.ensures.value c.requires.wanted c.in_ok-names_all-in-Yes.ensures c.if-branch.true;
+          c.in_ok-reason.field-0 c.in_ok-names_all-in-Yes.field-0 c.in_ok-reason.ensures c.in-Yes.is c.as_bytes.ensures.value c.deref.ensures.value c.requires.wanted c.in_ok-names_all-in-Yes.ensures c.if-branch.true c.requires.made.plain;
       pieces = c.requires.made.pieces;
     }

@@ -2,6 +2,7 @@ use Rattle.std.proofs.Common.{◌∙◌, ap, map, string_bytes, subst}
 use Rattle.toml_tree.specs.Document.{document}
 use Rattle.toml_edits.specs.Edits.{change}
 use Rattle.toml_units.specs.View.{all_units}
+use Rattle.toml_editor.specs.Edited.{Tells}
 use Rattle.toml_editor.specs.Editing.{IsMadeText, IsReadAs}
 use Rattle.toml_editor.proofs.editing.make_document.Goals as goal
 
@@ -11,7 +12,7 @@ returns-clause-work c =
     let cs = map change c.args.edits.now in
     let d = document c.in_ok-source.doc in
     let read = c.in_ok-source.ensures.read in
-    let edited = c.in_ok-made.edited in
+    let edited = c.in-Ok.edited in
     let told = c.in_ok-wanted.ensures d before read.spelled (ap all_units c.deref.ensures.value ∙ c.in_ok-units.ensures) in
     let read_here : IsReadAs c.args.profile before before d = record { text_is = λ _. before; within = read.within; spelled = read.spelled; of_profile = read.of_profile } in
     record {
@@ -21,5 +22,9 @@ returns-clause-work c =
       units = c.in_ok-units.ensures;
       newlines = c.in_ok-newlines.ensures;
       wanted = (d, read.spelled, told);
-      made = subst (λ t. IsMadeText c.args.profile t cs c.in_ok-made.made (string_bytes edited.text) edited.pieces.items) read.text_is c.in_ok-made.ensures.made;
+      made = subst (λ t. IsMadeText c.args.profile t cs c.in-Ok.made (string_bytes edited.text) edited.pieces.items) read.text_is c.in-Ok.ensures.made;
     }
+
+pub returns-in-Err-clause-told : goal.returns-in-Err-clause-told
+returns-in-Err-clause-told c =
+    subst (λ t. Tells c.args.profile t (map change c.args.edits.now) c.in-Err.fault) c.in_ok-source.ensures.read.text_is c.in-Err.ensures.told

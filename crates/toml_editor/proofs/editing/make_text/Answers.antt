@@ -1,18 +1,21 @@
-use Rattle.std.proofs.Common.{List, map, subst, sym}
+use Rattle.std.proofs.Common.{List, ap, map, string_bytes, subst, sym}
 use Rattle.toml_text.specs.Source.{text_of}
 use Rattle.toml_tree.specs.Document.{document}
 use Rattle.toml_tree.specs.Tree.{Line}
 use Rattle.toml_names.specs.model.AddressSets.{is_hidden}
 use Rattle.toml_names.specs.model.Data.{IsDataOf, fact_at, kind_at}
+use Rattle.toml_names.specs.model.Hidden.{beside}
 use Rattle.toml_names.specs.model.Places.{place}
 use Rattle.toml_names.specs.mentions.Mentions.{named}
 use Rattle.toml_names.specs.reader.LineNames.{StandFor}
 use Rattle.toml_names.specs.reader.Reading.{lines_of}
 use Rattle.toml_edits.specs.Edits.{change}
 use Rattle.toml_edits.proofs.Proved.{leads_beside}
+use Rattle.toml_editor.specs.declared.texts.Texts.{Texts}
 use Rattle.toml_editor.specs.Making.{TellsAny}
 use Rattle.toml_editor.proofs.Judgements.{any_tells}
 use Rattle.toml_editor.proofs.NearFaults.{any_of_all, has_data}
+use Rattle.toml_editor.proofs.PlainMade.{no_plain_list_of, plain_written}
 use Rattle.toml_editor.proofs.editing.make_text.Goals as goal
 
 pub returns-in-Err-clause-told : goal.returns-in-Err-clause-told
@@ -25,8 +28,12 @@ returns-in-Err-clause-told c =
     let near = c.in_ok-data.ensures (lines_of c.args.reader) c.names.ensures old (subst (λ (ls : List Line). IsDataOf (named ls) old) (sym c.requires.read.taken) facts) in
     let part = kind_at c.in_ok-data.«data».root in
     let told = subst (λ (ls : List Line). TellsAny c.args.profile (place (named ls)) cs part c.in-Err.fault) c.requires.read.taken c.in-Err.ensures.told in
+    let opened = c.in_ok-tree.ensures in
+    let spread = no_plain_list_of c.args.profile (record { units = c.args.units.now; lines = d.lines }) d text c.in_ok-tree.tree c.requires.read.document
+    c.requires.read.spelled opened.stands (ap (λ (t : Texts). text_of t.source) opened.texts) opened.elements opened.style cs c.in-Err.fault
+    c.in-Err.ensures.spread in
     any_tells c.args.profile text cs d old c.in-Err.fault c.requires.read.document c.requires.read.spelled facts
-    (any_of_all c.args.profile (place (named d.lines)) (is_hidden c.in_ok-touched.touched) old cs c.in_ok-touched.ensures.near part near c.in-Err.fault told)
+    (any_of_all c.args.profile (place (named d.lines)) (is_hidden c.in_ok-touched.touched) old cs c.in_ok-touched.ensures.near part near c.in-Err.fault told) spread
 
 pub returns-clause-made : goal.returns-clause-made
 returns-clause-made c =
@@ -37,14 +44,21 @@ returns-clause-made c =
     let facts = has_data c.args.profile text d c.requires.read.document c.requires.read.spelled in
     let near = c.in_ok-data.ensures (lines_of c.args.reader) c.names.ensures old (subst (λ (ls : List Line). IsDataOf (named ls) old) (sym c.requires.read.taken) facts) in
     let new = kind_at c.make_all.new.«data».root in
+    let leads = leads_beside c.args.profile (is_hidden c.in_ok-touched.touched) cs old (kind_at c.in_ok-data.«data».root) new
+    c.in_ok-touched.ensures.near near c.in_default.ensures.made in
+    let opened = c.in_ok-tree.ensures in
     record {
+      plain = plain_written c.args.profile (record { units = c.args.units.now; lines = d.lines }) d text c.in_ok-tree.tree c.requires.read.document
+          c.requires.read.spelled opened.stands (ap (λ (t : Texts). text_of t.source) opened.texts) opened.elements opened.style cs old
+          (beside (is_hidden c.in_ok-touched.touched) old new) c.make_all.new.tree (string_bytes c.in_ok-edited.edited.text) facts leads
+          c.in_default.ensures.exact c.in_ok-edited.ensures.written;
       is_made = record {
         tree = d;
         spelled = c.requires.read.spelled;
         taken = subst (StandFor c.into_names.result) c.requires.read.taken c.into_names.ensures;
         old = old;
         facts = facts;
-        leads = leads_beside c.args.profile (is_hidden c.in_ok-touched.touched) cs old (kind_at c.in_ok-data.«data».root) new c.in_ok-touched.ensures.near near c.in_default.ensures.made;
+        leads = leads;
       };
       pieces = c.in_ok-edited.ensures.pieces;
     }

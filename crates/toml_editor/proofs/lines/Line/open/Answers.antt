@@ -9,7 +9,7 @@ pub returns-in_ok-new-clause-opened : goal.returns-in_ok-new-clause-opened
 returns-in_ok-new-clause-opened c =
     let found : Some c.in-Some.line.now ≡ slice_get c.lines.result.now c.in-Kept.kept.line = sym (ap option_copied c.in-Some.is) ∙ item_got _ _ _ c.get.ensures.lookup in
     body_opened c.args.texts c.lines.result.now _ _ c.in-Kept.kept c.in-Some.line.now c.in_ok-opened.opened c.in_ok-new.field-0 c.in-Kept.is c.lines.ensures found c.in_ok-new.ensures.ok
-    (in_text _ c.args.texts _ c.kept.ensures c.in_ok-opened.ensures.opened)
+    (in_text _ c.args.texts _ c.kept.ensures.texts c.in_ok-opened.ensures.opened)
 
 pub returns-in_default-get-clause-opened : goal.returns-in_default-get-clause-opened
 returns-in_default-get-clause-opened c =

@@ -1,10 +1,10 @@
-use Rattle.std.proofs.Common.{◌≡◌, ◌++◌, ◌∷◌, ◌∙◌, [], ap, sym, subst, append_assoc, append-nil, refl}
+use Rattle.std.proofs.Common.{◌≡◌, ◌++◌, ◌∷◌, ◌∙◌, [], ap, sym, subst, append_assoc}
 use Rattle.std.proofs.lemmas.List.{nil_from_length}
 use Rattle.std.proofs.lemmas.Result.{on_ok_weaker}
 use Rattle.std.specs.VecDeque.Iter.{deque_iter_rest}
 use Rattle.toml_editor.specs.declared.tree.Value.TheViews.{out-Entries, out-Entry}
-use Rattle.toml_editor.proofs.Numbered.{more_counted, all_counted, then, entries_are, entry_is}
-use Rattle.toml_editor.specs.Numbering.{Numbers, all_origins, end_origins, entry_origins, entries_origins, gap_origins, value_origins}
+use Rattle.toml_editor.proofs.Numbered.{nothing_counted, more_counted, entries_counted, then, entry_is}
+use Rattle.toml_editor.specs.Numbering.{Numbers, all_origins, end_origins, entry_origins, gap_origins, value_origins}
 use Rattle.toml_editor.proofs.numbering.Numbering.+numbering.Goals as goal
 
 pub entries-loop-entry-preserved : goal.entries-loop-entry-preserved
@@ -23,35 +23,27 @@ entries-loop-entry-preserved t c =
 pub entries-returns-in-Some-end : goal.entries-returns-in-Some-end
 entries-returns-in-Some-end t c =
     let so_far = c.loop-entry.invariant in
-    let es = c.args.entries.now in
-    let end = end_origins (out-Entries es).end in
-    let all = deque_iter_rest c.into_iter-entry-iterator.result in
-    let rest = deque_iter_rest c.loop-entry.entry-iterator in
-    let none = ap (λ es. all_origins entry_origins es ++ end) (nil_from_length rest c.in-None.ensures.steps.0) in
-    let is = ap end_origins c.in-Some-end.is in
-    let whole = entries_are es all (ap deque_iter_rest c.into_iter-entry-iterator.ensures.into_iter_gives ∙ c.iter-entry-items.ensures.rest) in (
+    let start = c.args.self.now in
+    let mid = c.loop-entry.self in
+    let is = ap deque_iter_rest c.into_iter-entry-iterator.ensures.into_iter_gives ∙ c.iter-entry-items.ensures.rest in
+    let none = nil_from_length (deque_iter_rest c.loop-entry.entry-iterator) c.in-None.ensures.steps.0 in (
       c.gap.ensures.0 ∙ so_far.0,
       c.gap.ensures.1 ∙ so_far.1,
       on_ok_weaker c.gap.result (λ here.
-          subst (λ os. Numbers os c.args.self.now c.gap.new.self) whole
-          (all_counted (all_origins entry_origins all ++ end) [] c.args.self.now c.gap.new.self refl
-          (more_counted (all_origins entry_origins all ++ end) end [] (all_origins entry_origins rest ++ end) c.args.self.now c.loop-entry.self c.gap.new.self so_far.1
-          (none ∙ sym (append-nil end)) so_far.2 (subst (λ os. Numbers os c.loop-entry.self c.gap.new.self) (sym is) here)))) c.gap.ensures.2,
+          entries_counted c.args.entries.now _ _ start mid c.gap.new.self is none so_far.1 so_far.2
+          (subst (λ e. Numbers (end_origins e) mid c.gap.new.self) (sym c.in-Some-end.is) here)) c.gap.ensures.2,
     )
 
 pub entries-returns-in-None-end : goal.entries-returns-in-None-end
 entries-returns-in-None-end t c =
     let so_far = c.loop-entry.invariant in
-    let es = c.args.entries.now in
-    let end = end_origins (out-Entries es).end in
-    let all = deque_iter_rest c.into_iter-entry-iterator.result in
-    let rest = deque_iter_rest c.loop-entry.entry-iterator in
-    let none = ap (λ es. all_origins entry_origins es ++ end) (nil_from_length rest c.in-None.ensures.steps.0) ∙ ap end_origins c.in-None-end.is in
-    let whole = entries_are es all (ap deque_iter_rest c.into_iter-entry-iterator.ensures.into_iter_gives ∙ c.iter-entry-items.ensures.rest) in (
+    let mid = c.loop-entry.self in
+    let is = ap deque_iter_rest c.into_iter-entry-iterator.ensures.into_iter_gives ∙ c.iter-entry-items.ensures.rest in
+    let none = nil_from_length (deque_iter_rest c.loop-entry.entry-iterator) c.in-None.ensures.steps.0 in (
       so_far.0,
       so_far.1,
-      subst (λ os. Numbers os c.args.self.now c.loop-entry.self) whole
-          (all_counted (all_origins entry_origins all ++ end) (all_origins entry_origins rest ++ end) c.args.self.now c.loop-entry.self none so_far.2),
+      entries_counted c.args.entries.now _ _ c.args.self.now mid mid is none so_far.1 so_far.2
+          (subst (λ e. Numbers (end_origins e) mid mid) (sym c.in-None-end.is) (nothing_counted mid)),
     )
 
 pub entry-returns : goal.entry-returns

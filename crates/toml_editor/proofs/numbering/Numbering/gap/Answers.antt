@@ -1,5 +1,5 @@
-use Rattle.std.proofs.Common.{◌∙◌, arith}
-use Rattle.toml_editor.proofs.Numbered.{next_read, last_counted}
+use Rattle.std.proofs.Common.{◌∙◌}
+use Rattle.toml_editor.proofs.Numbered.{next_read}
 use Rattle.toml_editor.specs.Numbering.{gap_part_origins}
 use Rattle.toml_editor.proofs.numbering.Numbering.gap.Goals as goal
 

@@ -1,4 +1,4 @@
-use Rattle.std.proofs.Common.{◌∙◌, ap, subst, arith}
+use Rattle.std.proofs.Common.{◌∙◌, subst, arith}
 use Rattle.toml_editor.proofs.Numbered.{next_counted, last_counted}
 use Rattle.toml_editor.specs.Numbering.{Numbers, own_origins}
 use Rattle.toml_editor.proofs.numbering.Numbering.lines.Goals as goal

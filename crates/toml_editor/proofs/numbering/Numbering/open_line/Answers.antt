@@ -1,7 +1,7 @@
-use Rattle.std.proofs.Common.{◌∙◌, ◌∷◌, [], Option, Some, None, refl, subst, sym}
+use Rattle.std.proofs.Common.{◌∙◌, ◌∷◌, []}
 use Rattle.std.proofs.lemmas.Result.{on_ok_weaker}
 use Rattle.toml_editor.proofs.Numbered.{then}
-use Rattle.toml_editor.specs.Numbering.{Numbers, comment_origins, expr_origins}
+use Rattle.toml_editor.specs.Numbering.{comment_origins, expr_origins}
 use Rattle.toml_editor.proofs.numbering.Numbering.open_line.Goals as goal
 
 pub returns : goal.returns

@@ -1,10 +1,13 @@
-use Rattle.std.proofs.Common.{◌≡◌, ◌++◌, ◌∙◌, ap, sym, map, arith, append-nil}
+use Rattle.std.proofs.Common.{◌≡◌, ◌++◌, ◌∙◌, ap, refl, sym, subst, map, arith, append-nil}
 use Rattle.std.proofs.lemmas.List.{drop_all}
 use Rattle.std.specs.Prelude.{option_map}
 use Rattle.toml_tree.specs.Spells.{joined, comment_parts}
 use Rattle.toml_tree.specs.View.{gap, gap_line, piece}
 use Rattle.toml_editor.specs.OpenOutlines.{gap_text, gap_parts_text}
 use Rattle.toml_editor.specs.declared.tree.GapPart.TheVariants.{Newline, Comment}
+use Rattle.toml_editor.specs.Numbering.{gap_origins, gap_part_origins}
+use Rattle.toml_editor.specs.OpenOrigins.{RunFrom}
+use Rattle.toml_editor.proofs.OpenedOrigins.{run_more}
 use Rattle.toml_editor.proofs.Out.{dropped}
 use Rattle.toml_editor.proofs.OpenedGap.{gap_parts_more, gap_line_on, gap_ended}
 use Rattle.toml_editor.proofs.opening.Opener.gap.Goals as goal
@@ -15,7 +18,7 @@ loop-line-preserved c =
     let line = c.line-item.result in
     let old = gap_text c.loop-line.opened in
     let left = ap (map gap_line) (dropped c.lines-line-items.result.now c.loop-line.line-index line c.loop-line-test.true c.line-item.is) in
-    let ws = c.in_ok-push_ws.ensures ∙ ap (λ t. old ++ t) c.leaf-in-loop-line.ensures in
+    let ws = c.in_ok-push_ws.ensures.text ∙ ap (λ t. old ++ t) c.leaf-in-loop-line.ensures in
     let comment : gap_text c.match-line.opened ≡ gap_text c.push_ws.new.self ++ joined (comment_parts (option_map piece line.blank.comment)) = elim c.match-line.branch [
       | in-Some-comment+in_ok-push w ↦
           ap gap_text w.opened-is ∙ ap gap_parts_text w.in_ok-push.ensures.items ∙ gap_parts_more c.push_ws.new.self.parts.items (Comment w.comment.result)
@@ -31,10 +34,22 @@ loop-line-preserved c =
       | in-Some-comment+in_ok-push w ↦ ap (λ s. s.texts) w.self-is ∙ w.comment.ensures.texts ∙ c.loop-line.invariant.0
       | in_default-comment w ↦ ap (λ s. s.texts) w.self-is ∙ c.loop-line.invariant.0
     ] in
-    (texts, gap_line_on (gap_line line) _ _ _ _ _ _ _ left ws comment newline c.loop-line.invariant.1)
+    let first = c.args.self.now.next in
+    let run : RunFrom first (gap_origins c.match-line.opened) c.match-line.self.next = elim c.match-line.branch [
+      | in-Some-comment+in_ok-push w ↦
+          let before = subst (λ os. RunFrom first os c.loop-line.self.next) (sym c.in_ok-push_ws.ensures.origins) c.loop-line.invariant.2 in
+          let all = ap (λ g. g.parts.items) w.opened-is ∙ w.in_ok-push.ensures.items in
+          let more = run_more gap_part_origins c.push_ws.new.self.parts.items _ (Comment w.comment.result) first c.loop-line.self.next w.comment.new.self.next all before w.comment.ensures.numbered in
+          subst (RunFrom first (gap_origins c.match-line.opened)) (sym (ap (λ s. s.next) w.self-is)) more
+      | in_default-comment w ↦
+          let before = subst (λ os. RunFrom first os c.loop-line.self.next) (sym (ap gap_origins w.opened-is ∙ c.in_ok-push_ws.ensures.origins)) c.loop-line.invariant.2 in
+          subst (RunFrom first (gap_origins c.match-line.opened)) (sym (ap (λ s. s.next) w.self-is)) before
+    ] in
+    let ended = run_more gap_part_origins c.match-line.opened.parts.items _ (Newline c.leaf-in-loop-line-2.result) first c.match-line.self.next c.match-line.self.next c.in_ok-push-2.ensures.items run refl in
+    (texts, gap_line_on (gap_line line) _ _ _ _ _ _ _ left ws comment newline c.loop-line.invariant.1, ended)
 
 pub returns-clause-opened : goal.returns-clause-opened
 returns-clause-opened c lies =
     let items = c.lines-line-items.result.now in
     gap_ended (gap c.args.gap.now) (map gap_line items) _ (gap_text c.loop-line.opened) _ (ap (map gap_line) (drop_all c.loop-line.line-index items (omega (arith, c.loop-line-test.false)))) c.lines-line-items.ensures
-    (c.in_ok-push_ws-2.ensures ∙ ap (λ t. gap_text c.loop-line.opened ++ t) (c.leaf-2.ensures ∙ ap (λ p. p.text) c.ws-2.ensures)) c.loop-line.invariant.1
+    (c.in_ok-push_ws-2.ensures.text ∙ ap (λ t. gap_text c.loop-line.opened ++ t) (c.leaf-2.ensures ∙ ap (λ p. p.text) c.ws-2.ensures)) c.loop-line.invariant.1

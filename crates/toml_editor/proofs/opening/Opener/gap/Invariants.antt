@@ -2,9 +2,12 @@ use Rattle.std.proofs.Common.{◌≡◌, ◌++◌, map, drop}
 use Rattle.toml_tree.specs.Spells.{joined, all_parts, gap_line_parts}
 use Rattle.toml_tree.specs.View.{gap_line}
 use Rattle.toml_editor.specs.OpenOutlines.{gap_text}
+use Rattle.toml_editor.specs.Numbering.{gap_origins}
+use Rattle.toml_editor.specs.OpenOrigins.{RunFrom}
 use Rattle.toml_editor.proofs.opening.Opener.gap.Given as goal
 
 abbrev pub invariant-loop-line : goal.invariant-loop-line
 invariant-loop-line l =
     (l.self.texts ≡ l.initial.self.texts)
     × (gap_text l.opened ++ joined (all_parts gap_line_parts (map gap_line (drop l.line-index l.line-items))) ≡ joined (all_parts gap_line_parts (map gap_line l.line-items)))
+    × RunFrom l.initial.self.next (gap_origins l.opened) l.self.next

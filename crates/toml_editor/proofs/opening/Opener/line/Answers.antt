@@ -1,4 +1,4 @@
-use Rattle.std.proofs.Common.{◌∙◌, [], ◌∷◌, ap, sym, refl}
+use Rattle.std.proofs.Common.{◌∙◌, [], ◌∷◌, ◌++◌, ap, sym, subst, refl}
 use Rattle.std.specs.Prelude.{option_map}
 use Rattle.toml_text.specs.Source.{text_of}
 use Rattle.toml_tree.specs.Lines.{line}
@@ -6,6 +6,9 @@ use Rattle.toml_tree.specs.View.{piece, blank, keyval, header, expr}
 use Rattle.toml_editor.specs.OpenOutlines.{leaf_text, expr as expr_outlined}
 use Rattle.toml_editor.specs.Outlines as outline
 use Rattle.toml_editor.specs.TreeOutlines.{assign_outline, value_outline, header_outline}
+use Rattle.toml_editor.specs.Numbering.{comment_origins, expr_origins, value_origins}
+use Rattle.toml_editor.specs.OpenOrigins.{RunFrom}
+use Rattle.toml_editor.proofs.OpenedOrigins.{run_on}
 use Rattle.toml_editor.proofs.OpenedEach.{in_text}
 use Rattle.toml_editor.proofs.OpenedLine.{line_made, pair_lies}
 use Rattle.toml_editor.proofs.opening.Opener.line.Goals as goal
@@ -23,7 +26,7 @@ returns-clause-opened c lies =
       | in-KeyVal+in_ok-keyval-in-KeyVal w ↦
           let k = w.in-KeyVal in
           let is = ap expr (sym k.is) ∙ c.expr.ensures in
-          let opened = in_text _ now _ c.origin-origin.ensures w.in_ok-keyval-in-KeyVal.ensures.opened (pair_lies (text_of now.source) l (piece k.ws) (keyval k.keyval) (blank k.tail) is lies) in
+          let opened = in_text _ now _ c.origin-origin.ensures.texts w.in_ok-keyval-in-KeyVal.ensures.opened (pair_lies (text_of now.source) l (piece k.ws) (keyval k.keyval) (blank k.tail) is lies) in
           line_made l _ k.ws.text.now _ (outline.Pair (assign_outline (keyval k.keyval).assign) (value_outline (keyval k.keyval).value)) _ k.tail _ _ _ is (λ n. refl)
           (ap (λ t. leaf_text t.0) w.expr-is ∙ w.leaf.ensures) (ap (λ t. expr_outlined t.1) w.expr-is ∙ ap (λ p. outline.Pair p.0 p.1) opened)
           (c.blank.ensures.ws ∙ ap (λ t. t.2.ws.text.now) w.expr-is) (c.blank.ensures.comment ∙ ap (λ t. option_map (λ p. p.text.now) t.2.comment) w.expr-is) newline
@@ -34,3 +37,18 @@ returns-clause-opened c lies =
           line_made l _ w.in-Array.ws.text.now _ (header_outline (0x5B ∷ 0x5B ∷ []) (0x5D ∷ 0x5D ∷ []) (header w.in-Array.header)) _ w.in-Array.tail _ _ _ (ap expr (sym w.in-Array.is) ∙ c.expr.ensures) (λ n. refl) (ap (λ t. leaf_text t.0) w.expr-is ∙ w.leaf-in-Array.ensures) (ap (λ t. expr_outlined t.1) w.expr-is ∙ w.in_ok-header-in-Array.ensures)
           (c.blank.ensures.ws ∙ ap (λ t. t.2.ws.text.now) w.expr-is) (c.blank.ensures.comment ∙ ap (λ t. option_map (λ p. p.text.now) t.2.comment) w.expr-is) newline
     ]
+
+pub returns-clause-numbered : goal.returns-clause-numbered
+returns-clause-numbered c =
+    let here = c.origin-origin.new.self.next in
+    let now = c.match-expr.self.next in
+    let inside : RunFrom here (expr_origins c.match-expr.expr.1) now = elim c.match-expr.branch [
+      | in-Blank w ↦ subst (λ e. RunFrom here (expr_origins e) now) (sym (ap (λ t. t.1) w.expr-is)) (ap (λ s. s.next) w.self-is)
+      | in-KeyVal+in_ok-keyval-in-KeyVal w ↦
+          subst (λ e. RunFrom here (expr_origins e) now) (sym (ap (λ t. t.1) w.expr-is))
+          (subst (RunFrom here (value_origins w.in_ok-keyval-in-KeyVal.field-0.value)) (sym (ap (λ s. s.next) w.self-is)) w.in_ok-keyval-in-KeyVal.ensures.numbered)
+      | in-Std+in_ok-header-in-Std w ↦ subst (λ e. RunFrom here (expr_origins e) now) (sym (ap (λ t. t.1) w.expr-is)) (ap (λ s. s.next) w.self-is)
+      | in-Array+in_ok-header-in-Array w ↦ subst (λ e. RunFrom here (expr_origins e) now) (sym (ap (λ t. t.1) w.expr-is)) (ap (λ s. s.next) w.self-is)
+    ] in
+    let all = run_on (expr_origins c.match-expr.expr.1) (comment_origins c.blank.result.comment) here now c.blank.new.self.next inside c.blank.ensures.numbered in
+    (c.origin-origin.ensures.here, subst (λ x. RunFrom x (expr_origins c.match-expr.expr.1 ++ comment_origins c.blank.result.comment) c.blank.new.self.next) c.origin-origin.ensures.next all)

@@ -1,4 +1,4 @@
-use Rattle.std.proofs.Common.{◌∙◌, arith, subst}
+use Rattle.std.proofs.Common.{◌∙◌, subst}
 use Rattle.toml_editor.proofs.Numbered.{next_counted}
 use Rattle.toml_editor.specs.declared.numbering.Numbering.{Numbering}
 use Rattle.toml_editor.specs.Numbering.{Numbers, slot_origins}

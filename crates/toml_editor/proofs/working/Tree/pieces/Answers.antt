@@ -1,6 +1,10 @@
-use Rattle.std.proofs.Common.{◌≡◌, ◌++◌, ◌∙◌, List, ℕ, ap, arith, subst, sym, rules}
+use Rattle.std.proofs.Common.{◌≡◌, ◌++◌, ◌∙◌, ap, arith, subst, sym, rules}
 use Rattle.toml_text.specs.Source.{text_of}
+use Rattle.toml_tree.specs.Spells.{EachIs}
 use Rattle.toml_editor.proofs.Out.{spelled_on, spelled_all}
+use Rattle.toml_editor.proofs.StandingOut.{all_outlined, slots_spell}
+use Rattle.toml_editor.specs.Standing.{slots_standing}
+use Rattle.toml_editor.specs.Stands.{SlotKept}
 use Rattle.toml_editor.specs.Writing.{SpellAll, SpellsSlot}
 use Rattle.toml_editor.proofs.working.Tree.pieces.Goals as goal
 
@@ -14,11 +18,15 @@ loop-slot-preserved c =
     )
 
 pub returns-clause-written : goal.returns-clause-written
-returns-clause-written c text spelled =
+returns-clause-written c read ss stands =
     let start = c.place.new.self in
+    let text = text_of c.args.source in
     let slots = c.deref-slot-items.result.now in
-    let before : start.before ≡ text_of c.args.source = search rules in
+    let all = all_outlined (slots_standing read slots) in
+    let before : start.before ≡ text = search rules in
     let out : start.out ≡ c.args.mark.text.now = search rules in
-    let here = subst (λ b. SpellAll (SpellsSlot b) slots text) (sym before) (subst (λ ss. SpellAll (SpellsSlot (text_of c.args.source)) ss text) (sym c.deref-slot-items.ensures.value) spelled) in
-    let all = spelled_all (SpellsSlot start.before) start.out slots c.loop-slot.slot-index c.loop-slot.pieces.out text (omega (arith, c.loop-slot-test.false)) (c.loop-slot.invariant.1 text here) in
-    all ∙ ap (λ r. r ++ text) out
+    let kept = subst (EachIs (SlotKept text read)) (sym c.deref-slot-items.ensures.value) stands.kept in
+    let spelled = subst (λ b. SpellAll (SpellsSlot b) slots all) (sym before) (slots_spell text read slots kept) in
+    let written = spelled_all (SpellsSlot start.before) start.out slots c.loop-slot.slot-index c.loop-slot.pieces.out all (omega (arith, c.loop-slot-test.false)) (c.loop-slot.invariant.1 all spelled) in
+    written ∙ ap (λ r. r ++ all) out
+    ∙ ap (λ s. c.args.mark.text.now ++ all_outlined s) (ap (slots_standing read) c.deref-slot-items.ensures.value ∙ stands.are)

@@ -1,5 +1,4 @@
 use Rattle.std.proofs.Common.{◌≡◌, ℕ, List}
-use Rattle.toml_text.specs.Source.{text_of}
 use Rattle.toml_editor.proofs.Out.{SpelledSoFar}
 use Rattle.toml_editor.specs.Writing.{SpellAll, SpellsSlot}
 use Rattle.toml_editor.proofs.working.Tree.pieces.Given as goal

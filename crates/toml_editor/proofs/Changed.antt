@@ -1,0 +1,229 @@
+-- What becomes of lines of the working tree in whose values something is changed.
+use Rattle.std.proofs.Common.{◌≡◌, ◌∙◌, ℕ, zero, suc, ◌<◌, ◌≤◌, Bool, true, List, [], ◌∷◌, ◌++◌, length, drop, get_or, map, set, Option, Some, None, refl, ap, ap₂, sym, subst}
+use Rattle.std.specs.Global.{Box}
+use Rattle.std.specs.declared.alloc.Global.{Global}
+use Rattle.std.specs.declared.vec.Vec.{Vec}
+use Rattle.std.proofs.lemmas.List.{map-set}
+use Rattle.std.proofs.lemmas.Option.{none-some, same_Some, slice_get-get_or, slice_get-map, slice_get_past}
+use Rattle.std.specs.Prelude.{option_and_then, option_map, slice_get, MatchOption}
+use Rattle.toml_names.proofs.Proved.{same_step-equal}
+use Rattle.toml_names.specs.model.Addresses.{Address, same_step}
+use Rattle.toml_text.specs.Source.{text_of}
+use Rattle.toml_tree.specs.Spells.{EachIs}
+use Rattle.toml_tree.specs.Tree as tree
+use Rattle.toml_units.specs.declared.unit.Unit.{Unit as ReadUnit}
+use Rattle.toml_editor.specs.declared.inside.Inside.{Inside}
+use Rattle.toml_editor.specs.declared.inside.Inside.TheVariants as changes
+use Rattle.toml_editor.specs.declared.lines.Body.{Body}
+use Rattle.toml_editor.specs.declared.lines.Body.TheVariants as bodies
+use Rattle.toml_editor.specs.declared.lines.Kept.{Kept}
+use Rattle.toml_editor.specs.declared.lines.Line.{Line}
+use Rattle.toml_editor.specs.declared.lines.Slot.{Slot}
+use Rattle.toml_editor.specs.declared.lines.Slot.TheVariants as slots
+use Rattle.toml_editor.specs.declared.texts.Texts.{Texts}
+use Rattle.toml_editor.specs.declared.tree.OpenLine.{OpenLine}
+use Rattle.toml_editor.specs.declared.working.Position.{Position}
+use Rattle.toml_editor.specs.Changing.{ChangesBody, ChangesOpen, RenamesOpen, SetsOpen, ChangesAs, ChangesStanding, ChangesLine, ChangesOne, ChangesSlot, ChangesSlots}
+use Rattle.toml_editor.specs.OpeningLines.{OpensBody, IsOpened}
+use Rattle.toml_editor.specs.OpenOutlines.{line, value}
+use Rattle.toml_editor.specs.Outlines.{ValueOutline, LineOutline}
+use Rattle.toml_editor.specs.RenameStanding.{rename_line_outline, rename_outline_of}
+use Rattle.toml_editor.specs.Seeing.{steps_to}
+use Rattle.toml_editor.specs.Standing.{Standing, Read, IsApart, begins, leads_to, expr_has, outline_has, outline_of, body_outline, line_standing, set_line_outline, set_outline_of, slot_standing, slots_standing}
+use Rattle.toml_editor.specs.Stands.{BodyKept, OpensSlot, SlotKept}
+use Rattle.toml_editor.proofs.Alone.{and_parts, item_split, slot_split, split_within}
+use Rattle.toml_editor.proofs.Each.{each_get}
+
+begins_rest : (a p : Address) → begins a p ≡ true → a ++ drop (length a) p ≡ p
+begins_rest [] p h = refl
+begins_rest (s ∷ a) [] h = cc
+begins_rest (s ∷ a) (t ∷ p) h =
+    let parts = and_parts (same_step s t) (begins a p) h in
+    ap₂ (λ x r. x ∷ r) (same_step-equal s t parts.0) (begins_rest a p parts.1)
+
+-- the value of a line holds what stands at the address: a `set` at the steps below the line is one at the address
+sets_below : (p : Address) (new : ValueOutline) (base : Option ℕ) (own : Option Address) (old now : LineOutline) (done : Bool) → leads_to p base own ≡ true
+    → SetsOpen (drop (steps_to own) p) new old now done → IsApart old.expr → (now ≡ set_outline_of p new base own old) × (done ≡ outline_has p base own old.expr)
+sets_below p new None own old now done h sets apart = cc
+sets_below p new (Some n) None old now done h sets apart = cc
+sets_below p new (Some n) (Some a) old now done h sets apart =
+    subst (λ q. (now ≡ set_line_outline q new a old) × (done ≡ expr_has q a old.expr)) (begins_rest a p h) (sets apart a)
+
+-- and so is a `rename`
+renames_below : (p : Address) (text : List ℕ) (base : Option ℕ) (own : Option Address) (old now : LineOutline) → leads_to p base own ≡ true
+    → RenamesOpen (drop (steps_to own) p) text old now → IsApart old.expr → now ≡ rename_outline_of p text base own old
+renames_below p text None own old now h renames apart = cc
+renames_below p text (Some n) None old now h renames apart = cc
+renames_below p text (Some n) (Some a) old now h renames apart = subst (λ q. now ≡ rename_line_outline q text a old) (begins_rest a p h) (renames apart a)
+
+-- what a line is once it is opened
+pub opened_outline : (texts : Texts) (read : Read) (lines : List tree.Line) (old mid : Body) (o : Box OpenLine) → read.lines ≡ lines → BodyKept (text_of texts.source) read old
+    → OpensBody texts lines old mid → mid ≡ bodies.Open o → body_outline read old ≡ line o.value
+opened_outline texts read lines (bodies.Open x) mid o are kept opens is = let e : bodies.Open x ≡ bodies.Open o = sym opens ∙ is in ap (body_outline read) e
+opened_outline texts read lines (bodies.Kept k) mid o are kept opens is =
+    let there : slice_get lines k.line ≡ Some kept.line = subst (λ ls. slice_get ls k.line ≡ Some kept.line) are kept.is in
+    let (b, made, outlined) = subst (λ r. MatchOption r (mid ≡ bodies.Kept k) (λ l. IsOpened texts l mid)) there opens in
+    let e : bodies.Open b ≡ bodies.Open o = sym made ∙ is in
+    ap outline_of kept.is ∙ sym (outlined kept.lies) ∙ ap (body_outline read) e
+
+-- what the document has is opened
+pub never_kept : (texts : Texts) (read : Read) (lines : List tree.Line) (old mid : Body) (k : Kept) → read.lines ≡ lines → BodyKept (text_of texts.source) read old
+    → OpensBody texts lines old mid → mid ≡ bodies.Kept k → ⊥
+never_kept texts read lines (bodies.Open x) mid k are kept opens is = let e : bodies.Open x ≡ bodies.Kept k = sym opens ∙ is in cc
+never_kept texts read lines (bodies.Kept j) mid k are kept opens is =
+    let there : slice_get lines j.line ≡ Some kept.line = subst (λ ls. slice_get ls j.line ≡ Some kept.line) are kept.is in
+    let (b, made, outlined) = subst (λ r. MatchOption r (mid ≡ bodies.Kept j) (λ l. IsOpened texts l mid)) there opens in
+    let e : bodies.Open b ≡ bodies.Kept k = sym made ∙ is in
+    cc
+
+-- a line that is opened stands where it stood
+pub line_opened : (texts : Texts) (read : Read) (lines : List tree.Line) (old mid : Line) → mid.address ≡ old.address → mid.base ≡ old.base → read.lines ≡ lines
+    → BodyKept (text_of texts.source) read old.body → OpensBody texts lines old.body mid.body
+    → BodyKept (text_of texts.source) read mid.body × (line_standing read mid ≡ line_standing read old)
+line_opened texts read lines old mid address base are kept opens = by mid.body refl
+  where
+    by : (body : Body) → mid.body ≡ body → BodyKept (text_of texts.source) read mid.body × (line_standing read mid ≡ line_standing read old)
+    by (bodies.Kept k) is = absurd (never_kept texts read lines old.body mid.body k are kept opens is)
+    by (bodies.Open o) is =
+        let same = ap (body_outline read) is ∙ sym (opened_outline texts read lines old.body mid.body o are kept opens is) in (
+          subst (BodyKept (text_of texts.source) read) (sym is) tt,
+          ap₂ (λ a b. record { address = a; base = b; outline = body_outline read mid.body }) address base ∙ ap (λ l. record { address = old.address; base = old.base; outline = l }) same,
+        )
+
+changes_as : (p : Address) (change : Inside) (base : Option ℕ) (own : Option Address) (old now old_open now_open : LineOutline) (done : Bool) → old ≡ old_open → now ≡ now_open
+    → ChangesOpen (drop (steps_to own) p) change old_open now_open done
+    → ChangesAs p change (record { address = own; base = base; outline = old }) (record { address = own; base = base; outline = now }) done
+changes_as p (changes.Set new) base own old now old_open now_open done was is sets = λ apart h.
+    let sets_old : SetsOpen (drop (steps_to own) p) (value new) old now done = subst (λ l. SetsOpen (drop (steps_to own) p) (value new) l now done) (sym was) (subst (λ m. SetsOpen (drop (steps_to own) p) (value new) old_open m done) (sym is) sets) in
+    let (set_to, has_it) = sets_below p (value new) base own old now done h sets_old apart in
+    (ap (λ l. record { address = own; base = base; outline = l }) set_to, has_it)
+changes_as p (changes.Insert spelled new) base own old now old_open now_open done was is sets = tt
+changes_as p (changes.Rename to) base own old now old_open now_open done was is renames = λ apart h.
+    let renames_old : RenamesOpen (drop (steps_to own) p) to.now old now = subst (λ l. RenamesOpen (drop (steps_to own) p) to.now l now) (sym was) (subst (λ m. RenamesOpen (drop (steps_to own) p) to.now old_open m) (sym is) renames) in
+    ap (λ l. record { address = own; base = base; outline = l }) (renames_below p to.now base own old now h renames_old apart)
+changes_as p changes.Remove base own old now old_open now_open done was is sets = tt
+
+pub line_changed : (texts : Texts) (lines : List tree.Line) (p steps : Address) (change : Inside) (old mid now : Line) (done : Bool) → mid.address ≡ old.address → mid.base ≡ old.base
+    → OpensBody texts lines old.body mid.body → now.address ≡ mid.address → now.base ≡ mid.base → steps ≡ drop (steps_to mid.address) p
+    → ChangesBody steps change mid.body now.body done → ChangesLine texts lines p change old now done
+line_changed texts lines p steps change old mid now done mid_address mid_base opens address base left changed read are kept = by mid.body refl changed
+  where
+    by : (body : Body) → mid.body ≡ body → ChangesBody steps change body now.body done
+        → BodyKept (text_of texts.source) read now.body × ChangesStanding p change (line_standing read old) (line_standing read now) done
+    by (bodies.Kept k) is unchanged = absurd (never_kept texts read lines old.body mid.body k are kept opens is)
+    by (bodies.Open o) opened (n, is, changed_open) =
+        let same_address = address ∙ mid_address in
+        let same_base = base ∙ mid_base in
+        let as_is = changes_as p change old.base old.address (body_outline read old.body) (body_outline read now.body) (line o.value) (line n.value) done
+        (opened_outline texts read lines old.body mid.body o are kept opens opened) (ap (body_outline read) is)
+        (subst (λ s. ChangesOpen s change (line o.value) (line n.value) done) (left ∙ ap (λ a. drop (steps_to a) p) mid_address) changed_open) in (
+          subst (BodyKept (text_of texts.source) read) (sym is) tt,
+          (
+            ap₂ (λ a b. record { address = a; base = b }) same_address same_base,
+            subst (λ a. ChangesAs p change (line_standing read old) (record { address = a; base = now.base; outline = body_outline read now.body }) done) (sym same_address)
+                (subst (λ b. ChangesAs p change (line_standing read old) (record { address = old.address; base = b; outline = body_outline read now.body }) done) (sym same_base) as_is),
+          ),
+        )
+
+pub each_set : {A : Type 0} (P : A → Type 0) (xs : List A) (i : ℕ) (y : A) → EachIs P xs → P y → EachIs P (set xs i y)
+each_set P [] i y h k = tt
+each_set P (x ∷ xs) zero y h k = (k, h.1)
+each_set P (x ∷ xs) (suc i) y h k = (h.0, each_set P xs i y h.1 k)
+
+-- what stands on the lines of a slot once it is opened
+pub opened_standing : (read : Read) (old mid : Slot) (lines : Vec Line Global) → OpensSlot read.units old mid → mid ≡ slots.Lines lines → map (line_standing read) lines.items ≡ slot_standing read old
+opened_standing read (slots.Lines ls) mid lines opens is = let e : slots.Lines ls ≡ slots.Lines lines = sym opens ∙ is in sym (ap (slot_standing read) e)
+opened_standing read (slots.Kept kept) mid lines (ls, made, one) is =
+    let e : slots.Lines ls ≡ slots.Lines lines = sym made ∙ is in sym (ap (slot_standing read) e) ∙ ap (map (line_standing read)) one
+
+pub opened_kept : (text : List ℕ) (read : Read) (old mid : Slot) (lines : Vec Line Global) → OpensSlot read.units old mid → mid ≡ slots.Lines lines → SlotKept text read old
+    → EachIs (λ (l : Line). BodyKept text read l.body) lines.items
+opened_kept text read (slots.Lines ls) mid lines opens is kept = let e : slots.Lines ls ≡ slots.Lines lines = sym opens ∙ is in subst (SlotKept text read) e kept
+opened_kept text read (slots.Kept k) mid lines (ls, made, one) is kept =
+    let e : slots.Lines ls ≡ slots.Lines lines = sym made ∙ is in
+    subst (SlotKept text read) e (subst (EachIs (λ (l : Line). BodyKept text read l.body)) (sym one) (kept, tt))
+
+pub one_changed : (texts : Texts) (lines : List tree.Line) (index : ℕ) (p : Address) (change : Inside) (old now : List Line) (l m : Line) (done : Bool) → index < length old → l ≡ get_or old index l
+    → now ≡ set old index m → ChangesLine texts lines p change l m done → ChangesOne texts lines index p change old now done
+one_changed texts lines index p change old now l m done low is put changed =
+    let there : Some l ≡ slice_get old index = ap Some is ∙ sym (slice_get-get_or old index l low) in
+    subst (λ o. MatchOption o (now ≡ old) (λ x. (y : Line) × (now ≡ set old index y) × ChangesLine texts lines p change x y done)) there (m, put, changed)
+
+pub none_changed : (texts : Texts) (lines : List tree.Line) (index : ℕ) (p : Address) (change : Inside) (old : List Line) (done : Bool) → length old ≤ index → ChangesOne texts lines index p change old old done
+none_changed texts lines index p change old done past =
+    subst (λ o. MatchOption o (old ≡ old) (λ x. (y : Line) × (old ≡ set old index y) × ChangesLine texts lines p change x y done)) (sym (slice_get_past old index past)) refl
+
+-- one of the lines of a slot is changed, or none
+pub slot_changed : (texts : Texts) (read : Read) (index : ℕ) (p : Address) (change : Inside) (old mid : Slot) (lines made : Vec Line Global) (done : Bool)
+    → OpensSlot read.units old mid → mid ≡ slots.Lines lines → ChangesOne texts read.lines index p change lines.items made.items done → ChangesSlot texts read index p change old (slots.Lines made) done
+slot_changed texts read index p change old mid lines made done opens opened changes kept = by (slice_get lines.items index) refl changes
+  where
+    text : List ℕ
+    text = text_of texts.source
+
+    BodiesKept : List Line → Type 0
+    BodiesKept = EachIs (λ (l : Line). BodyKept text read l.body)
+
+    stood : map (line_standing read) lines.items ≡ slot_standing read old
+    stood = opened_standing read old mid lines opens opened
+
+    each : BodiesKept lines.items
+    each = opened_kept text read old mid lines opens opened kept
+
+    at_index : (s : Standing) → slice_get (slot_standing read old) index ≡ Some s → option_map (line_standing read) (slice_get lines.items index) ≡ Some s
+    at_index s at = sym (slice_get-map (line_standing read) lines.items index) ∙ ap (λ xs. slice_get xs index) stood ∙ at
+
+    by : (o : Option Line) → slice_get lines.items index ≡ o → MatchOption o (made.items ≡ lines.items) (λ l. (m : Line) × (made.items ≡ set lines.items index m) × ChangesLine texts read.lines p change l m done)
+        → BodiesKept made.items × ((s : Standing) → slice_get (slot_standing read old) index ≡ Some s
+        → (t : Standing) × (map (line_standing read) made.items ≡ set (slot_standing read old) index t) × ChangesStanding p change s t done)
+    by None there same = (
+      subst BodiesKept (sym same) each,
+      λ s at. let none : None ≡ Some s = sym (ap (option_map (line_standing read)) there) ∙ at_index s at in absurd (none-some s none),
+    )
+    by (Some l) there (m, put, changed) =
+        let (kept_now, as_is) = changed read refl (each_get (λ (x : Line). BodyKept text read x.body) lines.items index l each there) in (
+          subst BodiesKept (sym put) (each_set (λ (x : Line). BodyKept text read x.body) lines.items index m each kept_now),
+          λ s at.
+              let same : line_standing read l ≡ s = same_Some (line_standing read l) s (sym (ap (option_map (line_standing read)) there) ∙ at_index s at) in (
+                line_standing read m,
+                ap (map (line_standing read)) put ∙ map-set (line_standing read) lines.items index m ∙ ap (λ xs. set xs index (line_standing read m)) stood,
+                subst (λ x. ChangesStanding p change x (line_standing read m) done) same as_is,
+              ),
+        )
+
+-- it is opened: no slot is kept any more
+pub slot_never_kept : (units : List ReadUnit) (old mid : Slot) (k : Kept) → OpensSlot units old mid → mid ≡ slots.Kept k → ⊥
+slot_never_kept units (slots.Lines ls) mid k opens is = let e : slots.Lines ls ≡ slots.Kept k = sym opens ∙ is in cc
+slot_never_kept units (slots.Kept j) mid k (ls, made, one) is = let e : slots.Lines ls ≡ slots.Kept k = sym made ∙ is in cc
+
+-- the slot of the place is changed
+pub at_changed : (texts : Texts) (read : Read) (at : Position) (p : Address) (change : Inside) (old now : List Slot) (slot new : Slot) (done : Bool) → at.slot < length old → slot ≡ get_or old at.slot slot
+    → now ≡ set old at.slot new → ChangesSlot texts read at.index p change slot new done → ChangesSlots texts read at p change old now done
+at_changed texts read at p change old now slot new done low is put changed kept =
+    let kept_here = SlotKept (text_of texts.source) read in
+    let there : slice_get old at.slot ≡ Some slot = slice_get-get_or old at.slot slot low ∙ ap Some (sym is) in
+    let (kept_now, changes) = changed (each_get kept_here old at.slot slot kept there) in (
+      subst (EachIs kept_here) (sym put) (each_set kept_here old at.slot new kept kept_now),
+      λ s e.
+          let own : slice_get (slot_standing read slot) at.index ≡ Some s = sym (ap (option_and_then (λ (x : Slot). slice_get (slot_standing read x) at.index)) there) ∙ e in
+          let (t, new_own, as_is) = changes s own in
+          let (before, behind, all, set_to) = slot_split read old at.slot slot there in
+          let (front, back, split, new_split) = item_split (slot_standing read slot) at.index s own in
+          let outer : slots_standing read now ≡ before ++ (slot_standing read new ++ behind) = ap (slots_standing read) put ∙ set_to new in
+          let inner : slot_standing read new ≡ front ++ t ∷ back = new_own ∙ new_split t in (
+            before ++ front,
+            back ++ behind,
+            t,
+            split_within before front s back behind (slot_standing read slot) (slots_standing read old) all split,
+            split_within before front t back behind (slot_standing read new) (slots_standing read now) outer inner,
+            as_is,
+          ),
+    )
+
+pub no_slot_changed : (texts : Texts) (read : Read) (at : Position) (p : Address) (change : Inside) (old : List Slot) (done : Bool) → length old ≤ at.slot → ChangesSlots texts read at p change old old done
+no_slot_changed texts read at p change old done past kept = (
+  kept,
+  λ s e.
+      let none : None ≡ Some s = sym (ap (option_and_then (λ (x : Slot). slice_get (slot_standing read x) at.index)) (slice_get_past old at.slot past)) ∙ e in
+      absurd (none-some s none),
+)

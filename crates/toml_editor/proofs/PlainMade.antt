@@ -1,0 +1,87 @@
+-- The text that is written of the working tree, once plain edits are made on it, is the one that they write.
+use Rattle.std.proofs.Common.{◌≡◌, ℕ, List, ◌++◌, sym, ap, ◌∙◌, subst}
+use Rattle.toml_text.specs.Forms.{IsNewline}
+use Rattle.toml_text.specs.Source.{text_of}
+use Rattle.toml_tree.specs.Profiles.{IsOfProfile}
+use Rattle.toml_tree.specs.Spells.{Spells, joined, lines_parts}
+use Rattle.toml_tree.specs.Tree.{Piece, Doc}
+use Rattle.toml_tree.specs.declared.profile.Profile.{Profile}
+use Rattle.toml_tree.proofs.Proved.{one_tree, text_is_spelled}
+use Rattle.toml_names.specs.mentions.Mentions.{named}
+use Rattle.toml_names.specs.model.Data.{IsDataOf, Kinds}
+use Rattle.toml_names.specs.model.Documents.{IsDocumentIn}
+use Rattle.toml_names.specs.reader.Names.{AreGood}
+use Rattle.toml_edits.specs.Edits.{Change}
+use Rattle.toml_edits.specs.Lists.{Lead}
+use Rattle.toml_editor.specs.declared.fault.EditorFault.{EditorFault}
+use Rattle.toml_editor.specs.declared.fault.EditorFault.TheVariants as faults
+use Rattle.toml_editor.specs.declared.texts.Texts.{Texts}
+use Rattle.toml_editor.specs.declared.working.Tree.{Tree}
+use Rattle.toml_editor.specs.CertifiedLists.{ArePlain}
+use Rattle.toml_editor.specs.Exact.{AreNotPlain, IsAt, MakesAll, OfSpread, style}
+use Rattle.toml_editor.specs.PlainTexts.{IsNoPlainList, WritesPlain}
+use Rattle.toml_editor.specs.Standing.{Read, standing}
+use Rattle.toml_editor.specs.Stands.{Stands}
+use Rattle.toml_editor.specs.Starting.{NoneIsGone}
+use Rattle.toml_editor.specs.Steps.{AreWritten}
+use Rattle.toml_editor.specs.Writing.{WritesOut}
+use Rattle.toml_editor.specs.Written.{style_of}
+use Rattle.toml_editor.proofs.WrittenOut.{lines_are_written}
+use Rattle.toml_editor.proofs.written.Elsewhere.{style_is_newline}
+use Rattle.toml_editor.proofs.written.Steps.{plain_steps}
+
+module _ (profile : Profile) (read : Read) (d : Doc) (before : List ℕ) (tree : Tree) (document : IsDocumentIn profile before)
+    (spelled : Spells d before) (stands : Stands before read tree.slots.items (standing d.lines)) (texts : text_of tree.texts.source ≡ before)
+    (whole : NoneIsGone tree.elements) (styled : style tree ≡ style_of d.lines) where
+  abbrev same : document.1 ≡ d
+  same = one_tree document.1 d before document.2 spelled
+
+  -- at first the tree stands for the text
+  abbrev at : (old : Kinds) → IsDataOf (named d.lines) old → IsAt profile read tree before old
+  at old facts = record {
+    good = record {
+      tree = d;
+      spelled = (spelled, subst (IsOfProfile profile) same document.4);
+      good = subst (λ (e : Doc). AreGood e.lines) same document.3;
+      facts = facts;
+    };
+    stands = subst (λ t. Stands t read tree.slots.items (standing d.lines)) (sym texts) stands;
+    whole = whole;
+    newline = subst IsNewline (sym styled) (style_is_newline d.lines spelled.lines.forms);
+  }
+
+  pub no_plain_list : (cs : List Change) → AreNotPlain profile read cs tree → IsNoPlainList profile before cs
+  no_plain_list cs not = (
+    d,
+    spelled,
+    (λ old now facts lead plain. not before old now (at old facts) lead (subst (λ s. ArePlain profile cs s before) (sym styled) plain)),
+  )
+
+  pub no_plain_list_of : (cs : List Change) (fault : EditorFault) → OfSpread (AreNotPlain profile read cs tree) fault → OfSpread (IsNoPlainList profile before cs) fault
+  no_plain_list_of cs (faults.Spread i) not = no_plain_list cs not
+  no_plain_list_of cs (faults.LastElement i) not = no_plain_list cs not
+  no_plain_list_of cs (faults.Text f) not = tt
+  no_plain_list_of cs (faults.Syntax f) not = tt
+  no_plain_list_of cs (faults.Names f) not = tt
+  no_plain_list_of cs (faults.Edit i f) not = tt
+  no_plain_list_of cs faults.TooLong not = tt
+  no_plain_list_of cs (faults.Unverified r) not = tt
+  no_plain_list_of cs faults.NoMemory not = tt
+
+  module _ (cs : List Change) (old now : Kinds) (new : Tree) (out : List ℕ) (facts : IsDataOf (named d.lines) old) (lead : Lead profile cs old now) where
+    pub plain_written : MakesAll profile read cs tree new → WritesOut before d.mark.text new.slots.items out → WritesPlain profile before cs out
+    plain_written makes writes = (d, spelled, (λ plain. by plain))
+      where
+        by : ArePlain profile cs (style_of d.lines) before → AreWritten profile cs (style_of d.lines) before out
+        by plain =
+            let first = at old facts in
+            let all = makes before old now first lead (subst (λ s. ArePlain profile cs s before) (sym styled) plain) in
+            let last = all.at.good.tree in
+            let steps = plain_steps profile cs (style tree) before all.after old now first.newline first.good lead all.written in
+            let tree_is : steps.0.tree ≡ last = one_tree steps.0.tree last all.after steps.0.spelled.0 all.at.good.spelled.0 in
+            let mark : d.mark ≡ last.mark = sym steps.1 ∙ ap (λ (e : Doc). e.mark) tree_is in
+            let there = subst (λ t. Stands t read new.slots.items (standing last.lines)) (ap (λ (s : Texts). text_of s.source) all.source.texts ∙ texts) all.at.stands in
+            let is : out ≡ all.after =
+            lines_are_written before d.mark.text read new.slots.items last.lines out writes there
+            ∙ ap (λ (m : Piece). m.text ++ joined (lines_parts last.lines)) mark ∙ text_is_spelled last all.after all.at.good.spelled.0 in
+            subst (AreWritten profile cs (style_of d.lines) before) (sym is) (subst (λ s. AreWritten profile cs s before all.after) styled all.written)

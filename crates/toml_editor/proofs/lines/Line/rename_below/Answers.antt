@@ -1,0 +1,13 @@
+use Rattle.std.proofs.Common.{◌∙◌, ap, sym}
+use Rattle.std.proofs.lemmas.Result.{IfOk-weaker}
+use Rattle.toml_tree.specs.Document.{document}
+use Rattle.toml_editor.specs.Seeing.{Found}
+use Rattle.toml_editor.specs.Standing.{lies_below}
+use Rattle.toml_editor.proofs.Renamed.{below_renamed}
+use Rattle.toml_editor.proofs.lines.Line.rename_below.Goals as goal
+
+pub returns-then-is_below : goal.returns-then-is_below
+returns-then-is_below c =
+    let here = ap (λ (f : Found). lies_below c.args.at.now f.address) (sym c.seen.ensures) ∙ sym c.is_below.ensures ∙ c.if-is_below.true in
+    IfOk-weaker c.rename.result _ _ (λ done becomes.
+    below_renamed c.args.at.now c.args.name.now c.args.spelled.now c.args.texts (document c.args.doc.now).lines c.args.self.now c.rename.new.self here becomes) c.rename.ensures

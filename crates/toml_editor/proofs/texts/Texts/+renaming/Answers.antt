@@ -1,0 +1,108 @@
+use Rattle.std.proofs.Common.{arith, inl, inr, ◌≤◌, ◌≡◌, ◌∙◌, ◌∷◌, ◌++◌, ap, drop, refl, subst, sym, [], None, Some}
+use Rattle.std.proofs.lemmas.Bool.{cases_lt, false≢true}
+use Rattle.std.proofs.lemmas.Option.{slice_get_past, slice_get_read}
+use Rattle.std.specs.Box.{with_value}
+use Rattle.toml_editor.specs.declared.tree.Value.TheVariants.{Array, Inline}
+use Rattle.toml_editor.specs.declared.tree.Value.TheViews.{out-Entries}
+use Rattle.toml_editor.specs.Leading.{first_index, LeadsOn}
+use Rattle.toml_editor.specs.OpenOutlines.{entries, value}
+use Rattle.toml_editor.specs.Outlines.{Listed, Braced}
+use Rattle.toml_editor.specs.RenamingIn.{KeysRenamed, RenamesEntry, RenamesIn}
+use Rattle.toml_editor.proofs.OpenEntries.{entry_changed, entry_missing, entry_with}
+use Rattle.toml_editor.proofs.Outlined.{array_made, inline_made}
+use Rattle.toml_editor.proofs.RenameInside.{list_kept, list_renamed, no_step, no_step_renamed, table_keys_renamed, table_renamed}
+use Rattle.toml_editor.proofs.texts.Texts.+renaming.Goals as goal
+
+pub rename_entry-returns-in_ok-rename_in-in-Some : goal.rename_entry-returns-in_ok-rename_in-in-Some
+rename_entry-returns-in_ok-rename_in-in-Some t c =
+    let old = c.args.entries.now in
+    let e = c.in-Some.entry.now in
+    let list = (out-Entries old).list in
+    let got = slice_get_read list.items list.len c.args.index e list.ok.0 (c.in-Some.ensures.variant.0 refl) c.in-Some.ensures.value in
+    entry_changed (RenamesIn c.args.steps.now c.args.to.now) (Unit {0}) old _ c.args.index e _ (value c.rename_in.new.own) got refl
+    (entry_with e c.rename_in.new.own _) c.in_ok-rename_in-in-Some.ensures
+
+pub rename_entry-returns-in-None : goal.rename_entry-returns-in-None
+rename_entry-returns-in-None t c =
+    let list = (out-Entries c.args.entries.now).list in
+    let past : list.len ≤ c.args.index = elim (cases_lt c.args.index list.len) [
+      | inl low ↦ absurd (false≢true (c.in-None.ensures.variant.1 low))
+      | inr past ↦ past
+    ] in
+    let none = slice_get_past list.items c.args.index (omega (arith, list.ok.0, past)) in
+    entry_missing (RenamesIn c.args.steps.now c.args.to.now) (Unit {0}) c.args.entries.now c.args.index none tt
+
+pub rename_in-returns-in_default : goal.rename_in-returns-in_default
+rename_in-returns-in_default t c =
+    subst (λ s. RenamesIn s c.args.to.now (value c.args.own.now) (value c.args.own.now)) (sym (no_step c.args.steps.now c.in_default.ensures.cases))
+    (no_step_renamed c.args.to.now (value c.args.own.now))
+
+pub rename_in-returns-in_ok-rename_entry-in-Some-index_first : goal.rename_in-returns-in_ok-rename_entry-in-Some-index_first
+rename_in-returns-in_ok-rename_entry-in-Some-index_first t c =
+    let steps = c.args.steps.now in
+    let to = c.args.to.now in
+    let i = c.in-Some-index_first.index in
+    let old = entries c.in-Array.elements.value in
+    let now = entries c.rename_entry.new.entries in
+    let before = ap value c.in-Array.is ∙ array_made c.in-Array.elements in
+    let first : first_index steps ≡ Some i = sym c.index_first.ensures ∙ c.in-Some-index_first.is in
+    let inner : RenamesEntry i (drop 1 steps) to old now =
+    subst (λ s. RenamesEntry i s to old now) c.behind.ensures
+    (subst (λ e. RenamesEntry i c.behind.result.now to (entries e) now) c.deref_mut.ensures.value c.in_ok-rename_entry-in-Some-index_first.ensures) in
+    let after = with_value c.in-Array.elements c.rename_entry.new.entries in
+    subst (λ v. RenamesIn steps to v (value (Array after))) (sym before)
+    (subst (λ v. RenamesIn steps to (Listed old.opening old.entries) v) (sym (array_made after)) (list_renamed steps i to old now first inner))
+
+pub rename_in-returns-in-None : goal.rename_in-returns-in-None
+rename_in-returns-in-None t c =
+    let steps = c.args.steps.now in
+    let to = c.args.to.now in
+    let old = entries c.in-Array.elements.value in
+    let before = ap value c.in-Array.is ∙ array_made c.in-Array.elements in
+    subst (λ v. RenamesIn steps to v (value (Array c.in-Array.elements))) (sym before)
+    (subst (λ v. RenamesIn steps to (Listed old.opening old.entries) v) (sym (array_made c.in-Array.elements))
+    (list_kept steps to old.opening old.entries (sym c.index_first.ensures ∙ c.in-None.is)))
+
+pub rename_in-returns-in_ok-rename_entry-in-Some-2 : goal.rename_in-returns-in_ok-rename_entry-in-Some-2
+rename_in-returns-in_ok-rename_entry-in-Some-2 t c =
+    let steps = c.args.steps.now in
+    let to = c.args.to.now in
+    let parent = c.in-Some.parent.now in
+    let last = c.in-Some.field-0-0.now in
+    let split : steps ≡ parent ++ last ∷ [] = c.in-Some.ensures.cases.0 in
+    let old = entries c.in-Inline.pairs.value in
+    let now = entries c.rename_entry-in-Some-2.new.entries in
+    let i = c.in-Some-2.index in
+    let used = c.in-Some-2.used in
+    let before = ap value c.in-Inline.is ∙ inline_made c.in-Inline.pairs in
+    let found : LeadsOn old.entries parent (Some (i, used)) =
+    subst (λ r. LeadsOn old.entries parent r) c.in-Some-2.is
+    (subst (λ e. LeadsOn (entries e).entries parent c.in_ok-index-in-Inline.field-0) c.deref.ensures c.in_ok-index-in-Inline.ensures) in
+    let inner : RenamesEntry i (drop used steps) to old now =
+    subst (λ s. RenamesEntry i s to old now) c.behind-in-Some-2.ensures
+    (subst (λ e. RenamesEntry i c.behind-in-Some-2.result.now to (entries e) now) c.deref_mut-in-Some-2.ensures.value c.in_ok-rename_entry-in-Some-2.ensures) in
+    let after = with_value c.in-Inline.pairs c.rename_entry-in-Some-2.new.entries in
+    let done = subst (λ s. RenamesIn s to (Braced old.opening old.entries) (Braced now.opening now.entries)) (sym split)
+    (table_renamed parent last i used to old now found (subst (λ s. RenamesEntry i (drop used s) to old now) split inner)) in
+    subst (λ v. RenamesIn steps to v (value (Inline after))) (sym before)
+    (subst (λ v. RenamesIn steps to (Braced old.opening old.entries) v) (sym (inline_made after)) done)
+
+pub rename_in-returns-in_ok-rename_keys-in-None-2 : goal.rename_in-returns-in_ok-rename_keys-in-None-2
+rename_in-returns-in_ok-rename_keys-in-None-2 t c =
+    let steps = c.args.steps.now in
+    let to = c.args.to.now in
+    let parent = c.in-Some.parent.now in
+    let last = c.in-Some.field-0-0.now in
+    let split : steps ≡ parent ++ last ∷ [] = c.in-Some.ensures.cases.0 in
+    let old = entries c.in-Inline.pairs.value in
+    let now = entries c.rename_keys.new.pairs in
+    let before = ap value c.in-Inline.is ∙ inline_made c.in-Inline.pairs in
+    let none : LeadsOn old.entries parent None =
+    subst (λ r. LeadsOn old.entries parent r) c.in-None-2.is
+    (subst (λ e. LeadsOn (entries e).entries parent c.in_ok-index-in-Inline.field-0) c.deref.ensures c.in_ok-index-in-Inline.ensures) in
+    let inner : KeysRenamed steps to old now = subst (λ e. KeysRenamed steps to (entries e) now) c.deref_mut-in-None-2.ensures.value c.in_ok-rename_keys-in-None-2.ensures in
+    let after = with_value c.in-Inline.pairs c.rename_keys.new.pairs in
+    let done = subst (λ s. RenamesIn s to (Braced old.opening old.entries) (Braced now.opening now.entries)) (sym split)
+    (table_keys_renamed parent last to old now none (subst (λ s. KeysRenamed s to old now) split inner)) in
+    subst (λ v. RenamesIn steps to v (value (Inline after))) (sym before)
+    (subst (λ v. RenamesIn steps to (Braced old.opening old.entries) v) (sym (inline_made after)) done)

@@ -1,0 +1,42 @@
+use Rattle.std.proofs.Common.{◌≡◌, ◌∙◌, ◌+◌, ◌++◌, ◌∷◌, [], List, Some, ap, length, map, subst, sym}
+use Rattle.std.specs.Prelude.{slice_get}
+use Rattle.std.proofs.lemmas.Option.{slice_get-get_or}
+use Rattle.toml_tree.specs.Document.{document}
+use Rattle.toml_tree.specs.Lines.{line}
+use Rattle.toml_tree.specs.Tree.{Line}
+use Rattle.toml_editor.specs.declared.lines.Slot.TheVariants as slots
+use Rattle.toml_editor.specs.Starting.{TakesLine, read_of}
+use Rattle.toml_editor.proofs.Started.{StartedWith, started, started_line, started_past, started_all}
+use Rattle.toml_editor.proofs.LinesLie.{lines_lie}
+use Rattle.toml_editor.proofs.working.kept_slots.Goals as goal
+use Rattle.toml_editor.proofs.working.kept_slots.Goals.{in-Some+in_ok-push, in_default}
+
+pub loop-first-init : goal.loop-first-init
+loop-first-init c text is =
+    let read = read_of c.args.before in
+    subst (StartedWith text read 0) (sym (c.in_ok-slots.ensures {u = tt}).items)
+    (started text read is.units (lines_lie (document c.args.before.doc.now) text is.within is.spelled))
+
+pub loop-first-preserved : goal.loop-first-preserved
+loop-first-preserved c text is =
+    let read = read_of c.args.before in
+    let first = c.loop-first.first in
+    let all = c.loop-first.slots.items in
+    let u = c.unit-item.result in
+    let got : slice_get read.units first ≡ Some u = slice_get-get_or read.units first u c.loop-first-test.true ∙ ap Some (sym c.unit-item.is) in
+    let long : c.len.result ≡ length all = c.len.ensures ∙ c.loop-first.slots.ok.0 in
+    let so_far = c.loop-first.invariant text is in
+    let found = subst (λ (ls : List Line). TakesLine ls (length all) u first c.kept_of.result) c.lines-lines.ensures
+    (subst (λ n. TakesLine (map line c.lines-lines.result.now) n u first c.kept_of.result) long c.kept_of.ensures) in
+    elim c.match-kept_of.branch [
+      | in-Some+in_ok-push w ↦
+          let keeps = subst (TakesLine read.lines (length all) u first) w.in-Some.is found in
+          let items : c.match-kept_of.slots.items ≡ all ++ slots.Kept w.in-Some.kept ∷ [] = ap (λ v. v.items) w.slots-is ∙ w.in_ok-push.ensures.items in
+          subst (StartedWith text read (first + 1)) (sym items) (started_line text read first all u got so_far w.in-Some.kept keeps)
+      | in_default w ↦
+          let none = subst (TakesLine read.lines (length all) u first) w.in_default.is found in
+          subst (StartedWith text read (first + 1)) (sym (ap (λ v. v.items) w.slots-is)) (started_past text read first all u got so_far none)
+    ]
+
+pub returns : goal.returns
+returns c text is = started_all text (read_of c.args.before) c.loop-first.first c.loop-first.slots.items c.loop-first-test.false (c.loop-first.invariant text is)

@@ -1,0 +1,214 @@
+-- The lines after an `insert` at the root, by what finds them.
+use Rattle.std.proofs.Common.{◌≡◌, ℕ, ◌+◌, Bool, true, false, ◌||◌, cond, Option, Some, inl, inr, List, [], ◌∷◌, ◌++◌, length, refl, sym, ap, ap₂, ◌∙◌, subst, true≢false, append-nil}
+use Rattle.std.specs.List.{list_any}
+use Rattle.toml_scalar.specs.Spelling.{spelled}
+use Rattle.toml_tree.specs.Bare.{fresh}
+use Rattle.toml_tree.specs.Spells.{EachIs, AreLines}
+use Rattle.toml_tree.specs.Tree as tree
+use Rattle.toml_tree.specs.Tree.{Piece, Value, Expr, BlankLine, KeyValLine, TableLine, ArrayTableLine, Line}
+use Rattle.toml_text.specs.Forms.{IsNewline}
+use Rattle.toml_names.specs.declared.model.address.Step.TheVariants.{Name}
+use Rattle.toml_names.specs.model.Addresses.{Address, child, element, below}
+use Rattle.toml_names.specs.mentions.Alike.{AreAlike}
+use Rattle.toml_names.specs.mentions.Keys.{Key, key_names, part_name, rest_names, spelled_name}
+use Rattle.toml_names.specs.mentions.Mentions.{Named, named_by, root, section, section_from, followed, entered, ends_table, ends_tables}
+use Rattle.toml_names.specs.reader.Names.{own_address}
+use Rattle.toml_units.specs.Units.{line_base}
+use Rattle.toml_editor.specs.Inserting as lines
+use Rattle.toml_editor.specs.InsertStanding.{LeavesRoot, RootIsFirst, has_pair, insert_behind, line_behind, new_standing, new_outline, pair_or}
+use Rattle.toml_editor.specs.Standing.{Standing, holds, leads_to, line_stands, standing_from, standing}
+use Rattle.toml_editor.specs.StandingLaws.{InsertStands, RootComesFirst}
+use Rattle.toml_editor.specs.TreeOutlines.{line_outline, value_outline}
+use Rattle.toml_editor.proofs.written.Alike.{alike_self, alike_pair, section_pair}
+use Rattle.toml_editor.proofs.written.InsertNamed.{spelled_again, stays}
+use Rattle.toml_editor.proofs.written.UnitsAlike.{base_alike, own_alike, step_alike}
+
+-- ---- what was named before
+
+-- behind alike lists lines stand alike
+pub stand_alike : (ls : List Line) (xs ys : List Named) (n m : ℕ) → AreAlike xs ys → standing_from xs n ls ≡ standing_from ys m ls
+stand_alike [] xs ys n m alike = refl
+stand_alike (l ∷ ls) xs ys n m alike =
+    ap₂ (λ s t. s ∷ t)
+    (ap₂ (λ (a : Option Address) (b : Option ℕ). record { address = a; base = b; outline = line_outline l }) (own_alike xs ys alike l.expr) (base_alike xs ys alike l.expr))
+    (stand_alike ls (xs ++ named_by xs n l.expr) (ys ++ named_by ys m l.expr) (n + 1) (m + 1) (step_alike xs ys n m l.expr alike))
+
+-- a line with a key and a value, by its tree
+pair_same : (xs : List Named) (e : Expr) (b : Bool) → pair_or (line_base xs e) (own_address xs e) b
+    ≡ elim e [ BlankLine t ↦ b | KeyValLine ws pair tail ↦ true | TableLine ws header tail ↦ false | ArrayTableLine ws header tail ↦ false ]
+pair_same xs (BlankLine t) b = refl
+pair_same xs (KeyValLine ws pair tail) b = refl
+pair_same xs (TableLine ws header tail) b = refl
+pair_same xs (ArrayTableLine ws header tail) b = refl
+
+pub has_same : (ls : List Line) (xs : List Named) (n : ℕ) → has_pair (standing_from xs n ls) ≡ lines.has_pair ls
+has_same [] xs n = refl
+has_same (l ∷ ls) xs n =
+    ap (pair_or (line_base xs l.expr) (own_address xs l.expr)) (has_same ls (xs ++ named_by xs n l.expr) (n + 1)) ∙ pair_same xs l.expr (lines.has_pair ls)
+
+newline_same : (e : Expr) (newline : Piece) → (line_outline (record { expr = e; newline = newline })).newline ≡ newline.text
+newline_same (BlankLine t) newline = refl
+newline_same (KeyValLine ws pair tail) newline = refl
+newline_same (TableLine ws header tail) newline = refl
+newline_same (ArrayTableLine ws header tail) newline = refl
+
+ends_same : (e : Expr) (newline other : Piece) → line_outline (record { expr = e; newline = other })
+    ≡ (let o = line_outline (record { expr = e; newline = newline }) in record o { newline = other.text })
+ends_same (BlankLine t) newline other = refl
+ends_same (KeyValLine ws pair tail) newline other = refl
+ends_same (TableLine ws header tail) newline other = refl
+ends_same (ArrayTableLine ws header tail) newline other = refl
+
+module _ (name : List ℕ) (v : Value) (style : List ℕ) where
+  new_stands : (xs : List Named) (newline : List ℕ) → section xs ≡ [] → line_stands xs (lines.new_line name v newline) ≡ new_standing name (value_outline v) newline
+  new_stands xs newline at_root =
+      ap (λ s. record { address = Some (s ++ Name (spelled_name (spelled name)) ∷ []); base = Some (length s); outline = new_outline name (value_outline v) newline }) at_root
+      ∙ ap (λ m. record { address = Some (Name m ∷ []); base = Some 0; outline = new_outline name (value_outline v) newline }) (spelled_again name)
+
+  new_first : (xs : List Named) (n m : ℕ) (newline : List ℕ) (ls : List Line) → section xs ≡ []
+      → standing_from xs m (lines.new_line name v newline ∷ ls) ≡ new_standing name (value_outline v) newline ∷ standing_from xs n ls
+  new_first xs n m newline ls at_root =
+      ap₂ (λ s t. s ∷ t) (new_stands xs newline at_root)
+      (sym (stand_alike ls xs (xs ++ named_by xs m (lines.new_expr name v)) n (m + 1) (alike_pair xs xs (alike_self xs) m (section xs) (lines.new_assign name) v)))
+
+  behind_full : (s : Standing) (newline : List ℕ) → IsNewline newline → line_behind name (value_outline v) style s newline ≡ s ∷ new_standing name (value_outline v) style ∷ []
+  behind_full s newline (inl is) = ap (line_behind name (value_outline v) style s) is
+  behind_full s newline (inr is) = ap (line_behind name (value_outline v) style s) is
+
+  line_put : (xs : List Named) (n : ℕ) (l : Line) (ls : List Line) → AreLines (l ∷ ls) → section (xs ++ named_by xs n l.expr) ≡ []
+      → standing_from xs n (lines.line_behind name v style l ls)
+      ≡ line_behind name (value_outline v) style (line_stands xs l) (line_outline l).newline ++ standing_from (xs ++ named_by xs n l.expr) (n + 1) ls
+  line_put xs n l [] are at_root =
+      ap₂ (λ o t. record { address = own_address xs l.expr; base = line_base xs l.expr; outline = o } ∷ t) (ends_same l.expr l.newline (fresh style))
+      (new_first (xs ++ named_by xs n l.expr) 0 (n + 1) [] [] at_root)
+      ∙ ap (λ t. line_behind name (value_outline v) style (line_stands xs l) t ++ []) (sym (newline_same l.expr l.newline ∙ are.1))
+  line_put xs n l (m ∷ ms) are at_root =
+      ap (λ t. line_stands xs l ∷ t) (new_first (xs ++ named_by xs n l.expr) (n + 1) (n + 1) style (m ∷ ms) at_root)
+      ∙ ap (λ t. t ++ standing_from (xs ++ named_by xs n l.expr) (n + 1) (m ∷ ms))
+      (sym (behind_full (line_stands xs l) (line_outline l).newline (subst IsNewline (sym (newline_same l.expr l.newline)) are.1)))
+
+  more_lines : (l : Line) (ls : List Line) → AreLines (l ∷ ls) → lines.has_pair ls ≡ true → AreLines ls
+  more_lines l [] are has = absurd (true≢false (sym has))
+  more_lines l (m ∷ ms) are has = are.2
+
+  last_put : (ls : List Line) (xs : List Named) (n : ℕ) → section xs ≡ [] → lines.has_pair ls ≡ true → AreLines ls
+      → standing_from xs n (lines.insert_behind name v style ls) ≡ insert_behind name (value_outline v) style (standing_from xs n ls)
+  last_put [] xs n at_root has are = refl
+  last_put (l ∷ ls) xs n at_root has are =
+      by (lines.has_pair ls) refl (λ h. last_put ls (xs ++ named_by xs n l.expr) (n + 1) here h (more_lines l ls are h))
+      ∙ ap (λ b. cond b (line_stands xs l ∷ insert_behind name (value_outline v) style rest) (line_behind name (value_outline v) style (line_stands xs l) (line_outline l).newline ++ rest))
+      (sym (has_same ls (xs ++ named_by xs n l.expr) (n + 1)))
+    where
+      here : section (xs ++ named_by xs n l.expr) ≡ []
+      here = stays name v style xs n l.expr at_root (lines.has_pair ls) has
+
+      rest : List Standing
+      rest = standing_from (xs ++ named_by xs n l.expr) (n + 1) ls
+
+      by : (b : Bool) → lines.has_pair ls ≡ b
+          → (lines.has_pair ls ≡ true → standing_from (xs ++ named_by xs n l.expr) (n + 1) (lines.insert_behind name v style ls) ≡ insert_behind name (value_outline v) style (standing_from (xs ++ named_by xs n l.expr) (n + 1) ls))
+          → standing_from xs n (cond b (l ∷ lines.insert_behind name v style ls) (lines.line_behind name v style l ls))
+          ≡ cond b (line_stands xs l ∷ insert_behind name (value_outline v) style (standing_from (xs ++ named_by xs n l.expr) (n + 1) ls)) (line_behind name (value_outline v) style (line_stands xs l) (line_outline l).newline ++ standing_from (xs ++ named_by xs n l.expr) (n + 1) ls)
+      by true is more = ap (λ t. line_stands xs l ∷ t) (more is)
+      by false is more = line_put xs n l ls are here
+
+pub insert_stands : InsertStands
+insert_stands name v style ls are =
+    by (lines.has_pair ls) refl
+    ∙ ap (λ b. cond b (insert_behind name (value_outline v) style (standing ls)) (new_standing name (value_outline v) style ∷ standing ls)) (sym (has_same ls (root ∷ []) 0))
+  where
+    by : (b : Bool) → lines.has_pair ls ≡ b
+        → standing (cond b (lines.insert_behind name v style ls) (lines.new_line name v style ∷ ls))
+        ≡ cond b (insert_behind name (value_outline v) style (standing ls)) (new_standing name (value_outline v) style ∷ standing ls)
+    by true is = last_put name v style ls (root ∷ []) 0 refl is are
+    by false is = new_first name v style (root ∷ []) 0 0 style ls refl
+
+-- ---- lines of the root come first
+
+section_append : (at : Address) (xs ys : List Named) → section_from at (xs ++ ys) ≡ section_from (section_from at xs) ys
+section_append at [] ys = refl
+section_append at (x ∷ xs) ys = section_append _ xs ys
+
+-- an address of a step more
+child_some : (at : Address) (n : List ℕ) → ¬ (child at n ≡ [])
+child_some [] n is = cc
+child_some (s ∷ at) n is = cc
+
+element_some : (at : Address) (i : ℕ) → ¬ (element at i ≡ [])
+element_some [] i is = cc
+element_some (s ∷ at) i is = cc
+
+below_some : (at : Address) (n : List ℕ) (ns : List (List ℕ)) → ¬ (below at (n ∷ ns) ≡ [])
+below_some [] n ns is = cc
+below_some (s ∷ at) n ns is = cc
+
+-- a header leaves the root
+table_leaves : (xs : List Named) (line : ℕ) (key : Key) (n : List ℕ) (before at : Address) → ¬ (section_from before (followed line xs (ends_table line) at (n ∷ key)) ≡ [])
+table_leaves xs line [] n before at = child_some at n
+table_leaves xs line (m ∷ more) n before at = table_leaves xs line more m before (entered xs (child at n))
+
+tables_leave : (xs : List Named) (line : ℕ) (key : Key) (n : List ℕ) (before at : Address) → ¬ (section_from before (followed line xs (ends_tables line xs) at (n ∷ key)) ≡ [])
+tables_leave xs line [] n before at = element_some (child at n) _
+tables_leave xs line (m ∷ more) n before at = tables_leave xs line more m before (entered xs (child at n))
+
+-- so it is behind each header
+table_behind : (xs : List Named) (n : ℕ) (key : tree.Key) → ¬ (section (xs ++ followed n xs (ends_table n) [] (key_names key)) ≡ [])
+table_behind xs n key is = table_leaves xs n (rest_names key.rest) (part_name key.first) (section xs) [] (sym (section_append [] xs (followed n xs (ends_table n) [] (key_names key))) ∙ is)
+
+tables_behind : (xs : List Named) (n : ℕ) (key : tree.Key) → ¬ (section (xs ++ followed n xs (ends_tables n xs) [] (key_names key)) ≡ [])
+tables_behind xs n key is = tables_leave xs n (rest_names key.rest) (part_name key.first) (section xs) [] (sym (section_append [] xs (followed n xs (ends_tables n xs) [] (key_names key))) ∙ is)
+
+-- and no line goes back to it
+away : (xs : List Named) (n : ℕ) (e : Expr) → ¬ (section xs ≡ []) → ¬ (section (xs ++ named_by xs n e) ≡ [])
+away xs n (BlankLine t) left is = left (sym (ap section (append-nil xs)) ∙ is)
+away xs n (KeyValLine ws pair tail) left is = left (sym (section_pair xs n (section xs) pair.assign pair.value) ∙ is)
+away xs n (TableLine ws header tail) left is = table_behind xs n header.key is
+away xs n (ArrayTableLine ws header tail) left is = tables_behind xs n header.key is
+
+none_long : (at : Address) → length at ≡ 0 → at ≡ []
+none_long [] is = refl
+none_long (s ∷ at) is = cc
+
+not_of_root : (xs : List Named) (e : Expr) → ¬ (section xs ≡ []) → ¬ (line_base xs e ≡ Some 0)
+not_of_root xs (BlankLine t) left is = cc
+not_of_root xs (KeyValLine ws pair tail) left is = left (none_long (section xs) cc)
+not_of_root xs (TableLine ws header tail) left is = cc
+not_of_root xs (ArrayTableLine ws header tail) left is = cc
+
+all_away : (ls : List Line) (xs : List Named) (n : ℕ) → ¬ (section xs ≡ []) → EachIs (λ (t : Standing). ¬ (t.base ≡ Some 0)) (standing_from xs n ls)
+all_away [] xs n left = tt
+all_away (l ∷ ls) xs n left = (not_of_root xs l.expr left, all_away ls (xs ++ named_by xs n l.expr) (n + 1) (away xs n l.expr left))
+
+leaves : (xs : List Named) (n : ℕ) (e : Expr) (ls : List Line) → LeavesRoot (line_base xs e) (own_address xs e) (standing_from (xs ++ named_by xs n e) (n + 1) ls)
+leaves xs n (BlankLine t) ls = tt
+leaves xs n (KeyValLine ws pair tail) ls = tt
+leaves xs n (TableLine ws header tail) ls = all_away ls (xs ++ named_by xs n (TableLine ws header tail)) (n + 1) (table_behind xs n header.key)
+leaves xs n (ArrayTableLine ws header tail) ls = all_away ls (xs ++ named_by xs n (ArrayTableLine ws header tail)) (n + 1) (tables_behind xs n header.key)
+
+root_first : (ls : List Line) (xs : List Named) (n : ℕ) → RootIsFirst (standing_from xs n ls)
+root_first [] xs n = tt
+root_first (l ∷ ls) xs n = (leaves xs n l.expr ls, root_first ls (xs ++ named_by xs n l.expr) (n + 1))
+
+none_leads : (n : ℕ) (at : Address) → ¬ (at ≡ []) → leads_to [] (Some n) (Some at) ≡ false
+none_leads n [] some = absurd (some refl)
+none_leads n (s ∷ at) some = refl
+
+holds_no_root : (xs : List Named) (l : Line) → leads_to [] (line_base xs l.expr) (own_address xs l.expr) ≡ false
+holds_no_root xs l = by l.expr
+  where
+    by : (e : Expr) → leads_to [] (line_base xs e) (own_address xs e) ≡ false
+    by (BlankLine t) = refl
+    by (KeyValLine ws pair tail) = none_leads (length (section xs)) _ (below_some (section xs) _ _)
+    by (TableLine ws header tail) = refl
+    by (ArrayTableLine ws header tail) = refl
+
+none_hold : (ls : List Line) (xs : List Named) (n : ℕ) → list_any (holds []) (standing_from xs n ls) ≡ false
+none_hold [] xs n = refl
+none_hold (l ∷ ls) xs n = ap₂ (λ a b. a || b) (holds_no_root xs l) (none_hold ls (xs ++ named_by xs n l.expr) (n + 1))
+
+some_stand : (ls : List Line) → AreLines ls → ¬ (standing ls ≡ [])
+some_stand [] are is = absurd are
+some_stand (l ∷ ls) are is = cc
+
+pub root_comes_first : RootComesFirst
+root_comes_first ls are = record { some = some_stand ls are; first = root_first ls (root ∷ []) 0; none = none_hold ls (root ∷ []) 0 }

@@ -1,0 +1,54 @@
+-- What lines of the working tree become, by what stands on them.
+use Rattle.std.specs.Prelude.{◌≡◌, ℕ, List, [], map, set, slice_get, MatchOption}
+use Rattle.std.specs.Global.{Box}
+use Rattle.toml_names.specs.model.Addresses.{Address}
+use Rattle.toml_text.specs.Source.{text_of}
+use Rattle.toml_tree.specs.Tree as tree
+use Rattle.toml_editor.specs.declared.lines.Body.{Body}
+use Rattle.toml_editor.specs.declared.lines.Body.TheVariants as bodies
+use Rattle.toml_editor.specs.declared.lines.Line.{Line}
+use Rattle.toml_editor.specs.declared.lines.Slot.{Slot}
+use Rattle.toml_editor.specs.declared.texts.Texts.{Texts}
+use Rattle.toml_editor.specs.declared.tree.OpenLine.{OpenLine}
+use Rattle.toml_editor.specs.OpenOutlines.{line}
+use Rattle.toml_editor.specs.Outlines.{LineOutline}
+use Rattle.toml_editor.specs.RenameStanding.{rename_standing}
+use Rattle.toml_editor.specs.RenamedUnits.{GoTogether}
+use Rattle.toml_editor.specs.Standing.{Standing, Read, AreOrdered, body_outline, line_standing, slot_standing}
+use Rattle.toml_editor.specs.Stands.{BodyKept, SlotKept, Stands}
+
+-- what is opened gets another outline
+abbrev pub OpenBecomes : (LineOutline → LineOutline) → Body → Body → Type 0
+OpenBecomes f (bodies.Open old) now = (opened : Box OpenLine) × (now ≡ bodies.Open opened) × (line opened.value ≡ f (line old.value))
+OpenBecomes f (bodies.Kept kept) now = now ≡ bodies.Kept kept
+
+-- what is on a line gets another outline, kept or opened
+abbrev pub BodyBecomes : Texts → List tree.Line → (LineOutline → LineOutline) → Body → Body → Type 0
+BodyBecomes texts lines f old now = (read : Read) → read.lines ≡ lines → BodyKept (text_of texts.source) read old
+    → BodyKept (text_of texts.source) read now × (body_outline read now ≡ f (body_outline read old))
+
+-- a line stands for another one, and so do lines, one by one
+abbrev pub LineBecomes : Texts → List tree.Line → (Standing → Standing) → Line → Line → Type 0
+LineBecomes texts lines f old now = (read : Read) → read.lines ≡ lines → BodyKept (text_of texts.source) read old.body
+    → BodyKept (text_of texts.source) read now.body × (line_standing read now ≡ f (line_standing read old))
+
+abbrev pub LinesBecome : Texts → List tree.Line → (Standing → Standing) → List Line → List Line → Type 0
+LinesBecome texts lines f old now = GoTogether (LineBecomes texts lines f) old now
+
+-- so does each line of a slot, of the slot with the index, or of slots
+abbrev pub SlotBecomes : Texts → Read → (Standing → Standing) → Slot → Slot → Type 0
+SlotBecomes texts read f old now = SlotKept (text_of texts.source) read old
+    → SlotKept (text_of texts.source) read now × (slot_standing read now ≡ map f (slot_standing read old))
+
+abbrev pub SlotAtBecomes : Texts → Read → (Standing → Standing) → ℕ → List Slot → List Slot → Type 0
+SlotAtBecomes texts read f i old now =
+    MatchOption (slice_get old i) (now ≡ old) (λ s. (t : Slot) × (now ≡ set old i t) × SlotBecomes texts read f s t)
+
+abbrev pub SlotsBecome : Texts → Read → (Standing → Standing) → List Slot → List Slot → Type 0
+SlotsBecome texts read f old now = GoTogether (SlotBecomes texts read f) old now
+
+-- a `rename` on lines, below the root, to a name that is spelled by the text
+abbrev pub RenamesLines : Address → List ℕ → List ℕ → List ℕ → Read → List Slot → List Slot → Type 0
+RenamesLines p to spelled text read old now =
+    ¬ (p ≡ []) → (ss : List Standing) → Stands text read old ss → AreOrdered ss
+    → Stands text read now (map (rename_standing p to spelled) ss)

@@ -1,0 +1,117 @@
+-- What the making of plain edits gives: the working tree stands for the text that they write.
+use Rattle.std.specs.Prelude.{◌≡◌, ℕ, Bool, List, None}
+use Rattle.std.specs.declared.alloc.Global.{Global}
+use Rattle.std.specs.declared.string.String.{String}
+use Rattle.toml_text.specs.Forms.{IsNewline}
+use Rattle.toml_text.specs.Limit.{IsText}
+use Rattle.toml_text.specs.Source.{text_of}
+use Rattle.toml_scalar.specs.Spelling.{spelled}
+use Rattle.toml_tree.specs.Profiles.{SpellsIn, IsValueIn}
+use Rattle.toml_tree.specs.Tree.{Value, Doc}
+use Rattle.toml_tree.specs.declared.profile.Profile.{Profile}
+use Rattle.toml_names.specs.model.Addresses.{Address}
+use Rattle.toml_names.specs.model.Data.{Kinds}
+use Rattle.toml_edits.specs.After.{IsAfter}
+use Rattle.toml_edits.specs.Edits.{Change, insert, rename, set, remove}
+use Rattle.toml_edits.specs.Faults.{IsFault}
+use Rattle.toml_edits.specs.Lists.{Lead}
+use Rattle.toml_editor.specs.declared.fault.EditorFault.{EditorFault}
+use Rattle.toml_editor.specs.declared.fault.EditorFault.TheVariants.{LastElement, Spread}
+use Rattle.toml_editor.specs.declared.working.Tree.{Tree}
+use Rattle.toml_editor.specs.Becoming.{RenamesLines}
+use Rattle.toml_editor.specs.CertifiedLists.{ArePlain}
+use Rattle.toml_editor.specs.OpenOutlines.{leaf_text}
+use Rattle.toml_editor.specs.Putting.{InsertsLines}
+use Rattle.toml_editor.specs.RemovingIn.{RemovesLines}
+use Rattle.toml_editor.specs.SpelledEdits.{AreSteps}
+use Rattle.toml_editor.specs.Standing.{Read, standing}
+use Rattle.toml_editor.specs.Stands.{KeepsRest, SetsLines, Stands}
+use Rattle.toml_editor.specs.Starting.{NoneIsGone}
+use Rattle.toml_editor.specs.Steps.{IsGoodText, IsPlain, AreWritten}
+use Rattle.toml_editor.specs.TreeOutlines.{value_outline}
+use Rattle.toml_editor.specs.Written.{IsWritten}
+
+-- the newline of new lines is that of the text before all edits
+abbrev pub style : Tree → List ℕ
+style tree = leaf_text tree.style
+
+-- the working tree stands for a text with these data, and no element of an array of tables is gone
+pub record IsAt (profile : Profile) (read : Read) (tree : Tree) (text : List ℕ) (kinds : Kinds) : Type 0 where
+  pub good : IsGoodText profile text kinds
+  pub stands : Stands (text_of tree.texts.source) read tree.slots.items (standing good.tree.lines)
+  pub whole : NoneIsGone tree.elements
+  pub newline : IsNewline (style tree)
+
+-- the second tree has the first one's texts and newline of new lines
+pub record KeepsSource (old new : Tree) : Type 0 where
+  pub texts : new.texts ≡ old.texts
+  pub style : style new ≡ style old
+
+-- the edit is plain on the lines of the text
+abbrev pub IsPlainOn : Profile → List ℕ → Change → Type 0
+IsPlainOn profile text c = (d : Doc) → SpellsIn profile d text → IsPlain d.lines c
+
+-- the tree now stands for the text that the edit writes of the one for which it stood
+pub record Follows (profile : Profile) (read : Read) (c : Change) (old new : Tree) (text : List ℕ) (now : Kinds) : Type 0 where
+  pub after : List ℕ
+  pub written : IsWritten profile c (style old) text after
+  pub at : IsAt profile read new after now
+  pub source : KeepsSource old new
+
+abbrev pub MakesOne : Profile → Read → Change → Tree → Tree → Type 0
+MakesOne profile read c old new = (text : List ℕ) (kinds now : Kinds) → IsAt profile read old text kinds
+    → IsFault profile c kinds None → IsAfter profile c kinds now → IsPlainOn profile text c → Follows profile read c old new text now
+
+-- the same of edits one after the other
+pub record FollowAll (profile : Profile) (read : Read) (cs : List Change) (old new : Tree) (text : List ℕ) (now : Kinds) : Type 0 where
+  pub after : List ℕ
+  pub written : AreWritten profile cs (style old) text after
+  pub at : IsAt profile read new after now
+  pub source : KeepsSource old new
+
+abbrev pub MakesAll : Profile → Read → List Change → Tree → Tree → Type 0
+MakesAll profile read cs old new = (text : List ℕ) (kinds now : Kinds) → IsAt profile read old text kinds
+    → Lead profile cs kinds now → ArePlain profile cs (style old) text → FollowAll profile read cs old new text now
+
+-- a `set` of a value's text
+abbrev pub WritesSet : Profile → Read → Address → List ℕ → Tree → Tree → Bool → Type 0
+WritesSet profile read p text old new done = IsText text → (v : Value) → IsValueIn profile v text
+    → SetsLines p (value_outline v) (text_of old.texts.source) read old.slots.items new.slots.items done
+
+-- an `insert` of a value's text, the steps of its address spelled so
+abbrev pub WritesInsert : Profile → Read → Address → List ℕ → List (String Global) → Tree → Tree → Type 0
+WritesInsert profile read p text steps old new = IsText text → (v : Value) → IsValueIn profile v text
+    → InsertsLines p steps (value_outline v) (style old) (text_of old.texts.source) read old.slots.items new.slots.items
+
+-- a `rename` to a name
+pub record WritesRename (read : Read) (p : Address) (to : List ℕ) (old new : Tree) : Type 0 where
+  pub lines : RenamesLines p to (spelled to) (text_of old.texts.source) read old.slots.items new.slots.items
+  pub source : KeepsSource old new
+  pub whole : NoneIsGone new.elements
+
+-- What an edit makes of the working tree, where no element is gone: a `set` puts the value in, if one stands there, and tells whether;
+-- an `insert` of a name at the root puts its line in, a `remove` there takes out the line of the value, a `rename` gives lines the new
+-- name.
+abbrev pub WritesEdit : Profile → Read → Change → Tree → Tree → Bool → Type 0
+WritesEdit profile read (set p text) old new done = NoneIsGone old.elements → KeepsRest old new × WritesSet profile read p text old new done
+WritesEdit profile read (insert p text) old new done = NoneIsGone old.elements
+    → (steps : List (String Global)) × KeepsRest old new × AreSteps p steps × WritesInsert profile read p text steps old new
+WritesEdit profile read (remove p) old new done = NoneIsGone old.elements → RemovesLines p read old new
+WritesEdit profile read (rename p to) old new done = NoneIsGone old.elements → WritesRename read p to old new
+WritesEdit profile read _ old new done = Unit {0}
+
+-- the tree stands for no text on which the edit is plain and has no fault
+abbrev pub IsNotPlain : Profile → Read → Change → Tree → Type 0
+IsNotPlain profile read c tree = (text : List ℕ) (kinds now : Kinds) → IsAt profile read tree text kinds
+    → IsFault profile c kinds None → IsAfter profile c kinds now → ¬ IsPlainOn profile text c
+
+-- for none on which the edits are, each on the text written so far
+abbrev pub AreNotPlain : Profile → Read → List Change → Tree → Type 0
+AreNotPlain profile read cs tree = (text : List ℕ) (kinds now : Kinds) → IsAt profile read tree text kinds
+    → Lead profile cs kinds now → ¬ ArePlain profile cs (style tree) text
+
+-- this holds where an edit is told to be spread, or to take a last element
+abbrev pub OfSpread : Type 0 → EditorFault → Type 0
+OfSpread P (Spread i) = P
+OfSpread P (LastElement i) = P
+OfSpread P _ = Unit {0}

@@ -1,0 +1,63 @@
+-- Laws of lines by what finds them.
+use Rattle.std.specs.Prelude.{◌≡◌, true, ℕ, List, [], ◌∷◌, map}
+use Rattle.std.specs.List.{list_any}
+use Rattle.toml_tree.specs.Bare.{bare_lines}
+use Rattle.toml_scalar.specs.Spelling.{spelled}
+use Rattle.toml_tree.specs.Spells.{AreLines}
+use Rattle.toml_tree.specs.Tree.{Value, Line}
+use Rattle.toml_names.specs.declared.model.address.Step.TheVariants.{Name}
+use Rattle.toml_names.specs.mentions.Mentions.{named}
+use Rattle.toml_names.specs.mentions.Rules.{KeepsRules}
+use Rattle.toml_names.specs.model.Addresses.{Address, child}
+use Rattle.toml_names.specs.model.Places.{IsNamed}
+use Rattle.toml_editor.specs.RenameStanding.{rename_standing}
+use Rattle.toml_editor.specs.Renaming.{rename_lines}
+use Rattle.toml_editor.specs.InsertStanding.{AreRooted, insert_standing}
+use Rattle.toml_editor.specs.Inserting.{insert_lines}
+use Rattle.toml_editor.specs.RemoveStanding.{is_pair, remove_standing}
+use Rattle.toml_editor.specs.Removing.{remove_lines}
+use Rattle.toml_editor.specs.Setting.{set_lines}
+use Rattle.toml_editor.specs.Standing.{AreOrdered, standing, set_standing, has}
+use Rattle.toml_editor.specs.TreeOutlines.{value_outline}
+use Rattle.toml_editor.specs.Written.{HasPair, HasValue}
+
+-- Law: places do not count.
+abbrev pub PlacesDoNotStand : Type 0
+PlacesDoNotStand = (ls ms : List Line) → bare_lines ls ≡ bare_lines ms → standing ls ≡ standing ms
+
+-- Law: under the table rules no line stands at the value of another or in it, and keys in values are apart.
+abbrev pub RulesOrder : Type 0
+RulesOrder = (lines : List Line) → KeepsRules (named lines) → AreOrdered (standing lines)
+
+-- Laws: a value that lines name stands on one of them or in its value;
+abbrev pub ValueStands : Type 0
+ValueStands = (p : Address) (lines : List Line) → ¬ (p ≡ []) → HasValue lines p → list_any (has p) (standing lines) ≡ true
+
+-- and the lines after a `set` of it are what the `set` makes of the lines.
+abbrev pub SetStands : Type 0
+SetStands = (p : Address) (new : Value) (lines : List Line) → ¬ (p ≡ []) → HasValue lines p → KeepsRules (named lines)
+    → standing (set_lines p new lines) ≡ map (set_standing p (value_outline new)) (standing lines)
+
+-- Law: where nothing is named at the new name, the lines after a `rename` are what the `rename` makes of the lines.
+abbrev pub RenameStands : Type 0
+RenameStands = (q : Address) (n to : List ℕ) (lines : List Line)
+    → AreLines lines → ¬ IsNamed (named lines) (child q to) → KeepsRules (named lines)
+    → standing (rename_lines (child q n) to lines) ≡ map (rename_standing (child q n) to (spelled to)) (standing lines)
+
+-- Laws: of lines in the forms those of the root come first, and the lines after an `insert` of a name at the root are what it makes of
+-- the lines.
+abbrev pub RootComesFirst : Type 0
+RootComesFirst = (lines : List Line) → AreLines lines → AreRooted (standing lines)
+
+abbrev pub InsertStands : Type 0
+InsertStands = (name : List ℕ) (new : Value) (style : List ℕ) (lines : List Line) → AreLines lines
+    → standing (insert_lines name new style lines) ≡ insert_standing name (value_outline new) style (standing lines)
+
+-- Laws: the value of a name at the root stands on one of the lines, if a key has it,
+abbrev pub PairStands : Type 0
+PairStands = (name : List ℕ) (lines : List Line) → HasPair lines (Name name ∷ []) → KeepsRules (named lines)
+    → list_any (is_pair (Name name ∷ [])) (standing lines) ≡ true
+
+-- and the lines after a `remove` are what the `remove` makes of the lines.
+abbrev pub RemoveStands : Type 0
+RemoveStands = (p : Address) (lines : List Line) → standing (remove_lines p lines) ≡ remove_standing p (standing lines)

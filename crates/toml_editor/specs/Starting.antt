@@ -1,0 +1,57 @@
+-- The working tree of a document that is as it was.
+use Rattle.std.specs.Prelude.{◌≡◌, ◌↔◌, ◌⊎◌, ◌+◌, ℕ, true, false, List, [], None, Some, length, map, slice_get, Option, IsTrue, MatchOption}
+use Rattle.toml_text.specs.Limit.{IsText}
+use Rattle.toml_tree.specs.Document.{document}
+use Rattle.toml_tree.specs.Pieces.{expr_start}
+use Rattle.toml_tree.specs.Spells.{Spells}
+use Rattle.toml_tree.specs.Tree.{Line}
+use Rattle.toml_units.specs.declared.unit.Unit.{Unit as TextUnit}
+use Rattle.toml_units.specs.Places.{is_line}
+use Rattle.toml_units.specs.Plain.{spanned}
+use Rattle.toml_units.specs.Units.{units}
+use Rattle.toml_units.specs.View.{all_units}
+use Rattle.toml_editor.specs.declared.elements.Elements.{Elements}
+use Rattle.toml_editor.specs.declared.lines.Kept.{Kept}
+use Rattle.toml_editor.specs.declared.lines.Slot.{Slot}
+use Rattle.toml_editor.specs.declared.working.Before.{Before}
+use Rattle.toml_editor.specs.Standing.{Read, standing}
+use Rattle.toml_editor.specs.Stands.{Stands, heads_tables}
+
+-- the document as the working tree looks at it, by its units and its lines
+abbrev pub read_of : Before → Read
+read_of before = record { units = before.units.now; lines = (document before.doc.now).lines }
+
+-- it is read of the text: its tree spells that, and its units are those of its lines
+pub record IsReadOf (text : List ℕ) (before : Before) : Type 0 where
+  pub within : IsText text
+  pub spelled : Spells (document before.doc.now) text
+  pub units : all_units before.units.now ≡ map spanned (units (document before.doc.now).lines)
+
+-- the slots stand for the lines of the document
+abbrev pub StandAsRead : List ℕ → Before → List Slot → Type 0
+StandAsRead text before slots = Stands text (read_of before) slots (standing (read_of before).lines)
+
+-- what is kept of a line: where it stands, and what it is
+pub record IsKeptOf (l : Line) (kept : Kept) : Type 0 where
+  pub start : kept.span.start ≡ expr_start l.expr
+  pub end : kept.span.end ≡ l.newline.start + length l.newline.text
+  pub last : IsTrue kept.is_last ↔ (l.newline.text ≡ [])
+  pub tables : kept.is_tables ≡ heads_tables l.expr
+
+-- The unit is a line, and of the line with this number it is kept what it is.
+pub record KeepsLine (lines : List Line) (number : ℕ) (u : TextUnit) (first : ℕ) (kept : Kept) : Type 0 where
+  pub own : is_line u.kind ≡ true
+  pub begins : kept.first ≡ first
+  pub counts : kept.line ≡ number
+  pub line : Line
+  pub is : slice_get lines number ≡ Some line
+  pub says : IsKeptOf line kept
+
+-- a unit that is no line has no line of its own, and lines may be too few
+abbrev pub TakesLine : List Line → ℕ → TextUnit → ℕ → Option Kept → Type 0
+TakesLine lines number u first found =
+    MatchOption found ((is_line u.kind ≡ false) ⊎ (slice_get lines number ≡ None)) (KeepsLine lines number u first)
+
+-- none was taken out
+abbrev pub NoneIsGone : Elements → Type 0
+NoneIsGone elements = elements.gone.items ≡ []

@@ -1,0 +1,184 @@
+//! What an edit changes inside the value of a line.
+ghost use Rattle.std.specs.Prelude.{◌≡◌, IfOk, OnOk};
+ghost use Rattle.toml_tree.specs.Document.{document};
+ghost use Rattle.toml_editor.specs.Changing.{ChangesBody, ChangesIn, ChangesLine, ChangesOne, ChangesOpen, ChangesSlot, ChangesSlots};
+ghost use Rattle.toml_editor.specs.Starting.{read_of};
+ghost use Rattle.toml_editor.specs.OpenOutlines.{line as line_outlined, value as value_outlined};
+ghost use Rattle.toml_editor.specs.Stands.{KeepsRest};
+
+use crate::lines::{Body, Line, Slot, below};
+use crate::texts::Texts;
+use crate::tree::{Expr, OpenLine, Value};
+use crate::working::{Before, Position, Tree};
+use std::alloc::AllocError;
+use toml_names::{Address, Step};
+use toml_tree::Doc;
+
+/// What becomes of what stands in a value at some steps.
+#[derive(Drop)]
+pub(crate) enum Inside<'t> {
+    /// A value stands there in place of the old one.
+    Set(Value<'t>),
+    /// A value is put in there; these are the spellings of the whole address.
+    Insert {
+        spelled: &'t [String],
+        new: Value<'t>,
+    },
+    /// It gets another name, by its spelling.
+    Rename(&'t str),
+    /// It is taken out.
+    Remove,
+}
+
+impl<'t> Texts<'t> {
+    /// Changes what stands in the value at the steps. It answers `false` where nothing stands there to be set, or into which
+    /// to insert.
+    fn change_in(
+        self,
+        own: &mut Value<'t>,
+        steps: &[Step],
+        change: Inside<'t>,
+    ) -> Result<bool, AllocError>
+        ensures { IfOk result (λ done. ChangesIn steps.now change.entry (value_outlined own.old) (value_outlined own.new) done) }
+    {
+        match change {
+            Inside::Set(new) => self.set_in(own, steps, new),
+            Inside::Insert { spelled, new } => self.insert_in(own, steps, spelled, new),
+            Inside::Rename(to) => {
+                self.rename_in(own, steps, to)?;
+                Ok(true)
+            }
+            Inside::Remove => {
+                self.remove_in(own, steps)?;
+                Ok(true)
+            }
+        }
+    }
+}
+
+impl<'t> OpenLine<'t> {
+    /// Changes what stands in its value at the steps, if it has one.
+    fn change(
+        &mut self,
+        texts: Texts<'t>,
+        steps: &[Step],
+        change: Inside<'t>,
+    ) -> Result<bool, AllocError>
+        ensures { IfOk result (λ done. ChangesOpen steps.now change.entry (line_outlined self.old) (line_outlined self.new) done) }
+    {
+        match &mut self.expr {
+            Expr::Pair(pair) => texts.change_in(&mut pair.value, steps, change),
+            Expr::Blank | Expr::Header(_) => Ok(false),
+        }
+    }
+}
+
+impl<'t> Body<'t> {
+    /// The same of what is opened.
+    fn change(
+        &mut self,
+        texts: Texts<'t>,
+        steps: &[Step],
+        change: Inside<'t>,
+    ) -> Result<bool, AllocError>
+        ensures { IfOk result (λ done. ChangesBody steps.now change.entry self.old self.new done) }
+    {
+        match self {
+            Body::Open(open) => open.change(texts, steps, change),
+            Body::Kept(_) => Ok(false),
+        }
+    }
+}
+
+impl<'t> Line<'t> {
+    /// Opens it, and changes what stands in its value at the address, if it has one.
+    fn change(
+        &mut self,
+        texts: Texts<'t>,
+        doc: &Doc<'t>,
+        at: &Address,
+        change: Inside<'t>,
+    ) -> Result<bool, AllocError>
+        ensures { IfOk result (λ done. ChangesLine texts.entry (document doc.now).lines at.now change.entry self.old self.new done) }
+    {
+        self.open(texts, doc)?;
+        let used = self.seen().steps();
+        self.body.change(texts, below(at, used), change)
+    }
+}
+
+/// The same of the line with the index, if there is one.
+fn change_one<'t>(
+    lines: &mut Vec<Line<'t>>,
+    texts: Texts<'t>,
+    doc: &Doc<'t>,
+    index: usize,
+    at: &Address,
+    change: Inside<'t>,
+) -> Result<bool, AllocError>
+    ensures { let read = (document doc.now).lines in
+        IfOk result (λ done. ChangesOne texts.entry read index at.now change.entry lines.old.items lines.new.items done) }
+{
+    match lines.get_mut(index) {
+        Some(line) => line.change(texts, doc, at, change),
+        None => Ok(false),
+    }
+}
+
+impl<'t> Slot<'t> {
+    /// The same of its line with the index, if there is one.
+    fn change(
+        &mut self,
+        texts: Texts<'t>,
+        before: Before<'_, 't>,
+        index: usize,
+        at: &Address,
+        change: Inside<'t>,
+    ) -> Result<bool, AllocError>
+        ensures { let read = read_of before.entry in
+            IfOk result (λ done. ChangesSlot texts.entry read index at.now change.entry self.old self.new done) }
+    {
+        self.open(texts.alloc, before.units)?;
+        match self {
+            Slot::Lines(lines) => change_one(lines, texts, before.doc, index, at, change),
+            Slot::Kept(_) => Ok(false),
+        }
+    }
+}
+
+/// The same of the line at a place, if there is one.
+fn change_at<'t>(
+    slots: &mut Vec<Slot<'t>>,
+    texts: Texts<'t>,
+    before: Before<'_, 't>,
+    place: Position,
+    at: &Address,
+    change: Inside<'t>,
+) -> Result<bool, AllocError>
+    ensures { let read = read_of before.entry in
+        IfOk result (λ done. ChangesSlots texts.entry read place at.now change.entry slots.old.items slots.new.items done) }
+{
+    match slots.get_mut(place.slot) {
+        Some(slot) => slot.change(texts, before, place.index, at, change),
+        None => Ok(false),
+    }
+}
+
+impl<'x> Tree<'x> {
+    /// The same of the line at a place.
+    pub(crate) fn change_value(
+        &mut self,
+        before: Before<'_, 'x>,
+        place: Position,
+        at: &Address,
+        change: Inside<'x>,
+    ) -> Result<bool, AllocError>
+        ensures rest { OnOk result (KeepsRest self.old self.new) }
+        ensures slots { let read = read_of before.entry in
+            let old = self.old.slots.items in
+            let new = self.new.slots.items in
+            IfOk result (λ done. ChangesSlots self.old.texts read place at.now change.entry old new done) }
+    {
+        change_at(&mut self.slots, self.texts, before, place, at, change)
+    }
+}
