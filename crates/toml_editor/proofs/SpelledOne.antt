@@ -1,5 +1,5 @@
 -- The spelling of one edit among those of all.
-use Rattle.std.proofs.Common.{◌≡◌, ℕ, zero, suc, ◌<◌, List, [], ◌∷◌, get_or, length, map, Some, ap, subst₂, sym, ◌∙◌}
+use Rattle.std.proofs.Common.{◌≡◌, refl, ℕ, zero, suc, ◌<◌, List, [], ◌∷◌, get_or, length, map, Some, ap, subst₂, sym, ◌∙◌}
 use Rattle.std.proofs.lemmas.Option.{none-some, same_Some, slice_get-get_or}
 use Rattle.std.specs.Prelude.{slice_get}
 use Rattle.toml_edits.specs.Edits.{change}
@@ -17,3 +17,9 @@ pub one_spelled : (es : List Edit) (ss : List Spelled) (i : ℕ) (e : Edit) (s :
     → i < length ss → s ≡ get_or ss i s → IsSpelled (change e) s
 one_spelled es ss i e s all low is low' is' =
     at_index es ss i e s all (slice_get-get_or es i e low ∙ ap Some (sym is)) (slice_get-get_or ss i s low' ∙ ap Some (sym is'))
+
+pub as_many : (es : List Edit) (ss : List Spelled) → AreSpelled (map change es) ss → length ss ≡ length es
+as_many [] [] all = refl
+as_many [] (s ∷ ss) all = absurd all
+as_many (e ∷ es) [] all = absurd all
+as_many (e ∷ es) (s ∷ ss) all = ap suc (as_many es ss all.1)

@@ -1,5 +1,5 @@
 //! The editor as a whole.
-ghost use Rattle.std.specs.Prelude.{◌≡◌, IfOk, IfErr, OnOk, length, map, string_bytes};
+ghost use Rattle.std.specs.Prelude.{◌≡◌, IfOk, IfErr, OnOk, map, string_bytes};
 ghost use Rattle.toml_text.specs.Source.{text_of};
 ghost use Rattle.toml_tree.specs.Document.{document};
 ghost use Rattle.toml_tree.specs.declared.profile.Profile.TheVariants.{One};
@@ -116,7 +116,6 @@ fn edit_with<'x>(
     spelled: &'x [Spelled],
     profile: Profile,
 ) -> Result<Edited, EditorFault>
-    requires count { length spelled.now ≡ length edits.now }
     requires spelled { AreSpelled (map change edits.now) spelled.now }
     ensures edited { IfOk result (IsEditedAs profile before.now (map change edits.now)) }
     ensures told { IfErr result (Tells profile before.now (map change edits.now)) }
@@ -156,7 +155,6 @@ fn make_document<'x>(
     spelled: &'x [Spelled],
     profile: Profile,
 ) -> Result<Work<'x>, EditorFault>
-    requires count { length spelled.now ≡ length edits.now }
     requires spelled { AreSpelled (map change edits.now) spelled.now }
     ensures work { IfOk result (IsWork profile before.now (map change edits.now)) }
     ensures told { IfErr result (Tells profile before.now (map change edits.now)) }
@@ -244,7 +242,6 @@ fn make_text<'d, 'x>(
 ) -> Result<(Made<'x>, Edited), EditorFault>
     requires read { HasLines profile (text_of source) (document doc.now) (lines_of reader) }
     requires units { AreUnitsOf doc.now units.now }
-    requires count { length spelled.now ≡ length edits.now }
     requires spelled { AreSpelled (map change edits.now) spelled.now }
     ensures made { IfOk result (λ r. IsMadeAs profile (text_of source.entry) (map change edits.now) r.0 r.1) }
     ensures told { IfErr result (Tells profile (text_of source.entry) (map change edits.now)) }

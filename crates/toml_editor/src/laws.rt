@@ -163,18 +163,23 @@ pub fn outlines()
     ensures rename { RenameIsOutlined }
 {}
 
-/// Lines by what finds them. Where their pieces stand does not count. Under the table rules no line stands at the value of
-/// another, or in it. A value that lines name stands on one of them or in its value, and the lines after a `set` of it are what
-/// the `set` makes of the lines; so it is of a `rename` to a name that is free, and of a `remove` at the root, whose value is
-/// that of one of the lines.
+/// Lines by what finds them. Where their pieces stand does not count, and under the table rules no line stands at the value
+/// of another, or in it.
 pub fn standing()
     ensures places { PlacesDoNotStand }
     ensures order { RulesOrder }
+{}
+
+/// A value that lines name stands on one of them or in its value, and the lines after a `set` of it are what the `set` makes
+/// of the lines, by what finds them.
+pub fn standing_set()
     ensures value { ValueStands }
     ensures set { SetStands }
-    ensures rename { RenameStands }
-    ensures pair { PairStands }
-    ensures remove { RemoveStands }
+{}
+
+/// So are the lines after a `rename` to a name that is free.
+pub fn standing_renamed()
+    ensures { RenameStands }
 {}
 
 /// Of lines in the forms those of the root come first, and the lines after an `insert` of a name there are what it makes of
@@ -182,6 +187,13 @@ pub fn standing()
 pub fn standing_inserted()
     ensures root { RootComesFirst }
     ensures insert { InsertStands }
+{}
+
+/// The value of a name at the root is that of one of the lines, if a key has it, and the lines after a `remove` of it are
+/// what the `remove` makes of the lines, by what finds them.
+pub fn standing_removed()
+    ensures pair { PairStands }
+    ensures remove { RemoveStands }
 {}
 
 /// Units that are numbered from a number on have the numbers from it on, where these stay below 64 bits. Without a first

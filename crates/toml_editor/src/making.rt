@@ -1,5 +1,5 @@
 //! One edit after the other, on the data and on the working tree.
-ghost use Rattle.std.specs.Prelude.{◌≡◌, IfErr, IfOk, IsTrue, OnOk, Some, length, map, option_copied};
+ghost use Rattle.std.specs.Prelude.{◌≡◌, IfErr, IfOk, IsTrue, OnOk, Some, map, option_copied};
 ghost use Rattle.toml_names.specs.model.Data.{kind_at};
 ghost use Rattle.toml_scalar.specs.Spelling.{spelled};
 ghost use Rattle.toml_edits.specs.Edits.{change, remove};
@@ -42,8 +42,7 @@ pub(crate) fn make_all<'x>(
     edits: &'x [Edit],
     spelled: &'x [Spelled],
 ) -> Result<(), EditorFault>
-    requires count { length spelled.now ≡ length edits.now }
-    requires spelled { AreSpelled (map change edits.now) spelled.now }
+    requires { AreSpelled (map change edits.now) spelled.now }
     ensures made { OnOk result (Lead read.entry.profile (map change edits.now) (kind_at «data».old.root) (kind_at «data».new.root)) }
     ensures told { let places = places_of read.entry.names.now in
         IfErr result (TellsAny read.entry.profile places (map change edits.now) (kind_at «data».old.root)) }

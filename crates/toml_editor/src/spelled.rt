@@ -1,5 +1,5 @@
 //! The texts that edits bring: their values read, and their names spelled.
-ghost use Rattle.std.specs.Prelude.{◌≡◌, IfOk, IfSome, length, map, string_bytes, vec_len};
+ghost use Rattle.std.specs.Prelude.{◌≡◌, IfOk, IfSome, map, string_bytes};
 ghost use Rattle.toml_edits.specs.Edits.{change};
 ghost use Rattle.toml_editor.specs.Numbering.{value_origins};
 ghost use Rattle.toml_editor.specs.OpenOrigins.{AreNew};
@@ -27,8 +27,7 @@ pub(crate) struct Spelled {
 
 /// The spellings of the edits, one for each.
 pub(crate) fn spell_all(alloc: Global, edits: &[Edit]) -> Result<Vec<Spelled>, AllocError>
-    ensures count { IfOk result (λ list. vec_len list ≡ length edits.now) }
-    ensures spelled { IfOk result (λ list. AreSpelled (map change edits.now) list.items) }
+    ensures { IfOk result (λ list. AreSpelled (map change edits.now) list.items) }
 {
     let mut list = Vec::with_capacity(alloc, edits.len())?;
     for edit in edits {

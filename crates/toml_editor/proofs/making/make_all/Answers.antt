@@ -8,13 +8,16 @@ use Rattle.toml_editor.specs.Starting.{read_of}
 use Rattle.toml_editor.proofs.MadeEdits.{any_of_one, led_on, taken_on}
 use Rattle.toml_editor.proofs.MakesExact.{AreMade, all_made, more_made, one_not_plain_of}
 use Rattle.toml_editor.proofs.Out.{dropped}
-use Rattle.toml_editor.proofs.SpelledOne.{one_spelled}
+use Rattle.toml_editor.proofs.SpelledOne.{as_many, one_spelled}
 use Rattle.toml_editor.proofs.making.make_all.Goals as goal
+
+pub bounds-spelled-index : goal.bounds-spelled-index
+bounds-spelled-index c = omega (arith, as_many c.args.edits.now c.args.spelled.now c.requires)
 
 pub make-requires : goal.make-requires
 make-requires c =
-    one_spelled c.args.edits.now c.args.spelled.now c.loop-index.index c.index-edits-index.result c.index-spelled-index.result c.requires.spelled (omega arith)
-    c.index-edits-index.is (omega (arith, c.requires.count)) c.index-spelled-index.is
+    one_spelled c.args.edits.now c.args.spelled.now c.loop-index.index c.index-edits-index.result c.index-spelled-index.result c.requires (omega arith)
+    c.index-edits-index.is (omega (arith, as_many c.args.edits.now c.args.spelled.now c.requires)) c.index-spelled-index.is
 
 pub loop-index-preserved : goal.loop-index-preserved
 loop-index-preserved c =
