@@ -42,6 +42,9 @@ mod OpenedEach
 mod OpenedGap
 mod OpenedLine
 mod OpenedBody
+mod NumberedOutlines
+mod OutlinesSpelled
+mod TreeOrigins
 mod OpenedOrigins
 pub mod written
 pub mod Proved

@@ -1,5 +1,6 @@
 -- Units that are counted one behind the other.
-use Rattle.std.proofs.Common.{◌≡◌, ◌∙◌, ◌+◌, ◌<◌, ◌≤◌, ℕ, suc, Bool, true, false, cond, List, [], ◌∷◌, ◌++◌, map, Some, None, length, length-append, drop, get_or, refl, ap, ap₂, sym, subst, arith, append_assoc, append-nil, slice_index_or}
+use Rattle.std.proofs.Common.{◌≡◌, ◌∙◌, ◌+◌, ◌<◌, ◌≤◌, ℕ, suc, Bool, true, false, cond, List, [], ◌∷◌, ◌++◌, map, Option, Some, None, length, length-append, drop, get_or, refl, ap, ap₂, sym, subst, arith, append_assoc, append-nil, slice_index_or}
+use Rattle.std.specs.Prelude.{option_map}
 use Rattle.std.proofs.lemmas.List.{drop_all, get_or_default}
 use Rattle.toml_editor.proofs.Out.{dropped}
 use Rattle.toml_units.specs.Places.{is_line}
@@ -8,8 +9,11 @@ use Rattle.toml_editor.specs.declared.numbering.Numbering.{Numbering}
 use Rattle.toml_editor.specs.declared.tree.Entries.{Entries}
 use Rattle.toml_editor.specs.declared.tree.Entry.{Entry}
 use Rattle.toml_editor.specs.declared.tree.Value.TheViews.{out-Entries, out-Entry}
-use Rattle.toml_editor.specs.declared.tree.Value.TheFolds.{fold_out-Entries, fold_out-Entry}
-use Rattle.toml_editor.specs.Numbering.{Origins, Numbers, all_origins, tail_origins, end_origins, gap_origins, value_origins, entries_origins, entry_origins, value_origins_step, entries_origins_step, entry_origins_step, pairs_from}
+use Rattle.toml_editor.specs.declared.tree.Gap.{Gap}
+use Rattle.toml_editor.specs.Numbering.{Numbers, tail_origins, end_origins, origins_of_value, origins_of_entries, entry_origins, origins_of_entry, pairs_from}
+use Rattle.toml_editor.specs.OpenOutlines.{Enclosed, all_origins, entries_of, entry, gap, gap_origins}
+use Rattle.toml_editor.specs.Outlines.{Origins, entries_origins, value_origins}
+use Rattle.toml_editor.proofs.Outlined.{entries_is, entry_is}
 
 pairs_append : (wanted : List Bool) (n : ℕ) (os ps : Origins) → pairs_from wanted n (os ++ ps) ≡ pairs_from wanted n os ++ pairs_from wanted (n + length os) ps
 pairs_append wanted n [] ps = ap (λ m. pairs_from wanted m ps) (omega arith)
@@ -67,31 +71,37 @@ pub last_counted : {A : Type 0} (f : A → Origins) (xs : List A) (i : ℕ) (a b
 last_counted f xs i a b past so_far = all_counted (all_origins f xs) (all_origins f (drop i xs)) a b (ap (all_origins f) (drop_all i xs past)) so_far
 
 -- the units of entries, and of what stands behind the last comma
-entries_step_is : (e : Entries) → entries_origins e ≡ all_origins (λ o. o) (map entry_origins (out-Entries e).list.items) ++ end_origins (out-Entries e).end
-entries_step_is = fold_out-Entries Origins Origins Origins value_origins_step entries_origins_step entry_origins_step
+pub entries_listed : (es : List Entry) (end : Option Gap)
+    → entries_origins (entries_of (map entry es) (option_map gap end)) ≡ all_origins origins_of_entry es ++ end_origins end
+entries_listed [] end = refl
+entries_listed (e ∷ es) end =
+    let o = entry e in
+    let rest = all_origins origins_of_entry es ++ end_origins end in
+    ap (λ r. o.before.origins ++ (value_origins o.value ++ (o.after.origins ++ r))) (entries_listed es end)
+    ∙ ap (λ r. o.before.origins ++ r) (sym (append_assoc (value_origins o.value) o.after.origins rest))
+    ∙ sym (append_assoc o.before.origins (value_origins o.value ++ o.after.origins) rest)
+    ∙ sym (append_assoc (origins_of_entry e) (all_origins origins_of_entry es) (end_origins end))
 
-pub all_mapped : (es : List Entry) → all_origins (λ o. o) (map entry_origins es) ≡ all_origins entry_origins es
-all_mapped [] = refl
-all_mapped (e ∷ es) = ap (λ r. entry_origins e ++ r) (all_mapped es)
-
-pub entries_are : (e : Entries) (all : List Entry) → all ≡ (out-Entries e).list.items → all_origins entry_origins all ++ end_origins (out-Entries e).end ≡ entries_origins e
+pub entries_are : (e : Entries) (all : List Entry) → all ≡ (out-Entries e).list.items → all_origins origins_of_entry all ++ end_origins (out-Entries e).end ≡ origins_of_entries e
 entries_are e all is =
-    ap (λ es. all_origins entry_origins es ++ end_origins (out-Entries e).end) is
-    ∙ sym (entries_step_is e ∙ ap (λ r. r ++ end_origins (out-Entries e).end) (all_mapped (out-Entries e).list.items))
+    ap (λ es. all_origins origins_of_entry es ++ end_origins (out-Entries e).end) is
+    ∙ sym (ap (λ (w : Enclosed). entries_origins w.entries) (entries_is e) ∙ entries_listed (out-Entries e).list.items (out-Entries e).end)
 
 -- all entries are counted, and then what stands behind the last comma
 pub entries_counted : (e : Entries) (all rest : List Entry) (a b c : Numbering) → all ≡ (out-Entries e).list.items → rest ≡ [] → b.wanted ≡ a.wanted
-    → CountedUpTo (all_origins entry_origins all ++ end_origins (out-Entries e).end) (all_origins entry_origins rest ++ end_origins (out-Entries e).end) a b
-    → Numbers (end_origins (out-Entries e).end) b c → Numbers (entries_origins e) a c
+    → CountedUpTo (all_origins origins_of_entry all ++ end_origins (out-Entries e).end) (all_origins origins_of_entry rest ++ end_origins (out-Entries e).end) a b
+    → Numbers (end_origins (out-Entries e).end) b c → Numbers (origins_of_entries e) a c
 entries_counted e all rest a b c is none same so_far here =
     let end = end_origins (out-Entries e).end in
-    let whole = all_origins entry_origins all ++ end in
-    let left = ap (λ es. all_origins entry_origins es ++ end) none in
+    let whole = all_origins origins_of_entry all ++ end in
+    let left = ap (λ es. all_origins origins_of_entry es ++ end) none in
     subst (λ os. Numbers os a c) (entries_are e all is)
-    (all_counted whole [] a c refl (more_counted whole end [] (all_origins entry_origins rest ++ end) a b c same (left ∙ sym (append-nil end)) so_far here))
+    (all_counted whole [] a c refl (more_counted whole end [] (all_origins origins_of_entry rest ++ end) a b c same (left ∙ sym (append-nil end)) so_far here))
 
-pub entry_is : (e : Entry) → entry_origins e ≡ gap_origins (out-Entry e).before ++ ((out-Entry e).origin ∷ (value_origins (out-Entry e).value ++ gap_origins (out-Entry e).after))
-entry_is = fold_out-Entry Origins Origins Origins value_origins_step entries_origins_step entry_origins_step
+pub entry_listed : (e : Entry) → origins_of_entry e ≡ gap_origins (out-Entry e).before ++ ((out-Entry e).origin ∷ (origins_of_value (out-Entry e).value ++ gap_origins (out-Entry e).after))
+entry_listed e =
+    ap entry_origins (entry_is e)
+    ∙ append_assoc (gap_origins (out-Entry e).before) ((out-Entry e).origin ∷ []) (origins_of_value (out-Entry e).value ++ gap_origins (out-Entry e).after)
 
 first_left : (us : List TextUnit) (n : ℕ) → n < length us → (u : TextUnit) × (drop n us ≡ u ∷ drop (n + 1) us) × ((b : Bool) → ((d : TextUnit) → is_line (get_or us n d).kind ≡ b) → is_line u.kind ≡ b)
 first_left [] n low = absurd (omega (arith, low))

@@ -18,7 +18,11 @@ use Rattle.toml_editor.specs.declared.tree.OpenLine.{OpenLine}
 use Rattle.toml_editor.specs.Opening.{Lie}
 use Rattle.toml_editor.specs.OpeningLines.{OpensBody, IsOpened}
 use Rattle.toml_editor.specs.OpenOutlines.{line}
+use Rattle.toml_editor.specs.AsNew.{line_as_new}
+use Rattle.toml_editor.specs.Numbering.{origins_of_line}
+use Rattle.toml_editor.specs.OpenOrigins.{RunFrom}
 use Rattle.toml_editor.specs.TreeOutlines.{line_outline}
+use Rattle.toml_editor.proofs.NumberedOutlines.{line_is_numbered}
 
 -- what `get` of a slice answers
 pub item_got : {X : Type 0} (xs : List X) (i : ℕ) (r : Option (Bor X)) → IsGetResult xs i i r → option_copied r ≡ slice_get xs i
@@ -27,13 +31,15 @@ item_got xs i r h = search (rules, slice_get_past, slice_get-get_or)
 -- the document has the line
 pub body_opened : (texts : Texts) (ls : List Line) (all : List tree.Line) (old : Body) (kept : Kept) (l : Line) (opened : OpenLine) (b : Box OpenLine)
     → old ≡ bodies.Kept kept → map tree_line ls ≡ all → Some l ≡ slice_get ls kept.line → b.value ≡ opened
-    → (Lie (text_of texts.source) (line_parts (tree_line l)) → line opened ≡ line_outline (tree_line l)) → OpensBody texts all old (bodies.Open b)
-body_opened texts ls all old kept l opened b is are found made opens =
+    → (Lie (text_of texts.source) (line_parts (tree_line l)) → line_as_new (line opened) ≡ line_outline (tree_line l))
+    → (next : Option ℕ) → RunFrom (Some kept.first) (origins_of_line opened) next → OpensBody texts all old (bodies.Open b)
+body_opened texts ls all old kept l opened b is are found made opens next run =
     let there : Some (tree_line l) ≡ slice_get all kept.line =
     ap (option_map tree_line) found ∙ sym (slice_get-map tree_line ls kept.line) ∙ ap (λ xs. slice_get xs kept.line) are in
-    let some : IsOpened texts (tree_line l) (bodies.Open b) = (b, refl, λ lies. ap line made ∙ opens lies) in
+    let some : IsOpened texts kept.first (tree_line l) (bodies.Open b) =
+    (b, refl, λ lies. ap line made ∙ line_is_numbered (line opened) (line_outline (tree_line l)) (Some kept.first) next (opens lies) run) in
     subst (λ body. OpensBody texts all body (bodies.Open b)) (sym is)
-    (subst (λ o. MatchOption o (bodies.Open b ≡ bodies.Kept kept) (λ x. IsOpened texts x (bodies.Open b))) there some)
+    (subst (λ o. MatchOption o (bodies.Open b ≡ bodies.Kept kept) (λ x. IsOpened texts kept.first x (bodies.Open b))) there some)
 
 -- it has none
 pub body_stays : (texts : Texts) (ls : List Line) (all : List tree.Line) (old : Body) (kept : Kept) → old ≡ bodies.Kept kept → map tree_line ls ≡ all
@@ -41,4 +47,4 @@ pub body_stays : (texts : Texts) (ls : List Line) (all : List tree.Line) (old : 
 body_stays texts ls all old kept is are none =
     let lacks : None ≡ slice_get all kept.line = ap (option_map tree_line) none ∙ sym (slice_get-map tree_line ls kept.line) ∙ ap (λ xs. slice_get xs kept.line) are in
     subst (λ body. OpensBody texts all body body) (sym is)
-    (subst (λ o. MatchOption o (bodies.Kept kept ≡ bodies.Kept kept) (λ x. IsOpened texts x (bodies.Kept kept))) lacks refl)
+    (subst (λ o. MatchOption o (bodies.Kept kept ≡ bodies.Kept kept) (λ x. IsOpened texts kept.first x (bodies.Kept kept))) lacks refl)

@@ -5,10 +5,12 @@ use Rattle.toml_editor.specs.declared.tree.Entry.{Entry}
 use Rattle.toml_editor.specs.declared.tree.Value.{Value}
 use Rattle.toml_editor.specs.declared.tree.Value.TheOpen.{Entries-F, Entry-F}
 use Rattle.toml_editor.specs.declared.tree.Value.TheViews.{roll-Entries, roll-Entry}
-use Rattle.toml_editor.specs.declared.tree.Value.TheFolds.{fold-roll-Entries, fold-roll-Entry}
-use Rattle.toml_editor.specs.Numbering.{Origins, all_origins, end_origins, gap_origins, value_origins, entries_origins, entry_origins, value_origins_step, entries_origins_step, entry_origins_step}
-use Rattle.toml_editor.proofs.Numbered.{all_mapped}
-use Rattle.toml_editor.specs.OpenOrigins.{NewAreUnnumbered, RunFrom, RunIsNumbered, next_number}
+use Rattle.toml_editor.specs.Numbering.{end_origins, origins_of_value, origins_of_entries, entry_origins, origins_of_entry}
+use Rattle.toml_editor.specs.OpenOrigins.{RunFrom, next_number}
+use Rattle.toml_editor.specs.OpenOutlines.{Enclosed, all_origins, gap_origins}
+use Rattle.toml_editor.specs.Outlines.{Origins, entries_origins}
+use Rattle.toml_editor.proofs.Numbered.{entries_listed}
+use Rattle.toml_editor.proofs.Outlined.{entries_made, entry_made}
 
 -- some units, and those behind them
 pub run_on : (os ps : Origins) (a b c : Option ℕ) → RunFrom a os b → RunFrom b ps c → RunFrom a (os ++ ps) c
@@ -29,27 +31,18 @@ run_more f xs all x a b c is so_far here =
 
 -- an entry's unit stands between what is before it and what is in it
 pub run_entry : (e : Entry-F Value Entries Entry) (a b c d f : Option ℕ) → RunFrom a (gap_origins e.before) b → e.origin ≡ b → c ≡ next_number b
-    → RunFrom c (value_origins e.value) d → RunFrom d (gap_origins e.after) f → RunFrom a (entry_origins (roll-Entry e)) f
+    → RunFrom c (origins_of_value e.value) d → RunFrom d (gap_origins e.after) f → RunFrom a (origins_of_entry (roll-Entry e)) f
 run_entry e a b c d f before own next inside after =
-    let behind = run_on (value_origins e.value) (gap_origins e.after) c d f inside after in
-    let here : RunFrom b (e.origin ∷ (value_origins e.value ++ gap_origins e.after)) f = (own, subst (λ x. RunFrom x (value_origins e.value ++ gap_origins e.after) f) next behind) in
-    subst (λ os. RunFrom a os f) (sym (fold-roll-Entry Origins Origins Origins value_origins_step entries_origins_step entry_origins_step e))
-    (run_on (gap_origins e.before) (e.origin ∷ (value_origins e.value ++ gap_origins e.after)) a b f before here)
+    let behind = run_on (origins_of_value e.value) (gap_origins e.after) c d f inside after in
+    let here : RunFrom b (e.origin ∷ (origins_of_value e.value ++ gap_origins e.after)) f = (own, subst (λ x. RunFrom x (origins_of_value e.value ++ gap_origins e.after) f) next behind) in
+    subst (λ os. RunFrom a os f)
+    (sym (ap entry_origins (entry_made e) ∙ append_assoc (gap_origins e.before) (e.origin ∷ []) (origins_of_value e.value ++ gap_origins e.after)))
+    (run_on (gap_origins e.before) (e.origin ∷ (origins_of_value e.value ++ gap_origins e.after)) a b f before here)
 
 -- entries, and what stands behind the last comma
-pub run_entries : (e : Entries-F Value Entries Entry) (all : List Entry) (a b c : Option ℕ) → e.list.items ≡ all → RunFrom a (all_origins entry_origins all) b → RunFrom b (end_origins e.end) c
-    → RunFrom a (entries_origins (roll-Entries e)) c
+pub run_entries : (e : Entries-F Value Entries Entry) (all : List Entry) (a b c : Option ℕ) → e.list.items ≡ all → RunFrom a (all_origins origins_of_entry all) b → RunFrom b (end_origins e.end) c
+    → RunFrom a (origins_of_entries (roll-Entries e)) c
 run_entries e all a b c is so_far end =
-    let whole = fold-roll-Entries Origins Origins Origins value_origins_step entries_origins_step entry_origins_step e ∙ ap (λ r. r ++ end_origins e.end) (all_mapped e.list.items ∙ ap (all_origins entry_origins) is) in
-    subst (λ os. RunFrom a os c) (sym whole) (run_on (all_origins entry_origins all) (end_origins e.end) a b c so_far end)
-
-pub run_is_numbered : RunIsNumbered
-run_is_numbered n [] behind run low = refl
-run_is_numbered n (o ∷ os) behind run low =
-    let next : next_number (Some n) ≡ Some (n + 1) = ap Some (omega arith) in
-    let rest = run_is_numbered (n + 1) os behind (subst (λ x. RunFrom x os behind) next run.1) (omega arith) in
-    ap (λ x. x ∷ os) run.0 ∙ ap (λ r. Some n ∷ r) rest
-
-pub new_are_unnumbered : NewAreUnnumbered
-new_are_unnumbered [] behind run = tt
-new_are_unnumbered (o ∷ os) behind run = (run.0, new_are_unnumbered os behind run.1)
+    let whole = ap (λ (w : Enclosed). entries_origins w.entries) (entries_made e) ∙ entries_listed e.list.items e.end
+    ∙ ap (λ es. all_origins origins_of_entry es ++ end_origins e.end) is in
+    subst (λ os. RunFrom a os c) (sym whole) (run_on (all_origins origins_of_entry all) (end_origins e.end) a b c so_far end)

@@ -76,4 +76,5 @@ pub mod WayRenamed
 pub mod WaySet
 pub mod WayTaken
 pub mod WayWhole
+pub mod WayOrigins
 pub mod WayZip

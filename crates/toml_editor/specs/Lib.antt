@@ -11,6 +11,7 @@ pub mod TreeOutlines
 pub mod SetOutlines
 pub mod RenameOutlines
 pub mod Apart
+pub mod AsNew
 pub mod Opening
 pub mod Standing
 pub mod InsertStanding
@@ -29,6 +30,7 @@ pub mod Placing
 pub mod Putting
 pub mod Changing
 pub mod RemoveStanding
+pub mod EditStanding
 pub mod RemovingIn
 pub mod OpenOrigins
 -- what a plain edit writes, and the laws of it

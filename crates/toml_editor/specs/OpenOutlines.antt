@@ -23,7 +23,7 @@ use Rattle.toml_editor.specs.declared.tree.Expr.{Expr}
 use Rattle.toml_editor.specs.declared.tree.Expr.TheVariants as exprs
 use Rattle.toml_editor.specs.declared.tree.OpenLine.{OpenLine}
 use Rattle.toml_editor.specs.Outlines as outline
-use Rattle.toml_editor.specs.Outlines.{DottedOutline, AssignOutline, ValueOutline, EntriesOutline, ExprOutline, LineOutline, dotted_outlined, own_assign_outlined, comment_outlined, value_outlined}
+use Rattle.toml_editor.specs.Outlines.{Origins, Marked, DottedOutline, AssignOutline, ValueOutline, EntriesOutline, ExprOutline, LineOutline, dotted_outlined, own_assign_outlined, comment_outlined, value_outlined}
 
 abbrev pub leaf_text : Leaf → List ℕ
 leaf_text (leaves.Kept start text) = text.now
@@ -42,6 +42,30 @@ gap_parts_text (p ∷ ps) = gap_part_text p ++ gap_parts_text ps
 abbrev pub gap_text : Gap → List ℕ
 gap_text g = gap_parts_text g.parts.items
 
+-- the units of each, one behind the other
+abbrev pub all_origins : {A : Type 0} → (A → Origins) → List A → Origins
+all_origins f [] = []
+all_origins f (x ∷ xs) = f x ++ all_origins f xs
+
+-- the units in a gap are its comments
+abbrev pub gap_part_origins : GapPart → Origins
+gap_part_origins (parts.Ws ws) = []
+gap_part_origins (parts.Newline newline) = []
+gap_part_origins (parts.Comment comment) = comment.origin ∷ []
+
+abbrev pub gap_origins : Gap → Origins
+gap_origins g = all_origins gap_part_origins g.parts.items
+
+abbrev pub gap : Gap → Marked
+gap g = record { text = gap_text g; origins = gap_origins g }
+
+-- a gap behind which a unit begins
+abbrev pub gap_before : Gap → Option ℕ → Marked
+gap_before g origin = record { text = gap_text g; origins = gap_origins g ++ (origin ∷ []) }
+
+abbrev pub comment : Comment → Marked
+comment c = record { text = leaf_text c.text; origins = c.origin ∷ [] }
+
 abbrev pub dotted : Dotted → DottedOutline
 dotted d = record { before_dot = leaf_text d.before_dot; after_dot = leaf_text d.after_dot; part = leaf_text d.part }
 
@@ -54,24 +78,24 @@ key_text k = leaf_text k.first ++ dotted_outlined (map dotted k.rest.items)
 
 -- a comment, where there is one
 abbrev pub comment_text : Option Comment → List ℕ
-comment_text c = comment_outlined (option_map (λ c. leaf_text c.text) c)
+comment_text c = comment_outlined (option_map comment c)
 
 abbrev pub blank_text : Blank → List ℕ
 blank_text b = leaf_text b.ws ++ comment_text b.comment
 
 -- an entry, and the texts around it
 pub record EntryOutline : Type 0 where
-  pub before : List ℕ
+  pub before : Marked
   pub assign : Option AssignOutline
   pub value : ValueOutline
-  pub after : List ℕ
+  pub after : Marked
 
 -- its text
 abbrev pub entry_outlined : EntryOutline → List ℕ
-entry_outlined e = e.before ++ (own_assign_outlined e.assign ++ (value_outlined e.value ++ e.after))
+entry_outlined e = e.before.text ++ (own_assign_outlined e.assign ++ (value_outlined e.value ++ e.after.text))
 
 -- entries, and what stands behind the last comma
-abbrev pub entries_of : List EntryOutline → Option (List ℕ) → EntriesOutline
+abbrev pub entries_of : List EntryOutline → Option Marked → EntriesOutline
 entries_of [] end = outline.End end
 entries_of (e ∷ es) end = outline.Entry e.before e.assign e.value e.after (entries_of es end)
 
@@ -87,10 +111,15 @@ value_step (layer.Array entries) = outline.Listed entries.value.opening entries.
 value_step (layer.Inline entries) = outline.Braced entries.value.opening entries.value.entries
 
 abbrev pub entries_step : Entries-F ValueOutline Enclosed EntryOutline → Enclosed
-entries_step e = record { opening = leaf_text e.opening; entries = entries_of e.list.items (option_map gap_text e.end) }
+entries_step e = record { opening = leaf_text e.opening; entries = entries_of e.list.items (option_map gap e.end) }
 
 abbrev pub entry_step : Entry-F ValueOutline Enclosed EntryOutline → EntryOutline
-entry_step e = record { before = gap_text e.before; assign = option_map (λ a. assign a.value) e.assign; value = e.value; after = gap_text e.after }
+entry_step e = record {
+  before = gap_before e.before e.origin;
+  assign = option_map (λ a. assign a.value) e.assign;
+  value = e.value;
+  after = gap e.after;
+}
 
 abbrev pub value : Value → ValueOutline
 value = fold-Value ValueOutline Enclosed EntryOutline value_step entries_step entry_step
@@ -120,9 +149,9 @@ expr (exprs.Header h) = header h
 
 abbrev pub line : OpenLine → LineOutline
 line l = record {
-  ws = leaf_text l.ws;
+  ws = record { text = leaf_text l.ws; origins = l.origin ∷ [] };
   expr = expr l.expr;
   tail = leaf_text l.tail.ws;
-  comment = option_map (λ c. leaf_text c.text) l.tail.comment;
+  comment = option_map comment l.tail.comment;
   newline = leaf_text l.newline;
 }

@@ -17,6 +17,7 @@ use Rattle.toml_editor.specs.declared.lines.Slot.{Slot}
 use Rattle.toml_editor.specs.declared.lines.Slot.TheVariants as slots
 use Rattle.toml_editor.specs.declared.working.Tree.{Tree}
 use Rattle.toml_editor.specs.Apart.{AreApart}
+use Rattle.toml_editor.specs.AsNew.{standing_as_new}
 use Rattle.toml_editor.specs.Opening.{Lie}
 use Rattle.toml_editor.specs.Outlines.{ValueOutline, line_outlined}
 use Rattle.toml_editor.specs.Seeing.{kept_found}
@@ -63,6 +64,12 @@ OpensSlot units (slots.Kept kept) new =
 pub record Stands (text : List ℕ) (read : Read) (slots : List Slot) (ss : List Standing) : Type 0 where
   pub kept : EachIs (SlotKept text read) slots
   pub are : slots_standing read slots ≡ ss
+
+-- so they stand for lines of which it is not said which units of the document they have
+pub record StandFor (text : List ℕ) (read : Read) (slots : List Slot) (ss : List Standing) : Type 0 where
+  pub lines : List Standing
+  pub stand : Stands text read slots lines
+  pub are_as_new : map standing_as_new lines ≡ ss
 
 -- nothing of the tree changes but its lines
 pub record KeepsRest (old new : Tree) : Type 0 where

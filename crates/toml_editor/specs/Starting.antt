@@ -1,5 +1,5 @@
 -- The working tree of a document that is as it was.
-use Rattle.std.specs.Prelude.{◌≡◌, ◌↔◌, ◌⊎◌, ◌+◌, ℕ, true, false, List, [], None, Some, length, map, slice_get, Option, IsTrue, MatchOption}
+use Rattle.std.specs.Prelude.{◌≡◌, ◌↔◌, ◌⊎◌, ◌<◌, ◌+◌, ℕ, true, false, List, [], None, Some, length, map, slice_get, Option, IsTrue, MatchOption}
 use Rattle.toml_text.specs.Limit.{IsText}
 use Rattle.toml_tree.specs.Document.{document}
 use Rattle.toml_tree.specs.Pieces.{expr_start}
@@ -14,8 +14,9 @@ use Rattle.toml_editor.specs.declared.elements.Elements.{Elements}
 use Rattle.toml_editor.specs.declared.lines.Kept.{Kept}
 use Rattle.toml_editor.specs.declared.lines.Slot.{Slot}
 use Rattle.toml_editor.specs.declared.working.Before.{Before}
-use Rattle.toml_editor.specs.Standing.{Read, standing}
-use Rattle.toml_editor.specs.Stands.{Stands, heads_tables}
+use Rattle.toml_editor.specs.OpenOrigins.{numbers}
+use Rattle.toml_editor.specs.Standing.{Read, standing, standing_origins}
+use Rattle.toml_editor.specs.Stands.{StandFor, heads_tables}
 
 -- the document as the working tree looks at it, by its units and its lines
 abbrev pub read_of : Before → Read
@@ -27,9 +28,11 @@ pub record IsReadOf (text : List ℕ) (before : Before) : Type 0 where
   pub spelled : Spells (document before.doc.now) text
   pub units : all_units before.units.now ≡ map spanned (units (document before.doc.now).lines)
 
--- the slots stand for the lines of the document
-abbrev pub StandAsRead : List ℕ → Before → List Slot → Type 0
-StandAsRead text before slots = Stands text (read_of before) slots (standing (read_of before).lines)
+-- The slots stand for the lines of the document, with all its units in order, where their numbers stay below 64 bits, as those of units in
+-- memory do.
+pub record StandAsRead (text : List ℕ) (before : Before) (slots : List Slot) : Type 0 where
+  pub lines : StandFor text (read_of before) slots (standing (read_of before).lines)
+  pub origins : length before.units.now < 18446744073709551616 → standing_origins lines.lines ≡ numbers (Some 0) (length before.units.now)
 
 -- what is kept of a line: where it stands, and what it is
 pub record IsKeptOf (l : Line) (kept : Kept) : Type 0 where

@@ -13,7 +13,6 @@ ghost use Rattle.toml_editor.specs.StandingLaws.{PlacesDoNotStand, RenameStands,
 ghost use Rattle.toml_editor.specs.RenameOutlines.{RenameIsOutlined};
 ghost use Rattle.toml_editor.specs.SetLaws.{SetNames, SetRules, SetShort, SetData, SetForms, SetOfProfile, SetWithin, SetElsewhere, SetKeepsLine};
 ghost use Rattle.toml_editor.specs.SetOutlines.{SetIsOutlined};
-ghost use Rattle.toml_editor.specs.OpenOrigins.{NewAreUnnumbered, RunIsNumbered};
 ghost use Rattle.toml_editor.specs.TreeOutlines.{ValueIsOutlined, LineIsOutlined, LinesAreOutlined};
 ghost use Rattle.toml_editor.specs.UnitBlocks.{InsertUnits, RemoveUnits};
 ghost use Rattle.toml_editor.specs.Steps.{GoodTextsAreDocuments, PlainIsWritten, PlainStep, PlainSteps, OneWritten, OneListWritten, StyleIsNewline};
@@ -194,13 +193,6 @@ pub fn standing_inserted()
 pub fn standing_removed()
     ensures pair { PairStands }
     ensures remove { RemoveStands }
-{}
-
-/// Units that are numbered from a number on have the numbers from it on, where these stay below 64 bits. Without a first
-/// number none has one.
-pub fn opened_units()
-    ensures numbered { RunIsNumbered }
-    ensures new { NewAreUnnumbered }
 {}
 
 /// Where the working tree stands for the lines of a tree, the mark and the text of these lines are written: of the lines of

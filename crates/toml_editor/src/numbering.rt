@@ -2,7 +2,8 @@
 ghost use Rattle.std.specs.Prelude.{◌≡◌, ◌<◌, ◌∷◌, [], IfOk, length, slice_index_or};
 ghost use Rattle.toml_units.specs.Places.{is_line};
 ghost use Rattle.toml_units.specs.declared.unit.Unit.{Unit as TextUnit};
-ghost use Rattle.toml_editor.specs.Numbering.{Counts, PairsOf, all_origins, comment_origins, entries_origins, entry_origins, expr_origins, gap_origins, gap_part_origins, kept_origins, line_origins, own_origins, slot_origins, value_origins};
+ghost use Rattle.toml_editor.specs.OpenOutlines.{all_origins, gap_origins, gap_part_origins};
+ghost use Rattle.toml_editor.specs.Numbering.{Counts, PairsOf, comment_origins, origins_of_entries, origins_of_entry, origins_of_expr, kept_origins, origins_of_line, own_origins, slot_origins, origins_of_value};
 
 use crate::lines::{Body, Line, Slot};
 use crate::tree::{Comment, Entries, Entry, Expr, Gap, GapPart, OpenLine, Value};
@@ -113,7 +114,7 @@ impl Numbering<'_> {
     }
 
     fn open_line(&mut self, line: &OpenLine<'_>) -> Result<(), AllocError>
-        ensures { Counts (line_origins line.now) self.old self.new result }
+        ensures { Counts (origins_of_line line.now) self.old self.new result }
     {
         self.unit(line.origin)?;
         self.expr(&line.expr)?;
@@ -121,7 +122,7 @@ impl Numbering<'_> {
     }
 
     fn expr(&mut self, expr: &Expr<'_>) -> Result<(), AllocError>
-        ensures { Counts (expr_origins expr.now) self.old self.new result }
+        ensures { Counts (origins_of_expr expr.now) self.old self.new result }
     {
         match expr {
             Expr::Pair(pair) => self.value(&pair.value),
@@ -140,7 +141,7 @@ impl Numbering<'_> {
 
     #[cycle(numbering)]
     fn value(&mut self, value: &Value<'_>) -> Result<(), AllocError>
-        ensures { Counts (value_origins value.now) self.old self.new result }
+        ensures { Counts (origins_of_value value.now) self.old self.new result }
     {
         match value {
             Value::Scalar(_) => Ok(()),
@@ -150,7 +151,7 @@ impl Numbering<'_> {
 
     #[cycle(numbering)]
     fn entries(&mut self, entries: &Entries<'_>) -> Result<(), AllocError>
-        ensures { Counts (entries_origins entries.now) self.old self.new result }
+        ensures { Counts (origins_of_entries entries.now) self.old self.new result }
     {
         for entry in entries.list.iter() {
             self.entry(entry)?;
@@ -163,7 +164,7 @@ impl Numbering<'_> {
 
     #[cycle(numbering)]
     fn entry(&mut self, entry: &Entry<'_>) -> Result<(), AllocError>
-        ensures { Counts (entry_origins entry.now) self.old self.new result }
+        ensures { Counts (origins_of_entry entry.now) self.old self.new result }
     {
         self.gap(&entry.before)?;
         self.unit(entry.origin)?;

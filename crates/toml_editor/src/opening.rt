@@ -4,13 +4,13 @@ ghost use Rattle.toml_text.specs.Source.{text_of};
 ghost use Rattle.toml_tree.specs.Lines.{line as tree_line};
 ghost use Rattle.toml_tree.specs.Spells.{gap_parts};
 ghost use Rattle.toml_tree.specs.View.{assign as tree_assign, gap as tree_gap, header as tree_header, key as tree_key, keyval as tree_keyval, value as tree_value};
-ghost use Rattle.toml_editor.specs.OpenOutlines.{assign as assign_outlined, comment_text, header as header_outlined, leaf_text};
-ghost use Rattle.toml_editor.specs.Numbering.{comment_origins, entries_origins, gap_origins, line_origins, value_origins};
+ghost use Rattle.toml_editor.specs.OpenOutlines.{assign as assign_outlined, comment_text, gap_origins, header as header_outlined, leaf_text};
+ghost use Rattle.toml_editor.specs.Numbering.{comment_origins, origins_of_entries, origins_of_line, origins_of_value};
 ghost use Rattle.toml_editor.specs.OpenOrigins.{RunFrom, RunsAs, next_number};
 ghost use Rattle.toml_editor.specs.OpenOutlines.{opening_brackets, closing_brackets};
 ghost use Rattle.toml_editor.specs.Opening.{IsKeyOpened, Lie, OpensArray, OpensGap, OpensInline, OpensKeyVal, OpensLine, OpensValue};
 ghost use Rattle.toml_editor.specs.Opening.{array_tree, inline_tree};
-ghost use Rattle.toml_editor.specs.TreeOutlines.{assign_outline, gap_spelled, header_outline};
+ghost use Rattle.toml_editor.specs.TreeOutlines.{assign_outline, gap_lines_origins, gap_spelled, header_outline};
 
 use crate::texts::Texts;
 use crate::tree::{
@@ -141,8 +141,9 @@ impl<'t> Opener<'t> {
 
     /// A gap with lines of the document, if no comment is on them: then it needs no parts.
     fn bare_lines(self, gap: &toml_tree::Gap<'t>) -> Option<Leaf<'t>>
-        ensures { let all = tree_gap gap.now in
+        ensures opened { let all = tree_gap gap.now in
             IfSome result (λ l. Lie (text_of self.entry.texts.source) (gap_parts all) → leaf_text l ≡ gap_spelled all) }
+        ensures bare { IfSome result (λ l. gap_lines_origins (tree_gap gap.now).lines ≡ []) }
     {
         let _ = self.next?;
         for line in gap.lines() {
@@ -196,7 +197,7 @@ impl<'t> Opener<'t> {
     pub(crate) fn value(&mut self, value: &toml_tree::Value<'t>) -> Result<Value<'t>, AllocError>
         ensures texts { self.new.texts ≡ self.old.texts }
         ensures opened { OpensValue self.old.texts (tree_value value.now) result }
-        ensures numbered { RunsAs value_origins self.old.next self.new.next result }
+        ensures numbered { RunsAs origins_of_value self.old.next self.new.next result }
     {
         match value {
             toml_tree::Value::Scalar(_, token) => Ok(Value::Scalar(self.leaf(*token))),
@@ -215,7 +216,7 @@ impl<'t> Opener<'t> {
     fn array(&mut self, array: &toml_tree::Array<'t>) -> Result<Entries<'t>, AllocError>
         ensures texts { self.new.texts ≡ self.old.texts }
         ensures opened { OpensArray self.old.texts (array_tree array.now) result }
-        ensures numbered { RunsAs entries_origins self.old.next self.new.next result }
+        ensures numbered { RunsAs origins_of_entries self.old.next self.new.next result }
     {
         let mut list = Vec::with_capacity(self.texts.alloc, array.items.len())?;
         for item in &array.items {
@@ -246,7 +247,7 @@ impl<'t> Opener<'t> {
     fn inline(&mut self, table: &toml_tree::InlineTable<'t>) -> Result<Entries<'t>, AllocError>
         ensures texts { self.new.texts ≡ self.old.texts }
         ensures opened { OpensInline self.old.texts (inline_tree table.now) result }
-        ensures numbered { RunsAs entries_origins self.old.next self.new.next result }
+        ensures numbered { RunsAs origins_of_entries self.old.next self.new.next result }
     {
         let mut list = Vec::with_capacity(self.texts.alloc, table.pairs.len())?;
         for pair in &table.pairs {
@@ -277,7 +278,7 @@ impl<'t> Opener<'t> {
     fn keyval(&mut self, pair: &toml_tree::KeyVal<'t>) -> Result<KeyVal<'t>, AllocError>
         ensures texts { self.new.texts ≡ self.old.texts }
         ensures opened { OpensKeyVal self.old.texts (tree_keyval pair.now) result }
-        ensures numbered { RunsAs (λ p. value_origins p.value) self.old.next self.new.next result }
+        ensures numbered { RunsAs (λ p. origins_of_value p.value) self.old.next self.new.next result }
     {
         Ok(KeyVal {
             assign: self.assign(&pair.assign)?,
@@ -305,7 +306,7 @@ impl<'t> Opener<'t> {
     pub(crate) fn line(&mut self, line: &Line<'t>) -> Result<OpenLine<'t>, AllocError>
         ensures texts { self.new.texts ≡ self.old.texts }
         ensures opened { OpensLine self.old.texts (tree_line line.now) result }
-        ensures numbered { RunsAs line_origins self.old.next self.new.next result }
+        ensures numbered { RunsAs origins_of_line self.old.next self.new.next result }
     {
         let origin = self.origin();
         let (ws, expr, tail) = match line.expr() {

@@ -1,8 +1,6 @@
 //! The texts that edits bring: their values read, and their names spelled.
 ghost use Rattle.std.specs.Prelude.{◌≡◌, IfOk, IfSome, map, string_bytes};
 ghost use Rattle.toml_edits.specs.Edits.{change};
-ghost use Rattle.toml_editor.specs.Numbering.{value_origins};
-ghost use Rattle.toml_editor.specs.OpenOrigins.{AreNew};
 ghost use Rattle.toml_editor.specs.Opening.{OpensText};
 ghost use Rattle.toml_editor.specs.SpelledEdits.{AreSpelled, AreSteps, IsNewName, IsSpelled, step_spelled};
 
@@ -62,8 +60,7 @@ pub(crate) fn open_value<'t>(
     text: &'t str,
     profile: Profile,
 ) -> Result<Option<Value<'t>>, AllocError>
-    ensures opened { IfOk result (OpensText profile text.now) }
-    ensures new { IfOk result (λ found. IfSome found (λ v. AreNew (value_origins v))) }
+    ensures { IfOk result (OpensText profile text.now) }
 {
     let Ok(source) = Source::new(text.as_bytes()) else {
         return Ok(None);

@@ -2,8 +2,7 @@
 //! document, but its pieces are kept or new, and lines, comments, elements and pairs know which unit of the document they
 //! are.
 ghost use Rattle.std.specs.Prelude.{◌≡◌, ◌↔◌, ◌++◌, [], IfOk, OnOk, IsTrue};
-ghost use Rattle.toml_editor.specs.Numbering.{gap_origins, gap_part_origins};
-ghost use Rattle.toml_editor.specs.OpenOutlines.{leaf_text, gap_part_text, gap_text};
+ghost use Rattle.toml_editor.specs.OpenOutlines.{leaf_text, gap_part_text, gap_text, gap_origins, gap_part_origins};
 
 use std::alloc::{AllocError, Global};
 use std::collections::VecDeque;

@@ -3,20 +3,21 @@ use Rattle.std.proofs.lemmas.List.{nil_from_length}
 use Rattle.std.proofs.lemmas.Result.{on_ok_weaker}
 use Rattle.std.specs.VecDeque.Iter.{deque_iter_rest}
 use Rattle.toml_editor.specs.declared.tree.Value.TheViews.{out-Entries, out-Entry}
-use Rattle.toml_editor.proofs.Numbered.{nothing_counted, more_counted, entries_counted, then, entry_is}
-use Rattle.toml_editor.specs.Numbering.{Numbers, all_origins, end_origins, entry_origins, gap_origins, value_origins}
+use Rattle.toml_editor.proofs.Numbered.{nothing_counted, more_counted, entries_counted, then, entry_listed}
+use Rattle.toml_editor.specs.Numbering.{Numbers, end_origins, origins_of_entry, origins_of_value}
+use Rattle.toml_editor.specs.OpenOutlines.{all_origins, gap_origins}
 use Rattle.toml_editor.proofs.numbering.Numbering.+numbering.Goals as goal
 
 pub entries-loop-entry-preserved : goal.entries-loop-entry-preserved
 entries-loop-entry-preserved t c =
     let so_far = c.loop-entry.invariant in
     let end = end_origins (out-Entries c.args.entries.now).end in
-    let here = entry_origins c.in-Some.entry.now in
-    let left = all_origins entry_origins (deque_iter_rest c.next.new.self) in
-    let split = ap (λ es. all_origins entry_origins es ++ end) c.in-Some.ensures.steps ∙ append_assoc here left end in (
+    let here = origins_of_entry c.in-Some.entry.now in
+    let left = all_origins origins_of_entry (deque_iter_rest c.next.new.self) in
+    let split = ap (λ es. all_origins origins_of_entry es ++ end) c.in-Some.ensures.steps ∙ append_assoc here left end in (
       c.in_ok-entry.ensures.0 ∙ so_far.0,
       c.in_ok-entry.ensures.1 ∙ so_far.1,
-      more_counted (all_origins entry_origins (deque_iter_rest c.into_iter-entry-iterator.result) ++ end) here (left ++ end) (all_origins entry_origins (deque_iter_rest c.loop-entry.entry-iterator) ++ end)
+      more_counted (all_origins origins_of_entry (deque_iter_rest c.into_iter-entry-iterator.result) ++ end) here (left ++ end) (all_origins origins_of_entry (deque_iter_rest c.loop-entry.entry-iterator) ++ end)
           c.args.self.now c.loop-entry.self c.entry.new.self so_far.1 split so_far.2 c.in_ok-entry.ensures.2,
     )
 
@@ -52,14 +53,14 @@ entry-returns t c =
     let o = out-Entry e in
     let before = gap_origins o.before in
     let own = o.origin ∷ [] in
-    let inner = value_origins o.value in
+    let inner = origins_of_value o.value in
     let start = c.args.self.now in
     let wanted = c.in_ok-gap.ensures.1 in
     let first = then before own start c.gap.new.self c.unit.new.self wanted c.in_ok-gap.ensures.2 c.in_ok-unit.ensures.2 in
     let second = then (before ++ own) inner start c.unit.new.self c.value.new.self (c.in_ok-unit.ensures.1 ∙ wanted) first c.in_ok-value.ensures.2 in
     let same = c.in_ok-value.ensures.1 ∙ c.in_ok-unit.ensures.1 ∙ wanted in
-    let is : ((before ++ own) ++ inner) ++ gap_origins o.after ≡ entry_origins e =
-    append_assoc (before ++ own) inner (gap_origins o.after) ∙ append_assoc before own (inner ++ gap_origins o.after) ∙ sym (entry_is e) in (
+    let is : ((before ++ own) ++ inner) ++ gap_origins o.after ≡ origins_of_entry e =
+    append_assoc (before ++ own) inner (gap_origins o.after) ∙ append_assoc before own (inner ++ gap_origins o.after) ∙ sym (entry_listed e) in (
       c.gap-2.ensures.0 ∙ c.in_ok-value.ensures.0 ∙ c.in_ok-unit.ensures.0 ∙ c.in_ok-gap.ensures.0,
       c.gap-2.ensures.1 ∙ same,
       on_ok_weaker c.gap-2.result (λ here.

@@ -1,6 +1,6 @@
 use Rattle.std.proofs.Common.{◌∙◌}
 use Rattle.toml_editor.proofs.Numbered.{next_read}
-use Rattle.toml_editor.specs.Numbering.{gap_part_origins}
+use Rattle.toml_editor.specs.OpenOutlines.{gap_part_origins}
 use Rattle.toml_editor.proofs.numbering.Numbering.gap.Goals as goal
 
 pub loop-part-preserved : goal.loop-part-preserved

@@ -1,6 +1,6 @@
 use Rattle.std.proofs.Common.{◌≡◌, drop}
 use Rattle.toml_editor.proofs.Numbered.{CountedUpTo}
-use Rattle.toml_editor.specs.Numbering.{all_origins, gap_part_origins}
+use Rattle.toml_editor.specs.OpenOutlines.{all_origins, gap_part_origins}
 use Rattle.toml_editor.proofs.numbering.Numbering.gap.Given as goal
 
 abbrev pub invariant-loop-part : goal.invariant-loop-part

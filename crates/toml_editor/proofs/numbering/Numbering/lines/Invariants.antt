@@ -1,6 +1,7 @@
 use Rattle.std.proofs.Common.{◌≡◌, drop}
 use Rattle.toml_editor.proofs.Numbered.{CountedUpTo}
-use Rattle.toml_editor.specs.Numbering.{all_origins, own_origins}
+use Rattle.toml_editor.specs.Numbering.{own_origins}
+use Rattle.toml_editor.specs.OpenOutlines.{all_origins}
 use Rattle.toml_editor.proofs.numbering.Numbering.lines.Given as goal
 
 abbrev pub invariant-loop-line : goal.invariant-loop-line

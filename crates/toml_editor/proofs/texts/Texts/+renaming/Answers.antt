@@ -20,7 +20,7 @@ rename_entry-returns-in_ok-rename_in-in-Some t c =
     let list = (out-Entries old).list in
     let got = slice_get_read list.items list.len c.args.index e list.ok.0 (c.in-Some.ensures.variant.0 refl) c.in-Some.ensures.value in
     entry_changed (RenamesIn c.args.steps.now c.args.to.now) (Unit {0}) old _ c.args.index e _ (value c.rename_in.new.own) got refl
-    (entry_with e c.rename_in.new.own _) c.in_ok-rename_in-in-Some.ensures
+    (entry_with e c.rename_in.new.own) c.in_ok-rename_in-in-Some.ensures
 
 pub rename_entry-returns-in-None : goal.rename_entry-returns-in-None
 rename_entry-returns-in-None t c =

@@ -21,7 +21,7 @@ set_entry-returns-in_ok-done-in-Some t c =
     let got = slice_get_read list.items list.len c.args.index e list.ok.0 (c.in-Some.ensures.variant.0 refl) c.in-Some.ensures.value in
     let done = c.in_ok-done-in-Some.done in
     entry_changed (λ v w. SetsIn c.args.steps.now (value c.args.new) v w done) (done ≡ false) old _ c.args.index e _ (value c.set_in.new.own) got refl
-    (entry_with e c.set_in.new.own _) c.in_ok-done-in-Some.ensures
+    (entry_with e c.set_in.new.own) c.in_ok-done-in-Some.ensures
 
 pub set_entry-returns-in-None : goal.set_entry-returns-in-None
 set_entry-returns-in-None t c =

@@ -2,7 +2,7 @@ use Rattle.std.proofs.Common.{◌∙◌, ap, append-nil}
 use Rattle.toml_editor.specs.OpenOutlines.{gap_parts_text}
 use Rattle.toml_editor.specs.declared.tree.GapPart.TheVariants.{Ws}
 use Rattle.toml_editor.proofs.OpenedGap.{gap_parts_more}
-use Rattle.toml_editor.specs.Numbering.{all_origins, gap_origins, gap_part_origins}
+use Rattle.toml_editor.specs.OpenOutlines.{all_origins, gap_origins, gap_part_origins}
 use Rattle.toml_editor.proofs.OpenedOrigins.{origins_more}
 use Rattle.toml_editor.proofs.tree.Gap.push_ws.Goals as goal
 

@@ -1,6 +1,7 @@
 use Rattle.std.proofs.Common.{◌≡◌, drop}
 use Rattle.toml_editor.proofs.Numbered.{CountedUpTo}
-use Rattle.toml_editor.specs.Numbering.{all_origins, slot_origins}
+use Rattle.toml_editor.specs.Numbering.{slot_origins}
+use Rattle.toml_editor.specs.OpenOutlines.{all_origins}
 use Rattle.toml_editor.proofs.working.Tree.certificate.Given as goal
 
 abbrev pub invariant-loop-slot : goal.invariant-loop-slot
