@@ -45,6 +45,8 @@ mod OpenedBody
 mod NumberedOutlines
 mod OutlinesSpelled
 mod TreeOrigins
+mod KeptOrigins
+mod StandingNew
 mod OpenedOrigins
 pub mod written
 pub mod Proved

@@ -16,8 +16,9 @@ use Rattle.toml_editor.specs.declared.fault.EditorFault.TheVariants as faults
 use Rattle.toml_editor.specs.declared.working.Tree.{Tree}
 use Rattle.toml_editor.specs.CertifiedLists.{ArePlain}
 use Rattle.toml_editor.specs.Edited.{MayBeSpread, Places, TakesLastElement}
+use Rattle.toml_editor.specs.EditStanding.{EditsStanding, EditAllStanding}
 use Rattle.toml_editor.specs.Exact.{AreNotPlain, Follows, IsAt, IsNotPlain, IsPlainOn, KeepsSource, MakesAll, MakesOne, OfSpread, WritesEdit, style}
-use Rattle.toml_editor.specs.Standing.{Read}
+use Rattle.toml_editor.specs.Standing.{Read, Standing, slots_standing}
 use Rattle.toml_editor.specs.Steps.{AreWritten}
 use Rattle.toml_editor.specs.Written.{IsWritten}
 use Rattle.toml_editor.proofs.written.Follow.{remove_follows, set_follows}
@@ -98,12 +99,19 @@ written_more profile [] c style before mid after is written = (after, subst (λ 
 written_more profile (d ∷ cs) c style before mid after (between, first, rest) written =
     (between, first, written_more profile cs c style between mid after rest written)
 
+edited_more : (profile : Profile) (cs : List Change) (c : Change) (style : List ℕ) (old mid now : List Standing) → EditAllStanding profile style cs old mid
+    → EditsStanding profile style c mid now → EditAllStanding profile style (cs ++ c ∷ []) old now
+edited_more profile [] c style old mid now is edits = (now, subst (λ ss. EditsStanding profile style c ss now) is edits, refl)
+edited_more profile (d ∷ cs) c style old mid now (between, first, rest) edits =
+    (between, first, edited_more profile cs c style between mid now rest edits)
+
 -- so many of the edits are made, and these are left
 pub record MadeSoFar (profile : Profile) (read : Read) (made left : List Change) (old tree : Tree) (text : List ℕ) (now : Kinds) : Type 0 where
   pub mid : List ℕ
   pub kinds : Kinds
   pub at : IsAt profile read tree mid kinds
   pub written : AreWritten profile made (style old) text mid
+  pub lines : EditAllStanding profile (style old) made (slots_standing read old.slots.items) (slots_standing read tree.slots.items)
   pub source : KeepsSource old tree
   pub lead : Lead profile left kinds now
   pub plain : ArePlain profile left (style old) mid
@@ -119,6 +127,7 @@ none_made profile read cs tree text kinds now at lead plain = record {
   kinds = kinds;
   at = at;
   written = refl;
+  lines = refl;
   source = record { texts = refl; style = refl };
   lead = lead;
   plain = plain;
@@ -136,6 +145,8 @@ more_made profile read cs made left c old tree new so_far makes text kinds now a
       kinds = here.lead.1;
       at = one.at;
       written = written_more profile made c (style old) text here.mid one.after here.written written;
+      lines = edited_more profile made c (style old) _ _ _ here.lines
+          (subst (λ s. EditsStanding profile s c (slots_standing read tree.slots.items) (slots_standing read new.slots.items)) here.source.style one.lines);
       source = record { texts = one.source.texts ∙ here.source.texts; style = one.source.style ∙ here.source.style };
       lead = here.lead.3;
       plain = here.plain.1 one.after written;
@@ -148,6 +159,7 @@ all_made profile read cs old tree so_far text kinds now at lead plain =
     record {
       after = here.mid;
       written = here.written;
+      lines = here.lines;
       at = subst (IsAt profile read tree here.mid) (fun_ext here.lead) here.at;
       source = here.source;
     }

@@ -21,7 +21,7 @@ use Rattle.toml_editor.specs.CertifiedLists.{ArePlain}
 use Rattle.toml_editor.specs.Exact.{AreNotPlain, IsAt, MakesAll, OfSpread, style}
 use Rattle.toml_editor.specs.PlainTexts.{IsNoPlainList, WritesPlain}
 use Rattle.toml_editor.specs.Standing.{Read, standing}
-use Rattle.toml_editor.specs.Stands.{Stands}
+use Rattle.toml_editor.specs.Stands.{StandFor}
 use Rattle.toml_editor.specs.Starting.{NoneIsGone}
 use Rattle.toml_editor.specs.Steps.{AreWritten}
 use Rattle.toml_editor.specs.Writing.{WritesOut}
@@ -31,7 +31,7 @@ use Rattle.toml_editor.proofs.written.Elsewhere.{style_is_newline}
 use Rattle.toml_editor.proofs.written.Steps.{plain_steps}
 
 module _ (profile : Profile) (read : Read) (d : Doc) (before : List ℕ) (tree : Tree) (document : IsDocumentIn profile before)
-    (spelled : Spells d before) (stands : Stands before read tree.slots.items (standing d.lines)) (texts : text_of tree.texts.source ≡ before)
+    (spelled : Spells d before) (stands : StandFor before read tree.slots.items (standing d.lines)) (texts : text_of tree.texts.source ≡ before)
     (whole : NoneIsGone tree.elements) (styled : style tree ≡ style_of d.lines) where
   abbrev same : document.1 ≡ d
   same = one_tree document.1 d before document.2 spelled
@@ -45,7 +45,7 @@ module _ (profile : Profile) (read : Read) (d : Doc) (before : List ℕ) (tree :
       good = subst (λ (e : Doc). AreGood e.lines) same document.3;
       facts = facts;
     };
-    stands = subst (λ t. Stands t read tree.slots.items (standing d.lines)) (sym texts) stands;
+    stands = subst (λ t. StandFor t read tree.slots.items (standing d.lines)) (sym texts) stands;
     whole = whole;
     newline = subst IsNewline (sym styled) (style_is_newline d.lines spelled.lines.forms);
   }
@@ -80,7 +80,7 @@ module _ (profile : Profile) (read : Read) (d : Doc) (before : List ℕ) (tree :
             let steps = plain_steps profile cs (style tree) before all.after old now first.newline first.good lead all.written in
             let tree_is : steps.0.tree ≡ last = one_tree steps.0.tree last all.after steps.0.spelled.0 all.at.good.spelled.0 in
             let mark : d.mark ≡ last.mark = sym steps.1 ∙ ap (λ (e : Doc). e.mark) tree_is in
-            let there = subst (λ t. Stands t read new.slots.items (standing last.lines)) (ap (λ (s : Texts). text_of s.source) all.source.texts ∙ texts) all.at.stands in
+            let there = subst (λ t. StandFor t read new.slots.items (standing last.lines)) (ap (λ (s : Texts). text_of s.source) all.source.texts ∙ texts) all.at.stands in
             let is : out ≡ all.after =
             lines_are_written before d.mark.text read new.slots.items last.lines out writes there
             ∙ ap (λ (m : Piece). m.text ++ joined (lines_parts last.lines)) mark ∙ text_is_spelled last all.after all.at.good.spelled.0 in

@@ -1,5 +1,5 @@
 -- The working tree of a document that is as it was.
-use Rattle.std.specs.Prelude.{◌≡◌, ◌↔◌, ◌⊎◌, ◌<◌, ◌+◌, ℕ, true, false, List, [], None, Some, length, map, slice_get, Option, IsTrue, MatchOption}
+use Rattle.std.specs.Prelude.{◌≡◌, ◌↔◌, ◌⊎◌, ◌+◌, ℕ, true, false, List, [], None, Some, length, map, slice_get, Option, IsTrue, MatchOption}
 use Rattle.toml_text.specs.Limit.{IsText}
 use Rattle.toml_tree.specs.Document.{document}
 use Rattle.toml_tree.specs.Pieces.{expr_start}
@@ -16,7 +16,7 @@ use Rattle.toml_editor.specs.declared.lines.Slot.{Slot}
 use Rattle.toml_editor.specs.declared.working.Before.{Before}
 use Rattle.toml_editor.specs.OpenOrigins.{numbers}
 use Rattle.toml_editor.specs.Standing.{Read, standing, standing_origins}
-use Rattle.toml_editor.specs.Stands.{StandFor, heads_tables}
+use Rattle.toml_editor.specs.Stands.{HasNumbers, StandFor, heads_tables}
 
 -- the document as the working tree looks at it, by its units and its lines
 abbrev pub read_of : Before → Read
@@ -28,11 +28,10 @@ pub record IsReadOf (text : List ℕ) (before : Before) : Type 0 where
   pub spelled : Spells (document before.doc.now) text
   pub units : all_units before.units.now ≡ map spanned (units (document before.doc.now).lines)
 
--- The slots stand for the lines of the document, with all its units in order, where their numbers stay below 64 bits, as those of units in
--- memory do.
+-- the slots stand for the lines of the document, with all its units in order
 pub record StandAsRead (text : List ℕ) (before : Before) (slots : List Slot) : Type 0 where
   pub lines : StandFor text (read_of before) slots (standing (read_of before).lines)
-  pub origins : length before.units.now < 18446744073709551616 → standing_origins lines.lines ≡ numbers (Some 0) (length before.units.now)
+  pub origins : HasNumbers before.units.now → standing_origins lines.lines ≡ numbers (Some 0) (length before.units.now)
 
 -- what is kept of a line: where it stands, and what it is
 pub record IsKeptOf (l : Line) (kept : Kept) : Type 0 where

@@ -39,4 +39,7 @@ loop-first-preserved c text is =
     ]
 
 pub returns : goal.returns
-returns c text is = started_all text (read_of c.args.before) c.loop-first.first c.loop-first.slots.items c.loop-first-test.false (c.loop-first.invariant text is)
+returns c text is =
+    let read = read_of c.args.before in
+    let (lines, origins) = started_all text read c.loop-first.first c.loop-first.slots.items c.loop-first-test.false (c.loop-first.invariant text is) in
+    record { lines = lines; origins = origins }
