@@ -26,6 +26,10 @@ pub mod LastLines
 pub mod Made
 pub mod Moved
 pub mod Nested
+pub mod OriginsCounted
+pub mod OriginsRenamed
+pub mod OriginsSet
+pub mod OriginsSetInside
 pub mod OuterPairs
 pub mod Pairwise
 pub mod Plain
@@ -38,6 +42,7 @@ pub mod RenameKept
 pub mod RenameNamed
 pub mod RenameStanding
 pub mod RenameTexts
+pub mod SetAlong
 pub mod SetFormed
 pub mod SetKept
 pub mod SetNamed
