@@ -10,10 +10,10 @@ use Rattle.toml_editor.specs.AsNew.{as_new, value_as_new, entries_as_new, expr_a
 use Rattle.toml_editor.specs.InsertStanding.{AreRooted, LeavesRoot, RootIsFirst, end_in, has_pair, insert_behind, insert_standing, line_behind, new_standing, pair_or}
 use Rattle.toml_editor.specs.Outlines.{ValueOutline, Token, Listed, Braced, EntriesOutline, End, Entry, ExprOutline, Nothing, Pair, Header, LineOutline}
 use Rattle.toml_editor.specs.RemoveStanding.{empty_standing, is_pair, left_standing, remove_standing, without_one}
-use Rattle.toml_editor.specs.RenameOutlines.{rename_outline, rename_listed, rename_braced}
+use Rattle.toml_editor.specs.RenameOutlines.{rename_outlined, rename_outline, rename_listed, rename_braced}
 use Rattle.toml_editor.specs.RenameStanding.{key_part_with, own_part_with, part_number, rename_expr_outline, rename_inside, rename_outline_of, rename_own, rename_standing}
 use Rattle.toml_editor.specs.SetOutlines.{has_braced, has_listed, has_outline, has_within, outlined_names, set_braced, set_listed, set_outline, set_outline_at, set_outline_within}
-use Rattle.toml_editor.specs.Standing.{AreOrdered, IsApart, Standing, StandAlone, covers, expr_has, has, holds, is_below, outline_has, set_expr_outline, set_outline_of, set_standing}
+use Rattle.toml_editor.specs.Standing.{AreOrdered, IsApart, Standing, StandAlone, covers, covers_at, expr_has, has, holds, is_below, outline_has, set_expr_outline, set_outline_of, set_standing}
 use Rattle.toml_tree.specs.Spells.{EachIs}
 
 -- ---- `set`
@@ -127,7 +127,7 @@ module _ (p : Address) (text : List ℕ) where
     rename_braced_new (End gap) at = refl
     rename_braced_new (Entry before None v after es) at = ap (Entry (as_new before) None (value_as_new v) (as_new after)) (rename_braced_new es at)
     rename_braced_new (Entry before (Some a) v after es) at =
-        ap₂ (λ w r. Entry (as_new before) _ w (as_new after) r) (rename_new v (below at (outlined_names a))) (rename_braced_new es at)
+        ap₂ (λ w r. Entry (as_new before) (Some (rename_outlined p text at a)) w (as_new after) r) (rename_new v (below at (outlined_names a))) (rename_braced_new es at)
 
   rename_expr_new : (e : ExprOutline) (at : Address) → expr_as_new (rename_expr_outline p text at e) ≡ rename_expr_outline p text at (expr_as_new e)
   rename_expr_new Nothing at = refl
@@ -244,12 +244,22 @@ expr_apart_of (Header opening before first rest after closing) h = tt
 
 pub ordered_of : (ss : List Standing) → AreOrdered (map standing_as_new ss) → AreOrdered ss
 ordered_of ss h = record {
-  alone = λ i j d low high. subst₂ (λ s t. (covers s t ≡ false) × (covers t s ≡ false)) (get_or-map standing_as_new ss i d) (get_or-map standing_as_new ss j d)
-      (h.alone i j (standing_as_new d) low (within j high));
+  alone = λ i j d low high. apart_from (slice_index_or ss i d) (slice_index_or ss j d)
+      (subst₂ (λ s t. (covers s t ≡ false) × (covers t s ≡ false)) (get_or-map standing_as_new ss i d) (get_or-map standing_as_new ss j d)
+      (h.alone i j (standing_as_new d) low (within j high)));
   apart = λ k d low. expr_apart_of (slice_index_or ss k d).outline.expr
       (subst (λ (s : Standing). IsApart s.outline.expr) (get_or-map standing_as_new ss k d) (h.apart k (standing_as_new d) (within k low)));
 }
   where
+    covers_new : (t : Standing) (base : Option ℕ) (own : Option Address) → covers_at base own (standing_as_new t) ≡ covers_at base own t
+    covers_new t None own = refl
+    covers_new t (Some n) None = refl
+    covers_new t (Some n) (Some a) = refl
+
+    apart_from : (s t : Standing) → (covers (standing_as_new s) (standing_as_new t) ≡ false) × (covers (standing_as_new t) (standing_as_new s) ≡ false)
+        → (covers s t ≡ false) × (covers t s ≡ false)
+    apart_from s t (one, other) = (sym (covers_new t s.base s.address) ∙ one, sym (covers_new s t.base t.address) ∙ other)
+
     within : (k : ℕ) → k < length ss → k < length (map standing_as_new ss)
     within k low = subst (λ n. k < n) (sym (length-map ss standing_as_new)) low
 

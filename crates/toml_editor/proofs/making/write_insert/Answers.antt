@@ -12,7 +12,7 @@ use Rattle.toml_editor.proofs.making.write_insert.Goals as goal
 pub returns-in_ok-parent-in-Some-clause-insert : goal.returns-in_ok-parent-in-Some-clause-insert
 returns-in_ok-parent-in-Some-clause-insert c =
     let old = c.args.tree.now in
-    let (w, of_text, outlined) = subst (OpensText c.args.read.profile c.args.value.now) c.in-Some.is c.in_ok-new.ensures.opened in
+    let (w, of_text, outlined) = subst (OpensText c.args.read.profile c.args.value.now) c.in-Some.is c.in_ok-new.ensures in
     on_ok _ _ c.insert.result
     (λ inserts within v is.
     subst (λ o. InsertsLines c.args.at.now c.args.steps.now o (style old) (text_of old.texts.source) (read_of c.args.read.before) old.slots.items c.insert.new.self.slots.items)
@@ -20,4 +20,4 @@ returns-in_ok-parent-in-Some-clause-insert c =
     c.insert.ensures.root
 
 pub returns-in-None-clause-insert : goal.returns-in-None-clause-insert
-returns-in-None-clause-insert c within v is = absurd (subst (OpensText c.args.read.profile c.args.value.now) c.in-None.is c.in_ok-new.ensures.opened within v is)
+returns-in-None-clause-insert c within v is = absurd (subst (OpensText c.args.read.profile c.args.value.now) c.in-None.is c.in_ok-new.ensures within v is)

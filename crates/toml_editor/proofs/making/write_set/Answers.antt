@@ -11,7 +11,7 @@ use Rattle.toml_editor.proofs.making.write_set.Goals as goal
 pub returns-in-Some-clause-set : goal.returns-in-Some-clause-set
 returns-in-Some-clause-set c =
     let old = c.args.tree.now in
-    let (w, of_text, outlined) = subst (OpensText c.args.read.profile c.args.value.now) c.in-Some.is c.in_ok-new.ensures.opened in
+    let (w, of_text, outlined) = subst (OpensText c.args.read.profile c.args.value.now) c.in-Some.is c.in_ok-new.ensures in
     IfOk-weaker c.set.result _ _
     (λ done sets within v is.
     subst (λ o. SetsLines c.args.at.now o (text_of old.texts.source) (read_of c.args.read.before) old.slots.items c.set.new.self.slots.items done)
@@ -19,4 +19,4 @@ returns-in-Some-clause-set c =
     c.set.ensures.set
 
 pub returns-in-None-clause-set : goal.returns-in-None-clause-set
-returns-in-None-clause-set c within v is = absurd (subst (OpensText c.args.read.profile c.args.value.now) c.in-None.is c.in_ok-new.ensures.opened within v is)
+returns-in-None-clause-set c within v is = absurd (subst (OpensText c.args.read.profile c.args.value.now) c.in-None.is c.in_ok-new.ensures within v is)
