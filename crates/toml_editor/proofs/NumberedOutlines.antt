@@ -1,21 +1,14 @@
 -- Outlines with the units from a number on.
-use Rattle.std.proofs.Common.{◌≡◌, ◌∙◌, ◌+◌, ℕ, zero, suc, List, [], ◌∷◌, ◌++◌, map, length, length-append, Option, Some, None, refl, sym, ap, ap₂, subst, arith}
+use Rattle.std.proofs.Common.{◌≡◌, ◌∙◌, ◌+◌, ◌<◌, ℕ, zero, suc, List, [], ◌∷◌, ◌++◌, map, length, length-append, Option, Some, None, refl, sym, ap, ap₂, subst, arith}
 use Rattle.std.specs.Prelude.{option_map}
 use Rattle.toml_editor.specs.AsNew.{all_new, as_new, value_as_new, entries_as_new, expr_as_new, line_as_new}
 use Rattle.toml_editor.specs.OpenOrigins.{RunFrom, next_number, numbers, beyond, numbered, value_numbered, entries_numbered, expr_numbered, line_numbered}
 use Rattle.toml_editor.specs.Outlines.{Origins, Marked, marked, AssignOutline, ValueOutline, Token, Listed, Braced, EntriesOutline, End, Entry, ExprOutline, Nothing, Pair, Header, LineOutline, origins_if, value_origins, entries_origins, expr_origins, line_origins, value_outlined, entries_outlined, expr_outlined, line_outlined, comment_outlined, comma_if}
 
--- the number behind
-pub next_beyond : (a : Option ℕ) (n : ℕ) → beyond a (suc n) ≡ beyond (next_number a) n
-next_beyond a n = refl
-
-pub beyond_append : (a : Option ℕ) (n m : ℕ) → beyond (beyond a n) m ≡ beyond a (n + m)
-beyond_append a zero m = refl
-beyond_append a (suc n) m = beyond_append (next_number a) n m
-
 pub numbers_append : (a : Option ℕ) (n m : ℕ) → numbers a (n + m) ≡ numbers a n ++ numbers (beyond a n) m
-numbers_append a zero m = refl
-numbers_append a (suc n) m = ap (λ r. a ∷ r) (numbers_append (next_number a) n m)
+numbers_append a zero m = ap (numbers a) (let e : 0 + m ≡ m = omega arith in e)
+numbers_append a (suc n) m =
+    ap (numbers a) (let e : suc n + m ≡ suc (n + m) = omega arith in e) ∙ ap (λ r. a ∷ r) (numbers_append (next_number a) n m)
 
 pub count_numbers : (a : Option ℕ) (n : ℕ) → length (numbers a n) ≡ n
 count_numbers a zero = refl
@@ -129,6 +122,31 @@ line_origins_new l =
 count_value_new : (v : ValueOutline) → length (value_origins (value_as_new v)) ≡ length (value_origins v)
 count_value_new v = ap length (value_origins_new v) ∙ count_all_new (value_origins v)
 
+-- an entry, once it is so of its value and of those behind it
+entry_numbered_of : (a : Option ℕ) (before : Marked) (own : Option AssignOutline) (v : ValueOutline) (after : Marked) (es : EntriesOutline)
+    → (let inside = beyond a (length before.origins) in value_numbered inside (value_as_new v) ≡ value_numbered inside v)
+    → (let rest = beyond (beyond (beyond a (length before.origins)) (length (value_origins v))) (length after.origins) in
+    entries_numbered rest (entries_as_new es) ≡ entries_numbered rest es)
+    → entries_numbered a (entries_as_new (Entry before own v after es)) ≡ entries_numbered a (Entry before own v after es)
+entry_numbered_of a before own v after es value rest =
+    ap₂ (λ k n. entry_with (beyond a k) (beyond (beyond a k) n)) (count_all_new before.origins) (count_value_new v)
+    ∙ ap (λ n. Entry (numbered a (as_new before)) own (value_numbered inside (value_as_new v)) (numbered behind (as_new after))
+    (entries_numbered (beyond behind n) (entries_as_new es))) (count_all_new after.origins)
+    ∙ ap₂ (λ g w. Entry g own w (numbered behind (as_new after)) (entries_numbered (beyond behind (length after.origins)) (entries_as_new es)))
+    (numbered_of a before) value
+    ∙ ap₂ (λ g r. Entry (numbered a before) own (value_numbered inside v) g r) (numbered_of behind after) rest
+  where
+    inside : Option ℕ
+    inside = beyond a (length before.origins)
+
+    behind : Option ℕ
+    behind = beyond inside (length (value_origins v))
+
+    entry_with : Option ℕ → Option ℕ → EntriesOutline
+    entry_with x y =
+        Entry (numbered a (as_new before)) own (value_numbered x (value_as_new v)) (numbered y (as_new after))
+        (entries_numbered (beyond y (length (all_new after.origins))) (entries_as_new es))
+
 mutual
   value_numbered_of : (a : Option ℕ) (v : ValueOutline) → value_numbered a (value_as_new v) ≡ value_numbered a v
   value_numbered_of a (Token text) = refl
@@ -138,30 +156,9 @@ mutual
   entries_numbered_of : (a : Option ℕ) (es : EntriesOutline) → entries_numbered a (entries_as_new es) ≡ entries_numbered a es
   entries_numbered_of a (End gap) = ap End (if_numbered_of a gap)
   entries_numbered_of a (Entry before own v after es) =
-      ap₂ (λ k n. entry_with (beyond a k) (beyond (beyond a k) n)) (count_all_new before.origins) (count_value_new v)
-      ∙ ap (λ n. entry_from (beyond (beyond a (length before.origins)) (length (value_origins v))) n) (count_all_new after.origins)
-      ∙ here
-    where
-      entry_with : Option ℕ → Option ℕ → EntriesOutline
-      entry_with inside behind =
-          Entry (numbered a (as_new before)) own (value_numbered inside (value_as_new v)) (numbered behind (as_new after))
-          (entries_numbered (beyond behind (length (all_new after.origins))) (entries_as_new es))
-
-      inside : Option ℕ
-      inside = beyond a (length before.origins)
-
-      entry_from : Option ℕ → ℕ → EntriesOutline
-      entry_from behind n =
-          Entry (numbered a (as_new before)) own (value_numbered inside (value_as_new v)) (numbered behind (as_new after))
-          (entries_numbered (beyond behind n) (entries_as_new es))
-
-      here : entry_from (beyond inside (length (value_origins v))) (length after.origins) ≡ entries_numbered a (Entry before own v after es)
-      here =
-          let behind = beyond inside (length (value_origins v)) in
-          ap₂ (λ g w. Entry g own w (numbered behind (as_new after)) (entries_numbered (beyond behind (length after.origins)) (entries_as_new es)))
-          (numbered_of a before) (value_numbered_of inside v)
-          ∙ ap₂ (λ g r. Entry (numbered a before) own (value_numbered inside v) g r) (numbered_of behind after)
-          (entries_numbered_of (beyond behind (length after.origins)) es)
+      let inside = beyond a (length before.origins) in
+      let behind = beyond inside (length (value_origins v)) in
+      entry_numbered_of a before own v after es (value_numbered_of inside v) (entries_numbered_of (beyond behind (length after.origins)) es)
 
 expr_numbered_of : (a : Option ℕ) (e : ExprOutline) → expr_numbered a (expr_as_new e) ≡ expr_numbered a e
 expr_numbered_of a Nothing = refl

@@ -76,11 +76,12 @@ line_outline_is_new l = by l.expr
 
 count_gap_lines : (at : Address) (ls : List GapLine) → length (gap_lines_origins ls) ≡ length (gap_line_units at ls)
 count_gap_lines at [] = refl
-count_gap_lines at (l ∷ ls) = by l.blank.comment
+count_gap_lines at (l ∷ ls) = by l.blank.comment (count_gap_lines at ls)
   where
-    by : (c : Option Piece) → length (comment_origin c ++ gap_lines_origins ls) ≡ length (comment_units kinds.InnerComment (Some at) c ++ gap_line_units at ls)
-    by None = count_gap_lines at ls
-    by (Some p) = ap suc (count_gap_lines at ls)
+    by : (c : Option Piece) → length (gap_lines_origins ls) ≡ length (gap_line_units at ls)
+        → length (comment_origin c ++ gap_lines_origins ls) ≡ length (comment_units kinds.InnerComment (Some at) c ++ gap_line_units at ls)
+    by None more = more
+    by (Some p) more = ap suc more
 
 -- an entry between its gaps, and others behind
 count_entry : (os ps qs rs : Origins) (us vs ws xs : List TextUnit) (u : TextUnit) → length os ≡ length us → length ps ≡ length vs → length qs ≡ length ws
@@ -93,9 +94,9 @@ count_entry os ps qs rs us vs ws xs u first second third fourth = omega (
 
 count_last : (os ps qs : Origins) (us vs ws : List TextUnit) (u : TextUnit) → length os ≡ length us → length ps ≡ length vs → length qs ≡ length ws
     → length ((os ++ None ∷ []) ++ (ps ++ (qs ++ []))) ≡ length (us ++ ((u ∷ vs) ++ ws))
-count_last os ps qs us vs ws u first second third = omega (
+count_last os ps qs us vs ws u first second third = let none : Origins = [] in omega (
   arith, first, second, third,
-  length-append (os ++ None ∷ []) (ps ++ (qs ++ [])), length-append os (None ∷ []), length-append ps (qs ++ []), length-append qs {A = Option ℕ} [],
+  length-append (os ++ None ∷ []) (ps ++ (qs ++ [])), length-append os (None ∷ []), length-append ps (qs ++ []), length-append qs none,
   length-append us ((u ∷ vs) ++ ws), length-append (u ∷ vs) ws,
 )
 
