@@ -26,6 +26,11 @@ pub mod LastLines
 pub mod Made
 pub mod Moved
 pub mod Nested
+pub mod OriginsAlong
+pub mod OriginsCounted
+pub mod OriginsListed
+pub mod OriginsPut
+pub mod OriginsTaken
 pub mod OuterPairs
 pub mod Pairwise
 pub mod Plain
