@@ -29,6 +29,7 @@ pub mod Nested
 pub mod OriginsAlong
 pub mod OriginsCounted
 pub mod OriginsListed
+pub mod OriginsOne
 pub mod OriginsPut
 pub mod OriginsTaken
 pub mod OuterPairs

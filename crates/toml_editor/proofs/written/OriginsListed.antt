@@ -138,6 +138,16 @@ module _ (one_goes : OneGoes) (profile : Profile) (style : List ℕ) (newline : 
             (standing_origins ms) (standing_origins bs) (standing_origins ns) first.step.goes others.goes;
       }
 
+-- From lines with the units of the document one by one the units behind the way are those that the way has it.
+pub from_numbers : (cs : List Change) (d e : Doc) (os now : Origins) (gone : HasListGone cs d e os now)
+    → os ≡ numbers (Some 0) (length (units d.lines)) → length (units d.lines) < 18446744073709551616
+    → way_origins 0 gone.way.way ≡ now
+from_numbers cs d e os now gone numbered room =
+    let h = gone.way in
+    let count : length (units d.lines) ≡ length (olds h.way) = ap length (sym h.olds_are) in
+    sym (numbers_along h.way 0 (omega (arith, room, count))) ∙ ap (λ n. along h.way (numbers (Some 0) n)) (sym count)
+    ∙ ap (along h.way) (sym numbered) ∙ gone.goes
+
 -- ---- pairs
 
 flag_there : (fs : List Bool) (i : ℕ) → slice_index_or fs i false ≡ true → slice_get fs i ≡ Some true
@@ -198,10 +208,6 @@ paired_by one_goes cs profile style before after was now newline good lead is th
     let gone =
     list_goes one_goes profile style newline cs before after was now good lead is there ms ns as_new
     (ap length numbered ∙ count_numbers (Some 0) (length (units good.tree.lines))) edits in
-    let h = gone.way in
-    let count : length (units good.tree.lines) ≡ length (olds h.way) = ap length (sym h.olds_are) in
-    let origins : way_origins 0 h.way ≡ standing_origins ns =
-    sym (numbers_along h.way 0 (omega (arith, room, count))) ∙ ap (λ n. along h.way (numbers (Some 0) n)) (sym count)
-    ∙ ap (along h.way) (sym numbered) ∙ gone.goes in
-    subst (λ os. AreOuterPartners cs good.tree there.tree (pairs_from wanted 0 os)) origins
-    (way_pairs cs good.tree there.tree gone.comments_in gone.comments_are h wanted tell)
+    subst (λ os. AreOuterPartners cs good.tree there.tree (pairs_from wanted 0 os))
+    (from_numbers cs good.tree there.tree (standing_origins ms) (standing_origins ns) gone numbered room)
+    (way_pairs cs good.tree there.tree gone.comments_in gone.comments_are gone.way wanted tell)
