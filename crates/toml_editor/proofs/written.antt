@@ -30,6 +30,11 @@ pub mod OriginsCounted
 pub mod OriginsRenamed
 pub mod OriginsSet
 pub mod OriginsSetInside
+pub mod OriginsAlong
+pub mod OriginsListed
+pub mod OriginsOne
+pub mod OriginsPut
+pub mod OriginsTaken
 pub mod OuterPairs
 pub mod Pairwise
 pub mod Plain

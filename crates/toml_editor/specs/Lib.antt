@@ -56,6 +56,7 @@ pub mod Steps
 pub mod CarriedUnits
 pub mod CarriedLists
 pub mod CertifiedLists
+pub mod PairedLists
 -- that the code writes it
 pub mod StandingLaws
 pub mod PlainTexts
