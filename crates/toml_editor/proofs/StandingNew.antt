@@ -165,7 +165,7 @@ module _ (p : Address) (text : List ℕ) where
 
 -- ---- `insert` and `remove`
 
-pair_new : (ss : List Standing) → has_pair (map standing_as_new ss) ≡ has_pair ss
+pub pair_new : (ss : List Standing) → has_pair (map standing_as_new ss) ≡ has_pair ss
 pair_new [] = refl
 pair_new (s ∷ ss) = ap (pair_or s.base s.address) (pair_new ss)
 

@@ -16,6 +16,7 @@ use Rattle.toml_editor.specs.Standing.{Standing, line_stands, standing, standing
 use Rattle.toml_editor.specs.TreeOutlines.{value_outline}
 use Rattle.toml_editor.specs.UnitBlocks.{root_line, pair_text}
 use Rattle.toml_editor.proofs.NumberedOutlines.{value_origins_new}
+use Rattle.toml_editor.proofs.StandingNew.{pair_new}
 use Rattle.toml_editor.proofs.TreeOrigins.{outline_is_new, count_inside}
 use Rattle.toml_editor.proofs.written.InsertStands.{has_same}
 use Rattle.toml_editor.proofs.written.OriginsAlong.{nones, new_are_nones}
@@ -25,57 +26,10 @@ use Rattle.toml_editor.proofs.written.WayComments.{comments}
 use Rattle.toml_editor.proofs.written.WayOrigins.{along, StepWay}
 use Rattle.toml_editor.proofs.written.WayPut.{insert_along, insert_way}
 
--- whether a line with a key and a value stands before the first header is not a question of which units there are
-pub has_as_new : (ms : List Standing) → has_pair (map standing_as_new ms) ≡ has_pair ms
-has_as_new [] = refl
-has_as_new (s ∷ ss) = ap (pair_or s.base s.address) (has_as_new ss)
-
+-- whether a line with a key and a value stands before the first header
 has_is : (ms : List Standing) (ls : List Line) (xs : List Named) (n : ℕ) → map standing_as_new ms ≡ standing_from xs n ls
     → has_pair ms ≡ lines.has_pair ls
-has_is ms ls xs n is = sym (has_as_new ms) ∙ ap has_pair is ∙ has_same ls xs n
-
--- as new, an `insert` of a tree's value makes of lines what it makes of the lines as new
-module _ (name : List ℕ) (v : Value) (style : List ℕ) where
-  new_is_new : (newline : List ℕ) → standing_as_new (new_standing name (value_outline v) newline) ≡ new_standing name (value_outline v) newline
-  new_is_new newline = ap (λ x. new_standing name x newline) (outline_is_new v)
-
-  behind_as_new : (s : Standing) (newline : List ℕ) (ss : List Standing)
-      → map standing_as_new (line_behind name (value_outline v) style s newline ++ ss)
-      ≡ line_behind name (value_outline v) style (standing_as_new s) newline ++ map standing_as_new ss
-  behind_as_new s [] ss = ap (λ x. end_in style (standing_as_new s) ∷ x ∷ map standing_as_new ss) (new_is_new [])
-  behind_as_new s (b ∷ bs) ss = ap (λ x. standing_as_new s ∷ x ∷ map standing_as_new ss) (new_is_new style)
-
-  last_as_new : (ms : List Standing)
-      → map standing_as_new (insert_behind name (value_outline v) style ms) ≡ insert_behind name (value_outline v) style (map standing_as_new ms)
-  last_as_new [] = refl
-  last_as_new (s ∷ ss) =
-      by (has_pair ss) (last_as_new ss)
-      ∙ ap (λ b. cond b (standing_as_new s ∷ insert_behind name (value_outline v) style (map standing_as_new ss))
-      (line_behind name (value_outline v) style (standing_as_new s) s.outline.newline ++ map standing_as_new ss)) (sym (has_as_new ss))
-    where
-      by : (b : Bool)
-          → map standing_as_new (insert_behind name (value_outline v) style ss) ≡ insert_behind name (value_outline v) style (map standing_as_new ss)
-          → map standing_as_new (cond b (s ∷ insert_behind name (value_outline v) style ss)
-          (line_behind name (value_outline v) style s s.outline.newline ++ ss))
-          ≡ cond b (standing_as_new s ∷ insert_behind name (value_outline v) style (map standing_as_new ss))
-          (line_behind name (value_outline v) style (standing_as_new s) s.outline.newline ++ map standing_as_new ss)
-      by true more = ap (λ l. standing_as_new s ∷ l) more
-      by false more = behind_as_new s s.outline.newline ss
-
-  pub insert_as_new : (ms : List Standing)
-      → map standing_as_new (insert_standing name (value_outline v) style ms)
-      ≡ insert_standing name (value_outline v) style (map standing_as_new ms)
-  insert_as_new ms =
-      by (has_pair ms)
-      ∙ ap (λ b. cond b (insert_behind name (value_outline v) style (map standing_as_new ms))
-      (new_standing name (value_outline v) style ∷ map standing_as_new ms)) (sym (has_as_new ms))
-    where
-      by : (b : Bool)
-          → map standing_as_new (cond b (insert_behind name (value_outline v) style ms) (new_standing name (value_outline v) style ∷ ms))
-          ≡ cond b (insert_behind name (value_outline v) style (map standing_as_new ms))
-          (new_standing name (value_outline v) style ∷ map standing_as_new ms)
-      by true = last_as_new ms
-      by false = ap (λ x. x ∷ map standing_as_new ms) (new_is_new style)
+has_is ms ls xs n is = sym (pair_new ms) ∙ ap has_pair is ∙ has_same ls xs n
 
 -- origins with others put in behind so many
 record ArePut (k : ℕ) (os block now : Origins) : Type 0 where

@@ -15,6 +15,7 @@ use Rattle.toml_editor.specs.Removing.{remove_line, remove_lines}
 use Rattle.toml_editor.specs.RemoveStanding.{empty_standing, is_pair, left_standing, remove_standing}
 use Rattle.toml_editor.specs.Standing.{Standing, line_stands, standing, standing_from, standing_origins}
 use Rattle.toml_editor.specs.Written.{HasPair}
+use Rattle.toml_editor.proofs.StandingNew.{remove_standing_new}
 use Rattle.toml_editor.proofs.written.Alike.{alike_self}
 use Rattle.toml_editor.proofs.written.OriginsAlong.{nones, new_are_nones}
 use Rattle.toml_editor.proofs.written.OriginsCounted.{count_one, count_origins}
@@ -132,23 +133,6 @@ module _ (p : Address) where
     left_new = left_is_new s;
   }
 
-  -- ---- as new
-
-  pub remove_as_new : (ms : List Standing) → map standing_as_new (remove_standing p ms) ≡ remove_standing p (map standing_as_new ms)
-  remove_as_new [] = refl
-  remove_as_new (s ∷ ss) = by (is_pair p s) (remove_as_new ss)
-    where
-      by : (b : Bool) → map standing_as_new (remove_standing p ss) ≡ remove_standing p (map standing_as_new ss)
-          → map standing_as_new (cond b (left_standing s) (s ∷ []) ++ remove_standing p ss)
-          ≡ cond b (left_standing (standing_as_new s)) (standing_as_new s ∷ []) ++ remove_standing p (map standing_as_new ss)
-      by false more = ap (λ l. standing_as_new s ∷ l) more
-      by true more = lost (length s.outline.newline == 0)
-        where
-          lost : (b : Bool) → map standing_as_new (cond b (empty_standing ∷ []) [] ++ remove_standing p ss)
-              ≡ cond b (empty_standing ∷ []) [] ++ remove_standing p (map standing_as_new ss)
-          lost true = ap (λ l. empty_standing ∷ l) more
-          lost false = more
-
 module _ (name : List ℕ) where
   abbrev p : Address
   p = Name name ∷ []
@@ -200,7 +184,7 @@ module _ (name : List ℕ) where
       let after = ap length out.after in
       let many = count_origins ms lines is in
       let now = count_origins (remove_standing p ms) (remove_lines p lines)
-      (remove_as_new p ms ∙ ap (remove_standing p) is ∙ sym (remove_stands p lines)) in
+      (remove_standing_new p ms ∙ ap (remove_standing p) is ∙ sym (remove_stands p lines)) in
       let a = length-append out.front (out.own ++ out.back) in
       let b = length-append out.own out.back in
       let d = length-append out.front (out.left ++ out.back) in
