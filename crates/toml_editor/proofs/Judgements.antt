@@ -124,12 +124,12 @@ names_outer profile before after cs ps wanted c (d, spelled, told) all = (
     low : (i : ℕ) → IsFirst ps i → i < length wanted
     low i f = subst (λ n. i < n) (sym told.0) (subst (λ (x : Doc). i < length (units x.lines)) (one_tree c.pairs.0 d before c.pairs.1 spelled) (first_there cs c.pairs.0 c.pairs.2.0 ps i c.pairs.2.2.1 f))
 
-to_mark : (fs : List Bool) (i : ℕ) → slice_get fs i ≡ Some true → IsSet fs i
+pub to_mark : (fs : List Bool) (i : ℕ) → slice_get fs i ≡ Some true → IsSet fs i
 to_mark [] i h = cc
 to_mark (f ∷ fs) zero h = same_Some f true h
 to_mark (f ∷ fs) (suc i) h = to_mark fs i h
 
-from_mark : (fs : List Bool) (i : ℕ) → IsSet fs i → slice_get fs i ≡ Some true
+pub from_mark : (fs : List Bool) (i : ℕ) → IsSet fs i → slice_get fs i ≡ Some true
 from_mark [] i h = cc
 from_mark (f ∷ fs) zero h = ap Some h
 from_mark (f ∷ fs) (suc i) h = from_mark fs i h

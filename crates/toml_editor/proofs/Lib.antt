@@ -3,6 +3,7 @@ pub mod MadeEdits
 pub mod MakesExact
 pub mod PlainMade
 pub mod Judgements
+mod PlainJudged
 pub mod NearFaults
 mod Each
 mod Beginning
@@ -47,6 +48,8 @@ mod OutlinesSpelled
 mod TreeOrigins
 mod KeptOrigins
 mod StandingNew
+mod UnitsFew
+mod SlotOrigins
 mod OpenedOrigins
 pub mod written
 pub mod Proved

@@ -110,12 +110,12 @@ AreDefinedOn profile before cs = IsDocumentIn profile before × OfData before (A
 -- What a fault of the editor tells. Of an edit: that the text is a document, and the fault is the edit's on the data so far. That its
 -- place is spread, or that it takes a last element: that it is defined on these data, and that the list is not one of plain edits. That
 -- the result is too long: all edits are defined, and where they are plain, what they write is too long. That the judge refuses it: all
--- edits are defined. Of want of memory: nothing.
+-- edits are defined, and the list is not one of plain edits. Of want of memory: nothing.
 abbrev pub Tells : Profile → List ℕ → List Change → EditorFault → Type 0
 Tells profile before cs (Edit index fault) = IsDocumentIn profile before × OnDataSoFar profile before cs index (λ c kinds. IsFault profile c kinds (Some fault))
 Tells profile before cs (Spread index) = IsDocumentIn profile before × OfTree before (λ d. OnDataSoFar profile before cs index (OfDefined profile (MayBeSpread (place (named d.lines)) index)))
     × IsNoPlainList profile before cs
 Tells profile before cs (LastElement index) = IsDocumentIn profile before × OnDataSoFar profile before cs index (OfDefined profile TakesLastElement) × IsNoPlainList profile before cs
 Tells profile before cs TooLong = AreDefinedOn profile before cs × ((after : List ℕ) × WritesPlain profile before cs after × (max_len < length after))
-Tells profile before cs (Unverified reason) = AreDefinedOn profile before cs
+Tells profile before cs (Unverified reason) = AreDefinedOn profile before cs × IsNoPlainList profile before cs
 Tells profile before cs fault = RefusesText profile before fault

@@ -20,6 +20,7 @@ use Rattle.toml_checker.specs.Outer.{TellOuter}
 use Rattle.toml_checker.specs.Pairs.{IsFirst}
 use Rattle.toml_checker.specs.Reading.{IsRead}
 use Rattle.toml_editor.specs.Edited.{ArePieces, IsEdited}
+use Rattle.toml_editor.specs.PairedLists.{PairsPlain}
 use Rattle.toml_editor.specs.PlainTexts.{WritesPlain}
 use Rattle.toml_editor.specs.declared.editing.Edited.{Edited}
 use Rattle.toml_editor.specs.declared.editing.Work.{Work}
@@ -46,16 +47,23 @@ pub record IsKnown (profile : Profile) (d : Document) : Type 0 where
   pub read : IsRead d
   pub document : IsDocumentIn profile d.text.now
 
--- the data are what the edits make of those of the first text, of plain edits the second text is the one that they write, and the pieces
--- of the first are it
-pub record IsMadeText (profile : Profile) (before : List ℕ) (cs : List Change) (made : Made) (after : List ℕ) (list : List Piece) : Type 0 where
+-- the flags tell which units of the text are outer protected ones
+abbrev pub TellsWanted : List ℕ → List Change → List Bool → Type 0
+TellsWanted before cs flags = OfTree before (λ d. TellOuter cs (units d.lines) flags)
+
+-- The data are what the edits make of those of the first text, and the pieces of the first are the second text. Of plain edits that is the
+-- one that they write, and the pairs, where the flags tell the outer protected units, are those of the partners of these.
+pub record IsMadeText (profile : Profile) (before : List ℕ) (cs : List Change) (flags : List Bool) (made : Made) (after : List ℕ) (list : List Piece)
+    (ps : List (ℕ × ℕ)) : Type 0 where
   pub is_made : IsMadeOf profile before cs made
   pub plain : WritesPlain profile before cs after
+  pub paired : TellsWanted before cs flags → PairsPlain profile before cs after ps
   pub pieces : ArePieces before after list
 
--- the same of what the code hands on: its text and its pieces
-abbrev pub IsMadeAs : Profile → List ℕ → List Change → Made → Edited → Type 0
-IsMadeAs profile before cs made e = IsMadeText profile before cs made (string_bytes e.text) e.pieces.items
+-- the same of what the code hands on: its text, its pieces and its pairs
+abbrev pub IsMadeAs : Profile → List ℕ → List Change → List Bool → Made → Edited → Type 0
+IsMadeAs profile before cs flags made e =
+    IsMadeText profile before cs flags made (string_bytes e.text) e.pieces.items e.certificate.pairs.items
 
 -- the text is certified to be what the edits make of the first one, and the pieces of that one are it
 pub record IsEditedText (profile : Profile) (before : List ℕ) (cs : List Change) (after : List ℕ) (list : List Piece) (ps : List (ℕ × ℕ)) : Type 0 where
@@ -70,10 +78,6 @@ IsEditedAs profile before cs e = IsEditedText profile before cs (string_bytes e.
 abbrev pub NameWanted : List Bool → List (ℕ × ℕ) → Type 0
 NameWanted wanted ps = (i : ℕ) → i < length wanted → ((slice_get wanted i ≡ Some true) ↔ IsFirst ps i)
 
--- the flags tell which units of the text are outer protected ones
-abbrev pub TellsWanted : List ℕ → List Change → List Bool → Type 0
-TellsWanted before cs flags = OfTree before (λ d. TellOuter cs (units d.lines) flags)
-
 -- the units and the newlines are those of the document, and the rest is what the edits make of it
 pub record IsWork (profile : Profile) (before : List ℕ) (cs : List Change) (work : Work) : Type 0 where
   pub document : IsDocumentIn profile before
@@ -82,4 +86,4 @@ pub record IsWork (profile : Profile) (before : List ℕ) (cs : List Change) (wo
   pub units : all_units work.units.items ≡ map spanned (units tree.lines)
   pub newlines : plain work.newlines.items ≡ newlines tree.lines
   pub wanted : TellsWanted before cs work.wanted.items
-  pub made : IsMadeAs profile before cs work.made work.edited
+  pub made : IsMadeAs profile before cs work.wanted.items work.made work.edited

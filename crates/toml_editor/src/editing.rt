@@ -200,7 +200,7 @@ fn certify(
     profile: Profile,
 ) -> Result<Edited, EditorFault>
     requires known { IsKnown profile before }
-    requires made { IsMadeAs profile before.text.now (map change edits.now) made edited }
+    requires made { IsMadeAs profile before.text.now (map change edits.now) wanted.now made edited }
     requires wanted { TellsWanted before.text.now (map change edits.now) wanted.now }
     ensures edited { IfOk result (IsEditedAs profile before.entry.text.now (map change edits.now)) }
     ensures told { IfErr result (Tells profile before.entry.text.now (map change edits.now)) }
@@ -243,7 +243,7 @@ fn make_text<'d, 'x>(
     requires read { HasLines profile (text_of source) (document doc.now) (lines_of reader) }
     requires units { AreUnitsOf doc.now units.now }
     requires spelled { AreSpelled (map change edits.now) spelled.now }
-    ensures made { IfOk result (λ r. IsMadeAs profile (text_of source.entry) (map change edits.now) r.0 r.1) }
+    ensures made { IfOk result (λ r. IsMadeAs profile (text_of source.entry) (map change edits.now) wanted.now r.0 r.1) }
     ensures told { IfErr result (Tells profile (text_of source.entry) (map change edits.now)) }
 {
     let touched = near_addresses(alloc, edits)?;

@@ -1,5 +1,5 @@
 //! Whether a certificate pairs the units that it is to pair.
-ghost use Rattle.std.specs.Prelude.{IfOk, IsTrue};
+ghost use Rattle.std.specs.Prelude.{◌↔◌, IfOk, IsTrue};
 ghost use Rattle.toml_editor.specs.Editing.{NameWanted};
 
 use std::alloc::{AllocError, Global};
@@ -11,7 +11,7 @@ pub(crate) fn names_all(
     pairs: &[(u64, u64)],
     wanted: &[bool],
 ) -> Result<bool, AllocError>
-    ensures { IfOk result (λ all. IsTrue all → NameWanted wanted.now pairs.now) }
+    ensures { IfOk result (λ all. IsTrue all ↔ NameWanted wanted.now pairs.now) }
 {
     let marks = first_marks(alloc, wanted.len(), pairs)?;
     Ok(marks.as_slice() == wanted)

@@ -1,4 +1,4 @@
-use Rattle.std.proofs.Common.{◌∙◌, ap, map, string_bytes, subst}
+use Rattle.std.proofs.Common.{◌∙◌, ap, map, string_bytes, subst, subst₂}
 use Rattle.toml_tree.specs.Document.{document}
 use Rattle.toml_edits.specs.Edits.{change}
 use Rattle.toml_units.specs.View.{all_units}
@@ -22,7 +22,8 @@ returns-clause-work c =
       units = c.in_ok-units.ensures;
       newlines = c.in_ok-newlines.ensures;
       wanted = (d, read.spelled, told);
-      made = subst (λ t. IsMadeText c.args.profile t cs c.in-Ok.made (string_bytes edited.text) edited.pieces.items) read.text_is c.in-Ok.ensures.made;
+      made = subst₂ (λ t fs. IsMadeText c.args.profile t cs fs c.in-Ok.made (string_bytes edited.text) edited.pieces.items edited.certificate.pairs.items)
+          read.text_is c.deref-2.ensures.value c.in-Ok.ensures.made;
     }
 
 pub returns-in-Err-clause-told : goal.returns-in-Err-clause-told

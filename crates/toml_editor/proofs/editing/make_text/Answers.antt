@@ -15,7 +15,7 @@ use Rattle.toml_editor.specs.declared.texts.Texts.{Texts}
 use Rattle.toml_editor.specs.Making.{TellsAny}
 use Rattle.toml_editor.proofs.Judgements.{any_tells}
 use Rattle.toml_editor.proofs.NearFaults.{any_of_all, has_data}
-use Rattle.toml_editor.proofs.PlainMade.{no_plain_list_of, plain_written}
+use Rattle.toml_editor.proofs.PlainMade.{no_plain_list_of, plain_paired, plain_written, wanted_outer}
 use Rattle.toml_editor.proofs.editing.make_text.Goals as goal
 
 pub returns-in-Err-clause-told : goal.returns-in-Err-clause-told
@@ -30,7 +30,7 @@ returns-in-Err-clause-told c =
     let told = subst (λ (ls : List Line). TellsAny c.args.profile (place (named ls)) cs part c.in-Err.fault) c.requires.read.taken c.in-Err.ensures.told in
     let opened = c.in_ok-tree.ensures in
     let spread = no_plain_list_of c.args.profile (record { units = c.args.units.now; lines = d.lines }) d text c.in_ok-tree.tree c.requires.read.document
-    c.requires.read.spelled opened.stands (ap (λ (t : Texts). text_of t.source) opened.texts) opened.elements opened.style cs c.in-Err.fault
+    c.requires.read.spelled opened.stands.lines (ap (λ (t : Texts). text_of t.source) opened.texts) opened.elements opened.style cs c.in-Err.fault
     c.in-Err.ensures.spread in
     any_tells c.args.profile text cs d old c.in-Err.fault c.requires.read.document c.requires.read.spelled facts
     (any_of_all c.args.profile (place (named d.lines)) (is_hidden c.in_ok-touched.touched) old cs c.in_ok-touched.ensures.near part near c.in-Err.fault told) spread
@@ -49,9 +49,15 @@ returns-clause-made c =
     let opened = c.in_ok-tree.ensures in
     record {
       plain = plain_written c.args.profile (record { units = c.args.units.now; lines = d.lines }) d text c.in_ok-tree.tree c.requires.read.document
-          c.requires.read.spelled opened.stands (ap (λ (t : Texts). text_of t.source) opened.texts) opened.elements opened.style cs old
+          c.requires.read.spelled opened.stands.lines (ap (λ (t : Texts). text_of t.source) opened.texts) opened.elements opened.style cs old
           (beside (is_hidden c.in_ok-touched.touched) old new) c.make_all.new.tree (string_bytes c.in_ok-edited.edited.text) facts leads
           c.in_default.ensures.exact c.in_ok-edited.ensures.written;
+      paired = λ told.
+          plain_paired c.args.profile (record { units = c.args.units.now; lines = d.lines }) d text c.in_ok-tree.tree c.requires.read.document
+          c.requires.read.spelled opened.stands.lines (ap (λ (t : Texts). text_of t.source) opened.texts) opened.elements opened.style cs old
+          (beside (is_hidden c.in_ok-touched.touched) old new) c.make_all.new.tree (string_bytes c.in_ok-edited.edited.text) facts leads
+          c.args.wanted.now c.in_ok-edited.edited.certificate.pairs.items c.requires.read.document.0 (wanted_outer text cs c.args.wanted.now d c.requires.read.spelled told)
+          c.requires.units opened.stands.origins c.in_default.ensures.exact c.in_ok-edited.ensures.written c.in_ok-edited.ensures.paired;
       is_made = record {
         tree = d;
         spelled = c.requires.read.spelled;

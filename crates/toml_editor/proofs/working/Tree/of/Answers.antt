@@ -1,0 +1,5 @@
+use Rattle.toml_text.specs.Source.{text_of}
+use Rattle.toml_editor.proofs.working.Tree.of.Goals as goal
+
+pub returns-clause-stands : goal.returns-clause-stands
+returns-clause-stands c = c.in_ok-kept_slots.ensures (text_of c.args.texts.source) c.requires
