@@ -11,7 +11,7 @@ use Rattle.toml_editor.specs.declared.tree.Entry.{Entry}
 use Rattle.toml_editor.specs.declared.tree.Value.TheViews.{out-Entries, out-Entry, roll-Entries}
 use Rattle.toml_editor.specs.Leading.{value_in}
 use Rattle.toml_editor.specs.OpenOutlines.{Enclosed, EntryOutline, dotted, entries, entries_of, entry, gap, leaf_text, value}
-use Rattle.toml_editor.specs.Outlines.{DottedOutline, EntriesOutline, End}
+use Rattle.toml_editor.specs.Outlines.{DottedOutline, EntriesOutline, End, Marked}
 use Rattle.toml_editor.specs.Outlines as outline
 use Rattle.toml_editor.specs.RenamingIn.{KeysRenamed, dotted_with, key_with, pair_with, pairs_with, rest_with}
 use Rattle.toml_editor.proofs.OpenEntries.{value_at}
