@@ -11,6 +11,7 @@ mod Placed
 mod Put
 mod SpelledOne
 mod Alone
+mod Turned
 mod Changed
 mod SetAway
 mod SetStanding

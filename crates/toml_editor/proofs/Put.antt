@@ -4,8 +4,8 @@ use Rattle.std.proofs.Math.ListN.{length-set}
 use Rattle.std.specs.declared.alloc.Global.{Global}
 use Rattle.std.specs.declared.string.String.{String}
 use Rattle.std.specs.declared.vec.Vec.{Vec}
-use Rattle.std.specs.Prelude.{option_and_then, option_map, slice_get, MatchOption, IfOk, OnOk, Result, string_bytes, Ok, Err}
-use Rattle.std.proofs.lemmas.List.{append_cancel_right, drop-set-lt, map-set, take_more, take_more_set}
+use Rattle.std.specs.Prelude.{option_and_then, option_map, slice_get, IfOk, OnOk, Result, string_bytes, Ok, Err}
+use Rattle.std.proofs.lemmas.List.{append_cancel_right, drop-set-lt, take_more, take_more_set}
 use Rattle.std.proofs.lemmas.Option.{get_or_from_slice_get, none-some, same_Some, slice_get-get_or, slice_get-map, slice_get_past, slice_get_within}
 use Rattle.toml_names.specs.declared.model.address.Step.TheVariants.{Name}
 use Rattle.toml_names.specs.model.Addresses.{Address}
@@ -21,18 +21,20 @@ use Rattle.toml_editor.specs.declared.lines.Slot.TheVariants as slots
 use Rattle.toml_editor.specs.declared.texts.Texts.{Texts}
 use Rattle.toml_editor.specs.declared.tree.Assign.{Assign}
 use Rattle.toml_editor.specs.declared.working.Position.{Position}
+use Rattle.toml_editor.specs.Becoming.{LineBecomes}
 use Rattle.toml_editor.specs.InsertStanding.{RootIsFirst, end_in, has_pair, insert_behind, insert_standing, line_behind, new_outline, new_standing, pair_or}
 use Rattle.toml_editor.specs.OpeningLines.{EndsIn, HasOutline, OpensBody, OpensToEndIn, alone}
 use Rattle.toml_editor.specs.OpenOutlines.{assign, line}
 use Rattle.toml_editor.specs.Outlines.{LineOutline, Pair, ValueOutline}
 use Rattle.toml_editor.specs.Placing.{IsLastPair, IsNoHeader, IsPair, is_header, lines_before, lines_from}
-use Rattle.toml_editor.specs.Putting.{AssignsOne, Becomes, EndsBefore, EndsLine, EndsOne, EndsSlot, EndsSlots, InsertsLines, IsLastAt, IsRootLine, LineIsLast, PutsBehind, PutsSlot, PutsSlots, SlotIsLast, TellsLast, ended_before, newline_behind}
+use Rattle.toml_editor.specs.Putting.{AssignsOne, Becomes, EndsBefore, EndsSlot, EndsSlots, InsertsLines, IsLastAt, IsRootLine, LineIsLast, PutsBehind, PutsSlot, PutsSlots, SlotIsLast, TellsLast, ended_before, newline_behind}
 use Rattle.toml_editor.specs.Seeing.{line_at}
 use Rattle.toml_editor.specs.Standing.{Standing, Read, body_outline, line_standing, slot_standing, slots_standing}
 use Rattle.toml_editor.specs.Stands.{BodyKept, OpensSlot, SlotKept, Stands}
-use Rattle.toml_editor.proofs.Changed.{each_set, never_kept, opened_kept, opened_outline, opened_standing}
+use Rattle.toml_editor.proofs.Changed.{never_kept, opened_outline}
 use Rattle.toml_editor.proofs.Each.{each_get}
 use Rattle.toml_editor.proofs.Placed.{behind_line, split_at}
+use Rattle.toml_editor.proofs.Turned.{each_set, opened_kept, opened_standing}
 
 -- what follows wherever there is an answer
 pub on_ok : {X E : Type 0} (P Q : Type 0) (r : Result X E) → (P → Q) → OnOk r P → OnOk r Q
@@ -70,7 +72,7 @@ no_last_slot slots at none text read kept s e = absurd (none-some s (sym (ap (op
 -- ---- another newline
 
 pub line_ended : (newline : List ℕ) (texts : Texts) (lines : List tree.Line) (old now : Line) → now.address ≡ old.address → now.base ≡ old.base
-    → OpensToEndIn newline texts lines old.body now.body → EndsLine newline texts lines old now
+    → OpensToEndIn newline texts lines old.body now.body → LineBecomes texts lines (end_in newline) old now
 line_ended newline texts lines old now address base (mid, opens, ends) read are kept = by mid opens ends
   where
     by : (body : Body) → OpensBody texts lines old.body body → EndsIn newline body now.body
@@ -82,50 +84,6 @@ line_ended newline texts lines old now address base (mid, opens, ends) read are 
         ap (body_outline read) is ∙ outlined ∙ ap (λ (l : LineOutline). record l { newline = newline }) (sym was) in (
           subst (BodyKept (text_of texts.source) read) (sym is) tt,
           ap₂ (λ a b. record { address = a; base = b; outline = body_outline read now.body }) address base ∙ ap (λ l. record { address = old.address; base = old.base; outline = l }) made,
-        )
-
-pub one_ended : (newline : List ℕ) (texts : Texts) (lines : List tree.Line) (index : ℕ) (old now : List Line) (l m : Line) → index < length old → l ≡ get_or old index l
-    → now ≡ set old index m → EndsLine newline texts lines l m → EndsOne newline texts lines index old now
-one_ended newline texts lines index old now l m low is put ended =
-    let there : Some l ≡ slice_get old index = ap Some is ∙ sym (slice_get-get_or old index l low) in
-    subst (λ o. MatchOption o (now ≡ old) (λ x. (y : Line) × (now ≡ set old index y) × EndsLine newline texts lines x y)) there (m, put, ended)
-
-pub none_ended : (newline : List ℕ) (texts : Texts) (lines : List tree.Line) (index : ℕ) (old : List Line) → length old ≤ index → EndsOne newline texts lines index old old
-none_ended newline texts lines index old past =
-    subst (λ o. MatchOption o (old ≡ old) (λ x. (y : Line) × (old ≡ set old index y) × EndsLine newline texts lines x y)) (sym (slice_get_past old index past)) refl
-
-pub slot_ended : (newline : List ℕ) (texts : Texts) (read : Read) (index : ℕ) (old mid : Slot) (lines made : Vec Line Global) → OpensSlot read.units old mid → mid ≡ slots.Lines lines
-    → EndsOne newline texts read.lines index lines.items made.items → EndsSlot newline texts read index old (slots.Lines made)
-slot_ended newline texts read index old mid lines made opens opened ends kept = by (slice_get lines.items index) refl ends
-  where
-    text : List ℕ
-    text = text_of texts.source
-
-    BodiesKept : List Line → Type 0
-    BodiesKept = EachIs (λ (l : Line). BodyKept text read l.body)
-
-    stood : map (line_standing read) lines.items ≡ slot_standing read old
-    stood = opened_standing read old mid lines opens opened
-
-    each : BodiesKept lines.items
-    each = opened_kept text read old mid lines opens opened kept
-
-    at_index : (s : Standing) → slice_get (slot_standing read old) index ≡ Some s → option_map (line_standing read) (slice_get lines.items index) ≡ Some s
-    at_index s at = sym (slice_get-map (line_standing read) lines.items index) ∙ ap (λ xs. slice_get xs index) stood ∙ at
-
-    by : (o : Option Line) → slice_get lines.items index ≡ o → MatchOption o (made.items ≡ lines.items) (λ l. (m : Line) × (made.items ≡ set lines.items index m) × EndsLine newline texts read.lines l m)
-        → BodiesKept made.items × ((s : Standing) → slice_get (slot_standing read old) index ≡ Some s → map (line_standing read) made.items ≡ set (slot_standing read old) index (end_in newline s))
-    by None there same = (
-      subst BodiesKept (sym same) each,
-      λ s at. let none : None ≡ Some s = sym (ap (option_map (line_standing read)) there) ∙ at_index s at in absurd (none-some s none),
-    )
-    by (Some l) there (m, put, ended) =
-        let (kept_now, as_is) = ended read refl (each_get (λ (x : Line). BodyKept text read x.body) lines.items index l each there) in (
-          subst BodiesKept (sym put) (each_set (λ (x : Line). BodyKept text read x.body) lines.items index m each kept_now),
-          λ s at.
-              let same : line_standing read l ≡ s = same_Some (line_standing read l) s (sym (ap (option_map (line_standing read)) there) ∙ at_index s at) in
-              ap (map (line_standing read)) put ∙ map-set (line_standing read) lines.items index m
-              ∙ ap₂ (λ xs t. set xs index t) stood (as_is ∙ ap (end_in newline) same),
         )
 
 -- ---- a line becomes another
@@ -158,11 +116,12 @@ at_ended newline texts read at old now slot new low is put ended kept =
       λ s e.
           let own : slice_get (slot_standing read slot) at.index ≡ Some s = sym (ap (option_and_then (λ (x : Slot). slice_get (slot_standing read x) at.index)) there) ∙ e in
           let within : at.index < length (slot_standing read slot) = slice_get_within (slot_standing read slot) at.index s own in
-          record {
+          let (t, is, ended_so) = ends s own in
+          subst (Becomes read at old now) ended_so (record {
             count = ap length put ∙ length-set old at.slot new;
-            before = ap (λ xs. lines_before read xs at.slot (at.index + 1)) put ∙ before_set read at.index (end_in newline s) old at.slot slot new there within (ends s own);
-            behind = ap (λ xs. lines_from read xs at.slot (at.index + 1)) put ∙ behind_set read at.index (end_in newline s) old at.slot slot new there (ends s own);
-          },
+            before = ap (λ xs. lines_before read xs at.slot (at.index + 1)) put ∙ before_set read at.index t old at.slot slot new there within is;
+            behind = ap (λ xs. lines_from read xs at.slot (at.index + 1)) put ∙ behind_set read at.index t old at.slot slot new there is;
+          }),
     )
 
 pub no_slot_ended : (newline : List ℕ) (texts : Texts) (read : Read) (at : Position) (old : List Slot) → length old ≤ at.slot → EndsSlots newline texts read at old old

@@ -18,7 +18,7 @@ use Rattle.toml_editor.specs.Standing.{Standing, Read, StandAlone, begins, cover
 use Rattle.toml_editor.specs.Stands.{KeepsRest, SlotKept}
 use Rattle.toml_editor.proofs.Beginning.{begins_self}
 use Rattle.toml_editor.proofs.Alone.{item_split, slot_split, split_within}
-use Rattle.toml_editor.proofs.Changed.{each_set}
+use Rattle.toml_editor.proofs.Turned.{each_set}
 use Rattle.toml_editor.proofs.Each.{each_back, each_front, each_get, each_weaker}
 use Rattle.toml_editor.proofs.written.Pairwise.{PairsAre, pairs_of_all}
 

@@ -1,8 +1,8 @@
 -- A `rename` on the lines of the working tree.
-use Rattle.std.proofs.Common.{◌≡◌, ◌∙◌, ℕ, ◌<◌, ◌≤◌, Bool, true, false, cond, ◌&&◌, ◌||◌, List, [], ◌∷◌, ◌++◌, length, get_or, map, set, All, Option, Some, None, refl, ap, ap₂, sym, subst, arith}
+use Rattle.std.proofs.Common.{◌≡◌, ◌∙◌, ℕ, ◌<◌, ◌≤◌, Bool, true, false, cond, ◌&&◌, ◌||◌, List, [], ◌∷◌, ◌++◌, length, map, set, All, Option, Some, None, refl, ap, ap₂, sym, subst, arith}
 use Rattle.std.proofs.lemmas.Bool.{false≢true}
 use Rattle.std.proofs.lemmas.List.{map-append}
-use Rattle.std.proofs.lemmas.Option.{same_Some, slice_get-get_or, slice_get_past}
+use Rattle.std.proofs.lemmas.Option.{same_Some}
 use Rattle.std.specs.List.{list_any}
 use Rattle.std.specs.Prelude.{option_and_then, option_map, slice_get, MatchOption}
 use Rattle.std.specs.Borrow.{Bor}
@@ -23,7 +23,7 @@ use Rattle.toml_editor.specs.Standing.{Standing, Read, IsApart, StandAlone, begi
 use Rattle.toml_editor.specs.Stands.{SlotKept, Stands}
 use Rattle.std.proofs.lemmas.Bool.{and_parts}
 use Rattle.toml_editor.proofs.Alone.{above_begins, begins_through, item_split, slot_split, split_within}
-use Rattle.toml_editor.proofs.Changed.{each_set}
+use Rattle.toml_editor.proofs.Turned.{each_set}
 use Rattle.toml_editor.proofs.Each.{each_back, each_front, each_get, each_weaker}
 use Rattle.toml_editor.proofs.RenameAway.{step_other}
 use Rattle.toml_editor.proofs.RenameInside.{value_kept}
@@ -31,16 +31,6 @@ use Rattle.toml_editor.proofs.SetAway.{one_is_apart, others_before}
 use Rattle.toml_editor.proofs.written.Pairwise.{PairsAre, pairs_of_all}
 
 -- ---- slots
-
-pub slot_at_becomes : (texts : Texts) (read : Read) (f : Standing → Standing) (i : ℕ) (old now : List Slot) (slot new : Slot) → i < length old → slot ≡ get_or old i slot
-    → now ≡ set old i new → SlotBecomes texts read f slot new → SlotAtBecomes texts read f i old now
-slot_at_becomes texts read f i old now slot new low is put becomes =
-    let there : Some slot ≡ slice_get old i = ap Some is ∙ sym (slice_get-get_or old i slot low) in
-    subst (λ o. MatchOption o (now ≡ old) (λ s. (t : Slot) × (now ≡ set old i t) × SlotBecomes texts read f s t)) there (new, put, becomes)
-
-pub no_slot_becomes : (texts : Texts) (read : Read) (f : Standing → Standing) (i : ℕ) (old : List Slot) → length old ≤ i → SlotAtBecomes texts read f i old old
-no_slot_becomes texts read f i old past =
-    subst (λ o. MatchOption o (old ≡ old) (λ s. (t : Slot) × (old ≡ set old i t) × SlotBecomes texts read f s t)) (sym (slice_get_past old i past)) refl
 
 slots_become : (texts : Texts) (read : Read) (f : Standing → Standing) (old now : List Slot) → SlotsBecome texts read f old now → EachIs (SlotKept (text_of texts.source) read) old
     → EachIs (SlotKept (text_of texts.source) read) now × (slots_standing read now ≡ map f (slots_standing read old))

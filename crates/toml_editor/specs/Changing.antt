@@ -1,5 +1,5 @@
 -- What an edit changes inside the value of a line, by outlines, and by what then stands on the lines.
-use Rattle.std.specs.Prelude.{◌≡◌, true, Bool, List, ◌∷◌, ◌++◌, ℕ, Some, set, slice_get, MatchOption}
+use Rattle.std.specs.Prelude.{◌≡◌, true, Bool, List, ◌∷◌, ◌++◌, ℕ, Some}
 use Rattle.std.specs.Global.{Box}
 use Rattle.toml_names.specs.model.Addresses.{Address}
 use Rattle.toml_text.specs.Source.{text_of}
@@ -19,8 +19,9 @@ use Rattle.toml_editor.specs.Outlines.{ValueOutline, LineOutline}
 use Rattle.toml_editor.specs.RenameStanding.{rename_inside, rename_line_outline}
 use Rattle.toml_editor.specs.RenamingIn.{RenamesIn}
 use Rattle.toml_editor.specs.Seeing.{found, line_at}
-use Rattle.toml_editor.specs.Standing.{Standing, Read, IsApart, expr_has, has, holds, line_standing, set_line_outline, set_standing, slot_standing, slots_standing}
-use Rattle.toml_editor.specs.Stands.{BodyKept, SetsIn, SlotKept}
+use Rattle.toml_editor.specs.Standing.{Standing, Read, IsApart, expr_has, has, holds, set_line_outline, set_standing, slots_standing}
+use Rattle.toml_editor.specs.Stands.{SetsIn, SlotKept}
+use Rattle.toml_editor.specs.Turning.{LineTurns, OneTurns, SlotTurns}
 
 -- Of a `set` and a `rename` it is said what they write; of the other changes only that the line stays where it is.
 abbrev pub ChangesIn : Address → Inside → ValueOutline → ValueOutline → Bool → Type 0
@@ -68,22 +69,15 @@ ChangesStanding p change old now done = (found now ≡ found old) × ChangesAs p
 
 -- a line that is kept as its document has it stays so, or is opened
 abbrev pub ChangesLine : Texts → List tree.Line → Address → Inside → Line → Line → Bool → Type 0
-ChangesLine texts lines p change old now done =
-    (read : Read) → read.lines ≡ lines → BodyKept (text_of texts.source) read old.body
-    → BodyKept (text_of texts.source) read now.body × ChangesStanding p change (line_standing read old) (line_standing read now) done
+ChangesLine texts lines p change old now done = LineTurns texts lines (λ s t. ChangesStanding p change s t done) old now
 
 -- the line with the index is changed, and no other; or there is none
 abbrev pub ChangesOne : Texts → List tree.Line → ℕ → Address → Inside → List Line → List Line → Bool → Type 0
-ChangesOne texts lines index p change old now done =
-    MatchOption (slice_get old index) (now ≡ old) (λ l. (m : Line) × (now ≡ set old index m) × ChangesLine texts lines p change l m done)
+ChangesOne texts lines index p change old now done = OneTurns (λ l m. ChangesLine texts lines p change l m done) index old now
 
 -- the line with the index is changed, and no other
 abbrev pub ChangesSlot : Texts → Read → ℕ → Address → Inside → Slot → Slot → Bool → Type 0
-ChangesSlot texts read index p change old now done =
-    SlotKept (text_of texts.source) read old
-    → SlotKept (text_of texts.source) read now
-    × ((s : Standing) → slice_get (slot_standing read old) index ≡ Some s
-    → (t : Standing) × (slot_standing read now ≡ set (slot_standing read old) index t) × ChangesStanding p change s t done)
+ChangesSlot texts read index p change old now done = SlotTurns texts read (λ s t. ChangesStanding p change s t done) index old now
 
 -- the line at the place is changed, and no other
 abbrev pub ChangesSlots : Texts → Read → Position → Address → Inside → List Slot → List Slot → Bool → Type 0

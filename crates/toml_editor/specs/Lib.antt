@@ -23,6 +23,7 @@ pub mod OpeningLines
 pub mod Leading
 pub mod RenamingIn
 pub mod RenameStanding
+pub mod Turning
 pub mod Becoming
 pub mod SpelledEdits
 pub mod Seeing
