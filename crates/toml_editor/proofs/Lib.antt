@@ -4,6 +4,7 @@ pub mod MakesExact
 pub mod PlainMade
 pub mod Judgements
 pub mod NearFaults
+mod Answered
 mod Each
 mod Beginning
 mod Sought

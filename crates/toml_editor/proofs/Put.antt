@@ -4,7 +4,7 @@ use Rattle.std.proofs.Math.ListN.{length-set}
 use Rattle.std.specs.declared.alloc.Global.{Global}
 use Rattle.std.specs.declared.string.String.{String}
 use Rattle.std.specs.declared.vec.Vec.{Vec}
-use Rattle.std.specs.Prelude.{option_and_then, option_map, slice_get, IfOk, OnOk, Result, string_bytes, Ok, Err}
+use Rattle.std.specs.Prelude.{option_and_then, option_map, slice_get, string_bytes}
 use Rattle.std.proofs.lemmas.List.{append_cancel_right, drop-set-lt, take_more, take_more_set}
 use Rattle.std.proofs.lemmas.Option.{get_or_from_slice_get, none-some, same_Some, slice_get-get_or, slice_get-map, slice_get_past, slice_get_within}
 use Rattle.toml_names.specs.declared.model.address.Step.TheVariants.{Name}
@@ -35,19 +35,6 @@ use Rattle.toml_editor.proofs.Changed.{never_kept, opened_outline}
 use Rattle.toml_editor.proofs.Each.{each_get}
 use Rattle.toml_editor.proofs.Placed.{behind_line, split_at}
 use Rattle.toml_editor.proofs.Turned.{each_set, opened_kept, opened_standing}
-
--- what follows wherever there is an answer
-pub on_ok : {X E : Type 0} (P Q : Type 0) (r : Result X E) → (P → Q) → OnOk r P → OnOk r Q
-on_ok P Q (Ok x) f h = f h
-on_ok P Q (Err e) f h = tt
-
-pub of_all_ok : {X E : Type 0} (P Q R S : X → Type 0) (r : Result X E) → ((x : X) → P x → Q x → R x → S x) → IfOk r P → IfOk r Q → IfOk r R → IfOk r S
-of_all_ok P Q R S (Ok x) f p q h = f x p q h
-of_all_ok P Q R S (Err e) f p q h = tt
-
-pub if_ok_at_all : {X E : Type 0} (P : Type 0) (r : Result X E) → P → OnOk r P
-if_ok_at_all P (Ok x) h = h
-if_ok_at_all P (Err e) h = tt
 
 -- ---- the last line
 

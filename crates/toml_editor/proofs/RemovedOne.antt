@@ -1,7 +1,7 @@
 -- The line that a `remove` at the root takes out: no other stands at the address or below it.
 use Rattle.std.proofs.Common.{◌≡◌, ◌∙◌, ℕ, ◌<◌, Bool, true, false, cond, ◌||◌, List, [], ◌∷◌, ◌++◌, length, set, Option, Some, None, refl, ap, ap₂, sym, subst, arith, true≢false, append_assoc}
 use Rattle.std.specs.List.{list_any}
-use Rattle.std.specs.Prelude.{option_and_then, option_map, slice_get, MatchOption, Result, Ok, Err, OnOk}
+use Rattle.std.specs.Prelude.{option_and_then, option_map, slice_get, MatchOption}
 use Rattle.std.proofs.lemmas.List.Folds.{list_any-append}
 use Rattle.toml_names.proofs.Proved.{same_address-decides}
 use Rattle.toml_names.specs.model.Addresses.{Address}
@@ -211,13 +211,8 @@ any_holds p (s ∷ ss) there none = by (is_pair p s) refl there none (any_holds 
     by false is h k rest = rest h (later (holds p s) k)
 
 -- where none does, no such edit is made
-none_goes : (p : Address) (read : Read) (old now : Tree) → HoldsNone p read.units old.slots.items → RemovesLines p read old now
+pub none_goes : (p : Address) (read : Read) (old now : Tree) → HoldsNone p read.units old.slots.items → RemovesLines p read old now
 none_goes p read old now none one ss stands ordered there =
     let not_root : ¬ (p ≡ []) = λ is. let e : length p ≡ 0 = ap length is in absurd (omega arith) in
     let all = none not_root read.lines (subst StandAlone (sym stands.are) ordered.alone) in
     absurd (any_holds p ss there (subst (λ xs. list_any (holds p) xs ≡ false) stands.are all))
-
-pub none_is_made : {A E : Type 0} (r : Result A E) (p : Address) (read : Read) (old now : Tree) → HoldsNone p read.units old.slots.items
-    → OnOk r (RemovesLines p read old now)
-none_is_made (Ok x) p read old now none = none_goes p read old now none
-none_is_made (Err e) p read old now none = tt
