@@ -8,15 +8,23 @@ use Rattle.toml_editor.specs.declared.lines.Body.{Body}
 use Rattle.toml_editor.specs.declared.lines.Body.TheVariants as bodies
 use Rattle.toml_editor.specs.declared.lines.Line.{Line}
 use Rattle.toml_editor.specs.declared.lines.Slot.{Slot}
+use Rattle.toml_editor.specs.declared.renaming.Renaming.{Renaming}
 use Rattle.toml_editor.specs.declared.texts.Texts.{Texts}
 use Rattle.toml_editor.specs.declared.tree.OpenLine.{OpenLine}
 use Rattle.toml_editor.specs.OpenOutlines.{line}
 use Rattle.toml_editor.specs.Outlines.{LineOutline}
-use Rattle.toml_editor.specs.RenameStanding.{rename_standing}
+use Rattle.toml_editor.specs.RenameStanding.{rename_below, rename_own, rename_standing}
 use Rattle.toml_editor.specs.RenamedUnits.{GoTogether}
 use Rattle.toml_editor.specs.Standing.{Standing, Read, AreOrdered, body_outline, slot_standing}
 use Rattle.toml_editor.specs.Stands.{BodyKept, SlotKept, Stands}
 use Rattle.toml_editor.specs.Turning.{LineTurns, OneTurns}
+
+-- by a renaming, a line at its address or below it, and one that may stand elsewhere and then stays
+abbrev pub renamed_own : Renaming → Standing → Standing
+renamed_own r = rename_own r.at.now r.name.now r.spelled.now
+
+abbrev pub renamed_below : Renaming → Standing → Standing
+renamed_below r = rename_below r.at.now r.name.now r.spelled.now
 
 -- what is opened gets another outline
 abbrev pub OpenBecomes : (LineOutline → LineOutline) → Body → Body → Type 0
