@@ -1,12 +1,11 @@
 -- What becomes of lines of the working tree in whose values something is changed.
 use Rattle.std.proofs.Common.{◌≡◌, ◌∙◌, ℕ, ◌<◌, ◌≤◌, Bool, true, List, [], ◌∷◌, ◌++◌, length, drop, get_or, set, Option, Some, None, refl, ap, ap₂, sym, subst}
 use Rattle.std.specs.Global.{Box}
-use Rattle.std.proofs.lemmas.Option.{none-some, slice_get-get_or, slice_get_past}
-use Rattle.std.specs.Prelude.{option_and_then, slice_get, MatchOption}
+use Rattle.std.proofs.lemmas.Option.{slice_get_past}
+use Rattle.std.specs.Prelude.{slice_get, MatchOption}
 use Rattle.toml_names.proofs.Proved.{same_step-equal}
 use Rattle.toml_names.specs.model.Addresses.{Address, same_step}
 use Rattle.toml_text.specs.Source.{text_of}
-use Rattle.toml_tree.specs.Spells.{EachIs}
 use Rattle.toml_tree.specs.Tree as tree
 use Rattle.toml_units.specs.declared.unit.Unit.{Unit as ReadUnit}
 use Rattle.toml_editor.specs.declared.inside.Inside.{Inside}
@@ -30,8 +29,7 @@ use Rattle.toml_editor.specs.Seeing.{steps_to}
 use Rattle.toml_editor.specs.Standing.{Read, IsApart, begins, leads_to, expr_has, outline_has, outline_of, body_outline, line_standing, set_line_outline, set_outline_of, slot_standing, slots_standing}
 use Rattle.toml_editor.specs.Stands.{BodyKept, OpensSlot, SlotKept}
 use Rattle.toml_editor.proofs.Alone.{and_parts, item_split, slot_split, split_within}
-use Rattle.toml_editor.proofs.Each.{each_get}
-use Rattle.toml_editor.proofs.Turned.{each_set}
+use Rattle.toml_editor.proofs.AtPlace.{line_in, no_line, slot_changed}
 
 begins_rest : (a p : Address) → begins a p ≡ true → a ++ drop (length a) p ≡ p
 begins_rest [] p h = refl
@@ -133,12 +131,10 @@ slot_never_kept units (slots.Kept j) mid k (ls, made, one) is = let e : slots.Li
 pub at_changed : (texts : Texts) (read : Read) (at : Position) (p : Address) (change : Inside) (old now : List Slot) (slot new : Slot) (done : Bool) → at.slot < length old → slot ≡ get_or old at.slot slot
     → now ≡ set old at.slot new → ChangesSlot texts read at.index p change slot new done → ChangesSlots texts read at p change old now done
 at_changed texts read at p change old now slot new done low is put changed kept =
-    let kept_here = SlotKept (text_of texts.source) read in
-    let there : slice_get old at.slot ≡ Some slot = slice_get-get_or old at.slot slot low ∙ ap Some (sym is) in
-    let (kept_now, changes) = changed (each_get kept_here old at.slot slot kept there) in (
-      subst (EachIs kept_here) (sym put) (each_set kept_here old at.slot new kept kept_now),
+    let (there, kept_now, changes) = slot_changed (SlotKept (text_of texts.source) read) at.slot old now slot new low is put kept changed in (
+      kept_now,
       λ s e.
-          let own : slice_get (slot_standing read slot) at.index ≡ Some s = sym (ap (option_and_then (λ (x : Slot). slice_get (slot_standing read x) at.index)) there) ∙ e in
+          let own = line_in read old at slot s there e in
           let (t, new_own, as_is) = changes s own in
           let (before, behind, all, set_to) = slot_split read old at.slot slot there in
           let (front, back, split, new_split) = item_split (slot_standing read slot) at.index s own in
@@ -154,9 +150,4 @@ at_changed texts read at p change old now slot new done low is put changed kept 
     )
 
 pub no_slot_changed : (texts : Texts) (read : Read) (at : Position) (p : Address) (change : Inside) (old : List Slot) (done : Bool) → length old ≤ at.slot → ChangesSlots texts read at p change old old done
-no_slot_changed texts read at p change old done past kept = (
-  kept,
-  λ s e.
-      let none : None ≡ Some s = sym (ap (option_and_then (λ (x : Slot). slice_get (slot_standing read x) at.index)) (slice_get_past old at.slot past)) ∙ e in
-      absurd (none-some s none),
-)
+no_slot_changed texts read at p change old done past kept = (kept, λ s e. absurd (no_line read old at s (slice_get_past old at.slot past) e))

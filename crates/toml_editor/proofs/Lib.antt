@@ -6,6 +6,7 @@ pub mod Judgements
 pub mod NearFaults
 mod Answered
 mod Each
+mod AtPlace
 mod Beginning
 mod Sought
 mod Placed

@@ -12,6 +12,7 @@ use Rattle.toml_editor.specs.InsertStanding.{LeavesRoot, RootIsFirst, has_pair, 
 use Rattle.toml_editor.specs.Placing.{FindsLastOf, IsLast, IsLastPair, IsNoHeader, IsNoPair, Passed, is_header, lines_before, lines_from, pair_at}
 use Rattle.toml_editor.specs.Seeing.{Found, found, line_at, seen}
 use Rattle.toml_editor.specs.Standing.{Standing, Read, slot_standing, slots_standing}
+use Rattle.toml_editor.proofs.AtPlace.{slot_of}
 use Rattle.toml_editor.proofs.Alone.{slice_get_none}
 use Rattle.toml_editor.proofs.Each.{each_append, each_back, each_front}
 
@@ -218,9 +219,7 @@ module _ (read : Read) (slots : List Slot) (k : ℕ) (slot : Slot) (there : slic
 -- the lines behind one
 pub behind_line : (read : Read) (slots : List Slot) (at : Position) (s : Standing) (back : List Standing) → line_at read slots at ≡ Some s → lines_from read slots at.slot at.index ≡ s ∷ back
     → back ≡ lines_from read slots at.slot (at.index + 1)
-behind_line read slots at s back here from = by (slice_get slots at.slot) refl here
-  where
-    by : (o : Option Slot) → slice_get slots at.slot ≡ o → option_and_then (λ (x : Slot). slice_get (slot_standing read x) at.index) o ≡ Some s
-        → back ≡ lines_from read slots at.slot (at.index + 1)
-    by None there e = cc
-    by (Some slot) there e = let next = from_line read slots at.slot at.index slot s there e in cc
+behind_line read slots at s back here from =
+    let (slot, there, own) = slot_of read slots at s here in
+    let next = from_line read slots at.slot at.index slot s there own in
+    cc

@@ -4,9 +4,9 @@ use Rattle.std.proofs.Math.ListN.{length-set}
 use Rattle.std.specs.declared.alloc.Global.{Global}
 use Rattle.std.specs.declared.string.String.{String}
 use Rattle.std.specs.declared.vec.Vec.{Vec}
-use Rattle.std.specs.Prelude.{option_and_then, option_map, slice_get, string_bytes}
+use Rattle.std.specs.Prelude.{option_map, slice_get, string_bytes}
 use Rattle.std.proofs.lemmas.List.{append_cancel_right, drop-set-lt, take_more, take_more_set}
-use Rattle.std.proofs.lemmas.Option.{get_or_from_slice_get, none-some, same_Some, slice_get-get_or, slice_get-map, slice_get_past, slice_get_within}
+use Rattle.std.proofs.lemmas.Option.{get_or_from_slice_get, none-some, same_Some, slice_get-map, slice_get_past, slice_get_within}
 use Rattle.toml_names.specs.declared.model.address.Step.TheVariants.{Name}
 use Rattle.toml_names.specs.model.Addresses.{Address}
 use Rattle.toml_scalar.specs.Spelling.{spelled}
@@ -31,10 +31,11 @@ use Rattle.toml_editor.specs.Putting.{AssignsOne, Becomes, EndsBefore, EndsSlot,
 use Rattle.toml_editor.specs.Seeing.{line_at}
 use Rattle.toml_editor.specs.Standing.{Standing, Read, body_outline, line_standing, slot_standing, slots_standing}
 use Rattle.toml_editor.specs.Stands.{BodyKept, OpensSlot, SlotKept, Stands}
+use Rattle.toml_editor.proofs.AtPlace.{line_in, no_line, slot_changed, slot_of}
 use Rattle.toml_editor.proofs.Changed.{never_kept, opened_outline}
 use Rattle.toml_editor.proofs.Each.{each_get}
 use Rattle.toml_editor.proofs.Placed.{behind_line, split_at}
-use Rattle.toml_editor.proofs.Turned.{each_set, opened_kept, opened_standing}
+use Rattle.toml_editor.proofs.Turned.{opened_kept, opened_standing}
 
 -- ---- the last line
 
@@ -51,10 +52,10 @@ no_last_line slot lines index is none text read kept s at =
 
 pub last_slot : (slots : List Slot) (at : Position) (slot : Slot) (b : Bool) → slice_get slots at.slot ≡ Some slot → SlotIsLast slot at.index b → IsLastAt slots at b
 last_slot slots at slot b there last text read kept s e =
-    last text read (each_get (SlotKept text read) slots at.slot slot kept there) s (sym (ap (option_and_then (λ (x : Slot). slice_get (slot_standing read x) at.index)) there) ∙ e)
+    last text read (each_get (SlotKept text read) slots at.slot slot kept there) s (line_in read slots at slot s there e)
 
 pub no_last_slot : (slots : List Slot) (at : Position) → slice_get slots at.slot ≡ None → IsLastAt slots at false
-no_last_slot slots at none text read kept s e = absurd (none-some s (sym (ap (option_and_then (λ (x : Slot). slice_get (slot_standing read x) at.index)) none) ∙ e))
+no_last_slot slots at none text read kept s e = absurd (no_line read slots at s none e)
 
 -- ---- another newline
 
@@ -96,12 +97,10 @@ module _ (read : Read) (i : ℕ) (t : Standing) where
 pub at_ended : (newline : List ℕ) (texts : Texts) (read : Read) (at : Position) (old now : List Slot) (slot new : Slot) → at.slot < length old → slot ≡ get_or old at.slot slot
     → now ≡ set old at.slot new → EndsSlot newline texts read at.index slot new → EndsSlots newline texts read at old now
 at_ended newline texts read at old now slot new low is put ended kept =
-    let kept_here = SlotKept (text_of texts.source) read in
-    let there : slice_get old at.slot ≡ Some slot = slice_get-get_or old at.slot slot low ∙ ap Some (sym is) in
-    let (kept_now, ends) = ended (each_get kept_here old at.slot slot kept there) in (
-      subst (EachIs kept_here) (sym put) (each_set kept_here old at.slot new kept kept_now),
+    let (there, kept_now, ends) = slot_changed (SlotKept (text_of texts.source) read) at.slot old now slot new low is put kept ended in (
+      kept_now,
       λ s e.
-          let own : slice_get (slot_standing read slot) at.index ≡ Some s = sym (ap (option_and_then (λ (x : Slot). slice_get (slot_standing read x) at.index)) there) ∙ e in
+          let own = line_in read old at slot s there e in
           let within : at.index < length (slot_standing read slot) = slice_get_within (slot_standing read slot) at.index s own in
           let (t, is, ended_so) = ends s own in
           subst (Becomes read at old now) ended_so (record {
@@ -112,10 +111,7 @@ at_ended newline texts read at old now slot new low is put ended kept =
     )
 
 pub no_slot_ended : (newline : List ℕ) (texts : Texts) (read : Read) (at : Position) (old : List Slot) → length old ≤ at.slot → EndsSlots newline texts read at old old
-no_slot_ended newline texts read at old past kept = (
-  kept,
-  λ s e. absurd (none-some s (sym (ap (option_and_then (λ (x : Slot). slice_get (slot_standing read x) at.index)) (slice_get_past old at.slot past)) ∙ e)),
-)
+no_slot_ended newline texts read at old past kept = (kept, λ s e. absurd (no_line read old at s (slice_get_past old at.slot past) e))
 
 -- a line that stays
 before_next : (read : Read) (old : List Slot) (k i : ℕ) (slot : Slot) (s : Standing) → slice_get old k ≡ Some slot → slice_get (slot_standing read slot) i ≡ Some s
@@ -130,11 +126,9 @@ before_next read (x ∷ xs) (suc k) i slot s there at =
     ap (λ r. slot_standing read x ++ r) (before_next read xs k i slot s there at) ∙ sym (append_assoc (slot_standing read x) (lines_before read xs k i) (s ∷ []))
 
 pub stays_so : (read : Read) (at : Position) (old : List Slot) (s : Standing) → line_at read old at ≡ Some s → Becomes read at old old s
-stays_so read at old s e = by (slice_get old at.slot) refl e
-  where
-    by : (o : Option Slot) → slice_get old at.slot ≡ o → option_and_then (λ (x : Slot). slice_get (slot_standing read x) at.index) o ≡ Some s → Becomes read at old old s
-    by None there e = cc
-    by (Some slot) there e = record { count = refl; before = before_next read old at.slot at.index slot s there e; behind = refl }
+stays_so read at old s e =
+    let (slot, there, own) = slot_of read old at s e in
+    record { count = refl; before = before_next read old at.slot at.index slot s there own; behind = refl }
 
 -- ---- a line is put in
 
@@ -174,9 +168,8 @@ slots_put read i t (x ∷ xs) (suc k) slot new there is =
 pub at_put : (read : Read) (at : Position) (l : Line) (old now : List Slot) (slot new : Slot) → at.slot < length old → slot ≡ get_or old at.slot slot
     → now ≡ set old at.slot new → PutsSlot read at.index l slot new → PutsSlots read at l old now
 at_put read at l old now slot new low is put puts within text kept kept_line =
-    let there : slice_get old at.slot ≡ Some slot = slice_get-get_or old at.slot slot low ∙ ap Some (sym is) in
-    let (kept_now, stands) = puts text (each_get (SlotKept text read) old at.slot slot kept there) kept_line in (
-      subst (EachIs (SlotKept text read)) (sym put) (each_set (SlotKept text read) old at.slot new kept kept_now),
+    let (there, kept_now, stands) = slot_changed (SlotKept text read) at.slot old now slot new low is put kept (λ k. puts text k kept_line) in (
+      kept_now,
       ap (slots_standing read) put ∙ slots_put read at.index (line_standing read l) old at.slot slot new there stands,
     )
 
@@ -211,11 +204,7 @@ line_behind_is name v style s [] = refl
 line_behind_is name v style s (x ∷ xs) = refl
 
 slot_there : (read : Read) (old : List Slot) (at : Position) (s : Standing) → line_at read old at ≡ Some s → at.slot < length old
-slot_there read old at s e = by (slice_get old at.slot) refl e
-  where
-    by : (o : Option Slot) → slice_get old at.slot ≡ o → option_and_then (λ (x : Slot). slice_get (slot_standing read x) at.index) o ≡ Some s → at.slot < length old
-    by None there e = cc
-    by (Some slot) there e = slice_get_within old at.slot slot there
+slot_there read old at s e = let (slot, there, own) = slot_of read old at s e in slice_get_within old at.slot slot there
 
 pub puts_behind : (own : Address) (base : ℕ) (steps : List (String Global)) (v : ValueOutline) (style : List ℕ) (texts : Texts) (read : Read) (place next : Position)
     (old mid now : List Slot) (newline : List ℕ) (l : Line) → EndsBefore style texts read place old mid newline → IsRootLine own base steps v newline l

@@ -1,10 +1,10 @@
 -- A `rename` on the lines of the working tree.
-use Rattle.std.proofs.Common.{◌≡◌, ◌∙◌, ℕ, ◌<◌, ◌≤◌, Bool, true, false, cond, ◌&&◌, ◌||◌, List, [], ◌∷◌, ◌++◌, length, map, set, All, Option, Some, None, refl, ap, ap₂, sym, subst, arith}
+use Rattle.std.proofs.Common.{◌≡◌, ◌∙◌, ℕ, ◌<◌, ◌≤◌, Bool, true, false, cond, ◌&&◌, ◌||◌, List, [], ◌∷◌, ◌++◌, length, map, All, Option, Some, None, refl, ap, ap₂, sym, subst, arith}
 use Rattle.std.proofs.lemmas.Bool.{false≢true}
 use Rattle.std.proofs.lemmas.List.{map-append}
 use Rattle.std.proofs.lemmas.Option.{same_Some}
 use Rattle.std.specs.List.{list_any}
-use Rattle.std.specs.Prelude.{option_and_then, option_map, slice_get, MatchOption}
+use Rattle.std.specs.Prelude.{option_map}
 use Rattle.std.specs.Borrow.{Bor}
 use Rattle.toml_names.specs.model.Addresses.{Address, same_step, is_above}
 use Rattle.toml_text.specs.Source.{text_of}
@@ -23,11 +23,12 @@ use Rattle.toml_editor.specs.Standing.{Standing, Read, IsApart, StandAlone, begi
 use Rattle.toml_editor.specs.Stands.{SlotKept, Stands}
 use Rattle.std.proofs.lemmas.Bool.{and_parts}
 use Rattle.toml_editor.proofs.Alone.{above_begins, begins_through, item_split, slot_split, split_within}
-use Rattle.toml_editor.proofs.Turned.{each_set}
-use Rattle.toml_editor.proofs.Each.{each_back, each_front, each_get, each_weaker}
+use Rattle.toml_editor.proofs.AtPlace.{holder_at}
+use Rattle.toml_editor.proofs.Each.{each_back, each_front, each_get, each_set, each_weaker}
 use Rattle.toml_editor.proofs.RenameAway.{step_other}
 use Rattle.toml_editor.proofs.RenameInside.{value_kept}
 use Rattle.toml_editor.proofs.SetAway.{one_is_apart, others_before}
+use Rattle.toml_editor.proofs.Turned.{one_turned}
 use Rattle.toml_editor.proofs.written.Pairwise.{PairsAre, pairs_of_all}
 
 -- ---- slots
@@ -187,38 +188,26 @@ module _ (p : Address) (to spelled : List ℕ) where
     -- the value of a line is what stands there: no other line is at the address or below it
     pub one_is_it : (at : Position) → option_map (holds p) (line_at read old at) ≡ Some true → length p ≤ steps_of (line_at read old at) → SlotAtBecomes texts read below at.slot old now
         → RenamesLines p to spelled (text_of texts.source) read old now
-    one_is_it at found low becomes not_root ss stands ordered = by_slot (slice_get old at.slot) refl found low becomes
-      where
-        Kept : List Slot → Type 0
-        Kept = EachIs (SlotKept (text_of texts.source) read)
-
-        by_slot : (o : Option Slot) → slice_get old at.slot ≡ o → option_map (holds p) (option_and_then (λ (x : Slot). slice_get (slot_standing read x) at.index) o) ≡ Some true
-            → length p ≤ steps_of (option_and_then (λ (x : Slot). slice_get (slot_standing read x) at.index) o)
-            → MatchOption o (now ≡ old) (λ s. (t : Slot) × (now ≡ set old at.slot t) × SlotBecomes texts read below s t)
-            → Stands (text_of texts.source) read now (map all ss)
-        by_slot None there e long made = cc
-        by_slot (Some slot) there e long (new, put, one) = by_line (slice_get (slot_standing read slot) at.index) refl e long
-          where
-            by_line : (o : Option Standing) → slice_get (slot_standing read slot) at.index ≡ o → option_map (holds p) o ≡ Some true → length p ≤ steps_of o → Stands (text_of texts.source) read now (map all ss)
-            by_line None is h far = cc
-            by_line (Some s) is h far =
-                let here : holds p s ≡ true = same_Some (holds p s) true h in
-                let (kept_new, becomes_new) = one (each_get (SlotKept (text_of texts.source) read) old at.slot slot stands.kept there) in
-                let (before, behind, outer, set_to) = slot_split read old at.slot slot there in
-                let (front, back, inner, other) = item_split (slot_standing read slot) at.index s is in
-                let split = sym stands.are ∙ split_within before front s back behind (slot_standing read slot) (slots_standing read old) outer inner in
-                let alone = subst (λ xs. StandAlone xs) split ordered.alone in
-                let (off_front, off_back) = others_not_below (before ++ front) s (back ++ behind) here (pairs_of_all Apart ((before ++ front) ++ s ∷ (back ++ behind)) alone) in
-                let it : below s ≡ all s = let b = holder_below s.base s.address here far in ap (λ c. cond c (own s) s) b ∙ sym (ap (λ c. cond c (own s) (rename_inside p spelled s)) b) in
-                let own_new : slot_standing read new ≡ front ++ all s ∷ back =
-                becomes_new ∙ ap (map below) inner ∙ map-append below front (s ∷ back)
-                ∙ ap₂ (λ xs ys. xs ++ below s ∷ ys) (all_below_stay front (each_back NotBelow before front off_front)) (all_below_stay back (each_front NotBelow back behind off_back))
-                ∙ ap (λ x. front ++ x ∷ back) it in
-                record {
-                  kept = subst Kept (sym put) (each_set (SlotKept (text_of texts.source) read) old at.slot new stands.kept kept_new);
-                  are = split_within before front (all s) back behind (slot_standing read new) (slots_standing read now) (ap (slots_standing read) put ∙ set_to new) own_new
-                      ∙ sym (around (before ++ front) s (back ++ behind) here alone) ∙ ap (map all) (sym split);
-                }
+    one_is_it at found low becomes not_root ss stands ordered =
+        let (slot, s, there, line, is, here) = holder_at read old at p found in
+        let (new, put, one) = one_turned (SlotBecomes texts read below) at.slot old now slot there becomes in
+        let far : length p ≤ steps_to s.address = subst (λ o. length p ≤ steps_of o) line low in
+        let (kept_new, becomes_new) = one (each_get (SlotKept (text_of texts.source) read) old at.slot slot stands.kept there) in
+        let (before, behind, outer, set_to) = slot_split read old at.slot slot there in
+        let (front, back, inner, other) = item_split (slot_standing read slot) at.index s is in
+        let split = sym stands.are ∙ split_within before front s back behind (slot_standing read slot) (slots_standing read old) outer inner in
+        let alone = subst (λ xs. StandAlone xs) split ordered.alone in
+        let (off_front, off_back) = others_not_below (before ++ front) s (back ++ behind) here (pairs_of_all Apart ((before ++ front) ++ s ∷ (back ++ behind)) alone) in
+        let it : below s ≡ all s = let b = holder_below s.base s.address here far in ap (λ c. cond c (own s) s) b ∙ sym (ap (λ c. cond c (own s) (rename_inside p spelled s)) b) in
+        let own_new : slot_standing read new ≡ front ++ all s ∷ back =
+        becomes_new ∙ ap (map below) inner ∙ map-append below front (s ∷ back)
+        ∙ ap₂ (λ xs ys. xs ++ below s ∷ ys) (all_below_stay front (each_back NotBelow before front off_front)) (all_below_stay back (each_front NotBelow back behind off_back))
+        ∙ ap (λ x. front ++ x ∷ back) it in
+        record {
+          kept = subst (EachIs (SlotKept (text_of texts.source) read)) (sym put) (each_set (SlotKept (text_of texts.source) read) old at.slot new stands.kept kept_new);
+          are = split_within before front (all s) back behind (slot_standing read new) (slots_standing read now) (ap (slots_standing read) put ∙ set_to new) own_new
+              ∙ sym (around (before ++ front) s (back ++ behind) here alone) ∙ ap (map all) (sym split);
+        }
 
 -- the value of a line holds what stands there: the line is changed, and no other
 pub holder_is_renamed : (p : Address) (to : List ℕ) (spelled : Bor (List ℕ)) (texts : Texts) (read : Read) (old now : List Slot) (at : Position) (done : Bool)

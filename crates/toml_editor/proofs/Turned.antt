@@ -1,10 +1,11 @@
 -- One of the lines of the working tree turns into another, and no other does.
-use Rattle.std.proofs.Common.{◌≡◌, ◌∙◌, ℕ, zero, suc, ◌<◌, ◌≤◌, List, [], ◌∷◌, length, get_or, map, set, Option, Some, None, refl, ap, sym, subst}
+use Rattle.std.proofs.Common.{◌≡◌, ◌∙◌, ℕ, ◌<◌, ◌≤◌, List, length, get_or, map, set, Option, Some, None, refl, ap, sym, subst}
 use Rattle.std.specs.declared.alloc.Global.{Global}
 use Rattle.std.specs.declared.vec.Vec.{Vec}
 use Rattle.std.proofs.lemmas.List.{map-set}
 use Rattle.std.proofs.lemmas.Option.{none-some, same_Some, slice_get-get_or, slice_get-map, slice_get_past}
-use Rattle.std.specs.Prelude.{option_map, slice_get, MatchOption}
+use Rattle.std.proofs.lemmas.Result.{IfOk-weaker}
+use Rattle.std.specs.Prelude.{option_map, slice_get, IfOk, MatchOption, Result}
 use Rattle.toml_text.specs.Source.{text_of}
 use Rattle.toml_tree.specs.Spells.{EachIs}
 use Rattle.toml_editor.specs.declared.lines.Line.{Line}
@@ -14,12 +15,7 @@ use Rattle.toml_editor.specs.declared.texts.Texts.{Texts}
 use Rattle.toml_editor.specs.Standing.{Standing, Read, line_standing, slot_standing}
 use Rattle.toml_editor.specs.Stands.{BodyKept, OpensSlot, SlotKept}
 use Rattle.toml_editor.specs.Turning.{LineTurns, OneTurns, SlotTurns}
-use Rattle.toml_editor.proofs.Each.{each_get}
-
-pub each_set : {A : Type 0} (P : A → Type 0) (xs : List A) (i : ℕ) (y : A) → EachIs P xs → P y → EachIs P (set xs i y)
-each_set P [] i y h k = tt
-each_set P (x ∷ xs) zero y h k = (k, h.1)
-each_set P (x ∷ xs) (suc i) y h k = (h.0, each_set P xs i y h.1 k)
+use Rattle.toml_editor.proofs.Each.{each_get, each_set}
 
 -- the one with the index has turned into another, or there is none
 pub one_turns : {A : Type 0} (R : A → A → Type 0) (i : ℕ) (old now : List A) (x y : A) → i < length old → x ≡ get_or old i x
@@ -27,6 +23,16 @@ pub one_turns : {A : Type 0} (R : A → A → Type 0) (i : ℕ) (old now : List 
 one_turns {A} R i old now x y low is put turns =
     let there : Some x ≡ slice_get old i = ap Some is ∙ sym (slice_get-get_or old i x low) in
     subst (λ o. MatchOption o (now ≡ old) (λ v. (w : A) × (now ≡ set old i w) × R v w)) there (y, put, turns)
+
+-- where there is one, this has turned
+pub one_turned : {A : Type 0} (R : A → A → Type 0) (i : ℕ) (old now : List A) (x : A) → slice_get old i ≡ Some x → OneTurns R i old now
+    → (y : A) × (now ≡ set old i y) × R x y
+one_turned {A} R i old now x there turns = subst (λ o. MatchOption o (now ≡ old) (λ v. (w : A) × (now ≡ set old i w) × R v w)) there turns
+
+-- so it is wherever there is an answer
+pub if_one_turns : {A X E : Type 0} (r : Result X E) (R : X → A → A → Type 0) (i : ℕ) (old : List A) (x y : A) → i < length old → x ≡ get_or old i x
+    → IfOk r (λ v. R v x y) → IfOk r (λ v. OneTurns (R v) i old (set old i y))
+if_one_turns r R i old x y low is = IfOk-weaker r (λ v. R v x y) (λ v. OneTurns (R v) i old (set old i y)) (λ v turns. one_turns (R v) i old (set old i y) x y low is refl turns)
 
 pub none_turns : {A : Type 0} (R : A → A → Type 0) (i : ℕ) (old : List A) → length old ≤ i → OneTurns R i old old
 none_turns {A} R i old past =
