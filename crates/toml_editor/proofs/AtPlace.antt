@@ -6,7 +6,7 @@ use Rattle.toml_names.specs.model.Addresses.{Address}
 use Rattle.toml_tree.specs.Spells.{EachIs}
 use Rattle.toml_editor.specs.declared.lines.Slot.{Slot}
 use Rattle.toml_editor.specs.declared.working.Position.{Position}
-use Rattle.toml_editor.specs.Seeing.{line_at}
+use Rattle.toml_editor.specs.Seeing.{FindsHolder, line_at}
 use Rattle.toml_editor.specs.Standing.{Standing, Read, holds, slot_standing}
 use Rattle.toml_editor.proofs.Each.{each_get, each_set}
 
@@ -32,6 +32,10 @@ module _ (read : Read) (slots : List Slot) (at : Position) where
           × (slice_get (slot_standing read slot) at.index ≡ Some s) × (holds p s ≡ true)
       by None is h = absurd (none-some true h)
       by (Some s) is h = let (slot, there, own) = slot_of s is in (slot, s, there, is, own, same_Some (holds p s) true h)
+
+  -- one that is found does,
+  pub holder_found : (p : Address) (r : Option Position) → r ≡ Some at → FindsHolder p read.units slots r → option_map (holds p) (line_at read slots at) ≡ Some true
+  holder_found p r is finds = subst (FindsHolder p read.units slots) is finds read.lines
 
   -- in this one,
   pub line_in : (slot : Slot) (s : Standing) → slice_get slots at.slot ≡ Some slot → line_at read slots at ≡ Some s

@@ -45,6 +45,7 @@ mod OpenedEach
 mod OpenedGap
 mod OpenedLine
 mod OpenedBody
+mod Got
 mod NumberedOutlines
 mod OutlinesSpelled
 mod TreeOrigins

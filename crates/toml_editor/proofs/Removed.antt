@@ -58,9 +58,9 @@ without_append test (x ∷ xs) ys =
     ap (λ r. without_one test x ++ r) (without_append test xs ys) ∙ sym (append_assoc (without_one test x) (without test xs) (without test ys))
 
 -- one line more
-pub more_left : (p : Address) (old now : List Line) (l : Line) (left : Option Line) → LeavesLines p old now → LeavesOf p l left
+more_lines : (p : Address) (old now : List Line) (l : Line) (left : Option Line) → LeavesLines p old now → LeavesOf p l left
     → LeavesLines p (old ++ l ∷ []) (now ++ lines_of left)
-more_left p old now l left so_far here text read kept =
+more_lines p old now l left so_far here text read kept =
     let f = line_standing read in
     let P : Line → Type 0 = λ x. BodyKept text read x.body in
     let (kept_now, is) = so_far text read (each_front P old (l ∷ []) kept) in
@@ -71,6 +71,10 @@ more_left p old now l left so_far here text read kept =
           ∙ ap (λ r. without (is_below p) (map f old) ++ r) (sym (append-nil one))
           ∙ sym (without_append (is_below p) (map f old) (f l ∷ [])) ∙ ap (without (is_below p)) (sym (map-append f old (l ∷ []))),
     )
+
+pub more_left : (p : Address) (old now new : List Line) (l : Line) (left : Option Line) → LeavesLines p old now → LeavesOf p l left → now ++ lines_of left ≡ new
+    → LeavesLines p (old ++ l ∷ []) new
+more_left p old now new l left so_far here is = subst (LeavesLines p (old ++ l ∷ [])) is (more_lines p old now l left so_far here)
 
 -- the lines of a slot
 pub slot_leaves : (p : Address) (units : List ReadUnit) (old mid : Slot) (lines made : Vec Line Global) → OpensSlot units old mid → mid ≡ slots.Lines lines

@@ -2,7 +2,6 @@
 use Rattle.std.proofs.Common.{◌≡◌, ◌∙◌, ℕ, ◌<◌, ◌≤◌, Bool, true, false, cond, ◌&&◌, ◌||◌, List, [], ◌∷◌, ◌++◌, length, map, All, Option, Some, None, refl, ap, ap₂, sym, subst, arith}
 use Rattle.std.proofs.lemmas.Bool.{false≢true}
 use Rattle.std.proofs.lemmas.List.{map-append}
-use Rattle.std.proofs.lemmas.Option.{same_Some}
 use Rattle.std.specs.List.{list_any}
 use Rattle.std.specs.Prelude.{option_map}
 use Rattle.std.specs.Borrow.{Bor}
@@ -20,7 +19,7 @@ use Rattle.toml_editor.specs.Outlines.{ExprOutline, LineOutline}
 use Rattle.toml_editor.specs.RenameStanding.{rename_below, rename_expr_outline, rename_inside, rename_outline_of, rename_own, rename_standing}
 use Rattle.toml_editor.specs.Seeing.{HoldsNone, line_at, steps_of, steps_to}
 use Rattle.toml_editor.specs.Standing.{Standing, Read, IsApart, StandAlone, begins, covers, covers_at, holds, is_below, leads_to, lies_below, slot_standing, slots_standing}
-use Rattle.toml_editor.specs.Stands.{SlotKept, Stands}
+use Rattle.toml_editor.specs.Stands.{SlotKept}
 use Rattle.std.proofs.lemmas.Bool.{and_parts}
 use Rattle.toml_editor.proofs.Alone.{above_begins, begins_through, item_split, slot_split, split_within}
 use Rattle.toml_editor.proofs.AtPlace.{holder_at}
@@ -186,12 +185,13 @@ module _ (p : Address) (to spelled : List ℕ) where
         record { kept = kept; are = are ∙ sym (all_as_below (slots_standing read old) off) ∙ ap (map all) stands.are }
 
     -- the value of a line is what stands there: no other line is at the address or below it
-    pub one_is_it : (at : Position) → option_map (holds p) (line_at read old at) ≡ Some true → length p ≤ steps_of (line_at read old at) → SlotAtBecomes texts read below at.slot old now
-        → RenamesLines p to spelled (text_of texts.source) read old now
-    one_is_it at found low becomes not_root ss stands ordered =
+    pub one_is_it : (at : Position) (steps size : ℕ) → option_map (holds p) (line_at read old at) ≡ Some true → steps ≡ steps_of (line_at read old at) → size ≡ length p → size ≤ steps
+        → SlotAtBecomes texts read below at.slot old now → RenamesLines p to spelled (text_of texts.source) read old now
+    one_is_it at steps size found is_depth is_size low becomes not_root ss stands ordered =
         let (slot, s, there, line, is, here) = holder_at read old at p found in
         let (new, put, one) = one_turned (SlotBecomes texts read below) at.slot old now slot there becomes in
-        let far : length p ≤ steps_to s.address = subst (λ o. length p ≤ steps_of o) line low in
+        let is_far : steps ≡ steps_to s.address = is_depth ∙ ap steps_of line in
+        let far : length p ≤ steps_to s.address = omega (arith, is_far, is_size, low) in
         let (kept_new, becomes_new) = one (each_get (SlotKept (text_of texts.source) read) old at.slot slot stands.kept there) in
         let (before, behind, outer, set_to) = slot_split read old at.slot slot there in
         let (front, back, inner, other) = item_split (slot_standing read slot) at.index s is in
@@ -210,23 +210,21 @@ module _ (p : Address) (to spelled : List ℕ) where
         }
 
 -- the value of a line holds what stands there: the line is changed, and no other
-pub holder_is_renamed : (p : Address) (to : List ℕ) (spelled : Bor (List ℕ)) (texts : Texts) (read : Read) (old now : List Slot) (at : Position) (done : Bool)
-    → option_map (holds p) (line_at read old at) ≡ Some true → steps_of (line_at read old at) < length p → ChangesSlots texts read at p (changes.Rename spelled) old now done
-    → RenamesLines p to spelled.now (text_of texts.source) read old now
-holder_is_renamed p to spelled texts read old now at done found low changed not_root ss stands ordered = by (line_at read old at) refl found low
-  where
-    by : (o : Option Standing) → line_at read old at ≡ o → option_map (holds p) o ≡ Some true → steps_of o < length p → Stands (text_of texts.source) read now (map (rename_standing p to spelled.now) ss)
-    by None there e short = cc
-    by (Some s) there e short =
-        let here : holds p s ≡ true = same_Some (holds p s) true e in
-        let (kept, changes_at) = changed stands.kept in
-        let (front, back, t, was, is, as_is) = changes_at s there in
-        let split : ss ≡ front ++ s ∷ back = sym stands.are ∙ was in
-        let apart = one_is_apart front s back (subst (λ xs. All (λ (x : Standing). IsApart x.outline.expr) xs) split ordered.apart) in
-        let one : t ≡ rename_standing p to spelled.now s =
-        as_is.1 apart here ∙ sym (ap (λ b. cond b (rename_own p to spelled.now s) (rename_inside p spelled.now s)) (short_not_below p to spelled.now s short)) in
-        record {
-          kept = kept;
-          are = is ∙ ap (λ x. front ++ x ∷ back) one ∙ sym (around p to spelled.now front s back here (subst (λ xs. StandAlone xs) split ordered.alone))
-              ∙ ap (map (rename_standing p to spelled.now)) (sym split);
-        }
+pub holder_is_renamed : (p : Address) (to : List ℕ) (spelled : Bor (List ℕ)) (texts : Texts) (read : Read) (old now : List Slot) (at : Position) (steps size : ℕ) (done : Bool)
+    → option_map (holds p) (line_at read old at) ≡ Some true → steps ≡ steps_of (line_at read old at) → size ≡ length p → steps < size
+    → ChangesSlots texts read at p (changes.Rename spelled) old now done → RenamesLines p to spelled.now (text_of texts.source) read old now
+holder_is_renamed p to spelled texts read old now at steps size done found is_depth is_size low changed not_root ss stands ordered =
+    let (slot, s, there, line, own, here) = holder_at read old at p found in
+    let is_near : steps ≡ steps_to s.address = is_depth ∙ ap steps_of line in
+    let short : steps_to s.address < length p = omega (arith, is_near, is_size, low) in
+    let (kept, changes_at) = changed stands.kept in
+    let (front, back, t, was, is, as_is) = changes_at s line in
+    let split : ss ≡ front ++ s ∷ back = sym stands.are ∙ was in
+    let apart = one_is_apart front s back (subst (λ xs. All (λ (x : Standing). IsApart x.outline.expr) xs) split ordered.apart) in
+    let one : t ≡ rename_standing p to spelled.now s =
+    as_is.1 apart here ∙ sym (ap (λ b. cond b (rename_own p to spelled.now s) (rename_inside p spelled.now s)) (short_not_below p to spelled.now s short)) in
+    record {
+      kept = kept;
+      are = is ∙ ap (λ x. front ++ x ∷ back) one ∙ sym (around p to spelled.now front s back here (subst (λ xs. StandAlone xs) split ordered.alone))
+          ∙ ap (map (rename_standing p to spelled.now)) (sym split);
+    }

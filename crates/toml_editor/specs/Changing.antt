@@ -23,12 +23,16 @@ use Rattle.toml_editor.specs.Standing.{Standing, Read, IsApart, expr_has, has, h
 use Rattle.toml_editor.specs.Stands.{SetsIn, SlotKept}
 use Rattle.toml_editor.specs.Turning.{LineTurns, OneTurns, SlotTurns}
 
--- Of a `set` and a `rename` it is said what they write; of the other changes only that the line stays where it is.
+-- Of a `set` and a `rename` it is said what they write, by these words; of the other changes only that the line stays where it is.
+abbrev pub Changes : {A : Type 0} → (ValueOutline → A → A → Bool → Type 0) → (List ℕ → A → A → Type 0) → Inside → A → A → Bool → Type 0
+Changes Sets Renames (changes.Set new) old now done = Sets (value new) old now done
+Changes Sets Renames (changes.Insert spelled new) old now done = Unit {0}
+Changes Sets Renames (changes.Rename to) old now done = Renames to.now old now
+Changes Sets Renames changes.Remove old now done = Unit {0}
+
+-- in a value
 abbrev pub ChangesIn : Address → Inside → ValueOutline → ValueOutline → Bool → Type 0
-ChangesIn steps (changes.Set new) old now done = SetsIn steps (value new) old now done
-ChangesIn steps (changes.Insert spelled new) old now done = Unit {0}
-ChangesIn steps (changes.Rename to) old now done = RenamesIn steps to.now old now
-ChangesIn steps changes.Remove old now done = Unit {0}
+ChangesIn steps = Changes (SetsIn steps) (RenamesIn steps)
 
 -- in the value of a line
 abbrev pub SetsOpen : Address → ValueOutline → LineOutline → LineOutline → Bool → Type 0
@@ -39,10 +43,7 @@ abbrev pub RenamesOpen : Address → List ℕ → LineOutline → LineOutline �
 RenamesOpen steps text old now = IsApart old.expr → (at : Address) → now ≡ rename_line_outline (at ++ steps) text at old
 
 abbrev pub ChangesOpen : Address → Inside → LineOutline → LineOutline → Bool → Type 0
-ChangesOpen steps (changes.Set new) old now done = SetsOpen steps (value new) old now done
-ChangesOpen steps (changes.Insert spelled new) old now done = Unit {0}
-ChangesOpen steps (changes.Rename to) old now done = RenamesOpen steps to.now old now
-ChangesOpen steps changes.Remove old now done = Unit {0}
+ChangesOpen steps = Changes (SetsOpen steps) (RenamesOpen steps)
 
 -- what is opened is changed, and no other
 abbrev pub ChangesBody : Address → Inside → Body → Body → Bool → Type 0
@@ -58,10 +59,7 @@ abbrev pub RenamesStanding : Address → List ℕ → Standing → Standing → 
 RenamesStanding p text old now = IsApart old.outline.expr → holds p old ≡ true → now ≡ rename_inside p text old
 
 abbrev pub ChangesAs : Address → Inside → Standing → Standing → Bool → Type 0
-ChangesAs p (changes.Set new) old now done = SetsStanding p (value new) old now done
-ChangesAs p (changes.Insert spelled new) old now done = Unit {0}
-ChangesAs p (changes.Rename to) old now done = RenamesStanding p to.now old now
-ChangesAs p changes.Remove old now done = Unit {0}
+ChangesAs p = Changes (SetsStanding p) (RenamesStanding p)
 
 -- it stays where it is
 abbrev pub ChangesStanding : Address → Inside → Standing → Standing → Bool → Type 0
