@@ -181,14 +181,14 @@ module _ (read : Read) (slots : List Slot) (k : ℕ) (slot : Slot) (there : slic
       by (Some s) some e = absurd (none-some (found s) (ap (option_map seen) (sym is) ∙ e))
 
   -- one is, with this base and address
-  pub record IsSeen (base : Option ℕ) (own : Option Address) : Type 0 where
-    pub line : Standing
-    pub from : lines_from read slots k i ≡ line ∷ lines_from read slots k (i + 1)
-    pub stands : line_at read slots (record { slot = k; index = i }) ≡ Some line
-    pub base_is : line.base ≡ base
-    pub own_is : line.address ≡ own
+  record IsSeen (base : Option ℕ) (own : Option Address) : Type 0 where
+    line : Standing
+    from : lines_from read slots k i ≡ line ∷ lines_from read slots k (i + 1)
+    stands : line_at read slots (record { slot = k; index = i }) ≡ Some line
+    base_is : line.base ≡ base
+    own_is : line.address ≡ own
 
-  pub one_seen : (r : Option Seen) (x : Seen) → option_map seen r ≡ option_map found (slice_get (slot_standing read slot) i) → r ≡ Some x → IsSeen (seen x).base (seen x).address
+  one_seen : (r : Option Seen) (x : Seen) → option_map seen r ≡ option_map found (slice_get (slot_standing read slot) i) → r ≡ Some x → IsSeen (seen x).base (seen x).address
   one_seen r x same is = by (slice_get (slot_standing read slot) i) refl same
     where
       by : (o : Option Standing) → slice_get (slot_standing read slot) i ≡ o → option_map seen r ≡ option_map found o → IsSeen (seen x).base (seen x).address
@@ -204,14 +204,19 @@ module _ (read : Read) (slots : List Slot) (k : ℕ) (slot : Slot) (there : slic
           }
 
   -- a header: none with a key and a value is left before it
-  pub header_seen : (base : Option ℕ) (own : Option Address) → IsSeen base own → is_header base own ≡ true → has_pair (lines_from read slots k i) ≡ false
-  header_seen base own s head =
+  pub header_seen : (r : Option Seen) (x : Seen) → option_map seen r ≡ option_map found (slice_get (slot_standing read slot) i) → r ≡ Some x
+      → is_header (seen x).base (seen x).address ≡ true → has_pair (lines_from read slots k i) ≡ false
+  header_seen r x same is head =
+      let s = one_seen r x same is in
       ap has_pair s.from ∙ header_first s.line (lines_from read slots k (i + 1)) (ap₂ is_header s.base_is s.own_is ∙ head)
 
   -- another one is passed
-  pub pair_seen : (base : Option ℕ) (own : Option Address) → IsSeen base own → is_header base own ≡ false → i + 1 < 2 ^ 64 → (all : List Standing) (last : Option Position)
-      → Passed read slots all (lines_from read slots k i) last → Passed read slots all (lines_from read slots k (i + 1)) (pair_at base (record { slot = k; index = i }) last)
-  pair_seen base own s head next all last passed =
+  pub pair_seen : (r : Option Seen) (x : Seen) → option_map seen r ≡ option_map found (slice_get (slot_standing read slot) i) → r ≡ Some x
+      → is_header (seen x).base (seen x).address ≡ false → i + 1 < 2 ^ 64 → (all : List Standing) (last : Option Position)
+      → Passed read slots all (lines_from read slots k i) last
+      → Passed read slots all (lines_from read slots k (i + 1)) (pair_at (seen x).base (record { slot = k; index = i }) last)
+  pair_seen r x same is head next all last passed =
+      let s = one_seen r x same is in
       let at : Position = record { slot = k; index = i } in
       subst (λ b. Passed read slots all (lines_from read slots k (i + 1)) (pair_at b at last)) s.base_is
       (passed_next read slots all (lines_from read slots k (i + 1)) s.line at last (subst (λ ls. Passed read slots all ls last) s.from passed) s.stands next s.from (ap₂ is_header s.base_is s.own_is ∙ head))
