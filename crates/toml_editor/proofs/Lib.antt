@@ -7,6 +7,7 @@ pub mod NearFaults
 mod Answered
 mod Each
 mod AtPlace
+mod Past
 mod Beginning
 mod Sought
 mod Placed

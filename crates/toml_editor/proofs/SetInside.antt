@@ -17,7 +17,7 @@ use Rattle.toml_editor.specs.Outlines.{AssignOutline, ValueOutline, Marked, Toke
 use Rattle.toml_editor.specs.SetOutlines.{outlined_names, set_outline, set_outline_within, set_listed, set_braced, has_outline, has_within, has_listed, has_braced}
 use Rattle.toml_editor.specs.Standing.{begins}
 use Rattle.toml_editor.specs.Stands.{SetsIn}
-use Rattle.toml_editor.proofs.Beginning.{begins_self}
+use Rattle.toml_editor.proofs.Beginning.{begins_self, still_off}
 use Rattle.toml_editor.proofs.written.Clear.{above_apart, differ, self}
 use Rattle.toml_editor.proofs.Each.{each_weaker}
 use Rattle.toml_editor.proofs.written.Pairwise.{each_of_all}
@@ -27,11 +27,7 @@ use Rattle.toml_editor.proofs.written.Pairwise.{each_of_all}
 pub begins_more : (a b p : Address) → begins a p ≡ false → begins (a ++ b) p ≡ false
 begins_more [] b p off = absurd (true≢false off)
 begins_more (s ∷ a) b [] off = refl
-begins_more (s ∷ a) b (t ∷ p) off = by (same_step s t) (begins_more a b p) off
-  where
-    by : (c : Bool) → (begins a p ≡ false → begins (a ++ b) p ≡ false) → (c && begins a p) ≡ false → (c && begins (a ++ b) p) ≡ false
-    by true later off = later off
-    by false later off = refl
+begins_more (s ∷ a) b (t ∷ p) off = still_off (same_step s t) (begins a p) (begins (a ++ b) p) (begins_more a b p) off
 
 -- what follows the same steps
 pub begins_behind : (at a b : Address) → begins (at ++ a) (at ++ b) ≡ begins a b
