@@ -15,7 +15,7 @@ use Rattle.toml_editor.specs.declared.fault.EditorFault.TheVariants as faults
 use Rattle.toml_editor.specs.declared.working.Tree.{Tree}
 use Rattle.toml_editor.specs.CertifiedLists.{ArePlain}
 use Rattle.toml_editor.specs.Edited.{MayBeSpread, Places, TakesLastElement}
-use Rattle.toml_editor.specs.Exact.{AreNotPlain, Follows, IsAt, IsNotPlain, IsPlainOn, KeepsSource, MakesAll, MakesOne, OfSpread, WritesEdit, style}
+use Rattle.toml_editor.specs.Exact.{AreNotPlain, Follows, IsAt, IsNotPlain, IsPlainOn, KeepsSource, MakesAll, MakesOne, OfNoPlace, WritesEdit, style}
 use Rattle.toml_editor.specs.Standing.{Read}
 use Rattle.toml_editor.specs.Steps.{AreWritten}
 use Rattle.toml_editor.specs.Written.{IsWritten}
@@ -149,7 +149,7 @@ one_not_plain profile read cs made left c old tree so_far not text kinds now at 
     not here.mid here.kinds here.lead.1 here.at here.lead.0 here.lead.2 here.plain.0
 
 pub one_not_plain_of : (profile : Profile) (read : Read) (cs made left : List Change) (c : Change) (old tree : Tree) (fault : EditorFault)
-    → AreMade profile read cs made (c ∷ left) old tree → OfSpread (IsNotPlain profile read c tree) fault → OfSpread (AreNotPlain profile read cs old) fault
+    → AreMade profile read cs made (c ∷ left) old tree → OfNoPlace (IsNotPlain profile read c tree) fault → OfNoPlace (AreNotPlain profile read cs old) fault
 one_not_plain_of profile read cs made left c old tree (faults.Spread i) so_far not = one_not_plain profile read cs made left c old tree so_far not
 one_not_plain_of profile read cs made left c old tree (faults.LastElement i) so_far not = one_not_plain profile read cs made left c old tree so_far not
 one_not_plain_of profile read cs made left c old tree (faults.Text f) so_far not = tt

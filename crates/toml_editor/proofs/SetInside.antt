@@ -10,7 +10,7 @@ use Rattle.toml_names.specs.declared.model.address.Step.TheVariants.{Name, Index
 use Rattle.toml_names.specs.mentions.Keys.{Key}
 use Rattle.toml_names.specs.model.Addresses.{Address, same_step, same_address, element, below}
 use Rattle.toml_names.proofs.Proved.{same_step-equal, same_step-self}
-use Rattle.toml_editor.specs.Apart.{AreApart, EachApart, KeysApart, begins_key, keys_of}
+use Rattle.toml_editor.specs.Apart.{HasKeysApart, EachApart, KeysApart, begins_key, keys_of}
 use Rattle.toml_editor.specs.Leading.{LeadsOn, SetsEntry, first_index, key_in, leads, led_by, value_in, with_value}
 use Rattle.toml_editor.specs.OpenOutlines.{Enclosed}
 use Rattle.toml_editor.specs.Outlines.{AssignOutline, ValueOutline, Marked, Token, Listed, Braced, EntriesOutline, End, Entry}
@@ -106,9 +106,9 @@ key_each P (Entry before (Some a) v after es) zero k all is = subst P (same_Some
 key_each P (Entry before (Some a) v after es) (suc i) k all is = key_each P es i k all.1 is
 
 -- what stands in a value of entries that are apart
-pub apart_in : (es : EntriesOutline) (i : ℕ) (v : ValueOutline) → EachApart es → value_in es i ≡ Some v → AreApart v
+pub apart_in : (es : EntriesOutline) (i : ℕ) (v : ValueOutline) → EachApart es → value_in es i ≡ Some v → HasKeysApart v
 apart_in (End gap) i v apart is = absurd (none-some v is)
-apart_in (Entry before a u after es) zero v apart is = subst AreApart (same_Some u v is) apart.0
+apart_in (Entry before a u after es) zero v apart is = subst HasKeysApart (same_Some u v is) apart.0
 apart_in (Entry before a u after es) (suc i) v apart is = apart_in es i v apart.1 is
 
 module _ (p : Address) (new : ValueOutline) where

@@ -24,11 +24,11 @@ KeysApart (k ∷ ks) = All (λ l. (begins_key k l ≡ false) × (begins_key l k 
 
 -- so it is in each inline table that stands in the value
 abbrev mutual
-  pub AreApart : ValueOutline → Type 0
-  AreApart (Token text) = Unit {0}
-  AreApart (Listed opening es) = EachApart es
-  AreApart (Braced opening es) = KeysApart (keys_of es) × EachApart es
+  pub HasKeysApart : ValueOutline → Type 0
+  HasKeysApart (Token text) = Unit {0}
+  HasKeysApart (Listed opening es) = EachApart es
+  HasKeysApart (Braced opening es) = KeysApart (keys_of es) × EachApart es
 
   pub EachApart : EntriesOutline → Type 0
   EachApart (End gap) = Unit {0}
-  EachApart (Entry before a v after es) = AreApart v × EachApart es
+  EachApart (Entry before a v after es) = HasKeysApart v × EachApart es

@@ -18,12 +18,12 @@ names_in (Index i ∷ steps) = names_in steps
 
 -- which part of a key stands for an address at its own or above it, from 0 on, if one does: of a line with a base the names of its key are
 -- the steps behind the base, and of a header the names of its own address
-abbrev pub less : ℕ → ℕ → Option ℕ
-less n m = if nat_lt n m then None else Some (n - m)
+abbrev pub minus : ℕ → ℕ → Option ℕ
+minus n m = if nat_lt n m then None else Some (n - m)
 
 abbrev pub part_number : Address → Option ℕ → Option ℕ
-part_number p None = less (names_in p) 1
-part_number p (Some base) = less (length p) (base + 1)
+part_number p None = minus (names_in p) 1
+part_number p (Some base) = minus (length p) (base + 1)
 
 -- the part of the key with this number has the text
 abbrev pub key_part_with : ℕ → List ℕ → ExprOutline → ExprOutline

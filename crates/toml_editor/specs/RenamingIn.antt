@@ -3,7 +3,7 @@ use Rattle.std.specs.Prelude.{◌≡◌, ℕ, zero, suc, ◌-◌, Bool, true, fa
 use Rattle.toml_names.specs.declared.model.address.Step.TheVariants.{Name}
 use Rattle.toml_names.specs.mentions.Keys.{Key}
 use Rattle.toml_names.specs.model.Addresses.{Address, same_step}
-use Rattle.toml_editor.specs.Apart.{AreApart}
+use Rattle.toml_editor.specs.Apart.{HasKeysApart}
 use Rattle.toml_editor.specs.Leading.{ChangesEntry}
 use Rattle.toml_editor.specs.OpenOutlines.{Enclosed, EntryOutline}
 use Rattle.toml_editor.specs.Outlines.{DottedOutline, AssignOutline, ValueOutline, EntriesOutline, End, Entry}
@@ -54,7 +54,7 @@ KeysRenamed steps text old now = now ≡ record { opening = old.opening; entries
 
 -- a `rename` in a value, and in that of the entry with the index
 abbrev pub RenamesIn : Address → List ℕ → ValueOutline → ValueOutline → Type 0
-RenamesIn steps text old now = AreApart old → (at : Address) → now ≡ rename_outline (at ++ steps) text at old
+RenamesIn steps text old now = HasKeysApart old → (at : Address) → now ≡ rename_outline (at ++ steps) text at old
 
 abbrev pub RenamesEntry : ℕ → Address → List ℕ → Enclosed → Enclosed → Type 0
 RenamesEntry i steps text old now = ChangesEntry (RenamesIn steps text) (Unit {0}) i old now

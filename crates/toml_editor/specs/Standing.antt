@@ -12,7 +12,7 @@ use Rattle.toml_editor.specs.declared.lines.Kept.{Kept}
 use Rattle.toml_editor.specs.declared.lines.Line.{Line}
 use Rattle.toml_editor.specs.declared.lines.Slot.{Slot}
 use Rattle.toml_editor.specs.declared.lines.Slot.TheVariants as slots
-use Rattle.toml_editor.specs.Apart.{AreApart}
+use Rattle.toml_editor.specs.Apart.{HasKeysApart}
 use Rattle.toml_editor.specs.OpenOrigins.{line_numbered}
 use Rattle.toml_editor.specs.OpenOutlines.{all_origins, line}
 use Rattle.toml_editor.specs.Outlines as outline
@@ -122,7 +122,7 @@ StandAlone ss = AllPairs (λ s t. (covers s t ≡ false) × (covers t s ≡ fals
 -- the keys in the value of a line, if it has one, are apart
 abbrev pub IsApart : ExprOutline → Type 0
 IsApart outline.Nothing = Unit {0}
-IsApart (outline.Pair a v) = AreApart v
+IsApart (outline.Pair a v) = HasKeysApart v
 IsApart (outline.Header opening before first rest after closing) = Unit {0}
 
 -- all is as the table rules have it
