@@ -16,9 +16,10 @@ use Rattle.toml_editor.specs.Becoming.{RenamesLines, SlotAtBecomes, SlotBecomes,
 use Rattle.toml_editor.specs.Changing.{ChangesSlots}
 use Rattle.toml_editor.specs.Outlines as outline
 use Rattle.toml_editor.specs.Outlines.{ExprOutline, LineOutline}
-use Rattle.toml_editor.specs.RenameStanding.{rename_below, rename_expr_outline, rename_inside, rename_outline_of, rename_own, rename_standing}
+use Rattle.toml_editor.specs.RenameStanding.{rename_below, rename_inside, rename_outline_of, rename_own, rename_standing}
+use Rattle.toml_editor.specs.RenameOutlines.{rename_outline}
 use Rattle.toml_editor.specs.Seeing.{HoldsNone, line_at, steps_of, steps_to}
-use Rattle.toml_editor.specs.Standing.{Standing, Read, IsApart, StandAlone, begins, covers, covers_at, holds, is_below, leads_to, lies_below, slot_standing, slots_standing}
+use Rattle.toml_editor.specs.Standing.{Standing, Read, IsApart, StandAlone, begins, covers, covers_at, holds, is_below, leads_to, lies_below, slot_standing, slots_standing, with_value_outline}
 use Rattle.toml_editor.specs.Stands.{SlotKept}
 use Rattle.std.proofs.lemmas.Bool.{and_parts}
 use Rattle.toml_editor.proofs.Alone.{above_begins, begins_through, item_split, slot_split, split_within}
@@ -60,7 +61,7 @@ module _ (p : Address) (to spelled : List ℕ) where
   all = rename_standing p to spelled
 
   -- a line that does not hold what stands at the address, or not strictly above it
-  expr_stays : (at : Address) (e : ExprOutline) → is_above at p ≡ false → rename_expr_outline p spelled at e ≡ e
+  expr_stays : (at : Address) (e : ExprOutline) → is_above at p ≡ false → with_value_outline (rename_outline p spelled at) e ≡ e
   expr_stays at outline.Nothing h = refl
   expr_stays at (outline.Pair a v) h = ap (outline.Pair a) (value_kept p spelled v at h)
   expr_stays at (outline.Header opening before first rest after closing) h = refl

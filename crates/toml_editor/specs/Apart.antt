@@ -1,15 +1,14 @@
 -- Keys that are apart: no pair of an inline table stands at another's value or in it, as the table rules have it.
-use Rattle.std.specs.Prelude.{◌≡◌, Bool, true, false, ◌&&◌, List, [], ◌∷◌, Some, None, All}
+use Rattle.std.specs.Prelude.{◌≡◌, Bool, false, List, [], ◌∷◌, Some, None, All}
 use Rattle.std.specs.Str.{bytes_eq}
 use Rattle.toml_names.specs.mentions.Keys.{Key}
+use Rattle.toml_editor.specs.Beginnings.{begins_by}
 use Rattle.toml_editor.specs.Outlines.{ValueOutline, Token, Listed, Braced, EntriesOutline, End, Entry}
 use Rattle.toml_editor.specs.SetOutlines.{outlined_names}
 
 -- whether the first key is a beginning of the second, or all of it
 abbrev pub begins_key : Key → Key → Bool
-begins_key [] l = true
-begins_key (m ∷ k) [] = false
-begins_key (m ∷ k) (n ∷ l) = bytes_eq m n && begins_key k l
+begins_key = begins_by bytes_eq
 
 -- the keys of pairs
 abbrev pub keys_of : EntriesOutline → List Key

@@ -10,6 +10,7 @@ pub mod OpenOutlines
 pub mod TreeOutlines
 pub mod SetOutlines
 pub mod RenameOutlines
+pub mod Beginnings
 pub mod Apart
 pub mod AsNew
 pub mod Opening
