@@ -1,6 +1,6 @@
 -- Of lines that stand alone at most one holds what stands at an address.
 use Rattle.std.proofs.Common.{◌≡◌, ◌∙◌, ℕ, zero, suc, ◌+◌, ◌<◌, ◌≤◌, Bool, true, false, ◌&&◌, ◌||◌, List, [], ◌∷◌, ◌++◌, length, take, Option, Some, None, refl, ap, sym, subst, arith, append_assoc, append-nil}
-use Rattle.std.specs.Prelude.{option_map, option_and_then, slice_get, is_some, IfSome}
+use Rattle.std.specs.Prelude.{option_map, slice_get, is_some, IfSome}
 use Rattle.std.specs.Option.{option_or}
 use Rattle.std.specs.List.{list_any}
 use Rattle.std.proofs.Math.ListN.{set}
@@ -21,6 +21,7 @@ use Rattle.toml_editor.specs.declared.working.TablePlace.{TablePlace}
 use Rattle.toml_editor.specs.declared.working.TablePlace.TheVariants as places
 use Rattle.toml_editor.specs.Seeing.{Found, found, is_sought, is_sought_line, heads, is_dotted, heads_below, read_by, line_at, FindsLine, FindsTable, FindsHolder, FindsAny, FindsValue, IsTableLine, HoldsNone, LacksSought}
 use Rattle.toml_editor.specs.Standing.{Standing, Read, StandAlone, begins, lies_below, leads_to, covers_at, covers, is_below, holds, slot_standing, slots_standing}
+use Rattle.toml_editor.proofs.AtPlace.{slot_of}
 pub use Rattle.toml_editor.proofs.Beginning.{begins_self}
 use Rattle.toml_editor.proofs.Each.{each_back}
 use Rattle.toml_editor.proofs.written.Pairwise.{PairsAre, pairs_of_all}
@@ -106,15 +107,11 @@ split_within before front s back behind own all outer inner =
 -- a line at a place, and the lines before and behind it
 pub at_split : (read : Read) (slots : List Slot) (at : Position) (s : Standing) → line_at read slots at ≡ Some s
     → (front : List Standing) × (back : List Standing) × (slots_standing read slots ≡ front ++ s ∷ back)
-at_split read slots at s h = by (slice_get slots at.slot) refl h
-  where
-    by : (o : Option Slot) → slice_get slots at.slot ≡ o → option_and_then (λ (x : Slot). slice_get (slot_standing read x) at.index) o ≡ Some s
-        → (front : List Standing) × (back : List Standing) × (slots_standing read slots ≡ front ++ s ∷ back)
-    by None is e = cc
-    by (Some slot) is e =
-        let (before, behind, all, other) = slot_split read slots at.slot slot is in
-        let (front, back, own, new) = item_split (slot_standing read slot) at.index s e in
-        (before ++ front, back ++ behind, split_within before front s back behind (slot_standing read slot) (slots_standing read slots) all own)
+at_split read slots at s h =
+    let (slot, there, is) = slot_of read slots at s h in
+    let (before, behind, all, other) = slot_split read slots at.slot slot there in
+    let (front, back, own, new) = item_split (slot_standing read slot) at.index s is in
+    (before ++ front, back ++ behind, split_within before front s back behind (slot_standing read slot) (slots_standing read slots) all own)
 
 -- so it is of a line that is sought for a table
 abbrev IsOfTable : Sought → Address → Type 0

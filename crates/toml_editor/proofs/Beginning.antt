@@ -1,5 +1,5 @@
 -- Which address is a beginning of which.
-use Rattle.std.proofs.Common.{◌≡◌, ◌∙◌, ℕ, zero, suc, ◌+◌, ◌<◌, ◌≤◌, true, false, ◌&&◌, [], ◌∷◌, length, drop, get_or, refl, ap, arith}
+use Rattle.std.proofs.Common.{◌≡◌, ◌∙◌, ℕ, zero, suc, ◌+◌, ◌<◌, ◌≤◌, Bool, true, false, ◌&&◌, [], ◌∷◌, length, drop, get_or, refl, ap, arith}
 use Rattle.std.proofs.Math.Bool.{and-false}
 use Rattle.std.proofs.lemmas.List.{drop_all}
 use Rattle.toml_names.specs.declared.model.address.Step.{Step}
@@ -11,6 +11,11 @@ use Rattle.toml_editor.specs.Standing.{begins}
 pub begins_self : (a : Address) → begins a a ≡ true
 begins_self [] = refl
 begins_self (s ∷ a) = ap (λ r. r && begins a a) (same_step-self s) ∙ begins_self a
+
+-- what is not so stays not so beside anything
+pub still_off : (c a b : Bool) → (a ≡ false → b ≡ false) → (c && a) ≡ false → (c && b) ≡ false
+still_off true a b later off = later off
+still_off false a b later off = refl
 
 pub begins_short : (a b : Address) → length b < length a → begins a b ≡ false
 begins_short [] b h = absurd (omega (arith, h))

@@ -1,15 +1,11 @@
 -- What becomes of lines of the working tree in whose values something is changed.
-use Rattle.std.proofs.Common.{◌≡◌, ◌∙◌, ℕ, zero, suc, ◌<◌, ◌≤◌, Bool, true, List, [], ◌∷◌, ◌++◌, length, drop, get_or, map, set, Option, Some, None, refl, ap, ap₂, sym, subst}
+use Rattle.std.proofs.Common.{◌≡◌, ◌∙◌, ℕ, ◌<◌, ◌≤◌, Bool, true, List, [], ◌∷◌, ◌++◌, length, drop, get_or, set, Option, Some, None, refl, ap, ap₂, sym, subst}
 use Rattle.std.specs.Global.{Box}
-use Rattle.std.specs.declared.alloc.Global.{Global}
-use Rattle.std.specs.declared.vec.Vec.{Vec}
-use Rattle.std.proofs.lemmas.List.{map-set}
-use Rattle.std.proofs.lemmas.Option.{none-some, same_Some, slice_get-get_or, slice_get-map, slice_get_past}
-use Rattle.std.specs.Prelude.{option_and_then, option_map, slice_get, MatchOption}
+use Rattle.std.proofs.lemmas.Option.{slice_get_past}
+use Rattle.std.specs.Prelude.{slice_get, MatchOption}
 use Rattle.toml_names.proofs.Proved.{same_step-equal}
 use Rattle.toml_names.specs.model.Addresses.{Address, same_step}
 use Rattle.toml_text.specs.Source.{text_of}
-use Rattle.toml_tree.specs.Spells.{EachIs}
 use Rattle.toml_tree.specs.Tree as tree
 use Rattle.toml_units.specs.declared.unit.Unit.{Unit as ReadUnit}
 use Rattle.toml_editor.specs.declared.inside.Inside.{Inside}
@@ -23,17 +19,17 @@ use Rattle.toml_editor.specs.declared.lines.Slot.TheVariants as slots
 use Rattle.toml_editor.specs.declared.texts.Texts.{Texts}
 use Rattle.toml_editor.specs.declared.tree.OpenLine.{OpenLine}
 use Rattle.toml_editor.specs.declared.working.Position.{Position}
-use Rattle.toml_editor.specs.Changing.{ChangesBody, ChangesOpen, RenamesOpen, SetsOpen, ChangesAs, ChangesStanding, ChangesLine, ChangesOne, ChangesSlot, ChangesSlots}
+use Rattle.toml_editor.specs.Changing.{ChangesBody, ChangesOpen, RenamesOpen, SetsOpen, ChangesAs, ChangesStanding, ChangesLine, ChangesSlot, ChangesSlots}
 use Rattle.toml_editor.specs.OpeningLines.{OpensBody, IsOpened}
 use Rattle.toml_editor.specs.OpenOrigins.{line_numbered}
 use Rattle.toml_editor.specs.OpenOutlines.{line, value}
 use Rattle.toml_editor.specs.Outlines.{ValueOutline, LineOutline}
 use Rattle.toml_editor.specs.RenameStanding.{rename_line_outline, rename_outline_of}
 use Rattle.toml_editor.specs.Seeing.{steps_to}
-use Rattle.toml_editor.specs.Standing.{Standing, Read, IsApart, begins, leads_to, expr_has, outline_has, outline_of, body_outline, line_standing, set_line_outline, set_outline_of, slot_standing, slots_standing}
+use Rattle.toml_editor.specs.Standing.{Read, IsApart, begins, leads_to, expr_has, outline_has, outline_of, body_outline, line_standing, set_line_outline, set_outline_of, slot_standing, slots_standing}
 use Rattle.toml_editor.specs.Stands.{BodyKept, OpensSlot, SlotKept}
 use Rattle.toml_editor.proofs.Alone.{and_parts, item_split, slot_split, split_within}
-use Rattle.toml_editor.proofs.Each.{each_get}
+use Rattle.toml_editor.proofs.AtPlace.{line_in, no_line, slot_changed}
 
 begins_rest : (a p : Address) → begins a p ≡ true → a ++ drop (length a) p ≡ p
 begins_rest [] p h = refl
@@ -126,72 +122,6 @@ line_changed texts lines p steps change old mid now done mid_address mid_base op
           ),
         )
 
-pub each_set : {A : Type 0} (P : A → Type 0) (xs : List A) (i : ℕ) (y : A) → EachIs P xs → P y → EachIs P (set xs i y)
-each_set P [] i y h k = tt
-each_set P (x ∷ xs) zero y h k = (k, h.1)
-each_set P (x ∷ xs) (suc i) y h k = (h.0, each_set P xs i y h.1 k)
-
--- what stands on the lines of a slot once it is opened
-pub opened_standing : (read : Read) (old mid : Slot) (lines : Vec Line Global) → OpensSlot read.units old mid → mid ≡ slots.Lines lines → map (line_standing read) lines.items ≡ slot_standing read old
-opened_standing read (slots.Lines ls) mid lines opens is = let e : slots.Lines ls ≡ slots.Lines lines = sym opens ∙ is in sym (ap (slot_standing read) e)
-opened_standing read (slots.Kept kept) mid lines (ls, made, one) is =
-    let e : slots.Lines ls ≡ slots.Lines lines = sym made ∙ is in sym (ap (slot_standing read) e) ∙ ap (map (line_standing read)) one
-
-pub opened_kept : (text : List ℕ) (read : Read) (old mid : Slot) (lines : Vec Line Global) → OpensSlot read.units old mid → mid ≡ slots.Lines lines → SlotKept text read old
-    → EachIs (λ (l : Line). BodyKept text read l.body) lines.items
-opened_kept text read (slots.Lines ls) mid lines opens is kept = let e : slots.Lines ls ≡ slots.Lines lines = sym opens ∙ is in subst (SlotKept text read) e kept
-opened_kept text read (slots.Kept k) mid lines (ls, made, one) is kept =
-    let e : slots.Lines ls ≡ slots.Lines lines = sym made ∙ is in
-    subst (SlotKept text read) e (subst (EachIs (λ (l : Line). BodyKept text read l.body)) (sym one) (kept, tt))
-
-pub one_changed : (texts : Texts) (lines : List tree.Line) (index : ℕ) (p : Address) (change : Inside) (old now : List Line) (l m : Line) (done : Bool) → index < length old → l ≡ get_or old index l
-    → now ≡ set old index m → ChangesLine texts lines p change l m done → ChangesOne texts lines index p change old now done
-one_changed texts lines index p change old now l m done low is put changed =
-    let there : Some l ≡ slice_get old index = ap Some is ∙ sym (slice_get-get_or old index l low) in
-    subst (λ o. MatchOption o (now ≡ old) (λ x. (y : Line) × (now ≡ set old index y) × ChangesLine texts lines p change x y done)) there (m, put, changed)
-
-pub none_changed : (texts : Texts) (lines : List tree.Line) (index : ℕ) (p : Address) (change : Inside) (old : List Line) (done : Bool) → length old ≤ index → ChangesOne texts lines index p change old old done
-none_changed texts lines index p change old done past =
-    subst (λ o. MatchOption o (old ≡ old) (λ x. (y : Line) × (old ≡ set old index y) × ChangesLine texts lines p change x y done)) (sym (slice_get_past old index past)) refl
-
--- one of the lines of a slot is changed, or none
-pub slot_changed : (texts : Texts) (read : Read) (index : ℕ) (p : Address) (change : Inside) (old mid : Slot) (lines made : Vec Line Global) (done : Bool)
-    → OpensSlot read.units old mid → mid ≡ slots.Lines lines → ChangesOne texts read.lines index p change lines.items made.items done → ChangesSlot texts read index p change old (slots.Lines made) done
-slot_changed texts read index p change old mid lines made done opens opened changes kept = by (slice_get lines.items index) refl changes
-  where
-    text : List ℕ
-    text = text_of texts.source
-
-    BodiesKept : List Line → Type 0
-    BodiesKept = EachIs (λ (l : Line). BodyKept text read l.body)
-
-    stood : map (line_standing read) lines.items ≡ slot_standing read old
-    stood = opened_standing read old mid lines opens opened
-
-    each : BodiesKept lines.items
-    each = opened_kept text read old mid lines opens opened kept
-
-    at_index : (s : Standing) → slice_get (slot_standing read old) index ≡ Some s → option_map (line_standing read) (slice_get lines.items index) ≡ Some s
-    at_index s at = sym (slice_get-map (line_standing read) lines.items index) ∙ ap (λ xs. slice_get xs index) stood ∙ at
-
-    by : (o : Option Line) → slice_get lines.items index ≡ o → MatchOption o (made.items ≡ lines.items) (λ l. (m : Line) × (made.items ≡ set lines.items index m) × ChangesLine texts read.lines p change l m done)
-        → BodiesKept made.items × ((s : Standing) → slice_get (slot_standing read old) index ≡ Some s
-        → (t : Standing) × (map (line_standing read) made.items ≡ set (slot_standing read old) index t) × ChangesStanding p change s t done)
-    by None there same = (
-      subst BodiesKept (sym same) each,
-      λ s at. let none : None ≡ Some s = sym (ap (option_map (line_standing read)) there) ∙ at_index s at in absurd (none-some s none),
-    )
-    by (Some l) there (m, put, changed) =
-        let (kept_now, as_is) = changed read refl (each_get (λ (x : Line). BodyKept text read x.body) lines.items index l each there) in (
-          subst BodiesKept (sym put) (each_set (λ (x : Line). BodyKept text read x.body) lines.items index m each kept_now),
-          λ s at.
-              let same : line_standing read l ≡ s = same_Some (line_standing read l) s (sym (ap (option_map (line_standing read)) there) ∙ at_index s at) in (
-                line_standing read m,
-                ap (map (line_standing read)) put ∙ map-set (line_standing read) lines.items index m ∙ ap (λ xs. set xs index (line_standing read m)) stood,
-                subst (λ x. ChangesStanding p change x (line_standing read m) done) same as_is,
-              ),
-        )
-
 -- it is opened: no slot is kept any more
 pub slot_never_kept : (units : List ReadUnit) (old mid : Slot) (k : Kept) → OpensSlot units old mid → mid ≡ slots.Kept k → ⊥
 slot_never_kept units (slots.Lines ls) mid k opens is = let e : slots.Lines ls ≡ slots.Kept k = sym opens ∙ is in cc
@@ -201,12 +131,10 @@ slot_never_kept units (slots.Kept j) mid k (ls, made, one) is = let e : slots.Li
 pub at_changed : (texts : Texts) (read : Read) (at : Position) (p : Address) (change : Inside) (old now : List Slot) (slot new : Slot) (done : Bool) → at.slot < length old → slot ≡ get_or old at.slot slot
     → now ≡ set old at.slot new → ChangesSlot texts read at.index p change slot new done → ChangesSlots texts read at p change old now done
 at_changed texts read at p change old now slot new done low is put changed kept =
-    let kept_here = SlotKept (text_of texts.source) read in
-    let there : slice_get old at.slot ≡ Some slot = slice_get-get_or old at.slot slot low ∙ ap Some (sym is) in
-    let (kept_now, changes) = changed (each_get kept_here old at.slot slot kept there) in (
-      subst (EachIs kept_here) (sym put) (each_set kept_here old at.slot new kept kept_now),
+    let (there, kept_now, changes) = slot_changed (SlotKept (text_of texts.source) read) at.slot old now slot new low is put kept changed in (
+      kept_now,
       λ s e.
-          let own : slice_get (slot_standing read slot) at.index ≡ Some s = sym (ap (option_and_then (λ (x : Slot). slice_get (slot_standing read x) at.index)) there) ∙ e in
+          let own = line_in read old at slot s there e in
           let (t, new_own, as_is) = changes s own in
           let (before, behind, all, set_to) = slot_split read old at.slot slot there in
           let (front, back, split, new_split) = item_split (slot_standing read slot) at.index s own in
@@ -222,9 +150,4 @@ at_changed texts read at p change old now slot new done low is put changed kept 
     )
 
 pub no_slot_changed : (texts : Texts) (read : Read) (at : Position) (p : Address) (change : Inside) (old : List Slot) (done : Bool) → length old ≤ at.slot → ChangesSlots texts read at p change old old done
-no_slot_changed texts read at p change old done past kept = (
-  kept,
-  λ s e.
-      let none : None ≡ Some s = sym (ap (option_and_then (λ (x : Slot). slice_get (slot_standing read x) at.index)) (slice_get_past old at.slot past)) ∙ e in
-      absurd (none-some s none),
-)
+no_slot_changed texts read at p change old done past kept = (kept, λ s e. absurd (no_line read old at s (slice_get_past old at.slot past) e))

@@ -1,5 +1,5 @@
 -- What holds of each element of a list.
-use Rattle.std.proofs.Common.{◌≡◌, ℕ, zero, suc, List, [], ◌∷◌, ◌++◌, map, Some, subst}
+use Rattle.std.proofs.Common.{◌≡◌, ℕ, zero, suc, List, [], ◌∷◌, ◌++◌, map, set, Some, subst}
 use Rattle.std.specs.Prelude.{slice_get}
 use Rattle.std.proofs.lemmas.Option.{same_Some}
 use Rattle.toml_tree.specs.Spells.{EachIs}
@@ -24,6 +24,11 @@ pub each_get : {A : Type 0} (P : A → Type 0) (xs : List A) (j : ℕ) (w : A) �
 each_get P [] j w h is = cc
 each_get P (x ∷ xs) zero w h is = subst P (same_Some x w is) h.0
 each_get P (x ∷ xs) (suc j) w h is = each_get P xs j w h.1 is
+
+pub each_set : {A : Type 0} (P : A → Type 0) (xs : List A) (i : ℕ) (y : A) → EachIs P xs → P y → EachIs P (set xs i y)
+each_set P [] i y h k = tt
+each_set P (x ∷ xs) zero y h k = (k, h.1)
+each_set P (x ∷ xs) (suc i) y h k = (h.0, each_set P xs i y h.1 k)
 
 pub each_map : {A B : Type 0} (P : B → Type 0) (f : A → B) (xs : List A) → EachIs (λ x. P (f x)) xs → EachIs P (map f xs)
 each_map P f [] h = tt

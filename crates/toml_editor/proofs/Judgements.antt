@@ -38,7 +38,7 @@ use Rattle.toml_checker.specs.declared.facts.Made.{Made}
 use Rattle.toml_checker.specs.After.{IsMadeOf, made_of}
 use Rattle.toml_editor.specs.Edited.{AreDefinedOn, IsEdited, NamesOuter, RefusesText, Tells}
 use Rattle.toml_editor.specs.Editing.{TellsWanted}
-use Rattle.toml_editor.specs.Exact.{OfSpread}
+use Rattle.toml_editor.specs.Exact.{OfNoPlace}
 use Rattle.toml_editor.specs.Making.{TellsAny}
 use Rattle.toml_editor.specs.declared.fault.EditorFault.{EditorFault}
 use Rattle.toml_editor.specs.declared.fault.EditorFault.TheVariants as faults
@@ -83,7 +83,7 @@ data_copied ms ns k l is facts same = λ at kind. let e = facts at kind in (
 
 -- what is told of the data of a text is told of the text
 pub any_tells : (profile : Profile) (before : List ℕ) (cs : List Change) (d : Doc) (old : Kinds) (fault : EditorFault) → IsDocumentIn profile before → Spells d before → IsDataOf (named d.lines) old → TellsAny profile (place (named d.lines)) cs old fault
-    → OfSpread (IsNoPlainList profile before cs) fault → Tells profile before cs fault
+    → OfNoPlace (IsNoPlainList profile before cs) fault → Tells profile before cs fault
 any_tells profile before cs d old (faults.Edit i f) document spelled facts h spread = (document, (d, spelled, old, facts, h))
 any_tells profile before cs d old (faults.Spread i) document spelled facts h spread = (document, (d, spelled, (d, spelled, old, facts, h)), spread)
 any_tells profile before cs d old (faults.LastElement i) document spelled facts h spread = (document, (d, spelled, old, facts, h), spread)

@@ -5,13 +5,17 @@ pub mod PlainMade
 pub mod Judgements
 mod PlainJudged
 pub mod NearFaults
+mod Answered
 mod Each
+mod AtPlace
+mod Past
 mod Beginning
 mod Sought
 mod Placed
 mod Put
 mod SpelledOne
 mod Alone
+mod Turned
 mod Changed
 mod SetAway
 mod SetStanding
@@ -43,6 +47,7 @@ mod OpenedEach
 mod OpenedGap
 mod OpenedLine
 mod OpenedBody
+mod Got
 mod NumberedOutlines
 mod OutlinesSpelled
 mod TreeOrigins

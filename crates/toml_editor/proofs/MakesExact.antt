@@ -1,7 +1,6 @@
 -- The making of edits, one after the other, and the texts for which the working tree then stands.
 use Rattle.std.proofs.Common.{◌≡◌, ℕ, Bool, List, [], ◌∷◌, ◌++◌, true, false, true≢false, None, refl, sym, subst, ◌∙◌}
 use Rattle.std.proofs.Math.Path.{fun_ext}
-use Rattle.std.specs.Prelude.{Result, Ok, Err, IfOk, OnOk}
 use Rattle.toml_tree.specs.declared.profile.Profile.{Profile}
 use Rattle.toml_names.specs.declared.model.address.Step.TheVariants.{Name}
 use Rattle.toml_names.specs.model.Addresses.{Address, element}
@@ -17,23 +16,13 @@ use Rattle.toml_editor.specs.declared.working.Tree.{Tree}
 use Rattle.toml_editor.specs.CertifiedLists.{ArePlain}
 use Rattle.toml_editor.specs.Edited.{MayBeSpread, Places, TakesLastElement}
 use Rattle.toml_editor.specs.EditStanding.{EditsStanding, EditAllStanding}
-use Rattle.toml_editor.specs.Exact.{AreNotPlain, Follows, IsAt, IsNotPlain, IsPlainOn, KeepsSource, MakesAll, MakesOne, OfSpread, WritesEdit, style}
+use Rattle.toml_editor.specs.Exact.{AreNotPlain, Follows, IsAt, IsNotPlain, IsPlainOn, KeepsSource, MakesAll, MakesOne, OfNoPlace, WritesEdit, style}
 use Rattle.toml_editor.specs.Standing.{Read, Standing, slots_standing}
 use Rattle.toml_editor.specs.Steps.{AreWritten}
 use Rattle.toml_editor.specs.Written.{IsWritten}
 use Rattle.toml_editor.proofs.written.Follow.{remove_follows, set_follows}
 use Rattle.toml_editor.proofs.written.InsertFollow.{insert_follows}
 use Rattle.toml_editor.proofs.written.RenameFollow.{rename_follows}
-
--- what holds of an answer, beside what holds wherever there is one
-pub if_ok_with : {A E : Type 0} (P : Type 0) (Q : A → Type 0) (r : Result A E) → OnOk r P → IfOk r Q → IfOk r (λ x. P × Q x)
-if_ok_with P Q (Ok x) p q = (p, q)
-if_ok_with P Q (Err e) p q = tt
-
--- what follows wherever there is an answer
-pub if_ok_all : {A E : Type 0} (P Q : Type 0) (R : A → Type 0) (r : Result A E) → ((x : A) → P → Q → R x) → OnOk r P → OnOk r Q → IfOk r R
-if_ok_all P Q R (Ok x) f p q = f x p q
-if_ok_all P Q R (Err e) f p q = tt
 
 -- a `set` that is plain is made, and what is written of it on the working tree is what it writes
 set_made : (profile : Profile) (read : Read) (p : Address) (value : List ℕ) (old new : Tree) (done : Bool) → WritesEdit profile read (set p value) old new done
@@ -172,7 +161,7 @@ one_not_plain profile read cs made left c old tree so_far not text kinds now at 
     not here.mid here.kinds here.lead.1 here.at here.lead.0 here.lead.2 here.plain.0
 
 pub one_not_plain_of : (profile : Profile) (read : Read) (cs made left : List Change) (c : Change) (old tree : Tree) (fault : EditorFault)
-    → AreMade profile read cs made (c ∷ left) old tree → OfSpread (IsNotPlain profile read c tree) fault → OfSpread (AreNotPlain profile read cs old) fault
+    → AreMade profile read cs made (c ∷ left) old tree → OfNoPlace (IsNotPlain profile read c tree) fault → OfNoPlace (AreNotPlain profile read cs old) fault
 one_not_plain_of profile read cs made left c old tree (faults.Spread i) so_far not = one_not_plain profile read cs made left c old tree so_far not
 one_not_plain_of profile read cs made left c old tree (faults.LastElement i) so_far not = one_not_plain profile read cs made left c old tree so_far not
 one_not_plain_of profile read cs made left c old tree (faults.Text f) so_far not = tt

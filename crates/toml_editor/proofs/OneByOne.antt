@@ -1,8 +1,11 @@
 -- Lists whose elements change one after the other.
-use Rattle.std.proofs.Common.{◌≡◌, ◌∙◌, ℕ, zero, suc, ◌+◌, ◌<◌, ◌≤◌, List, [], ◌∷◌, length, get_or, set, Some, None, ap, sym, subst, arith}
+use Rattle.std.proofs.Common.{◌≡◌, ◌∙◌, ℕ, zero, suc, ◌+◌, ◌<◌, ◌≤◌, true, false, List, [], ◌∷◌, length, get_or, set, Some, None, ap, sym, subst, arith}
+use Rattle.std.specs.declared.alloc.Global.{Global}
+use Rattle.std.specs.declared.vec.Vec.{Vec}
 use Rattle.std.proofs.lemmas.Option.{none-some, same_Some, slice_get-get_or, slice_get_past}
 use Rattle.std.specs.Prelude.{slice_get}
 use Rattle.toml_editor.specs.RenamedUnits.{GoTogether}
+use Rattle.toml_editor.proofs.Past.{past_end}
 
 module _ {A : Type 0} (R : A → A → Type 0) where
   -- so many are changed, and the others are as they were
@@ -45,6 +48,10 @@ module _ {A : Type 0} (R : A → A → Type 0) where
 
   pub none_more : (i : ℕ) (old now : List A) → SoFar i old now → length now ≤ i → SoFar (i + 1) old now
   none_more i old now so_far past = subst (λ k. SoFar k old now) (next i) (none_on i old now so_far (slice_get_past now i past))
+
+  -- the same of a vector, by what `get_mut` answers
+  pub none_there : (i : ℕ) (old : List A) (now : Vec A Global) → SoFar i old now.items → (i < now.len → false ≡ true) → SoFar (i + 1) old now.items
+  none_there i old now so_far none = none_more i old now.items so_far (past_end now.items now.len i now.ok.0 none)
 
   pub all_done : (i : ℕ) (old now : List A) → SoFar i old now → length old ≤ i → GoTogether R old now
   all_done zero [] [] so_far past = tt

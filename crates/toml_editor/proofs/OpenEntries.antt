@@ -1,6 +1,6 @@
 -- The entries of the working tree by index, and those of their outline.
-use Rattle.std.proofs.Common.{◌≡◌, ◌∙◌, ◌&&◌, ◌<◌, ◌≤◌, ℕ, Box, nat_eq, zero, suc, Bool, true, false, cond, List, [], ◌∷◌, length, map, set, Option, Some, None, refl, ap, sym, subst, arith}
-use Rattle.std.proofs.lemmas.Bool.Decides.{nat_tests}
+use Rattle.std.proofs.Common.{◌≡◌, ◌∙◌, ◌&&◌, ◌<◌, ◌≤◌, ℕ, Box, nat_eq, zero, suc, Bool, true, false, cond, List, [], ◌∷◌, length, map, set, Option, Some, None, refl, ap, ap₂, sym, subst, arith}
+use Rattle.std.proofs.Math.Dec.{eqb-suc-suc, eqb-zero-suc}
 use Rattle.std.proofs.lemmas.Option.{none-some, same_Some, slice_get_past}
 use Rattle.std.specs.Prelude.{option_and_then, option_map, slice_get}
 use Rattle.std.specs.Global.{Global}
@@ -15,7 +15,7 @@ use Rattle.toml_editor.specs.declared.tree.Value.{Value}
 use Rattle.toml_editor.specs.declared.tree.Value.TheViews.{out-Entries, out-Entry, roll-Entries, roll-Entry}
 use Rattle.toml_editor.specs.Leading.{in_common, key_in, leads, led_by, open_names, pair_key, ChangesEntry, value_in, with_value}
 use Rattle.toml_editor.specs.OpenOutlines.{Enclosed, EntryOutline, assign, entries, entries_of, entry, gap, leaf_text, value}
-use Rattle.toml_editor.specs.Outlines.{AssignOutline, Marked}
+use Rattle.toml_editor.specs.Outlines.{Marked}
 use Rattle.toml_editor.specs.SetOutlines.{outlined_names}
 use Rattle.toml_editor.specs.Outlines as outline
 use Rattle.toml_editor.specs.RenamingIn.{reaches}
@@ -23,59 +23,29 @@ use Rattle.toml_editor.proofs.Outlined.{entries_is, entries_made, entry_is, entr
 
 -- ---- keys
 
--- all names of a key are the first steps where so many are
-all_lead : (k : names.Key) (steps : Address) → in_common k steps ≡ length k → leads k steps ≡ true
-all_lead [] steps is = refl
-all_lead (n ∷ k) [] is = absurd (omega (arith, is))
-all_lead (n ∷ k) (s ∷ steps) is = by (same_step (Name n) s) (all_lead k steps) is
-  where
-    by : (b : Bool) → (in_common k steps ≡ length k → leads k steps ≡ true) → cond b (suc (in_common k steps)) zero ≡ suc (length k) → (b && leads k steps) ≡ true
-    by true behind is = behind (omega (arith, is))
-    by false behind is = absurd (omega (arith, is))
+-- one name more is in common, or none
+one_in_common : (b whole : Bool) (count all : ℕ) → nat_eq count all ≡ whole → nat_eq (cond b (suc count) zero) (suc all) ≡ (b && whole)
+one_in_common true whole count all is = eqb-suc-suc count all ∙ is
+one_in_common false whole count all is = eqb-zero-suc all
 
-not_all_lead : (k : names.Key) (steps : Address) → ¬ (in_common k steps ≡ length k) → leads k steps ≡ false
-not_all_lead [] steps not = absurd (not refl)
-not_all_lead (n ∷ k) [] not = refl
-not_all_lead (n ∷ k) (s ∷ steps) not = by (same_step (Name n) s) (not_all_lead k steps) not
-  where
-    by : (b : Bool) → (¬ (in_common k steps ≡ length k) → leads k steps ≡ false) → ¬ (cond b (suc (in_common k steps)) zero ≡ suc (length k)) → (b && leads k steps) ≡ false
-    by true behind not = behind (λ e. not (ap suc e))
-    by false behind not = refl
+-- all names of a key are the first steps where so many are
+all_lead : (k : names.Key) (steps : Address) → nat_eq (in_common k steps) (length k) ≡ leads k steps
+all_lead [] steps = refl
+all_lead (n ∷ k) [] = eqb-zero-suc (length k)
+all_lead (n ∷ k) (s ∷ steps) = one_in_common (same_step (Name n) s) (leads k steps) (in_common k steps) (length k) (all_lead k steps)
 
 pub leads_by : (k : names.Key) (steps : Address) (count parts : ℕ) → count ≡ in_common k steps → parts ≡ length k → nat_eq count parts ≡ leads k steps
-leads_by k steps count parts is all = by (nat_eq count parts) refl
-  where
-    by : (b : Bool) → nat_eq count parts ≡ b → b ≡ leads k steps
-    by true same = let e : count ≡ parts = grind (arith, nat_tests) in sym (all_lead k steps (sym is ∙ e ∙ all))
-    by false same = sym (not_all_lead k steps (λ e. let f : count ≡ parts = is ∙ e ∙ sym all in absurd (let g : ⊥ = grind (arith, nat_tests) in g)))
+leads_by k steps count parts is all = ap₂ nat_eq is all ∙ all_lead k steps
 
 -- all steps are reached where so many are
-all_reached : (k : names.Key) (steps : Address) → in_common k steps ≡ length steps → reaches k steps ≡ true
-all_reached [] [] is = refl
-all_reached [] (s ∷ steps) is = absurd (omega (arith, is))
-all_reached (n ∷ k) [] is = refl
-all_reached (n ∷ k) (s ∷ steps) is = by (same_step (Name n) s) (all_reached k steps) is
-  where
-    by : (b : Bool) → (in_common k steps ≡ length steps → reaches k steps ≡ true) → cond b (suc (in_common k steps)) zero ≡ suc (length steps) → (b && reaches k steps) ≡ true
-    by true behind is = behind (omega (arith, is))
-    by false behind is = absurd (omega (arith, is))
-
-not_all_reached : (k : names.Key) (steps : Address) → ¬ (in_common k steps ≡ length steps) → reaches k steps ≡ false
-not_all_reached [] [] not = absurd (not refl)
-not_all_reached [] (s ∷ steps) not = refl
-not_all_reached (n ∷ k) [] not = absurd (not refl)
-not_all_reached (n ∷ k) (s ∷ steps) not = by (same_step (Name n) s) (not_all_reached k steps) not
-  where
-    by : (b : Bool) → (¬ (in_common k steps ≡ length steps) → reaches k steps ≡ false) → ¬ (cond b (suc (in_common k steps)) zero ≡ suc (length steps)) → (b && reaches k steps) ≡ false
-    by true behind not = behind (λ e. not (ap suc e))
-    by false behind not = refl
+all_reached : (k : names.Key) (steps : Address) → nat_eq (in_common k steps) (length steps) ≡ reaches k steps
+all_reached [] [] = refl
+all_reached [] (s ∷ steps) = eqb-zero-suc (length steps)
+all_reached (n ∷ k) [] = refl
+all_reached (n ∷ k) (s ∷ steps) = one_in_common (same_step (Name n) s) (reaches k steps) (in_common k steps) (length steps) (all_reached k steps)
 
 pub reached_by : (k : names.Key) (steps : Address) (count : ℕ) → count ≡ in_common k steps → nat_eq count (length steps) ≡ reaches k steps
-reached_by k steps count is = by (nat_eq count (length steps)) refl
-  where
-    by : (b : Bool) → nat_eq count (length steps) ≡ b → b ≡ reaches k steps
-    by true same = let e : count ≡ length steps = grind (arith, nat_tests) in sym (all_reached k steps (sym is ∙ e))
-    by false same = sym (not_all_reached k steps (λ e. let f : count ≡ length steps = is ∙ e in absurd (let g : ⊥ = grind (arith, nat_tests) in g)))
+reached_by k steps count is = ap (λ n. nat_eq n (length steps)) is ∙ all_reached k steps
 
 -- not so where there are fewer steps
 pub too_long : (k : names.Key) (steps : Address) → length steps < length k → leads k steps ≡ false

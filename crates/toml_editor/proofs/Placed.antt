@@ -12,6 +12,7 @@ use Rattle.toml_editor.specs.InsertStanding.{LeavesRoot, RootIsFirst, has_pair, 
 use Rattle.toml_editor.specs.Placing.{FindsLastOf, IsLast, IsLastPair, IsNoHeader, IsNoPair, Passed, is_header, lines_before, lines_from, pair_at}
 use Rattle.toml_editor.specs.Seeing.{Found, found, line_at, seen}
 use Rattle.toml_editor.specs.Standing.{Standing, Read, slot_standing, slots_standing}
+use Rattle.toml_editor.proofs.AtPlace.{slot_of}
 use Rattle.toml_editor.proofs.Alone.{slice_get_none}
 use Rattle.toml_editor.proofs.Each.{each_append, each_back, each_front}
 
@@ -180,14 +181,14 @@ module _ (read : Read) (slots : List Slot) (k : ℕ) (slot : Slot) (there : slic
       by (Some s) some e = absurd (none-some (found s) (ap (option_map seen) (sym is) ∙ e))
 
   -- one is, with this base and address
-  pub record IsSeen (base : Option ℕ) (own : Option Address) : Type 0 where
-    pub line : Standing
-    pub from : lines_from read slots k i ≡ line ∷ lines_from read slots k (i + 1)
-    pub stands : line_at read slots (record { slot = k; index = i }) ≡ Some line
-    pub base_is : line.base ≡ base
-    pub own_is : line.address ≡ own
+  record IsSeen (base : Option ℕ) (own : Option Address) : Type 0 where
+    line : Standing
+    from : lines_from read slots k i ≡ line ∷ lines_from read slots k (i + 1)
+    stands : line_at read slots (record { slot = k; index = i }) ≡ Some line
+    base_is : line.base ≡ base
+    own_is : line.address ≡ own
 
-  pub one_seen : (r : Option Seen) (x : Seen) → option_map seen r ≡ option_map found (slice_get (slot_standing read slot) i) → r ≡ Some x → IsSeen (seen x).base (seen x).address
+  one_seen : (r : Option Seen) (x : Seen) → option_map seen r ≡ option_map found (slice_get (slot_standing read slot) i) → r ≡ Some x → IsSeen (seen x).base (seen x).address
   one_seen r x same is = by (slice_get (slot_standing read slot) i) refl same
     where
       by : (o : Option Standing) → slice_get (slot_standing read slot) i ≡ o → option_map seen r ≡ option_map found o → IsSeen (seen x).base (seen x).address
@@ -203,14 +204,19 @@ module _ (read : Read) (slots : List Slot) (k : ℕ) (slot : Slot) (there : slic
           }
 
   -- a header: none with a key and a value is left before it
-  pub header_seen : (base : Option ℕ) (own : Option Address) → IsSeen base own → is_header base own ≡ true → has_pair (lines_from read slots k i) ≡ false
-  header_seen base own s head =
+  pub header_seen : (r : Option Seen) (x : Seen) → option_map seen r ≡ option_map found (slice_get (slot_standing read slot) i) → r ≡ Some x
+      → is_header (seen x).base (seen x).address ≡ true → has_pair (lines_from read slots k i) ≡ false
+  header_seen r x same is head =
+      let s = one_seen r x same is in
       ap has_pair s.from ∙ header_first s.line (lines_from read slots k (i + 1)) (ap₂ is_header s.base_is s.own_is ∙ head)
 
   -- another one is passed
-  pub pair_seen : (base : Option ℕ) (own : Option Address) → IsSeen base own → is_header base own ≡ false → i + 1 < 2 ^ 64 → (all : List Standing) (last : Option Position)
-      → Passed read slots all (lines_from read slots k i) last → Passed read slots all (lines_from read slots k (i + 1)) (pair_at base (record { slot = k; index = i }) last)
-  pair_seen base own s head next all last passed =
+  pub pair_seen : (r : Option Seen) (x : Seen) → option_map seen r ≡ option_map found (slice_get (slot_standing read slot) i) → r ≡ Some x
+      → is_header (seen x).base (seen x).address ≡ false → i + 1 < 2 ^ 64 → (all : List Standing) (last : Option Position)
+      → Passed read slots all (lines_from read slots k i) last
+      → Passed read slots all (lines_from read slots k (i + 1)) (pair_at (seen x).base (record { slot = k; index = i }) last)
+  pair_seen r x same is head next all last passed =
+      let s = one_seen r x same is in
       let at : Position = record { slot = k; index = i } in
       subst (λ b. Passed read slots all (lines_from read slots k (i + 1)) (pair_at b at last)) s.base_is
       (passed_next read slots all (lines_from read slots k (i + 1)) s.line at last (subst (λ ls. Passed read slots all ls last) s.from passed) s.stands next s.from (ap₂ is_header s.base_is s.own_is ∙ head))
@@ -218,9 +224,7 @@ module _ (read : Read) (slots : List Slot) (k : ℕ) (slot : Slot) (there : slic
 -- the lines behind one
 pub behind_line : (read : Read) (slots : List Slot) (at : Position) (s : Standing) (back : List Standing) → line_at read slots at ≡ Some s → lines_from read slots at.slot at.index ≡ s ∷ back
     → back ≡ lines_from read slots at.slot (at.index + 1)
-behind_line read slots at s back here from = by (slice_get slots at.slot) refl here
-  where
-    by : (o : Option Slot) → slice_get slots at.slot ≡ o → option_and_then (λ (x : Slot). slice_get (slot_standing read x) at.index) o ≡ Some s
-        → back ≡ lines_from read slots at.slot (at.index + 1)
-    by None there e = cc
-    by (Some slot) there e = let next = from_line read slots at.slot at.index slot s there e in cc
+behind_line read slots at s back here from =
+    let (slot, there, own) = slot_of read slots at s here in
+    let next = from_line read slots at.slot at.index slot s there own in
+    cc

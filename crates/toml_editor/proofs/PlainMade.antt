@@ -26,7 +26,7 @@ use Rattle.toml_editor.specs.declared.working.Tree.{Tree}
 use Rattle.toml_editor.specs.CertifiedLists.{AreOuterPartners, ArePlain}
 use Rattle.toml_editor.specs.EditStanding.{EditAllStanding}
 use Rattle.toml_editor.specs.Editing.{TellsWanted}
-use Rattle.toml_editor.specs.Exact.{AreNotPlain, FollowAll, IsAt, MakesAll, OfSpread, style}
+use Rattle.toml_editor.specs.Exact.{AreNotPlain, FollowAll, IsAt, MakesAll, OfNoPlace, style}
 use Rattle.toml_editor.specs.Numbering.{PairsOf, pairs_from, slot_origins}
 use Rattle.toml_editor.specs.OpenOrigins.{numbers}
 use Rattle.toml_editor.specs.OpenOutlines.{all_origins}
@@ -79,7 +79,7 @@ module _ (profile : Profile) (read : Read) (d : Doc) (before : List ℕ) (tree :
     (λ old now facts lead plain. not before old now (at old facts) lead (subst (λ s. ArePlain profile cs s before) (sym styled) plain)),
   )
 
-  pub no_plain_list_of : (cs : List Change) (fault : EditorFault) → OfSpread (AreNotPlain profile read cs tree) fault → OfSpread (IsNoPlainList profile before cs) fault
+  pub no_plain_list_of : (cs : List Change) (fault : EditorFault) → OfNoPlace (AreNotPlain profile read cs tree) fault → OfNoPlace (IsNoPlainList profile before cs) fault
   no_plain_list_of cs (faults.Spread i) not = no_plain_list cs not
   no_plain_list_of cs (faults.LastElement i) not = no_plain_list cs not
   no_plain_list_of cs (faults.Text f) not = tt

@@ -4,9 +4,9 @@ use Rattle.std.proofs.Math.ListN.{length-set}
 use Rattle.std.specs.declared.alloc.Global.{Global}
 use Rattle.std.specs.declared.string.String.{String}
 use Rattle.std.specs.declared.vec.Vec.{Vec}
-use Rattle.std.specs.Prelude.{option_and_then, option_map, slice_get, MatchOption, IfOk, OnOk, Result, string_bytes, Ok, Err}
-use Rattle.std.proofs.lemmas.List.{append_cancel_right, drop-set-lt, map-set, take_more, take_more_set}
-use Rattle.std.proofs.lemmas.Option.{get_or_from_slice_get, none-some, same_Some, slice_get-get_or, slice_get-map, slice_get_past, slice_get_within}
+use Rattle.std.specs.Prelude.{option_map, slice_get, string_bytes}
+use Rattle.std.proofs.lemmas.List.{append_cancel_right, drop-set-lt, take_more, take_more_set}
+use Rattle.std.proofs.lemmas.Option.{get_or_from_slice_get, none-some, same_Some, slice_get-map, slice_get_past, slice_get_within}
 use Rattle.toml_names.specs.declared.model.address.Step.TheVariants.{Name}
 use Rattle.toml_names.specs.model.Addresses.{Address}
 use Rattle.toml_scalar.specs.Spelling.{spelled}
@@ -21,31 +21,21 @@ use Rattle.toml_editor.specs.declared.lines.Slot.TheVariants as slots
 use Rattle.toml_editor.specs.declared.texts.Texts.{Texts}
 use Rattle.toml_editor.specs.declared.tree.Assign.{Assign}
 use Rattle.toml_editor.specs.declared.working.Position.{Position}
+use Rattle.toml_editor.specs.Becoming.{LineBecomes}
 use Rattle.toml_editor.specs.InsertStanding.{RootIsFirst, end_in, has_pair, insert_behind, insert_standing, line_behind, new_outline, new_standing, pair_or}
 use Rattle.toml_editor.specs.OpeningLines.{EndsIn, HasOutline, OpensBody, OpensToEndIn, alone}
 use Rattle.toml_editor.specs.OpenOutlines.{assign, line}
 use Rattle.toml_editor.specs.Outlines.{LineOutline, Pair, ValueOutline}
 use Rattle.toml_editor.specs.Placing.{IsLastPair, IsNoHeader, IsPair, is_header, lines_before, lines_from}
-use Rattle.toml_editor.specs.Putting.{AssignsOne, Becomes, EndsBefore, EndsLine, EndsOne, EndsSlot, EndsSlots, InsertsLines, IsLastAt, IsRootLine, LineIsLast, PutsBehind, PutsSlot, PutsSlots, SlotIsLast, TellsLast, ended_before, newline_behind}
+use Rattle.toml_editor.specs.Putting.{AssignsOne, Becomes, EndsBefore, EndsSlot, EndsSlots, InsertsLines, IsLastAt, IsRootLine, LineIsLast, PutsBehind, PutsSlot, PutsSlots, SlotIsLast, TellsLast, ended_before, newline_behind}
 use Rattle.toml_editor.specs.Seeing.{line_at}
 use Rattle.toml_editor.specs.Standing.{Standing, Read, body_outline, line_standing, slot_standing, slots_standing}
 use Rattle.toml_editor.specs.Stands.{BodyKept, OpensSlot, SlotKept, Stands}
-use Rattle.toml_editor.proofs.Changed.{each_set, never_kept, opened_kept, opened_outline, opened_standing}
+use Rattle.toml_editor.proofs.AtPlace.{line_in, no_line, slot_changed, slot_of}
+use Rattle.toml_editor.proofs.Changed.{never_kept, opened_outline}
 use Rattle.toml_editor.proofs.Each.{each_get}
 use Rattle.toml_editor.proofs.Placed.{behind_line, split_at}
-
--- what follows wherever there is an answer
-pub on_ok : {X E : Type 0} (P Q : Type 0) (r : Result X E) → (P → Q) → OnOk r P → OnOk r Q
-on_ok P Q (Ok x) f h = f h
-on_ok P Q (Err e) f h = tt
-
-pub of_all_ok : {X E : Type 0} (P Q R S : X → Type 0) (r : Result X E) → ((x : X) → P x → Q x → R x → S x) → IfOk r P → IfOk r Q → IfOk r R → IfOk r S
-of_all_ok P Q R S (Ok x) f p q h = f x p q h
-of_all_ok P Q R S (Err e) f p q h = tt
-
-pub if_ok_at_all : {X E : Type 0} (P : Type 0) (r : Result X E) → P → OnOk r P
-if_ok_at_all P (Ok x) h = h
-if_ok_at_all P (Err e) h = tt
+use Rattle.toml_editor.proofs.Turned.{opened_kept, opened_standing}
 
 -- ---- the last line
 
@@ -62,15 +52,15 @@ no_last_line slot lines index is none text read kept s at =
 
 pub last_slot : (slots : List Slot) (at : Position) (slot : Slot) (b : Bool) → slice_get slots at.slot ≡ Some slot → SlotIsLast slot at.index b → IsLastAt slots at b
 last_slot slots at slot b there last text read kept s e =
-    last text read (each_get (SlotKept text read) slots at.slot slot kept there) s (sym (ap (option_and_then (λ (x : Slot). slice_get (slot_standing read x) at.index)) there) ∙ e)
+    last text read (each_get (SlotKept text read) slots at.slot slot kept there) s (line_in read slots at slot s there e)
 
 pub no_last_slot : (slots : List Slot) (at : Position) → slice_get slots at.slot ≡ None → IsLastAt slots at false
-no_last_slot slots at none text read kept s e = absurd (none-some s (sym (ap (option_and_then (λ (x : Slot). slice_get (slot_standing read x) at.index)) none) ∙ e))
+no_last_slot slots at none text read kept s e = absurd (no_line read slots at s none e)
 
 -- ---- another newline
 
 pub line_ended : (newline : List ℕ) (texts : Texts) (lines : List tree.Line) (old now : Line) → now.address ≡ old.address → now.base ≡ old.base
-    → OpensToEndIn newline texts lines old.body now.body → EndsLine newline texts lines old now
+    → OpensToEndIn newline texts lines old.body now.body → LineBecomes texts lines (end_in newline) old now
 line_ended newline texts lines old now address base (mid, opens, ends) read are kept = by mid opens ends
   where
     by : (body : Body) → OpensBody texts lines old.body body → EndsIn newline body now.body
@@ -82,50 +72,6 @@ line_ended newline texts lines old now address base (mid, opens, ends) read are 
         ap (body_outline read) is ∙ outlined ∙ ap (λ (l : LineOutline). record l { newline = newline }) (sym was) in (
           subst (BodyKept (text_of texts.source) read) (sym is) tt,
           ap₂ (λ a b. record { address = a; base = b; outline = body_outline read now.body }) address base ∙ ap (λ l. record { address = old.address; base = old.base; outline = l }) made,
-        )
-
-pub one_ended : (newline : List ℕ) (texts : Texts) (lines : List tree.Line) (index : ℕ) (old now : List Line) (l m : Line) → index < length old → l ≡ get_or old index l
-    → now ≡ set old index m → EndsLine newline texts lines l m → EndsOne newline texts lines index old now
-one_ended newline texts lines index old now l m low is put ended =
-    let there : Some l ≡ slice_get old index = ap Some is ∙ sym (slice_get-get_or old index l low) in
-    subst (λ o. MatchOption o (now ≡ old) (λ x. (y : Line) × (now ≡ set old index y) × EndsLine newline texts lines x y)) there (m, put, ended)
-
-pub none_ended : (newline : List ℕ) (texts : Texts) (lines : List tree.Line) (index : ℕ) (old : List Line) → length old ≤ index → EndsOne newline texts lines index old old
-none_ended newline texts lines index old past =
-    subst (λ o. MatchOption o (old ≡ old) (λ x. (y : Line) × (old ≡ set old index y) × EndsLine newline texts lines x y)) (sym (slice_get_past old index past)) refl
-
-pub slot_ended : (newline : List ℕ) (texts : Texts) (read : Read) (index : ℕ) (old mid : Slot) (lines made : Vec Line Global) → OpensSlot read.units old mid → mid ≡ slots.Lines lines
-    → EndsOne newline texts read.lines index lines.items made.items → EndsSlot newline texts read index old (slots.Lines made)
-slot_ended newline texts read index old mid lines made opens opened ends kept = by (slice_get lines.items index) refl ends
-  where
-    text : List ℕ
-    text = text_of texts.source
-
-    BodiesKept : List Line → Type 0
-    BodiesKept = EachIs (λ (l : Line). BodyKept text read l.body)
-
-    stood : map (line_standing read) lines.items ≡ slot_standing read old
-    stood = opened_standing read old mid lines opens opened
-
-    each : BodiesKept lines.items
-    each = opened_kept text read old mid lines opens opened kept
-
-    at_index : (s : Standing) → slice_get (slot_standing read old) index ≡ Some s → option_map (line_standing read) (slice_get lines.items index) ≡ Some s
-    at_index s at = sym (slice_get-map (line_standing read) lines.items index) ∙ ap (λ xs. slice_get xs index) stood ∙ at
-
-    by : (o : Option Line) → slice_get lines.items index ≡ o → MatchOption o (made.items ≡ lines.items) (λ l. (m : Line) × (made.items ≡ set lines.items index m) × EndsLine newline texts read.lines l m)
-        → BodiesKept made.items × ((s : Standing) → slice_get (slot_standing read old) index ≡ Some s → map (line_standing read) made.items ≡ set (slot_standing read old) index (end_in newline s))
-    by None there same = (
-      subst BodiesKept (sym same) each,
-      λ s at. let none : None ≡ Some s = sym (ap (option_map (line_standing read)) there) ∙ at_index s at in absurd (none-some s none),
-    )
-    by (Some l) there (m, put, ended) =
-        let (kept_now, as_is) = ended read refl (each_get (λ (x : Line). BodyKept text read x.body) lines.items index l each there) in (
-          subst BodiesKept (sym put) (each_set (λ (x : Line). BodyKept text read x.body) lines.items index m each kept_now),
-          λ s at.
-              let same : line_standing read l ≡ s = same_Some (line_standing read l) s (sym (ap (option_map (line_standing read)) there) ∙ at_index s at) in
-              ap (map (line_standing read)) put ∙ map-set (line_standing read) lines.items index m
-              ∙ ap₂ (λ xs t. set xs index t) stood (as_is ∙ ap (end_in newline) same),
         )
 
 -- ---- a line becomes another
@@ -151,25 +97,21 @@ module _ (read : Read) (i : ℕ) (t : Standing) where
 pub at_ended : (newline : List ℕ) (texts : Texts) (read : Read) (at : Position) (old now : List Slot) (slot new : Slot) → at.slot < length old → slot ≡ get_or old at.slot slot
     → now ≡ set old at.slot new → EndsSlot newline texts read at.index slot new → EndsSlots newline texts read at old now
 at_ended newline texts read at old now slot new low is put ended kept =
-    let kept_here = SlotKept (text_of texts.source) read in
-    let there : slice_get old at.slot ≡ Some slot = slice_get-get_or old at.slot slot low ∙ ap Some (sym is) in
-    let (kept_now, ends) = ended (each_get kept_here old at.slot slot kept there) in (
-      subst (EachIs kept_here) (sym put) (each_set kept_here old at.slot new kept kept_now),
+    let (there, kept_now, ends) = slot_changed (SlotKept (text_of texts.source) read) at.slot old now slot new low is put kept ended in (
+      kept_now,
       λ s e.
-          let own : slice_get (slot_standing read slot) at.index ≡ Some s = sym (ap (option_and_then (λ (x : Slot). slice_get (slot_standing read x) at.index)) there) ∙ e in
+          let own = line_in read old at slot s there e in
           let within : at.index < length (slot_standing read slot) = slice_get_within (slot_standing read slot) at.index s own in
-          record {
+          let (t, is, ended_so) = ends s own in
+          subst (Becomes read at old now) ended_so (record {
             count = ap length put ∙ length-set old at.slot new;
-            before = ap (λ xs. lines_before read xs at.slot (at.index + 1)) put ∙ before_set read at.index (end_in newline s) old at.slot slot new there within (ends s own);
-            behind = ap (λ xs. lines_from read xs at.slot (at.index + 1)) put ∙ behind_set read at.index (end_in newline s) old at.slot slot new there (ends s own);
-          },
+            before = ap (λ xs. lines_before read xs at.slot (at.index + 1)) put ∙ before_set read at.index t old at.slot slot new there within is;
+            behind = ap (λ xs. lines_from read xs at.slot (at.index + 1)) put ∙ behind_set read at.index t old at.slot slot new there is;
+          }),
     )
 
 pub no_slot_ended : (newline : List ℕ) (texts : Texts) (read : Read) (at : Position) (old : List Slot) → length old ≤ at.slot → EndsSlots newline texts read at old old
-no_slot_ended newline texts read at old past kept = (
-  kept,
-  λ s e. absurd (none-some s (sym (ap (option_and_then (λ (x : Slot). slice_get (slot_standing read x) at.index)) (slice_get_past old at.slot past)) ∙ e)),
-)
+no_slot_ended newline texts read at old past kept = (kept, λ s e. absurd (no_line read old at s (slice_get_past old at.slot past) e))
 
 -- a line that stays
 before_next : (read : Read) (old : List Slot) (k i : ℕ) (slot : Slot) (s : Standing) → slice_get old k ≡ Some slot → slice_get (slot_standing read slot) i ≡ Some s
@@ -184,11 +126,9 @@ before_next read (x ∷ xs) (suc k) i slot s there at =
     ap (λ r. slot_standing read x ++ r) (before_next read xs k i slot s there at) ∙ sym (append_assoc (slot_standing read x) (lines_before read xs k i) (s ∷ []))
 
 pub stays_so : (read : Read) (at : Position) (old : List Slot) (s : Standing) → line_at read old at ≡ Some s → Becomes read at old old s
-stays_so read at old s e = by (slice_get old at.slot) refl e
-  where
-    by : (o : Option Slot) → slice_get old at.slot ≡ o → option_and_then (λ (x : Slot). slice_get (slot_standing read x) at.index) o ≡ Some s → Becomes read at old old s
-    by None there e = cc
-    by (Some slot) there e = record { count = refl; before = before_next read old at.slot at.index slot s there e; behind = refl }
+stays_so read at old s e =
+    let (slot, there, own) = slot_of read old at s e in
+    record { count = refl; before = before_next read old at.slot at.index slot s there own; behind = refl }
 
 -- ---- a line is put in
 
@@ -228,9 +168,8 @@ slots_put read i t (x ∷ xs) (suc k) slot new there is =
 pub at_put : (read : Read) (at : Position) (l : Line) (old now : List Slot) (slot new : Slot) → at.slot < length old → slot ≡ get_or old at.slot slot
     → now ≡ set old at.slot new → PutsSlot read at.index l slot new → PutsSlots read at l old now
 at_put read at l old now slot new low is put puts within text kept kept_line =
-    let there : slice_get old at.slot ≡ Some slot = slice_get-get_or old at.slot slot low ∙ ap Some (sym is) in
-    let (kept_now, stands) = puts text (each_get (SlotKept text read) old at.slot slot kept there) kept_line in (
-      subst (EachIs (SlotKept text read)) (sym put) (each_set (SlotKept text read) old at.slot new kept kept_now),
+    let (there, kept_now, stands) = slot_changed (SlotKept text read) at.slot old now slot new low is put kept (λ k. puts text k kept_line) in (
+      kept_now,
       ap (slots_standing read) put ∙ slots_put read at.index (line_standing read l) old at.slot slot new there stands,
     )
 
@@ -265,11 +204,7 @@ line_behind_is name v style s [] = refl
 line_behind_is name v style s (x ∷ xs) = refl
 
 slot_there : (read : Read) (old : List Slot) (at : Position) (s : Standing) → line_at read old at ≡ Some s → at.slot < length old
-slot_there read old at s e = by (slice_get old at.slot) refl e
-  where
-    by : (o : Option Slot) → slice_get old at.slot ≡ o → option_and_then (λ (x : Slot). slice_get (slot_standing read x) at.index) o ≡ Some s → at.slot < length old
-    by None there e = cc
-    by (Some slot) there e = slice_get_within old at.slot slot there
+slot_there read old at s e = let (slot, there, own) = slot_of read old at s e in slice_get_within old at.slot slot there
 
 pub puts_behind : (own : Address) (base : ℕ) (steps : List (String Global)) (v : ValueOutline) (style : List ℕ) (texts : Texts) (read : Read) (place next : Position)
     (old mid now : List Slot) (newline : List ℕ) (l : Line) → EndsBefore style texts read place old mid newline → IsRootLine own base steps v newline l

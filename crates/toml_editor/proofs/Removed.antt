@@ -1,11 +1,9 @@
 -- What is left of lines of the working tree that are taken out.
-use Rattle.std.proofs.Common.{◌≡◌, ◌∙◌, ℕ, ◌==◌, ◌<◌, ◌≤◌, Bool, true, false, cond, List, [], ◌∷◌, ◌++◌, length, get_or, map, set, Option, Some, None, refl, ap, ap₂, sym, subst, append_assoc, append-nil, true≢false}
-use Rattle.std.specs.Prelude.{slice_get, MatchOption}
+use Rattle.std.proofs.Common.{◌≡◌, ◌∙◌, ℕ, ◌==◌, Bool, true, false, cond, List, [], ◌∷◌, ◌++◌, length, map, Option, Some, None, refl, ap, ap₂, sym, subst, append_assoc, append-nil, true≢false}
 use Rattle.std.specs.declared.alloc.Global.{Global}
 use Rattle.std.specs.declared.vec.Vec.{Vec}
 use Rattle.std.proofs.lemmas.Bool.{eqb-true, false_from_ne_true}
 use Rattle.std.proofs.lemmas.List.{map-append, nil_from_length}
-use Rattle.std.proofs.lemmas.Option.{slice_get-get_or, slice_get_past}
 use Rattle.toml_names.specs.model.Addresses.{Address}
 use Rattle.toml_units.specs.declared.unit.Unit.{Unit as ReadUnit}
 use Rattle.toml_editor.specs.declared.lines.Line.{Line}
@@ -15,10 +13,10 @@ use Rattle.toml_editor.specs.OpeningLines.{HasOutline, alone}
 use Rattle.toml_editor.specs.Outlines.{Nothing}
 use Rattle.toml_editor.specs.Putting.{LineIsLast}
 use Rattle.toml_editor.specs.RemoveStanding.{empty_standing, left_standing, without, without_one}
-use Rattle.toml_editor.specs.RemovingIn.{LeavesBehind, LeavesLines, LeavesOf, LeavesSlot, LeavesSlots, lines_of}
+use Rattle.toml_editor.specs.RemovingIn.{LeavesBehind, LeavesLines, LeavesOf, LeavesSlot, lines_of}
 use Rattle.toml_editor.specs.Standing.{Standing, body_outline, is_below, lies_below, line_standing}
 use Rattle.toml_editor.specs.Stands.{BodyKept, OpensSlot}
-use Rattle.toml_editor.proofs.Changed.{opened_kept, opened_standing}
+use Rattle.toml_editor.proofs.Turned.{opened_kept, opened_standing}
 use Rattle.toml_editor.proofs.Each.{each_append, each_back, each_front}
 
 -- a last line leaves one of no bytes,
@@ -60,9 +58,9 @@ without_append test (x ∷ xs) ys =
     ap (λ r. without_one test x ++ r) (without_append test xs ys) ∙ sym (append_assoc (without_one test x) (without test xs) (without test ys))
 
 -- one line more
-pub more_left : (p : Address) (old now : List Line) (l : Line) (left : Option Line) → LeavesLines p old now → LeavesOf p l left
+more_lines : (p : Address) (old now : List Line) (l : Line) (left : Option Line) → LeavesLines p old now → LeavesOf p l left
     → LeavesLines p (old ++ l ∷ []) (now ++ lines_of left)
-more_left p old now l left so_far here text read kept =
+more_lines p old now l left so_far here text read kept =
     let f = line_standing read in
     let P : Line → Type 0 = λ x. BodyKept text read x.body in
     let (kept_now, is) = so_far text read (each_front P old (l ∷ []) kept) in
@@ -74,6 +72,10 @@ more_left p old now l left so_far here text read kept =
           ∙ sym (without_append (is_below p) (map f old) (f l ∷ [])) ∙ ap (without (is_below p)) (sym (map-append f old (l ∷ []))),
     )
 
+pub more_left : (p : Address) (old now new : List Line) (l : Line) (left : Option Line) → LeavesLines p old now → LeavesOf p l left → now ++ lines_of left ≡ new
+    → LeavesLines p (old ++ l ∷ []) new
+more_left p old now new l left so_far here is = subst (LeavesLines p (old ++ l ∷ [])) is (more_lines p old now l left so_far here)
+
 -- the lines of a slot
 pub slot_leaves : (p : Address) (units : List ReadUnit) (old mid : Slot) (lines made : Vec Line Global) → OpensSlot units old mid → mid ≡ slots.Lines lines
     → LeavesLines p lines.items made.items → LeavesSlot p units old (slots.Lines made)
@@ -81,14 +83,3 @@ slot_leaves p units old mid lines made opens is leaves text read same kept =
     let opened : OpensSlot read.units old mid = subst (λ us. OpensSlot us old mid) (sym same) opens in
     let (kept_now, left) = leaves text read (opened_kept text read old mid lines opened is kept) in
     (kept_now, left ∙ ap (without (is_below p)) (opened_standing read old mid lines opened is))
-
--- those of one slot
-pub slots_leave : (p : Address) (units : List ReadUnit) (slot : ℕ) (old now : List Slot) (s t : Slot) → slot < length old → s ≡ get_or old slot s
-    → now ≡ set old slot t → LeavesSlot p units s t → LeavesSlots p units slot old now
-slots_leave p units slot old now s t low is put leaves =
-    let there : Some s ≡ slice_get old slot = ap Some is ∙ sym (slice_get-get_or old slot s low) in
-    subst (λ o. MatchOption o (now ≡ old) (λ x. (y : Slot) × (now ≡ set old slot y) × LeavesSlot p units x y)) there (t, put, leaves)
-
-pub no_slot_leaves : (p : Address) (units : List ReadUnit) (slot : ℕ) (old : List Slot) → length old ≤ slot → LeavesSlots p units slot old old
-no_slot_leaves p units slot old past =
-    subst (λ o. MatchOption o (old ≡ old) (λ x. (y : Slot) × (old ≡ set old slot y) × LeavesSlot p units x y)) (sym (slice_get_past old slot past)) refl

@@ -1,7 +1,7 @@
 -- The line that a `remove` at the root takes out: no other stands at the address or below it.
 use Rattle.std.proofs.Common.{◌≡◌, ◌∙◌, ℕ, ◌<◌, Bool, true, false, cond, ◌||◌, List, [], ◌∷◌, ◌++◌, length, set, Option, Some, None, refl, ap, ap₂, sym, subst, arith, true≢false, append_assoc}
 use Rattle.std.specs.List.{list_any}
-use Rattle.std.specs.Prelude.{option_and_then, option_map, slice_get, MatchOption, Result, Ok, Err, OnOk}
+use Rattle.std.specs.Prelude.{slice_get}
 use Rattle.std.proofs.lemmas.List.Folds.{list_any-append}
 use Rattle.toml_names.proofs.Proved.{same_address-decides}
 use Rattle.toml_names.specs.model.Addresses.{Address}
@@ -18,8 +18,9 @@ use Rattle.toml_editor.specs.Standing.{Standing, Read, StandAlone, begins, cover
 use Rattle.toml_editor.specs.Stands.{KeepsRest, SlotKept}
 use Rattle.toml_editor.proofs.Beginning.{begins_self}
 use Rattle.toml_editor.proofs.Alone.{item_split, slot_split, split_within}
-use Rattle.toml_editor.proofs.Changed.{each_set}
-use Rattle.toml_editor.proofs.Each.{each_back, each_front, each_get, each_weaker}
+use Rattle.toml_editor.proofs.AtPlace.{holder_at}
+use Rattle.toml_editor.proofs.Each.{each_back, each_front, each_get, each_set, each_weaker}
+use Rattle.toml_editor.proofs.Turned.{one_turned}
 use Rattle.toml_editor.proofs.written.Pairwise.{PairsAre, pairs_of_all}
 
 -- the address of a pair's line
@@ -102,21 +103,6 @@ one_goes test (x ∷ front) s back none here rest =
 regrouped : (before front left back behind : List Standing) → before ++ ((front ++ (left ++ back)) ++ behind) ≡ (before ++ front) ++ (left ++ (back ++ behind))
 regrouped before front left back behind = simp append_assoc
 
--- a line at a place that is sought there, and its slot
-sought_parts : (p : Address) (read : Read) (slots : List Slot) (at : Position) → IsSoughtAt kinds.Holder p read slots at
-    → (slot : Slot) × (s : Standing) × (slice_get slots at.slot ≡ Some slot) × (slice_get (slot_standing read slot) at.index ≡ Some s) × (holds p s ≡ true)
-sought_parts p read slots at found = by (slice_get slots at.slot) refl found
-  where
-    in_slot : (slot : Slot) → slice_get slots at.slot ≡ Some slot → (o : Option Standing) → slice_get (slot_standing read slot) at.index ≡ o → option_map (holds p) o ≡ Some true
-        → (slot : Slot) × (s : Standing) × (slice_get slots at.slot ≡ Some slot) × (slice_get (slot_standing read slot) at.index ≡ Some s) × (holds p s ≡ true)
-    in_slot slot there None is h = cc
-    in_slot slot there (Some s) is h = (slot, s, there, is, (let e : holds p s ≡ true = cc in e))
-
-    by : (o : Option Slot) → slice_get slots at.slot ≡ o → option_map (holds p) (option_and_then (λ (x : Slot). slice_get (slot_standing read x) at.index) o) ≡ Some true
-        → (slot : Slot) × (s : Standing) × (slice_get slots at.slot ≡ Some slot) × (slice_get (slot_standing read slot) at.index ≡ Some s) × (holds p s ≡ true)
-    by None there h = cc
-    by (Some slot) there h = in_slot slot there (slice_get (slot_standing read slot) at.index) refl h
-
 -- the line at the place is the pair's, and the lines around it stand elsewhere
 record IsPlaced (p : Address) (read : Read) (slots : List Slot) (at : Position) (ss : List Standing) : Type 0 where
   slot : Slot
@@ -137,7 +123,7 @@ record IsPlaced (p : Address) (read : Read) (slots : List Slot) (at : Position) 
 is_placed : (p : Address) (read : Read) (slots : List Slot) (at : Position) (ss : List Standing) → IsSoughtAt kinds.Holder p read slots at
     → slots_standing read slots ≡ ss → StandAlone ss → list_any (is_pair p) ss ≡ true → IsPlaced p read slots at ss
 is_placed p read slots at ss found are alone there =
-    let (slot, s, slot_is, line_is, leads) = sought_parts p read slots at found in
+    let (slot, s, slot_is, placed, line_is, leads) = holder_at read slots at p found in
     let (before, behind, split, set_to) = slot_split read slots at.slot slot slot_is in
     let (front, back, own, new) = item_split (slot_standing read slot) at.index s line_is in
     let all = sym are ∙ split_within before front s back behind (slot_standing read slot) (slots_standing read slots) split own in
@@ -152,7 +138,7 @@ is_placed p read slots at ss found are alone there =
       back = back;
       behind = behind;
       there = slot_is;
-      placed = ap (option_and_then (λ (x : Slot). slice_get (slot_standing read x) at.index)) slot_is ∙ line_is;
+      placed = placed;
       own = own;
       set_to = set_to;
       all = all;
@@ -179,7 +165,7 @@ pub holder_goes : (p : Address) (read : Read) (old now : Tree) (at : Position) �
 holder_goes p read old now at rest leaves found one ss stands ordered there =
     let text = text_of old.texts.source in
     let h = is_placed p read old.slots.items at ss found stands.are ordered.alone there in
-    let (t, put, left) = subst (λ o. MatchOption o (now.slots.items ≡ old.slots.items) (λ s. (t : Slot) × (now.slots.items ≡ set old.slots.items at.slot t) × LeavesSlot p read.units s t)) h.there (leaves one) in
+    let (t, put, left) = one_turned (LeavesSlot p read.units) at.slot old.slots.items now.slots.items h.slot h.there (leaves one) in
     let (kept, is) = left text read refl (each_get (SlotKept text read) old.slots.items at.slot h.slot stands.kept h.there) in (
       rest,
       record {
@@ -211,13 +197,8 @@ any_holds p (s ∷ ss) there none = by (is_pair p s) refl there none (any_holds 
     by false is h k rest = rest h (later (holds p s) k)
 
 -- where none does, no such edit is made
-none_goes : (p : Address) (read : Read) (old now : Tree) → HoldsNone p read.units old.slots.items → RemovesLines p read old now
+pub none_goes : (p : Address) (read : Read) (old now : Tree) → HoldsNone p read.units old.slots.items → RemovesLines p read old now
 none_goes p read old now none one ss stands ordered there =
     let not_root : ¬ (p ≡ []) = λ is. let e : length p ≡ 0 = ap length is in absurd (omega arith) in
     let all = none not_root read.lines (subst StandAlone (sym stands.are) ordered.alone) in
     absurd (any_holds p ss there (subst (λ xs. list_any (holds p) xs ≡ false) stands.are all))
-
-pub none_is_made : {A E : Type 0} (r : Result A E) (p : Address) (read : Read) (old now : Tree) → HoldsNone p read.units old.slots.items
-    → OnOk r (RemovesLines p read old now)
-none_is_made (Ok x) p read old now none = none_goes p read old now none
-none_is_made (Err e) p read old now none = tt

@@ -11,7 +11,7 @@ use Rattle.toml_names.specs.model.Addresses.{Address, same_step, is_above, below
 use Rattle.toml_names.proofs.Proved.{above_is_above, same_step-equal, same_step-self}
 use Rattle.toml_editor.specs.Outlines.{AssignOutline, ValueOutline, Pair}
 use Rattle.toml_editor.specs.RenameOutlines.{rename_outlined, rename_outline}
-use Rattle.toml_editor.specs.RenameStanding.{less, own_part_with}
+use Rattle.toml_editor.specs.RenameStanding.{minus, own_part_with}
 use Rattle.toml_editor.specs.RenamingIn.{reaches, part_with}
 use Rattle.toml_editor.specs.SetOutlines.{outlined_names}
 use Rattle.toml_editor.specs.Standing.{begins}
@@ -46,16 +46,16 @@ short (t ∷ p) (s ∷ at) m h k =
     let later = short p at m rest (sym (ap (λ c. c && is_above at p) (step_other s t ∙ same)) ∙ k) in
     omega (arith, later)
 
-pub less_none : (n m : ℕ) → n < m → less n m ≡ None
-less_none n m h = let e : nat_lt n m ≡ true = grind (arith, nat_tests) in ap (λ b. cond b None (Some (n - m))) e
+pub minus_none : (n m : ℕ) → n < m → minus n m ≡ None
+minus_none n m h = let e : nat_lt n m ≡ true = grind (arith, nat_tests) in ap (λ b. cond b None (Some (n - m))) e
 
-pub less_some : (n m : ℕ) → m ≤ n → less n m ≡ Some (n - m)
-less_some n m h = let e : nat_lt n m ≡ false = grind (arith, nat_tests) in ap (λ b. cond b None (Some (n - m))) e
+pub minus_some : (n m : ℕ) → m ≤ n → minus n m ≡ Some (n - m)
+minus_some n m h = let e : nat_lt n m ≡ false = grind (arith, nat_tests) in ap (λ b. cond b None (Some (n - m))) e
 
 -- the key and the value of a line whose key stands in the table at the first address, and its value at the second
 pub pair_renamed : (p at : Address) (text : List ℕ) (a : AssignOutline) (v : ValueOutline)
     → Pair (rename_outlined p text at a) (rename_outline p text (below at (outlined_names a)) v)
-    ≡ cond (begins p (below at (outlined_names a))) (own_part_with (less (length p) (length at + 1)) text (Pair a v))
+    ≡ cond (begins p (below at (outlined_names a))) (own_part_with (minus (length p) (length at + 1)) text (Pair a v))
     (Pair a (rename_outline p text (below at (outlined_names a)) v))
 pair_renamed p at text a v = by (begins p there) (is_above at p) refl refl
   where
@@ -81,24 +81,24 @@ pair_renamed p at text a v = by (begins p there) (is_above at p) refl refl
         (names_begin (outlined_names a) (s ∷ steps) ∙ sym (begins_behind at (s ∷ steps) (map Name (outlined_names a))) ∙ ap (λ q. begins q there) (sym is))
 
     by : (b c : Bool) → begins p there ≡ b → is_above at p ≡ c
-        → Pair (rename_outlined p text at a) new ≡ cond (begins p there) (own_part_with (less (length p) (length at + 1)) text (Pair a v)) (Pair a new)
+        → Pair (rename_outlined p text at a) new ≡ cond (begins p there) (own_part_with (minus (length p) (length at + 1)) text (Pair a v)) (Pair a new)
     by false false h k =
         ap (λ k. Pair k new) (key_kept p text a at k)
-        ∙ sym (ap (λ b. cond b (own_part_with (less (length p) (length at + 1)) text (Pair a v)) (Pair a new)) h)
+        ∙ sym (ap (λ b. cond b (own_part_with (minus (length p) (length at + 1)) text (Pair a v)) (Pair a new)) h)
     by false true h k =
         let (s, steps, is) = (above_is_above at p).0 k in
         ap (λ k. Pair k new) (on s steps is ∙ ap (λ b. cond b (part_with (length (s ∷ steps) - 1) text a) a) h)
-        ∙ sym (ap (λ b. cond b (own_part_with (less (length p) (length at + 1)) text (Pair a v)) (Pair a new)) h)
+        ∙ sym (ap (λ b. cond b (own_part_with (minus (length p) (length at + 1)) text (Pair a v)) (Pair a new)) h)
     by true false h k =
         let low = short p at (map Name (outlined_names a)) h k in
         ap₂ Pair (key_kept p text a at k) (value h)
-        ∙ ap (λ o. own_part_with o text (Pair a v)) (sym (less_none (length p) (length at + 1) (omega (arith, low))))
-        ∙ sym (ap (λ b. cond b (own_part_with (less (length p) (length at + 1)) text (Pair a v)) (Pair a new)) h)
+        ∙ ap (λ o. own_part_with o text (Pair a v)) (sym (minus_none (length p) (length at + 1) (omega (arith, low))))
+        ∙ sym (ap (λ b. cond b (own_part_with (minus (length p) (length at + 1)) text (Pair a v)) (Pair a new)) h)
     by true true h k =
         let (s, steps, is) = (above_is_above at p).0 k in
         let size : length p ≡ length at + length (s ∷ steps) = ap (λ (q : Address). length q) is ∙ length-append at (s ∷ steps) in
         let number : length p - (length at + 1) ≡ length (s ∷ steps) - 1 = omega (arith, size) in
         ap₂ Pair (on s steps is ∙ ap (λ b. cond b (part_with (length (s ∷ steps) - 1) text a) a) h) (value h)
         ∙ ap (λ i. Pair (part_with i text a) v) (sym number)
-        ∙ ap (λ o. own_part_with o text (Pair a v)) (sym (less_some (length p) (length at + 1) (omega (arith, size))))
-        ∙ sym (ap (λ b. cond b (own_part_with (less (length p) (length at + 1)) text (Pair a v)) (Pair a new)) h)
+        ∙ ap (λ o. own_part_with o text (Pair a v)) (sym (minus_some (length p) (length at + 1) (omega (arith, size))))
+        ∙ sym (ap (λ b. cond b (own_part_with (minus (length p) (length at + 1)) text (Pair a v)) (Pair a new)) h)

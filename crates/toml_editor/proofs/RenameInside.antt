@@ -18,6 +18,7 @@ use Rattle.toml_editor.specs.RenameOutlines.{rename_text, rename_dotted, rename_
 use Rattle.toml_editor.specs.RenamingIn.{reaches, dotted_with, part_with, key_with, pairs_with, KeysRenamed, RenamesIn, RenamesEntry}
 use Rattle.toml_editor.specs.SetOutlines.{outlined_names}
 use Rattle.toml_editor.specs.Standing.{begins}
+use Rattle.toml_editor.proofs.Beginning.{still_off}
 use Rattle.toml_editor.proofs.Each.{each_weaker}
 use Rattle.toml_editor.proofs.SetInside.{apart_in, has_value, index_on, key_each, led_at, led_on, not_both, not_led}
 use Rattle.toml_editor.proofs.written.Clear.{above_true, differ}
@@ -33,11 +34,7 @@ pub above_more : (a b p : Address) → is_above a p ≡ false → is_above (a ++
 above_more [] b [] off = nothing_above b
 above_more [] b (t ∷ p) off = absurd (true≢false off)
 above_more (s ∷ a) b [] off = refl
-above_more (s ∷ a) b (t ∷ p) off = by (same_step s t) (above_more a b p) off
-  where
-    by : (c : Bool) → (is_above a p ≡ false → is_above (a ++ b) p ≡ false) → (c && is_above a p) ≡ false → (c && is_above (a ++ b) p) ≡ false
-    by true later off = later off
-    by false later off = refl
+above_more (s ∷ a) b (t ∷ p) off = still_off (same_step s t) (is_above a p) (is_above (a ++ b) p) (above_more a b p) off
 
 -- what follows the same steps
 pub above_behind : (at a b : Address) → is_above (at ++ a) (at ++ b) ≡ is_above a b
@@ -324,15 +321,21 @@ list_renamed steps i text old now first renames apart at = by (value_in old.entr
         ap₂ Listed (ap (λ e. e.opening) same)
         (ap (λ e. e.entries) same ∙ sym (element_renamed (at ++ steps) text at (drop 1 steps) i is old.entries 0 i v w (omega arith) has own))
 
-pub table_keys_renamed : (parent : Address) (last : Step) (text : List ℕ) (old now : Enclosed) → LeadsOn old.entries parent None → KeysRenamed (parent ++ last ∷ []) text old now
+keys_renamed : (parent : Address) (last : Step) (text : List ℕ) (old now : Enclosed) → LeadsOn old.entries parent None → KeysRenamed (parent ++ last ∷ []) text old now
     → RenamesIn (parent ++ last ∷ []) text (Braced old.opening old.entries) (Braced now.opening now.entries)
-table_keys_renamed parent last text old now none same apart at =
+keys_renamed parent last text old now none same apart at =
     ap₂ Braced (ap (λ e. e.opening) same) (ap (λ e. e.entries) same
     ∙ sym (pairs_renamed text at parent last old.entries (λ i k key. not_led k parent (ap (λ o. led_by o parent) (sym key) ∙ none i))))
 
-pub table_renamed : (parent : Address) (last : Step) (i used : ℕ) (text : List ℕ) (old now : Enclosed) → LeadsOn old.entries parent (Some (i, used))
+pub table_keys_renamed : (whole parent : Address) (last : Step) (text : List ℕ) (old now : Enclosed) → whole ≡ parent ++ last ∷ [] → LeadsOn old.entries parent None
+    → KeysRenamed whole text old now → RenamesIn whole text (Braced old.opening old.entries) (Braced now.opening now.entries)
+table_keys_renamed whole parent last text old now split none =
+    subst (λ s. KeysRenamed s text old now → RenamesIn s text (Braced old.opening old.entries) (Braced now.opening now.entries)) (sym split)
+    (keys_renamed parent last text old now none)
+
+entry_renamed : (parent : Address) (last : Step) (i used : ℕ) (text : List ℕ) (old now : Enclosed) → LeadsOn old.entries parent (Some (i, used))
     → RenamesEntry i (drop used (parent ++ last ∷ [])) text old now → RenamesIn (parent ++ last ∷ []) text (Braced old.opening old.entries) (Braced now.opening now.entries)
-table_renamed parent last i used text old now leading renames apart at =
+entry_renamed parent last i used text old now leading renames apart at =
     let all = parent ++ last ∷ [] in
     let (k, key, long, led) = led_at (key_in old.entries i) parent used leading in
     let (v, has) = has_value old.entries i k key in
@@ -348,3 +351,10 @@ table_renamed parent last i used text old now leading renames apart at =
     leads_longer (n ∷ k) (t ∷ parent) last led =
         let (here, behind) = and_parts (same_step (Name n) t) (leads k parent) led in
         and_from (same_step (Name n) t) (leads k (parent ++ last ∷ [])) here (leads_longer k parent last behind)
+
+pub table_renamed : (whole parent : Address) (last : Step) (i used : ℕ) (text : List ℕ) (old now : Enclosed) → whole ≡ parent ++ last ∷ []
+    → LeadsOn old.entries parent (Some (i, used)) → RenamesEntry i (drop used whole) text old now
+    → RenamesIn whole text (Braced old.opening old.entries) (Braced now.opening now.entries)
+table_renamed whole parent last i used text old now split leading =
+    subst (λ s. RenamesEntry i (drop used s) text old now → RenamesIn s text (Braced old.opening old.entries) (Braced now.opening now.entries)) (sym split)
+    (entry_renamed parent last i used text old now leading)

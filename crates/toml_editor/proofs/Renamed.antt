@@ -20,7 +20,7 @@ use Rattle.toml_editor.specs.Outlines.{LineOutline}
 use Rattle.toml_editor.specs.RenameStanding.{names_in, line_part_with, part_number, rename_below, rename_own, renamed_address}
 use Rattle.toml_editor.specs.Standing.{Standing, Read, body_outline, is_below, lies_below, line_standing, slot_standing}
 use Rattle.toml_editor.specs.Stands.{BodyKept, OpensSlot}
-use Rattle.toml_editor.proofs.Changed.{opened_kept, opened_standing}
+use Rattle.toml_editor.proofs.Turned.{opened_kept, opened_standing}
 
 -- ---- the names among steps
 

@@ -1,10 +1,9 @@
 -- A `rename` on the lines of the working tree.
-use Rattle.std.proofs.Common.{◌≡◌, ◌∙◌, ℕ, ◌<◌, ◌≤◌, Bool, true, false, cond, ◌&&◌, ◌||◌, List, [], ◌∷◌, ◌++◌, length, get_or, map, set, All, Option, Some, None, refl, ap, ap₂, sym, subst, arith}
+use Rattle.std.proofs.Common.{◌≡◌, ◌∙◌, ℕ, ◌<◌, ◌≤◌, Bool, true, false, cond, ◌&&◌, ◌||◌, List, [], ◌∷◌, ◌++◌, length, map, All, Option, Some, None, refl, ap, ap₂, sym, subst, arith}
 use Rattle.std.proofs.lemmas.Bool.{false≢true}
 use Rattle.std.proofs.lemmas.List.{map-append}
-use Rattle.std.proofs.lemmas.Option.{same_Some, slice_get-get_or, slice_get_past}
 use Rattle.std.specs.List.{list_any}
-use Rattle.std.specs.Prelude.{option_and_then, option_map, slice_get, MatchOption}
+use Rattle.std.specs.Prelude.{option_map}
 use Rattle.std.specs.Borrow.{Bor}
 use Rattle.toml_names.specs.model.Addresses.{Address, same_step, is_above}
 use Rattle.toml_text.specs.Source.{text_of}
@@ -17,30 +16,22 @@ use Rattle.toml_editor.specs.Becoming.{RenamesLines, SlotAtBecomes, SlotBecomes,
 use Rattle.toml_editor.specs.Changing.{ChangesSlots}
 use Rattle.toml_editor.specs.Outlines as outline
 use Rattle.toml_editor.specs.Outlines.{ExprOutline, LineOutline}
-use Rattle.toml_editor.specs.RenameStanding.{rename_below, rename_expr_outline, rename_inside, rename_outline_of, rename_own, rename_standing}
+use Rattle.toml_editor.specs.RenameStanding.{rename_below, rename_inside, rename_outline_of, rename_own, rename_standing}
+use Rattle.toml_editor.specs.RenameOutlines.{rename_outline}
 use Rattle.toml_editor.specs.Seeing.{HoldsNone, line_at, steps_of, steps_to}
-use Rattle.toml_editor.specs.Standing.{Standing, Read, IsApart, StandAlone, begins, covers, covers_at, holds, is_below, leads_to, lies_below, slot_standing, slots_standing}
-use Rattle.toml_editor.specs.Stands.{SlotKept, Stands}
+use Rattle.toml_editor.specs.Standing.{Standing, Read, IsApart, StandAlone, begins, covers, covers_at, holds, is_below, leads_to, lies_below, slot_standing, slots_standing, with_value_outline}
+use Rattle.toml_editor.specs.Stands.{SlotKept}
 use Rattle.std.proofs.lemmas.Bool.{and_parts}
 use Rattle.toml_editor.proofs.Alone.{above_begins, begins_through, item_split, slot_split, split_within}
-use Rattle.toml_editor.proofs.Changed.{each_set}
-use Rattle.toml_editor.proofs.Each.{each_back, each_front, each_get, each_weaker}
+use Rattle.toml_editor.proofs.AtPlace.{holder_at}
+use Rattle.toml_editor.proofs.Each.{each_back, each_front, each_get, each_set, each_weaker}
 use Rattle.toml_editor.proofs.RenameAway.{step_other}
 use Rattle.toml_editor.proofs.RenameInside.{value_kept}
 use Rattle.toml_editor.proofs.SetAway.{one_is_apart, others_before}
+use Rattle.toml_editor.proofs.Turned.{one_turned}
 use Rattle.toml_editor.proofs.written.Pairwise.{PairsAre, pairs_of_all}
 
 -- ---- slots
-
-pub slot_at_becomes : (texts : Texts) (read : Read) (f : Standing → Standing) (i : ℕ) (old now : List Slot) (slot new : Slot) → i < length old → slot ≡ get_or old i slot
-    → now ≡ set old i new → SlotBecomes texts read f slot new → SlotAtBecomes texts read f i old now
-slot_at_becomes texts read f i old now slot new low is put becomes =
-    let there : Some slot ≡ slice_get old i = ap Some is ∙ sym (slice_get-get_or old i slot low) in
-    subst (λ o. MatchOption o (now ≡ old) (λ s. (t : Slot) × (now ≡ set old i t) × SlotBecomes texts read f s t)) there (new, put, becomes)
-
-pub no_slot_becomes : (texts : Texts) (read : Read) (f : Standing → Standing) (i : ℕ) (old : List Slot) → length old ≤ i → SlotAtBecomes texts read f i old old
-no_slot_becomes texts read f i old past =
-    subst (λ o. MatchOption o (old ≡ old) (λ s. (t : Slot) × (old ≡ set old i t) × SlotBecomes texts read f s t)) (sym (slice_get_past old i past)) refl
 
 slots_become : (texts : Texts) (read : Read) (f : Standing → Standing) (old now : List Slot) → SlotsBecome texts read f old now → EachIs (SlotKept (text_of texts.source) read) old
     → EachIs (SlotKept (text_of texts.source) read) now × (slots_standing read now ≡ map f (slots_standing read old))
@@ -70,7 +61,7 @@ module _ (p : Address) (to spelled : List ℕ) where
   all = rename_standing p to spelled
 
   -- a line that does not hold what stands at the address, or not strictly above it
-  expr_stays : (at : Address) (e : ExprOutline) → is_above at p ≡ false → rename_expr_outline p spelled at e ≡ e
+  expr_stays : (at : Address) (e : ExprOutline) → is_above at p ≡ false → with_value_outline (rename_outline p spelled at) e ≡ e
   expr_stays at outline.Nothing h = refl
   expr_stays at (outline.Pair a v) h = ap (outline.Pair a) (value_kept p spelled v at h)
   expr_stays at (outline.Header opening before first rest after closing) h = refl
@@ -195,59 +186,46 @@ module _ (p : Address) (to spelled : List ℕ) where
         record { kept = kept; are = are ∙ sym (all_as_below (slots_standing read old) off) ∙ ap (map all) stands.are }
 
     -- the value of a line is what stands there: no other line is at the address or below it
-    pub one_is_it : (at : Position) → option_map (holds p) (line_at read old at) ≡ Some true → length p ≤ steps_of (line_at read old at) → SlotAtBecomes texts read below at.slot old now
-        → RenamesLines p to spelled (text_of texts.source) read old now
-    one_is_it at found low becomes not_root ss stands ordered = by_slot (slice_get old at.slot) refl found low becomes
-      where
-        Kept : List Slot → Type 0
-        Kept = EachIs (SlotKept (text_of texts.source) read)
-
-        by_slot : (o : Option Slot) → slice_get old at.slot ≡ o → option_map (holds p) (option_and_then (λ (x : Slot). slice_get (slot_standing read x) at.index) o) ≡ Some true
-            → length p ≤ steps_of (option_and_then (λ (x : Slot). slice_get (slot_standing read x) at.index) o)
-            → MatchOption o (now ≡ old) (λ s. (t : Slot) × (now ≡ set old at.slot t) × SlotBecomes texts read below s t)
-            → Stands (text_of texts.source) read now (map all ss)
-        by_slot None there e long made = cc
-        by_slot (Some slot) there e long (new, put, one) = by_line (slice_get (slot_standing read slot) at.index) refl e long
-          where
-            by_line : (o : Option Standing) → slice_get (slot_standing read slot) at.index ≡ o → option_map (holds p) o ≡ Some true → length p ≤ steps_of o → Stands (text_of texts.source) read now (map all ss)
-            by_line None is h far = cc
-            by_line (Some s) is h far =
-                let here : holds p s ≡ true = same_Some (holds p s) true h in
-                let (kept_new, becomes_new) = one (each_get (SlotKept (text_of texts.source) read) old at.slot slot stands.kept there) in
-                let (before, behind, outer, set_to) = slot_split read old at.slot slot there in
-                let (front, back, inner, other) = item_split (slot_standing read slot) at.index s is in
-                let split = sym stands.are ∙ split_within before front s back behind (slot_standing read slot) (slots_standing read old) outer inner in
-                let alone = subst (λ xs. StandAlone xs) split ordered.alone in
-                let (off_front, off_back) = others_not_below (before ++ front) s (back ++ behind) here (pairs_of_all Apart ((before ++ front) ++ s ∷ (back ++ behind)) alone) in
-                let it : below s ≡ all s = let b = holder_below s.base s.address here far in ap (λ c. cond c (own s) s) b ∙ sym (ap (λ c. cond c (own s) (rename_inside p spelled s)) b) in
-                let own_new : slot_standing read new ≡ front ++ all s ∷ back =
-                becomes_new ∙ ap (map below) inner ∙ map-append below front (s ∷ back)
-                ∙ ap₂ (λ xs ys. xs ++ below s ∷ ys) (all_below_stay front (each_back NotBelow before front off_front)) (all_below_stay back (each_front NotBelow back behind off_back))
-                ∙ ap (λ x. front ++ x ∷ back) it in
-                record {
-                  kept = subst Kept (sym put) (each_set (SlotKept (text_of texts.source) read) old at.slot new stands.kept kept_new);
-                  are = split_within before front (all s) back behind (slot_standing read new) (slots_standing read now) (ap (slots_standing read) put ∙ set_to new) own_new
-                      ∙ sym (around (before ++ front) s (back ++ behind) here alone) ∙ ap (map all) (sym split);
-                }
+    pub one_is_it : (at : Position) (steps size : ℕ) → option_map (holds p) (line_at read old at) ≡ Some true → steps ≡ steps_of (line_at read old at) → size ≡ length p → size ≤ steps
+        → SlotAtBecomes texts read below at.slot old now → RenamesLines p to spelled (text_of texts.source) read old now
+    one_is_it at steps size found is_depth is_size low becomes not_root ss stands ordered =
+        let (slot, s, there, line, is, here) = holder_at read old at p found in
+        let (new, put, one) = one_turned (SlotBecomes texts read below) at.slot old now slot there becomes in
+        let is_far : steps ≡ steps_to s.address = is_depth ∙ ap steps_of line in
+        let far : length p ≤ steps_to s.address = omega (arith, is_far, is_size, low) in
+        let (kept_new, becomes_new) = one (each_get (SlotKept (text_of texts.source) read) old at.slot slot stands.kept there) in
+        let (before, behind, outer, set_to) = slot_split read old at.slot slot there in
+        let (front, back, inner, other) = item_split (slot_standing read slot) at.index s is in
+        let split = sym stands.are ∙ split_within before front s back behind (slot_standing read slot) (slots_standing read old) outer inner in
+        let alone = subst (λ xs. StandAlone xs) split ordered.alone in
+        let (off_front, off_back) = others_not_below (before ++ front) s (back ++ behind) here (pairs_of_all Apart ((before ++ front) ++ s ∷ (back ++ behind)) alone) in
+        let it : below s ≡ all s = let b = holder_below s.base s.address here far in ap (λ c. cond c (own s) s) b ∙ sym (ap (λ c. cond c (own s) (rename_inside p spelled s)) b) in
+        let own_new : slot_standing read new ≡ front ++ all s ∷ back =
+        becomes_new ∙ ap (map below) inner ∙ map-append below front (s ∷ back)
+        ∙ ap₂ (λ xs ys. xs ++ below s ∷ ys) (all_below_stay front (each_back NotBelow before front off_front)) (all_below_stay back (each_front NotBelow back behind off_back))
+        ∙ ap (λ x. front ++ x ∷ back) it in
+        record {
+          kept = subst (EachIs (SlotKept (text_of texts.source) read)) (sym put) (each_set (SlotKept (text_of texts.source) read) old at.slot new stands.kept kept_new);
+          are = split_within before front (all s) back behind (slot_standing read new) (slots_standing read now) (ap (slots_standing read) put ∙ set_to new) own_new
+              ∙ sym (around (before ++ front) s (back ++ behind) here alone) ∙ ap (map all) (sym split);
+        }
 
 -- the value of a line holds what stands there: the line is changed, and no other
-pub holder_is_renamed : (p : Address) (to : List ℕ) (spelled : Bor (List ℕ)) (texts : Texts) (read : Read) (old now : List Slot) (at : Position) (done : Bool)
-    → option_map (holds p) (line_at read old at) ≡ Some true → steps_of (line_at read old at) < length p → ChangesSlots texts read at p (changes.Rename spelled) old now done
-    → RenamesLines p to spelled.now (text_of texts.source) read old now
-holder_is_renamed p to spelled texts read old now at done found low changed not_root ss stands ordered = by (line_at read old at) refl found low
-  where
-    by : (o : Option Standing) → line_at read old at ≡ o → option_map (holds p) o ≡ Some true → steps_of o < length p → Stands (text_of texts.source) read now (map (rename_standing p to spelled.now) ss)
-    by None there e short = cc
-    by (Some s) there e short =
-        let here : holds p s ≡ true = same_Some (holds p s) true e in
-        let (kept, changes_at) = changed stands.kept in
-        let (front, back, t, was, is, as_is) = changes_at s there in
-        let split : ss ≡ front ++ s ∷ back = sym stands.are ∙ was in
-        let apart = one_is_apart front s back (subst (λ xs. All (λ (x : Standing). IsApart x.outline.expr) xs) split ordered.apart) in
-        let one : t ≡ rename_standing p to spelled.now s =
-        as_is.1 apart here ∙ sym (ap (λ b. cond b (rename_own p to spelled.now s) (rename_inside p spelled.now s)) (short_not_below p to spelled.now s short)) in
-        record {
-          kept = kept;
-          are = is ∙ ap (λ x. front ++ x ∷ back) one ∙ sym (around p to spelled.now front s back here (subst (λ xs. StandAlone xs) split ordered.alone))
-              ∙ ap (map (rename_standing p to spelled.now)) (sym split);
-        }
+pub holder_is_renamed : (p : Address) (to : List ℕ) (spelled : Bor (List ℕ)) (texts : Texts) (read : Read) (old now : List Slot) (at : Position) (steps size : ℕ) (done : Bool)
+    → option_map (holds p) (line_at read old at) ≡ Some true → steps ≡ steps_of (line_at read old at) → size ≡ length p → steps < size
+    → ChangesSlots texts read at p (changes.Rename spelled) old now done → RenamesLines p to spelled.now (text_of texts.source) read old now
+holder_is_renamed p to spelled texts read old now at steps size done found is_depth is_size low changed not_root ss stands ordered =
+    let (slot, s, there, line, own, here) = holder_at read old at p found in
+    let is_near : steps ≡ steps_to s.address = is_depth ∙ ap steps_of line in
+    let short : steps_to s.address < length p = omega (arith, is_near, is_size, low) in
+    let (kept, changes_at) = changed stands.kept in
+    let (front, back, t, was, is, as_is) = changes_at s line in
+    let split : ss ≡ front ++ s ∷ back = sym stands.are ∙ was in
+    let apart = one_is_apart front s back (subst (λ xs. All (λ (x : Standing). IsApart x.outline.expr) xs) split ordered.apart) in
+    let one : t ≡ rename_standing p to spelled.now s =
+    as_is.1 apart here ∙ sym (ap (λ b. cond b (rename_own p to spelled.now s) (rename_inside p spelled.now s)) (short_not_below p to spelled.now s short)) in
+    record {
+      kept = kept;
+      are = is ∙ ap (λ x. front ++ x ∷ back) one ∙ sym (around p to spelled.now front s back here (subst (λ xs. StandAlone xs) split ordered.alone))
+          ∙ ap (map (rename_standing p to spelled.now)) (sym split);
+    }

@@ -10,14 +10,14 @@ use Rattle.toml_names.specs.declared.model.address.Step.TheVariants.{Name, Index
 use Rattle.toml_names.specs.mentions.Keys.{Key}
 use Rattle.toml_names.specs.model.Addresses.{Address, same_step, same_address, element, below}
 use Rattle.toml_names.proofs.Proved.{same_step-equal, same_step-self}
-use Rattle.toml_editor.specs.Apart.{AreApart, EachApart, KeysApart, begins_key, keys_of}
+use Rattle.toml_editor.specs.Apart.{HasKeysApart, EachApart, KeysApart, begins_key, keys_of}
 use Rattle.toml_editor.specs.Leading.{LeadsOn, SetsEntry, first_index, key_in, leads, led_by, value_in, with_value}
 use Rattle.toml_editor.specs.OpenOutlines.{Enclosed}
 use Rattle.toml_editor.specs.Outlines.{AssignOutline, ValueOutline, Marked, Token, Listed, Braced, EntriesOutline, End, Entry}
 use Rattle.toml_editor.specs.SetOutlines.{outlined_names, set_outline, set_outline_within, set_listed, set_braced, has_outline, has_within, has_listed, has_braced}
 use Rattle.toml_editor.specs.Standing.{begins}
 use Rattle.toml_editor.specs.Stands.{SetsIn}
-use Rattle.toml_editor.proofs.Beginning.{begins_self}
+use Rattle.toml_editor.proofs.Beginning.{begins_self, still_off}
 use Rattle.toml_editor.proofs.written.Clear.{above_apart, differ, self}
 use Rattle.toml_editor.proofs.Each.{each_weaker}
 use Rattle.toml_editor.proofs.written.Pairwise.{each_of_all}
@@ -27,11 +27,7 @@ use Rattle.toml_editor.proofs.written.Pairwise.{each_of_all}
 pub begins_more : (a b p : Address) → begins a p ≡ false → begins (a ++ b) p ≡ false
 begins_more [] b p off = absurd (true≢false off)
 begins_more (s ∷ a) b [] off = refl
-begins_more (s ∷ a) b (t ∷ p) off = by (same_step s t) (begins_more a b p) off
-  where
-    by : (c : Bool) → (begins a p ≡ false → begins (a ++ b) p ≡ false) → (c && begins a p) ≡ false → (c && begins (a ++ b) p) ≡ false
-    by true later off = later off
-    by false later off = refl
+begins_more (s ∷ a) b (t ∷ p) off = still_off (same_step s t) (begins a p) (begins (a ++ b) p) (begins_more a b p) off
 
 -- what follows the same steps
 pub begins_behind : (at a b : Address) → begins (at ++ a) (at ++ b) ≡ begins a b
@@ -110,9 +106,9 @@ key_each P (Entry before (Some a) v after es) zero k all is = subst P (same_Some
 key_each P (Entry before (Some a) v after es) (suc i) k all is = key_each P es i k all.1 is
 
 -- what stands in a value of entries that are apart
-pub apart_in : (es : EntriesOutline) (i : ℕ) (v : ValueOutline) → EachApart es → value_in es i ≡ Some v → AreApart v
+pub apart_in : (es : EntriesOutline) (i : ℕ) (v : ValueOutline) → EachApart es → value_in es i ≡ Some v → HasKeysApart v
 apart_in (End gap) i v apart is = absurd (none-some v is)
-apart_in (Entry before a u after es) zero v apart is = subst AreApart (same_Some u v is) apart.0
+apart_in (Entry before a u after es) zero v apart is = subst HasKeysApart (same_Some u v is) apart.0
 apart_in (Entry before a u after es) (suc i) v apart is = apart_in es i v apart.1 is
 
 module _ (p : Address) (new : ValueOutline) where

@@ -1,15 +1,14 @@
 -- Keys that are apart: no pair of an inline table stands at another's value or in it, as the table rules have it.
-use Rattle.std.specs.Prelude.{◌≡◌, Bool, true, false, ◌&&◌, List, [], ◌∷◌, Some, None, All}
+use Rattle.std.specs.Prelude.{◌≡◌, Bool, false, List, [], ◌∷◌, Some, None, All}
 use Rattle.std.specs.Str.{bytes_eq}
 use Rattle.toml_names.specs.mentions.Keys.{Key}
+use Rattle.toml_editor.specs.Beginnings.{begins_by}
 use Rattle.toml_editor.specs.Outlines.{ValueOutline, Token, Listed, Braced, EntriesOutline, End, Entry}
 use Rattle.toml_editor.specs.SetOutlines.{outlined_names}
 
 -- whether the first key is a beginning of the second, or all of it
 abbrev pub begins_key : Key → Key → Bool
-begins_key [] l = true
-begins_key (m ∷ k) [] = false
-begins_key (m ∷ k) (n ∷ l) = bytes_eq m n && begins_key k l
+begins_key = begins_by bytes_eq
 
 -- the keys of pairs
 abbrev pub keys_of : EntriesOutline → List Key
@@ -24,11 +23,11 @@ KeysApart (k ∷ ks) = All (λ l. (begins_key k l ≡ false) × (begins_key l k 
 
 -- so it is in each inline table that stands in the value
 abbrev mutual
-  pub AreApart : ValueOutline → Type 0
-  AreApart (Token text) = Unit {0}
-  AreApart (Listed opening es) = EachApart es
-  AreApart (Braced opening es) = KeysApart (keys_of es) × EachApart es
+  pub HasKeysApart : ValueOutline → Type 0
+  HasKeysApart (Token text) = Unit {0}
+  HasKeysApart (Listed opening es) = EachApart es
+  HasKeysApart (Braced opening es) = KeysApart (keys_of es) × EachApart es
 
   pub EachApart : EntriesOutline → Type 0
   EachApart (End gap) = Unit {0}
-  EachApart (Entry before a v after es) = AreApart v × EachApart es
+  EachApart (Entry before a v after es) = HasKeysApart v × EachApart es

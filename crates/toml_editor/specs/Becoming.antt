@@ -1,5 +1,5 @@
 -- What lines of the working tree become, by what stands on them.
-use Rattle.std.specs.Prelude.{◌≡◌, ℕ, List, [], map, set, slice_get, MatchOption}
+use Rattle.std.specs.Prelude.{◌≡◌, ℕ, List, [], map}
 use Rattle.std.specs.Global.{Box}
 use Rattle.toml_names.specs.model.Addresses.{Address}
 use Rattle.toml_text.specs.Source.{text_of}
@@ -8,14 +8,23 @@ use Rattle.toml_editor.specs.declared.lines.Body.{Body}
 use Rattle.toml_editor.specs.declared.lines.Body.TheVariants as bodies
 use Rattle.toml_editor.specs.declared.lines.Line.{Line}
 use Rattle.toml_editor.specs.declared.lines.Slot.{Slot}
+use Rattle.toml_editor.specs.declared.renaming.Renaming.{Renaming}
 use Rattle.toml_editor.specs.declared.texts.Texts.{Texts}
 use Rattle.toml_editor.specs.declared.tree.OpenLine.{OpenLine}
 use Rattle.toml_editor.specs.OpenOutlines.{line}
 use Rattle.toml_editor.specs.Outlines.{LineOutline}
-use Rattle.toml_editor.specs.RenameStanding.{rename_standing}
+use Rattle.toml_editor.specs.RenameStanding.{rename_below, rename_own, rename_standing}
 use Rattle.toml_editor.specs.RenamedUnits.{GoTogether}
-use Rattle.toml_editor.specs.Standing.{Standing, Read, AreOrdered, body_outline, line_standing, slot_standing}
+use Rattle.toml_editor.specs.Standing.{Standing, Read, AreOrdered, body_outline, slot_standing}
 use Rattle.toml_editor.specs.Stands.{BodyKept, SlotKept, Stands}
+use Rattle.toml_editor.specs.Turning.{LineTurns, OneTurns}
+
+-- by a renaming, a line at its address or below it, and one that may stand elsewhere and then stays
+abbrev pub renamed_own : Renaming → Standing → Standing
+renamed_own r = rename_own r.at.now r.name.now r.spelled.now
+
+abbrev pub renamed_below : Renaming → Standing → Standing
+renamed_below r = rename_below r.at.now r.name.now r.spelled.now
 
 -- what is opened gets another outline
 abbrev pub OpenBecomes : (LineOutline → LineOutline) → Body → Body → Type 0
@@ -29,8 +38,7 @@ BodyBecomes texts lines f old now = (read : Read) → read.lines ≡ lines → B
 
 -- a line stands for another one, and so do lines, one by one
 abbrev pub LineBecomes : Texts → List tree.Line → (Standing → Standing) → Line → Line → Type 0
-LineBecomes texts lines f old now = (read : Read) → read.lines ≡ lines → BodyKept (text_of texts.source) read old.body
-    → BodyKept (text_of texts.source) read now.body × (line_standing read now ≡ f (line_standing read old))
+LineBecomes texts lines f = LineTurns texts lines (λ s t. t ≡ f s)
 
 abbrev pub LinesBecome : Texts → List tree.Line → (Standing → Standing) → List Line → List Line → Type 0
 LinesBecome texts lines f old now = GoTogether (LineBecomes texts lines f) old now
@@ -41,8 +49,7 @@ SlotBecomes texts read f old now = SlotKept (text_of texts.source) read old
     → SlotKept (text_of texts.source) read now × (slot_standing read now ≡ map f (slot_standing read old))
 
 abbrev pub SlotAtBecomes : Texts → Read → (Standing → Standing) → ℕ → List Slot → List Slot → Type 0
-SlotAtBecomes texts read f i old now =
-    MatchOption (slice_get old i) (now ≡ old) (λ s. (t : Slot) × (now ≡ set old i t) × SlotBecomes texts read f s t)
+SlotAtBecomes texts read f = OneTurns (SlotBecomes texts read f)
 
 abbrev pub SlotsBecome : Texts → Read → (Standing → Standing) → List Slot → List Slot → Type 0
 SlotsBecome texts read f old now = GoTogether (SlotBecomes texts read f) old now

@@ -1,5 +1,5 @@
 -- What an edit changes inside the value of a line, by outlines, and by what then stands on the lines.
-use Rattle.std.specs.Prelude.{◌≡◌, true, Bool, List, ◌∷◌, ◌++◌, ℕ, Some, set, slice_get, MatchOption}
+use Rattle.std.specs.Prelude.{◌≡◌, true, Bool, List, ◌∷◌, ◌++◌, ℕ, Some}
 use Rattle.std.specs.Global.{Box}
 use Rattle.toml_names.specs.model.Addresses.{Address}
 use Rattle.toml_text.specs.Source.{text_of}
@@ -19,15 +19,20 @@ use Rattle.toml_editor.specs.Outlines.{ValueOutline, LineOutline}
 use Rattle.toml_editor.specs.RenameStanding.{rename_inside, rename_line_outline}
 use Rattle.toml_editor.specs.RenamingIn.{RenamesIn}
 use Rattle.toml_editor.specs.Seeing.{found, line_at}
-use Rattle.toml_editor.specs.Standing.{Standing, Read, IsApart, expr_has, has, holds, line_standing, set_line_outline, set_standing, slot_standing, slots_standing}
-use Rattle.toml_editor.specs.Stands.{BodyKept, SetsIn, SlotKept}
+use Rattle.toml_editor.specs.Standing.{Standing, Read, IsApart, expr_has, has, holds, set_line_outline, set_standing, slots_standing}
+use Rattle.toml_editor.specs.Stands.{SetsIn, SlotKept}
+use Rattle.toml_editor.specs.Turning.{LineTurns, OneTurns, SlotTurns}
 
--- Of a `set` and a `rename` it is said what they write; of the other changes only that the line stays where it is.
+-- Of a `set` and a `rename` it is said what they write, by these words; of the other changes only that the line stays where it is.
+abbrev pub Changes : {A : Type 0} → (ValueOutline → A → A → Bool → Type 0) → (List ℕ → A → A → Type 0) → Inside → A → A → Bool → Type 0
+Changes Sets Renames (changes.Set new) old now done = Sets (value new) old now done
+Changes Sets Renames (changes.Insert spelled new) old now done = Unit {0}
+Changes Sets Renames (changes.Rename to) old now done = Renames to.now old now
+Changes Sets Renames changes.Remove old now done = Unit {0}
+
+-- in a value
 abbrev pub ChangesIn : Address → Inside → ValueOutline → ValueOutline → Bool → Type 0
-ChangesIn steps (changes.Set new) old now done = SetsIn steps (value new) old now done
-ChangesIn steps (changes.Insert spelled new) old now done = Unit {0}
-ChangesIn steps (changes.Rename to) old now done = RenamesIn steps to.now old now
-ChangesIn steps changes.Remove old now done = Unit {0}
+ChangesIn steps = Changes (SetsIn steps) (RenamesIn steps)
 
 -- in the value of a line
 abbrev pub SetsOpen : Address → ValueOutline → LineOutline → LineOutline → Bool → Type 0
@@ -38,10 +43,7 @@ abbrev pub RenamesOpen : Address → List ℕ → LineOutline → LineOutline �
 RenamesOpen steps text old now = IsApart old.expr → (at : Address) → now ≡ rename_line_outline (at ++ steps) text at old
 
 abbrev pub ChangesOpen : Address → Inside → LineOutline → LineOutline → Bool → Type 0
-ChangesOpen steps (changes.Set new) old now done = SetsOpen steps (value new) old now done
-ChangesOpen steps (changes.Insert spelled new) old now done = Unit {0}
-ChangesOpen steps (changes.Rename to) old now done = RenamesOpen steps to.now old now
-ChangesOpen steps changes.Remove old now done = Unit {0}
+ChangesOpen steps = Changes (SetsOpen steps) (RenamesOpen steps)
 
 -- what is opened is changed, and no other
 abbrev pub ChangesBody : Address → Inside → Body → Body → Bool → Type 0
@@ -57,10 +59,7 @@ abbrev pub RenamesStanding : Address → List ℕ → Standing → Standing → 
 RenamesStanding p text old now = IsApart old.outline.expr → holds p old ≡ true → now ≡ rename_inside p text old
 
 abbrev pub ChangesAs : Address → Inside → Standing → Standing → Bool → Type 0
-ChangesAs p (changes.Set new) old now done = SetsStanding p (value new) old now done
-ChangesAs p (changes.Insert spelled new) old now done = Unit {0}
-ChangesAs p (changes.Rename to) old now done = RenamesStanding p to.now old now
-ChangesAs p changes.Remove old now done = Unit {0}
+ChangesAs p = Changes (SetsStanding p) (RenamesStanding p)
 
 -- it stays where it is
 abbrev pub ChangesStanding : Address → Inside → Standing → Standing → Bool → Type 0
@@ -68,22 +67,15 @@ ChangesStanding p change old now done = (found now ≡ found old) × ChangesAs p
 
 -- a line that is kept as its document has it stays so, or is opened
 abbrev pub ChangesLine : Texts → List tree.Line → Address → Inside → Line → Line → Bool → Type 0
-ChangesLine texts lines p change old now done =
-    (read : Read) → read.lines ≡ lines → BodyKept (text_of texts.source) read old.body
-    → BodyKept (text_of texts.source) read now.body × ChangesStanding p change (line_standing read old) (line_standing read now) done
+ChangesLine texts lines p change old now done = LineTurns texts lines (λ s t. ChangesStanding p change s t done) old now
 
 -- the line with the index is changed, and no other; or there is none
 abbrev pub ChangesOne : Texts → List tree.Line → ℕ → Address → Inside → List Line → List Line → Bool → Type 0
-ChangesOne texts lines index p change old now done =
-    MatchOption (slice_get old index) (now ≡ old) (λ l. (m : Line) × (now ≡ set old index m) × ChangesLine texts lines p change l m done)
+ChangesOne texts lines index p change old now done = OneTurns (λ l m. ChangesLine texts lines p change l m done) index old now
 
 -- the line with the index is changed, and no other
 abbrev pub ChangesSlot : Texts → Read → ℕ → Address → Inside → Slot → Slot → Bool → Type 0
-ChangesSlot texts read index p change old now done =
-    SlotKept (text_of texts.source) read old
-    → SlotKept (text_of texts.source) read now
-    × ((s : Standing) → slice_get (slot_standing read old) index ≡ Some s
-    → (t : Standing) × (slot_standing read now ≡ set (slot_standing read old) index t) × ChangesStanding p change s t done)
+ChangesSlot texts read index p change old now done = SlotTurns texts read (λ s t. ChangesStanding p change s t done) index old now
 
 -- the line at the place is changed, and no other
 abbrev pub ChangesSlots : Texts → Read → Position → Address → Inside → List Slot → List Slot → Bool → Type 0

@@ -114,7 +114,7 @@ AreNotPlain profile read cs tree = (text : List ℕ) (kinds now : Kinds) → IsA
     → Lead profile cs kinds now → ¬ ArePlain profile cs (style tree) text
 
 -- this holds where an edit is told to be spread, or to take a last element
-abbrev pub OfSpread : Type 0 → EditorFault → Type 0
-OfSpread P (Spread i) = P
-OfSpread P (LastElement i) = P
-OfSpread P _ = Unit {0}
+abbrev pub OfNoPlace : Type 0 → EditorFault → Type 0
+OfNoPlace P (Spread i) = P
+OfNoPlace P (LastElement i) = P
+OfNoPlace P _ = Unit {0}

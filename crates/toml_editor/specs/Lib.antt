@@ -10,6 +10,7 @@ pub mod OpenOutlines
 pub mod TreeOutlines
 pub mod SetOutlines
 pub mod RenameOutlines
+pub mod Beginnings
 pub mod Apart
 pub mod AsNew
 pub mod Opening
@@ -23,6 +24,7 @@ pub mod OpeningLines
 pub mod Leading
 pub mod RenamingIn
 pub mod RenameStanding
+pub mod Turning
 pub mod Becoming
 pub mod SpelledEdits
 pub mod Seeing

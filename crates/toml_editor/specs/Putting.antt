@@ -1,5 +1,5 @@
 -- A line that gets another newline, and one that is put in, by what then stands on the lines.
-use Rattle.std.specs.Prelude.{◌≡◌, ◌<◌, ◌+◌, ◌^◌, ◌↔◌, ℕ, Bool, List, [], ◌∷◌, ◌++◌, IsTrue, Some, length, set, slice_get, take, drop, map, string_bytes, MatchOption}
+use Rattle.std.specs.Prelude.{◌≡◌, ◌<◌, ◌+◌, ◌^◌, ◌↔◌, ℕ, Bool, List, [], ◌∷◌, ◌++◌, IsTrue, Some, length, slice_get, take, drop, map, string_bytes}
 use Rattle.std.specs.declared.alloc.Global.{Global}
 use Rattle.std.specs.declared.string.String.{String}
 use Rattle.toml_scalar.specs.Spelling.{spelled}
@@ -14,6 +14,8 @@ use Rattle.toml_editor.specs.declared.texts.Texts.{Texts}
 use Rattle.toml_editor.specs.declared.tree.Assign.{Assign}
 use Rattle.toml_editor.specs.declared.tree.Key.{Key}
 use Rattle.toml_editor.specs.declared.working.Position.{Position}
+use Rattle.toml_editor.specs.declared.working.Tree.{Tree}
+use Rattle.toml_editor.specs.Becoming.{LineBecomes}
 use Rattle.toml_editor.specs.InsertStanding.{AreRooted, end_in, insert_standing, line_behind, new_standing}
 use Rattle.toml_editor.specs.OpenOutlines.{assign, leaf_text}
 use Rattle.toml_editor.specs.Outlines.{ValueOutline}
@@ -21,6 +23,7 @@ use Rattle.toml_editor.specs.Placing.{lines_before, lines_from}
 use Rattle.toml_editor.specs.Seeing.{line_at}
 use Rattle.toml_editor.specs.Standing.{Standing, Read, line_standing, slot_standing, slots_standing}
 use Rattle.toml_editor.specs.Stands.{BodyKept, SlotKept, Stands}
+use Rattle.toml_editor.specs.Turning.{OneTurns, SlotTurns}
 
 -- whether a line is the last one, which ends in no newline
 abbrev pub TellsLast : Bool → Standing → Type 0
@@ -37,21 +40,12 @@ abbrev pub IsLastAt : List Slot → Position → Bool → Type 0
 IsLastAt slots at result = (text : List ℕ) (read : Read) → EachIs (SlotKept text read) slots
     → (s : Standing) → line_at read slots at ≡ Some s → TellsLast result s
 
--- a line gets the newline
-abbrev pub EndsLine : List ℕ → Texts → List tree.Line → Line → Line → Type 0
-EndsLine newline texts lines old now = (read : Read) → read.lines ≡ lines → BodyKept (text_of texts.source) read old.body
-    → BodyKept (text_of texts.source) read now.body × (line_standing read now ≡ end_in newline (line_standing read old))
-
--- the line with the index does, and no other; or there is none
+-- the line with the index gets the newline, and no other; or there is none
 abbrev pub EndsOne : List ℕ → Texts → List tree.Line → ℕ → List Line → List Line → Type 0
-EndsOne newline texts lines index old now =
-    MatchOption (slice_get old index) (now ≡ old) (λ l. (m : Line) × (now ≡ set old index m) × EndsLine newline texts lines l m)
+EndsOne newline texts lines = OneTurns (LineBecomes texts lines (end_in newline))
 
 abbrev pub EndsSlot : List ℕ → Texts → Read → ℕ → Slot → Slot → Type 0
-EndsSlot newline texts read index old now = SlotKept (text_of texts.source) read old
-    → SlotKept (text_of texts.source) read now
-    × ((s : Standing) → slice_get (slot_standing read old) index ≡ Some s
-    → slot_standing read now ≡ set (slot_standing read old) index (end_in newline s))
+EndsSlot newline texts read = SlotTurns texts read (λ s t. t ≡ end_in newline s)
 
 -- the line at the place has become another, and those before and behind it stay
 pub record Becomes (read : Read) (at : Position) (old now : List Slot) (s : Standing) : Type 0 where
@@ -122,7 +116,17 @@ PutsBehind at base steps v style texts read place old now = base ≡ 0 → (name
     × (slots_standing read now ≡ lines_before read old place.slot place.index
     ++ (line_behind name v style s s.outline.newline ++ lines_from read old place.slot (place.index + 1)))
 
+-- so it is of the lines of a tree
+abbrev pub TreePutsBehind : Address → ℕ → List (String Global) → ValueOutline → Read → Position → Tree → Tree → Type 0
+TreePutsBehind at base steps v read place old now =
+    PutsBehind at base steps v (leaf_text old.style) old.texts read place old.slots.items now.slots.items
+
 -- behind the last line of the root, or as the first line
 abbrev pub InsertsLines : Address → List (String Global) → ValueOutline → List ℕ → List ℕ → Read → List Slot → List Slot → Type 0
 InsertsLines at steps v style text read old now = (name : List ℕ) → IsRootName name at steps → (ss : List Standing)
     → Stands text read old ss → AreRooted ss → Stands text read now (insert_standing name v style ss)
+
+-- so it is of the lines of a tree
+abbrev pub TreeInserts : Address → List (String Global) → ValueOutline → Read → Tree → Tree → Type 0
+TreeInserts at steps v read old now =
+    InsertsLines at steps v (leaf_text old.style) (text_of old.texts.source) read old.slots.items now.slots.items

@@ -1,5 +1,5 @@
 -- What a `remove` of a line at the root makes of the lines of the working tree.
-use Rattle.std.specs.Prelude.{◌≡◌, true, ℕ, List, [], ◌∷◌, length, map, set, slice_get, Option, Some, None, MatchOption}
+use Rattle.std.specs.Prelude.{◌≡◌, true, ℕ, List, [], ◌∷◌, length, map, Option, Some, None}
 use Rattle.std.specs.List.{list_any}
 use Rattle.toml_names.specs.model.Addresses.{Address}
 use Rattle.toml_text.specs.Source.{text_of}
@@ -11,6 +11,7 @@ use Rattle.toml_editor.specs.declared.working.Tree.{Tree}
 use Rattle.toml_editor.specs.RemoveStanding.{is_pair, left_standing, remove_standing, without, without_one}
 use Rattle.toml_editor.specs.Standing.{Standing, Read, AreOrdered, is_below, line_standing, slot_standing}
 use Rattle.toml_editor.specs.Stands.{BodyKept, KeepsRest, SlotKept, Stands}
+use Rattle.toml_editor.specs.Turning.{OneTurns}
 
 abbrev pub LinesKept : List ℕ → Read → List Line → Type 0
 LinesKept text read = EachIs (λ (l : Line). BodyKept text read l.body)
@@ -41,8 +42,7 @@ LeavesSlot p units old now = (text : List ℕ) (read : Read) → read.units ≡ 
 
 -- and of those of the slot with the number, while the others stay; or there is none
 abbrev pub LeavesSlots : Address → List ReadUnit → ℕ → List Slot → List Slot → Type 0
-LeavesSlots p units slot old now =
-    MatchOption (slice_get old slot) (now ≡ old) (λ s. (t : Slot) × (now ≡ set old slot t) × LeavesSlot p units s t)
+LeavesSlots p units = OneTurns (LeavesSlot p units)
 
 -- a `remove` at the root on lines, one of which has the value
 abbrev pub RemovesLines : Address → Read → Tree → Tree → Type 0

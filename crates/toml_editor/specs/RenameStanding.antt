@@ -8,7 +8,7 @@ use Rattle.toml_names.specs.model.Addresses.{Address}
 use Rattle.toml_editor.specs.Outlines.{ExprOutline, LineOutline, Nothing, Pair, Header}
 use Rattle.toml_editor.specs.RenameOutlines.{rename_outline}
 use Rattle.toml_editor.specs.RenamingIn.{first_with, rest_with, part_with}
-use Rattle.toml_editor.specs.Standing.{Standing, is_below}
+use Rattle.toml_editor.specs.Standing.{Standing, is_below, with_value_outline}
 
 -- how many of the steps are names
 abbrev pub names_in : Address → ℕ
@@ -18,12 +18,12 @@ names_in (Index i ∷ steps) = names_in steps
 
 -- which part of a key stands for an address at its own or above it, from 0 on, if one does: of a line with a base the names of its key are
 -- the steps behind the base, and of a header the names of its own address
-abbrev pub less : ℕ → ℕ → Option ℕ
-less n m = if nat_lt n m then None else Some (n - m)
+abbrev pub minus : ℕ → ℕ → Option ℕ
+minus n m = if nat_lt n m then None else Some (n - m)
 
 abbrev pub part_number : Address → Option ℕ → Option ℕ
-part_number p None = less (names_in p) 1
-part_number p (Some base) = less (length p) (base + 1)
+part_number p None = minus (names_in p) 1
+part_number p (Some base) = minus (length p) (base + 1)
 
 -- the part of the key with this number has the text
 abbrev pub key_part_with : ℕ → List ℕ → ExprOutline → ExprOutline
@@ -49,13 +49,8 @@ rename_own p to text s = record {
 }
 
 -- what stands in the value of a line, where the value stands at `at`
-abbrev pub rename_expr_outline : Address → List ℕ → Address → ExprOutline → ExprOutline
-rename_expr_outline p text at Nothing = Nothing
-rename_expr_outline p text at (Pair a v) = Pair a (rename_outline p text at v)
-rename_expr_outline p text at (Header opening before first rest after closing) = Header opening before first rest after closing
-
 abbrev pub rename_line_outline : Address → List ℕ → Address → LineOutline → LineOutline
-rename_line_outline p text at l = record l { expr = rename_expr_outline p text at l.expr }
+rename_line_outline p text at l = record l { expr = with_value_outline (rename_outline p text at) l.expr }
 
 -- of a line with this base and address
 abbrev pub rename_outline_of : Address → List ℕ → Option ℕ → Option Address → LineOutline → LineOutline

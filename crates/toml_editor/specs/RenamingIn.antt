@@ -1,9 +1,10 @@
 -- `rename` in a value of the working tree, by the steps below the value.
-use Rattle.std.specs.Prelude.{◌≡◌, ℕ, zero, suc, ◌-◌, Bool, true, false, ◌&&◌, List, [], ◌∷◌, ◌++◌, length, option_map, if◌then◌else◌}
+use Rattle.std.specs.Prelude.{◌≡◌, ℕ, zero, suc, ◌-◌, Bool, List, [], ◌∷◌, ◌++◌, length, option_map, if◌then◌else◌}
 use Rattle.toml_names.specs.declared.model.address.Step.TheVariants.{Name}
 use Rattle.toml_names.specs.mentions.Keys.{Key}
 use Rattle.toml_names.specs.model.Addresses.{Address, same_step}
-use Rattle.toml_editor.specs.Apart.{AreApart}
+use Rattle.toml_editor.specs.Apart.{HasKeysApart}
+use Rattle.toml_editor.specs.Beginnings.{begins_by}
 use Rattle.toml_editor.specs.Leading.{ChangesEntry}
 use Rattle.toml_editor.specs.OpenOutlines.{Enclosed, EntryOutline}
 use Rattle.toml_editor.specs.Outlines.{DottedOutline, AssignOutline, ValueOutline, EntriesOutline, End, Entry}
@@ -12,9 +13,7 @@ use Rattle.toml_editor.specs.SetOutlines.{outlined_names}
 
 -- whether all steps are the first names of a key
 abbrev pub reaches : Key → Address → Bool
-reaches k [] = true
-reaches [] (s ∷ steps) = false
-reaches (n ∷ k) (s ∷ steps) = same_step (Name n) s && reaches k steps
+reaches k steps = begins_by (λ s n. same_step (Name n) s) steps k
 
 -- the parts of a key, the one with the number from 0 on changed: the first one, and those behind it
 abbrev pub first_with : ℕ → List ℕ → List ℕ → List ℕ
@@ -54,7 +53,7 @@ KeysRenamed steps text old now = now ≡ record { opening = old.opening; entries
 
 -- a `rename` in a value, and in that of the entry with the index
 abbrev pub RenamesIn : Address → List ℕ → ValueOutline → ValueOutline → Type 0
-RenamesIn steps text old now = AreApart old → (at : Address) → now ≡ rename_outline (at ++ steps) text at old
+RenamesIn steps text old now = HasKeysApart old → (at : Address) → now ≡ rename_outline (at ++ steps) text at old
 
 abbrev pub RenamesEntry : ℕ → Address → List ℕ → Enclosed → Enclosed → Type 0
 RenamesEntry i steps text old now = ChangesEntry (RenamesIn steps text) (Unit {0}) i old now

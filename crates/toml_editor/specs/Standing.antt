@@ -1,5 +1,5 @@
 -- What stands on lines, by what finds it: its address, and its outline. So lines of the working tree are what lines of a text are.
-use Rattle.std.specs.Prelude.{◌≡◌, ℕ, ◌+◌, Bool, true, false, ◌&&◌, List, [], ◌∷◌, ◌++◌, map, All, AllPairs, Option, Some, None, option_and_then, slice_get}
+use Rattle.std.specs.Prelude.{◌≡◌, ℕ, ◌+◌, Bool, false, List, [], ◌∷◌, ◌++◌, map, All, AllPairs, Option, Some, None, option_and_then, slice_get}
 use Rattle.toml_names.specs.model.Addresses.{Address, same_step}
 use Rattle.toml_names.specs.mentions.Mentions.{Named, root, named_by}
 use Rattle.toml_names.specs.reader.Names.{own_address}
@@ -12,7 +12,8 @@ use Rattle.toml_editor.specs.declared.lines.Kept.{Kept}
 use Rattle.toml_editor.specs.declared.lines.Line.{Line}
 use Rattle.toml_editor.specs.declared.lines.Slot.{Slot}
 use Rattle.toml_editor.specs.declared.lines.Slot.TheVariants as slots
-use Rattle.toml_editor.specs.Apart.{AreApart}
+use Rattle.toml_editor.specs.Apart.{HasKeysApart}
+use Rattle.toml_editor.specs.Beginnings.{begins_by}
 use Rattle.toml_editor.specs.OpenOrigins.{line_numbered}
 use Rattle.toml_editor.specs.OpenOutlines.{all_origins, line}
 use Rattle.toml_editor.specs.Outlines as outline
@@ -83,9 +84,7 @@ slots_standing read (s ∷ ss) = slot_standing read s ++ slots_standing read ss
 
 -- whether the first address is a beginning of the second, or all of it
 abbrev pub begins : Address → Address → Bool
-begins [] b = true
-begins (s ∷ a) [] = false
-begins (s ∷ a) (t ∷ b) = same_step s t && begins a b
+begins = begins_by same_step
 
 -- whether a line with this address stands at the other or below it
 abbrev pub lies_below : Address → Option Address → Bool
@@ -122,7 +121,7 @@ StandAlone ss = AllPairs (λ s t. (covers s t ≡ false) × (covers t s ≡ fals
 -- the keys in the value of a line, if it has one, are apart
 abbrev pub IsApart : ExprOutline → Type 0
 IsApart outline.Nothing = Unit {0}
-IsApart (outline.Pair a v) = AreApart v
+IsApart (outline.Pair a v) = HasKeysApart v
 IsApart (outline.Header opening before first rest after closing) = Unit {0}
 
 -- all is as the table rules have it
@@ -130,14 +129,15 @@ pub record AreOrdered (ss : List Standing) : Type 0 where
   pub alone : StandAlone ss
   pub apart : All (λ s. IsApart s.outline.expr) ss
 
--- `set` on lines: the value of a line, which stands at `at`, or what stands in it
-abbrev pub set_expr_outline : Address → ValueOutline → Address → ExprOutline → ExprOutline
-set_expr_outline p new at outline.Nothing = outline.Nothing
-set_expr_outline p new at (outline.Pair a v) = outline.Pair a (set_outline p new at v)
-set_expr_outline p new at (outline.Header opening before first rest after closing) = outline.Header opening before first rest after closing
+-- the value of a line, if it has one, made another
+abbrev pub with_value_outline : (ValueOutline → ValueOutline) → ExprOutline → ExprOutline
+with_value_outline f outline.Nothing = outline.Nothing
+with_value_outline f (outline.Pair a v) = outline.Pair a (f v)
+with_value_outline f (outline.Header opening before first rest after closing) = outline.Header opening before first rest after closing
 
+-- `set` on lines: the value of a line, which stands at `at`, or what stands in it
 abbrev pub set_line_outline : Address → ValueOutline → Address → LineOutline → LineOutline
-set_line_outline p new at l = record l { expr = set_expr_outline p new at l.expr }
+set_line_outline p new at l = record l { expr = with_value_outline (set_outline p new at) l.expr }
 
 -- of a line with this base and address
 abbrev pub set_outline_of : Address → ValueOutline → Option ℕ → Option Address → LineOutline → LineOutline

@@ -16,7 +16,7 @@ use Rattle.toml_editor.specs.declared.lines.Line.{Line}
 use Rattle.toml_editor.specs.declared.lines.Slot.{Slot}
 use Rattle.toml_editor.specs.declared.lines.Slot.TheVariants as slots
 use Rattle.toml_editor.specs.declared.working.Tree.{Tree}
-use Rattle.toml_editor.specs.Apart.{AreApart}
+use Rattle.toml_editor.specs.Apart.{HasKeysApart}
 use Rattle.toml_editor.specs.AsNew.{standing_as_new}
 use Rattle.toml_editor.specs.Numbering.{kept_origins}
 use Rattle.toml_editor.specs.Opening.{Lie}
@@ -86,7 +86,7 @@ pub record KeepsRest (old new : Tree) : Type 0 where
 -- a `set` in a value: at the steps below it the new one stands where one stood, and it tells whether one did
 abbrev pub SetsIn : Address → ValueOutline → ValueOutline → ValueOutline → Bool → Type 0
 SetsIn steps new old now done =
-    AreApart old → (at : Address) → (now ≡ set_outline (at ++ steps) new at old) × (done ≡ has_outline (at ++ steps) at old)
+    HasKeysApart old → (at : Address) → (now ≡ set_outline (at ++ steps) new at old) × (done ≡ has_outline (at ++ steps) at old)
 
 -- a `set` on lines, below the root
 abbrev pub SetsLines : Address → ValueOutline → List ℕ → Read → List Slot → List Slot → Bool → Type 0

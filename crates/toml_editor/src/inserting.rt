@@ -1,10 +1,9 @@
 //! `insert`: an element of an array, a pair of an inline table, or a line with a key and a value.
 ghost use Rattle.std.specs.Prelude.{◌≡◌, ◌++◌, ◌∷◌, [], IfOk, OnOk, drop, false, take};
-ghost use Rattle.toml_text.specs.Source.{text_of};
 ghost use Rattle.toml_tree.specs.Document.{document};
 ghost use Rattle.toml_tree.specs.Tree as tree;
 ghost use Rattle.toml_editor.specs.OpenOutlines.{leaf_text, value};
-ghost use Rattle.toml_editor.specs.Putting.{EndsBefore, EndsOne, EndsSlot, EndsSlots, InsertsLines, IsElsewhere, IsRootLine, PutsBehind, PutsSlot, PutsSlots};
+ghost use Rattle.toml_editor.specs.Putting.{EndsBefore, EndsOne, EndsSlot, EndsSlots, IsElsewhere, IsRootLine, PutsSlot, PutsSlots, TreeInserts, TreePutsBehind};
 ghost use Rattle.toml_editor.specs.Seeing.{read_by};
 ghost use Rattle.toml_editor.specs.Starting.{read_of};
 ghost use Rattle.toml_editor.specs.Stands.{KeepsRest};
@@ -20,6 +19,14 @@ use toml_names::{Address, Place, Step};
 use toml_tree::Doc;
 use toml_units::Unit;
 
+/// A value for an address, and the spellings of the steps of it.
+#[derive(Drop)]
+struct Insertion<'a, 'x> {
+    at: &'a Address,
+    spelled: &'x [String],
+    new: Value<'x>,
+}
+
 impl<'x> Tree<'x> {
     /// Puts a value in at the address; `spelled` are the spellings of its steps, and `named` is the place that the document's
     /// names have for the parent. It answers `false` where the parent is no table, and no array in a value.
@@ -33,17 +40,14 @@ impl<'x> Tree<'x> {
         new: Value<'x>,
     ) -> Result<bool, AllocError>
         ensures rest { OnOk result (KeepsRest self.old self.new) }
-        ensures root { let text = text_of self.old.texts.source in
-            let style = leaf_text self.old.style in
-            let old = self.old.slots.items in
-            let now = self.new.slots.items in
-            let read = read_of before.entry in
-            OnOk result (InsertsLines at.now spelled.now (value new.entry) style text read old now) }
+        ensures root { let read = read_of before.entry in
+            OnOk result (TreeInserts at.now spelled.now (value new.entry) read self.old self.new) }
     {
+        let insertion = Insertion { at, spelled, new };
         if is_at_root(at) {
-            self.insert_at_root(before, at, spelled, new)
+            self.insert_at_root(before, insertion)
         } else {
-            self.insert_below(before, named, parent, at, spelled, new)
+            self.insert_below(before, named, parent, insertion)
         }
     }
 
@@ -53,16 +57,15 @@ impl<'x> Tree<'x> {
         before: Before<'_, 'x>,
         named: Option<Place>,
         parent: Address,
-        at: &Address,
-        spelled: &'x [String],
-        new: Value<'x>,
+        insertion: Insertion<'_, 'x>,
     ) -> Result<bool, AllocError>
         ensures { OnOk result (KeepsRest self.old self.new) }
     {
-        let Some((last, above)) = at.steps().split_last() else {
+        let Some((last, above)) = insertion.at.steps().split_last() else {
             return Ok(false);
         };
         if let Some(place) = self.value_line(before, named, &parent) {
+            let Insertion { at, spelled, new } = insertion;
             return self.change_value(before, place, at, Inside::Insert { spelled, new });
         }
         if matches!(last, Step::Index(_)) {
@@ -71,15 +74,15 @@ impl<'x> Tree<'x> {
         match self.table_place(before, named, &parent) {
             Some(TablePlace::Header(header)) => {
                 let behind = self.last_pair(before, header.next()).unwrap_or(header);
-                self.insert_behind(before, behind, at, above.len(), spelled, new)
+                self.insert_behind(before, behind, above.len(), insertion)
             }
             Some(TablePlace::Dotted(line)) => {
                 let base = self.base(before, line);
                 let behind = self.last_pair(before, line).unwrap_or(line);
-                self.insert_behind(before, behind, at, base, spelled, new)
+                self.insert_behind(before, behind, base, insertion)
             }
             Some(TablePlace::Implicit(header)) => {
-                self.insert_before(before, header, at, parent, spelled, new)
+                self.insert_before(before, header, parent, insertion)
             }
             None => Ok(false),
         }
@@ -89,25 +92,19 @@ impl<'x> Tree<'x> {
     fn insert_at_root(
         &mut self,
         before: Before<'_, 'x>,
-        at: &Address,
-        spelled: &'x [String],
-        new: Value<'x>,
+        insertion: Insertion<'_, 'x>,
     ) -> Result<bool, AllocError>
         ensures rest { OnOk result (KeepsRest self.old self.new) }
-        ensures root { let text = text_of self.old.texts.source in
-            let style = leaf_text self.old.style in
-            let old = self.old.slots.items in
-            let now = self.new.slots.items in
-            let read = read_of before.entry in
-            OnOk result (InsertsLines at.now spelled.now (value new.entry) style text read old now) }
+        ensures root { let it = insertion.entry in
+            OnOk result (TreeInserts it.at.now it.spelled.now (value it.new) (read_of before.entry) self.old self.new) }
     {
         match self.last_root_pair(before) {
             Some(behind) => {
                 self.root_end = behind;
-                self.insert_behind(before, behind, at, 0, spelled, new)
+                self.insert_behind(before, behind, 0, insertion)
             }
             None => {
-                let line = self.pair_line(at, 0, spelled, new, self.style)?;
+                let line = self.pair_line(0, insertion, self.style)?;
                 self.put(before, Position { slot: 0, index: 0 }, line)
             }
         }
@@ -118,21 +115,16 @@ impl<'x> Tree<'x> {
         &mut self,
         before: Before<'_, 'x>,
         behind: Position,
-        at: &Address,
         base: usize,
-        spelled: &'x [String],
-        new: Value<'x>,
+        insertion: Insertion<'_, 'x>,
     ) -> Result<bool, AllocError>
         ensures rest { OnOk result (KeepsRest self.old self.new) }
-        ensures put { let texts = self.old.texts in
-            let style = leaf_text self.old.style in
-            let old = self.old.slots.items in
-            let now = self.new.slots.items in
+        ensures put { let it = insertion.entry in
             let read = read_of before.entry in
-            OnOk result (PutsBehind at.now base spelled.now (value new.entry) style texts read behind old now) }
+            OnOk result (TreePutsBehind it.at.now base it.spelled.now (value it.new) read behind self.old self.new) }
     {
         let newline = self.newline_behind(before, behind)?;
-        let line = self.pair_line(at, base, spelled, new, newline)?;
+        let line = self.pair_line(base, insertion, newline)?;
         self.put(before, behind.next(), line)
     }
 
@@ -163,15 +155,14 @@ impl<'x> Tree<'x> {
         &mut self,
         before: Before<'_, 'x>,
         next: Position,
-        at: &Address,
         parent: Address,
-        spelled: &'x [String],
-        new: Value<'x>,
+        insertion: Insertion<'_, 'x>,
     ) -> Result<bool, AllocError>
         ensures { OnOk result (KeepsRest self.old self.new) }
     {
         let (alloc, style) = (self.alloc(), self.style);
-        let line = self.pair_line(at, parent.steps().len(), spelled, new, style)?;
+        let spelled = insertion.spelled;
+        let line = self.pair_line(parent.steps().len(), insertion, style)?;
         let header = NewHeader {
             at: &parent,
             brackets: Brackets::One,
@@ -184,14 +175,14 @@ impl<'x> Tree<'x> {
     /// A line with the key of the steps below its table, whose address has `base` steps.
     fn pair_line(
         &self,
-        at: &Address,
         base: usize,
-        spelled: &'x [String],
-        new: Value<'x>,
+        insertion: Insertion<'_, 'x>,
         newline: Leaf<'x>,
     ) -> Result<Line<'x>, AllocError>
-        ensures { IfOk result (IsRootLine at.now base spelled.now (value new.entry) (leaf_text newline.entry)) }
+        ensures { let it = insertion.entry in
+            IfOk result (IsRootLine it.at.now base it.spelled.now (value it.new) (leaf_text newline.entry)) }
     {
+        let Insertion { at, spelled, new } = insertion;
         let (_, parts) = spelled.split_at(base.min(spelled.len()));
         let expr = Expr::Pair(KeyVal {
             assign: self.texts.assign(parts)?,

@@ -5,7 +5,7 @@ ghost use Rattle.toml_scalar.specs.Spelling.{spelled};
 ghost use Rattle.toml_edits.specs.Edits.{change, remove};
 ghost use Rattle.toml_edits.specs.Lists.{Lead};
 ghost use Rattle.toml_editor.specs.Edited.{MayBeSpread, TakesLastElement};
-ghost use Rattle.toml_editor.specs.Exact.{AreNotPlain, IsNotPlain, MakesAll, MakesOne, OfSpread, WritesEdit, WritesInsert, WritesRename, WritesSet};
+ghost use Rattle.toml_editor.specs.Exact.{AreNotPlain, IsNotPlain, MakesAll, MakesOne, OfNoPlace, WritesEdit, WritesInsert, WritesRename, WritesSet};
 ghost use Rattle.toml_editor.specs.Making.{HasOne, IsMade, IsMany, TellsAny, TellsOne, TellsRow, places_of};
 ghost use Rattle.toml_editor.specs.SpelledEdits.{AreSpelled, IsSpelled};
 ghost use Rattle.toml_editor.specs.Starting.{NoneIsGone, read_of};
@@ -48,7 +48,7 @@ pub(crate) fn make_all<'x>(
         IfErr result (TellsAny read.entry.profile places (map change edits.now) (kind_at «data».old.root)) }
     ensures exact { OnOk result (MakesAll read.entry.profile (read_of read.entry.before) (map change edits.now) tree.old tree.new) }
     ensures spread { let from = read_of read.entry.before in
-        IfErr result (OfSpread (AreNotPlain read.entry.profile from (map change edits.now) tree.old)) }
+        IfErr result (OfNoPlace (AreNotPlain read.entry.profile from (map change edits.now) tree.old)) }
 {
     for (index, edit) in edits.iter().enumerate() {
         if let Err(fault) = make(alloc, tree, read, data, edit, &spelled[index], index) {
@@ -73,7 +73,7 @@ fn make<'x>(
     ensures told { let places = places_of read.entry.names.now in
         IfErr result (TellsOne read.entry.profile places index (change edit.now) (kind_at «data».old.root)) }
     ensures exact { OnOk result (MakesOne read.entry.profile (read_of read.entry.before) (change edit.now) tree.old tree.new) }
-    ensures spread { IfErr result (OfSpread (IsNotPlain read.entry.profile (read_of read.entry.before) (change edit.now) tree.old)) }
+    ensures spread { IfErr result (OfNoPlace (IsNotPlain read.entry.profile (read_of read.entry.before) (change edit.now) tree.old)) }
 {
     let spread = may_be_spread(alloc, data, read.names, edit, index)?;
     let only = is_only_element(data, edit);

@@ -3,10 +3,9 @@
 ghost use Rattle.std.specs.Prelude.{◌≡◌, OnOk, Option, Some, option_map};
 ghost use Rattle.toml_text.specs.Source.{text_of};
 ghost use Rattle.toml_tree.specs.Document.{document};
-ghost use Rattle.toml_editor.specs.Becoming.{BodyBecomes, LineBecomes, LinesBecome, OpenBecomes, RenamesLines, SlotAtBecomes, SlotBecomes, SlotsBecome};
+ghost use Rattle.toml_editor.specs.Becoming.{BodyBecomes, LineBecomes, LinesBecome, OpenBecomes, RenamesLines, SlotAtBecomes, SlotBecomes, SlotsBecome, renamed_below, renamed_own};
 ghost use Rattle.toml_editor.specs.OpenOutlines.{leaf_text, line as line_outlined};
-ghost use Rattle.toml_editor.specs.RenameStanding.{line_part_with, part_number, rename_below, rename_own, renamed_address};
-ghost use Rattle.toml_editor.specs.Standing.{is_below, line_standing};
+ghost use Rattle.toml_editor.specs.RenameStanding.{line_part_with, part_number, renamed_address};
 ghost use Rattle.toml_editor.specs.Starting.{NoneIsGone, read_of};
 
 use crate::inside::Inside;
@@ -17,6 +16,14 @@ use crate::working::{Before, Position, Tree};
 use std::alloc::AllocError;
 use toml_names::{Address, Name, Place, Step};
 use toml_tree::Doc;
+
+/// A new name for what stands at an address, and its spelling.
+#[derive(Clone, Copy)]
+struct Renaming<'a, 't> {
+    at: &'a Address,
+    name: &'a Name,
+    spelled: &'t str,
+}
 
 impl<'x> Tree<'x> {
     /// Renames what stands at the address, and carries the addresses of lines at it and below.
@@ -35,6 +42,7 @@ impl<'x> Tree<'x> {
         ensures style { OnOk result (self.new.style ≡ self.old.style) }
         ensures elements { OnOk result (NoneIsGone self.old.elements → NoneIsGone self.new.elements) }
     {
+        let renaming = Renaming { at, name, spelled };
         match self.value_line(before, named, at) {
             Some(place) if self.depth(before, place) < at.steps().len() => {
                 self.change_value(before, place, at, Inside::Rename(spelled))?;
@@ -46,11 +54,9 @@ impl<'x> Tree<'x> {
                 self.texts,
                 before,
                 place.slot,
-                at,
-                name,
-                spelled,
+                renaming,
             ),
-            None => self.rename_lines(before, at, name, spelled),
+            None => self.rename_lines(before, renaming),
         }
     }
 
@@ -58,19 +64,17 @@ impl<'x> Tree<'x> {
     fn rename_lines(
         &mut self,
         before: Before<'_, 'x>,
-        at: &Address,
-        name: &Name,
-        spelled: &'x str,
+        renaming: Renaming<'_, 'x>,
     ) -> Result<(), AllocError>
-        ensures slots { let read = read_of before.entry in
-            let rename = rename_below at.now name.now spelled.now in
-            OnOk result (SlotsBecome self.old.texts read rename self.old.slots.items self.new.slots.items) }
+        ensures slots { let rename = renamed_below renaming.entry in
+            OnOk result (SlotsBecome self.old.texts (read_of before.entry) rename self.old.slots.items self.new.slots.items) }
         ensures texts { OnOk result (self.new.texts ≡ self.old.texts) }
         ensures style { OnOk result (self.new.style ≡ self.old.style) }
         ensures elements { OnOk result (NoneIsGone self.old.elements → NoneIsGone self.new.elements) }
     {
-        rename_in_slots(&mut self.slots, self.texts, before, at, name, spelled)?;
-        self.elements.rename(self.texts.alloc, at, name)
+        rename_in_slots(&mut self.slots, self.texts, before, renaming)?;
+        self.elements
+            .rename(self.texts.alloc, renaming.at, renaming.name)
     }
 }
 
@@ -80,16 +84,13 @@ fn rename_in_slot<'t>(
     texts: Texts<'t>,
     before: Before<'_, 't>,
     index: usize,
-    at: &Address,
-    name: &Name,
-    spelled: &'t str,
+    renaming: Renaming<'_, 't>,
 ) -> Result<(), AllocError>
-    ensures { let read = read_of before.entry in
-        let rename = rename_below at.now name.now spelled.now in
-        OnOk result (SlotAtBecomes texts.entry read rename index slots.old.items slots.new.items) }
+    ensures { let rename = renamed_below renaming.entry in
+        OnOk result (SlotAtBecomes texts.entry (read_of before.entry) rename index slots.old.items slots.new.items) }
 {
     match slots.get_mut(index) {
-        Some(slot) => slot.rename(texts, before, at, name, spelled),
+        Some(slot) => slot.rename(texts, before, renaming),
         None => Ok(()),
     }
 }
@@ -99,57 +100,36 @@ fn rename_in_slots<'t>(
     slots: &mut Vec<Slot<'t>>,
     texts: Texts<'t>,
     before: Before<'_, 't>,
-    at: &Address,
-    name: &Name,
-    spelled: &'t str,
+    renaming: Renaming<'_, 't>,
 ) -> Result<(), AllocError>
-    ensures { let read = read_of before.entry in
-        let rename = rename_below at.now name.now spelled.now in
-        OnOk result (SlotsBecome texts.entry read rename slots.old.items slots.new.items) }
+    ensures { let rename = renamed_below renaming.entry in
+        OnOk result (SlotsBecome texts.entry (read_of before.entry) rename slots.old.items slots.new.items) }
 {
     for index in 0..slots.len() {
         if let Some(slot) = slots.get_mut(index) {
-            slot.rename_below(texts, before, at, name, spelled)?;
+            slot.rename(texts, before, renaming)?;
         }
     }
     Ok(())
 }
 
 impl<'t> Slot<'t> {
-    /// Renames in its lines at the address or below. Without such a line it stays as it is.
-    fn rename_below(
-        &mut self,
-        texts: Texts<'t>,
-        before: Before<'_, 't>,
-        at: &Address,
-        name: &Name,
-        spelled: &'t str,
-    ) -> Result<(), AllocError>
-        ensures { let rename = rename_below at.now name.now spelled.now in
-            OnOk result (SlotBecomes texts.entry (read_of before.entry) rename self.old self.new) }
-    {
-        if self.is_below(before.units, at) {
-            self.rename(texts, before, at, name, spelled)
-        } else {
-            Ok(())
-        }
-    }
-
-    /// Opens it, and renames in its lines at the address or below.
+    /// Opens it, and renames in its lines at the address or below. Without such a line it stays as it is.
     fn rename(
         &mut self,
         texts: Texts<'t>,
         before: Before<'_, 't>,
-        at: &Address,
-        name: &Name,
-        spelled: &'t str,
+        renaming: Renaming<'_, 't>,
     ) -> Result<(), AllocError>
-        ensures { let rename = rename_below at.now name.now spelled.now in
+        ensures { let rename = renamed_below renaming.entry in
             OnOk result (SlotBecomes texts.entry (read_of before.entry) rename self.old self.new) }
     {
+        if !self.is_below(before.units, renaming.at) {
+            return Ok(());
+        }
         self.open(texts.alloc, before.units)?;
         match self {
-            Slot::Lines(lines) => rename_in_lines(lines, texts, before.doc, at, name, spelled),
+            Slot::Lines(lines) => rename_in_lines(lines, texts, before.doc, renaming),
             Slot::Kept(_) => Ok(()),
         }
     }
@@ -160,17 +140,14 @@ fn rename_in_lines<'t>(
     lines: &mut Vec<Line<'t>>,
     texts: Texts<'t>,
     doc: &Doc<'t>,
-    at: &Address,
-    name: &Name,
-    spelled: &'t str,
+    renaming: Renaming<'_, 't>,
 ) -> Result<(), AllocError>
-    ensures { let read = (document doc.now).lines in
-        let rename = rename_below at.now name.now spelled.now in
-        OnOk result (LinesBecome texts.entry read rename lines.old.items lines.new.items) }
+    ensures { let rename = renamed_below renaming.entry in
+        OnOk result (LinesBecome texts.entry (document doc.now).lines rename lines.old.items lines.new.items) }
 {
     for index in 0..lines.len() {
         if let Some(line) = lines.get_mut(index) {
-            line.rename_below(texts, doc, at, name, spelled)?;
+            line.rename_below(texts, doc, renaming)?;
         }
     }
     Ok(())
@@ -182,15 +159,13 @@ impl<'t> Line<'t> {
         &mut self,
         texts: Texts<'t>,
         doc: &Doc<'t>,
-        at: &Address,
-        name: &Name,
-        spelled: &'t str,
+        renaming: Renaming<'_, 't>,
     ) -> Result<(), AllocError>
-        ensures { let rename = rename_below at.now name.now spelled.now in
+        ensures { let rename = renamed_below renaming.entry in
             OnOk result (LineBecomes texts.entry (document doc.now).lines rename self.old self.new) }
     {
-        if self.seen().is_below(at) {
-            self.rename(texts, doc, at, name, spelled)
+        if self.seen().is_below(renaming.at) {
+            self.rename(texts, doc, renaming)
         } else {
             Ok(())
         }
@@ -201,15 +176,13 @@ impl<'t> Line<'t> {
         &mut self,
         texts: Texts<'t>,
         doc: &Doc<'t>,
-        at: &Address,
-        name: &Name,
-        spelled: &'t str,
+        renaming: Renaming<'_, 't>,
     ) -> Result<(), AllocError>
-        ensures { let rename = rename_own at.now name.now spelled.now in
+        ensures { let rename = renamed_own renaming.entry in
             OnOk result (LineBecomes texts.entry (document doc.now).lines rename self.old self.new) }
     {
-        self.rename_key(texts, doc, at, spelled)?;
-        self.carry(at, name)
+        self.rename_key(texts, doc, renaming.at, renaming.spelled)?;
+        self.carry(renaming.at, renaming.name)
     }
 
     /// Gives the part of its key that stands for the address, if one does, the spelling.

@@ -11,7 +11,7 @@ use Rattle.toml_names.specs.mentions.Mentions.{Named, named, named_by, named_fro
 use Rattle.toml_names.specs.mentions.Rules.{KeepsRules, may_follow}
 use Rattle.toml_names.specs.model.Addresses.{Address, child, element, below}
 use Rattle.toml_names.proofs.Proved.{same_step-equal}
-use Rattle.toml_editor.specs.Apart.{AreApart, EachApart, KeysApart, begins_key, keys_of}
+use Rattle.toml_editor.specs.Apart.{HasKeysApart, EachApart, KeysApart, begins_key, keys_of}
 use Rattle.toml_editor.specs.SetOutlines.{outlined_names}
 use Rattle.toml_editor.specs.Standing.{Standing, IsApart, standing, standing_from}
 use Rattle.toml_editor.specs.TreeOutlines.{assign_outline, value_outline, items_outline, pairs_outline, line_outline}
@@ -109,7 +109,7 @@ pair_inside line at a v goes =
     (pairs_back Goes (fronts line at (key_names a.key)) (value_named line Valued to v ∷ inside line to v) goes).1
 
 mutual
-  pub value_apart : (v : Value) (line : ℕ) (at : Address) → PairsAre Goes (inside line at v) → AreApart (value_outline v)
+  pub value_apart : (v : Value) (line : ℕ) (at : Address) → PairsAre Goes (inside line at v) → HasKeysApart (value_outline v)
   value_apart (Scalar kind p) line at goes = tt
   value_apart (Array whole items) line at goes = items_apart items line at 0 goes
   value_apart (Inline whole pairs) line at goes = pairs_apart pairs line at goes

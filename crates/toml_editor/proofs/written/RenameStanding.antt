@@ -21,7 +21,7 @@ use Rattle.toml_editor.specs.Lines.{lines_from}
 use Rattle.toml_editor.specs.Outlines as outline
 use Rattle.toml_editor.specs.Outlines.{DottedOutline, ExprOutline}
 use Rattle.toml_editor.specs.RenameLaws.{moved, moved_one}
-use Rattle.toml_editor.specs.RenameStanding.{names_in, less, part_number, own_part_with, rename_inside, rename_own, renamed_address, rename_standing}
+use Rattle.toml_editor.specs.RenameStanding.{names_in, minus, part_number, own_part_with, rename_inside, rename_own, renamed_address, rename_standing}
 use Rattle.toml_editor.specs.RenamedHeaders.{rename_along, rename_rest_along}
 use Rattle.toml_editor.specs.RenamingIn.{dotted_with}
 use Rattle.toml_editor.specs.RenameOutlines.{rename_outline, rename_outlined}
@@ -30,7 +30,7 @@ use Rattle.toml_editor.specs.Standing.{Standing, begins, line_stands, standing_f
 use Rattle.toml_editor.specs.StandingLaws.{RenameStands}
 use Rattle.toml_editor.specs.TreeOutlines.{assign_outline, dotted_outline, header_outline, line_of, value_outline}
 use Rattle.toml_editor.proofs.Each.{each_front, each_back}
-use Rattle.toml_editor.proofs.RenameAway.{less_some, pair_renamed, step_other}
+use Rattle.toml_editor.proofs.RenameAway.{minus_some, pair_renamed, step_other}
 use Rattle.toml_editor.proofs.RenameInside.{above_behind, above_more, child_apart, part_kept, same_behind}
 use Rattle.toml_editor.proofs.RenameOutlined.{assign_renamed, part_renamed, value_renamed}
 use Rattle.toml_editor.proofs.SetOutlined.{names_outlined}
@@ -224,7 +224,7 @@ module _ (to : List ℕ) where
         number : part_number (child q n) None ≡ Some (names_in q)
         number =
             let size = names_before q n in
-            less_some (names_in (child q n)) 1 (omega (arith, size)) ∙ ap Some (let e : names_in (child q n) - 1 ≡ names_in q = omega (arith, size) in e)
+            minus_some (names_in (child q n)) 1 (omega (arith, size)) ∙ ap Some (let e : names_in (child q n) - 1 ≡ names_in q = omega (arith, size) in e)
 
         either : (b : Bool) → of_dots h.key (cond b (dotted_with (names_in q) text (dots (parts_of h.key))) (dots (parts_of h.key)))
             ≡ cond b (own_part_with (Some (names_in q)) text (header_of h.key)) (header_of h.key)
@@ -284,7 +284,7 @@ module _ (q : Address) (n to : List ℕ) where
         let a = assign_outline kv.assign in
         let v = value_outline kv.value in
         let renamed = subst (λ k. outline.Pair (rename_outlined p (spelled to) s a) (rename_outline p (spelled to) (below s k) v)
-        ≡ cond (begins p (below s k)) (own_part_with (less (length p) (length s + 1)) (spelled to) (outline.Pair a v)) (outline.Pair a (rename_outline p (spelled to) (below s k) v)))
+        ≡ cond (begins p (below s k)) (own_part_with (minus (length p) (length s + 1)) (spelled to) (outline.Pair a v)) (outline.Pair a (rename_outline p (spelled to) (below s k) v)))
         names (pair_renamed p s (spelled to) a v) in
         stands x (Some (length s)) (line_base (map one xs) (rename_expr p to xs e)) (own_address (map one xs) (rename_expr p to xs e)) ws.text (outline.Pair a v)
         (outline.Pair a (rename_outline p (spelled to) x v)) _ b newline (unit.address ∙ sym (carried (Some x))) unit.base

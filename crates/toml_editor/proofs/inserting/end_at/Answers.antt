@@ -1,12 +1,13 @@
 use Rattle.std.proofs.Common.{refl}
+use Rattle.std.proofs.lemmas.Result.{on_ok_weaker}
 use Rattle.toml_editor.specs.OpenOutlines.{leaf_text}
 use Rattle.toml_editor.specs.Starting.{read_of}
-use Rattle.toml_editor.proofs.Put.{at_ended, no_slot_ended, on_ok}
+use Rattle.toml_editor.proofs.Put.{at_ended, no_slot_ended}
 use Rattle.toml_editor.proofs.inserting.end_at.Goals as goal
 
 pub returns-in-Some : goal.returns-in-Some
 returns-in-Some c =
-    on_ok _ _ c.end_in.result
+    on_ok_weaker c.end_in.result
     (at_ended (leaf_text c.args.newline) c.args.texts (read_of c.args.before) c.args.at c.args.slots.now.items _ c.in-Some.slot.now c.end_in.new.self
     c.in-Some.ensures.item.3.0 c.in-Some.ensures.value refl) c.end_in.ensures
 

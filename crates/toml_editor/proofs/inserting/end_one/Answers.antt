@@ -1,16 +1,17 @@
-use Rattle.std.proofs.Common.{refl}
+use Rattle.std.proofs.lemmas.Result.{on_ok_weaker}
 use Rattle.toml_tree.specs.Document.{document}
 use Rattle.toml_editor.specs.OpenOutlines.{leaf_text}
-use Rattle.toml_editor.proofs.Put.{line_ended, none_ended, on_ok, one_ended}
+use Rattle.toml_editor.proofs.Put.{line_ended}
+use Rattle.toml_editor.proofs.Turned.{if_one_turns, none_turns}
 use Rattle.toml_editor.proofs.inserting.end_one.Goals as goal
 
 pub returns-in-Some : goal.returns-in-Some
 returns-in-Some c =
     let lines = (document c.args.doc.now).lines in
-    on_ok _ _ c.end_in.result (λ opened.
-    one_ended (leaf_text c.args.newline) c.args.texts lines c.args.index c.args.lines.now.items _ c.in-Some.line.now c.end_in.new.self
-    c.in-Some.ensures.item.3.0 c.in-Some.ensures.value refl
-    (line_ended (leaf_text c.args.newline) c.args.texts lines c.in-Some.line.now c.end_in.new.self c.end_in.ensures.address c.end_in.ensures.base opened)) c.end_in.ensures.opened
+    if_one_turns c.end_in.result _ c.args.index c.args.lines.now.items c.in-Some.line.now c.end_in.new.self c.in-Some.ensures.item.3.0 c.in-Some.ensures.value
+    (on_ok_weaker c.end_in.result
+    (line_ended (leaf_text c.args.newline) c.args.texts lines c.in-Some.line.now c.end_in.new.self c.end_in.ensures.address c.end_in.ensures.base)
+    c.end_in.ensures.opened)
 
 pub returns-in-None : goal.returns-in-None
-returns-in-None c = none_ended (leaf_text c.args.newline) c.args.texts (document c.args.doc.now).lines c.args.index c.args.lines.now.items c.in-None.ensures.item.3
+returns-in-None c = none_turns _ c.args.index c.args.lines.now.items c.in-None.ensures.item.3

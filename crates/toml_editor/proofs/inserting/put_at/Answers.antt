@@ -1,11 +1,12 @@
 use Rattle.std.proofs.Common.{refl}
+use Rattle.std.proofs.lemmas.Result.{on_ok_weaker}
 use Rattle.toml_editor.specs.Starting.{read_of}
-use Rattle.toml_editor.proofs.Put.{at_put, no_slot_put, on_ok}
+use Rattle.toml_editor.proofs.Put.{at_put, no_slot_put}
 use Rattle.toml_editor.proofs.inserting.put_at.Goals as goal
 
 pub returns-in-Some : goal.returns-in-Some
 returns-in-Some c =
-    on_ok _ _ c.put.result
+    on_ok_weaker c.put.result
     (at_put (read_of c.args.before) c.args.at c.args.line c.args.slots.now.items _ c.in-Some.slot.now c.put.new.self
     c.in-Some.ensures.item.3.0 c.in-Some.ensures.value refl) c.put.ensures
 

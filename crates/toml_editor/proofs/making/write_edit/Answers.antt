@@ -6,7 +6,7 @@ use Rattle.toml_editor.specs.Exact.{WritesEdit, WritesInsert, WritesSet}
 use Rattle.toml_editor.specs.RemovingIn.{RemovesLines}
 use Rattle.toml_editor.specs.SpelledEdits.{IsSpelled}
 use Rattle.toml_editor.specs.Starting.{read_of}
-use Rattle.toml_editor.proofs.MakesExact.{if_ok_all, if_ok_with}
+use Rattle.toml_editor.proofs.Answered.{if_ok_both, if_ok_with}
 use Rattle.toml_editor.proofs.making.write_edit.Goals as goal
 
 pub returns-in-Set : goal.returns-in-Set
@@ -47,7 +47,7 @@ returns-in-Insert c =
     let steps = c.args.spelled.now.steps.items in
     let spelled = subst (λ e. IsSpelled (change e) c.args.spelled.now) c.in-Insert.is c.requires in
     subst (λ e. IfOk result (WritesEdit profile read (change e) old new)) (sym c.in-Insert.is)
-    (if_ok_all _ _ _ result
+    (if_ok_both _ _ _ result
     (λ done rest writes whole.
     let at = c.in_ok-at.ensures whole ∙ c.place.ensures ∙ ap (λ e. place (change e)) c.in-Insert.is in (
       steps,

@@ -1,4 +1,5 @@
 use Rattle.std.proofs.Common.{ap, ◌∙◌, subst}
+use Rattle.std.proofs.lemmas.Result.{on_ok_weaker}
 use Rattle.toml_tree.proofs.Proved.{one_value}
 use Rattle.toml_text.specs.Source.{text_of}
 use Rattle.toml_editor.specs.Exact.{style}
@@ -6,14 +7,13 @@ use Rattle.toml_editor.specs.Opening.{OpensText}
 use Rattle.toml_editor.specs.Putting.{InsertsLines}
 use Rattle.toml_editor.specs.Starting.{read_of}
 use Rattle.toml_editor.specs.TreeOutlines.{value_outline}
-use Rattle.toml_editor.proofs.Put.{on_ok}
 use Rattle.toml_editor.proofs.making.write_insert.Goals as goal
 
 pub returns-in_ok-parent-in-Some-clause-insert : goal.returns-in_ok-parent-in-Some-clause-insert
 returns-in_ok-parent-in-Some-clause-insert c =
     let old = c.args.tree.now in
     let (w, of_text, outlined) = subst (OpensText c.args.read.profile c.args.value.now) c.in-Some.is c.in_ok-new.ensures in
-    on_ok _ _ c.insert.result
+    on_ok_weaker c.insert.result
     (λ inserts within v is.
     subst (λ o. InsertsLines c.args.at.now c.args.steps.now o (style old) (text_of old.texts.source) (read_of c.args.read.before) old.slots.items c.insert.new.self.slots.items)
     (outlined ∙ ap value_outline (one_value w v 0 c.args.value.now of_text.0 is.0)) inserts)

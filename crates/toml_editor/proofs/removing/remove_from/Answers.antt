@@ -1,4 +1,4 @@
-use Rattle.std.proofs.Common.{◌∙◌, ◌∷◌, ◌++◌, [], List, append-nil, ap, map-id, subst, sym}
+use Rattle.std.proofs.Common.{◌∙◌, ◌++◌, List, append-nil, ap, map-id, subst, sym}
 use Rattle.std.proofs.lemmas.Iterator.Adapters.{YieldsList-from_vec}
 use Rattle.std.proofs.lemmas.Iterator.Consumers.{YieldsList-end}
 use Rattle.toml_editor.specs.declared.lines.Line.{Line}
@@ -8,24 +8,18 @@ use Rattle.toml_editor.proofs.removing.remove_from.Goals as goal
 
 pub loop-line-preserved-in-Continue-branch-3 : goal.loop-line-preserved-in-Continue-branch-3
 loop-line-preserved-in-Continue-branch-3 c stays =
-    let (held, so_far) = c.loop-line.invariant stays in
-    let p = c.args.at.now in
-    let over = c.loop-line.yielded ++ c.in-Some.line ∷ [] in
-    let lines = c.loop-line.lines.items in
-    let made = more_left p c.loop-line.yielded lines c.in-Some.line c.in_ok-left.field-0 so_far (c.in_ok-left.ensures.left held) in (
+    let (held, so_far) = c.loop-line.invariant stays in (
       c.in_ok-left.ensures.parent held,
-      subst (LeavesLines p over) (ap (λ o. lines ++ lines_of o) c.in-Some-2.is ∙ sym {A = List Line} c.in_ok-push.ensures.items) made,
+      more_left c.args.at.now c.loop-line.yielded c.loop-line.lines.items _ c.in-Some.line c.in_ok-left.field-0 so_far (c.in_ok-left.ensures.left held)
+          (ap (λ o. c.loop-line.lines.items ++ lines_of o) c.in-Some-2.is ∙ sym {A = List Line} c.in_ok-push.ensures.items),
     )
 
 pub loop-line-preserved : goal.loop-line-preserved
 loop-line-preserved c stays =
-    let (held, so_far) = c.loop-line.invariant stays in
-    let p = c.args.at.now in
-    let over = c.loop-line.yielded ++ c.in-Some.line ∷ [] in
-    let lines = c.loop-line.lines.items in
-    let made = more_left p c.loop-line.yielded lines c.in-Some.line c.in_ok-left.field-0 so_far (c.in_ok-left.ensures.left held) in (
+    let (held, so_far) = c.loop-line.invariant stays in (
       c.in_ok-left.ensures.parent held,
-      subst (LeavesLines p over) (ap (λ o. lines ++ lines_of o) c.in_default.is ∙ append-nil lines) made,
+      more_left c.args.at.now c.loop-line.yielded c.loop-line.lines.items _ c.in-Some.line c.in_ok-left.field-0 so_far (c.in_ok-left.ensures.left held)
+          (ap (λ o. c.loop-line.lines.items ++ lines_of o) c.in_default.is ∙ append-nil c.loop-line.lines.items),
     )
 
 pub returns : goal.returns

@@ -1,35 +1,29 @@
-use Rattle.std.proofs.Common.{arith, ◌+◌, inl, inr, ◌≤◌, length, sym, subst}
+use Rattle.std.proofs.Common.{arith, ◌+◌, sym, subst}
 use Rattle.std.specs.declared.alloc.Global.{Global}
 use Rattle.std.specs.declared.vec.Vec.{Vec}
-use Rattle.std.proofs.lemmas.Bool.{cases_lt, false≢true}
 use Rattle.toml_editor.specs.Starting.{read_of}
 use Rattle.toml_editor.specs.declared.lines.Slot.{Slot}
-use Rattle.toml_editor.specs.Becoming.{SlotBecomes}
-use Rattle.toml_editor.specs.RenameStanding.{rename_below}
-use Rattle.toml_editor.proofs.OneByOne.{SoFar, all_done, none_more, one_more}
+use Rattle.toml_editor.specs.Becoming.{SlotBecomes, renamed_below}
+use Rattle.toml_editor.proofs.OneByOne.{SoFar, all_done, none_there, one_more}
 use Rattle.toml_editor.proofs.renaming.rename_in_slots.Goals as goal
-use Rattle.toml_editor.proofs.renaming.rename_in_slots.Goals.{in-Some+in_ok-rename_below, in_default}
+use Rattle.toml_editor.proofs.renaming.rename_in_slots.Goals.{in-Some+in_ok-rename, in_default}
 
 pub loop-index-preserved : goal.loop-index-preserved
 loop-index-preserved c =
-    let R = SlotBecomes c.args.texts (read_of c.args.before) (rename_below c.args.at.now c.args.name.now c.args.spelled.now) in
+    let R = SlotBecomes c.args.texts (read_of c.args.before) (renamed_below c.args.renaming) in
     let old = c.args.slots.now.items in
     let now = c.loop-index.slots in
     let i = c.loop-index.index in
+    let so_far = c.loop-index.invariant in
     elim c.match-get_mut.branch [
-      | in-Some+in_ok-rename_below w ↦
+      | in-Some+in_ok-rename w ↦
           subst (λ (slots : Vec Slot Global). SoFar R (i + 1) old slots.items) (sym w.slots-is)
-          (one_more R i old now.items w.in-Some.slot.now w.rename_below.new.self c.loop-index.invariant w.in-Some.ensures.item.3.0 w.in-Some.ensures.value w.in_ok-rename_below.ensures)
+          (one_more R i old now.items w.in-Some.slot.now w.rename.new.self so_far w.in-Some.ensures.item.3.0 w.in-Some.ensures.value w.in_ok-rename.ensures)
       | in_default w ↦
-          let past : length now.items ≤ i = elim (cases_lt i now.len) [
-            | inl low ↦ absurd (false≢true (w.in_default.ensures.variant.1 low))
-            | inr past ↦ omega (arith, now.ok.0, past)
-          ] in
-          subst (λ (slots : Vec Slot Global). SoFar R (i + 1) old slots.items) (sym w.slots-is) (none_more R i old now.items c.loop-index.invariant past)
+          subst (λ (slots : Vec Slot Global). SoFar R (i + 1) old slots.items) (sym w.slots-is) (none_there R i old now so_far w.in_default.ensures.variant.1)
     ]
 
 pub returns : goal.returns
 returns c =
-    let R = SlotBecomes c.args.texts (read_of c.args.before) (rename_below c.args.at.now c.args.name.now c.args.spelled.now) in
-    all_done R c.loop-index.index c.args.slots.now.items c.loop-index.slots.items c.loop-index.invariant
+    all_done (SlotBecomes c.args.texts (read_of c.args.before) (renamed_below c.args.renaming)) c.loop-index.index c.args.slots.now.items c.loop-index.slots.items c.loop-index.invariant
     (omega (arith, c.loop-index-test.false, c.len-index-end.ensures, c.args.slots.now.ok.0))

@@ -8,6 +8,7 @@ use Rattle.toml_editor.proofs.lines.Line.rename_below.Goals as goal
 
 pub returns-then-is_below : goal.returns-then-is_below
 returns-then-is_below c =
-    let here = ap (λ (f : Found). lies_below c.args.at.now f.address) (sym c.seen.ensures) ∙ sym c.is_below.ensures ∙ c.if-is_below.true in
+    let r = c.args.renaming in
+    let here = ap (λ (f : Found). lies_below r.at.now f.address) (sym c.seen.ensures) ∙ sym c.is_below.ensures ∙ c.if-is_below.true in
     IfOk-weaker c.rename.result _ _ (λ done becomes.
-    below_renamed c.args.at.now c.args.name.now c.args.spelled.now c.args.texts (document c.args.doc.now).lines c.args.self.now c.rename.new.self here becomes) c.rename.ensures
+    below_renamed r.at.now r.name.now r.spelled.now c.args.texts (document c.args.doc.now).lines c.args.self.now c.rename.new.self here becomes) c.rename.ensures

@@ -1,7 +1,10 @@
-use Rattle.std.proofs.Common.{arith, inl, inr, ◌≤◌, ◌≡◌, ◌∙◌, ◌∷◌, ◌++◌, ap, drop, refl, subst, sym, [], None, Some}
-use Rattle.std.proofs.lemmas.Bool.{cases_lt, false≢true}
-use Rattle.std.proofs.lemmas.Option.{slice_get_past, slice_get_read}
+use Rattle.std.proofs.Common.{◌≡◌, ℕ, List, ◌∙◌, ap, drop, refl, subst, sym, None, Some}
+use Rattle.std.proofs.lemmas.Option.{slice_get_read}
 use Rattle.std.specs.Box.{with_value}
+use Rattle.std.specs.Global.{Box}
+use Rattle.toml_names.specs.model.Addresses.{Address}
+use Rattle.toml_editor.specs.declared.tree.Entries.{Entries}
+use Rattle.toml_editor.specs.declared.tree.Value.{Value}
 use Rattle.toml_editor.specs.declared.tree.Value.TheVariants.{Array, Inline}
 use Rattle.toml_editor.specs.declared.tree.Value.TheViews.{out-Entries}
 use Rattle.toml_editor.specs.Leading.{first_index, LeadsOn}
@@ -9,9 +12,18 @@ use Rattle.toml_editor.specs.OpenOutlines.{entries, value}
 use Rattle.toml_editor.specs.Outlines.{Listed, Braced}
 use Rattle.toml_editor.specs.RenamingIn.{KeysRenamed, RenamesEntry, RenamesIn}
 use Rattle.toml_editor.proofs.OpenEntries.{entry_changed, entry_missing, entry_with}
+use Rattle.toml_editor.proofs.Past.{none_past}
 use Rattle.toml_editor.proofs.Outlined.{array_made, inline_made}
 use Rattle.toml_editor.proofs.RenameInside.{list_kept, list_renamed, no_step, no_step_renamed, table_keys_renamed, table_renamed}
 use Rattle.toml_editor.proofs.texts.Texts.+renaming.Goals as goal
+
+-- the value that an inline table has become, of the outlines of it
+braced_renamed : (steps : Address) (to : List ℕ) (own : Value) (pairs : Box Entries) (now : Entries) → own ≡ Inline pairs
+    → RenamesIn steps to (Braced (entries pairs.value).opening (entries pairs.value).entries) (Braced (entries now).opening (entries now).entries)
+    → RenamesIn steps to (value own) (value (Inline (with_value pairs now)))
+braced_renamed steps to own pairs now is renames =
+    subst (λ v. RenamesIn steps to v (value (Inline (with_value pairs now)))) (sym (ap value is ∙ inline_made pairs))
+    (subst (λ v. RenamesIn steps to (Braced (entries pairs.value).opening (entries pairs.value).entries) v) (sym (inline_made (with_value pairs now))) renames)
 
 pub rename_entry-returns-in_ok-rename_in-in-Some : goal.rename_entry-returns-in_ok-rename_in-in-Some
 rename_entry-returns-in_ok-rename_in-in-Some t c =
@@ -25,12 +37,7 @@ rename_entry-returns-in_ok-rename_in-in-Some t c =
 pub rename_entry-returns-in-None : goal.rename_entry-returns-in-None
 rename_entry-returns-in-None t c =
     let list = (out-Entries c.args.entries.now).list in
-    let past : list.len ≤ c.args.index = elim (cases_lt c.args.index list.len) [
-      | inl low ↦ absurd (false≢true (c.in-None.ensures.variant.1 low))
-      | inr past ↦ past
-    ] in
-    let none = slice_get_past list.items c.args.index (omega (arith, list.ok.0, past)) in
-    entry_missing (RenamesIn c.args.steps.now c.args.to.now) (Unit {0}) c.args.entries.now c.args.index none tt
+    entry_missing (RenamesIn c.args.steps.now c.args.to.now) (Unit {0}) c.args.entries.now c.args.index (none_past list.items list.len c.args.index list.ok.0 c.in-None.ensures.variant.1) tt
 
 pub rename_in-returns-in_default : goal.rename_in-returns-in_default
 rename_in-returns-in_default t c =
@@ -68,41 +75,27 @@ rename_in-returns-in_ok-rename_entry-in-Some-2 t c =
     let steps = c.args.steps.now in
     let to = c.args.to.now in
     let parent = c.in-Some.parent.now in
-    let last = c.in-Some.field-0-0.now in
-    let split : steps ≡ parent ++ last ∷ [] = c.in-Some.ensures.cases.0 in
     let old = entries c.in-Inline.pairs.value in
     let now = entries c.rename_entry-in-Some-2.new.entries in
     let i = c.in-Some-2.index in
     let used = c.in-Some-2.used in
-    let before = ap value c.in-Inline.is ∙ inline_made c.in-Inline.pairs in
     let found : LeadsOn old.entries parent (Some (i, used)) =
     subst (λ r. LeadsOn old.entries parent r) c.in-Some-2.is
     (subst (λ e. LeadsOn (entries e).entries parent c.in_ok-index-in-Inline.field-0) c.deref.ensures c.in_ok-index-in-Inline.ensures) in
     let inner : RenamesEntry i (drop used steps) to old now =
     subst (λ s. RenamesEntry i s to old now) c.behind-in-Some-2.ensures
     (subst (λ e. RenamesEntry i c.behind-in-Some-2.result.now to (entries e) now) c.deref_mut-in-Some-2.ensures.value c.in_ok-rename_entry-in-Some-2.ensures) in
-    let after = with_value c.in-Inline.pairs c.rename_entry-in-Some-2.new.entries in
-    let done = subst (λ s. RenamesIn s to (Braced old.opening old.entries) (Braced now.opening now.entries)) (sym split)
-    (table_renamed parent last i used to old now found (subst (λ s. RenamesEntry i (drop used s) to old now) split inner)) in
-    subst (λ v. RenamesIn steps to v (value (Inline after))) (sym before)
-    (subst (λ v. RenamesIn steps to (Braced old.opening old.entries) v) (sym (inline_made after)) done)
+    braced_renamed steps to c.args.own.now c.in-Inline.pairs _ c.in-Inline.is (table_renamed steps parent c.in-Some.field-0-0.now i used to old now c.in-Some.ensures.cases.0 found inner)
 
 pub rename_in-returns-in_ok-rename_keys-in-None-2 : goal.rename_in-returns-in_ok-rename_keys-in-None-2
 rename_in-returns-in_ok-rename_keys-in-None-2 t c =
     let steps = c.args.steps.now in
     let to = c.args.to.now in
     let parent = c.in-Some.parent.now in
-    let last = c.in-Some.field-0-0.now in
-    let split : steps ≡ parent ++ last ∷ [] = c.in-Some.ensures.cases.0 in
     let old = entries c.in-Inline.pairs.value in
     let now = entries c.rename_keys.new.pairs in
-    let before = ap value c.in-Inline.is ∙ inline_made c.in-Inline.pairs in
     let none : LeadsOn old.entries parent None =
     subst (λ r. LeadsOn old.entries parent r) c.in-None-2.is
     (subst (λ e. LeadsOn (entries e).entries parent c.in_ok-index-in-Inline.field-0) c.deref.ensures c.in_ok-index-in-Inline.ensures) in
     let inner : KeysRenamed steps to old now = subst (λ e. KeysRenamed steps to (entries e) now) c.deref_mut-in-None-2.ensures.value c.in_ok-rename_keys-in-None-2.ensures in
-    let after = with_value c.in-Inline.pairs c.rename_keys.new.pairs in
-    let done = subst (λ s. RenamesIn s to (Braced old.opening old.entries) (Braced now.opening now.entries)) (sym split)
-    (table_keys_renamed parent last to old now none (subst (λ s. KeysRenamed s to old now) split inner)) in
-    subst (λ v. RenamesIn steps to v (value (Inline after))) (sym before)
-    (subst (λ v. RenamesIn steps to (Braced old.opening old.entries) v) (sym (inline_made after)) done)
+    braced_renamed steps to c.args.own.now c.in-Inline.pairs _ c.in-Inline.is (table_keys_renamed steps parent c.in-Some.field-0-0.now to old now c.in-Some.ensures.cases.0 none inner)

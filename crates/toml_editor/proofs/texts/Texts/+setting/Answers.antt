@@ -1,6 +1,5 @@
-use Rattle.std.proofs.Common.{arith, inl, inr, ◌≤◌, ◌≡◌, ◌∙◌, ap, drop, refl, subst, sym, true, false, Some}
-use Rattle.std.proofs.lemmas.Bool.{cases_lt, false≢true}
-use Rattle.std.proofs.lemmas.Option.{slice_get_past, slice_get_read}
+use Rattle.std.proofs.Common.{◌≡◌, ◌∙◌, ap, drop, refl, subst, sym, true, false, Some}
+use Rattle.std.proofs.lemmas.Option.{slice_get_read}
 use Rattle.std.specs.Box.{with_value}
 use Rattle.toml_editor.specs.declared.tree.Value.TheVariants.{Array, Inline}
 use Rattle.toml_editor.specs.declared.tree.Value.TheViews.{out-Entries}
@@ -9,6 +8,7 @@ use Rattle.toml_editor.specs.OpenOutlines.{entries, leaf_text, value}
 use Rattle.toml_editor.specs.Outlines.{Listed, Braced}
 use Rattle.toml_editor.specs.Stands.{SetsIn}
 use Rattle.toml_editor.proofs.OpenEntries.{entry_changed, entry_missing, entry_with}
+use Rattle.toml_editor.proofs.Past.{none_past}
 use Rattle.toml_editor.proofs.Outlined.{array_made, inline_made, scalar_made}
 use Rattle.toml_editor.proofs.SetInside.{empty_if, some_if, set_here, token_kept, list_kept, list_set, table_kept, table_set}
 use Rattle.toml_editor.proofs.texts.Texts.+setting.Goals as goal
@@ -26,12 +26,7 @@ set_entry-returns-in_ok-done-in-Some t c =
 pub set_entry-returns-in-None : goal.set_entry-returns-in-None
 set_entry-returns-in-None t c =
     let list = (out-Entries c.args.entries.now).list in
-    let past : list.len ≤ c.args.index = elim (cases_lt c.args.index list.len) [
-      | inl low ↦ absurd (false≢true (c.in-None.ensures.variant.1 low))
-      | inr past ↦ past
-    ] in
-    let none = slice_get_past list.items c.args.index (omega (arith, list.ok.0, past)) in
-    entry_missing (λ v w. SetsIn c.args.steps.now (value c.args.new) v w false) (false ≡ false) c.args.entries.now c.args.index none refl
+    entry_missing (λ v w. SetsIn c.args.steps.now (value c.args.new) v w false) (false ≡ false) c.args.entries.now c.args.index (none_past list.items list.len c.args.index list.ok.0 c.in-None.ensures.variant.1) refl
 
 pub set_in-returns-then-is_empty : goal.set_in-returns-then-is_empty
 set_in-returns-then-is_empty t c =

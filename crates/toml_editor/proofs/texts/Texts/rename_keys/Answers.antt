@@ -1,9 +1,9 @@
-use Rattle.std.proofs.Common.{arith, ◌+◌, inl, inr, ◌≤◌, refl, subst, sym}
-use Rattle.std.proofs.lemmas.Bool.{cases_lt, false≢true}
+use Rattle.std.proofs.Common.{arith, ◌+◌, refl, subst, sym}
 use Rattle.std.proofs.lemmas.Option.{slice_get_read}
 use Rattle.toml_editor.specs.declared.tree.Value.TheViews.{out-Entries}
 use Rattle.toml_editor.specs.OpenOutlines.{entries}
 use Rattle.toml_editor.proofs.KeysRenamed.{SoFar, key_missing, key_written, keys_written}
+use Rattle.toml_editor.proofs.Past.{past_end}
 use Rattle.toml_editor.proofs.texts.Texts.rename_keys.Goals as goal
 use Rattle.toml_editor.proofs.texts.Texts.rename_keys.Goals.{in-Some+in_ok-rename_pair, in_default}
 
@@ -20,12 +20,8 @@ loop-index-preserved c =
           subst (λ pairs. SoFar c.args.steps.now c.args.to.now (i + 1) old (entries pairs)) (sym w.pairs-is)
           (key_written c.args.steps.now c.args.to.now old now _ i e w.rename_pair.new.pair got refl w.in_ok-rename_pair.ensures c.loop-index.invariant)
       | in_default w ↦
-          let past : list.len ≤ i = elim (cases_lt i list.len) [
-            | inl low ↦ absurd (false≢true (w.in_default.ensures.variant.1 low))
-            | inr past ↦ past
-          ] in
           subst (λ pairs. SoFar c.args.steps.now c.args.to.now (i + 1) old (entries pairs)) (sym w.pairs-is)
-          (key_missing c.args.steps.now c.args.to.now old now i (omega (arith, list.ok.0, past)) c.loop-index.invariant)
+          (key_missing c.args.steps.now c.args.to.now old now i (past_end list.items list.len i list.ok.0 w.in_default.ensures.variant.1) c.loop-index.invariant)
     ]
 
 pub returns : goal.returns

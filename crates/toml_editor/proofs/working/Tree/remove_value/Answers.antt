@@ -1,7 +1,7 @@
 use Rattle.std.proofs.Common.{◌<◌, length, ap, arith}
 use Rattle.std.proofs.lemmas.Result.{IfOk-weaker}
 use Rattle.toml_editor.specs.Starting.{read_of}
-use Rattle.toml_editor.proofs.MakesExact.{if_ok_with}
+use Rattle.toml_editor.proofs.Answered.{if_ok_with}
 use Rattle.toml_editor.proofs.RemovedOne.{holder_goes, never_inside}
 use Rattle.toml_editor.proofs.working.Tree.remove_value.Goals as goal
 
