@@ -5,15 +5,15 @@ use Rattle.std.specs.Prelude.{AllPairs, option_map, slice_index_or}
 use Rattle.std.proofs.Math.ListN.{get_or-map}
 use Rattle.std.proofs.lemmas.List.{length-map, map-append}
 use Rattle.toml_names.specs.model.Addresses.{Address, same_address, element, below}
-use Rattle.toml_editor.specs.Apart.{AreApart, EachApart, KeysApart, keys_of}
+use Rattle.toml_editor.specs.Apart.{HasKeysApart, EachApart, KeysApart, keys_of}
 use Rattle.toml_editor.specs.AsNew.{as_new, value_as_new, entries_as_new, expr_as_new, line_as_new, standing_as_new}
 use Rattle.toml_editor.specs.InsertStanding.{AreRooted, LeavesRoot, RootIsFirst, end_in, has_pair, insert_behind, insert_standing, line_behind, new_standing, pair_or}
 use Rattle.toml_editor.specs.Outlines.{ValueOutline, Token, Listed, Braced, EntriesOutline, End, Entry, ExprOutline, Nothing, Pair, Header, LineOutline}
 use Rattle.toml_editor.specs.RemoveStanding.{empty_standing, is_pair, left_standing, remove_standing, without_one}
 use Rattle.toml_editor.specs.RenameOutlines.{rename_outlined, rename_outline, rename_listed, rename_braced}
-use Rattle.toml_editor.specs.RenameStanding.{key_part_with, own_part_with, part_number, rename_expr_outline, rename_inside, rename_outline_of, rename_own, rename_standing}
+use Rattle.toml_editor.specs.RenameStanding.{key_part_with, own_part_with, part_number, rename_inside, rename_outline_of, rename_own, rename_standing}
 use Rattle.toml_editor.specs.SetOutlines.{has_braced, has_listed, has_outline, has_within, outlined_names, set_braced, set_listed, set_outline, set_outline_at, set_outline_within}
-use Rattle.toml_editor.specs.Standing.{AreOrdered, IsApart, Standing, StandAlone, covers, covers_at, expr_has, has, holds, is_below, outline_has, set_expr_outline, set_outline_of, set_standing}
+use Rattle.toml_editor.specs.Standing.{AreOrdered, IsApart, Standing, StandAlone, covers, covers_at, expr_has, has, holds, is_below, outline_has, set_outline_of, set_standing, with_value_outline}
 use Rattle.toml_tree.specs.Spells.{EachIs}
 
 -- ---- `set`
@@ -50,7 +50,8 @@ module _ (p : Address) (new : ValueOutline) where
         let there = below at (outlined_names a) in
         ap₂ (λ w r. Entry (as_new before) (Some a) w (as_new after) r) (set_at_new v there (set_within_new v there)) (set_braced_new es at)
 
-  set_expr_new : (e : ExprOutline) (at : Address) → expr_as_new (set_expr_outline p new at e) ≡ set_expr_outline p (value_as_new new) at (expr_as_new e)
+  set_expr_new : (e : ExprOutline) (at : Address) → expr_as_new (with_value_outline (set_outline p new at) e)
+      ≡ with_value_outline (set_outline p (value_as_new new) at) (expr_as_new e)
   set_expr_new Nothing at = refl
   set_expr_new (Pair a v) at = ap (Pair a) (set_at_new v at (set_within_new v at))
   set_expr_new (Header opening before first rest after closing) at = refl
@@ -129,7 +130,8 @@ module _ (p : Address) (text : List ℕ) where
     rename_braced_new (Entry before (Some a) v after es) at =
         ap₂ (λ w r. Entry (as_new before) (Some (rename_outlined p text at a)) w (as_new after) r) (rename_new v (below at (outlined_names a))) (rename_braced_new es at)
 
-  rename_expr_new : (e : ExprOutline) (at : Address) → expr_as_new (rename_expr_outline p text at e) ≡ rename_expr_outline p text at (expr_as_new e)
+  rename_expr_new : (e : ExprOutline) (at : Address) → expr_as_new (with_value_outline (rename_outline p text at) e)
+      ≡ with_value_outline (rename_outline p text at) (expr_as_new e)
   rename_expr_new Nothing at = refl
   rename_expr_new (Pair a v) at = ap (Pair a) (rename_new v at)
   rename_expr_new (Header opening before first rest after closing) at = refl
@@ -228,7 +230,7 @@ keys_new (Entry before None v after es) = keys_new es
 keys_new (Entry before (Some a) v after es) = ap (λ r. outlined_names a ∷ r) (keys_new es)
 
 mutual
-  apart_of : (v : ValueOutline) → AreApart (value_as_new v) → AreApart v
+  apart_of : (v : ValueOutline) → HasKeysApart (value_as_new v) → HasKeysApart v
   apart_of (Token text) h = tt
   apart_of (Listed opening es) h = each_apart_of es h
   apart_of (Braced opening es) h = (subst KeysApart (keys_new es) h.0, each_apart_of es h.1)

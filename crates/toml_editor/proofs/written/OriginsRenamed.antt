@@ -14,10 +14,10 @@ use Rattle.toml_editor.specs.Outlines as outline
 use Rattle.toml_editor.specs.Outlines.{Origins, ValueOutline, Token, Listed, Braced, EntriesOutline, End, Entry, ExprOutline, LineOutline, value_origins, entries_origins, expr_origins, origins_if, line_origins}
 use Rattle.toml_editor.specs.RenamedUnits.{GoTogether, IsCarried}
 use Rattle.toml_editor.specs.RenameOutlines.{rename_outline, rename_listed, rename_braced}
-use Rattle.toml_editor.specs.RenameStanding.{part_number, own_part_with, rename_own, rename_expr_outline, rename_outline_of, rename_inside, rename_standing}
+use Rattle.toml_editor.specs.RenameStanding.{part_number, own_part_with, rename_own, rename_outline_of, rename_inside, rename_standing}
 use Rattle.toml_editor.specs.Renaming.{rename_lines}
 use Rattle.toml_editor.specs.SetOutlines.{outlined_names}
-use Rattle.toml_editor.specs.Standing.{Standing, is_below, standing_origins, standing}
+use Rattle.toml_editor.specs.Standing.{Standing, is_below, standing_origins, standing, with_value_outline}
 use Rattle.toml_editor.proofs.written.OriginsCounted.{count_origins}
 use Rattle.toml_editor.proofs.written.UnitsRenamed.{rename_units}
 use Rattle.toml_editor.proofs.written.WayOrigins.{along, StepWay}
@@ -52,7 +52,7 @@ module _ (p : Address) (to text : List ℕ) where
     braced_stay (Entry before (Some a) v after es) at =
         ap₂ (λ x y. before.origins ++ (x ++ (after.origins ++ y))) (value_stays v (below at (outlined_names a))) (braced_stay es at)
 
-  expr_stays : (e : ExprOutline) (at : Address) → expr_origins (rename_expr_outline p text at e) ≡ expr_origins e
+  expr_stays : (e : ExprOutline) (at : Address) → expr_origins (with_value_outline (rename_outline p text at) e) ≡ expr_origins e
   expr_stays outline.Nothing at = refl
   expr_stays (outline.Pair a v) at = value_stays v at
   expr_stays (outline.Header opening before first rest after closing) at = refl

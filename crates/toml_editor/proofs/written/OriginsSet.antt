@@ -21,7 +21,7 @@ use Rattle.toml_editor.specs.Outlines as outline
 use Rattle.toml_editor.specs.Outlines.{Origins, Marked, begun, ValueOutline, ExprOutline, LineOutline, value_origins, expr_origins, origins_if, line_origins}
 use Rattle.toml_editor.specs.Setting.{set_lines}
 use Rattle.toml_editor.specs.SetOutlines.{set_outline}
-use Rattle.toml_editor.specs.Standing.{Standing, standing_origins, line_stands, standing_from, standing, set_expr_outline, set_line_outline, set_outline_of, set_standing}
+use Rattle.toml_editor.specs.Standing.{Standing, standing_origins, line_stands, standing_from, standing, set_line_outline, set_outline_of, set_standing, with_value_outline}
 use Rattle.toml_editor.specs.TreeOutlines.{assign_outline, value_outline, line_outline}
 use Rattle.toml_editor.specs.Written.{HasValue}
 use Rattle.toml_editor.proofs.Each.{each_front, each_back}
@@ -121,7 +121,7 @@ module _ (p : Address) (new : Value) where
 
       by : (e : ExprOutline) → expr_as_new e ≡ outline.Pair (assign_outline k.assign) (value_outline k.value)
           → Here (line_units xs (KeyValLine ws k b)) (l.ws.origins ++ (expr_origins e ++ origins_if l.comment))
-          (l.ws.origins ++ (expr_origins (set_expr_outline p nv to e) ++ origins_if l.comment))
+          (l.ws.origins ++ (expr_origins (with_value_outline (set_outline p nv to) e) ++ origins_if l.comment))
       by outline.Nothing same = cc
       by (outline.Header opening before first rest after closing) same = cc
       by (outline.Pair a m) same =
