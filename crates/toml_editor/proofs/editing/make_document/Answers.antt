@@ -23,7 +23,7 @@ returns-clause-work c =
       newlines = c.in_ok-newlines.ensures;
       wanted = (d, read.spelled, told);
       made = subst₂ (λ t fs. IsMadeText c.args.profile t cs fs c.in-Ok.made (string_bytes edited.text) edited.pieces.items edited.certificate.pairs.items)
-          read.text_is c.deref-2.ensures.value c.in-Ok.ensures.made;
+          read.text_is c.deref-3.ensures.value c.in-Ok.ensures.made;
     }
 
 pub returns-in-Err-clause-told : goal.returns-in-Err-clause-told
