@@ -112,11 +112,6 @@ passes_one profile read near (remove p) old new done writes either text kinds no
 passes_one profile read near (new_section p) old new done writes either text kinds now at none is_after same spread = spread.0
 passes_one profile read near (new_element p) old new done writes either text kinds now at none is_after same spread = spread.0
 
--- the tests before the end
-pub made_or_one : (done spread : Bool) (P : Type 0) → (done ≡ false → spread ≡ false) → (spread ≡ false → P) → (done ≡ true) ⊎ P
-made_or_one true spread P none one = inl refl
-made_or_one false spread P none one = inr (one (none refl))
-
 -- ---- lists
 
 written_more : (profile : Profile) (cs : List Change) (c : Change) (style before mid after : List ℕ) → AreWritten profile cs style before mid
