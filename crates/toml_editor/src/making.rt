@@ -49,7 +49,7 @@ pub(crate) fn make_all<'x>(
         IfErr result (TellsAny read.entry.profile places (map change edits.now) (kind_at «data».old.root)) }
     ensures exact { OnOk result (MakesAll read.entry.profile (read_of read.entry.before) (map change edits.now) tree.old tree.new) }
     ensures passed { let from = read_of read.entry.before in
-        OnOk result (PassesAll read.entry.profile from (map change edits.now) (kind_at «data».old.root) (length edits.now) tree.old) }
+        OnOk result (PassesAll read.entry.profile from (map change edits.now) (kind_at «data».old.root) (length (map change edits.now)) tree.old) }
     ensures stops { let from = read_of read.entry.before in
         IfErr result (Stops read.entry.profile from (map change edits.now) (kind_at «data».old.root) tree.old) }
 {

@@ -1,5 +1,5 @@
 use Rattle.std.proofs.Common.{arith, map, refl, subst, sym, take}
-use Rattle.std.proofs.lemmas.List.{take_all}
+use Rattle.std.proofs.lemmas.List.{length-map, take_all}
 use Rattle.toml_names.specs.model.Data.{kind_at}
 use Rattle.toml_edits.specs.Edits.{change}
 use Rattle.toml_edits.specs.Lists.{Lead}
@@ -77,6 +77,6 @@ returns c =
       made = subst (λ es. Lead profile (map change es) (kind_at c.args.data.now.root) (kind_at here.«data».root)) all here.invariant.0;
       told = tt;
       exact = subst (λ es. MakesAll profile (read_of c.args.read.before) (map change es) c.args.tree.now here.tree) all here.invariant.1;
-      passed = λ k low. here.invariant.2 k (omega (arith, low));
+      passed = λ k low. here.invariant.2 k (omega (arith, low, length-map edits change));
       stops = tt;
     }
