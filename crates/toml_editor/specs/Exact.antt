@@ -125,8 +125,9 @@ PassesOne profile read near c tree = (text : List ℕ) (kinds now : Kinds) → I
 -- So it is of the edit with this number, if there is one without a fault and those before it are plain: of the text that these write of
 -- one for which the tree stands, and of its data.
 abbrev pub OfPlain : Profile → Read → List Change → Tree → ℕ → (Change → List ℕ → Kinds → Type 0) → Type 0
-OfPlain profile read cs tree k P = (c : Change) → slice_get cs k ≡ Some c → (text : List ℕ) (kinds mid now : Kinds) → IsAt profile read tree text kinds
-    → Lead profile (take k cs) kinds mid → IsFault profile c mid None → IsAfter profile c mid now → ArePlain profile (take k cs) (style tree) text
+OfPlain profile read cs tree k P = (c : Change) → slice_get cs k ≡ Some c → (text : List ℕ) (kinds mid now : Kinds)
+    → IsAt profile read tree text kinds → Lead profile (take k cs) kinds mid → IsFault profile c mid None → IsAfter profile c mid now
+    → ArePlain profile (take k cs) (style tree) text
     → (between : List ℕ) → AreWritten profile (take k cs) (style tree) text between → P c between mid
 
 -- the edit with this number, where those before it are plain, sets nothing that is spread; of the data those are known that are near

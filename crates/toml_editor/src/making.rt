@@ -49,7 +49,8 @@ pub(crate) fn make_all<'x>(
         IfErr result (TellsAny read.entry.profile places (map change edits.now) (kind_at «data».old.root)) }
     ensures exact { OnOk result (MakesAll read.entry.profile (read_of read.entry.before) (map change edits.now) tree.old tree.new) }
     ensures passed { let from = read_of read.entry.before in
-        OnOk result (PassesAll read.entry.profile from (map change edits.now) (kind_at «data».old.root) (length (map change edits.now)) tree.old) }
+        let changes = map change edits.now in
+        OnOk result (PassesAll read.entry.profile from changes (kind_at «data».old.root) (length changes) tree.old) }
     ensures stops { let from = read_of read.entry.before in
         IfErr result (Stops read.entry.profile from (map change edits.now) (kind_at «data».old.root) tree.old) }
 {
