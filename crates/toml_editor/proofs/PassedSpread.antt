@@ -1,5 +1,5 @@
 -- What the making of edits passes, and where it stops, as facts of the text before the edits and of all its data.
-use Rattle.std.proofs.Common.{◌≡◌, ◌<◌, ℕ, zero, suc, List, [], ◌∷◌, take, Some, None, refl, sym, subst, ◌∙◌}
+use Rattle.std.proofs.Common.{◌≡◌, ℕ, zero, suc, List, [], ◌∷◌, take, Some, None, refl, sym, subst, ◌∙◌}
 use Rattle.std.proofs.Math.Path.{fun_ext}
 use Rattle.std.proofs.lemmas.Option.{same_Some}
 use Rattle.std.specs.Prelude.{slice_get}
@@ -34,7 +34,7 @@ use Rattle.toml_editor.specs.Standing.{Read, standing}
 use Rattle.toml_editor.specs.Stands.{StandFor}
 use Rattle.toml_editor.specs.Starting.{NoneIsGone}
 use Rattle.toml_editor.specs.Steps.{AreWritten, IsGoodText}
-use Rattle.toml_editor.specs.Written.{IsWritten, style_of}
+use Rattle.toml_editor.specs.Written.{style_of}
 use Rattle.toml_editor.proofs.NearFaults.{near_front, near_one, place_shown}
 use Rattle.toml_editor.proofs.written.Certify.{list_is_written}
 use Rattle.toml_editor.proofs.written.Elsewhere.{style_is_newline}
