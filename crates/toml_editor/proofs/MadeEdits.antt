@@ -34,12 +34,12 @@ pub led_on : (profile : Profile) (es : List Given) (i : ℕ) (e : Given) (old : 
 led_on profile es i e old mid new low is lead made =
     subst (λ cs. Lead profile cs old (kind_at new)) (sym (taken_on es i e low is)) (lead_more profile (map change (take i es)) (change e) old mid new lead made)
 
-take_map : (n : ℕ) (es : List Given) → take n (map change es) ≡ map change (take n es)
+pub take_map : (n : ℕ) (es : List Given) → take n (map change es) ≡ map change (take n es)
 take_map zero es = refl
 take_map (suc n) [] = refl
 take_map (suc n) (e ∷ es) = ap (λ cs. change e ∷ cs) (take_map n es)
 
-get_map : (es : List Given) (i : ℕ) (e : Given) → i < length es → e ≡ get_or es i e → slice_get (map change es) i ≡ Some (change e)
+pub get_map : (es : List Given) (i : ℕ) (e : Given) → i < length es → e ≡ get_or es i e → slice_get (map change es) i ≡ Some (change e)
 get_map [] i e low is = absurd (omega arith)
 get_map (x ∷ es) zero e low is = ap (λ y. Some (change y)) (sym is)
 get_map (x ∷ es) (suc i) e low is = get_map es i e (omega arith) is

@@ -1,6 +1,9 @@
 -- The making of edits, one after the other, and the texts for which the working tree then stands.
-use Rattle.std.proofs.Common.{◌≡◌, ℕ, Bool, List, [], ◌∷◌, ◌++◌, true, false, true≢false, None, refl, sym, subst, ◌∙◌}
+use Rattle.std.proofs.Common.{◌≡◌, ◌⊎◌, ◌+◌, ◌<◌, ◌≤◌, inl, inr, ℕ, Bool, List, [], ◌∷◌, ◌++◌, take, true, false, true≢false, None, Some, refl, sym, subst, subst₂, ◌∙◌, arith}
+use Rattle.std.proofs.lemmas.Bool.{cases_lt}
+use Rattle.std.proofs.lemmas.Option.{same_Some}
 use Rattle.std.proofs.Math.Path.{fun_ext}
+use Rattle.std.specs.Prelude.{slice_get}
 use Rattle.toml_tree.specs.declared.profile.Profile.{Profile}
 use Rattle.toml_names.specs.declared.model.address.Step.TheVariants.{Name}
 use Rattle.toml_names.specs.model.Addresses.{Address, element}
@@ -8,7 +11,7 @@ use Rattle.toml_names.specs.model.Data.{Kinds}
 use Rattle.toml_edits.specs.After.{IsAfter}
 use Rattle.toml_edits.specs.Faults.{IsFault}
 use Rattle.toml_edits.specs.declared.fault.EditFault.TheVariants.{RootNamed}
-use Rattle.toml_edits.specs.Edits.{Change, set, insert, rename, remove, new_section, new_element}
+use Rattle.toml_edits.specs.Edits.{Change, place, set, insert, rename, remove, new_section, new_element}
 use Rattle.toml_edits.specs.Lists.{Lead}
 use Rattle.toml_editor.specs.declared.fault.EditorFault.{EditorFault}
 use Rattle.toml_editor.specs.declared.fault.EditorFault.TheVariants as faults
@@ -16,13 +19,16 @@ use Rattle.toml_editor.specs.declared.working.Tree.{Tree}
 use Rattle.toml_editor.specs.CertifiedLists.{ArePlain}
 use Rattle.toml_editor.specs.Edited.{MayBeSpread, Places, TakesLastElement}
 use Rattle.toml_editor.specs.EditStanding.{EditsStanding, EditAllStanding}
-use Rattle.toml_editor.specs.Exact.{AreNotPlain, Follows, IsAt, IsNotPlain, IsPlainOn, KeepsSource, MakesAll, MakesOne, OfNoPlace, WritesEdit, style}
+use Rattle.toml_editor.specs.Exact.{Follows, IsAt, IsNotPlain, IsNotPlainAt, MakesAll, MakesOne, OfPlain, OfNoPlace, PassesAll, PassesAt, PassesOne, Stops, WritesEdit, style}
+use Rattle.toml_editor.specs.Making.{TellsOne}
+use Rattle.toml_editor.specs.PlainTexts.{IsPlainOn, IsSpreadOn, SetsMany}
 use Rattle.toml_editor.specs.Standing.{Read, Standing, slots_standing}
 use Rattle.toml_editor.specs.Steps.{AreWritten}
 use Rattle.toml_editor.specs.Written.{IsWritten}
-use Rattle.toml_editor.proofs.written.Follow.{remove_follows, set_follows}
+use Rattle.toml_editor.proofs.written.Follow.{remove_follows, set_follows, set_is_there}
 use Rattle.toml_editor.proofs.written.InsertFollow.{insert_follows}
 use Rattle.toml_editor.proofs.written.RenameFollow.{rename_follows}
+use Rattle.toml_editor.proofs.written.Steps.{one_list_written}
 
 -- a `set` that is plain is made, and what is written of it on the working tree is what it writes
 set_made : (profile : Profile) (read : Read) (p : Address) (value : List ℕ) (old new : Tree) (done : Bool) → WritesEdit profile read (set p value) old new done
@@ -80,6 +86,22 @@ not_last profile read seen (rename p to) old takes text kinds now at none is_aft
 not_last profile read seen (new_section p) old takes text kinds now at none is_after plain = takes
 not_last profile read seen (new_element p) old takes text kinds now at none is_after plain = takes
 
+-- one that is made, or whose place is not spread, sets nothing that is spread
+pub passes_one : (profile : Profile) (read : Read) (near : Kinds) (c : Change) (old new : Tree) (done : Bool) → WritesEdit profile read c old new done
+    → (done ≡ true) ⊎ ¬ SetsMany c near → PassesOne profile read near c old
+passes_one profile read near (set p value) old new done writes (inl is) text kinds now at none is_after same spread =
+    let (rest, sets) = writes at.whole in
+    let given = is_after.1.value in
+    spread.1 at.good.tree at.good.spelled
+    (set_is_there profile read old new p text kinds at (none RootNamed) given.tree done (sets given.within given.tree given.is_value) is)
+passes_one profile read near (set p value) old new done writes (inr one) text kinds now at none is_after same (inl is, apart) = one (inl (same ∙ is))
+passes_one profile read near (set p value) old new done writes (inr one) text kinds now at none is_after same (inr is, apart) = one (inr (same ∙ is))
+passes_one profile read near (insert p value) old new done writes either text kinds now at none is_after same spread = spread.0
+passes_one profile read near (rename p to) old new done writes either text kinds now at none is_after same spread = spread.0
+passes_one profile read near (remove p) old new done writes either text kinds now at none is_after same spread = spread.0
+passes_one profile read near (new_section p) old new done writes either text kinds now at none is_after same spread = spread.0
+passes_one profile read near (new_element p) old new done writes either text kinds now at none is_after same spread = spread.0
+
 -- ---- lists
 
 written_more : (profile : Profile) (cs : List Change) (c : Change) (style before mid after : List ℕ) → AreWritten profile cs style before mid
@@ -94,80 +116,101 @@ edited_more profile [] c style old mid now is edits = (now, subst (λ ss. EditsS
 edited_more profile (d ∷ cs) c style old mid now (between, first, rest) edits =
     (between, first, edited_more profile cs c style between mid now rest edits)
 
--- so many of the edits are made, and these are left
-pub record MadeSoFar (profile : Profile) (read : Read) (made left : List Change) (old tree : Tree) (text : List ℕ) (now : Kinds) : Type 0 where
-  pub mid : List ℕ
-  pub kinds : Kinds
-  pub at : IsAt profile read tree mid kinds
-  pub written : AreWritten profile made (style old) text mid
-  pub lines : EditAllStanding profile (style old) made (slots_standing read old.slots.items) (slots_standing read tree.slots.items)
-  pub source : KeepsSource old tree
-  pub lead : Lead profile left kinds now
-  pub plain : ArePlain profile left (style old) mid
+-- the last of them, on the data to which those before it lead
+lead_parted : (profile : Profile) (cs : List Change) (c : Change) (old now : Kinds) → Lead profile (cs ++ c ∷ []) old now
+    → (mid : Kinds) × Lead profile cs old mid × IsFault profile c mid None × IsAfter profile c mid now
+lead_parted profile [] c old now (none, mid, is_after, same) = (old, (λ a. refl), none, subst (IsAfter profile c old) (fun_ext same) is_after)
+lead_parted profile (d ∷ cs) c old now (none, mid, is_after, lead) =
+    let last = lead_parted profile cs c mid now lead in (last.0, (none, mid, is_after, last.1), last.2, last.3)
 
-abbrev pub AreMade : Profile → Read → List Change → List Change → List Change → Tree → Tree → Type 0
-AreMade profile read cs made left old tree = (text : List ℕ) (kinds now : Kinds) → IsAt profile read old text kinds
-    → Lead profile cs kinds now → ArePlain profile cs (style old) text → MadeSoFar profile read made left old tree text now
+-- and on the text that they write
+plain_parted : (profile : Profile) (cs : List Change) (c : Change) (style text : List ℕ) → ArePlain profile (cs ++ c ∷ []) style text
+    → ArePlain profile cs style text × ((between : List ℕ) → AreWritten profile cs style text between → IsPlainOn profile between c)
+plain_parted profile [] c style text plain = (tt, λ between is. subst (λ t. IsPlainOn profile t c) is plain.0)
+plain_parted profile (d ∷ cs) c style text plain = (
+  (plain.0, λ first is. (plain_parted profile cs c style first (plain.1 first is)).0),
+  λ between written. (plain_parted profile cs c style written.0 (plain.1 written.0 written.1)).1 between written.2,
+)
 
 -- none is made yet
-pub none_made : (profile : Profile) (read : Read) (cs : List Change) (tree : Tree) → AreMade profile read cs [] cs tree tree
-none_made profile read cs tree text kinds now at lead plain = record {
-  mid = text;
-  kinds = kinds;
-  at = at;
+pub none_made : (profile : Profile) (read : Read) (tree : Tree) → MakesAll profile read [] tree tree
+none_made profile read tree text kinds now at lead plain = record {
+  after = text;
   written = refl;
+  at = subst (IsAt profile read tree text) (fun_ext lead) at;
   lines = refl;
   source = record { texts = refl; style = refl };
-  lead = lead;
-  plain = plain;
 }
 
 -- one more is made
-pub more_made : (profile : Profile) (read : Read) (cs made left : List Change) (c : Change) (old tree new : Tree)
-    → AreMade profile read cs made (c ∷ left) old tree → MakesOne profile read c tree new → AreMade profile read cs (made ++ c ∷ []) left old new
-more_made profile read cs made left c old tree new so_far makes text kinds now at lead plain =
-    let here = so_far text kinds now at lead plain in
-    let one = makes here.mid here.kinds here.lead.1 here.at here.lead.0 here.lead.2 here.plain.0 in
-    let written = subst (λ s. IsWritten profile c s here.mid one.after) here.source.style one.written in
+pub more_made : (profile : Profile) (read : Read) (cs : List Change) (c : Change) (old tree new : Tree)
+    → MakesAll profile read cs old tree → MakesOne profile read c tree new → MakesAll profile read (cs ++ c ∷ []) old new
+more_made profile read cs c old tree new all makes text kinds now at lead plain =
+    let (mid, first, none, is_after) = lead_parted profile cs c kinds now lead in
+    let (plain_all, plain_one) = plain_parted profile cs c (style old) text plain in
+    let here = all text kinds mid at first plain_all in
+    let one = makes here.after mid now here.at none is_after (plain_one here.after here.written) in
     record {
-      mid = one.after;
-      kinds = here.lead.1;
+      after = one.after;
+      written = written_more profile cs c (style old) text here.after one.after here.written
+          (subst (λ s. IsWritten profile c s here.after one.after) here.source.style one.written);
       at = one.at;
-      written = written_more profile made c (style old) text here.mid one.after here.written written;
-      lines = edited_more profile made c (style old) _ _ _ here.lines
+      lines = edited_more profile cs c (style old) _ _ _ here.lines
           (subst (λ s. EditsStanding profile s c (slots_standing read tree.slots.items) (slots_standing read new.slots.items)) here.source.style one.lines);
       source = record { texts = one.source.texts ∙ here.source.texts; style = one.source.style ∙ here.source.style };
-      lead = here.lead.3;
-      plain = here.plain.1 one.after written;
     }
 
--- all are made
-pub all_made : (profile : Profile) (read : Read) (cs : List Change) (old tree : Tree) → AreMade profile read cs cs [] old tree → MakesAll profile read cs old tree
-all_made profile read cs old tree so_far text kinds now at lead plain =
-    let here = so_far text kinds now at lead plain in
-    record {
-      after = here.mid;
-      written = here.written;
-      lines = here.lines;
-      at = subst (IsAt profile read tree here.mid) (fun_ext here.lead) here.at;
-      source = here.source;
-    }
+-- ---- what holds of one edit, where those before it are made
 
--- one of them is not plain
-pub one_not_plain : (profile : Profile) (read : Read) (cs made left : List Change) (c : Change) (old tree : Tree)
-    → AreMade profile read cs made (c ∷ left) old tree → IsNotPlain profile read c tree → AreNotPlain profile read cs old
-one_not_plain profile read cs made left c old tree so_far not text kinds now at lead plain =
-    let here = so_far text kinds now at lead plain in
-    not here.mid here.kinds here.lead.1 here.at here.lead.0 here.lead.2 here.plain.0
+-- the tree stands for no text on which it is not so of an edit without a fault
+abbrev pub OfOne : Profile → Read → Change → Tree → (Change → List ℕ → Kinds → Type 0) → Type 0
+OfOne profile read c tree P = (text : List ℕ) (kinds now : Kinds) → IsAt profile read tree text kinds
+    → IsFault profile c kinds None → IsAfter profile c kinds now → P c text kinds
 
-pub one_not_plain_of : (profile : Profile) (read : Read) (cs made left : List Change) (c : Change) (old tree : Tree) (fault : EditorFault)
-    → AreMade profile read cs made (c ∷ left) old tree → OfNoPlace (IsNotPlain profile read c tree) fault → OfNoPlace (AreNotPlain profile read cs old) fault
-one_not_plain_of profile read cs made left c old tree (faults.Spread i) so_far not = one_not_plain profile read cs made left c old tree so_far not
-one_not_plain_of profile read cs made left c old tree (faults.LastElement i) so_far not = one_not_plain profile read cs made left c old tree so_far not
-one_not_plain_of profile read cs made left c old tree (faults.Text f) so_far not = tt
-one_not_plain_of profile read cs made left c old tree (faults.Syntax f) so_far not = tt
-one_not_plain_of profile read cs made left c old tree (faults.Names f) so_far not = tt
-one_not_plain_of profile read cs made left c old tree (faults.Edit i f) so_far not = tt
-one_not_plain_of profile read cs made left c old tree faults.TooLong so_far not = tt
-one_not_plain_of profile read cs made left c old tree (faults.Unverified r) so_far not = tt
-one_not_plain_of profile read cs made left c old tree faults.NoMemory so_far not = tt
+of_plain_made : (profile : Profile) (read : Read) (cs : List Change) (i : ℕ) (c : Change) (old tree : Tree) (P : Change → List ℕ → Kinds → Type 0)
+    → MakesAll profile read (take i cs) old tree → slice_get cs i ≡ Some c → OfOne profile read c tree P → OfPlain profile read cs old i P
+of_plain_made profile read cs i c old tree P makes here one d there text kinds mid now at lead none is_after plain between written =
+    let all = makes text kinds mid at lead plain in
+    let same : c ≡ d = same_Some c d (sym here ∙ there) in
+    let text_is : all.after ≡ between = one_list_written profile (take i cs) (style old) text all.after between all.written written in
+    subst₂ (λ e t. P e t mid) same text_is
+    (one all.after mid now all.at (subst (λ e. IsFault profile e mid None) (sym same) none) (subst (λ e. IsAfter profile e mid now) (sym same) is_after))
+
+-- the first so many set nothing that is spread, nor does one more
+pub none_passed : (profile : Profile) (read : Read) (cs : List Change) (near : Kinds) (tree : Tree) → PassesAll profile read cs near 0 tree
+none_passed profile read cs near tree k low = absurd (omega (arith, low))
+
+pub more_passed : (profile : Profile) (read : Read) (cs : List Change) (near part : Kinds) (i : ℕ) (c : Change) (old tree : Tree)
+    → PassesAll profile read cs near i old → Lead profile (take i cs) near part → MakesAll profile read (take i cs) old tree
+    → slice_get cs i ≡ Some c → PassesOne profile read part c tree → PassesAll profile read cs near (i + 1) old
+more_passed profile read cs near part i c old tree so_far lead makes here one k low = by (cases_lt k i)
+  where
+    by : k < i ⊎ (i ≤ k) → PassesAt profile read cs near old k
+    by (inl less) = so_far k less
+    by (inr least) =
+        let same : i ≡ k = omega (arith, low, least) in
+        subst (PassesAt profile read cs near old) same (part, lead, of_plain_made profile read cs i c old tree (λ d text kinds. part (place d) ≡ kinds (place d) → ¬ IsSpreadOn profile text d kinds) makes here one)
+
+-- the fault with which they end
+pub stops_at : (profile : Profile) (read : Read) (places : Places) (cs : List Change) (near part : Kinds) (i : ℕ) (c : Change) (old tree : Tree)
+    (fault : EditorFault) → PassesAll profile read cs near i old → MakesAll profile read (take i cs) old tree → slice_get cs i ≡ Some c
+    → TellsOne profile places i c part fault → OfNoPlace (IsNotPlain profile read c tree) fault → Stops profile read cs near old fault
+stops_at profile read places cs near part i c old tree fault so_far makes here tells not = by fault tells not
+  where
+    passed : (j : ℕ) → j ≡ i → PassesAll profile read cs near j old
+    passed j is = subst (λ n. PassesAll profile read cs near n old) (sym is) so_far
+
+    not_at : (j : ℕ) → j ≡ i → IsNotPlain profile read c tree → IsNotPlainAt profile read cs j old
+    not_at j is one = subst (λ n. IsNotPlainAt profile read cs n old) (sym is)
+        (of_plain_made profile read cs i c old tree (λ d text kinds. ¬ IsPlainOn profile text d) makes here one)
+
+    by : (f : EditorFault) → TellsOne profile places i c part f → OfNoPlace (IsNotPlain profile read c tree) f → Stops profile read cs near old f
+    by (faults.Edit j x) h one = record { passed = passed j h.0; spread = tt }
+    by (faults.Spread j) h one = record { passed = passed j h.0; spread = not_at j h.0 one }
+    by (faults.LastElement j) h one = record { passed = passed j h.0; spread = not_at j h.0 one }
+    by faults.NoMemory h one = record { passed = tt; spread = tt }
+    by (faults.Text x) h one = absurd h
+    by (faults.Syntax x) h one = absurd h
+    by (faults.Names x) h one = absurd h
+    by faults.TooLong h one = absurd h
+    by (faults.Unverified r) h one = absurd h

@@ -26,12 +26,12 @@ use Rattle.toml_editor.specs.Making.{TellsAny}
 use Rattle.toml_editor.specs.declared.fault.EditorFault.{EditorFault}
 use Rattle.toml_editor.specs.declared.fault.EditorFault.TheVariants as faults
 
-near_front : (hidden : Cover) (i : ℕ) (cs : List Change) → AreNear hidden cs → AreNear hidden (take i cs)
+pub near_front : (hidden : Cover) (i : ℕ) (cs : List Change) → AreNear hidden cs → AreNear hidden (take i cs)
 near_front hidden zero cs are = tt
 near_front hidden (suc i) [] are = tt
 near_front hidden (suc i) (c ∷ cs) are = (are.0, near_front hidden i cs are.1)
 
-near_one : (hidden : Cover) (i : ℕ) (cs : List Change) (c : Change) → slice_get cs i ≡ Some c → AreNear hidden cs → IsNear hidden c
+pub near_one : (hidden : Cover) (i : ℕ) (cs : List Change) (c : Change) → slice_get cs i ≡ Some c → AreNear hidden cs → IsNear hidden c
 near_one hidden i [] c is are = cc
 near_one hidden zero (d ∷ cs) c is are = subst (IsNear hidden) (same_Some d c is) are.0
 near_one hidden (suc i) (d ∷ cs) c is are = near_one hidden i cs c is are.1
@@ -41,7 +41,7 @@ shown : (hidden : Cover) (old new : Kinds) (a : Address) → hidden a ≡ false 
 shown hidden old new a is = sym (ap (λ b. cond b (old a) (new a)) is)
 
 -- the place of an edit is not hidden
-place_shown : (hidden : Cover) (c : Change) (old new : Kinds) → IsNear hidden c → new (place c) ≡ beside hidden old new (place c)
+pub place_shown : (hidden : Cover) (c : Change) (old new : Kinds) → IsNear hidden c → new (place c) ≡ beside hidden old new (place c)
 place_shown hidden c old new is = shown hidden old new (place c) (is.fronts (place c) [] (sym (append-nil (place c))))
 
 -- ---- what is told

@@ -1,13 +1,17 @@
 -- What data have where they are seen to be a table, or an array of one element.
-use Rattle.std.proofs.Common.{◌≡◌, inl, inr, ℕ, List, [], ◌∷◌, length, Some, None, IsSome, refl, sym, subst, ◌∙◌, arith}
+use Rattle.std.proofs.Common.{◌≡◌, inl, inr, ℕ, List, [], ◌∷◌, length, Some, None, IsSome, refl, sym, ap, subst, ◌∙◌, arith}
 use Rattle.std.proofs.lemmas.Bool.Decides.{nat_tests}
+use Rattle.std.proofs.lemmas.Option.{same_Some}
 use Rattle.std.specs.Bool.{nat_eq}
 use Rattle.std.specs.Prelude.{IsTrue, slice_get, vec_len}
+use Rattle.toml_scalar.specs.Values.{scalar_value}
+use Rattle.toml_scalar.specs.declared.scalar.Scalar.{Scalar as Token}
 use Rattle.toml_names.specs.declared.model.datum.Datum.{Datum}
-use Rattle.toml_names.specs.declared.model.datum.Datum.TheVariants.{Array, Table}
-use Rattle.toml_names.specs.model.Data.{kind_in}
+use Rattle.toml_names.specs.declared.model.datum.Datum.TheVariants.{Array, Scalar, Table}
+use Rattle.toml_names.specs.mentions.Mentions.{Kind, a_scalar, a_table, an_array}
+use Rattle.toml_names.specs.model.Data.{Kinds, kind_in}
 use Rattle.toml_names.specs.model.Levels.{Elements, Members}
-use Rattle.toml_names.proofs.Proved.{array-here, array-item, has_kind, table-here}
+use Rattle.toml_names.proofs.Proved.{array-here, array-item, has_kind, kind_at-scalar, table-here}
 use Rattle.toml_editor.specs.Making.{HasOne, IsMany}
 
 pub many_table : (m : Members) → IsMany (Some (Table m))
@@ -15,6 +19,17 @@ many_table m = inl (table-here m)
 
 pub many_array : (v : Elements) → IsMany (Some (Array v))
 many_array v = inr (array-here v)
+
+a_scalar_is_one : (s : Token) (k : Kind) → kind_in (Some (Scalar s)) [] ≡ Some k → k ≡ a_scalar (scalar_value s)
+a_scalar_is_one s k is = same_Some k (a_scalar (scalar_value s)) (sym is ∙ ap (λ (f : Kinds). f []) (kind_at-scalar s))
+
+pub scalar_is_one : (s : Token) → ¬ IsMany (Some (Scalar s))
+scalar_is_one s (inl is) = let e = a_scalar_is_one s a_table is in cc
+scalar_is_one s (inr is) = let e = a_scalar_is_one s an_array is in cc
+
+pub none_is_one : ¬ IsMany None
+none_is_one (inl is) = cc
+none_is_one (inr is) = cc
 
 one_in : (xs : List Datum) → length xs ≡ 1 → IsSome (kind_in (slice_get xs 0) []) × (kind_in (slice_get xs 1) [] ≡ None)
 one_in [] e = absurd (omega (arith, e))

@@ -56,6 +56,7 @@ pub mod RemoveStanding
 pub mod SetTexts
 pub mod StandingBare
 pub mod StandingHas
+pub mod StandingThere
 pub mod StandingOrder
 pub mod Steps
 pub mod Texts

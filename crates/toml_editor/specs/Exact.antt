@@ -1,34 +1,35 @@
 -- What the making of plain edits gives: the working tree stands for the text that they write.
-use Rattle.std.specs.Prelude.{◌≡◌, ℕ, Bool, List, None}
+use Rattle.std.specs.Prelude.{◌≡◌, ◌<◌, ℕ, Bool, List, take, Some, None, slice_get}
 use Rattle.std.specs.declared.alloc.Global.{Global}
 use Rattle.std.specs.declared.string.String.{String}
 use Rattle.toml_text.specs.Forms.{IsNewline}
 use Rattle.toml_text.specs.Limit.{IsText}
 use Rattle.toml_text.specs.Source.{text_of}
 use Rattle.toml_scalar.specs.Spelling.{spelled}
-use Rattle.toml_tree.specs.Profiles.{SpellsIn, IsValueIn}
-use Rattle.toml_tree.specs.Tree.{Value, Doc}
+use Rattle.toml_tree.specs.Profiles.{IsValueIn}
+use Rattle.toml_tree.specs.Tree.{Value}
 use Rattle.toml_tree.specs.declared.profile.Profile.{Profile}
 use Rattle.toml_names.specs.model.Addresses.{Address}
 use Rattle.toml_names.specs.model.Data.{Kinds}
 use Rattle.toml_edits.specs.After.{IsAfter}
-use Rattle.toml_edits.specs.Edits.{Change, insert, rename, set, remove}
+use Rattle.toml_edits.specs.Edits.{Change, insert, place, rename, set, remove}
 use Rattle.toml_edits.specs.Faults.{IsFault}
 use Rattle.toml_edits.specs.Lists.{Lead}
 use Rattle.toml_editor.specs.declared.fault.EditorFault.{EditorFault}
-use Rattle.toml_editor.specs.declared.fault.EditorFault.TheVariants.{LastElement, Spread}
+use Rattle.toml_editor.specs.declared.fault.EditorFault.TheVariants.{Edit, LastElement, Spread}
 use Rattle.toml_editor.specs.declared.working.Tree.{Tree}
 use Rattle.toml_editor.specs.Becoming.{RenamesLines}
 use Rattle.toml_editor.specs.CertifiedLists.{ArePlain}
 use Rattle.toml_editor.specs.EditStanding.{EditsStanding, EditAllStanding}
 use Rattle.toml_editor.specs.OpenOutlines.{leaf_text}
+use Rattle.toml_editor.specs.PlainTexts.{IsPlainOn, IsSpreadOn}
 use Rattle.toml_editor.specs.Putting.{InsertsLines}
 use Rattle.toml_editor.specs.RemovingIn.{RemovesLines}
 use Rattle.toml_editor.specs.SpelledEdits.{AreSteps}
 use Rattle.toml_editor.specs.Standing.{Read, slots_standing, standing}
 use Rattle.toml_editor.specs.Stands.{KeepsRest, SetsLines, StandFor}
 use Rattle.toml_editor.specs.Starting.{NoneIsGone}
-use Rattle.toml_editor.specs.Steps.{IsGoodText, IsPlain, AreWritten}
+use Rattle.toml_editor.specs.Steps.{IsGoodText, AreWritten}
 use Rattle.toml_editor.specs.TreeOutlines.{value_outline}
 use Rattle.toml_editor.specs.Written.{IsWritten}
 
@@ -47,10 +48,6 @@ pub record IsAt (profile : Profile) (read : Read) (tree : Tree) (text : List ℕ
 pub record KeepsSource (old new : Tree) : Type 0 where
   pub texts : new.texts ≡ old.texts
   pub style : style new ≡ style old
-
--- the edit is plain on the lines of the text
-abbrev pub IsPlainOn : Profile → List ℕ → Change → Type 0
-IsPlainOn profile text c = (d : Doc) → SpellsIn profile d text → IsPlain d.lines c
 
 -- the tree now stands for the text that the edit writes of the one for which it stood, and its lines are what the edit makes of them
 pub record Follows (profile : Profile) (read : Read) (c : Change) (old new : Tree) (text : List ℕ) (now : Kinds) : Type 0 where
@@ -118,3 +115,49 @@ abbrev pub OfNoPlace : Type 0 → EditorFault → Type 0
 OfNoPlace P (Spread i) = P
 OfNoPlace P (LastElement i) = P
 OfNoPlace P _ = Unit {0}
+
+-- The tree stands for no text on which the edit, without a fault, sets what is spread. Of the data those are known that are near the
+-- edit.
+abbrev pub PassesOne : Profile → Read → Kinds → Change → Tree → Type 0
+PassesOne profile read near c tree = (text : List ℕ) (kinds now : Kinds) → IsAt profile read tree text kinds
+    → IsFault profile c kinds None → IsAfter profile c kinds now → near (place c) ≡ kinds (place c) → ¬ IsSpreadOn profile text c kinds
+
+-- So it is of the edit with this number, if there is one without a fault and those before it are plain: of the text that these write of
+-- one for which the tree stands, and of its data.
+abbrev pub OfPlain : Profile → Read → List Change → Tree → ℕ → (Change → List ℕ → Kinds → Type 0) → Type 0
+OfPlain profile read cs tree k P = (c : Change) → slice_get cs k ≡ Some c → (text : List ℕ) (kinds mid now : Kinds)
+    → IsAt profile read tree text kinds → Lead profile (take k cs) kinds mid → IsFault profile c mid None → IsAfter profile c mid now
+    → ArePlain profile (take k cs) (style tree) text
+    → (between : List ℕ) → AreWritten profile (take k cs) (style tree) text between → P c between mid
+
+-- the edit with this number, where those before it are plain, sets nothing that is spread; of the data those are known that are near
+abbrev pub PassesAt : Profile → Read → List Change → Kinds → Tree → ℕ → Type 0
+PassesAt profile read cs near tree k = (part : Kinds) × Lead profile (take k cs) near part
+    × OfPlain profile read cs tree k (λ c text kinds. part (place c) ≡ kinds (place c) → ¬ IsSpreadOn profile text c kinds)
+
+-- nor does any of the first so many
+abbrev pub PassesAll : Profile → Read → List Change → Kinds → ℕ → Tree → Type 0
+PassesAll profile read cs near n tree = (k : ℕ) → k < n → PassesAt profile read cs near tree k
+
+-- the edit with this number, where those before it are plain, is not
+abbrev pub IsNotPlainAt : Profile → Read → List Change → ℕ → Tree → Type 0
+IsNotPlainAt profile read cs j tree = OfPlain profile read cs tree j (λ c text kinds. ¬ IsPlainOn profile text c)
+
+-- this holds of the number of the edit that has the fault, if it is one of an edit
+abbrev pub OfNumber : (ℕ → Type 0) → EditorFault → Type 0
+OfNumber P (Edit i fault) = P i
+OfNumber P (Spread i) = P i
+OfNumber P (LastElement i) = P i
+OfNumber P _ = Unit {0}
+
+-- and this, where it is told to be spread, or to take a last element
+abbrev pub OfNoPlaceAt : (ℕ → Type 0) → EditorFault → Type 0
+OfNoPlaceAt P (Spread i) = P i
+OfNoPlaceAt P (LastElement i) = P i
+OfNoPlaceAt P _ = Unit {0}
+
+-- no edit before the one with the fault sets what is spread, and that one is not plain, if it is told to be spread or to take a last
+-- element
+pub record Stops (profile : Profile) (read : Read) (cs : List Change) (near : Kinds) (tree : Tree) (fault : EditorFault) : Type 0 where
+  pub passed : OfNumber (λ n. PassesAll profile read cs near n tree) fault
+  pub spread : OfNoPlaceAt (λ j. IsNotPlainAt profile read cs j tree) fault

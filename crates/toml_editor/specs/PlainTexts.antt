@@ -1,14 +1,18 @@
 -- The text that is handed out of plain edits: the one that they write, byte for byte.
-use Rattle.std.specs.Prelude.{ℕ, List}
+use Rattle.std.specs.Prelude.{◌≡◌, ◌⊎◌, ◌<◌, ℕ, List, take, Some, None, slice_get}
+use Rattle.toml_tree.specs.Profiles.{SpellsIn}
+use Rattle.toml_tree.specs.Tree.{Doc}
 use Rattle.toml_tree.specs.declared.profile.Profile.{Profile}
-use Rattle.toml_names.specs.mentions.Mentions.{named}
+use Rattle.toml_names.specs.mentions.Mentions.{a_table, an_array, named}
 use Rattle.toml_names.specs.model.Data.{IsDataOf, Kinds}
 use Rattle.toml_checker.specs.Documents.{OfTree}
-use Rattle.toml_edits.specs.Edits.{Change}
+use Rattle.toml_edits.specs.After.{IsAfter}
+use Rattle.toml_edits.specs.Edits.{Change, place, set}
+use Rattle.toml_edits.specs.Faults.{IsFault}
 use Rattle.toml_edits.specs.Lists.{Lead}
 use Rattle.toml_editor.specs.CertifiedLists.{ArePlain}
-use Rattle.toml_editor.specs.Steps.{AreWritten}
-use Rattle.toml_editor.specs.Written.{style_of}
+use Rattle.toml_editor.specs.Steps.{AreWritten, IsPlain}
+use Rattle.toml_editor.specs.Written.{HasValue, style_of}
 
 -- where each edit is plain on the text written so far, the text is the one that they write of the first
 abbrev pub WritesPlain : Profile → List ℕ → List Change → List ℕ → Type 0
@@ -19,3 +23,33 @@ WritesPlain profile before cs after =
 abbrev pub IsNoPlainList : Profile → List ℕ → List Change → Type 0
 IsNoPlainList profile before cs =
     OfTree before (λ d. (old now : Kinds) → IsDataOf (named d.lines) old → Lead profile cs old now → ¬ ArePlain profile cs (style_of d.lines) before)
+
+-- the edit is plain on the lines of the text
+abbrev pub IsPlainOn : Profile → List ℕ → Change → Type 0
+IsPlainOn profile text c = (d : Doc) → SpellsIn profile d text → IsPlain d.lines c
+
+-- it sets what is a table or an array
+abbrev pub SetsMany : Change → Kinds → Type 0
+SetsMany (set p value) kinds = (kinds p ≡ Some a_table) ⊎ (kinds p ≡ Some an_array)
+SetsMany _ kinds = ⊥
+
+-- and there the text has no one value: it is spread over lines
+abbrev pub IsSpreadOn : Profile → List ℕ → Change → Kinds → Type 0
+IsSpreadOn profile text c kinds = SetsMany c kinds × ((d : Doc) → SpellsIn profile d text → ¬ HasValue d.lines (place c))
+
+-- So it is of the edit with this number, if there is one that is defined and those before it are plain: of the text that these write
+-- and of its data.
+abbrev pub AfterPlain : Profile → List ℕ → List Change → Doc → ℕ → (Change → List ℕ → Kinds → Type 0) → Type 0
+AfterPlain profile before cs d k P = (c : Change) → slice_get cs k ≡ Some c → (old mid now : Kinds) → IsDataOf (named d.lines) old
+    → Lead profile (take k cs) old mid → IsFault profile c mid None → IsAfter profile c mid now
+    → ArePlain profile (take k cs) (style_of d.lines) before
+    → (between : List ℕ) → AreWritten profile (take k cs) (style_of d.lines) before between → P c between mid
+
+-- of the first so many edits none, where those before it are plain, sets what is spread
+abbrev pub NoSpreadSet : Profile → List ℕ → List Change → ℕ → Type 0
+NoSpreadSet profile before cs n =
+    OfTree before (λ d. (k : ℕ) → k < n → AfterPlain profile before cs d k (λ c text kinds. ¬ IsSpreadOn profile text c kinds))
+
+-- the edit with this number, where those before it are plain, is not
+abbrev pub IsNoPlainEdit : Profile → List ℕ → List Change → ℕ → Type 0
+IsNoPlainEdit profile before cs j = OfTree before (λ d. AfterPlain profile before cs d j (λ c text kinds. ¬ IsPlainOn profile text c))

@@ -33,6 +33,10 @@ RulesOrder = (lines : List Line) → KeepsRules (named lines) → AreOrdered (st
 abbrev pub ValueStands : Type 0
 ValueStands = (p : Address) (lines : List Line) → ¬ (p ≡ []) → HasValue lines p → list_any (has p) (standing lines) ≡ true
 
+-- what stands so is a value that they name;
+abbrev pub StandingIsValue : Type 0
+StandingIsValue = (p : Address) (lines : List Line) → list_any (has p) (standing lines) ≡ true → HasValue lines p
+
 -- and the lines after a `set` of it are what the `set` makes of the lines.
 abbrev pub SetStands : Type 0
 SetStands = (p : Address) (new : Value) (lines : List Line) → ¬ (p ≡ []) → HasValue lines p → KeepsRules (named lines)

@@ -10,7 +10,7 @@ ghost use Rattle.toml_editor.specs.RemoveLaws.{RemoveNames, RemoveGood, RemoveDa
 ghost use Rattle.toml_editor.specs.RenameLaws.{RenameNames, RenameGood, RenameData, RenameForms, RenameOfProfile, RenameKeepsLine};
 ghost use Rattle.toml_editor.specs.RenamedHeaders.{RenameAlong, RenameAlongElement};
 ghost use Rattle.toml_editor.specs.RenamedUnits.{RenameUnits};
-ghost use Rattle.toml_editor.specs.StandingLaws.{PlacesDoNotStand, RenameStands, RulesOrder, SetStands, ValueStands, InsertStands, RootComesFirst, PairStands, RemoveStands};
+ghost use Rattle.toml_editor.specs.StandingLaws.{PlacesDoNotStand, RenameStands, RulesOrder, SetStands, StandingIsValue, ValueStands, InsertStands, RootComesFirst, PairStands, RemoveStands};
 ghost use Rattle.toml_editor.specs.RenameOutlines.{RenameIsOutlined};
 ghost use Rattle.toml_editor.specs.SetLaws.{SetNames, SetRules, SetShort, SetData, SetForms, SetOfProfile, SetWithin, SetElsewhere, SetKeepsLine};
 ghost use Rattle.toml_editor.specs.SetOutlines.{SetIsOutlined};
@@ -172,10 +172,11 @@ pub fn standing()
     ensures order { RulesOrder }
 {}
 
-/// A value that lines name stands on one of them or in its value, and the lines after a `set` of it are what the `set` makes
-/// of the lines, by what finds them.
+/// A value that lines name stands on one of them or in its value, what stands so is a value that they name, and the lines
+/// after a `set` of it are what the `set` makes of the lines, by what finds them.
 pub fn standing_set()
     ensures value { ValueStands }
+    ensures named { StandingIsValue }
     ensures set { SetStands }
 {}
 

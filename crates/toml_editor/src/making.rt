@@ -1,12 +1,13 @@
 //! One edit after the other, on the data and on the working tree.
-ghost use Rattle.std.specs.Prelude.{◌≡◌, IfErr, IfOk, IsTrue, OnOk, Some, map, option_copied};
+ghost use Rattle.std.specs.Prelude.{◌≡◌, IfErr, IfOk, IsTrue, OnOk, Some, false, length, map, option_copied};
 ghost use Rattle.toml_names.specs.model.Data.{kind_at};
 ghost use Rattle.toml_scalar.specs.Spelling.{spelled};
 ghost use Rattle.toml_edits.specs.Edits.{change, remove};
 ghost use Rattle.toml_edits.specs.Lists.{Lead};
 ghost use Rattle.toml_editor.specs.Edited.{MayBeSpread, TakesLastElement};
-ghost use Rattle.toml_editor.specs.Exact.{AreNotPlain, IsNotPlain, MakesAll, MakesOne, OfNoPlace, WritesEdit, WritesInsert, WritesRename, WritesSet};
+ghost use Rattle.toml_editor.specs.Exact.{IsNotPlain, MakesAll, MakesOne, OfNoPlace, PassesAll, PassesOne, Stops, WritesEdit, WritesInsert, WritesRename, WritesSet};
 ghost use Rattle.toml_editor.specs.Making.{HasOne, IsMade, IsMany, TellsAny, TellsOne, TellsRow, places_of};
+ghost use Rattle.toml_editor.specs.PlainTexts.{SetsMany};
 ghost use Rattle.toml_editor.specs.SpelledEdits.{AreSpelled, IsSpelled};
 ghost use Rattle.toml_editor.specs.Starting.{NoneIsGone, read_of};
 ghost use Rattle.toml_editor.specs.Stands.{KeepsRest};
@@ -47,8 +48,11 @@ pub(crate) fn make_all<'x>(
     ensures told { let places = places_of read.entry.names.now in
         IfErr result (TellsAny read.entry.profile places (map change edits.now) (kind_at «data».old.root)) }
     ensures exact { OnOk result (MakesAll read.entry.profile (read_of read.entry.before) (map change edits.now) tree.old tree.new) }
-    ensures spread { let from = read_of read.entry.before in
-        IfErr result (OfNoPlace (AreNotPlain read.entry.profile from (map change edits.now) tree.old)) }
+    ensures passed { let from = read_of read.entry.before in
+        let changes = map change edits.now in
+        OnOk result (PassesAll read.entry.profile from changes (kind_at «data».old.root) (length changes) tree.old) }
+    ensures stops { let from = read_of read.entry.before in
+        IfErr result (Stops read.entry.profile from (map change edits.now) (kind_at «data».old.root) tree.old) }
 {
     for (index, edit) in edits.iter().enumerate() {
         if let Err(fault) = make(alloc, tree, read, data, edit, &spelled[index], index) {
@@ -74,6 +78,8 @@ fn make<'x>(
         IfErr result (TellsOne read.entry.profile places index (change edit.now) (kind_at «data».old.root)) }
     ensures exact { OnOk result (MakesOne read.entry.profile (read_of read.entry.before) (change edit.now) tree.old tree.new) }
     ensures spread { IfErr result (OfNoPlace (IsNotPlain read.entry.profile (read_of read.entry.before) (change edit.now) tree.old)) }
+    ensures passed { let from = read_of read.entry.before in
+        OnOk result (PassesOne read.entry.profile from (kind_at «data».old.root) (change edit.now) tree.old) }
 {
     let spread = may_be_spread(alloc, data, read.names, edit, index)?;
     let only = is_only_element(data, edit);
@@ -231,7 +237,8 @@ fn may_be_spread(
     edit: &Edit,
     index: usize,
 ) -> Result<bool, AllocError>
-    ensures { IfOk result (λ spread. IsTrue spread → MayBeSpread (places_of names.now) index (change edit.now) (kind_at «data».now.root)) }
+    ensures yes { IfOk result (λ spread. IsTrue spread → MayBeSpread (places_of names.now) index (change edit.now) (kind_at «data».now.root)) }
+    ensures no { IfOk result (λ spread. spread ≡ false → ¬ SetsMany (change edit.now) (kind_at «data».now.root)) }
 {
     Ok(match edit {
         Edit::Set { at, .. } => is_many(data.root.at(at)),
@@ -243,9 +250,10 @@ fn may_be_spread(
 }
 
 /// Whether it is a table or an array.
-#[tactic(auto, using(crate::proofs::Shapes::many_table, crate::proofs::Shapes::many_array))]
+#[tactic(auto, using(crate::proofs::Shapes::many_table, crate::proofs::Shapes::many_array, crate::proofs::Shapes::scalar_is_one, crate::proofs::Shapes::none_is_one))]
 fn is_many(found: Option<&Datum>) -> bool
-    ensures { IsTrue result → IsMany (option_copied found.entry) }
+    ensures yes { IsTrue result → IsMany (option_copied found.entry) }
+    ensures no { result ≡ false → ¬ IsMany (option_copied found.entry) }
 {
     match found {
         Some(Datum::Array(_)) => true,

@@ -63,7 +63,7 @@ outer_partners_certify cs profile style before after old now newline within stil
 
 -- ---- the text
 
-list_is_written : (cs : List Change) (profile : Profile) (style before : List ℕ) (old now : Kinds) → IsNewline style
+pub list_is_written : (cs : List Change) (profile : Profile) (style before : List ℕ) (old now : Kinds) → IsNewline style
     → IsGoodText profile before old → Lead profile cs old now → ArePlain profile cs style before
     → (after : List ℕ) × AreWritten profile cs style before after
 list_is_written [] profile style before old now newline good lead plain = (before, refl)

@@ -35,6 +35,7 @@ use Rattle.toml_editor.proofs.written.Steps.{plain_step, step_lines}
 use Rattle.toml_editor.proofs.written.SetStanding.{set_stands}
 use Rattle.toml_editor.proofs.written.StandingBare.{places_do_not_stand}
 use Rattle.toml_editor.proofs.written.StandingHas.{value_stands}
+use Rattle.toml_editor.proofs.written.StandingThere.{standing_is_value}
 use Rattle.toml_editor.proofs.written.StandingOrder.{rules_order}
 
 -- edited lines, for which the tree stands
@@ -89,6 +90,17 @@ module _ (profile : Profile) (read : Read) (old new : Tree) (p : Address) (value
             (subst NoneIsGone (sym rest.elements) at.whole) (record { texts = rest.texts; style = ap leaf_text rest.style })
             (v, is, made.0.are ∙ ap (map (set_standing p (value_outline v))) (sym at.stands.stand.are)),
       )
+
+-- a `set` that is made is one of a value that is there
+pub set_is_there : (profile : Profile) (read : Read) (old new : Tree) (p : Address) (text : List ℕ) (kinds : Kinds) (at : IsAt profile read old text kinds)
+    → ¬ (p ≡ []) → (v : Value) (done : Bool) → SetsLines p (value_outline v) (text_of old.texts.source) read old.slots.items new.slots.items done
+    → done ≡ true → HasValue at.good.tree.lines p
+set_is_there profile read old new p text kinds at apart v done sets is =
+    let lines = at.good.tree.lines in
+    let ss = at.stands.lines in
+    let ordered = ordered_of ss (subst AreOrdered (sym at.stands.are_as_new) (rules_order lines at.good.good.0)) in
+    let made = sets apart ss at.stands.stand ordered in
+    standing_is_value p lines (ap (list_any (has p)) (sym at.stands.are_as_new) ∙ has_new p ss ∙ sym made.1 ∙ is)
 
 -- a `remove` of a name that has a line at the root is made, and so is the text
 pub remove_follows : (profile : Profile) (read : Read) (old new : Tree) (p : Address) (text : List ℕ) (kinds now : Kinds) (at : IsAt profile read old text kinds)

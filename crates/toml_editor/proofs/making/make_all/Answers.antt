@@ -1,13 +1,13 @@
-use Rattle.std.proofs.Common.{◌+◌, ap, arith, drop, map, subst, subst₂, sym, take}
-use Rattle.std.proofs.lemmas.List.{drop_all, take_all}
+use Rattle.std.proofs.Common.{arith, map, refl, subst, sym, take}
+use Rattle.std.proofs.lemmas.List.{length-map, take_all}
 use Rattle.toml_names.specs.model.Data.{kind_at}
 use Rattle.toml_edits.specs.Edits.{change}
 use Rattle.toml_edits.specs.Lists.{Lead}
+use Rattle.toml_editor.specs.Exact.{MakesAll}
 use Rattle.toml_editor.specs.Making.{places_of}
 use Rattle.toml_editor.specs.Starting.{read_of}
-use Rattle.toml_editor.proofs.MadeEdits.{any_of_one, led_on, taken_on}
-use Rattle.toml_editor.proofs.MakesExact.{AreMade, all_made, more_made, one_not_plain_of}
-use Rattle.toml_editor.proofs.Out.{dropped}
+use Rattle.toml_editor.proofs.MadeEdits.{any_of_one, get_map, led_on, take_map, taken_on}
+use Rattle.toml_editor.proofs.MakesExact.{more_made, more_passed, none_made, none_passed, stops_at}
 use Rattle.toml_editor.proofs.SpelledOne.{as_many, one_spelled}
 use Rattle.toml_editor.proofs.making.make_all.Goals as goal
 
@@ -19,6 +19,13 @@ make-requires c =
     one_spelled c.args.edits.now c.args.spelled.now c.loop-index.index c.index-edits-index.result c.index-spelled-index.result c.requires (omega arith)
     c.index-edits-index.is (omega (arith, as_many c.args.edits.now c.args.spelled.now c.requires)) c.index-spelled-index.is
 
+pub loop-index-init : goal.loop-index-init
+loop-index-init c =
+    let profile = c.args.read.profile in
+    let read = read_of c.args.read.before in
+    let tree = c.args.tree.now in
+    ((λ a. refl), none_made profile read tree, none_passed profile read (map change c.args.edits.now) (kind_at c.args.data.now.root) tree)
+
 pub loop-index-preserved : goal.loop-index-preserved
 loop-index-preserved c =
     let edits = c.args.edits.now in
@@ -26,35 +33,39 @@ loop-index-preserved c =
     let edit = c.index-edits-index.result in
     let profile = c.args.read.profile in
     let read = read_of c.args.read.before in
-    let cs = map change edits in
     let made = map change (take here.index edits) in
-    let left = map change (drop (here.index + 1) edits) in
     let old = c.args.tree.now in
-    let rest = ap (map change) (dropped edits here.index edit (omega arith) c.index-edits-index.is) in
-    let so_far = subst (λ ds. AreMade profile read cs made ds old here.tree) rest here.invariant.1 in (
-      led_on profile edits here.index edit (kind_at c.args.data.now.root) here.«data».root c.make.new.«data».root (omega arith)
-          c.index-edits-index.is here.invariant.0 c.in_default.ensures.ok,
-      subst (λ ds. AreMade profile read cs ds left old c.make.new.tree) (sym (taken_on edits here.index edit (omega arith) c.index-edits-index.is))
-          (more_made profile read cs made left (change edit) old here.tree c.make.new.tree so_far c.in_default.ensures.exact),
+    let near = kind_at c.args.data.now.root in
+    let part = kind_at here.«data».root in
+    let taken = sym (take_map here.index edits) in (
+      led_on profile edits here.index edit near here.«data».root c.make.new.«data».root (omega arith) c.index-edits-index.is here.invariant.0 c.in_default.ensures.ok,
+      subst (λ ds. MakesAll profile read ds old c.make.new.tree) (sym (taken_on edits here.index edit (omega arith) c.index-edits-index.is))
+          (more_made profile read made (change edit) old here.tree c.make.new.tree here.invariant.1 c.in_default.ensures.exact),
+      more_passed profile read (map change edits) near part here.index (change edit) old here.tree here.invariant.2
+          (subst (λ ds. Lead profile ds near part) taken here.invariant.0) (subst (λ ds. MakesAll profile read ds old here.tree) taken here.invariant.1)
+          (get_map edits here.index edit (omega arith) c.index-edits-index.is) c.in_default.ensures.passed,
     )
 
 pub returns-in-Err : goal.returns-in-Err
-returns-in-Err c = record {
-  made = tt;
-  told = any_of_one c.args.read.profile (places_of c.args.read.names.now) c.args.edits.now c.loop-index.index c.index-edits-index.result (kind_at c.args.data.now.root) (kind_at c.loop-index.«data».root) c.in-Err.fault (omega arith) c.index-edits-index.is c.loop-index.invariant.0 c.in-Err.ensures.told;
-  exact = tt;
-  spread =
-      let edits = c.args.edits.now in
-      let here = c.loop-index in
-      let edit = c.index-edits-index.result in
-      let profile = c.args.read.profile in
-      let read = read_of c.args.read.before in
-      let rest = ap (map change) (dropped edits here.index edit (omega arith) c.index-edits-index.is) in
-      one_not_plain_of profile read (map change edits) (map change (take here.index edits)) (map change (drop (here.index + 1) edits)) (change edit)
-      c.args.tree.now here.tree c.in-Err.fault
-      (subst (λ ds. AreMade profile read (map change edits) (map change (take here.index edits)) ds c.args.tree.now here.tree) rest here.invariant.1)
-      c.in-Err.ensures.spread;
-}
+returns-in-Err c =
+    let edits = c.args.edits.now in
+    let here = c.loop-index in
+    let edit = c.index-edits-index.result in
+    let profile = c.args.read.profile in
+    let read = read_of c.args.read.before in
+    let places = places_of c.args.read.names.now in
+    let old = c.args.tree.now in
+    let near = kind_at c.args.data.now.root in
+    let part = kind_at here.«data».root in
+    record {
+      made = tt;
+      told = any_of_one profile places edits here.index edit near part c.in-Err.fault (omega arith) c.index-edits-index.is here.invariant.0 c.in-Err.ensures.told;
+      exact = tt;
+      passed = tt;
+      stops = stops_at profile read places (map change edits) near part here.index (change edit) old here.tree c.in-Err.fault here.invariant.2
+          (subst (λ ds. MakesAll profile read ds old here.tree) (sym (take_map here.index edits)) here.invariant.1)
+          (get_map edits here.index edit (omega arith) c.index-edits-index.is) c.in-Err.ensures.told c.in-Err.ensures.spread;
+    }
 
 pub returns : goal.returns
 returns c =
@@ -62,13 +73,10 @@ returns c =
     let here = c.loop-index in
     let profile = c.args.read.profile in
     let all = take_all here.index edits c.loop-index-test.false in
-    let read = read_of c.args.read.before in
-    let old = c.args.tree.now in
     record {
       made = subst (λ es. Lead profile (map change es) (kind_at c.args.data.now.root) (kind_at here.«data».root)) all here.invariant.0;
       told = tt;
-      exact = all_made profile read (map change edits) old here.tree
-          (subst₂ (λ es ds. AreMade profile read (map change edits) (map change es) (map change ds) old here.tree) all
-          (drop_all here.index edits c.loop-index-test.false) here.invariant.1);
-      spread = tt;
+      exact = subst (λ es. MakesAll profile (read_of c.args.read.before) (map change es) c.args.tree.now here.tree) all here.invariant.1;
+      passed = λ k low. here.invariant.2 k (omega (arith, low, length-map edits change));
+      stops = tt;
     }

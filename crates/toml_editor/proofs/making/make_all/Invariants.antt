@@ -1,12 +1,13 @@
-use Rattle.std.proofs.Common.{map, take, drop}
+use Rattle.std.proofs.Common.{map, take}
 use Rattle.toml_names.specs.model.Data.{kind_at}
 use Rattle.toml_edits.specs.Edits.{change}
 use Rattle.toml_edits.specs.Lists.{Lead}
+use Rattle.toml_editor.specs.Exact.{MakesAll, PassesAll}
 use Rattle.toml_editor.specs.Starting.{read_of}
-use Rattle.toml_editor.proofs.MakesExact.{AreMade}
 use Rattle.toml_editor.proofs.making.make_all.Given as goal
 
 abbrev pub invariant-loop-index : goal.invariant-loop-index
 invariant-loop-index l =
     Lead l.read.profile (map change (take l.index l.edits)) (kind_at l.initial.«data».root) (kind_at l.«data».root)
-    × AreMade l.read.profile (read_of l.read.before) (map change l.edits) (map change (take l.index l.edits)) (map change (drop l.index l.edits)) l.initial.tree l.tree
+    × MakesAll l.read.profile (read_of l.read.before) (map change (take l.index l.edits)) l.initial.tree l.tree
+    × PassesAll l.read.profile (read_of l.read.before) (map change l.edits) (kind_at l.initial.«data».root) l.index l.initial.tree

@@ -1,0 +1,182 @@
+-- What the making of edits passes, and where it stops, as facts of the text before the edits and of all its data.
+use Rattle.std.proofs.Common.{◌≡◌, ℕ, zero, suc, List, [], ◌∷◌, take, Some, None, refl, sym, subst, ◌∙◌}
+use Rattle.std.proofs.Math.Path.{fun_ext}
+use Rattle.std.proofs.lemmas.Option.{same_Some}
+use Rattle.std.specs.Prelude.{slice_get}
+use Rattle.toml_text.specs.Forms.{IsNewline}
+use Rattle.toml_text.specs.Source.{text_of}
+use Rattle.toml_tree.specs.Profiles.{IsOfProfile}
+use Rattle.toml_tree.specs.Spells.{Spells}
+use Rattle.toml_tree.specs.Tree.{Doc}
+use Rattle.toml_tree.specs.declared.profile.Profile.{Profile}
+use Rattle.toml_tree.proofs.Proved.{one_tree}
+use Rattle.toml_names.specs.mentions.Mentions.{named}
+use Rattle.toml_names.specs.model.Data.{IsDataOf, Kinds}
+use Rattle.toml_names.specs.model.Documents.{IsDocumentIn}
+use Rattle.toml_names.specs.model.Hidden.{Cover, beside, near}
+use Rattle.toml_names.specs.reader.Names.{AreGood}
+use Rattle.toml_names.proofs.Proved.{one_data}
+use Rattle.toml_edits.specs.After.{IsAfter}
+use Rattle.toml_edits.specs.Edits.{Change, place}
+use Rattle.toml_edits.specs.Faults.{IsFault}
+use Rattle.toml_edits.specs.Lists.{Lead}
+use Rattle.toml_edits.specs.Near.{AreNear}
+use Rattle.toml_edits.proofs.Proved.{leads_beside, one_lead}
+use Rattle.toml_editor.specs.declared.fault.EditorFault.{EditorFault}
+use Rattle.toml_editor.specs.declared.fault.EditorFault.TheVariants as faults
+use Rattle.toml_editor.specs.declared.working.Tree.{Tree}
+use Rattle.toml_editor.specs.CertifiedLists.{ArePlain}
+use Rattle.toml_editor.specs.Edited.{Places}
+use Rattle.toml_editor.specs.Exact.{IsAt, IsNotPlainAt, OfNumber, OfPlain, OfSpread, OfSpreadAt, PassesAll, PassesAt, Stops, style}
+use Rattle.toml_editor.specs.Making.{TellsAny}
+use Rattle.toml_editor.specs.PlainTexts.{AfterPlain, IsNoPlainEdit, IsNoPlainList, IsPlainOn, IsSpreadOn, NoSpreadSet}
+use Rattle.toml_editor.specs.Standing.{Read, standing}
+use Rattle.toml_editor.specs.Stands.{StandFor}
+use Rattle.toml_editor.specs.Starting.{NoneIsGone}
+use Rattle.toml_editor.specs.Steps.{AreWritten, IsGoodText}
+use Rattle.toml_editor.specs.Written.{style_of}
+use Rattle.toml_editor.proofs.NearFaults.{near_front, near_one, place_shown}
+use Rattle.toml_editor.proofs.written.Certify.{list_is_written}
+use Rattle.toml_editor.proofs.written.Elsewhere.{style_is_newline}
+
+-- ---- one edit of a list
+
+-- the data to which those before it lead, on which it has no fault
+record Reaches (profile : Profile) (cs : List Change) (j : ℕ) (c : Change) (old : Kinds) : Type 0 where
+  mid : Kinds
+  now : Kinds
+  lead : Lead profile (take j cs) old mid
+  none : IsFault profile c mid None
+  is_after : IsAfter profile c mid now
+
+reaches : (profile : Profile) (cs : List Change) (j : ℕ) (c : Change) (old now : Kinds) → slice_get cs j ≡ Some c → Lead profile cs old now → Reaches profile cs j c old
+reaches profile [] j c old now is lead = cc
+reaches profile (d ∷ cs) zero c old now is (none, mid, is_after, lead) =
+    let same : d ≡ c = same_Some d c is in record {
+      mid = old;
+      now = mid;
+      lead = λ a. refl;
+      none = subst (λ e. IsFault profile e old None) same none;
+      is_after = subst (λ e. IsAfter profile e old mid) same is_after;
+    }
+reaches profile (d ∷ cs) (suc j) c old now is (none, mid, is_after, lead) =
+    let there = reaches profile cs j c mid now is lead in
+    record { mid = there.mid; now = there.now; lead = (none, mid, is_after, there.lead); none = there.none; is_after = there.is_after }
+
+-- those before it are plain, and so is it on the text that they write
+plain_before : (profile : Profile) (cs : List Change) (j : ℕ) (c : Change) (style text : List ℕ) → slice_get cs j ≡ Some c
+    → ArePlain profile cs style text
+    → ArePlain profile (take j cs) style text × ((between : List ℕ) → AreWritten profile (take j cs) style text between → IsPlainOn profile between c)
+plain_before profile [] j c style text is plain = cc
+plain_before profile (d ∷ cs) zero c style text is plain =
+    (tt, λ between same. subst (λ t. IsPlainOn profile t c) same (subst (IsPlainOn profile text) (same_Some d c is) plain.0))
+plain_before profile (d ∷ cs) (suc j) c style text is plain = (
+  (plain.0, λ first written. (plain_before profile cs j c style first is (plain.1 first written)).0),
+  λ between written. (plain_before profile cs j c style written.0 is (plain.1 written.0 written.1)).1 between written.2,
+)
+
+module _ (profile : Profile) (read : Read) (d : Doc) (before : List ℕ) (tree : Tree) (document : IsDocumentIn profile before)
+    (spelled : Spells d before) (stands : StandFor before read tree.slots.items (standing d.lines)) (texts : text_of tree.texts.source ≡ before)
+    (whole : NoneIsGone tree.elements) (styled : style tree ≡ style_of d.lines) where
+  abbrev same : document.1 ≡ d
+  same = one_tree document.1 d before document.2 spelled
+
+  abbrev good_at : (old : Kinds) → IsDataOf (named d.lines) old → IsGoodText profile before old
+  good_at old facts = record {
+    tree = d;
+    spelled = (spelled, subst (IsOfProfile profile) same document.4);
+    good = subst (λ (e : Doc). AreGood e.lines) same document.3;
+    facts = facts;
+  }
+
+  -- at first the tree stands for the text
+  abbrev at : (old : Kinds) → IsDataOf (named d.lines) old → IsAt profile read tree before old
+  at old facts = record {
+    good = good_at old facts;
+    stands = subst (λ t. StandFor t read tree.slots.items (standing d.lines)) (sym texts) stands;
+    whole = whole;
+    newline = subst IsNewline (sym styled) (style_is_newline d.lines spelled.lines.forms);
+  }
+
+  -- what is so of the texts for which the tree stands is so of the text
+  after_plain : (cs : List Change) (k : ℕ) (P : Change → List ℕ → Kinds → Type 0) → OfPlain profile read cs tree k P → AfterPlain profile before cs d k P
+  after_plain cs k P holds c is old mid now facts lead none is_after plain between written =
+      holds c is before old mid now (at old facts) lead none is_after
+      (subst (λ s. ArePlain profile (take k cs) s before) (sym styled) plain) between
+      (subst (λ s. AreWritten profile (take k cs) s before between) (sym styled) written)
+
+  -- ---- an edit that is not plain
+
+  pub no_plain_edit : (cs : List Change) (j : ℕ) → IsNotPlainAt profile read cs j tree → IsNoPlainEdit profile before cs j
+  no_plain_edit cs j not = (d, spelled, after_plain cs j (λ c text kinds. ¬ IsPlainOn profile text c) not)
+
+  pub no_plain_edit_of : (cs : List Change) (fault : EditorFault) → OfSpreadAt (λ j. IsNotPlainAt profile read cs j tree) fault
+      → OfSpreadAt (IsNoPlainEdit profile before cs) fault
+  no_plain_edit_of cs (faults.Spread j) not = no_plain_edit cs j not
+  no_plain_edit_of cs (faults.LastElement j) not = no_plain_edit cs j not
+  no_plain_edit_of cs (faults.Text f) not = tt
+  no_plain_edit_of cs (faults.Syntax f) not = tt
+  no_plain_edit_of cs (faults.Names f) not = tt
+  no_plain_edit_of cs (faults.Edit i f) not = tt
+  no_plain_edit_of cs faults.TooLong not = tt
+  no_plain_edit_of cs (faults.Unverified r) not = tt
+  no_plain_edit_of cs faults.NoMemory not = tt
+
+  -- so the list is not one of plain edits
+  pub no_plain_list_from : (cs : List Change) (j : ℕ) (c : Change) → slice_get cs j ≡ Some c → IsNoPlainEdit profile before cs j → IsNoPlainList profile before cs
+  no_plain_list_from cs j c is (e, e_spelled, not) = (d, spelled, (λ old now facts lead plain. by old now facts lead plain))
+    where
+      not_here : AfterPlain profile before cs d j (λ k text kinds. ¬ IsPlainOn profile text k)
+      not_here = subst (λ (t : Doc). AfterPlain profile before cs t j (λ k text kinds. ¬ IsPlainOn profile text k)) (one_tree e d before e_spelled spelled) not
+
+      by : (old now : Kinds) → IsDataOf (named d.lines) old → Lead profile cs old now → ArePlain profile cs (style_of d.lines) before → ⊥
+      by old now facts lead plain =
+          let there = reaches profile cs j c old now is lead in
+          let (front, one) = plain_before profile cs j c (style_of d.lines) before is plain in
+          let written = list_is_written (take j cs) profile (style_of d.lines) before old there.mid (style_is_newline d.lines spelled.lines.forms)
+          (good_at old facts) there.lead front in
+          not_here c is old there.mid there.now facts there.lead there.none there.is_after front written.0 written.1 (one written.0 written.1)
+
+  pub no_plain_list_told : (places : Places) (cs : List Change) (old : Kinds) (fault : EditorFault) → TellsAny profile places cs old fault
+      → OfSpreadAt (IsNoPlainEdit profile before cs) fault → OfSpread (IsNoPlainList profile before cs) fault
+  no_plain_list_told places cs old (faults.Spread j) tells not = no_plain_list_from cs j tells.2 tells.3 not
+  no_plain_list_told places cs old (faults.LastElement j) tells not = no_plain_list_from cs j tells.2 tells.3 not
+  no_plain_list_told places cs old (faults.Text f) tells not = tt
+  no_plain_list_told places cs old (faults.Syntax f) tells not = tt
+  no_plain_list_told places cs old (faults.Names f) tells not = tt
+  no_plain_list_told places cs old (faults.Edit i f) tells not = tt
+  no_plain_list_told places cs old faults.TooLong tells not = tt
+  no_plain_list_told places cs old (faults.Unverified r) tells not = tt
+  no_plain_list_told places cs old faults.NoMemory tells not = tt
+
+  -- ---- edits that set nothing that is spread
+
+  module _ (hidden : Cover) (cs : List Change) (are : AreNear hidden cs) (old : Kinds) (facts : IsDataOf (named d.lines) old) (part : Kinds)
+      (of : (a : _) → part a ≡ near hidden old a) where
+    passes_text : (k : ℕ) → PassesAt profile read cs part tree k → AfterPlain profile before cs d k (λ c text kinds. ¬ IsSpreadOn profile text c kinds)
+    passes_text k (near_k, led, holds) c is other mid now other_facts lead none is_after plain between written =
+        let same_old : other ≡ old = fun_ext (one_data (named d.lines) other old other_facts facts) in
+        let all = leads_beside profile hidden (take k cs) old part near_k (near_front hidden k cs are) of led in
+        let mid_is : mid (place c) ≡ beside hidden old near_k (place c) =
+        one_lead profile (take k cs) old mid (beside hidden old near_k) (subst (λ o. Lead profile (take k cs) o mid) same_old lead) all (place c) in
+        after_plain cs k (λ e text kinds. near_k (place e) ≡ kinds (place e) → ¬ IsSpreadOn profile text e kinds) holds c is other mid now other_facts lead
+        none is_after plain between written (place_shown hidden c old near_k (near_one hidden k cs c is are) ∙ sym mid_is)
+
+    pub no_spread_set : (n : ℕ) → PassesAll profile read cs part n tree → NoSpreadSet profile before cs n
+    no_spread_set n passes = (d, spelled, (λ k low. passes_text k (passes k low)))
+
+    pub no_spread_set_of : (fault : EditorFault) → OfNumber (λ n. PassesAll profile read cs part n tree) fault → OfNumber (NoSpreadSet profile before cs) fault
+    no_spread_set_of (faults.Edit n f) passes = no_spread_set n passes
+    no_spread_set_of (faults.Spread n) passes = no_spread_set n passes
+    no_spread_set_of (faults.LastElement n) passes = no_spread_set n passes
+    no_spread_set_of (faults.Text f) passes = tt
+    no_spread_set_of (faults.Syntax f) passes = tt
+    no_spread_set_of (faults.Names f) passes = tt
+    no_spread_set_of faults.TooLong passes = tt
+    no_spread_set_of (faults.Unverified r) passes = tt
+    no_spread_set_of faults.NoMemory passes = tt
+
+    -- both, of the fault with which the edits end
+    pub stops_told : (fault : EditorFault) → Stops profile read cs part tree fault
+        → OfNumber (NoSpreadSet profile before cs) fault × OfSpreadAt (IsNoPlainEdit profile before cs) fault
+    stops_told fault stops = (no_spread_set_of fault stops.passed, no_plain_edit_of cs fault stops.spread)
