@@ -33,12 +33,12 @@ use Rattle.toml_checker.specs.declared.verdict.Verdict.TheVariants.{Yes}
 use Rattle.toml_checker.specs.Demands.{Certified, IsVerdict}
 use Rattle.toml_checker.specs.Marks.{IsSet}
 use Rattle.toml_checker.specs.Pairs.{IsFirst, AllFit}
-use Rattle.toml_editor.specs.PlainTexts.{IsNoPlainList, WritesPlain}
+use Rattle.toml_editor.specs.PlainTexts.{IsNoPlainEdit, NoSpreadSet, WritesPlain}
 use Rattle.toml_checker.specs.declared.facts.Made.{Made}
 use Rattle.toml_checker.specs.After.{IsMadeOf, made_of}
 use Rattle.toml_editor.specs.Edited.{AreDefinedOn, IsEdited, NamesOuter, RefusesText, Tells}
 use Rattle.toml_editor.specs.Editing.{TellsWanted}
-use Rattle.toml_editor.specs.Exact.{OfNoPlace}
+use Rattle.toml_editor.specs.Exact.{OfNoPlaceAt, OfNumber}
 use Rattle.toml_editor.specs.Making.{TellsAny}
 use Rattle.toml_editor.specs.declared.fault.EditorFault.{EditorFault}
 use Rattle.toml_editor.specs.declared.fault.EditorFault.TheVariants as faults
@@ -82,17 +82,19 @@ data_copied ms ns k l is facts same = λ at kind. let e = facts at kind in (
 )
 
 -- what is told of the data of a text is told of the text
-pub any_tells : (profile : Profile) (before : List ℕ) (cs : List Change) (d : Doc) (old : Kinds) (fault : EditorFault) → IsDocumentIn profile before → Spells d before → IsDataOf (named d.lines) old → TellsAny profile (place (named d.lines)) cs old fault
-    → OfNoPlace (IsNoPlainList profile before cs) fault → Tells profile before cs fault
-any_tells profile before cs d old (faults.Edit i f) document spelled facts h spread = (document, (d, spelled, old, facts, h))
-any_tells profile before cs d old (faults.Spread i) document spelled facts h spread = (document, (d, spelled, (d, spelled, old, facts, h)), spread)
-any_tells profile before cs d old (faults.LastElement i) document spelled facts h spread = (document, (d, spelled, old, facts, h), spread)
-any_tells profile before cs d old faults.NoMemory document spelled facts h spread = tt
-any_tells profile before cs d old (faults.Text f) document spelled facts h spread = absurd h
-any_tells profile before cs d old (faults.Syntax f) document spelled facts h spread = absurd h
-any_tells profile before cs d old (faults.Names f) document spelled facts h spread = absurd h
-any_tells profile before cs d old faults.TooLong document spelled facts h spread = absurd h
-any_tells profile before cs d old (faults.Unverified r) document spelled facts h spread = absurd h
+pub any_tells : (profile : Profile) (before : List ℕ) (cs : List Change) (d : Doc) (old : Kinds) (fault : EditorFault) → IsDocumentIn profile before
+    → Spells d before → IsDataOf (named d.lines) old → TellsAny profile (place (named d.lines)) cs old fault
+    → OfNumber (NoSpreadSet profile before cs) fault → OfNoPlaceAt (IsNoPlainEdit profile before cs) fault → Tells profile before cs fault
+any_tells profile before cs d old (faults.Edit i f) document spelled facts h passed not = (document, (d, spelled, old, facts, h), passed)
+any_tells profile before cs d old (faults.Spread i) document spelled facts h passed not =
+    (document, (d, spelled, (d, spelled, old, facts, h)), not, passed)
+any_tells profile before cs d old (faults.LastElement i) document spelled facts h passed not = (document, (d, spelled, old, facts, h), not, passed)
+any_tells profile before cs d old faults.NoMemory document spelled facts h passed not = tt
+any_tells profile before cs d old (faults.Text f) document spelled facts h passed not = absurd h
+any_tells profile before cs d old (faults.Syntax f) document spelled facts h passed not = absurd h
+any_tells profile before cs d old (faults.Names f) document spelled facts h passed not = absurd h
+any_tells profile before cs d old faults.TooLong document spelled facts h passed not = absurd h
+any_tells profile before cs d old (faults.Unverified r) document spelled facts h passed not = absurd h
 
 -- ---- which units are paired
 
@@ -145,8 +147,8 @@ marks_tell wanted marks ps n count same all i low =
 -- a yes, and pairs that name the wanted units
 pub edited : (profile : Profile) (before after text : List ℕ) (cs : List Change) (ps pairs : List (ℕ × ℕ)) (wanted : List Bool) (v : Verdict) (all : Bool) → IsVerdict profile before cs after ps v → v ≡ Yes → after ≡ text → pairs ≡ ps → TellsWanted before cs wanted
     → (IsTrue all → (i : ℕ) → i < length wanted → (slice_get wanted i ≡ Some true) ↔ IsFirst pairs i) → all ≡ true
-    → WritesPlain profile before cs text → IsEdited profile before cs text ps
-edited profile before after text cs ps pairs wanted v all verdict a_yes same same_pairs told names is plain =
+    → WritesPlain profile before cs text → NoSpreadSet profile before cs (length cs) → IsEdited profile before cs text ps
+edited profile before after text cs ps pairs wanted v all verdict a_yes same same_pairs told names is plain passed =
     let certified : Certified profile before cs after ps = subst (IsVerdict profile before cs after ps) a_yes verdict in
     let first : (i : ℕ) → i < length wanted → (slice_get wanted i ≡ Some true) ↔ IsFirst ps i =
     subst (λ qs. (i : ℕ) → i < length wanted → (slice_get wanted i ≡ Some true) ↔ IsFirst qs i) same_pairs (names is) in
@@ -154,6 +156,7 @@ edited profile before after text cs ps pairs wanted v all verdict a_yes same sam
       certified = subst (λ t. Certified profile before cs t ps) same certified;
       outer = names_outer profile before after cs ps wanted certified told first;
       plain = plain;
+      passed = passed;
     }
 
 -- what the edits make of the data of a document shows that they are defined

@@ -4,6 +4,7 @@ pub mod MakesExact
 pub mod PlainMade
 pub mod PassedSpread
 pub mod Judgements
+mod PlainAnswers
 mod PlainJudged
 pub mod NearFaults
 mod Answered

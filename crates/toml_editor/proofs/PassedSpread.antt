@@ -27,7 +27,7 @@ use Rattle.toml_editor.specs.declared.fault.EditorFault.TheVariants as faults
 use Rattle.toml_editor.specs.declared.working.Tree.{Tree}
 use Rattle.toml_editor.specs.CertifiedLists.{ArePlain}
 use Rattle.toml_editor.specs.Edited.{Places}
-use Rattle.toml_editor.specs.Exact.{IsAt, IsNotPlainAt, OfNumber, OfPlain, OfSpread, OfSpreadAt, PassesAll, PassesAt, Stops, style}
+use Rattle.toml_editor.specs.Exact.{IsAt, IsNotPlainAt, OfNumber, OfPlain, OfNoPlace, OfNoPlaceAt, PassesAll, PassesAt, Stops, style}
 use Rattle.toml_editor.specs.Making.{TellsAny}
 use Rattle.toml_editor.specs.PlainTexts.{AfterPlain, IsNoPlainEdit, IsNoPlainList, IsPlainOn, IsSpreadOn, NoSpreadSet}
 use Rattle.toml_editor.specs.Standing.{Read, standing}
@@ -38,42 +38,6 @@ use Rattle.toml_editor.specs.Written.{style_of}
 use Rattle.toml_editor.proofs.NearFaults.{near_front, near_one, place_shown}
 use Rattle.toml_editor.proofs.written.Certify.{list_is_written}
 use Rattle.toml_editor.proofs.written.Elsewhere.{style_is_newline}
-
--- ---- one edit of a list
-
--- the data to which those before it lead, on which it has no fault
-record Reaches (profile : Profile) (cs : List Change) (j : ℕ) (c : Change) (old : Kinds) : Type 0 where
-  mid : Kinds
-  now : Kinds
-  lead : Lead profile (take j cs) old mid
-  none : IsFault profile c mid None
-  is_after : IsAfter profile c mid now
-
-reaches : (profile : Profile) (cs : List Change) (j : ℕ) (c : Change) (old now : Kinds) → slice_get cs j ≡ Some c → Lead profile cs old now → Reaches profile cs j c old
-reaches profile [] j c old now is lead = cc
-reaches profile (d ∷ cs) zero c old now is (none, mid, is_after, lead) =
-    let same : d ≡ c = same_Some d c is in record {
-      mid = old;
-      now = mid;
-      lead = λ a. refl;
-      none = subst (λ e. IsFault profile e old None) same none;
-      is_after = subst (λ e. IsAfter profile e old mid) same is_after;
-    }
-reaches profile (d ∷ cs) (suc j) c old now is (none, mid, is_after, lead) =
-    let there = reaches profile cs j c mid now is lead in
-    record { mid = there.mid; now = there.now; lead = (none, mid, is_after, there.lead); none = there.none; is_after = there.is_after }
-
--- those before it are plain, and so is it on the text that they write
-plain_before : (profile : Profile) (cs : List Change) (j : ℕ) (c : Change) (style text : List ℕ) → slice_get cs j ≡ Some c
-    → ArePlain profile cs style text
-    → ArePlain profile (take j cs) style text × ((between : List ℕ) → AreWritten profile (take j cs) style text between → IsPlainOn profile between c)
-plain_before profile [] j c style text is plain = cc
-plain_before profile (d ∷ cs) zero c style text is plain =
-    (tt, λ between same. subst (λ t. IsPlainOn profile t c) same (subst (IsPlainOn profile text) (same_Some d c is) plain.0))
-plain_before profile (d ∷ cs) (suc j) c style text is plain = (
-  (plain.0, λ first written. (plain_before profile cs j c style first is (plain.1 first written)).0),
-  λ between written. (plain_before profile cs j c style written.0 is (plain.1 written.0 written.1)).1 between written.2,
-)
 
 module _ (profile : Profile) (read : Read) (d : Doc) (before : List ℕ) (tree : Tree) (document : IsDocumentIn profile before)
     (spelled : Spells d before) (stands : StandFor before read tree.slots.items (standing d.lines)) (texts : text_of tree.texts.source ≡ before)
@@ -110,8 +74,8 @@ module _ (profile : Profile) (read : Read) (d : Doc) (before : List ℕ) (tree :
   pub no_plain_edit : (cs : List Change) (j : ℕ) → IsNotPlainAt profile read cs j tree → IsNoPlainEdit profile before cs j
   no_plain_edit cs j not = (d, spelled, after_plain cs j (λ c text kinds. ¬ IsPlainOn profile text c) not)
 
-  pub no_plain_edit_of : (cs : List Change) (fault : EditorFault) → OfSpreadAt (λ j. IsNotPlainAt profile read cs j tree) fault
-      → OfSpreadAt (IsNoPlainEdit profile before cs) fault
+  pub no_plain_edit_of : (cs : List Change) (fault : EditorFault) → OfNoPlaceAt (λ j. IsNotPlainAt profile read cs j tree) fault
+      → OfNoPlaceAt (IsNoPlainEdit profile before cs) fault
   no_plain_edit_of cs (faults.Spread j) not = no_plain_edit cs j not
   no_plain_edit_of cs (faults.LastElement j) not = no_plain_edit cs j not
   no_plain_edit_of cs (faults.Text f) not = tt
@@ -121,33 +85,6 @@ module _ (profile : Profile) (read : Read) (d : Doc) (before : List ℕ) (tree :
   no_plain_edit_of cs faults.TooLong not = tt
   no_plain_edit_of cs (faults.Unverified r) not = tt
   no_plain_edit_of cs faults.NoMemory not = tt
-
-  -- so the list is not one of plain edits
-  pub no_plain_list_from : (cs : List Change) (j : ℕ) (c : Change) → slice_get cs j ≡ Some c → IsNoPlainEdit profile before cs j → IsNoPlainList profile before cs
-  no_plain_list_from cs j c is (e, e_spelled, not) = (d, spelled, (λ old now facts lead plain. by old now facts lead plain))
-    where
-      not_here : AfterPlain profile before cs d j (λ k text kinds. ¬ IsPlainOn profile text k)
-      not_here = subst (λ (t : Doc). AfterPlain profile before cs t j (λ k text kinds. ¬ IsPlainOn profile text k)) (one_tree e d before e_spelled spelled) not
-
-      by : (old now : Kinds) → IsDataOf (named d.lines) old → Lead profile cs old now → ArePlain profile cs (style_of d.lines) before → ⊥
-      by old now facts lead plain =
-          let there = reaches profile cs j c old now is lead in
-          let (front, one) = plain_before profile cs j c (style_of d.lines) before is plain in
-          let written = list_is_written (take j cs) profile (style_of d.lines) before old there.mid (style_is_newline d.lines spelled.lines.forms)
-          (good_at old facts) there.lead front in
-          not_here c is old there.mid there.now facts there.lead there.none there.is_after front written.0 written.1 (one written.0 written.1)
-
-  pub no_plain_list_told : (places : Places) (cs : List Change) (old : Kinds) (fault : EditorFault) → TellsAny profile places cs old fault
-      → OfSpreadAt (IsNoPlainEdit profile before cs) fault → OfSpread (IsNoPlainList profile before cs) fault
-  no_plain_list_told places cs old (faults.Spread j) tells not = no_plain_list_from cs j tells.2 tells.3 not
-  no_plain_list_told places cs old (faults.LastElement j) tells not = no_plain_list_from cs j tells.2 tells.3 not
-  no_plain_list_told places cs old (faults.Text f) tells not = tt
-  no_plain_list_told places cs old (faults.Syntax f) tells not = tt
-  no_plain_list_told places cs old (faults.Names f) tells not = tt
-  no_plain_list_told places cs old (faults.Edit i f) tells not = tt
-  no_plain_list_told places cs old faults.TooLong tells not = tt
-  no_plain_list_told places cs old (faults.Unverified r) tells not = tt
-  no_plain_list_told places cs old faults.NoMemory tells not = tt
 
   -- ---- edits that set nothing that is spread
 
@@ -178,5 +115,5 @@ module _ (profile : Profile) (read : Read) (d : Doc) (before : List ℕ) (tree :
 
     -- both, of the fault with which the edits end
     pub stops_told : (fault : EditorFault) → Stops profile read cs part tree fault
-        → OfNumber (NoSpreadSet profile before cs) fault × OfSpreadAt (IsNoPlainEdit profile before cs) fault
+        → OfNumber (NoSpreadSet profile before cs) fault × OfNoPlaceAt (IsNoPlainEdit profile before cs) fault
     stops_told fault stops = (no_spread_set_of fault stops.passed, no_plain_edit_of cs fault stops.spread)

@@ -19,19 +19,17 @@ use Rattle.toml_units.specs.Plain.{spanned}
 use Rattle.toml_units.specs.Units.{units}
 use Rattle.toml_units.specs.View.{all_units, unit}
 use Rattle.toml_checker.specs.Outer.{TellOuter}
-use Rattle.toml_editor.specs.declared.fault.EditorFault.{EditorFault}
-use Rattle.toml_editor.specs.declared.fault.EditorFault.TheVariants as faults
 use Rattle.toml_editor.specs.declared.texts.Texts.{Texts}
 use Rattle.toml_editor.specs.declared.working.Tree.{Tree}
 use Rattle.toml_editor.specs.CertifiedLists.{AreOuterPartners, ArePlain}
 use Rattle.toml_editor.specs.EditStanding.{EditAllStanding}
 use Rattle.toml_editor.specs.Editing.{TellsWanted}
-use Rattle.toml_editor.specs.Exact.{AreNotPlain, FollowAll, IsAt, MakesAll, OfNoPlace, style}
+use Rattle.toml_editor.specs.Exact.{FollowAll, IsAt, MakesAll, style}
 use Rattle.toml_editor.specs.Numbering.{PairsOf, pairs_from, slot_origins}
 use Rattle.toml_editor.specs.OpenOrigins.{numbers}
 use Rattle.toml_editor.specs.OpenOutlines.{all_origins}
 use Rattle.toml_editor.specs.PairedLists.{PairsPlain}
-use Rattle.toml_editor.specs.PlainTexts.{IsNoPlainList, WritesPlain}
+use Rattle.toml_editor.specs.PlainTexts.{WritesPlain}
 use Rattle.toml_editor.specs.Standing.{Read, standing, standing_origins}
 use Rattle.toml_editor.specs.Stands.{HasNumbers, StandFor}
 use Rattle.toml_editor.specs.Starting.{NoneIsGone}
@@ -71,24 +69,6 @@ module _ (profile : Profile) (read : Read) (d : Doc) (before : List ℕ) (tree :
     whole = whole;
     newline = subst IsNewline (sym styled) (style_is_newline d.lines spelled.lines.forms);
   }
-
-  pub no_plain_list : (cs : List Change) → AreNotPlain profile read cs tree → IsNoPlainList profile before cs
-  no_plain_list cs not = (
-    d,
-    spelled,
-    (λ old now facts lead plain. not before old now (at old facts) lead (subst (λ s. ArePlain profile cs s before) (sym styled) plain)),
-  )
-
-  pub no_plain_list_of : (cs : List Change) (fault : EditorFault) → OfNoPlace (AreNotPlain profile read cs tree) fault → OfNoPlace (IsNoPlainList profile before cs) fault
-  no_plain_list_of cs (faults.Spread i) not = no_plain_list cs not
-  no_plain_list_of cs (faults.LastElement i) not = no_plain_list cs not
-  no_plain_list_of cs (faults.Text f) not = tt
-  no_plain_list_of cs (faults.Syntax f) not = tt
-  no_plain_list_of cs (faults.Names f) not = tt
-  no_plain_list_of cs (faults.Edit i f) not = tt
-  no_plain_list_of cs faults.TooLong not = tt
-  no_plain_list_of cs (faults.Unverified r) not = tt
-  no_plain_list_of cs faults.NoMemory not = tt
 
   module _ (cs : List Change) (old now : Kinds) (new : Tree) (out : List ℕ) (facts : IsDataOf (named d.lines) old) (lead : Lead profile cs old now) where
     -- once plain edits are made, the tree stands for the text that they write,

@@ -24,7 +24,7 @@ use Rattle.toml_checker.specs.Demands.{Certified}
 use Rattle.toml_checker.specs.Documents.{AreDefined, OfTree, OfData}
 use Rattle.toml_checker.specs.Outer.{IsOuter}
 use Rattle.toml_checker.specs.Pairs.{IsFirst}
-use Rattle.toml_editor.specs.PlainTexts.{IsNoPlainList, WritesPlain}
+use Rattle.toml_editor.specs.PlainTexts.{IsNoPlainEdit, IsNoPlainList, NoSpreadSet, WritesPlain}
 use Rattle.toml_editor.specs.Tidy.{AreTidy}
 use Rattle.toml_editor.specs.declared.fault.EditorFault.{EditorFault}
 use Rattle.toml_editor.specs.declared.fault.EditorFault.TheVariants.{Text, Syntax, Names, Edit, Spread, LastElement, TooLong, Unverified, NoMemory}
@@ -34,11 +34,12 @@ abbrev pub NamesOuter : List ℕ → List Change → List (ℕ × ℕ) → Type 
 NamesOuter before cs ps = OfTree before (λ d. (i : ℕ) → IsFirst ps i ↔ IsOuter cs (units d.lines) i)
 
 -- The text is certified to be what the edits make of the first one, by pairs that name the outer protected units. Of plain edits it is
--- the one that they write.
+-- the one that they write, and none of the edits sets what is spread.
 pub record IsEdited (profile : Profile) (before : List ℕ) (cs : List Change) (after : List ℕ) (ps : List (ℕ × ℕ)) : Type 0 where
   pub certified : Certified profile before cs after ps
   pub outer : NamesOuter before cs ps
   pub plain : WritesPlain profile before cs after
+  pub passed : NoSpreadSet profile before cs (length cs)
 
 -- the pieces, which are tidy, are the text
 pub record ArePieces (before after : List ℕ) (pieces : List Piece) : Type 0 where
@@ -108,14 +109,18 @@ abbrev pub AreDefinedOn : Profile → List ℕ → List Change → Type 0
 AreDefinedOn profile before cs = IsDocumentIn profile before × OfData before (AreDefined profile cs)
 
 -- What a fault of the editor tells. Of an edit: that the text is a document, and the fault is the edit's on the data so far. That its
--- place is spread, or that it takes a last element: that it is defined on these data, and that the list is not one of plain edits. That
--- the result is too long: all edits are defined, and where they are plain, what they write is too long. That the judge refuses it: all
--- edits are defined, and the list is not one of plain edits. Of want of memory: nothing.
+-- place is spread, or that it takes a last element: that it is defined on these data, and not plain if those before it are. That the result
+-- is too long: all edits are defined, and where they are plain, what they write is too long. That the judge refuses it: all edits are
+-- defined, and the list is not one of plain edits. And each time that no edit before, or of the list, sets what is spread, if those
+-- before it are plain. Of want of memory: nothing.
 abbrev pub Tells : Profile → List ℕ → List Change → EditorFault → Type 0
 Tells profile before cs (Edit index fault) = IsDocumentIn profile before × OnDataSoFar profile before cs index (λ c kinds. IsFault profile c kinds (Some fault))
+    × NoSpreadSet profile before cs index
 Tells profile before cs (Spread index) = IsDocumentIn profile before × OfTree before (λ d. OnDataSoFar profile before cs index (OfDefined profile (MayBeSpread (place (named d.lines)) index)))
-    × IsNoPlainList profile before cs
-Tells profile before cs (LastElement index) = IsDocumentIn profile before × OnDataSoFar profile before cs index (OfDefined profile TakesLastElement) × IsNoPlainList profile before cs
+    × IsNoPlainEdit profile before cs index × NoSpreadSet profile before cs index
+Tells profile before cs (LastElement index) = IsDocumentIn profile before × OnDataSoFar profile before cs index (OfDefined profile TakesLastElement)
+    × IsNoPlainEdit profile before cs index × NoSpreadSet profile before cs index
 Tells profile before cs TooLong = AreDefinedOn profile before cs × ((after : List ℕ) × WritesPlain profile before cs after × (max_len < length after))
-Tells profile before cs (Unverified reason) = AreDefinedOn profile before cs × IsNoPlainList profile before cs
+    × NoSpreadSet profile before cs (length cs)
+Tells profile before cs (Unverified reason) = AreDefinedOn profile before cs × IsNoPlainList profile before cs × NoSpreadSet profile before cs (length cs)
 Tells profile before cs fault = RefusesText profile before fault

@@ -21,7 +21,7 @@ use Rattle.toml_checker.specs.Pairs.{IsFirst}
 use Rattle.toml_checker.specs.Reading.{IsRead}
 use Rattle.toml_editor.specs.Edited.{ArePieces, IsEdited}
 use Rattle.toml_editor.specs.PairedLists.{PairsPlain}
-use Rattle.toml_editor.specs.PlainTexts.{WritesPlain}
+use Rattle.toml_editor.specs.PlainTexts.{NoSpreadSet, WritesPlain}
 use Rattle.toml_editor.specs.declared.editing.Edited.{Edited}
 use Rattle.toml_editor.specs.declared.editing.Work.{Work}
 
@@ -52,11 +52,13 @@ abbrev pub TellsWanted : List ℕ → List Change → List Bool → Type 0
 TellsWanted before cs flags = OfTree before (λ d. TellOuter cs (units d.lines) flags)
 
 -- The data are what the edits make of those of the first text, and the pieces of the first are the second text. Of plain edits that is the
--- one that they write, and the pairs, where the flags tell the outer protected units, are those of the partners of these.
+-- one that they write, none of the edits sets what is spread, and the pairs, where the flags tell the outer protected units, are those of
+-- the partners of these.
 pub record IsMadeText (profile : Profile) (before : List ℕ) (cs : List Change) (flags : List Bool) (made : Made) (after : List ℕ) (list : List Piece)
     (ps : List (ℕ × ℕ)) : Type 0 where
   pub is_made : IsMadeOf profile before cs made
   pub plain : WritesPlain profile before cs after
+  pub passed : NoSpreadSet profile before cs (length cs)
   pub paired : TellsWanted before cs flags → PairsPlain profile before cs after ps
   pub pieces : ArePieces before after list
 

@@ -105,11 +105,6 @@ abbrev pub IsNotPlain : Profile → Read → Change → Tree → Type 0
 IsNotPlain profile read c tree = (text : List ℕ) (kinds now : Kinds) → IsAt profile read tree text kinds
     → IsFault profile c kinds None → IsAfter profile c kinds now → ¬ IsPlainOn profile text c
 
--- for none on which the edits are, each on the text written so far
-abbrev pub AreNotPlain : Profile → Read → List Change → Tree → Type 0
-AreNotPlain profile read cs tree = (text : List ℕ) (kinds now : Kinds) → IsAt profile read tree text kinds
-    → Lead profile cs kinds now → ¬ ArePlain profile cs (style tree) text
-
 -- this holds where an edit is told to be spread, or to take a last element
 abbrev pub OfNoPlace : Type 0 → EditorFault → Type 0
 OfNoPlace P (Spread i) = P

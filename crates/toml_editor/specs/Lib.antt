@@ -62,4 +62,5 @@ pub mod PairedLists
 -- that the code writes it
 pub mod StandingLaws
 pub mod PlainTexts
+pub mod PlainAnswers
 pub mod Exact

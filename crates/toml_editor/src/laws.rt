@@ -4,6 +4,7 @@ ghost use Rattle.toml_editor.specs.CarriedUnits.{PlainIsCarried};
 ghost use Rattle.toml_editor.specs.CarriedLists.{ListIsCarried};
 ghost use Rattle.toml_editor.specs.CertifiedLists.{PartnersCertify, OuterAreNamed, OuterPartnersCertify, PlainListIsCertified};
 ghost use Rattle.toml_editor.specs.ChangedUnits.{SetUnits};
+ghost use Rattle.toml_editor.specs.PlainAnswers.{FirstFaultIsAnswered, FirstSpreadIsAnswered, LongIsAnswered, PlainIsAnswered};
 ghost use Rattle.toml_editor.specs.PairedLists.{PlainListIsPaired};
 ghost use Rattle.toml_editor.specs.InsertLaws.{InsertNames, InsertRules, InsertShort, InsertData, InsertForms, InsertOfProfile, InsertKeepsLines};
 ghost use Rattle.toml_editor.specs.RemoveLaws.{RemoveNames, RemoveGood, RemoveData, RemoveForms, RemoveOfProfile, RemoveKeepsLines};
@@ -197,6 +198,17 @@ pub fn standing_inserted()
 pub fn standing_removed()
     ensures pair { PairStands }
     ensures remove { RemoveStands }
+{}
+
+/// What the editor answers, want of memory aside. Where all edits of a list are plain on a document, it is the text that they
+/// write, if it is within the limit of a text, and else that it is too long. Where the edits before one are plain, and it is not
+/// defined on the data so far, it is that edit's fault with its number; where it is a `set` of a table or an array that is no
+/// single value, it is that its place is spread, with its number.
+pub fn plain_answers()
+    ensures plain { PlainIsAnswered }
+    ensures long { LongIsAnswered }
+    ensures fault { FirstFaultIsAnswered }
+    ensures spread { FirstSpreadIsAnswered }
 {}
 
 /// Where the working tree stands for the lines of a tree, the mark and the text of these lines are written: of the lines of

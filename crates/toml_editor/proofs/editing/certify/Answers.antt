@@ -13,7 +13,7 @@ returns-then-branch-clause-edited c =
     record {
       edited =
           edited c.args.profile c.args.before.text.now c.as_bytes.result.now (string_bytes made.text) (map change c.args.edits.now) made.certificate.pairs.items c.deref.result.now c.args.wanted.now
-          c.in_ok-reason.field-0 c.in_ok-names_all-in-Yes.field-0 c.in_ok-reason.ensures c.in-Yes.is c.as_bytes.ensures.value c.deref.ensures.value c.requires.wanted c.in_ok-names_all-in-Yes.ensures.0 c.if-branch.true c.requires.made.plain;
+          c.in_ok-reason.field-0 c.in_ok-names_all-in-Yes.field-0 c.in_ok-reason.ensures c.in-Yes.is c.as_bytes.ensures.value c.deref.ensures.value c.requires.wanted c.in_ok-names_all-in-Yes.ensures.0 c.if-branch.true c.requires.made.plain c.requires.made.passed;
       pieces = c.requires.made.pieces;
     }
 
@@ -23,6 +23,7 @@ returns-then-len-gt-MAX_LEN-clause-told c =
     (
       defined_on c.args.profile c.args.before.text.now cs c.args.made c.requires.known.document c.requires.made.is_made,
       (string_bytes c.args.edited.text, c.requires.made.plain, omega (arith, c.len.ensures, c.if-len-gt-MAX_LEN.true)),
+      c.requires.made.passed,
     )
 
 pub returns-in-No-clause-told : goal.returns-in-No-clause-told
@@ -37,6 +38,7 @@ returns-in-No-clause-told c =
       no_is_not_plain c.args.profile before (string_bytes made.text) cs made.certificate.pairs.items c.requires.known.document within c.requires.made.plain
           (c.requires.made.paired c.requires.wanted) c.in-No.reason
           (subst (λ t. IsVerdict c.args.profile before cs t made.certificate.pairs.items (No c.in-No.reason)) c.as_bytes.ensures.value refused),
+      c.requires.made.passed,
     )
 
 pub returns-else-branch-clause-told : goal.returns-else-branch-clause-told
@@ -51,4 +53,5 @@ returns-else-branch-clause-told c =
       defined_on c.args.profile before cs c.args.made c.requires.known.document c.requires.made.is_made,
       lost_is_not_plain c.args.profile before (string_bytes made.text) cs made.certificate.pairs.items c.requires.known.document within c.requires.made.plain
           (c.requires.made.paired c.requires.wanted) c.args.wanted.now c.requires.wanted others,
+      c.requires.made.passed,
     )

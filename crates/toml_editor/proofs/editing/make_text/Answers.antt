@@ -1,4 +1,4 @@
-use Rattle.std.proofs.Common.{List, ap, map, string_bytes, subst, sym}
+use Rattle.std.proofs.Common.{List, ap, length, map, string_bytes, subst, sym}
 use Rattle.toml_text.specs.Source.{text_of}
 use Rattle.toml_tree.specs.Document.{document}
 use Rattle.toml_tree.specs.Tree.{Line}
@@ -15,7 +15,8 @@ use Rattle.toml_editor.specs.declared.texts.Texts.{Texts}
 use Rattle.toml_editor.specs.Making.{TellsAny}
 use Rattle.toml_editor.proofs.Judgements.{any_tells}
 use Rattle.toml_editor.proofs.NearFaults.{any_of_all, has_data}
-use Rattle.toml_editor.proofs.PlainMade.{no_plain_list_of, plain_paired, plain_written, wanted_outer}
+use Rattle.toml_editor.proofs.PassedSpread.{no_spread_set, stops_told}
+use Rattle.toml_editor.proofs.PlainMade.{plain_paired, plain_written, wanted_outer}
 use Rattle.toml_editor.proofs.editing.make_text.Goals as goal
 
 pub returns-in-Err-clause-told : goal.returns-in-Err-clause-told
@@ -29,11 +30,12 @@ returns-in-Err-clause-told c =
     let part = kind_at c.in_ok-data.«data».root in
     let told = subst (λ (ls : List Line). TellsAny c.args.profile (place (named ls)) cs part c.in-Err.fault) c.requires.read.taken c.in-Err.ensures.told in
     let opened = c.in_ok-tree.ensures in
-    let spread = no_plain_list_of c.args.profile (record { units = c.args.units.now; lines = d.lines }) d text c.in_ok-tree.tree c.requires.read.document
-    c.requires.read.spelled opened.stands.lines (ap (λ (t : Texts). text_of t.source) opened.texts) opened.elements opened.style cs c.in-Err.fault
-    c.in-Err.ensures.spread in
+    let both = stops_told c.args.profile (record { units = c.args.units.now; lines = d.lines }) d text c.in_ok-tree.tree c.requires.read.document
+    c.requires.read.spelled opened.stands.lines (ap (λ (t : Texts). text_of t.source) opened.texts) opened.elements opened.style
+    (is_hidden c.in_ok-touched.touched) cs c.in_ok-touched.ensures.near old facts part near c.in-Err.fault c.in-Err.ensures.stops in
     any_tells c.args.profile text cs d old c.in-Err.fault c.requires.read.document c.requires.read.spelled facts
-    (any_of_all c.args.profile (place (named d.lines)) (is_hidden c.in_ok-touched.touched) old cs c.in_ok-touched.ensures.near part near c.in-Err.fault told) spread
+    (any_of_all c.args.profile (place (named d.lines)) (is_hidden c.in_ok-touched.touched) old cs c.in_ok-touched.ensures.near part near c.in-Err.fault told)
+    both.0 both.1
 
 pub returns-clause-made : goal.returns-clause-made
 returns-clause-made c =
@@ -52,6 +54,9 @@ returns-clause-made c =
           c.requires.read.spelled opened.stands.lines (ap (λ (t : Texts). text_of t.source) opened.texts) opened.elements opened.style cs old
           (beside (is_hidden c.in_ok-touched.touched) old new) c.make_all.new.tree (string_bytes c.in_ok-edited.edited.text) facts leads
           c.in_default.ensures.exact c.in_ok-edited.ensures.written;
+      passed = no_spread_set c.args.profile (record { units = c.args.units.now; lines = d.lines }) d text c.in_ok-tree.tree c.requires.read.document
+          c.requires.read.spelled opened.stands.lines (ap (λ (t : Texts). text_of t.source) opened.texts) opened.elements opened.style
+          (is_hidden c.in_ok-touched.touched) cs c.in_ok-touched.ensures.near old facts (kind_at c.in_ok-data.«data».root) near (length cs) c.in_default.ensures.passed;
       paired = λ told.
           plain_paired c.args.profile (record { units = c.args.units.now; lines = d.lines }) d text c.in_ok-tree.tree c.requires.read.document
           c.requires.read.spelled opened.stands.lines (ap (λ (t : Texts). text_of t.source) opened.texts) opened.elements opened.style cs old

@@ -1,0 +1,10 @@
+use Rattle.toml_editor.proofs.PlainAnswers.{first_fault_is_answered, first_spread_is_answered, long_is_answered, plain_is_answered}
+use Rattle.toml_editor.proofs.laws.plain_answers.Goals as goal
+
+pub returns : goal.returns
+returns c = record {
+  plain = plain_is_answered;
+  long = long_is_answered;
+  fault = first_fault_is_answered;
+  spread = first_spread_is_answered;
+}

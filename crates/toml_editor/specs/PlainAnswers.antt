@@ -1,0 +1,62 @@
+-- What the editor answers of plain edits, gathered from what its contracts say of the text and of each fault.
+use Rattle.std.specs.Prelude.{◌≡◌, ◌⊎◌, ◌<◌, ◌≤◌, ℕ, List, length, take, Some, None, Result, Ok, Err, slice_get}
+use Rattle.toml_text.specs.Limit.{max_len}
+use Rattle.toml_tree.specs.declared.profile.Profile.{Profile}
+use Rattle.toml_names.specs.mentions.Mentions.{named}
+use Rattle.toml_names.specs.model.Data.{IsDataOf, Kinds}
+use Rattle.toml_names.specs.model.Documents.{IsDocumentIn}
+use Rattle.toml_edits.specs.declared.fault.EditFault.{EditFault}
+use Rattle.toml_edits.specs.Edits.{Change}
+use Rattle.toml_edits.specs.Faults.{IsFault}
+use Rattle.toml_edits.specs.After.{IsAfter}
+use Rattle.toml_edits.specs.Lists.{Lead}
+use Rattle.toml_editor.specs.CertifiedLists.{ArePlain}
+use Rattle.toml_editor.specs.Edited.{IsEdited, Tells}
+use Rattle.toml_editor.specs.PlainTexts.{IsSpreadOn}
+use Rattle.toml_editor.specs.Steps.{AreWritten}
+use Rattle.toml_editor.specs.Written.{style_of}
+use Rattle.toml_editor.specs.declared.fault.EditorFault.{EditorFault}
+use Rattle.toml_editor.specs.declared.fault.EditorFault.TheVariants.{Edit, Spread, TooLong, NoMemory}
+
+-- So many edits of a list, from the first on, have no fault on a document and are plain, each on the text written so far; this is the
+-- text that they write, and these are its data.
+pub record PlainSoFar (profile : Profile) (before : List ℕ) (cs : List Change) (n : ℕ) (after : List ℕ) (now : Kinds) : Type 0 where
+  pub document : IsDocumentIn profile before
+  pub old : Kinds
+  pub facts : IsDataOf (named document.1.lines) old
+  pub lead : Lead profile (take n cs) old now
+  pub plain : ArePlain profile (take n cs) (style_of document.1.lines) before
+  pub written : AreWritten profile (take n cs) (style_of document.1.lines) before after
+
+-- a text with its pairs, or a fault, of which the editor's contract holds
+abbrev pub IsAnswer : Profile → List ℕ → List Change → Result (List ℕ × List (ℕ × ℕ)) EditorFault → Type 0
+IsAnswer profile before cs (Ok (text, pairs)) = IsEdited profile before cs text pairs
+IsAnswer profile before cs (Err fault) = Tells profile before cs fault
+
+-- the answer is this fault, or want of memory
+abbrev pub IsFaultOrMemory : EditorFault → Result (List ℕ × List (ℕ × ℕ)) EditorFault → Type 0
+IsFaultOrMemory fault answer = (answer ≡ Err fault) ⊎ (answer ≡ Err NoMemory)
+
+-- Laws, want of memory aside. Where all edits are plain, the answer is the text that they write, if it is within the limit;
+abbrev pub PlainIsAnswered : Type 0
+PlainIsAnswered = (profile : Profile) (before : List ℕ) (cs : List Change) (after : List ℕ) (now : Kinds) → PlainSoFar profile before cs (length cs) after now
+    → length after ≤ max_len → (answer : Result (List ℕ × List (ℕ × ℕ)) EditorFault) → IsAnswer profile before cs answer
+    → ((pairs : List (ℕ × ℕ)) × (answer ≡ Ok (after, pairs))) ⊎ (answer ≡ Err NoMemory)
+
+-- else that it is too long.
+abbrev pub LongIsAnswered : Type 0
+LongIsAnswered = (profile : Profile) (before : List ℕ) (cs : List Change) (after : List ℕ) (now : Kinds) → PlainSoFar profile before cs (length cs) after now
+    → max_len < length after → (answer : Result (List ℕ × List (ℕ × ℕ)) EditorFault) → IsAnswer profile before cs answer → IsFaultOrMemory TooLong answer
+
+-- Where the edits before one are plain, and it has a fault on the data so far, that is the answer, with its number;
+abbrev pub FirstFaultIsAnswered : Type 0
+FirstFaultIsAnswered = (profile : Profile) (before : List ℕ) (cs : List Change) (n : ℕ) (between : List ℕ) (mid : Kinds)
+    → PlainSoFar profile before cs n between mid → (c : Change) → slice_get cs n ≡ Some c → (fault : EditFault) → IsFault profile c mid (Some fault)
+    → (answer : Result (List ℕ × List (ℕ × ℕ)) EditorFault) → IsAnswer profile before cs answer → IsFaultOrMemory (Edit n fault) answer
+
+-- and where it is a `set` without a fault of a table or an array that is no single value, that its place is spread, with its number.
+abbrev pub FirstSpreadIsAnswered : Type 0
+FirstSpreadIsAnswered = (profile : Profile) (before : List ℕ) (cs : List Change) (n : ℕ) (between : List ℕ) (mid now : Kinds)
+    → PlainSoFar profile before cs n between mid → (c : Change) → slice_get cs n ≡ Some c → IsFault profile c mid None → IsAfter profile c mid now
+    → IsSpreadOn profile between c mid
+    → (answer : Result (List ℕ × List (ℕ × ℕ)) EditorFault) → IsAnswer profile before cs answer → IsFaultOrMemory (Spread n) answer
