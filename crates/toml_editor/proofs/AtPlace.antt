@@ -47,9 +47,9 @@ module _ (read : Read) (slots : List Slot) (at : Position) where
   no_line s there e = none-some s (sym (ap (option_and_then (λ (x : Slot). slice_get (slot_standing read x) at.index)) there) ∙ e)
 
 -- another slot is put in the place of one
-pub slot_changed : {B : Type 0} (P : Slot → Type 0) (i : ℕ) (old now : List Slot) (slot new : Slot) → i < length old → slot ≡ get_or old i slot
+pub slot_replaced : {B : Type 0} (P : Slot → Type 0) (i : ℕ) (old now : List Slot) (slot new : Slot) → i < length old → slot ≡ get_or old i slot
     → now ≡ set old i new → EachIs P old → (P slot → P new × B) → (slice_get old i ≡ Some slot) × EachIs P now × B
-slot_changed P i old now slot new low is put kept changes =
+slot_replaced P i old now slot new low is put kept changes =
     let there : slice_get old i ≡ Some slot = slice_get-get_or old i slot low ∙ ap Some (sym is) in
     let (kept_new, more) = changes (each_get P old i slot kept there) in
     (there, subst (EachIs P) (sym put) (each_set P old i new kept kept_new), more)
