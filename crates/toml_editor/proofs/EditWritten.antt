@@ -15,4 +15,5 @@ pub edit_written : {E : Type 0} (r : Result Bool E) (profile : Profile) (read : 
     → ((NoneIsGone old.elements → at ≡ place (change f)) → IfOk r (WritesEdit profile read (change f) old new))
     → IfOk r (WritesEdit profile read (change e) old new)
 edit_written r profile read old new at e f is finds writes =
-    subst (λ x. IfOk r (WritesEdit profile read (change x) old new)) (sym is) (writes (λ whole. finds whole ∙ ap (λ x. place (change x)) is))
+    subst (λ x. IfOk r (WritesEdit profile read (change x) old new)) (sym is)
+    (writes (λ whole. finds whole ∙ ap (λ x. place (change x)) is))

@@ -42,7 +42,8 @@ all_reached : (k : names.Key) (steps : Address) → nat_eq (in_common k steps) (
 all_reached [] [] = refl
 all_reached [] (s ∷ steps) = eqb-zero-suc (length steps)
 all_reached (n ∷ k) [] = refl
-all_reached (n ∷ k) (s ∷ steps) = one_in_common (same_step (Name n) s) (reaches k steps) (in_common k steps) (length steps) (all_reached k steps)
+all_reached (n ∷ k) (s ∷ steps) = one_in_common (same_step (Name n) s) (reaches k steps) (in_common k steps) (length steps)
+    (all_reached k steps)
 
 pub reached_by : (k : names.Key) (steps : Address) (count : ℕ) → count ≡ in_common k steps → nat_eq count (length steps) ≡ reaches k steps
 reached_by k steps count is = ap (λ n. nat_eq n (length steps)) is ∙ all_reached k steps

@@ -105,7 +105,8 @@ at_ended newline texts read at old now slot new low is put ended kept =
           let (t, is, ended_so) = ends s own in
           subst (Becomes read at old now) ended_so (record {
             count = ap length put ∙ length-set old at.slot new;
-            before = ap (λ xs. lines_before read xs at.slot (at.index + 1)) put ∙ before_set read at.index t old at.slot slot new there within is;
+            before = ap (λ xs. lines_before read xs at.slot (at.index + 1)) put ∙ before_set read at.index t old at.slot slot new there
+                within is;
             behind = ap (λ xs. lines_from read xs at.slot (at.index + 1)) put ∙ behind_set read at.index t old at.slot slot new there is;
           }),
     )
@@ -168,7 +169,8 @@ slots_put read i t (x ∷ xs) (suc k) slot new there is =
 pub at_put : (read : Read) (at : Position) (l : Line) (old now : List Slot) (slot new : Slot) → at.slot < length old → slot ≡ get_or old at.slot slot
     → now ≡ set old at.slot new → PutsSlot read at.index l slot new → PutsSlots read at l old now
 at_put read at l old now slot new low is put puts within text kept kept_line =
-    let (there, kept_now, stands) = slot_replaced (SlotKept text read) at.slot old now slot new low is put kept (λ k. puts text k kept_line) in (
+    let (there, kept_now, stands) = slot_replaced (SlotKept text read) at.slot old now slot new low is put kept
+    (λ k. puts text k kept_line) in (
       kept_now,
       ap (slots_standing read) put ∙ slots_put read at.index (line_standing read l) old at.slot slot new there stands,
     )

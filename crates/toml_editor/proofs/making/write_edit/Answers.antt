@@ -13,17 +13,23 @@ pub returns-in-Set : goal.returns-in-Set
 returns-in-Set c =
     let read = read_of c.args.read.before in
     let result = c.write_set.result in
-    edit_written result c.args.read.profile read c.args.tree.now c.write_set.new.tree c.in_ok-at.at _ _ c.in-Set.is (λ whole. c.in_ok-at.ensures whole ∙ c.place.ensures)
+    edit_written result c.args.read.profile read c.args.tree.now c.write_set.new.tree c.in_ok-at.at _ _ c.in-Set.is
+    (λ whole. c.in_ok-at.ensures whole ∙ c.place.ensures)
     (λ at. IfOk-weaker result _ _
-    (λ done made whole.
-    (made.0, subst₂ (λ a t. WritesSet c.args.read.profile read a t c.args.tree.now c.write_set.new.tree done) (at whole) c.as_str.ensures.value made.1))
+    (λ done made whole. (
+      made.0,
+      subst₂ (λ a t. WritesSet c.args.read.profile read a t c.args.tree.now c.write_set.new.tree done) (at whole)
+          c.as_str.ensures.value made.1,
+    ))
     (if_ok_with _ _ result c.write_set.ensures.rest c.write_set.ensures.set))
 
 pub returns-in-Remove : goal.returns-in-Remove
 returns-in-Remove c =
     let read = read_of c.args.read.before in
-    edit_written c.remove.result c.args.read.profile read c.args.tree.now c.remove.new.self c.in_ok-at.at _ _ c.in-Remove.is (λ whole. c.in_ok-at.ensures whole ∙ c.place.ensures)
-    (λ at. on_ok_weaker c.remove.result (λ removes whole. subst (λ a. RemovesLines a read c.args.tree.now c.remove.new.self) (at whole) removes) c.remove.ensures)
+    edit_written c.remove.result c.args.read.profile read c.args.tree.now c.remove.new.self c.in_ok-at.at _ _ c.in-Remove.is
+    (λ whole. c.in_ok-at.ensures whole ∙ c.place.ensures)
+    (λ at. on_ok_weaker c.remove.result
+    (λ removes whole. subst (λ a. RemovesLines a read c.args.tree.now c.remove.new.self) (at whole) removes) c.remove.ensures)
 
 pub returns-in-Insert : goal.returns-in-Insert
 returns-in-Insert c =
