@@ -16,6 +16,7 @@ pub if_ok_both : {X E : Type 0} (P Q : Type 0) (R : X → Type 0) (r : Result X 
 if_ok_both P Q R (Ok x) f p q = f x p q
 if_ok_both P Q R (Err e) f p q = tt
 
-pub if_ok_three : {X E : Type 0} (P Q R S : X → Type 0) (r : Result X E) → ((x : X) → P x → Q x → R x → S x) → IfOk r P → IfOk r Q → IfOk r R → IfOk r S
+pub if_ok_three : {X E : Type 0} (P Q R S : X → Type 0) (r : Result X E) → ((x : X) → P x → Q x → R x → S x) → IfOk r P → IfOk r Q
+    → IfOk r R → IfOk r S
 if_ok_three P Q R S (Ok x) f p q h = f x p q h
 if_ok_three P Q R S (Err e) f p q h = tt

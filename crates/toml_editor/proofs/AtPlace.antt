@@ -16,7 +16,8 @@ module _ (read : Read) (slots : List Slot) (at : Position) where
       → (slot : Slot) × (slice_get slots at.slot ≡ Some slot) × (slice_get (slot_standing read slot) at.index ≡ Some s)
   slot_of s e = by (slice_get slots at.slot) refl e
     where
-      by : (o : Option Slot) → slice_get slots at.slot ≡ o → option_and_then (λ (x : Slot). slice_get (slot_standing read x) at.index) o ≡ Some s
+      by : (o : Option Slot) → slice_get slots at.slot ≡ o
+          → option_and_then (λ (x : Slot). slice_get (slot_standing read x) at.index) o ≡ Some s
           → (slot : Slot) × (slice_get slots at.slot ≡ Some slot) × (slice_get (slot_standing read slot) at.index ≡ Some s)
       by None there e = absurd (none-some s e)
       by (Some slot) there e = (slot, there, e)
@@ -34,7 +35,8 @@ module _ (read : Read) (slots : List Slot) (at : Position) where
       by (Some s) is h = let (slot, there, own) = slot_of s is in (slot, s, there, is, own, same_Some (holds p s) true h)
 
   -- one that is found does,
-  pub holder_found : (p : Address) (r : Option Position) → r ≡ Some at → FindsHolder p read.units slots r → option_map (holds p) (line_at read slots at) ≡ Some true
+  pub holder_found : (p : Address) (r : Option Position) → r ≡ Some at → FindsHolder p read.units slots r
+      → option_map (holds p) (line_at read slots at) ≡ Some true
   holder_found p r is finds = subst (FindsHolder p read.units slots) is finds read.lines
 
   -- in this one,
@@ -47,9 +49,10 @@ module _ (read : Read) (slots : List Slot) (at : Position) where
   no_line s there e = none-some s (sym (ap (option_and_then (λ (x : Slot). slice_get (slot_standing read x) at.index)) there) ∙ e)
 
 -- another slot is put in the place of one
-pub slot_changed : {B : Type 0} (P : Slot → Type 0) (i : ℕ) (old now : List Slot) (slot new : Slot) → i < length old → slot ≡ get_or old i slot
+pub slot_replaced : {B : Type 0} (P : Slot → Type 0) (i : ℕ) (old now : List Slot) (slot new : Slot) → i < length old
+    → slot ≡ get_or old i slot
     → now ≡ set old i new → EachIs P old → (P slot → P new × B) → (slice_get old i ≡ Some slot) × EachIs P now × B
-slot_changed P i old now slot new low is put kept changes =
+slot_replaced P i old now slot new low is put kept changes =
     let there : slice_get old i ≡ Some slot = slice_get-get_or old i slot low ∙ ap Some (sym is) in
     let (kept_new, more) = changes (each_get P old i slot kept there) in
     (there, subst (EachIs P) (sym put) (each_set P old i new kept kept_new), more)

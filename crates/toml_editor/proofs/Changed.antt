@@ -29,7 +29,7 @@ use Rattle.toml_editor.specs.Seeing.{steps_to}
 use Rattle.toml_editor.specs.Standing.{Read, IsApart, begins, leads_to, expr_has, outline_has, outline_of, body_outline, line_standing, set_line_outline, set_outline_of, slot_standing, slots_standing}
 use Rattle.toml_editor.specs.Stands.{BodyKept, OpensSlot, SlotKept}
 use Rattle.toml_editor.proofs.Alone.{and_parts, item_split, slot_split, split_within}
-use Rattle.toml_editor.proofs.AtPlace.{line_in, no_line, slot_changed}
+use Rattle.toml_editor.proofs.AtPlace.{line_in, no_line, slot_replaced}
 
 begins_rest : (a p : Address) → begins a p ≡ true → a ++ drop (length a) p ≡ p
 begins_rest [] p h = refl
@@ -131,7 +131,8 @@ slot_never_kept units (slots.Kept j) mid k (ls, made, one) is = let e : slots.Li
 pub at_changed : (texts : Texts) (read : Read) (at : Position) (p : Address) (change : Inside) (old now : List Slot) (slot new : Slot) (done : Bool) → at.slot < length old → slot ≡ get_or old at.slot slot
     → now ≡ set old at.slot new → ChangesSlot texts read at.index p change slot new done → ChangesSlots texts read at p change old now done
 at_changed texts read at p change old now slot new done low is put changed kept =
-    let (there, kept_now, changes) = slot_changed (SlotKept (text_of texts.source) read) at.slot old now slot new low is put kept changed in (
+    let (there, kept_now, changes) = slot_replaced (SlotKept (text_of texts.source) read) at.slot old now slot new low is put kept changed
+    in (
       kept_now,
       λ s e.
           let own = line_in read old at slot s there e in
@@ -150,4 +151,5 @@ at_changed texts read at p change old now slot new done low is put changed kept 
     )
 
 pub no_slot_changed : (texts : Texts) (read : Read) (at : Position) (p : Address) (change : Inside) (old : List Slot) (done : Bool) → length old ≤ at.slot → ChangesSlots texts read at p change old old done
-no_slot_changed texts read at p change old done past kept = (kept, λ s e. absurd (no_line read old at s (slice_get_past old at.slot past) e))
+no_slot_changed texts read at p change old done past kept =
+    (kept, λ s e. absurd (no_line read old at s (slice_get_past old at.slot past) e))

@@ -27,6 +27,7 @@ mod RenamedSlots
 mod Removed
 mod RemovedOne
 mod RenameWritten
+mod EditWritten
 mod Tidy
 mod Out
 mod StandingOut

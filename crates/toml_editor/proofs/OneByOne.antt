@@ -50,7 +50,8 @@ module _ {A : Type 0} (R : A → A → Type 0) where
   none_more i old now so_far past = subst (λ k. SoFar k old now) (next i) (none_on i old now so_far (slice_get_past now i past))
 
   -- the same of a vector, by what `get_mut` answers
-  pub none_there : (i : ℕ) (old : List A) (now : Vec A Global) → SoFar i old now.items → (i < now.len → false ≡ true) → SoFar (i + 1) old now.items
+  pub none_there : (i : ℕ) (old : List A) (now : Vec A Global) → SoFar i old now.items → (i < now.len → false ≡ true)
+      → SoFar (i + 1) old now.items
   none_there i old now so_far none = none_more i old now.items so_far (past_end now.items now.len i now.ok.0 none)
 
   pub all_done : (i : ℕ) (old now : List A) → SoFar i old now → length old ≤ i → GoTogether R old now

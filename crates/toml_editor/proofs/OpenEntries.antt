@@ -1,7 +1,7 @@
 -- The entries of the working tree by index, and those of their outline.
-use Rattle.std.proofs.Common.{◌≡◌, ◌∙◌, ◌&&◌, ◌<◌, ◌≤◌, ℕ, Box, nat_eq, zero, suc, Bool, true, false, cond, List, [], ◌∷◌, length, map, set, Option, Some, None, refl, ap, ap₂, sym, subst, arith}
+use Rattle.std.proofs.Common.{◌≡◌, ◌∙◌, ◌&&◌, ◌<◌, ◌≤◌, ℕ, Box, nat_eq, zero, suc, Bool, true, false, cond, List, [], ◌∷◌, length, get_or, map, set, Option, Some, None, refl, ap, ap₂, sym, subst, arith}
 use Rattle.std.proofs.Math.Dec.{eqb-suc-suc, eqb-zero-suc}
-use Rattle.std.proofs.lemmas.Option.{none-some, same_Some, slice_get_past}
+use Rattle.std.proofs.lemmas.Option.{none-some, same_Some, slice_get_past, slice_get_read}
 use Rattle.std.specs.Prelude.{option_and_then, option_map, slice_get}
 use Rattle.std.specs.Global.{Global}
 use Rattle.std.specs.declared.collections.VecDeque.{VecDeque}
@@ -42,7 +42,8 @@ all_reached : (k : names.Key) (steps : Address) → nat_eq (in_common k steps) (
 all_reached [] [] = refl
 all_reached [] (s ∷ steps) = eqb-zero-suc (length steps)
 all_reached (n ∷ k) [] = refl
-all_reached (n ∷ k) (s ∷ steps) = one_in_common (same_step (Name n) s) (reaches k steps) (in_common k steps) (length steps) (all_reached k steps)
+all_reached (n ∷ k) (s ∷ steps) = one_in_common (same_step (Name n) s) (reaches k steps) (in_common k steps) (length steps)
+    (all_reached k steps)
 
 pub reached_by : (k : names.Key) (steps : Address) (count : ℕ) → count ≡ in_common k steps → nat_eq count (length steps) ≡ reaches k steps
 reached_by k steps count is = ap (λ n. nat_eq n (length steps)) is ∙ all_reached k steps
@@ -98,19 +99,20 @@ with_one (e ∷ es) end (suc i) old new w is made =
 
 -- another value is written into the entry with the index
 pub entry_changed : (P : outline.ValueOutline → outline.ValueOutline → Type 0) (Q : Type 0) (old : Entries) (list : VecDeque Entry Global) (i : ℕ) (e n : Entry) (w : outline.ValueOutline)
-    → slice_get (out-Entries old).list.items i ≡ Some e → list.items ≡ set (out-Entries old).list.items i n
+    → i < (out-Entries old).list.len → e ≡ get_or (out-Entries old).list.items i e → list.items ≡ set (out-Entries old).list.items i n
     → entry n ≡ record { before = (entry e).before; assign = (entry e).assign; value = w; after = (entry e).after }
     → P (value (out-Entry e).value) w
     → ChangesEntry P Q i (entries old) (entries (roll-Entries (record { opening = (out-Entries old).opening; list = list; end = (out-Entries old).end })))
-entry_changed P Q old list i e n w is written made holds =
+entry_changed P Q old list i e n w low here written made holds =
     let items = (out-Entries old).list.items in
+    let is = slice_get_read items (out-Entries old).list.len i e (out-Entries old).list.ok.0 low here in
     let end = option_map gap (out-Entries old).end in
     let opening = leaf_text (out-Entries old).opening in
     let there : value_in (entries old).entries i ≡ Some (value (out-Entry e).value) = value_at old i ∙ ap (option_map (λ o. value (out-Entry o).value)) is in
     record {
-      found = λ v here. (
+      found = λ v has. (
         w,
-        subst (λ x. P x w) (same_Some (value (out-Entry e).value) v (sym there ∙ here)) holds,
+        subst (λ x. P x w) (same_Some (value (out-Entry e).value) v (sym there ∙ has)) holds,
         entries_made (record { opening = (out-Entries old).opening; list = list; end = (out-Entries old).end })
             ∙ ap (enclosed opening) (ap (λ es. entries_of (map entry es) end) written ∙ with_one items end i e n w is made)
             ∙ ap (λ (o : Enclosed). enclosed o.opening (with_value o.entries i w)) (sym (entries_is old)),

@@ -188,7 +188,8 @@ module _ (read : Read) (slots : List Slot) (k : ℕ) (slot : Slot) (there : slic
     base_is : line.base ≡ base
     own_is : line.address ≡ own
 
-  one_seen : (r : Option Seen) (x : Seen) → option_map seen r ≡ option_map found (slice_get (slot_standing read slot) i) → r ≡ Some x → IsSeen (seen x).base (seen x).address
+  one_seen : (r : Option Seen) (x : Seen) → option_map seen r ≡ option_map found (slice_get (slot_standing read slot) i) → r ≡ Some x
+      → IsSeen (seen x).base (seen x).address
   one_seen r x same is = by (slice_get (slot_standing read slot) i) refl same
     where
       by : (o : Option Standing) → slice_get (slot_standing read slot) i ≡ o → option_map seen r ≡ option_map found o → IsSeen (seen x).base (seen x).address

@@ -31,7 +31,7 @@ use Rattle.toml_editor.specs.Putting.{AssignsOne, Becomes, EndsBefore, EndsSlot,
 use Rattle.toml_editor.specs.Seeing.{line_at}
 use Rattle.toml_editor.specs.Standing.{Standing, Read, body_outline, line_standing, slot_standing, slots_standing}
 use Rattle.toml_editor.specs.Stands.{BodyKept, OpensSlot, SlotKept, Stands}
-use Rattle.toml_editor.proofs.AtPlace.{line_in, no_line, slot_changed, slot_of}
+use Rattle.toml_editor.proofs.AtPlace.{line_in, no_line, slot_replaced, slot_of}
 use Rattle.toml_editor.proofs.Changed.{never_kept, opened_outline}
 use Rattle.toml_editor.proofs.Each.{each_get}
 use Rattle.toml_editor.proofs.Placed.{behind_line, split_at}
@@ -97,7 +97,7 @@ module _ (read : Read) (i : ℕ) (t : Standing) where
 pub at_ended : (newline : List ℕ) (texts : Texts) (read : Read) (at : Position) (old now : List Slot) (slot new : Slot) → at.slot < length old → slot ≡ get_or old at.slot slot
     → now ≡ set old at.slot new → EndsSlot newline texts read at.index slot new → EndsSlots newline texts read at old now
 at_ended newline texts read at old now slot new low is put ended kept =
-    let (there, kept_now, ends) = slot_changed (SlotKept (text_of texts.source) read) at.slot old now slot new low is put kept ended in (
+    let (there, kept_now, ends) = slot_replaced (SlotKept (text_of texts.source) read) at.slot old now slot new low is put kept ended in (
       kept_now,
       λ s e.
           let own = line_in read old at slot s there e in
@@ -105,7 +105,8 @@ at_ended newline texts read at old now slot new low is put ended kept =
           let (t, is, ended_so) = ends s own in
           subst (Becomes read at old now) ended_so (record {
             count = ap length put ∙ length-set old at.slot new;
-            before = ap (λ xs. lines_before read xs at.slot (at.index + 1)) put ∙ before_set read at.index t old at.slot slot new there within is;
+            before = ap (λ xs. lines_before read xs at.slot (at.index + 1)) put ∙ before_set read at.index t old at.slot slot new there
+                within is;
             behind = ap (λ xs. lines_from read xs at.slot (at.index + 1)) put ∙ behind_set read at.index t old at.slot slot new there is;
           }),
     )
@@ -168,7 +169,8 @@ slots_put read i t (x ∷ xs) (suc k) slot new there is =
 pub at_put : (read : Read) (at : Position) (l : Line) (old now : List Slot) (slot new : Slot) → at.slot < length old → slot ≡ get_or old at.slot slot
     → now ≡ set old at.slot new → PutsSlot read at.index l slot new → PutsSlots read at l old now
 at_put read at l old now slot new low is put puts within text kept kept_line =
-    let (there, kept_now, stands) = slot_changed (SlotKept text read) at.slot old now slot new low is put kept (λ k. puts text k kept_line) in (
+    let (there, kept_now, stands) = slot_replaced (SlotKept text read) at.slot old now slot new low is put kept
+    (λ k. puts text k kept_line) in (
       kept_now,
       ap (slots_standing read) put ∙ slots_put read at.index (line_standing read l) old at.slot slot new there stands,
     )

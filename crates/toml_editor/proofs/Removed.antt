@@ -72,7 +72,8 @@ more_lines p old now l left so_far here text read kept =
           ∙ sym (without_append (is_below p) (map f old) (f l ∷ [])) ∙ ap (without (is_below p)) (sym (map-append f old (l ∷ []))),
     )
 
-pub more_left : (p : Address) (old now new : List Line) (l : Line) (left : Option Line) → LeavesLines p old now → LeavesOf p l left → now ++ lines_of left ≡ new
+pub more_left : (p : Address) (old now new : List Line) (l : Line) (left : Option Line) → LeavesLines p old now → LeavesOf p l left
+    → now ++ lines_of left ≡ new
     → LeavesLines p (old ++ l ∷ []) new
 more_left p old now new l left so_far here is = subst (LeavesLines p (old ++ l ∷ [])) is (more_lines p old now l left so_far here)
 

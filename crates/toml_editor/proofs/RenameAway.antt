@@ -81,7 +81,8 @@ pair_renamed p at text a v = by (begins p there) (is_above at p) refl refl
         (names_begin (outlined_names a) (s ∷ steps) ∙ sym (begins_behind at (s ∷ steps) (map Name (outlined_names a))) ∙ ap (λ q. begins q there) (sym is))
 
     by : (b c : Bool) → begins p there ≡ b → is_above at p ≡ c
-        → Pair (rename_outlined p text at a) new ≡ cond (begins p there) (own_part_with (minus (length p) (length at + 1)) text (Pair a v)) (Pair a new)
+        → Pair (rename_outlined p text at a) new ≡ cond (begins p there)
+        (own_part_with (minus (length p) (length at + 1)) text (Pair a v)) (Pair a new)
     by false false h k =
         ap (λ k. Pair k new) (key_kept p text a at k)
         ∙ sym (ap (λ b. cond b (own_part_with (minus (length p) (length at + 1)) text (Pair a v)) (Pair a new)) h)

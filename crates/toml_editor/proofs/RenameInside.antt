@@ -321,19 +321,22 @@ list_renamed steps i text old now first renames apart at = by (value_in old.entr
         ap₂ Listed (ap (λ e. e.opening) same)
         (ap (λ e. e.entries) same ∙ sym (element_renamed (at ++ steps) text at (drop 1 steps) i is old.entries 0 i v w (omega arith) has own))
 
-keys_renamed : (parent : Address) (last : Step) (text : List ℕ) (old now : Enclosed) → LeadsOn old.entries parent None → KeysRenamed (parent ++ last ∷ []) text old now
+keys_renamed : (parent : Address) (last : Step) (text : List ℕ) (old now : Enclosed) → LeadsOn old.entries parent None
+    → KeysRenamed (parent ++ last ∷ []) text old now
     → RenamesIn (parent ++ last ∷ []) text (Braced old.opening old.entries) (Braced now.opening now.entries)
 keys_renamed parent last text old now none same apart at =
     ap₂ Braced (ap (λ e. e.opening) same) (ap (λ e. e.entries) same
     ∙ sym (pairs_renamed text at parent last old.entries (λ i k key. not_led k parent (ap (λ o. led_by o parent) (sym key) ∙ none i))))
 
-pub table_keys_renamed : (whole parent : Address) (last : Step) (text : List ℕ) (old now : Enclosed) → whole ≡ parent ++ last ∷ [] → LeadsOn old.entries parent None
+pub table_keys_renamed : (whole parent : Address) (last : Step) (text : List ℕ) (old now : Enclosed) → whole ≡ parent ++ last ∷ []
+    → LeadsOn old.entries parent None
     → KeysRenamed whole text old now → RenamesIn whole text (Braced old.opening old.entries) (Braced now.opening now.entries)
 table_keys_renamed whole parent last text old now split none =
     subst (λ s. KeysRenamed s text old now → RenamesIn s text (Braced old.opening old.entries) (Braced now.opening now.entries)) (sym split)
     (keys_renamed parent last text old now none)
 
-entry_renamed : (parent : Address) (last : Step) (i used : ℕ) (text : List ℕ) (old now : Enclosed) → LeadsOn old.entries parent (Some (i, used))
+entry_renamed : (parent : Address) (last : Step) (i used : ℕ) (text : List ℕ) (old now : Enclosed)
+    → LeadsOn old.entries parent (Some (i, used))
     → RenamesEntry i (drop used (parent ++ last ∷ [])) text old now → RenamesIn (parent ++ last ∷ []) text (Braced old.opening old.entries) (Braced now.opening now.entries)
 entry_renamed parent last i used text old now leading renames apart at =
     let all = parent ++ last ∷ [] in
@@ -356,5 +359,6 @@ pub table_renamed : (whole parent : Address) (last : Step) (i used : ℕ) (text 
     → LeadsOn old.entries parent (Some (i, used)) → RenamesEntry i (drop used whole) text old now
     → RenamesIn whole text (Braced old.opening old.entries) (Braced now.opening now.entries)
 table_renamed whole parent last i used text old now split leading =
-    subst (λ s. RenamesEntry i (drop used s) text old now → RenamesIn s text (Braced old.opening old.entries) (Braced now.opening now.entries)) (sym split)
+    subst (λ s. RenamesEntry i (drop used s) text old now → RenamesIn s text (Braced old.opening old.entries)
+    (Braced now.opening now.entries)) (sym split)
     (entry_renamed parent last i used text old now leading)

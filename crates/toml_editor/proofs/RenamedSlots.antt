@@ -186,7 +186,8 @@ module _ (p : Address) (to spelled : List ℕ) where
         record { kept = kept; are = are ∙ sym (all_as_below (slots_standing read old) off) ∙ ap (map all) stands.are }
 
     -- the value of a line is what stands there: no other line is at the address or below it
-    pub one_is_it : (at : Position) (steps size : ℕ) → option_map (holds p) (line_at read old at) ≡ Some true → steps ≡ steps_of (line_at read old at) → size ≡ length p → size ≤ steps
+    pub one_is_it : (at : Position) (steps size : ℕ) → option_map (holds p) (line_at read old at) ≡ Some true
+        → steps ≡ steps_of (line_at read old at) → size ≡ length p → size ≤ steps
         → SlotAtBecomes texts read below at.slot old now → RenamesLines p to spelled (text_of texts.source) read old now
     one_is_it at steps size found is_depth is_size low becomes not_root ss stands ordered =
         let (slot, s, there, line, is, here) = holder_at read old at p found in
@@ -196,17 +197,23 @@ module _ (p : Address) (to spelled : List ℕ) where
         let (kept_new, becomes_new) = one (each_get (SlotKept (text_of texts.source) read) old at.slot slot stands.kept there) in
         let (before, behind, outer, set_to) = slot_split read old at.slot slot there in
         let (front, back, inner, other) = item_split (slot_standing read slot) at.index s is in
-        let split = sym stands.are ∙ split_within before front s back behind (slot_standing read slot) (slots_standing read old) outer inner in
+        let split = sym stands.are ∙ split_within before front s back behind (slot_standing read slot) (slots_standing read old) outer
+        inner in
         let alone = subst (λ xs. StandAlone xs) split ordered.alone in
-        let (off_front, off_back) = others_not_below (before ++ front) s (back ++ behind) here (pairs_of_all Apart ((before ++ front) ++ s ∷ (back ++ behind)) alone) in
-        let it : below s ≡ all s = let b = holder_below s.base s.address here far in ap (λ c. cond c (own s) s) b ∙ sym (ap (λ c. cond c (own s) (rename_inside p spelled s)) b) in
+        let (off_front, off_back) = others_not_below (before ++ front) s (back ++ behind) here
+        (pairs_of_all Apart ((before ++ front) ++ s ∷ (back ++ behind)) alone) in
+        let it : below s ≡ all s = let b = holder_below s.base s.address here far in ap (λ c. cond c (own s) s) b
+        ∙ sym (ap (λ c. cond c (own s) (rename_inside p spelled s)) b) in
         let own_new : slot_standing read new ≡ front ++ all s ∷ back =
         becomes_new ∙ ap (map below) inner ∙ map-append below front (s ∷ back)
-        ∙ ap₂ (λ xs ys. xs ++ below s ∷ ys) (all_below_stay front (each_back NotBelow before front off_front)) (all_below_stay back (each_front NotBelow back behind off_back))
+        ∙ ap₂ (λ xs ys. xs ++ below s ∷ ys) (all_below_stay front (each_back NotBelow before front off_front))
+        (all_below_stay back (each_front NotBelow back behind off_back))
         ∙ ap (λ x. front ++ x ∷ back) it in
         record {
-          kept = subst (EachIs (SlotKept (text_of texts.source) read)) (sym put) (each_set (SlotKept (text_of texts.source) read) old at.slot new stands.kept kept_new);
-          are = split_within before front (all s) back behind (slot_standing read new) (slots_standing read now) (ap (slots_standing read) put ∙ set_to new) own_new
+          kept = subst (EachIs (SlotKept (text_of texts.source) read)) (sym put)
+              (each_set (SlotKept (text_of texts.source) read) old at.slot new stands.kept kept_new);
+          are = split_within before front (all s) back behind (slot_standing read new) (slots_standing read now)
+              (ap (slots_standing read) put ∙ set_to new) own_new
               ∙ sym (around (before ++ front) s (back ++ behind) here alone) ∙ ap (map all) (sym split);
         }
 
@@ -223,9 +230,11 @@ holder_is_renamed p to spelled texts read old now at steps size done found is_de
     let split : ss ≡ front ++ s ∷ back = sym stands.are ∙ was in
     let apart = one_is_apart front s back (subst (λ xs. All (λ (x : Standing). IsApart x.outline.expr) xs) split ordered.apart) in
     let one : t ≡ rename_standing p to spelled.now s =
-    as_is.1 apart here ∙ sym (ap (λ b. cond b (rename_own p to spelled.now s) (rename_inside p spelled.now s)) (short_not_below p to spelled.now s short)) in
+    as_is.1 apart here
+    ∙ sym (ap (λ b. cond b (rename_own p to spelled.now s) (rename_inside p spelled.now s)) (short_not_below p to spelled.now s short)) in
     record {
       kept = kept;
-      are = is ∙ ap (λ x. front ++ x ∷ back) one ∙ sym (around p to spelled.now front s back here (subst (λ xs. StandAlone xs) split ordered.alone))
+      are = is ∙ ap (λ x. front ++ x ∷ back) one
+          ∙ sym (around p to spelled.now front s back here (subst (λ xs. StandAlone xs) split ordered.alone))
           ∙ ap (map (rename_standing p to spelled.now)) (sym split);
     }

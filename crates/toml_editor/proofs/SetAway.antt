@@ -17,7 +17,8 @@ use Rattle.toml_editor.proofs.SetInside.{aside}
 use Rattle.toml_editor.proofs.written.Pairwise.{PairsAre, pairs_of_all, each_of_all}
 
 -- a line that does not hold what stands there
-away_expr : (p : Address) (new : ValueOutline) (at : Address) (e : ExprOutline) → begins at p ≡ false → (with_value_outline (set_outline p new at) e ≡ e) × (expr_has p at e ≡ false)
+away_expr : (p : Address) (new : ValueOutline) (at : Address) (e : ExprOutline) → begins at p ≡ false
+    → (with_value_outline (set_outline p new at) e ≡ e) × (expr_has p at e ≡ false)
 away_expr p new at outline.Nothing h = (refl, refl)
 away_expr p new at (outline.Pair a v) h = let (sets, has) = aside p new v at h in (ap (outline.Pair a) (sym sets), sym has)
 away_expr p new at (outline.Header opening before first rest after closing) h = (refl, refl)

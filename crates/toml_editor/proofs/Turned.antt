@@ -30,9 +30,11 @@ pub one_turned : {A : Type 0} (R : A → A → Type 0) (i : ℕ) (old now : List
 one_turned {A} R i old now x there turns = subst (λ o. MatchOption o (now ≡ old) (λ v. (w : A) × (now ≡ set old i w) × R v w)) there turns
 
 -- so it is wherever there is an answer
-pub if_one_turns : {A X E : Type 0} (r : Result X E) (R : X → A → A → Type 0) (i : ℕ) (old : List A) (x y : A) → i < length old → x ≡ get_or old i x
+pub if_one_turns : {A X E : Type 0} (r : Result X E) (R : X → A → A → Type 0) (i : ℕ) (old : List A) (x y : A) → i < length old
+    → x ≡ get_or old i x
     → IfOk r (λ v. R v x y) → IfOk r (λ v. OneTurns (R v) i old (set old i y))
-if_one_turns r R i old x y low is = IfOk-weaker r (λ v. R v x y) (λ v. OneTurns (R v) i old (set old i y)) (λ v turns. one_turns (R v) i old (set old i y) x y low is refl turns)
+if_one_turns r R i old x y low is = IfOk-weaker r (λ v. R v x y) (λ v. OneTurns (R v) i old (set old i y))
+    (λ v turns. one_turns (R v) i old (set old i y) x y low is refl turns)
 
 pub none_turns : {A : Type 0} (R : A → A → Type 0) (i : ℕ) (old : List A) → length old ≤ i → OneTurns R i old old
 none_turns {A} R i old past =
@@ -41,19 +43,23 @@ none_turns {A} R i old past =
 -- what stands on the lines of a slot once it is opened
 pub opened_standing : (read : Read) (old mid : Slot) (lines : Vec Line Global) → OpensSlot read.units old mid → mid ≡ slots.Lines lines
     → map (line_standing read) lines.items ≡ slot_standing read old
-opened_standing read (slots.Lines ls) mid lines opens is = let e : slots.Lines ls ≡ slots.Lines lines = sym opens ∙ is in sym (ap (slot_standing read) e)
+opened_standing read (slots.Lines ls) mid lines opens is = let e : slots.Lines ls ≡ slots.Lines lines = sym opens ∙ is in
+    sym (ap (slot_standing read) e)
 opened_standing read (slots.Kept kept) mid lines (ls, made, one) is =
     let e : slots.Lines ls ≡ slots.Lines lines = sym made ∙ is in sym (ap (slot_standing read) e) ∙ ap (map (line_standing read)) one
 
-pub opened_kept : (text : List ℕ) (read : Read) (old mid : Slot) (lines : Vec Line Global) → OpensSlot read.units old mid → mid ≡ slots.Lines lines
+pub opened_kept : (text : List ℕ) (read : Read) (old mid : Slot) (lines : Vec Line Global) → OpensSlot read.units old mid
+    → mid ≡ slots.Lines lines
     → SlotKept text read old → EachIs (λ (l : Line). BodyKept text read l.body) lines.items
-opened_kept text read (slots.Lines ls) mid lines opens is kept = let e : slots.Lines ls ≡ slots.Lines lines = sym opens ∙ is in subst (SlotKept text read) e kept
+opened_kept text read (slots.Lines ls) mid lines opens is kept = let e : slots.Lines ls ≡ slots.Lines lines = sym opens ∙ is in
+    subst (SlotKept text read) e kept
 opened_kept text read (slots.Kept k) mid lines (ls, made, one) is kept =
     let e : slots.Lines ls ≡ slots.Lines lines = sym made ∙ is in
     subst (SlotKept text read) e (subst (EachIs (λ (l : Line). BodyKept text read l.body)) (sym one) (kept, tt))
 
 -- one of the lines of a slot has turned into another, or none
-pub slot_turns : (texts : Texts) (read : Read) (R : Standing → Standing → Type 0) (index : ℕ) (old mid : Slot) (lines made : Vec Line Global)
+pub slot_turns : (texts : Texts) (read : Read) (R : Standing → Standing → Type 0) (index : ℕ) (old mid : Slot)
+    (lines made : Vec Line Global)
     → OpensSlot read.units old mid → mid ≡ slots.Lines lines → OneTurns (LineTurns texts read.lines R) index lines.items made.items
     → SlotTurns texts read R index old (slots.Lines made)
 slot_turns texts read R index old mid lines made opens opened turns kept = by (slice_get lines.items index) refl turns
@@ -70,11 +76,13 @@ slot_turns texts read R index old mid lines made opens opened turns kept = by (s
     each : BodiesKept lines.items
     each = opened_kept text read old mid lines opens opened kept
 
-    at_index : (s : Standing) → slice_get (slot_standing read old) index ≡ Some s → option_map (line_standing read) (slice_get lines.items index) ≡ Some s
+    at_index : (s : Standing) → slice_get (slot_standing read old) index ≡ Some s
+        → option_map (line_standing read) (slice_get lines.items index) ≡ Some s
     at_index s at = sym (slice_get-map (line_standing read) lines.items index) ∙ ap (λ xs. slice_get xs index) stood ∙ at
 
     by : (o : Option Line) → slice_get lines.items index ≡ o
-        → MatchOption o (made.items ≡ lines.items) (λ l. (m : Line) × (made.items ≡ set lines.items index m) × LineTurns texts read.lines R l m)
+        → MatchOption o (made.items ≡ lines.items)
+        (λ l. (m : Line) × (made.items ≡ set lines.items index m) × LineTurns texts read.lines R l m)
         → BodiesKept made.items × ((s : Standing) → slice_get (slot_standing read old) index ≡ Some s
         → (t : Standing) × (map (line_standing read) made.items ≡ set (slot_standing read old) index t) × R s t)
     by None there same = (
@@ -85,9 +93,11 @@ slot_turns texts read R index old mid lines made opens opened turns kept = by (s
         let (kept_now, as_is) = turned read refl (each_get (λ (x : Line). BodyKept text read x.body) lines.items index l each there) in (
           subst BodiesKept (sym put) (each_set (λ (x : Line). BodyKept text read x.body) lines.items index m each kept_now),
           λ s at.
-              let same : line_standing read l ≡ s = same_Some (line_standing read l) s (sym (ap (option_map (line_standing read)) there) ∙ at_index s at) in (
+              let same : line_standing read l ≡ s = same_Some (line_standing read l) s
+              (sym (ap (option_map (line_standing read)) there) ∙ at_index s at) in (
                 line_standing read m,
-                ap (map (line_standing read)) put ∙ map-set (line_standing read) lines.items index m ∙ ap (λ xs. set xs index (line_standing read m)) stood,
+                ap (map (line_standing read)) put ∙ map-set (line_standing read) lines.items index m
+                    ∙ ap (λ xs. set xs index (line_standing read m)) stood,
                 subst (λ x. R x (line_standing read m)) same as_is,
               ),
         )

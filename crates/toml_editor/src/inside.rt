@@ -1,14 +1,14 @@
 //! What an edit changes inside the value of a line.
 ghost use Rattle.std.specs.Prelude.{◌≡◌, IfOk, OnOk};
 ghost use Rattle.toml_tree.specs.Document.{document};
-ghost use Rattle.toml_editor.specs.Changing.{ChangesBody, ChangesIn, ChangesLine, ChangesOne, ChangesOpen, ChangesSlot, ChangesSlots};
+ghost use Rattle.toml_editor.specs.Changing.{ChangesBody, ChangesIn, ChangesLine, ChangesOne, ChangesSlot, ChangesSlots};
 ghost use Rattle.toml_editor.specs.Starting.{read_of};
-ghost use Rattle.toml_editor.specs.OpenOutlines.{line as line_outlined, value as value_outlined};
+ghost use Rattle.toml_editor.specs.OpenOutlines.{value as value_outlined};
 ghost use Rattle.toml_editor.specs.Stands.{KeepsRest};
 
 use crate::lines::{Body, Line, Slot, below};
 use crate::texts::Texts;
-use crate::tree::{Expr, OpenLine, Value};
+use crate::tree::{Expr, Value};
 use crate::working::{Before, Position, Tree};
 use std::alloc::AllocError;
 use toml_names::{Address, Step};
@@ -56,25 +56,8 @@ impl<'t> Texts<'t> {
     }
 }
 
-impl<'t> OpenLine<'t> {
-    /// Changes what stands in its value at the steps, if it has one.
-    fn change(
-        &mut self,
-        texts: Texts<'t>,
-        steps: &[Step],
-        change: Inside<'t>,
-    ) -> Result<bool, AllocError>
-        ensures { IfOk result (λ done. ChangesOpen steps.now change.entry (line_outlined self.old) (line_outlined self.new) done) }
-    {
-        match &mut self.expr {
-            Expr::Pair(pair) => texts.change_in(&mut pair.value, steps, change),
-            Expr::Blank | Expr::Header(_) => Ok(false),
-        }
-    }
-}
-
 impl<'t> Body<'t> {
-    /// The same of what is opened.
+    /// Changes what stands at the steps in the value of what is opened, if it has one.
     fn change(
         &mut self,
         texts: Texts<'t>,
@@ -84,7 +67,10 @@ impl<'t> Body<'t> {
         ensures { IfOk result (λ done. ChangesBody steps.now change.entry self.old self.new done) }
     {
         match self {
-            Body::Open(open) => open.change(texts, steps, change),
+            Body::Open(open) => match &mut open.expr {
+                Expr::Pair(pair) => texts.change_in(&mut pair.value, steps, change),
+                Expr::Blank | Expr::Header(_) => Ok(false),
+            },
             Body::Kept(_) => Ok(false),
         }
     }

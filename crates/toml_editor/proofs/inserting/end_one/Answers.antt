@@ -8,9 +8,11 @@ use Rattle.toml_editor.proofs.inserting.end_one.Goals as goal
 pub returns-in-Some : goal.returns-in-Some
 returns-in-Some c =
     let lines = (document c.args.doc.now).lines in
-    if_one_turns c.end_in.result _ c.args.index c.args.lines.now.items c.in-Some.line.now c.end_in.new.self c.in-Some.ensures.item.3.0 c.in-Some.ensures.value
+    if_one_turns c.end_in.result _ c.args.index c.args.lines.now.items c.in-Some.line.now c.end_in.new.self c.in-Some.ensures.item.3.0
+    c.in-Some.ensures.value
     (on_ok_weaker c.end_in.result
-    (line_ended (leaf_text c.args.newline) c.args.texts lines c.in-Some.line.now c.end_in.new.self c.end_in.ensures.address c.end_in.ensures.base)
+    (line_ended (leaf_text c.args.newline) c.args.texts lines c.in-Some.line.now c.end_in.new.self c.end_in.ensures.address
+    c.end_in.ensures.base)
     c.end_in.ensures.opened)
 
 pub returns-in-None : goal.returns-in-None

@@ -10,7 +10,8 @@ pub loop-line-preserved-in-Continue-branch-3 : goal.loop-line-preserved-in-Conti
 loop-line-preserved-in-Continue-branch-3 c stays =
     let (held, so_far) = c.loop-line.invariant stays in (
       c.in_ok-left.ensures.parent held,
-      more_left c.args.at.now c.loop-line.yielded c.loop-line.lines.items _ c.in-Some.line c.in_ok-left.field-0 so_far (c.in_ok-left.ensures.left held)
+      more_left c.args.at.now c.loop-line.yielded c.loop-line.lines.items _ c.in-Some.line c.in_ok-left.field-0 so_far
+          (c.in_ok-left.ensures.left held)
           (ap (λ o. c.loop-line.lines.items ++ lines_of o) c.in-Some-2.is ∙ sym {A = List Line} c.in_ok-push.ensures.items),
     )
 
@@ -18,7 +19,8 @@ pub loop-line-preserved : goal.loop-line-preserved
 loop-line-preserved c stays =
     let (held, so_far) = c.loop-line.invariant stays in (
       c.in_ok-left.ensures.parent held,
-      more_left c.args.at.now c.loop-line.yielded c.loop-line.lines.items _ c.in-Some.line c.in_ok-left.field-0 so_far (c.in_ok-left.ensures.left held)
+      more_left c.args.at.now c.loop-line.yielded c.loop-line.lines.items _ c.in-Some.line c.in_ok-left.field-0 so_far
+          (c.in_ok-left.ensures.left held)
           (ap (λ o. c.loop-line.lines.items ++ lines_of o) c.in_default.is ∙ append-nil c.loop-line.lines.items),
     )
 

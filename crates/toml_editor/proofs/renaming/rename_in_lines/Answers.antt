@@ -18,12 +18,15 @@ loop-index-preserved c =
     elim c.match-get_mut.branch [
       | in-Some+in_ok-rename_below w ↦
           subst (λ (lines : Vec Line Global). SoFar R (i + 1) old lines.items) (sym w.lines-is)
-          (one_more R i old now.items w.in-Some.line.now w.rename_below.new.self so_far w.in-Some.ensures.item.3.0 w.in-Some.ensures.value w.in_ok-rename_below.ensures)
+          (one_more R i old now.items w.in-Some.line.now w.rename_below.new.self so_far w.in-Some.ensures.item.3.0 w.in-Some.ensures.value
+          w.in_ok-rename_below.ensures)
       | in_default w ↦
-          subst (λ (lines : Vec Line Global). SoFar R (i + 1) old lines.items) (sym w.lines-is) (none_there R i old now so_far w.in_default.ensures.variant.1)
+          subst (λ (lines : Vec Line Global). SoFar R (i + 1) old lines.items) (sym w.lines-is)
+          (none_there R i old now so_far w.in_default.ensures.variant.1)
     ]
 
 pub returns : goal.returns
 returns c =
-    all_done (LineBecomes c.args.texts (document c.args.doc.now).lines (renamed_below c.args.renaming)) c.loop-index.index c.args.lines.now.items c.loop-index.lines.items c.loop-index.invariant
+    all_done (LineBecomes c.args.texts (document c.args.doc.now).lines (renamed_below c.args.renaming)) c.loop-index.index
+    c.args.lines.now.items c.loop-index.lines.items c.loop-index.invariant
     (omega (arith, c.loop-index-test.false, c.len-index-end.ensures, c.args.lines.now.ok.0))

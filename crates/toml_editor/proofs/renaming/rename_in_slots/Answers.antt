@@ -18,12 +18,15 @@ loop-index-preserved c =
     elim c.match-get_mut.branch [
       | in-Some+in_ok-rename w ↦
           subst (λ (slots : Vec Slot Global). SoFar R (i + 1) old slots.items) (sym w.slots-is)
-          (one_more R i old now.items w.in-Some.slot.now w.rename.new.self so_far w.in-Some.ensures.item.3.0 w.in-Some.ensures.value w.in_ok-rename.ensures)
+          (one_more R i old now.items w.in-Some.slot.now w.rename.new.self so_far w.in-Some.ensures.item.3.0 w.in-Some.ensures.value
+          w.in_ok-rename.ensures)
       | in_default w ↦
-          subst (λ (slots : Vec Slot Global). SoFar R (i + 1) old slots.items) (sym w.slots-is) (none_there R i old now so_far w.in_default.ensures.variant.1)
+          subst (λ (slots : Vec Slot Global). SoFar R (i + 1) old slots.items) (sym w.slots-is)
+          (none_there R i old now so_far w.in_default.ensures.variant.1)
     ]
 
 pub returns : goal.returns
 returns c =
-    all_done (SlotBecomes c.args.texts (read_of c.args.before) (renamed_below c.args.renaming)) c.loop-index.index c.args.slots.now.items c.loop-index.slots.items c.loop-index.invariant
+    all_done (SlotBecomes c.args.texts (read_of c.args.before) (renamed_below c.args.renaming)) c.loop-index.index c.args.slots.now.items
+    c.loop-index.slots.items c.loop-index.invariant
     (omega (arith, c.loop-index-test.false, c.len-index-end.ensures, c.args.slots.now.ok.0))

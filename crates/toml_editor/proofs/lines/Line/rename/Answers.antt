@@ -7,5 +7,6 @@ pub returns : goal.returns
 returns c =
     let r = c.args.renaming in
     IfOk-weaker c.carry.result _ _ (λ done address.
-    line_renamed r.at.now r.name.now r.spelled.now c.args.texts (document c.args.doc.now).lines c.args.self.now c.rename_key.new.self c.carry.new.self
+    line_renamed r.at.now r.name.now r.spelled.now c.args.texts (document c.args.doc.now).lines c.args.self.now c.rename_key.new.self
+    c.carry.new.self
     c.in_ok-rename_key.ensures.address c.in_ok-rename_key.ensures.base c.in_ok-rename_key.ensures.body c.carry.ensures.body c.carry.ensures.base address) c.carry.ensures.address

@@ -11,4 +11,5 @@ returns-then-is_below c =
     let r = c.args.renaming in
     let here = ap (λ (f : Found). lies_below r.at.now f.address) (sym c.seen.ensures) ∙ sym c.is_below.ensures ∙ c.if-is_below.true in
     IfOk-weaker c.rename.result _ _ (λ done becomes.
-    below_renamed r.at.now r.name.now r.spelled.now c.args.texts (document c.args.doc.now).lines c.args.self.now c.rename.new.self here becomes) c.rename.ensures
+    below_renamed r.at.now r.name.now r.spelled.now c.args.texts (document c.args.doc.now).lines c.args.self.now c.rename.new.self here
+    becomes) c.rename.ensures

@@ -4,8 +4,10 @@ use Rattle.toml_editor.proofs.lines.Slot.is_last.Goals as goal
 
 pub returns-in-Some : goal.returns-in-Some
 returns-in-Some c =
-    last_line c.args.self.now c.in-Lines.lines c.args.index c.in-Some.line.now c.is_last.result c.in-Lines.is (item_found _ _ c.args.index c.get.result _ c.deref.ensures.value c.get.ensures.lookup c.in-Some.is) c.is_last.ensures
+    last_line c.args.self.now c.in-Lines.lines c.args.index c.in-Some.line.now c.is_last.result c.in-Lines.is
+    (item_found _ _ c.args.index c.get.result _ c.deref.ensures.value c.get.ensures.lookup c.in-Some.is) c.is_last.ensures
 
 pub returns-in-None : goal.returns-in-None
 returns-in-None c =
-    no_last_line c.args.self.now c.in-Lines.lines c.args.index c.in-Lines.is (item_found _ _ c.args.index c.get.result _ c.deref.ensures.value c.get.ensures.lookup c.in-None.is)
+    no_last_line c.args.self.now c.in-Lines.lines c.args.index c.in-Lines.is
+    (item_found _ _ c.args.index c.get.result _ c.deref.ensures.value c.get.ensures.lookup c.in-None.is)

@@ -15,5 +15,6 @@ returns-then-not-is_below c =
 pub returns-in-Lines : goal.returns-in-Lines
 returns-in-Lines c =
     IfOk-weaker c.rename_in_lines.result _ _ (λ done becomes.
-    slot_becomes c.args.texts (read_of c.args.before) (renamed_below c.args.renaming) c.args.self.now c.open.new.self c.in-Lines.lines c.rename_in_lines.new.lines
+    slot_becomes c.args.texts (read_of c.args.before) (renamed_below c.args.renaming) c.args.self.now c.open.new.self c.in-Lines.lines
+    c.rename_in_lines.new.lines
     c.in_ok-open.ensures c.in-Lines.is becomes) c.rename_in_lines.ensures

@@ -1,5 +1,4 @@
-use Rattle.std.proofs.Common.{◌≡◌, ◌∙◌, ap, drop, refl, subst, sym, true, false, Some}
-use Rattle.std.proofs.lemmas.Option.{slice_get_read}
+use Rattle.std.proofs.Common.{◌≡◌, ◌∙◌, ap, refl, subst, subst₂, sym, true, false, Some}
 use Rattle.std.specs.Box.{with_value}
 use Rattle.toml_editor.specs.declared.tree.Value.TheVariants.{Array, Inline}
 use Rattle.toml_editor.specs.declared.tree.Value.TheViews.{out-Entries}
@@ -17,16 +16,16 @@ pub set_entry-returns-in_ok-done-in-Some : goal.set_entry-returns-in_ok-done-in-
 set_entry-returns-in_ok-done-in-Some t c =
     let old = c.args.entries.now in
     let e = c.in-Some.entry.now in
-    let list = (out-Entries old).list in
-    let got = slice_get_read list.items list.len c.args.index e list.ok.0 (c.in-Some.ensures.variant.0 refl) c.in-Some.ensures.value in
     let done = c.in_ok-done-in-Some.done in
-    entry_changed (λ v w. SetsIn c.args.steps.now (value c.args.new) v w done) (done ≡ false) old _ c.args.index e _ (value c.set_in.new.own) got refl
-    (entry_with e c.set_in.new.own) c.in_ok-done-in-Some.ensures
+    entry_changed (λ v w. SetsIn c.args.steps.now (value c.args.new) v w done) (done ≡ false) old _ c.args.index e _
+    (value c.set_in.new.own)
+    (c.in-Some.ensures.variant.0 refl) c.in-Some.ensures.value refl (entry_with e c.set_in.new.own) c.in_ok-done-in-Some.ensures
 
 pub set_entry-returns-in-None : goal.set_entry-returns-in-None
 set_entry-returns-in-None t c =
     let list = (out-Entries c.args.entries.now).list in
-    entry_missing (λ v w. SetsIn c.args.steps.now (value c.args.new) v w false) (false ≡ false) c.args.entries.now c.args.index (none_past list.items list.len c.args.index list.ok.0 c.in-None.ensures.variant.1) refl
+    entry_missing (λ v w. SetsIn c.args.steps.now (value c.args.new) v w false) (false ≡ false) c.args.entries.now c.args.index
+    (none_past list.items list.len c.args.index list.ok.0 c.in-None.ensures.variant.1) refl
 
 pub set_in-returns-then-is_empty : goal.set_in-returns-then-is_empty
 set_in-returns-then-is_empty t c =
@@ -49,9 +48,8 @@ set_in-returns-in_ok-done-in-Some t c =
     let now = entries c.set_entry.new.entries in
     let before = ap value c.in-Array.is ∙ array_made c.in-Array.elements in
     let first : first_index steps ≡ Some c.in-Some.index = sym c.index_first.ensures ∙ c.in-Some.is in
-    let inner : SetsEntry c.in-Some.index (drop 1 steps) new old now done =
-    subst (λ s. SetsEntry c.in-Some.index s new old now done) c.behind.ensures
-    (subst (λ e. SetsEntry c.in-Some.index c.behind.result.now new (entries e) now done) c.deref_mut.ensures.value c.in_ok-done-in-Some.ensures) in
+    let inner = subst₂ (λ s e. SetsEntry c.in-Some.index s new (entries e) now done) c.behind.ensures c.deref_mut.ensures.value
+    c.in_ok-done-in-Some.ensures in
     let after = with_value c.in-Array.elements c.set_entry.new.entries in
     subst (λ v. SetsIn steps new v (value (Array after)) done) (sym before)
     (subst (λ v. SetsIn steps new (Listed old.opening old.entries) v done) (sym (array_made after)) (list_set steps c.in-Some.index new old now done first inner))
@@ -76,12 +74,9 @@ set_in-returns-in_ok-done-in-Some-2 t c =
     let used = c.in-Some-2.used in
     let some = some_if steps c.is_empty.result c.is_empty.ensures c.if-is_empty.false in
     let before = ap value c.in-Inline.is ∙ inline_made c.in-Inline.pairs in
-    let found : LeadsOn old.entries steps (Some (i, used)) =
-    subst (λ r. LeadsOn old.entries steps r) c.in-Some-2.is
-    (subst (λ e. LeadsOn (entries e).entries steps c.in_ok-index-in-Inline.field-0) c.deref.ensures c.in_ok-index-in-Inline.ensures) in
-    let inner : SetsEntry i (drop used steps) new old now done =
-    subst (λ s. SetsEntry i s new old now done) c.behind-in-Some-2.ensures
-    (subst (λ e. SetsEntry i c.behind-in-Some-2.result.now new (entries e) now done) c.deref_mut-in-Some-2.ensures.value c.in_ok-done-in-Some-2.ensures) in
+    let found = subst₂ (λ e r. LeadsOn (entries e).entries steps r) c.deref.ensures c.in-Some-2.is c.in_ok-index-in-Inline.ensures in
+    let inner = subst₂ (λ s e. SetsEntry i s new (entries e) now done) c.behind-in-Some-2.ensures c.deref_mut-in-Some-2.ensures.value
+    c.in_ok-done-in-Some-2.ensures in
     let after = with_value c.in-Inline.pairs c.set_entry-in-Some-2.new.entries in
     subst (λ v. SetsIn steps new v (value (Inline after)) done) (sym before)
     (subst (λ v. SetsIn steps new (Braced old.opening old.entries) v done) (sym (inline_made after)) (table_set steps i used new old now done some found inner))
@@ -91,8 +86,8 @@ set_in-returns-in-None-2 t c =
     let some = some_if c.args.steps.now c.is_empty.result c.is_empty.ensures c.if-is_empty.false in
     let old = entries c.in-Inline.pairs.value in
     let before = ap value c.in-Inline.is ∙ inline_made c.in-Inline.pairs in
-    let none = subst (λ r. LeadsOn old.entries c.args.steps.now r) c.in-None-2.is
-    (subst (λ e. LeadsOn (entries e).entries c.args.steps.now c.in_ok-index-in-Inline.field-0) c.deref.ensures c.in_ok-index-in-Inline.ensures) in
+    let none = subst₂ (λ e r. LeadsOn (entries e).entries c.args.steps.now r) c.deref.ensures c.in-None-2.is
+    c.in_ok-index-in-Inline.ensures in
     subst (λ v. SetsIn c.args.steps.now (value c.args.new) v (value (Inline c.in-Inline.pairs)) false) (sym before)
     (subst (λ v. SetsIn c.args.steps.now (value c.args.new) (Braced old.opening old.entries) v false) (sym (inline_made c.in-Inline.pairs))
     (table_kept c.args.steps.now (value c.args.new) old.opening old.entries some none))

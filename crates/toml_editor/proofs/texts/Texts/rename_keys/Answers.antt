@@ -21,7 +21,8 @@ loop-index-preserved c =
           (key_written c.args.steps.now c.args.to.now old now _ i e w.rename_pair.new.pair got refl w.in_ok-rename_pair.ensures c.loop-index.invariant)
       | in_default w ↦
           subst (λ pairs. SoFar c.args.steps.now c.args.to.now (i + 1) old (entries pairs)) (sym w.pairs-is)
-          (key_missing c.args.steps.now c.args.to.now old now i (past_end list.items list.len i list.ok.0 w.in_default.ensures.variant.1) c.loop-index.invariant)
+          (key_missing c.args.steps.now c.args.to.now old now i (past_end list.items list.len i list.ok.0 w.in_default.ensures.variant.1)
+          c.loop-index.invariant)
     ]
 
 pub returns : goal.returns

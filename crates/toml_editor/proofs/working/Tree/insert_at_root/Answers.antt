@@ -15,7 +15,8 @@ returns-in-Some-clause-root c =
     let read = read_of c.args.before in
     let slots = tree.slots.items in
     on_ok_weaker c.insert_behind.result
-    (behind_root it.at.now it.spelled.now (value it.new) (leaf_text tree.style) tree.texts read c.in-Some.behind slots c.insert_behind.new.self.slots.items
+    (behind_root it.at.now it.spelled.now (value it.new) (leaf_text tree.style) tree.texts read c.in-Some.behind slots
+    c.insert_behind.new.self.slots.items
     (λ first. subst (FindsLastOf read slots (slots_standing read slots)) c.in-Some.is (c.last_root_pair.ensures read.lines first)))
     c.insert_behind.ensures.put
 
@@ -26,6 +27,7 @@ returns-in_ok-line-in-None-clause-root c =
     let read = read_of c.args.before in
     let slots = tree.slots.items in
     on_ok_weaker c.put.result
-    (first_of_root it.at.now it.spelled.now (value it.new) (leaf_text tree.style) (text_of tree.texts.source) read slots c.put.new.self.slots.items c.in_ok-line-in-None.line
+    (first_of_root it.at.now it.spelled.now (value it.new) (leaf_text tree.style) (text_of tree.texts.source) read slots
+    c.put.new.self.slots.items c.in_ok-line-in-None.line
     (λ first. subst (FindsLastOf read slots (slots_standing read slots)) c.in-None.is (c.last_root_pair.ensures read.lines first)) c.in_ok-line-in-None.ensures)
     c.put.ensures.put

@@ -13,6 +13,7 @@ returns c =
     c.split_at.ensures.back ∙ ap (λ (n : ℕ). drop n steps) none in
     if_ok_three _ _ _ _ c.new.result
     (λ l address base outline.
-    root_line it.at.now c.args.base steps c.split_at.result.1.now (value it.new) (leaf_text c.args.newline) c.in_ok-assign.field-0 l same c.in_ok-assign.ensures
+    root_line it.at.now c.args.base steps c.split_at.result.1.now (value it.new) (leaf_text c.args.newline) c.in_ok-assign.field-0 l same
+    c.in_ok-assign.ensures
     (address ∙ ap Some c.in_ok-address.ensures) base outline)
     c.new.ensures.address c.new.ensures.base c.new.ensures.outline
