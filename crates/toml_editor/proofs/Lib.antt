@@ -4,7 +4,7 @@ pub mod MakesExact
 pub mod PlainMade
 pub mod PassedSpread
 pub mod Judgements
-mod PlainAnswers
+pub mod PlainAnswers
 mod PlainJudged
 pub mod NearFaults
 mod Answered

@@ -10,4 +10,5 @@ pub mod Unique
 pub mod Listed
 pub mod Verified
 pub mod Edited
+mod PlainPrinted
 pub mod Delivered

@@ -1,5 +1,5 @@
 -- What `edit` answers.
-use Rattle.std.specs.Prelude.{◌≡◌, ◌⊎◌, ℕ, List, [], ◌∷◌, codes, Option, Some, None}
+use Rattle.std.specs.Prelude.{◌≡◌, ◌⊎◌, ◌≤◌, ℕ, List, [], ◌∷◌, codes, length, Option, Some, None}
 use Rattle.toml_text.specs.Limit.{max_len}
 use Rattle.toml_text.specs.declared.fault.TextFault.{TextFault}
 use Rattle.toml_tree.specs.declared.profile.Profile.{Profile}
@@ -8,7 +8,9 @@ use Rattle.toml_edits.specs.Edits.{Change}
 use Rattle.toml_edits.specs.declared.fault.EditFault.{EditFault}
 use Rattle.toml_edits.specs.declared.fault.EditFault.TheVariants as edits
 use Rattle.toml_units.specs.Certificates.{certificate_of}
+use Rattle.toml_names.specs.model.Data.{Kinds}
 use Rattle.toml_editor.specs.Edited as editor
+use Rattle.toml_editor.specs.PlainAnswers.{PlainSoFar}
 use Rattle.toml_editor.specs.declared.fault.EditorFault.{EditorFault}
 use Rattle.toml_editor.specs.declared.fault.EditorFault.TheVariants as faults
 use Rattle.tomled.specs.EditLists.{IsListRefusal}
@@ -96,3 +98,10 @@ IsEditing profile before edits a = (a.out.items ≡ codes "ok\n") × (text : Lis
 abbrev pub Edits : Profile → List ℕ → List ℕ → Outcome → Type 0
 Edits profile before edits o =
     ((text : List ℕ) × (certificate : List ℕ) × AreEdited profile before edits text certificate × Gives (codes "ok\n") (text ∷ certificate ∷ []) o) ⊎ ((r : Refusal) × IsUnedited profile before edits r × Tells r o)
+
+-- Law: where the edits of a list are plain on a document, and the text that they write is within the limit, the answer is `ok`, with that
+-- text as the first file.
+abbrev pub PlainIsPrinted : Type 0
+PlainIsPrinted = (profile : Profile) (before edits : List ℕ) (cs : List Change) (after : List ℕ) (now : Kinds) → IsEditList edits cs
+    → PlainSoFar profile before cs (length cs) after now → length after ≤ max_len → (o : Outcome) → Edits profile before edits o
+    → (certificate : List ℕ) × AreEdited profile before edits after certificate × Gives (codes "ok\n") (after ∷ certificate ∷ []) o

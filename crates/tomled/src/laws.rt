@@ -1,4 +1,5 @@
 //! Laws over the definitions: nothing is run.
+ghost use Rattle.tomled.specs.Edit.{PlainIsPrinted};
 ghost use Rattle.tomled.specs.Listing.{OneListing};
 ghost use Rattle.tomled.specs.Show.{OneLine};
 ghost use Rattle.tomled.specs.Tagged.{OneTagged};
@@ -7,6 +8,12 @@ ghost use Rattle.tomled.specs.Tagged.{OneTagged};
 pub fn shown()
     ensures tagged { OneTagged }
     ensures line { OneLine }
+{}
+
+/// Where all edits of a list are plain on a document, and the text that they write is within the limit, `edit` prints `ok` and
+/// has that text written, and a certificate of it; but for want of memory.
+pub fn edited()
+    ensures { PlainIsPrinted }
 {}
 
 /// A document has at most one list of its addresses.
