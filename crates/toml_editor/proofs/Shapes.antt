@@ -1,9 +1,9 @@
 -- What data have where they are seen to be a table, or an array of one element.
-use Rattle.std.proofs.Common.{◌≡◌, inl, inr, ℕ, List, [], ◌∷◌, length, Some, None, IsSome, refl, sym, ap, subst, ◌∙◌, arith}
+use Rattle.std.proofs.Common.{◌≡◌, ◌⊎◌, ◌&&◌, inl, inr, ℕ, Bool, true, false, List, [], ◌∷◌, length, Some, None, IsSome, refl, sym, ap, subst, ◌∙◌, arith}
 use Rattle.std.proofs.lemmas.Bool.Decides.{nat_tests}
 use Rattle.std.proofs.lemmas.Option.{same_Some}
 use Rattle.std.specs.Bool.{nat_eq}
-use Rattle.std.specs.Prelude.{IsTrue, slice_get, vec_len}
+use Rattle.std.specs.Prelude.{IsTrue, not, slice_get, vec_len}
 use Rattle.toml_scalar.specs.Values.{scalar_value}
 use Rattle.toml_scalar.specs.declared.scalar.Scalar.{Scalar as Token}
 use Rattle.toml_names.specs.declared.model.datum.Datum.{Datum}
@@ -41,3 +41,12 @@ one_array v n is one =
     let e : length v.items ≡ 1 = (let same : n ≡ 1 = grind (arith, nat_tests) in omega (arith, is, same)) in
     let w = one_in v.items e in
     (subst IsSome (sym (array-item v 0 [])) w.0, array-item v 1 [] ∙ w.1)
+
+-- what an answer whether an edit may be refused for not being made says of both
+pub not_made_is : (done may : Bool) (r : Bool) → r ≡ (not done && may) → r ≡ true → (done ≡ false) × (may ≡ true)
+not_made_is true may r is set = let e : false ≡ true = sym is ∙ set in cc
+not_made_is false may r is set = (refl, sym is ∙ set)
+
+pub made_is : (done may : Bool) (r : Bool) → r ≡ (not done && may) → r ≡ false → (done ≡ true) ⊎ (may ≡ false)
+made_is true may r is other = inl refl
+made_is false may r is other = inr (sym is ∙ other)

@@ -1,5 +1,5 @@
 //! One edit after the other, on the data and on the working tree.
-ghost use Rattle.std.specs.Prelude.{◌≡◌, IfErr, IfOk, IsTrue, OnOk, Some, false, length, map, option_copied};
+ghost use Rattle.std.specs.Prelude.{◌≡◌, IfErr, IfOk, IsTrue, OnOk, Some, false, length, map, option_copied, ◌&&◌, not};
 ghost use Rattle.toml_names.specs.model.Data.{kind_at};
 ghost use Rattle.toml_scalar.specs.Spelling.{spelled};
 ghost use Rattle.toml_edits.specs.Edits.{change, remove};
@@ -87,13 +87,22 @@ fn make<'x>(
     let only = is_only_element(data, edit);
     applied(alloc, data, edit, index, read.profile)?;
     let done = write_edit(alloc, tree, read, edit, spelled)?;
-    if !done && spread {
+    let is_spread = not_made(done, spread);
+    if is_spread {
         return Err(EditorFault::Spread { index });
     }
-    if !done && only {
+    let is_last = not_made(done, only);
+    if is_last {
         return Err(EditorFault::LastElement { index });
     }
     Ok(())
+}
+
+/// Whether an edit was not made that may be refused for it.
+fn not_made(done: bool, may: bool) -> bool
+    ensures { result ≡ (not done && may) }
+{
+    !done && may
 }
 
 /// Makes the edit on the data.

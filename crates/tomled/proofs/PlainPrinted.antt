@@ -24,14 +24,18 @@ module _ (profile : Profile) (before list : List ℕ) (cs : List Change) (after 
   -- the edited text is that which they write
   text_is : (text : List ℕ) (pairs : List (ℕ × ℕ)) → editor.IsEdited profile before cs text pairs → text ≡ after
   text_is text pairs is = elim (plain_is_answered profile before cs after now so_far short (Ok (text, pairs)) is) [
-    | inl made ↦ (let e = made.1 in cc)
+    | inl made ↦ ap got made.1
     | inr none ↦ cc
   ]
+    where
+      got : Result (List ℕ × List (ℕ × ℕ)) EditorFault → List ℕ
+      got (Ok answer) = answer.0
+      got (Err fault) = []
 
   -- nothing but want of memory is told
   is_memory : (fault : EditorFault) → editor.Tells profile before cs fault → fault ≡ faults.NoMemory
   is_memory fault told = elim (plain_is_answered profile before cs after now so_far short (Err fault) told) [
-    | inl made ↦ (let e = made.1 in cc)
+    | inl made ↦ (let e : Err fault ≡ Ok (after, made.0) = made.1 in cc)
     | inr memory ↦ cc
   ]
 
