@@ -77,18 +77,26 @@ module _ (profile : Profile) (before after : List ℕ) (cs : List Change) (ps : 
 
   -- a no
   pub no_is_not_plain : (reason : Reason) → IsVerdict profile before cs after ps (No reason) → IsNoPlainList profile before cs
-  no_is_not_plain reason refused = (d, document.2, (λ old now facts lead plain.
-      let is = is_paired old now facts lead plain in
-      refused.0 ((certified_is_all_demands profile before after cs ps).0 is.certified reason)))
+  no_is_not_plain reason refused = (
+    d,
+    document.2,
+    (λ old now facts lead plain.
+        let is = is_paired old now facts lead plain in
+        refused.0 ((certified_is_all_demands profile before after cs ps).0 is.certified reason)),
+  )
 
   -- pairs that do not name the wanted units
   pub lost_is_not_plain : (wanted : List Bool) → TellsWanted before cs wanted → ¬ NameWanted wanted ps → IsNoPlainList profile before cs
-  lost_is_not_plain wanted (e, spelled, told) others = (d, document.2, (λ old now facts lead plain.
-      let is = is_paired old now facts lead plain in
-      let outer = outer_are_named cs d is.new ps is.partners in
-      let tells : (i : ℕ) → (slice_get wanted i ≡ Some true) ↔ IsOuter cs (units d.lines) i =
-      subst (λ (x : Doc). (i : ℕ) → (slice_get wanted i ≡ Some true) ↔ IsOuter cs (units x.lines) i) (one_tree e d before spelled document.2) told.1 in
-      others (λ i low. ((λ set. (outer i).1 ((tells i).0 set)), (λ first. (tells i).1 ((outer i).0 first))))))
+  lost_is_not_plain wanted (e, spelled, told) others = (
+    d,
+    document.2,
+    (λ old now facts lead plain.
+        let is = is_paired old now facts lead plain in
+        let outer = outer_are_named cs d is.new ps is.partners in
+        let tells : (i : ℕ) → (slice_get wanted i ≡ Some true) ↔ IsOuter cs (units d.lines) i =
+        subst (λ (x : Doc). (i : ℕ) → (slice_get wanted i ≡ Some true) ↔ IsOuter cs (units x.lines) i) (one_tree e d before spelled document.2) told.1 in
+        others (λ i low. ((λ set. (outer i).1 ((tells i).0 set)), (λ first. (tells i).1 ((outer i).0 first))))),
+  )
 
 -- ---- marks that are the wanted ones
 

@@ -183,17 +183,17 @@ module _ (text : List ℕ) (read : Read) (passed : ℕ) (all : List Slot) (u : C
           ap (λ o. line_origins (line_numbered (Some kept.first) (outline_of o))) here ∙ line_numbers (Some kept.first) (line_outline l)
           ∙ ap₂ (λ k n. numbers (Some k) n) keeps.begins (count_line h.earlier l) in
           let room : (HasNumbers read.units) → passed + suc (length inner) < 18446744073709551616 = λ few.
-              let all_left = count_left (drop (passed + 1) read.units) inner behind (rest_is _ _ _ _ is) in
-              let total = length-drop (passed + 1) read.units in
-              omega (arith, few, all_left, total, low) in
+          let all_left = count_left (drop (passed + 1) read.units) inner behind (rest_is _ _ _ _ is) in
+          let total = length-drop (passed + 1) read.units in
+          omega (arith, few, all_left, total, low) in
           let beyond_own : HasNumbers read.units → numbers (Some (passed + 1)) (length inner) ≡ numbers (next_number (Some passed)) (length inner) = λ few.
-              ap (λ a. numbers a (length inner)) (let e : Some (passed + 1) ≡ next_number (Some passed) = ap Some (omega (arith, room few)) in e) in
+          ap (λ a. numbers a (length inner)) (let e : Some (passed + 1) ≡ next_number (Some passed) = ap Some (omega (arith, room few)) in e) in
           let own_origins : HasNumbers read.units → kept_origins read.units kept.first ≡ line_origins (kept_outline read kept) = λ few.
-              ap (kept_origins read.units) keeps.begins
-              ∙ ap (λ r. Some passed ∷ r)
-              (tail_numbers (drop (passed + 1) read.units) inner behind (passed + 1) (rest_is _ _ _ _ is) (line_no_lines h.earlier l.expr)
-              (begins_with_line ls (h.earlier ++ named_by h.earlier h.n l.expr) (h.n + 1)) (let r = room few in omega (arith, r)) ∙ beyond_own few)
-              ∙ sym outlined in
+          ap (kept_origins read.units) keeps.begins
+          ∙ ap (λ r. Some passed ∷ r)
+          (tail_numbers (drop (passed + 1) read.units) inner behind (passed + 1) (rest_is _ _ _ _ is) (line_no_lines h.earlier l.expr)
+          (begins_with_line ls (h.earlier ++ named_by h.earlier h.n l.expr) (h.n + 1)) (let r = room few in omega (arith, r)) ∙ beyond_own few)
+          ∙ sym outlined in
           let long : length (all ++ slots.Kept kept ∷ []) ≡ length all + 1 = length-append all (slots.Kept kept ∷ []) in
           record {
             inner = inside_line (own_address h.earlier l.expr) l.expr;

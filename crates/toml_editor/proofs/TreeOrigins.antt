@@ -87,17 +87,33 @@ count_gap_lines at (l ∷ ls) = by l.blank.comment (count_gap_lines at ls)
 count_entry : (os ps qs rs : Origins) (us vs ws xs : List TextUnit) (u : TextUnit) → length os ≡ length us → length ps ≡ length vs → length qs ≡ length ws
     → length rs ≡ length xs → length ((os ++ None ∷ []) ++ (ps ++ (qs ++ rs))) ≡ length (us ++ ((u ∷ vs) ++ (ws ++ xs)))
 count_entry os ps qs rs us vs ws xs u first second third fourth = omega (
-  arith, first, second, third, fourth,
-  length-append (os ++ None ∷ []) (ps ++ (qs ++ rs)), length-append os (None ∷ []), length-append ps (qs ++ rs), length-append qs rs,
-  length-append us ((u ∷ vs) ++ (ws ++ xs)), length-append (u ∷ vs) (ws ++ xs), length-append ws xs,
+  arith,
+  first,
+  second,
+  third,
+  fourth,
+  length-append (os ++ None ∷ []) (ps ++ (qs ++ rs)),
+  length-append os (None ∷ []),
+  length-append ps (qs ++ rs),
+  length-append qs rs,
+  length-append us ((u ∷ vs) ++ (ws ++ xs)),
+  length-append (u ∷ vs) (ws ++ xs),
+  length-append ws xs,
 )
 
 count_last : (os ps qs : Origins) (us vs ws : List TextUnit) (u : TextUnit) → length os ≡ length us → length ps ≡ length vs → length qs ≡ length ws
     → length ((os ++ None ∷ []) ++ (ps ++ (qs ++ []))) ≡ length (us ++ ((u ∷ vs) ++ ws))
 count_last os ps qs us vs ws u first second third = let none : Origins = [] in omega (
-  arith, first, second, third,
-  length-append (os ++ None ∷ []) (ps ++ (qs ++ [])), length-append os (None ∷ []), length-append ps (qs ++ []), length-append qs none,
-  length-append us ((u ∷ vs) ++ ws), length-append (u ∷ vs) ws,
+  arith,
+  first,
+  second,
+  third,
+  length-append (os ++ None ∷ []) (ps ++ (qs ++ [])),
+  length-append os (None ∷ []),
+  length-append ps (qs ++ []),
+  length-append qs none,
+  length-append us ((u ∷ vs) ++ ws),
+  length-append (u ∷ vs) ws,
 )
 
 mutual

@@ -49,18 +49,37 @@ entry_few : (us vs ws xs : List TextUnit) (u : TextUnit) (g a v h rest : List Pa
     → length xs ≤ size rest → 1 ≤ length b
     → length (us ++ ((u ∷ vs) ++ (ws ++ xs))) ≤ size (g ++ (a ++ (v ++ (h ++ symbol b ∷ rest))))
 entry_few us vs ws xs u g a v h rest b first second third fourth long = let none : List ℕ = [] in omega (
-  arith, first, second, third, fourth, long,
-  length-append us ((u ∷ vs) ++ (ws ++ xs)), length-append (u ∷ vs) (ws ++ xs), length-append ws xs,
-  sizes_add g (a ++ (v ++ (h ++ symbol b ∷ rest))), sizes_add a (v ++ (h ++ symbol b ∷ rest)), sizes_add v (h ++ symbol b ∷ rest), sizes_add h (symbol b ∷ rest),
-  sizes_add (symbol b ∷ []) rest, length-append b none,
+  arith,
+  first,
+  second,
+  third,
+  fourth,
+  long,
+  length-append us ((u ∷ vs) ++ (ws ++ xs)),
+  length-append (u ∷ vs) (ws ++ xs),
+  length-append ws xs,
+  sizes_add g (a ++ (v ++ (h ++ symbol b ∷ rest))),
+  sizes_add a (v ++ (h ++ symbol b ∷ rest)),
+  sizes_add v (h ++ symbol b ∷ rest),
+  sizes_add h (symbol b ∷ rest),
+  sizes_add (symbol b ∷ []) rest,
+  length-append b none,
 )
 
 last_few : (us vs ws : List TextUnit) (u : TextUnit) (g a v h : List Part) (b : List ℕ) → length us ≤ size g → length vs ≤ size v → length ws ≤ size h
     → 1 ≤ length b → length (us ++ ((u ∷ vs) ++ ws)) ≤ size (g ++ (a ++ (v ++ (h ++ symbol b ∷ []))))
 last_few us vs ws u g a v h b first second third long = let none : List ℕ = [] in omega (
-  arith, first, second, third, long,
-  length-append us ((u ∷ vs) ++ ws), length-append (u ∷ vs) ws,
-  sizes_add g (a ++ (v ++ (h ++ symbol b ∷ []))), sizes_add a (v ++ (h ++ symbol b ∷ [])), sizes_add v (h ++ symbol b ∷ []), sizes_add h (symbol b ∷ []),
+  arith,
+  first,
+  second,
+  third,
+  long,
+  length-append us ((u ∷ vs) ++ ws),
+  length-append (u ∷ vs) ws,
+  sizes_add g (a ++ (v ++ (h ++ symbol b ∷ []))),
+  sizes_add a (v ++ (h ++ symbol b ∷ [])),
+  sizes_add v (h ++ symbol b ∷ []),
+  sizes_add h (symbol b ∷ []),
   length-append b none,
 )
 

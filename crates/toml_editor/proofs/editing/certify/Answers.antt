@@ -19,8 +19,7 @@ returns-then-branch-clause-edited c =
 
 pub returns-then-len-gt-MAX_LEN-clause-told : goal.returns-then-len-gt-MAX_LEN-clause-told
 returns-then-len-gt-MAX_LEN-clause-told c =
-    let cs = map change c.args.edits.now in
-    (
+    let cs = map change c.args.edits.now in (
       defined_on c.args.profile c.args.before.text.now cs c.args.made c.requires.known.document c.requires.made.is_made,
       (string_bytes c.args.edited.text, c.requires.made.plain, omega (arith, c.len.ensures, c.if-len-gt-MAX_LEN.true)),
       c.requires.made.passed,
@@ -32,8 +31,7 @@ returns-in-No-clause-told c =
     let before = c.args.before.text.now in
     let made = c.args.edited in
     let within = within_limit made.text (omega (arith, c.len.ensures, c.if-len-gt-MAX_LEN.false)) in
-    let refused = subst (IsVerdict c.args.profile before cs c.as_bytes.result.now made.certificate.pairs.items) c.in-No.is c.in_ok-reason.ensures in
-    (
+    let refused = subst (IsVerdict c.args.profile before cs c.as_bytes.result.now made.certificate.pairs.items) c.in-No.is c.in_ok-reason.ensures in (
       defined_on c.args.profile before cs c.args.made c.requires.known.document c.requires.made.is_made,
       no_is_not_plain c.args.profile before (string_bytes made.text) cs made.certificate.pairs.items c.requires.known.document within c.requires.made.plain
           (c.requires.made.paired c.requires.wanted) c.in-No.reason
@@ -48,8 +46,7 @@ returns-else-branch-clause-told c =
     let made = c.args.edited in
     let within = within_limit made.text (omega (arith, c.len.ensures, c.if-len-gt-MAX_LEN.false)) in
     let others = λ (names : NameWanted c.args.wanted.now made.certificate.pairs.items).
-        true≢false (sym (c.in_ok-names_all-in-Yes.ensures.1 (subst (NameWanted c.args.wanted.now) (sym c.deref.ensures.value) names)) ∙ c.if-branch.false) in
-    (
+    true≢false (sym (c.in_ok-names_all-in-Yes.ensures.1 (subst (NameWanted c.args.wanted.now) (sym c.deref.ensures.value) names)) ∙ c.if-branch.false) in (
       defined_on c.args.profile before cs c.args.made c.requires.known.document c.requires.made.is_made,
       lost_is_not_plain c.args.profile before (string_bytes made.text) cs made.certificate.pairs.items c.requires.known.document within c.requires.made.plain
           (c.requires.made.paired c.requires.wanted) c.args.wanted.now c.requires.wanted others,
