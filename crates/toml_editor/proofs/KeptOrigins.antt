@@ -1,5 +1,5 @@
 -- The units of a line that is as it was: its own, and those up to the next line.
-use Rattle.std.proofs.Common.{◌≡◌, ◌∙◌, ◌+◌, ◌<◌, ◌⊎◌, inl, inr, ℕ, suc, Bool, true, false, true≢false, cond, List, [], ◌∷◌, ◌++◌, map, length, length-append, Some, refl, ap, sym, subst, arith, drop}
+use Rattle.std.proofs.Common.{◌≡◌, ◌∙◌, ◌+◌, ◌<◌, ℕ, Bool, true, false, true≢false, cond, List, [], ◌∷◌, ◌++◌, map, length, length-append, Some, refl, ap, sym, arith}
 use Rattle.std.proofs.lemmas.List.{length-map}
 use Rattle.toml_tree.specs.Spells.{EachIs}
 use Rattle.toml_units.specs.declared.unit.Unit.{Unit as CodeUnit}

@@ -1,9 +1,9 @@
 -- Outlines with the units from a number on.
-use Rattle.std.proofs.Common.{◌≡◌, ◌∙◌, ◌+◌, ◌<◌, ℕ, zero, suc, List, [], ◌∷◌, ◌++◌, map, length, length-append, Option, Some, None, refl, sym, ap, ap₂, subst, arith}
+use Rattle.std.proofs.Common.{◌≡◌, ◌∙◌, ◌+◌, ◌<◌, ℕ, zero, suc, [], ◌∷◌, ◌++◌, length, length-append, Option, Some, None, refl, sym, ap, ap₂, subst, arith}
 use Rattle.std.specs.Prelude.{option_map}
 use Rattle.toml_editor.specs.AsNew.{all_new, as_new, value_as_new, entries_as_new, expr_as_new, line_as_new}
 use Rattle.toml_editor.specs.OpenOrigins.{RunFrom, next_number, numbers, beyond, numbered, value_numbered, entries_numbered, expr_numbered, line_numbered}
-use Rattle.toml_editor.specs.Outlines.{Origins, Marked, marked, AssignOutline, ValueOutline, Token, Listed, Braced, EntriesOutline, End, Entry, ExprOutline, Nothing, Pair, Header, LineOutline, origins_if, value_origins, entries_origins, expr_origins, line_origins, value_outlined, entries_outlined, expr_outlined, line_outlined, comment_outlined, comma_if}
+use Rattle.toml_editor.specs.Outlines.{Origins, Marked, marked, AssignOutline, ValueOutline, Token, Listed, Braced, EntriesOutline, End, Entry, ExprOutline, Nothing, Pair, Header, LineOutline, origins_if, value_origins, entries_origins, expr_origins, line_origins}
 
 pub numbers_append : (a : Option ℕ) (n m : ℕ) → numbers a (n + m) ≡ numbers a n ++ numbers (beyond a n) m
 numbers_append a zero m = ap (numbers a) (let e : 0 + m ≡ m = omega arith in e)

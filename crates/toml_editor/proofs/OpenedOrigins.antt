@@ -1,5 +1,5 @@
 -- Units that are opened one behind the other.
-use Rattle.std.proofs.Common.{◌≡◌, ◌∙◌, ◌+◌, ℕ, List, [], ◌∷◌, ◌++◌, Option, Some, ap, refl, sym, subst, arith, append_assoc, append-nil}
+use Rattle.std.proofs.Common.{◌≡◌, ◌∙◌, ℕ, List, [], ◌∷◌, ◌++◌, Option, ap, refl, sym, subst, append_assoc, append-nil}
 use Rattle.toml_editor.specs.declared.tree.Entries.{Entries}
 use Rattle.toml_editor.specs.declared.tree.Entry.{Entry}
 use Rattle.toml_editor.specs.declared.tree.Value.{Value}

@@ -1,9 +1,9 @@
 -- Which units an outline has does not count for its text.
-use Rattle.std.proofs.Common.{◌≡◌, ◌++◌, ℕ, Bool, true, false, List, [], ◌∷◌, Option, Some, None, refl, ap, ap₂}
+use Rattle.std.proofs.Common.{◌≡◌, ◌++◌, ℕ, Bool, true, false, [], ◌∷◌, Option, Some, None, refl, ap, ap₂}
 use Rattle.std.specs.Prelude.{option_map}
 use Rattle.toml_editor.specs.AsNew.{as_new, value_as_new, entries_as_new, expr_as_new, line_as_new}
-use Rattle.toml_editor.specs.OpenOrigins.{numbered, value_numbered, entries_numbered, expr_numbered, line_numbered, beyond}
-use Rattle.toml_editor.specs.Outlines.{Marked, ValueOutline, Token, Listed, Braced, EntriesOutline, End, Entry, ExprOutline, Nothing, Pair, Header, LineOutline, assign_outlined, comma_if, own_assign_outlined, comment_outlined, value_origins, expr_origins, value_outlined, entries_outlined, expr_outlined, line_outlined}
+use Rattle.toml_editor.specs.OpenOrigins.{numbered, value_numbered, entries_numbered, expr_numbered, line_numbered}
+use Rattle.toml_editor.specs.Outlines.{Marked, ValueOutline, Token, Listed, Braced, EntriesOutline, End, Entry, ExprOutline, Nothing, Pair, Header, LineOutline, assign_outlined, comma_if, own_assign_outlined, comment_outlined, value_outlined, entries_outlined, expr_outlined, line_outlined}
 
 mutual
   value_numbered_spells : (a : Option ℕ) (v : ValueOutline) → value_outlined (value_numbered a v) ≡ value_outlined v

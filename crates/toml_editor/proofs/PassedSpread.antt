@@ -1,8 +1,6 @@
 -- What the making of edits passes, and where it stops, as facts of the text before the edits and of all its data.
-use Rattle.std.proofs.Common.{◌≡◌, ℕ, zero, suc, List, [], ◌∷◌, take, Some, None, refl, sym, subst, ◌∙◌}
+use Rattle.std.proofs.Common.{◌≡◌, ℕ, List, take, sym, subst, ◌∙◌}
 use Rattle.std.proofs.Math.Path.{fun_ext}
-use Rattle.std.proofs.lemmas.Option.{same_Some}
-use Rattle.std.specs.Prelude.{slice_get}
 use Rattle.toml_text.specs.Forms.{IsNewline}
 use Rattle.toml_text.specs.Source.{text_of}
 use Rattle.toml_tree.specs.Profiles.{IsOfProfile}
@@ -16,9 +14,7 @@ use Rattle.toml_names.specs.model.Documents.{IsDocumentIn}
 use Rattle.toml_names.specs.model.Hidden.{Cover, beside, near}
 use Rattle.toml_names.specs.reader.Names.{AreGood}
 use Rattle.toml_names.proofs.Proved.{one_data}
-use Rattle.toml_edits.specs.After.{IsAfter}
 use Rattle.toml_edits.specs.Edits.{Change, place}
-use Rattle.toml_edits.specs.Faults.{IsFault}
 use Rattle.toml_edits.specs.Lists.{Lead}
 use Rattle.toml_edits.specs.Near.{AreNear}
 use Rattle.toml_edits.proofs.Proved.{leads_beside, one_lead}
@@ -26,17 +22,14 @@ use Rattle.toml_editor.specs.declared.fault.EditorFault.{EditorFault}
 use Rattle.toml_editor.specs.declared.fault.EditorFault.TheVariants as faults
 use Rattle.toml_editor.specs.declared.working.Tree.{Tree}
 use Rattle.toml_editor.specs.CertifiedLists.{ArePlain}
-use Rattle.toml_editor.specs.Edited.{Places}
-use Rattle.toml_editor.specs.Exact.{IsAt, IsNotPlainAt, OfNumber, OfPlain, OfNoPlace, OfNoPlaceAt, PassesAll, PassesAt, Stops, style}
-use Rattle.toml_editor.specs.Making.{TellsAny}
-use Rattle.toml_editor.specs.PlainTexts.{AfterPlain, IsNoPlainEdit, IsNoPlainList, IsPlainOn, IsSpreadOn, NoSpreadSet}
+use Rattle.toml_editor.specs.Exact.{IsAt, IsNotPlainAt, OfNumber, OfPlain, OfNoPlaceAt, PassesAll, PassesAt, Stops, style}
+use Rattle.toml_editor.specs.PlainTexts.{AfterPlain, IsNoPlainEdit, IsPlainOn, IsSpreadOn, NoSpreadSet}
 use Rattle.toml_editor.specs.Standing.{Read, standing}
 use Rattle.toml_editor.specs.Stands.{StandFor}
 use Rattle.toml_editor.specs.Starting.{NoneIsGone}
 use Rattle.toml_editor.specs.Steps.{AreWritten, IsGoodText}
 use Rattle.toml_editor.specs.Written.{style_of}
 use Rattle.toml_editor.proofs.NearFaults.{near_front, near_one, place_shown}
-use Rattle.toml_editor.proofs.written.Certify.{list_is_written}
 use Rattle.toml_editor.proofs.written.Elsewhere.{style_is_newline}
 
 module _ (profile : Profile) (read : Read) (d : Doc) (before : List ℕ) (tree : Tree) (document : IsDocumentIn profile before)

@@ -5,7 +5,6 @@ use Rattle.std.specs.Prelude.{Result, Ok, Err, slice_get}
 use Rattle.std.proofs.lemmas.List.{take_all}
 use Rattle.std.proofs.lemmas.Option.{same_Some, slice_get_within}
 use Rattle.toml_text.specs.Limit.{max_len}
-use Rattle.toml_tree.specs.Profiles.{SpellsIn}
 use Rattle.toml_tree.specs.Spells.{Spells}
 use Rattle.toml_tree.specs.Tree.{Doc}
 use Rattle.toml_tree.specs.declared.profile.Profile.{Profile}
@@ -27,7 +26,7 @@ use Rattle.toml_editor.specs.Edited.{MayBeSpread, OfDefined, OnDataSoFar, SoFar,
 use Rattle.toml_editor.specs.PlainAnswers.{FirstFaultIsAnswered, FirstSpreadIsAnswered, IsAnswer, IsFaultOrMemory, LongIsAnswered, PlainIsAnswered, PlainSoFar}
 use Rattle.toml_editor.specs.PlainTexts.{AfterPlain, IsNoPlainEdit, IsNoPlainList, IsPlainOn, IsSpreadOn, NoSpreadSet, SetsMany, WritesPlain}
 use Rattle.toml_editor.specs.Steps.{AreWritten}
-use Rattle.toml_editor.specs.Written.{IsWritten, style_of}
+use Rattle.toml_editor.specs.Written.{style_of}
 use Rattle.toml_editor.specs.declared.fault.EditorFault.{EditorFault}
 use Rattle.toml_editor.specs.declared.fault.EditorFault.TheVariants as faults
 use Rattle.toml_editor.proofs.written.WayComments.{le_or}

@@ -1,5 +1,5 @@
 -- What the judge refuses is not made of plain edits.
-use Rattle.std.proofs.Common.{◌≡◌, ◌↔◌, ◌∙◌, ℕ, zero, suc, ◌<◌, ◌≤◌, Bool, true, false, true≢false, List, [], ◌∷◌, length, Some, ◌&&◌, refl, sym, ap, subst, arith}
+use Rattle.std.proofs.Common.{◌≡◌, ◌↔◌, ℕ, suc, ◌<◌, ◌≤◌, Bool, true, false, true≢false, List, [], ◌∷◌, length, Some, ◌&&◌, refl, sym, ap, subst, arith}
 use Rattle.std.proofs.lemmas.Option.{same_Some}
 use Rattle.std.proofs.Math.Bool.{beq}
 use Rattle.std.specs.Cmp.Lexicographic.{pointwise}
@@ -7,20 +7,17 @@ use Rattle.std.specs.Prelude.{slice_get, string_bytes}
 use Rattle.std.specs.declared.string.String.{String}
 use Rattle.std.proofs.lemmas.Str.{IsUtf8-string_bytes, is_utf8-from_IsUtf8}
 use Rattle.toml_text.specs.Limit.{IsText, max_len}
-use Rattle.toml_tree.specs.Profiles.{IsOfProfile, SpellsIn}
-use Rattle.toml_tree.specs.Spells.{Spells}
+use Rattle.toml_tree.specs.Profiles.{SpellsIn}
 use Rattle.toml_tree.specs.Tree.{Doc}
 use Rattle.toml_tree.proofs.Proved.{one_tree}
 use Rattle.toml_tree.specs.declared.profile.Profile.{Profile}
 use Rattle.toml_names.specs.mentions.Mentions.{named}
 use Rattle.toml_names.specs.model.Data.{IsDataOf, Kinds}
 use Rattle.toml_names.specs.model.Documents.{IsDocumentIn}
-use Rattle.toml_names.specs.reader.Names.{AreGood}
 use Rattle.toml_edits.specs.Edits.{Change}
 use Rattle.toml_edits.specs.Lists.{Lead}
 use Rattle.toml_units.specs.Units.{units}
 use Rattle.toml_checker.specs.declared.verdict.Reason.{Reason}
-use Rattle.toml_checker.specs.declared.verdict.Verdict.{Verdict}
 use Rattle.toml_checker.specs.declared.verdict.Verdict.TheVariants.{No}
 use Rattle.toml_checker.specs.Demands.{Certified, IsVerdict}
 use Rattle.toml_checker.specs.Documents.{OfTree}

@@ -1,19 +1,19 @@
 -- Plain edits on lines, and on the lines as if all their units were new.
-use Rattle.std.proofs.Common.{◌≡◌, ◌∙◌, ◌||◌, ◌+◌, ◌<◌, ◌==◌, ℕ, Bool, true, false, cond, Option, Some, None, List, [], ◌∷◌, ◌++◌, map, length, All, refl, sym, ap, ap₂, subst, subst₂}
+use Rattle.std.proofs.Common.{◌≡◌, ◌∙◌, ◌||◌, ◌+◌, ◌<◌, ◌==◌, ℕ, Bool, true, false, cond, Option, Some, None, List, [], ◌∷◌, ◌++◌, map, length, refl, sym, ap, ap₂, subst, subst₂}
 use Rattle.std.specs.List.{list_any}
-use Rattle.std.specs.Prelude.{AllPairs, option_map, slice_index_or}
+use Rattle.std.specs.Prelude.{slice_index_or}
 use Rattle.std.proofs.Math.ListN.{get_or-map}
 use Rattle.std.proofs.lemmas.List.{length-map, map-append}
 use Rattle.toml_names.specs.model.Addresses.{Address, same_address, element, below}
 use Rattle.toml_editor.specs.Apart.{HasKeysApart, EachApart, KeysApart, keys_of}
 use Rattle.toml_editor.specs.AsNew.{as_new, value_as_new, entries_as_new, expr_as_new, line_as_new, standing_as_new}
-use Rattle.toml_editor.specs.InsertStanding.{AreRooted, LeavesRoot, RootIsFirst, end_in, has_pair, insert_behind, insert_standing, line_behind, new_standing, pair_or}
+use Rattle.toml_editor.specs.InsertStanding.{AreRooted, LeavesRoot, RootIsFirst, has_pair, insert_behind, insert_standing, line_behind, new_standing, pair_or}
 use Rattle.toml_editor.specs.Outlines.{ValueOutline, Token, Listed, Braced, EntriesOutline, End, Entry, ExprOutline, Nothing, Pair, Header, LineOutline}
 use Rattle.toml_editor.specs.RemoveStanding.{empty_standing, is_pair, left_standing, remove_standing, without_one}
 use Rattle.toml_editor.specs.RenameOutlines.{rename_outlined, rename_outline, rename_listed, rename_braced}
 use Rattle.toml_editor.specs.RenameStanding.{key_part_with, own_part_with, part_number, rename_inside, rename_outline_of, rename_own, rename_standing}
-use Rattle.toml_editor.specs.SetOutlines.{has_braced, has_listed, has_outline, has_within, outlined_names, set_braced, set_listed, set_outline, set_outline_at, set_outline_within}
-use Rattle.toml_editor.specs.Standing.{AreOrdered, IsApart, Standing, StandAlone, covers, covers_at, expr_has, has, holds, is_below, outline_has, set_outline_of, set_standing, with_value_outline}
+use Rattle.toml_editor.specs.SetOutlines.{has_braced, has_listed, has_within, outlined_names, set_braced, set_listed, set_outline, set_outline_within}
+use Rattle.toml_editor.specs.Standing.{AreOrdered, IsApart, Standing, covers, covers_at, expr_has, has, holds, is_below, outline_has, set_outline_of, set_standing, with_value_outline}
 use Rattle.toml_tree.specs.Spells.{EachIs}
 
 -- ---- `set`

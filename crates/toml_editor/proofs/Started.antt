@@ -10,7 +10,6 @@ use Rattle.toml_tree.specs.Spells.{EachIs}
 use Rattle.toml_tree.specs.Tree.{Line}
 use Rattle.toml_units.proofs.Proved.{line_no_lines}
 use Rattle.toml_units.specs.declared.unit.Unit.{Unit as CodeUnit}
-use Rattle.toml_units.specs.declared.unit.UnitKind.{UnitKind}
 use Rattle.toml_units.specs.declared.unit.UnitKind.TheVariants as kinds
 use Rattle.toml_units.specs.Places.{is_line}
 use Rattle.toml_units.specs.Plain.{Spanned, spanned}

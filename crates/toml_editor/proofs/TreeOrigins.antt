@@ -1,10 +1,9 @@
 -- The units of a tree's outline are as many as those of the tree, and all new.
 use Rattle.std.proofs.Common.{◌≡◌, ◌∙◌, ◌+◌, ℕ, suc, List, [], ◌∷◌, ◌++◌, length, length-append, Option, Some, None, refl, ap, ap₂, sym, arith}
 use Rattle.std.specs.Prelude.{option_map}
-use Rattle.toml_tree.specs.Tree.{Piece, Blank, Assign, GapLine, Gap, Value, Scalar, Array, Inline, Items, Close, Last, More, Pairs, ClosePairs, LastPair, MorePairs, Expr, BlankLine, KeyValLine, TableLine, ArrayTableLine, Line}
+use Rattle.toml_tree.specs.Tree.{Piece, Blank, GapLine, Gap, Value, Scalar, Array, Inline, Items, Close, Last, More, Pairs, ClosePairs, LastPair, MorePairs, Expr, BlankLine, KeyValLine, TableLine, ArrayTableLine, Line}
 use Rattle.toml_names.specs.mentions.Mentions.{Named}
 use Rattle.toml_names.specs.model.Addresses.{Address, element}
-use Rattle.toml_units.specs.declared.unit.UnitKind.{UnitKind}
 use Rattle.toml_units.specs.declared.unit.UnitKind.TheVariants as kinds
 use Rattle.toml_units.specs.Units.{TextUnit, comment_units, gap_line_units, gap_units, inside, elements, members, pair_address, tail_units, line_units}
 use Rattle.toml_editor.specs.AsNew.{all_new, as_new, value_as_new, entries_as_new, line_as_new}

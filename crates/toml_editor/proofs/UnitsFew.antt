@@ -1,5 +1,5 @@
 -- A text has few units: each has a byte of its own, but for lines, of which the last may have none.
-use Rattle.std.proofs.Common.{◌≡◌, ◌∙◌, ◌⊎◌, inl, inr, ◌+◌, ◌*◌, ◌<◌, ◌≤◌, ℕ, Option, Some, None, List, [], ◌∷◌, ◌++◌, length, length-append, ap, arith}
+use Rattle.std.proofs.Common.{inl, inr, ◌+◌, ◌*◌, ◌<◌, ◌≤◌, ℕ, Option, Some, None, List, [], ◌∷◌, ◌++◌, length, length-append, ap, arith}
 use Rattle.std.proofs.lemmas.List.{length-drop}
 use Rattle.toml_text.specs.Forms.{IsComment, IsNewline}
 use Rattle.toml_text.specs.Limit.{IsText}

@@ -8,7 +8,7 @@ use Rattle.toml_editor.proofs.OutlinesSpelled.{line_new_spells}
 use Rattle.toml_editor.proofs.TreeOutlined.{lines_outlined_are}
 use Rattle.toml_editor.specs.Outlines.{line_outlined, lines_outlined}
 use Rattle.toml_editor.specs.AsNew.{standing_as_new}
-use Rattle.toml_editor.specs.Standing.{Standing, standing, standing_from}
+use Rattle.toml_editor.specs.Standing.{Standing, standing_from}
 use Rattle.toml_editor.specs.TreeOutlines.{line_outline}
 use Rattle.toml_editor.specs.Writing.{LinesAreWritten, TextIsWritten}
 

@@ -1,6 +1,6 @@
 -- Outlines and lines as if all their units were new: so they are compared with those of a text, of which it is not said which units of the
 -- document it has.
-use Rattle.std.specs.Prelude.{ℕ, map, Option, None, option_map}
+use Rattle.std.specs.Prelude.{map, None, option_map}
 use Rattle.toml_editor.specs.OpenOutlines.{EntryOutline}
 use Rattle.toml_editor.specs.Outlines.{Origins, Marked, ValueOutline, Token, Listed, Braced, EntriesOutline, End, Entry, ExprOutline, Nothing, Pair, Header, LineOutline}
 use Rattle.toml_editor.specs.Standing.{Standing}

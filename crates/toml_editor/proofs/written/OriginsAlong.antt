@@ -1,5 +1,5 @@
 -- How origins go along the ways of which ways are made.
-use Rattle.std.proofs.Common.{◌≡◌, ◌+◌, ℕ, suc, Option, None, List, [], ◌∷◌, ◌++◌, map, length, refl, sym, ap, ap₂, arith}
+use Rattle.std.proofs.Common.{◌≡◌, ℕ, suc, Option, None, List, [], ◌∷◌, ◌++◌, map, length, refl, sym, ap, ap₂}
 use Rattle.toml_units.specs.Units.{TextUnit}
 use Rattle.toml_editor.specs.AsNew.{all_new}
 use Rattle.toml_editor.specs.Outlines.{Origins}

@@ -10,7 +10,7 @@ use Rattle.toml_checker.specs.Comments.{texts}
 use Rattle.toml_editor.specs.AsNew.{standing_as_new}
 use Rattle.toml_editor.specs.Inserting as lines
 use Rattle.toml_editor.specs.Inserting.{insert_lines}
-use Rattle.toml_editor.specs.InsertStanding.{end_in, has_pair, insert_behind, insert_standing, line_behind, new_standing, pair_or}
+use Rattle.toml_editor.specs.InsertStanding.{has_pair, insert_behind, insert_standing, line_behind, new_standing}
 use Rattle.toml_editor.specs.Outlines.{Origins, ValueOutline, line_origins, value_origins}
 use Rattle.toml_editor.specs.Standing.{Standing, line_stands, standing, standing_from, standing_origins}
 use Rattle.toml_editor.specs.TreeOutlines.{value_outline}

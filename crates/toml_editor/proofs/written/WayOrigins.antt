@@ -1,5 +1,5 @@
 -- Which units of the document the units behind a way are.
-use Rattle.std.proofs.Common.{◌≡◌, ◌+◌, ℕ, Option, Some, None, List, [], ◌∷◌}
+use Rattle.std.proofs.Common.{◌≡◌, ◌+◌, ℕ, Some, None, List, [], ◌∷◌}
 use Rattle.toml_tree.specs.Tree.{Line}
 use Rattle.toml_edits.specs.Edits.{Change}
 use Rattle.toml_editor.specs.Outlines.{Origins}

@@ -1,4 +1,4 @@
-use Rattle.std.proofs.Common.{◌≡◌, ◌∙◌, ap, arith, false, length, map, string_bytes, subst, sym, true, true≢false}
+use Rattle.std.proofs.Common.{◌∙◌, arith, map, string_bytes, subst, sym, true≢false}
 use Rattle.toml_checker.specs.Demands.{IsVerdict}
 use Rattle.toml_checker.specs.declared.verdict.Verdict.TheVariants.{No}
 use Rattle.toml_editor.specs.Editing.{NameWanted}

@@ -1,4 +1,4 @@
-use Rattle.std.proofs.Common.{◌≡◌, ◌∙◌, [], ap, refl, sym, subst, append-nil}
+use Rattle.std.proofs.Common.{◌∙◌, [], ap, refl, sym, subst, append-nil}
 use Rattle.toml_text.specs.Source.{text_of}
 use Rattle.toml_tree.specs.Spells.{SpellsValue, value_parts, joined}
 use Rattle.toml_tree.specs.View.{value as tree_value}

@@ -1,7 +1,7 @@
-use Rattle.std.proofs.Common.{◌≤◌, ◌+◌, ◌∙◌, Some, length, ap, sym, subst, arith}
+use Rattle.std.proofs.Common.{◌≤◌, ◌+◌, ◌∙◌, length, ap, sym, subst, arith}
 use Rattle.toml_editor.specs.InsertStanding.{has_pair}
 use Rattle.toml_editor.specs.Placing.{Passed, lines_from}
-use Rattle.toml_editor.specs.Seeing.{read_by, seen}
+use Rattle.toml_editor.specs.Seeing.{read_by}
 use Rattle.toml_editor.specs.Standing.{slot_standing}
 use Rattle.toml_editor.proofs.Alone.{slice_get_none}
 use Rattle.toml_editor.proofs.Got.{item_found}
