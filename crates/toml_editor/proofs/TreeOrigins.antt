@@ -73,7 +73,7 @@ line_outline_is_new l = by l.expr
 
 -- ---- as many as the tree's
 
-count_gap_lines : (at : Address) (ls : List GapLine) → length (gap_lines_origins ls) ≡ length (gap_line_units at ls)
+pub count_gap_lines : (at : Address) (ls : List GapLine) → length (gap_lines_origins ls) ≡ length (gap_line_units at ls)
 count_gap_lines at [] = refl
 count_gap_lines at (l ∷ ls) = by l.blank.comment (count_gap_lines at ls)
   where

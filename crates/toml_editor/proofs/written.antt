@@ -36,6 +36,7 @@ pub mod OriginsOne
 pub mod OriginsPut
 pub mod OriginsTaken
 pub mod OuterPairs
+pub mod PairsClear
 pub mod Pairwise
 pub mod Plain
 pub mod Profiled

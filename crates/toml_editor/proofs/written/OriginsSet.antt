@@ -29,6 +29,7 @@ use Rattle.toml_editor.proofs.NumberedOutlines.{count_all_new}
 use Rattle.toml_editor.proofs.written.Alike.{alike_self, each_from}
 use Rattle.toml_editor.proofs.written.OriginsCounted.{count_one}
 use Rattle.toml_editor.proofs.written.OriginsSetInside.{count_value, tail_still, holding, in_value}
+use Rattle.toml_editor.proofs.written.PairsClear.{end_clear, plain_values}
 use Rattle.toml_editor.proofs.written.SetAlong.{Goes, goes_append, Stays, all_stay}
 use Rattle.toml_editor.proofs.written.SetKept.{values_at}
 use Rattle.toml_editor.proofs.written.SetNamed.{end_not_above, one_line, root_apart}
@@ -59,10 +60,6 @@ count_comment at m b is = by m b.comment is
         let e : as_new m ≡ begun q.text = cc in
         sym (count_all_new m.origins) ∙ ap (λ (x : Marked). length x.origins) e
 
-values_map : (p : Address) (ms : List Named) → AreValuesAt p ms → AreValuesAt p (map (shifted 0 []) ms)
-values_map p [] values = tt
-values_map p (m ∷ ms) values = (values.0, values_map p ms values.1)
-
 module _ (p : Address) (new : Value) where
   abbrev nv : ValueOutline
   nv = value_outline new
@@ -79,11 +76,6 @@ module _ (p : Address) (new : Value) where
   line_still : (xs : List Named) (e : Expr) (b : Blank) → ¬ (own_address xs e ≡ Some p) → Still (line_unit xs e ∷ tail_units (own_address xs e) b)
   line_still xs e b apart = (((λ lies. true≢false (sym lies.0)), (λ holds. apart holds.0)), tail_still p new (own_address xs e) b.comment)
 
-  header_clear : (ns : Key) (n : List ℕ) (line : ℕ) (xs : List Named) (e : Address → List Named) (at : Address) → AreClear p (followed line xs e at (n ∷ ns))
-      → AreClear p (e (header_end xs at (n ∷ ns)))
-  header_clear [] n line xs e at all = all
-  header_clear (m ∷ ns) n line xs e at all = header_clear ns m line xs e (entered xs (child at n)) all.1
-
   -- it stays, and its outline
   still : (xs : List Named) (l : Line) (s : Standing) → standing_as_new s ≡ line_stands xs l → s.base ≡ None → Still (line_units xs l.expr)
       → Here (line_units xs l.expr) (line_origins s.outline) (line_origins (set_standing p nv s).outline)
@@ -92,9 +84,6 @@ module _ (p : Address) (new : Value) where
       (all_stay p (value_origins nv) (line_units xs l.expr) (line_origins s.outline) each (count_one s xs l is))
 
   -- ---- a line with a value
-
-  plain_values : (n : ℕ) (to : Address) (v : Value) → AreValuesAt p (mentions.inside n to v) → AreValuesAt p (mentions.inside 0 to v)
-  plain_values n to v values = subst (AreValuesAt p) (sym (inside_moves 0 n v [] to)) (values_map p (mentions.inside n to v) values)
 
   keyed : (xs : List Named) (n : ℕ) (ws : Piece) (k : KeyVal) (b : Blank) (newline : Piece) (l : LineOutline)
       → line_as_new l ≡ line_outline (record { expr = KeyValLine ws k b; newline = newline }) → IsClear p (section xs)
@@ -128,7 +117,7 @@ module _ (p : Address) (new : Value) where
           let value : value_as_new m ≡ value_outline k.value = cc in
           let far = end_not_above p new n (rest_names k.assign.key.rest) (part_name k.assign.key.first) (section xs) clear front in
           let own = holding p new (line_unit xs (KeyValLine ws k b)) k.value m to refl refl far (count_value m k.value to value)
-          (λ there. in_value p new k.value m to value there (plain_values n to k.value rest.1)) begins.first in
+          (λ there. in_value p new k.value m to value there (plain_values p new n to k.value rest.1)) begins.first in
           subst (λ (os : Origins). Here (line_units xs (KeyValLine ws k b)) (os ++ (value_origins m ++ origins_if l.comment))
           (os ++ (value_origins (set_outline p nv to m) ++ origins_if l.comment))) (sym begins.is)
           (goes_append p (value_origins nv) (line_unit xs (KeyValLine ws k b) ∷ inside to k.value) (tail_units (Some to) b)
@@ -154,13 +143,13 @@ module _ (p : Address) (new : Value) where
           (keyed xs n ws k b l.newline s.outline (ap (λ (t : Standing). t.outline) is) clear (each_back _ xs (pair_named n (section xs) k.assign k.value) values))
       by (TableLine ws h b) is values =
           let all = headers_are_clear p xs n (TableLine ws h b) (root_apart p new (section xs) clear) tt values in
-          let there = (header_clear (rest_names h.key.rest) (part_name h.key.first) n xs (ends_table n) [] all).0 in
+          let there = (end_clear p new (rest_names h.key.rest) (part_name h.key.first) n xs (ends_table n) [] all).0 in
           still xs (record { expr = TableLine ws h b; newline = l.newline }) s is (base (TableLine ws h b) is)
           (line_still xs (TableLine ws h b) b (λ e. let f : p ≡ header_end xs [] (key_names h.key) = cc in there.apart f))
       by (ArrayTableLine ws h b) is values =
           let at = header_end xs [] (key_names h.key) in
           let all = headers_are_clear p xs n (ArrayTableLine ws h b) (root_apart p new (section xs) clear) tt values in
-          let there = (header_clear (rest_names h.key.rest) (part_name h.key.first) n xs (ends_tables n xs) [] all).1.0 in
+          let there = (end_clear p new (rest_names h.key.rest) (part_name h.key.first) n xs (ends_tables n xs) [] all).1.0 in
           still xs (record { expr = ArrayTableLine ws h b; newline = l.newline }) s is (base (ArrayTableLine ws h b) is)
           (line_still xs (ArrayTableLine ws h b) b (λ e. let f : p ≡ element at (count_tables xs at) = cc in there.apart f))
 

@@ -23,8 +23,9 @@ use Rattle.toml_editor.specs.TreeOutlines.{comment_origin, gap_lines_origins, ga
 use Rattle.toml_editor.proofs.Each.{each_append, each_front, each_back}
 use Rattle.toml_editor.proofs.NumberedOutlines.{count_all_new, value_origins_new}
 use Rattle.toml_editor.proofs.SetOutlined.{names_outlined}
-use Rattle.toml_editor.proofs.TreeOrigins.{count_inside}
+use Rattle.toml_editor.proofs.TreeOrigins.{count_gap_lines, count_inside}
 use Rattle.toml_editor.proofs.written.Clear.{same_is, self}
+use Rattle.toml_editor.proofs.written.PairsClear.{pair_end, pair_rest}
 use Rattle.toml_editor.proofs.written.SetAlong.{Goes, goes_append, Stays, all_stay, all_go}
 use Rattle.toml_editor.proofs.written.SetNamed.{end_not_above}
 use Rattle.toml_editor.proofs.written.UnitsGone.{value_in}
@@ -32,17 +33,8 @@ use Rattle.toml_editor.proofs.written.UnitsIn.{of_element, of_pair}
 
 -- ---- as many origins as units
 
-count_gap : (at : Address) (ls : List GapLine) → length (gap_lines_origins ls) ≡ length (gap_line_units at ls)
-count_gap at [] = refl
-count_gap at (l ∷ ls) = by l.blank.comment (count_gap at ls)
-  where
-    by : (c : Option Piece) → length (gap_lines_origins ls) ≡ length (gap_line_units at ls)
-        → length (comment_origin c ++ gap_lines_origins ls) ≡ length (comment_units kinds.InnerComment (Some at) c ++ gap_line_units at ls)
-    by None more = more
-    by (Some p) more = ap suc more
-
 count_marked : (m : Marked) (g : Gap) (at : Address) → as_new m ≡ gap_outline g → length m.origins ≡ length (gap_units at g)
-count_marked m g at is = sym (count_all_new m.origins) ∙ ap (λ (x : Marked). length x.origins) is ∙ count_gap at g.lines
+count_marked m g at is = sym (count_all_new m.origins) ∙ ap (λ (x : Marked). length x.origins) is ∙ count_gap_lines at g.lines
 
 pub count_value : (m : ValueOutline) (v : Value) (at : Address) → value_as_new m ≡ value_outline v → length (value_origins m) ≡ length (inside at v)
 count_value m v at is =
@@ -117,7 +109,7 @@ module _ (p : Address) (new : Value) where
       let m = parted before.origins (gap_lines_origins g.lines) (ap (λ (x : Marked). x.origins) first) in
       let behind = glue (gap_units at h) rest after.origins ps after.origins then (gap h after at clear second) more in
       let own = glue us (gap_units at h ++ rest) (m.last ∷ os) (after.origins ++ ps) (m.last ∷ now) (after.origins ++ then) (this m.last) behind in
-      let front = stay (gap_units at g) m.front (gap_still g.lines at clear) (m.count ∙ count_gap at g.lines) in
+      let front = stay (gap_units at g) m.front (gap_still g.lines at clear) (m.count ∙ count_gap_lines at g.lines) in
       let whole = glue (gap_units at g) (us ++ (gap_units at h ++ rest)) m.front (m.last ∷ (os ++ (after.origins ++ ps))) m.front (m.last ∷ (now ++ (after.origins ++ then))) front own in
       subst₂ (Here (gap_units at g ++ (us ++ (gap_units at h ++ rest))))
       (sym (append_assoc m.front (m.last ∷ []) (os ++ (after.origins ++ ps))) ∙ ap (λ l. l ++ (os ++ (after.origins ++ ps))) (sym m.is))
@@ -171,16 +163,6 @@ module _ (p : Address) (new : Value) where
             within clear,
           ))
 
-  pair_end : (a : Assign) (v : Value) (at : Address) → IsClear p at → AreValuesAt p (pair_named 0 at a v) → ¬ IsAbove p (below at (key_names a.key))
-  pair_end a v at clear values =
-      let to = below at (key_names a.key) in
-      end_not_above p new 0 (rest_names a.key.rest) (part_name a.key.first) at clear (each_front _ (fronts 0 at (key_names a.key)) (value_named 0 Valued to v ∷ mentions.inside 0 to v) values)
-
-  pair_rest : (a : Assign) (v : Value) (at : Address) → AreValuesAt p (pair_named 0 at a v) → AreValuesAt p (mentions.inside 0 (below at (key_names a.key)) v)
-  pair_rest a v at values =
-      let to = below at (key_names a.key) in
-      (each_back _ (fronts 0 at (key_names a.key)) (value_named 0 Valued to v ∷ mentions.inside 0 to v) values).1
-
   -- a pair, by the names of its outline
   a_pair : (a : Assign) (v : Value) (b : outline.AssignOutline) (m : ValueOutline) (at : Address) → b ≡ assign_outline a → value_as_new m ≡ value_outline v
       → IsClear p at → AreValuesAt p (pair_named 0 at a v)
@@ -189,7 +171,7 @@ module _ (p : Address) (new : Value) where
   a_pair a v b m at own is clear values within o =
       let to = below at (key_names a.key) in
       subst (λ ns. Here (of_pair at a v) (o ∷ value_origins m) (o ∷ value_origins (put (below at ns) m))) (sym (ap outlined_names own ∙ names_outlined a))
-      (holding (pair_unit at (record { assign = a; value = v })) v m to refl refl (pair_end a v at clear values) (count_value m v to is) within o)
+      (holding (pair_unit at (record { assign = a; value = v })) v m to refl refl (pair_end p new a v at clear values) (count_value m v to is) within o)
 
   -- ---- values
 
@@ -250,7 +232,7 @@ module _ (p : Address) (new : Value) where
         let value : value_as_new w ≡ value_outline v = cc in
         let second : as_new after ≡ gap_outline h = cc in
         at_end g h at (of_pair at a v) before after (value_origins w) (value_origins (put (below at (outlined_names b)) w)) clear first second
-        (a_pair a v b w at own value clear values (λ there. in_value v w (below at (key_names a.key)) value there (pair_rest a v at values)))
+        (a_pair a v b w at own value clear values (λ there. in_value v w (below at (key_names a.key)) value there (pair_rest p new a v at values)))
     in_pairs (MorePairs g a v h more) (End gap) at is clear values = cc
     in_pairs (MorePairs g a v h more) (Entry before None w after es) at is clear values = cc
     in_pairs (MorePairs g a v h more) (Entry before (Some b) w after es) at is clear values =
@@ -262,5 +244,5 @@ module _ (p : Address) (new : Value) where
         let these = each_front _ (pair_named 0 at a v) (mentions.members 0 at more) values in
         entry g h at (of_pair at a v) (members at more) before after (value_origins w) (value_origins (put (below at (outlined_names b)) w))
         (entries_origins es) (entries_origins (set_braced p nv at es)) clear first second
-        (a_pair a v b w at own value clear these (λ there. in_value v w (below at (key_names a.key)) value there (pair_rest a v at these)))
+        (a_pair a v b w at own value clear these (λ there. in_value v w (below at (key_names a.key)) value there (pair_rest p new a v at these)))
         (in_pairs more es at rest clear (each_back _ (pair_named 0 at a v) (mentions.members 0 at more) values))

@@ -35,6 +35,7 @@ use Rattle.toml_editor.proofs.written.AroundLines.{IsSoleLine, AreSoleLines, lin
 use Rattle.toml_editor.proofs.written.Clear.{same_is, self}
 use Rattle.toml_editor.proofs.written.Exchanged.{AreOld, value_left, behind_left, before_left}
 use Rattle.toml_editor.proofs.written.Made.{made_append}
+use Rattle.toml_editor.proofs.written.PairsClear.{end_clear, pair_end, pair_rest, plain_values}
 use Rattle.toml_editor.proofs.written.Pairwise.{Alone, pairs_of_all}
 use Rattle.toml_editor.proofs.written.SetKept.{values_at}
 use Rattle.toml_editor.proofs.written.SetNamed.{end_not_above, one_line, root_apart}
@@ -48,10 +49,6 @@ use Rattle.toml_editor.proofs.written.WayHeld.{held, lines_held, one_there_only}
 
 comment_is : (kind : UnitKind) → kind ≡ kinds.InnerComment → is_comment kind ≡ true
 comment_is kind is = ap is_comment is
-
-values_map : (p : Address) (ms : List Named) → AreValuesAt p ms → AreValuesAt p (map (shifted 0 []) ms)
-values_map p [] values = tt
-values_map p (m ∷ ms) values = (values.0, values_map p ms values.1)
 
 module _ (p : Address) (text : List ℕ) (IsOld : Value → Type 0) (new : Value) (formed : IsValue new) where
   abbrev c : Change
@@ -222,16 +219,6 @@ module _ (p : Address) (text : List ℕ) (IsOld : Value → Type 0) (new : Value
   abbrev put : Address → Value → Value
   put = set_value p new
 
-  pair_end : (a : Assign) (v : Value) (at : Address) → IsClear p at → AreValuesAt p (pair_named 0 at a v) → ¬ IsAbove p (below at (key_names a.key))
-  pair_end a v at clear values =
-      let to = below at (key_names a.key) in
-      end_not_above p new 0 (rest_names a.key.rest) (part_name a.key.first) at clear (each_front _ (fronts 0 at (key_names a.key)) (value_named 0 Valued to v ∷ mentions.inside 0 to v) values)
-
-  pair_rest : (a : Assign) (v : Value) (at : Address) → AreValuesAt p (pair_named 0 at a v) → AreValuesAt p (mentions.inside 0 (below at (key_names a.key)) v)
-  pair_rest a v at values =
-      let to = below at (key_names a.key) in
-      (each_back _ (fronts 0 at (key_names a.key)) (value_named 0 Valued to v ∷ mentions.inside 0 to v) values).1
-
   mutual
     in_value : (v : Value) (at : Address) → AreOld p IsOld new (λ o. StandsWithin p o at v) → IsValue v → IsSole p v at → IsClear p at → AreValuesAt p (mentions.inside 0 at v)
         → Made (inside at v) (inside at (set_within p new at v))
@@ -260,20 +247,16 @@ module _ (p : Address) (text : List ℕ) (IsOld : Value → Type 0) (new : Value
     in_pairs (LastPair g a v h) at old is sole clear values =
         let to = below at (key_names a.key) in
         at_end g h at (of_pair at a v) (of_pair at a (put to v)) clear
-        (a_pair a v at old is.2 sole.0 (pair_end a v at clear values) (λ there. in_value v to (λ o h. old o (inr h)) is.2 sole.1 there (pair_rest a v at values)))
+        (a_pair a v at old is.2 sole.0 (pair_end p new a v at clear values) (λ there. in_value v to (λ o h. old o (inr h)) is.2 sole.1 there (pair_rest p new a v at values)))
     in_pairs (MorePairs g a v h ps) at old is sole clear values =
         let to = below at (key_names a.key) in
         let these = each_front _ (pair_named 0 at a v) (mentions.members 0 at ps) values in
         between g h at (of_pair at a v) (of_pair at a (put to v)) (members at ps) (members at (set_pairs p new at ps)) clear
-        (a_pair a v at (λ o h. old o (inl h)) is.2 sole.0.0 (pair_end a v at clear these)
-        (λ there. in_value v to (λ o h. old o (inl (inr h))) is.2 sole.0.1 there (pair_rest a v at these)))
+        (a_pair a v at (λ o h. old o (inl h)) is.2 sole.0.0 (pair_end p new a v at clear these)
+        (λ there. in_value v to (λ o h. old o (inl (inr h))) is.2 sole.0.1 there (pair_rest p new a v at these)))
         (in_pairs ps at (λ o h. old o (inr h)) is.4 sole.1 clear (each_back _ (pair_named 0 at a v) (mentions.members 0 at ps) values))
 
   -- ---- lines
-
-  -- what a value names is at the same addresses, in the same roles, whatever its line
-  plain_values : (n : ℕ) (to : Address) (v : Value) → AreValuesAt p (mentions.inside n to v) → AreValuesAt p (mentions.inside 0 to v)
-  plain_values n to v values = subst (AreValuesAt p) (sym (inside_moves 0 n v [] to)) (values_map p (mentions.inside n to v) values)
 
   abbrev line_piece : Piece → Assign → Blank → Value → Piece
   line_piece ws a b v = expr_piece (KeyValLine ws (record { assign = a; value = v }) b)
@@ -334,10 +317,6 @@ module _ (p : Address) (text : List ℕ) (IsOld : Value → Type 0) (new : Value
         tail at clear.not_above o,
       )
 
-  end_clear : (ns : Key) (n : List ℕ) (line : ℕ) (xs : List Named) (e : Address → List Named) (at : Address) → AreClear p (followed line xs e at (n ∷ ns)) → AreClear p (e (header_end xs at (n ∷ ns)))
-  end_clear [] n line xs e at all = all
-  end_clear (m ∷ ns) n line xs e at all = end_clear ns m line xs e (entered xs (child at n)) all.1
-
   in_line : (xs : List Named) (n : ℕ) (e : Expr) → AreOld p IsOld new (λ o. StandsOnLine p o (section xs) e) → IsExpr e → IsSoleLine p xs e → IsClear p (section xs)
       → AreValuesAt p (xs ++ named_by xs n e) → Made (line_units xs e) (line_units xs (set_expr p new (section xs) e))
   in_line xs n (BlankLine b) old is sole clear values =
@@ -373,15 +352,15 @@ module _ (p : Address) (text : List ℕ) (IsOld : Value → Type 0) (new : Value
       (λ line not. ap (λ t. ws.text ++ t) (both_texts (keyval_parts (record { assign = kv.assign; value = set_within p new to kv.value })) (keyval_parts kv) (blank_parts b) (blank_parts b)
       (both_texts (assign_parts kv.assign) (assign_parts kv.assign) (value_parts (set_within p new to kv.value)) (value_parts kv.value) refl (within_text p new kv.value to is.1.1 (λ above. not (inr (inl above))))) refl))
       (λ other line changed. line_exchanges ws kv.assign kv.value b to (λ o there. old o (inr there)) (sole.0 (changed_above to (length at) other changed)))
-      (λ there. in_value kv.value to (λ o h. old o (inr h)) is.1.1 sole.1 there (plain_values n to kv.value rest.1)))
+      (λ there. in_value kv.value to (λ o h. old o (inr h)) is.1.1 sole.1 there (plain_values p new n to kv.value rest.1)))
       (tail to far b.comment)
   in_line xs n (TableLine ws h b) old is sole clear values =
       let all = headers_are_clear p xs n (TableLine ws h b) (root_apart p new (section xs) clear) tt values in
-      same_line (TableLine ws h b) (header_end xs [] (key_names h.key)) b.comment (end_clear (rest_names h.key.rest) (part_name h.key.first) n xs (ends_table n) [] all).0
+      same_line (TableLine ws h b) (header_end xs [] (key_names h.key)) b.comment (end_clear p new (rest_names h.key.rest) (part_name h.key.first) n xs (ends_table n) [] all).0
   in_line xs n (ArrayTableLine ws h b) old is sole clear values =
       let at = header_end xs [] (key_names h.key) in
       let all = headers_are_clear p xs n (ArrayTableLine ws h b) (root_apart p new (section xs) clear) tt values in
-      same_line (ArrayTableLine ws h b) (element at (count_tables xs at)) b.comment (end_clear (rest_names h.key.rest) (part_name h.key.first) n xs (ends_tables n xs) [] all).1.0
+      same_line (ArrayTableLine ws h b) (element at (count_tables xs at)) b.comment (end_clear p new (rest_names h.key.rest) (part_name h.key.first) n xs (ends_tables n xs) [] all).1.0
 
   in_lines : (ls : List Line) (xs ys : List Named) (n : ℕ) → AreOld p IsOld new (λ o. StandsFrom p o xs n ls) → EachIs (λ l. IsExpr l.expr) ls → AreSoleLines p ls xs n
       → AreAlike xs ys
