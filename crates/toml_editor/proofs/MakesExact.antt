@@ -19,9 +19,9 @@ use Rattle.toml_editor.specs.declared.working.Tree.{Tree}
 use Rattle.toml_editor.specs.CertifiedLists.{ArePlain}
 use Rattle.toml_editor.specs.Edited.{MayBeSpread, Places, TakesLastElement}
 use Rattle.toml_editor.specs.EditStanding.{EditsStanding, EditAllStanding}
-use Rattle.toml_editor.specs.Exact.{Follows, IsAt, IsNotPlain, IsNotPlainAt, MakesAll, MakesOne, OfPlain, OfNoPlace, PassesAll, PassesAt, PassesOne, Stops, WritesEdit, style}
+use Rattle.toml_editor.specs.Exact.{Follows, IsAt, IsNotPlain, IsNotPlainAt, IsSpreadOn, MakesAll, MakesOne, OfPlain, OfNoPlace, PassesAll, PassesAt, PassesOne, SetsMany, Stops, WritesEdit, style}
 use Rattle.toml_editor.specs.Making.{TellsOne}
-use Rattle.toml_editor.specs.PlainTexts.{IsPlainOn, IsSpreadOn, SetsMany}
+use Rattle.toml_editor.specs.PlainTexts.{IsPlainOn}
 use Rattle.toml_editor.specs.Standing.{Read, Standing, slots_standing}
 use Rattle.toml_editor.specs.Steps.{AreWritten}
 use Rattle.toml_editor.specs.Written.{IsWritten}

@@ -22,8 +22,8 @@ use Rattle.toml_editor.specs.declared.fault.EditorFault.{EditorFault}
 use Rattle.toml_editor.specs.declared.fault.EditorFault.TheVariants as faults
 use Rattle.toml_editor.specs.declared.working.Tree.{Tree}
 use Rattle.toml_editor.specs.CertifiedLists.{ArePlain}
-use Rattle.toml_editor.specs.Exact.{IsAt, IsNotPlainAt, OfNumber, OfPlain, OfNoPlaceAt, PassesAll, PassesAt, Stops, style}
-use Rattle.toml_editor.specs.PlainTexts.{AfterPlain, IsNoPlainEdit, IsPlainOn, IsSpreadOn, NoSpreadSet}
+use Rattle.toml_editor.specs.Exact.{IsAt, IsNotPlainAt, IsSpreadOn, OfNumber, OfPlain, OfNoPlaceAt, PassesAll, PassesAt, Stops, style}
+use Rattle.toml_editor.specs.PlainTexts.{AfterPlain, IsNoPlainEdit, IsPlainOn, IsSpreadSet, NoSpreadSet}
 use Rattle.toml_editor.specs.Standing.{Read, standing}
 use Rattle.toml_editor.specs.Stands.{StandFor}
 use Rattle.toml_editor.specs.Starting.{NoneIsGone}
@@ -31,6 +31,8 @@ use Rattle.toml_editor.specs.Steps.{AreWritten, IsGoodText}
 use Rattle.toml_editor.specs.Written.{style_of}
 use Rattle.toml_editor.proofs.NearFaults.{near_front, near_one, place_shown}
 use Rattle.toml_editor.proofs.written.Elsewhere.{style_is_newline}
+use Rattle.toml_editor.proofs.written.ScalarsLone.{sets_many}
+use Rattle.toml_editor.proofs.written.Steps.{plain_steps}
 
 module _ (profile : Profile) (read : Read) (d : Doc) (before : List ℕ) (tree : Tree) (document : IsDocumentIn profile before)
     (spelled : Spells d before) (stands : StandFor before read tree.slots.items (standing d.lines)) (texts : text_of tree.texts.source ≡ before)
@@ -46,13 +48,16 @@ module _ (profile : Profile) (read : Read) (d : Doc) (before : List ℕ) (tree :
     facts = facts;
   }
 
+  newline : IsNewline (style_of d.lines)
+  newline = style_is_newline d.lines spelled.lines.forms
+
   -- at first the tree stands for the text
   abbrev at : (old : Kinds) → IsDataOf (named d.lines) old → IsAt profile read tree before old
   at old facts = record {
     good = good_at old facts;
     stands = subst (λ t. StandFor t read tree.slots.items (standing d.lines)) (sym texts) stands;
     whole = whole;
-    newline = subst IsNewline (sym styled) (style_is_newline d.lines spelled.lines.forms);
+    newline = subst IsNewline (sym styled) newline;
   }
 
   -- what is so of the texts for which the tree stands is so of the text
@@ -83,14 +88,16 @@ module _ (profile : Profile) (read : Read) (d : Doc) (before : List ℕ) (tree :
 
   module _ (hidden : Cover) (cs : List Change) (are : AreNear hidden cs) (old : Kinds) (facts : IsDataOf (named d.lines) old) (part : Kinds)
       (of : (a : _) → part a ≡ near hidden old a) where
-    passes_text : (k : ℕ) → PassesAt profile read cs part tree k → AfterPlain profile before cs d k (λ c text kinds. ¬ IsSpreadOn profile text c kinds)
-    passes_text k (near_k, led, holds) c is other mid now other_facts lead none is_after plain between written =
+    passes_text : (k : ℕ) → PassesAt profile read cs part tree k → AfterPlain profile before cs d k (λ c text kinds. ¬ IsSpreadSet profile text c)
+    passes_text k (near_k, led, holds) c is other mid now other_facts lead none is_after plain between written spread =
         let same_old : other ≡ old = fun_ext (one_data (named d.lines) other old other_facts facts) in
         let all = leads_beside profile hidden (take k cs) old part near_k (near_front hidden k cs are) of led in
         let mid_is : mid (place c) ≡ beside hidden old near_k (place c) =
         one_lead profile (take k cs) old mid (beside hidden old near_k) (subst (λ o. Lead profile (take k cs) o mid) same_old lead) all (place c) in
+        let good = plain_steps profile (take k cs) (style_of d.lines) before between other mid newline (good_at other other_facts) lead written in
         after_plain cs k (λ e text kinds. near_k (place e) ≡ kinds (place e) → ¬ IsSpreadOn profile text e kinds) holds c is other mid now other_facts lead
         none is_after plain between written (place_shown hidden c old near_k (near_one hidden k cs c is are) ∙ sym mid_is)
+        (sets_many profile between mid c good.0 none spread, spread)
 
     pub no_spread_set : (n : ℕ) → PassesAll profile read cs part n tree → NoSpreadSet profile before cs n
     no_spread_set n passes = (d, spelled, (λ k low. passes_text k (passes k low)))

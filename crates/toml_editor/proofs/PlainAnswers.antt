@@ -24,7 +24,7 @@ use Rattle.toml_checker.specs.Documents.{OfTree, OfData, AreDefined}
 use Rattle.toml_editor.specs.CertifiedLists.{ArePlain}
 use Rattle.toml_editor.specs.Edited.{MayBeSpread, OfDefined, OnDataSoFar, SoFar, Tells, TakesLastElement}
 use Rattle.toml_editor.specs.PlainAnswers.{FirstFaultIsAnswered, FirstSpreadIsAnswered, IsAnswer, IsFaultOrMemory, LongIsAnswered, PlainIsAnswered, PlainSoFar}
-use Rattle.toml_editor.specs.PlainTexts.{AfterPlain, IsNoPlainEdit, IsNoPlainList, IsPlainOn, IsSpreadOn, NoSpreadSet, SetsMany, WritesPlain}
+use Rattle.toml_editor.specs.PlainTexts.{AfterPlain, IsNoPlainEdit, IsNoPlainList, IsPlainOn, IsSpreadSet, NoSpreadSet, WritesPlain}
 use Rattle.toml_editor.specs.Steps.{AreWritten}
 use Rattle.toml_editor.specs.Written.{style_of}
 use Rattle.toml_editor.specs.declared.fault.EditorFault.{EditorFault}
@@ -279,28 +279,37 @@ module _ (profile : Profile) (before : List ℕ) (cs : List Change) (n : ℕ) (b
   faulty_is_answered fault h (Err (faults.Unverified r)) told = absurd (not_defined fault h told.0.1)
   faulty_is_answered fault h (Err faults.NoMemory) told = inr refl
 
-  module _ (now : Kinds) (none : IsFault profile c mid None) (is_after : IsAfter profile c mid now) (spread : IsSpreadOn profile between c mid) where
-    passed : (m : ℕ) → n < m → NoSpreadSet profile before cs m → ⊥
-    passed m less none_spread =
+  module _ (none : IsFault profile c mid None) (spread : IsSpreadSet profile between c) where
+    -- where the edits up to a later one lead on, it is told that none sets what is spread
+    passed : (m : ℕ) (there : Kinds) → Lead profile (take m cs) old there → n < m → NoSpreadSet profile before cs m → ⊥
+    passed m there lead less none_spread =
+        let at = defined_at profile cs m n old there c lead less is in
         of_tree profile before cs n between mid so_far
-        (λ x. (k : ℕ) → k < m → AfterPlain profile before cs x k (λ y text kinds. ¬ IsSpreadOn profile text y kinds)) none_spread n less c is old mid now so_far.facts
-        so_far.lead none is_after so_far.plain between so_far.written spread
+        (λ x. (k : ℕ) → k < m → AfterPlain profile before cs x k (λ y text kinds. ¬ IsSpreadSet profile text y)) none_spread n less c is old at.mid at.next so_far.facts
+        at.lead at.none at.is_after so_far.plain between so_far.written spread
 
-    passed_all : NoSpreadSet profile before cs (length cs) → ⊥
-    passed_all = passed (length cs) (slice_get_within cs n c is)
+    passed_all : OfData before (AreDefined profile cs) → NoSpreadSet profile before cs (length cs) → ⊥
+    passed_all defined =
+        let (new, lead) = of_data profile before cs n between mid so_far (AreDefined profile cs) defined in
+        passed (length cs) new (subst (λ ds. Lead profile ds old new) (sym (take_all (length cs) cs (omega arith))) lead) (slice_get_within cs n c is)
+
+    passed_at : (j : ℕ) (P : Change → Kinds → Type 0) → OnDataSoFar profile before cs j P → n < j → NoSpreadSet profile before cs j → ⊥
+    passed_at j P on =
+        let (there, lead, x, x_is, holds) = of_data profile before cs n between mid so_far (λ k. SoFar profile cs k j P) on in
+        passed j there lead
 
     -- an edit that sets takes no last element
-    takes_none : (x : Change) → SetsMany x mid → TakesLastElement x mid → ⊥
-    takes_none (edits.set p text) many takes = takes
-    takes_none (edits.insert p text) many takes = many
-    takes_none (edits.rename p to) many takes = many
-    takes_none (edits.remove p) many takes = many
-    takes_none (edits.new_section p) many takes = many
-    takes_none (edits.new_element p) many takes = many
+    takes_none : (x : Change) → IsSpreadSet profile between x → TakesLastElement x mid → ⊥
+    takes_none (edits.set p text) sets takes = takes
+    takes_none (edits.insert p text) sets takes = sets
+    takes_none (edits.rename p to) sets takes = sets
+    takes_none (edits.remove p) sets takes = sets
+    takes_none (edits.new_section p) sets takes = sets
+    takes_none (edits.new_element p) sets takes = sets
 
     spread_is_answered : (answer : Result (List ℕ × List (ℕ × ℕ)) EditorFault) → IsAnswer profile before cs answer
         → IsFaultOrMemory (faults.Spread n) answer
-    spread_is_answered (Ok (text, pairs)) told = absurd (passed_all told.passed)
+    spread_is_answered (Ok (text, pairs)) told = absurd (passed_all told.certified.defined told.passed)
     spread_is_answered (Err (faults.Text f)) told = absurd (told.0 so_far.document)
     spread_is_answered (Err (faults.Syntax f)) told = absurd (told.0 so_far.document)
     spread_is_answered (Err (faults.Names f)) told = absurd (told.0 so_far.document)
@@ -315,7 +324,7 @@ module _ (profile : Profile) (before : List ℕ) (cs : List Change) (n : ℕ) (b
             let h = here (λ x kinds. IsFault profile x kinds (Some f))
             (subst (λ k. OnDataSoFar profile before cs k (λ x kinds. IsFault profile x kinds (Some f))) same told.1) in
             absurd (none f h.0)
-        by (inr (inr high)) = absurd (passed j high told.2)
+        by (inr (inr high)) = absurd (passed_at j (λ x kinds. IsFault profile x kinds (Some f)) told.1 high told.2)
     spread_is_answered (Err (faults.Spread j)) told = by (compare j n)
       where
         by : (j < n) ⊎ (j ≡ n) ⊎ (n < j) → IsFaultOrMemory (faults.Spread n) (Err (faults.Spread j))
@@ -323,7 +332,7 @@ module _ (profile : Profile) (before : List ℕ) (cs : List Change) (n : ℕ) (b
             let (x, x_is) = edit_at profile before cs j (OfDefined profile (MayBeSpread (place (named told.1.0.lines)) j)) told.1.2 in
             absurd (no_spread_before profile before cs n between mid so_far j x x_is low told.2)
         by (inr (inl same)) = inl (ap (λ k. Err (faults.Spread k)) same)
-        by (inr (inr high)) = absurd (passed j high told.3)
+        by (inr (inr high)) = absurd (passed_at j (OfDefined profile (MayBeSpread (place (named told.1.0.lines)) j)) told.1.2 high told.3)
     spread_is_answered (Err (faults.LastElement j)) told = by (compare j n)
       where
         by : (j < n) ⊎ (j ≡ n) ⊎ (n < j) → IsFaultOrMemory (faults.Spread n) (Err (faults.LastElement j))
@@ -332,15 +341,15 @@ module _ (profile : Profile) (before : List ℕ) (cs : List Change) (n : ℕ) (b
             absurd (no_spread_before profile before cs n between mid so_far j x x_is low told.2)
         by (inr (inl same)) =
             let takes = here (OfDefined profile TakesLastElement) (subst (λ k. OnDataSoFar profile before cs k (OfDefined profile TakesLastElement)) same told.1) in
-            absurd (takes_none c spread.0 takes.1)
-        by (inr (inr high)) = absurd (passed j high told.3)
-    spread_is_answered (Err faults.TooLong) told = absurd (passed_all told.2)
-    spread_is_answered (Err (faults.Unverified r)) told = absurd (passed_all told.2)
+            absurd (takes_none c spread takes.1)
+        by (inr (inr high)) = absurd (passed_at j (OfDefined profile TakesLastElement) told.1 high told.3)
+    spread_is_answered (Err faults.TooLong) told = absurd (passed_all told.0.1 told.2)
+    spread_is_answered (Err (faults.Unverified r)) told = absurd (passed_all told.0.1 told.2)
     spread_is_answered (Err faults.NoMemory) told = inr refl
 
 pub first_fault_is_answered : FirstFaultIsAnswered
 first_fault_is_answered profile before cs n between mid so_far c is fault h = faulty_is_answered profile before cs n between mid so_far c is fault h
 
 pub first_spread_is_answered : FirstSpreadIsAnswered
-first_spread_is_answered profile before cs n between mid now so_far c is none is_after spread =
-    spread_is_answered profile before cs n between mid so_far c is now none is_after spread
+first_spread_is_answered profile before cs n between mid so_far c is none spread =
+    spread_is_answered profile before cs n between mid so_far c is none spread

@@ -1,5 +1,5 @@
 -- What the making of plain edits gives: the working tree stands for the text that they write.
-use Rattle.std.specs.Prelude.{◌≡◌, ◌<◌, ℕ, Bool, List, take, Some, None, slice_get}
+use Rattle.std.specs.Prelude.{◌≡◌, ◌⊎◌, ◌<◌, ℕ, Bool, List, take, Some, None, slice_get}
 use Rattle.std.specs.declared.alloc.Global.{Global}
 use Rattle.std.specs.declared.string.String.{String}
 use Rattle.toml_text.specs.Forms.{IsNewline}
@@ -9,6 +9,7 @@ use Rattle.toml_scalar.specs.Spelling.{spelled}
 use Rattle.toml_tree.specs.Profiles.{IsValueIn}
 use Rattle.toml_tree.specs.Tree.{Value}
 use Rattle.toml_tree.specs.declared.profile.Profile.{Profile}
+use Rattle.toml_names.specs.mentions.Mentions.{a_table, an_array}
 use Rattle.toml_names.specs.model.Addresses.{Address}
 use Rattle.toml_names.specs.model.Data.{Kinds}
 use Rattle.toml_edits.specs.After.{IsAfter}
@@ -22,7 +23,7 @@ use Rattle.toml_editor.specs.Becoming.{RenamesLines}
 use Rattle.toml_editor.specs.CertifiedLists.{ArePlain}
 use Rattle.toml_editor.specs.EditStanding.{EditsStanding, EditAllStanding}
 use Rattle.toml_editor.specs.OpenOutlines.{leaf_text}
-use Rattle.toml_editor.specs.PlainTexts.{IsPlainOn, IsSpreadOn}
+use Rattle.toml_editor.specs.PlainTexts.{IsPlainOn, IsSpreadSet}
 use Rattle.toml_editor.specs.Putting.{InsertsLines}
 use Rattle.toml_editor.specs.RemovingIn.{RemovesLines}
 use Rattle.toml_editor.specs.SpelledEdits.{AreSteps}
@@ -110,6 +111,15 @@ abbrev pub OfNoPlace : Type 0 → EditorFault → Type 0
 OfNoPlace P (Spread i) = P
 OfNoPlace P (LastElement i) = P
 OfNoPlace P _ = Unit {0}
+
+-- it sets what is a table or an array
+abbrev pub SetsMany : Change → Kinds → Type 0
+SetsMany (set p value) kinds = (kinds p ≡ Some a_table) ⊎ (kinds p ≡ Some an_array)
+SetsMany _ kinds = ⊥
+
+-- and there the text has no one value: it is spread over lines
+abbrev pub IsSpreadOn : Profile → List ℕ → Change → Kinds → Type 0
+IsSpreadOn profile text c kinds = SetsMany c kinds × IsSpreadSet profile text c
 
 -- The tree stands for no text on which the edit, without a fault, sets what is spread. Of the data those are known that are near the
 -- edit.

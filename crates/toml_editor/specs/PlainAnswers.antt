@@ -8,11 +8,10 @@ use Rattle.toml_names.specs.model.Documents.{IsDocumentIn}
 use Rattle.toml_edits.specs.declared.fault.EditFault.{EditFault}
 use Rattle.toml_edits.specs.Edits.{Change}
 use Rattle.toml_edits.specs.Faults.{IsFault}
-use Rattle.toml_edits.specs.After.{IsAfter}
 use Rattle.toml_edits.specs.Lists.{Lead}
 use Rattle.toml_editor.specs.CertifiedLists.{ArePlain}
 use Rattle.toml_editor.specs.Edited.{IsEdited, Tells}
-use Rattle.toml_editor.specs.PlainTexts.{IsSpreadOn}
+use Rattle.toml_editor.specs.PlainTexts.{IsSpreadSet}
 use Rattle.toml_editor.specs.Steps.{AreWritten}
 use Rattle.toml_editor.specs.Written.{style_of}
 use Rattle.toml_editor.specs.declared.fault.EditorFault.{EditorFault}
@@ -39,24 +38,26 @@ IsFaultOrMemory fault answer = (answer ≡ Err fault) ⊎ (answer ≡ Err NoMemo
 
 -- Laws, want of memory aside. Where all edits are plain, the answer is the text that they write, if it is within the limit;
 abbrev pub PlainIsAnswered : Type 0
-PlainIsAnswered = (profile : Profile) (before : List ℕ) (cs : List Change) (after : List ℕ) (now : Kinds) → PlainSoFar profile before cs (length cs) after now
-    → length after ≤ max_len → (answer : Result (List ℕ × List (ℕ × ℕ)) EditorFault) → IsAnswer profile before cs answer
+PlainIsAnswered = (profile : Profile) (before : List ℕ) (cs : List Change) (after : List ℕ) (now : Kinds)
+    → PlainSoFar profile before cs (length cs) after now → length after ≤ max_len → (answer : Result (List ℕ × List (ℕ × ℕ)) EditorFault) → IsAnswer profile before cs answer
     → ((pairs : List (ℕ × ℕ)) × (answer ≡ Ok (after, pairs))) ⊎ (answer ≡ Err NoMemory)
 
 -- else that it is too long.
 abbrev pub LongIsAnswered : Type 0
-LongIsAnswered = (profile : Profile) (before : List ℕ) (cs : List Change) (after : List ℕ) (now : Kinds) → PlainSoFar profile before cs (length cs) after now
-    → max_len < length after → (answer : Result (List ℕ × List (ℕ × ℕ)) EditorFault) → IsAnswer profile before cs answer → IsFaultOrMemory TooLong answer
+LongIsAnswered = (profile : Profile) (before : List ℕ) (cs : List Change) (after : List ℕ) (now : Kinds)
+    → PlainSoFar profile before cs (length cs) after now → max_len < length after → (answer : Result (List ℕ × List (ℕ × ℕ)) EditorFault)
+    → IsAnswer profile before cs answer → IsFaultOrMemory TooLong answer
 
 -- Where the edits before one are plain, and it has a fault on the data so far, that is the answer, with its number;
 abbrev pub FirstFaultIsAnswered : Type 0
 FirstFaultIsAnswered = (profile : Profile) (before : List ℕ) (cs : List Change) (n : ℕ) (between : List ℕ) (mid : Kinds)
-    → PlainSoFar profile before cs n between mid → (c : Change) → slice_get cs n ≡ Some c → (fault : EditFault) → IsFault profile c mid (Some fault)
-    → (answer : Result (List ℕ × List (ℕ × ℕ)) EditorFault) → IsAnswer profile before cs answer → IsFaultOrMemory (Edit n fault) answer
+    → PlainSoFar profile before cs n between mid → (c : Change) → slice_get cs n ≡ Some c → (fault : EditFault)
+    → IsFault profile c mid (Some fault) → (answer : Result (List ℕ × List (ℕ × ℕ)) EditorFault) → IsAnswer profile before cs answer → IsFaultOrMemory (Edit n fault) answer
 
--- and where it is a `set` without a fault of a table or an array that is no single value, that its place is spread, with its number.
+-- and where it is a `set` without a fault of what the lines written so far have no one value for, that its place is spread, with its
+-- number.
 abbrev pub FirstSpreadIsAnswered : Type 0
-FirstSpreadIsAnswered = (profile : Profile) (before : List ℕ) (cs : List Change) (n : ℕ) (between : List ℕ) (mid now : Kinds)
-    → PlainSoFar profile before cs n between mid → (c : Change) → slice_get cs n ≡ Some c → IsFault profile c mid None → IsAfter profile c mid now
-    → IsSpreadOn profile between c mid
-    → (answer : Result (List ℕ × List (ℕ × ℕ)) EditorFault) → IsAnswer profile before cs answer → IsFaultOrMemory (Spread n) answer
+FirstSpreadIsAnswered = (profile : Profile) (before : List ℕ) (cs : List Change) (n : ℕ) (between : List ℕ) (mid : Kinds)
+    → PlainSoFar profile before cs n between mid → (c : Change) → slice_get cs n ≡ Some c → IsFault profile c mid None
+    → IsSpreadSet profile between c → (answer : Result (List ℕ × List (ℕ × ℕ)) EditorFault) → IsAnswer profile before cs answer
+    → IsFaultOrMemory (Spread n) answer

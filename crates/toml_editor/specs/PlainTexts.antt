@@ -1,13 +1,13 @@
 -- The text that is handed out of plain edits: the one that they write, byte for byte.
-use Rattle.std.specs.Prelude.{◌≡◌, ◌⊎◌, ◌<◌, ℕ, List, take, Some, None, slice_get}
+use Rattle.std.specs.Prelude.{◌≡◌, ◌<◌, ℕ, List, take, Some, None, slice_get}
 use Rattle.toml_tree.specs.Profiles.{SpellsIn}
 use Rattle.toml_tree.specs.Tree.{Doc}
 use Rattle.toml_tree.specs.declared.profile.Profile.{Profile}
-use Rattle.toml_names.specs.mentions.Mentions.{a_table, an_array, named}
+use Rattle.toml_names.specs.mentions.Mentions.{named}
 use Rattle.toml_names.specs.model.Data.{IsDataOf, Kinds}
 use Rattle.toml_checker.specs.Documents.{OfTree}
 use Rattle.toml_edits.specs.After.{IsAfter}
-use Rattle.toml_edits.specs.Edits.{Change, place, set}
+use Rattle.toml_edits.specs.Edits.{Change, set}
 use Rattle.toml_edits.specs.Faults.{IsFault}
 use Rattle.toml_edits.specs.Lists.{Lead}
 use Rattle.toml_editor.specs.CertifiedLists.{ArePlain}
@@ -28,14 +28,10 @@ IsNoPlainList profile before cs =
 abbrev pub IsPlainOn : Profile → List ℕ → Change → Type 0
 IsPlainOn profile text c = (d : Doc) → SpellsIn profile d text → IsPlain d.lines c
 
--- it sets what is a table or an array
-abbrev pub SetsMany : Change → Kinds → Type 0
-SetsMany (set p value) kinds = (kinds p ≡ Some a_table) ⊎ (kinds p ≡ Some an_array)
-SetsMany _ kinds = ⊥
-
--- and there the text has no one value: it is spread over lines
-abbrev pub IsSpreadOn : Profile → List ℕ → Change → Kinds → Type 0
-IsSpreadOn profile text c kinds = SetsMany c kinds × ((d : Doc) → SpellsIn profile d text → ¬ HasValue d.lines (place c))
+-- it sets an address where the lines of the text have no one value: what stands there is spread over several
+abbrev pub IsSpreadSet : Profile → List ℕ → Change → Type 0
+IsSpreadSet profile text (set p value) = (d : Doc) → SpellsIn profile d text → ¬ HasValue d.lines p
+IsSpreadSet profile text _ = ⊥
 
 -- So it is of the edit with this number, if there is one that is defined and those before it are plain: of the text that these write
 -- and of its data.
@@ -48,7 +44,7 @@ AfterPlain profile before cs d k P = (c : Change) → slice_get cs k ≡ Some c 
 -- of the first so many edits none, where those before it are plain, sets what is spread
 abbrev pub NoSpreadSet : Profile → List ℕ → List Change → ℕ → Type 0
 NoSpreadSet profile before cs n =
-    OfTree before (λ d. (k : ℕ) → k < n → AfterPlain profile before cs d k (λ c text kinds. ¬ IsSpreadOn profile text c kinds))
+    OfTree before (λ d. (k : ℕ) → k < n → AfterPlain profile before cs d k (λ c text kinds. ¬ IsSpreadSet profile text c))
 
 -- the edit with this number, where those before it are plain, is not
 abbrev pub IsNoPlainEdit : Profile → List ℕ → List Change → ℕ → Type 0
