@@ -28,6 +28,11 @@ fronts_lone line at [] = tt
 fronts_lone line at (n ∷ []) = tt
 fronts_lone line at (n ∷ m ∷ more) = ((λ v is. cc), fronts_lone line (child at n) (m ∷ more))
 
+pair_lone : (line : ℕ) (at : Address) (a : Assign) (v : Value) → EachIs IsLone (inside line (below at (key_names a.key)) v)
+    → EachIs IsLone (pair_named line at a v)
+pair_lone line at a v all =
+    each_append IsLone (fronts line at (key_names a.key)) _ (fronts_lone line at (key_names a.key)) ((λ w is. refl), all)
+
 mutual
   inside_lone : (line : ℕ) (at : Address) (v : Value) → EachIs IsLone (inside line at v)
   inside_lone line at (Scalar kind p) = tt
@@ -42,13 +47,9 @@ mutual
 
   members_lone : (line : ℕ) (at : Address) (pairs : Pairs) → EachIs IsLone (members line at pairs)
   members_lone line at (ClosePairs g) = tt
-  members_lone line at (LastPair g a v h) = pair_lone line at a v
-  members_lone line at (MorePairs g a v h ps) = each_append IsLone (pair_named line at a v) (members line at ps) (pair_lone line at a v) (members_lone line at ps)
-
-  pair_lone : (line : ℕ) (at : Address) (a : Assign) (v : Value) → EachIs IsLone (pair_named line at a v)
-  pair_lone line at a v =
-      each_append IsLone (fronts line at (key_names a.key)) _ (fronts_lone line at (key_names a.key))
-      ((λ w is. refl), inside_lone line (below at (key_names a.key)) v)
+  members_lone line at (LastPair g a v h) = pair_lone line at a v (inside_lone line (below at (key_names a.key)) v)
+  members_lone line at (MorePairs g a v h ps) =
+      each_append IsLone (pair_named line at a v) (members line at ps) (pair_lone line at a v (inside_lone line (below at (key_names a.key)) v)) (members_lone line at ps)
 
 followed_lone : (line : ℕ) (earlier : List Named) (end : Address → List Named) → ((at : Address) → EachIs IsLone (end at)) → (at : Address) (k : Key)
     → EachIs IsLone (followed line earlier end at k)
@@ -58,10 +59,12 @@ followed_lone line earlier end ends at (n ∷ m ∷ more) = ((λ v is. cc), foll
 
 by_lone : (earlier : List Named) (line : ℕ) (e : Expr) → EachIs IsLone (named_by earlier line e)
 by_lone earlier line (BlankLine b) = tt
-by_lone earlier line (KeyValLine ws pair tail) = pair_lone line (section earlier) pair.assign pair.value
+by_lone earlier line (KeyValLine ws pair tail) =
+    let at = section earlier in
+    pair_lone line at pair.assign pair.value (inside_lone line (below at (key_names pair.assign.key)) pair.value)
 by_lone earlier line (TableLine ws header tail) = followed_lone line earlier (ends_table line) (λ at. ((λ v is. cc), tt)) [] (key_names header.key)
 by_lone earlier line (ArrayTableLine ws header tail) =
-    followed_lone line earlier (ends_tables line earlier) (λ at. ((λ v is. cc), (λ v is. cc), tt)) [] (key_names header.key)
+    followed_lone line earlier (ends_tables line earlier) (λ at. ((λ v is. cc), ((λ v is. cc), tt))) [] (key_names header.key)
 
 from_lone : (ls : List Line) (earlier : List Named) (line : ℕ) → EachIs IsLone earlier → EachIs IsLone (named_from earlier line ls)
 from_lone [] earlier line all = all
