@@ -1,5 +1,5 @@
 -- What the making of plain edits gives: the working tree stands for the text that they write.
-use Rattle.std.specs.Prelude.{◌≡◌, ◌⊎◌, ◌<◌, ℕ, Bool, List, take, Some, None, slice_get}
+use Rattle.std.specs.Prelude.{◌≡◌, ◌⊎◌, ◌<◌, ℕ, Bool, List, length, take, Some, None, slice_get}
 use Rattle.std.specs.declared.alloc.Global.{Global}
 use Rattle.std.specs.declared.string.String.{String}
 use Rattle.toml_text.specs.Forms.{IsNewline}
@@ -143,6 +143,16 @@ PassesAt profile read cs near tree k = (part : Kinds) × Lead profile (take k cs
 -- nor does any of the first so many
 abbrev pub PassesAll : Profile → Read → List Change → Kinds → ℕ → Tree → Type 0
 PassesAll profile read cs near n tree = (k : ℕ) → k < n → PassesAt profile read cs near tree k
+
+-- Of an edit that is made: what it makes where it is plain, and that it sets nothing that is spread;
+pub record DoneOne (profile : Profile) (read : Read) (near : Kinds) (c : Change) (old new : Tree) : Type 0 where
+  pub makes : MakesOne profile read c old new
+  pub passes : PassesOne profile read near c old
+
+-- of edits that are made one after the other.
+pub record DoneAll (profile : Profile) (read : Read) (near : Kinds) (cs : List Change) (old new : Tree) : Type 0 where
+  pub makes : MakesAll profile read cs old new
+  pub passes : PassesAll profile read cs near (length cs) old
 
 -- the edit with this number, where those before it are plain, is not
 abbrev pub IsNotPlainAt : Profile → Read → List Change → ℕ → Tree → Type 0

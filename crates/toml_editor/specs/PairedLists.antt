@@ -27,15 +27,15 @@ PairsPlain profile before cs after ps =
     OfTree before (λ d. ArePlain profile cs (style_of d.lines) before → IsText after → (e : Doc) → SpellsIn profile e after
     → AreOuterPartners cs d e ps)
 
--- Law: of lines that stand as those of a good text, with its units one by one, a list of plain edits without a fault makes lines whose
--- units, where flags tell which units of the text are wanted, are paired with these as partners are.
+-- Law: of lines that stand as those of a good text within its limit, with its units one by one, a list of plain edits without a fault
+-- makes lines whose units, where flags tell which units of the text are wanted, are paired with these as partners are.
 abbrev pub PlainListIsPaired : Type 0
 PlainListIsPaired = (cs : List Change) (profile : Profile) (style before after : List ℕ) (old now : Kinds) → IsNewline style
     → (good : IsGoodText profile before old)
     → Lead profile cs old now → AreWritten profile cs style before after → (new : IsGoodText profile after now)
     → (ms ns : List Standing) → map standing_as_new ms ≡ standing good.tree.lines
     → standing_origins ms ≡ numbers (Some 0) (length (units good.tree.lines))
-    → length (units good.tree.lines) < 18446744073709551616
+    → IsText before
     → EditAllStanding profile style cs ms ns
     → (wanted : List Bool) → TellOuter cs (units good.tree.lines) wanted
     → AreOuterPartners cs good.tree new.tree (pairs_from wanted 0 (standing_origins ns))

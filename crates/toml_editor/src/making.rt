@@ -5,7 +5,7 @@ ghost use Rattle.toml_scalar.specs.Spelling.{spelled};
 ghost use Rattle.toml_edits.specs.Edits.{change, remove};
 ghost use Rattle.toml_edits.specs.Lists.{Lead};
 ghost use Rattle.toml_editor.specs.Edited.{MayBeSpread, TakesLastElement};
-ghost use Rattle.toml_editor.specs.Exact.{IsNotPlain, MakesAll, MakesOne, OfNoPlace, PassesAll, PassesOne, SetsMany, Stops, WritesEdit, WritesInsert, WritesRename, WritesSet};
+ghost use Rattle.toml_editor.specs.Exact.{DoneAll, DoneOne, IsNotPlain, OfNoPlace, SetsMany, Stops, WritesEdit, WritesInsert, WritesRename, WritesSet};
 ghost use Rattle.toml_editor.specs.Making.{HasOne, IsMade, IsMany, TellsAny, TellsOne, TellsRow, places_of};
 ghost use Rattle.toml_editor.specs.SpelledEdits.{AreSpelled, IsSpelled};
 ghost use Rattle.toml_editor.specs.Starting.{NoneIsGone, read_of};
@@ -48,10 +48,8 @@ pub(crate) fn make_all<'x>(
     ensures made { OnOk result (Lead read.entry.profile (map change edits.now) (kind_at «data».old.root) (kind_at «data».new.root)) }
     ensures told { let places = places_of read.entry.names.now in
         IfErr result (TellsAny read.entry.profile places (map change edits.now) (kind_at «data».old.root)) }
-    ensures exact { OnOk result (MakesAll read.entry.profile (read_of read.entry.before) (map change edits.now) tree.old tree.new) }
-    ensures passed { let from = read_of read.entry.before in
-        let changes = map change edits.now in
-        OnOk result (PassesAll read.entry.profile from changes (kind_at «data».old.root) (length changes) tree.old) }
+    ensures exact { let from = read_of read.entry.before in
+        OnOk result (DoneAll read.entry.profile from (kind_at «data».old.root) (map change edits.now) tree.old tree.new) }
     ensures stops { let from = read_of read.entry.before in
         IfErr result (Stops read.entry.profile from (map change edits.now) (kind_at «data».old.root) tree.old) }
 {
@@ -77,10 +75,9 @@ fn make<'x>(
     ensures ok { OnOk result (IsMade read.entry.profile (change edit.now) «data».old.root «data».new.root) }
     ensures told { let places = places_of read.entry.names.now in
         IfErr result (TellsOne read.entry.profile places index (change edit.now) (kind_at «data».old.root)) }
-    ensures exact { OnOk result (MakesOne read.entry.profile (read_of read.entry.before) (change edit.now) tree.old tree.new) }
+    ensures exact { let from = read_of read.entry.before in
+        OnOk result (DoneOne read.entry.profile from (kind_at «data».old.root) (change edit.now) tree.old tree.new) }
     ensures spread { IfErr result (OfNoPlace (IsNotPlain read.entry.profile (read_of read.entry.before) (change edit.now) tree.old)) }
-    ensures passed { let from = read_of read.entry.before in
-        OnOk result (PassesOne read.entry.profile from (kind_at «data».old.root) (change edit.now) tree.old) }
 {
     let spread = may_be_spread(alloc, data, read.names, edit, index)?;
     let only = is_only_element(data, edit);

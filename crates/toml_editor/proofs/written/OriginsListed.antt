@@ -33,6 +33,7 @@ use Rattle.toml_editor.specs.Standing.{Standing, standing, standing_origins}
 use Rattle.toml_editor.specs.Steps.{IsGoodText, AreWritten}
 use Rattle.toml_editor.specs.Written.{AreEdited, IsWritten}
 use Rattle.toml_editor.proofs.NumberedOutlines.{count_numbers}
+use Rattle.toml_editor.proofs.UnitsFew.{units_few}
 use Rattle.toml_editor.proofs.written.StandingBare.{places_do_not_stand}
 use Rattle.toml_editor.proofs.written.Steps.{plain_step, step_lines}
 use Rattle.toml_editor.proofs.written.UnitsListed.{none_way, none_goes, way_on, origins_on}
@@ -204,10 +205,10 @@ way_pairs cs d e comments_in are h wanted tell = record {
 }
 
 pub paired_by : OneGoes → PlainListIsPaired
-paired_by one_goes cs profile style before after was now newline good lead is there ms ns as_new numbered room edits wanted tell =
+paired_by one_goes cs profile style before after was now newline good lead is there ms ns as_new numbered within edits wanted tell =
     let gone =
     list_goes one_goes profile style newline cs before after was now good lead is there ms ns as_new
     (ap length numbered ∙ count_numbers (Some 0) (length (units good.tree.lines))) edits in
     subst (λ os. AreOuterPartners cs good.tree there.tree (pairs_from wanted 0 os))
-    (from_numbers cs good.tree there.tree (standing_origins ms) (standing_origins ns) gone numbered room)
+    (from_numbers cs good.tree there.tree (standing_origins ms) (standing_origins ns) gone numbered (units_few good.tree before good.spelled.0 within))
     (way_pairs cs good.tree there.tree gone.comments_in gone.comments_are gone.way wanted tell)

@@ -53,16 +53,16 @@ returns-clause-made c =
       plain = plain_written c.args.profile (record { units = c.args.units.now; lines = d.lines }) d text c.in_ok-tree.tree c.requires.read.document
           c.requires.read.spelled opened.stands.lines (ap (λ (t : Texts). text_of t.source) opened.texts) opened.elements opened.style cs old
           (beside (is_hidden c.in_ok-touched.touched) old new) c.make_all.new.tree (string_bytes c.in_ok-edited.edited.text) facts leads
-          c.in_default.ensures.exact c.in_ok-edited.ensures.written;
+          c.in_default.ensures.exact.makes c.in_ok-edited.ensures.written;
       passed = no_spread_set c.args.profile (record { units = c.args.units.now; lines = d.lines }) d text c.in_ok-tree.tree c.requires.read.document
           c.requires.read.spelled opened.stands.lines (ap (λ (t : Texts). text_of t.source) opened.texts) opened.elements opened.style
-          (is_hidden c.in_ok-touched.touched) cs c.in_ok-touched.ensures.near old facts (kind_at c.in_ok-data.«data».root) near (length cs) c.in_default.ensures.passed;
+          (is_hidden c.in_ok-touched.touched) cs c.in_ok-touched.ensures.near old facts (kind_at c.in_ok-data.«data».root) near (length cs) c.in_default.ensures.exact.passes;
       paired = λ told.
           plain_paired c.args.profile (record { units = c.args.units.now; lines = d.lines }) d text c.in_ok-tree.tree c.requires.read.document
           c.requires.read.spelled opened.stands.lines (ap (λ (t : Texts). text_of t.source) opened.texts) opened.elements opened.style cs old
           (beside (is_hidden c.in_ok-touched.touched) old new) c.make_all.new.tree (string_bytes c.in_ok-edited.edited.text) facts leads
           c.args.wanted.now c.in_ok-edited.edited.certificate.pairs.items c.requires.read.document.0 (wanted_outer text cs c.args.wanted.now d c.requires.read.spelled told)
-          c.requires.units opened.stands.origins c.in_default.ensures.exact c.in_ok-edited.ensures.written c.in_ok-edited.ensures.paired;
+          c.requires.units opened.stands.origins c.in_default.ensures.exact.makes c.in_ok-edited.ensures.written c.in_ok-edited.ensures.paired;
       is_made = record {
         tree = d;
         spelled = c.requires.read.spelled;

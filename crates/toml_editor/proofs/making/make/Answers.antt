@@ -6,7 +6,15 @@ use Rattle.toml_editor.proofs.Shapes.{made_is, not_made_is}
 use Rattle.toml_editor.proofs.making.make.Goals as goal
 
 pub returns-clause-exact : goal.returns-clause-exact
-returns-clause-exact c = makes_one _ _ _ _ _ c.in_ok-done.done c.in_ok-done.ensures
+returns-clause-exact c = record {
+  makes = makes_one _ _ _ _ _ c.in_ok-done.done c.in_ok-done.ensures;
+  passes =
+      passes_one _ _ (kind_at c.args.data.now.root) _ _ _ c.in_ok-done.done c.in_ok-done.ensures
+      (elim (made_is c.in_ok-done.done _ _ c.not_made-is_spread.ensures c.if-is_spread.false) [
+        | inl h ↦ inl h
+        | inr h ↦ inr (c.in_ok-spread.ensures.no h)
+      ]);
+}
 
 pub returns-then-is_spread-clause-spread : goal.returns-then-is_spread-clause-spread
 returns-then-is_spread-clause-spread c =
@@ -23,11 +31,3 @@ pub returns-then-is_last-clause-spread : goal.returns-then-is_last-clause-spread
 returns-then-is_last-clause-spread c =
     let both = not_made_is c.in_ok-done.done _ _ c.not_made-is_last.ensures c.if-is_last.true in
     not_last _ _ (kind_at c.args.data.now.root) _ _ (c.is_only_element-only.ensures both.1)
-
-pub returns-clause-passed : goal.returns-clause-passed
-returns-clause-passed c =
-    passes_one _ _ (kind_at c.args.data.now.root) _ _ _ c.in_ok-done.done c.in_ok-done.ensures
-    (elim (made_is c.in_ok-done.done _ _ c.not_made-is_spread.ensures c.if-is_spread.false) [
-      | inl h ↦ inl h
-      | inr h ↦ inr (c.in_ok-spread.ensures.no h)
-    ])

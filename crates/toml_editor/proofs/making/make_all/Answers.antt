@@ -40,10 +40,10 @@ loop-index-preserved c =
     let taken = sym (take_map here.index edits) in (
       led_on profile edits here.index edit near here.«data».root c.make.new.«data».root (omega arith) c.index-edits-index.is here.invariant.0 c.in_default.ensures.ok,
       subst (λ ds. MakesAll profile read ds old c.make.new.tree) (sym (taken_on edits here.index edit (omega arith) c.index-edits-index.is))
-          (more_made profile read made (change edit) old here.tree c.make.new.tree here.invariant.1 c.in_default.ensures.exact),
+          (more_made profile read made (change edit) old here.tree c.make.new.tree here.invariant.1 c.in_default.ensures.exact.makes),
       more_passed profile read (map change edits) near part here.index (change edit) old here.tree here.invariant.2
           (subst (λ ds. Lead profile ds near part) taken here.invariant.0) (subst (λ ds. MakesAll profile read ds old here.tree) taken here.invariant.1)
-          (get_map edits here.index edit (omega arith) c.index-edits-index.is) c.in_default.ensures.passed,
+          (get_map edits here.index edit (omega arith) c.index-edits-index.is) c.in_default.ensures.exact.passes,
     )
 
 pub returns-in-Err : goal.returns-in-Err
@@ -61,7 +61,6 @@ returns-in-Err c =
       made = tt;
       told = any_of_one profile places edits here.index edit near part c.in-Err.fault (omega arith) c.index-edits-index.is here.invariant.0 c.in-Err.ensures.told;
       exact = tt;
-      passed = tt;
       stops = stops_at profile read places (map change edits) near part here.index (change edit) old here.tree c.in-Err.fault here.invariant.2
           (subst (λ ds. MakesAll profile read ds old here.tree) (sym (take_map here.index edits)) here.invariant.1)
           (get_map edits here.index edit (omega arith) c.index-edits-index.is) c.in-Err.ensures.told c.in-Err.ensures.spread;
@@ -76,7 +75,9 @@ returns c =
     record {
       made = subst (λ es. Lead profile (map change es) (kind_at c.args.data.now.root) (kind_at here.«data».root)) all here.invariant.0;
       told = tt;
-      exact = subst (λ es. MakesAll profile (read_of c.args.read.before) (map change es) c.args.tree.now here.tree) all here.invariant.1;
-      passed = λ k low. here.invariant.2 k (omega (arith, low, length-map edits change));
+      exact = record {
+        makes = subst (λ es. MakesAll profile (read_of c.args.read.before) (map change es) c.args.tree.now here.tree) all here.invariant.1;
+        passes = λ k low. here.invariant.2 k (omega (arith, low, length-map edits change));
+      };
       stops = tt;
     }
