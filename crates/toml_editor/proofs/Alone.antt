@@ -5,7 +5,7 @@ use Rattle.std.specs.Option.{option_or}
 use Rattle.std.specs.List.{list_any}
 use Rattle.std.proofs.Math.ListN.{set}
 pub use Rattle.std.proofs.lemmas.Bool.{and_parts}
-use Rattle.std.proofs.lemmas.List.{take_all, take_more}
+use Rattle.std.proofs.lemmas.List.{take_more}
 use Rattle.std.proofs.lemmas.List.Folds.{list_any-append}
 use Rattle.std.proofs.lemmas.Option.{get_or_from_slice_get}
 use Rattle.toml_names.proofs.Proved.{same_step-equal, same_step-self, same_address-decides}
@@ -178,10 +178,6 @@ none_so_far p units slots i r lines low finds is so_far = by (slice_get slots i)
         ap (list_any (holds p)) (ap (slots_standing read) (take_more slots i s low ∙ ap (λ x. take i slots ++ x ∷ []) (get_or_from_slice_get slots i s s there))
         ∙ standing_append read (take i slots) (s ∷ []) ∙ ap (λ r. front ++ r) (append-nil (slot_standing read s)))
         ∙ list_any-append (holds p) front (slot_standing read s) ∙ ap (λ b. b || list_any (holds p) (slot_standing read s)) so_far ∙ here
-
-pub none_at_all : (p : Address) (units : List ReadUnit) (slots : List Slot) (i : ℕ) (lines : List tree.Line) → length slots ≤ i
-    → list_any (holds p) (slots_standing (read_by units lines) (take i slots)) ≡ false → list_any (holds p) (slots_standing (read_by units lines) slots) ≡ false
-none_at_all p units slots i lines past so_far = ap (λ xs. list_any (holds p) (slots_standing (read_by units lines) xs)) (sym (take_all i slots past)) ∙ so_far
 
 pub holder_of_line : (p : Address) (units : List ReadUnit) (slots : List Slot) (slot : ℕ) (r : Option Position) → FindsLine kinds.Holder p units slots slot r → FindsHolder p units slots r
 holder_of_line p units slots slot None h lines = tt

@@ -1,7 +1,6 @@
 -- Which address is a beginning of which.
-use Rattle.std.proofs.Common.{◌≡◌, ◌∙◌, ℕ, zero, suc, ◌+◌, ◌<◌, ◌≤◌, Bool, true, false, ◌&&◌, [], ◌∷◌, length, drop, get_or, refl, ap, arith}
+use Rattle.std.proofs.Common.{◌≡◌, ◌∙◌, ℕ, zero, suc, ◌+◌, ◌<◌, Bool, true, false, ◌&&◌, [], ◌∷◌, length, drop, get_or, refl, ap, arith}
 use Rattle.std.proofs.Math.Bool.{and-false}
-use Rattle.std.proofs.lemmas.List.{drop_all}
 use Rattle.toml_names.specs.declared.model.address.Step.{Step}
 use Rattle.toml_names.specs.model.Addresses.{Address, same_step}
 use Rattle.toml_editor.proofs.Out.{dropped}
@@ -21,9 +20,6 @@ pub begins_short : (a b : Address) → length b < length a → begins a b ≡ fa
 begins_short [] b h = absurd (omega (arith, h))
 begins_short (s ∷ a) [] h = refl
 begins_short (s ∷ a) (t ∷ b) h = ap (λ r. same_step s t && r) (begins_short a b (omega (arith, h))) ∙ and-false (same_step s t)
-
-pub begins_past : (a b : Address) (i : ℕ) → length a ≤ i → begins (drop i a) (drop i b) ≡ true
-begins_past a b i past = ap (λ l. begins l (drop i b)) (drop_all i a past)
 
 -- by the steps at a place and those behind it
 pub begins_at : (a b : Address) (i : ℕ) (s t : Step) → i < length a → i < length b → s ≡ get_or a i s → t ≡ get_or b i t

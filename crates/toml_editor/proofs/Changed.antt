@@ -7,7 +7,6 @@ use Rattle.toml_names.proofs.Proved.{same_step-equal}
 use Rattle.toml_names.specs.model.Addresses.{Address, same_step}
 use Rattle.toml_text.specs.Source.{text_of}
 use Rattle.toml_tree.specs.Tree as tree
-use Rattle.toml_units.specs.declared.unit.Unit.{Unit as ReadUnit}
 use Rattle.toml_editor.specs.declared.inside.Inside.{Inside}
 use Rattle.toml_editor.specs.declared.inside.Inside.TheVariants as changes
 use Rattle.toml_editor.specs.declared.lines.Body.{Body}
@@ -15,7 +14,6 @@ use Rattle.toml_editor.specs.declared.lines.Body.TheVariants as bodies
 use Rattle.toml_editor.specs.declared.lines.Kept.{Kept}
 use Rattle.toml_editor.specs.declared.lines.Line.{Line}
 use Rattle.toml_editor.specs.declared.lines.Slot.{Slot}
-use Rattle.toml_editor.specs.declared.lines.Slot.TheVariants as slots
 use Rattle.toml_editor.specs.declared.texts.Texts.{Texts}
 use Rattle.toml_editor.specs.declared.tree.OpenLine.{OpenLine}
 use Rattle.toml_editor.specs.declared.working.Position.{Position}
@@ -27,7 +25,7 @@ use Rattle.toml_editor.specs.Outlines.{ValueOutline, LineOutline}
 use Rattle.toml_editor.specs.RenameStanding.{rename_line_outline, rename_outline_of}
 use Rattle.toml_editor.specs.Seeing.{steps_to}
 use Rattle.toml_editor.specs.Standing.{Read, IsApart, begins, leads_to, expr_has, outline_has, outline_of, body_outline, line_standing, set_line_outline, set_outline_of, slot_standing, slots_standing}
-use Rattle.toml_editor.specs.Stands.{BodyKept, OpensSlot, SlotKept}
+use Rattle.toml_editor.specs.Stands.{BodyKept, SlotKept}
 use Rattle.toml_editor.proofs.Alone.{and_parts, item_split, slot_split, split_within}
 use Rattle.toml_editor.proofs.AtPlace.{line_in, no_line, slot_replaced}
 
@@ -73,20 +71,6 @@ never_kept texts read lines (bodies.Kept j) mid k are kept opens is =
     let e : bodies.Open b ≡ bodies.Kept k = sym made ∙ is in
     cc
 
--- a line that is opened stands where it stood
-pub line_opened : (texts : Texts) (read : Read) (lines : List tree.Line) (old mid : Line) → mid.address ≡ old.address → mid.base ≡ old.base → read.lines ≡ lines
-    → BodyKept (text_of texts.source) read old.body → OpensBody texts lines old.body mid.body
-    → BodyKept (text_of texts.source) read mid.body × (line_standing read mid ≡ line_standing read old)
-line_opened texts read lines old mid address base are kept opens = by mid.body refl
-  where
-    by : (body : Body) → mid.body ≡ body → BodyKept (text_of texts.source) read mid.body × (line_standing read mid ≡ line_standing read old)
-    by (bodies.Kept k) is = absurd (never_kept texts read lines old.body mid.body k are kept opens is)
-    by (bodies.Open o) is =
-        let same = ap (body_outline read) is ∙ sym (opened_outline texts read lines old.body mid.body o are kept opens is) in (
-          subst (BodyKept (text_of texts.source) read) (sym is) tt,
-          ap₂ (λ a b. record { address = a; base = b; outline = body_outline read mid.body }) address base ∙ ap (λ l. record { address = old.address; base = old.base; outline = l }) same,
-        )
-
 changes_as : (p : Address) (change : Inside) (base : Option ℕ) (own : Option Address) (old now old_open now_open : LineOutline) (done : Bool) → old ≡ old_open → now ≡ now_open
     → ChangesOpen (drop (steps_to own) p) change old_open now_open done
     → ChangesAs p change (record { address = own; base = base; outline = old }) (record { address = own; base = base; outline = now }) done
@@ -121,11 +105,6 @@ line_changed texts lines p steps change old mid now done mid_address mid_base op
                 (subst (λ b. ChangesAs p change (line_standing read old) (record { address = old.address; base = b; outline = body_outline read now.body }) done) (sym same_base) as_is),
           ),
         )
-
--- it is opened: no slot is kept any more
-pub slot_never_kept : (units : List ReadUnit) (old mid : Slot) (k : Kept) → OpensSlot units old mid → mid ≡ slots.Kept k → ⊥
-slot_never_kept units (slots.Lines ls) mid k opens is = let e : slots.Lines ls ≡ slots.Kept k = sym opens ∙ is in cc
-slot_never_kept units (slots.Kept j) mid k (ls, made, one) is = let e : slots.Lines ls ≡ slots.Kept k = sym made ∙ is in cc
 
 -- the slot of the place is changed
 pub at_changed : (texts : Texts) (read : Read) (at : Position) (p : Address) (change : Inside) (old now : List Slot) (slot new : Slot) (done : Bool) → at.slot < length old → slot ≡ get_or old at.slot slot

@@ -121,6 +121,3 @@ pub tail_goes_on : (us : List TextUnit) (n : ℕ) → n < length us → ((d : Te
 tail_goes_on us n low other =
     let (u, left, is) = first_left us n low in
     ap (tail_origins n) left ∙ ap (λ b. cond b [] (Some n ∷ tail_origins (n + 1) (drop (n + 1) us))) (is false other)
-
-pub tail_past : (us : List TextUnit) (n : ℕ) → length us ≤ n → tail_origins n (drop n us) ≡ []
-tail_past us n past = ap (tail_origins n) (drop_all n us past)

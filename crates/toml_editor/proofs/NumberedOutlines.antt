@@ -274,9 +274,6 @@ beyond_is m (suc n) low =
 
 -- ---- so what is a run has the outline with the units from its first on
 
-pub value_is_numbered : (v w : ValueOutline) (a b : Option ℕ) → value_as_new v ≡ w → RunFrom a (value_origins v) b → v ≡ value_numbered a w
-value_is_numbered v w a b is run = value_run v a b run ∙ sym (value_numbered_of a v) ∙ ap (value_numbered a) is
-
 pub line_is_numbered : (l m : LineOutline) (a b : Option ℕ) → line_as_new l ≡ m → RunFrom a (line_origins l) b → l ≡ line_numbered a m
 line_is_numbered l m a b is run = line_run l a b run ∙ sym (line_numbered_of a l) ∙ ap (line_numbered a) is
 

@@ -71,9 +71,6 @@ none_passed : (front rest : List Standing) → EachIs IsNoHeader front → EachI
 none_passed [] rest heads none = refl
 none_passed (s ∷ front) rest heads none = no_pair_or s.base s.address (has_pair (front ++ rest)) heads.0 none.0 ∙ none_passed front rest heads.1 none.1
 
-pub none_yet : (read : Read) (slots : List Slot) (all : List Standing) → Passed read slots all all None
-none_yet read slots all = record { front = []; is = refl; heads = tt; found = tt }
-
 module _ (read : Read) (slots : List Slot) (all rest : List Standing) where
   -- one line more is passed, which is no header
   pub passed_next : (s : Standing) (at : Position) (last : Option Position) → Passed read slots all (s ∷ rest) last → line_at read slots at ≡ Some s

@@ -46,12 +46,6 @@ below_leaves p l left below leaves text read kept =
     let s = line_standing read l in
     (kept_left, is ∙ ap (λ b. cond b (left_standing s) (s ∷ [])) (sym below))
 
--- and another stays
-pub other_stays : (p : Address) (l : Line) → lies_below p l.address ≡ false → LeavesOf p l (Some l)
-other_stays p l apart text read kept =
-    let s = line_standing read l in
-    ((kept, tt), ap (λ b. cond b (left_standing s) (s ∷ [])) (sym apart))
-
 pub without_append : (test : Standing → Bool) (xs ys : List Standing) → without test (xs ++ ys) ≡ without test xs ++ without test ys
 without_append test [] ys = refl
 without_append test (x ∷ xs) ys =

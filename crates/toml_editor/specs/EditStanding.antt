@@ -14,7 +14,8 @@ use Rattle.toml_editor.specs.TreeOutlines.{value_outline}
 
 -- one edit; `style` is the newline of new lines
 abbrev pub EditsStanding : Profile → List ℕ → Change → List Standing → List Standing → Type 0
-EditsStanding profile style (set p text) old now = (v : Value) × IsValueIn profile v text × (now ≡ map (set_standing p (value_outline v)) old)
+EditsStanding profile style (set p text) old now =
+    (v : Value) × IsValueIn profile v text × (now ≡ map (set_standing p (value_outline v)) old)
 EditsStanding profile style (insert p text) old now = (v : Value) × IsValueIn profile v text
     × (name : List ℕ) × (p ≡ Name name ∷ []) × (now ≡ insert_standing name (value_outline v) style old)
 EditsStanding profile style (rename p to) old now = now ≡ map (rename_standing p to (spelled to)) old

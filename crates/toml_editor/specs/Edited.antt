@@ -100,7 +100,8 @@ OfDefined profile P c kinds = IsFault profile c kinds None × P c kinds
 abbrev pub RefusesText : Profile → List ℕ → EditorFault → Type 0
 RefusesText profile before (Text fault) = (¬ IsDocumentIn profile before) × IsFaultOf before fault
 RefusesText profile before (Syntax fault) = (¬ IsDocumentIn profile before) × IsText before × Refuses profile before fault
-RefusesText profile before (Names fault) = (¬ IsDocumentIn profile before) × IsText before × OfTree before (λ d. IsOfProfile profile d × RefusesNames d.lines fault)
+RefusesText profile before (Names fault) =
+    (¬ IsDocumentIn profile before) × IsText before × OfTree before (λ d. IsOfProfile profile d × RefusesNames d.lines fault)
 RefusesText profile before NoMemory = Unit {0}
 RefusesText profile before _ = ⊥
 
@@ -114,13 +115,19 @@ AreDefinedOn profile before cs = IsDocumentIn profile before × OfData before (A
 -- defined, and the list is not one of plain edits. And each time that no edit before, or of the list, sets what is spread, if those
 -- before it are plain. Of want of memory: nothing.
 abbrev pub Tells : Profile → List ℕ → List Change → EditorFault → Type 0
-Tells profile before cs (Edit index fault) = IsDocumentIn profile before × OnDataSoFar profile before cs index (λ c kinds. IsFault profile c kinds (Some fault))
+Tells profile before cs (Edit index fault) =
+    IsDocumentIn profile before × OnDataSoFar profile before cs index (λ c kinds. IsFault profile c kinds (Some fault))
     × NoSpreadSet profile before cs index
-Tells profile before cs (Spread index) = IsDocumentIn profile before × OfTree before (λ d. OnDataSoFar profile before cs index (OfDefined profile (MayBeSpread (place (named d.lines)) index)))
+Tells profile before cs (Spread index) =
+    IsDocumentIn profile before
+    × OfTree before (λ d. OnDataSoFar profile before cs index (OfDefined profile (MayBeSpread (place (named d.lines)) index)))
     × IsNoPlainEdit profile before cs index × NoSpreadSet profile before cs index
-Tells profile before cs (LastElement index) = IsDocumentIn profile before × OnDataSoFar profile before cs index (OfDefined profile TakesLastElement)
+Tells profile before cs (LastElement index) =
+    IsDocumentIn profile before × OnDataSoFar profile before cs index (OfDefined profile TakesLastElement)
     × IsNoPlainEdit profile before cs index × NoSpreadSet profile before cs index
-Tells profile before cs TooLong = AreDefinedOn profile before cs × ((after : List ℕ) × WritesPlain profile before cs after × (max_len < length after))
+Tells profile before cs TooLong =
+    AreDefinedOn profile before cs × ((after : List ℕ) × WritesPlain profile before cs after × (max_len < length after))
     × NoSpreadSet profile before cs (length cs)
-Tells profile before cs (Unverified reason) = AreDefinedOn profile before cs × IsNoPlainList profile before cs × NoSpreadSet profile before cs (length cs)
+Tells profile before cs (Unverified reason) =
+    AreDefinedOn profile before cs × IsNoPlainList profile before cs × NoSpreadSet profile before cs (length cs)
 Tells profile before cs fault = RefusesText profile before fault

@@ -41,7 +41,8 @@ abbrev mutual
   entries_numbered first (Entry before a v after es) =
       let inside = beyond first (length before.origins) in
       let behind = beyond inside (length (value_origins v)) in
-      Entry (numbered first before) a (value_numbered inside v) (numbered behind after) (entries_numbered (beyond behind (length after.origins)) es)
+      Entry (numbered first before) a (value_numbered inside v) (numbered behind after)
+      (entries_numbered (beyond behind (length after.origins)) es)
 
 abbrev pub expr_numbered : Option ℕ → ExprOutline → ExprOutline
 expr_numbered first Nothing = Nothing

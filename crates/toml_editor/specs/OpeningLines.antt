@@ -26,7 +26,8 @@ IsOpened texts first l body = (opened : Box OpenLine) × (body ≡ bodies.Open o
 -- what was opened before stays as it was, and so does what the document does not have
 abbrev pub OpensBody : Texts → List tree.Line → Body → Body → Type 0
 OpensBody texts lines (bodies.Open opened) new = new ≡ bodies.Open opened
-OpensBody texts lines (bodies.Kept kept) new = MatchOption (slice_get lines kept.line) (new ≡ bodies.Kept kept) (λ l. IsOpened texts kept.first l new)
+OpensBody texts lines (bodies.Kept kept) new =
+    MatchOption (slice_get lines kept.line) (new ≡ bodies.Kept kept) (λ l. IsOpened texts kept.first l new)
 
 -- a line with its pieces gets the newline, and keeps all else
 abbrev pub EndsIn : List ℕ → Body → Body → Type 0

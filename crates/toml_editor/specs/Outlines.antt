@@ -39,8 +39,8 @@ mutual
     Listed : List ℕ → EntriesOutline → ValueOutline
     Braced : List ℕ → EntriesOutline → ValueOutline
 
-  -- what stands behind the bracket or the brace: entries, each with what stands before and behind it, and what stands behind the last comma,
-  -- where one follows the last entry; without an entry all that stands there. An entry begins in what stands before it.
+  -- what stands behind the bracket or the brace: entries, each with what stands before and behind it, and what stands behind the last
+  -- comma, where one follows the last entry; without an entry all that stands there. An entry begins in what stands before it.
   pub data EntriesOutline : Type 0 where
     End : Option Marked → EntriesOutline
     Entry : Marked → Option AssignOutline → ValueOutline → Marked → EntriesOutline → EntriesOutline
@@ -90,7 +90,8 @@ abbrev mutual
 abbrev pub expr_outlined : ExprOutline → List ℕ
 expr_outlined Nothing = []
 expr_outlined (Pair a v) = assign_outlined a ++ value_outlined v
-expr_outlined (Header opening before first rest after closing) = opening ++ (before ++ (first ++ (dotted_outlined rest ++ (after ++ closing))))
+expr_outlined (Header opening before first rest after closing) =
+    opening ++ (before ++ (first ++ (dotted_outlined rest ++ (after ++ closing))))
 
 abbrev pub comment_outlined : Option Marked → List ℕ
 comment_outlined None = []

@@ -1,6 +1,6 @@
 -- That lists of plain edits pair what the code pairs: which units of the document the edited lines have says which units of the text
 -- are partners of those that are wanted.
-use Rattle.std.specs.Prelude.{◌≡◌, ◌<◌, ℕ, Bool, Some, List, length, map}
+use Rattle.std.specs.Prelude.{◌≡◌, ℕ, Bool, Some, List, length, map}
 use Rattle.toml_text.specs.Forms.{IsNewline}
 use Rattle.toml_text.specs.Limit.{IsText}
 use Rattle.toml_tree.specs.Profiles.{SpellsIn}

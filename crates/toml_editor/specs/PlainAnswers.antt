@@ -39,7 +39,8 @@ IsFaultOrMemory fault answer = (answer ≡ Err fault) ⊎ (answer ≡ Err NoMemo
 -- Laws, want of memory aside. Where all edits are plain, the answer is the text that they write, if it is within the limit;
 abbrev pub PlainIsAnswered : Type 0
 PlainIsAnswered = (profile : Profile) (before : List ℕ) (cs : List Change) (after : List ℕ) (now : Kinds)
-    → PlainSoFar profile before cs (length cs) after now → length after ≤ max_len → (answer : Result (List ℕ × List (ℕ × ℕ)) EditorFault) → IsAnswer profile before cs answer
+    → PlainSoFar profile before cs (length cs) after now → length after ≤ max_len
+    → (answer : Result (List ℕ × List (ℕ × ℕ)) EditorFault) → IsAnswer profile before cs answer
     → ((pairs : List (ℕ × ℕ)) × (answer ≡ Ok (after, pairs))) ⊎ (answer ≡ Err NoMemory)
 
 -- else that it is too long.
@@ -52,7 +53,8 @@ LongIsAnswered = (profile : Profile) (before : List ℕ) (cs : List Change) (aft
 abbrev pub FirstFaultIsAnswered : Type 0
 FirstFaultIsAnswered = (profile : Profile) (before : List ℕ) (cs : List Change) (n : ℕ) (between : List ℕ) (mid : Kinds)
     → PlainSoFar profile before cs n between mid → (c : Change) → slice_get cs n ≡ Some c → (fault : EditFault)
-    → IsFault profile c mid (Some fault) → (answer : Result (List ℕ × List (ℕ × ℕ)) EditorFault) → IsAnswer profile before cs answer → IsFaultOrMemory (Edit n fault) answer
+    → IsFault profile c mid (Some fault) → (answer : Result (List ℕ × List (ℕ × ℕ)) EditorFault) → IsAnswer profile before cs answer
+    → IsFaultOrMemory (Edit n fault) answer
 
 -- and where it is a `set` without a fault of what the lines written so far have no one value for, that its place is spread, with its
 -- number.

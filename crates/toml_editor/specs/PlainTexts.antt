@@ -22,7 +22,8 @@ WritesPlain profile before cs after =
 -- an edit has a fault on the data of the text so far, or one is not plain
 abbrev pub IsNoPlainList : Profile → List ℕ → List Change → Type 0
 IsNoPlainList profile before cs =
-    OfTree before (λ d. (old now : Kinds) → IsDataOf (named d.lines) old → Lead profile cs old now → ¬ ArePlain profile cs (style_of d.lines) before)
+    OfTree before (λ d. (old now : Kinds) → IsDataOf (named d.lines) old → Lead profile cs old now
+    → ¬ ArePlain profile cs (style_of d.lines) before)
 
 -- the edit is plain on the lines of the text
 abbrev pub IsPlainOn : Profile → List ℕ → Change → Type 0

@@ -28,7 +28,12 @@ abbrev pub dotted_outline : Dotted → DottedOutline
 dotted_outline d = record { before_dot = d.before_dot.text; after_dot = d.after_dot.text; part = d.part.text }
 
 abbrev pub assign_outline : Assign → AssignOutline
-assign_outline a = record { first = a.key.first.text; rest = map dotted_outline a.key.rest; before_equals = a.before_equals.text; after_equals = a.after_equals.text }
+assign_outline a = record {
+  first = a.key.first.text;
+  rest = map dotted_outline a.key.rest;
+  before_equals = a.before_equals.text;
+  after_equals = a.after_equals.text;
+}
 
 abbrev mutual
   pub value_outline : Value → ValueOutline
@@ -43,12 +48,15 @@ abbrev mutual
 
   pub pairs_outline : Pairs → EntriesOutline
   pairs_outline (ClosePairs g) = outline.End (Some (gap_outline g))
-  pairs_outline (LastPair g a v h) = outline.Entry (gap_outline_before g) (Some (assign_outline a)) (value_outline v) (gap_outline h) (outline.End None)
-  pairs_outline (MorePairs g a v h ps) = outline.Entry (gap_outline_before g) (Some (assign_outline a)) (value_outline v) (gap_outline h) (pairs_outline ps)
+  pairs_outline (LastPair g a v h) =
+      outline.Entry (gap_outline_before g) (Some (assign_outline a)) (value_outline v) (gap_outline h) (outline.End None)
+  pairs_outline (MorePairs g a v h ps) =
+      outline.Entry (gap_outline_before g) (Some (assign_outline a)) (value_outline v) (gap_outline h) (pairs_outline ps)
 
 -- a header between so many brackets
 abbrev pub header_outline : List ℕ → List ℕ → Header → ExprOutline
-header_outline opening closing h = outline.Header opening h.before.text h.key.first.text (map dotted_outline h.key.rest) h.after.text closing
+header_outline opening closing h =
+    outline.Header opening h.before.text h.key.first.text (map dotted_outline h.key.rest) h.after.text closing
 
 -- a line by the whitespace before what stands on it, and the blank behind that
 abbrev pub line_of : List ℕ → ExprOutline → Blank → Piece → LineOutline

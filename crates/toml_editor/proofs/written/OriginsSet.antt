@@ -4,15 +4,14 @@ use Rattle.std.specs.Prelude.{option_map}
 use Rattle.toml_tree.specs.Spells.{EachIs, IsValue, AreLines}
 use Rattle.toml_tree.specs.Tree.{Piece, Blank, Value, KeyVal, Expr, BlankLine, KeyValLine, TableLine, ArrayTableLine, Line}
 use Rattle.toml_names.specs.declared.mentions.mention.Role.TheVariants.{Valued}
-use Rattle.toml_names.specs.mentions.Clear.{AreClear, AreValuesAt, IsClear}
-use Rattle.toml_names.specs.mentions.Inside.{shifted}
-use Rattle.toml_names.specs.mentions.Keys.{Key, key_names, part_name, rest_names}
+use Rattle.toml_names.specs.mentions.Clear.{AreValuesAt, IsClear}
+use Rattle.toml_names.specs.mentions.Keys.{key_names, part_name, rest_names}
 use Rattle.toml_names.specs.mentions.Mentions.{Named, named, named_by, named_from, root, section, entered, count_tables, followed, ends_table, ends_tables, fronts, value_named, pair_named}
 use Rattle.toml_names.specs.mentions.Mentions as mentions
 use Rattle.toml_names.specs.mentions.Rules.{KeepsRules}
-use Rattle.toml_names.specs.model.Addresses.{Address, child, element, below}
+use Rattle.toml_names.specs.model.Addresses.{Address, element, below}
 use Rattle.toml_names.specs.reader.Names.{own_address, header_end}
-use Rattle.toml_names.proofs.Proved.{clear_of_root, headers_are_clear, inside_moves}
+use Rattle.toml_names.proofs.Proved.{clear_of_root, headers_are_clear}
 use Rattle.toml_edits.specs.Edits.{set}
 use Rattle.toml_units.specs.Units.{TextUnit, inside, tail_units, line_unit, line_units, units_from}
 use Rattle.toml_checker.specs.Comments.{texts}

@@ -2,10 +2,9 @@
 use Rattle.std.proofs.Common.{◌≡◌, ◌⊎◌, inl, inr, ℕ, ◌+◌, suc, Bool, true, false, cond, Option, Some, None, List, [], ◌∷◌, ◌++◌, length, refl, sym, ap, ◌∙◌, subst, subst₂, true≢false, append_assoc, append-nil}
 use Rattle.toml_tree.specs.Spells.{EachIs}
 use Rattle.toml_tree.specs.Tree.{Piece, Assign, GapLine, Gap, Value, Scalar, Array, Inline, Items, Close, Last, More, Pairs, ClosePairs, LastPair, MorePairs}
-use Rattle.toml_names.specs.declared.mentions.mention.Role.TheVariants.{Valued}
 use Rattle.toml_names.specs.declared.model.address.Step.TheVariants.{Index}
 use Rattle.toml_names.specs.mentions.Clear.{AreValuesAt, IsClear}
-use Rattle.toml_names.specs.mentions.Keys.{key_names, part_name, rest_names}
+use Rattle.toml_names.specs.mentions.Keys.{key_names}
 use Rattle.toml_names.specs.mentions.Mentions.{fronts, value_named, pair_named}
 use Rattle.toml_names.specs.mentions.Mentions as mentions
 use Rattle.toml_names.specs.model.Addresses.{Address, IsAbove, same_address, element, below}
@@ -19,7 +18,7 @@ use Rattle.toml_editor.specs.ChangedUnits.{LiesInValue, HoldsValue}
 use Rattle.toml_editor.specs.Outlines as outline
 use Rattle.toml_editor.specs.Outlines.{Origins, Marked, ValueOutline, Token, Listed, Braced, EntriesOutline, End, Entry, value_origins, entries_origins}
 use Rattle.toml_editor.specs.SetOutlines.{outlined_names, set_outline, set_outline_within, set_listed, set_braced}
-use Rattle.toml_editor.specs.TreeOutlines.{comment_origin, gap_lines_origins, gap_outline, gap_outline_before, assign_outline, value_outline, items_outline, pairs_outline}
+use Rattle.toml_editor.specs.TreeOutlines.{gap_lines_origins, gap_outline, gap_outline_before, assign_outline, value_outline, items_outline, pairs_outline}
 use Rattle.toml_editor.proofs.Each.{each_append, each_front, each_back}
 use Rattle.toml_editor.proofs.NumberedOutlines.{count_all_new, value_origins_new}
 use Rattle.toml_editor.proofs.SetOutlined.{names_outlined}
@@ -27,7 +26,6 @@ use Rattle.toml_editor.proofs.TreeOrigins.{count_gap_lines, count_inside}
 use Rattle.toml_editor.proofs.written.Clear.{same_is, self}
 use Rattle.toml_editor.proofs.written.PairsClear.{pair_end, pair_rest}
 use Rattle.toml_editor.proofs.written.SetAlong.{Goes, goes_append, Stays, all_stay, all_go}
-use Rattle.toml_editor.proofs.written.SetNamed.{end_not_above}
 use Rattle.toml_editor.proofs.written.UnitsGone.{value_in}
 use Rattle.toml_editor.proofs.written.UnitsIn.{of_element, of_pair}
 

@@ -1,5 +1,5 @@
 -- Addresses of what stands in pairs and under headers, clear of the address of an edit.
-use Rattle.std.proofs.Common.{◌≡◌, ℕ, List, [], ◌∷◌, map, sym, subst}
+use Rattle.std.proofs.Common.{ℕ, List, [], ◌∷◌, map, sym, subst}
 use Rattle.toml_tree.specs.Tree.{Assign, Value}
 use Rattle.toml_names.specs.declared.mentions.mention.Role.TheVariants.{Valued}
 use Rattle.toml_names.specs.mentions.Clear.{AreClear, AreValuesAt, IsClear}

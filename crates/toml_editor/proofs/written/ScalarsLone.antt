@@ -1,5 +1,5 @@
 -- Where the data have a scalar, the lines have one value: only a table and an array can be spread over several.
-use Rattle.std.proofs.Common.{◌≡◌, ◌⊎◌, inl, inr, ℕ, ◌+◌, true, List, [], ◌∷◌, ◌++◌, Option, Some, None, refl}
+use Rattle.std.proofs.Common.{◌≡◌, inl, inr, ℕ, ◌+◌, true, List, [], ◌∷◌, ◌++◌, Option, Some, None, refl}
 use Rattle.toml_scalar.specs.Values.{ScalarValue}
 use Rattle.toml_tree.specs.Spells.{EachIs}
 use Rattle.toml_tree.specs.Tree.{Value, Scalar, Array, Inline, Items, Close, Last, More, Pairs, ClosePairs, LastPair, MorePairs, Assign, Expr, BlankLine, KeyValLine, TableLine, ArrayTableLine, Line}

@@ -1,5 +1,5 @@
 -- The units after a `set`.
-use Rattle.std.proofs.Common.{◌≡◌, ◌⊎◌, inl, inr, ℕ, ◌+◌, Bool, true, false, cond, map, Option, Some, None, option_and_then, List, [], ◌∷◌, ◌++◌, length, refl, sym, ap, ◌∙◌, subst, subst₂, true≢false, append_assoc, append-nil, IsSome, ◌<◌, arith}
+use Rattle.std.proofs.Common.{◌≡◌, ◌⊎◌, inl, inr, ℕ, ◌+◌, Bool, true, false, cond, Option, Some, None, option_and_then, List, [], ◌∷◌, ◌++◌, length, refl, sym, ap, ◌∙◌, subst, subst₂, true≢false, append_assoc, append-nil, IsSome, ◌<◌, arith}
 use Rattle.toml_tree.specs.Pieces.{piece_of, expr_piece}
 use Rattle.toml_tree.specs.Spells.{joined, value_parts, assign_parts, keyval_parts, blank_parts, IsValue, AreItems, ArePairs, IsExpr, EachIs}
 use Rattle.toml_tree.specs.Spells as spells
@@ -8,13 +8,12 @@ use Rattle.toml_tree.proofs.Proved.{parts_join}
 use Rattle.toml_names.specs.declared.mentions.mention.Role.TheVariants.{Valued}
 use Rattle.toml_names.specs.declared.model.address.Step.TheVariants.{Index}
 use Rattle.toml_names.specs.mentions.Alike.{AreAlike}
-use Rattle.toml_names.specs.mentions.Clear.{AreClear, AreValuesAt, IsClear}
-use Rattle.toml_names.specs.mentions.Keys.{Key, key_names, part_name, rest_names}
+use Rattle.toml_names.specs.mentions.Clear.{AreValuesAt, IsClear}
+use Rattle.toml_names.specs.mentions.Keys.{key_names, part_name, rest_names}
 use Rattle.toml_names.specs.mentions.Mentions.{Named, named, named_by, named_from, root, section, entered, count_tables, followed, ends_table, ends_tables, fronts, value_named, pair_named}
 use Rattle.toml_names.specs.mentions.Mentions as mentions
-use Rattle.toml_names.specs.model.Addresses.{Address, IsAbove, same_address, child, element, below}
-use Rattle.toml_names.specs.mentions.Inside.{shifted}
-use Rattle.toml_names.proofs.Proved.{inside_moves, clear_of_root, headers_are_clear, line_values_stand_alone, not_above_next}
+use Rattle.toml_names.specs.model.Addresses.{Address, IsAbove, same_address, element, below}
+use Rattle.toml_names.proofs.Proved.{clear_of_root, headers_are_clear, line_values_stand_alone, not_above_next}
 use Rattle.toml_names.specs.reader.Names.{header_end}
 use Rattle.toml_edits.specs.Carry.{carry}
 use Rattle.toml_edits.specs.Edits.{Change, set}
