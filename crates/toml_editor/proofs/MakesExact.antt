@@ -19,7 +19,7 @@ use Rattle.toml_editor.specs.declared.working.Tree.{Tree}
 use Rattle.toml_editor.specs.CertifiedLists.{ArePlain}
 use Rattle.toml_editor.specs.Edited.{MayBeSpread, Places, TakesLastElement}
 use Rattle.toml_editor.specs.EditStanding.{EditsStanding, EditAllStanding}
-use Rattle.toml_editor.specs.Exact.{Follows, IsAt, IsNotPlain, IsNotPlainAt, IsSpreadOn, MakesAll, MakesOne, OfPlain, OfNoPlace, PassesAll, PassesAt, PassesOne, SetsMany, Stops, WritesEdit, style}
+use Rattle.toml_editor.specs.Exact.{Follows, IsAt, IsNotPlain, IsNotPlainAt, IsSpreadOn, MakesAll, MakesOne, OfPlain, OfNoPlaceAt, PassesAll, PassesAt, PassesOne, SetsMany, Stops, WritesEdit, style}
 use Rattle.toml_editor.specs.Making.{TellsOne}
 use Rattle.toml_editor.specs.PlainTexts.{IsPlainOn}
 use Rattle.toml_editor.specs.Standing.{Read, Standing, slots_standing}
@@ -194,7 +194,7 @@ more_passed profile read cs near part i c old tree so_far lead makes here one k 
 -- the fault with which they end
 pub stops_at : (profile : Profile) (read : Read) (places : Places) (cs : List Change) (near part : Kinds) (i : ℕ) (c : Change) (old tree : Tree)
     (fault : EditorFault) → PassesAll profile read cs near i old → MakesAll profile read (take i cs) old tree → slice_get cs i ≡ Some c
-    → TellsOne profile places i c part fault → OfNoPlace (IsNotPlain profile read c tree) fault → Stops profile read cs near old fault
+    → TellsOne profile places i c part fault → OfNoPlaceAt (λ at. IsNotPlain profile read c tree) fault → Stops profile read cs near old fault
 stops_at profile read places cs near part i c old tree fault so_far makes here tells not = by fault tells not
   where
     passed : (j : ℕ) → j ≡ i → PassesAll profile read cs near j old
@@ -204,7 +204,7 @@ stops_at profile read places cs near part i c old tree fault so_far makes here t
     not_at j is one = subst (λ n. IsNotPlainAt profile read cs n old) (sym is)
         (of_plain_made profile read cs i c old tree (λ d text kinds. ¬ IsPlainOn profile text d) makes here one)
 
-    by : (f : EditorFault) → TellsOne profile places i c part f → OfNoPlace (IsNotPlain profile read c tree) f → Stops profile read cs near old f
+    by : (f : EditorFault) → TellsOne profile places i c part f → OfNoPlaceAt (λ at. IsNotPlain profile read c tree) f → Stops profile read cs near old f
     by (faults.Edit j x) h one = record { passed = passed j h.0; spread = tt }
     by (faults.Spread j) h one = record { passed = passed j h.0; spread = not_at j h.0 one }
     by (faults.LastElement j) h one = record { passed = passed j h.0; spread = not_at j h.0 one }

@@ -1,5 +1,5 @@
 -- What the making of edits passes, and where it stops, as facts of the text before the edits and of all its data.
-use Rattle.std.proofs.Common.{◌≡◌, ℕ, List, take, sym, subst, ◌∙◌}
+use Rattle.std.proofs.Common.{◌≡◌, ℕ, List, take, Some, None, slice_get, sym, subst, ◌∙◌}
 use Rattle.std.proofs.Math.Path.{fun_ext}
 use Rattle.toml_text.specs.Forms.{IsNewline}
 use Rattle.toml_text.specs.Source.{text_of}
@@ -15,6 +15,8 @@ use Rattle.toml_names.specs.model.Hidden.{Cover, beside, near}
 use Rattle.toml_names.specs.reader.Names.{AreGood}
 use Rattle.toml_names.proofs.Proved.{one_data}
 use Rattle.toml_edits.specs.Edits.{Change, place}
+use Rattle.toml_edits.specs.After.{IsAfter}
+use Rattle.toml_edits.specs.Faults.{IsFault}
 use Rattle.toml_edits.specs.Lists.{Lead}
 use Rattle.toml_edits.specs.Near.{AreNear}
 use Rattle.toml_edits.proofs.Proved.{leads_beside, one_lead}
@@ -61,7 +63,11 @@ module _ (profile : Profile) (read : Read) (d : Doc) (before : List ℕ) (tree :
   }
 
   -- what is so of the texts for which the tree stands is so of the text
-  after_plain : (cs : List Change) (k : ℕ) (P : Change → List ℕ → Kinds → Type 0) → OfPlain profile read cs tree k P → AfterPlain profile before cs d k P
+  after_plain : (cs : List Change) (k : ℕ) (P : Change → List ℕ → Kinds → Type 0) → OfPlain profile read cs tree k P
+      → (c : Change) → slice_get cs k ≡ Some c → (old mid now : Kinds) → IsDataOf (named d.lines) old
+      → Lead profile (take k cs) old mid → IsFault profile c mid None → IsAfter profile c mid now
+      → ArePlain profile (take k cs) (style_of d.lines) before
+      → (between : List ℕ) → AreWritten profile (take k cs) (style_of d.lines) before between → P c between mid
   after_plain cs k P holds c is old mid now facts lead none is_after plain between written =
       holds c is before old mid now (at old facts) lead none is_after
       (subst (λ s. ArePlain profile (take k cs) s before) (sym styled) plain) between
@@ -88,7 +94,7 @@ module _ (profile : Profile) (read : Read) (d : Doc) (before : List ℕ) (tree :
 
   module _ (hidden : Cover) (cs : List Change) (are : AreNear hidden cs) (old : Kinds) (facts : IsDataOf (named d.lines) old) (part : Kinds)
       (of : (a : _) → part a ≡ near hidden old a) where
-    passes_text : (k : ℕ) → PassesAt profile read cs part tree k → AfterPlain profile before cs d k (λ c text kinds. ¬ IsSpreadSet profile text c)
+    passes_text : (k : ℕ) → PassesAt profile read cs part tree k → AfterPlain profile before cs d k (λ c text. ¬ IsSpreadSet profile text c)
     passes_text k (near_k, led, holds) c is other mid now other_facts lead none is_after plain between written spread =
         let same_old : other ≡ old = fun_ext (one_data (named d.lines) other old other_facts facts) in
         let all = leads_beside profile hidden (take k cs) old part near_k (near_front hidden k cs are) of led in

@@ -137,7 +137,7 @@ module _ (profile : Profile) (before : List ℕ) (cs : List Change) (n : ℕ) (a
   no_spread_before j c is low not_plain =
       let at = defined_at profile cs n j so_far.old now c so_far.lead low is in
       let text = plain_at profile cs n j style before after c so_far.plain so_far.written low is in
-      of_tree (λ x. AfterPlain profile before cs x j (λ c text kinds. ¬ IsPlainOn profile text c)) not_plain c is so_far.old at.mid at.next so_far.facts at.lead at.none
+      of_tree (λ x. AfterPlain profile before cs x j (λ c text. ¬ IsPlainOn profile text c)) not_plain c is so_far.old at.mid at.next so_far.facts at.lead at.none
       at.is_after text.plain text.between text.written text.here
 
 -- what stands of an edit of a list
@@ -285,7 +285,7 @@ module _ (profile : Profile) (before : List ℕ) (cs : List Change) (n : ℕ) (b
     passed m there lead less none_spread =
         let at = defined_at profile cs m n old there c lead less is in
         of_tree profile before cs n between mid so_far
-        (λ x. (k : ℕ) → k < m → AfterPlain profile before cs x k (λ y text kinds. ¬ IsSpreadSet profile text y)) none_spread n less c is old at.mid at.next so_far.facts
+        (λ x. (k : ℕ) → k < m → AfterPlain profile before cs x k (λ y text. ¬ IsSpreadSet profile text y)) none_spread n less c is old at.mid at.next so_far.facts
         at.lead at.none at.is_after so_far.plain between so_far.written spread
 
     passed_all : OfData before (AreDefined profile cs) → NoSpreadSet profile before cs (length cs) → ⊥

@@ -132,7 +132,7 @@ module _ (profile : Profile) (read : Read) (d : Doc) (before : List ℕ) (tree :
               let edits : EditAllStanding profile (style tree) cs stands.lines ns =
               subst₂ (EditAllStanding profile (style tree) cs) stands.stand.are all.at.stands.stand.are all.lines in
               let partners : AreOuterPartners cs d last (pairs_from wanted 0 (standing_origins ns)) =
-              plain_list_is_paired cs profile (style tree) before all.after old now (at old facts).newline (at old facts).good lead all.written all.at.good
-              stands.lines ns stands.are_as_new (numbered has_numbers ∙ ap (numbers (Some 0)) count) within edits wanted outer in
+              plain_list_is_paired cs profile (style tree) before all.after old now (at old facts).newline within (at old facts).good lead all.written all.at.good
+              stands.lines ns stands.are_as_new (numbered has_numbers ∙ ap (numbers (Some 0)) count) edits wanted outer in
               let tree_is : last ≡ e = one_tree last e out (subst (Spells last) (sym is) all.at.good.spelled.0) e_is.0 in
               subst₂ (AreOuterPartners cs d) tree_is (sym pairs_are) partners

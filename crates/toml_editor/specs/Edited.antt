@@ -34,7 +34,7 @@ abbrev pub NamesOuter : List ℕ → List Change → List (ℕ × ℕ) → Type 
 NamesOuter before cs ps = OfTree before (λ d. (i : ℕ) → IsFirst ps i ↔ IsOuter cs (units d.lines) i)
 
 -- The text is certified to be what the edits make of the first one, by pairs that name the outer protected units. Of plain edits it is
--- the one that they write, and none of the edits sets what is spread.
+-- the one that they write, and none of the edits, where those before it are plain, sets what is spread.
 pub record IsEdited (profile : Profile) (before : List ℕ) (cs : List Change) (after : List ℕ) (ps : List (ℕ × ℕ)) : Type 0 where
   pub certified : Certified profile before cs after ps
   pub outer : NamesOuter before cs ps

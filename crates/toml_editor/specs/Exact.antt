@@ -106,12 +106,6 @@ abbrev pub IsNotPlain : Profile → Read → Change → Tree → Type 0
 IsNotPlain profile read c tree = (text : List ℕ) (kinds now : Kinds) → IsAt profile read tree text kinds
     → IsFault profile c kinds None → IsAfter profile c kinds now → ¬ IsPlainOn profile text c
 
--- this holds where an edit is told to be spread, or to take a last element
-abbrev pub OfNoPlace : Type 0 → EditorFault → Type 0
-OfNoPlace P (Spread i) = P
-OfNoPlace P (LastElement i) = P
-OfNoPlace P _ = Unit {0}
-
 -- it sets what is a table or an array
 abbrev pub SetsMany : Change → Kinds → Type 0
 SetsMany (set p value) kinds = (kinds p ≡ Some a_table) ⊎ (kinds p ≡ Some an_array)
@@ -165,7 +159,7 @@ OfNumber P (Spread i) = P i
 OfNumber P (LastElement i) = P i
 OfNumber P _ = Unit {0}
 
--- and this, where it is told to be spread, or to take a last element
+-- and this of its number, where it is told to be spread, or to take a last element
 abbrev pub OfNoPlaceAt : (ℕ → Type 0) → EditorFault → Type 0
 OfNoPlaceAt P (Spread i) = P i
 OfNoPlaceAt P (LastElement i) = P i

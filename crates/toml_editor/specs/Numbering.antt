@@ -1,5 +1,5 @@
--- The certificate as it is read off the working tree: which unit of the document each of its units is. That these are the units of
--- the written text, in the order of `units`, the laws on plain edits say (`PlainListIsPaired`).
+-- The certificate as it is read off the working tree: which unit of the document each of its units is. That the pairs of
+-- the wanted units are those of partners in the written text, a law says of plain edits (`PlainListIsPaired`).
 use Rattle.std.specs.Prelude.{◌≡◌, ◌<◌, ℕ, ◌+◌, Bool, false, List, [], ◌∷◌, ◌++◌, drop, length, Option, Some, None, option_map, Result, OnOk, slice_index_or, if◌then◌else◌}
 use Rattle.std.specs.declared.alloc.AllocError.{AllocError}
 use Rattle.toml_editor.specs.declared.tree.Comment.{Comment}

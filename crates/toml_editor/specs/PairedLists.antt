@@ -31,11 +31,10 @@ PairsPlain profile before cs after ps =
 -- makes lines whose units, where flags tell which units of the text are wanted, are paired with these as partners are.
 abbrev pub PlainListIsPaired : Type 0
 PlainListIsPaired = (cs : List Change) (profile : Profile) (style before after : List ℕ) (old now : Kinds) → IsNewline style
-    → (good : IsGoodText profile before old)
+    → IsText before → (good : IsGoodText profile before old)
     → Lead profile cs old now → AreWritten profile cs style before after → (new : IsGoodText profile after now)
     → (ms ns : List Standing) → map standing_as_new ms ≡ standing good.tree.lines
     → standing_origins ms ≡ numbers (Some 0) (length (units good.tree.lines))
-    → IsText before
     → EditAllStanding profile style cs ms ns
     → (wanted : List Bool) → TellOuter cs (units good.tree.lines) wanted
     → AreOuterPartners cs good.tree new.tree (pairs_from wanted 0 (standing_origins ns))

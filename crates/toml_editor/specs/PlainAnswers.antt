@@ -18,7 +18,8 @@ use Rattle.toml_editor.specs.declared.fault.EditorFault.{EditorFault}
 use Rattle.toml_editor.specs.declared.fault.EditorFault.TheVariants.{Edit, Spread, TooLong, NoMemory}
 
 -- So many edits of a list, from the first on, have no fault on a document and are plain, each on the text written so far; this is the
--- text that they write, and these are its data.
+-- text that they write, and these are its data. There is such a text (`PlainListIsCertified`), and no other (`OneListWritten`). The
+-- first field of `document` is the tree of the document.
 pub record PlainSoFar (profile : Profile) (before : List ℕ) (cs : List Change) (n : ℕ) (after : List ℕ) (now : Kinds) : Type 0 where
   pub document : IsDocumentIn profile before
   pub old : Kinds
@@ -36,7 +37,8 @@ IsAnswer profile before cs (Err fault) = Tells profile before cs fault
 abbrev pub IsFaultOrMemory : EditorFault → Result (List ℕ × List (ℕ × ℕ)) EditorFault → Type 0
 IsFaultOrMemory fault answer = (answer ≡ Err fault) ⊎ (answer ≡ Err NoMemory)
 
--- Laws, want of memory aside. Where all edits are plain, the answer is the text that they write, if it is within the limit;
+-- Laws, want of memory aside. Where all edits are defined on the data so far and plain, the answer is the text that they write, if it is
+-- within the limit;
 abbrev pub PlainIsAnswered : Type 0
 PlainIsAnswered = (profile : Profile) (before : List ℕ) (cs : List Change) (after : List ℕ) (now : Kinds)
     → PlainSoFar profile before cs (length cs) after now → length after ≤ max_len
@@ -49,15 +51,15 @@ LongIsAnswered = (profile : Profile) (before : List ℕ) (cs : List Change) (aft
     → PlainSoFar profile before cs (length cs) after now → max_len < length after → (answer : Result (List ℕ × List (ℕ × ℕ)) EditorFault)
     → IsAnswer profile before cs answer → IsFaultOrMemory TooLong answer
 
--- Where the edits before one are plain, and it has a fault on the data so far, that is the answer, with its number;
+-- Where the edits before one are so, and it has a fault on the data so far, that is the answer, with its number;
 abbrev pub FirstFaultIsAnswered : Type 0
 FirstFaultIsAnswered = (profile : Profile) (before : List ℕ) (cs : List Change) (n : ℕ) (between : List ℕ) (mid : Kinds)
     → PlainSoFar profile before cs n between mid → (c : Change) → slice_get cs n ≡ Some c → (fault : EditFault)
     → IsFault profile c mid (Some fault) → (answer : Result (List ℕ × List (ℕ × ℕ)) EditorFault) → IsAnswer profile before cs answer
     → IsFaultOrMemory (Edit n fault) answer
 
--- and where it is a `set` without a fault of what the lines written so far have no one value for, that its place is spread, with its
--- number.
+-- and where it has none and is a `set` of an address where the text so far has no one value, the answer is that its place is spread,
+-- with its number.
 abbrev pub FirstSpreadIsAnswered : Type 0
 FirstSpreadIsAnswered = (profile : Profile) (before : List ℕ) (cs : List Change) (n : ℕ) (between : List ℕ) (mid : Kinds)
     → PlainSoFar profile before cs n between mid → (c : Change) → slice_get cs n ≡ Some c → IsFault profile c mid None

@@ -29,24 +29,23 @@ IsNoPlainList profile before cs =
 abbrev pub IsPlainOn : Profile → List ℕ → Change → Type 0
 IsPlainOn profile text c = (d : Doc) → SpellsIn profile d text → IsPlain d.lines c
 
--- it sets an address where the lines of the text have no one value: what stands there is spread over several
+-- it sets an address where no one value stands in the text: a table or an array that stands there is spread over lines or pairs
 abbrev pub IsSpreadSet : Profile → List ℕ → Change → Type 0
 IsSpreadSet profile text (set p value) = (d : Doc) → SpellsIn profile d text → ¬ HasValue d.lines p
 IsSpreadSet profile text _ = ⊥
 
--- So it is of the edit with this number, if there is one that is defined and those before it are plain: of the text that these write
--- and of its data.
-abbrev pub AfterPlain : Profile → List ℕ → List Change → Doc → ℕ → (Change → List ℕ → Kinds → Type 0) → Type 0
+-- `P` holds of the edit with this number and of the text before it, if the edit is defined and those before it are defined and plain.
+abbrev pub AfterPlain : Profile → List ℕ → List Change → Doc → ℕ → (Change → List ℕ → Type 0) → Type 0
 AfterPlain profile before cs d k P = (c : Change) → slice_get cs k ≡ Some c → (old mid now : Kinds) → IsDataOf (named d.lines) old
     → Lead profile (take k cs) old mid → IsFault profile c mid None → IsAfter profile c mid now
     → ArePlain profile (take k cs) (style_of d.lines) before
-    → (between : List ℕ) → AreWritten profile (take k cs) (style_of d.lines) before between → P c between mid
+    → (between : List ℕ) → AreWritten profile (take k cs) (style_of d.lines) before between → P c between
 
 -- of the first so many edits none, where those before it are plain, sets what is spread
 abbrev pub NoSpreadSet : Profile → List ℕ → List Change → ℕ → Type 0
 NoSpreadSet profile before cs n =
-    OfTree before (λ d. (k : ℕ) → k < n → AfterPlain profile before cs d k (λ c text kinds. ¬ IsSpreadSet profile text c))
+    OfTree before (λ d. (k : ℕ) → k < n → AfterPlain profile before cs d k (λ c text. ¬ IsSpreadSet profile text c))
 
 -- the edit with this number, where those before it are plain, is not
 abbrev pub IsNoPlainEdit : Profile → List ℕ → List Change → ℕ → Type 0
-IsNoPlainEdit profile before cs j = OfTree before (λ d. AfterPlain profile before cs d j (λ c text kinds. ¬ IsPlainOn profile text c))
+IsNoPlainEdit profile before cs j = OfTree before (λ d. AfterPlain profile before cs d j (λ c text. ¬ IsPlainOn profile text c))

@@ -200,10 +200,10 @@ pub fn standing_removed()
     ensures remove { RemoveStands }
 {}
 
-/// What the editor answers, want of memory aside. Where all edits of a list are plain on a document, it is the text that they
-/// write, if it is within the limit of a text, and else that it is too long. Where the edits before one are plain, and it is not
-/// defined on the data so far, it is that edit's fault with its number; where it is a `set` of a table or an array that is no
-/// single value, it is that its place is spread, with its number.
+/// What the editor answers, want of memory aside. Where all edits of a list are defined on the data so far and plain, it is the
+/// text that they write, if it is within the limit of a text, and else that it is too long. Where the edits before one are so,
+/// and it is not defined, it is that edit's fault with its number; where it is a defined `set` of an address where the text so
+/// far has no one value, it is that its place is spread, with its number.
 pub fn plain_answers()
     ensures plain { PlainIsAnswered }
     ensures long { LongIsAnswered }

@@ -5,7 +5,7 @@ ghost use Rattle.toml_scalar.specs.Spelling.{spelled};
 ghost use Rattle.toml_edits.specs.Edits.{change, remove};
 ghost use Rattle.toml_edits.specs.Lists.{Lead};
 ghost use Rattle.toml_editor.specs.Edited.{MayBeSpread, TakesLastElement};
-ghost use Rattle.toml_editor.specs.Exact.{DoneAll, DoneOne, IsNotPlain, OfNoPlace, SetsMany, Stops, WritesEdit, WritesInsert, WritesRename, WritesSet};
+ghost use Rattle.toml_editor.specs.Exact.{DoneAll, DoneOne, IsNotPlain, OfNoPlaceAt, SetsMany, Stops, WritesEdit, WritesInsert, WritesRename, WritesSet};
 ghost use Rattle.toml_editor.specs.Making.{HasOne, IsMade, IsMany, TellsAny, TellsOne, TellsRow, places_of};
 ghost use Rattle.toml_editor.specs.SpelledEdits.{AreSpelled, IsSpelled};
 ghost use Rattle.toml_editor.specs.Starting.{NoneIsGone, read_of};
@@ -77,7 +77,8 @@ fn make<'x>(
         IfErr result (TellsOne read.entry.profile places index (change edit.now) (kind_at «data».old.root)) }
     ensures exact { let from = read_of read.entry.before in
         OnOk result (DoneOne read.entry.profile from (kind_at «data».old.root) (change edit.now) tree.old tree.new) }
-    ensures spread { IfErr result (OfNoPlace (IsNotPlain read.entry.profile (read_of read.entry.before) (change edit.now) tree.old)) }
+    ensures spread { let from = read_of read.entry.before in
+        IfErr result (OfNoPlaceAt (λ at. IsNotPlain read.entry.profile from (change edit.now) tree.old)) }
 {
     let spread = may_be_spread(alloc, data, read.names, edit, index)?;
     let only = is_only_element(data, edit);

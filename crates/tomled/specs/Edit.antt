@@ -99,8 +99,8 @@ abbrev pub Edits : Profile → List ℕ → List ℕ → Outcome → Type 0
 Edits profile before edits o =
     ((text : List ℕ) × (certificate : List ℕ) × AreEdited profile before edits text certificate × Gives (codes "ok\n") (text ∷ certificate ∷ []) o) ⊎ ((r : Refusal) × IsUnedited profile before edits r × Tells r o)
 
--- Law: where the edits of a list are plain on a document, and the text that they write is within the limit, the answer is `ok`, with that
--- text as the first file.
+-- Law: where all edits of a list are defined on the data so far and plain on a document, and the text that they write is within the
+-- limit, the answer is `ok`, with that text as the first file.
 abbrev pub PlainIsPrinted : Type 0
 PlainIsPrinted = (profile : Profile) (before edits : List ℕ) (cs : List Change) (after : List ℕ) (now : Kinds) → IsEditList edits cs
     → PlainSoFar profile before cs (length cs) after now → length after ≤ max_len → (o : Outcome) → Edits profile before edits o

@@ -10,8 +10,8 @@ pub fn shown()
     ensures line { OneLine }
 {}
 
-/// Where all edits of a list are plain on a document, and the text that they write is within the limit, `edit` prints `ok` and
-/// has that text written, and a certificate of it; but for want of memory.
+/// Where all edits of a list are defined on the data so far and plain on a document, and the text that they write is within the
+/// limit, `edit` prints `ok` and has that text written, and a certificate of it; but for want of memory.
 pub fn edited()
     ensures { PlainIsPrinted }
 {}

@@ -205,7 +205,7 @@ way_pairs cs d e comments_in are h wanted tell = record {
 }
 
 pub paired_by : OneGoes → PlainListIsPaired
-paired_by one_goes cs profile style before after was now newline good lead is there ms ns as_new numbered within edits wanted tell =
+paired_by one_goes cs profile style before after was now newline within good lead is there ms ns as_new numbered edits wanted tell =
     let gone =
     list_goes one_goes profile style newline cs before after was now good lead is there ms ns as_new
     (ap length numbered ∙ count_numbers (Some 0) (length (units good.tree.lines))) edits in
