@@ -10,7 +10,7 @@ use crate::verify::run_verify;
 use std::alloc::Global;
 use toml_checker::{Verdict, check, check_in, first_marks, outermost};
 use toml_editor::{edit, edit_in, edit_pieces};
-use toml_edits::{apply, near_addresses};
+use toml_edits::{Edit, apply, near_addresses};
 use toml_names::{Address, key_address, read_lines};
 use toml_text::Source;
 use toml_tree::{Expr, Profile, parse_value};
@@ -127,16 +127,22 @@ fn edits_make_a_text(rt: HostRuntime) {
     assert_eq!(rt; makes(rt.alloc(), OUT, "kept 1\n1 1\n2 2\n"), Some(true));
 }
 
-/// Whether the pieces that the edits make are those of the text.
+/// The text of the pieces that the edits make of a text.
+#[tactic(auto, using(crate::proofs::Edited::pieces_held))]
+fn joined(alloc: Global, before: &[u8], list: &[Edit]) -> Option<String> {
+    let Ok(source) = Source::new(before) else {
+        return None;
+    };
+    let Ok((pieces, _)) = edit_pieces(alloc, before, list) else {
+        return None;
+    };
+    join(alloc, source, &pieces).ok()
+}
+
+/// Whether this is the text of the pieces that the edits make.
 fn joins(alloc: Global, wanted: &str) -> Option<bool> {
     let list = edits(alloc, EDITS)?;
-    let Ok(source) = Source::new(FILE.as_bytes()) else {
-        return None;
-    };
-    let Ok((pieces, _)) = edit_pieces(alloc, FILE.as_bytes(), &list) else {
-        return None;
-    };
-    Some(join(alloc, source, &pieces).ok()?.as_str() == wanted)
+    Some(joined(alloc, FILE.as_bytes(), &list)?.as_str() == wanted)
 }
 
 #[test]
