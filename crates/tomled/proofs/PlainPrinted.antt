@@ -1,5 +1,5 @@
 -- What `edit` prints where all edits are plain.
-use Rattle.std.proofs.Common.{◌≡◌, ◌⊎◌, ◌≤◌, inl, inr, ℕ, List, [], ◌∷◌, length, Result, Ok, Err, sym, ap, subst}
+use Rattle.std.proofs.Common.{◌≡◌, ◌≤◌, inl, inr, ℕ, List, [], ◌∷◌, length, Result, Ok, Err, ap, subst}
 use Rattle.std.specs.Prelude.{codes}
 use Rattle.toml_text.specs.Limit.{max_len}
 use Rattle.toml_tree.specs.declared.profile.Profile.{Profile}
@@ -13,7 +13,6 @@ use Rattle.toml_editor.specs.declared.fault.EditorFault.{EditorFault}
 use Rattle.toml_editor.specs.declared.fault.EditorFault.TheVariants as faults
 use Rattle.toml_editor.proofs.Proved.{plain_is_answered}
 use Rattle.tomled.specs.Edit.{AreEdited, Edits, IsEditorEnding, IsUnedited, PlainIsPrinted}
-use Rattle.tomled.specs.EditLists.{IsListRefusal}
 use Rattle.tomled.specs.Outcomes.{Gives}
 use Rattle.tomled.specs.declared.ending.Ending.TheVariants.{Refused}
 use Rattle.tomled.specs.declared.outcome.Outcome.{Outcome}

@@ -1,5 +1,5 @@
 -- The turns of the loops that write tagged JSON.
-use Rattle.std.proofs.Common.{◌≡◌, ◌<◌, ◌≤◌, ◌+◌, ◌-◌, ◌*◌, ℕ, suc, Bool, true, false, List, [], ◌∷◌, ◌++◌, length, get_or, take, map, Option, Some, None, IsSome, Contains, option_map, slice_get, Bor, inl, inr, refl, sym, ap, ◌∙◌, subst, arith, append_assoc, nat_cmp}
+use Rattle.std.proofs.Common.{◌≡◌, ◌<◌, ◌≤◌, ◌+◌, ◌-◌, ◌*◌, ℕ, suc, Bool, true, false, List, [], ◌∷◌, ◌++◌, length, get_or, take, map, Option, Some, None, Contains, option_map, slice_get, Bor, inl, inr, refl, sym, ap, ◌∙◌, subst, arith, append_assoc, nat_cmp}
 use Rattle.std.proofs.Math.Path.{fun_ext}
 use Rattle.std.proofs.lemmas.List.{append-nil, map-append, take_all, take_more, length-map, get_or-map}
 use Rattle.std.proofs.lemmas.Map.Made.{keys_of-map_values}
@@ -20,7 +20,7 @@ use Rattle.toml_names.specs.tree.Held.{below_in}
 use Rattle.toml_names.specs.reader.Parts as parts
 use Rattle.toml_names.specs.reader.Parts.{IsPart, part_kinds, plain_members}
 use Rattle.toml_names.specs.tree.Nodes.{Spot}
-use Rattle.tomled.specs.Tagged.{IsTagged, AreItems, AreMembers, HasKeys, keys, part, tag_of, text_of, told}
+use Rattle.tomled.specs.Tagged.{IsTagged, AreItems, AreMembers, keys, part, tag_of, text_of, told}
 use Rattle.tomled.specs.TaggedText.{WritesTagged}
 use Rattle.tomled.proofs.Tagging.{TagItems, TagItems-push}
 

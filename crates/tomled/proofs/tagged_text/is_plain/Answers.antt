@@ -1,4 +1,4 @@
-use Rattle.std.proofs.Common.{◌≡◌, ◌<◌, ◌⊎◌, ℕ, get_or, length, inl, inr, sym, arith, true≢false}
+use Rattle.std.proofs.Common.{◌≡◌, ◌<◌, ◌⊎◌, get_or, length, inl, inr, sym, arith, true≢false}
 use Rattle.tomled.proofs.Escapes.{not_plain}
 use Rattle.tomled.proofs.tagged_text.is_plain.Goals as goal
 use Rattle.tomled.proofs.tagged_text.is_plain.Goals.{then-byte-lt32-via-then-byte-lt32, then-byte-lt32-via-else-byte-lt32+then-byte-eq34, then-byte-lt32-via-else-byte-lt32+else-byte-eq34+then-byte-eq92}
