@@ -122,6 +122,13 @@ tail_few at b is =
     let e = sizes_add (piece b.ws ∷ []) (comment_parts b.comment) in
     omega (arith, c, e)
 
+header_few : (at : Option Address) (ws : Piece) (parts : List Part) (b : Blank) → length (tail_units at b) ≤ size (blank_parts b)
+    → length (tail_units at b) ≤ size (piece ws ∷ (parts ++ blank_parts b))
+header_few at ws parts b few =
+    let d = sizes_add (piece ws ∷ []) (parts ++ blank_parts b) in
+    let e = sizes_add parts (blank_parts b) in
+    omega (arith, few, d, e)
+
 -- what lies in a line has no more units than the line bytes
 expr_few : (earlier : List Named) (e : Expr) → IsExpr e → length (line_units earlier e) ≤ size (expr_parts e) + 1
 expr_few earlier (BlankLine b) is = let c = tail_few None b is.1 in omega (arith, c)
@@ -136,16 +143,12 @@ expr_few earlier (KeyValLine ws k b) is =
     omega (arith, v, c, a, d, e, f)
 expr_few earlier (TableLine ws h b) is =
     let at = own_address earlier (TableLine ws h b) in
-    let c = tail_few at b is.2.1 in
-    let d = sizes_add (piece ws ∷ []) (header_parts h ++ blank_parts b) in
-    let e = sizes_add (header_parts h) (blank_parts b) in
-    omega (arith, c, d, e)
+    let few = header_few at ws (header_parts h) b (tail_few at b is.2.1) in
+    omega (arith, few)
 expr_few earlier (ArrayTableLine ws h b) is =
     let at = own_address earlier (ArrayTableLine ws h b) in
-    let c = tail_few at b is.2.1 in
-    let d = sizes_add (piece ws ∷ []) (array_header_parts h ++ blank_parts b) in
-    let e = sizes_add (array_header_parts h) (blank_parts b) in
-    omega (arith, c, d, e)
+    let few = header_few at ws (array_header_parts h) b (tail_few at b is.2.1) in
+    omega (arith, few)
 
 lines_few : (ls : List Line) (earlier : List Named) (n : ℕ) → AreLines ls → length (units_from earlier n ls) ≤ 2 * size (lines_parts ls) + 1
 lines_few [] earlier n are = absurd are

@@ -53,7 +53,8 @@ pub fn edit(
 /// The document and the values of the edits are read in the profile. The text and the certificate are judged in it before
 /// they are handed out. Of plain edits (a `set` where a value stands, a `rename`, an `insert` of a name at the root, a `remove`
 /// of one there that is a line) the text is the one that their definition gives, byte for byte (`WritesPlain`); what is answered of
-/// them, and where behind them stands an edit with a fault or a `set` of what is spread, says `laws::plain_answers`. Faults are told in the order of `EditorFault`.
+/// them, and where behind them stands an edit with a fault or a `set` of what is spread, says `laws::plain_answers`. Faults
+/// are told in the order of `EditorFault`.
 pub fn edit_in(
     alloc: Global,
     before: &[u8],
