@@ -1,20 +1,39 @@
--- How many units of a kind are among the first ones.
-use Rattle.std.proofs.Common.{◌≡◌, ℕ, ◌+◌, ◌-◌, ◌≤◌, Bool, cond, List, length, take, drop, sym, ap, ◌∙◌, arith}
-use Rattle.std.proofs.Math.Seq.{take-add}
-use Rattle.std.proofs.lemmas.List.Sums.{sum_by-append}
-use Rattle.std.specs.Prelude.{count_by, slice_range}
-use Rattle.toml_units.specs.declared.unit.Unit.{Unit as Made}
-use Rattle.toml_checker.specs.declared.pairs.Passed.{Passed}
-use Rattle.toml_checker.specs.Walking.{IsPassed, lines_in}
+-- How many units were walked past.
+use Rattle.std.proofs.Common.{◌≡◌, ℕ, ◌+◌, ◌<◌, List, [], ◌∷◌, ◌++◌, length, Option, Some, None, IsSome, true≢false, Result, refl, sym, ap, subst, ◌∙◌, arith}
+use Rattle.std.specs.Prelude.{min, OnOk}
+use Rattle.std.proofs.lemmas.Result.{on_ok_weaker}
+use Rattle.toml_tree.specs.declared.profile.Profile.{Profile}
+use Rattle.toml_units.specs.declared.cursor.UnitCursor.{UnitCursor}
+use Rattle.toml_units.specs.Cursors.{Goes, Moves, Walks, current}
+use Rattle.std.proofs.lemmas.List.{length-map, length_push}
+use Rattle.toml_units.specs.Lined.{LinedUnit}
+use Rattle.toml_checker.specs.Traces.{Met, lined_of}
+use Rattle.toml_checker.specs.Walking.{GoesOn, IsFew}
 
--- among the first ones, and among those from there up to a place
-counted : {A : Type 0} (f : A → Bool) (xs : List A) (i k : ℕ) → i ≤ k → count_by f (take k xs) ≡ count_by f (take i xs) + count_by f (slice_range xs i k)
-counted f xs i k le =
-    let e : k ≡ i + (k - i) = omega arith in
-    ap (λ n. count_by f (take n xs)) e ∙ ap (count_by f) (take-add i (k - i) xs) ∙ sum_by-append (λ x. cond (f x) 1 0) (take i xs) (take (k - i) (drop i xs))
+pub as_long : (ms : List Met) → length (lined_of ms) ≡ length ms
+as_long ms = length-map ms (λ (m : Met). m.lined)
 
-pub passed : (us : List Made) (p : Passed) (place lines : ℕ) → IsPassed us p → p.units ≤ place → place ≤ length us → lines ≡ lines_in (slice_range us p.units place) → IsPassed us (record { units = place; lines = p.lines + lines })
-passed us p place lines h le within is = record {
-  within = within;
-  lines = ap (λ n. n + lines) h.lines ∙ ap (λ n. lines_in (take p.units us) + n) is ∙ sym (counted _ us p.units place le);
-}
+pub one_more : (ms : List Met) (m : Met) (p q : ℕ) → (IsFew (lined_of ms) → p ≡ length ms) → q ≡ min (p + 1) 18446744073709551615 → IsFew (lined_of (ms ++ m ∷ [])) → q ≡ length (ms ++ m ∷ [])
+one_more ms m p q h is few =
+    let long = length_push ms m in
+    let a = as_long (ms ++ m ∷ []) in
+    let b = as_long ms in
+    let low : length ms + 1 < 18446744073709551616 = omega (arith, few, a, long) in
+    let before = h (omega (arith, low, b)) in
+    is ∙ omega (arith, before, low, long)
+
+pub some_of : {A : Type 0} (o : Option A) → IsSome o → (x : A) × (o ≡ Some x)
+some_of None h = absurd (true≢false (sym h))
+some_of (Some x) h = (x, refl)
+
+-- a cursor that steps goes on
+pub goes_on : {E : Type 0} (old : UnitCursor) (passed : ℕ) (new : UnitCursor) (now : ℕ) → Goes old → IsSome (current old) → now ≡ min (passed + 1) 18446744073709551615 → (r : Result (Unit {0}) E)
+    → ((profile : Profile) (text : List ℕ) (past : List LinedUnit) → Walks profile text old past → OnOk r (Moves profile text past old new)) → OnOk r (GoesOn old passed new now)
+goes_on old passed new now (profile, text, past, walks) some is r h =
+    let x = some_of (current old) some in
+    on_ok_weaker r (λ moves. record { goes = (profile, text, past ++ x.0 ∷ [], moves.walks x.0 x.1); less = moves.less; count = omega (arith, is) }) (h profile text past walks)
+
+pub goes_on_from : {E : Type 0} (mid : UnitCursor) (mid_passed : ℕ) (old : UnitCursor) (passed : ℕ) (new : UnitCursor) (now : ℕ) → mid ≡ old → mid_passed ≡ passed → Goes old → IsSome (current old) → now ≡ min (mid_passed + 1) 18446744073709551615 → (r : Result (Unit {0}) E)
+    → ((profile : Profile) (text : List ℕ) (past : List LinedUnit) → Walks profile text mid past → OnOk r (Moves profile text past mid new)) → OnOk r (GoesOn old passed new now)
+goes_on_from mid mid_passed old passed new now same count goes some is r h =
+    goes_on old passed new now goes some (is ∙ ap (λ n. min (n + 1) 18446744073709551615) count) r (subst (λ (u : UnitCursor). (profile : Profile) (text : List ℕ) (past : List LinedUnit) → Walks profile text u past → OnOk r (Moves profile text past u new)) same h)

@@ -1,6 +1,5 @@
--- When nothing protected is lost, by marks.
+-- When nothing protected is lost, by marks on the units of a document.
 use Rattle.std.proofs.Common.{◌≡◌, ℕ, ◌<◌, ◌≤◌, ◌↔◌, Bool, List, length, map, get_or, ◌⊎◌, inl, inr, sym, ap, subst, ◌∙◌, arith}
-use Rattle.std.specs.Prelude.{IsTrue}
 use Rattle.std.proofs.lemmas.List.{length-map}
 use Rattle.std.proofs.lemmas.Option.{slice_get_within}
 use Rattle.toml_tree.specs.Spells.{Spells}
@@ -42,15 +41,16 @@ module _ (cs : List Change) (d : Doc) (text : List ℕ) (ps : List (ℕ × ℕ))
       let inside = lies us (order_of d text spells) j i before (omega (arith, count)) (subst (λ xs. get_or (stops xs) i 0 ≤ get_or (stops xs) j 0) is le) in
       inr (j, inside, w.0, w.1)
 
-  back : (i : ℕ) → i < n → IsProtected cs us i → IsFirst ps i ⊎ ((j : ℕ) × LiesInside us j i × IsProtected cs us j × IsFirst ps j) → IsHeld (stops ss) holders i
+  back : (i : ℕ) → i < n → IsProtected cs us i → IsFirst ps i ⊎ ((j : ℕ) × LiesInside us j i × IsProtected cs us j × IsFirst ps j)
+      → IsHeld (stops ss) holders i
   back i h p (inl f) = inl (held i h p f)
   back i h p (inr (j, inside, q, f)) =
       let le = ends_within us (order_of d text spells) j i inside in
       let before = inside.later in
       inr (j, before, held j (omega (arith, before)) q f, subst (λ xs. get_or (stops xs) i 0 ≤ get_or (stops xs) j 0) (sym is) le)
 
-  pub all_kept_is : (answer : Bool) (m : ℕ) → m ≡ n → IsTrue answer ↔ ((i : ℕ) → i < m → IsSet flags i → IsSet covers i) → IsTrue answer ↔ AllKept cs d ps
-  all_kept_is answer m e h = (
-    (λ y i p. kept i (low i p) ((covered i (low i p)).0 (h.0 y i (omega (arith, low i p)) ((flagged i).1 p)))),
-    (λ all. h.1 (λ i lt s. let p = (flagged i).0 s in let k : i < n = omega arith in (covered i k).1 (back i k p (all i p)))),
+  pub all_kept_is : ((i : ℕ) → i < n → IsSet flags i → IsSet covers i) ↔ AllKept cs d ps
+  all_kept_is = (
+    (λ h i p. kept i (low i p) ((covered i (low i p)).0 (h i (low i p) ((flagged i).1 p)))),
+    (λ all i low s. let p = (flagged i).0 s in (covered i low).1 (back i low p (all i p))),
   )

@@ -1,10 +1,8 @@
 -- What edits owe, as the code holds it.
-use Rattle.std.specs.Prelude.{◌≡◌, ◌⊎◌, ◌+◌, ◌==◌, ◌&&◌, ℕ, Bool, true, false, List, [], ◌∷◌, take, count_by, Option, Some, slice_get, slice_index_or, MatchOption}
+use Rattle.std.specs.Prelude.{◌≡◌, ◌⊎◌, Bool, true, List, [], ◌∷◌, Option, Some, MatchOption}
 use Rattle.toml_names.specs.model.Addresses.{Address}
 use Rattle.toml_edits.specs.Edits.{Change}
 use Rattle.toml_edits.specs.Lists.{carried}
-use Rattle.toml_units.specs.declared.unit.UnitKind.TheVariants as kinds
-use Rattle.toml_units.specs.Places.{is_line}
 use Rattle.toml_units.specs.Plain.{Spanned}
 use Rattle.toml_checker.specs.declared.debts.Debt.{Debt}
 use Rattle.toml_checker.specs.CarriedTo.{IsAtOrAbove, At}
@@ -28,12 +26,3 @@ IsOwedBy c cs a = (r to : Address) × (result c ≡ Some r) × (carried cs r ≡
 -- a line that is paired, or owed, or the last one and of no bytes
 abbrev pub IsAsked : List Debt → Bool → Bool → Spanned → Type 0
 IsAsked ds paired last u = (paired ≡ true) ⊎ At u.address (AnyCovers ds) ⊎ ((last ≡ true) × (u.start ≡ u.stop))
-
--- how many lines stand before the place
-abbrev pub lines_before : List Spanned → ℕ → ℕ
-lines_before us k = count_by (λ (u : Spanned). is_line u.kind) (take k us)
-
--- each line is asked for, of so many lines
-abbrev pub AreAsked : List Debt → List Bool → Bool → ℕ → List Spanned → Type 0
-AreAsked ds paired edited lines us = (k : ℕ) (u : Spanned) → slice_get us k ≡ Some u → u.kind ≡ kinds.Line
-    → IsAsked ds (slice_index_or paired k false) (edited && (lines_before us k + 1 == lines)) u

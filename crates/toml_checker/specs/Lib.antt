@@ -12,7 +12,6 @@ pub mod Documents
 pub mod Demands
 pub mod Reading
 pub mod After
-pub mod Walking
 pub mod Laws
 pub mod Headline
 -- words of the code's own contracts
@@ -29,3 +28,6 @@ pub mod Judging
 pub mod Counts
 pub mod UnmarkedComments
 pub mod WrittenComments
+pub mod Traces
+pub mod Added
+pub mod Walking

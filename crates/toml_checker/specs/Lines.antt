@@ -1,11 +1,9 @@
 -- That no line is added unasked.
-use Rattle.std.specs.Prelude.{◌≡◌, ◌⊎◌, ◌↔◌, ℕ, Bool, List, [], Some, IsTrue, length, map, slice_get}
+use Rattle.std.specs.Prelude.{◌≡◌, ◌⊎◌, ℕ, List, [], Some, slice_get}
 use Rattle.toml_tree.specs.Tree.{Doc}
 use Rattle.toml_edits.specs.Edits.{Change}
 use Rattle.toml_units.specs.declared.unit.UnitKind.TheVariants as kinds
-use Rattle.toml_units.specs.Plain.{spanned}
 use Rattle.toml_units.specs.Units.{TextUnit, units}
-use Rattle.toml_units.specs.View.{Spanned}
 use Rattle.toml_checker.specs.CarriedTo.{At}
 use Rattle.toml_checker.specs.Owed.{IsOwed}
 use Rattle.toml_checker.specs.Pairs.{IsSecond, IsLastLine}
@@ -18,7 +16,3 @@ IsEmptyEnd cs e k w = IsLastLine e k × (w.piece.text ≡ []) × ¬ (cs ≡ [])
 abbrev pub NoLinesAdded : List Change → Doc → List (ℕ × ℕ) → Type 0
 NoLinesAdded cs e ps = (k : ℕ) (w : TextUnit) → slice_get (units e.lines) k ≡ Some w → w.kind ≡ kinds.Line
     → IsSecond ps k ⊎ At w.address (IsOwed cs) ⊎ IsEmptyEnd cs e k w
-
--- whether no line is added to a text with so many lines and these units
-abbrev pub TellsLines : ℕ → List Spanned → List Change → List (ℕ × ℕ) → Bool → Type 0
-TellsLines count us cs ps holds = (e : Doc) → count ≡ length e.lines → us ≡ map spanned (units e.lines) → (IsTrue holds ↔ NoLinesAdded cs e ps)

@@ -25,9 +25,6 @@ abbrev pub IsFree : List ℕ → List Bool → ℕ → Type 0
 IsFree ends marks i = IsSet marks i × ¬ (EndsWithin ends marks i)
 
 -- the flags tell so of each of the code's units
-abbrev pub TellHeld : List Made → List Bool → List Bool → Type 0
-TellHeld us marks flags = (i : ℕ) → i < length us → (IsSet flags i ↔ IsHeld (stops (all_units us)) marks i)
-
 abbrev pub TellFree : List Made → List Bool → List Bool → Type 0
 TellFree us marks flags = (i : ℕ) → i < length us → (IsSet flags i ↔ IsFree (stops (all_units us)) marks i)
 

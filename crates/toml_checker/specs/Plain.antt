@@ -1,7 +1,6 @@
 -- The plain function of what is protected: which edits name a unit, read off where their places lie.
-use Rattle.std.specs.Prelude.{◌≡◌, ◌↔◌, ◌&&◌, ◌||◌, not, ℕ, Bool, true, false, List, [], ◌∷◌, length, map, option_map, Option, Some, None, slice_get, if◌then◌else◌}
+use Rattle.std.specs.Prelude.{◌≡◌, ◌↔◌, ◌&&◌, ◌||◌, not, ℕ, Bool, true, false, List, [], ◌∷◌, length, map, Option, Some, None, slice_get, if◌then◌else◌}
 use Rattle.std.specs.Bool.{nat_lt}
-use Rattle.std.specs.Borrow.{Bor}
 use Rattle.toml_names.specs.model.Addresses.{Address}
 use Rattle.toml_edits.specs.Carry.{carry}
 use Rattle.toml_edits.specs.Edits.{Change, set, rename, remove, place}
@@ -110,20 +109,26 @@ site u = record { kind = u.kind; address = u.address; base = u.base }
 abbrev pub made_site : Made → Site
 made_site u = record { kind = u.kind; address = u.address; base = u.base }
 
-abbrev pub line_site : Option (Bor Made) → Option Site
-line_site = option_map (λ (u : Bor Made). made_site u.now)
-
 -- the line of a comment stays
 abbrev pub home_stands : List Change → Option Site → Bool
 home_stands cs None = true
 home_stands cs (Some l) = stands parts.Home cs l.address l.base
 
+-- whether a unit is protected, where it is known whether its line stays
+abbrev pub is_kept_by : UnitKind → List Change → Bool → Site → Bool
+is_kept_by kinds.Line cs home s = stands parts.Line cs s.address s.base
+is_kept_by kinds.Pair cs home s = stands parts.Line cs s.address s.base
+is_kept_by kinds.Element cs home s = stands parts.Element cs s.address s.base
+is_kept_by kinds.TailComment cs home s = home
+is_kept_by kinds.InnerComment cs home s = home && stands parts.Comment cs s.address s.base
+
+-- the same of a unit of the line
 abbrev pub is_kept : UnitKind → List Change → Option Site → Site → Bool
-is_kept kinds.Line cs line s = stands parts.Line cs s.address s.base
-is_kept kinds.Pair cs line s = stands parts.Line cs s.address s.base
-is_kept kinds.Element cs line s = stands parts.Element cs s.address s.base
-is_kept kinds.TailComment cs line s = home_stands cs line
-is_kept kinds.InnerComment cs line s = home_stands cs line && stands parts.Comment cs s.address s.base
+is_kept kind cs line s = is_kept_by kind cs (home_stands cs line) s
+
+-- whether the line stays in which the unit is, or which it is
+abbrev pub home_with : List Change → Bool → Site → Bool
+home_with cs home s = if is_line s.kind then stands parts.Home cs s.address s.base else home
 
 -- the unit where it is a line, else the line so far
 abbrev pub next_line : Option Site → Site → Option Site

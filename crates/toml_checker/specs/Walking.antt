@@ -1,82 +1,213 @@
--- Units walked past in order, and what two units are found to have in common.
-use Rattle.std.specs.Prelude.{◌≡◌, ◌↔◌, ◌⊎◌, ◌<◌, ◌≤◌, ◌+◌, ℕ, Bool, IsTrue, List, [], ◌∷◌, Option, MatchOption, length, take, count_by, slice_get, slice_range}
-use Rattle.toml_tree.specs.Tree.{Doc}
+-- Two texts on the way through their units.
+use Rattle.std.specs.Prelude.{◌≡◌, ◌↔◌, ◌⊎◌, ◌<◌, ◌≤◌, ◌+◌, ◌∷◌, ◌++◌, [], ℕ, Bool, true, false, IsTrue, List, Option, Some, None, MatchOption, length}
+use Rattle.std.specs.Bool.{nat_lt}
+use Rattle.std.specs.List.{flat_map}
+use Rattle.toml_text.specs.Limit.{IsText}
+use Rattle.toml_tree.specs.Spells.{EachIs}
+use Rattle.toml_tree.specs.HandedOut.{AreLinesIn}
+use Rattle.toml_tree.specs.Tree.{Doc, Line}
+use Rattle.toml_tree.specs.declared.profile.Profile.{Profile}
+use Rattle.toml_names.specs.declared.line_names.LineNames.{LineNames}
+use Rattle.toml_names.specs.model.Documents.{IsDocumentIn}
+use Rattle.toml_names.specs.reader.LineNames.{StandFor}
 use Rattle.toml_edits.specs.Edits.{Change}
-use Rattle.toml_units.specs.declared.unit.Unit.{Unit as Made}
-use Rattle.toml_units.specs.Places.{is_line}
-use Rattle.toml_checker.specs.declared.documents.Document.{Document}
-use Rattle.toml_checker.specs.declared.pairs.Passed.{Passed}
-use Rattle.toml_checker.specs.CarriedTo.{IsCarriedTo}
-use Rattle.toml_checker.specs.Pairs.{RiseFrom, AllFit, StandsAs}
-use Rattle.toml_checker.specs.Reading.{IsRead, IsReadAs}
+use Rattle.toml_units.specs.declared.cursor.UnitCursor.{UnitCursor}
+use Rattle.toml_units.specs.Cursors.{Ends, Goes, Walks, current, to_go}
+use Rattle.toml_units.specs.Lined.{LinedUnit}
+use Rattle.toml_units.specs.View.{unit}
+use Rattle.toml_checker.specs.declared.added.Added.{Added}
+use Rattle.toml_checker.specs.declared.added.Asked.{Asked}
+use Rattle.toml_checker.specs.declared.pairs.Spot.{Spot}
+use Rattle.toml_checker.specs.declared.walk.FirstText.{FirstText}
+use Rattle.toml_checker.specs.declared.walk.SecondText.{SecondText}
+use Rattle.toml_checker.specs.declared.walk.Found.{Found}
+use Rattle.toml_checker.specs.declared.walk.Said.{Said}
+use Rattle.toml_checker.specs.declared.walk.Walk.{Walk}
+use Rattle.toml_checker.specs.declared.written.Written.{Written}
+use Rattle.toml_checker.specs.Comments.{NoCommentsAdded, times}
+use Rattle.toml_checker.specs.Counts.{plain}
+use Rattle.toml_checker.specs.Kept.{AllKept}
+use Rattle.toml_checker.specs.Lines.{NoLinesAdded}
+use Rattle.toml_checker.specs.WrittenComments.{HaveValues}
+use Rattle.toml_checker.specs.Added.{Asks, HasAdded}
+use Rattle.toml_checker.specs.EditLists.{changes}
+use Rattle.toml_checker.specs.Marks.{IsSet}
+use Rattle.toml_checker.specs.Pairs.{IsFirst, IsSecond, PairsFit, Rise}
+use Rattle.toml_checker.specs.Traces.{AreAlike, MayBe, Met, StandsIn, kept_over, lined_of, paired_of}
 
--- how many of the units are lines
-abbrev pub lines_in : List Made → ℕ
-lines_in us = count_by (λ (u : Made). is_line u.kind) us
+abbrev pub lined_at : Spot → LinedUnit
+lined_at s = record { unit = unit s.unit.now; newline = s.newline.now }
 
--- so many units were walked past, and so many lines are among them
-pub record IsPassed (us : List Made) (p : Passed) : Type 0 where
-  pub within : p.units ≤ length us
-  pub lines : p.lines ≡ lines_in (take p.units us)
+-- each new comment is one that an edit writes, and no text stands more often among them than in what edits write
+abbrev pub AddsNoComments : Asked → Added → Type 0
+AddsNoComments asked added = IsTrue added.allowed × ((t : List ℕ) → times t (plain added.texts.items) ≤ times t (flat_map (λ (w : Written). plain w.texts.items) asked.written.items))
 
--- from there on those before the number were, whose unit is there
-pub record IsReached (us : List Made) (from : Passed) (number : ℕ) (spot : Passed) : Type 0 where
-  pub at : spot.units ≡ number
-  pub passed : IsPassed us spot
-  pub onward : from.units ≤ number
-  pub there : number < length us
+-- the numbers of units have 64 bits
+abbrev pub IsFew : List LinedUnit → Type 0
+IsFew xs = length xs < 18446744073709551616
 
--- there is no such spot exactly where the number's unit was walked past, or is not there
-abbrev pub Reaches : List Made → Passed → ℕ → Option Passed → Type 0
-Reaches us from number = λ found. MatchOption found ((number < from.units) ⊎ (length us ≤ number)) (IsReached us from number)
+-- these units of the first text were walked past
+pub record HasPassed (profile : Profile) (cs : List Change) (one : FirstText) (ms : List Met) : Type 0 where
+  pub walks : Walks profile one.text.now one.cursor (lined_of ms)
+  pub kept : one.kept ≡ kept_over cs ms
+  pub passed : IsFew (lined_of ms) → one.passed ≡ length ms
 
--- of a document that was read, the unit behind those walked past is there
-pub record IsSpot (d : Document) (p : Passed) : Type 0 where
-  pub read : IsRead d
-  pub passed : IsPassed d.units.now p
-  pub there : p.units < length d.units.now
+-- and these of the second one
+pub record HasReached (profile : Profile) (asked : Asked) (other : SecondText) (ms : List Met) : Type 0 where
+  pub walks : Walks profile other.text.now other.cursor (lined_of ms)
+  pub added : HasAdded asked other.text.now ms other.added
+  pub passed : IsFew (lined_of ms) → other.passed ≡ length ms
 
--- the unit stands within the text
-abbrev pub IsWithin : List ℕ → Made → Type 0
-IsWithin text u = (u.span.start ≤ u.span.end) × (u.span.end ≤ length text)
+-- more units stand before the number, or there is none
+abbrev pub lies_ahead : Option ℕ → ℕ → Bool
+lies_ahead None passed = true
+lies_ahead (Some n) passed = nat_lt passed n
 
--- two units are of one kind, with the same bytes, and the edits carry the one's address to the other's
-abbrev pub AreAlike : List Change → List ℕ → Made → List ℕ → Made → Type 0
-AreAlike cs text u other w = (u.kind ≡ w.kind) × (slice_range text u.span.start u.span.end ≡ slice_range other w.span.start w.span.end) × IsCarriedTo cs u.address w.address
+-- units behind others, up to the number, if there is one and that many units, or to the end
+pub record GoesTo (next : Option LinedUnit) (passed : ℕ) (number : Option ℕ) (old_next : Option LinedUnit) (old_passed : ℕ) (old : List Met) (more : List Met) : Type 0 where
+  pub unpaired : EachIs (λ (m : Met). m.paired ≡ false) more
+  pub stops : (next ≡ None) ⊎ ((n : ℕ) × (number ≡ Some n) × (n ≤ passed))
+  pub low : (n : ℕ) → number ≡ Some n → old_passed ≤ n → passed ≤ n
+  pub back : (all : List LinedUnit) → MayBe next (lined_of (old ++ more)) all → MayBe old_next (lined_of old) all
 
--- of the newlines of two texts, those of the lines with these numbers are one, or one of the lines is the last of its text
-abbrev pub HaveOneNewline : List (List ℕ) → List (List ℕ) → ℕ → ℕ → Type 0
-HaveOneNewline xs ys m n = (slice_get xs m ≡ slice_get ys n) ⊎ (m + 1 ≡ length xs) ⊎ (n + 1 ≡ length ys)
+-- a cursor goes on, and comes nearer to the end; and so many units were walked past, at most one more
+pub record GoesOn (old : UnitCursor) (passed : ℕ) (new : UnitCursor) (now_passed : ℕ) : Type 0 where
+  pub goes : Goes new
+  pub less : to_go new < to_go old
+  pub count : now_passed ≤ passed + 1
 
--- the numbers of a pair are not below these, and its units fit
-pub record NextFits (cs : List Change) (d e : Doc) (i k : ℕ) (p : ℕ × ℕ) : Type 0 where
+-- one unit more of the first text was walked past
+abbrev pub PassesOne : Profile → List Change → FirstText → List Met → Bool → FirstText → Type 0
+PassesOne profile cs old ms paired new = (x : LinedUnit) → current old.cursor ≡ Some x → HasPassed profile cs new (ms ++ record { lined = x; paired = paired } ∷ [])
+
+-- more units of it
+pub record PassesTo (profile : Profile) (cs : List Change) (old : FirstText) (ms : List Met) (number : Option ℕ) (new : FirstText) : Type 0 where
+  pub more : List Met
+  pub passed : HasPassed profile cs new (ms ++ more)
+  pub goes : GoesTo (current new.cursor) new.passed number (current old.cursor) old.passed ms more
+
+-- the same of the second text
+abbrev pub ReachesOne : Profile → Asked → SecondText → List Met → Bool → SecondText → Type 0
+ReachesOne profile asked old ms paired new = (x : LinedUnit) → current old.cursor ≡ Some x → HasReached profile asked new (ms ++ record { lined = x; paired = paired } ∷ [])
+
+pub record ReachesTo (profile : Profile) (asked : Asked) (old : SecondText) (ms : List Met) (number : Option ℕ) (new : SecondText) : Type 0 where
+  pub more : List Met
+  pub reached : HasReached profile asked new (ms ++ more)
+  pub goes : GoesTo (current new.cursor) new.passed number (current old.cursor) old.passed ms more
+
+-- both texts on the way, with what the edits ask for
+pub record IsOn (profile : Profile) (cs : List Change) (w : Walk) (ms ns : List Met) : Type 0 where
+  pub edits : changes w.list ≡ cs
+  pub asks : Asks profile cs w.asked
+  pub first : HasPassed profile cs w.one ms
+  pub second : HasReached profile w.asked w.other ns
+
+-- they are for some edits, and after some units
+abbrev pub IsGoing : Walk → Type 0
+IsGoing w = (profile : Profile) × (cs : List Change) × (ms : List Met) × (ns : List Met) × IsOn profile cs w ms ns
+
+-- the texts stand before the units of the pair, which are the same
+pub record IsPairHere (cs : List Change) (one : FirstText) (other : SecondText) (p : ℕ × ℕ) : Type 0 where
+  pub first_at : one.passed ≡ p.0
+  pub second_at : other.passed ≡ p.1
+  pub first : LinedUnit
+  pub first_is : current one.cursor ≡ Some first
+  pub second : LinedUnit
+  pub second_is : current other.cursor ≡ Some second
+  pub alike : AreAlike cs one.text.now first other.text.now second
+
+abbrev pub TellsPair : List Change → FirstText → SecondText → ℕ × ℕ → Bool → Type 0
+TellsPair cs one other p holds = IsTrue holds ↔ IsPairHere cs one other p
+
+-- the numbers of a pair are not below these, and its units are the same
+pub record NextFits (cs : List Change) (text : List ℕ) (xs : List LinedUnit) (other : List ℕ) (ys : List LinedUnit) (i k : ℕ) (p : ℕ × ℕ) : Type 0 where
   pub first : i ≤ p.0
   pub second : k ≤ p.1
-  pub stands : StandsAs cs d e p.0 p.1
+  pub stands : StandsIn cs text xs other ys p.0 p.1
 
--- so it is of the trees of two documents that were read
-abbrev pub OfTrees : Document → Document → (Doc → Doc → Type 0) → Type 0
-OfTrees b a P = (d e : Doc) → IsReadAs b d → IsReadAs a e → P d e
+-- these may be all units of the two texts
+pub record MayBeAll (w : Walk) (ms ns : List Met) (xs ys : List LinedUnit) : Type 0 where
+  pub first : MayBe (current w.one.cursor) (lined_of ms) xs
+  pub second : MayBe (current w.other.cursor) (lined_of ns) ys
+  pub first_few : IsFew xs
+  pub second_few : IsFew ys
 
--- the answer tells whether it is so
-abbrev pub TellsOfTrees : Document → Document → (Doc → Doc → Type 0) → Bool → Type 0
-TellsOfTrees b a P holds = OfTrees b a (λ d e. IsTrue holds ↔ P d e)
+-- behind units that were walked past came more, of which the last is the only one that is paired: the one with the number
+pub record IsPairedAt (n : ℕ) (old new : List Met) : Type 0 where
+  pub marks : (i : ℕ) → IsSet (paired_of new) i ↔ (IsSet (paired_of old) i ⊎ (n ≡ i))
+  pub long : length new ≡ n + 1
 
--- the units of a pair that fits were walked past too
-pub record IsPairPassed (cs : List Change) (b a : Document) (first second : Passed) (p : ℕ × ℕ) (past : Passed × Passed) : Type 0 where
-  pub fits : OfTrees b a (λ d e. NextFits cs d e first.units second.units p)
-  pub first_past : past.0.units ≡ p.0 + 1
-  pub second_past : past.1.units ≡ p.1 + 1
-  pub first_passed : IsPassed b.units.now past.0
-  pub second_passed : IsPassed a.units.now past.1
+-- Units were walked past, up to those of the pair; and these too, as paired ones, if they are the same.
+pub record PairTold (profile : Profile) (cs : List Change) (old : Walk) (ms ns : List Met) (p : ℕ × ℕ) (new : Walk) (fits : Bool) : Type 0 where
+  pub one : List Met
+  pub other : List Met
+  pub on : IsOn profile cs new (ms ++ one) (ns ++ other)
+  pub first_text : new.one.text ≡ old.one.text
+  pub second_text : new.other.text ≡ old.other.text
+  pub back : (xs ys : List LinedUnit) → MayBeAll new (ms ++ one) (ns ++ other) xs ys → MayBeAll old ms ns xs ys
+  pub told : (xs ys : List LinedUnit) → MayBeAll new (ms ++ one) (ns ++ other) xs ys
+      → IsTrue fits ↔ NextFits cs old.one.text.now xs old.other.text.now ys (length ms) (length ns) p
+  pub marked : (xs ys : List LinedUnit) → MayBeAll new (ms ++ one) (ns ++ other) xs ys → fits ≡ true
+      → IsPairedAt p.0 ms (ms ++ one) × IsPairedAt p.1 ns (ns ++ other)
 
-abbrev pub PassesPair : List Change → Document → Document → Passed → Passed → ℕ × ℕ → Option (Passed × Passed) → Type 0
-PassesPair cs b a first second p = λ found. MatchOption found (OfTrees b a (λ d e. ¬ (NextFits cs d e first.units second.units p))) (IsPairPassed cs b a first second p)
+-- all pairs rise, and the units of each are the same
+abbrev pub AllFitIn : List Change → List ℕ → List LinedUnit → List ℕ → List LinedUnit → List (ℕ × ℕ) → Type 0
+AllFitIn cs text xs other ys ps = Rise ps × EachIs (λ p. StandsIn cs text xs other ys p.0 p.1) ps
 
--- pairs that rise from these numbers on
-abbrev pub RiseAt : ℕ → ℕ → List (ℕ × ℕ) → Type 0
-RiseAt i k [] = Unit {0}
-RiseAt i k (p ∷ ps) = (i ≤ p.0) × (k ≤ p.1) × RiseFrom p.0 p.1 ps
+-- the units of the pairs are those that are marked
+pub record AreMarked (ps : List (ℕ × ℕ)) (ms ns : List Met) : Type 0 where
+  pub first : (i : ℕ) → IsSet (paired_of ms) i ↔ IsFirst ps i
+  pub second : (k : ℕ) → IsSet (paired_of ns) k ↔ IsSecond ps k
 
-abbrev pub RestFits : List Change → Doc → Doc → ℕ → ℕ → List (ℕ × ℕ) → Type 0
-RestFits cs d e i k ps = RiseAt i k ps × AllFit cs d e ps
+-- Units were walked past up to those of the last pair, or of the first that is not the same.
+pub record PairsTold (profile : Profile) (cs : List Change) (old : Walk) (ps : List (ℕ × ℕ)) (new : Walk) (fits : Bool) : Type 0 where
+  pub ms : List Met
+  pub ns : List Met
+  pub on : IsOn profile cs new ms ns
+  pub first_text : new.one.text ≡ old.one.text
+  pub second_text : new.other.text ≡ old.other.text
+  pub told : (xs ys : List LinedUnit) → MayBeAll new ms ns xs ys → IsTrue fits ↔ AllFitIn cs old.one.text.now xs old.other.text.now ys ps
+  pub marked : (xs ys : List LinedUnit) → MayBeAll new ms ns xs ys → fits ≡ true → AreMarked ps ms ns
+
+-- both texts were walked through to the end, past these units more
+pub record Finishes (profile : Profile) (cs : List Change) (old : Walk) (ms ns : List Met) (fits : Bool) (found : Found) : Type 0 where
+  pub one : List Met
+  pub other : List Met
+  pub one_unpaired : EachIs (λ (m : Met). m.paired ≡ false) one
+  pub other_unpaired : EachIs (λ (m : Met). m.paired ≡ false) other
+  pub back : IsFew (lined_of (ms ++ one)) → IsFew (lined_of (ns ++ other)) → MayBeAll old ms ns (lined_of (ms ++ one)) (lined_of (ns ++ other))
+  pub names : Ends profile old.one.text.now (lined_of (ms ++ one)) found.names
+  pub others : Ends profile old.other.text.now (lined_of (ns ++ other)) found.others
+  pub fits_is : found.said.fits ≡ fits
+  pub kept : found.said.kept ≡ (kept_over cs (ms ++ one)).all
+  pub added : Added
+  pub has_added : HasAdded old.asked old.other.text.now (ns ++ other) added
+  pub lines : found.said.lines ≡ added.lines
+  pub comments : IsTrue found.said.comments ↔ AddsNoComments old.asked added
+
+-- the names are those of all lines of the text; without them it is no document
+pub record NamesAll (profile : Profile) (text : List ℕ) (names : LineNames) : Type 0 where
+  pub fits : IsText text
+  pub lines : List Line
+  pub are : AreLinesIn profile text lines
+  pub stand : StandFor names lines
+
+abbrev pub FindsNames : Profile → List ℕ → Option LineNames → Type 0
+FindsNames profile text found = MatchOption found (¬ IsDocumentIn profile text) (NamesAll profile text)
+
+-- what is said of two documents is so of their trees: of the pairs, and where these fit of what is kept and of what is added
+pub record Says (profile : Profile) (cs : List Change) (ps : List (ℕ × ℕ)) (d e : Doc) (said : Said) : Type 0 where
+  pub pairs : IsTrue said.fits ↔ PairsFit cs d e ps
+  pub kept : said.fits ≡ true → IsTrue said.kept ↔ AllKept cs d ps
+  pub lines : said.fits ≡ true → IsTrue said.lines ↔ NoLinesAdded cs e ps
+  pub comments : said.fits ≡ true → HaveValues profile cs → IsTrue said.comments ↔ NoCommentsAdded cs e ps
+
+-- so it is of the documents that the texts are
+abbrev pub SaysOf : Profile → List ℕ → List Change → List ℕ → List (ℕ × ℕ) → Said → Type 0
+SaysOf profile before cs after ps said = (old : IsDocumentIn profile before) (new : IsDocumentIn profile after) → Says profile cs ps old.1 new.1 said
+
+-- what was found of two texts
+pub record IsFound (profile : Profile) (before : List ℕ) (cs : List Change) (after : List ℕ) (ps : List (ℕ × ℕ)) (found : Found) : Type 0 where
+  pub first : FindsNames profile before found.names
+  pub second : FindsNames profile after found.others
+  pub says : SaysOf profile before cs after ps found.said

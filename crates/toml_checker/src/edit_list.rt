@@ -60,12 +60,9 @@ impl<'e> EditList<'e> {
     /// Makes the run of the unit, if the unit has an address that the last run does not cover and that is not far from all
     /// edits. Where there is none the last run stays. There is none at its array, or above that: comments between elements do
     /// not have the edits gone through.
-    pub(crate) fn come_to(&mut self, unit: Option<&Unit>)
+    pub(crate) fn come_to(&mut self, unit: &Unit)
         ensures { self.new.edits.now ≡ self.old.edits.now }
     {
-        let Some(unit) = unit else {
-            return;
-        };
         let Some(at) = &unit.address else {
             return;
         };

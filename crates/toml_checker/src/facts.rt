@@ -42,13 +42,13 @@ fn told(fault: EditFault) -> Result<(), AllocError>
 /// What edits make of the data of a document: those along the addresses that they touch, beside the rest of the document's
 /// own. Only the former are built.
 #[derive(Drop)]
-pub struct Made<'t> {
+pub(crate) struct Made<'t> {
     /// The names of the document.
-    pub names: LineNames<'t>,
+    names: LineNames<'t>,
     /// The addresses that the edits touch.
-    pub touched: AddressSet,
+    touched: AddressSet,
     /// What the edits make along these.
-    pub data: Data,
+    data: Data,
 }
 
 /// What the edits make of the data of the lines taken; none where one is not defined on the data so far.

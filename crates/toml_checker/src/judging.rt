@@ -1,111 +1,104 @@
 //! The judge: the demands, one after the other.
-ghost use Rattle.std.specs.Prelude.{◌≡◌, ◌↔◌, IsTrue, IfOk, map};
-ghost use Rattle.toml_tree.specs.Tree.{Doc};
+ghost use Rattle.std.specs.Prelude.{ℕ, IfOk, List, OnOk, map};
+ghost use Rattle.toml_text.specs.Source.{text_of};
+ghost use Rattle.toml_tree.specs.declared.profile.Profile.{Profile as InProfile};
 ghost use Rattle.toml_tree.specs.declared.profile.Profile.TheVariants.{One};
-ghost use Rattle.toml_names.specs.model.Documents.{IsDocumentIn};
 ghost use Rattle.toml_edits.specs.Edits.{change};
-ghost use Rattle.toml_checker.specs.After.{GivesMade, IsMadeOf};
 ghost use Rattle.toml_checker.specs.Demands.{IsVerdict};
 ghost use Rattle.toml_checker.specs.Headline.{YesMeans};
-ghost use Rattle.toml_checker.specs.Judging.{HoldBelow};
-ghost use Rattle.toml_checker.specs.Kept.{AllKept};
-ghost use Rattle.toml_checker.specs.Reading.{IsRead, IsReadAs};
+ghost use Rattle.toml_checker.specs.Judging.{HoldBelow, IsOfMemory, IsRefusal};
+ghost use Rattle.toml_checker.specs.Walking.{IsFound, SaysOf};
 
-use crate::comments::no_comments_added;
-use crate::documents::{Document, read};
-use crate::facts::{Made, are_made, make};
+use crate::facts::{are_made, make};
 use crate::frame::keeps_frame;
-use crate::kept::all_kept;
-use crate::lines::no_lines_added;
-use crate::pairs::pairs_fit;
-use crate::protection::protected;
 use crate::verdict::{Reason, Verdict};
+use crate::walk::{Found, Said, walk_through};
 use std::alloc::{AllocError, Global};
 use toml_edits::Edit;
-use toml_tree::Profile;
-use toml_units::{Certificate, ReadText};
+use toml_names::{NameFault, ReadFault, judge_text};
+use toml_text::Source;
+use toml_tree::{Profile, SyntaxFault};
+use toml_units::Certificate;
 
-/// Whether no protected unit of a document is lost.
-fn keeps_protected(
-    alloc: Global,
-    before: Document,
-    edits: &[Edit],
-    pairs: &[(u64, u64)],
-) -> Result<bool, AllocError>
-    requires { IsRead before }
-    ensures { IfOk result (λ kept. (d : Doc) → IsReadAs before.entry d → (IsTrue kept ↔ AllKept (map change edits.now) d pairs.now)) }
+/// What the demands on the pairs, the units and the texts say, where those on the documents and their data hold.
+fn judge_units(said: Said, before: &[u8], edits: &[Edit], after: &[u8]) -> Verdict
+    ensures { let cs = map change edits.now in
+        (profile : InProfile) (pairs : List (ℕ × ℕ)) → HoldBelow profile 4 before.now cs after.now pairs → SaysOf profile before.now cs after.now pairs said
+        → IsVerdict profile before.now cs after.now pairs result }
 {
-    let flags = protected(alloc, before.units, edits)?;
-    all_kept(alloc, before.units, &flags, pairs)
+    if !said.fits {
+        return Verdict::No(Reason::BadPair);
+    }
+    if !said.kept {
+        return Verdict::No(Reason::Lost);
+    }
+    if !said.lines {
+        return Verdict::No(Reason::Unasked);
+    }
+    if !said.comments {
+        return Verdict::No(Reason::NewComment);
+    }
+    if !keeps_frame(before, edits, after) {
+        return Verdict::No(Reason::NotTheSame);
+    }
+    Verdict::Yes
 }
 
-/// The demands on the pairs, the units and the texts, where those on the documents and their data hold.
+/// What all demands say of two texts of which this was found.
 fn judge(
     alloc: Global,
-    before: Document,
+    found: Found,
+    before: &[u8],
     edits: &[Edit],
-    after: Document,
-    pairs: &[(u64, u64)],
-    profile: Profile,
-) -> Result<Verdict, AllocError>
-    requires before { IsRead before }
-    requires after { IsRead after }
-    requires so_far { HoldBelow profile 4 before.text.now (map change edits.now) after.text.now pairs.now }
-    ensures { IfOk result (IsVerdict profile before.entry.text.now (map change edits.now) after.entry.text.now pairs.now) }
-{
-    if !pairs_fit(alloc, before, edits, after, pairs)? {
-        return Ok(Verdict::No(Reason::BadPair));
-    }
-    if !keeps_protected(alloc, before, edits, pairs)? {
-        return Ok(Verdict::No(Reason::Lost));
-    }
-    if !no_lines_added(alloc, after.newlines.len(), after.units, edits, pairs)? {
-        return Ok(Verdict::No(Reason::Unasked));
-    }
-    if !no_comments_added(alloc, after.text, after.units, edits, pairs, profile)? {
-        return Ok(Verdict::No(Reason::NewComment));
-    }
-    if !keeps_frame(before.text, edits, after.text) {
-        return Ok(Verdict::No(Reason::NotTheSame));
-    }
-    Ok(Verdict::Yes)
-}
-
-/// What the demands say of a second text, where the first one is read and the data are made, if the edits are defined.
-fn judge_after(
-    alloc: Global,
-    before: Document,
-    edits: &[Edit],
-    made: Option<Made>,
     after: &[u8],
-    pairs: &[(u64, u64)],
     profile: Profile,
 ) -> Result<Verdict, AllocError>
-    requires read { IsRead before }
-    requires document { IsDocumentIn profile before.text.now }
-    requires made { GivesMade profile before.text.now (map change edits.now) made }
-    ensures { IfOk result (IsVerdict profile before.entry.text.now (map change edits.now) after.now pairs.now) }
+    requires { (pairs : List (ℕ × ℕ)) × IsFound profile before.now (map change edits.now) after.now pairs found }
+    ensures { let cs = map change edits.now in
+        (pairs : List (ℕ × ℕ)) → IsFound profile before.now cs after.now pairs found.entry → IfOk result (IsVerdict profile before.now cs after.now pairs) }
 {
-    let Some(found) = read(alloc, after, profile)? else {
+    let Found {
+        names,
+        others,
+        said,
+    } = found;
+    let Some(names) = names else {
+        return Ok(Verdict::No(Reason::BeforeRefused));
+    };
+    let Some(others) = others else {
         return Ok(Verdict::No(Reason::AfterRefused));
     };
-    let Some(made) = made else {
+    let Some(made) = make(alloc, names, edits, profile)? else {
         return Ok(Verdict::No(Reason::EditsRefused));
     };
-    let ReadText {
-        names,
-        units,
-        newlines,
-    } = found;
-    if !are_made(names, made)? {
+    if !are_made(others, made)? {
         return Ok(Verdict::No(Reason::OtherData));
     }
-    let after = Document {
-        text: after,
-        units: &units,
-        newlines: &newlines,
-    };
-    judge(alloc, before, edits, after, pairs, profile)
+    Ok(judge_units(said, before, edits, after))
+}
+
+/// Passes on that there was no memory.
+fn told(fault: ReadFault) -> Result<(), AllocError>
+    ensures { OnOk result (¬ (IsOfMemory fault)) }
+{
+    match fault {
+        ReadFault::Syntax(SyntaxFault::NoMemory) => Err(AllocError),
+        ReadFault::Names(NameFault::NoMemory) => Err(AllocError),
+        _ => Ok(()),
+    }
+}
+
+/// Why two texts are refused, where the second is not UTF-8 or too long: for the first one, if that is no document.
+fn refuse(alloc: Global, source: Source, profile: Profile) -> Result<Reason, AllocError>
+    ensures { IfOk result (IsRefusal profile (text_of source.entry)) }
+{
+    match judge_text(alloc, source, profile) {
+        Ok(()) => Ok(Reason::AfterRefused),
+        Err(fault) => {
+            told(fault)?;
+            Ok(Reason::BeforeRefused)
+        }
+    }
 }
 
 /// Whether the pairs of the certificate certify, in profile 1, that the second text is what the edits make of the first:
@@ -124,7 +117,8 @@ pub fn check(
 }
 
 /// Whether the pairs of the certificate certify that the second text is what the edits make of the first, with all that
-/// no edit names in it as it was, the texts and the values of the edits read in the profile. Each text is read once.
+/// no edit names in it as it was, the texts and the values of the edits read in the profile. Each text is read once, both
+/// side by side, and no line is kept for longer than the walk stands in it.
 ///
 /// The demands are asked in the order of the reasons, and the first that fails is told:
 ///
@@ -151,54 +145,21 @@ pub fn check_in(
 {
     // each takes some bytes of memory
     prove!(edits.len() <= isize::MAX as usize);
-    let Some(found) = read(alloc, before, profile)? else {
+    let Ok(source) = Source::new(before) else {
         return Ok(Verdict::No(Reason::BeforeRefused));
     };
-    let ReadText {
-        names,
-        units,
-        newlines,
-    } = found;
-    let made = make(alloc, names, edits, profile)?;
-    let before = Document {
-        text: before,
-        units: &units,
-        newlines: &newlines,
+    let Ok(other) = Source::new(after) else {
+        return Ok(Verdict::No(refuse(alloc, source, profile)?));
     };
-    judge_after(
+    let found = walk_through(
         alloc,
         before,
+        source,
         edits,
-        made,
         after,
+        other,
         &certificate.pairs,
         profile,
-    )
-}
-
-/// What `check_in` answers of a document that is read already, with what the edits make of its data: the same verdict,
-/// by the same code. The second text alone is read. What a yes means is the law of the headline.
-pub fn check_made(
-    alloc: Global,
-    before: Document,
-    edits: &[Edit],
-    made: Made,
-    after: &[u8],
-    certificate: &Certificate,
-    profile: Profile,
-) -> Result<Verdict, AllocError>
-    requires read { IsRead before }
-    requires document { IsDocumentIn profile before.text.now }
-    requires made { IsMadeOf profile before.text.now (map change edits.now) made }
-    ensures { IfOk result (IsVerdict profile before.entry.text.now (map change edits.now) after.now certificate.now.pairs.items) }
-{
-    judge_after(
-        alloc,
-        before,
-        edits,
-        Some(made),
-        after,
-        &certificate.pairs,
-        profile,
-    )
+    )?;
+    judge(alloc, found, before, edits, after, profile)
 }

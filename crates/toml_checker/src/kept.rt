@@ -1,51 +1,57 @@
 //! That nothing protected is lost.
-ghost use Rattle.std.specs.Prelude.{◌≡◌, ◌↔◌, ◌<◌, ℕ, IsTrue, IfOk, length, vec_len};
-ghost use Rattle.toml_checker.specs.Kept.{TellsAllKept};
-ghost use Rattle.toml_checker.specs.Marks.{IsSet};
+ghost use Rattle.std.specs.Prelude.{◌≡◌, IfOk};
+ghost use Rattle.toml_units.specs.View.{unit as span_of};
+ghost use Rattle.toml_checker.specs.EditLists.{changes};
+ghost use Rattle.toml_checker.specs.Traces.{kept_with, nothing_kept};
 
-use crate::covered::{covered, first_marks};
+use crate::edit_list::EditList;
+use crate::marks::{reach_with, reaches};
+use crate::protection::{home_with, is_kept};
 use std::alloc::{AllocError, Global};
 use toml_units::Unit;
 
-/// The marks that are in both.
-fn both(alloc: Global, one: &[bool], other: &[bool]) -> Result<Vec<bool>, AllocError>
-    requires { length one.now ≡ length other.now }
-    ensures len { IfOk result (λ v. vec_len v ≡ length one.now) }
-    ensures marked { IfOk result (λ v. (i : ℕ) → i < length one.now → (IsSet v.items i ↔ (IsSet one.now i × IsSet other.now i))) }
-{
-    let mut marks = Vec::with_capacity(alloc, one.len())?;
-    for (index, first) in one.iter().enumerate() {
-        marks.push(*first & other[index])?;
-    }
-    Ok(marks)
+/// What was found of the units of the first text that were walked past.
+#[derive(Clone, Copy)]
+pub(crate) struct Kept {
+    /// Whether the line that was walked past last is still there: comments of it may follow.
+    pub(crate) home: bool,
+    /// The furthest end of protected units that are paired.
+    pub(crate) reach: Option<usize>,
+    /// Whether each protected one is paired, or ends no further than a paired one before it that is protected: in a document,
+    /// where the starts do not fall, it lies inside that.
+    pub(crate) all: bool,
 }
 
-/// Whether each mark is in the others too.
-fn all_within(marks: &[bool], others: &[bool]) -> bool
-    requires { length marks.now ≡ length others.now }
-    ensures { IsTrue result ↔ ((i : ℕ) → i < length marks.now → IsSet marks.now i → IsSet others.now i) }
-{
-    for (index, marked) in marks.iter().enumerate() {
-        if *marked && !others[index] {
-            return false;
+impl Kept {
+    /// Nothing was walked past.
+    pub(crate) fn none() -> Kept
+        ensures { result ≡ nothing_kept }
+    {
+        Kept {
+            home: true,
+            reach: None,
+            all: true,
         }
     }
-    true
-}
 
-/// Whether each protected unit of a document is paired, or lies inside a paired one that is protected. The units are the
-/// document's, the pairs' first numbers count them, and the marks say which are protected.
-pub(crate) fn all_kept(
-    alloc: Global,
-    units: &[Unit],
-    protected: &[bool],
-    pairs: &[(u64, u64)],
-) -> Result<bool, AllocError>
-    requires { length protected.now ≡ length units.now }
-    ensures { IfOk result (TellsAllKept units.now protected.now pairs.now) }
-{
-    let paired = first_marks(alloc, units.len(), pairs)?;
-    let holders = both(alloc, protected, &paired)?;
-    let covered = covered(alloc, units, &holders)?;
-    Ok(all_within(protected, &covered))
+    /// The same behind one unit more.
+    pub(crate) fn with(
+        self,
+        alloc: Global,
+        list: &EditList,
+        unit: &Unit,
+        paired: bool,
+    ) -> Result<Kept, AllocError>
+        ensures { IfOk result (λ kept. kept ≡ kept_with (changes list.now) self (span_of unit.now) paired) }
+    {
+        let protected = is_kept(alloc, list, self.home, unit)?;
+        let home = home_with(alloc, list, self.home, unit, protected)?;
+        let end = unit.span.end;
+        let reach = reach_with(self.reach, protected && paired, end);
+        Ok(Kept {
+            home,
+            reach,
+            all: self.all && (!protected || reaches(reach, end)),
+        })
+    }
 }

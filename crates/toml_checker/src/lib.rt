@@ -2,13 +2,11 @@
 #![tactic(auto)]
 
 mod above;
+mod added;
 mod along;
 mod arriving;
-mod comments;
 mod counting;
-mod covered;
 mod debts;
-mod documents;
 mod edit_list;
 mod facts;
 mod frame;
@@ -16,7 +14,7 @@ mod fronts;
 mod judging;
 mod kept;
 pub mod laws;
-mod lines;
+mod marks;
 mod moving;
 mod outer;
 mod pairs;
@@ -27,12 +25,11 @@ mod steps;
 mod tables;
 mod unmarked;
 mod verdict;
+mod walk;
 mod written;
 
-pub use covered::first_marks;
-pub use documents::{Document, newlines_of};
-pub use facts::Made;
-pub use judging::{check, check_in, check_made};
+pub use judging::{check, check_in};
+pub use marks::first_marks;
 pub use outer::outermost;
 pub use protection::protected;
 pub use verdict::{Reason, Verdict};

@@ -4,7 +4,7 @@ ghost use Rattle.toml_edits.specs.Edits.{change};
 ghost use Rattle.toml_checker.specs.Marks.{TellFree};
 ghost use Rattle.toml_checker.specs.Outer.{TellOuterOf};
 
-use crate::covered::{reach_with, reaches};
+use crate::marks::{reach_with, reaches};
 use crate::protection::protected;
 use std::alloc::{AllocError, Global};
 use toml_edits::Edit;

@@ -2,7 +2,7 @@
 ghost use Rattle.std.specs.Prelude.{◌≡◌, map, Some, IfOk, Option, ℕ, true};
 ghost use Rattle.toml_edits.specs.Edits.{change};
 ghost use Rattle.toml_checker.specs.EditLists.{changes};
-ghost use Rattle.toml_checker.specs.Plain.{stands, home_stands, made_site, line_site, next_line, is_kept, TellProtectedOf};
+ghost use Rattle.toml_checker.specs.Plain.{stands, made_site, home_with, is_kept_by, TellProtectedOf};
 
 use crate::edit_list::EditList;
 use crate::moving::Way;
@@ -64,31 +64,21 @@ fn stands(alloc: Global, part: Part, list: &EditList, unit: &Unit) -> Result<boo
     }
 }
 
-/// Whether the line of a comment is still there.
-fn home_stands(alloc: Global, list: &EditList, line: Option<&Unit>) -> Result<bool, AllocError>
-    ensures { IfOk result (λ b. b ≡ home_stands (changes list.now) (line_site line.entry)) }
-{
-    match line {
-        Some(unit) => stands(alloc, Part::Home, list, unit),
-        None => Ok(true),
-    }
-}
-
-/// Whether a unit of the line is protected.
-fn is_kept(
+/// Whether a unit is protected. For a comment, `home` tells whether its line is still there.
+pub(crate) fn is_kept(
     alloc: Global,
     list: &EditList,
-    line: Option<&Unit>,
+    home: bool,
     unit: &Unit,
 ) -> Result<bool, AllocError>
-    ensures { IfOk result (λ b. b ≡ is_kept unit.now.kind (changes list.now) (line_site line.entry) (made_site unit.now)) }
+    ensures { IfOk result (λ b. b ≡ is_kept_by unit.now.kind (changes list.now) home (made_site unit.now)) }
 {
     match unit.kind {
         UnitKind::Line | UnitKind::Pair => stands(alloc, Part::Line, list, unit),
         UnitKind::Element => stands(alloc, Part::Element, list, unit),
-        UnitKind::TailComment => home_stands(alloc, list, line),
+        UnitKind::TailComment => Ok(home),
         UnitKind::InnerComment => {
-            if !home_stands(alloc, list, line)? {
+            if !home {
                 return Ok(false);
             }
             stands(alloc, Part::Comment, list, unit)
@@ -96,13 +86,27 @@ fn is_kept(
     }
 }
 
-/// The unit where it is a line, else the line so far.
-fn next_line<'a>(line: Option<&'a Unit>, unit: &'a Unit) -> Option<&'a Unit>
-    ensures { line_site result ≡ next_line (line_site line.entry) (made_site unit.now) }
+/// Whether the last line is still there, behind one unit more, which is protected or not. A protected line is.
+pub(crate) fn home_with(
+    alloc: Global,
+    list: &EditList,
+    home: bool,
+    unit: &Unit,
+    protected: bool,
+) -> Result<bool, AllocError>
+    requires { protected ≡ is_kept_by unit.now.kind (changes list.now) home (made_site unit.now) }
+    ensures { IfOk result (λ b. b ≡ home_with (changes list.now) home (made_site unit.now)) }
 {
     match unit.kind {
-        UnitKind::Line => Some(unit),
-        UnitKind::TailComment | UnitKind::InnerComment | UnitKind::Element | UnitKind::Pair => line,
+        UnitKind::Line => {
+            if protected {
+                return Ok(true);
+            }
+            stands(alloc, Part::Home, list, unit)
+        }
+        UnitKind::TailComment | UnitKind::InnerComment | UnitKind::Element | UnitKind::Pair => {
+            Ok(home)
+        }
     }
 }
 
@@ -125,11 +129,12 @@ pub fn protected(alloc: Global, units: &[Unit], edits: &[Edit]) -> Result<Vec<bo
 {
     let mut list = EditList::of(alloc, edits)?;
     let mut flags = Vec::with_capacity(alloc, units.len())?;
-    let mut line = None;
+    let mut home = true;
     for unit in units {
-        line = next_line(line, unit);
-        list.come_to(Some(unit));
-        flags.push(is_kept(alloc, &list, line, unit)?)?;
+        list.come_to(unit);
+        let protected = is_kept(alloc, &list, home, unit)?;
+        home = home_with(alloc, &list, home, unit, protected)?;
+        flags.push(protected)?;
     }
     Ok(flags)
 }

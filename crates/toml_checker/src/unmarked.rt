@@ -22,7 +22,7 @@ pub(crate) fn text_at<'t>(text: &'t [u8], comment: &Unit) -> &'t [u8]
 }
 
 /// Whether the unit is a comment without a mark.
-fn is_unmarked(comment: &Unit, marked: bool) -> bool
+pub(crate) fn is_unmarked(comment: &Unit, marked: bool) -> bool
     ensures { result ≡ is_comment comment.now.kind && not marked }
 {
     match comment.kind {

@@ -12,7 +12,7 @@ ghost use Rattle.toml_tree.specs.View.{value as tree_value};
 use crate::above::is_at_or_above;
 use crate::along::carried_along;
 use crate::counting::{counted, has};
-use crate::covered::no_marks;
+use crate::marks::no_marks;
 use crate::unmarked::{texts_of, unmarked};
 use std::alloc::{AllocError, Global};
 use std::collections::BTreeMap;
@@ -49,14 +49,13 @@ fn comments_inside<'v>(
     Ok(texts)
 }
 
-/// The comments in the text of a value of the profile.
+/// The comments in the text of a value, where that is one of the profile.
 fn comments_of<'v>(
     alloc: Global,
     value: &'v str,
     profile: Profile,
 ) -> Result<Vec<&'v [u8]>, AllocError>
-    requires { ¬ (IsBadValue profile value.now) }
-    ensures { IfOk result (λ ts. AreCommentsOf value.now (plain ts.items)) }
+    ensures { IfOk result (λ ts. ¬ (IsBadValue profile value.now) → AreCommentsOf value.now (plain ts.items)) }
 {
     let bytes = value.as_bytes();
     let Ok(source) = Source::new(bytes) else {
@@ -75,8 +74,7 @@ fn comments_in<'e>(
     edit: &'e Edit,
     profile: Profile,
 ) -> Result<Vec<&'e [u8]>, AllocError>
-    requires { HasValue profile (change edit.now) }
-    ensures { IfOk result (λ ts. AreCommentsIn (change edit.now) (plain ts.items)) }
+    ensures { IfOk result (λ ts. HasValue profile (change edit.now) → AreCommentsIn (change edit.now) (plain ts.items)) }
 {
     match edit {
         Edit::Set { value, .. } => comments_of(alloc, value.as_str(), profile),
@@ -95,8 +93,7 @@ fn written_by<'e>(
     later: &[Edit],
     profile: Profile,
 ) -> Result<Written<'e>, AllocError>
-    requires { HasValue profile (change edit.now) }
-    ensures { IfOk result (IsWrittenBy (change edit.now) (map change later.now)) }
+    ensures { IfOk result (λ w. HasValue profile (change edit.now) → IsWrittenBy (change edit.now) (map change later.now) w) }
 {
     let texts = comments_in(alloc, edit, profile)?;
     let counts = counted(alloc, &texts)?;
@@ -104,14 +101,13 @@ fn written_by<'e>(
     Ok(Written { at, texts, counts })
 }
 
-/// What each of the edits writes, each place carried once through the edits that follow.
+/// What each of the edits writes, where no value is refused in the profile; each place carried once through the edits that follow.
 pub(crate) fn all_written<'e>(
     alloc: Global,
     edits: &'e [Edit],
     profile: Profile,
 ) -> Result<Vec<Written<'e>>, AllocError>
-    requires { HaveValues profile (map change edits.now) }
-    ensures { IfOk result (λ ws. AreWrittenBy (map change edits.now) ws.items) }
+    ensures { IfOk result (λ ws. HaveValues profile (map change edits.now) → AreWrittenBy (map change edits.now) ws.items) }
 {
     let mut written = Vec::new(alloc);
     let mut left = edits;

@@ -1,5 +1,5 @@
 -- From what was judged and told to the editor's answers.
-use Rattle.std.proofs.Common.{◌≡◌, ◌↔◌, inl, inr, ℕ, zero, suc, ◌<◌, ◌≤◌, List, [], ◌∷◌, Bool, true, false, length, Some, refl, sym, ap, subst, ◌∙◌, arith}
+use Rattle.std.proofs.Common.{◌≡◌, ◌↔◌, inl, inr, ℕ, zero, suc, ◌<◌, ◌≤◌, List, [], ◌∷◌, Bool, true, false, length, Some, refl, sym, ap, subst, arith}
 use Rattle.std.proofs.lemmas.Option.{same_Some, slice_get_within}
 use Rattle.std.proofs.lemmas.Str.{IsUtf8-from_is_utf8}
 use Rattle.std.proofs.Math.Bool.{beq}
@@ -19,11 +19,10 @@ use Rattle.toml_tree.proofs.Proved.{one_tree}
 use Rattle.toml_tree.specs.declared.profile.Profile.{Profile}
 use Rattle.toml_names.specs.declared.fault.NameFault.{NameFault}
 use Rattle.toml_names.specs.declared.fault.NameFault.TheVariants as names
-use Rattle.toml_names.specs.model.Addresses.{Address}
-use Rattle.toml_names.specs.model.Data.{Kinds, IsDataOf, IsFact}
+use Rattle.toml_names.specs.model.Data.{Kinds, IsDataOf}
 use Rattle.toml_names.specs.model.Documents.{IsDocumentIn}
 use Rattle.toml_names.specs.model.Places.{place}
-use Rattle.toml_names.specs.mentions.Mentions.{Named, named}
+use Rattle.toml_names.specs.mentions.Mentions.{named}
 use Rattle.toml_names.specs.reader.Names.{AreGood, RefusesNames}
 use Rattle.toml_names.proofs.Proved.{refused_are_bad}
 use Rattle.toml_edits.specs.Edits.{Change}
@@ -34,9 +33,7 @@ use Rattle.toml_checker.specs.Demands.{Certified, IsVerdict}
 use Rattle.toml_checker.specs.Marks.{IsSet}
 use Rattle.toml_checker.specs.Pairs.{IsFirst, AllFit}
 use Rattle.toml_editor.specs.PlainTexts.{IsNoPlainEdit, NoSpreadSet, WritesPlain}
-use Rattle.toml_checker.specs.declared.facts.Made.{Made}
-use Rattle.toml_checker.specs.After.{IsMadeOf, made_of}
-use Rattle.toml_editor.specs.Edited.{AreDefinedOn, IsEdited, NamesOuter, RefusesText, Tells}
+use Rattle.toml_editor.specs.Edited.{IsEdited, NamesOuter, RefusesText, Tells}
 use Rattle.toml_editor.specs.Editing.{TellsWanted}
 use Rattle.toml_editor.specs.Exact.{OfNoPlaceAt, OfNumber}
 use Rattle.toml_editor.specs.Making.{TellsAny}
@@ -73,13 +70,6 @@ pub names_refused : (profile : Profile) (text : List ℕ) (d : Doc) (fault : Nam
 names_refused profile text d (names.Redefined line at) is spelled of h = (no_names profile text d (names.Redefined line at) spelled (λ e. cc) h, is, (d, spelled, (of, h)))
 names_refused profile text d (names.LongAddress line) is spelled of h = (no_names profile text d (names.LongAddress line) spelled (λ e. cc) h, is, (d, spelled, (of, h)))
 names_refused profile text d names.NoMemory is spelled of h = tt
-
--- a copy of data is data of the same
-pub data_copied : (ms ns : List Named) (k l : Kinds) → ns ≡ ms → IsDataOf ns k → ((at : Address) → l at ≡ k at) → IsDataOf ms l
-data_copied ms ns k l is facts same = λ at kind. let e = facts at kind in (
-  (λ h. subst (λ (ms : List Named). IsFact ms at kind) is (e.0 (sym (same at) ∙ h))),
-  (λ h. same at ∙ e.1 (subst (λ (ms : List Named). IsFact ms at kind) (sym is) h)),
-)
 
 -- what is told of the data of a text is told of the text
 pub any_tells : (profile : Profile) (before : List ℕ) (cs : List Change) (d : Doc) (old : Kinds) (fault : EditorFault) → IsDocumentIn profile before
@@ -158,8 +148,3 @@ edited profile before after text cs ps pairs wanted v all verdict a_yes same sam
       plain = plain;
       passed = passed;
     }
-
--- what the edits make of the data of a document shows that they are defined
-pub defined_on : (profile : Profile) (before : List ℕ) (cs : List Change) (made : Made) → IsDocumentIn profile before → IsMadeOf profile before cs made
-    → AreDefinedOn profile before cs
-defined_on profile before cs made document is = (document, (is.tree, is.spelled, is.old, is.facts, (made_of made is.old, is.leads)))

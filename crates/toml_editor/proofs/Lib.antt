@@ -56,7 +56,6 @@ mod OutlinesSpelled
 mod TreeOrigins
 mod KeptOrigins
 mod StandingNew
-mod UnitsFew
 mod SlotOrigins
 mod OpenedOrigins
 pub mod written

@@ -38,7 +38,7 @@ use Rattle.toml_editor.specs.Writing.{WritesOut}
 use Rattle.toml_editor.specs.Written.{style_of}
 use Rattle.toml_editor.proofs.WrittenOut.{lines_are_written}
 use Rattle.toml_editor.proofs.SlotOrigins.{slots_are}
-use Rattle.toml_editor.proofs.UnitsFew.{units_few}
+use Rattle.toml_units.proofs.Proved.{units_are_few}
 use Rattle.toml_editor.proofs.written.OriginsCounted.{count_origins}
 use Rattle.toml_editor.proofs.written.OriginsOne.{plain_list_is_paired}
 use Rattle.toml_editor.proofs.written.Elsewhere.{style_is_newline}
@@ -103,7 +103,7 @@ module _ (profile : Profile) (read : Read) (d : Doc) (before : List ℕ) (tree :
         (units_are : all_units read.units ≡ map spanned (units d.lines))
         (numbered : HasNumbers read.units → standing_origins stands.lines ≡ numbers (Some 0) (length read.units)) where
       few : length (units d.lines) < 18446744073709551616
-      few = units_few d before spelled within
+      few = units_are_few d before spelled within
 
       count : length read.units ≡ length (units d.lines)
       count = sym (length-map read.units unit) ∙ ap length units_are ∙ length-map (units d.lines) spanned
@@ -126,7 +126,7 @@ module _ (profile : Profile) (read : Read) (d : Doc) (before : List ℕ) (tree :
               ∙ ap standing_origins all.at.stands.stand.are in
               let many : length (standing_origins ns) < 18446744073709551616 =
               subst (λ n. n < 18446744073709551616) (sym (count_origins ns last.lines all.at.stands.are_as_new))
-              (units_few last all.after all.at.good.spelled.0 (subst IsText is short)) in
+              (units_are_few last all.after all.at.good.spelled.0 (subst IsText is short)) in
               let pairs_are : ps ≡ pairs_from wanted 0 (standing_origins ns) =
               pairs (subst (λ os. length os < 18446744073709551616) (sym origins) many) ∙ ap (pairs_from wanted 0) origins in
               let edits : EditAllStanding profile (style tree) cs stands.lines ns =

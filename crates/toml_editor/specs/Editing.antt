@@ -1,5 +1,5 @@
 -- What the steps of an edit hand on to each other.
-use Rattle.std.specs.Prelude.{◌≡◌, ◌↔◌, ◌<◌, ℕ, List, Bool, true, Some, length, map, slice_get, string_bytes}
+use Rattle.std.specs.Prelude.{◌≡◌, ◌↔◌, ◌<◌, ℕ, List, Bool, true, Some, length, slice_get, string_bytes}
 use Rattle.toml_text.specs.Limit.{IsText}
 use Rattle.toml_tree.specs.Profiles.{IsOfProfile}
 use Rattle.toml_tree.specs.Spells.{Spells}
@@ -8,18 +8,11 @@ use Rattle.toml_tree.specs.declared.profile.Profile.{Profile}
 use Rattle.toml_names.specs.model.Documents.{IsDocumentIn}
 use Rattle.toml_edits.specs.Edits.{Change}
 use Rattle.toml_units.specs.declared.piece.Piece.{Piece}
-use Rattle.toml_units.specs.Reading.{newlines}
 use Rattle.toml_units.specs.Units.{units}
-use Rattle.toml_units.specs.View.{all_units, spanned}
-use Rattle.toml_checker.specs.declared.documents.Document.{Document}
-use Rattle.toml_checker.specs.declared.facts.Made.{Made}
-use Rattle.toml_checker.specs.After.{IsMadeOf}
-use Rattle.toml_checker.specs.Counts.{plain}
 use Rattle.toml_checker.specs.Documents.{OfTree}
 use Rattle.toml_checker.specs.Outer.{TellOuter}
 use Rattle.toml_checker.specs.Pairs.{IsFirst}
-use Rattle.toml_checker.specs.Reading.{IsRead}
-use Rattle.toml_editor.specs.Edited.{ArePieces, IsEdited}
+use Rattle.toml_editor.specs.Edited.{AreDefinedOn, ArePieces, IsEdited}
 use Rattle.toml_editor.specs.PairedLists.{PairsPlain}
 use Rattle.toml_editor.specs.PlainTexts.{NoSpreadSet, WritesPlain}
 use Rattle.toml_editor.specs.declared.editing.Edited.{Edited}
@@ -42,30 +35,25 @@ pub record HasLines (profile : Profile) (text : List ℕ) (d : Doc) (lines : Lis
   pub spelled : Spells d text
   pub taken : lines ≡ d.lines
 
--- the text is a document's of the profile, and the units and the newlines are those of the text
-pub record IsKnown (profile : Profile) (d : Document) : Type 0 where
-  pub read : IsRead d
-  pub document : IsDocumentIn profile d.text.now
-
 -- the flags tell which units of the text are outer protected ones
 abbrev pub TellsWanted : List ℕ → List Change → List Bool → Type 0
 TellsWanted before cs flags = OfTree before (λ d. TellOuter cs (units d.lines) flags)
 
--- The data are what the edits make of those of the first text, and the pieces of the first are the second text. Of plain edits that is the
--- one that they write, none of the edits sets what is spread, and the pairs, where the flags tell the outer protected units, are those of
--- the partners of these.
-pub record IsMadeText (profile : Profile) (before : List ℕ) (cs : List Change) (flags : List Bool) (made : Made) (after : List ℕ) (list : List Piece)
+-- The edits are defined on the data of the first text, and the pieces of that text are the second one. Of plain edits that is the one that
+-- they write, none of the edits sets what is spread, and the pairs, where the flags tell the outer protected units, are those of the partners
+-- of these.
+pub record IsMadeText (profile : Profile) (before : List ℕ) (cs : List Change) (flags : List Bool) (after : List ℕ) (list : List Piece)
     (ps : List (ℕ × ℕ)) : Type 0 where
-  pub is_made : IsMadeOf profile before cs made
+  pub are_defined : AreDefinedOn profile before cs
   pub plain : WritesPlain profile before cs after
   pub passed : NoSpreadSet profile before cs (length cs)
   pub paired : TellsWanted before cs flags → PairsPlain profile before cs after ps
   pub pieces : ArePieces before after list
 
 -- the same of what the code hands on: its text, its pieces and its pairs
-abbrev pub IsMadeAs : Profile → List ℕ → List Change → List Bool → Made → Edited → Type 0
-IsMadeAs profile before cs flags made e =
-    IsMadeText profile before cs flags made (string_bytes e.text) e.pieces.items e.certificate.pairs.items
+abbrev pub IsMadeAs : Profile → List ℕ → List Change → List Bool → Edited → Type 0
+IsMadeAs profile before cs flags e =
+    IsMadeText profile before cs flags (string_bytes e.text) e.pieces.items e.certificate.pairs.items
 
 -- the text is certified to be what the edits make of the first one, and the pieces of that one are it
 pub record IsEditedText (profile : Profile) (before : List ℕ) (cs : List Change) (after : List ℕ) (list : List Piece) (ps : List (ℕ × ℕ)) : Type 0 where
@@ -80,12 +68,7 @@ IsEditedAs profile before cs e = IsEditedText profile before cs (string_bytes e.
 abbrev pub NameWanted : List Bool → List (ℕ × ℕ) → Type 0
 NameWanted wanted ps = (i : ℕ) → i < length wanted → ((slice_get wanted i ≡ Some true) ↔ IsFirst ps i)
 
--- the units and the newlines are those of the document, and the rest is what the edits make of it
+-- the flags tell the outer protected units of the document, and the rest is what the edits make of it
 pub record IsWork (profile : Profile) (before : List ℕ) (cs : List Change) (work : Work) : Type 0 where
-  pub document : IsDocumentIn profile before
-  pub tree : Doc
-  pub spelled : Spells tree before
-  pub units : all_units work.units.items ≡ map spanned (units tree.lines)
-  pub newlines : plain work.newlines.items ≡ newlines tree.lines
   pub wanted : TellsWanted before cs work.wanted.items
-  pub made : IsMadeAs profile before cs work.wanted.items work.made work.edited
+  pub made : IsMadeAs profile before cs work.wanted.items work.edited

@@ -8,7 +8,7 @@ ghost use Rattle.toml_names.specs.reader.Reading.{lines_of};
 ghost use Rattle.toml_edits.specs.Edits.{change};
 ghost use Rattle.toml_checker.specs.Reading.{AreUnitsOf};
 ghost use Rattle.toml_editor.specs.Edited.{IsEdited, ArePieces, IsEditedInPieces, RefusesText, Tells};
-ghost use Rattle.toml_editor.specs.Editing.{HasLines, IsEditedAs, IsKnown, IsMadeAs, IsReadAs, IsWork, OfReadTree, TellsWanted};
+ghost use Rattle.toml_editor.specs.Editing.{HasLines, IsEditedAs, IsMadeAs, IsReadAs, IsWork, OfReadTree, TellsWanted};
 ghost use Rattle.toml_editor.specs.Numbering.{PairsOf};
 ghost use Rattle.toml_editor.specs.SpelledEdits.{AreSpelled};
 ghost use Rattle.toml_editor.specs.Writing.{WritesOut};
@@ -20,7 +20,7 @@ use crate::spelled::{Spelled, spell_all};
 use crate::texts::Texts;
 use crate::working::{Before, Tree};
 use std::alloc::{AllocError, Global};
-use toml_checker::{Document, Made, Reason, Verdict, check_made, newlines_of, outermost};
+use toml_checker::{Reason, Verdict, check_in, outermost};
 use toml_edits::{Edit, near_addresses};
 use toml_names::{NameReader, read_lines};
 use toml_text::{MAX_LEN, Source};
@@ -110,7 +110,7 @@ fn edit_document(
 }
 
 /// The same with the spellings of the edits, which live as long as the text and the edits: new pieces are lent from all. The
-/// document's tree is let go before the second text is read.
+/// judge reads both texts once the tree of the first, its names, its units and its data are let go.
 fn edit_with<'x>(
     alloc: Global,
     before: &'x [u8],
@@ -123,29 +123,14 @@ fn edit_with<'x>(
     ensures told { IfErr result (Tells profile before.now (map change edits.now)) }
 {
     let work = make_document(alloc, before, edits, spelled, profile)?;
-    let Work {
-        units,
-        newlines,
-        wanted,
-        made,
-        edited,
-    } = work;
-    let known = Document {
-        text: before,
-        units: &units,
-        newlines: &newlines,
-    };
-    certify(alloc, known, edits, made, edited, &wanted, profile)
+    let Work { wanted, edited } = work;
+    certify(alloc, before, edits, edited, &wanted, profile)
 }
 
-/// What is known of a document and made of it, when its tree is let go: its units and newlines, which units are to be kept, and
-/// what the edits make of its data and of its text.
+/// What the edits make of a document, when all that was read of it is let go, and which of its units are to be kept.
 #[derive(Drop)]
-struct Work<'x> {
-    units: Vec<Unit>,
-    newlines: Vec<&'x str>,
+struct Work {
     wanted: Vec<bool>,
-    made: Made<'x>,
     edited: Edited,
 }
 
@@ -156,7 +141,7 @@ fn make_document<'x>(
     edits: &'x [Edit],
     spelled: &'x [Spelled],
     profile: Profile,
-) -> Result<Work<'x>, EditorFault>
+) -> Result<Work, EditorFault>
     requires spelled { AreSpelled (map change edits.now) spelled.now }
     ensures work { IfOk result (IsWork profile before.now (map change edits.now)) }
     ensures told { IfErr result (Tells profile before.now (map change edits.now)) }
@@ -166,20 +151,13 @@ fn make_document<'x>(
     let units = read_units(alloc, &doc, &reader)?;
     let wanted = outermost(alloc, &units, edits)?;
     let made_text = make_text(
-        alloc, source, &doc, reader, &units, edits, spelled, &wanted, profile,
+        alloc, source, &doc, &reader, &units, edits, spelled, &wanted, profile,
     );
-    let (made, edited) = match made_text {
-        Ok((made, edited)) => (made, edited),
+    let edited = match made_text {
+        Ok(edited) => edited,
         Err(fault) => return Err(fault),
     };
-    let newlines = newlines_of(alloc, &doc)?;
-    Ok(Work {
-        units,
-        newlines,
-        wanted,
-        made,
-        edited,
-    })
+    Ok(Work { wanted, edited })
 }
 
 /// The units of the tree of a text.
@@ -194,31 +172,22 @@ fn read_units(alloc: Global, doc: &Doc, reader: &NameReader) -> Result<Vec<Unit>
 /// What is made is handed on where the judge says yes.
 fn certify(
     alloc: Global,
-    before: Document,
+    before: &[u8],
     edits: &[Edit],
-    made: Made,
     edited: Edited,
     wanted: &[bool],
     profile: Profile,
 ) -> Result<Edited, EditorFault>
-    requires known { IsKnown profile before }
-    requires made { IsMadeAs profile before.text.now (map change edits.now) wanted.now made edited }
-    requires wanted { TellsWanted before.text.now (map change edits.now) wanted.now }
-    ensures edited { IfOk result (IsEditedAs profile before.entry.text.now (map change edits.now)) }
-    ensures told { IfErr result (Tells profile before.entry.text.now (map change edits.now)) }
+    requires made { IsMadeAs profile before.now (map change edits.now) wanted.now edited }
+    requires wanted { TellsWanted before.now (map change edits.now) wanted.now }
+    ensures edited { IfOk result (IsEditedAs profile before.now (map change edits.now)) }
+    ensures told { IfErr result (Tells profile before.now (map change edits.now)) }
 {
     if edited.text.len() > MAX_LEN {
         return Err(EditorFault::TooLong);
     }
-    match check_made(
-        alloc,
-        before,
-        edits,
-        made,
-        edited.text.as_bytes(),
-        &edited.certificate,
-        profile,
-    )? {
+    let after = edited.text.as_bytes();
+    match check_in(alloc, before, edits, after, &edited.certificate, profile)? {
         Verdict::No(reason) => Err(EditorFault::Unverified(reason)),
         Verdict::Yes => {
             if names_all(alloc, &edited.certificate.pairs, wanted)? {
@@ -230,22 +199,22 @@ fn certify(
     }
 }
 
-/// What the edits make of a document and of its data, not judged yet. Of the data those are built that the edits can touch.
+/// What the edits make of a document, not judged yet. Of its data those are built that the edits can touch.
 fn make_text<'d, 'x>(
     alloc: Global,
     source: Source<'x>,
     doc: &'d Doc<'x>,
-    reader: NameReader<'d, 'x>,
+    reader: &NameReader<'d, 'x>,
     units: &[Unit],
     edits: &'x [Edit],
     spelled: &'x [Spelled],
     wanted: &[bool],
     profile: Profile,
-) -> Result<(Made<'x>, Edited), EditorFault>
-    requires read { HasLines profile (text_of source) (document doc.now) (lines_of reader) }
+) -> Result<Edited, EditorFault>
+    requires read { HasLines profile (text_of source) (document doc.now) (lines_of reader.now) }
     requires units { AreUnitsOf doc.now units.now }
     requires spelled { AreSpelled (map change edits.now) spelled.now }
-    ensures made { IfOk result (λ r. IsMadeAs profile (text_of source.entry) (map change edits.now) wanted.now r.0 r.1) }
+    ensures made { IfOk result (IsMadeAs profile (text_of source.entry) (map change edits.now) wanted.now) }
     ensures told { IfErr result (Tells profile (text_of source.entry) (map change edits.now)) }
 {
     let touched = near_addresses(alloc, edits)?;
@@ -254,19 +223,13 @@ fn make_text<'d, 'x>(
     let mut tree = Tree::of(Texts { alloc, source }, before)?;
     let read = Read {
         before,
-        names: &reader,
+        names: reader,
         profile,
     };
     if let Err(fault) = make_all(alloc, &mut tree, read, &mut data, edits, spelled) {
         return Err(fault);
     }
-    let edited = write_out(alloc, source, before, &tree, wanted)?;
-    let made = Made {
-        names: reader.into_names(),
-        touched,
-        data,
-    };
-    Ok((made, edited))
+    Ok(write_out(alloc, source, before, &tree, wanted)?)
 }
 
 /// What stands in the working tree, and its certificate.

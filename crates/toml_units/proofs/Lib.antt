@@ -31,3 +31,6 @@ pub mod Holders
 pub mod Tails
 pub mod Proved
 pub mod ReadLines
+pub mod Cursors
+pub mod Lined
+pub mod UnitsFew

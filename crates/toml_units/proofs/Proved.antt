@@ -4,6 +4,7 @@ pub use Rattle.toml_units.proofs.Apart.{units_are_apart}
 pub use Rattle.toml_units.proofs.Bares.{units_of_bares}
 pub use Rattle.toml_units.proofs.Bases.{units_are_based, lines_are_units}
 pub use Rattle.toml_units.proofs.InLines.{line_no_lines, units_are_behind_the_mark}
+pub use Rattle.toml_units.proofs.Lined.{lined_are_units, lined_have_newlines}
 pub use Rattle.toml_units.proofs.MovedUnits.{inside_moves}
 pub use Rattle.toml_units.proofs.Order.{outer_comes_first}
 pub use Rattle.toml_units.proofs.Under.{inside_is_under}
@@ -19,3 +20,4 @@ pub use Rattle.toml_units.proofs.Read.{units_read_the_text, inside_reads_the_tex
 pub use Rattle.toml_units.proofs.Tails.{tails_end_lines}
 pub use Rattle.toml_units.proofs.Twins.{units_are_twins}
 pub use Rattle.toml_units.proofs.UnitLines.{units_are_of_lines}
+pub use Rattle.toml_units.proofs.UnitsFew.{units_are_few}

@@ -1,36 +1,42 @@
--- Lines taken one after another, and what all of them give.
-use Rattle.std.proofs.Common.{◌≡◌, ℕ, ◌+◌, List, [], ◌∷◌, ◌++◌, length, map, Option, Some, None, option_map, refl, sym, ap, subst, ◌∙◌, arith, append_assoc}
+-- Lines read one after another, and what all of them give.
+use Rattle.std.proofs.Common.{◌≡◌, ℕ, ◌+◌, ◌<◌, ◌≤◌, List, [], ◌∷◌, ◌++◌, length, Option, Some, None, Ok, refl, sym, ap, subst, ◌∙◌, arith, append_assoc}
+use Rattle.std.specs.Borrow.{Bor}
 use Rattle.std.proofs.lemmas.List.{append-nil}
 use Rattle.toml_scalar.specs.declared.fault.SyntaxFault.{SyntaxFault}
 use Rattle.toml_scalar.specs.declared.fault.SyntaxFault.TheVariants as faults
 use Rattle.toml_tree.specs.Document.{Refuses}
-use Rattle.toml_tree.specs.HandedOut.{AreLinesIn, tree_of}
+use Rattle.toml_tree.specs.HandedOut.{AreLinesIn, HandsOn, HandsOut, left, tree_of}
+use Rattle.toml_tree.specs.Lines.{line as tree_line}
 use Rattle.toml_tree.specs.Tree.{Blank, BlankLine, Doc, KeyVal, KeyValLine, Line, Piece}
+use Rattle.toml_tree.specs.declared.line.Line as declared
+use Rattle.toml_tree.specs.declared.line_reader.LineReader.{LineReader}
 use Rattle.toml_tree.specs.declared.profile.Profile.{Profile}
 use Rattle.toml_tree.proofs.Proved.{one_tree}
 use Rattle.toml_names.specs.mentions.Mentions.{Named, root, named, named_by, named_from, section}
-use Rattle.toml_names.specs.model.Addresses.{Address}
 use Rattle.toml_names.specs.model.Documents.{IsDocumentIn}
 use Rattle.toml_names.specs.reader.LineNames.{StandFor}
 use Rattle.toml_names.specs.reader.Names.{AreGood, own_address}
+use Rattle.toml_names.specs.reader.Texts.{AreLeft}
+use Rattle.toml_units.specs.declared.reading.Left.{Left}
+use Rattle.toml_units.specs.declared.reading.Left.TheVariants.{Lines, Refused}
 use Rattle.toml_units.specs.declared.reading.Reading.{Reading}
-use Rattle.toml_units.specs.Plain.{line_spans, plain_from, plain_units}
-use Rattle.toml_units.specs.Reading.{AddsText, FindsText, HasNames, HasTaken, SoFar, newlines}
-use Rattle.toml_units.specs.View.{AddsUnits}
-use Rattle.toml_names.proofs.Proved.{pairs_leave_alike}
+use Rattle.toml_units.specs.declared.unit.Unit.{Unit as Made}
+use Rattle.toml_units.specs.Lined.{lined, lined_from, lined_line}
+use Rattle.toml_units.specs.Reading.{HasEnteredText, GoOn, HasEntered, HasRead, IsDone, IsHanded, IsLeft, IsOver, IsTaken, left_of, to_read}
+use Rattle.toml_names.proofs.Proved.{fronts_are_good, pairs_leave_alike}
 use Rattle.toml_units.proofs.AllLines.{named_from-push}
-use Rattle.toml_units.proofs.Plain.{plain_is_units}
 
-plain_from-push : (ls : List Line) (earlier : List Named) (n : ℕ) (l : Line)
-    → plain_from earlier n (ls ++ l ∷ []) ≡ plain_from earlier n ls ++ line_spans (own_address (named_from earlier n ls) l.expr) l.expr
-plain_from-push [] earlier n l = append-nil (line_spans (own_address earlier l.expr) l.expr)
-plain_from-push (k ∷ ls) earlier n l =
-    ap (λ us. line_spans (own_address earlier k.expr) k.expr ++ us) (plain_from-push ls (earlier ++ named_by earlier n k.expr) (n + 1) l)
-    ∙ sym (append_assoc (line_spans (own_address earlier k.expr) k.expr) (plain_from (earlier ++ named_by earlier n k.expr) (n + 1) ls) _)
+lined_from-push : (ls : List Line) (earlier : List Named) (n : ℕ) (l : Line)
+    → lined_from earlier n (ls ++ l ∷ []) ≡ lined_from earlier n ls ++ lined_line (own_address (named_from earlier n ls) l.expr) l
+lined_from-push [] earlier n l = append-nil (lined_line (own_address earlier l.expr) l)
+lined_from-push (k ∷ ls) earlier n l =
+    let here = lined_line (own_address earlier k.expr) k in
+    ap (λ us. here ++ us) (lined_from-push ls (earlier ++ named_by earlier n k.expr) (n + 1) l)
+    ∙ sym (append_assoc here (lined_from (earlier ++ named_by earlier n k.expr) (n + 1) ls) _)
 
 -- the units of one line more
-pub plain_push : (lines : List Line) (l : Line) → plain_units (lines ++ l ∷ []) ≡ plain_units lines ++ line_spans (own_address (named lines) l.expr) l.expr
-plain_push lines l = plain_from-push lines (root ∷ []) 0 l
+pub lined_push : (lines : List Line) (l : Line) → lined (lines ++ l ∷ []) ≡ lined lines ++ lined_line (own_address (named lines) l.expr) l
+lined_push lines l = lined_from-push lines (root ∷ []) 0 l
 
 -- a text that has no tree is no document
 pub no_tree : (profile : Profile) (text : List ℕ) (fault : SyntaxFault) → (fault ≡ faults.NoMemory → ⊥) → Refuses profile text fault → ¬ IsDocumentIn profile text
@@ -43,34 +49,74 @@ no_tree profile text (faults.BadDate at) memory h = λ document. h.1 document.1 
 no_tree profile text (faults.TooDeep at) memory h = λ document. h.1 document.1 (document.2, document.4)
 no_tree profile text faults.NoMemory memory h = λ document. memory refl
 
-module _ (profile : Profile) (text : List ℕ) (lines : List Line) (are : AreLinesIn profile text lines) where
-  good_of : IsDocumentIn profile text → AreGood lines
-  good_of document = subst (λ (e : Doc). AreGood e.lines) (one_tree document.1 (tree_of text lines) text document.2 are.spelled.0) document.3
+good_of : (profile : Profile) (text : List ℕ) (lines : List Line) → AreLinesIn profile text lines → IsDocumentIn profile text → AreGood lines
+good_of profile text lines are document =
+    subst (λ (e : Doc). AreGood e.lines) (one_tree document.1 (tree_of text lines) text document.2 are.spelled.0) document.3
 
-  -- all lines of the text were taken
-  pub finds_text : (found : Option Reading) → SoFar found lines → FindsText profile text (option_map (λ r. r.text) found)
-  finds_text None bad = λ document. bad (good_of document)
-  finds_text (Some read) taken = record {
-    lines = lines;
-    are = are;
-    names = taken.names;
-    units = taken.units ∙ plain_is_units (tree_of text lines) text are.spelled.0;
-    newlines = taken.newlines;
-  }
+good_front : (more lines : List Line) → AreGood (lines ++ more) → AreGood lines
+good_front [] lines good = subst AreGood (append-nil lines) good
+good_front (l ∷ more) lines good = fronts_are_good lines l (good_front more (lines ++ l ∷ []) (subst AreGood (sym (append_assoc lines (l ∷ []) more)) good))
 
-newlines_push : (lines : List Line) (l : Line) → newlines (lines ++ l ∷ []) ≡ newlines lines ++ l.newline.text ∷ []
-newlines_push [] l = refl
-newlines_push (k ∷ lines) l = ap (λ ns. k.newline.text ∷ ns) (newlines_push lines l)
+-- a text whose first lines are not good is no document
+pub no_document : (profile : Profile) (text : List ℕ) (front : List Line) → ¬ AreGood front → GoOn profile text front → ¬ IsDocumentIn profile text
+no_document profile text front bad go = λ document.
+    bad (good_front (go document).0 front (good_of profile text (front ++ (go document).0) (go document).1 document))
 
--- one more line was taken
-pub took : (read mid new : Reading) (lines : List Line) (l : Line) (own : Option Address) → HasTaken read lines → HasNames lines l mid own → new.text.names ≡ mid.text.names → new.section ≡ mid.section
-    → AddsUnits read.text.units.items new.text.units.items (line_spans own l.expr) → AddsText read.text.newlines.items new.text.newlines.items l.newline.text
-    → HasTaken new (lines ++ l ∷ [])
-took read mid new lines l own h taken names at units ends = record {
-  names = subst (λ n. StandFor n (lines ++ l ∷ [])) (sym names) taken.names;
-  units = units ∙ ap (λ us. us ++ line_spans own l.expr) h.units ∙ ap (λ a. plain_units lines ++ line_spans a l.expr) taken.own_is ∙ sym (plain_push lines l);
-  newlines = ends ∙ ap (λ ns. ns ++ l.newline.text ∷ []) h.newlines ∙ sym (newlines_push lines l);
-  section_is = at ∙ taken.section_is;
+-- what is left behind a line that was handed out
+pub passes : (profile : Profile) (text : List ℕ) (front : List Line) (n : ℕ) (l : declared.Line) (more : Option LineReader)
+    → HandsOn profile text front n (Ok (l, more)) → AreLeft profile text (front ++ tree_line l ∷ []) more × (to_read (left_of more) < n + 1)
+passes profile text front n l (Some r) h = (h.0, omega (arith, h.1))
+passes profile text front n l None h = (h, omega arith)
+
+few_of : (profile : Profile) (text : List ℕ) (front : List Line) (more : Option LineReader) → AreLeft profile text front more
+    → length text ≤ 16777216 → length front < 18446744073709551615
+few_of profile text front (Some r) h fits = omega (arith, h.few, h.within)
+few_of profile text front None h fits = omega (arith, h.few)
+
+has_left : (profile : Profile) (text : List ℕ) (front : List Line) (r : Reading) (more : Option LineReader) → HasEnteredText profile text r front
+    → AreLeft profile text front more → IsLeft profile text r front (left_of more)
+has_left profile text front r (Some reader) are h = (are, h)
+has_left profile text front r None are h = (are, h)
+
+not_refused : (more : Option LineReader) → ¬ (left_of more ≡ Refused)
+not_refused (Some reader) = λ e. cc
+not_refused None = λ e. cc
+
+module _ (profile : Profile) (text : List ℕ) (lines : List Line) (before : Reading) (reader : LineReader) (is : before.left ≡ Lines reader) (read : HasRead profile text before lines) where
+  pub stood : HasEnteredText profile text before lines × HandsOut profile text lines reader
+  stood = subst (λ (left : Left). IsLeft profile text before lines left) is read
+
+  -- a line was handed out and taken
+  pub handed : (l : declared.Line) (more : Option LineReader) (mid r : Reading) (old new : List Made) (newline : Bor (List ℕ))
+      → HandsOn profile text lines (left reader) (Ok (l, more)) → IsTaken lines (tree_line l) old mid new newline
+      → r.names ≡ mid.names → r.section ≡ mid.section → r.left ≡ left_of more → IsHanded profile text lines before old r new newline
+  handed l more mid r old new newline on taken names at now =
+      let front = lines ++ tree_line l ∷ [] in
+      let passed = passes profile text lines (left reader) l more on in
+      let entered : HasEntered r front = record {
+        names = subst (λ n. StandFor n front) (sym names) taken.names;
+        section_is = at ∙ taken.section_is;
+        few = few_of profile text front more passed.0 stood.0.fits;
+      } in
+      record {
+        line = tree_line l;
+        read = subst (λ (left : Left). IsLeft profile text r front left) (sym now)
+            (has_left profile text front r more (record { entered = entered; fits = stood.0.fits }) passed.0);
+        units = taken.units;
+        newline_is = taken.newline_is;
+        less = subst (λ (left : Left). to_read left < to_read before.left) (sym now)
+            (subst (λ (left : Left). to_read (left_of more) < to_read left) (sym is) passed.1);
+        kept = λ e. not_refused more (sym now ∙ e);
+      }
+
+-- the text was refused
+pub is_over : (profile : Profile) (text : List ℕ) (lines : List Line) (before r : Reading) (old new : List Made) → r.left ≡ Refused
+    → ¬ IsDocumentIn profile text → new ≡ old → IsOver profile text lines before old r new
+is_over profile text lines before r old new is none units = record {
+  read = subst (λ (left : Left). IsLeft profile text r lines left) (sym is) none;
+  over = subst IsDone (sym is) tt;
+  stays = λ _. is;
+  units = units;
 }
 
 -- what one more line names

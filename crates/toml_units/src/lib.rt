@@ -3,6 +3,7 @@
 #![tactic(auto)]
 
 mod certificate;
+mod cursor;
 mod decimal;
 mod fault;
 pub mod laws;
@@ -13,9 +14,9 @@ mod unit;
 mod walk;
 
 pub use certificate::{Certificate, certificate_text, read_certificate};
+pub use cursor::UnitCursor;
 pub use fault::CertificateFault;
 pub use lines::{units, units_at};
 pub use piece::{Piece, join};
-pub use reading::{ReadText, read_text};
 pub use unit::{Unit, UnitKind};
 pub use walk::units_inside;

@@ -12,3 +12,4 @@ pub mod Verified
 pub mod Edited
 mod PlainPrinted
 pub mod Delivered
+mod Walked

@@ -33,7 +33,7 @@ use Rattle.toml_editor.specs.Standing.{Standing, standing, standing_origins}
 use Rattle.toml_editor.specs.Steps.{IsGoodText, AreWritten}
 use Rattle.toml_editor.specs.Written.{AreEdited, IsWritten}
 use Rattle.toml_editor.proofs.NumberedOutlines.{count_numbers}
-use Rattle.toml_editor.proofs.UnitsFew.{units_few}
+use Rattle.toml_units.proofs.Proved.{units_are_few}
 use Rattle.toml_editor.proofs.written.StandingBare.{places_do_not_stand}
 use Rattle.toml_editor.proofs.written.Steps.{plain_step, step_lines}
 use Rattle.toml_editor.proofs.written.UnitsListed.{none_way, none_goes, way_on, origins_on}
@@ -210,5 +210,5 @@ paired_by one_goes cs profile style before after was now newline within good lea
     list_goes one_goes profile style newline cs before after was now good lead is there ms ns as_new
     (ap length numbered ∙ count_numbers (Some 0) (length (units good.tree.lines))) edits in
     subst (λ os. AreOuterPartners cs good.tree there.tree (pairs_from wanted 0 os))
-    (from_numbers cs good.tree there.tree (standing_origins ms) (standing_origins ns) gone numbered (units_few good.tree before good.spelled.0 within))
+    (from_numbers cs good.tree there.tree (standing_origins ms) (standing_origins ns) gone numbered (units_are_few good.tree before good.spelled.0 within))
     (way_pairs cs good.tree there.tree gone.comments_in gone.comments_are gone.way wanted tell)

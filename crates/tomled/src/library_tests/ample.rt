@@ -1,22 +1,19 @@
-//! Calls that no other test makes by themselves, with ample memory: each answers, and what is wanted. `check_made` goes by
-//! `edit`.
-ghost use Rattle.std.specs.Prelude.{IfSome};
+//! Calls that no other test makes by themselves, with ample memory: each answers, and what is wanted.
+ghost use Rattle.std.specs.Prelude.{IfOk, IfSome};
 ghost use Rattle.toml_names.specs.reader.LineNames.{Stand};
 
 use crate::library_tests::worked::{data, doc, edits, names, source};
 use crate::rows::is_told;
 use crate::tagged::tagged;
 use crate::verify::run_verify;
-use std::alloc::Global;
+use std::alloc::{AllocError, Global};
 use toml_checker::{Verdict, check, check_in, first_marks, outermost};
 use toml_editor::{edit, edit_in, edit_pieces};
 use toml_edits::{Edit, apply, near_addresses};
-use toml_names::{Address, key_address, read_lines};
+use toml_names::{Address, LineNames, key_address, read_lines};
 use toml_text::Source;
 use toml_tree::{Expr, Profile, parse_value};
-use toml_units::{
-    Certificate, ReadText, certificate_text, join, read_text, units, units_at, units_inside,
-};
+use toml_units::{Certificate, UnitCursor, certificate_text, join, units, units_at, units_inside};
 
 const FLOAT: &str = "3.14 = 0xdead_beef\n";
 
@@ -50,22 +47,54 @@ fn lines_are_read(rt: HostRuntime) {
     assert_eq!(rt; count_units(rt.alloc()), Some(2));
 }
 
-/// What is read of a document line by line.
-fn read_document<'t>(alloc: Global, text: &'t str) -> Option<ReadText<'t>>
-    ensures { IfSome result (λ read. Stand read.names) }
+/// The names of a document, once a cursor has walked past all its units, and the newlines of these, one after the other.
+fn walk<'t>(
+    alloc: Global,
+    source: Source<'t>,
+) -> Result<Option<(LineNames<'t>, String)>, AllocError>
+    ensures { IfOk result (λ walked. IfSome walked (λ w. Stand w.0)) }
 {
-    read_text(alloc, source(text)?, Profile::One).ok()?
+    let mut cursor = UnitCursor::new(alloc, source, Profile::One)?;
+    let mut newlines = String::new(alloc);
+    while cursor.unit().is_some() {
+        newlines.push_str(cursor.newline())?;
+        cursor.step(alloc)?;
+    }
+    let Some(names) = cursor.into_names() else {
+        return Ok(None);
+    };
+    Ok(Some((names, newlines)))
+}
+
+/// The same of a text.
+fn read_document<'t>(alloc: Global, text: &'t str) -> Option<(LineNames<'t>, String)>
+    ensures { IfSome result (λ walked. Stand walked.0) }
+{
+    walk(alloc, source(text)?).ok()?
+}
+
+/// Whether the units of the document have these newlines.
+fn have_newlines(alloc: Global, text: &str, wanted: &str) -> Option<bool> {
+    let (_, newlines) = read_document(alloc, text)?;
+    Some(newlines.as_str() == wanted)
+}
+
+#[test]
+fn units_have_newlines(rt: HostRuntime) {
+    // two units on a line, one on the next, and the last line, which has no newline
+    let text = "port = 1 # keep\r\nhost = 2\n";
+    assert_eq!(rt; have_newlines(rt.alloc(), text, "\r\n\r\n\n"), Some(true));
 }
 
 /// Whether what the edits make of the data near them, beside the rest, are the data of the text.
 fn has_data_after(alloc: Global, text: &str) -> Option<bool> {
     let edits = edits(alloc, EDITS)?;
     let near = near_addresses(alloc, &edits).ok()?;
-    let old = read_document(alloc, FILE)?;
-    let new = read_document(alloc, text)?;
-    let mut data = old.names.data_near(&near).ok()?;
+    let (old, _) = read_document(alloc, FILE)?;
+    let (new, _) = read_document(alloc, text)?;
+    let mut data = old.data_near(&near).ok()?;
     apply(alloc, &mut data, edits.first()?).ok()?;
-    new.names.has_data_beside(&old.names, &near, &data).ok()
+    new.has_data_beside(&old, &near, &data).ok()
 }
 
 #[test]

@@ -1,101 +1,52 @@
-use Rattle.std.proofs.Common.{map}
-use Rattle.toml_edits.specs.Edits.{change}
-use Rattle.toml_checker.specs.declared.verdict.Reason.TheVariants.{BadPair, Lost, Unasked, NewComment, NotTheSame}
-use Rattle.toml_checker.specs.Comments.{NoCommentsAdded}
-use Rattle.toml_checker.specs.Kept.{AllKept}
-use Rattle.toml_checker.specs.Lines.{NoLinesAdded}
-use Rattle.toml_checker.specs.Pairs.{PairsFit}
-use Rattle.toml_checker.proofs.Asked.{passes, fails, all_hold, of_tree, of_trees}
-use Rattle.toml_checker.proofs.Newlines.{many_lines}
-use Rattle.toml_checker.proofs.OfDocuments.{values_hold}
+use Rattle.std.proofs.Common.{List, map, subst}
+use Rattle.toml_edits.specs.Edits.{Change, change}
+use Rattle.toml_checker.specs.After.{Makes}
+use Rattle.toml_checker.specs.Walking.{FindsNames, NamesAll}
+use Rattle.toml_checker.proofs.Judged.{no_after, no_data, no_edits, so_far, stands}
 use Rattle.toml_checker.proofs.judging.judge.Goals as goal
 
-pub no_comments_added-requires : goal.no_comments_added-requires
-no_comments_added-requires c = values_hold c.args.profile c.args.before.text.now c.args.after.text.now (map change c.args.edits.now) c.args.pairs.now c.requires.so_far
+pub returns-in_default-others : goal.returns-in_default-others
+returns-in_default-others c = λ ps is.
+    let p = c.args.profile in
+    no_after p c.args.before.now c.args.after.now (map change c.args.edits.now) ps c.in-Some.names (subst (FindsNames p c.args.before.now) c.in-Some.is is.first) (subst (FindsNames p c.args.after.now) c.in_default-others.is is.second)
+
+pub make-requires : goal.make-requires
+make-requires c =
+    let a : NamesAll c.args.profile c.args.before.now c.in-Some.names = subst (FindsNames c.args.profile c.args.before.now) c.in-Some.is c.requires.1.first in
+    (a.lines, a.stand)
+
+pub are_made-requires-clause-new : goal.are_made-requires-clause-new
+are_made-requires-clause-new c =
+    let b : NamesAll c.args.profile c.args.after.now c.in-Some-others.others = subst (FindsNames c.args.profile c.args.after.now) c.in-Some-others.is c.requires.1.second in
+    (b.lines, b.stand)
+
+pub are_made-requires-clause-old : goal.are_made-requires-clause-old
+are_made-requires-clause-old c =
+    let p = c.args.profile in
+    let cs : List Change = map change c.args.edits.now in
+    let is = c.requires.1 in
+    stands p c.args.before.now c.args.after.now cs c.requires.0 c.in-Some.names c.in-Some-others.others
+    (subst (FindsNames p c.args.before.now) c.in-Some.is is.first) (subst (FindsNames p c.args.after.now) c.in-Some-others.is is.second) c.in-Some-2.made (subst (Makes p c.in-Some.names cs) c.in-Some-2.is c.in_ok-made.ensures)
+
+pub returns-in_default-2 : goal.returns-in_default-2
+returns-in_default-2 c = λ ps is.
+    let p = c.args.profile in
+    let cs : List Change = map change c.args.edits.now in
+    no_edits p c.args.before.now c.args.after.now cs ps c.in-Some.names c.in-Some-others.others
+    (subst (FindsNames p c.args.before.now) c.in-Some.is is.first) (subst (FindsNames p c.args.after.now) c.in-Some-others.is is.second) (subst (Makes p c.in-Some.names cs) c.in_default-2.is c.in_ok-made.ensures)
 
 pub returns-then-not-branch : goal.returns-then-not-branch
-returns-then-not-branch c =
-    let cs = map change c.args.edits.now in
-    let ps = c.args.pairs.now in
-    let before = c.args.before.text.now in
-    let after = c.args.after.text.now in
-    let d = c.requires.before.0 in
-    let e = c.requires.after.0 in
-    let old = c.requires.before.1 in
-    let new = c.requires.after.1 in
-    fails c.args.profile BadPair before after cs ps c.in_ok-pairs_fit.field-0 c.requires.so_far (of_trees (λ d e. PairsFit cs d e ps) d e before after c.in_ok-pairs_fit.field-0 old.spelled new.spelled (c.in_ok-pairs_fit.ensures d e old new)) c.if-not-branch.true
-
-pub returns-then-not-branch-2 : goal.returns-then-not-branch-2
-returns-then-not-branch-2 c =
-    let cs = map change c.args.edits.now in
-    let ps = c.args.pairs.now in
-    let before = c.args.before.text.now in
-    let after = c.args.after.text.now in
-    let d = c.requires.before.0 in
-    let e = c.requires.after.0 in
-    let old = c.requires.before.1 in
-    let new = c.requires.after.1 in
-    let so_0 = passes c.args.profile BadPair before after cs ps c.in_ok-pairs_fit.field-0 c.requires.so_far (of_trees (λ d e. PairsFit cs d e ps) d e before after c.in_ok-pairs_fit.field-0 old.spelled new.spelled (c.in_ok-pairs_fit.ensures d e old new)) c.if-not-branch.false in
-    fails c.args.profile Lost before after cs ps c.in_ok-keeps_protected.field-0 so_0 (of_tree (λ d. AllKept cs d ps) d before c.in_ok-keeps_protected.field-0 old.spelled (c.in_ok-keeps_protected.ensures d old)) c.if-not-branch-2.true
-
-pub returns-then-not-branch-3 : goal.returns-then-not-branch-3
-returns-then-not-branch-3 c =
-    let cs = map change c.args.edits.now in
-    let ps = c.args.pairs.now in
-    let before = c.args.before.text.now in
-    let after = c.args.after.text.now in
-    let d = c.requires.before.0 in
-    let e = c.requires.after.0 in
-    let old = c.requires.before.1 in
-    let new = c.requires.after.1 in
-    let so_0 = passes c.args.profile BadPair before after cs ps c.in_ok-pairs_fit.field-0 c.requires.so_far (of_trees (λ d e. PairsFit cs d e ps) d e before after c.in_ok-pairs_fit.field-0 old.spelled new.spelled (c.in_ok-pairs_fit.ensures d e old new)) c.if-not-branch.false in
-    let so_1 = passes c.args.profile Lost before after cs ps c.in_ok-keeps_protected.field-0 so_0 (of_tree (λ d. AllKept cs d ps) d before c.in_ok-keeps_protected.field-0 old.spelled (c.in_ok-keeps_protected.ensures d old)) c.if-not-branch-2.false in
-    fails c.args.profile Unasked before after cs ps c.in_ok-no_lines_added.field-0 so_1 (of_tree (λ e. NoLinesAdded cs e ps) e after c.in_ok-no_lines_added.field-0 new.spelled (c.in_ok-no_lines_added.ensures e (many_lines c.args.after e new) new.units)) c.if-not-branch-3.true
-
-pub returns-then-not-branch-4 : goal.returns-then-not-branch-4
-returns-then-not-branch-4 c =
-    let cs = map change c.args.edits.now in
-    let ps = c.args.pairs.now in
-    let before = c.args.before.text.now in
-    let after = c.args.after.text.now in
-    let d = c.requires.before.0 in
-    let e = c.requires.after.0 in
-    let old = c.requires.before.1 in
-    let new = c.requires.after.1 in
-    let so_0 = passes c.args.profile BadPair before after cs ps c.in_ok-pairs_fit.field-0 c.requires.so_far (of_trees (λ d e. PairsFit cs d e ps) d e before after c.in_ok-pairs_fit.field-0 old.spelled new.spelled (c.in_ok-pairs_fit.ensures d e old new)) c.if-not-branch.false in
-    let so_1 = passes c.args.profile Lost before after cs ps c.in_ok-keeps_protected.field-0 so_0 (of_tree (λ d. AllKept cs d ps) d before c.in_ok-keeps_protected.field-0 old.spelled (c.in_ok-keeps_protected.ensures d old)) c.if-not-branch-2.false in
-    let so_2 = passes c.args.profile Unasked before after cs ps c.in_ok-no_lines_added.field-0 so_1 (of_tree (λ e. NoLinesAdded cs e ps) e after c.in_ok-no_lines_added.field-0 new.spelled (c.in_ok-no_lines_added.ensures e (many_lines c.args.after e new) new.units)) c.if-not-branch-3.false in
-    fails c.args.profile NewComment before after cs ps c.in_ok-no_comments_added.field-0 so_2 (of_tree (λ e. NoCommentsAdded cs e ps) e after c.in_ok-no_comments_added.field-0 new.spelled (c.in_ok-no_comments_added.ensures e new.spelled new.units)) c.if-not-branch-4.true
-
-pub returns-then-not-keeps_frame : goal.returns-then-not-keeps_frame
-returns-then-not-keeps_frame c =
-    let cs = map change c.args.edits.now in
-    let ps = c.args.pairs.now in
-    let before = c.args.before.text.now in
-    let after = c.args.after.text.now in
-    let d = c.requires.before.0 in
-    let e = c.requires.after.0 in
-    let old = c.requires.before.1 in
-    let new = c.requires.after.1 in
-    let so_0 = passes c.args.profile BadPair before after cs ps c.in_ok-pairs_fit.field-0 c.requires.so_far (of_trees (λ d e. PairsFit cs d e ps) d e before after c.in_ok-pairs_fit.field-0 old.spelled new.spelled (c.in_ok-pairs_fit.ensures d e old new)) c.if-not-branch.false in
-    let so_1 = passes c.args.profile Lost before after cs ps c.in_ok-keeps_protected.field-0 so_0 (of_tree (λ d. AllKept cs d ps) d before c.in_ok-keeps_protected.field-0 old.spelled (c.in_ok-keeps_protected.ensures d old)) c.if-not-branch-2.false in
-    let so_2 = passes c.args.profile Unasked before after cs ps c.in_ok-no_lines_added.field-0 so_1 (of_tree (λ e. NoLinesAdded cs e ps) e after c.in_ok-no_lines_added.field-0 new.spelled (c.in_ok-no_lines_added.ensures e (many_lines c.args.after e new) new.units)) c.if-not-branch-3.false in
-    let so_3 = passes c.args.profile NewComment before after cs ps c.in_ok-no_comments_added.field-0 so_2 (of_tree (λ e. NoCommentsAdded cs e ps) e after c.in_ok-no_comments_added.field-0 new.spelled (c.in_ok-no_comments_added.ensures e new.spelled new.units)) c.if-not-branch-4.false in
-    fails c.args.profile NotTheSame before after cs ps c.keeps_frame.result so_3 (c.keeps_frame.ensures) c.if-not-keeps_frame.true
+returns-then-not-branch c = λ ps is.
+    let p = c.args.profile in
+    let cs : List Change = map change c.args.edits.now in
+    no_data p c.args.before.now c.args.after.now cs ps c.in-Some.names c.in-Some-others.others
+    (subst (FindsNames p c.args.before.now) c.in-Some.is is.first) (subst (FindsNames p c.args.after.now) c.in-Some-others.is is.second) c.in-Some-2.made (subst (Makes p c.in-Some.names cs) c.in-Some-2.is c.in_ok-made.ensures)
+    c.in_ok-are_made.field-0 c.in_ok-are_made.ensures c.if-not-branch.true
 
 pub returns : goal.returns
-returns c =
-    let cs = map change c.args.edits.now in
-    let ps = c.args.pairs.now in
-    let before = c.args.before.text.now in
-    let after = c.args.after.text.now in
-    let d = c.requires.before.0 in
-    let e = c.requires.after.0 in
-    let old = c.requires.before.1 in
-    let new = c.requires.after.1 in
-    let so_0 = passes c.args.profile BadPair before after cs ps c.in_ok-pairs_fit.field-0 c.requires.so_far (of_trees (λ d e. PairsFit cs d e ps) d e before after c.in_ok-pairs_fit.field-0 old.spelled new.spelled (c.in_ok-pairs_fit.ensures d e old new)) c.if-not-branch.false in
-    let so_1 = passes c.args.profile Lost before after cs ps c.in_ok-keeps_protected.field-0 so_0 (of_tree (λ d. AllKept cs d ps) d before c.in_ok-keeps_protected.field-0 old.spelled (c.in_ok-keeps_protected.ensures d old)) c.if-not-branch-2.false in
-    let so_2 = passes c.args.profile Unasked before after cs ps c.in_ok-no_lines_added.field-0 so_1 (of_tree (λ e. NoLinesAdded cs e ps) e after c.in_ok-no_lines_added.field-0 new.spelled (c.in_ok-no_lines_added.ensures e (many_lines c.args.after e new) new.units)) c.if-not-branch-3.false in
-    let so_3 = passes c.args.profile NewComment before after cs ps c.in_ok-no_comments_added.field-0 so_2 (of_tree (λ e. NoCommentsAdded cs e ps) e after c.in_ok-no_comments_added.field-0 new.spelled (c.in_ok-no_comments_added.ensures e new.spelled new.units)) c.if-not-branch-4.false in
-    let so_4 = passes c.args.profile NotTheSame before after cs ps c.keeps_frame.result so_3 (c.keeps_frame.ensures) c.if-not-keeps_frame.false in
-    all_hold c.args.profile before after cs ps so_4
+returns c = λ ps is.
+    let p = c.args.profile in
+    let cs : List Change = map change c.args.edits.now in
+    c.judge_units.ensures p ps (so_far p c.args.before.now c.args.after.now cs ps c.in-Some.names c.in-Some-others.others
+    (subst (FindsNames p c.args.before.now) c.in-Some.is is.first) (subst (FindsNames p c.args.after.now) c.in-Some-others.is is.second) c.in-Some-2.made (subst (Makes p c.in-Some.names cs) c.in-Some-2.is c.in_ok-made.ensures)
+    c.in_ok-are_made.field-0 c.in_ok-are_made.ensures c.if-not-branch.false) is.says

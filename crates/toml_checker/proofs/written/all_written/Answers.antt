@@ -5,4 +5,4 @@ use Rattle.toml_checker.proofs.WrittenTexts.{all_there}
 use Rattle.toml_checker.proofs.written.all_written.Goals as goal
 
 pub returns : goal.returns
-returns c = all_there (map change c.args.edits.now) (map change c.loop-edit.left.now) c.loop-edit.written.items (ap (map change) (nil_from_length c.loop-edit.left.now c.in_default.ensures.cases)) c.loop-edit.invariant.written
+returns c = λ values. all_there (map change c.args.edits.now) (map change c.loop-edit.left.now) c.loop-edit.written.items (ap (map change) (nil_from_length c.loop-edit.left.now c.in_default.ensures.cases)) (c.loop-edit.invariant.written values)

@@ -2,7 +2,7 @@ use Rattle.std.proofs.Common.{◌∙◌, arith, map, string_bytes, subst, sym, t
 use Rattle.toml_checker.specs.Demands.{IsVerdict}
 use Rattle.toml_checker.specs.declared.verdict.Verdict.TheVariants.{No}
 use Rattle.toml_editor.specs.Editing.{NameWanted}
-use Rattle.toml_editor.proofs.Judgements.{defined_on, edited}
+use Rattle.toml_editor.proofs.Judgements.{edited}
 use Rattle.toml_editor.proofs.PlainJudged.{within_limit, no_is_not_plain, lost_is_not_plain}
 use Rattle.toml_edits.specs.Edits.{change}
 use Rattle.toml_editor.proofs.editing.certify.Goals as goal
@@ -12,43 +12,42 @@ returns-then-branch-clause-edited c =
     let made = c.args.edited in
     record {
       edited =
-          edited c.args.profile c.args.before.text.now c.as_bytes.result.now (string_bytes made.text) (map change c.args.edits.now) made.certificate.pairs.items c.deref.result.now c.args.wanted.now
-          c.in_ok-reason.field-0 c.in_ok-names_all-in-Yes.field-0 c.in_ok-reason.ensures c.in-Yes.is c.as_bytes.ensures.value c.deref.ensures.value c.requires.wanted c.in_ok-names_all-in-Yes.ensures.0 c.if-branch.true c.requires.made.plain c.requires.made.passed;
+          edited c.args.profile c.args.before.now c.as_bytes-after.result.now (string_bytes made.text) (map change c.args.edits.now) made.certificate.pairs.items c.deref.result.now c.args.wanted.now
+          c.in_ok-reason.field-0 c.in_ok-names_all-in-Yes.field-0 c.in_ok-reason.ensures.verdict c.in-Yes.is c.as_bytes-after.ensures.value c.deref.ensures.value c.requires.wanted c.in_ok-names_all-in-Yes.ensures.0 c.if-branch.true c.requires.made.plain c.requires.made.passed;
       pieces = c.requires.made.pieces;
     }
 
 pub returns-then-len-gt-MAX_LEN-clause-told : goal.returns-then-len-gt-MAX_LEN-clause-told
-returns-then-len-gt-MAX_LEN-clause-told c =
-    let cs = map change c.args.edits.now in (
-      defined_on c.args.profile c.args.before.text.now cs c.args.made c.requires.known.document c.requires.made.is_made,
-      (string_bytes c.args.edited.text, c.requires.made.plain, omega (arith, c.len.ensures, c.if-len-gt-MAX_LEN.true)),
-      c.requires.made.passed,
-    )
+returns-then-len-gt-MAX_LEN-clause-told c = (
+  c.requires.made.are_defined,
+  (string_bytes c.args.edited.text, c.requires.made.plain, omega (arith, c.len.ensures, c.if-len-gt-MAX_LEN.true)),
+  c.requires.made.passed,
+)
 
 pub returns-in-No-clause-told : goal.returns-in-No-clause-told
 returns-in-No-clause-told c =
     let cs = map change c.args.edits.now in
-    let before = c.args.before.text.now in
+    let before = c.args.before.now in
     let made = c.args.edited in
     let within = within_limit made.text (omega (arith, c.len.ensures, c.if-len-gt-MAX_LEN.false)) in
-    let refused = subst (IsVerdict c.args.profile before cs c.as_bytes.result.now made.certificate.pairs.items) c.in-No.is c.in_ok-reason.ensures in (
-      defined_on c.args.profile before cs c.args.made c.requires.known.document c.requires.made.is_made,
-      no_is_not_plain c.args.profile before (string_bytes made.text) cs made.certificate.pairs.items c.requires.known.document within c.requires.made.plain
+    let refused = subst (IsVerdict c.args.profile before cs c.as_bytes-after.result.now made.certificate.pairs.items) c.in-No.is c.in_ok-reason.ensures.verdict in (
+      c.requires.made.are_defined,
+      no_is_not_plain c.args.profile before (string_bytes made.text) cs made.certificate.pairs.items c.requires.made.are_defined.0 within c.requires.made.plain
           (c.requires.made.paired c.requires.wanted) c.in-No.reason
-          (subst (λ t. IsVerdict c.args.profile before cs t made.certificate.pairs.items (No c.in-No.reason)) c.as_bytes.ensures.value refused),
+          (subst (λ t. IsVerdict c.args.profile before cs t made.certificate.pairs.items (No c.in-No.reason)) c.as_bytes-after.ensures.value refused),
       c.requires.made.passed,
     )
 
 pub returns-else-branch-clause-told : goal.returns-else-branch-clause-told
 returns-else-branch-clause-told c =
     let cs = map change c.args.edits.now in
-    let before = c.args.before.text.now in
+    let before = c.args.before.now in
     let made = c.args.edited in
     let within = within_limit made.text (omega (arith, c.len.ensures, c.if-len-gt-MAX_LEN.false)) in
     let others = λ (names : NameWanted c.args.wanted.now made.certificate.pairs.items).
     true≢false (sym (c.in_ok-names_all-in-Yes.ensures.1 (subst (NameWanted c.args.wanted.now) (sym c.deref.ensures.value) names)) ∙ c.if-branch.false) in (
-      defined_on c.args.profile before cs c.args.made c.requires.known.document c.requires.made.is_made,
-      lost_is_not_plain c.args.profile before (string_bytes made.text) cs made.certificate.pairs.items c.requires.known.document within c.requires.made.plain
+      c.requires.made.are_defined,
+      lost_is_not_plain c.args.profile before (string_bytes made.text) cs made.certificate.pairs.items c.requires.made.are_defined.0 within c.requires.made.plain
           (c.requires.made.paired c.requires.wanted) c.args.wanted.now c.requires.wanted others,
       c.requires.made.passed,
     )

@@ -3,7 +3,7 @@ use Rattle.toml_tree.specs.Document.{document}
 use Rattle.toml_edits.specs.Edits.{change}
 use Rattle.toml_units.specs.View.{all_units}
 use Rattle.toml_editor.specs.Edited.{Tells}
-use Rattle.toml_editor.specs.Editing.{IsMadeText, IsReadAs}
+use Rattle.toml_editor.specs.Editing.{IsMadeText}
 use Rattle.toml_editor.proofs.editing.make_document.Goals as goal
 
 pub returns-clause-work : goal.returns-clause-work
@@ -14,15 +14,9 @@ returns-clause-work c =
     let read = c.in_ok-source.ensures.read in
     let edited = c.in-Ok.edited in
     let told = c.in_ok-wanted.ensures d before read.spelled (ap all_units c.deref.ensures.value ∙ c.in_ok-units.ensures) in
-    let read_here : IsReadAs c.args.profile before before d = record { text_is = λ _. before; within = read.within; spelled = read.spelled; of_profile = read.of_profile } in
     record {
-      document = c.in_ok-reader.ensures.document c.args.profile read_here;
-      tree = d;
-      spelled = read.spelled;
-      units = c.in_ok-units.ensures;
-      newlines = c.in_ok-newlines.ensures;
       wanted = (d, read.spelled, told);
-      made = subst₂ (λ t fs. IsMadeText c.args.profile t cs fs c.in-Ok.made (string_bytes edited.text) edited.pieces.items edited.certificate.pairs.items)
+      made = subst₂ (λ t fs. IsMadeText c.args.profile t cs fs (string_bytes edited.text) edited.pieces.items edited.certificate.pairs.items)
           read.text_is c.deref-3.ensures.value c.in-Ok.ensures.made;
     }
 

@@ -7,7 +7,6 @@ use Rattle.toml_names.specs.model.Data.{IsDataOf, fact_at, kind_at}
 use Rattle.toml_names.specs.model.Hidden.{beside}
 use Rattle.toml_names.specs.model.Places.{place}
 use Rattle.toml_names.specs.mentions.Mentions.{named}
-use Rattle.toml_names.specs.reader.LineNames.{StandFor}
 use Rattle.toml_names.specs.reader.Reading.{lines_of}
 use Rattle.toml_edits.specs.Edits.{change}
 use Rattle.toml_edits.proofs.Proved.{leads_beside}
@@ -26,7 +25,7 @@ returns-in-Err-clause-told c =
     let cs = map change c.args.edits.now in
     let old = fact_at (named d.lines) in
     let facts = has_data c.args.profile text d c.requires.read.document c.requires.read.spelled in
-    let near = c.in_ok-data.ensures (lines_of c.args.reader) c.names.ensures old (subst (λ (ls : List Line). IsDataOf (named ls) old) (sym c.requires.read.taken) facts) in
+    let near = c.in_ok-data.ensures (lines_of c.args.reader.now) c.names.ensures old (subst (λ (ls : List Line). IsDataOf (named ls) old) (sym c.requires.read.taken) facts) in
     let part = kind_at c.in_ok-data.«data».root in
     let told = subst (λ (ls : List Line). TellsAny c.args.profile (place (named ls)) cs part c.in-Err.fault) c.requires.read.taken c.in-Err.ensures.told in
     let opened = c.in_ok-tree.ensures in
@@ -44,7 +43,7 @@ returns-clause-made c =
     let cs = map change c.args.edits.now in
     let old = fact_at (named d.lines) in
     let facts = has_data c.args.profile text d c.requires.read.document c.requires.read.spelled in
-    let near = c.in_ok-data.ensures (lines_of c.args.reader) c.names.ensures old (subst (λ (ls : List Line). IsDataOf (named ls) old) (sym c.requires.read.taken) facts) in
+    let near = c.in_ok-data.ensures (lines_of c.args.reader.now) c.names.ensures old (subst (λ (ls : List Line). IsDataOf (named ls) old) (sym c.requires.read.taken) facts) in
     let new = kind_at c.make_all.new.«data».root in
     let leads = leads_beside c.args.profile (is_hidden c.in_ok-touched.touched) cs old (kind_at c.in_ok-data.«data».root) new
     c.in_ok-touched.ensures.near near c.in_default.ensures.made in
@@ -52,24 +51,17 @@ returns-clause-made c =
     record {
       plain = plain_written c.args.profile (record { units = c.args.units.now; lines = d.lines }) d text c.in_ok-tree.tree c.requires.read.document
           c.requires.read.spelled opened.stands.lines (ap (λ (t : Texts). text_of t.source) opened.texts) opened.elements opened.style cs old
-          (beside (is_hidden c.in_ok-touched.touched) old new) c.make_all.new.tree (string_bytes c.in_ok-edited.edited.text) facts leads
-          c.in_default.ensures.exact.makes c.in_ok-edited.ensures.written;
+          (beside (is_hidden c.in_ok-touched.touched) old new) c.make_all.new.tree (string_bytes c.in_ok-write_out.field-0.text) facts leads
+          c.in_default.ensures.exact.makes c.in_ok-write_out.ensures.written;
       passed = no_spread_set c.args.profile (record { units = c.args.units.now; lines = d.lines }) d text c.in_ok-tree.tree c.requires.read.document
           c.requires.read.spelled opened.stands.lines (ap (λ (t : Texts). text_of t.source) opened.texts) opened.elements opened.style
           (is_hidden c.in_ok-touched.touched) cs c.in_ok-touched.ensures.near old facts (kind_at c.in_ok-data.«data».root) near (length cs) c.in_default.ensures.exact.passes;
       paired = λ told.
           plain_paired c.args.profile (record { units = c.args.units.now; lines = d.lines }) d text c.in_ok-tree.tree c.requires.read.document
           c.requires.read.spelled opened.stands.lines (ap (λ (t : Texts). text_of t.source) opened.texts) opened.elements opened.style cs old
-          (beside (is_hidden c.in_ok-touched.touched) old new) c.make_all.new.tree (string_bytes c.in_ok-edited.edited.text) facts leads
-          c.args.wanted.now c.in_ok-edited.edited.certificate.pairs.items c.requires.read.document.0 (wanted_outer text cs c.args.wanted.now d c.requires.read.spelled told)
-          c.requires.units opened.stands.origins c.in_default.ensures.exact.makes c.in_ok-edited.ensures.written c.in_ok-edited.ensures.paired;
-      is_made = record {
-        tree = d;
-        spelled = c.requires.read.spelled;
-        taken = subst (StandFor c.into_names.result) c.requires.read.taken c.into_names.ensures;
-        old = old;
-        facts = facts;
-        leads = leads;
-      };
-      pieces = c.in_ok-edited.ensures.pieces;
+          (beside (is_hidden c.in_ok-touched.touched) old new) c.make_all.new.tree (string_bytes c.in_ok-write_out.field-0.text) facts leads
+          c.args.wanted.now c.in_ok-write_out.field-0.certificate.pairs.items c.requires.read.document.0 (wanted_outer text cs c.args.wanted.now d c.requires.read.spelled told)
+          c.requires.units opened.stands.origins c.in_default.ensures.exact.makes c.in_ok-write_out.ensures.written c.in_ok-write_out.ensures.paired;
+      are_defined = (c.requires.read.document, (d, c.requires.read.spelled, old, facts, (beside (is_hidden c.in_ok-touched.touched) old new, leads)));
+      pieces = c.in_ok-write_out.ensures.pieces;
     }

@@ -1,52 +1,8 @@
-use Rattle.std.proofs.Common.{[], ◌∷◌, ◌++◌, Some, ap, sym, ◌∙◌}
-use Rattle.std.proofs.lemmas.Result.{err_from_is_err_and}
+use Rattle.std.proofs.Common.{[], ◌∷◌, ◌++◌, refl}
 use Rattle.toml_tree.specs.Lines.{line as tree_line}
-use Rattle.toml_tree.specs.View.{expr, key as tree_key}
-use Rattle.toml_names.specs.mentions.Keys.{key_names}
-use Rattle.toml_tree.specs.Tree.{KeyVal}
-use Rattle.toml_tree.proofs.Proved.{keyval_is}
-use Rattle.toml_names.specs.mentions.Mentions.{named, section}
-use Rattle.toml_names.specs.model.Addresses.{below}
-use Rattle.toml_names.specs.reader.Names.{own_address}
-use Rattle.toml_units.proofs.ReadLines.{blank_stays, pair_stays}
+use Rattle.toml_names.proofs.Proved.{refused_are_bad}
 use Rattle.toml_units.proofs.reading.Reading.take.Goals as goal
 
-pub returns-in_err-take-in-Blank-clause-names : goal.returns-in_err-take-in-Blank-clause-names
-returns-in_err-take-in-Blank-clause-names c = λ lines h.
-    let p = err_from_is_err_and c.from_residual.result c.from_residual.ensures.1 in
-    rw (p.1, p.2) (c.in_err-take-in-Blank.ensures lines h.names)
-
-pub returns-in_err-take-in-KeyVal-clause-names : goal.returns-in_err-take-in-KeyVal-clause-names
-returns-in_err-take-in-KeyVal-clause-names c = λ lines h.
-    let p = err_from_is_err_and c.from_residual-in_err-take-in-KeyVal.result c.from_residual-in_err-take-in-KeyVal.ensures.1 in
-    rw (p.1, p.2) (c.in_err-take-in-KeyVal.ensures lines h.names)
-
-pub returns-in_err-own-in-Std-clause-names : goal.returns-in_err-own-in-Std-clause-names
-returns-in_err-own-in-Std-clause-names c = λ lines h.
-    let p = err_from_is_err_and c.from_residual-in_err-own-in-Std.result c.from_residual-in_err-own-in-Std.ensures.1 in
-    rw (p.1, p.2) (c.in_err-own-in-Std.ensures lines h.names)
-
-pub section-requires : goal.section-requires
-section-requires c =
-    let so_far = c.requires in
-    record { stand = (so_far.0 ++ tree_line c.args.line.now ∷ [], (c.in_ok-own-in-Std.ensures so_far.0 so_far.1.names).0) }
-
-pub returns-in_ok-take-in-Blank-clause-names : goal.returns-in_ok-take-in-Blank-clause-names
-returns-in_ok-take-in-Blank-clause-names c = λ lines h.
-    let l = tree_line c.args.line.now in
-    let is = sym c.expr.ensures ∙ ap expr c.in-Blank.is in
-    record {
-      names = c.in_ok-take-in-Blank.ensures lines h.names;
-      section_is = h.section_is ∙ sym (blank_stays lines l _ is);
-      own_is = sym (ap (own_address (named lines)) is);
-    }
-
-pub returns-in_ok-at-in-KeyVal-clause-names : goal.returns-in_ok-at-in-KeyVal-clause-names
-returns-in_ok-at-in-KeyVal-clause-names c = λ lines h.
-    let l = tree_line c.args.line.now in
-    let is = sym c.expr.ensures ∙ ap expr c.in-KeyVal.is in
-    record {
-      names = c.in_ok-take-in-KeyVal.ensures lines h.names;
-      section_is = h.section_is ∙ sym (pair_stays lines l _ _ _ is);
-      own_is = ap Some (c.in_ok-at-in-KeyVal.ensures ∙ ap (λ at. below at (key_names (tree_key c.in-KeyVal.keyval.assign.key))) h.section_is ∙ ap (λ (k : KeyVal). below (section (named lines)) (key_names k.assign.key)) (sym (keyval_is c.in-KeyVal.keyval))) ∙ sym (ap (own_address (named lines)) is);
-    }
+pub returns-in_ok-told_names-in-Err-clause-taken : goal.returns-in_ok-told_names-in-Err-clause-taken
+returns-in_ok-told_names-in-Err-clause-taken c = λ lines h.
+    (refused_are_bad (lines ++ tree_line c.args.line.now ∷ []) c.in-Err.fault (c.in-Err.ensures.names lines h) c.in_ok-told_names-in-Err.ensures, refl)
