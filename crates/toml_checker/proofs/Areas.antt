@@ -1,8 +1,9 @@
 -- What is apart from the area of an edit is left alone by it.
 use Rattle.std.proofs.Common.{◌≡◌, ◌⊎◌, inl, inr, ℕ, List, [], ◌∷◌, ◌++◌, Option, Some, None, Bool, true, false, cond, not, ◌&&◌, refl, sym, ap, subst, ◌∙◌}
 use Rattle.std.proofs.Math.Logic.{∥∥₁_elim}
+use mathlib.Core.HLevel.{×_prop}
 use Rattle.std.proofs.Props.{props}
-use Rattle.std.specs.Prelude.{◌↔◌, IsTrue, length, option_and_then}
+use Rattle.std.specs.Prelude.{◌↔◌, IfSome, IsTrue, length, option_and_then}
 use Rattle.toml_names.specs.declared.model.address.Step.{Step}
 use Rattle.toml_names.specs.declared.model.address.Step.TheVariants.{Name, Index}
 use Rattle.toml_names.specs.model.Addresses.{Address, same_step, same_address}
@@ -165,10 +166,13 @@ whole_index at q s i is same = sym (ap (λ o. whole_by o at) (ap parted is ∙ p
 abbrev Shown : List Change → Fronts → Type 0
 Shown cs fronts = ∥ AreFronts cs fronts ∥₁
 
-pub stands_far : (part : Part) (cs : List Change) (fronts : Fronts) (a b : Address) (base : Option ℕ) → Shown cs fronts → b ≡ a → true ≡ is_far fronts b → true ≡ stands part cs (Some a) base
-stands_far part cs fronts a b base shown same far =
-    ∥∥₁_elim shown (hlevel props) (λ fit. sym (stands_apart part cs a base (fit a (sym (far ∙ ap (is_far fronts) same)))))
+apart_prop : (cs : List Change) (a : Address) → IsProp (IsApart cs a)
+apart_prop [] a = hlevel props
+apart_prop (c ∷ cs) a = ×_prop (hlevel props) (apart_prop cs a)
 
-pub arrives_far : (cs : List Change) (fronts : Fronts) (a b to : Address) (test : Bool) → Shown cs fronts → b ≡ a → true ≡ is_far fronts b → test ≡ same_address a to → IsTrue test ↔ (carried cs a ≡ Some to)
-arrives_far cs fronts a b to test shown same far is =
-    arrived (carried cs a) (Some a) a to test (∥∥₁_elim shown (hlevel props) (λ fit. sym (carried_apart cs a (fit a (sym (far ∙ ap (is_far fronts) same)))))) refl is
+pub far_apart : (cs : List Change) (fronts : Fronts) (o : Option Address) (a b : Address) (far : Bool) → Shown cs fronts → o ≡ Some a → b ≡ a → far ≡ is_far fronts b → far ≡ true → IfSome o (IsApart cs)
+far_apart cs fronts o a b far shown is same tests so =
+    subst (λ (q : Option Address). IfSome q (IsApart cs)) (sym is) (∥∥₁_elim shown (apart_prop cs a) (λ fit. fit a (sym (sym so ∙ tests ∙ ap (is_far fronts) same))))
+
+pub arrives_apart : (cs : List Change) (a to : Address) (test : Bool) → IsApart cs a → test ≡ same_address a to → IsTrue test ↔ (carried cs a ≡ Some to)
+arrives_apart cs a to test apart is = arrived (carried cs a) (Some a) a to test (sym (carried_apart cs a apart)) refl is

@@ -24,13 +24,13 @@ use Rattle.toml_checker.specs.Lines.{NoLinesAdded}
 use Rattle.toml_checker.specs.Marks.{IsSet}
 use Rattle.toml_checker.specs.Pairs.{IsFirst, IsSecond, PairsFit}
 use Rattle.toml_checker.specs.Traces.{Met, lined_of, paired_of}
-use Rattle.toml_checker.specs.Walking.{AllFitIn, FindsNames, Finishes, IsFew, IsFound, MayBeAll, PairsTold, Says}
+use Rattle.toml_checker.specs.Walking.{AllFitIn, AreMarked, FindsNames, Finishes, IsFew, IsFound, MayBeAll, PairsTold, Says}
 use Rattle.toml_checker.specs.WrittenComments.{HaveValues}
 use Rattle.toml_checker.proofs.AddedTraces.{no_comments_is_told, no_lines_is_told}
 use Rattle.toml_checker.proofs.KeptTraces.{all_kept_is_told}
 use Rattle.toml_checker.proofs.LinedNewlines.{met_spans}
 use Rattle.toml_checker.proofs.PairTraces.{pairs_are_told}
-use Rattle.toml_checker.proofs.Traced.{same_marks}
+use Rattle.toml_checker.proofs.Traced.{marks_still}
 
 names_found : (profile : Profile) (text : List ℕ) (past : List LinedUnit) (names : Option LineNames) → IsText text → Ends profile text past names → FindsNames profile text names
 names_found profile text past None is h = h
@@ -97,17 +97,14 @@ module _ (profile : Profile) (cs : List Change) (ps : List (ℕ × ℕ)) (start 
         ((λ y. to (told.0 (sym f.fits_is ∙ y))), (λ h. f.fits_is ∙ told.1 (from h)))
 
     module _ (yes : found.said.fits ≡ true) where
+      marked : AreMarked ps t.ms t.ns
+      marked = t.marked (lined_of ms) (lined_of ns) may (sym f.fits_is ∙ yes)
+
       marks : (i : ℕ) → IsSet (paired_of ms) i ↔ IsFirst ps i
-      marks i =
-          let m = (t.marked (lined_of ms) (lined_of ns) may (sym f.fits_is ∙ yes)).first i in
-          let s = same_marks t.ms f.one f.one_unpaired i in
-          ((λ p. m.0 (s.0 p)), (λ q. s.1 (m.1 q)))
+      marks = marks_still (IsFirst ps) t.ms f.one f.one_unpaired marked.first
 
       other_marks : (k : ℕ) → IsSet (paired_of ns) k ↔ IsSecond ps k
-      other_marks k =
-          let m = (t.marked (lined_of ms) (lined_of ns) may (sym f.fits_is ∙ yes)).second k in
-          let s = same_marks t.ns f.other f.other_unpaired k in
-          ((λ p. m.0 (s.0 p)), (λ q. s.1 (m.1 q)))
+      other_marks = marks_still (IsSecond ps) t.ns f.other f.other_unpaired marked.second
 
       kept : IsTrue found.said.kept ↔ AllKept cs d ps
       kept =

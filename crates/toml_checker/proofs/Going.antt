@@ -5,15 +5,11 @@ use Rattle.std.proofs.lemmas.List.{append-nil}
 use Rattle.std.proofs.lemmas.Option.{same_Some}
 use Rattle.std.specs.Bool.{nat_lt}
 use Rattle.toml_tree.specs.Spells.{EachIs}
-use Rattle.toml_tree.specs.declared.profile.Profile.{Profile}
-use Rattle.toml_edits.specs.Edits.{Change}
+use Rattle.toml_units.specs.declared.cursor.UnitCursor.{UnitCursor}
 use Rattle.toml_units.specs.Cursors.{current}
 use Rattle.toml_units.specs.Lined.{LinedUnit}
-use Rattle.toml_checker.specs.declared.added.Asked.{Asked}
-use Rattle.toml_checker.specs.declared.walk.FirstText.{FirstText}
-use Rattle.toml_checker.specs.declared.walk.SecondText.{SecondText}
 use Rattle.toml_checker.specs.Traces.{MayBe, Met, lined_of}
-use Rattle.toml_checker.specs.Walking.{GoesTo, HasPassed, HasReached, PassesOne, PassesTo, ReachesOne, ReachesTo, lies_ahead}
+use Rattle.toml_checker.specs.Walking.{GoesTo, GoneTo, HoldsWith, lies_ahead}
 use Rattle.toml_checker.proofs.Traced.{back_one, each_append, lined_push}
 
 -- the units behind others so far
@@ -56,52 +52,26 @@ arrived : (next : Option LinedUnit) (passed : ℕ) (number : Option ℕ) (old_ne
     → lies_ahead number passed ≡ false → GoesTo next passed number old_next old_passed old more
 arrived next passed number old_next old_passed old more h is = record { unpaired = h.unpaired; stops = inr (ended number passed is); low = h.low; back = h.back }
 
--- ---- the first text
-
-pub record Gone (profile : Profile) (cs : List Change) (old : FirstText) (ms : List Met) (number : Option ℕ) (now : FirstText) : Type 0 where
+-- this holds of units so far, behind others
+pub record Gone (Holds : List Met → Type 0) (old : UnitCursor) (old_passed : ℕ) (ms : List Met) (number : Option ℕ) (now : UnitCursor) (passed : ℕ) : Type 0 where
   pub more : List Met
-  pub passed : HasPassed profile cs now (ms ++ more)
-  pub going : Going (current now.cursor) now.passed number (current old.cursor) old.passed ms more
+  pub holds : Holds (ms ++ more)
+  pub going : Going (current now) passed number (current old) old_passed ms more
 
-module _ (profile : Profile) (cs : List Change) (old : FirstText) (ms : List Met) (number : Option ℕ) where
-  pub gone_none : HasPassed profile cs old ms → Gone profile cs old ms number old
-  gone_none h = record { more = []; passed = subst (HasPassed profile cs old) (sym (append-nil ms)) h; going = none (current old.cursor) old.passed number ms }
+pub gone_none : (Holds : List Met → Type 0) (old : UnitCursor) (old_passed : ℕ) (ms : List Met) (number : Option ℕ) → Holds ms → Gone Holds old old_passed ms number old old_passed
+gone_none Holds old old_passed ms number h = record { more = []; holds = subst Holds (sym (append-nil ms)) h; going = none (current old) old_passed number ms }
 
-  pub gone_one : (now new : FirstText) (x : LinedUnit) (h : Gone profile cs old ms number now) → current now.cursor ≡ Some x → new.passed ≤ now.passed + 1 → lies_ahead number now.passed ≡ true → PassesOne profile cs now (ms ++ h.more) false new
-      → Gone profile cs old ms number new
-  gone_one now new x h is le test p = let m : Met = record { lined = x; paired = false } in record {
+module _ {Holds : List Met → Type 0} {old : UnitCursor} {old_passed : ℕ} {ms : List Met} {number : Option ℕ} {now : UnitCursor} {passed : ℕ} (h : Gone Holds old old_passed ms number now passed) where
+  pub gone_one : (HoldsNext : List Met → Type 0) (new : UnitCursor) (new_passed : ℕ) (x : LinedUnit) → current now ≡ Some x → new_passed ≤ passed + 1 → lies_ahead number passed ≡ true → HoldsWith HoldsNext now (ms ++ h.more) false
+      → Gone HoldsNext old old_passed ms number new new_passed
+  gone_one HoldsNext new new_passed x is le test next = let m : Met = record { lined = x; paired = false } in record {
     more = h.more ++ m ∷ [];
-    passed = subst (HasPassed profile cs new) (again ms h.more m) (p x is);
-    going = one (current new.cursor) (current now.cursor) new.passed now.passed number (current old.cursor) old.passed ms h.more x is le test h.going;
+    holds = subst HoldsNext (again ms h.more m) (next x is);
+    going = one (current new) (current now) new_passed passed number (current old) old_passed ms h.more x is le test h.going;
   }
 
-  pub gone_end : (now : FirstText) → Gone profile cs old ms number now → current now.cursor ≡ None → PassesTo profile cs old ms number now
-  gone_end now h is = record { more = h.more; passed = h.passed; goes = stopped (current now.cursor) now.passed number (current old.cursor) old.passed ms h.more h.going is }
+  pub gone_end : current now ≡ None → GoneTo Holds old old_passed ms number now passed
+  gone_end is = record { more = h.more; holds = h.holds; goes = stopped (current now) passed number (current old) old_passed ms h.more h.going is }
 
-  pub gone_to : (now : FirstText) → Gone profile cs old ms number now → lies_ahead number now.passed ≡ false → PassesTo profile cs old ms number now
-  gone_to now h is = record { more = h.more; passed = h.passed; goes = arrived (current now.cursor) now.passed number (current old.cursor) old.passed ms h.more h.going is }
-
--- ---- the second one
-
-pub record Come (profile : Profile) (asked : Asked) (old : SecondText) (ms : List Met) (number : Option ℕ) (now : SecondText) : Type 0 where
-  pub more : List Met
-  pub reached : HasReached profile asked now (ms ++ more)
-  pub going : Going (current now.cursor) now.passed number (current old.cursor) old.passed ms more
-
-module _ (profile : Profile) (asked : Asked) (old : SecondText) (ms : List Met) (number : Option ℕ) where
-  pub come_none : HasReached profile asked old ms → Come profile asked old ms number old
-  come_none h = record { more = []; reached = subst (HasReached profile asked old) (sym (append-nil ms)) h; going = none (current old.cursor) old.passed number ms }
-
-  pub come_one : (now new : SecondText) (x : LinedUnit) (h : Come profile asked old ms number now) → current now.cursor ≡ Some x → new.passed ≤ now.passed + 1 → lies_ahead number now.passed ≡ true → ReachesOne profile asked now (ms ++ h.more) false new
-      → Come profile asked old ms number new
-  come_one now new x h is le test p = let m : Met = record { lined = x; paired = false } in record {
-    more = h.more ++ m ∷ [];
-    reached = subst (HasReached profile asked new) (again ms h.more m) (p x is);
-    going = one (current new.cursor) (current now.cursor) new.passed now.passed number (current old.cursor) old.passed ms h.more x is le test h.going;
-  }
-
-  pub come_end : (now : SecondText) → Come profile asked old ms number now → current now.cursor ≡ None → ReachesTo profile asked old ms number now
-  come_end now h is = record { more = h.more; reached = h.reached; goes = stopped (current now.cursor) now.passed number (current old.cursor) old.passed ms h.more h.going is }
-
-  pub come_to : (now : SecondText) → Come profile asked old ms number now → lies_ahead number now.passed ≡ false → ReachesTo profile asked old ms number now
-  come_to now h is = record { more = h.more; reached = h.reached; goes = arrived (current now.cursor) now.passed number (current old.cursor) old.passed ms h.more h.going is }
+  pub gone_to : lies_ahead number passed ≡ false → GoneTo Holds old old_passed ms number now passed
+  gone_to is = record { more = h.more; holds = h.holds; goes = arrived (current now) passed number (current old) old_passed ms h.more h.going is }

@@ -19,6 +19,7 @@ pub mod RunCovers
 pub mod LeftAbove
 pub mod Passing
 pub mod Running
+pub mod Seen
 pub mod Flags
 pub mod Walked
 pub mod Examples

@@ -1,19 +1,17 @@
 -- Both texts, gone on to the units of a pair.
-use Rattle.std.proofs.Common.{◌≡◌, ℕ, Bool, true, false, true≢false, List, [], ◌∷◌, ◌++◌, length, length-append, Some, refl, sym, ap, subst, ◌∙◌, arith, append_assoc}
+use Rattle.std.proofs.Common.{◌≡◌, ℕ, Bool, true, false, true≢false, List, [], ◌∷◌, ◌++◌, length, length-append, Some, refl, sym, subst, ◌∙◌, arith, append_assoc}
 use Rattle.std.specs.Prelude.{slice_get}
 use Rattle.toml_tree.specs.declared.profile.Profile.{Profile}
 use Rattle.toml_edits.specs.Edits.{Change}
-use Rattle.toml_units.specs.Cursors.{current}
 use Rattle.toml_units.specs.Lined.{LinedUnit}
 use Rattle.toml_checker.specs.declared.edit_list.EditList.{EditList}
 use Rattle.toml_checker.specs.declared.walk.FirstText.{FirstText}
 use Rattle.toml_checker.specs.declared.walk.SecondText.{SecondText}
 use Rattle.toml_checker.specs.declared.walk.Walk.{Walk}
 use Rattle.toml_checker.specs.EditLists.{changes}
-use Rattle.toml_checker.specs.Traces.{AreAlike, MayBe, Met, lined_of}
+use Rattle.toml_checker.specs.Traces.{AreAlike, Met}
 use Rattle.toml_checker.specs.Walking.{HasPassed, HasReached, IsOn, IsPairHere, IsPairedAt, MayBeAll, NextFits, PairTold, PassesOne, PassesTo, ReachesOne, ReachesTo, TellsPair}
-use Rattle.toml_checker.proofs.PairHere.{reached, here_is, paired_at}
-use Rattle.toml_checker.proofs.Traced.{back_one, lined_push}
+use Rattle.toml_checker.proofs.PairHere.{back_here, here_is, paired_at, reached}
 
 module _ (profile : Profile) (cs : List Change) (old : Walk) (ms ns : List Met) (p : ℕ × ℕ) (on : IsOn profile cs old ms ns)
     (one : FirstText) (other : SecondText) (list : EditList) (listed : changes list ≡ cs) (one_text : one.text ≡ old.one.text) (other_text : other.text ≡ old.other.text)
@@ -22,7 +20,7 @@ module _ (profile : Profile) (cs : List Change) (old : Walk) (ms ns : List Met) 
   mid = record { list = list; asked = old.asked; one = one; other = other }
 
   on_mid : IsOn profile cs mid (ms ++ first.more) (ns ++ second.more)
-  on_mid = record { edits = listed; asks = on.asks; first = first.passed; second = second.reached }
+  on_mid = record { edits = listed; asks = on.asks; first = first.holds; second = second.holds }
 
   back : (xs ys : List LinedUnit) → MayBeAll mid (ms ++ first.more) (ns ++ second.more) xs ys → MayBeAll old ms ns xs ys
   back xs ys m = record { first = first.goes.back xs m.first; second = second.goes.back ys m.second; first_few = m.first_few; second_few = m.second_few }
@@ -30,8 +28,8 @@ module _ (profile : Profile) (cs : List Change) (old : Walk) (ms ns : List Met) 
   module _ (xs ys : List LinedUnit) (m : MayBeAll mid (ms ++ first.more) (ns ++ second.more) xs ys) where
     pair_here : NextFits cs old.one.text.now xs old.other.text.now ys (length ms) (length ns) p → IsPairHere cs one other p
     pair_here f =
-        let a = reached xs m.first_few (current one.cursor) (current old.one.cursor) one.passed old.one.passed ms first.more p.0 first.passed.passed on.first.passed first.goes m.first f.stands.first f.stands.first_is f.first in
-        let b = reached ys m.second_few (current other.cursor) (current old.other.cursor) other.passed old.other.passed ns second.more p.1 second.reached.passed on.second.passed second.goes m.second f.stands.second f.stands.second_is f.second in
+        let a = reached first first.holds.passed on.first.passed xs m.first_few m.first f.stands.first f.stands.first_is f.first in
+        let b = reached second second.holds.passed on.second.passed ys m.second_few m.second f.stands.second f.stands.second_is f.second in
         record {
           first_at = a.0;
           second_at = b.0;
@@ -44,10 +42,10 @@ module _ (profile : Profile) (cs : List Change) (old : Walk) (ms ns : List Met) 
 
     module _ (h : IsPairHere cs one other p) where
       at_first : (slice_get xs p.0 ≡ Some h.first) × (length (ms ++ first.more) ≡ p.0)
-      at_first = here_is xs m.first_few (current one.cursor) (current old.one.cursor) one.passed old.one.passed ms first.more p.0 first.passed.passed on.first.passed first.goes m.first h.first h.first_is h.first_at
+      at_first = here_is first first.holds.passed on.first.passed xs m.first_few m.first h.first h.first_is h.first_at
 
       at_second : (slice_get ys p.1 ≡ Some h.second) × (length (ns ++ second.more) ≡ p.1)
-      at_second = here_is ys m.second_few (current other.cursor) (current old.other.cursor) other.passed old.other.passed ns second.more p.1 second.reached.passed on.second.passed second.goes m.second h.second h.second_is h.second_at
+      at_second = here_is second second.holds.passed on.second.passed ys m.second_few m.second h.second h.second_is h.second_at
 
       fits : NextFits cs old.one.text.now xs old.other.text.now ys (length ms) (length ns) p
       fits = record {
@@ -63,10 +61,10 @@ module _ (profile : Profile) (cs : List Change) (old : Walk) (ms ns : List Met) 
       }
 
       marked_first : IsPairedAt p.0 ms (ms ++ (first.more ++ record { lined = h.first; paired = true } ∷ []))
-      marked_first = paired_at xs m.first_few (current one.cursor) (current old.one.cursor) one.passed old.one.passed ms first.more p.0 first.passed.passed on.first.passed first.goes m.first h.first at_first.1
+      marked_first = paired_at first h.first at_first.1
 
       marked_second : IsPairedAt p.1 ns (ns ++ (second.more ++ record { lined = h.second; paired = true } ∷ []))
-      marked_second = paired_at ys m.second_few (current other.cursor) (current old.other.cursor) other.passed old.other.passed ns second.more p.1 second.reached.passed on.second.passed second.goes m.second h.second at_second.1
+      marked_second = paired_at second h.second at_second.1
 
   -- the pair is not there, or its units are not the same
   pub pair_misfits : (b : Bool) → TellsPair cs one other p b → b ≡ false → PairTold profile cs old ms ns p mid false
@@ -98,10 +96,8 @@ module _ (profile : Profile) (cs : List Change) (old : Walk) (ms ns : List Met) 
 
     to_mid : (xs ys : List LinedUnit) → MayBeAll new (ms ++ (first.more ++ x ∷ [])) (ns ++ (second.more ++ y ∷ [])) xs ys → MayBeAll mid (ms ++ first.more) (ns ++ second.more) xs ys
     to_mid xs ys m = record {
-      first = back_one (current new_one.cursor) (current one.cursor) (lined_of (ms ++ first.more)) h.first xs h.first_is
-          (subst (λ zs. MayBe (current new_one.cursor) zs xs) (ap lined_of (sym (append_assoc ms first.more (x ∷ []))) ∙ lined_push (ms ++ first.more) x) m.first);
-      second = back_one (current new_other.cursor) (current other.cursor) (lined_of (ns ++ second.more)) h.second ys h.second_is
-          (subst (λ zs. MayBe (current new_other.cursor) zs ys) (ap lined_of (sym (append_assoc ns second.more (y ∷ []))) ∙ lined_push (ns ++ second.more) y) m.second);
+      first = back_here first new_one.cursor h.first xs h.first_is m.first;
+      second = back_here second new_other.cursor h.second ys h.second_is m.second;
       first_few = m.first_few;
       second_few = m.second_few;
     }

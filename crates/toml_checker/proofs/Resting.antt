@@ -73,37 +73,43 @@ module _ (cs : List Change) (text : List ℕ) (xs : List LinedUnit) (other : Lis
     (λ whole. refl),
   )
 
--- the units of the pairs are those that are marked already, and those that are left
+-- the units of the pairs are those that are marked already, and those of the pairs that are left: of one text,
+abbrev pub MarkSo : (List (ℕ × ℕ) → ℕ → Type 0) → List (ℕ × ℕ) → List (ℕ × ℕ) → List Met → Type 0
+MarkSo IsOne ps rest ms = (i : ℕ) → (IsSet (paired_of ms) i ⊎ IsOne rest i) ↔ IsOne ps i
+
+-- and of both
 pub record MarkedSo (ps : List (ℕ × ℕ)) (rest : List (ℕ × ℕ)) (ms ns : List Met) : Type 0 where
-  pub first : (i : ℕ) → (IsSet (paired_of ms) i ⊎ IsFirst rest i) ↔ IsFirst ps i
-  pub second : (k : ℕ) → (IsSet (paired_of ns) k ⊎ IsSecond rest k) ↔ IsSecond ps k
+  pub first : MarkSo IsFirst ps rest ms
+  pub second : MarkSo IsSecond ps rest ns
 
 none_set : (i : ℕ) → IsSet [] i → ⊥
 none_set i s = cc
 
+-- one text: no pair was met, one pair more, all pairs
+module _ (IsOne : List (ℕ × ℕ) → ℕ → Type 0) (ps : List (ℕ × ℕ)) where
+  mark_none : MarkSo IsOne ps ps []
+  mark_none i = ((λ w. elim w [ inl s ↦ absurd (none_set i s) | inr f ↦ f ]), (λ f. inr f))
+
+  mark_one : (n : ℕ) (left rest : List (ℕ × ℕ)) (ms more : List Met) → ((i : ℕ) → IsOne left i ↔ ((n ≡ i) ⊎ IsOne rest i)) → IsPairedAt n ms more → MarkSo IsOne ps left ms → MarkSo IsOne ps rest more
+  mark_one n left rest ms more next at h i = let s = at.marks i in (
+    (λ w. (h i).0 (elim w [ inl t ↦ elim (s.0 t) [ inl u ↦ inl u | inr e ↦ inr ((next i).1 (inl e)) ] | inr f ↦ inr ((next i).1 (inr f)) ])),
+    (λ f. elim ((h i).1 f) [ inl u ↦ inl (s.1 (inl u)) | inr g ↦ elim ((next i).0 g) [ inl e ↦ inl (s.1 (inr e)) | inr f ↦ inr f ] ]),
+  )
+
+  mark_all : (ms : List Met) → ((i : ℕ) → ¬ IsOne [] i) → MarkSo IsOne ps [] ms → (i : ℕ) → IsSet (paired_of ms) i ↔ IsOne ps i
+  mark_all ms none h i = ((λ s. (h i).0 (inl s)), (λ f. elim ((h i).1 f) [ inl s ↦ s | inr g ↦ absurd (none i g) ]))
+
 marked_none : (ps : List (ℕ × ℕ)) → MarkedSo ps ps [] []
-marked_none ps = record {
-  first = λ i. ((λ w. elim w [ inl s ↦ absurd (none_set i s) | inr f ↦ f ]), (λ f. inr f));
-  second = λ k. ((λ w. elim w [ inl s ↦ absurd (none_set k s) | inr f ↦ f ]), (λ f. inr f));
-}
+marked_none ps = record { first = mark_none IsFirst ps; second = mark_none IsSecond ps }
 
 marked_one : (ps rest : List (ℕ × ℕ)) (p : ℕ × ℕ) (ms ns more also : List Met) → IsPairedAt p.0 ms more → IsPairedAt p.1 ns also → MarkedSo ps (p ∷ rest) ms ns → MarkedSo ps rest more also
 marked_one ps rest p ms ns more also a b h = record {
-  first = λ i. let s = a.marks i in (
-    (λ w. (h.first i).0 (elim w [ inl t ↦ elim (s.0 t) [ inl u ↦ inl u | inr e ↦ inr (inl e) ] | inr f ↦ inr (inr f) ])),
-    (λ f. elim ((h.first i).1 f) [ inl u ↦ inl (s.1 (inl u)) | inr g ↦ elim g [ inl e ↦ inl (s.1 (inr e)) | inr f ↦ inr f ] ]),
-  );
-  second = λ k. let s = b.marks k in (
-    (λ w. (h.second k).0 (elim w [ inl t ↦ elim (s.0 t) [ inl u ↦ inl u | inr e ↦ inr (inl e) ] | inr f ↦ inr (inr f) ])),
-    (λ f. elim ((h.second k).1 f) [ inl u ↦ inl (s.1 (inl u)) | inr g ↦ elim g [ inl e ↦ inl (s.1 (inr e)) | inr f ↦ inr f ] ]),
-  );
+  first = mark_one IsFirst ps p.0 (p ∷ rest) rest ms more (λ i. ((λ f. f), (λ f. f))) a h.first;
+  second = mark_one IsSecond ps p.1 (p ∷ rest) rest ns also (λ k. ((λ f. f), (λ f. f))) b h.second;
 }
 
 marked_all : (ps : List (ℕ × ℕ)) (ms ns : List Met) → MarkedSo ps [] ms ns → AreMarked ps ms ns
-marked_all ps ms ns h = record {
-  first = λ i. ((λ s. (h.first i).0 (inl s)), (λ f. elim ((h.first i).1 f) [ inl s ↦ s | inr g ↦ absurd g ]));
-  second = λ k. ((λ s. (h.second k).0 (inl s)), (λ f. elim ((h.second k).1 f) [ inl s ↦ s | inr g ↦ absurd g ]));
-}
+marked_all ps ms ns h = record { first = mark_all IsFirst ps ms (λ i f. f) h.first; second = mark_all IsSecond ps ns (λ k f. f) h.second }
 
 -- ---- both texts, gone from pair to pair
 

@@ -138,26 +138,26 @@ covers_it a run h = record {
 
 -- ---- what the run of a list shows
 
-pub shown_to_arrive : (cs : List Change) (o : Option Run) (run : Run) (a b x y z : Address) (covers brings : Bool) → ∥ IfSome o (IsRun cs) ∥₁ → o ≡ Some run → x ≡ a → y ≡ a → z ≡ b → IsTrue covers ↔ IsCovered run x → covers ≡ true → IsTrue brings ↔ BringsTo run y z
+abbrev pub Alike : List Change → Option Run → Type 0
+Alike cs o = ∥ IfSome o (IsRun cs) ∥₁
+
+pub covered_arrives : (cs : List Change) (o : Option Run) (run : Run) (a b : Address) (brings : Bool) → Alike cs o → o ≡ Some run → IsSomeAnd o (λ run. IsCovered run a) → IsTrue brings ↔ BringsTo run a b
     → IsTrue brings ↔ (carried cs a ≡ Some b)
-shown_to_arrive cs o run a b x y z covers brings alike is xa ya zb tests covered brought =
+covered_arrives cs o run a b brings alike is covered brought =
     ∥∥₁_elim alike (hlevel props) (λ h.
     let run_is : IsRun cs run = subst (λ (q : Option Run). IfSome q (IsRun cs)) is h in
-    let in_it : IsCovered run a = subst (IsCovered run) xa (tests.0 covered) in
-    let told : BringsTo run a b ↔ (carried cs a ≡ Some b) = run_carries cs run a b run_is in_it in
-    let here : IsTrue brings ↔ BringsTo run a b = subst (λ (w : Address). IsTrue brings ↔ BringsTo run a w) zb (subst (λ (w : Address). IsTrue brings ↔ BringsTo run w z) ya brought) in (
-      (λ t. told.0 (here.0 t)),
-      (λ e. here.1 (told.1 e)),
+    let in_it : IsCovered run a = subst (λ (q : Option Run). IsSomeAnd q (λ run. IsCovered run a)) is covered in
+    let told : BringsTo run a b ↔ (carried cs a ≡ Some b) = run_carries cs run a b run_is in_it in (
+      (λ t. told.0 (brought.0 t)),
+      (λ e. brought.1 (told.1 e)),
     ))
 
-covered_stands : (part : Part) (cs : List Change) (o : Option Run) (a : Address) (base : Option ℕ) → IfSome o (IsRun cs) → IsSomeAnd o (λ run. IsCovered run a) → stands part cs (Some a) base ≡ true
-covered_stands part cs None a base h w = absurd w
-covered_stands part cs (Some run) a base h w = ap (λ p. stands part cs (Some p) base) w.is ∙ h.stands w.index w.has w.rest part base
+covered : (part : Part) (cs : List Change) (o : Option Run) (a : Address) (base : Option ℕ) → IfSome o (IsRun cs) → IsSomeAnd o (λ run. IsCovered run a) → stands part cs (Some a) base ≡ true
+covered part cs None a base h w = absurd w
+covered part cs (Some run) a base h w = ap (λ p. stands part cs (Some p) base) w.is ∙ h.stands w.index w.has w.rest part base
 
-pub shown_to_stand : (part : Part) (cs : List Change) (o : Option Run) (a x : Address) (base : Option ℕ) (covers : Bool) → ∥ IfSome o (IsRun cs) ∥₁ → x ≡ a → IsTrue covers ↔ IsSomeAnd o (λ run. IsCovered run x) → covers ≡ true
-    → true ≡ stands part cs (Some a) base
-shown_to_stand part cs o a x base covers alike xa tests covered =
-    ∥∥₁_elim alike (hlevel props) (λ h. sym (covered_stands part cs o a base h (subst (λ (w : Address). IsSomeAnd o (λ run. IsCovered run w)) xa (tests.0 covered))))
+pub covered_stands : (part : Part) (cs : List Change) (o : Option Run) (a : Address) (base : Option ℕ) → Alike cs o → IsSomeAnd o (λ run. IsCovered run a) → stands part cs (Some a) base ≡ true
+covered_stands part cs o a base alike w = ∥∥₁_elim alike (hlevel props) (λ h. covered part cs o a base h w)
 
 -- ---- what it shows of the array, and of what is above it
 
@@ -168,14 +168,12 @@ holder_stays : (cs : List Change) (o : Option Run) (a : Address) → IfSome o (I
 holder_stays cs None a h w = absurd w
 holder_stays cs (Some run) a h w = h.holder_carries a w
 
-pub held_to_arrive : (cs : List Change) (o : Option Run) (a x to : Address) (held test : Bool) → ∥ IfSome o (IsRun cs) ∥₁ → x ≡ a → IsTrue held ↔ Holds x o → held ≡ true → test ≡ same_address a to → IsTrue test ↔ (carried cs a ≡ Some to)
-held_to_arrive cs o a x to held test alike xa tests is same =
-    arrived (carried cs a) (Some a) a to test (∥∥₁_elim alike (hlevel props) (λ h. sym (holder_stays cs o a h (subst (λ (w : Address). Holds w o) xa (tests.0 is))))) refl same
+pub holder_arrives : (cs : List Change) (o : Option Run) (a to : Address) (test : Bool) → Alike cs o → Holds a o → test ≡ same_address a to → IsTrue test ↔ (carried cs a ≡ Some to)
+holder_arrives cs o a to test alike w same = arrived (carried cs a) (Some a) a to test (∥∥₁_elim alike (hlevel props) (λ h. sym (holder_stays cs o a h w))) refl same
 
-holder_stands : (part : Part) (cs : List Change) (o : Option Run) (a : Address) (base : Option ℕ) → is_of_comment part ≡ true → IfSome o (IsRun cs) → Holds a o → stands part cs (Some a) base ≡ true
-holder_stands part cs None a base is h w = absurd w
-holder_stands part cs (Some run) a base is h w = h.holder_stands a w part is base
+holds : (part : Part) (cs : List Change) (o : Option Run) (a : Address) (base : Option ℕ) → is_of_comment part ≡ true → IfSome o (IsRun cs) → Holds a o → stands part cs (Some a) base ≡ true
+holds part cs None a base is h w = absurd w
+holds part cs (Some run) a base is h w = h.holder_stands a w part is base
 
-pub held_to_stand : (part : Part) (cs : List Change) (o : Option Run) (a x : Address) (base : Option ℕ) (held : Bool) → ∥ IfSome o (IsRun cs) ∥₁ → is_of_comment part ≡ true → x ≡ a → IsTrue held ↔ Holds x o → held ≡ true
-    → stands part cs (Some a) base ≡ true
-held_to_stand part cs o a x base held alike comment xa tests is = ∥∥₁_elim alike (hlevel props) (λ h. holder_stands part cs o a base comment h (subst (λ (w : Address). Holds w o) xa (tests.0 is)))
+pub holder_stands : (part : Part) (cs : List Change) (o : Option Run) (a : Address) (base : Option ℕ) → Alike cs o → is_of_comment part ≡ true → Holds a o → stands part cs (Some a) base ≡ true
+holder_stands part cs o a base alike is w = ∥∥₁_elim alike (hlevel props) (λ h. holds part cs o a base is h w)

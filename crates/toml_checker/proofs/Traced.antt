@@ -83,6 +83,10 @@ set_append (x ∷ xs) ys none (suc i) = set_append xs ys none i
 pub same_marks : (ms more : List Met) → EachIs (λ (m : Met). m.paired ≡ false) more → (i : ℕ) → IsSet (paired_of (ms ++ more)) i ↔ IsSet (paired_of ms) i
 same_marks ms more h i = subst (λ (bs : List Bool). IsSet bs i ↔ IsSet (paired_of ms) i) (sym (paired_append ms more)) (set_append (paired_of ms) (paired_of more) (unmarked_set more h) i)
 
+-- what the marks tell before such units they tell behind them
+pub marks_still : (P : ℕ → Type 0) (ms more : List Met) → EachIs (λ (m : Met). m.paired ≡ false) more → ((i : ℕ) → IsSet (paired_of ms) i ↔ P i) → (i : ℕ) → IsSet (paired_of (ms ++ more)) i ↔ P i
+marks_still P ms more none h i = let s = same_marks ms more none i in ((λ p. (h i).0 (s.0 p)), (λ q. s.1 ((h i).1 q)))
+
 set_last : (xs : List Bool) (i : ℕ) → IsSet (xs ++ true ∷ []) i ↔ (IsSet xs i ⊎ (length xs ≡ i))
 set_last [] zero = ((λ s. inr refl), (λ w. refl))
 set_last [] (suc i) = ((λ s. cc), (λ w. elim w [ inl s ↦ cc | inr e ↦ absurd (omega (arith, e)) ]))

@@ -1,5 +1,5 @@
 -- What is found of the units of the second text that were walked past.
-use Rattle.std.specs.Prelude.{◌≡◌, ◌↔◌, ◌&&◌, not, ℕ, Bool, true, false, if◌then◌else◌, List, [], ◌∷◌, map, Option, None}
+use Rattle.std.specs.Prelude.{◌≡◌, ◌↔◌, ◌&&◌, not, ℕ, Bool, true, false, if◌then◌else◌, IsTrue, List, [], ◌∷◌, ◌++◌, map, Option, None}
 use Rattle.toml_tree.specs.Spells.{EachIs}
 use Rattle.toml_tree.specs.declared.profile.Profile.{Profile}
 use Rattle.toml_names.specs.model.Addresses.{Address}
@@ -57,3 +57,11 @@ pub record HasAdded (asked : Asked) (text : List ℕ) (ms : List Met) (added : A
   pub reach : added.reach ≡ reach_from None ms
   pub allowed : (added.allowed ≡ true) ↔ EachIs (IsAllowed asked.written.items text) (new_from None ms)
   pub texts : plain added.texts.items ≡ map (text_at text) (new_from None ms)
+
+-- each new comment is one that an edit writes, with this one
+abbrev pub AreAllowedWith : Asked → List ℕ → Spanned → Added → Added → Type 0
+AreAllowedWith asked text comment old new = IsTrue new.allowed ↔ (IsTrue old.allowed × IsAllowed asked.written.items text comment)
+
+-- the texts of the new comments, and this one
+abbrev pub AddsText : List ℕ → Added → Added → Type 0
+AddsText t old new = plain new.texts.items ≡ plain old.texts.items ++ t ∷ []

@@ -22,6 +22,7 @@ pub mod Fronts
 pub mod EditLists
 pub mod Plain
 pub mod Runs
+pub mod Sights
 pub mod Marks
 pub mod Debts
 pub mod Judging

@@ -1,5 +1,6 @@
 -- Two texts on the way through their units.
-use Rattle.std.specs.Prelude.{◌≡◌, ◌↔◌, ◌⊎◌, ◌<◌, ◌≤◌, ◌+◌, ◌∷◌, ◌++◌, [], ℕ, Bool, true, false, IsTrue, List, Option, Some, None, MatchOption, length}
+use Rattle.std.specs.Prelude.{◌≡◌, ◌↔◌, ◌⊎◌, ◌<◌, ◌≤◌, ◌+◌, ◌∷◌, ◌++◌, [], ℕ, Bool, true, false, IsTrue, List, Option, Some, None, IsSome, MatchOption, Result, IfOk, OnOk, length}
+use Rattle.std.specs.declared.alloc.AllocError.{AllocError}
 use Rattle.std.specs.Bool.{nat_lt}
 use Rattle.std.specs.List.{flat_map}
 use Rattle.toml_text.specs.Limit.{IsText}
@@ -17,7 +18,10 @@ use Rattle.toml_units.specs.Lined.{LinedUnit}
 use Rattle.toml_units.specs.View.{unit}
 use Rattle.toml_checker.specs.declared.added.Added.{Added}
 use Rattle.toml_checker.specs.declared.added.Asked.{Asked}
+use Rattle.toml_checker.specs.declared.edit_list.EditList.{EditList}
+use Rattle.toml_checker.specs.declared.kept.Kept.{Kept}
 use Rattle.toml_checker.specs.declared.pairs.Spot.{Spot}
+use Rattle.toml_checker.specs.declared.sight.Sight.{Sight}
 use Rattle.toml_checker.specs.declared.walk.FirstText.{FirstText}
 use Rattle.toml_checker.specs.declared.walk.SecondText.{SecondText}
 use Rattle.toml_checker.specs.declared.walk.Found.{Found}
@@ -33,10 +37,21 @@ use Rattle.toml_checker.specs.Added.{Asks, HasAdded}
 use Rattle.toml_checker.specs.EditLists.{changes}
 use Rattle.toml_checker.specs.Marks.{IsSet}
 use Rattle.toml_checker.specs.Pairs.{IsFirst, IsSecond, PairsFit, Rise}
-use Rattle.toml_checker.specs.Traces.{AreAlike, MayBe, Met, StandsIn, kept_over, lined_of, paired_of}
+use Rattle.toml_checker.specs.Sights.{HasSight}
+use Rattle.toml_checker.specs.Traces.{AreAlike, MayBe, Met, StandsIn, kept_over, kept_with, lined_of, paired_of}
+use Rattle.toml_checker.specs.UnmarkedComments.{text_at}
 
+-- the unit at which the code looks, with its newline
 abbrev pub lined_at : Spot → LinedUnit
 lined_at s = record { unit = unit s.unit.now; newline = s.newline.now }
+
+-- the bytes of that unit
+abbrev pub bytes_at : Spot → List ℕ
+bytes_at s = text_at s.text.now (lined_at s).unit
+
+-- two units in their texts are the same, but for where the edits carry them
+abbrev pub AreAlikeAt : List Change → Spot → Spot → Type 0
+AreAlikeAt cs one other = AreAlike cs one.text.now (lined_at one) other.text.now (lined_at other)
 
 -- each new comment is one that an edit writes, and no text stands more often among them than in what edits write
 abbrev pub AddsNoComments : Asked → Added → Type 0
@@ -70,30 +85,71 @@ pub record GoesTo (next : Option LinedUnit) (passed : ℕ) (number : Option ℕ)
   pub low : (n : ℕ) → number ≡ Some n → old_passed ≤ n → passed ≤ n
   pub back : (all : List LinedUnit) → MayBe next (lined_of (old ++ more)) all → MayBe old_next (lined_of old) all
 
+-- a unit can be walked past
+pub record CanPass (c : UnitCursor) : Type 0 where
+  pub goes : Goes c
+  pub some : IsSome (current c)
+
 -- a cursor goes on, and comes nearer to the end; and so many units were walked past, at most one more
 pub record GoesOn (old : UnitCursor) (passed : ℕ) (new : UnitCursor) (now_passed : ℕ) : Type 0 where
   pub goes : Goes new
   pub less : to_go new < to_go old
   pub count : now_passed ≤ passed + 1
 
+-- this holds of the units with one more behind them, that before which the cursor stood
+abbrev pub HoldsWith : (List Met → Type 0) → UnitCursor → List Met → Bool → Type 0
+HoldsWith Holds old ms paired = (x : LinedUnit) → current old ≡ Some x → Holds (ms ++ record { lined = x; paired = paired } ∷ [])
+
+-- this holds of the units with more behind them, up to the number or to the end
+pub record GoneTo (Holds : List Met → Type 0) (old : UnitCursor) (old_passed : ℕ) (ms : List Met) (number : Option ℕ) (new : UnitCursor) (new_passed : ℕ) : Type 0 where
+  pub more : List Met
+  pub holds : Holds (ms ++ more)
+  pub goes : GoesTo (current new) new_passed number (current old) old_passed ms more
+
 -- one unit more of the first text was walked past
 abbrev pub PassesOne : Profile → List Change → FirstText → List Met → Bool → FirstText → Type 0
-PassesOne profile cs old ms paired new = (x : LinedUnit) → current old.cursor ≡ Some x → HasPassed profile cs new (ms ++ record { lined = x; paired = paired } ∷ [])
+PassesOne profile cs old ms paired new = HoldsWith (HasPassed profile cs new) old.cursor ms paired
 
--- more units of it
-pub record PassesTo (profile : Profile) (cs : List Change) (old : FirstText) (ms : List Met) (number : Option ℕ) (new : FirstText) : Type 0 where
-  pub more : List Met
-  pub passed : HasPassed profile cs new (ms ++ more)
-  pub goes : GoesTo (current new.cursor) new.passed number (current old.cursor) old.passed ms more
+-- units of the first text were walked past, up to the number or to the end
+abbrev pub PassesTo : Profile → List Change → FirstText → List Met → Option ℕ → FirstText → Type 0
+PassesTo profile cs old ms number new = GoneTo (HasPassed profile cs new) old.cursor old.passed ms number new.cursor new.passed
 
--- the same of the second text
+-- one unit more of the second text was walked past
 abbrev pub ReachesOne : Profile → Asked → SecondText → List Met → Bool → SecondText → Type 0
-ReachesOne profile asked old ms paired new = (x : LinedUnit) → current old.cursor ≡ Some x → HasReached profile asked new (ms ++ record { lined = x; paired = paired } ∷ [])
+ReachesOne profile asked old ms paired new = HoldsWith (HasReached profile asked new) old.cursor ms paired
 
-pub record ReachesTo (profile : Profile) (asked : Asked) (old : SecondText) (ms : List Met) (number : Option ℕ) (new : SecondText) : Type 0 where
-  pub more : List Met
-  pub reached : HasReached profile asked new (ms ++ more)
-  pub goes : GoesTo (current new.cursor) new.passed number (current old.cursor) old.passed ms more
+-- units of the second text were walked past, up to the number or to the end
+abbrev pub ReachesTo : Profile → Asked → SecondText → List Met → Option ℕ → SecondText → Type 0
+ReachesTo profile asked old ms number new = GoneTo (HasReached profile asked new) old.cursor old.passed ms number new.cursor new.passed
+
+-- whichever units of the first text were walked past before, one more was, where there is memory
+abbrev pub Passing : List Change → FirstText → Bool → FirstText → Result (Unit {0}) AllocError → Type 0
+Passing cs old paired new result = (profile : Profile) (ms : List Met) → HasPassed profile cs old ms → OnOk result (PassesOne profile cs old ms paired new)
+
+-- whichever units of the first text were walked past before, the next ones were up to the number, where there is memory
+abbrev pub PassingTo : List Change → FirstText → Option ℕ → FirstText → Result (Unit {0}) AllocError → Type 0
+PassingTo cs old number new result = (profile : Profile) (ms : List Met) → HasPassed profile cs old ms → OnOk result (PassesTo profile cs old ms number new)
+
+-- whichever units of the second text were walked past before, one more was, where there is memory
+abbrev pub Reaching : Asked → SecondText → Bool → SecondText → Result (Unit {0}) AllocError → Type 0
+Reaching asked old paired new result = (profile : Profile) (ms : List Met) → HasReached profile asked old ms → OnOk result (ReachesOne profile asked old ms paired new)
+
+-- whichever units of the second text were walked past before, the next ones were up to the number, where there is memory
+abbrev pub ReachingTo : Asked → SecondText → Option ℕ → SecondText → Result (Unit {0}) AllocError → Type 0
+ReachingTo asked old number new result = (profile : Profile) (ms : List Met) → HasReached profile asked old ms → OnOk result (ReachesTo profile asked old ms number new)
+
+-- the unit before which the first text stands, if there is one, has this sight under the list
+abbrev pub SeesNext : EditList → FirstText → Sight → Type 0
+SeesNext list one sight = (x : LinedUnit) → current one.cursor ≡ Some x → HasSight list x.unit.address sight
+
+-- this was found behind the unit before which the first text stands
+abbrev pub IsKeptWith : List Change → FirstText → Bool → Kept → Type 0
+IsKeptWith cs one paired kept = (x : LinedUnit) → current one.cursor ≡ Some x → kept ≡ kept_with cs one.kept x.unit paired
+
+-- where there is memory, this was found with the unit before which the second text stands, whichever units were walked past before
+abbrev pub AddsNext : Asked → SecondText → Bool → SecondText → Result (Unit {0}) AllocError → Type 0
+AddsNext asked old paired new result = (ms : List Met) (x : LinedUnit) → HasAdded asked old.text.now ms old.added → current old.cursor ≡ Some x
+    → OnOk result (HasAdded asked old.text.now (ms ++ record { lined = x; paired = paired } ∷ []) new.added)
 
 -- both texts on the way, with what the edits ask for
 pub record IsOn (profile : Profile) (cs : List Change) (w : Walk) (ms ns : List Met) : Type 0 where
@@ -116,6 +172,7 @@ pub record IsPairHere (cs : List Change) (one : FirstText) (other : SecondText) 
   pub second_is : current other.cursor ≡ Some second
   pub alike : AreAlike cs one.text.now first other.text.now second
 
+-- whether they do
 abbrev pub TellsPair : List Change → FirstText → SecondText → ℕ × ℕ → Bool → Type 0
 TellsPair cs one other p holds = IsTrue holds ↔ IsPairHere cs one other p
 
@@ -184,6 +241,18 @@ pub record Finishes (profile : Profile) (cs : List Change) (old : Walk) (ms ns :
   pub has_added : HasAdded old.asked old.other.text.now (ns ++ other) added
   pub lines : found.said.lines ≡ added.lines
   pub comments : IsTrue found.said.comments ↔ AddsNoComments old.asked added
+
+-- whichever units were walked past before, so it is told of the next pair, where there is memory
+abbrev pub TellsNext : Walk → ℕ × ℕ → Walk → Result Bool AllocError → Type 0
+TellsNext old p new result = (profile : Profile) (cs : List Change) (ms ns : List Met) → IsOn profile cs old ms ns → IfOk result (PairTold profile cs old ms ns p new)
+
+-- so it is told of all pairs, where nothing was walked past before, and there is memory
+abbrev pub TellsAll : Walk → List (ℕ × ℕ) → Walk → Result Bool AllocError → Type 0
+TellsAll old ps new result = (profile : Profile) (cs : List Change) → IsOn profile cs old [] [] → IfOk result (PairsTold profile cs old ps new)
+
+-- whichever units were walked past before, all others were to the end, and this was found, where there is memory
+abbrev pub FinishesOff : Walk → Bool → Result Found AllocError → Type 0
+FinishesOff old fits result = (profile : Profile) (cs : List Change) (ms ns : List Met) → IsOn profile cs old ms ns → IfOk result (Finishes profile cs old ms ns fits)
 
 -- the names are those of all lines of the text; without them it is no document
 pub record NamesAll (profile : Profile) (text : List ℕ) (names : LineNames) : Type 0 where

@@ -3,9 +3,8 @@ ghost use Rattle.std.specs.Prelude.{◌≡◌, ◌↔◌, ◌∷◌, ◌++◌, [
 ghost use Rattle.toml_edits.specs.Edits.{change};
 ghost use Rattle.toml_units.specs.Places.{is_line};
 ghost use Rattle.toml_units.specs.View.{unit as span_of};
-ghost use Rattle.toml_checker.specs.Added.{Asks, HasAdded, IsLineAsked, met_of};
+ghost use Rattle.toml_checker.specs.Added.{AddsText, AreAllowedWith, Asks, HasAdded, IsLineAsked, met_of};
 ghost use Rattle.toml_checker.specs.CarriedTo.{At};
-ghost use Rattle.toml_checker.specs.Counts.{plain};
 ghost use Rattle.toml_checker.specs.Debts.{AnyCovers, IsAsked};
 ghost use Rattle.toml_checker.specs.UnmarkedComments.{text_at};
 ghost use Rattle.toml_checker.specs.Traces.{Met};
@@ -153,8 +152,8 @@ impl<'t> Added<'t> {
     ) -> Result<(), AllocError>
         ensures lines { self.new.lines ≡ self.old.lines }
         ensures reach { self.new.reach ≡ self.old.reach }
-        ensures allowed { IsTrue self.new.allowed ↔ (IsTrue self.old.allowed × IsAllowed asked.now.written.items text.now (span_of comment.now)) }
-        ensures texts { OnOk result (plain self.new.texts.items ≡ plain self.old.texts.items ++ text_at text.now (span_of comment.now) ∷ []) }
+        ensures allowed { AreAllowedWith asked.now text.now (span_of comment.now) self.old self.new }
+        ensures texts { OnOk result (AddsText (text_at text.now (span_of comment.now)) self.old self.new) }
     {
         self.allowed = self.allowed && is_allowed(&asked.written, text, comment);
         self.texts.push(text_at(text, comment))?;

@@ -6,11 +6,10 @@ ghost use Rattle.toml_checker.specs.Fronts.{AreFronts};
 ghost use Rattle.toml_checker.specs.Runs.{IsRun, IsCovered};
 
 use crate::fronts::{Fronts, fronts_of};
-use crate::runs::{Run, run_at};
+use crate::runs::Run;
 use std::alloc::{AllocError, Global};
 use toml_edits::Edit;
 use toml_names::Step;
-use toml_units::Unit;
 
 /// Edits, with what their areas begin with and one run, so that most addresses need not be asked of each edit.
 #[derive(Drop)]
@@ -46,34 +45,13 @@ impl<'e> EditList<'e> {
         }
     }
 
-    /// Whether the array of the run is at the address or below it. Then no edit moves what is at the address, or takes away a
-    /// comment of it.
+    /// Whether the array of the run is at the address, or below it.
     pub(crate) fn is_within(&self, at: &[Step]) -> bool
         ensures { IsTrue result ↔ IsSomeAnd self.now.run (λ run. IsAtOrAbove at.now run.array.now) }
     {
         match &self.run {
             Some(run) => run.is_within(at),
             None => false,
-        }
-    }
-
-    /// Makes the run of the unit, if the unit has an address that the last run does not cover and that is not far from all
-    /// edits. Where there is none the last run stays. There is none at its array, or above that: comments between elements do
-    /// not have the edits gone through.
-    pub(crate) fn come_to(&mut self, unit: &Unit)
-        ensures { self.new.edits.now ≡ self.old.edits.now }
-    {
-        let Some(at) = &unit.address else {
-            return;
-        };
-        if self.is_covered(at.steps()) || self.is_within(at.steps()) {
-            return;
-        }
-        if self.fronts.is_far(at.steps()) {
-            return;
-        }
-        if let Some(run) = run_at(self.edits, at.steps()) {
-            self.run = Some(run);
         }
     }
 }

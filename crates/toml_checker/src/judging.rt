@@ -1,13 +1,15 @@
 //! The judge: the demands, one after the other.
-ghost use Rattle.std.specs.Prelude.{ℕ, IfOk, List, OnOk, map};
+ghost use Rattle.std.specs.Prelude.{◌≡◌, [], ℕ, IfOk, List, OnOk, map};
+ghost use Rattle.toml_text.specs.Limit.{IsText};
 ghost use Rattle.toml_text.specs.Source.{text_of};
-ghost use Rattle.toml_tree.specs.declared.profile.Profile.{Profile as InProfile};
 ghost use Rattle.toml_tree.specs.declared.profile.Profile.TheVariants.{One};
+ghost use Rattle.toml_names.specs.model.Documents.{IsDocumentIn};
 ghost use Rattle.toml_edits.specs.Edits.{change};
+ghost use Rattle.toml_units.specs.Cursors.{Walks};
 ghost use Rattle.toml_checker.specs.Demands.{IsVerdict};
 ghost use Rattle.toml_checker.specs.Headline.{YesMeans};
-ghost use Rattle.toml_checker.specs.Judging.{HoldBelow, IsOfMemory, IsRefusal};
-ghost use Rattle.toml_checker.specs.Walking.{IsFound, SaysOf};
+ghost use Rattle.toml_checker.specs.Judging.{IsOfMemory, IsRefusal, JudgesFound, JudgesUnits};
+ghost use Rattle.toml_checker.specs.Walking.{IsFound};
 
 use crate::facts::{are_made, make};
 use crate::frame::keeps_frame;
@@ -18,13 +20,11 @@ use toml_edits::Edit;
 use toml_names::{NameFault, ReadFault, judge_text};
 use toml_text::Source;
 use toml_tree::{Profile, SyntaxFault};
-use toml_units::Certificate;
+use toml_units::{Certificate, UnitCursor};
 
 /// What the demands on the pairs, the units and the texts say, where those on the documents and their data hold.
 fn judge_units(said: Said, before: &[u8], edits: &[Edit], after: &[u8]) -> Verdict
-    ensures { let cs = map change edits.now in
-        (profile : InProfile) (pairs : List (ℕ × ℕ)) → HoldBelow profile 4 before.now cs after.now pairs → SaysOf profile before.now cs after.now pairs said
-        → IsVerdict profile before.now cs after.now pairs result }
+    ensures { JudgesUnits before.now (map change edits.now) after.now said result }
 {
     if !said.fits {
         return Verdict::No(Reason::BadPair);
@@ -54,8 +54,7 @@ fn judge(
     profile: Profile,
 ) -> Result<Verdict, AllocError>
     requires { (pairs : List (ℕ × ℕ)) × IsFound profile before.now (map change edits.now) after.now pairs found }
-    ensures { let cs = map change edits.now in
-        (pairs : List (ℕ × ℕ)) → IsFound profile before.now cs after.now pairs found.entry → IfOk result (IsVerdict profile before.now cs after.now pairs) }
+    ensures { JudgesFound profile before.now (map change edits.now) after.now found.entry result }
 {
     let Found {
         names,
@@ -101,6 +100,29 @@ fn refuse(alloc: Global, source: Source, profile: Profile) -> Result<Reason, All
     }
 }
 
+/// What all demands say of two texts, the cursor standing before the first unit of the first one.
+fn judge_from<'s, 't>(
+    alloc: Global,
+    before: &'s [u8],
+    cursor: UnitCursor<'s>,
+    edits: &[Edit],
+    after: &'t [u8],
+    other: Source<'t>,
+    pairs: &[(u64, u64)],
+    profile: Profile,
+) -> Result<Verdict, AllocError>
+    requires walks { Walks profile before.now cursor [] }
+    requires fits { IsText before.now }
+    requires after { text_of other ≡ after.now }
+    ensures verdict { IfOk result (IsVerdict profile before.now (map change edits.now) after.now pairs.now) }
+    ensures headline { IfOk result (YesMeans profile before.now (map change edits.now) after.now pairs.now) }
+{
+    // each takes some bytes of memory
+    prove!(edits.len() <= isize::MAX as usize);
+    let found = walk_through(alloc, before, cursor, edits, after, other, pairs, profile)?;
+    judge(alloc, found, before, edits, after, profile)
+}
+
 /// Whether the pairs of the certificate certify, in profile 1, that the second text is what the edits make of the first:
 /// `check_in` with `Profile::One`.
 pub fn check(
@@ -143,23 +165,37 @@ pub fn check_in(
     ensures verdict { IfOk result (IsVerdict profile before.now (map change edits.now) after.now certificate.now.pairs.items) }
     ensures headline { IfOk result (YesMeans profile before.now (map change edits.now) after.now certificate.now.pairs.items) }
 {
-    // each takes some bytes of memory
-    prove!(edits.len() <= isize::MAX as usize);
     let Ok(source) = Source::new(before) else {
         return Ok(Verdict::No(Reason::BeforeRefused));
     };
     let Ok(other) = Source::new(after) else {
         return Ok(Verdict::No(refuse(alloc, source, profile)?));
     };
-    let found = walk_through(
-        alloc,
-        before,
-        source,
-        edits,
-        after,
-        other,
-        &certificate.pairs,
-        profile,
-    )?;
-    judge(alloc, found, before, edits, after, profile)
+    let cursor = UnitCursor::new(alloc, source, profile)?;
+    let pairs = &certificate.pairs;
+    judge_from(alloc, before, cursor, edits, after, other, pairs, profile)
+}
+
+/// What `check_in` answers of a document over which a walk has begun, the cursor standing before its first unit: the same
+/// verdict, by the same code, with the same meaning. Where the cursor holds the units of a text that was read already
+/// (`UnitCursor::held`), the second text alone is read.
+pub fn check_walked<'s, 't>(
+    alloc: Global,
+    before: &'s [u8],
+    cursor: UnitCursor<'s>,
+    edits: &[Edit],
+    after: &'t [u8],
+    certificate: &Certificate,
+    profile: Profile,
+) -> Result<Verdict, AllocError>
+    requires walks { Walks profile before.now cursor [] }
+    requires document { IsDocumentIn profile before.now }
+    ensures verdict { IfOk result (IsVerdict profile before.now (map change edits.now) after.now certificate.now.pairs.items) }
+    ensures headline { IfOk result (YesMeans profile before.now (map change edits.now) after.now certificate.now.pairs.items) }
+{
+    let Ok(second) = Source::new(after) else {
+        return Ok(Verdict::No(Reason::AfterRefused));
+    };
+    let pairs = &certificate.pairs;
+    judge_from(alloc, before, cursor, edits, after, second, pairs, profile)
 }

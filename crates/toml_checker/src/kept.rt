@@ -2,11 +2,13 @@
 ghost use Rattle.std.specs.Prelude.{◌≡◌, IfOk};
 ghost use Rattle.toml_units.specs.View.{unit as span_of};
 ghost use Rattle.toml_checker.specs.EditLists.{changes};
+ghost use Rattle.toml_checker.specs.Sights.{HasSight};
 ghost use Rattle.toml_checker.specs.Traces.{kept_with, nothing_kept};
 
 use crate::edit_list::EditList;
 use crate::marks::{reach_with, reaches};
 use crate::protection::{home_with, is_kept};
+use crate::sight::Sight;
 use std::alloc::{AllocError, Global};
 use toml_units::Unit;
 
@@ -39,13 +41,15 @@ impl Kept {
         self,
         alloc: Global,
         list: &EditList,
+        sight: Sight,
         unit: &Unit,
         paired: bool,
     ) -> Result<Kept, AllocError>
+        requires { HasSight list.now unit.now.address sight }
         ensures { IfOk result (λ kept. kept ≡ kept_with (changes list.now) self (span_of unit.now) paired) }
     {
-        let protected = is_kept(alloc, list, self.home, unit)?;
-        let home = home_with(alloc, list, self.home, unit, protected)?;
+        let protected = is_kept(alloc, list, sight, self.home, unit)?;
+        let home = home_with(alloc, list, sight, self.home, unit, protected)?;
         let end = unit.span.end;
         let reach = reach_with(self.reach, protected && paired, end);
         Ok(Kept {

@@ -21,6 +21,7 @@ mod pairs;
 mod protection;
 mod runs;
 mod side;
+mod sight;
 mod steps;
 mod tables;
 mod unmarked;
@@ -28,7 +29,7 @@ mod verdict;
 mod walk;
 mod written;
 
-pub use judging::{check, check_in};
+pub use judging::{check, check_in, check_walked};
 pub use marks::first_marks;
 pub use outer::outermost;
 pub use protection::protected;

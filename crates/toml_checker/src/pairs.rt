@@ -2,12 +2,13 @@
 ghost use Rattle.std.specs.Prelude.{◌≡◌, ◌↔◌, IsTrue, IfOk};
 ghost use Rattle.toml_checker.specs.Added.{has_no_bytes};
 ghost use Rattle.toml_checker.specs.EditLists.{changes};
-ghost use Rattle.toml_checker.specs.Traces.{AreAlike, KeepsLine};
-ghost use Rattle.toml_checker.specs.UnmarkedComments.{text_at};
-ghost use Rattle.toml_checker.specs.Walking.{lined_at};
+ghost use Rattle.toml_checker.specs.Sights.{HasSight};
+ghost use Rattle.toml_checker.specs.Traces.{KeepsLine};
+ghost use Rattle.toml_checker.specs.Walking.{AreAlikeAt, bytes_at};
 
 use crate::arriving::is_carried_to;
 use crate::edit_list::EditList;
+use crate::sight::Sight;
 use crate::unmarked::text_at;
 use std::alloc::{AllocError, Global};
 use toml_units::{Unit, UnitKind};
@@ -37,7 +38,7 @@ fn keeps_line(one: &str, other: &str) -> bool
 
 /// Whether the units have the same bytes.
 fn has_same_text(one: Spot, other: Spot) -> bool
-    ensures { IsTrue result ↔ (text_at one.entry.text.now (lined_at one.entry).unit ≡ text_at other.entry.text.now (lined_at other.entry).unit) }
+    ensures { IsTrue result ↔ (bytes_at one.entry ≡ bytes_at other.entry) }
 {
     text_at(one.text, one.unit) == text_at(other.text, other.unit)
 }
@@ -47,10 +48,12 @@ fn has_same_text(one: Spot, other: Spot) -> bool
 pub(crate) fn are_alike(
     alloc: Global,
     list: &EditList,
+    sight: Sight,
     one: Spot,
     other: Spot,
 ) -> Result<bool, AllocError>
-    ensures { IfOk result (λ holds. IsTrue holds ↔ AreAlike (changes list.now) one.entry.text.now (lined_at one.entry) other.entry.text.now (lined_at other.entry)) }
+    requires { HasSight list.now one.unit.now.address sight }
+    ensures { IfOk result (λ holds. IsTrue holds ↔ AreAlikeAt (changes list.now) one.entry other.entry) }
 {
     if one.unit.kind != other.unit.kind || !has_same_text(one, other) {
         return Ok(false);
@@ -59,5 +62,5 @@ pub(crate) fn are_alike(
         return Ok(false);
     }
     let from = one.unit.address.as_ref();
-    is_carried_to(alloc, list, from, other.unit.address.as_ref())
+    is_carried_to(alloc, list, sight, from, other.unit.address.as_ref())
 }

@@ -2,28 +2,28 @@
 ghost use Rattle.std.specs.Prelude.{◌≡◌, map, Some, IfOk, Option, ℕ, true};
 ghost use Rattle.toml_edits.specs.Edits.{change};
 ghost use Rattle.toml_checker.specs.EditLists.{changes};
+ghost use Rattle.toml_checker.specs.Sights.{HasSight, StandsBySight};
 ghost use Rattle.toml_checker.specs.Plain.{stands, made_site, home_with, is_kept_by, TellProtectedOf};
 
 use crate::edit_list::EditList;
 use crate::moving::Way;
 use crate::side::side_of;
+use crate::sight::Sight;
 use crate::tables::{Part, is_named, is_of_comment};
 use std::alloc::{AllocError, Global};
 use toml_edits::{Edit, place};
 use toml_names::Address;
 use toml_units::{Unit, UnitKind};
 
-/// Whether the run or the first steps of the address show that no edit names the part at it.
-fn is_shown(part: Part, list: &EditList, at: &Address) -> bool
-    ensures { (base : Option ℕ) → result ≡ true → stands part (changes list.now) (Some at.now) base ≡ true }
+/// Whether the sight of an address shows that no edit names the part at it.
+fn is_shown(part: Part, sight: Sight) -> bool
+    ensures { result ≡ true → StandsBySight part sight }
 {
-    if list.is_covered(at.steps()) {
-        return true;
+    match sight {
+        Sight::Far | Sight::Covered => true,
+        Sight::Within => is_of_comment(part),
+        Sight::Near => false,
     }
-    if is_of_comment(part) && list.is_within(at.steps()) {
-        return true;
-    }
-    list.fronts.is_far(at.steps())
 }
 
 /// Whether no edit names the part at the address, each where those before it have carried it. What stands nowhere is named
@@ -32,12 +32,14 @@ fn stands_at(
     alloc: Global,
     part: Part,
     list: &EditList,
+    sight: Sight,
     first: &Address,
     base: Option<usize>,
 ) -> Result<bool, AllocError>
+    requires { HasSight list.now (Some first.now) sight }
     ensures { IfOk result (λ b. b ≡ stands part (changes list.now) (Some first.now) base) }
 {
-    if is_shown(part, list, first) {
+    if is_shown(part, sight) {
         return Ok(true);
     }
     let mut way = Way::First(first);
@@ -55,11 +57,18 @@ fn stands_at(
 }
 
 /// The same of a unit, which may have no address.
-fn stands(alloc: Global, part: Part, list: &EditList, unit: &Unit) -> Result<bool, AllocError>
+fn stands(
+    alloc: Global,
+    part: Part,
+    list: &EditList,
+    sight: Sight,
+    unit: &Unit,
+) -> Result<bool, AllocError>
+    requires { HasSight list.now unit.now.address sight }
     ensures { IfOk result (λ b. b ≡ stands part (changes list.now) unit.now.address unit.now.base) }
 {
     match &unit.address {
-        Some(at) => stands_at(alloc, part, list, at, unit.base),
+        Some(at) => stands_at(alloc, part, list, sight, at, unit.base),
         None => Ok(true),
     }
 }
@@ -68,20 +77,22 @@ fn stands(alloc: Global, part: Part, list: &EditList, unit: &Unit) -> Result<boo
 pub(crate) fn is_kept(
     alloc: Global,
     list: &EditList,
+    sight: Sight,
     home: bool,
     unit: &Unit,
 ) -> Result<bool, AllocError>
+    requires { HasSight list.now unit.now.address sight }
     ensures { IfOk result (λ b. b ≡ is_kept_by unit.now.kind (changes list.now) home (made_site unit.now)) }
 {
     match unit.kind {
-        UnitKind::Line | UnitKind::Pair => stands(alloc, Part::Line, list, unit),
-        UnitKind::Element => stands(alloc, Part::Element, list, unit),
+        UnitKind::Line | UnitKind::Pair => stands(alloc, Part::Line, list, sight, unit),
+        UnitKind::Element => stands(alloc, Part::Element, list, sight, unit),
         UnitKind::TailComment => Ok(home),
         UnitKind::InnerComment => {
             if !home {
                 return Ok(false);
             }
-            stands(alloc, Part::Comment, list, unit)
+            stands(alloc, Part::Comment, list, sight, unit)
         }
     }
 }
@@ -90,11 +101,13 @@ pub(crate) fn is_kept(
 pub(crate) fn home_with(
     alloc: Global,
     list: &EditList,
+    sight: Sight,
     home: bool,
     unit: &Unit,
     protected: bool,
 ) -> Result<bool, AllocError>
-    requires { protected ≡ is_kept_by unit.now.kind (changes list.now) home (made_site unit.now) }
+    requires seen { HasSight list.now unit.now.address sight }
+    requires told { protected ≡ is_kept_by unit.now.kind (changes list.now) home (made_site unit.now) }
     ensures { IfOk result (λ b. b ≡ home_with (changes list.now) home (made_site unit.now)) }
 {
     match unit.kind {
@@ -102,7 +115,7 @@ pub(crate) fn home_with(
             if protected {
                 return Ok(true);
             }
-            stands(alloc, Part::Home, list, unit)
+            stands(alloc, Part::Home, list, sight, unit)
         }
         UnitKind::TailComment | UnitKind::InnerComment | UnitKind::Element | UnitKind::Pair => {
             Ok(home)
@@ -131,9 +144,9 @@ pub fn protected(alloc: Global, units: &[Unit], edits: &[Edit]) -> Result<Vec<bo
     let mut flags = Vec::with_capacity(alloc, units.len())?;
     let mut home = true;
     for unit in units {
-        list.come_to(unit);
-        let protected = is_kept(alloc, &list, home, unit)?;
-        home = home_with(alloc, &list, home, unit, protected)?;
+        let sight = list.come_to(unit);
+        let protected = is_kept(alloc, &list, sight, home, unit)?;
+        home = home_with(alloc, &list, sight, home, unit, protected)?;
         flags.push(protected)?;
     }
     Ok(flags)

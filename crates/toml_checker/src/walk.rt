@@ -1,19 +1,20 @@
-//! Two texts walked through together, unit by unit: of both no more than a line is kept at a time, and what the lines name.
-ghost use Rattle.std.specs.Prelude.{◌≡◌, ◌∷◌, ◌++◌, [], Some, List, IsSome, IfOk, OnOk, map};
+//! Two texts walked through together, unit by unit. Of a text that is read on the way no more than a line is kept at a time,
+//! and what the lines name.
+ghost use Rattle.std.specs.Prelude.{◌≡◌, [], List, IfOk, OnOk, map};
+ghost use Rattle.toml_text.specs.Limit.{IsText};
 ghost use Rattle.toml_text.specs.Source.{text_of};
 ghost use Rattle.toml_tree.specs.declared.profile.Profile.{Profile as InProfile};
 ghost use Rattle.toml_edits.specs.Edits.{Change, change};
-ghost use Rattle.toml_units.specs.Cursors.{Goes, current};
-ghost use Rattle.toml_units.specs.Lined.{LinedUnit};
-ghost use Rattle.toml_checker.specs.Added.{HasAdded};
+ghost use Rattle.toml_units.specs.Cursors.{Goes, Walks};
 ghost use Rattle.toml_checker.specs.EditLists.{changes};
-ghost use Rattle.toml_checker.specs.Traces.{Met, kept_with};
-ghost use Rattle.toml_checker.specs.Walking.{Finishes, GoesOn, HasPassed, HasReached, IsFound, IsGoing, IsOn, PairTold, PairsTold, PassesOne, PassesTo, ReachesOne, ReachesTo, TellsPair, lies_ahead};
+ghost use Rattle.toml_checker.specs.Walking.{AddsNext, CanPass, FinishesOff, GoesOn, HasPassed, HasReached, IsFound, IsGoing, IsKeptWith};
+ghost use Rattle.toml_checker.specs.Walking.{IsOn, Passing, PassingTo, Reaching, ReachingTo, SeesNext, TellsAll, TellsNext, TellsPair, lies_ahead};
 
 use crate::added::{Added, Asked, asked_by};
 use crate::edit_list::EditList;
 use crate::kept::Kept;
 use crate::pairs::{Spot, are_alike};
+use crate::sight::Sight;
 use std::alloc::{AllocError, Global};
 use toml_edits::Edit;
 use toml_names::LineNames;
@@ -51,34 +52,45 @@ fn lies_ahead(number: Option<u64>, passed: u64) -> bool
 }
 
 impl<'t> FirstText<'t> {
-    /// Before the first unit.
-    fn new(
-        alloc: Global,
-        text: &'t [u8],
-        source: Source<'t>,
-        profile: Profile,
-    ) -> Result<FirstText<'t>, AllocError>
-        requires { text_of source ≡ text.now }
-        ensures { IfOk result (λ one. (one.text ≡ text.entry) × ((cs : List Change) → HasPassed profile cs one [])) }
+    /// Before the first unit, as the cursor stands.
+    fn new(text: &'t [u8], cursor: UnitCursor<'t>) -> FirstText<'t>
+        ensures text { result.text ≡ text.entry }
+        ensures passed { (profile : InProfile) (cs : List Change) → Walks profile text.now cursor.entry [] → HasPassed profile cs result [] }
     {
-        Ok(FirstText {
+        FirstText {
             text,
-            cursor: UnitCursor::new(alloc, source, profile)?,
+            cursor,
             kept: Kept::none(),
             passed: 0,
-        })
+        }
     }
 
-    /// Walks past one unit, which is paired or not.
-    fn pass(&mut self, alloc: Global, list: &mut EditList, paired: bool) -> Result<(), AllocError>
-        requires goes { Goes self.old.cursor }
-        requires some { IsSome (current self.old.cursor) }
+    /// The sight of the unit before which it stands. Behind the last one there is nothing to be seen.
+    fn look(&self, list: &mut EditList) -> Sight
         ensures list { list.new.edits.now ≡ list.old.edits.now }
+        ensures sees { SeesNext list.new self.now result }
+    {
+        match self.cursor.unit() {
+            Some(unit) => list.come_to(unit),
+            None => Sight::Near,
+        }
+    }
+
+    /// Walks past one unit, which is paired or not, and has this sight.
+    fn pass(
+        &mut self,
+        alloc: Global,
+        list: &EditList,
+        sight: Sight,
+        paired: bool,
+    ) -> Result<(), AllocError>
+        requires can { CanPass self.old.cursor }
+        requires sees { SeesNext list.now self.old sight }
         ensures text { self.new.text ≡ self.old.text }
         ensures on { OnOk result (GoesOn self.old.cursor self.old.passed self.new.cursor self.new.passed) }
-        ensures passes { (profile : InProfile) (ms : List Met) → HasPassed profile (changes list.old) self.old ms → OnOk result (PassesOne profile (changes list.old) self.old ms paired self.new) }
+        ensures passes { Passing (changes list.now) self.old paired self.new result }
     {
-        self.kept = self.kept_with(alloc, list, paired)?;
+        self.kept = self.kept_with(alloc, list, sight, paired)?;
         self.passed = self.passed.saturating_add(1);
         self.cursor.step(alloc)
     }
@@ -87,20 +99,17 @@ impl<'t> FirstText<'t> {
     fn kept_with(
         &self,
         alloc: Global,
-        list: &mut EditList,
+        list: &EditList,
+        sight: Sight,
         paired: bool,
     ) -> Result<Kept, AllocError>
-        ensures list { list.new.edits.now ≡ list.old.edits.now }
-        ensures kept { IfOk result (λ kept. (x : LinedUnit) → current self.now.cursor ≡ Some x → kept ≡ kept_with (changes list.old) self.now.kept x.unit paired) }
+        requires { SeesNext list.now self.now sight }
+        ensures { IfOk result (IsKeptWith (changes list.now) self.now paired) }
     {
         let Some(unit) = self.cursor.unit() else {
             return Ok(self.kept);
         };
-        // of a paired unit the list was asked already, where the pair was
-        if !paired {
-            list.come_to(unit);
-        }
-        self.kept.with(alloc, list, unit, paired)
+        self.kept.with(alloc, list, sight, unit, paired)
     }
 
     /// Walks on past units that are not paired, up to the one with the number, or to the end.
@@ -113,10 +122,11 @@ impl<'t> FirstText<'t> {
         requires { Goes self.old.cursor }
         ensures list { list.new.edits.now ≡ list.old.edits.now }
         ensures text { self.new.text ≡ self.old.text }
-        ensures passes { (profile : InProfile) (ms : List Met) → HasPassed profile (changes list.old) self.old ms → OnOk result (PassesTo profile (changes list.old) self.old ms number self.new) }
+        ensures passes { PassingTo (changes list.old) self.old number self.new result }
     {
         while lies_ahead(number, self.passed) && self.cursor.unit().is_some() {
-            self.pass(alloc, list, false)?;
+            let sight = self.look(list);
+            self.pass(alloc, list, sight, false)?;
         }
         Ok(())
     }
@@ -143,11 +153,10 @@ impl<'t> SecondText<'t> {
 
     /// Walks past one unit, which is paired or not.
     fn pass(&mut self, alloc: Global, asked: &Asked, paired: bool) -> Result<(), AllocError>
-        requires goes { Goes self.old.cursor }
-        requires some { IsSome (current self.old.cursor) }
+        requires { CanPass self.old.cursor }
         ensures text { self.new.text ≡ self.old.text }
         ensures on { OnOk result (GoesOn self.old.cursor self.old.passed self.new.cursor self.new.passed) }
-        ensures passes { (profile : InProfile) (ms : List Met) → HasReached profile asked.now self.old ms → OnOk result (ReachesOne profile asked.now self.old ms paired self.new) }
+        ensures passes { Reaching asked.now self.old paired self.new result }
     {
         self.add(asked, paired)?;
         self.passed = self.passed.saturating_add(1);
@@ -159,8 +168,7 @@ impl<'t> SecondText<'t> {
         ensures text { self.new.text ≡ self.old.text }
         ensures cursor { self.new.cursor ≡ self.old.cursor }
         ensures passed { self.new.passed ≡ self.old.passed }
-        ensures added { (ms : List Met) (x : LinedUnit) → HasAdded asked.now self.old.text.now ms self.old.added → current self.old.cursor ≡ Some x
-            → OnOk result (HasAdded asked.now self.old.text.now (ms ++ record { lined = x; paired = paired } ∷ []) self.new.added) }
+        ensures added { AddsNext asked.now self.old paired self.new result }
     {
         let Some(unit) = self.cursor.unit() else {
             return Ok(());
@@ -178,7 +186,7 @@ impl<'t> SecondText<'t> {
     ) -> Result<(), AllocError>
         requires { Goes self.old.cursor }
         ensures text { self.new.text ≡ self.old.text }
-        ensures passes { (profile : InProfile) (ms : List Met) → HasReached profile asked.now self.old ms → OnOk result (ReachesTo profile asked.now self.old ms number self.new) }
+        ensures passes { ReachingTo asked.now self.old number self.new result }
     {
         while lies_ahead(number, self.passed) && self.cursor.unit().is_some() {
             self.pass(alloc, asked, false)?;
@@ -187,16 +195,17 @@ impl<'t> SecondText<'t> {
     }
 }
 
-/// Whether the units before which the texts stand are those of the pair, and the same.
+/// Whether the units before which the texts stand are those of the pair, and the same. The first has this sight.
 fn is_pair(
     alloc: Global,
-    list: &mut EditList,
+    list: &EditList,
+    sight: Sight,
     one: &FirstText,
     other: &SecondText,
     pair: (u64, u64),
 ) -> Result<bool, AllocError>
-    ensures list { list.new.edits.now ≡ list.old.edits.now }
-    ensures told { IfOk result (TellsPair (changes list.old) one.now other.now pair) }
+    requires { SeesNext list.now one.now sight }
+    ensures { IfOk result (TellsPair (changes list.now) one.now other.now pair) }
 {
     if one.passed != pair.0 || other.passed != pair.1 {
         return Ok(false);
@@ -207,7 +216,6 @@ fn is_pair(
     let Some(partner) = other.cursor.unit() else {
         return Ok(false);
     };
-    list.come_to(unit);
     let first = Spot {
         text: one.text,
         unit,
@@ -218,15 +226,15 @@ fn is_pair(
         unit: partner,
         newline: other.cursor.newline(),
     };
-    are_alike(alloc, list, first, second)
+    are_alike(alloc, list, sight, first, second)
 }
 
 /// Both texts on the way, the edits, and what they ask for.
 #[derive(Drop)]
-pub(crate) struct Walk<'e, 't> {
+pub(crate) struct Walk<'e, 's, 't> {
     list: EditList<'e>,
     asked: Asked<'e>,
-    one: FirstText<'t>,
+    one: FirstText<'s>,
     other: SecondText<'t>,
 }
 
@@ -242,24 +250,25 @@ pub(crate) struct Said {
 
 /// What was found of two texts: the names of each, unless it is no document, and what is said of their units.
 #[derive(Drop)]
-pub(crate) struct Found<'t> {
-    pub(crate) names: Option<LineNames<'t>>,
+pub(crate) struct Found<'s, 't> {
+    pub(crate) names: Option<LineNames<'s>>,
     pub(crate) others: Option<LineNames<'t>>,
     pub(crate) said: Said,
 }
 
-impl<'e, 't> Walk<'e, 't> {
+impl<'e, 's, 't> Walk<'e, 's, 't> {
     /// Walks on to the units of a pair and, if they are the same, past them. Whether they are.
     fn pair(&mut self, alloc: Global, pair: (u64, u64)) -> Result<bool, AllocError>
         requires { IsGoing self.old }
-        ensures { (profile : InProfile) (cs : List Change) (ms ns : List Met) → IsOn profile cs self.old ms ns → IfOk result (PairTold profile cs self.old ms ns pair self.new) }
+        ensures { TellsNext self.old pair self.new result }
     {
         self.one.pass_to(alloc, &mut self.list, Some(pair.0))?;
         self.other.pass_to(alloc, &self.asked, Some(pair.1))?;
-        if !is_pair(alloc, &mut self.list, &self.one, &self.other, pair)? {
+        let sight = self.one.look(&mut self.list);
+        if !is_pair(alloc, &self.list, sight, &self.one, &self.other, pair)? {
             return Ok(false);
         }
-        self.one.pass(alloc, &mut self.list, true)?;
+        self.one.pass(alloc, &self.list, sight, true)?;
         self.other.pass(alloc, &self.asked, true)?;
         Ok(true)
     }
@@ -267,7 +276,7 @@ impl<'e, 't> Walk<'e, 't> {
     /// Walks on from pair to pair, as far as they rise and their units are the same. Whether all do.
     fn pair_all(&mut self, alloc: Global, pairs: &[(u64, u64)]) -> Result<bool, AllocError>
         requires { (profile : InProfile) × (cs : List Change) × IsOn profile cs self.old [] [] }
-        ensures { (profile : InProfile) (cs : List Change) → IsOn profile cs self.old [] [] → IfOk result (PairsTold profile cs self.old pairs.now self.new) }
+        ensures { TellsAll self.old pairs.now self.new result }
     {
         for pair in pairs {
             if !self.pair(alloc, *pair)? {
@@ -278,9 +287,9 @@ impl<'e, 't> Walk<'e, 't> {
     }
 
     /// Walks on to the end of both texts.
-    fn finish(self, alloc: Global, fits: bool) -> Result<Found<'t>, AllocError>
+    fn finish(self, alloc: Global, fits: bool) -> Result<Found<'s, 't>, AllocError>
         requires { IsGoing self }
-        ensures { (profile : InProfile) (cs : List Change) (ms ns : List Met) → IsOn profile cs self.entry ms ns → IfOk result (Finishes profile cs self.entry ms ns fits) }
+        ensures { FinishesOff self.entry fits result }
     {
         let Walk {
             mut list,
@@ -309,25 +318,27 @@ impl<'e, 't> Walk<'e, 't> {
     }
 }
 
-/// What is found of two texts, the values of the edits read in the profile.
-pub(crate) fn walk_through<'t>(
+/// What is found of two texts, the values of the edits read in the profile. The cursor stands before the first unit of the
+/// first one.
+pub(crate) fn walk_through<'s, 't>(
     alloc: Global,
-    before: &'t [u8],
-    source: Source<'t>,
+    before: &'s [u8],
+    cursor: UnitCursor<'s>,
     edits: &[Edit],
     after: &'t [u8],
     other: Source<'t>,
     pairs: &[(u64, u64)],
     profile: Profile,
-) -> Result<Found<'t>, AllocError>
-    requires before { text_of source ≡ before.now }
+) -> Result<Found<'s, 't>, AllocError>
+    requires before { Walks profile before.now cursor [] }
+    requires fits { IsText before.now }
     requires after { text_of other ≡ after.now }
     ensures { IfOk result (IsFound profile before.now (map change edits.now) after.now pairs.now) }
 {
     let mut walk = Walk {
         list: EditList::of(alloc, edits)?,
         asked: asked_by(alloc, edits, profile)?,
-        one: FirstText::new(alloc, before, source, profile)?,
+        one: FirstText::new(before, cursor),
         other: SecondText::new(alloc, after, other, profile)?,
     };
     let fits = walk.pair_all(alloc, pairs)?;

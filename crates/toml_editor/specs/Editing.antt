@@ -1,5 +1,5 @@
 -- What the steps of an edit hand on to each other.
-use Rattle.std.specs.Prelude.{◌≡◌, ◌↔◌, ◌<◌, ℕ, List, Bool, true, Some, length, slice_get, string_bytes}
+use Rattle.std.specs.Prelude.{◌≡◌, ◌↔◌, ◌<◌, ℕ, List, [], Bool, true, Some, length, slice_get, string_bytes}
 use Rattle.toml_text.specs.Limit.{IsText}
 use Rattle.toml_tree.specs.Profiles.{IsOfProfile}
 use Rattle.toml_tree.specs.Spells.{Spells}
@@ -8,6 +8,7 @@ use Rattle.toml_tree.specs.declared.profile.Profile.{Profile}
 use Rattle.toml_names.specs.model.Documents.{IsDocumentIn}
 use Rattle.toml_edits.specs.Edits.{Change}
 use Rattle.toml_units.specs.declared.piece.Piece.{Piece}
+use Rattle.toml_units.specs.Cursors.{Walks}
 use Rattle.toml_units.specs.Units.{units}
 use Rattle.toml_checker.specs.Documents.{OfTree}
 use Rattle.toml_checker.specs.Outer.{TellOuter}
@@ -68,7 +69,9 @@ IsEditedAs profile before cs e = IsEditedText profile before cs (string_bytes e.
 abbrev pub NameWanted : List Bool → List (ℕ × ℕ) → Type 0
 NameWanted wanted ps = (i : ℕ) → i < length wanted → ((slice_get wanted i ≡ Some true) ↔ IsFirst ps i)
 
--- the flags tell the outer protected units of the document, and the rest is what the edits make of it
+-- the flags tell the outer protected units of the document, the cursor stands before the first of its units, and the rest is what the edits
+-- make of it
 pub record IsWork (profile : Profile) (before : List ℕ) (cs : List Change) (work : Work) : Type 0 where
   pub wanted : TellsWanted before cs work.wanted.items
   pub made : IsMadeAs profile before cs work.wanted.items work.edited
+  pub walks : Walks profile before work.cursor []

@@ -1,11 +1,12 @@
 //! The editor as a whole.
-ghost use Rattle.std.specs.Prelude.{◌≡◌, IfOk, IfErr, OnOk, map, string_bytes};
+ghost use Rattle.std.specs.Prelude.{◌≡◌, [], IfOk, IfErr, OnOk, map, string_bytes};
 ghost use Rattle.toml_text.specs.Source.{text_of};
 ghost use Rattle.toml_tree.specs.Document.{document};
 ghost use Rattle.toml_tree.specs.declared.profile.Profile.TheVariants.{One};
 ghost use Rattle.toml_names.specs.model.Documents.{IsDocumentIn};
 ghost use Rattle.toml_names.specs.reader.Reading.{lines_of};
 ghost use Rattle.toml_edits.specs.Edits.{change};
+ghost use Rattle.toml_units.specs.Cursors.{AreNewlines, Walks};
 ghost use Rattle.toml_checker.specs.Reading.{AreUnitsOf};
 ghost use Rattle.toml_editor.specs.Edited.{IsEdited, ArePieces, IsEditedInPieces, RefusesText, Tells};
 ghost use Rattle.toml_editor.specs.Editing.{HasLines, IsEditedAs, IsMadeAs, IsReadAs, IsWork, OfReadTree, TellsWanted};
@@ -20,12 +21,12 @@ use crate::spelled::{Spelled, spell_all};
 use crate::texts::Texts;
 use crate::working::{Before, Tree};
 use std::alloc::{AllocError, Global};
-use toml_checker::{Reason, Verdict, check_in, outermost};
+use toml_checker::{Reason, Verdict, check_walked, outermost};
 use toml_edits::{Edit, near_addresses};
 use toml_names::{NameReader, read_lines};
 use toml_text::{MAX_LEN, Source};
 use toml_tree::{Doc, Profile, parse_in};
-use toml_units::{Certificate, Piece, Unit, join, units_at};
+use toml_units::{Certificate, Piece, Unit, UnitCursor, join, units_at};
 
 /// What the editor makes: the pieces of the edited text, the text, and its certificate.
 #[derive(Drop)]
@@ -110,7 +111,7 @@ fn edit_document(
 }
 
 /// The same with the spellings of the edits, which live as long as the text and the edits: new pieces are lent from all. The
-/// judge reads both texts once the tree of the first, its names, its units and its data are let go.
+/// judge walks over the units of the first text and reads the second one once the tree of the first and its data are let go.
 fn edit_with<'x>(
     alloc: Global,
     before: &'x [u8],
@@ -123,15 +124,21 @@ fn edit_with<'x>(
     ensures told { IfErr result (Tells profile before.now (map change edits.now)) }
 {
     let work = make_document(alloc, before, edits, spelled, profile)?;
-    let Work { wanted, edited } = work;
-    certify(alloc, before, edits, edited, &wanted, profile)
+    let Work {
+        wanted,
+        edited,
+        cursor,
+    } = work;
+    certify(alloc, before, cursor, edits, edited, &wanted, profile)
 }
 
-/// What the edits make of a document, when all that was read of it is let go, and which of its units are to be kept.
+/// What the edits make of a document, when its tree is let go; which of its units are to be kept; and a place before the first of
+/// these.
 #[derive(Drop)]
-struct Work {
+struct Work<'x> {
     wanted: Vec<bool>,
     edited: Edited,
+    cursor: UnitCursor<'x>,
 }
 
 /// What the edits make of a document, not judged yet.
@@ -141,7 +148,7 @@ fn make_document<'x>(
     edits: &'x [Edit],
     spelled: &'x [Spelled],
     profile: Profile,
-) -> Result<Work, EditorFault>
+) -> Result<Work<'x>, EditorFault>
     requires spelled { AreSpelled (map change edits.now) spelled.now }
     ensures work { IfOk result (IsWork profile before.now (map change edits.now)) }
     ensures told { IfErr result (Tells profile before.now (map change edits.now)) }
@@ -157,7 +164,13 @@ fn make_document<'x>(
         Ok(edited) => edited,
         Err(fault) => return Err(fault),
     };
-    Ok(Work { wanted, edited })
+    let newlines = newlines_of(alloc, &doc)?;
+    let cursor = UnitCursor::held(alloc, reader.into_names(), units, newlines);
+    Ok(Work {
+        wanted,
+        edited,
+        cursor,
+    })
 }
 
 /// The units of the tree of a text.
@@ -169,15 +182,29 @@ fn read_units(alloc: Global, doc: &Doc, reader: &NameReader) -> Result<Vec<Unit>
     units_at(alloc, doc, own)
 }
 
+/// The newline of each line of a tree, the empty text where it has none.
+fn newlines_of<'x>(alloc: Global, doc: &Doc<'x>) -> Result<Vec<&'x str>, AllocError>
+    ensures { IfOk result (λ newlines. AreNewlines newlines.items (document doc.now).lines) }
+{
+    let lines = doc.lines();
+    let mut newlines = Vec::with_capacity(alloc, lines.len())?;
+    for line in lines {
+        newlines.push(line.newline().text)?;
+    }
+    Ok(newlines)
+}
+
 /// What is made is handed on where the judge says yes.
-fn certify(
+fn certify<'x>(
     alloc: Global,
-    before: &[u8],
+    before: &'x [u8],
+    cursor: UnitCursor<'x>,
     edits: &[Edit],
     edited: Edited,
     wanted: &[bool],
     profile: Profile,
 ) -> Result<Edited, EditorFault>
+    requires walks { Walks profile before.now cursor [] }
     requires made { IsMadeAs profile before.now (map change edits.now) wanted.now edited }
     requires wanted { TellsWanted before.now (map change edits.now) wanted.now }
     ensures edited { IfOk result (IsEditedAs profile before.now (map change edits.now)) }
@@ -187,7 +214,15 @@ fn certify(
         return Err(EditorFault::TooLong);
     }
     let after = edited.text.as_bytes();
-    match check_in(alloc, before, edits, after, &edited.certificate, profile)? {
+    match check_walked(
+        alloc,
+        before,
+        cursor,
+        edits,
+        after,
+        &edited.certificate,
+        profile,
+    )? {
         Verdict::No(reason) => Err(EditorFault::Unverified(reason)),
         Verdict::Yes => {
             if names_all(alloc, &edited.certificate.pairs, wanted)? {

@@ -55,7 +55,7 @@ pub use Rattle.toml_names.specs.mentions.KeyParts.{value_key_parts, keyval_key_p
 pub use Rattle.toml_names.specs.mentions.Keys.{Key, key_names, part_name, rest_names}
 pub use Rattle.toml_names.specs.mentions.Local.{role_after, mark_after, mark_of, allows, mark_from, LastRoleDecides}
 pub use Rattle.toml_names.specs.mentions.Mentions.{Kind, a_scalar, a_table, an_array, Named, root, named_by, named_from, table_at, value_named, inside, elements, members, fronts, pair_named, section, section_from, is_section, is_tables_at, count_tables, entered, followed, ends_table, ends_tables, named, value_facts, kind_of, is_tables, is_mentioned, is_mention, value_or_empty}
-pub use Rattle.toml_names.specs.mentions.OwnAddresses.{is_itself, LineIsNamed, ThemselvesDiffer, OwnAddressesDiffer, OwnAddressIsNamed, OwnAddressHasFact, NamedHasLine}
+pub use Rattle.toml_names.specs.mentions.OwnAddresses.{is_itself, LineIsNamed, ThemselvesDiffer, OwnAddressesDiffer, OwnAddressIsNamed, OwnAddressHasFact, IsHeaderLine, HeaderIsSection, NamedHasLine}
 pub use Rattle.toml_names.specs.mentions.Rules.{may_follow, fits, misfit, max_steps, IsShort, KeepsRules, IsFirstOffence, NoMisfit, MisfitIsFirst, RulesAreOfMentions}
 pub use Rattle.toml_names.specs.mentions.View.{kind}
 pub use Rattle.toml_names.specs.model.Addresses.{Address, is_above, same_address, child, element, same_step, SameStepIsEqual, StepIsSame, below, IsAbove, AboveIsAbove}

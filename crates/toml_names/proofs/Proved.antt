@@ -15,7 +15,7 @@ pub use Rattle.toml_names.proofs.lemmas.mentions.InsideMoves.{inside_moves}
 pub use Rattle.toml_names.proofs.lemmas.model.Levels.{kind_at-scalar, kind_at-array, kind_at-table, datum_is, has_kind, array-here, array-item, array-name, table-here, table-member, table-index, scalar-below}
 pub use Rattle.toml_names.proofs.lemmas.mentions.LineAddresses.{named_has_line, line_addresses, no_line_address}
 pub use Rattle.toml_names.proofs.lemmas.mentions.Local.{last_role_decides}
-pub use Rattle.toml_names.proofs.lemmas.mentions.NextLine.{section_from-append}
+pub use Rattle.toml_names.proofs.lemmas.mentions.NextLine.{section_from-append, header_is_section}
 pub use Rattle.toml_names.proofs.lemmas.mentions.Within.{count-append}
 pub use Rattle.toml_names.proofs.lemmas.mentions.Offences.{no_misfit, misfit_is_first}
 pub use Rattle.toml_names.proofs.lemmas.mentions.OfOneKind.{one_kind, first_is_data, values_stand_alone}

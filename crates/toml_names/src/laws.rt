@@ -12,7 +12,7 @@ ghost use Rattle.toml_names.specs.model.Levels.{ScalarLevel, ArrayLevel, TableLe
 ghost use Rattle.toml_names.specs.mentions.Local.{LastRoleDecides};
 ghost use Rattle.toml_names.specs.reader.LineNames.{TakenAreGood};
 ghost use Rattle.toml_names.specs.reader.Names.{FrontsAreGood, RefusedAreBad, OneRefusal, LineAddresses, NoLineAddress};
-ghost use Rattle.toml_names.specs.mentions.OwnAddresses.{LineIsNamed, NamedHasLine, ThemselvesDiffer, OwnAddressesDiffer, OwnAddressIsNamed, OwnAddressHasFact};
+ghost use Rattle.toml_names.specs.mentions.OwnAddresses.{LineIsNamed, NamedHasLine, ThemselvesDiffer, OwnAddressesDiffer, OwnAddressIsNamed, OwnAddressHasFact, HeaderIsSection};
 ghost use Rattle.toml_names.specs.model.Parts.{DatumHasPart, StepIsThere, PartIsThere};
 ghost use Rattle.toml_names.specs.mentions.Placeless.{KeyPlacesAreNotNamed, LinePlacesAreNotNamed, PlacesAreNotNamed, ValuePlacesAreNotNamed};
 ghost use Rattle.toml_names.specs.model.Places.{PlacesAreFound, NoPlace, PlaceIsFound};
@@ -74,12 +74,13 @@ pub fn named_lines()
 
 /// Under the rules what is named by itself, by a header, as a value or as an element, is so named once; so lines that
 /// have one address of their own are one line. That address is named by the line, and something stands there in the
-/// data.
+/// data; behind a header it is that of the table of the last header.
 pub fn own_addresses()
     ensures themselves { ThemselvesDiffer }
     ensures differ { OwnAddressesDiffer }
     ensures named { OwnAddressIsNamed }
     ensures fact { OwnAddressHasFact }
+    ensures section { HeaderIsSection }
 {}
 
 /// What a value names inside it lies strictly below its address, and moves along with it. Under the rules only the line

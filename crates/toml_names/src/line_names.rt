@@ -2,7 +2,6 @@
 ghost use Rattle.std.specs.Prelude.{◌≡◌, ◌<◌, ◌∷◌, ◌++◌, List, [], length, IfOk};
 ghost use Rattle.toml_tree.specs.Lines.{line as tree_line};
 ghost use Rattle.toml_tree.specs.Tree as spelled;
-ghost use Rattle.toml_names.specs.mentions.Mentions.{named, section};
 ghost use Rattle.toml_names.specs.reader.LineNames.{Enters, Stand, StandFor, Takes, TakesAt};
 ghost use Rattle.toml_names.specs.reader.Texts.{Judges};
 
@@ -68,24 +67,17 @@ impl<'t> LineNames<'t> {
         Ok(())
     }
 
-    /// The same, and tells the address of the line's value, table or element; a blank line has none.
-    pub fn take_at(&mut self, line: &Line<'t>) -> Result<Option<Address>, NameFault>
+    /// The same, and tells the address of the line's value, table or element, made in the memory of an address that is let
+    /// go; a blank line has none.
+    pub fn take_at(&mut self, line: &Line<'t>, spare: Address) -> Result<Option<Address>, NameFault>
         requires stand { Stand self.old }
         requires room { self.old.count < 18446744073709551615 }
         ensures { (lines : List spelled.Line) → StandFor self.old lines → TakesAt lines (tree_line line.now) self.new result }
     {
         match self.enter(line)? {
-            Some(node) => Ok(Some(self.tree.address(node)?)),
+            Some(node) => Ok(Some(self.tree.address_into(spare, node)?)),
             None => Ok(None),
         }
-    }
-
-    /// The address of the last header's table or element; before any header the root's.
-    pub fn section(&self) -> Result<Address, AllocError>
-        requires stand { Stand self.now }
-        ensures { IfOk result (λ at. (lines : List spelled.Line) → StandFor self.now lines → at ≡ section (named lines)) }
-    {
-        self.tree.address(self.section)
     }
 }
 

@@ -98,3 +98,12 @@ read_line bytes left behind ps qs p read line more =
     ∙ ap (λ l. first_line ++ (pairs_text ps ++ l)) line
     ∙ ap (λ l. first_line ++ l) (sym (pairs_push ps p behind))
     ∙ ap (λ l. first_line ++ (pairs_text l ++ behind)) (sym more)
+
+-- one more line is written, piece by piece
+pub pair_written : (one two text s t u v : List ℕ) → s ≡ text ++ one → t ≡ s ++ (0x20 ∷ []) → u ≡ t ++ two → v ≡ u ++ (0x0A ∷ [])
+    → v ≡ text ++ (one ++ (0x20 ∷ (two ++ (0x0A ∷ []))))
+pair_written one two text s t u v first space second end =
+    end
+    ∙ ap (λ l. l ++ (0x0A ∷ [])) (second ∙ ap (λ l. l ++ two) (space ∙ ap (λ l. l ++ (0x20 ∷ [])) first) ∙ append_assoc (text ++ one) (0x20 ∷ []) two)
+    ∙ append_assoc (text ++ one) (0x20 ∷ two) (0x0A ∷ [])
+    ∙ append_assoc text one (0x20 ∷ (two ++ (0x0A ∷ [])))

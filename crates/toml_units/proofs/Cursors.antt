@@ -1,21 +1,28 @@
 -- A cursor goes from unit to unit, and from line to line.
-use Rattle.std.proofs.Common.{◌≡◌, ℕ, zero, suc, ◌+◌, ◌<◌, ◌≤◌, List, [], ◌∷◌, ◌++◌, length, map, drop, Option, Some, None, option_map, refl, sym, ap, subst, ◌∙◌, arith, append_assoc}
-use Rattle.std.specs.Prelude.{slice_get, IsSome}
-use Rattle.std.proofs.lemmas.List.{append-nil, drop_all, length-drop, length-map}
-use Rattle.std.proofs.lemmas.Option.{none-some, same_Some}
+use Rattle.std.proofs.Common.{◌≡◌, ℕ, ◌+◌, ◌<◌, List, [], ◌∷◌, ◌++◌, length, map, drop, Option, Some, None, refl, sym, ap, subst, ◌∙◌, arith, append_assoc}
+use Rattle.std.specs.Borrow.{Bor}
+use Rattle.std.specs.Prelude.{IsSome}
+use Rattle.std.specs.Vec.Iter.{into_iter_items}
+use Rattle.std.proofs.lemmas.List.{append-nil}
+use Rattle.std.proofs.lemmas.Option.{same_Some}
 use Rattle.toml_tree.specs.declared.profile.Profile.{Profile}
 use Rattle.toml_names.specs.mentions.Mentions.{named}
 use Rattle.toml_names.specs.reader.Names.{own_address}
-use Rattle.toml_units.specs.Cursors.{HasWalked, IsCome, Moves, Stands, Walks, ahead, current, lined_by, to_go}
+use Rattle.toml_units.specs.Cursors.{Comes, HasWalked, IsCome, Moves, Stand, Stands, Walks, ahead, current, lined_first, newlines_ahead, to_go}
 use Rattle.toml_units.specs.Lined.{LinedUnit, lined, lined_line, with_newline}
-use Rattle.toml_units.specs.Plain.{line_spans}
-use Rattle.toml_units.specs.Reading.{HasRead, IsDone, IsHanded, IsLeft, IsOver, to_read}
-use Rattle.toml_units.specs.View.{all_units, unit}
+use Rattle.toml_units.specs.Opened.{opened_items, opened_units}
+use Rattle.toml_units.specs.Plain.{line_span, line_spans, plain_line}
+use Rattle.toml_units.specs.Reading.{HandsMore, HasRead, IsDone, IsHanded, IsLeft, IsOver, to_read}
+use Rattle.toml_units.specs.View.{all_units}
 use Rattle.toml_units.specs.declared.cursor.UnitCursor.{UnitCursor}
 use Rattle.toml_units.specs.declared.reading.Left.{Left}
 use Rattle.toml_units.specs.declared.reading.Left.TheVariants.{Lines, Nothing, Refused}
+use Rattle.toml_units.specs.declared.reading.Reading.{Reading}
 use Rattle.toml_units.specs.declared.unit.Unit.{Unit as Made}
-use Rattle.toml_units.proofs.ReadLines.{lined_push}
+use Rattle.toml_units.proofs.Ahead.{ahead_closed, ahead_is, ahead_none, behind_line, fewer, none_held, none_kept, none_there, rest}
+use Rattle.toml_units.proofs.Lined.{line_no_lines}
+use Rattle.toml_units.proofs.OpenedLines.{opened_few}
+use Rattle.toml_units.proofs.ReadLines.{lined_push, read_stays}
 
 not_empty : {A : Type 0} (x : A) (xs : List A) → ¬ (x ∷ xs ≡ [])
 not_empty x xs = λ e. cc
@@ -24,74 +31,41 @@ pub some_of : {A : Type 0} (o : Option A) → IsSome o → (x : A) × (o ≡ Som
 some_of (Some x) is = (x, refl)
 some_of None is = cc
 
-drop_some : {A B : Type 0} (f : A → B) (xs : List A) (i : ℕ) (y : B) → option_map f (slice_get xs i) ≡ Some y
-    → map f (drop i xs) ≡ y ∷ map f (drop (i + 1) xs)
-drop_some f [] i y is = absurd (none-some y is)
-drop_some f (x ∷ xs) zero y is = ap (λ z. z ∷ map f xs) (same_Some (f x) y is)
-drop_some f (x ∷ xs) (suc i) y is =
-    let next : suc i + 1 ≡ suc (i + 1) = omega arith in
-    subst (λ j. map f (drop i xs) ≡ y ∷ map f (drop j (x ∷ xs))) (sym next) (drop_some f xs i y is)
-
-drop_none : {A B : Type 0} (f : A → B) (xs : List A) (i : ℕ) → option_map f (slice_get xs i) ≡ None → map f (drop i xs) ≡ []
-drop_none f [] zero is = refl
-drop_none f [] (suc i) is = refl
-drop_none f (x ∷ xs) zero is = absurd (none-some (f x) (sym is))
-drop_none f (x ∷ xs) (suc i) is = drop_none f xs i is
-
--- the cursor behind the unit before which this one stands
-abbrev pub behind : UnitCursor → UnitCursor
-behind c = record { reading = c.reading; units = c.units; place = c.place + 1; newline = c.newline }
-
-ahead_is : (c : UnitCursor) (x : LinedUnit) → current c ≡ Some x → ahead c ≡ x ∷ ahead (behind c)
-ahead_is c x is = drop_some (lined_by c) c.units.items c.place x is
-
-pub ahead_none : (c : UnitCursor) → current c ≡ None → ahead c ≡ []
-ahead_none c is = drop_none (lined_by c) c.units.items c.place is
-
-pub nothing_ahead : (c : UnitCursor) → length c.units.items ≤ c.place → ahead c ≡ []
-nothing_ahead c past = ap (map (lined_by c)) (drop_all c.place c.units.items past)
-
-some_ahead : (c : UnitCursor) → c.place < length c.units.items → ¬ (current c ≡ None)
-some_ahead c low = λ none.
-    let empty = ap length (ahead_none c none) in
-    let long = length-map (drop c.place c.units.items) (lined_by c) in
-    let rest = length-drop c.place c.units.items in
-    absurd (omega (arith, empty, long, rest))
-
-module _ (profile : Profile) (text : List ℕ) (past : List LinedUnit) (c : UnitCursor) (x : LinedUnit) (is : current c ≡ Some x) where
+module _ (profile : Profile) (text : List ℕ) (past : List LinedUnit) (c new : UnitCursor) (x : LinedUnit) (is : current c ≡ Some x)
+    (same : new.reading ≡ c.reading) (units : new.units ≡ c.units) (place : new.place ≡ c.place + 1) (left : ahead new ≡ rest c) where
   -- the unit was walked past
-  pub stands_behind : Stands profile text c past → Stands profile text (behind c) (past ++ x ∷ [])
-  stands_behind s = record {
+  pub stands_on : Stands profile text c past → Stands profile text new (past ++ x ∷ [])
+  stands_on s = record {
     lines = s.lines;
-    read = s.read;
-    units = λ kept. s.units kept ∙ ap (λ us. past ++ us) (ahead_is c x is) ∙ sym (append_assoc past (x ∷ []) (ahead (behind c)));
-    none = λ refused. absurd (not_empty x (ahead (behind c)) (sym (ahead_is c x is) ∙ s.none refused));
+    read = subst (λ (r : Reading). HasRead profile text r s.lines) (sym same) s.read;
+    units = λ kept. s.units (λ refused. kept (ap (λ r. r.left) same ∙ refused))
+        ∙ ap (λ us. past ++ us) (ahead_is c x is ∙ ap (λ us. x ∷ us) (sym left))
+        ∙ sym (append_assoc past (x ∷ []) (ahead new));
+    none = λ refused. absurd (not_empty x (rest c) (sym (ahead_is c x is) ∙ s.none (sym (ap (λ r. r.left) same) ∙ refused)));
   }
 
-  pub less_behind : to_go (behind c) < to_go c
-  less_behind = let e = ap length (ahead_is c x is) in omega (arith, e)
+  pub less_on : to_go new < to_go c
+  less_on =
+      let read = ap (λ (r : Reading). to_read r.left) same in
+      let items = ap (λ (r : Reading). opened_items r.opened) same in
+      let held : length (drop new.place new.units.items) ≡ length (drop (c.place + 1) c.units.items) = λ i. length (drop (place i) (units i).items) in
+      let whole = fewer c x is in
+      omega (arith, read, items, held, whole)
 
-  -- and it is not the last one of its line
-  pub moves : c.place + 1 < length c.units.items → Walks profile text c past → Moves profile text past c (behind c)
-  moves more w = record {
-    walks = λ y same. subst (λ (z : LinedUnit). Walks profile text (behind c) (past ++ z ∷ [])) (same_Some x y (sym is ∙ same))
-        (record { stands = stands_behind w.stands; some = λ none. absurd (some_ahead (behind c) more none) });
-    less = less_behind;
+  -- and there is one more
+  pub moves : ¬ (current new ≡ None) → Walks profile text c past → Moves profile text past c new
+  moves there w = record {
+    walks = λ y at. subst (λ (z : LinedUnit). Walks profile text new (past ++ z ∷ [])) (same_Some x y (sym is ∙ at))
+        (record { stands = stands_on w.stands; some = λ none. absurd (there none) });
+    less = less_on;
   }
 
-  -- or it is, and the next line was come to
-  pub moves_on : (new : UnitCursor) → IsCome profile text (past ++ x ∷ []) (behind c) new → Moves profile text past c new
-  moves_on new h = record {
-    walks = λ y same. subst (λ (z : LinedUnit). Walks profile text new (past ++ z ∷ [])) (same_Some x y (sym is ∙ same)) h.walks;
-    less = omega (arith, h.less, less_behind);
+  -- or none that is held, and the next line was come to
+  pub moves_on : (last : UnitCursor) → IsCome profile text (past ++ x ∷ []) new last → Moves profile text past c last
+  moves_on last h = record {
+    walks = λ y at. subst (λ (z : LinedUnit). Walks profile text last (past ++ z ∷ [])) (same_Some x y (sym is ∙ at)) h.walks;
+    less = omega (arith, h.less, less_on);
   }
-
-lined_are : (c : UnitCursor) (us : List Made) → map (lined_by c) us ≡ with_newline c.newline.now (all_units us)
-lined_are c [] = refl
-lined_are c (u ∷ us) = ap (λ xs. lined_by c u ∷ xs) (lined_are c us)
-
-all_ahead : (c : UnitCursor) → c.place ≡ 0 → ahead c ≡ with_newline c.newline.now (all_units c.units.items)
-all_ahead c first = ap (λ i. map (lined_by c) (drop i c.units.items)) first ∙ lined_are c c.units.items
 
 left_none : (l : Left) → l ≡ Refused → to_read l ≡ 0
 left_none l is = ap to_read is
@@ -101,21 +75,32 @@ done_none (Lines reader) is = absurd is
 done_none Nothing is = refl
 done_none Refused is = refl
 
-module _ (profile : Profile) (text : List ℕ) (past : List LinedUnit) (old new : UnitCursor) (s : Stands profile text old past) (empty : ahead old ≡ []) (cleared : List Made) (none : cleared ≡ []) (first : new.place ≡ 0) where
+-- the first of the units that are held
+some_held : (c : UnitCursor) → c.place ≡ 0 → 0 < length c.units.items → ¬ (current c ≡ None)
+some_held c first some = λ none.
+    let long = none_there c none in
+    let all = ap (λ i. length (drop i c.units.items)) first in
+    absurd (omega (arith, some, long, all))
+
+module _ (profile : Profile) (text : List ℕ) (past : List LinedUnit) (old new : UnitCursor) (s : Stands profile text old past) (none : current old ≡ None)
+    (cleared : List Made) (empty : cleared ≡ []) (first : new.place ≡ 0) where
   -- a line was read
-  pub came : IsHanded profile text s.lines old.reading cleared new.reading new.units.items new.newline → length new.units.items < 18446744073709551616
-      → IsCome profile text past old new
-  came h small =
+  pub came : old.reading.opened ≡ None → IsHanded profile text s.lines old.reading cleared new.reading new.units.items new.newline
+      → length new.units.items < 18446744073709551616 → IsCome profile text past old new
+  came closed h small =
       let at = own_address (named s.lines) h.line.expr in
-      let units : all_units new.units.items ≡ line_spans at h.line.expr = h.units ∙ ap (λ us. all_units us ++ line_spans at h.line.expr) none in
+      let newlines = newlines_ahead new in
+      let held = opened_units new.reading.opened in
       let is : ahead new ≡ lined_line at h.line =
-      all_ahead new first ∙ ap (with_newline new.newline.now) units ∙ ap (λ n. with_newline n (line_spans at h.line.expr)) h.newline_is in
+      ap (λ i. lined_first new.newline.now newlines (all_units (drop i new.units.items) ++ held)) first
+      ∙ ap (lined_first new.newline.now newlines) (h.units.units ∙ ap (λ us. all_units us ++ line_spans at h.line.expr) empty)
+      ∙ ap (λ us. record { unit = line_span at h.line.expr; newline = new.newline.now } ∷ us)
+      (behind_line new.newline.now newlines (plain_line at h.line.expr) (line_no_lines at h.line.expr))
+      ∙ ap (λ n. with_newline n (line_spans at h.line.expr)) h.newline_is in
       let went : ¬ (old.reading.left ≡ Refused) = λ refused. let e = left_none old.reading.left refused in absurd (omega (arith, e, h.less)) in
-      let before : lined s.lines ≡ past = s.units went ∙ ap (λ us. past ++ us) empty ∙ append-nil past in
-      let long = ap length (all_ahead new first) in
-      let same : length (with_newline new.newline.now (all_units new.units.items)) ≡ length (all_units new.units.items) =
-      length-map (all_units new.units.items) _ in
-      let many : length (all_units new.units.items) ≡ length new.units.items = length-map new.units.items unit in
+      let before : lined s.lines ≡ past = s.units went ∙ ap (λ us. past ++ us) (ahead_closed old none closed) ∙ append-nil past in
+      let all = ap (λ i. length (drop i new.units.items)) first in
+      let few = opened_few new.reading.opened in
       record {
         walks = record {
           stands = record {
@@ -124,49 +109,79 @@ module _ (profile : Profile) (text : List ℕ) (past : List LinedUnit) (old new 
             units = λ kept. lined_push s.lines h.line ∙ ap (λ us. us ++ lined_line at h.line) before ∙ ap (λ us. past ++ us) (sym is);
             none = λ refused. absurd (h.kept refused);
           };
-          some = λ end. absurd (not_empty _ _ (sym is ∙ ahead_none new end));
+          some = λ end. absurd (some_held new first (omega (arith, h.units.some)) end);
         };
-        less = omega (arith, h.less, long, same, many, small);
+        less = omega (arith, h.less, all, few, small);
+      }
+
+  -- an item was handed out
+  pub came_item : new.newline ≡ old.newline → new.newlines ≡ old.newlines → HandsMore old.reading cleared new.reading new.units.items
+      → length new.units.items < 18446744073709551616 → IsCome profile text past old new
+  came_item newline newlines h small =
+      let held = opened_units new.reading.opened in
+      let is : ahead new ≡ ahead old =
+      ap (λ i. lined_first new.newline.now (newlines_ahead new) (all_units (drop i new.units.items) ++ held)) first
+      ∙ ap (lined_first new.newline.now (newlines_ahead new)) (h.units.units ∙ ap (λ us. all_units us ++ opened_units old.reading.opened) empty)
+      ∙ (λ i. lined_first (newline i).now (map (λ (n : Bor (List ℕ)). n.now) (into_iter_items (newlines i))) (opened_units old.reading.opened))
+      ∙ sym (ahead_none old none) in
+      let all = ap (λ i. length (drop i new.units.items)) first in
+      let read = ap to_read h.left in
+      record {
+        walks = record {
+          stands = record {
+            lines = s.lines;
+            read = read_stays profile text s.lines old.reading new.reading h.names h.section_is h.left s.read;
+            units = λ kept. s.units (λ refused. kept (h.left ∙ refused)) ∙ ap (λ us. past ++ us) (sym is);
+            none = λ refused. is ∙ s.none (sym h.left ∙ refused);
+          };
+          some = λ end. absurd (some_held new first (omega (arith, h.units.some)) end);
+        };
+        less = omega (arith, h.less, all, read, small);
       }
 
   -- there was none
-  pub stayed : IsOver profile text s.lines old.reading cleared new.reading new.units.items → IsCome profile text past old new
-  stayed h =
-      let is : ahead new ≡ [] = all_ahead new first ∙ ap (λ us. with_newline new.newline.now (all_units us)) (h.units ∙ none) in
+  pub stayed : old.reading.opened ≡ None → IsOver profile text s.lines old.reading cleared new.reading new.units.items → IsCome profile text past old new
+  stayed closed h =
+      let is : ahead new ≡ [] = none_held new (h.units ∙ empty) h.closed in
       let done = done_none new.reading.left h.over in
-      let long = ap length is in
+      let items = ap opened_items h.closed in
+      let all = ap (λ i. length (drop i new.units.items)) first ∙ ap length (h.units ∙ empty) in
       record {
         walks = record {
           stands = record {
             lines = s.lines;
             read = h.read;
-            units = λ kept. s.units (λ refused. kept (h.stays refused)) ∙ ap (λ us. past ++ us) (empty ∙ sym is);
+            units = λ kept. s.units (λ refused. kept (h.stays refused)) ∙ ap (λ us. past ++ us) (ahead_closed old none closed ∙ sym is);
             none = λ _. is;
           };
-          some = λ _. h.over;
+          some = λ _. (h.over, h.closed);
         };
-        less = omega (arith, done, long);
+        less = omega (arith, done, items, all);
       }
 
 -- nothing is read yet
-pub starts : (profile : Profile) (text : List ℕ) (c : UnitCursor) → HasRead profile text c.reading [] → ahead c ≡ [] → Stands profile text c []
+starts : (profile : Profile) (text : List ℕ) (c : UnitCursor) → HasRead profile text c.reading [] → ahead c ≡ [] → Stands profile text c []
 starts profile text c read empty = record { lines = []; read = read; units = λ _. sym empty; none = λ _. empty }
 
--- a unit of a line that has no newline
-abbrev pub last_unit : Made → LinedUnit
-last_unit u = record { unit = unit u; newline = [] }
+pub starts_stand : (profile : Profile) (text : List ℕ) (c : UnitCursor) → HasRead profile text c.reading [] → c.reading.opened ≡ None → c.units.items ≡ [] → Stand c
+starts_stand profile text c read closed none = (profile, text, [], starts profile text c read (none_held c none closed), none_kept c none)
+
+-- and then the first line was come to
+pub starts_walk : (profile : Profile) (text : List ℕ) (c new : UnitCursor) → HasRead profile text c.reading [] → c.reading.opened ≡ None → c.units.items ≡ []
+    → (Stands profile text c [] → Comes profile text [] c new) → Walks profile text new []
+starts_walk profile text c new read closed none comes = (comes (starts profile text c read (none_held c none closed)) (none_kept c none)).walks
 
 -- all units were walked past
 pub walked : (profile : Profile) (text : List ℕ) (past : List LinedUnit) (c : UnitCursor) (left : Left) → c.reading.left ≡ left → ¬ (left ≡ Refused) → current c ≡ None
     → Walks profile text c past → HasWalked profile text past c.reading.names
-walked profile text past c (Lines reader) is kept none w = absurd (subst IsDone is (w.some none))
+walked profile text past c (Lines reader) is kept none w = absurd (subst IsDone is (w.some none).0)
 walked profile text past c Nothing is kept none w =
     let s = w.stands in
     let read = subst (λ (l : Left). IsLeft profile text c.reading s.lines l) is s.read in
     record {
       lines = s.lines;
       are = read.1;
-      names_are = read.0.entered.names;
-      units = s.units (λ refused. kept (sym is ∙ refused)) ∙ ap (λ us. past ++ us) (ahead_none c none) ∙ append-nil past;
+      names_are = read.0;
+      units = s.units (λ refused. kept (sym is ∙ refused)) ∙ ap (λ us. past ++ us) (ahead_closed c none (w.some none).1) ∙ append-nil past;
     }
 walked profile text past c Refused is kept none w = absurd (kept refl)

@@ -17,6 +17,7 @@ pub mod Examples
 pub mod Ends
 pub mod Plain
 pub mod Walked
+pub mod OpenedLines
 pub mod AllLines
 pub mod DigitValues
 pub mod Decimals
@@ -31,6 +32,8 @@ pub mod Holders
 pub mod Tails
 pub mod Proved
 pub mod ReadLines
+pub mod Ahead
 pub mod Cursors
 pub mod Lined
 pub mod UnitsFew
+pub mod Held

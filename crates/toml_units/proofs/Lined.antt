@@ -17,7 +17,7 @@ use Rattle.toml_units.specs.Units.{TextUnit, comment_units, element_unit, gap_li
 use Rattle.toml_units.proofs.Each.{each_append, each_between}
 use Rattle.toml_units.proofs.UnitLines.{not_line}
 
-abbrev IsNoLine : Spanned → Type 0
+abbrev pub IsNoLine : Spanned → Type 0
 IsNoLine u = ¬ (u.kind ≡ kinds.Line)
 
 comment_no_lines : (at : Address) (c : Option Piece) (us : List TextUnit) → EachIs IsNoLine (map spanned us)
@@ -29,7 +29,7 @@ gap_no_lines : (at : Address) (ls : List GapLine) → EachIs IsNoLine (map spann
 gap_no_lines at [] = tt
 gap_no_lines at (l ∷ ls) = comment_no_lines at l.blank.comment (gap_line_units at ls) (gap_no_lines at ls)
 
-tail_no_lines : (at : Option Address) (b : Blank) → EachIs IsNoLine (map spanned (tail_units at b))
+pub tail_no_lines : (at : Option Address) (b : Blank) → EachIs IsNoLine (map spanned (tail_units at b))
 tail_no_lines at b = of b.comment
   where
     of : (c : Option Piece) → EachIs IsNoLine (map spanned (comment_units kinds.TailComment at c))
@@ -42,7 +42,7 @@ mutual
   inside_no_lines (Array whole items) at = elements_no_lines items at 0
   inside_no_lines (Inline whole pairs) at = members_no_lines pairs at
 
-  elements_no_lines : (items : Items) (at : Address) (i : ℕ) → EachIs IsNoLine (plain_elements at i items)
+  pub elements_no_lines : (items : Items) (at : Address) (i : ℕ) → EachIs IsNoLine (plain_elements at i items)
   elements_no_lines (Close g) at i = gap_no_lines at g.lines
   elements_no_lines (Last g v h) at i =
       each_between IsNoLine (map spanned (gap_units at g)) (spanned (element_unit (element at i) v) ∷ plain_inside (element at i) v)
@@ -71,7 +71,7 @@ value_no_lines None v = tt
 value_no_lines (Some at) v = inside_no_lines v at
 
 -- what lies on a line is none
-line_no_lines : (at : Option Address) (e : Expr) → EachIs IsNoLine (plain_line at e)
+pub line_no_lines : (at : Option Address) (e : Expr) → EachIs IsNoLine (plain_line at e)
 line_no_lines at (BlankLine b) = tail_no_lines at b
 line_no_lines at (KeyValLine ws k b) =
     each_append IsNoLine (plain_value at k.value) (map spanned (tail_units at b)) (value_no_lines at k.value) (tail_no_lines at b)

@@ -7,7 +7,8 @@ use Rattle.toml_scalar.specs.declared.fault.SyntaxFault.TheVariants as faults
 use Rattle.toml_tree.specs.Document.{Refuses}
 use Rattle.toml_tree.specs.HandedOut.{AreLinesIn, HandsOn, HandsOut, left, tree_of}
 use Rattle.toml_tree.specs.Lines.{line as tree_line}
-use Rattle.toml_tree.specs.Tree.{Blank, BlankLine, Doc, KeyVal, KeyValLine, Line, Piece}
+use Rattle.toml_tree.specs.View.{expr}
+use Rattle.toml_tree.specs.Tree.{Blank, BlankLine, Doc, Expr, KeyVal, KeyValLine, Line, Piece}
 use Rattle.toml_tree.specs.declared.line.Line as declared
 use Rattle.toml_tree.specs.declared.line_reader.LineReader.{LineReader}
 use Rattle.toml_tree.specs.declared.profile.Profile.{Profile}
@@ -18,13 +19,19 @@ use Rattle.toml_names.specs.reader.LineNames.{StandFor}
 use Rattle.toml_names.specs.reader.Names.{AreGood, own_address}
 use Rattle.toml_names.specs.reader.Texts.{AreLeft}
 use Rattle.toml_units.specs.declared.reading.Left.{Left}
-use Rattle.toml_units.specs.declared.reading.Left.TheVariants.{Lines, Refused}
+use Rattle.toml_units.specs.declared.reading.Left.TheVariants.{Lines, Nothing, Refused}
 use Rattle.toml_units.specs.declared.reading.Reading.{Reading}
 use Rattle.toml_units.specs.declared.unit.Unit.{Unit as Made}
+use Rattle.toml_names.specs.model.Addresses.{Address}
 use Rattle.toml_units.specs.Lined.{lined, lined_from, lined_line}
-use Rattle.toml_units.specs.Reading.{HasEnteredText, GoOn, HasEntered, HasRead, IsDone, IsHanded, IsLeft, IsOver, IsTaken, left_of, to_read}
+use Rattle.toml_units.specs.Opened.{AddsFirst, opened_units}
+use Rattle.toml_units.specs.Plain.{line_span, line_spans}
+use Rattle.toml_units.specs.Reading.{HasEnteredText, GoOn, HasEntered, HasNames, HasRead, IsDone, IsHanded, IsLeft, IsOver, left_of, to_read}
 use Rattle.toml_names.proofs.Proved.{fronts_are_good, pairs_leave_alike}
+use Rattle.toml_units.specs.View.{AddsUnits, Spanned}
+use Rattle.toml_units.specs.declared.opened.Opened.{Opened}
 use Rattle.toml_units.proofs.AllLines.{named_from-push}
+use Rattle.toml_units.proofs.OpenedLines.{adds_first}
 
 lined_from-push : (ls : List Line) (earlier : List Named) (n : ℕ) (l : Line)
     → lined_from earlier n (ls ++ l ∷ []) ≡ lined_from earlier n ls ++ lined_line (own_address (named_from earlier n ls) l.expr) l
@@ -76,7 +83,7 @@ few_of profile text front None h fits = omega (arith, h.few)
 has_left : (profile : Profile) (text : List ℕ) (front : List Line) (r : Reading) (more : Option LineReader) → HasEnteredText profile text r front
     → AreLeft profile text front more → IsLeft profile text r front (left_of more)
 has_left profile text front r (Some reader) are h = (are, h)
-has_left profile text front r None are h = (are, h)
+has_left profile text front r None are h = (are.entered.names, h)
 
 not_refused : (more : Option LineReader) → ¬ (left_of more ≡ Refused)
 not_refused (Some reader) = λ e. cc
@@ -86,24 +93,25 @@ module _ (profile : Profile) (text : List ℕ) (lines : List Line) (before : Rea
   pub stood : HasEnteredText profile text before lines × HandsOut profile text lines reader
   stood = subst (λ (left : Left). IsLeft profile text before lines left) is read
 
-  -- a line was handed out and taken
-  pub handed : (l : declared.Line) (more : Option LineReader) (mid r : Reading) (old new : List Made) (newline : Bor (List ℕ))
-      → HandsOn profile text lines (left reader) (Ok (l, more)) → IsTaken lines (tree_line l) old mid new newline
+  -- a line was handed out and entered, and units of it were added
+  pub handed : (l : declared.Line) (more : Option LineReader) (mid r : Reading) (old new : List Made) (own : Option Address) (newline : Bor (List ℕ))
+      → HandsOn profile text lines (left reader) (Ok (l, more)) → HasNames lines (tree_line l) mid own
+      → AddsFirst old new (line_spans own (expr l.expr)) (opened_units r.opened) → newline.now ≡ (tree_line l).newline.text
       → r.names ≡ mid.names → r.section ≡ mid.section → r.left ≡ left_of more → IsHanded profile text lines before old r new newline
-  handed l more mid r old new newline on taken names at now =
+  handed l more mid r old new own newline on entered added ends names at now =
       let front = lines ++ tree_line l ∷ [] in
       let passed = passes profile text lines (left reader) l more on in
-      let entered : HasEntered r front = record {
-        names = subst (λ n. StandFor n front) (sym names) taken.names;
-        section_is = at ∙ taken.section_is;
+      let stand : HasEntered r front = record {
+        names = subst (λ n. StandFor n front) (sym names) entered.names;
+        section_is = at ∙ entered.section_is;
         few = few_of profile text front more passed.0 stood.0.fits;
       } in
       record {
         line = tree_line l;
         read = subst (λ (left : Left). IsLeft profile text r front left) (sym now)
-            (has_left profile text front r more (record { entered = entered; fits = stood.0.fits }) passed.0);
-        units = taken.units;
-        newline_is = taken.newline_is;
+            (has_left profile text front r more (record { entered = stand; fits = stood.0.fits }) passed.0);
+        units = subst (λ (o : Option Address). AddsFirst old new (line_spans o (expr l.expr)) (opened_units r.opened)) entered.own_is added;
+        newline_is = ends;
         less = subst (λ (left : Left). to_read left < to_read before.left) (sym now)
             (subst (λ (left : Left). to_read (left_of more) < to_read left) (sym is) passed.1);
         kept = λ e. not_refused more (sym now ∙ e);
@@ -111,10 +119,11 @@ module _ (profile : Profile) (text : List ℕ) (lines : List Line) (before : Rea
 
 -- the text was refused
 pub is_over : (profile : Profile) (text : List ℕ) (lines : List Line) (before r : Reading) (old new : List Made) → r.left ≡ Refused
-    → ¬ IsDocumentIn profile text → new ≡ old → IsOver profile text lines before old r new
-is_over profile text lines before r old new is none units = record {
+    → ¬ IsDocumentIn profile text → r.opened ≡ None → new ≡ old → IsOver profile text lines before old r new
+is_over profile text lines before r old new is none closed units = record {
   read = subst (λ (left : Left). IsLeft profile text r lines left) (sym is) none;
   over = subst IsDone (sym is) tt;
+  closed = closed;
   stays = λ _. is;
   units = units;
 }
@@ -131,3 +140,37 @@ pair_stays lines l ws k b is =
 
 pub blank_stays : (lines : List Line) (l : Line) (b : Blank) → l.expr ≡ BlankLine b → section (named (lines ++ l ∷ [])) ≡ section (named lines)
 blank_stays lines l b is = ap section (named_push lines l ∙ ap (λ e. named lines ++ named_by (named lines) (length lines) e) is ∙ append-nil (named lines))
+
+-- all units of a line were added, and it is not opened;
+pub all_added : (old new : List Made) (own : Option Address) (e : Expr) (o : Option Opened) → AddsUnits old new (line_spans own e) → o ≡ None
+    → AddsFirst old new (line_spans own e) (opened_units o)
+all_added old new own e o h none =
+    subst (λ (p : Option Opened). AddsFirst old new (line_spans own e) (opened_units p)) (sym none)
+    (adds_first old new (line_spans own e) [] (line_spans own e) h (append-nil (line_spans own e)) (omega arith))
+
+-- or its own, and the others are left
+pub own_added : (old new : List Made) (own : Option Address) (e : Expr) (at : Address) (rest : List Spanned) → AddsUnits old new (line_span own e ∷ []) → own ≡ Some at
+    → line_spans (Some at) e ≡ line_span (Some at) e ∷ rest → AddsFirst old new (line_spans own e) rest
+own_added old new own e at rest h here behind =
+    adds_first old new (line_span own e ∷ []) rest (line_spans own e) h
+    (ap (λ p. line_span p e ∷ rest) here ∙ sym behind ∙ ap (λ p. line_spans p e) (sym here)) (omega arith)
+
+-- what was read stays where only the opened line changes
+module _ (profile : Profile) (text : List ℕ) (lines : List Line) (before r : Reading) (names : r.names ≡ before.names) (section_is : r.section ≡ before.section) where
+  entered_stays : HasEnteredText profile text before lines → HasEnteredText profile text r lines
+  entered_stays h = record {
+    entered = record {
+      names = subst (λ n. StandFor n lines) (sym names) h.entered.names;
+      section_is = section_is ∙ h.entered.section_is;
+      few = h.entered.few;
+    };
+    fits = h.fits;
+  }
+
+  left_stays : (left : Left) → IsLeft profile text before lines left → IsLeft profile text r lines left
+  left_stays (Lines reader) h = (entered_stays h.0, h.1)
+  left_stays Nothing h = (subst (λ n. StandFor n lines) (sym names) h.0, h.1)
+  left_stays Refused h = h
+
+  pub read_stays : r.left ≡ before.left → HasRead profile text before lines → HasRead profile text r lines
+  read_stays is h = left_stays r.left (subst (λ (left : Left). IsLeft profile text before lines left) (sym is) h)

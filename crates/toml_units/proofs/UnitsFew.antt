@@ -23,7 +23,7 @@ comment_few kind at (Some p) is = by p.text is
     by [] is = absurd is
     by (b ∷ t) is = omega arith
 
-newline_long : (t : List ℕ) → IsNewline t → 1 ≤ length t
+pub newline_long : (t : List ℕ) → IsNewline t → 1 ≤ length t
 newline_long t (inl is) = let e = ap length is in omega (arith, e)
 newline_long t (inr is) = let e = ap length is in omega (arith, e)
 

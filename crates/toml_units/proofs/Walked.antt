@@ -15,13 +15,8 @@ use Rattle.toml_tree.specs.ReadingValues.{Element, Member, before_end, pairs_bef
 use Rattle.toml_tree.specs.View.{gap, value, element as tree_element, member, array_items, last_ends, table_pairs, last_pairs}
 use Rattle.toml_tree.proofs.Proved.{value_array, value_inline}
 use Rattle.toml_names.specs.model.Addresses.{Address, element}
-use Rattle.toml_units.specs.Plain.{Spanned, spanned, pair_span, plain_inside, plain_elements, plain_members, element_units, pair_units, end_units}
+use Rattle.toml_units.specs.Plain.{Spanned, spanned, pair_span, plain_inside, plain_elements, plain_members, element_units, items_of, pair_units, end_units}
 use Rattle.toml_units.specs.Units.{gap_units, element_unit, pair_address}
-
--- elements from the index on, whatever ends them
-abbrev pub items_of : Address → ℕ → List Element → List Spanned
-items_of at i [] = []
-items_of at i (e ∷ es) = element_units at i e ++ items_of at (i + 1) es
 
 abbrev pub members_of : Address → List Member → List Spanned
 members_of at [] = []
@@ -48,12 +43,12 @@ module _ (at : Address) where
       three (map spanned (gap_units at e.before)) block (map spanned (gap_units at e.after)) _
       ∙ ap (λ l. element_units at i e ++ l) (items-last_ends (f ∷ es) (i + 1))
 
-  items-array_items : (es : List Element) (end : Option Gap) → plain_elements at 0 (array_items es end) ≡ items_of at 0 es ++ end_units at (option_map gap end)
-  items-array_items es (Some g) = items-before_end es 0 (gap g)
-  items-array_items es None = items-last_ends es 0 ∙ sym (append-nil (items_of at 0 es))
+  pub items-array_items : (es : List Element) (i : ℕ) (end : Option Gap) → plain_elements at i (array_items es end) ≡ items_of at i es ++ end_units at (option_map gap end)
+  items-array_items es i (Some g) = items-before_end es i (gap g)
+  items-array_items es i None = items-last_ends es i ∙ sym (append-nil (items_of at i es))
 
   inside-array : (b : Box Array Global) → plain_inside at (value (made.Array b)) ≡ items_of at 0 (map tree_element (out-Array b.value).items.items) ++ end_units at (option_map gap (out-Array b.value).end)
-  inside-array b = ap (plain_inside at) (value_array b) ∙ items-array_items (map tree_element (out-Array b.value).items.items) (out-Array b.value).end
+  inside-array b = ap (plain_inside at) (value_array b) ∙ items-array_items (map tree_element (out-Array b.value).items.items) 0 (out-Array b.value).end
 
   members-before_end : (ms : List Member) (g : tree.Gap) → plain_members at (pairs_before_end ms (tree.ClosePairs g)) ≡ members_of at ms ++ map spanned (gap_units at g)
   members-before_end [] g = refl

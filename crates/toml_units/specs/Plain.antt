@@ -68,10 +68,20 @@ plain_from earlier n (l ∷ ls) = line_spans (own_address earlier l.expr) l.expr
 abbrev pub plain_units : List Line → List Spanned
 plain_units = plain_from (root ∷ []) 0
 
--- an element between its gaps, and a pair between its own, with what lies in them
-abbrev pub element_units : Address → ℕ → ArrayElement → List Spanned
-element_units at i e = map spanned (gap_units at e.before) ++ ((spanned (element_unit (element at i) e.value) ∷ plain_inside (element at i) e.value) ++ map spanned (gap_units at e.after))
+-- an element at its own address, here, with what lies in it, between the gaps of the array
+abbrev pub element_units_at : Address → Address → ArrayElement → List Spanned
+element_units_at at here e = map spanned (gap_units at e.before) ++ ((spanned (element_unit here e.value) ∷ plain_inside here e.value) ++ map spanned (gap_units at e.after))
 
+-- the element with the index
+abbrev pub element_units : Address → ℕ → ArrayElement → List Spanned
+element_units at i e = element_units_at at (element at i) e
+
+-- elements from the index on
+abbrev pub items_of : Address → ℕ → List ArrayElement → List Spanned
+items_of at i [] = []
+items_of at i (e ∷ es) = element_units at i e ++ items_of at (i + 1) es
+
+-- a pair between its gaps, with what lies in it
 abbrev pub pair_units : Address → Member → List Spanned
 pair_units at m = map spanned (gap_units at m.before) ++ ((pair_span at m.pair ∷ plain_inside (pair_address at m.pair.assign) m.pair.value) ++ map spanned (gap_units at m.after))
 

@@ -1,9 +1,10 @@
 //! Certificates: which unit of a text is kept as which unit of another.
-ghost use Rattle.std.specs.Prelude.{◌≡◌, ◌∷◌, ◌++◌, List, ℕ, string_bytes, IfOk, IfErr, IfSome, MatchOption};
+ghost use Rattle.std.specs.Prelude.{◌≡◌, ◌∷◌, ◌++◌, List, ℕ, string_bytes, IfOk, IfErr, IfSome, MatchOption, OnOk};
 ghost use Rattle.toml_units.specs.Certificates.{pair_text, certificate_of, BeginsWithNoPair, IsCertificate, IsSmall, RefusesCertificate};
 
 use crate::decimal::read_number;
 use crate::fault::CertificateFault;
+use itoa::Buffer;
 use std::alloc::{AllocError, Global};
 
 /// Which units are kept: each pair has the place of a unit among those of the one text, and the place of its partner among
@@ -54,11 +55,16 @@ pub fn read_certificate(alloc: Global, bytes: &[u8]) -> Result<Certificate, Cert
     Ok(Certificate { pairs })
 }
 
-/// The line of a pair.
-fn pair_line(alloc: Global, first: u64, second: u64) -> Result<String, AllocError>
-    ensures { IfOk result (λ line. string_bytes line ≡ pair_text (first, second)) }
+/// Adds the line of a pair.
+fn push_pair(text: &mut String, first: u64, second: u64) -> Result<(), AllocError>
+    ensures { OnOk result (string_bytes text.new ≡ string_bytes text.old ++ pair_text (first, second)) }
 {
-    format!(in alloc; "{first} {second}\n")
+    let mut digits = Buffer::new();
+    text.push_str(digits.format(first))?;
+    text.push_str(" ")?;
+    text.push_str(digits.format(second))?;
+    text.push_str("\n")?;
+    Ok(())
 }
 
 /// The one text of a certificate.
@@ -67,8 +73,7 @@ pub fn certificate_text(alloc: Global, certificate: &Certificate) -> Result<Stri
 {
     let mut text = String::from_str(alloc, "kept 1\n")?;
     for (first, second) in &certificate.pairs {
-        let line = pair_line(alloc, *first, *second)?;
-        text.push_str(&line)?;
+        push_pair(&mut text, *first, *second)?;
     }
     Ok(text)
 }

@@ -1,19 +1,20 @@
-//! A walk over the units of a text, which is read line by line.
-ghost use Rattle.std.specs.Prelude.{◌≡◌, [], ℕ, None, IsSome, IfOk, OnOk, List, option_map, slice_get};
+//! A walk over the units of a text, which is read line by line, or was read already.
+ghost use Rattle.std.specs.Prelude.{◌≡◌, [], None, IsSome, IfOk, option_map, slice_get};
 ghost use Rattle.toml_text.specs.Source.{text_of};
-ghost use Rattle.toml_tree.specs.declared.profile.Profile.{Profile as InProfile};
-ghost use Rattle.toml_units.specs.Cursors.{Comes, Ends, Goes, Moves, Stand, Stands, Walks, current};
-ghost use Rattle.toml_units.specs.Lined.{LinedUnit};
+ghost use Rattle.toml_units.specs.Cursors.{ComesOn, EndsAll, Goes, HasNextNewline, Stand, StandsBefore, StepsOn, Walks, current};
+ghost use Rattle.toml_units.specs.Places.{is_line};
 
 use crate::reading::{Left, Reading};
-use crate::unit::Unit;
+use crate::unit::{Unit, UnitKind};
 use std::alloc::{AllocError, Global};
-use toml_names::LineNames;
+use std::vec::IntoIter;
+use toml_names::{Address, LineNames};
 use toml_text::Source;
 use toml_tree::Profile;
 
-/// A place among the units of a text, in text order: before one of them, or behind the last. The units of the line in which it
-/// stands are kept, and of it and the lines before it what they name.
+/// A place among the units of a text, in text order: before one of them, or behind the last. Either it reads the text, and holds
+/// the units of the line in which it stands, where that has an array those of one item, and what this line and those before
+/// name; or the text was read already, and it holds the units of all lines, and what they name.
 #[derive(Drop)]
 pub struct UnitCursor<'t> {
     reading: Reading<'t>,
@@ -21,6 +22,30 @@ pub struct UnitCursor<'t> {
     // how many of these were walked past
     place: usize,
     newline: &'t str,
+    // those of the lines that come behind it in `units`
+    newlines: IntoIter<&'t str>,
+}
+
+/// Whether a unit is a line.
+fn is_line(unit: &Unit) -> bool
+    ensures { result ≡ is_line unit.now.kind }
+{
+    matches!(unit.kind, UnitKind::Line)
+}
+
+/// Lets units go, but for the address of the first one, in whose memory the next one is made.
+fn take_spare(alloc: Global, units: &mut Vec<Unit>) -> Address
+    ensures { units.new.items ≡ [] }
+{
+    let spare = match units.first_mut() {
+        Some(first) => first.address.take(),
+        None => None,
+    };
+    units.clear();
+    match spare {
+        Some(at) => at,
+        None => Address::root(alloc),
+    }
 }
 
 impl<'t> UnitCursor<'t> {
@@ -37,9 +62,31 @@ impl<'t> UnitCursor<'t> {
             units: Vec::new(alloc),
             place: 0,
             newline: "",
+            newlines: Vec::new(alloc).into_iter(),
         };
-        cursor.read_line(alloc)?;
+        cursor.hold_next(alloc)?;
         Ok(cursor)
+    }
+
+    /// Stands before the first unit of a text of which all lines were read already: it holds their names, their units, and the
+    /// newline of each, the empty text where a line has none.
+    pub fn held(
+        alloc: Global,
+        names: LineNames<'t>,
+        units: Vec<Unit>,
+        newlines: Vec<&'t str>,
+    ) -> UnitCursor<'t>
+        ensures { StandsBefore names.entry units.items newlines.entry.items result }
+    {
+        let mut cursor = UnitCursor {
+            reading: Reading::over(alloc, names),
+            units,
+            place: 0,
+            newline: "",
+            newlines: newlines.into_iter(),
+        };
+        cursor.take_newline();
+        cursor
     }
 
     /// The unit before which it stands. There is none behind the last one, and where the text was found to be no document.
@@ -60,23 +107,39 @@ impl<'t> UnitCursor<'t> {
     pub fn step(&mut self, alloc: Global) -> Result<(), AllocError>
         requires goes { Goes self.old }
         requires some { IsSome (current self.old) }
-        ensures { (profile : InProfile) (text : List ℕ) (past : List LinedUnit) → Walks profile text self.old past → OnOk result (Moves profile text past self.old self.new) }
+        ensures { StepsOn self.old self.new result }
     {
         self.place += 1;
-        if self.place < self.units.len() {
-            return Ok(());
+        let Some(unit) = self.unit() else {
+            return self.hold_next(alloc);
+        };
+        if is_line(unit) {
+            self.take_newline();
         }
-        self.read_line(alloc)
+        Ok(())
     }
 
-    /// Goes on to the next line, where all units of the last one were walked past.
-    fn read_line(&mut self, alloc: Global) -> Result<(), AllocError>
-        requires { Stand self.old }
-        ensures { (profile : InProfile) (text : List ℕ) (past : List LinedUnit) → Stands profile text self.old past → OnOk result (Comes profile text past self.old self.new) }
+    /// Takes the newline of the line before which it stands, where that is held.
+    fn take_newline(&mut self)
+        ensures { HasNextNewline self.old self.new }
     {
-        self.units.clear();
+        if let Some(next) = self.newlines.next() {
+            self.newline = next;
+        }
+    }
+
+    /// Holds the units that come next, where all that it holds were walked past: those of the next item of the line that is
+    /// opened, else those of the next line.
+    fn hold_next(&mut self, alloc: Global) -> Result<(), AllocError>
+        requires { Stand self.old }
+        ensures { ComesOn self.old self.new result }
+    {
+        let spare = take_spare(alloc, &mut self.units);
         self.place = 0;
-        if let Some(newline) = self.reading.next(alloc, &mut self.units)? {
+        if self.reading.opened.is_some() {
+            return self.reading.next_item(alloc, &mut self.units, spare);
+        }
+        if let Some(newline) = self.reading.next(alloc, &mut self.units, spare)? {
             self.newline = newline;
         }
         Ok(())
@@ -85,7 +148,7 @@ impl<'t> UnitCursor<'t> {
     /// The names of all lines, where all units were walked past; none where the text is no document of the profile.
     pub fn into_names(self) -> Option<LineNames<'t>>
         requires { current self ≡ None }
-        ensures { (profile : InProfile) (text : List ℕ) (past : List LinedUnit) → Walks profile text self.entry past → Ends profile text past result }
+        ensures { EndsAll self.entry result }
     {
         match self.reading.left {
             Left::Refused => None,

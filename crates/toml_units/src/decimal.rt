@@ -22,6 +22,9 @@ fn digits_len(bytes: &[u8]) -> usize
 fn digit_value(byte: u8) -> u64
     ensures { result ≡ digit_value byte }
 {
+    if byte.is_ascii_digit() {
+        return u64::from(byte - b'0');
+    }
     (byte as char).to_digit(36).map_or(36, u64::from)
 }
 

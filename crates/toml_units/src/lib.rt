@@ -8,6 +8,7 @@ mod decimal;
 mod fault;
 pub mod laws;
 mod lines;
+mod opened;
 mod piece;
 mod reading;
 mod unit;

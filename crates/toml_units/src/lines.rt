@@ -6,12 +6,14 @@ ghost use Rattle.toml_names.specs.mentions.Keys.{key_names};
 ghost use Rattle.toml_names.specs.model.Addresses.{Address as Steps, lent};
 ghost use Rattle.toml_names.specs.mentions.Mentions.{named};
 ghost use Rattle.toml_names.specs.reader.Names.{AreOwnAddresses};
+ghost use Rattle.toml_units.specs.Arrays.{Begins, TellsArray};
 ghost use Rattle.toml_units.specs.Ends.{blank_end, expr_end};
 ghost use Rattle.toml_units.specs.Plain.{own_base, line_span, line_spans};
 ghost use Rattle.toml_units.specs.View.{AddsUnits, spanned, all_units};
 ghost use Rattle.toml_tree.specs.Pieces.{expr_start};
 ghost use Rattle.toml_units.specs.Units.{units as units_of};
 
+use crate::opened::has_items;
 use crate::unit::{Unit, UnitKind};
 use crate::walk::{copied, push_comment, push_inside};
 use std::alloc::{AllocError, Global};
@@ -69,6 +71,21 @@ fn own_base(own: Option<&Address>, e: &Expr) -> Option<usize>
     }
 }
 
+/// Adds a line's own unit, at the address, which is given away.
+fn push_own(units: &mut Vec<Unit>, own: Option<Address>, e: &Expr) -> Result<(), AllocError>
+    ensures { OnOk result (AddsUnits units.old.items units.new.items (line_span own (expr e.now) ∷ [])) }
+{
+    let base = own_base(own.as_ref(), e);
+    let line = Unit {
+        kind: UnitKind::Line,
+        span: expr_span(e),
+        address: own,
+        base,
+    };
+    units.push(line)?;
+    Ok(())
+}
+
 /// Adds the units of a line at its own address.
 fn push_line(
     alloc: Global,
@@ -78,12 +95,7 @@ fn push_line(
 ) -> Result<(), AllocError>
     ensures { OnOk result (AddsUnits units.old.items units.new.items (line_spans (lent own.entry) (expr e.now))) }
 {
-    units.push(Unit {
-        kind: UnitKind::Line,
-        span: expr_span(e),
-        address: copied(alloc, own)?,
-        base: own_base(own, e),
-    })?;
+    push_own(units, copied(alloc, own)?, e)?;
     match e {
         Expr::KeyVal { keyval, tail, .. } => {
             if let Some(at) = own {
@@ -123,15 +135,36 @@ pub(crate) fn push_line_at(
     if !is_lone(e) {
         return push_line(alloc, units, own.as_ref(), e);
     }
-    let base = own_base(own.as_ref(), e);
-    let line = Unit {
-        kind: UnitKind::Line,
-        span: expr_span(e),
-        address: own,
-        base,
+    push_own(units, own, e)
+}
+
+/// The address of a line's value, copied, where this is an array with an item.
+fn array_at(alloc: Global, own: Option<&Address>, e: &Expr) -> Result<Option<Address>, AllocError>
+    ensures { IfOk result (TellsArray (lent own.entry) (expr e.now)) }
+{
+    if has_items(e) {
+        copied(alloc, own)
+    } else {
+        Ok(None)
+    }
+}
+
+/// Adds the units of a line whose own address is given away. Of a line whose value is an array with an item it adds its own
+/// unit alone, and tells the array's address.
+pub(crate) fn push_first(
+    alloc: Global,
+    units: &mut Vec<Unit>,
+    own: Option<Address>,
+    e: &Expr,
+) -> Result<Option<Address>, AllocError>
+    ensures { IfOk result (Begins units.old.items units.new.items own (expr e.now)) }
+{
+    let Some(array) = array_at(alloc, own.as_ref(), e)? else {
+        push_line_at(alloc, units, own, e)?;
+        return Ok(None);
     };
-    units.push(line)?;
-    Ok(())
+    push_own(units, own, e)?;
+    Ok(Some(array))
 }
 
 /// The address at the place, which is given away.

@@ -1,19 +1,22 @@
-//! A text read line by line: what its lines name, and the units of one line after another. No line is kept.
-ghost use Rattle.std.specs.Prelude.{◌≡◌, ℕ, IfOk, OnOk, List, []};
+//! A text read line by line: what its lines name, and the units of one line after another. No line is kept but one whose
+//! units are handed out item by item.
+ghost use Rattle.std.specs.Prelude.{◌≡◌, ℕ, IfOk, IsSome, None, OnOk, List, []};
 ghost use Rattle.toml_text.specs.Source.{text_of};
-ghost use Rattle.toml_tree.specs.HandedOut.{HandsOut, left};
 ghost use Rattle.toml_tree.specs.Lines.{line as tree_line};
 ghost use Rattle.toml_tree.specs.Tree.{Line as Lined};
 ghost use Rattle.toml_tree.specs.declared.profile.Profile.{Profile as InProfile};
 ghost use Rattle.toml_scalar.specs.declared.fault.SyntaxFault.TheVariants as syntax;
 ghost use Rattle.toml_names.specs.declared.fault.NameFault.TheVariants as names;
 ghost use Rattle.toml_names.specs.reader.Texts.{AreLeft};
-ghost use Rattle.toml_units.specs.Reading.{Enters, GoOn, Goes, Hands, HasEntered, HasRead, Passes, Takes, left_of};
+ghost use Rattle.toml_units.specs.declared.reading.Left.TheVariants.{Nothing};
+ghost use Rattle.toml_units.specs.Reading.{Enters, Goes, GoesBehind, GoesToEnd, HandsMore, HandsOne, HasEntered, HasRead, left_of};
 
-use crate::lines::push_line_at;
+use crate::lines::push_first;
+use crate::opened::Opened;
 use crate::unit::Unit;
 use std::alloc::{AllocError, Global};
-use toml_names::{Address, LineNames, NameFault, key_address};
+use std::mem;
+use toml_names::{Address, LineNames, NameFault, key_address_into};
 use toml_text::Source;
 use toml_tree::{Expr, Line, LineReader, Profile, SyntaxFault};
 
@@ -26,12 +29,13 @@ pub(crate) enum Left<'t> {
 }
 
 /// What the lines so far name, the address of the last header's table or element, whose names the addresses of keys share,
-/// and what is left to read.
+/// what is left to read, and the last line, where its units are handed out item by item and there are more.
 #[derive(Drop)]
 pub(crate) struct Reading<'t> {
     pub(crate) names: LineNames<'t>,
     pub(crate) section: Address,
     pub(crate) left: Left<'t>,
+    pub(crate) opened: Option<Opened<'t>>,
 }
 
 /// Passes on that there was no memory.
@@ -66,7 +70,7 @@ fn left_of<'t>(more: Option<LineReader<'t>>) -> Left<'t>
 
 /// Reads a line and lets it go, and tells what is left behind it.
 fn behind<'t>(alloc: Global, reader: LineReader<'t>) -> Result<Option<LineReader<'t>>, SyntaxFault>
-    ensures { (profile : InProfile) (text : List ℕ) (front : List Lined) → HandsOut profile text front reader.entry → Passes profile text front (left reader.entry) result }
+    ensures { GoesBehind reader.entry result }
 {
     let (_line, more) = reader.next(alloc)?;
     Ok(more)
@@ -75,7 +79,7 @@ fn behind<'t>(alloc: Global, reader: LineReader<'t>) -> Result<Option<LineReader
 /// Reads the lines that are left, and lets them go.
 fn pass_over<'t>(alloc: Global, left: Option<LineReader<'t>>) -> Result<(), AllocError>
     requires { (profile : InProfile) × (text : List ℕ) × (front : List Lined) × AreLeft profile text front left }
-    ensures { (profile : InProfile) (text : List ℕ) (front : List Lined) → AreLeft profile text front left.entry → OnOk result (GoOn profile text front) }
+    ensures { GoesToEnd left.entry result }
 {
     let mut left = left;
     while let Some(reader) = left {
@@ -94,20 +98,42 @@ impl<'t> Reading<'t> {
         source: Source<'t>,
         profile: Profile,
     ) -> Result<Reading<'t>, AllocError>
-        ensures { IfOk result (λ read. HasRead profile (text_of source.entry) read []) }
+        ensures { IfOk result (λ read. HasRead profile (text_of source.entry) read [] × (read.opened ≡ None)) }
     {
         Ok(Reading {
             names: LineNames::new(alloc, source)?,
             section: Address::root(alloc),
             left: Left::Lines(LineReader::new(source, profile)),
+            opened: None,
         })
     }
 
-    /// Takes what a line names, and tells the address of its value, table or element.
-    fn enter(&mut self, alloc: Global, line: &Line<'t>) -> Result<Option<Address>, NameFault>
+    /// All lines were read already, and these are their names.
+    pub(crate) fn over(alloc: Global, names: LineNames<'t>) -> Reading<'t>
+        ensures names { result.names ≡ names.entry }
+        ensures left { result.left ≡ Nothing }
+        ensures opened { result.opened ≡ None }
+    {
+        Reading {
+            names,
+            section: Address::root(alloc),
+            left: Left::Nothing,
+            opened: None,
+        }
+    }
+
+    /// Takes what a line names, and tells the address of its value, table or element. An address is made in the memory
+    /// of the spare one.
+    fn enter(
+        &mut self,
+        alloc: Global,
+        line: &Line<'t>,
+        spare: Address,
+    ) -> Result<Option<Address>, NameFault>
         requires { (lines : List Lined) × HasEntered self.old lines }
         ensures names { (lines : List Lined) → HasEntered self.old lines → Enters lines (tree_line line.now) self.new result }
         ensures left { self.new.left ≡ self.old.left }
+        ensures opened { self.new.opened ≡ self.old.opened }
     {
         match line.expr() {
             Expr::Blank(_) => {
@@ -116,49 +142,33 @@ impl<'t> Reading<'t> {
             }
             Expr::KeyVal { keyval, .. } => {
                 self.names.take(line)?;
-                let at = key_address(alloc, &self.section, &keyval.assign.key)?;
+                let at = key_address_into(alloc, spare, &self.section, &keyval.assign.key)?;
                 Ok(Some(at))
             }
             Expr::Std { .. } | Expr::Array { .. } => {
-                let own = self.names.take_at(line)?;
-                self.section = self.names.section()?;
-                Ok(own)
+                // a header always has an address of its own
+                let Some(own) = self.names.take_at(line, spare)? else {
+                    return Ok(None);
+                };
+                let old = mem::replace(&mut self.section, Address::root(alloc));
+                self.section = own.copy_into(old)?;
+                Ok(Some(own))
             }
         }
     }
 
-    /// Takes a line, and adds its units; tells its newline, or nothing where the names of the lines with it are refused.
-    fn take(
-        &mut self,
-        alloc: Global,
-        line: &Line<'t>,
-        units: &mut Vec<Unit>,
-    ) -> Result<Option<&'t str>, AllocError>
-        requires { (lines : List Lined) × HasEntered self.old lines }
-        ensures taken { (lines : List Lined) → HasEntered self.old lines → IfOk result (Takes lines (tree_line line.now) units.old.items self.new units.new.items) }
-        ensures left { self.new.left ≡ self.old.left }
-    {
-        match self.enter(alloc, line) {
-            Ok(own) => {
-                push_line_at(alloc, units, own, line.expr())?;
-                Ok(Some(line.newline().text))
-            }
-            Err(fault) => {
-                told_names(fault)?;
-                Ok(None)
-            }
-        }
-    }
-
-    /// Reads one line more, adds its units and tells its newline, the empty text where it has none. There is nothing where all
-    /// lines were read, or the text is no document of the profile.
+    /// Reads one line more, and adds its units, or its own alone where that is opened; tells its newline, the empty text where
+    /// it has none. There is nothing where all lines were read, or the text is no document of the profile. Its address is
+    /// made in the memory of the spare one.
     pub(crate) fn next(
         &mut self,
         alloc: Global,
         units: &mut Vec<Unit>,
+        spare: Address,
     ) -> Result<Option<&'t str>, AllocError>
-        requires { Goes self.old }
-        ensures { (profile : InProfile) (text : List ℕ) (lines : List Lined) → HasRead profile text self.old lines → IfOk result (Hands profile text lines self.old units.old.items self.new units.new.items) }
+        requires goes { Goes self.old }
+        requires closed { self.old.opened ≡ None }
+        ensures { HandsOne self.old units.old.items self.new units.new.items result }
     {
         let Left::Lines(reader) = self.left else {
             return Ok(None);
@@ -166,18 +176,46 @@ impl<'t> Reading<'t> {
         // till it is known that the line is good
         self.left = Left::Refused;
         match reader.next(alloc) {
-            Ok((line, more)) => {
-                let newline = self.take(alloc, &line, units)?;
-                match newline {
-                    Some(_) => self.left = left_of(more),
-                    None => pass_over(alloc, more)?,
+            Ok((line, more)) => match self.enter(alloc, &line, spare) {
+                Ok(own) => {
+                    let array = push_first(alloc, units, own, line.expr())?;
+                    let newline = line.newline().text;
+                    self.left = left_of(more);
+                    let Some(at) = array else {
+                        return Ok(Some(newline));
+                    };
+                    self.opened = Some(Opened::of(line, at));
+                    Ok(Some(newline))
                 }
-                Ok(newline)
-            }
+                Err(fault) => {
+                    told_names(fault)?;
+                    pass_over(alloc, more)?;
+                    Ok(None)
+                }
+            },
             Err(fault) => {
                 told_syntax(fault)?;
                 Ok(None)
             }
         }
+    }
+
+    /// Adds the units of the next item of the line that is opened; behind its last item it is closed. Its address is made
+    /// in the memory of the spare one.
+    pub(crate) fn next_item(
+        &mut self,
+        alloc: Global,
+        units: &mut Vec<Unit>,
+        spare: Address,
+    ) -> Result<(), AllocError>
+        requires { IsSome self.old.opened }
+        ensures { OnOk result (HandsMore self.old units.old.items self.new units.new.items) }
+    {
+        if let Some(opened) = &mut self.opened {
+            if !opened.next(alloc, units, spare)? {
+                self.opened = None;
+            }
+        }
+        Ok(())
     }
 }

@@ -2,7 +2,7 @@
 ghost use Rattle.std.specs.Prelude.{◌≡◌, map, option_map, OnOk, IfOk};
 ghost use Rattle.toml_tree.specs.View.{piece, gap, value, element as tree_element, member};
 ghost use Rattle.toml_names.specs.model.Addresses.{lent};
-ghost use Rattle.toml_units.specs.Plain.{AreInside, comment_spans, element_units, end_units, pair_units, plain_inside, spanned, valued_units};
+ghost use Rattle.toml_units.specs.Plain.{AreInside, comment_spans, element_units_at, end_units, pair_units, plain_inside, spanned, valued_units};
 ghost use Rattle.toml_tree.specs.Pieces.{piece_of};
 ghost use Rattle.toml_units.specs.Units.{gap_units};
 ghost use Rattle.toml_units.specs.View.{AddsUnits};
@@ -62,7 +62,7 @@ fn push_gap(alloc: Global, units: &mut Vec<Unit>, at: &Address, g: &Gap) -> Resu
 }
 
 /// Adds the comments behind a last comma, where there is one.
-fn push_end(
+pub(crate) fn push_end(
     alloc: Global,
     units: &mut Vec<Unit>,
     at: &Address,
@@ -101,7 +101,8 @@ pub(crate) fn push_inside(
         Value::Scalar(_, _) => Ok(()),
         Value::Array(array) => {
             for (index, item) in array.items.iter().enumerate() {
-                push_element(alloc, units, at, index as u64, item)?;
+                let here = at.element(alloc, index as u64)?;
+                push_element(alloc, units, at, here, item)?;
             }
             push_end(alloc, units, at, &array.end)
         }
@@ -114,19 +115,18 @@ pub(crate) fn push_inside(
     }
 }
 
-/// Adds an element of the array at the address, with its gaps.
+/// Adds an element of the array at the address, with its gaps; `here` is its own address.
 #[cycle(inside)]
-fn push_element(
+pub(crate) fn push_element(
     alloc: Global,
     units: &mut Vec<Unit>,
     at: &Address,
-    index: u64,
+    here: Address,
     item: &Item,
 ) -> Result<(), AllocError>
-    ensures { OnOk result (AddsUnits units.old.items units.new.items (element_units at.now index (tree_element item.now))) }
+    ensures { OnOk result (AddsUnits units.old.items units.new.items (element_units_at at.now here (tree_element item.now))) }
 {
     push_gap(alloc, units, at, &item.before)?;
-    let here = at.element(alloc, index)?;
     let span = whole(&item.value).span();
     push_valued(
         alloc,

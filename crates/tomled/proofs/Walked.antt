@@ -1,7 +1,8 @@
 -- A cursor on its way through the units of a text.
-use Rattle.std.proofs.Common.{◌≡◌, ◌<◌, [], ◌∷◌, ◌++◌, Bool, true, false, ℕ, List, Option, Some, None, option_map, sym, ap}
+use Rattle.std.proofs.Common.{◌≡◌, ◌<◌, [], ◌∷◌, ◌++◌, Bool, true, false, ℕ, List, Option, Some, None, Result, Ok, Err, option_map, sym, ap, subst}
 use Rattle.std.specs.Borrow.{Bor}
-use Rattle.std.specs.Prelude.{slice_get}
+use Rattle.std.specs.Prelude.{MatchResult, slice_get}
+use Rattle.std.specs.Result.{result_ok}
 use Rattle.toml_tree.specs.declared.profile.Profile.{Profile}
 use Rattle.toml_units.specs.declared.cursor.UnitCursor.{UnitCursor}
 use Rattle.toml_units.specs.declared.unit.Unit.{Unit as Made}
@@ -25,3 +26,11 @@ module _ (old new : UnitCursor) (x : LinedUnit) (ahead : current old ≡ Some x)
 
   pub comes_nearer : Goes old → to_go new < to_go old
   comes_nearer (profile, text, past, walks) = (moves profile text past walks).less
+
+value_of : {A : Type 0} (P : A → Type 0) (x y : A) → Some x ≡ Some y → P y → P x
+value_of P x y is holds = let same : y ≡ x = cc in subst P same holds
+
+-- what holds of an answer holds of the value in it
+pub of_value : {T E : Type 0} (r : Result T E) (x : T) (P : T → Type 0) (Q : E → Type 0) → Some x ≡ result_ok r → MatchResult r P Q → P x
+of_value (Ok y) x P Q is holds = value_of P x y is holds
+of_value (Err e) x P Q is holds = absurd cc

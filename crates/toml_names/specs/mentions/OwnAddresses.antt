@@ -1,12 +1,12 @@
 -- What the lines of a document name by itself, and the address that each line has of its own.
-use Rattle.std.specs.Prelude.{◌≡◌, ◌∷◌, ◌++◌, ℕ, Bool, true, false, List, length, Any, AllPairs, Some, IfSome, IsSome}
+use Rattle.std.specs.Prelude.{◌≡◌, ◌∷◌, ◌++◌, [], ℕ, Bool, true, false, List, length, Any, AllPairs, Some, IfSome, IsSome}
 use Rattle.toml_tree.specs.Spells.{EachIs}
-use Rattle.toml_tree.specs.Tree.{Expr, Line}
+use Rattle.toml_tree.specs.Tree.{Expr, TableLine, ArrayTableLine, Line}
 use Rattle.toml_names.specs.declared.mentions.mention.Role.{Role}
 use Rattle.toml_names.specs.declared.mentions.mention.Role.TheVariants.{Header, Valued, Element, Bare}
 use Rattle.toml_names.specs.model.Addresses.{Address}
 use Rattle.toml_names.specs.model.Data.{Kinds, IsDataOf}
-use Rattle.toml_names.specs.mentions.Mentions.{Named, named, named_by}
+use Rattle.toml_names.specs.mentions.Mentions.{Named, named, named_by, section}
 use Rattle.toml_names.specs.reader.Names.{is_own, line_address, own_address}
 use Rattle.toml_names.specs.mentions.Rules.{KeepsRules}
 
@@ -47,3 +47,14 @@ OwnAddressIsNamed = (before behind : List Line) (l : Line)
 abbrev pub OwnAddressHasFact : Type 0
 OwnAddressHasFact = (before behind : List Line) (l : Line) (kinds : Kinds) → IsDataOf (named (before ++ l ∷ behind)) kinds
     → IfSome (own_address (named before) l.expr) (λ at. IsSome (kinds at))
+
+-- a header stands on it, of a table or of an array of tables
+abbrev pub IsHeaderLine : Expr → Type 0
+IsHeaderLine (TableLine ws header tail) = Unit {0}
+IsHeaderLine (ArrayTableLine ws header tail) = Unit {0}
+IsHeaderLine _ = ⊥
+
+-- Behind a header it is that of the table, or the element, of the last header.
+abbrev pub HeaderIsSection : Type 0
+HeaderIsSection = (before : List Line) (l : Line) → IsHeaderLine l.expr
+    → own_address (named before) l.expr ≡ Some (section (named (before ++ l ∷ [])))

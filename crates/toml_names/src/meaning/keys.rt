@@ -8,7 +8,7 @@ ghost use Rattle.toml_names.specs.mentions.Mentions.{kind_of};
 ghost use Rattle.toml_names.specs.mentions.View.{kind};
 
 use crate::mentions::mention::Kind;
-use crate::model::address::Address;
+use crate::model::address::{Address, Step};
 use crate::model::name::Name;
 use std::alloc::{AllocError, Global};
 use std::borrow::CowStr;
@@ -45,15 +45,35 @@ pub(crate) fn own_name(alloc: Global, text: &str) -> Result<Name, AllocError>
     Name::spelled(alloc, name.as_str())
 }
 
+/// The address of a whole key in the table whose address is given away.
+fn key_below(alloc: Global, at: Address, key: &Key) -> Result<Address, AllocError>
+    ensures { IfOk result (λ here. here ≡ below at (key_names (tree_key key.now))) }
+{
+    let mut steps = at.into_steps();
+    steps.push(Step::Name(own_name(alloc, key.first.text)?))?;
+    for dotted in &key.rest {
+        steps.push(Step::Name(own_name(alloc, dotted.part.text)?))?;
+    }
+    Ok(Address::of(steps))
+}
+
 /// The address of a whole key in the table at the address (TOML v1.0.0, Keys).
 pub fn key_address(alloc: Global, at: &Address, key: &Key) -> Result<Address, AllocError>
     ensures { IfOk result (λ here. here ≡ below at.now (key_names (tree_key key.now))) }
 {
-    let first = own_name(alloc, key.first.text)?;
-    let mut here = at.child(alloc, first)?;
-    for dotted in &key.rest {
-        let name = own_name(alloc, dotted.part.text)?;
-        here = here.child(alloc, name)?;
-    }
-    Ok(here)
+    let room = key.rest.len().saturating_add(1);
+    let steps = at.copy_steps(alloc, room)?;
+    key_below(alloc, Address::of(steps), key)
+}
+
+/// The same, made in the memory of an address that is let go.
+pub fn key_address_into(
+    alloc: Global,
+    spare: Address,
+    at: &Address,
+    key: &Key,
+) -> Result<Address, AllocError>
+    ensures { IfOk result (λ here. here ≡ below at.now (key_names (tree_key key.now))) }
+{
+    key_below(alloc, at.copy_into(spare)?, key)
 }

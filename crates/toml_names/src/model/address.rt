@@ -1,5 +1,5 @@
 //! Addresses: where a thing stands in the data, as a list of steps.
-ghost use Rattle.std.specs.Prelude.{◌≡◌, [], IfOk};
+ghost use Rattle.std.specs.Prelude.{◌≡◌, ◌≤◌, ◌++◌, [], IfOk, OnOk, length, take};
 ghost use Rattle.toml_names.specs.model.Addresses.{same_step};
 
 use crate::model::name::Name;
@@ -51,6 +51,31 @@ impl Step {
     }
 }
 
+/// Adds copies of the steps.
+fn push_copies(steps: &mut Vec<Step>, more: &[Step]) -> Result<(), AllocError>
+    ensures { OnOk result (steps.new.items ≡ steps.old.items ++ more.now) }
+{
+    for step in more {
+        steps.push(step.copy()?)?;
+    }
+    Ok(())
+}
+
+/// A number of steps with which both begin. The greater it is, the fewer are copied.
+fn shared_len(one: &[Step], other: &[Step]) -> usize
+    ensures one { result ≤ length one.now }
+    ensures other { result ≤ length other.now }
+    ensures same { take result one.now ≡ take result other.now }
+{
+    for (index, step) in one.iter().enumerate() {
+        match other.get(index) {
+            Some(next) if step.is_same(next) => {}
+            _ => return index,
+        }
+    }
+    one.len()
+}
+
 impl Address {
     ghost use Rattle.toml_names.specs.model.Addresses.{child, element, is_above, same_address};
 
@@ -93,14 +118,24 @@ impl Address {
         })
     }
 
+    /// The same, made in the memory of an address that is let go.
+    pub fn copy_into(&self, spare: Address) -> Result<Address, AllocError>
+        ensures { IfOk result (λ a. a ≡ self.now) }
+    {
+        let mut steps = spare.steps;
+        // what both begin with is kept
+        let shared = shared_len(&steps, &self.steps);
+        steps.truncate(shared);
+        push_copies(&mut steps, &self.steps[shared..])?;
+        Ok(Address { steps })
+    }
+
     /// The steps copied, with room for so many more.
-    fn copy_steps(&self, alloc: Global, more: usize) -> Result<Vec<Step>, AllocError>
+    pub(crate) fn copy_steps(&self, alloc: Global, more: usize) -> Result<Vec<Step>, AllocError>
         ensures { IfOk result (λ steps. steps.items ≡ self.now) }
     {
         let mut steps = Vec::with_capacity(alloc, self.steps.len().saturating_add(more))?;
-        for step in &self.steps {
-            steps.push(step.copy()?)?;
-        }
+        push_copies(&mut steps, &self.steps)?;
         Ok(steps)
     }
 
@@ -111,6 +146,15 @@ impl Address {
         let mut steps = self.copy_steps(alloc, 1)?;
         steps.push(Step::Index(index))?;
         Ok(Address { steps })
+    }
+
+    /// The same, made in the memory of an address that is let go.
+    pub fn element_into(&self, spare: Address, index: u64) -> Result<Address, AllocError>
+        ensures { IfOk result (λ a. a ≡ element self.now index) }
+    {
+        let mut at = self.copy_into(spare)?;
+        at.steps.push(Step::Index(index))?;
+        Ok(at)
     }
 
     /// The address of a name in the table at this one.

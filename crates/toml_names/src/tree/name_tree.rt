@@ -127,6 +127,17 @@ impl<'t> NameTree<'t> {
         self.address_by(&[], id)
     }
 
+    /// The same, made in the memory of an address that is let go.
+    pub(crate) fn address_into(&self, spare: Address, id: usize) -> Result<Address, AllocError>
+        requires within { id < vec_len self.now.nodes }
+        requires tree { IsTree self.now.nodes.items }
+        ensures { IfOk result (λ a. a ≡ address_at self.now.nodes.items id) }
+    {
+        let mut room = spare.into_steps();
+        room.clear();
+        self.climb(&[], room, id)
+    }
+
     /// The address of a node, of which these steps are the last ones of the first nodes: it shares the texts of their
     /// long names.
     pub(crate) fn address_by(&self, steps: &[Step], id: usize) -> Result<Address, AllocError>
@@ -135,7 +146,19 @@ impl<'t> NameTree<'t> {
         requires steps { AreSteps self.now.nodes.items steps.now }
         ensures { IfOk result (λ a. a ≡ address_at self.now.nodes.items id) }
     {
-        let mut way = Vec::with_capacity(self.alloc, self.nodes[id].depth())?;
+        let room = Vec::with_capacity(self.alloc, self.nodes[id].depth())?;
+        self.climb(steps, room, id)
+    }
+
+    /// The same, its steps written into this list, which is empty.
+    fn climb(&self, steps: &[Step], room: Vec<Step>, id: usize) -> Result<Address, AllocError>
+        requires within { id < vec_len self.now.nodes }
+        requires tree { IsTree self.now.nodes.items }
+        requires steps { AreSteps self.now.nodes.items steps.now }
+        requires empty { room.items ≡ [] }
+        ensures { IfOk result (λ a. a ≡ address_at self.now.nodes.items id) }
+    {
+        let mut way = room;
         let mut here = id;
         while let Some((above, step)) = self.above(steps, here)? {
             way.push(step)?;

@@ -1,18 +1,25 @@
 //! Calls that no other test makes by themselves, with ample memory: each answers, and what is wanted.
-ghost use Rattle.std.specs.Prelude.{IfOk, IfSome};
+ghost use Rattle.std.specs.Prelude.{[], IfOk, IfSome};
+ghost use Rattle.toml_tree.specs.Document.{document};
+ghost use Rattle.toml_tree.specs.declared.profile.Profile.TheVariants.{One};
+ghost use Rattle.toml_names.specs.model.Documents.{IsDocumentIn};
 ghost use Rattle.toml_names.specs.reader.LineNames.{Stand};
+ghost use Rattle.toml_units.specs.Cursors.{AreNewlines, Walks};
 
-use crate::library_tests::worked::{data, doc, edits, names, source};
+use crate::library_tests::worked::{
+    address, assert_lines, assert_paragraphs, data, doc, edits, names, path, source,
+};
 use crate::rows::is_told;
 use crate::tagged::tagged;
 use crate::verify::run_verify;
 use std::alloc::{AllocError, Global};
-use toml_checker::{Verdict, check, check_in, first_marks, outermost};
+use std::test::Fail;
+use toml_checker::{Reason, Verdict, check, check_in, check_walked, first_marks, outermost};
 use toml_editor::{edit, edit_in, edit_pieces};
 use toml_edits::{Edit, apply, near_addresses};
-use toml_names::{Address, LineNames, key_address, read_lines};
+use toml_names::{Address, LineNames, key_address, key_address_into, read_lines};
 use toml_text::Source;
-use toml_tree::{Expr, Profile, parse_value};
+use toml_tree::{Doc, Expr, Profile, parse, parse_value};
 use toml_units::{Certificate, UnitCursor, certificate_text, join, units, units_at, units_inside};
 
 const FLOAT: &str = "3.14 = 0xdead_beef\n";
@@ -47,7 +54,15 @@ fn lines_are_read(rt: HostRuntime) {
     assert_eq!(rt; count_units(rt.alloc()), Some(2));
 }
 
-/// The names of a document, once a cursor has walked past all its units, and the newlines of these, one after the other.
+/// What the unit is before which the cursor stands, and the newline of its line.
+fn unit_line(alloc: Global, cursor: &UnitCursor) -> Result<String, AllocError> {
+    match cursor.unit() {
+        Some(unit) => format!(in alloc; "{:?} {:?}\n", unit.kind, cursor.newline()),
+        None => Ok(String::new(alloc)),
+    }
+}
+
+/// The names of a document, once a cursor has walked past all its units, and a line for each of these.
 fn walk<'t>(
     alloc: Global,
     source: Source<'t>,
@@ -55,15 +70,15 @@ fn walk<'t>(
     ensures { IfOk result (λ walked. IfSome walked (λ w. Stand w.0)) }
 {
     let mut cursor = UnitCursor::new(alloc, source, Profile::One)?;
-    let mut newlines = String::new(alloc);
+    let mut lines = String::new(alloc);
     while cursor.unit().is_some() {
-        newlines.push_str(cursor.newline())?;
+        lines.push_str(unit_line(alloc, &cursor)?.as_str())?;
         cursor.step(alloc)?;
     }
     let Some(names) = cursor.into_names() else {
         return Ok(None);
     };
-    Ok(Some((names, newlines)))
+    Ok(Some((names, lines)))
 }
 
 /// The same of a text.
@@ -73,17 +88,40 @@ fn read_document<'t>(alloc: Global, text: &'t str) -> Option<(LineNames<'t>, Str
     walk(alloc, source(text)?).ok()?
 }
 
-/// Whether the units of the document have these newlines.
-fn have_newlines(alloc: Global, text: &str, wanted: &str) -> Option<bool> {
-    let (_, newlines) = read_document(alloc, text)?;
-    Some(newlines.as_str() == wanted)
+/// A line for each of the units that a cursor walks past.
+fn walked(alloc: Global, text: &str) -> Option<String> {
+    let (_, lines) = read_document(alloc, text)?;
+    Some(lines)
 }
 
+// the last line of the first document has no newline; the array of the second one is read item by item: each unit comes before
+// what lies in it, and the comments of a gap before the element behind them
+const WALKED: &str = r#"
+port = 1 # keep␍¶host = 2¶
+Line "\r\n"
+TailComment "\r\n"
+Line "\n"
+Line ""
+
+x = [ # a¶ 1, # b␍¶ [2], {p = 3} # c¶ # d¶] # e␍¶y = []¶
+Line "\r\n"
+InnerComment "\r\n"
+Element "\r\n"
+InnerComment "\r\n"
+Element "\r\n"
+Element "\r\n"
+Element "\r\n"
+Pair "\r\n"
+InnerComment "\r\n"
+InnerComment "\r\n"
+TailComment "\r\n"
+Line "\n"
+Line ""
+"#;
+
 #[test]
-fn units_have_newlines(rt: HostRuntime) {
-    // two units on a line, one on the next, and the last line, which has no newline
-    let text = "port = 1 # keep\r\nhost = 2\n";
-    assert_eq!(rt; have_newlines(rt.alloc(), text, "\r\n\r\n\n"), Some(true));
+fn units_are_walked_past(rt: HostRuntime) -> Result<(), Fail> {
+    assert_paragraphs(&rt, rt.alloc(), WALKED, 2, walked)
 }
 
 /// Whether what the edits make of the data near them, beside the rest, are the data of the text.
@@ -131,6 +169,47 @@ fn header_steps(alloc: Global, text: &str) -> Option<usize> {
 #[test]
 fn keys_have_addresses(rt: HostRuntime) {
     assert_eq!(rt; header_steps(rt.alloc(), "[a.\"b\"]"), Some(2));
+}
+
+/// The address of the key of a header in the table at an address, made in the memory of another one.
+fn header_in(alloc: Global, at: &Address, spare: Address) -> Option<Address> {
+    let doc = doc(alloc, "[b.\"c\"]")?;
+    let Expr::Std { header, .. } = doc.lines().first()?.expr() else {
+        return None;
+    };
+    key_address_into(alloc, spare, at, &header.key).ok()
+}
+
+/// Of two addresses, the second one let go: the first one, that of an element at it, and that of a header's key, each made in
+/// the memory of the second one.
+fn made_in_spare(alloc: Global, row: &str) -> Option<String> {
+    let (at, spare) = row.split_once(' ')?;
+    let at = address(alloc, at)?;
+    let same = at.copy_into(address(alloc, spare)?).ok()?;
+    let element = at.element_into(address(alloc, spare)?, 7).ok()?;
+    let key = header_in(alloc, &at, address(alloc, spare)?)?;
+    let (same, element, key) = (
+        path(alloc, &same)?,
+        path(alloc, &element)?,
+        path(alloc, &key)?,
+    );
+    format!(in alloc; "{} {} {}", same.as_str(), element.as_str(), key.as_str()).ok()
+}
+
+// what is let go is longer, the root's, begins otherwise, is the same but for its last step, and is the same; at last the root's
+// address is made in that of something else
+const SPARE: &str = "
+/t/#1 /t/#1/#7 /t/#1/b/c | /t/#1 /t/#1/x/y
+/t/#1 /t/#1/#7 /t/#1/b/c | /t/#1 /
+/t/#1 /t/#1/#7 /t/#1/b/c | /t/#1 /u/#1/b
+/t/#1 /t/#1/#7 /t/#1/b/c | /t/#1 /t/#2
+/t/#1 /t/#1/#7 /t/#1/b/c | /t/#1 /t/#1
+∅ /#7 /b/c | / /x/y
+";
+
+#[test]
+fn addresses_are_made_in_spare_memory(rt: HostRuntime) -> Result<(), Fail> {
+    assert_lines(&rt, rt.alloc(), SPARE, 6, made_in_spare)
 }
 
 fn count_inside(alloc: Global, text: &str) -> Option<usize> {
@@ -216,6 +295,57 @@ fn verdict(alloc: Global) -> Option<Verdict> {
 #[test]
 fn the_judge_says_yes(rt: HostRuntime) {
     assert_eq!(rt; verdict(rt.alloc()), Some(Verdict::Yes));
+}
+
+/// The newline of each line of a tree, the empty text where it has none.
+fn newlines_of<'x>(alloc: Global, doc: &Doc<'x>) -> Result<Vec<&'x str>, AllocError>
+    ensures { IfOk result (λ newlines. AreNewlines newlines.items (document doc.now).lines) }
+{
+    let lines = doc.lines();
+    let mut newlines = Vec::with_capacity(alloc, lines.len())?;
+    for line in lines {
+        newlines.push(line.newline().text)?;
+    }
+    Ok(newlines)
+}
+
+/// A cursor before the first unit of a document whose tree is let go.
+fn held<'t>(alloc: Global, text: &'t [u8]) -> Option<UnitCursor<'t>>
+    ensures walks { IfSome result (λ cursor. Walks One text.now cursor []) }
+    ensures document { IfSome result (λ cursor. IsDocumentIn One text.now) }
+{
+    let source = Source::new(text).ok()?;
+    let doc = parse(alloc, source).ok()?;
+    let reader = read_lines(alloc, &doc).ok()?;
+    let units = units_at(alloc, &doc, reader.own_addresses().ok()?).ok()?;
+    let newlines = newlines_of(alloc, &doc).ok()?;
+    Some(UnitCursor::held(alloc, reader.into_names(), units, newlines))
+}
+
+/// What the judge says of a text, walking over the units that are held of the file.
+fn walked_verdict(alloc: Global, after: &str) -> Option<Verdict> {
+    let edits = edits(alloc, EDITS)?;
+    let pairs = Vec::from_array(alloc, PAIRS).ok()?;
+    let file = FILE.as_bytes();
+    check_walked(
+        alloc,
+        file,
+        held(alloc, file)?,
+        &edits,
+        after.as_bytes(),
+        &Certificate { pairs },
+        Profile::One,
+    )
+    .ok()
+}
+
+#[test]
+fn the_judge_walks_over_what_is_held(rt: HostRuntime) {
+    assert_eq!(rt; walked_verdict(rt.alloc(), OUT), Some(Verdict::Yes));
+    assert_eq!(rt;
+        walked_verdict(rt.alloc(), "port = 0x2F # keep\n"),
+        Some(Verdict::No(Reason::OtherData))
+    );
 }
 
 /// Whether the program says yes too.

@@ -10,13 +10,13 @@ use Rattle.toml_checker.proofs.walk.walk_through.Goals as goal
 pub pair_all-requires : goal.pair_all-requires
 pair_all-requires c =
     let cs : List Change = map change c.args.edits.now in
-    (c.args.profile, cs, record { edits = ap (map change) c.in_ok-of.ensures; asks = c.in_ok-asked_by.ensures; first = c.in_ok-new.ensures.1 cs; second = c.in_ok-new-2.ensures.1 c.in_ok-asked_by.field-0 })
+    (c.args.profile, cs, record { edits = ap (map change) c.in_ok-of.ensures; asks = c.in_ok-asked_by.ensures; first = c.new.ensures.passed c.args.profile cs c.requires.before; second = c.in_ok-new.ensures.1 c.in_ok-asked_by.field-0 })
 
 pub finish-requires : goal.finish-requires
 finish-requires c =
     let cs : List Change = map change c.args.edits.now in
-    let start : Walk = record { list = c.in_ok-of.field-0; asked = c.in_ok-asked_by.field-0; one = c.in_ok-new.field-0; other = c.in_ok-new-2.field-0 } in
-    let on : IsOn c.args.profile cs start [] [] = record { edits = ap (map change) c.in_ok-of.ensures; asks = c.in_ok-asked_by.ensures; first = c.in_ok-new.ensures.1 cs; second = c.in_ok-new-2.ensures.1 c.in_ok-asked_by.field-0 } in
+    let start : Walk = record { list = c.in_ok-of.field-0; asked = c.in_ok-asked_by.field-0; one = c.new.result; other = c.in_ok-new.field-0 } in
+    let on : IsOn c.args.profile cs start [] [] = record { edits = ap (map change) c.in_ok-of.ensures; asks = c.in_ok-asked_by.ensures; first = c.new.ensures.passed c.args.profile cs c.requires.before; second = c.in_ok-new.ensures.1 c.in_ok-asked_by.field-0 } in
     let t = c.in_ok-fits.ensures c.args.profile cs on in
     (c.args.profile, cs, t.ms, t.ns, t.on)
 
@@ -24,11 +24,10 @@ pub returns : goal.returns
 returns c =
     let cs : List Change = map change c.args.edits.now in
     let ps = c.args.pairs.now in
-    let start : Walk = record { list = c.in_ok-of.field-0; asked = c.in_ok-asked_by.field-0; one = c.in_ok-new.field-0; other = c.in_ok-new-2.field-0 } in
-    let on : IsOn c.args.profile cs start [] [] = record { edits = ap (map change) c.in_ok-of.ensures; asks = c.in_ok-asked_by.ensures; first = c.in_ok-new.ensures.1 cs; second = c.in_ok-new-2.ensures.1 c.in_ok-asked_by.field-0 } in
+    let start : Walk = record { list = c.in_ok-of.field-0; asked = c.in_ok-asked_by.field-0; one = c.new.result; other = c.in_ok-new.field-0 } in
+    let on : IsOn c.args.profile cs start [] [] = record { edits = ap (map change) c.in_ok-of.ensures; asks = c.in_ok-asked_by.ensures; first = c.new.ensures.passed c.args.profile cs c.requires.before; second = c.in_ok-new.ensures.1 c.in_ok-asked_by.field-0 } in
     let t = c.in_ok-fits.ensures c.args.profile cs on in
-    let text : IsText c.args.before.now = subst IsText c.requires.before c.args.source.is_text in
     let also : IsText c.args.after.now = subst IsText c.requires.after c.args.other.is_text in
     IfOk-weaker c.finish.result _ _ (λ found f.
-    subst (λ b. IsFound c.args.profile b.now cs c.args.after.now ps found) c.in_ok-new.ensures.0
-    (subst (λ a. IsFound c.args.profile start.one.text.now cs a.now ps found) c.in_ok-new-2.ensures.0 (is_found c.args.profile cs ps start c.pair_all.new.self c.in_ok-fits.fits t found f (subst (λ t. IsText t.now) (sym c.in_ok-new.ensures.0) text) (subst (λ t. IsText t.now) (sym c.in_ok-new-2.ensures.0) also)))) (c.finish.ensures c.args.profile cs t.ms t.ns t.on)
+    subst (λ b. IsFound c.args.profile b.now cs c.args.after.now ps found) c.new.ensures.text
+    (subst (λ a. IsFound c.args.profile start.one.text.now cs a.now ps found) c.in_ok-new.ensures.0 (is_found c.args.profile cs ps start c.pair_all.new.self c.in_ok-fits.fits t found f (subst (λ t. IsText t.now) (sym c.new.ensures.text) c.requires.fits) (subst (λ t. IsText t.now) (sym c.in_ok-new.ensures.0) also)))) (c.finish.ensures c.args.profile cs t.ms t.ns t.on)

@@ -1,5 +1,6 @@
 use Rattle.std.proofs.Common.{◌∙◌, ap, map, string_bytes, subst, subst₂}
 use Rattle.toml_tree.specs.Document.{document}
+use Rattle.toml_names.specs.reader.LineNames.{StandFor}
 use Rattle.toml_edits.specs.Edits.{change}
 use Rattle.toml_units.specs.View.{all_units}
 use Rattle.toml_editor.specs.Edited.{Tells}
@@ -18,6 +19,12 @@ returns-clause-work c =
       wanted = (d, read.spelled, told);
       made = subst₂ (λ t fs. IsMadeText c.args.profile t cs fs (string_bytes edited.text) edited.pieces.items edited.certificate.pairs.items)
           read.text_is c.deref-3.ensures.value c.in-Ok.ensures.made;
+      walks = c.held-cursor.ensures c.args.profile before d (record {
+        spelled = (read.spelled, read.of_profile);
+        names_are = subst (StandFor c.into_names.result) c.in_ok-reader.ensures.taken c.into_names.ensures;
+        units_are = c.in_ok-units.ensures;
+        newlines_are = c.in_ok-newlines.ensures;
+      });
     }
 
 pub returns-in-Err-clause-told : goal.returns-in-Err-clause-told

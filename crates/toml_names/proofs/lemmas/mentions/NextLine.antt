@@ -1,5 +1,5 @@
 -- What one more line names, by the table of the last header and by how many tables the arrays have, and what a reader of lines has after it.
-use Rattle.toml_names.proofs.Common.{◌≡◌, ℕ, ◌+◌, ◌<◌, ◌≤◌, List, [], ◌∷◌, ◌++◌, length, take, Some, None, refl, get_or, arith, rules, if◌then◌else◌, take_more, length-take-le, All-tail, All-append, Line, Address, SectionGoesOn, Named, named, named_by, named_from, is_section, misfit, KeepsRules, IsShort, max_steps, AreGood, IsRedefined, IsLong, ◌∙◌, Assign, Value, child, element, Key, count_tables, entered, pair_named, followed, ends_table, ends_tables, section_from, section, header_end, ◌-◌, ◌==◌, cond, sym, ap, Expr, BlankLine, KeyValLine, TableLine, ArrayTableLine, AreAlike, AlikeNameTheSame, AlikeStayAlike, PairsLeaveAlike, key_names}
+use Rattle.toml_names.proofs.Common.{◌≡◌, ℕ, ◌+◌, ◌<◌, ◌≤◌, List, [], ◌∷◌, ◌++◌, length, take, Some, None, refl, get_or, arith, rules, if◌then◌else◌, take_more, length-take-le, All-tail, All-append, Line, Address, SectionGoesOn, Named, named, named_by, named_from, is_section, misfit, KeepsRules, IsShort, max_steps, AreGood, IsRedefined, IsLong, ◌∙◌, Assign, Value, child, element, Key, count_tables, entered, pair_named, followed, ends_table, ends_tables, section_from, section, header_end, ◌-◌, ◌==◌, cond, sym, ap, Expr, BlankLine, KeyValLine, TableLine, ArrayTableLine, AreAlike, AlikeNameTheSame, AlikeStayAlike, PairsLeaveAlike, key_names, part_name, rest_names, own_address, root, IsHeaderLine, HeaderIsSection}
 use Rattle.toml_names.proofs.lemmas.mentions.Offences.{misfit_is_first, KeepsRules-from_misfit}
 use Rattle.toml_names.proofs.lemmas.mentions.Within.{AreWithin, pair_within, count-append, no_tables-pair}
 
@@ -74,6 +74,17 @@ module _ (ms : List Named) (line : ℕ) (n : List ℕ) (xs : Key) where
 
   pub section_tables : section (ms ++ followed line ms (ends_tables line ms) [] (n ∷ xs)) ≡ element (header_end ms [] (n ∷ xs)) (count_tables ms (header_end ms [] (n ∷ xs)))
   section_tables = section_from-append ms (followed line ms (ends_tables line ms) [] (n ∷ xs)) [] ∙ followed_section xs line ms (ends_tables line ms) n [] (section ms)
+
+header_section : (ms : List Named) (line : ℕ) (e : Expr) → IsHeaderLine e → own_address ms e ≡ Some (section (ms ++ named_by ms line e))
+header_section ms line (BlankLine b) is = absurd is
+header_section ms line (KeyValLine ws k b) is = absurd is
+header_section ms line (TableLine ws h b) is = ap Some (sym (section_table ms line (part_name h.key.first) (rest_names h.key.rest)))
+header_section ms line (ArrayTableLine ws h b) is = ap Some (sym (section_tables ms line (part_name h.key.first) (rest_names h.key.rest)))
+
+pub header_is_section : HeaderIsSection
+header_is_section before l is =
+    let named_is = named_from-push before (root ∷ []) 0 (length before) l (omega arith) in
+    header_section (named before) (length before) l.expr is ∙ ap (λ ms. Some (section ms)) (sym named_is)
 
 module _ (xs ys : List Named) (alike : AreAlike xs ys) where
   entered_alike : (at : Address) → entered xs at ≡ entered ys at

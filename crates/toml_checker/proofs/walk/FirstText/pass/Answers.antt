@@ -11,7 +11,7 @@ use Rattle.toml_checker.proofs.walk.FirstText.pass.Goals as goal
 pub returns-clause-on : goal.returns-clause-on
 returns-clause-on c =
     let old = c.args.self.now in
-    goes_on old.cursor old.passed c.step.new.self c.saturating_add-self.result c.requires.goes c.requires.some c.saturating_add-self.ensures c.step.result c.step.ensures
+    goes_on old.cursor old.passed c.step.new.self c.saturating_add-self.result c.requires.can.goes c.requires.can.some c.saturating_add-self.ensures c.step.result c.step.ensures
 
 pub returns-clause-passes : goal.returns-clause-passes
 returns-clause-passes c = λ profile ms h.
@@ -19,6 +19,6 @@ returns-clause-passes c = λ profile ms h.
     let cs = changes c.args.list.now in
     on_ok_weaker c.step.result (λ moves x is. let m : Met = record { lined = x; paired = c.args.paired } in record {
       walks = subst (Walks profile old.text.now c.step.new.self) (sym (lined_push ms m)) (moves.walks x is);
-      kept = c.in_ok-self.ensures.kept x is ∙ ap (λ k. kept_with cs k x.unit c.args.paired) h.kept ∙ sym (kept_push cs nothing_kept ms m);
+      kept = c.in_ok-self.ensures x is ∙ ap (λ k. kept_with cs k x.unit c.args.paired) h.kept ∙ sym (kept_push cs nothing_kept ms m);
       passed = one_more ms m old.passed c.saturating_add-self.result h.passed c.saturating_add-self.ensures;
     }) (c.step.ensures profile old.text.now (lined_of ms) h.walks)

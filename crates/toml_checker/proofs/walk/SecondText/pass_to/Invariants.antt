@@ -3,14 +3,14 @@ use Rattle.toml_units.specs.Cursors.{Goes, to_go}
 use Rattle.toml_tree.specs.declared.profile.Profile.{Profile}
 use Rattle.toml_checker.specs.Traces.{Met}
 use Rattle.toml_checker.specs.Walking.{HasReached}
-use Rattle.toml_checker.proofs.Going.{Come}
+use Rattle.toml_checker.proofs.Going.{Gone}
 use Rattle.toml_checker.proofs.walk.SecondText.pass_to.Given as goal
 
 abbrev pub invariant-loop-self : goal.invariant-loop-self
 invariant-loop-self l = record {
   goes : Goes l.self.cursor;
   text : l.self.text ≡ l.fn.self.text;
-  reaches : (profile : Profile) (ms : List Met) → HasReached profile l.asked l.fn.self ms → Come profile l.asked l.fn.self ms l.fn.number l.self;
+  reaches : (profile : Profile) (ms : List Met) → HasReached profile l.asked l.fn.self ms → Gone (HasReached profile l.asked l.self) l.fn.self.cursor l.fn.self.passed ms l.fn.number l.self.cursor l.self.passed;
 }
 
 abbrev pub decreases-loop-self : goal.decreases-loop-self

@@ -1,16 +1,12 @@
-use Rattle.std.proofs.Common.{[], map, ap}
+use Rattle.std.proofs.Common.{[]}
 use Rattle.toml_text.specs.Source.{text_of}
-use Rattle.toml_units.proofs.Cursors.{last_unit, starts}
+use Rattle.toml_units.proofs.Cursors.{starts_stand, starts_walk}
 use Rattle.toml_units.proofs.cursor.UnitCursor.new.Goals as goal
 
-pub read_line-requires : goal.read_line-requires
-read_line-requires c =
-    let text = text_of c.args.source in
-    let empty = ap (map last_unit) c.new-2.ensures.items in
-    (c.args.profile, text, [], starts c.args.profile text _ c.in_ok-new.ensures empty, empty)
+pub hold_next-requires : goal.hold_next-requires
+hold_next-requires c = starts_stand c.args.profile (text_of c.args.source) _ c.in_ok-new.ensures.0 c.in_ok-new.ensures.1 c.new-2.ensures.items
 
 pub returns : goal.returns
 returns c =
     let text = text_of c.args.source in
-    let empty = ap (map last_unit) c.new-2.ensures.items in
-    (c.in_ok-read_line.ensures c.args.profile text [] (starts c.args.profile text _ c.in_ok-new.ensures empty) empty).walks
+    starts_walk c.args.profile text _ _ c.in_ok-new.ensures.0 c.in_ok-new.ensures.1 c.new-2.ensures.items (c.in_ok-hold_next.ensures c.args.profile text [])

@@ -1,4 +1,5 @@
-use Rattle.std.proofs.Common.{[], ◌∷◌, ◌++◌, Some, ap, sym, ◌∙◌}
+use Rattle.std.proofs.Common.{◌≡◌, [], ◌∷◌, ◌++◌, inl, inr, Some, ap, subst, sym, ◌∙◌}
+use Rattle.std.proofs.lemmas.Option.{same_Some}
 use Rattle.std.proofs.lemmas.Result.{err_from_is_err_and}
 use Rattle.toml_tree.specs.Lines.{line as tree_line}
 use Rattle.toml_tree.specs.View.{expr, key as tree_key}
@@ -7,7 +8,9 @@ use Rattle.toml_tree.specs.Tree.{KeyVal}
 use Rattle.toml_tree.proofs.Proved.{keyval_is}
 use Rattle.toml_names.specs.mentions.Mentions.{named, section}
 use Rattle.toml_names.specs.model.Addresses.{below}
+use Rattle.toml_names.specs.mentions.OwnAddresses.{IsHeaderLine}
 use Rattle.toml_names.specs.reader.Names.{own_address}
+use Rattle.toml_names.proofs.Proved.{header_is_section}
 use Rattle.toml_units.proofs.ReadLines.{blank_stays, pair_stays}
 use Rattle.toml_units.proofs.reading.Reading.enter.Goals as goal
 
@@ -25,11 +28,6 @@ pub returns-in_err-own-in-Std-clause-names : goal.returns-in_err-own-in-Std-clau
 returns-in_err-own-in-Std-clause-names c = λ lines h.
     let p = err_from_is_err_and c.from_residual-in_err-own-in-Std.result c.from_residual-in_err-own-in-Std.ensures.1 in
     rw (p.1, p.2) (c.in_err-own-in-Std.ensures lines h.names)
-
-pub section-requires : goal.section-requires
-section-requires c =
-    let so_far = c.requires in
-    record { stand = (so_far.0 ++ tree_line c.args.line.now ∷ [], (c.in_ok-own-in-Std.ensures so_far.0 so_far.1.names).0) }
 
 pub returns-in_ok-take-in-Blank-clause-names : goal.returns-in_ok-take-in-Blank-clause-names
 returns-in_ok-take-in-Blank-clause-names c = λ lines h.
@@ -49,4 +47,19 @@ returns-in_ok-at-in-KeyVal-clause-names c = λ lines h.
       names = c.in_ok-take-in-KeyVal.ensures lines h.names;
       section_is = h.section_is ∙ sym (pair_stays lines l _ _ _ is);
       own_is = ap Some (c.in_ok-at-in-KeyVal.ensures ∙ ap (λ at. below at (key_names (tree_key c.in-KeyVal.keyval.assign.key))) h.section_is ∙ ap (λ (k : KeyVal). below (section (named lines)) (key_names k.assign.key)) (sym (keyval_is c.in-KeyVal.keyval))) ∙ sym (ap (own_address (named lines)) is);
+    }
+
+pub returns-in_ok-self-in-Std-clause-names : goal.returns-in_ok-self-in-Std-clause-names
+returns-in_ok-self-in-Std-clause-names c = λ lines h.
+    let l = tree_line c.args.line.now in
+    let taken = c.in_ok-own-in-Std.ensures lines h.names in
+    let header : IsHeaderLine l.expr = elim c.in-Std.is [
+      | inl v ↦ subst IsHeaderLine (sym (sym c.expr.ensures ∙ ap expr v.3)) tt
+      | inr v ↦ subst IsHeaderLine (sym (sym c.expr.ensures ∙ ap expr v.3)) tt
+    ] in
+    let is : Some c.in-Some.own ≡ own_address (named lines) l.expr = sym c.in-Some.is ∙ taken.1 in
+    record {
+      names = taken.0;
+      section_is = c.in_ok-self-in-Std.ensures ∙ same_Some c.in-Some.own (section (named (lines ++ l ∷ []))) (is ∙ header_is_section lines l header);
+      own_is = is;
     }

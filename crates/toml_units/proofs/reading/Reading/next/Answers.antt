@@ -1,43 +1,70 @@
-use Rattle.std.proofs.Common.{Option, List, ℕ, [], ◌∷◌, ◌++◌, refl, ap, sym, subst, ◌∙◌}
-use Rattle.std.specs.Borrow.{Bor}
+use Rattle.std.proofs.Common.{Option, [], ◌∷◌, ◌++◌, refl, ap, subst, ◌∙◌}
+use Rattle.toml_names.specs.model.Addresses.{Address}
 use Rattle.toml_tree.specs.HandedOut.{left}
 use Rattle.toml_tree.specs.Lines.{line as tree_line}
-use Rattle.toml_units.specs.Reading.{Hands, Takes}
-use Rattle.toml_units.proofs.ReadLines.{handed, is_over, no_document, no_tree, passes, stood}
-use Rattle.toml_units.proofs.reading.Reading.next.Goals.{in-Some, in-None+in_ok-pass_over-in-None}
+use Rattle.toml_tree.specs.Tree.{Expr}
+use Rattle.toml_tree.specs.View.{expr}
+use Rattle.toml_units.specs.Arrays.{Begins}
+use Rattle.toml_units.specs.Opened.{rest_of}
+use Rattle.toml_names.proofs.Proved.{refused_are_bad}
+use Rattle.toml_units.proofs.ReadLines.{all_added, handed, is_over, no_document, no_tree, own_added, passes, stood}
 use Rattle.toml_units.proofs.reading.Reading.next.Goals as goal
 
 pub pass_over-requires : goal.pass_over-requires
 pass_over-requires c =
-    let went = c.requires in
+    let went = c.requires.goes in
     let out = stood went.0 went.1 went.2 c.args.self.now c.in-Lines.reader c.in-Lines.is went.3 in
     let passed = passes went.0 went.1 went.2 (left c.in-Lines.reader) c.in-Ok.line c.in-Ok.more (c.in-Ok.ensures went.0 went.1 went.2 out.1) in
     (went.0, went.1, went.2 ++ tree_line c.in-Ok.line ∷ [], passed.0)
 
-pub returns-after-newline : goal.returns-after-newline
-returns-after-newline c = λ profile text lines read.
-    let l = tree_line c.in-Ok.line in
-    let out = stood profile text lines c.args.self.now c.in-Lines.reader c.in-Lines.is read in
-    let on = c.in-Ok.ensures profile text lines out.1 in
-    let entered = out.0.entered in
-    let taken = c.in_ok-newline-in-Ok.ensures.taken lines (record { names = entered.names; section_is = entered.section_is; few = entered.few }) in
+pub returns-in_default-array : goal.returns-in_default-array
+returns-in_default-array c = λ profile text lines read.
+    let self = c.args.self.now in
+    let l = c.in-Ok.line in
+    let mid = c.enter.new.self in
     let old = c.args.units.now.items in
-    let new = c.take.new.units.items in
-    let takes = λ (o : Option (Bor (List ℕ))). Takes lines l old c.take.new.self new o in
-    let hands = λ (o : Option (Bor (List ℕ))). Hands profile text lines c.args.self.now old c.match-newline.self new o in
-    elim c.match-newline.branch [
-      | in-Some w ↦ subst hands (sym w.in-Some.is) (handed profile text lines c.args.self.now c.in-Lines.reader c.in-Lines.is read c.in-Ok.line c.in-Ok.more c.take.new.self c.match-newline.self old new w.in-Some.field-0
-          on (subst takes w.in-Some.is taken) (ap (λ r. r.names) w.self-is) (ap (λ r. r.section) w.self-is) (ap (λ r. r.left) w.self-is ∙ w.left_of-self.ensures))
-      | in-None+in_ok-pass_over-in-None w ↦
-          let front = lines ++ l ∷ [] in
-          let bad = subst takes w.in-None.is taken in
-          let passed = passes profile text lines (left c.in-Lines.reader) c.in-Ok.line c.in-Ok.more on in
-          subst hands (sym w.in-None.is) (is_over profile text lines c.args.self.now c.match-newline.self old new (ap (λ r. r.left) w.self-is ∙ c.take.ensures.left)
-          (no_document profile text front bad.0 (w.in_ok-pass_over-in-None.ensures profile text front passed.0)) bad.1)
-    ]
+    let new = c.push_first.new.units.items in
+    let own = c.in-Ok-enter.own in
+    let out = stood profile text lines self c.in-Lines.reader c.in-Lines.is read in
+    let entered = out.0.entered in
+    let names = c.in-Ok-enter.ensures.names lines (record { names = entered.names; section_is = entered.section_is; few = entered.few }) in
+    let begins = subst (λ (e : Expr). Begins old new own e c.in_ok-array-in-Ok-enter.array) c.expr.ensures c.in_ok-array-in-Ok-enter.ensures in
+    let added = subst (λ (o : Option Address). Begins old new own (expr l.expr) o) c.in_default-array.is begins in
+    handed profile text lines self c.in-Lines.reader c.in-Lines.is read l c.in-Ok.more mid _ old new own _ (c.in-Ok.ensures profile text lines out.1) names
+    (all_added old new own (expr l.expr) mid.opened added.0 (c.in-Ok-enter.ensures.opened ∙ c.requires.closed)) (ap (λ p. p.text) c.newline.ensures) refl refl c.left_of-self.ensures
 
-pub returns-in_ok-told_syntax-in-Err : goal.returns-in_ok-told_syntax-in-Err
-returns-in_ok-told_syntax-in-Err c = λ profile text lines read.
+pub returns-in-Ok-enter : goal.returns-in-Ok-enter
+returns-in-Ok-enter c = λ profile text lines read.
+    let self = c.args.self.now in
+    let l = c.in-Ok.line in
+    let mid = c.enter.new.self in
+    let old = c.args.units.now.items in
+    let new = c.push_first.new.units.items in
+    let own = c.in-Ok-enter.own in
+    let out = stood profile text lines self c.in-Lines.reader c.in-Lines.is read in
+    let entered = out.0.entered in
+    let names = c.in-Ok-enter.ensures.names lines (record { names = entered.names; section_is = entered.section_is; few = entered.few }) in
+    let begins = subst (λ (e : Expr). Begins old new own e c.in_ok-array-in-Ok-enter.array) c.expr.ensures c.in_ok-array-in-Ok-enter.ensures in
+    let added = subst (λ (o : Option Address). Begins old new own (expr l.expr) o) c.in-Some.is begins in
+    handed profile text lines self c.in-Lines.reader c.in-Lines.is read l c.in-Ok.more mid _ old new own _ (c.in-Ok.ensures profile text lines out.1) names
+    (own_added old new own (expr l.expr) c.in-Some.at (rest_of c.of.result) added.0 added.1.0 c.of.ensures) (ap (λ p. p.text) c.newline.ensures) refl refl c.left_of-self.ensures
+
+pub returns-in-Ok : goal.returns-in-Ok
+returns-in-Ok c = λ profile text lines read.
+    let self = c.args.self.now in
+    let l = tree_line c.in-Ok.line in
+    let front = lines ++ l ∷ [] in
+    let out = stood profile text lines self c.in-Lines.reader c.in-Lines.is read in
+    let entered = out.0.entered in
+    let refused = c.in-Err-enter.ensures.names lines (record { names = entered.names; section_is = entered.section_is; few = entered.few }) in
+    let bad = refused_are_bad front c.in-Err-enter.fault refused c.in_ok-told_names-in-Err-enter.ensures in
+    let passed = passes profile text lines (left c.in-Lines.reader) c.in-Ok.line c.in-Ok.more (c.in-Ok.ensures profile text lines out.1) in
+    is_over profile text lines self c.enter.new.self _ _ c.in-Err-enter.ensures.left
+    (no_document profile text front bad (c.in_ok-pass_over-in-Err-enter.ensures profile text front passed.0))
+    (c.in-Err-enter.ensures.opened ∙ c.requires.closed) refl
+
+pub returns : goal.returns
+returns c = λ profile text lines read.
     let out = stood profile text lines c.args.self.now c.in-Lines.reader c.in-Lines.is read in
     is_over profile text lines c.args.self.now _ _ _ refl
-    (no_tree profile text c.in-Err.fault c.in_ok-told_syntax-in-Err.ensures (c.in-Err.ensures profile text lines out.1)) refl
+    (no_tree profile text c.in-Err.fault c.in_ok-told_syntax-in-Err.ensures (c.in-Err.ensures profile text lines out.1)) c.requires.closed refl

@@ -1,0 +1,36 @@
+use Rattle.std.proofs.Common.{◌≡◌, false, Option, Some, None, List, ℕ, refl, subst, arith}
+use Rattle.std.proofs.lemmas.Result.{on_ok_weaker}
+use Rattle.std.specs.Borrow.{Bor}
+use Rattle.std.specs.Option.{is_some}
+use Rattle.toml_units.specs.Reading.{Hands}
+use Rattle.toml_units.specs.declared.opened.Opened.{Opened}
+use Rattle.toml_units.proofs.Cursors.{came, came_item, stayed}
+use Rattle.toml_units.proofs.cursor.UnitCursor.hold_next.Goals as goal
+
+closed_of : (o : Option Opened) → false ≡ is_some o → o ≡ None
+closed_of None none = refl
+closed_of (Some o) none = cc
+
+pub returns-then-is_some : goal.returns-then-is_some
+returns-then-is_some c = λ profile text past s.
+    let old = c.args.self.now in
+    let cleared = c.take_spare-spare.new.units.items in
+    on_ok_weaker c.next_item.result
+    (λ more none. came_item profile text past old _ s none cleared c.take_spare-spare.ensures refl refl refl more (omega (arith, c.next_item.new.units.ok.0)))
+    c.next_item.ensures
+
+pub returns-in-Some : goal.returns-in-Some
+returns-in-Some c = λ profile text past s none.
+    let old = c.args.self.now in
+    let cleared = c.take_spare-spare.new.units.items in
+    let hands = λ (o : Option (Bor (List ℕ))). Hands profile text s.lines old.reading cleared c.next.new.self c.next.new.units.items o in
+    came profile text past old _ s none cleared c.take_spare-spare.ensures refl (closed_of old.reading.opened c.if-is_some.ensures)
+    (subst hands c.in-Some.is (c.in_ok-newline.ensures profile text s.lines s.read)) (omega (arith, c.next.new.units.ok.0))
+
+pub returns-in_default : goal.returns-in_default
+returns-in_default c = λ profile text past s none.
+    let old = c.args.self.now in
+    let cleared = c.take_spare-spare.new.units.items in
+    let hands = λ (o : Option (Bor (List ℕ))). Hands profile text s.lines old.reading cleared c.next.new.self c.next.new.units.items o in
+    stayed profile text past old _ s none cleared c.take_spare-spare.ensures refl (closed_of old.reading.opened c.if-is_some.ensures)
+    (subst hands c.in_default.is (c.in_ok-newline.ensures profile text s.lines s.read))
