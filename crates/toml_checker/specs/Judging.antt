@@ -3,10 +3,6 @@ use Rattle.std.specs.Prelude.{◌≡◌, ◌⊎◌, ◌<◌, ℕ, List, Result, 
 use Rattle.std.specs.declared.alloc.AllocError.{AllocError}
 use Rattle.toml_tree.specs.declared.profile.Profile.{Profile}
 use Rattle.toml_edits.specs.Edits.{Change}
-use Rattle.toml_scalar.specs.declared.fault.SyntaxFault.TheVariants as syntax
-use Rattle.toml_names.specs.declared.fault.NameFault.TheVariants as names
-use Rattle.toml_names.specs.declared.fault.ReadFault.{ReadFault}
-use Rattle.toml_names.specs.declared.fault.ReadFault.TheVariants.{Syntax, Names}
 use Rattle.toml_names.specs.model.Documents.{IsDocumentIn}
 use Rattle.toml_checker.specs.declared.verdict.Reason.{Reason}
 use Rattle.toml_checker.specs.declared.verdict.Reason.TheVariants.{BeforeRefused, AfterRefused}
@@ -23,11 +19,6 @@ HoldBelow profile n before cs after ps = (r : Reason) → rank r < n → Demand 
 -- the first text is blamed where it is no document, else the second
 abbrev pub IsRefusal : Profile → List ℕ → Reason → Type 0
 IsRefusal profile text r = ((r ≡ BeforeRefused) × (¬ IsDocumentIn profile text)) ⊎ ((r ≡ AfterRefused) × IsDocumentIn profile text)
-
--- there was no memory
-abbrev pub IsOfMemory : ReadFault → Type 0
-IsOfMemory (Syntax fault) = fault ≡ syntax.NoMemory
-IsOfMemory (Names fault) = fault ≡ names.NoMemory
 
 -- the verdict is right of the pairs of which this is said, where the demands on the documents and their data hold
 abbrev pub JudgesUnits : List ℕ → List Change → List ℕ → Said → Verdict → Type 0

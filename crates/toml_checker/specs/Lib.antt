@@ -10,7 +10,6 @@ pub mod Comments
 pub mod Frame
 pub mod Documents
 pub mod Demands
-pub mod Reading
 pub mod After
 pub mod Laws
 pub mod Headline

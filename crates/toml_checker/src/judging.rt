@@ -1,5 +1,5 @@
 //! The judge: the demands, one after the other.
-ghost use Rattle.std.specs.Prelude.{◌≡◌, [], ℕ, IfOk, List, OnOk, map};
+ghost use Rattle.std.specs.Prelude.{◌≡◌, [], ℕ, IfOk, List, map};
 ghost use Rattle.toml_text.specs.Limit.{IsText};
 ghost use Rattle.toml_text.specs.Source.{text_of};
 ghost use Rattle.toml_tree.specs.declared.profile.Profile.TheVariants.{One};
@@ -8,7 +8,7 @@ ghost use Rattle.toml_edits.specs.Edits.{change};
 ghost use Rattle.toml_units.specs.Cursors.{Walks};
 ghost use Rattle.toml_checker.specs.Demands.{IsVerdict};
 ghost use Rattle.toml_checker.specs.Headline.{YesMeans};
-ghost use Rattle.toml_checker.specs.Judging.{IsOfMemory, IsRefusal, JudgesFound, JudgesUnits};
+ghost use Rattle.toml_checker.specs.Judging.{IsRefusal, JudgesFound, JudgesUnits};
 ghost use Rattle.toml_checker.specs.Walking.{IsFound};
 
 use crate::facts::{are_made, make};
@@ -17,9 +17,9 @@ use crate::verdict::{Reason, Verdict};
 use crate::walk::{Found, Said, walk_through};
 use std::alloc::{AllocError, Global};
 use toml_edits::Edit;
-use toml_names::{NameFault, ReadFault, judge_text};
+use toml_names::judge_text;
 use toml_text::Source;
-use toml_tree::{Profile, SyntaxFault};
+use toml_tree::Profile;
 use toml_units::{Certificate, UnitCursor};
 
 /// What the demands on the pairs, the units and the texts say, where those on the documents and their data hold.
@@ -76,17 +76,6 @@ fn judge(
     Ok(judge_units(said, before, edits, after))
 }
 
-/// Passes on that there was no memory.
-fn told(fault: ReadFault) -> Result<(), AllocError>
-    ensures { OnOk result (¬ (IsOfMemory fault)) }
-{
-    match fault {
-        ReadFault::Syntax(SyntaxFault::NoMemory) => Err(AllocError),
-        ReadFault::Names(NameFault::NoMemory) => Err(AllocError),
-        _ => Ok(()),
-    }
-}
-
 /// Why two texts are refused, where the second is not UTF-8 or too long: for the first one, if that is no document.
 fn refuse(alloc: Global, source: Source, profile: Profile) -> Result<Reason, AllocError>
     ensures { IfOk result (IsRefusal profile (text_of source.entry)) }
@@ -94,7 +83,7 @@ fn refuse(alloc: Global, source: Source, profile: Profile) -> Result<Reason, All
     match judge_text(alloc, source, profile) {
         Ok(()) => Ok(Reason::AfterRefused),
         Err(fault) => {
-            told(fault)?;
+            fault.told()?;
             Ok(Reason::BeforeRefused)
         }
     }

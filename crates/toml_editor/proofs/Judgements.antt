@@ -11,7 +11,7 @@ use Rattle.toml_text.specs.declared.fault.TextFault.{TextFault}
 use Rattle.toml_text.specs.declared.fault.TextFault.TheVariants.{NotUtf8, TooLong}
 use Rattle.toml_scalar.specs.declared.fault.SyntaxFault.{SyntaxFault}
 use Rattle.toml_scalar.specs.declared.fault.SyntaxFault.TheVariants as syntax
-use Rattle.toml_tree.specs.Profiles.{IsOfProfile}
+use Rattle.toml_tree.specs.HandedOut.{tree_of}
 use Rattle.toml_tree.specs.Document.{Refuses}
 use Rattle.toml_tree.specs.Spells.{Spells}
 use Rattle.toml_tree.specs.Tree.{Doc}
@@ -23,8 +23,9 @@ use Rattle.toml_names.specs.model.Data.{Kinds, IsDataOf}
 use Rattle.toml_names.specs.model.Documents.{IsDocumentIn}
 use Rattle.toml_names.specs.model.Places.{place}
 use Rattle.toml_names.specs.mentions.Mentions.{named}
-use Rattle.toml_names.specs.reader.Names.{AreGood, RefusesNames}
-use Rattle.toml_names.proofs.Proved.{refused_are_bad}
+use Rattle.toml_names.specs.declared.fault.ReadFault.TheVariants as reads
+use Rattle.toml_names.specs.reader.Texts as texts
+use Rattle.toml_names.proofs.Proved.{refused_text}
 use Rattle.toml_edits.specs.Edits.{Change}
 use Rattle.toml_units.specs.Units.{units}
 use Rattle.toml_checker.specs.declared.verdict.Verdict.{Verdict}
@@ -61,15 +62,15 @@ tree_refused profile text (syntax.BadDate at) is h = ((λ document. h.1 document
 tree_refused profile text (syntax.TooDeep at) is h = ((λ document. h.1 document.1 (document.2, document.4)), is, h)
 tree_refused profile text syntax.NoMemory is h = tt
 
-no_names : (profile : Profile) (text : List ℕ) (d : Doc) (fault : NameFault) → Spells d text → (fault ≡ names.NoMemory → ⊥) → RefusesNames d.lines fault → ¬ IsDocumentIn profile text
-no_names profile text d fault spelled memory refuses = λ document.
-    let same : document.1 ≡ d = one_tree document.1 d text document.2 spelled in
-    refused_are_bad d.lines fault refuses memory (subst (λ (e : Doc). AreGood e.lines) same document.3)
-
-pub names_refused : (profile : Profile) (text : List ℕ) (d : Doc) (fault : NameFault) → IsText text → Spells d text → IsOfProfile profile d → RefusesNames d.lines fault → RefusesText profile text (of_names fault)
-names_refused profile text d (names.Redefined line at) is spelled of h = (no_names profile text d (names.Redefined line at) spelled (λ e. cc) h, is, (d, spelled, (of, h)))
-names_refused profile text d (names.LongAddress line) is spelled of h = (no_names profile text d (names.LongAddress line) spelled (λ e. cc) h, is, (d, spelled, (of, h)))
-names_refused profile text d names.NoMemory is spelled of h = tt
+-- the names of its lines
+pub names_told : (profile : Profile) (text : List ℕ) (fault : NameFault) → IsText text → texts.RefusesText profile text (reads.Names fault) → RefusesText profile text (of_names fault)
+names_told profile text (names.Redefined line at) is h =
+    let k = h (λ e. cc) in
+    (refused_text profile text (reads.Names (names.Redefined line at)) (λ e. cc) h, is, (tree_of text k.0, k.1.spelled.0, (k.1.spelled.1, k.2)))
+names_told profile text (names.LongAddress line) is h =
+    let k = h (λ e. cc) in
+    (refused_text profile text (reads.Names (names.LongAddress line)) (λ e. cc) h, is, (tree_of text k.0, k.1.spelled.0, (k.1.spelled.1, k.2)))
+names_told profile text names.NoMemory is h = tt
 
 -- what is told of the data of a text is told of the text
 pub any_tells : (profile : Profile) (before : List ℕ) (cs : List Change) (d : Doc) (old : Kinds) (fault : EditorFault) → IsDocumentIn profile before

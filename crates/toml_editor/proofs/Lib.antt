@@ -7,6 +7,8 @@ pub mod Judgements
 pub mod PlainAnswers
 mod PlainJudged
 pub mod NearFaults
+mod ReadDocuments
+mod FactsKept
 mod Answered
 mod Each
 mod AtPlace

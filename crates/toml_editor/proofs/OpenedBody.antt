@@ -6,10 +6,9 @@ use Rattle.std.specs.Slice.{IsGetResult}
 use Rattle.std.specs.Prelude.{option_map, slice_get, MatchOption}
 use Rattle.std.proofs.lemmas.Option.{slice_get-map, slice_get_past, slice_get-get_or}
 use Rattle.toml_text.specs.Source.{text_of}
-use Rattle.toml_tree.specs.Lines.{line as tree_line}
+use Rattle.toml_editor.specs.KnownLines.{known_line, lines_known}
+use Rattle.toml_editor.specs.declared.known.KnownLine.{KnownLine}
 use Rattle.toml_tree.specs.Spells.{line_parts}
-use Rattle.toml_tree.specs.Tree as tree
-use Rattle.toml_tree.specs.declared.line.Line.{Line}
 use Rattle.toml_editor.specs.declared.lines.Body.{Body}
 use Rattle.toml_editor.specs.declared.lines.Body.TheVariants as bodies
 use Rattle.toml_editor.specs.declared.lines.Kept.{Kept}
@@ -29,22 +28,23 @@ pub item_got : {X : Type 0} (xs : List X) (i : ℕ) (r : Option (Bor X)) → IsG
 item_got xs i r h = search (rules, slice_get_past, slice_get-get_or)
 
 -- the document has the line
-pub body_opened : (texts : Texts) (ls : List Line) (all : List tree.Line) (old : Body) (kept : Kept) (l : Line) (opened : OpenLine) (b : Box OpenLine)
-    → old ≡ bodies.Kept kept → map tree_line ls ≡ all → Some l ≡ slice_get ls kept.line → b.value ≡ opened
-    → (Lie (text_of texts.source) (line_parts (tree_line l)) → line_as_new (line opened) ≡ line_outline (tree_line l))
-    → (next : Option ℕ) → RunFrom (Some kept.first) (origins_of_line opened) next → OpensBody texts all old (bodies.Open b)
-body_opened texts ls all old kept l opened b is are found made opens next run =
-    let there : Some (tree_line l) ≡ slice_get all kept.line =
-    ap (option_map tree_line) found ∙ sym (slice_get-map tree_line ls kept.line) ∙ ap (λ xs. slice_get xs kept.line) are in
-    let some : IsOpened texts kept.first (tree_line l) (bodies.Open b) =
-    (b, refl, λ lies. ap line made ∙ line_is_numbered (line opened) (line_outline (tree_line l)) (Some kept.first) next (opens lies) run) in
+pub body_opened : (texts : Texts) (known : List KnownLine) (old : Body) (kept : Kept) (k : KnownLine) (opened : OpenLine) (b : Box OpenLine)
+    → old ≡ bodies.Kept kept → Some k ≡ slice_get known kept.line → b.value ≡ opened
+    → (Lie (text_of texts.source) (line_parts (known_line k)) → line_as_new (line opened) ≡ line_outline (known_line k))
+    → (next : Option ℕ) → RunFrom (Some kept.first) (origins_of_line opened) next → OpensBody texts (lines_known known) old (bodies.Open b)
+body_opened texts known old kept k opened b is found made opens next run =
+    let all = lines_known known in
+    let there : Some (known_line k) ≡ slice_get all kept.line = ap (option_map known_line) found ∙ sym (slice_get-map known_line known kept.line) in
+    let some : IsOpened texts kept.first (known_line k) (bodies.Open b) =
+    (b, refl, λ lies. ap line made ∙ line_is_numbered (line opened) (line_outline (known_line k)) (Some kept.first) next (opens lies) run) in
     subst (λ body. OpensBody texts all body (bodies.Open b)) (sym is)
     (subst (λ o. MatchOption o (bodies.Open b ≡ bodies.Kept kept) (λ x. IsOpened texts kept.first x (bodies.Open b))) there some)
 
 -- it has none
-pub body_stays : (texts : Texts) (ls : List Line) (all : List tree.Line) (old : Body) (kept : Kept) → old ≡ bodies.Kept kept → map tree_line ls ≡ all
-    → None ≡ slice_get ls kept.line → OpensBody texts all old old
-body_stays texts ls all old kept is are none =
-    let lacks : None ≡ slice_get all kept.line = ap (option_map tree_line) none ∙ sym (slice_get-map tree_line ls kept.line) ∙ ap (λ xs. slice_get xs kept.line) are in
+pub body_stays : (texts : Texts) (known : List KnownLine) (old : Body) (kept : Kept) → old ≡ bodies.Kept kept → None ≡ slice_get known kept.line
+    → OpensBody texts (lines_known known) old old
+body_stays texts known old kept is none =
+    let all = lines_known known in
+    let lacks : None ≡ slice_get all kept.line = ap (option_map known_line) none ∙ sym (slice_get-map known_line known kept.line) in
     subst (λ body. OpensBody texts all body body) (sym is)
     (subst (λ o. MatchOption o (bodies.Kept kept ≡ bodies.Kept kept) (λ x. IsOpened texts kept.first x (bodies.Kept kept))) lacks refl)

@@ -1,15 +1,14 @@
 -- What the steps of an edit hand on to each other.
 use Rattle.std.specs.Prelude.{◌≡◌, ◌↔◌, ◌<◌, ℕ, List, [], Bool, true, Some, length, slice_get, string_bytes}
 use Rattle.toml_text.specs.Limit.{IsText}
-use Rattle.toml_tree.specs.Profiles.{IsOfProfile}
-use Rattle.toml_tree.specs.Spells.{Spells}
-use Rattle.toml_tree.specs.Tree.{Doc, Line}
+use Rattle.toml_tree.specs.HandedOut.{AreLinesIn}
 use Rattle.toml_tree.specs.declared.profile.Profile.{Profile}
-use Rattle.toml_names.specs.model.Documents.{IsDocumentIn}
 use Rattle.toml_edits.specs.Edits.{Change}
 use Rattle.toml_units.specs.declared.piece.Piece.{Piece}
 use Rattle.toml_units.specs.Cursors.{Walks}
+use Rattle.toml_units.specs.Plain.{plain_units}
 use Rattle.toml_units.specs.Units.{units}
+use Rattle.toml_units.specs.View.{all_units}
 use Rattle.toml_checker.specs.Documents.{OfTree}
 use Rattle.toml_checker.specs.Outer.{TellOuter}
 use Rattle.toml_checker.specs.Pairs.{IsFirst}
@@ -18,23 +17,18 @@ use Rattle.toml_editor.specs.PairedLists.{PairsPlain}
 use Rattle.toml_editor.specs.PlainTexts.{NoSpreadSet, WritesPlain}
 use Rattle.toml_editor.specs.declared.editing.Edited.{Edited}
 use Rattle.toml_editor.specs.declared.editing.Work.{Work}
+use Rattle.toml_editor.specs.declared.making.Read.{Read}
+use Rattle.toml_editor.specs.declared.reading.LineFacts.{LineFacts}
+use Rattle.toml_editor.specs.Making.{HasNames}
+use Rattle.toml_editor.specs.Starting.{AreFacts, read_of}
 
--- the bytes are read as this text, and this tree, of the profile, spells it
-pub record IsReadAs (profile : Profile) (before text : List ℕ) (d : Doc) : Type 0 where
-  pub text_is : text ≡ before
-  pub within : IsText before
-  pub spelled : Spells d before
-  pub of_profile : IsOfProfile profile d
-
--- it holds for each profile in which the bytes are a text that this tree spells
-abbrev pub OfReadTree : List ℕ → Doc → (Profile → Type 0) → Type 0
-OfReadTree before d P = (profile : Profile) → IsReadAs profile before before d → P profile
-
--- the text is a document's of the profile, the tree spells it, and these are its lines
-pub record HasLines (profile : Profile) (text : List ℕ) (d : Doc) (lines : List Line) : Type 0 where
-  pub document : IsDocumentIn profile text
-  pub spelled : Spells d text
-  pub taken : lines ≡ d.lines
+-- by what the edits are made on it: the lines of the text, their names, their units and the facts of them
+pub record IsReadFrom (text : List ℕ) (read : Read) (known : List LineFacts) : Type 0 where
+  pub within : IsText text
+  pub lines : AreLinesIn read.profile text (read_of read.before).lines
+  pub names : HasNames read
+  pub units : all_units read.before.units.now ≡ plain_units (read_of read.before).lines
+  pub facts : AreFacts read.before known
 
 -- the flags tell which units of the text are outer protected ones
 abbrev pub TellsWanted : List ℕ → List Change → List Bool → Type 0

@@ -3,6 +3,8 @@ pub mod Faults
 pub mod Edited
 -- words of the code's own contracts
 pub mod Making
+pub mod KnownLines
+pub mod Reading
 pub mod Editing
 -- what the working tree stands for
 pub mod Outlines

@@ -7,7 +7,10 @@ use Rattle.toml_names.specs.model.Addresses.{Address}
 use Rattle.toml_names.specs.model.Data.{Kinds, kind_at, kind_in}
 use Rattle.toml_names.specs.model.Places.{place}
 use Rattle.toml_names.specs.mentions.Mentions.{a_table, an_array, named}
-use Rattle.toml_names.specs.reader.Reading.{ReaderState, lines_of}
+use Rattle.toml_names.specs.reader.LineNames.{StandFor}
+use Rattle.toml_tree.specs.Tree.{Line}
+use Rattle.toml_editor.specs.declared.making.Read.{Read}
+use Rattle.toml_editor.specs.Starting.{read_of}
 use Rattle.toml_names.specs.declared.model.address.Step.TheVariants.{Index}
 use Rattle.toml_edits.specs.Applied.{IsApplied}
 use Rattle.toml_edits.specs.Edits.{Change}
@@ -32,9 +35,13 @@ HasOne found = IsSome (kind_in found (Index 0 ∷ [])) × (kind_in found (Index 
 abbrev pub IsParent : Address → Address → Type 0
 IsParent at q = (at ≡ []) ⊎ ((s : Step) × (at ≡ q ++ s ∷ []))
 
--- where the things of the lines taken stand
-abbrev pub places_of : ReaderState → Places
-places_of names = place (named (lines_of names))
+-- where the things of the lines stand
+abbrev pub places_of : List Line → Places
+places_of lines = place (named lines)
+
+-- the names are those of the lines of the document
+abbrev pub HasNames : Read → Type 0
+HasNames read = StandFor read.names.now (read_of read.before).lines
 
 -- the edit with this number is not defined on the data
 abbrev pub TellsRow : Profile → ℕ → Change → Kinds → EditorFault → Type 0

@@ -1,7 +1,8 @@
 -- The working tree of a document that is as it was.
 use Rattle.std.specs.Prelude.{◌≡◌, ◌↔◌, ◌⊎◌, ◌+◌, ℕ, true, false, List, [], None, Some, length, map, slice_get, Option, IsTrue, MatchOption}
 use Rattle.toml_text.specs.Limit.{IsText}
-use Rattle.toml_tree.specs.Document.{document}
+use Rattle.toml_tree.specs.HandedOut.{tree_of}
+use Rattle.toml_editor.specs.KnownLines.{lines_known}
 use Rattle.toml_tree.specs.Pieces.{expr_start}
 use Rattle.toml_tree.specs.Spells.{Spells}
 use Rattle.toml_tree.specs.Tree.{Line}
@@ -13,20 +14,26 @@ use Rattle.toml_units.specs.View.{all_units}
 use Rattle.toml_editor.specs.declared.elements.Elements.{Elements}
 use Rattle.toml_editor.specs.declared.lines.Kept.{Kept}
 use Rattle.toml_editor.specs.declared.lines.Slot.{Slot}
+use Rattle.toml_editor.specs.declared.reading.LineFacts.{LineFacts}
 use Rattle.toml_editor.specs.declared.working.Before.{Before}
 use Rattle.toml_editor.specs.OpenOrigins.{numbers}
+use Rattle.toml_editor.specs.Reading.{fact_of}
 use Rattle.toml_editor.specs.Standing.{Read, standing, standing_origins}
 use Rattle.toml_editor.specs.Stands.{HasNumbers, StandFor, heads_tables}
 
 -- the document as the working tree looks at it, by its units and its lines
 abbrev pub read_of : Before → Read
-read_of before = record { units = before.units.now; lines = (document before.doc.now).lines }
+read_of before = record { units = before.units.now; lines = lines_known before.known.now }
 
 -- it is read of the text: its tree spells that, and its units are those of its lines
 pub record IsReadOf (text : List ℕ) (before : Before) : Type 0 where
   pub within : IsText text
-  pub spelled : Spells (document before.doc.now) text
-  pub units : all_units before.units.now ≡ map spanned (units (document before.doc.now).lines)
+  pub spelled : Spells (tree_of text (read_of before).lines) text
+  pub units : all_units before.units.now ≡ map spanned (units (read_of before).lines)
+
+-- the facts are those of its lines
+abbrev pub AreFacts : Before → List LineFacts → Type 0
+AreFacts before facts = facts ≡ map fact_of (read_of before).lines
 
 -- the slots stand for the lines of the document, with all its units in order
 pub record StandAsRead (text : List ℕ) (before : Before) (slots : List Slot) : Type 0 where

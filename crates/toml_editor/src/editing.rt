@@ -1,32 +1,33 @@
 //! The editor as a whole.
 ghost use Rattle.std.specs.Prelude.{◌≡◌, [], IfOk, IfErr, OnOk, map, string_bytes};
 ghost use Rattle.toml_text.specs.Source.{text_of};
-ghost use Rattle.toml_tree.specs.Document.{document};
+ghost use Rattle.toml_tree.specs.HandedOut.{tree_of};
 ghost use Rattle.toml_tree.specs.declared.profile.Profile.TheVariants.{One};
-ghost use Rattle.toml_names.specs.model.Documents.{IsDocumentIn};
-ghost use Rattle.toml_names.specs.reader.Reading.{lines_of};
+ghost use Rattle.toml_names.specs.model.AddressSets.{is_hidden};
 ghost use Rattle.toml_edits.specs.Edits.{change};
-ghost use Rattle.toml_units.specs.Cursors.{AreNewlines, Walks};
-ghost use Rattle.toml_checker.specs.Reading.{AreUnitsOf};
+ghost use Rattle.toml_edits.specs.Near.{AreNear};
+ghost use Rattle.toml_units.specs.Cursors.{Walks};
 ghost use Rattle.toml_editor.specs.Edited.{IsEdited, ArePieces, IsEditedInPieces, RefusesText, Tells};
-ghost use Rattle.toml_editor.specs.Editing.{HasLines, IsEditedAs, IsMadeAs, IsReadAs, IsWork, OfReadTree, TellsWanted};
+ghost use Rattle.toml_editor.specs.Editing.{IsEditedAs, IsMadeAs, IsReadFrom, IsWork, TellsWanted};
 ghost use Rattle.toml_editor.specs.Numbering.{PairsOf};
+ghost use Rattle.toml_editor.specs.Reading.{IsReadAs};
 ghost use Rattle.toml_editor.specs.SpelledEdits.{AreSpelled};
 ghost use Rattle.toml_editor.specs.Writing.{WritesOut};
 
 use crate::fault::EditorFault;
 use crate::making::{Read, make_all};
 use crate::pairing::names_all;
+use crate::reading::{LineFacts, ReadDocument, read_document};
 use crate::spelled::{Spelled, spell_all};
 use crate::texts::Texts;
 use crate::working::{Before, Tree};
 use std::alloc::{AllocError, Global};
 use toml_checker::{Reason, Verdict, check_walked, outermost};
 use toml_edits::{Edit, near_addresses};
-use toml_names::{NameReader, read_lines};
+use toml_names::{AddressSet, ReadFault};
 use toml_text::{MAX_LEN, Source};
-use toml_tree::{Doc, Profile, parse_in};
-use toml_units::{Certificate, Piece, Unit, UnitCursor, join, units_at};
+use toml_tree::{Profile, mark};
+use toml_units::{Certificate, Piece, Unit, UnitCursor, join};
 
 /// What the editor makes: the pieces of the edited text, the text, and its certificate.
 #[derive(Drop)]
@@ -153,45 +154,36 @@ fn make_document<'x>(
     ensures work { IfOk result (IsWork profile before.now (map change edits.now)) }
     ensures told { IfErr result (Tells profile before.now (map change edits.now)) }
 {
-    let (source, doc) = read(alloc, before, profile)?;
-    let reader = named_lines(alloc, before, &doc)?;
-    let units = read_units(alloc, &doc, &reader)?;
-    let wanted = outermost(alloc, &units, edits)?;
+    let touched = near_addresses(alloc, edits)?;
+    let (source, document) = read(alloc, before, profile, &touched)?;
+    let read = Read {
+        before: Before {
+            known: &document.lines,
+            units: document.taken.units(),
+        },
+        names: document.taken.names(),
+        profile,
+    };
+    let wanted = outermost(alloc, read.before.units, edits)?;
     let made_text = make_text(
-        alloc, source, &doc, &reader, &units, edits, spelled, &wanted, profile,
+        alloc,
+        source,
+        read,
+        &document.facts,
+        edits,
+        spelled,
+        &wanted,
+        &touched,
     );
     let edited = match made_text {
         Ok(edited) => edited,
         Err(fault) => return Err(fault),
     };
-    let newlines = newlines_of(alloc, &doc)?;
-    let cursor = UnitCursor::held(alloc, reader.into_names(), units, newlines);
     Ok(Work {
         wanted,
         edited,
-        cursor,
+        cursor: UnitCursor::held(document.taken),
     })
-}
-
-/// The units of the tree of a text.
-fn read_units(alloc: Global, doc: &Doc, reader: &NameReader) -> Result<Vec<Unit>, AllocError>
-    requires { lines_of reader.now ≡ (document doc.now).lines }
-    ensures { IfOk result (λ us. AreUnitsOf doc.now us.items) }
-{
-    let own = reader.own_addresses()?;
-    units_at(alloc, doc, own)
-}
-
-/// The newline of each line of a tree, the empty text where it has none.
-fn newlines_of<'x>(alloc: Global, doc: &Doc<'x>) -> Result<Vec<&'x str>, AllocError>
-    ensures { IfOk result (λ newlines. AreNewlines newlines.items (document doc.now).lines) }
-{
-    let lines = doc.lines();
-    let mut newlines = Vec::with_capacity(alloc, lines.len())?;
-    for line in lines {
-        newlines.push(line.newline().text)?;
-    }
-    Ok(newlines)
 }
 
 /// What is made is handed on where the judge says yes.
@@ -234,55 +226,48 @@ fn certify<'x>(
     }
 }
 
-/// What the edits make of a document, not judged yet. Of its data those are built that the edits can touch.
-fn make_text<'d, 'x>(
+/// What the edits make of a document, not judged yet; the facts are those of its lines. Of its data those are built that the
+/// edits can touch.
+fn make_text<'x>(
     alloc: Global,
     source: Source<'x>,
-    doc: &'d Doc<'x>,
-    reader: &NameReader<'d, 'x>,
-    units: &[Unit],
+    read: Read<'_, 'x>,
+    facts: &[LineFacts],
     edits: &'x [Edit],
     spelled: &'x [Spelled],
     wanted: &[bool],
-    profile: Profile,
+    touched: &AddressSet,
 ) -> Result<Edited, EditorFault>
-    requires read { HasLines profile (text_of source) (document doc.now) (lines_of reader.now) }
-    requires units { AreUnitsOf doc.now units.now }
+    requires read { IsReadFrom (text_of source) read facts.now }
     requires spelled { AreSpelled (map change edits.now) spelled.now }
-    ensures made { IfOk result (IsMadeAs profile (text_of source.entry) (map change edits.now) wanted.now) }
-    ensures told { IfErr result (Tells profile (text_of source.entry) (map change edits.now)) }
+    requires touched { AreNear (is_hidden touched.now) (map change edits.now) }
+    ensures made { IfOk result (IsMadeAs read.entry.profile (text_of source.entry) (map change edits.now) wanted.now) }
+    ensures told { IfErr result (Tells read.entry.profile (text_of source.entry) (map change edits.now)) }
 {
-    let touched = near_addresses(alloc, edits)?;
-    let mut data = reader.names().data_near(&touched)?;
-    let before = Before { doc, units };
-    let mut tree = Tree::of(Texts { alloc, source }, before)?;
-    let read = Read {
-        before,
-        names: reader,
-        profile,
-    };
+    let mut data = read.names.data_near(touched)?;
+    let mut tree = Tree::of(Texts { alloc, source }, read.before, facts)?;
     if let Err(fault) = make_all(alloc, &mut tree, read, &mut data, edits, spelled) {
         return Err(fault);
     }
-    Ok(write_out(alloc, source, before, &tree, wanted)?)
+    Ok(write_out(alloc, source, read.before.units, &tree, wanted)?)
 }
 
-/// What stands in the working tree, and its certificate.
+/// What stands in the working tree, and its certificate; the units are those of the document.
 fn write_out<'x>(
     alloc: Global,
     source: Source<'x>,
-    before: Before<'_, 'x>,
+    units: &[Unit],
     tree: &Tree<'x>,
     wanted: &[bool],
 ) -> Result<Edited, AllocError>
     ensures pieces { IfOk result (λ e. ArePieces (text_of source.entry) (string_bytes e.text) e.pieces.items) }
-    ensures written { let mark = (document before.entry.doc.now).mark.text in
-        IfOk result (λ e. WritesOut (text_of source.entry) mark tree.now.slots.items (string_bytes e.text)) }
-    ensures paired { IfOk result (λ e. PairsOf before.entry.units.now wanted.now tree.now.slots.items e.certificate.pairs.items) }
+    ensures written { let text = text_of source.entry in
+        IfOk result (λ e. WritesOut text (tree_of text []).mark.text tree.now.slots.items (string_bytes e.text)) }
+    ensures paired { IfOk result (λ e. PairsOf units.now wanted.now tree.now.slots.items e.certificate.pairs.items) }
 {
-    let pieces = tree.pieces(source, before.doc.mark())?.into_list();
+    let pieces = tree.pieces(source, mark(source))?.into_list();
     let text = join(alloc, source, &pieces)?;
-    let certificate = tree.certificate(before.units, wanted)?;
+    let certificate = tree.certificate(units, wanted)?;
     Ok(Edited {
         pieces,
         text,
@@ -290,38 +275,23 @@ fn write_out<'x>(
     })
 }
 
-/// The text and its tree, or why there is none.
-#[tactic(auto, using(crate::proofs::Judgements::tree_refused))]
+/// The text and its document, or why there is none.
 fn read<'x>(
     alloc: Global,
     before: &'x [u8],
     profile: Profile,
-) -> Result<(Source<'x>, Doc<'x>), EditorFault>
-    ensures read { IfOk result (λ r. IsReadAs profile before.now (text_of r.0) (document r.1)) }
+    touched: &AddressSet,
+) -> Result<(Source<'x>, ReadDocument<'x>), EditorFault>
+    ensures read { IfOk result (λ r. IsReadAs profile before.now (text_of r.0) r.1) }
     ensures refused { IfErr result (RefusesText profile before.now) }
 {
     let source = match Source::new(before) {
         Ok(source) => source,
         Err(fault) => return Err(EditorFault::Text(fault)),
     };
-    match parse_in(alloc, source, profile) {
-        Ok(doc) => Ok((source, doc)),
-        Err(fault) => Err(EditorFault::from(fault)),
-    }
-}
-
-/// A reader of the lines of the tree of a text, or why they are refused.
-fn named_lines<'d, 't>(
-    alloc: Global,
-    before: &[u8],
-    doc: &'d Doc<'t>,
-) -> Result<NameReader<'d, 't>, EditorFault>
-    ensures document { OfReadTree before.now (document doc.now) (λ profile. OnOk result (IsDocumentIn profile before.now)) }
-    ensures taken { IfOk result (λ reader. lines_of reader ≡ (document doc.now).lines) }
-    ensures refused { OfReadTree before.now (document doc.now) (λ profile. IfErr result (RefusesText profile before.now)) }
-{
-    match read_lines(alloc, doc) {
-        Ok(reader) => Ok(reader),
-        Err(fault) => Err(EditorFault::from(fault)),
+    match read_document(alloc, source, profile, touched) {
+        Ok(document) => Ok((source, document)),
+        Err(ReadFault::Syntax(fault)) => Err(EditorFault::from(fault)),
+        Err(ReadFault::Names(fault)) => Err(EditorFault::from(fault)),
     }
 }

@@ -1,6 +1,6 @@
 //! `insert`: an element of an array, a pair of an inline table, or a line with a key and a value.
 ghost use Rattle.std.specs.Prelude.{◌≡◌, ◌++◌, ◌∷◌, [], IfOk, OnOk, drop, false, take};
-ghost use Rattle.toml_tree.specs.Document.{document};
+ghost use Rattle.toml_editor.specs.KnownLines.{lines_known};
 ghost use Rattle.toml_tree.specs.Tree as tree;
 ghost use Rattle.toml_editor.specs.OpenOutlines.{leaf_text, value};
 ghost use Rattle.toml_editor.specs.Putting.{EndsBefore, EndsOne, EndsSlot, EndsSlots, IsElsewhere, IsRootLine, PutsSlot, PutsSlots, TreeInserts, TreePutsBehind};
@@ -9,6 +9,7 @@ ghost use Rattle.toml_editor.specs.Starting.{read_of};
 ghost use Rattle.toml_editor.specs.Stands.{KeepsRest};
 
 use crate::inside::Inside;
+use crate::known::KnownLine;
 use crate::lines::{Line, Slot};
 use crate::sections::NewHeader;
 use crate::texts::Texts;
@@ -16,7 +17,6 @@ use crate::tree::{Brackets, Expr, KeyVal, Leaf, Value};
 use crate::working::{Before, Position, TablePlace, Tree};
 use std::alloc::{AllocError, Global};
 use toml_names::{Address, Place, Step};
-use toml_tree::Doc;
 use toml_units::Unit;
 
 /// A value for an address, and the spellings of the steps of it.
@@ -264,15 +264,15 @@ fn end_at<'t>(
 fn end_one<'t>(
     lines: &mut Vec<Line<'t>>,
     texts: Texts<'t>,
-    doc: &Doc<'t>,
+    known: &[KnownLine<'t>],
     index: usize,
     newline: Leaf<'t>,
 ) -> Result<(), AllocError>
-    ensures { let read = (document doc.now).lines in
+    ensures { let read = lines_known known.now in
         OnOk result (EndsOne (leaf_text newline.entry) texts.entry read index lines.old.items lines.new.items) }
 {
     match lines.get_mut(index) {
-        Some(line) => line.end_in(texts, doc, newline),
+        Some(line) => line.end_in(texts, known, newline),
         None => Ok(()),
     }
 }
@@ -311,7 +311,7 @@ impl<'t> Slot<'t> {
     {
         self.open(texts.alloc, before.units)?;
         match self {
-            Slot::Lines(lines) => end_one(lines, texts, before.doc, index, newline),
+            Slot::Lines(lines) => end_one(lines, texts, before.known, index, newline),
             Slot::Kept(_) => Ok(()),
         }
     }

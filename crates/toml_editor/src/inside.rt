@@ -1,18 +1,18 @@
 //! What an edit changes inside the value of a line.
 ghost use Rattle.std.specs.Prelude.{◌≡◌, IfOk, OnOk};
-ghost use Rattle.toml_tree.specs.Document.{document};
+ghost use Rattle.toml_editor.specs.KnownLines.{lines_known};
 ghost use Rattle.toml_editor.specs.Changing.{ChangesBody, ChangesIn, ChangesLine, ChangesOne, ChangesSlot, ChangesSlots};
 ghost use Rattle.toml_editor.specs.Starting.{read_of};
 ghost use Rattle.toml_editor.specs.OpenOutlines.{value as value_outlined};
 ghost use Rattle.toml_editor.specs.Stands.{KeepsRest};
 
+use crate::known::KnownLine;
 use crate::lines::{Body, Line, Slot, below};
 use crate::texts::Texts;
 use crate::tree::{Expr, Value};
 use crate::working::{Before, Position, Tree};
 use std::alloc::AllocError;
 use toml_names::{Address, Step};
-use toml_tree::Doc;
 
 /// What becomes of what stands in a value at some steps.
 #[derive(Drop)]
@@ -81,13 +81,13 @@ impl<'t> Line<'t> {
     fn change(
         &mut self,
         texts: Texts<'t>,
-        doc: &Doc<'t>,
+        known: &[KnownLine<'t>],
         at: &Address,
         change: Inside<'t>,
     ) -> Result<bool, AllocError>
-        ensures { IfOk result (λ done. ChangesLine texts.entry (document doc.now).lines at.now change.entry self.old self.new done) }
+        ensures { IfOk result (λ done. ChangesLine texts.entry (lines_known known.now) at.now change.entry self.old self.new done) }
     {
-        self.open(texts, doc)?;
+        self.open(texts, known)?;
         let used = self.seen().steps();
         self.body.change(texts, below(at, used), change)
     }
@@ -97,16 +97,16 @@ impl<'t> Line<'t> {
 fn change_one<'t>(
     lines: &mut Vec<Line<'t>>,
     texts: Texts<'t>,
-    doc: &Doc<'t>,
+    known: &[KnownLine<'t>],
     index: usize,
     at: &Address,
     change: Inside<'t>,
 ) -> Result<bool, AllocError>
-    ensures { let read = (document doc.now).lines in
+    ensures { let read = lines_known known.now in
         IfOk result (λ done. ChangesOne texts.entry read index at.now change.entry lines.old.items lines.new.items done) }
 {
     match lines.get_mut(index) {
-        Some(line) => line.change(texts, doc, at, change),
+        Some(line) => line.change(texts, known, at, change),
         None => Ok(false),
     }
 }
@@ -126,7 +126,7 @@ impl<'t> Slot<'t> {
     {
         self.open(texts.alloc, before.units)?;
         match self {
-            Slot::Lines(lines) => change_one(lines, texts, before.doc, index, at, change),
+            Slot::Lines(lines) => change_one(lines, texts, before.known, index, at, change),
             Slot::Kept(_) => Ok(false),
         }
     }

@@ -1,7 +1,7 @@
 //! The lines of the working tree: kept as they stand in the document until an edit changes something on them.
 ghost use Rattle.std.specs.Prelude.{◌≡◌, ◌≤◌, ◌∷◌, IfOk, List, OnOk, None, [], drop, length, set};
 ghost use Rattle.std.specs.List.{list_any};
-ghost use Rattle.toml_tree.specs.Document.{document};
+ghost use Rattle.toml_editor.specs.KnownLines.{lines_known};
 ghost use Rattle.toml_tree.specs.Tree.{Line as ReadLine};
 ghost use Rattle.toml_editor.specs.declared.lines.Line.{Line as WorkingLine};
 ghost use Rattle.toml_editor.specs.OpenOutlines.{expr as expr_outlined, leaf_text};
@@ -13,14 +13,13 @@ ghost use Rattle.toml_editor.specs.Putting.{LineIsLast, SlotIsLast};
 ghost use Rattle.toml_editor.specs.Stands.{OpensSlot, kept_line};
 ghost use Rattle.toml_editor.specs.Standing.{Read, begins, is_below, lies_below, slot_standing};
 
-use crate::opening::Opener;
+use crate::known::KnownLine;
 use crate::texts::Texts;
 use crate::tree::{Blank, Brackets, Expr, Leaf, OpenLine};
 use crate::values::behind;
 use std::alloc::{AllocError, Global};
 use toml_names::{Address, Step};
 use toml_text::Span;
-use toml_tree::Doc;
 use toml_units::Unit;
 
 /// A line that is as it was.
@@ -212,15 +211,19 @@ impl<'t> Line<'t> {
         }
     }
 
-    /// Makes it a line with its pieces, if it is none yet; the document is the one whose lines are kept.
-    pub(crate) fn open(&mut self, texts: Texts<'t>, doc: &Doc<'t>) -> Result<(), AllocError>
+    /// Makes it a line with its pieces, if it is none yet; these are the lines of the document.
+    pub(crate) fn open(
+        &mut self,
+        texts: Texts<'t>,
+        known: &[KnownLine<'t>],
+    ) -> Result<(), AllocError>
         ensures address { self.new.address ≡ self.old.address }
         ensures base { self.new.base ≡ self.old.base }
-        ensures opened { OnOk result (OpensBody texts.entry (document doc.now).lines self.old.body self.new.body) }
+        ensures opened { OnOk result (OpensBody texts.entry (lines_known known.now) self.old.body self.new.body) }
     {
         if let Body::Kept(kept) = self.body {
-            if let Some(line) = doc.lines().get(kept.line) {
-                let opened = Opener::kept(texts, kept.first).line(line)?;
+            if let Some(line) = known.get(kept.line) {
+                let opened = line.open(texts, kept.first)?;
                 self.body = Body::Open(Box::new(texts.alloc, opened)?);
             }
         }
@@ -239,15 +242,15 @@ impl<'t> Line<'t> {
     pub(crate) fn end_in(
         &mut self,
         texts: Texts<'t>,
-        doc: &Doc<'t>,
+        known: &[KnownLine<'t>],
         newline: Leaf<'t>,
     ) -> Result<(), AllocError>
         ensures address { self.new.address ≡ self.old.address }
         ensures base { self.new.base ≡ self.old.base }
-        ensures opened { let lines = (document doc.now).lines in
+        ensures opened { let lines = (lines_known known.now) in
             OnOk result (OpensToEndIn (leaf_text newline.entry) texts.entry lines self.old.body self.new.body) }
     {
-        self.open(texts, doc)?;
+        self.open(texts, known)?;
         if let Body::Open(open) = &mut self.body {
             open.newline = newline;
         }

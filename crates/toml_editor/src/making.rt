@@ -6,7 +6,7 @@ ghost use Rattle.toml_edits.specs.Edits.{change, remove};
 ghost use Rattle.toml_edits.specs.Lists.{Lead};
 ghost use Rattle.toml_editor.specs.Edited.{MayBeSpread, TakesLastElement};
 ghost use Rattle.toml_editor.specs.Exact.{DoneAll, DoneOne, IsNotPlain, OfNoPlaceAt, SetsMany, Stops, WritesEdit, WritesInsert, WritesRename, WritesSet};
-ghost use Rattle.toml_editor.specs.Making.{HasOne, IsMade, IsMany, TellsAny, TellsOne, TellsRow, places_of};
+ghost use Rattle.toml_editor.specs.Making.{HasNames, HasOne, IsMade, IsMany, TellsAny, TellsOne, TellsRow, places_of};
 ghost use Rattle.toml_editor.specs.SpelledEdits.{AreSpelled, IsSpelled};
 ghost use Rattle.toml_editor.specs.Starting.{NoneIsGone, read_of};
 ghost use Rattle.toml_editor.specs.Stands.{KeepsRest};
@@ -21,14 +21,14 @@ use crate::tree::Brackets;
 use crate::working::{Before, Tree};
 use std::alloc::{AllocError, Global};
 use toml_edits::{Edit, EditFault, apply_in, place};
-use toml_names::{Address, Data, Datum, Name, NameReader, Step};
+use toml_names::{Address, Data, Datum, LineNames, Name, Step};
 use toml_tree::Profile;
 
 /// What was read of the document, in the profile, by which the edits are made on its working tree.
 #[derive(Clone, Copy)]
-pub(crate) struct Read<'a, 'd, 't> {
+pub(crate) struct Read<'a, 't> {
     pub(crate) before: Before<'a, 't>,
-    pub(crate) names: &'a NameReader<'d, 't>,
+    pub(crate) names: &'a LineNames<'t>,
     pub(crate) profile: Profile,
 }
 
@@ -39,14 +39,15 @@ pub(crate) struct Read<'a, 'd, 't> {
 pub(crate) fn make_all<'x>(
     alloc: Global,
     tree: &mut Tree<'x>,
-    read: Read<'_, '_, 'x>,
+    read: Read<'_, 'x>,
     data: &mut Data,
     edits: &'x [Edit],
     spelled: &'x [Spelled],
 ) -> Result<(), EditorFault>
-    requires { AreSpelled (map change edits.now) spelled.now }
+    requires names { HasNames read }
+    requires spelled { AreSpelled (map change edits.now) spelled.now }
     ensures made { OnOk result (Lead read.entry.profile (map change edits.now) (kind_at «data».old.root) (kind_at «data».new.root)) }
-    ensures told { let places = places_of read.entry.names.now in
+    ensures told { let places = places_of (read_of read.entry.before).lines in
         IfErr result (TellsAny read.entry.profile places (map change edits.now) (kind_at «data».old.root)) }
     ensures exact { let from = read_of read.entry.before in
         OnOk result (DoneAll read.entry.profile from (kind_at «data».old.root) (map change edits.now) tree.old tree.new) }
@@ -65,22 +66,23 @@ pub(crate) fn make_all<'x>(
 fn make<'x>(
     alloc: Global,
     tree: &mut Tree<'x>,
-    read: Read<'_, '_, 'x>,
+    read: Read<'_, 'x>,
     data: &mut Data,
     edit: &'x Edit,
     spelled: &'x Spelled,
     index: usize,
 ) -> Result<(), EditorFault>
-    requires { IsSpelled (change edit.now) spelled.now }
+    requires names { HasNames read }
+    requires spelled { IsSpelled (change edit.now) spelled.now }
     ensures ok { OnOk result (IsMade read.entry.profile (change edit.now) «data».old.root «data».new.root) }
-    ensures told { let places = places_of read.entry.names.now in
+    ensures told { let places = places_of (read_of read.entry.before).lines in
         IfErr result (TellsOne read.entry.profile places index (change edit.now) (kind_at «data».old.root)) }
     ensures exact { let from = read_of read.entry.before in
         OnOk result (DoneOne read.entry.profile from (kind_at «data».old.root) (change edit.now) tree.old tree.new) }
     ensures spread { let from = read_of read.entry.before in
         IfErr result (OfNoPlaceAt (λ at. IsNotPlain read.entry.profile from (change edit.now) tree.old)) }
 {
-    let spread = may_be_spread(alloc, data, read.names, edit, index)?;
+    let spread = may_be_spread(alloc, data, read, edit, index)?;
     let only = is_only_element(data, edit);
     applied(alloc, data, edit, index, read.profile)?;
     let done = write_edit(alloc, tree, read, edit, spelled)?;
@@ -124,11 +126,12 @@ fn applied(
 fn write_edit<'x>(
     alloc: Global,
     tree: &mut Tree<'x>,
-    read: Read<'_, '_, 'x>,
+    read: Read<'_, 'x>,
     edit: &'x Edit,
     spelled: &'x Spelled,
 ) -> Result<bool, AllocError>
-    requires { IsSpelled (change edit.now) spelled.now }
+    requires names { HasNames read }
+    requires spelled { IsSpelled (change edit.now) spelled.now }
     ensures { IfOk result (WritesEdit read.entry.profile (read_of read.entry.before) (change edit.now) tree.old tree.new) }
 {
     let at = tree.elements.uncut(alloc, place(edit))?;
@@ -151,10 +154,11 @@ fn write_edit<'x>(
 fn write_set<'x>(
     alloc: Global,
     tree: &mut Tree<'x>,
-    read: Read<'_, '_, 'x>,
+    read: Read<'_, 'x>,
     at: &Address,
     value: &'x str,
 ) -> Result<bool, AllocError>
+    requires { HasNames read }
     ensures rest { OnOk result (KeepsRest tree.old tree.new) }
     ensures set { IfOk result (WritesSet read.entry.profile (read_of read.entry.before) at.now value.now tree.old tree.new) }
 {
@@ -170,11 +174,12 @@ fn write_set<'x>(
 fn write_insert<'x>(
     alloc: Global,
     tree: &mut Tree<'x>,
-    read: Read<'_, '_, 'x>,
+    read: Read<'_, 'x>,
     at: &Address,
     value: &'x str,
     steps: &'x [String],
 ) -> Result<bool, AllocError>
+    requires { HasNames read }
     ensures rest { OnOk result (KeepsRest tree.old tree.new) }
     ensures insert { let read_here = read_of read.entry.before in
         OnOk result (WritesInsert read.entry.profile read_here at.now value.now steps.now tree.old tree.new) }
@@ -194,12 +199,13 @@ fn write_insert<'x>(
 fn write_rename<'x>(
     alloc: Global,
     tree: &mut Tree<'x>,
-    read: Read<'_, '_, 'x>,
+    read: Read<'_, 'x>,
     at: &Address,
     to: &str,
     spelling: &'x str,
 ) -> Result<(), AllocError>
-    requires { spelling.now ≡ spelled to.now }
+    requires names { HasNames read }
+    requires spelling { spelling.now ≡ spelled to.now }
     ensures { OnOk result (NoneIsGone tree.old.elements → WritesRename (read_of read.entry.before) at.now to.now tree.old tree.new) }
 {
     let name = Name::of(String::from_str(alloc, to)?)?;
@@ -212,11 +218,13 @@ fn write_rename<'x>(
 fn write_header<'x>(
     alloc: Global,
     tree: &mut Tree<'x>,
-    read: Read<'_, '_, 'x>,
+    read: Read<'_, 'x>,
     at: &Address,
     brackets: Brackets,
     spelled: &'x Spelled,
-) -> Result<bool, AllocError> {
+) -> Result<bool, AllocError>
+    requires { HasNames read }
+{
     let parent = parent_of(alloc, at)?;
     let element = innermost_element(alloc, &parent)?;
     let near = match &element {
@@ -241,18 +249,20 @@ fn write_header<'x>(
 fn may_be_spread(
     alloc: Global,
     data: &Data,
-    names: &NameReader,
+    read: Read,
     edit: &Edit,
     index: usize,
 ) -> Result<bool, AllocError>
-    ensures yes { IfOk result (λ spread. IsTrue spread → MayBeSpread (places_of names.now) index (change edit.now) (kind_at «data».now.root)) }
+    requires { HasNames read }
+    ensures yes { let places = places_of (read_of read.entry.before).lines in
+        IfOk result (λ spread. IsTrue spread → MayBeSpread places index (change edit.now) (kind_at «data».now.root)) }
     ensures no { IfOk result (λ spread. spread ≡ false → ¬ SetsMany (change edit.now) (kind_at «data».now.root)) }
 {
     Ok(match edit {
         Edit::Set { at, .. } => is_many(data.root.at(at)),
         Edit::Insert { at, .. } => matches!(at.steps().last(), Some(Step::Index(_))),
-        Edit::Section { at } => index > 0 || is_right_in_value(alloc, names, at)?,
-        Edit::Element { at } => index > 0 || is_element_in_value(alloc, names, at)?,
+        Edit::Section { at } => index > 0 || is_right_in_value(alloc, read.names, at)?,
+        Edit::Element { at } => index > 0 || is_element_in_value(alloc, read.names, at)?,
         Edit::Rename { .. } | Edit::Remove { .. } => false,
     })
 }

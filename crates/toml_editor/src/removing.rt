@@ -8,6 +8,7 @@ ghost use Rattle.toml_editor.specs.Starting.{read_of};
 ghost use Rattle.toml_editor.specs.Stands.{KeepsRest};
 
 use crate::inside::Inside;
+use crate::known::KnownLine;
 use crate::lines::{Line, Slot, is_element, names_in};
 use crate::texts::Texts;
 use crate::tree::{Blank, Brackets, Expr, Header, Leaf, OpenLine};
@@ -15,7 +16,6 @@ use crate::working::{Before, Position, TablePlace, Tree};
 use std::alloc::{AllocError, Global};
 use std::mem;
 use toml_names::{Address, Place, Step};
-use toml_tree::Doc;
 use toml_units::Unit;
 
 /// What is left of the first removed line that mentions the parent, where no line that stays does.
@@ -223,7 +223,7 @@ impl<'t> Slot<'t> {
     {
         self.open(texts.alloc, before.units)?;
         match self {
-            Slot::Lines(lines) => remove_from(lines, texts, before.doc, at, parent),
+            Slot::Lines(lines) => remove_from(lines, texts, before.known, at, parent),
             Slot::Kept(_) => Ok(()),
         }
     }
@@ -251,7 +251,7 @@ fn remove_in<'t>(
 fn remove_from<'t>(
     lines: &mut Vec<Line<'t>>,
     texts: Texts<'t>,
-    doc: &Doc<'t>,
+    known: &[KnownLine<'t>],
     at: &Address,
     parent: &mut Parent,
 ) -> Result<(), AllocError>
@@ -259,7 +259,7 @@ fn remove_from<'t>(
 {
     let old = mem::replace(lines, Vec::new(texts.alloc));
     for line in old {
-        if let Some(left) = left_of(texts, doc, line, at, parent)? {
+        if let Some(left) = left_of(texts, known, line, at, parent)? {
             lines.push(left)?;
         }
     }
@@ -269,7 +269,7 @@ fn remove_from<'t>(
 /// What is left of a line once what stands at the address and below is taken out.
 fn left_of<'t>(
     texts: Texts<'t>,
-    doc: &Doc<'t>,
+    known: &[KnownLine<'t>],
     line: Line<'t>,
     at: &Address,
     parent: &mut Parent,
@@ -278,7 +278,7 @@ fn left_of<'t>(
     ensures left { IfOk result (λ left. parent.old.stays ≡ true → LeavesOf at.now line.entry left) }
 {
     if line.seen().is_below(at) {
-        removed(texts, doc, line, parent)
+        removed(texts, known, line, parent)
     } else {
         Ok(Some(line))
     }
@@ -287,7 +287,7 @@ fn left_of<'t>(
 /// What is left of a removed line: its parent as an empty table, or of the last line one of no bytes.
 fn removed<'t>(
     texts: Texts<'t>,
-    doc: &Doc<'t>,
+    known: &[KnownLine<'t>],
     line: Line<'t>,
     parent: &mut Parent,
 ) -> Result<Option<Line<'t>>, AllocError>
@@ -296,7 +296,7 @@ fn removed<'t>(
 {
     if !parent.stays && line.seen().mentions(&parent.address) {
         parent.stays = true;
-        return Ok(Some(emptied(texts, doc, line, &parent.address)?));
+        return Ok(Some(emptied(texts, known, line, &parent.address)?));
     }
     if line.is_last() {
         return Ok(Some(Line::empty(texts.alloc)?));
@@ -307,7 +307,7 @@ fn removed<'t>(
 /// The line as one of the parent: its key's front up to it as an empty table, or as a header.
 fn emptied<'t>(
     texts: Texts<'t>,
-    doc: &Doc<'t>,
+    known: &[KnownLine<'t>],
     line: Line<'t>,
     parent: &Address,
 ) -> Result<Line<'t>, AllocError> {
@@ -316,7 +316,7 @@ fn emptied<'t>(
         Some(base) => parent.steps().len().saturating_sub(base),
         None => names_in(parent.steps()),
     };
-    line.open(texts, doc)?;
+    line.open(texts, known)?;
     if let Some(open) = line.opened() {
         open.empty(texts, parts)?;
     }

@@ -2,20 +2,20 @@
 //! the new name.
 ghost use Rattle.std.specs.Prelude.{◌≡◌, OnOk, Option, Some, option_map};
 ghost use Rattle.toml_text.specs.Source.{text_of};
-ghost use Rattle.toml_tree.specs.Document.{document};
+ghost use Rattle.toml_editor.specs.KnownLines.{lines_known};
 ghost use Rattle.toml_editor.specs.Becoming.{BodyBecomes, LineBecomes, LinesBecome, OpenBecomes, RenamesLines, SlotAtBecomes, SlotBecomes, SlotsBecome, renamed_below, renamed_own};
 ghost use Rattle.toml_editor.specs.OpenOutlines.{leaf_text, line as line_outlined};
 ghost use Rattle.toml_editor.specs.RenameStanding.{line_part_with, part_number, renamed_address};
 ghost use Rattle.toml_editor.specs.Starting.{NoneIsGone, read_of};
 
 use crate::inside::Inside;
+use crate::known::KnownLine;
 use crate::lines::{Body, Line, Slot, changed};
 use crate::texts::Texts;
 use crate::tree::{Expr, Leaf, OpenLine};
 use crate::working::{Before, Position, Tree};
 use std::alloc::AllocError;
 use toml_names::{Address, Name, Place, Step};
-use toml_tree::Doc;
 
 /// A new name for what stands at an address, and its spelling.
 #[derive(Clone, Copy)]
@@ -129,7 +129,7 @@ impl<'t> Slot<'t> {
         }
         self.open(texts.alloc, before.units)?;
         match self {
-            Slot::Lines(lines) => rename_in_lines(lines, texts, before.doc, renaming),
+            Slot::Lines(lines) => rename_in_lines(lines, texts, before.known, renaming),
             Slot::Kept(_) => Ok(()),
         }
     }
@@ -139,15 +139,15 @@ impl<'t> Slot<'t> {
 fn rename_in_lines<'t>(
     lines: &mut Vec<Line<'t>>,
     texts: Texts<'t>,
-    doc: &Doc<'t>,
+    known: &[KnownLine<'t>],
     renaming: Renaming<'_, 't>,
 ) -> Result<(), AllocError>
     ensures { let rename = renamed_below renaming.entry in
-        OnOk result (LinesBecome texts.entry (document doc.now).lines rename lines.old.items lines.new.items) }
+        OnOk result (LinesBecome texts.entry (lines_known known.now) rename lines.old.items lines.new.items) }
 {
     for index in 0..lines.len() {
         if let Some(line) = lines.get_mut(index) {
-            line.rename_below(texts, doc, renaming)?;
+            line.rename_below(texts, known, renaming)?;
         }
     }
     Ok(())
@@ -158,14 +158,14 @@ impl<'t> Line<'t> {
     fn rename_below(
         &mut self,
         texts: Texts<'t>,
-        doc: &Doc<'t>,
+        known: &[KnownLine<'t>],
         renaming: Renaming<'_, 't>,
     ) -> Result<(), AllocError>
         ensures { let rename = renamed_below renaming.entry in
-            OnOk result (LineBecomes texts.entry (document doc.now).lines rename self.old self.new) }
+            OnOk result (LineBecomes texts.entry (lines_known known.now) rename self.old self.new) }
     {
         if self.seen().is_below(renaming.at) {
-            self.rename(texts, doc, renaming)
+            self.rename(texts, known, renaming)
         } else {
             Ok(())
         }
@@ -175,13 +175,13 @@ impl<'t> Line<'t> {
     fn rename(
         &mut self,
         texts: Texts<'t>,
-        doc: &Doc<'t>,
+        known: &[KnownLine<'t>],
         renaming: Renaming<'_, 't>,
     ) -> Result<(), AllocError>
         ensures { let rename = renamed_own renaming.entry in
-            OnOk result (LineBecomes texts.entry (document doc.now).lines rename self.old self.new) }
+            OnOk result (LineBecomes texts.entry (lines_known known.now) rename self.old self.new) }
     {
-        self.rename_key(texts, doc, renaming.at, renaming.spelled)?;
+        self.rename_key(texts, known, renaming.at, renaming.spelled)?;
         self.carry(renaming.at, renaming.name)
     }
 
@@ -189,17 +189,17 @@ impl<'t> Line<'t> {
     fn rename_key(
         &mut self,
         texts: Texts<'t>,
-        doc: &Doc<'t>,
+        known: &[KnownLine<'t>],
         at: &Address,
         spelled: &'t str,
     ) -> Result<(), AllocError>
         ensures address { self.new.address ≡ self.old.address }
         ensures base { self.new.base ≡ self.old.base }
         ensures body { let rename = line_part_with (part_number at.now self.old.base) spelled.now in
-            OnOk result (BodyBecomes texts.entry (document doc.now).lines rename self.old.body self.new.body) }
+            OnOk result (BodyBecomes texts.entry (lines_known known.now) rename self.old.body self.new.body) }
     {
         match self.seen().part_of(at) {
-            Some(part) => self.set_part(texts, doc, part, Leaf::New(spelled)),
+            Some(part) => self.set_part(texts, known, part, Leaf::New(spelled)),
             None => Ok(()),
         }
     }
@@ -222,16 +222,16 @@ impl<'t> Line<'t> {
     fn set_part(
         &mut self,
         texts: Texts<'t>,
-        doc: &Doc<'t>,
+        known: &[KnownLine<'t>],
         part: usize,
         leaf: Leaf<'t>,
     ) -> Result<(), AllocError>
         ensures address { self.new.address ≡ self.old.address }
         ensures base { self.new.base ≡ self.old.base }
         ensures body { let changed = line_part_with (Some part) (leaf_text leaf.entry) in
-            OnOk result (BodyBecomes texts.entry (document doc.now).lines changed self.old.body self.new.body) }
+            OnOk result (BodyBecomes texts.entry (lines_known known.now) changed self.old.body self.new.body) }
     {
-        self.open(texts, doc)?;
+        self.open(texts, known)?;
         self.body.set_part(part, leaf);
         Ok(())
     }

@@ -1,6 +1,8 @@
 //! `section` and `element`: a header line of a new table, or of a new element of an array of tables.
-ghost use Rattle.std.specs.Prelude.{IfOk, IsTrue};
+ghost use Rattle.std.specs.Prelude.{IfOk, IsTrue, List};
 ghost use Rattle.toml_editor.specs.Edited.{IsElementInValue, IsInValue, IsRightInValue};
+ghost use Rattle.toml_tree.specs.Tree.{Line as Lined};
+ghost use Rattle.toml_names.specs.reader.LineNames.{Stand, StandFor};
 ghost use Rattle.toml_editor.specs.Making.{places_of};
 
 use crate::lines::{Line, Seen, Slot};
@@ -8,7 +10,7 @@ use crate::removing::parent_of;
 use crate::tree::{Brackets, Expr, Header, Key, Leaf, OpenLine};
 use crate::working::{Before, Position, Tree};
 use std::alloc::{AllocError, Global};
-use toml_names::{Address, NameReader, Place, Step};
+use toml_names::{Address, LineNames, Place, Step};
 use toml_units::Unit;
 
 /// A header line that is to be put in.
@@ -222,10 +224,11 @@ fn steps_to_index(steps: &[Step]) -> usize {
 /// Whether what stands right above the address is the value of a line of the document, or stands in one.
 pub(crate) fn is_right_in_value(
     alloc: Global,
-    names: &NameReader,
+    names: &LineNames,
     at: &Address,
 ) -> Result<bool, AllocError>
-    ensures { IfOk result (λ yes. IsTrue yes → IsRightInValue (places_of names.now) at.now) }
+    requires { Stand names.now }
+    ensures { (lines : List Lined) → StandFor names.now lines → IfOk result (λ yes. IsTrue yes → IsRightInValue (places_of lines) at.now) }
 {
     if at.steps().is_empty() {
         return Ok(false);
@@ -238,10 +241,11 @@ pub(crate) fn is_right_in_value(
 /// document, or stands in one.
 pub(crate) fn is_element_in_value(
     alloc: Global,
-    names: &NameReader,
+    names: &LineNames,
     at: &Address,
 ) -> Result<bool, AllocError>
-    ensures { IfOk result (λ yes. IsTrue yes → IsElementInValue (places_of names.now) at.now) }
+    requires { Stand names.now }
+    ensures { (lines : List Lined) → StandFor names.now lines → IfOk result (λ yes. IsTrue yes → IsElementInValue (places_of lines) at.now) }
 {
     if at.steps().is_empty() {
         return Ok(false);

@@ -1,26 +1,25 @@
 //! Where things stand in the working tree.
 ghost use Rattle.std.specs.Prelude.{◌≡◌, ◌+◌, ◌<◌, ◌^◌, ℕ, List, IfOk, map, true};
 ghost use Rattle.toml_text.specs.Source.{text_of};
-ghost use Rattle.toml_tree.specs.Document.{document};
-ghost use Rattle.toml_tree.specs.Lines.{line as line_tree};
-ghost use Rattle.toml_tree.specs.Pieces.{expr_start};
-ghost use Rattle.toml_tree.specs.View.{expr as expr_tree};
+ghost use Rattle.toml_editor.specs.KnownLines.{lines_known};
+ghost use Rattle.toml_tree.specs.Tree.{Line as Lined};
 ghost use Rattle.toml_editor.specs.OpenOutlines.{leaf_text};
-ghost use Rattle.toml_editor.specs.Stands.{heads_tables};
-ghost use Rattle.toml_editor.specs.Starting.{TakesLine, IsKeptOf, IsReadOf, NoneIsGone, StandAsRead};
+ghost use Rattle.toml_editor.specs.Reading.{fact_of};
+ghost use Rattle.toml_editor.specs.declared.working.Before.{Before};
+ghost use Rattle.toml_editor.specs.Starting.{AreFacts, TakesLine, IsReadOf, NoneIsGone, StandAsRead};
 ghost use Rattle.toml_editor.specs.Written.{style_of as newline_style};
 ghost use Rattle.toml_editor.specs.Putting.{IsLastAt};
 ghost use Rattle.toml_editor.specs.Placing.{FindsLast, FindsRootEnd, IsOfRoot, PassesSlot};
 ghost use Rattle.toml_editor.specs.Seeing.{CountsSteps, FindsAny, FindsHolder, FindsLine, FindsTable, FindsValue, HoldsNone, SeesAt};
 
 use crate::elements::Elements;
+use crate::known::KnownLine;
 use crate::lines::{Kept, Line, Seen, Slot, Sought};
+use crate::reading::LineFacts;
 use crate::texts::Texts;
 use crate::tree::Leaf;
 use std::alloc::{AllocError, Global};
 use toml_names::{Address, Place};
-use toml_text::Span;
-use toml_tree::{Doc, Expr, Line as ReadLine};
 use toml_units::{Unit, UnitKind};
 
 /// The place of a line: the slot, and the index among the lines that stand there.
@@ -57,7 +56,7 @@ pub(crate) enum TablePlace {
 /// The document before the edits, as the working tree looks at it.
 #[derive(Clone, Copy)]
 pub(crate) struct Before<'a, 'x> {
-    pub(crate) doc: &'a Doc<'x>,
+    pub(crate) known: &'a [KnownLine<'x>],
     pub(crate) units: &'a [Unit],
 }
 
@@ -79,18 +78,23 @@ pub(crate) struct Tree<'x> {
 
 impl<'x> Tree<'x> {
     /// The tree of a document that is as it was.
-    pub(crate) fn of(texts: Texts<'x>, before: Before<'_, 'x>) -> Result<Tree<'x>, AllocError>
-        requires { IsReadOf (text_of texts.source) before }
+    pub(crate) fn of(
+        texts: Texts<'x>,
+        before: Before<'_, 'x>,
+        facts: &[LineFacts],
+    ) -> Result<Tree<'x>, AllocError>
+        requires read { IsReadOf (text_of texts.source) before }
+        requires facts { AreFacts before facts.now }
         ensures stands { IfOk result (λ tree. StandAsRead (text_of texts.entry.source) before.entry tree.slots.items) }
         ensures texts { IfOk result (λ tree. tree.texts ≡ texts.entry) }
         ensures elements { IfOk result (λ tree. NoneIsGone tree.elements) }
-        ensures style { IfOk result (λ tree. leaf_text tree.style ≡ newline_style (document before.entry.doc.now).lines) }
+        ensures style { IfOk result (λ tree. leaf_text tree.style ≡ newline_style (lines_known before.entry.known.now)) }
     {
         Ok(Tree {
             texts,
-            slots: kept_slots(texts.alloc, before)?,
+            slots: kept_slots(texts.alloc, before.units, facts)?,
             elements: Elements::all(texts.alloc),
-            style: style_of(before.doc),
+            style: style_of(texts.alloc, before.known)?,
             root_end: Position { slot: 0, index: 0 },
         })
     }
@@ -367,13 +371,17 @@ impl<'x> Tree<'x> {
 }
 
 /// A slot for each line of the document, which is as it was.
-fn kept_slots<'x>(alloc: Global, before: Before<'_, 'x>) -> Result<Vec<Slot<'x>>, AllocError>
-    ensures { IfOk result (λ slots. (text : List ℕ) → IsReadOf text before.entry → StandAsRead text before.entry slots.items) }
+fn kept_slots<'x>(
+    alloc: Global,
+    units: &[Unit],
+    facts: &[LineFacts],
+) -> Result<Vec<Slot<'x>>, AllocError>
+    ensures { IfOk result (λ slots. (text : List ℕ) (before : Before) → before.units.now ≡ units.now → AreFacts before facts.now → IsReadOf text before
+        → StandAsRead text before slots.items) }
 {
-    let lines = before.doc.lines();
-    let mut slots = Vec::with_capacity(alloc, lines.len())?;
-    for (first, unit) in before.units.iter().enumerate() {
-        if let Some(kept) = kept_of(lines, slots.len(), unit, first) {
+    let mut slots = Vec::with_capacity(alloc, facts.len())?;
+    for (first, unit) in units.iter().enumerate() {
+        if let Some(kept) = kept_of(facts, slots.len(), unit, first) {
             slots.push(Slot::Kept(kept))?;
         }
     }
@@ -382,57 +390,33 @@ fn kept_slots<'x>(alloc: Global, before: Before<'_, 'x>) -> Result<Vec<Slot<'x>>
 
 /// Of a line's own unit, which has the number `first` among the units, the line, which has the number among the lines; of
 /// another unit none.
-fn kept_of(lines: &[ReadLine<'_>], number: usize, unit: &Unit, first: usize) -> Option<Kept>
-    ensures { TakesLine (map line_tree lines.now) number unit.now first result }
+fn kept_of(facts: &[LineFacts], number: usize, unit: &Unit, first: usize) -> Option<Kept>
+    ensures { (lines : List Lined) → facts.now ≡ map fact_of lines → TakesLine lines number unit.now first result }
 {
     if !matches!(unit.kind, UnitKind::Line) {
         return None;
     }
-    let line = lines.get(number)?;
-    Some(kept_line(number, line, first))
-}
-
-/// A line of the document that is as it was, by its number and that of its first unit.
-fn kept_line(number: usize, line: &ReadLine<'_>, first: usize) -> Kept
-    ensures number { result.line ≡ number }
-    ensures first { result.first ≡ first }
-    ensures kept { IsKeptOf (line_tree line.now) result }
-{
-    Kept {
+    let facts = facts.get(number)?;
+    Some(Kept {
         line: number,
-        span: Span {
-            start: start_of(line.expr()),
-            end: line.newline().span().end,
-        },
-        is_tables: is_tables(line.expr()),
-        is_last: line.newline().text.is_empty(),
+        span: facts.span,
+        is_tables: facts.is_tables,
+        is_last: facts.is_last,
         first,
-    }
-}
-
-/// Where an expression begins, with the whitespace before it.
-fn start_of(expr: &Expr<'_>) -> usize
-    ensures { result ≡ expr_start (expr_tree expr.now) }
-{
-    match expr {
-        Expr::Blank(blank) => blank.ws.start,
-        Expr::KeyVal { ws, .. } | Expr::Std { ws, .. } | Expr::Array { ws, .. } => ws.start,
-    }
-}
-
-/// Whether it is the header of an array of tables.
-fn is_tables(expr: &Expr<'_>) -> bool
-    ensures { result ≡ heads_tables (expr_tree expr.now) }
-{
-    matches!(expr, Expr::Array { .. })
+    })
 }
 
 /// The newline of the first line, or LF where it has none.
-fn style_of<'x>(doc: &Doc<'x>) -> Leaf<'x>
-    ensures { leaf_text result ≡ newline_style (document doc.now).lines }
+fn style_of<'x>(alloc: Global, known: &[KnownLine<'x>]) -> Result<Leaf<'x>, AllocError>
+    ensures { IfOk result (λ style. leaf_text style ≡ newline_style (lines_known known.now)) }
 {
-    match doc.lines().first() {
-        Some(line) if !line.newline().text.is_empty() => Leaf::New(line.newline().text),
-        _ => Leaf::New("\n"),
-    }
+    let Some(first) = known.first() else {
+        return Ok(Leaf::New("\n"));
+    };
+    let newline = first.newline(alloc)?;
+    Ok(if newline.is_empty() {
+        Leaf::New("\n")
+    } else {
+        Leaf::New(newline)
+    })
 }

@@ -31,3 +31,6 @@ pub use Rattle.toml_names.proofs.lemmas.mentions.OneRefusal.{refused_are_bad}
 pub use Rattle.toml_names.proofs.lemmas.mentions.AllLines.{lines_have_one_kind, line_values_stand_alone, values_have_one_kind, inner_values_stand_alone}
 pub use Rattle.toml_names.proofs.lemmas.reader.OneMoreLine.{taken_are_good, fronts_are_good}
 pub use Rattle.toml_names.proofs.lemmas.model.Hidden.{ways_are_near, fronts_are_near, elements_are_near}
+pub use Rattle.toml_names.proofs.lemmas.reader.RefusedTexts.{refused_text}
+pub use Rattle.toml_names.proofs.lemmas.reader.Passed.{less_is_left}
+pub use Rattle.toml_names.proofs.lemmas.model.Reached.{reached_are_not_hidden}

@@ -44,6 +44,23 @@ pub enum ReadFault {
     Names(NameFault),
 }
 
+impl ReadFault {
+    ghost use Rattle.std.specs.Prelude.{OnErr, OnOk};
+    ghost use Rattle.toml_names.specs.reader.Texts.{IsOfMemory};
+
+    /// Ok where it says something of the text: memory did not lack.
+    pub fn told(self) -> Result<(), AllocError>
+        ensures says { OnOk result (¬ (IsOfMemory self)) }
+        ensures lacks { OnErr result (IsOfMemory self) }
+    {
+        match self {
+            ReadFault::Syntax(SyntaxFault::NoMemory) => Err(AllocError),
+            ReadFault::Names(NameFault::NoMemory) => Err(AllocError),
+            _ => Ok(()),
+        }
+    }
+}
+
 impl From<SyntaxFault> for ReadFault {
     ghost from_gives = { λ fault e. e ≡ reads.Syntax fault };
 

@@ -1,4 +1,5 @@
 //! Laws over the definitions: nothing is run.
+ghost use Rattle.toml_names.specs.model.AddressSets.{ReachedAreNotHidden};
 ghost use Rattle.toml_names.specs.model.Addresses.{SameStepIsEqual, StepIsSame, SameIsEqual, AboveIsAbove};
 ghost use Rattle.toml_names.specs.mentions.Alike.{SectionGoesOn, CountsAdd, AlikeNameTheSame, AlikeStayAlike, PairsLeaveAlike};
 ghost use Rattle.toml_names.specs.mentions.Clear.{NotAboveNext, ClearOfRoot, SectionIsClear, HeadersAreClear, NotNamedIsClear};
@@ -17,6 +18,7 @@ ghost use Rattle.toml_names.specs.model.Parts.{DatumHasPart, StepIsThere, PartIs
 ghost use Rattle.toml_names.specs.mentions.Placeless.{KeyPlacesAreNotNamed, LinePlacesAreNotNamed, PlacesAreNotNamed, ValuePlacesAreNotNamed};
 ghost use Rattle.toml_names.specs.model.Places.{PlacesAreFound, NoPlace, PlaceIsFound};
 ghost use Rattle.toml_names.specs.mentions.Rules.{NoMisfit, MisfitIsFirst, SomeKeepRules, MoreKeepRules, MovedKeepRules, RulesAreOfMentions};
+ghost use Rattle.toml_names.specs.reader.Texts.{LessIsLeft, RefusedIsNoDocument};
 ghost use Rattle.toml_names.specs.model.SameData.{SameScalars, SameArrays, SameTables};
 
 /// Steps that are the same are equal, and so are addresses, and equal ones are the same; an address is above those of
@@ -46,10 +48,17 @@ pub fn kept_rules()
     ensures value { ValueKeepsRules }
 {}
 
-/// Lines of which the names are refused, memory aside, are not good, and there is one fault for which they are.
+/// Lines of which the names are refused, memory aside, are not good, and there is one fault for which they are. A text that is
+/// refused, memory aside, is no document.
 pub fn refusals()
     ensures bad { RefusedAreBad }
     ensures one { OneRefusal }
+    ensures text { RefusedIsNoDocument }
+{}
+
+/// Behind a line that a reader of lines handed out less is left than before, or nothing.
+pub fn lines_left()
+    ensures { LessIsLeft }
 {}
 
 /// Lines of which all names could be taken are good. The lines before a line are good if they are with it, and good lines
@@ -225,4 +234,9 @@ pub fn near_ways()
     ensures below { WaysAreNear }
     ensures above { FrontsAreNear }
     ensures elements { ElementsAreNear }
+{}
+
+/// A set of addresses reaches, of those that end in a name, the ones that it does not hide.
+pub fn reached()
+    ensures { ReachedAreNotHidden }
 {}

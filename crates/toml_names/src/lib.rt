@@ -28,5 +28,5 @@ pub use model::place::Place;
 pub use names::{Names, read_lines, read_names};
 pub use parts_of_text::{NamedText, names_of_text};
 pub use reader::NameReader;
-pub use texts::{judge_text, mentions_of_text};
+pub use texts::{judge_text, mentions_of_text, refuse_names};
 pub use tree::parts::Shape;

@@ -2,12 +2,15 @@
 ghost use Rattle.std.specs.Prelude.{◌≡◌, ◌<◌, ◌∷◌, ◌++◌, List, [], length, IfOk};
 ghost use Rattle.toml_tree.specs.Lines.{line as tree_line};
 ghost use Rattle.toml_tree.specs.Tree as spelled;
+ghost use Rattle.toml_names.specs.mentions.Mentions.{named};
+ghost use Rattle.toml_names.specs.model.Places.{place};
 ghost use Rattle.toml_names.specs.reader.LineNames.{Enters, Stand, StandFor, Takes, TakesAt};
 ghost use Rattle.toml_names.specs.reader.Texts.{Judges};
 
 use crate::fault::NameFault;
 use crate::mentions::mention::{Kind, Role};
 use crate::model::address::Address;
+use crate::model::place::Place;
 use crate::tree::hash_key::key_of_text;
 use crate::tree::hashing::NameHashing;
 use crate::tree::name_tree::NameTree;
@@ -67,7 +70,15 @@ impl<'t> LineNames<'t> {
         Ok(())
     }
 
-    /// The same, and tells the address of the line's value, table or element, made in the memory of an address that is let
+    /// Where what stands at the address stands in the text; none where the data of the lines taken have nothing there.
+    pub fn place(&self, at: &Address) -> Option<Place>
+        requires stand { Stand self.now }
+        ensures { (lines : List spelled.Line) → StandFor self.now lines → result ≡ place (named lines) at.now }
+    {
+        self.tree.place(at)
+    }
+
+    /// The same as `take`, and tells the address of the line's value, table or element, made in the memory of an address that is let
     /// go; a blank line has none.
     pub fn take_at(&mut self, line: &Line<'t>, spare: Address) -> Result<Option<Address>, NameFault>
         requires stand { Stand self.old }

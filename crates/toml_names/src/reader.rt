@@ -149,14 +149,6 @@ impl<'d, 't> NameReader<'d, 't> {
         &self.names
     }
 
-    /// The same, without the lines.
-    pub fn into_names(self) -> LineNames<'t>
-        ensures { StandFor result (lines_of self.entry) }
-    {
-        let NameReader { names, .. } = self;
-        names
-    }
-
     /// The lines taken, which are good together.
     pub fn taken(&self) -> &Vec<&'d Line<'t>>
         ensures good { AreGood (lines_of self.now) }

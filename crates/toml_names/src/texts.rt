@@ -1,19 +1,20 @@
 //! A text read line by line: what it names is judged and told, and no line is kept.
-ghost use Rattle.std.specs.Prelude.{◌≡◌, ◌<◌, ◌∷◌, ◌++◌, List, [], length, IfErr, IfOk, OnOk};
+ghost use Rattle.std.specs.Prelude.{◌≡◌, ◌<◌, ◌∷◌, ◌++◌, ℕ, List, [], length, IfErr, IfOk, OnOk};
 ghost use Rattle.toml_text.specs.Source.{text_of};
 ghost use Rattle.toml_tree.specs.Lines.{line as tree_line};
 ghost use Rattle.toml_tree.specs.Tree as spelled;
+ghost use Rattle.toml_tree.specs.declared.profile.Profile.{Profile as InProfile};
 ghost use Rattle.toml_names.specs.mentions.FirstMentions.{first_mentions};
 ghost use Rattle.toml_names.specs.mentions.Mentions.{named};
-ghost use Rattle.toml_names.specs.reader.Texts.{GoodText, Judges, RefusesText, StandForText};
+ghost use Rattle.toml_names.specs.reader.Texts.{AreLeft, GoodText, Judges, PassesLine, PassesLines, RefusesRest, RefusesText, StandForText};
 
-use crate::fault::ReadFault;
+use crate::fault::{NameFault, ReadFault};
 use crate::line_names::{Judged, LineNames};
 use crate::model::address::Address;
 use crate::tree::name_tree::NameTree;
 use std::alloc::Global;
 use toml_text::Source;
-use toml_tree::{Line, LineReader, Profile};
+use toml_tree::{Line, LineReader, Profile, SyntaxFault};
 
 /// Whether the text is a document of the profile, and else why not. A text that no tree spells is refused for that, whatever
 /// its lines before name. Memory is taken for one line at a time, and for what is named.
@@ -37,6 +38,44 @@ pub fn mentions_of_text(
 {
     let tree = enter_text(alloc, source, profile)?;
     Ok(tree.first_mentions()?)
+}
+
+/// Why a text is refused of which the first lines have names that are refused, and these lines are left, or none: where no tree
+/// spells it for its syntax, and else for the names. The lines left are read and let go. Want of memory is told at once.
+pub fn refuse_names(alloc: Global, left: Option<LineReader<'_>>, fault: NameFault) -> ReadFault
+    requires { (profile : InProfile) × (text : List ℕ) × (front : List spelled.Line) × AreLeft profile text front left }
+    ensures { RefusesRest left.entry fault result }
+{
+    if let NameFault::NoMemory = fault {
+        return ReadFault::Names(NameFault::NoMemory);
+    }
+    match pass_lines(alloc, left) {
+        Ok(()) => ReadFault::Names(fault),
+        Err(syntax) => ReadFault::Syntax(syntax),
+    }
+}
+
+/// Reads the lines that are left, and lets them go.
+fn pass_lines(alloc: Global, left: Option<LineReader<'_>>) -> Result<(), SyntaxFault>
+    requires { (profile : InProfile) × (text : List ℕ) × (front : List spelled.Line) × AreLeft profile text front left }
+    ensures { PassesLines left.entry result }
+{
+    let mut left = left;
+    while let Some(reader) = left {
+        left = pass_line(alloc, reader)?;
+    }
+    Ok(())
+}
+
+/// Reads a line, and lets it go here, so that the loop around it has nothing to let go.
+fn pass_line<'t>(
+    alloc: Global,
+    reader: LineReader<'t>,
+) -> Result<Option<LineReader<'t>>, SyntaxFault>
+    ensures { PassesLine reader.entry result }
+{
+    let (_line, more) = reader.next(alloc)?;
+    Ok(more)
 }
 
 /// Judges one line more, and lets it go here, so that the loop around it has nothing to let go.

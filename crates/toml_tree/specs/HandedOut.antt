@@ -12,7 +12,9 @@ use Rattle.toml_tree.specs.Reading.{Cursor, here, ahead}
 use Rattle.toml_tree.specs.ReadingLines.{line_step}
 use Rattle.toml_tree.specs.Reads.{cursor}
 use Rattle.toml_tree.specs.Spells.{mark_of}
-use Rattle.toml_tree.specs.Tree.{Doc, Line}
+use Rattle.toml_tree.specs.Tree.{Piece, BlankLine, Doc, Line}
+use Rattle.toml_tree.specs.declared.step.Step.{Step}
+use Rattle.toml_tree.specs.declared.step.Step.TheVariants.{Next, Done}
 
 -- where a text begins, and where its lines do
 abbrev pub front_of : List ℕ → Cursor
@@ -47,3 +49,15 @@ abbrev pub HandsOn : Profile → List ℕ → List Line → ℕ → Result (decl
 HandsOn profile text front more (Ok (l, Some r)) = HandsOut profile text (front ++ line l ∷ []) r × (left r < more)
 HandsOn profile text front more (Ok (l, None)) = AreLinesIn profile text (front ++ line l ∷ [])
 HandsOn profile text front more (Err fault) = Refuses profile text fault
+
+-- the line that a step read, and one of no bytes where there is none
+abbrev pub line_read : Option (Step Line Line × Cursor) → Line
+line_read (Some (Next l, c)) = l
+line_read (Some (Done l, c)) = l
+line_read None =
+    let nothing : Piece = record { start = 0; text = [] } in
+    record { expr = BlankLine (record { ws = nothing; comment = None }); newline = nothing }
+
+-- the line that a reader hands out next, whenever it is asked
+abbrev pub line_ahead : LineReader → Line
+line_ahead r = line_read (line_step r.profile (cursor r.reader))

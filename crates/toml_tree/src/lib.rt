@@ -22,7 +22,7 @@ mod values;
 
 pub use document::Doc;
 pub use line::Line;
-pub use line_reader::LineReader;
+pub use line_reader::{LineReader, mark};
 pub use parsing::{parse, parse_in, parse_value, parse_value_in};
 pub use piece::{Blank, Gap, GapLine, LineGap, LinesGap, Piece};
 pub use profile::Profile;

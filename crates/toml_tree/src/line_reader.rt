@@ -1,11 +1,16 @@
 //! The lines of a text one after another.
-ghost use Rattle.std.specs.Prelude.{ℕ, List, []};
+ghost use Rattle.std.specs.Prelude.{◌≡◌, ℕ, List, [], IfOk, length};
 ghost use Rattle.toml_text.specs.Source.{text_of};
-ghost use Rattle.toml_tree.specs.HandedOut.{HandsOn, HandsOut, left};
+ghost use Rattle.toml_tree.specs.HandedOut.{HandsOn, HandsOut, front_of, left, line_ahead};
+ghost use Rattle.toml_tree.specs.Lines.{line};
+ghost use Rattle.toml_tree.specs.Reading.{here};
+ghost use Rattle.toml_tree.specs.Spells.{mark_of};
+ghost use Rattle.toml_tree.specs.View.{piece};
 ghost use Rattle.toml_tree.specs.declared.profile.Profile.{Profile};
 ghost use Rattle.toml_tree.specs.Tree as tree;
 
 use crate::line::Line;
+use crate::piece::Piece;
 use crate::profile::Profile;
 use crate::reader::Reader;
 use crate::step::Step;
@@ -33,8 +38,10 @@ impl<'t> LineReader<'t> {
 
     /// The next line, and the reader if there is one more. Once the last line is handed out all of them together are those
     /// of `parse_in`. A fault says of the whole text that it has no tree of the profile; `NoMemory` says nothing of it.
+    /// A reader that is asked again hands out the same line.
     pub fn next(self, alloc: Global) -> Result<(Line<'t>, Option<LineReader<'t>>), SyntaxFault>
-        ensures { (profile : Profile) (text : List ℕ) (front : List tree.Line) → HandsOut profile text front self.entry → HandsOn profile text front (left self.entry) result }
+        ensures same { IfOk result (λ r. line r.0 ≡ line_ahead self.entry) }
+        ensures hands { (profile : Profile) (text : List ℕ) (front : List tree.Line) → HandsOut profile text front self.entry → HandsOn profile text front (left self.entry) result }
     {
         let LineReader {
             mut reader,
@@ -45,4 +52,12 @@ impl<'t> LineReader<'t> {
             Step::Done(line) => Ok((line, None)),
         }
     }
+}
+
+/// The mark U+FEFF at the front of a text, or an empty piece.
+pub fn mark<'t>(source: Source<'t>) -> Piece<'t>
+    ensures { let text = text_of source.entry in piece result ≡ here (length (mark_of text)) (front_of text) }
+{
+    let mut reader = Reader { source, at: 0 };
+    reader.mark()
 }

@@ -1,6 +1,5 @@
 -- A cursor goes from unit to unit, and from line to line.
 use Rattle.std.proofs.Common.{◌≡◌, ℕ, ◌+◌, ◌<◌, List, [], ◌∷◌, ◌++◌, length, map, drop, Option, Some, None, refl, sym, ap, subst, ◌∙◌, arith, append_assoc}
-use Rattle.std.specs.Borrow.{Bor}
 use Rattle.std.specs.Prelude.{IsSome}
 use Rattle.std.specs.Vec.Iter.{into_iter_items}
 use Rattle.std.proofs.lemmas.List.{append-nil}
@@ -8,6 +7,7 @@ use Rattle.std.proofs.lemmas.Option.{same_Some}
 use Rattle.toml_tree.specs.declared.profile.Profile.{Profile}
 use Rattle.toml_names.specs.mentions.Mentions.{named}
 use Rattle.toml_names.specs.reader.Names.{own_address}
+use Rattle.toml_units.specs.Taken.{newline_text}
 use Rattle.toml_units.specs.Cursors.{Comes, HasWalked, IsCome, Moves, Stand, Stands, Walks, ahead, current, lined_first, newlines_ahead, to_go}
 use Rattle.toml_units.specs.Lined.{LinedUnit, lined, lined_line, with_newline}
 use Rattle.toml_units.specs.Opened.{opened_items, opened_units}
@@ -122,7 +122,7 @@ module _ (profile : Profile) (text : List ℕ) (past : List LinedUnit) (old new 
       let is : ahead new ≡ ahead old =
       ap (λ i. lined_first new.newline.now (newlines_ahead new) (all_units (drop i new.units.items) ++ held)) first
       ∙ ap (lined_first new.newline.now (newlines_ahead new)) (h.units.units ∙ ap (λ us. all_units us ++ opened_units old.reading.opened) empty)
-      ∙ (λ i. lined_first (newline i).now (map (λ (n : Bor (List ℕ)). n.now) (into_iter_items (newlines i))) (opened_units old.reading.opened))
+      ∙ (λ i. lined_first (newline i).now (map newline_text (into_iter_items (newlines i))) (opened_units old.reading.opened))
       ∙ sym (ahead_none old none) in
       let all = ap (λ i. length (drop i new.units.items)) first in
       let read = ap to_read h.left in

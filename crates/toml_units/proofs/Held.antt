@@ -1,6 +1,5 @@
 -- Units that are held of a text, with the newlines of its lines, are its units.
 use Rattle.std.proofs.Common.{◌≡◌, ℕ, ◌+◌, ◌≤◌, List, [], ◌∷◌, ◌++◌, length, map, take, drop, Option, None, length-append, refl, sym, ap, subst, ◌∙◌, arith}
-use Rattle.std.specs.Borrow.{Bor}
 use Rattle.std.proofs.Math.Seq.{take-append_seam}
 use Rattle.std.proofs.lemmas.List.{append-nil, length-drop}
 use Rattle.toml_tree.proofs.Proved.{sizes_add}
@@ -14,7 +13,7 @@ use Rattle.toml_names.specs.declared.line_names.LineNames.{LineNames}
 use Rattle.toml_names.specs.mentions.Mentions.{Named, named_by, root}
 use Rattle.toml_names.specs.reader.LineNames.{StandFor}
 use Rattle.toml_names.specs.reader.Names.{own_address}
-use Rattle.toml_units.specs.Cursors.{AreHeld, HasNextNewline, Walks, ahead, later_newlines, lined_behind, lined_first, newlines_ahead, own_newline}
+use Rattle.toml_units.specs.Cursors.{HasNextNewline, Walks, ahead, later_newlines, lined_behind, lined_first, newlines_ahead, own_newline}
 use Rattle.toml_units.specs.Lined.{LinedUnit, lined, lined_from, with_newline}
 use Rattle.toml_units.specs.Opened.{opened_units}
 use Rattle.toml_units.specs.Plain.{line_span, plain_from, plain_line, plain_units}
@@ -22,13 +21,15 @@ use Rattle.toml_units.specs.Reading.{IsDone, IsLeft}
 use Rattle.toml_units.specs.View.{all_units}
 use Rattle.toml_units.specs.declared.cursor.UnitCursor.{UnitCursor}
 use Rattle.toml_units.specs.declared.reading.Left.{Left}
+use Rattle.toml_units.specs.declared.reading.Reading.{Reading}
+use Rattle.toml_units.specs.declared.taken.TakenLines.{TakenLines}
+use Rattle.toml_units.specs.Taken.{HasTaken, newline_text}
 use Rattle.toml_units.specs.declared.reading.Left.TheVariants.{Nothing, Refused}
 use Rattle.toml_units.specs.declared.opened.Opened.{Opened}
 use Rattle.toml_units.specs.declared.unit.Unit.{Unit as Made}
 use Rattle.toml_units.specs.declared.unit.UnitKind.TheVariants as kinds
 use Rattle.toml_units.proofs.Ahead.{behind_front}
 use Rattle.toml_units.proofs.Lined.{line_no_lines}
-use Rattle.toml_units.proofs.Plain.{plain_is_units}
 use Rattle.toml_units.proofs.Standing.{mark_ahead}
 use Rattle.toml_units.proofs.UnitsFew.{newline_long}
 
@@ -82,16 +83,21 @@ are_lines profile text d (spells, of_profile) =
     }
 
 -- a cursor that holds them, and took the newline of the first line, stands before the first unit
-module _ (profile : Profile) (text : List ℕ) (d : Doc) (names : LineNames) (us : List Made) (newlines : List (Bor (List ℕ))) (h : AreHeld profile text d names us newlines)
-    (c new : UnitCursor) (own : c.reading.names ≡ names) (left : c.reading.left ≡ Nothing) (closed : c.reading.opened ≡ None) (units : c.units.items ≡ us) (first : c.place ≡ 0)
-    (later : newlines_ahead c ≡ map (λ (newline : Bor (List ℕ)). newline.now) newlines) (taken : HasNextNewline c new) where
+module _ (profile : Profile) (text : List ℕ) (d : Doc) (spelled : SpellsIn profile d text) (were : TakenLines) (h : HasTaken were d.lines)
+    (c new : UnitCursor) (own : c.reading ≡ were.reading) (units : c.units.items ≡ were.units.items) (first : c.place ≡ 0)
+    (later : newlines_ahead c ≡ map newline_text were.newlines.items) (taken : HasNextNewline c new) where
+  left : c.reading.left ≡ Nothing
+  left = ap (λ (r : Reading). r.left) own ∙ h.left
+
+  closed : c.reading.opened ≡ None
+  closed = ap (λ (r : Reading). r.opened) own ∙ h.closed
+
   held_ahead : lined d.lines ≡ ahead new
   held_ahead =
       let ns = newlines_of d.lines in
-      let are : all_units us ≡ plain_units d.lines = h.units_are ∙ sym (plain_is_units d text h.spelled.0) in
       let kept : all_units (drop new.place new.units.items) ≡ plain_units d.lines =
-      (λ i. all_units (drop ((taken.place ∙ first) i) (taken.units i).items)) ∙ ap all_units units ∙ are in
-      let texts : newlines_ahead c ≡ ns = later ∙ h.newlines_are in
+      (λ i. all_units (drop ((taken.place ∙ first) i) (taken.units i).items)) ∙ ap all_units units ∙ h.units in
+      let texts : newlines_ahead c ≡ ns = later ∙ h.newlines in
       let none : new.reading.opened ≡ None = ap (λ r. r.opened) taken.reading ∙ closed in
       let all : all_units (drop new.place new.units.items) ++ opened_units new.reading.opened ≡ plain_units d.lines =
       ap (λ (o : Option Opened). all_units (drop new.place new.units.items) ++ opened_units o) none ∙ append-nil (all_units (drop new.place new.units.items)) ∙ kept in
@@ -102,13 +108,13 @@ module _ (profile : Profile) (text : List ℕ) (d : Doc) (names : LineNames) (us
   pub held_walks : Walks profile text new []
   held_walks =
       let none : new.reading.left ≡ Nothing = ap (λ r. r.left) taken.reading ∙ left in
-      let names_is : new.reading.names ≡ names = ap (λ r. r.names) taken.reading ∙ own in
+      let names_is : new.reading.names ≡ were.reading.names = ap (λ (r : Reading). r.names) (taken.reading ∙ own) in
       let not_refused : ¬ (new.reading.left ≡ Refused) = λ refused. let e : Nothing ≡ Refused = sym none ∙ refused in cc in
       record {
         stands = record {
           lines = d.lines;
           read = subst (λ (l : Left). IsLeft profile text new.reading d.lines l) (sym none)
-              (subst (λ (n : LineNames). StandFor n d.lines) (sym names_is) h.names_are, are_lines profile text d h.spelled);
+              (subst (λ (n : LineNames). StandFor n d.lines) (sym names_is) h.names, are_lines profile text d spelled);
           units = λ kept. held_ahead;
           none = λ refused. absurd (not_refused refused);
         };

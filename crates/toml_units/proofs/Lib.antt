@@ -32,8 +32,10 @@ pub mod Holders
 pub mod Tails
 pub mod Proved
 pub mod ReadLines
+pub mod Newlines
 pub mod Ahead
 pub mod Cursors
 pub mod Lined
 pub mod UnitsFew
 pub mod Held
+pub mod LetGo

@@ -25,8 +25,8 @@ use Rattle.toml_units.specs.declared.unit.Unit.{Unit as Made}
 use Rattle.toml_names.specs.model.Addresses.{Address}
 use Rattle.toml_units.specs.Lined.{lined, lined_from, lined_line}
 use Rattle.toml_units.specs.Opened.{AddsFirst, opened_units}
-use Rattle.toml_units.specs.Plain.{line_span, line_spans}
-use Rattle.toml_units.specs.Reading.{HasEnteredText, GoOn, HasEntered, HasNames, HasRead, IsDone, IsHanded, IsLeft, IsOver, left_of, to_read}
+use Rattle.toml_units.specs.Plain.{line_span, line_spans, plain_from, plain_units}
+use Rattle.toml_units.specs.Reading.{HasEnteredText, HasEntered, HasNames, HasRead, IsDone, IsHanded, IsLeft, IsOver, left_of, to_read}
 use Rattle.toml_names.proofs.Proved.{fronts_are_good, pairs_leave_alike}
 use Rattle.toml_units.specs.View.{AddsUnits, Spanned}
 use Rattle.toml_units.specs.declared.opened.Opened.{Opened}
@@ -45,29 +45,17 @@ lined_from-push (k ∷ ls) earlier n l =
 pub lined_push : (lines : List Line) (l : Line) → lined (lines ++ l ∷ []) ≡ lined lines ++ lined_line (own_address (named lines) l.expr) l
 lined_push lines l = lined_from-push lines (root ∷ []) 0 l
 
--- a text that has no tree is no document
-pub no_tree : (profile : Profile) (text : List ℕ) (fault : SyntaxFault) → (fault ≡ faults.NoMemory → ⊥) → Refuses profile text fault → ¬ IsDocumentIn profile text
-no_tree profile text (faults.BadCharacter at) memory h = λ document. h.1 document.1 (document.2, document.4)
-no_tree profile text (faults.Expected at) memory h = λ document. h.1 document.1 (document.2, document.4)
-no_tree profile text (faults.BadString at) memory h = λ document. h.1 document.1 (document.2, document.4)
-no_tree profile text (faults.BadNumber at) memory h = λ document. h.1 document.1 (document.2, document.4)
-no_tree profile text (faults.IntegerRange at) memory h = λ document. h.1 document.1 (document.2, document.4)
-no_tree profile text (faults.BadDate at) memory h = λ document. h.1 document.1 (document.2, document.4)
-no_tree profile text (faults.TooDeep at) memory h = λ document. h.1 document.1 (document.2, document.4)
-no_tree profile text faults.NoMemory memory h = λ document. memory refl
+plain_from-push : (ls : List Line) (earlier : List Named) (n : ℕ) (l : Line)
+    → plain_from earlier n (ls ++ l ∷ []) ≡ plain_from earlier n ls ++ line_spans (own_address (named_from earlier n ls) l.expr) l.expr
+plain_from-push [] earlier n l = append-nil (line_spans (own_address earlier l.expr) l.expr)
+plain_from-push (k ∷ ls) earlier n l =
+    let here = line_spans (own_address earlier k.expr) k.expr in
+    ap (λ us. here ++ us) (plain_from-push ls (earlier ++ named_by earlier n k.expr) (n + 1) l)
+    ∙ sym (append_assoc here (plain_from (earlier ++ named_by earlier n k.expr) (n + 1) ls) _)
 
-good_of : (profile : Profile) (text : List ℕ) (lines : List Line) → AreLinesIn profile text lines → IsDocumentIn profile text → AreGood lines
-good_of profile text lines are document =
-    subst (λ (e : Doc). AreGood e.lines) (one_tree document.1 (tree_of text lines) text document.2 are.spelled.0) document.3
-
-good_front : (more lines : List Line) → AreGood (lines ++ more) → AreGood lines
-good_front [] lines good = subst AreGood (append-nil lines) good
-good_front (l ∷ more) lines good = fronts_are_good lines l (good_front more (lines ++ l ∷ []) (subst AreGood (sym (append_assoc lines (l ∷ []) more)) good))
-
--- a text whose first lines are not good is no document
-pub no_document : (profile : Profile) (text : List ℕ) (front : List Line) → ¬ AreGood front → GoOn profile text front → ¬ IsDocumentIn profile text
-no_document profile text front bad go = λ document.
-    bad (good_front (go document).0 front (good_of profile text (front ++ (go document).0) (go document).1 document))
+-- the units of one line more, by the plain function
+pub plain_push : (lines : List Line) (l : Line) → plain_units (lines ++ l ∷ []) ≡ plain_units lines ++ line_spans (own_address (named lines) l.expr) l.expr
+plain_push lines l = plain_from-push lines (root ∷ []) 0 l
 
 -- what is left behind a line that was handed out
 pub passes : (profile : Profile) (text : List ℕ) (front : List Line) (n : ℕ) (l : declared.Line) (more : Option LineReader)

@@ -1,6 +1,5 @@
 -- A walk over the units of a text.
 use Rattle.std.specs.Prelude.{◌≡◌, ◌≤◌, ◌<◌, ◌+◌, ◌*◌, ◌∷◌, ◌++◌, [], ℕ, List, drop, length, map, Option, Some, None, option_map, Result, OnOk, slice_get}
-use Rattle.std.specs.Borrow.{Bor}
 use Rattle.std.specs.Vec.Iter.{into_iter_items}
 use Rattle.std.specs.declared.alloc.AllocError.{AllocError}
 use Rattle.toml_tree.specs.HandedOut.{AreLinesIn}
@@ -12,14 +11,15 @@ use Rattle.toml_names.specs.model.Documents.{IsDocumentIn}
 use Rattle.toml_names.specs.reader.LineNames.{StandFor}
 use Rattle.toml_units.specs.declared.cursor.UnitCursor.{UnitCursor}
 use Rattle.toml_units.specs.declared.reading.Left.TheVariants.{Refused}
+use Rattle.toml_units.specs.declared.taken.TakenLines.{TakenLines}
 use Rattle.toml_units.specs.declared.unit.Unit.{Unit as Made}
 use Rattle.toml_units.specs.declared.unit.UnitKind.{UnitKind}
 use Rattle.toml_units.specs.declared.unit.UnitKind.TheVariants as kinds
 use Rattle.toml_units.specs.Lined.{LinedUnit, lined}
 use Rattle.toml_units.specs.Opened.{opened_items, opened_units}
 use Rattle.toml_units.specs.Reading.{HasRead, IsAtEnd, to_read}
-use Rattle.toml_units.specs.Units.{units}
-use Rattle.toml_units.specs.View.{Spanned, all_units, spanned, unit}
+use Rattle.toml_units.specs.Taken.{HasTaken, newline_text}
+use Rattle.toml_units.specs.View.{Spanned, all_units, unit}
 
 -- a unit of the code, with the newline of the cursor's line
 abbrev pub lined_by : UnitCursor → Made → LinedUnit
@@ -31,7 +31,7 @@ current c = option_map (lined_by c) (slice_get c.units.items c.place)
 
 -- the newlines of the lines that are held behind that of the cursor
 abbrev pub newlines_ahead : UnitCursor → List (List ℕ)
-newlines_ahead c = map (λ (newline : Bor (List ℕ)). newline.now) (into_iter_items c.newlines)
+newlines_ahead c = map newline_text (into_iter_items c.newlines)
 
 -- the newline of a unit: a line has the next one, if there is one, and what is no line has that of the unit before it
 abbrev pub own_newline : UnitKind → List ℕ → List (List ℕ) → List ℕ
@@ -92,6 +92,13 @@ abbrev pub to_go : UnitCursor → ℕ
 to_go c = (to_read c.reading.left * 18446744073709551616 + opened_items c.reading.opened) * 18446744073709551616
     + length (drop c.place c.units.items)
 
+-- units that were walked past were let go, or none; all else is as it was
+pub record HasLetGo (old new : UnitCursor) : Type 0 where
+  pub reading : new.reading ≡ old.reading
+  pub units : drop new.place new.units.items ≡ drop old.place old.units.items
+  pub newline : new.newline ≡ old.newline
+  pub newlines : new.newlines ≡ old.newlines
+
 -- the unit before which it stood was walked past
 pub record Moves (profile : Profile) (text : List ℕ) (past : List LinedUnit) (old : UnitCursor) (new : UnitCursor) : Type 0 where
   pub walks : (x : LinedUnit) → current old ≡ Some x → Walks profile text new (past ++ x ∷ [])
@@ -132,19 +139,6 @@ Ends profile text past None = ¬ IsDocumentIn profile text
 abbrev pub EndsAll : UnitCursor → Option LineNames → Type 0
 EndsAll c names = (profile : Profile) (text : List ℕ) (past : List LinedUnit) → Walks profile text c past → Ends profile text past names
 
--- these are the newlines of the lines, one each
-abbrev pub AreNewlines : List (Bor (List ℕ)) → List Line → Type 0
-AreNewlines newlines lines = map (λ (newline : Bor (List ℕ)). newline.now) newlines ≡ map (λ (l : Line). l.newline.text) lines
-
--- held of a text in the profile: the names of the lines of its tree, their units, and the newline of each line
-pub record AreHeld (profile : Profile) (text : List ℕ) (d : Doc) (names : LineNames) (us : List Made) (newlines : List (Bor (List ℕ)))
-    : Type 0 where
-  pub spelled : SpellsIn profile d text
-  pub names_are : StandFor names d.lines
-  pub units_are : all_units us ≡ map spanned (units d.lines)
-  pub newlines_are : AreNewlines newlines d.lines
-
--- whichever text these are held of, the cursor stands before its first unit
-abbrev pub StandsBefore : LineNames → List Made → List (Bor (List ℕ)) → UnitCursor → Type 0
-StandsBefore names us newlines c = (profile : Profile) (text : List ℕ) (d : Doc) → AreHeld profile text d names us newlines
-    → Walks profile text c []
+-- whichever text's lines these are, the cursor stands before its first unit
+abbrev pub StandsBefore : TakenLines → UnitCursor → Type 0
+StandsBefore taken c = (profile : Profile) (text : List ℕ) (d : Doc) → SpellsIn profile d text → HasTaken taken d.lines → Walks profile text c []

@@ -2,8 +2,6 @@
 use Rattle.std.specs.Prelude.{◌≡◌, ◌<◌, ◌≤◌, ◌+◌, ◌∷◌, ◌++◌, [], ℕ, List, length, Option, Some, None, Result, Ok, Err, IfOk, OnOk}
 use Rattle.std.specs.declared.alloc.AllocError.{AllocError}
 use Rattle.std.specs.Borrow.{Bor}
-use Rattle.toml_scalar.specs.declared.fault.SyntaxFault.{SyntaxFault}
-use Rattle.toml_tree.specs.Document.{Refuses}
 use Rattle.toml_tree.specs.HandedOut.{AreLinesIn, HandsOut, left}
 use Rattle.toml_tree.specs.Tree.{Line}
 use Rattle.toml_tree.specs.declared.line_reader.LineReader.{LineReader}
@@ -14,7 +12,6 @@ use Rattle.toml_names.specs.model.Addresses.{Address}
 use Rattle.toml_names.specs.model.Documents.{IsDocumentIn}
 use Rattle.toml_names.specs.reader.LineNames.{StandFor}
 use Rattle.toml_names.specs.reader.Names.{RefusesNames, own_address}
-use Rattle.toml_names.specs.reader.Texts.{AreLeft}
 use Rattle.toml_units.specs.declared.reading.Left.{Left}
 use Rattle.toml_units.specs.declared.reading.Left.TheVariants.{Lines, Nothing, Refused}
 use Rattle.toml_units.specs.declared.reading.Reading.{Reading}
@@ -68,25 +65,6 @@ abbrev pub to_read : Left → ℕ
 to_read (Lines reader) = left reader + 1
 to_read Nothing = 0
 to_read Refused = 0
-
--- one line more was passed, and less is left
-abbrev pub Passes : Profile → List ℕ → List Line → ℕ → Result (Option LineReader) SyntaxFault → Type 0
-Passes profile text front n (Ok more) = ((l : Line) × AreLeft profile text (front ++ l ∷ []) more) × (to_read (left_of more) < n + 1)
-Passes profile text front n (Err fault) = Refuses profile text fault
-
--- whichever first lines of whichever text were handed out, one line more is passed
-abbrev pub GoesBehind : LineReader → Result (Option LineReader) SyntaxFault → Type 0
-GoesBehind reader result = (profile : Profile) (text : List ℕ) (front : List Line) → HandsOut profile text front reader
-    → Passes profile text front (left reader) result
-
--- if the text is a document, these are its first lines
-abbrev pub GoOn : Profile → List ℕ → List Line → Type 0
-GoOn profile text front = IsDocumentIn profile text → (more : List Line) × AreLinesIn profile text (front ++ more)
-
--- whichever first lines of whichever text were handed out, if it is a document, they are its first lines, where there is memory
-abbrev pub GoesToEnd : Option LineReader → Result (Unit {0}) AllocError → Type 0
-GoesToEnd more result = (profile : Profile) (text : List ℕ) (front : List Line) → AreLeft profile text front more
-    → OnOk result (GoOn profile text front)
 
 -- nothing is left to read
 abbrev pub IsDone : Left → Type 0

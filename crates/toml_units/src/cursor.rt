@@ -1,10 +1,11 @@
 //! A walk over the units of a text, which is read line by line, or was read already.
-ghost use Rattle.std.specs.Prelude.{◌≡◌, [], None, IsSome, IfOk, option_map, slice_get};
+ghost use Rattle.std.specs.Prelude.{◌≡◌, [], None, IsSome, IfOk, OnOk, option_map, slice_get};
 ghost use Rattle.toml_text.specs.Source.{text_of};
-ghost use Rattle.toml_units.specs.Cursors.{ComesOn, EndsAll, Goes, HasNextNewline, Stand, StandsBefore, StepsOn, Walks, current};
+ghost use Rattle.toml_units.specs.Cursors.{ComesOn, EndsAll, Goes, HasLetGo, HasNextNewline, Stand, StandsBefore, StepsOn, Walks, current};
 ghost use Rattle.toml_units.specs.Places.{is_line};
 
 use crate::reading::{Left, Reading};
+use crate::taken::{Newline, TakenLines};
 use crate::unit::{Unit, UnitKind};
 use std::alloc::{AllocError, Global};
 use std::vec::IntoIter;
@@ -23,8 +24,11 @@ pub struct UnitCursor<'t> {
     place: usize,
     newline: &'t str,
     // those of the lines that come behind it in `units`
-    newlines: IntoIter<&'t str>,
+    newlines: IntoIter<Newline>,
 }
+
+/// How many units are walked past before any of those held are let go.
+const MANY_UNITS: usize = 4096;
 
 /// Whether a unit is a line.
 fn is_line(unit: &Unit) -> bool
@@ -68,18 +72,17 @@ impl<'t> UnitCursor<'t> {
         Ok(cursor)
     }
 
-    /// Stands before the first unit of a text of which all lines were read already: it holds their names, their units, and the
-    /// newline of each, the empty text where a line has none.
-    pub fn held(
-        alloc: Global,
-        names: LineNames<'t>,
-        units: Vec<Unit>,
-        newlines: Vec<&'t str>,
-    ) -> UnitCursor<'t>
-        ensures { StandsBefore names.entry units.items newlines.entry.items result }
+    /// Stands before the first unit of a text of which all lines were taken already.
+    pub fn held(taken: TakenLines<'t>) -> UnitCursor<'t>
+        ensures { StandsBefore taken.entry result }
     {
+        let TakenLines {
+            reading,
+            units,
+            newlines,
+        } = taken;
         let mut cursor = UnitCursor {
-            reading: Reading::over(alloc, names),
+            reading,
             units,
             place: 0,
             newline: "",
@@ -103,8 +106,35 @@ impl<'t> UnitCursor<'t> {
         self.newline
     }
 
-    /// Goes past the unit before which it stands.
+    /// Goes past the unit before which it stands. Where many are held, those walked past are let go once they are half of them, so
+    /// that a unit moves once on average, and the memory goes as the walk comes to its end.
     pub fn step(&mut self, alloc: Global) -> Result<(), AllocError>
+        requires goes { Goes self.old }
+        requires some { IsSome (current self.old) }
+        ensures { StepsOn self.old self.new result }
+    {
+        if self.place < MANY_UNITS {
+            return self.go_past(alloc);
+        }
+        self.let_go()?;
+        self.go_past(alloc)
+    }
+
+    /// Lets the units go that were walked past, if they are half of those that it holds.
+    fn let_go(&mut self) -> Result<(), AllocError>
+        ensures { OnOk result (HasLetGo self.old self.new) }
+    {
+        let half = self.units.len() / 2;
+        if self.place < half || self.place > self.units.len() {
+            return Ok(());
+        }
+        self.units = self.units.split_off(self.place)?;
+        self.place = 0;
+        Ok(())
+    }
+
+    /// Goes past the unit, and lets none go.
+    fn go_past(&mut self, alloc: Global) -> Result<(), AllocError>
         requires goes { Goes self.old }
         requires some { IsSome (current self.old) }
         ensures { StepsOn self.old self.new result }
@@ -124,7 +154,7 @@ impl<'t> UnitCursor<'t> {
         ensures { HasNextNewline self.old self.new }
     {
         if let Some(next) = self.newlines.next() {
-            self.newline = next;
+            self.newline = next.text();
         }
     }
 

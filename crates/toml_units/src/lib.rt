@@ -11,6 +11,7 @@ mod lines;
 mod opened;
 mod piece;
 mod reading;
+mod taken;
 mod unit;
 mod walk;
 
@@ -19,5 +20,6 @@ pub use cursor::UnitCursor;
 pub use fault::CertificateFault;
 pub use lines::{units, units_at};
 pub use piece::{Piece, join};
+pub use taken::TakenLines;
 pub use unit::{Unit, UnitKind};
 pub use walk::units_inside;

@@ -52,7 +52,7 @@ fn expr_span(e: &Expr) -> Span
 }
 
 /// How many parts a key has.
-fn parts(key: &Key) -> usize
+pub(crate) fn parts(key: &Key) -> usize
     ensures { result ≡ length (key_names (tree_key key.now)) }
 {
     key.rest.len() + 1

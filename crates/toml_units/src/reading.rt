@@ -1,24 +1,20 @@
 //! A text read line by line: what its lines name, and the units of one line after another. No line is kept but one whose
 //! units are handed out item by item.
-ghost use Rattle.std.specs.Prelude.{◌≡◌, ℕ, IfOk, IsSome, None, OnOk, List, []};
+ghost use Rattle.std.specs.Prelude.{◌≡◌, IfOk, IsSome, None, OnOk, List, []};
 ghost use Rattle.toml_text.specs.Source.{text_of};
 ghost use Rattle.toml_tree.specs.Lines.{line as tree_line};
 ghost use Rattle.toml_tree.specs.Tree.{Line as Lined};
-ghost use Rattle.toml_tree.specs.declared.profile.Profile.{Profile as InProfile};
-ghost use Rattle.toml_scalar.specs.declared.fault.SyntaxFault.TheVariants as syntax;
-ghost use Rattle.toml_names.specs.declared.fault.NameFault.TheVariants as names;
-ghost use Rattle.toml_names.specs.reader.Texts.{AreLeft};
 ghost use Rattle.toml_units.specs.declared.reading.Left.TheVariants.{Nothing};
-ghost use Rattle.toml_units.specs.Reading.{Enters, Goes, GoesBehind, GoesToEnd, HandsMore, HandsOne, HasEntered, HasRead, left_of};
+ghost use Rattle.toml_units.specs.Reading.{Enters, Goes, HandsMore, HandsOne, HasEntered, HasRead, left_of};
 
-use crate::lines::push_first;
+use crate::lines::{parts, push_first};
 use crate::opened::Opened;
 use crate::unit::Unit;
 use std::alloc::{AllocError, Global};
 use std::mem;
-use toml_names::{Address, LineNames, NameFault, key_address_into};
+use toml_names::{Address, LineNames, NameFault, ReadFault, key_address_into, refuse_names};
 use toml_text::Source;
-use toml_tree::{Expr, Line, LineReader, Profile, SyntaxFault};
+use toml_tree::{Expr, Line, LineReader, Profile};
 
 /// What of a text is not read yet: lines, or nothing; or the text was found to be no document.
 #[derive(Clone, Copy)]
@@ -38,26 +34,6 @@ pub(crate) struct Reading<'t> {
     pub(crate) opened: Option<Opened<'t>>,
 }
 
-/// Passes on that there was no memory.
-fn told_names(fault: NameFault) -> Result<(), AllocError>
-    ensures { OnOk result (¬ (fault ≡ names.NoMemory)) }
-{
-    match fault {
-        NameFault::NoMemory => Err(AllocError),
-        _ => Ok(()),
-    }
-}
-
-/// The same of a fault of the syntax.
-fn told_syntax(fault: SyntaxFault) -> Result<(), AllocError>
-    ensures { OnOk result (¬ (fault ≡ syntax.NoMemory)) }
-{
-    match fault {
-        SyntaxFault::NoMemory => Err(AllocError),
-        _ => Ok(()),
-    }
-}
-
 /// What is left where it may be that a reader has lines left.
 fn left_of<'t>(more: Option<LineReader<'t>>) -> Left<'t>
     ensures { result ≡ left_of more.entry }
@@ -66,29 +42,6 @@ fn left_of<'t>(more: Option<LineReader<'t>>) -> Left<'t>
         Some(reader) => Left::Lines(reader),
         None => Left::Nothing,
     }
-}
-
-/// Reads a line and lets it go, and tells what is left behind it.
-fn behind<'t>(alloc: Global, reader: LineReader<'t>) -> Result<Option<LineReader<'t>>, SyntaxFault>
-    ensures { GoesBehind reader.entry result }
-{
-    let (_line, more) = reader.next(alloc)?;
-    Ok(more)
-}
-
-/// Reads the lines that are left, and lets them go.
-fn pass_over<'t>(alloc: Global, left: Option<LineReader<'t>>) -> Result<(), AllocError>
-    requires { (profile : InProfile) × (text : List ℕ) × (front : List Lined) × AreLeft profile text front left }
-    ensures { GoesToEnd left.entry result }
-{
-    let mut left = left;
-    while let Some(reader) = left {
-        match behind(alloc, reader) {
-            Ok(more) => left = more,
-            Err(fault) => return told_syntax(fault),
-        }
-    }
-    Ok(())
 }
 
 impl<'t> Reading<'t> {
@@ -108,9 +61,10 @@ impl<'t> Reading<'t> {
         })
     }
 
-    /// All lines were read already, and these are their names.
+    /// Nothing is left to read, and these are the names.
     pub(crate) fn over(alloc: Global, names: LineNames<'t>) -> Reading<'t>
         ensures names { result.names ≡ names.entry }
+        ensures section { result.section ≡ [] }
         ensures left { result.left ≡ Nothing }
         ensures opened { result.opened ≡ None }
     {
@@ -124,7 +78,7 @@ impl<'t> Reading<'t> {
 
     /// Takes what a line names, and tells the address of its value, table or element. An address is made in the memory
     /// of the spare one.
-    fn enter(
+    pub(crate) fn enter(
         &mut self,
         alloc: Global,
         line: &Line<'t>,
@@ -154,6 +108,19 @@ impl<'t> Reading<'t> {
                 self.section = own.copy_into(old)?;
                 Ok(Some(own))
             }
+        }
+    }
+
+    /// How many steps the address of a line has, where no part of a header's key leads into an array: then it has more.
+    pub(crate) fn steps_of(&self, e: &Expr) -> usize {
+        match e {
+            Expr::Blank(_) => 0,
+            Expr::KeyVal { keyval, .. } => {
+                let above = self.section.steps().len();
+                above.saturating_add(parts(&keyval.assign.key))
+            }
+            Expr::Std { header, .. } => parts(&header.key),
+            Expr::Array { header, .. } => parts(&header.key).saturating_add(1),
         }
     }
 
@@ -188,13 +155,12 @@ impl<'t> Reading<'t> {
                     Ok(Some(newline))
                 }
                 Err(fault) => {
-                    told_names(fault)?;
-                    pass_over(alloc, more)?;
+                    refuse_names(alloc, more, fault).told()?;
                     Ok(None)
                 }
             },
             Err(fault) => {
-                told_syntax(fault)?;
+                ReadFault::Syntax(fault).told()?;
                 Ok(None)
             }
         }

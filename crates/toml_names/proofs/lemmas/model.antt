@@ -6,3 +6,4 @@ pub mod Equal
 pub mod Hidden
 pub mod Indices
 pub mod Levels
+pub mod Reached

@@ -1,5 +1,5 @@
 -- Which addresses a set has, and what it hides beside the ways to them: names with all below them, and what is below elements.
-use Rattle.std.specs.Prelude.{◌≡◌, ◌&&◌, ℕ, Bool, false, List, [], ◌∷◌, Option, Some, None, String, option_map, if◌then◌else◌}
+use Rattle.std.specs.Prelude.{◌≡◌, ◌&&◌, ℕ, Bool, true, false, List, [], ◌∷◌, ◌++◌, not, Option, Some, None, String, option_map, if◌then◌else◌}
 use Rattle.std.specs.BTreeMap.{BTreeMap, get, get_by_text}
 use Rattle.std.specs.Option.{unwrap_or}
 use Rattle.std.specs.Ordering.{nat_cmp}
@@ -25,6 +25,15 @@ below set (Index i) = get nat_cmp (out-AddressSet set).elements i
 abbrev pub is_hidden : AddressSet → Cover
 is_hidden set [] = false
 is_hidden set (s ∷ at) = if is_whole set then false else unwrap_or (option_map (λ t. is_hidden t at) (below set s)) (is_off s at)
+
+-- whether an address is on the way to one of the set, or at or below one
+abbrev pub reaches : AddressSet → Address → Bool
+reaches set [] = true
+reaches set (s ∷ at) = if is_whole set then true else unwrap_or (option_map (λ t. reaches t at) (below set s)) false
+
+-- Law: of addresses that end in a name those are reached that are not hidden.
+abbrev pub ReachedAreNotHidden : Type 0
+ReachedAreNotHidden = (set : AddressSet) (at : Address) (n : List ℕ) → reaches set (at ++ Name n ∷ []) ≡ not (is_hidden set (at ++ Name n ∷ []))
 
 -- what is hidden at a step and below it, with the set there, if there is one
 abbrev pub hides : Option AddressSet → Step → Cover

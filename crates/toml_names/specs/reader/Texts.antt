@@ -1,8 +1,12 @@
 -- What the reading of a text line by line answers.
-use Rattle.std.specs.Prelude.{◌≡◌, ◌∷◌, ◌++◌, ℕ, List, [], length, Option, Some, None}
+use Rattle.std.specs.Prelude.{◌≡◌, ◌<◌, ◌+◌, ◌∷◌, ◌++◌, ℕ, List, [], length, Option, Some, None, Result, Ok, Err}
+use Rattle.toml_scalar.specs.declared.fault.SyntaxFault.{SyntaxFault}
+use Rattle.toml_scalar.specs.declared.fault.SyntaxFault.TheVariants as syntax
 use Rattle.toml_tree.specs.declared.profile.Profile.{Profile}
 use Rattle.toml_tree.specs.Document.{Refuses}
-use Rattle.toml_tree.specs.HandedOut.{AreLinesIn, HandsOut}
+use Rattle.toml_tree.specs.HandedOut.{AreLinesIn, HandsOn, HandsOut, left}
+use Rattle.toml_tree.specs.Lines.{line}
+use Rattle.toml_tree.specs.declared.line.Line as declared
 use Rattle.toml_tree.specs.declared.line_reader.LineReader.{LineReader}
 use Rattle.toml_tree.specs.Tree.{Line}
 use Rattle.toml_names.specs.declared.fault.NameFault.{NameFault}
@@ -11,6 +15,7 @@ use Rattle.toml_names.specs.declared.fault.ReadFault.{ReadFault}
 use Rattle.toml_names.specs.declared.fault.ReadFault.TheVariants as faults
 use Rattle.toml_names.specs.declared.line_names.Judged.{Judged}
 use Rattle.toml_names.specs.declared.line_names.Judged.TheVariants.{Good, Bad}
+use Rattle.toml_names.specs.model.Documents.{IsDocumentIn}
 use Rattle.toml_names.specs.reader.LineNames.{StandFor}
 use Rattle.toml_names.specs.reader.Names.{AreGood, RefusesNames}
 use Rattle.toml_names.specs.reader.Reading.{IsReader}
@@ -27,10 +32,54 @@ abbrev pub RefusesText : Profile → List ℕ → ReadFault → Type 0
 RefusesText profile text (faults.Syntax fault) = Refuses profile text fault
 RefusesText profile text (faults.Names fault) = (fault ≡ names.NoMemory → ⊥) → (lines : List Line) × AreLinesIn profile text lines × RefusesNames lines fault
 
+-- there was no memory
+abbrev pub IsOfMemory : ReadFault → Type 0
+IsOfMemory (faults.Syntax fault) = fault ≡ syntax.NoMemory
+IsOfMemory (faults.Names fault) = fault ≡ names.NoMemory
+
+-- Law: a text that is refused, where memory did not lack, is no document.
+abbrev pub RefusedIsNoDocument : Type 0
+RefusedIsNoDocument = (profile : Profile) (text : List ℕ) (fault : ReadFault) → ¬ IsOfMemory fault → RefusesText profile text fault → ¬ IsDocumentIn profile text
+
 -- the first lines of the text, and what the names of them come to
 abbrev pub AreLeft : Profile → List ℕ → List Line → Option LineReader → Type 0
 AreLeft profile text front (Some reader) = HandsOut profile text front reader
 AreLeft profile text front None = AreLinesIn profile text front
+
+-- how much of a text is left
+abbrev pub more_left : Option LineReader → ℕ
+more_left (Some reader) = left reader + 1
+more_left None = 0
+
+-- Law: behind a line that was handed out less is left, or nothing.
+abbrev pub LessIsLeft : Type 0
+LessIsLeft = (profile : Profile) (text : List ℕ) (front : List Line) (n : ℕ) (l : declared.Line) (more : Option LineReader) → HandsOn profile text front n (Ok (l, more))
+    → AreLeft profile text (front ++ line l ∷ []) more × (more_left more < n + 1)
+
+-- one line more was passed, and less is left
+abbrev pub Passes : Profile → List ℕ → List Line → ℕ → Result (Option LineReader) SyntaxFault → Type 0
+Passes profile text front n (Ok more) = ((l : Line) × AreLeft profile text (front ++ l ∷ []) more) × (more_left more < n + 1)
+Passes profile text front n (Err fault) = Refuses profile text fault
+
+-- whichever first lines of whichever text were handed out, one line more is passed
+abbrev pub PassesLine : LineReader → Result (Option LineReader) SyntaxFault → Type 0
+PassesLine reader result = (profile : Profile) (text : List ℕ) (front : List Line) → HandsOut profile text front reader
+    → Passes profile text front (left reader) result
+
+-- all lines of the text were passed, these and more, or no tree spells it
+abbrev pub PassesAll : Profile → List ℕ → List Line → Result (Unit {0}) SyntaxFault → Type 0
+PassesAll profile text front (Ok _) = (more : List Line) × AreLinesIn profile text (front ++ more)
+PassesAll profile text front (Err fault) = Refuses profile text fault
+
+-- whichever first lines of whichever text were handed out, the others are passed
+abbrev pub PassesLines : Option LineReader → Result (Unit {0}) SyntaxFault → Type 0
+PassesLines more result = (profile : Profile) (text : List ℕ) (front : List Line) → AreLeft profile text front more
+    → PassesAll profile text front result
+
+-- whichever text it is of which these lines are left behind first ones whose names are refused so, it is refused so
+abbrev pub RefusesRest : Option LineReader → NameFault → ReadFault → Type 0
+RefusesRest more fault result = (profile : Profile) (text : List ℕ) (front : List Line) → AreLeft profile text front more → RefusesNames front fault
+    → RefusesText profile text result
 
 abbrev pub Judges : Judged → List Line → Type 0
 Judges (Good names) front = StandFor names front

@@ -3,7 +3,7 @@ ghost use Rattle.std.specs.BTreeMap.{get_by_text};
 ghost use Rattle.std.specs.Prelude.{◌≡◌, ◌++◌, ℕ, List, OnOk, option_copied};
 ghost use Rattle.toml_names.specs.declared.model.address.Step.TheVariants.{Name, Index};
 ghost use Rattle.toml_names.specs.model.Addresses.{Address as Steps, child};
-ghost use Rattle.toml_names.specs.model.AddressSets.{AddsElement, AddsName, HidesLess, below, is_hidden, is_whole, last_step};
+ghost use Rattle.toml_names.specs.model.AddressSets.{AddsElement, AddsName, HidesLess, below, is_hidden, is_whole, last_step, reaches};
 ghost use Rattle.toml_names.specs.model.Hidden.{is_off_all};
 
 use crate::model::address::Step;
@@ -47,6 +47,33 @@ impl AddressSet {
         ensures { OnOk result (HidesLess self.old self.new (child parent.now name.now)) }
     {
         enter(self, parent, Some(name))
+    }
+
+    /// Whether it reaches an address: that is on the way to one of its own, or at or below one. It takes no memory.
+    pub fn reaches(&self, at: &[Step]) -> bool
+        ensures { result ≡ reaches self.now at.now }
+    {
+        let mut set = self;
+        for step in at {
+            if set.whole {
+                return true;
+            }
+            match set.below(step) {
+                Some(next) => set = next,
+                None => return false,
+            }
+        }
+        true
+    }
+
+    /// What it has one step down, if anything.
+    fn below(&self, step: &Step) -> Option<&AddressSet>
+        ensures { option_copied result ≡ below self.now step.now }
+    {
+        match step {
+            Step::Name(name) => self.below_name(name.as_str()),
+            Step::Index(index) => self.below_index(*index),
+        }
     }
 
     /// Whether it has the address of the way so far, and so all that is below it.

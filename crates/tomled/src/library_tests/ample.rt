@@ -1,10 +1,6 @@
 //! Calls that no other test makes by themselves, with ample memory: each answers, and what is wanted.
-ghost use Rattle.std.specs.Prelude.{[], IfOk, IfSome};
-ghost use Rattle.toml_tree.specs.Document.{document};
-ghost use Rattle.toml_tree.specs.declared.profile.Profile.TheVariants.{One};
-ghost use Rattle.toml_names.specs.model.Documents.{IsDocumentIn};
+ghost use Rattle.std.specs.Prelude.{IfOk, IfSome};
 ghost use Rattle.toml_names.specs.reader.LineNames.{Stand};
-ghost use Rattle.toml_units.specs.Cursors.{AreNewlines, Walks};
 
 use crate::library_tests::worked::{
     address, assert_lines, assert_paragraphs, data, doc, edits, names, path, source,
@@ -14,13 +10,15 @@ use crate::tagged::tagged;
 use crate::verify::run_verify;
 use std::alloc::{AllocError, Global};
 use std::test::Fail;
-use toml_checker::{Reason, Verdict, check, check_in, check_walked, first_marks, outermost};
+use toml_checker::{Verdict, check, check_in, first_marks, outermost};
 use toml_editor::{edit, edit_in, edit_pieces};
 use toml_edits::{Edit, apply, near_addresses};
-use toml_names::{Address, LineNames, key_address, key_address_into, read_lines};
+use toml_names::{Address, LineNames, NameFault, key_address, key_address_into, read_lines};
 use toml_text::Source;
-use toml_tree::{Doc, Expr, Profile, parse, parse_value};
-use toml_units::{Certificate, UnitCursor, certificate_text, join, units, units_at, units_inside};
+use toml_tree::{Expr, LineReader, Profile, parse_value};
+use toml_units::{
+    Certificate, TakenLines, UnitCursor, certificate_text, join, units, units_at, units_inside,
+};
 
 const FLOAT: &str = "3.14 = 0xdead_beef\n";
 
@@ -52,6 +50,27 @@ fn count_units(alloc: Global) -> Option<usize> {
 #[test]
 fn lines_are_read(rt: HostRuntime) {
     assert_eq!(rt; count_units(rt.alloc()), Some(2));
+}
+
+/// How many units the first line of a text has, once it is taken; a cursor over them stands before the first one.
+fn take_first(alloc: Global, source: Source) -> Result<Option<usize>, NameFault> {
+    let mut taken = TakenLines::new(alloc, source)?;
+    let Ok((line, _)) = LineReader::new(source, Profile::One).next(alloc) else {
+        return Ok(None);
+    };
+    taken.take(alloc, &line)?;
+    let count = taken.units().len();
+    let cursor = UnitCursor::held(taken);
+    Ok(cursor.unit().map(|_| count))
+}
+
+fn first_units(alloc: Global) -> Option<usize> {
+    take_first(alloc, source(FILE)?).ok()?
+}
+
+#[test]
+fn lines_are_taken(rt: HostRuntime) {
+    assert_eq!(rt; first_units(rt.alloc()), Some(2));
 }
 
 /// What the unit is before which the cursor stands, and the newline of its line.
@@ -295,57 +314,6 @@ fn verdict(alloc: Global) -> Option<Verdict> {
 #[test]
 fn the_judge_says_yes(rt: HostRuntime) {
     assert_eq!(rt; verdict(rt.alloc()), Some(Verdict::Yes));
-}
-
-/// The newline of each line of a tree, the empty text where it has none.
-fn newlines_of<'x>(alloc: Global, doc: &Doc<'x>) -> Result<Vec<&'x str>, AllocError>
-    ensures { IfOk result (λ newlines. AreNewlines newlines.items (document doc.now).lines) }
-{
-    let lines = doc.lines();
-    let mut newlines = Vec::with_capacity(alloc, lines.len())?;
-    for line in lines {
-        newlines.push(line.newline().text)?;
-    }
-    Ok(newlines)
-}
-
-/// A cursor before the first unit of a document whose tree is let go.
-fn held<'t>(alloc: Global, text: &'t [u8]) -> Option<UnitCursor<'t>>
-    ensures walks { IfSome result (λ cursor. Walks One text.now cursor []) }
-    ensures document { IfSome result (λ cursor. IsDocumentIn One text.now) }
-{
-    let source = Source::new(text).ok()?;
-    let doc = parse(alloc, source).ok()?;
-    let reader = read_lines(alloc, &doc).ok()?;
-    let units = units_at(alloc, &doc, reader.own_addresses().ok()?).ok()?;
-    let newlines = newlines_of(alloc, &doc).ok()?;
-    Some(UnitCursor::held(alloc, reader.into_names(), units, newlines))
-}
-
-/// What the judge says of a text, walking over the units that are held of the file.
-fn walked_verdict(alloc: Global, after: &str) -> Option<Verdict> {
-    let edits = edits(alloc, EDITS)?;
-    let pairs = Vec::from_array(alloc, PAIRS).ok()?;
-    let file = FILE.as_bytes();
-    check_walked(
-        alloc,
-        file,
-        held(alloc, file)?,
-        &edits,
-        after.as_bytes(),
-        &Certificate { pairs },
-        Profile::One,
-    )
-    .ok()
-}
-
-#[test]
-fn the_judge_walks_over_what_is_held(rt: HostRuntime) {
-    assert_eq!(rt; walked_verdict(rt.alloc(), OUT), Some(Verdict::Yes));
-    assert_eq!(rt;
-        walked_verdict(rt.alloc(), "port = 0x2F # keep\n"),
-        Some(Verdict::No(Reason::OtherData))
-    );
 }
 
 /// Whether the program says yes too.

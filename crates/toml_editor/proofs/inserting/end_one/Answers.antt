@@ -1,5 +1,5 @@
 use Rattle.std.proofs.lemmas.Result.{on_ok_weaker}
-use Rattle.toml_tree.specs.Document.{document}
+use Rattle.toml_editor.specs.KnownLines.{lines_known}
 use Rattle.toml_editor.specs.OpenOutlines.{leaf_text}
 use Rattle.toml_editor.proofs.Put.{line_ended}
 use Rattle.toml_editor.proofs.Turned.{if_one_turns, none_turns}
@@ -7,7 +7,7 @@ use Rattle.toml_editor.proofs.inserting.end_one.Goals as goal
 
 pub returns-in-Some : goal.returns-in-Some
 returns-in-Some c =
-    let lines = (document c.args.doc.now).lines in
+    let lines = (lines_known c.args.known.now) in
     if_one_turns c.end_in.result _ c.args.index c.args.lines.now.items c.in-Some.line.now c.end_in.new.self c.in-Some.ensures.item.3.0
     c.in-Some.ensures.value
     (on_ok_weaker c.end_in.result

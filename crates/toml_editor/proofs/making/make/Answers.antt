@@ -1,5 +1,6 @@
 use Rattle.std.proofs.Common.{inl, inr, refl}
 use Rattle.toml_names.specs.model.Data.{kind_at}
+use Rattle.toml_editor.specs.Starting.{read_of}
 use Rattle.toml_editor.specs.Making.{places_of}
 use Rattle.toml_editor.proofs.MakesExact.{makes_one, not_last, not_spread, passes_one}
 use Rattle.toml_editor.proofs.Shapes.{made_is, not_made_is}
@@ -19,7 +20,7 @@ returns-clause-exact c = record {
 pub returns-then-is_spread-clause-spread : goal.returns-then-is_spread-clause-spread
 returns-then-is_spread-clause-spread c =
     let both = not_made_is c.in_ok-done.done _ _ c.not_made-is_spread.ensures c.if-is_spread.true in
-    not_spread _ _ (places_of c.args.read.names.now) c.args.index (kind_at c.args.data.now.root) _ _ _ c.in_ok-done.done c.in_ok-done.ensures
+    not_spread _ _ (places_of (read_of c.args.read.before).lines) c.args.index (kind_at c.args.data.now.root) _ _ _ c.in_ok-done.done c.in_ok-done.ensures
     both.0 (c.in_ok-spread.ensures.yes both.1)
 
 pub returns-then-is_spread-clause-told : goal.returns-then-is_spread-clause-told

@@ -12,12 +12,12 @@ use Rattle.toml_editor.proofs.SpelledOne.{as_many, one_spelled}
 use Rattle.toml_editor.proofs.making.make_all.Goals as goal
 
 pub bounds-spelled-index : goal.bounds-spelled-index
-bounds-spelled-index c = omega (arith, as_many c.args.edits.now c.args.spelled.now c.requires)
+bounds-spelled-index c = omega (arith, as_many c.args.edits.now c.args.spelled.now c.requires.spelled)
 
-pub make-requires : goal.make-requires
-make-requires c =
-    one_spelled c.args.edits.now c.args.spelled.now c.loop-index.index c.index-edits-index.result c.index-spelled-index.result c.requires (omega arith)
-    c.index-edits-index.is (omega (arith, as_many c.args.edits.now c.args.spelled.now c.requires)) c.index-spelled-index.is
+pub make-requires-clause-spelled : goal.make-requires-clause-spelled
+make-requires-clause-spelled c =
+    one_spelled c.args.edits.now c.args.spelled.now c.loop-index.index c.index-edits-index.result c.index-spelled-index.result c.requires.spelled (omega arith)
+    c.index-edits-index.is (omega (arith, as_many c.args.edits.now c.args.spelled.now c.requires.spelled)) c.index-spelled-index.is
 
 pub loop-index-init : goal.loop-index-init
 loop-index-init c =
@@ -53,7 +53,7 @@ returns-in-Err c =
     let edit = c.index-edits-index.result in
     let profile = c.args.read.profile in
     let read = read_of c.args.read.before in
-    let places = places_of c.args.read.names.now in
+    let places = places_of (read_of c.args.read.before).lines in
     let old = c.args.tree.now in
     let near = kind_at c.args.data.now.root in
     let part = kind_at here.«data».root in

@@ -39,7 +39,7 @@ returns-in-Insert c =
     let new = c.write_insert.new.tree in
     let result = c.write_insert.result in
     let steps = c.args.spelled.now.steps.items in
-    let spelled = subst (λ e. IsSpelled (change e) c.args.spelled.now) c.in-Insert.is c.requires in
+    let spelled = subst (λ e. IsSpelled (change e) c.args.spelled.now) c.in-Insert.is c.requires.spelled in
     edit_written result profile read old new c.in_ok-at.at _ _ c.in-Insert.is (λ whole. c.in_ok-at.ensures whole ∙ c.place.ensures)
     (λ at. if_ok_both _ _ _ result
     (λ done rest writes whole. (

@@ -1,7 +1,7 @@
 use Rattle.std.proofs.Common.{arith, ◌+◌, sym, subst}
 use Rattle.std.specs.declared.alloc.Global.{Global}
 use Rattle.std.specs.declared.vec.Vec.{Vec}
-use Rattle.toml_tree.specs.Document.{document}
+use Rattle.toml_editor.specs.KnownLines.{lines_known}
 use Rattle.toml_editor.specs.declared.lines.Line.{Line}
 use Rattle.toml_editor.specs.Becoming.{LineBecomes, renamed_below}
 use Rattle.toml_editor.proofs.OneByOne.{SoFar, all_done, none_there, one_more}
@@ -10,7 +10,7 @@ use Rattle.toml_editor.proofs.renaming.rename_in_lines.Goals.{in-Some+in_ok-rena
 
 pub loop-index-preserved : goal.loop-index-preserved
 loop-index-preserved c =
-    let R = LineBecomes c.args.texts (document c.args.doc.now).lines (renamed_below c.args.renaming) in
+    let R = LineBecomes c.args.texts (lines_known c.args.known.now) (renamed_below c.args.renaming) in
     let old = c.args.lines.now.items in
     let now = c.loop-index.lines in
     let i = c.loop-index.index in
@@ -27,6 +27,6 @@ loop-index-preserved c =
 
 pub returns : goal.returns
 returns c =
-    all_done (LineBecomes c.args.texts (document c.args.doc.now).lines (renamed_below c.args.renaming)) c.loop-index.index
+    all_done (LineBecomes c.args.texts (lines_known c.args.known.now) (renamed_below c.args.renaming)) c.loop-index.index
     c.args.lines.now.items c.loop-index.lines.items c.loop-index.invariant
     (omega (arith, c.loop-index-test.false, c.len-index-end.ensures, c.args.lines.now.ok.0))

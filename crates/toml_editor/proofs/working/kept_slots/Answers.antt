@@ -1,9 +1,8 @@
-use Rattle.std.proofs.Common.{◌≡◌, ◌∙◌, ◌+◌, ◌++◌, ◌∷◌, [], List, Some, ap, length, map, subst, sym}
+use Rattle.std.proofs.Common.{◌≡◌, ◌≤◌, ◌∙◌, ◌+◌, ◌++◌, ◌∷◌, [], ℕ, List, Some, ap, length, map, subst, sym}
 use Rattle.std.specs.Prelude.{slice_get}
 use Rattle.std.proofs.lemmas.Option.{slice_get-get_or}
-use Rattle.toml_tree.specs.Document.{document}
-use Rattle.toml_tree.specs.Lines.{line}
-use Rattle.toml_tree.specs.Tree.{Line}
+use Rattle.toml_tree.specs.HandedOut.{tree_of}
+use Rattle.toml_units.specs.declared.unit.Unit.{Unit as TextUnit}
 use Rattle.toml_editor.specs.declared.lines.Slot.TheVariants as slots
 use Rattle.toml_editor.specs.Starting.{TakesLine, read_of}
 use Rattle.toml_editor.proofs.Started.{StartedWith, started, started_line, started_past, started_all}
@@ -12,22 +11,22 @@ use Rattle.toml_editor.proofs.working.kept_slots.Goals as goal
 use Rattle.toml_editor.proofs.working.kept_slots.Goals.{in-Some+in_ok-push, in_default}
 
 pub loop-first-init : goal.loop-first-init
-loop-first-init c text is =
-    let read = read_of c.args.before in
+loop-first-init c text before units facts is =
+    let read = read_of before in
     subst (StartedWith text read 0) (sym (c.in_ok-slots.ensures {u = tt}).items)
-    (started text read is.units (lines_lie (document c.args.before.doc.now) text is.within is.spelled))
+    (started text read is.units (lines_lie (tree_of text read.lines) text is.within is.spelled))
 
 pub loop-first-preserved : goal.loop-first-preserved
-loop-first-preserved c text is =
-    let read = read_of c.args.before in
+loop-first-preserved c text before units facts is =
+    let read = read_of before in
     let first = c.loop-first.first in
     let all = c.loop-first.slots.items in
-    let u = c.unit-item.result in
-    let got : slice_get read.units first ≡ Some u = slice_get-get_or read.units first u c.loop-first-test.true ∙ ap Some (sym c.unit-item.is) in
+    let u = c.index-units-first.result in
+    let got : slice_get read.units first ≡ Some u =
+    ap (λ (us : List TextUnit). slice_get us first) units ∙ slice_get-get_or c.args.units.now first u c.loop-first-test.true ∙ ap Some (sym c.index-units-first.is) in
     let long : c.len.result ≡ length all = c.len.ensures ∙ c.loop-first.slots.ok.0 in
-    let so_far = c.loop-first.invariant text is in
-    let found = subst (λ (ls : List Line). TakesLine ls (length all) u first c.kept_of.result) c.lines-lines.ensures
-    (subst (λ n. TakesLine (map line c.lines-lines.result.now) n u first c.kept_of.result) long c.kept_of.ensures) in
+    let so_far = c.loop-first.invariant text before units facts is in
+    let found = subst (λ n. TakesLine read.lines n u first c.kept_of.result) long (c.kept_of.ensures read.lines facts) in
     elim c.match-kept_of.branch [
       | in-Some+in_ok-push w ↦
           let keeps = subst (TakesLine read.lines (length all) u first) w.in-Some.is found in
@@ -39,7 +38,8 @@ loop-first-preserved c text is =
     ]
 
 pub returns : goal.returns
-returns c text is =
-    let read = read_of c.args.before in
-    let (lines, origins) = started_all text read c.loop-first.first c.loop-first.slots.items c.loop-first-test.false (c.loop-first.invariant text is) in
+returns c text before units facts is =
+    let read = read_of before in
+    let past = subst (λ (us : List TextUnit). length us ≤ c.loop-first.first) (sym units) c.loop-first-test.false in
+    let (lines, origins) = started_all text read c.loop-first.first c.loop-first.slots.items past (c.loop-first.invariant text before units facts is) in
     record { lines = lines; origins = origins }

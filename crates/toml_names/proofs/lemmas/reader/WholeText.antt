@@ -1,5 +1,5 @@
 -- Lines that are refused stay so with one line more.
-use Rattle.toml_names.proofs.Common.{common_steps, ◌≡◌, ◌≤◌, ◌+◌, ℕ, List, [], ◌∷◌, ◌++◌, length, take, sym, subst, ap, ◌∙◌, arith, length_push, Line, NameFault, Address, AreGood, named, IsRedefined, IsLong, RefusesNames, RefusesLine, IsShort, KeepsRules, IsFirstOffence}
+use Rattle.toml_names.proofs.Common.{common_steps, ◌≡◌, ◌≤◌, ◌+◌, ℕ, List, [], ◌∷◌, ◌++◌, length, take, sym, subst, ap, ◌∙◌, arith, append_assoc, append-nil, length_push, Line, NameFault, Address, AreGood, named, IsRedefined, IsLong, RefusesNames, RefusesLine, IsShort, KeepsRules, IsFirstOffence}
 use Rattle.toml_names.specs.declared.fault.NameFault.TheVariants as faults
 
 -- the lines before one are the same with one line more
@@ -39,3 +39,9 @@ module _ (lines : List Line) (l : Line) where
   refused_still (faults.Redefined n at) h = redefined_still n at h
   refused_still (faults.LongAddress n) h = long_still n h
   refused_still faults.NoMemory h = tt
+
+-- and with any number of lines more
+pub all_refused : (fault : NameFault) (more lines : List Line) → RefusesNames lines fault → RefusesNames (lines ++ more) fault
+all_refused fault [] lines h = subst (λ ls. RefusesNames ls fault) (sym (append-nil lines)) h
+all_refused fault (l ∷ more) lines h =
+    subst (λ ls. RefusesNames ls fault) (append_assoc lines (l ∷ []) more) (all_refused fault more (lines ++ l ∷ []) (refused_still lines l fault h))

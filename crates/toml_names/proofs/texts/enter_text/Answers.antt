@@ -4,18 +4,9 @@ use Rattle.toml_tree.specs.declared.line.Line as declared
 use Rattle.toml_tree.specs.declared.line_reader.LineReader.{LineReader}
 use Rattle.toml_tree.specs.declared.profile.Profile.{Profile}
 use Rattle.toml_tree.specs.HandedOut.{HandsOn, HandsOut, left}
-use Rattle.toml_names.specs.reader.Texts.{AreLeft}
-use Rattle.toml_names.proofs.texts.enter_text.Invariants.{more_left}
+use Rattle.toml_names.specs.reader.Texts.{AreLeft, more_left}
+use Rattle.toml_names.proofs.lemmas.reader.Passed.{less_is_left}
 use Rattle.toml_names.proofs.texts.enter_text.Goals as goal
-
-module _ (profile : Profile) (text : List ℕ) (front : List Line) (n : ℕ) (l : declared.Line) where
-  are_left : (more : Option LineReader) → HandsOn profile text front n (Ok (l, more)) → AreLeft profile text (front ++ tree_line l ∷ []) more
-  are_left (Some r) h = h.0
-  are_left None h = h
-
-  fewer : (more : Option LineReader) → HandsOn profile text front n (Ok (l, more)) → more_left more < n + 1
-  fewer (Some r) h = omega (arith, h.1)
-  fewer None h = omega arith
 
 pub returns-in_err-line-clause-refused : goal.returns-in_err-line-clause-refused
 returns-in_err-line-clause-refused c =
@@ -23,7 +14,7 @@ returns-in_err-line-clause-refused c =
     let text = text_of c.args.source in
     let all = c.loop-left.invariant in
     let stands : HandsOut c.args.profile text all.front c.in-Some.reader = subst (λ (o : Option LineReader). AreLeft c.args.profile text all.front o) c.in-Some.is all.are in
-    rw (p.1, p.2) (c.in_err-line.ensures c.args.profile text all.front stands)
+    rw (p.1, p.2) (c.in_err-line.ensures.hands c.args.profile text all.front stands)
 
 pub loop-left-smaller : goal.loop-left-smaller
 loop-left-smaller c =
@@ -31,7 +22,7 @@ loop-left-smaller c =
     let all = c.loop-left.invariant in
     let stands : HandsOut c.args.profile text all.front c.in-Some.reader = subst (λ (o : Option LineReader). AreLeft c.args.profile text all.front o) c.in-Some.is all.are in
     subst (λ (o : Option LineReader). more_left c.in_ok-line.more < more_left o) (sym c.in-Some.is)
-    (fewer c.args.profile text all.front (left c.in-Some.reader) c.in_ok-line.line c.in_ok-line.more (c.in_ok-line.ensures c.args.profile text all.front stands))
+    (less_is_left c.args.profile text all.front (left c.in-Some.reader) c.in_ok-line.line c.in_ok-line.more (c.in_ok-line.ensures.hands c.args.profile text all.front stands)).1
 
 pub loop-left-preserved : goal.loop-left-preserved
 loop-left-preserved c =
@@ -40,6 +31,6 @@ loop-left-preserved c =
     let stands : HandsOut c.args.profile text all.front c.in-Some.reader = subst (λ (o : Option LineReader). AreLeft c.args.profile text all.front o) c.in-Some.is all.are in
     record {
       front = all.front ++ tree_line c.in_ok-line.line ∷ [];
-      are = are_left c.args.profile text all.front (left c.in-Some.reader) c.in_ok-line.line c.in_ok-line.more (c.in_ok-line.ensures c.args.profile text all.front stands);
+      are = (less_is_left c.args.profile text all.front (left c.in-Some.reader) c.in_ok-line.line c.in_ok-line.more (c.in_ok-line.ensures.hands c.args.profile text all.front stands)).0;
       judges = c.judge_line-judged.ensures all.front all.judges;
     }

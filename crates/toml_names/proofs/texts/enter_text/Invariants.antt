@@ -1,14 +1,6 @@
-use Rattle.toml_names.proofs.Common.{ℕ, ◌+◌, Option, Some, None}
 use Rattle.toml_text.specs.Source.{text_of}
-use Rattle.toml_tree.specs.HandedOut.{left}
-use Rattle.toml_tree.specs.declared.line_reader.LineReader.{LineReader}
-use Rattle.toml_names.specs.reader.Texts.{AreJudged}
+use Rattle.toml_names.specs.reader.Texts.{AreJudged, more_left}
 use Rattle.toml_names.proofs.texts.enter_text.Given as goal
-
--- how much is left
-abbrev pub more_left : Option LineReader → ℕ
-more_left (Some reader) = left reader + 1
-more_left None = 0
 
 abbrev pub invariant-loop-left : goal.invariant-loop-left
 invariant-loop-left l = AreJudged l.fn.profile (text_of l.fn.source) l.judged l.left

@@ -1,5 +1,5 @@
 use Rattle.std.proofs.lemmas.Result.{IfOk-weaker}
-use Rattle.toml_tree.specs.Document.{document}
+use Rattle.toml_editor.specs.KnownLines.{lines_known}
 use Rattle.toml_editor.proofs.Renamed.{line_renamed}
 use Rattle.toml_editor.proofs.lines.Line.rename.Goals as goal
 
@@ -7,6 +7,6 @@ pub returns : goal.returns
 returns c =
     let r = c.args.renaming in
     IfOk-weaker c.carry.result _ _ (λ done address.
-    line_renamed r.at.now r.name.now r.spelled.now c.args.texts (document c.args.doc.now).lines c.args.self.now c.rename_key.new.self
+    line_renamed r.at.now r.name.now r.spelled.now c.args.texts (lines_known c.args.known.now) c.args.self.now c.rename_key.new.self
     c.carry.new.self
     c.in_ok-rename_key.ensures.address c.in_ok-rename_key.ensures.base c.in_ok-rename_key.ensures.body c.carry.ensures.body c.carry.ensures.base address) c.carry.ensures.address

@@ -1,6 +1,6 @@
 use Rattle.std.proofs.Common.{◌∙◌, sym}
 use Rattle.std.proofs.lemmas.Result.{IfOk-weaker}
-use Rattle.toml_tree.specs.Document.{document}
+use Rattle.toml_editor.specs.KnownLines.{lines_known}
 use Rattle.toml_editor.specs.Becoming.{renamed_below}
 use Rattle.toml_editor.specs.Starting.{read_of}
 use Rattle.toml_editor.proofs.Renamed.{slot_becomes, slot_not_below}
@@ -10,7 +10,7 @@ pub returns-then-not-is_below : goal.returns-then-not-is_below
 returns-then-not-is_below c =
     let r = c.args.renaming in
     slot_not_below r.at.now r.name.now r.spelled.now c.args.texts (read_of c.args.before) c.args.self.now
-    (sym (c.is_below.ensures (document c.args.before.doc.now).lines) ∙ c.if-not-is_below.true)
+    (sym (c.is_below.ensures (lines_known c.args.before.known.now)) ∙ c.if-not-is_below.true)
 
 pub returns-in-Lines : goal.returns-in-Lines
 returns-in-Lines c =

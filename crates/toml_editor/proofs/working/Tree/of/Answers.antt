@@ -1,5 +1,6 @@
+use Rattle.std.proofs.Common.{refl}
 use Rattle.toml_text.specs.Source.{text_of}
 use Rattle.toml_editor.proofs.working.Tree.of.Goals as goal
 
 pub returns-clause-stands : goal.returns-clause-stands
-returns-clause-stands c = c.in_ok-kept_slots.ensures (text_of c.args.texts.source) c.requires
+returns-clause-stands c = c.in_ok-kept_slots.ensures (text_of c.args.texts.source) c.args.before refl c.requires.facts c.requires.read

@@ -1,0 +1,68 @@
+-- Documents that were read line by line.
+use Rattle.std.proofs.Common.{◌≡◌, ◌∷◌, ◌++◌, ◌∙◌, [], ℕ, List, Result, Ok, Err, ap, map, sym, subst, subst₂}
+use Rattle.toml_text.specs.Limit.{IsText}
+use Rattle.toml_tree.specs.HandedOut.{AreLinesIn, tree_of}
+use Rattle.toml_editor.specs.KnownLines.{lines_known}
+use Rattle.toml_tree.specs.Spells.{Spells}
+use Rattle.toml_tree.specs.Tree.{Doc, Line}
+use Rattle.toml_tree.specs.declared.profile.Profile.{Profile}
+use Rattle.toml_names.specs.declared.fault.NameFault.{NameFault}
+use Rattle.toml_names.specs.model.Documents.{IsDocumentIn}
+use Rattle.toml_names.specs.reader.LineNames.{StandFor}
+use Rattle.toml_names.proofs.Proved.{taken_are_good}
+use Rattle.toml_units.specs.Plain.{plain_units, spanned}
+use Rattle.toml_units.specs.Taken.{TakesLine}
+use Rattle.toml_units.specs.Units.{units}
+use Rattle.toml_units.specs.View.{all_units}
+use Rattle.toml_units.proofs.Proved.{plain_is_units}
+use Rattle.toml_editor.specs.declared.making.Read.{Read}
+use Rattle.toml_editor.specs.declared.reading.LineFacts.{LineFacts}
+use Rattle.toml_editor.specs.declared.reading.ReadDocument.{ReadDocument}
+use Rattle.toml_editor.specs.Editing.{IsReadFrom}
+use Rattle.toml_editor.specs.Starting.{IsReadOf, read_of}
+use Rattle.toml_editor.specs.Reading.{HasRead, IsRead, IsReadText, ReadsLine, fact_of}
+
+-- one line more was read
+pub reads_line : (lines : List Line) (old new : ReadDocument) (l : Line) (r : Result (Unit {0}) NameFault) → HasRead old lines
+    → lines_known new.lines.items ≡ lines ++ l ∷ [] → new.facts.items ≡ map fact_of (lines ++ l ∷ [])
+    → TakesLine lines l new.taken r → ReadsLine lines l new r
+reads_line lines old new l (Ok u) h readers facts taken = record { lines = readers; facts = facts; taken = taken }
+reads_line lines old new l (Err fault) h readers facts taken = taken
+
+-- all lines were read
+pub all_read : (profile : Profile) (text : List ℕ) (lines : List Line) (read : ReadDocument) → AreLinesIn profile text lines → HasRead read lines → IsReadText profile text read
+all_read profile text lines read are h = record {
+  are = subst (AreLinesIn profile text) (sym h.lines) are;
+  read_so = subst (HasRead read) (sym h.lines) h;
+}
+
+-- by what was read the edits are made on the document
+pub read_from : (profile : Profile) (text : List ℕ) (document : ReadDocument) (read : Read) (facts : List LineFacts) → IsRead profile text document → read.profile ≡ profile
+    → read.before.known.now ≡ document.lines.items → read.before.units.now ≡ document.taken.units.items → read.names.now ≡ document.taken.reading.names
+    → facts ≡ document.facts.items → IsReadFrom text read facts
+read_from profile text document read facts h same readers us names are =
+    let lines : lines_known read.before.known.now ≡ lines_known document.lines.items = ap lines_known readers in
+    let so = h.lines.read_so in
+    record {
+      within = h.within;
+      lines = subst₂ (λ p ls. AreLinesIn p text ls) (sym same) (sym lines) h.lines.are;
+      names = subst₂ StandFor (sym names) (sym lines) so.taken.names;
+      units = ap all_units us ∙ so.taken.units ∙ ap plain_units (sym lines);
+      facts = are ∙ so.facts ∙ ap (map fact_of) (sym lines);
+    }
+
+module _ (text : List ℕ) (read : Read) (facts : List LineFacts) (h : IsReadFrom text read facts) where
+  abbrev pub tree : Doc
+  tree = tree_of text (read_of read.before).lines
+
+  pub spelled : Spells tree text
+  spelled = h.lines.spelled.0
+
+  pub is_document : IsDocumentIn read.profile text
+  is_document = (h.within, tree, spelled, taken_are_good read.names.now tree.lines h.names, h.lines.spelled.1)
+
+  pub units_are : all_units read.before.units.now ≡ map spanned (units tree.lines)
+  units_are = h.units ∙ plain_is_units tree text spelled
+
+  pub is_read_of : IsReadOf text read.before
+  is_read_of = record { within = h.within; spelled = spelled; units = units_are }
