@@ -1,5 +1,5 @@
 -- What the reading of a text line by line answers.
-use Rattle.std.specs.Prelude.{◌≡◌, ◌<◌, ◌+◌, ◌∷◌, ◌++◌, ℕ, List, [], length, Option, Some, None, Result, Ok, Err}
+use Rattle.std.specs.Prelude.{◌≡◌, ◌<◌, ◌+◌, ◌∷◌, ◌++◌, ℕ, List, [], Option, Some, None, Result, Ok, Err}
 use Rattle.toml_scalar.specs.declared.fault.SyntaxFault.{SyntaxFault}
 use Rattle.toml_scalar.specs.declared.fault.SyntaxFault.TheVariants as syntax
 use Rattle.toml_tree.specs.declared.profile.Profile.{Profile}

@@ -1,5 +1,5 @@
 -- What stands strictly below a value is named by the value's line.
-use Rattle.toml_names.proofs.Common.{common_steps, ◌≡◌, ◌⊎◌, inl, inr, ℕ, ◌+◌, ◌-◌, ◌==◌, Bool, true, false, cond, List, [], ◌∷◌, ◌++◌, map, refl, sym, ap, ◌∙◌, subst, true≢false, append_assoc, arith, rules, cond-false, EachIs, Assign, Value, Scalar, Array, Inline, Items, Close, Last, More, Pairs, ClosePairs, LastPair, MorePairs, Expr, BlankLine, KeyValLine, TableLine, ArrayTableLine, Line, Name, Index, Valued, Address, IsAbove, same_address, child, element, below, AreClear, AreValuesAt, HeadersAreClear, IsClear, SectionIsClear, is_lone, Key, key_names, part_name, rest_names, Named, root, named, named_by, named_from, value_named, inside, elements, members, fronts, pair_named, section, section_from, is_section, count_tables, entered, followed, ends_table, ends_tables}
+use Rattle.toml_names.proofs.Common.{◌≡◌, ◌⊎◌, inl, inr, ℕ, ◌+◌, ◌-◌, ◌==◌, Bool, true, false, cond, List, [], ◌∷◌, ◌++◌, map, refl, sym, ap, ◌∙◌, subst, true≢false, append_assoc, rules, cond-false, EachIs, Assign, Value, Scalar, Array, Inline, Items, Close, Last, More, Pairs, ClosePairs, LastPair, MorePairs, Expr, BlankLine, KeyValLine, TableLine, ArrayTableLine, Line, Name, Index, Valued, Address, IsAbove, same_address, child, element, below, AreClear, AreValuesAt, HeadersAreClear, IsClear, SectionIsClear, Key, key_names, part_name, rest_names, Named, root, named, named_by, named_from, value_named, inside, elements, members, fronts, pair_named, section, is_section, count_tables, entered, followed, ends_table, ends_tables}
 use Rattle.toml_names.proofs.lemmas.mentions.Clear.{not_above_next, clear_more, clear_of_root, clear_cond}
 use Rattle.toml_names.proofs.lemmas.mentions.Counting.{adds, count_cons}
 use Rattle.toml_names.proofs.Each.{Has, each_append, each_left, each_right, each_weaker, has_left, has_right, has_each}

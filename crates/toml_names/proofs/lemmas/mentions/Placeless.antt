@@ -1,7 +1,7 @@
 -- What lines and values name does not depend on where their pieces stand.
-use Rattle.toml_names.proofs.Common.{◌≡◌, ℕ, ◌+◌, List, [], ◌∷◌, ◌++◌, map, refl, sym, ap, ap₂, ◌∙◌, rules, Assign, Value, Scalar, Array, Inline, Items, Close, Last, More, Pairs, ClosePairs, LastPair, MorePairs, Expr, Line, Role, Valued, Bare, Address, element, key_names, part_name, rest_names, Named, kind_of, value_named, inside, elements, members, pair_named, named, named_by, named_from, root, value_facts}
-use Rattle.toml_tree.specs.Bare.{bare_dotted, bare_key, bare_assign, bare_value, bare_items, bare_pairs, bare_expr, bare_line}
-use Rattle.toml_tree.specs.Tree.{Dotted, Key}
+use Rattle.toml_names.proofs.Common.{◌≡◌, ℕ, ◌+◌, List, [], ◌∷◌, ◌++◌, map, refl, sym, ap, ap₂, ◌∙◌, rules, Assign, Value, Scalar, Array, Inline, Items, Close, Last, More, Pairs, ClosePairs, LastPair, MorePairs, Line, Role, Valued, Bare, Address, element, part_name, rest_names, Named, kind_of, value_named, inside, elements, members, pair_named, named, named_by, named_from, root, value_facts}
+use Rattle.toml_tree.specs.Bare.{bare_dotted, bare_assign, bare_value, bare_items, bare_pairs, bare_line}
+use Rattle.toml_tree.specs.Tree.{Dotted}
 use Rattle.toml_names.specs.mentions.Placeless.{KeyPlacesAreNotNamed, LinePlacesAreNotNamed, PlacesAreNotNamed, ValuePlacesAreNotNamed}
 
 pub key_places_are_not_named : KeyPlacesAreNotNamed

@@ -1,5 +1,5 @@
 -- Mentions that keep the rules, and others that keep them with these or in place of these.
-use Rattle.toml_names.proofs.Common.{◌≡◌, ◌↔◌, ℕ, true, List, [], ◌∷◌, ◌++◌, map, AllPairs, refl, sym, ap, ap₂, ◌∙◌, subst, append-nil, EachIs, Value, Role, Address, IsAbove, Named, value_named, inside, value_facts, may_follow, KeepsRules, shifted}
+use Rattle.toml_names.proofs.Common.{◌≡◌, ◌↔◌, true, List, [], ◌∷◌, ◌++◌, map, sym, ap, ap₂, ◌∙◌, subst, append-nil, EachIs, Address, IsAbove, Named, value_named, inside, value_facts, may_follow, shifted}
 use Rattle.toml_names.specs.mentions.Inside.{ValueKeepsRules}
 use Rattle.toml_names.specs.mentions.Rules.{SomeKeepRules, MoreKeepRules, MovedKeepRules}
 use Rattle.toml_names.proofs.Each.{PairsAre, pairs_of_all, all_of_pairs, each_append, each_left, each_right, each_weaker}

@@ -1,9 +1,7 @@
-use Rattle.toml_names.proofs.Common.{◌<◌, ◌+◌, ℕ, List, [], ◌∷◌, ◌++◌, Option, Some, None, Ok, sym, subst, arith, err_from_is_err_and, line as tree_line, Line}
+use Rattle.toml_names.proofs.Common.{◌<◌, [], ◌∷◌, ◌++◌, Option, sym, subst, err_from_is_err_and, line as tree_line}
 use Rattle.toml_text.specs.Source.{text_of}
-use Rattle.toml_tree.specs.declared.line.Line as declared
 use Rattle.toml_tree.specs.declared.line_reader.LineReader.{LineReader}
-use Rattle.toml_tree.specs.declared.profile.Profile.{Profile}
-use Rattle.toml_tree.specs.HandedOut.{HandsOn, HandsOut, left}
+use Rattle.toml_tree.specs.HandedOut.{HandsOut, left}
 use Rattle.toml_names.specs.reader.Texts.{AreLeft, more_left}
 use Rattle.toml_names.proofs.lemmas.reader.Passed.{less_is_left}
 use Rattle.toml_names.proofs.texts.enter_text.Goals as goal

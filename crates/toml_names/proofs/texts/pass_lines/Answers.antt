@@ -1,4 +1,4 @@
-use Rattle.toml_names.proofs.Common.{◌<◌, ◌∷◌, ◌++◌, [], List, Option, Some, sym, subst, append_assoc, err_from_is_err_and, Line}
+use Rattle.toml_names.proofs.Common.{◌<◌, ◌∷◌, ◌++◌, [], List, Option, sym, subst, append_assoc, err_from_is_err_and, Line}
 use Rattle.toml_tree.specs.declared.line_reader.LineReader.{LineReader}
 use Rattle.toml_tree.specs.HandedOut.{HandsOut}
 use Rattle.toml_names.specs.reader.Texts.{AreLeft, more_left}

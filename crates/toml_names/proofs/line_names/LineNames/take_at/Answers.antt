@@ -1,4 +1,4 @@
-use Rattle.toml_names.proofs.Common.{ℕ, Option, Some, subst, arith, err_from_is_err_and, line as tree_line, IsWithin}
+use Rattle.toml_names.proofs.Common.{ℕ, Option, subst, arith, err_from_is_err_and, IsWithin}
 use Rattle.toml_names.proofs.line_names.LineNames.take_at.Goals as goal
 
 pub returns-in_err-node : goal.returns-in_err-node
