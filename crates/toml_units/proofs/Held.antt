@@ -26,7 +26,6 @@ use Rattle.toml_units.specs.declared.taken.TakenLines.{TakenLines}
 use Rattle.toml_units.specs.Taken.{HasTaken, newline_text}
 use Rattle.toml_units.specs.declared.reading.Left.TheVariants.{Nothing, Refused}
 use Rattle.toml_units.specs.declared.opened.Opened.{Opened}
-use Rattle.toml_units.specs.declared.unit.Unit.{Unit as Made}
 use Rattle.toml_units.specs.declared.unit.UnitKind.TheVariants as kinds
 use Rattle.toml_units.proofs.Ahead.{behind_front}
 use Rattle.toml_units.proofs.Lined.{line_no_lines}

@@ -1,11 +1,11 @@
 -- A cursor that let units go stands where it stood.
-use Rattle.std.proofs.Common.{◌≡◌, ◌∙◌, ◌<◌, ◌+◌, ◌*◌, ◌∷◌, ◌++◌, ℕ, zero, suc, List, [], drop, length, Option, Some, None, Ok, Err, Result, option_map, refl, sym, ap, subst}
+use Rattle.std.proofs.Common.{◌≡◌, ◌∙◌, ◌<◌, ◌+◌, ◌*◌, ◌∷◌, ◌++◌, ℕ, zero, suc, List, [], drop, length, Ok, Err, Result, option_map, refl, sym, ap, subst}
 use Rattle.std.specs.Prelude.{slice_get}
 use Rattle.std.specs.declared.alloc.AllocError.{AllocError}
 use Rattle.toml_tree.specs.declared.profile.Profile.{Profile}
 use Rattle.toml_units.specs.declared.cursor.UnitCursor.{UnitCursor}
 use Rattle.toml_units.specs.declared.unit.Unit.{Unit as Made}
-use Rattle.toml_units.specs.Cursors.{Goes, HasLetGo, Moves, Stands, StepsOn, Walks, ahead, current, lined_by, lined_first, newlines_ahead, to_go}
+use Rattle.toml_units.specs.Cursors.{Goes, HasLetGo, Moves, StepsOn, Walks, ahead, current, lined_first, newlines_ahead, to_go}
 use Rattle.toml_units.specs.Lined.{LinedUnit}
 use Rattle.toml_units.specs.Opened.{opened_items, opened_units}
 use Rattle.toml_units.specs.Reading.{HasRead, IsAtEnd, to_read}

@@ -1,22 +1,18 @@
 -- Lines read one after another, and what all of them give.
-use Rattle.std.proofs.Common.{◌≡◌, ℕ, ◌+◌, ◌<◌, ◌≤◌, List, [], ◌∷◌, ◌++◌, length, Option, Some, None, Ok, refl, sym, ap, subst, ◌∙◌, arith, append_assoc}
+use Rattle.std.proofs.Common.{◌≡◌, ℕ, ◌+◌, ◌<◌, ◌≤◌, List, [], ◌∷◌, ◌++◌, length, Option, Some, None, Ok, sym, ap, subst, ◌∙◌, arith, append_assoc}
 use Rattle.std.specs.Borrow.{Bor}
 use Rattle.std.proofs.lemmas.List.{append-nil}
-use Rattle.toml_scalar.specs.declared.fault.SyntaxFault.{SyntaxFault}
-use Rattle.toml_scalar.specs.declared.fault.SyntaxFault.TheVariants as faults
-use Rattle.toml_tree.specs.Document.{Refuses}
-use Rattle.toml_tree.specs.HandedOut.{AreLinesIn, HandsOn, HandsOut, left, tree_of}
+use Rattle.toml_tree.specs.HandedOut.{HandsOn, HandsOut, left}
 use Rattle.toml_tree.specs.Lines.{line as tree_line}
 use Rattle.toml_tree.specs.View.{expr}
-use Rattle.toml_tree.specs.Tree.{Blank, BlankLine, Doc, Expr, KeyVal, KeyValLine, Line, Piece}
+use Rattle.toml_tree.specs.Tree.{Blank, BlankLine, Expr, KeyVal, KeyValLine, Line, Piece}
 use Rattle.toml_tree.specs.declared.line.Line as declared
 use Rattle.toml_tree.specs.declared.line_reader.LineReader.{LineReader}
 use Rattle.toml_tree.specs.declared.profile.Profile.{Profile}
-use Rattle.toml_tree.proofs.Proved.{one_tree}
 use Rattle.toml_names.specs.mentions.Mentions.{Named, root, named, named_by, named_from, section}
 use Rattle.toml_names.specs.model.Documents.{IsDocumentIn}
 use Rattle.toml_names.specs.reader.LineNames.{StandFor}
-use Rattle.toml_names.specs.reader.Names.{AreGood, own_address}
+use Rattle.toml_names.specs.reader.Names.{own_address}
 use Rattle.toml_names.specs.reader.Texts.{AreLeft}
 use Rattle.toml_units.specs.declared.reading.Left.{Left}
 use Rattle.toml_units.specs.declared.reading.Left.TheVariants.{Lines, Nothing, Refused}
@@ -27,7 +23,7 @@ use Rattle.toml_units.specs.Lined.{lined, lined_from, lined_line}
 use Rattle.toml_units.specs.Opened.{AddsFirst, opened_units}
 use Rattle.toml_units.specs.Plain.{line_span, line_spans, plain_from, plain_units}
 use Rattle.toml_units.specs.Reading.{HasEnteredText, HasEntered, HasNames, HasRead, IsDone, IsHanded, IsLeft, IsOver, left_of, to_read}
-use Rattle.toml_names.proofs.Proved.{fronts_are_good, pairs_leave_alike}
+use Rattle.toml_names.proofs.Proved.{pairs_leave_alike}
 use Rattle.toml_units.specs.View.{AddsUnits, Spanned}
 use Rattle.toml_units.specs.declared.opened.Opened.{Opened}
 use Rattle.toml_units.proofs.AllLines.{named_from-push}

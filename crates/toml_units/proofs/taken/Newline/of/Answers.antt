@@ -1,4 +1,4 @@
-use Rattle.std.proofs.Common.{◌≡◌, ◌==◌, ℕ, [], List, ap, arith, length, sym, true≢false, ◌∙◌}
+use Rattle.std.proofs.Common.{◌≡◌, ◌==◌, ℕ, List, ap, arith, length, sym, true≢false, ◌∙◌}
 use Rattle.toml_units.proofs.Newlines.{cr_lf_is, lf_is}
 use Rattle.toml_units.proofs.taken.Newline.of.Goals as goal
 

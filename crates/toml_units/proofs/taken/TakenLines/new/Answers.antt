@@ -1,4 +1,4 @@
-use Rattle.std.proofs.Common.{◌∙◌, [], ap, map, subst, sym}
+use Rattle.std.proofs.Common.{[], ap, map, subst, sym}
 use Rattle.toml_names.specs.reader.LineNames.{StandFor}
 use Rattle.toml_units.specs.Taken.{newline_text}
 use Rattle.toml_units.specs.View.{all_units}
