@@ -50,6 +50,11 @@ HandsOn profile text front more (Ok (l, Some r)) = HandsOut profile text (front 
 HandsOn profile text front more (Ok (l, None)) = AreLinesIn profile text (front ++ line l ∷ [])
 HandsOn profile text front more (Err fault) = Refuses profile text fault
 
+-- so it is of whatever text the lines up to here were handed out
+abbrev pub HandsNext : LineReader → Result (declared.Line × Option LineReader) SyntaxFault → Type 0
+HandsNext r result = (profile : Profile) (text : List ℕ) (front : List Line) → HandsOut profile text front r
+    → HandsOn profile text front (left r) result
+
 -- the line that a step read, and one of no bytes where there is none
 abbrev pub line_read : Option (Step Line Line × Cursor) → Line
 line_read (Some (Next l, c)) = l

@@ -1,13 +1,11 @@
 //! The lines of a text one after another.
-ghost use Rattle.std.specs.Prelude.{◌≡◌, ℕ, List, [], IfOk, length};
+ghost use Rattle.std.specs.Prelude.{◌≡◌, [], IfOk, length};
 ghost use Rattle.toml_text.specs.Source.{text_of};
-ghost use Rattle.toml_tree.specs.HandedOut.{HandsOn, HandsOut, front_of, left, line_ahead};
+ghost use Rattle.toml_tree.specs.HandedOut.{HandsNext, HandsOut, front_of, line_ahead};
 ghost use Rattle.toml_tree.specs.Lines.{line};
 ghost use Rattle.toml_tree.specs.Reading.{here};
 ghost use Rattle.toml_tree.specs.Spells.{mark_of};
 ghost use Rattle.toml_tree.specs.View.{piece};
-ghost use Rattle.toml_tree.specs.declared.profile.Profile.{Profile};
-ghost use Rattle.toml_tree.specs.Tree as tree;
 
 use crate::line::Line;
 use crate::piece::Piece;
@@ -41,7 +39,7 @@ impl<'t> LineReader<'t> {
     /// A reader that is asked again hands out the same line.
     pub fn next(self, alloc: Global) -> Result<(Line<'t>, Option<LineReader<'t>>), SyntaxFault>
         ensures same { IfOk result (λ r. line r.0 ≡ line_ahead self.entry) }
-        ensures hands { (profile : Profile) (text : List ℕ) (front : List tree.Line) → HandsOut profile text front self.entry → HandsOn profile text front (left self.entry) result }
+        ensures hands { HandsNext self.entry result }
     {
         let LineReader {
             mut reader,
