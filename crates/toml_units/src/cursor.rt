@@ -1,5 +1,5 @@
 //! A walk over the units of a text, which is read line by line, or was read already.
-ghost use Rattle.std.specs.Prelude.{◌≡◌, [], None, IsSome, IfOk, OnOk, option_map, slice_get};
+ghost use Rattle.std.specs.Prelude.{◌≡◌, [], None, IsSome, IfOk, option_map, slice_get};
 ghost use Rattle.toml_text.specs.Source.{text_of};
 ghost use Rattle.toml_units.specs.Cursors.{ComesOn, EndsAll, Goes, HasLetGo, HasNextNewline, Stand, StandsBefore, StepsOn, Walks, current};
 ghost use Rattle.toml_units.specs.Places.{is_line};
@@ -26,9 +26,6 @@ pub struct UnitCursor<'t> {
     // those of the lines that come behind it in `units`
     newlines: IntoIter<Newline>,
 }
-
-/// How many units are walked past before any of those held are let go.
-const MANY_UNITS: usize = 4096;
 
 /// Whether a unit is a line.
 fn is_line(unit: &Unit) -> bool
@@ -106,34 +103,31 @@ impl<'t> UnitCursor<'t> {
         self.newline
     }
 
-    /// Goes past the unit before which it stands. Where many are held, those walked past are let go once they are half of them, so
-    /// that a unit moves once on average, and the memory goes as the walk comes to its end.
+    /// Goes past the unit before which it stands. Where many are held, the address of the one before that is let go, while it is
+    /// still in the cache: so the memory of all addresses goes unit by unit as the walk comes to its end.
     pub fn step(&mut self, alloc: Global) -> Result<(), AllocError>
         requires goes { Goes self.old }
         requires some { IsSome (current self.old) }
         ensures { StepsOn self.old self.new result }
     {
-        if self.place < MANY_UNITS {
-            return self.go_past(alloc);
-        }
-        self.let_go()?;
+        self.let_go();
         self.go_past(alloc)
     }
 
-    /// Lets the units go that were walked past, if they are half of those that it holds.
-    fn let_go(&mut self) -> Result<(), AllocError>
-        ensures { OnOk result (HasLetGo self.old self.new) }
+    /// Lets the address of the unit go that was walked past last. That of the first unit stays, in whose memory the next line's
+    /// is made.
+    fn let_go(&mut self)
+        ensures { HasLetGo self.old self.new }
     {
-        let half = self.units.len() / 2;
-        if self.place < half || self.place > self.units.len() {
-            return Ok(());
+        if self.place < 2 {
+            return;
         }
-        self.units = self.units.split_off(self.place)?;
-        self.place = 0;
-        Ok(())
+        if let Some(past) = self.units.get_mut(self.place - 1) {
+            past.address = None;
+        }
     }
 
-    /// Goes past the unit, and lets none go.
+    /// Goes past the unit, and lets no address go.
     fn go_past(&mut self, alloc: Global) -> Result<(), AllocError>
         requires goes { Goes self.old }
         requires some { IsSome (current self.old) }

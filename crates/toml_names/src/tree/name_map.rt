@@ -3,7 +3,7 @@ ghost use Rattle.std.specs.Cow.{cow_str_bytes};
 ghost use Rattle.std.specs.Option.{option_map, unwrap_or};
 ghost use Rattle.indexmap.specs.IndexMap.{get, insert_entry};
 ghost use Rattle.toml_names.specs.tree.NameMaps.{children_of, children_behind, same_name, AreDistinct};
-ghost use Rattle.std.specs.Prelude.{◌∷◌, ◌++◌, ◌≡◌, ◌-◌, ◌<◌, ◌↔◌, IsTrue, length, take, slice_get, Some, OnErr, IfOk, IfSome, IfNone, []};
+ghost use Rattle.std.specs.Prelude.{◌∷◌, ◌++◌, ◌≡◌, ◌-◌, ◌<◌, ◌↔◌, IsTrue, length, take, slice_get, Some, OnErr, OnOk, IfOk, IfSome, IfNone, []};
 ghost use Rattle.std.specs.Map.{lookup};
 ghost use Rattle.std.specs.Str.{bytes_eq};
 
@@ -115,7 +115,7 @@ impl<'t> NameMap<'t> {
             return find_or_insert_behind(rest, name, id);
         }
         if self.few.len() < FEW {
-            self.few.push((name, id))?;
+            push_few(&mut self.few, name, id)?;
         } else {
             self.rest = Some(one_behind(alloc, hashing, name, id)?);
         }
@@ -144,6 +144,22 @@ fn find(few: &[(CowStr<'_>, usize)], name: &str) -> Option<usize>
         }
     }
     None
+}
+
+/// Puts a name behind a few. The first takes room for itself alone: of many small tables most have one name.
+fn push_few<'t>(
+    few: &mut Vec<(CowStr<'t>, usize)>,
+    name: CowStr<'t>,
+    id: usize,
+) -> Result<(), AllocError>
+    ensures pushed { OnOk result (few.new.items ≡ few.old.items ++ (name.entry, id) ∷ []) }
+    ensures unchanged { OnErr result (few.new.items ≡ few.old.items) }
+{
+    if few.is_empty() {
+        few.reserve_exact(1)?;
+    }
+    few.push((name, id))?;
+    Ok(())
 }
 
 /// A hash map with one name in it.

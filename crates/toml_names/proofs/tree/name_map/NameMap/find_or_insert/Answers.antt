@@ -19,8 +19,8 @@ invariant_of-self c =
 pub returns-in-Some-rest-clause-found : goal.returns-in-Some-rest-clause-found
 returns-in-Some-rest-clause-found c = search (rules, not_in_few, found_behind)
 
-pub invariant_of-self-in_ok-push : goal.invariant_of-self-in_ok-push
-invariant_of-self-in_ok-push c = search (rules, not_in_few, append-nil, children_of-push, AreDistinct-push)
+pub invariant_of-self-in_ok-push_few : goal.invariant_of-self-in_ok-push_few
+invariant_of-self-in_ok-push_few c = search (rules, not_in_few, append-nil, children_of-push, AreDistinct-push)
 
 pub invariant_of-self-in_ok-one_behind-2 : goal.invariant_of-self-in_ok-one_behind-2
 invariant_of-self-in_ok-one_behind-2 c = search (rules, not_in_few, append-nil, AreDistinct-push)
