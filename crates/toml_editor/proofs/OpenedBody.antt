@@ -1,5 +1,5 @@
 -- What stands on a line is opened, by the lines of the document.
-use Rattle.std.proofs.Common.{◌≡◌, ◌∙◌, ℕ, List, map, Option, Some, None, refl, ap, sym, subst, rules, Bor}
+use Rattle.std.proofs.Common.{◌≡◌, ◌∙◌, ℕ, List, Option, Some, None, refl, ap, sym, subst, rules, Bor}
 use Rattle.std.specs.Global.{Box}
 use Rattle.std.specs.Option.{option_copied}
 use Rattle.std.specs.Slice.{IsGetResult}

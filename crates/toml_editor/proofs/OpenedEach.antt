@@ -31,7 +31,7 @@ use Rattle.toml_editor.specs.Opening.{Lie}
 use Rattle.toml_editor.specs.AsNew.{as_new, value_as_new, entries_as_new, entry_as_new}
 use Rattle.toml_editor.specs.OpenOutlines.{EntryOutline, entries_of, gap as open_gap, gap_before, gap_origins, assign, entry, value}
 use Rattle.toml_editor.specs.Outlines as outline
-use Rattle.toml_editor.specs.Outlines.{Marked, marked, Origins, AssignOutline, ValueOutline}
+use Rattle.toml_editor.specs.Outlines.{Marked, marked, AssignOutline, ValueOutline}
 use Rattle.toml_editor.specs.TreeOutlines.{gap_outline, gap_outline_before, assign_outline, value_outline}
 
 -- the outline of an entry that is opened, but for which units it has

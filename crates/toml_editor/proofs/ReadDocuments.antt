@@ -1,15 +1,18 @@
 -- Documents that were read line by line.
-use Rattle.std.proofs.Common.{◌≡◌, ◌∷◌, ◌++◌, ◌∙◌, [], ℕ, List, Result, Ok, Err, ap, map, sym, subst, subst₂}
-use Rattle.toml_text.specs.Limit.{IsText}
-use Rattle.toml_tree.specs.HandedOut.{AreLinesIn, tree_of}
+use Rattle.std.proofs.Common.{◌≡◌, ◌<◌, ◌∷◌, ◌++◌, ◌∙◌, [], ℕ, List, Option, Some, Result, Ok, Err, ap, map, sym, subst, subst₂}
+use Rattle.toml_tree.specs.HandedOut.{AreLinesIn, HandsNext, HandsOut, left, tree_of}
+use Rattle.toml_tree.specs.Lines.{line}
 use Rattle.toml_editor.specs.KnownLines.{lines_known}
 use Rattle.toml_tree.specs.Spells.{Spells}
 use Rattle.toml_tree.specs.Tree.{Doc, Line}
+use Rattle.toml_tree.specs.declared.line.Line as declared
+use Rattle.toml_tree.specs.declared.line_reader.LineReader.{LineReader}
 use Rattle.toml_tree.specs.declared.profile.Profile.{Profile}
 use Rattle.toml_names.specs.declared.fault.NameFault.{NameFault}
 use Rattle.toml_names.specs.model.Documents.{IsDocumentIn}
 use Rattle.toml_names.specs.reader.LineNames.{StandFor}
-use Rattle.toml_names.proofs.Proved.{taken_are_good}
+use Rattle.toml_names.specs.reader.Texts.{AreLeft, more_left}
+use Rattle.toml_names.proofs.Proved.{less_is_left, taken_are_good}
 use Rattle.toml_units.specs.Plain.{plain_units, spanned}
 use Rattle.toml_units.specs.Taken.{TakesLine}
 use Rattle.toml_units.specs.Units.{units}
@@ -21,6 +24,18 @@ use Rattle.toml_editor.specs.declared.reading.ReadDocument.{ReadDocument}
 use Rattle.toml_editor.specs.Editing.{IsReadFrom}
 use Rattle.toml_editor.specs.Starting.{IsReadOf, read_of}
 use Rattle.toml_editor.specs.Reading.{HasRead, IsRead, IsReadText, ReadsLine, fact_of}
+
+-- what is left of the text is a reader that stands behind these lines
+pub stood : (profile : Profile) (text : List ℕ) (front : List Line) (o : Option LineReader) (r : LineReader) → o ≡ Some r → AreLeft profile text front o
+    → HandsOut profile text front r
+stood profile text front o r is = subst (AreLeft profile text front) is
+
+-- behind the line that it hands out there is what is left then, and that is less
+pub behind_it : (profile : Profile) (text : List ℕ) (front : List Line) (o : Option LineReader) (r : LineReader) (l : declared.Line) (more : Option LineReader)
+    → o ≡ Some r → AreLeft profile text front o → HandsNext r (Ok (l, more)) → AreLeft profile text (front ++ line l ∷ []) more × (more_left more < more_left o)
+behind_it profile text front o r l more is are hands =
+    let passed = less_is_left profile text front (left r) l more (hands profile text front (stood profile text front o r is are)) in
+    (passed.0, subst (λ o. more_left more < more_left o) (sym is) passed.1)
 
 -- one line more was read
 pub reads_line : (lines : List Line) (old new : ReadDocument) (l : Line) (r : Result (Unit {0}) NameFault) → HasRead old lines

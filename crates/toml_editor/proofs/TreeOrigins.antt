@@ -8,7 +8,7 @@ use Rattle.toml_units.specs.declared.unit.UnitKind.TheVariants as kinds
 use Rattle.toml_units.specs.Units.{TextUnit, comment_units, gap_line_units, gap_units, inside, elements, members, pair_address, tail_units, line_units}
 use Rattle.toml_editor.specs.AsNew.{all_new, as_new, value_as_new, entries_as_new, line_as_new}
 use Rattle.toml_editor.specs.Outlines as outline
-use Rattle.toml_editor.specs.Outlines.{Origins, Marked, marked, begun, ExprOutline, LineOutline, value_origins, entries_origins, line_origins, expr_origins, origins_if}
+use Rattle.toml_editor.specs.Outlines.{Origins, marked, begun, ExprOutline, value_origins, entries_origins, line_origins, origins_if}
 use Rattle.toml_editor.specs.TreeOutlines.{assign_outline, comment_origin, gap_lines_origins, gap_spelled, gap_outline, gap_outline_before, value_outline, items_outline, pairs_outline, line_of, line_outline, header_outline}
 use Rattle.toml_editor.proofs.NumberedOutlines.{new_append}
 

@@ -14,6 +14,7 @@ use Rattle.toml_editor.specs.declared.lines.Slot.{Slot}
 use Rattle.toml_editor.specs.declared.texts.Texts.{Texts}
 use Rattle.toml_editor.specs.declared.tree.OpenLine.{OpenLine}
 use Rattle.toml_editor.specs.declared.working.Position.{Position}
+use Rattle.toml_editor.specs.declared.working.Tree.{Tree}
 use Rattle.toml_editor.specs.OpenOutlines.{line, value}
 use Rattle.toml_editor.specs.Outlines.{ValueOutline, LineOutline}
 use Rattle.toml_editor.specs.RenameStanding.{rename_inside, rename_line_outline}
@@ -85,3 +86,7 @@ ChangesSlots texts read at p change old now done =
     × ((s : Standing) → line_at read old at ≡ Some s
     → (front : List Standing) × (back : List Standing) × (t : Standing)
     × (slots_standing read old ≡ front ++ s ∷ back) × (slots_standing read now ≡ front ++ t ∷ back) × ChangesStanding p change s t done)
+
+-- so it is of the lines of a tree
+abbrev pub TreeChanges : Read → Position → Address → Inside → Tree → Tree → Bool → Type 0
+TreeChanges read at p change old now = ChangesSlots old.texts read at p change old.slots.items now.slots.items

@@ -66,3 +66,4 @@ pub mod StandingLaws
 pub mod PlainTexts
 pub mod PlainAnswers
 pub mod Exact
+pub mod Made

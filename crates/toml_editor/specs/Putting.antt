@@ -74,6 +74,10 @@ EndsBefore style texts read at old now newline = EachIs (SlotKept (text_of texts
     × ((s : Standing) → line_at read old at ≡ Some s
     → Becomes read at old now (ended_before style s s.outline.newline) × (newline ≡ newline_behind style s.outline.newline))
 
+-- so it is of the lines of a tree
+abbrev pub TreeEndsBefore : Read → Position → Tree → Tree → List ℕ → Type 0
+TreeEndsBefore read at old now = EndsBefore (leaf_text old.style) old.texts read at old.slots.items now.slots.items
+
 -- a line is put in among those of a slot, and at a place
 abbrev pub PutsSlot : Read → ℕ → Line → Slot → Slot → Type 0
 PutsSlot read index line old now = (text : List ℕ) → SlotKept text read old → BodyKept text read line.body

@@ -1,7 +1,7 @@
 -- The working tree stands for lines.
 use Rattle.std.specs.Prelude.{◌≡◌, ◌↔◌, ◌<◌, ℕ, Bool, true, false, List, [], ◌∷◌, ◌++◌, Some, IsTrue, length, map, slice_get, slice_range}
 use Rattle.std.specs.List.{list_any}
-use Rattle.toml_text.specs.Source.{IsHeld}
+use Rattle.toml_text.specs.Source.{IsHeld, text_of}
 use Rattle.std.specs.declared.vec.Vec.{Vec}
 use Rattle.std.specs.declared.alloc.Global.{Global}
 use Rattle.toml_names.specs.model.Addresses.{Address}
@@ -93,3 +93,7 @@ abbrev pub SetsLines : Address → ValueOutline → List ℕ → Read → List S
 SetsLines p new text read old now done =
     ¬ (p ≡ []) → (ss : List Standing) → Stands text read old ss → AreOrdered ss
     → Stands text read now (map (set_standing p new) ss) × (done ≡ list_any (has p) ss)
+
+-- so it is of the lines of a tree
+abbrev pub TreeSets : Address → ValueOutline → Read → Tree → Tree → Bool → Type 0
+TreeSets p new read old now = SetsLines p new (text_of old.texts.source) read old.slots.items now.slots.items

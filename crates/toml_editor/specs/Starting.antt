@@ -1,6 +1,7 @@
 -- The working tree of a document that is as it was.
 use Rattle.std.specs.Prelude.{◌≡◌, ◌↔◌, ◌⊎◌, ◌+◌, ℕ, true, false, List, [], None, Some, length, map, slice_get, Option, IsTrue, MatchOption}
 use Rattle.toml_text.specs.Limit.{IsText}
+use Rattle.toml_text.specs.Source.{text_of}
 use Rattle.toml_tree.specs.HandedOut.{tree_of}
 use Rattle.toml_editor.specs.KnownLines.{lines_known}
 use Rattle.toml_tree.specs.Pieces.{expr_start}
@@ -15,11 +16,15 @@ use Rattle.toml_editor.specs.declared.elements.Elements.{Elements}
 use Rattle.toml_editor.specs.declared.lines.Kept.{Kept}
 use Rattle.toml_editor.specs.declared.lines.Slot.{Slot}
 use Rattle.toml_editor.specs.declared.reading.LineFacts.{LineFacts}
+use Rattle.toml_editor.specs.declared.texts.Texts.{Texts}
 use Rattle.toml_editor.specs.declared.working.Before.{Before}
+use Rattle.toml_editor.specs.declared.working.Tree.{Tree}
 use Rattle.toml_editor.specs.OpenOrigins.{numbers}
+use Rattle.toml_editor.specs.OpenOutlines.{leaf_text}
 use Rattle.toml_editor.specs.Reading.{fact_of}
 use Rattle.toml_editor.specs.Standing.{Read, standing, standing_origins}
 use Rattle.toml_editor.specs.Stands.{HasNumbers, StandFor, heads_tables}
+use Rattle.toml_editor.specs.Written.{style_of}
 
 -- the document as the working tree looks at it, by its units and its lines
 abbrev pub read_of : Before → Read
@@ -39,6 +44,11 @@ AreFacts before facts = facts ≡ map fact_of (read_of before).lines
 pub record StandAsRead (text : List ℕ) (before : Before) (slots : List Slot) : Type 0 where
   pub lines : StandFor text (read_of before) slots (standing (read_of before).lines)
   pub origins : HasNumbers before.units.now → standing_origins lines.lines ≡ numbers (Some 0) (length before.units.now)
+
+-- so it is of whatever document has these units and these facts
+abbrev pub StandForUnits : List TextUnit → List LineFacts → List Slot → Type 0
+StandForUnits us facts slots = (text : List ℕ) (before : Before) → before.units.now ≡ us → AreFacts before facts → IsReadOf text before
+    → StandAsRead text before slots
 
 -- what is kept of a line: where it stands, and what it is
 pub record IsKeptOf (l : Line) (kept : Kept) : Type 0 where
@@ -64,3 +74,10 @@ TakesLine lines number u first found =
 -- none was taken out
 abbrev pub NoneIsGone : Elements → Type 0
 NoneIsGone elements = elements.gone.items ≡ []
+
+-- the tree is that of the document in these texts, as it was read, and new lines end as its first one
+pub record IsAsRead (texts : Texts) (before : Before) (tree : Tree) : Type 0 where
+  pub stands : StandAsRead (text_of texts.source) before tree.slots.items
+  pub texts_are : tree.texts ≡ texts
+  pub elements : NoneIsGone tree.elements
+  pub style : leaf_text tree.style ≡ style_of (lines_known before.known.now)

@@ -1,5 +1,5 @@
 //! The editor as a whole.
-ghost use Rattle.std.specs.Prelude.{◌≡◌, [], IfOk, IfErr, OnOk, map, string_bytes};
+ghost use Rattle.std.specs.Prelude.{[], IfOk, IfErr, map, string_bytes};
 ghost use Rattle.toml_text.specs.Source.{text_of};
 ghost use Rattle.toml_tree.specs.HandedOut.{tree_of};
 ghost use Rattle.toml_tree.specs.declared.profile.Profile.TheVariants.{One};

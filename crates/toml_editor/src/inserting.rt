@@ -1,10 +1,8 @@
 //! `insert`: an element of an array, a pair of an inline table, or a line with a key and a value.
-ghost use Rattle.std.specs.Prelude.{◌≡◌, ◌++◌, ◌∷◌, [], IfOk, OnOk, drop, false, take};
+ghost use Rattle.std.specs.Prelude.{◌≡◌, ◌++◌, ◌∷◌, IfOk, OnOk, drop, false, take};
 ghost use Rattle.toml_editor.specs.KnownLines.{lines_known};
-ghost use Rattle.toml_tree.specs.Tree as tree;
 ghost use Rattle.toml_editor.specs.OpenOutlines.{leaf_text, value};
-ghost use Rattle.toml_editor.specs.Putting.{EndsBefore, EndsOne, EndsSlot, EndsSlots, IsElsewhere, IsRootLine, PutsSlot, PutsSlots, TreeInserts, TreePutsBehind};
-ghost use Rattle.toml_editor.specs.Seeing.{read_by};
+ghost use Rattle.toml_editor.specs.Putting.{EndsOne, EndsSlot, EndsSlots, IsElsewhere, IsRootLine, PutsSlot, PutsSlots, TreeEndsBefore, TreeInserts, TreePutsBehind};
 ghost use Rattle.toml_editor.specs.Starting.{read_of};
 ghost use Rattle.toml_editor.specs.Stands.{KeepsRest};
 
@@ -120,8 +118,7 @@ impl<'x> Tree<'x> {
     ) -> Result<bool, AllocError>
         ensures rest { OnOk result (KeepsRest self.old self.new) }
         ensures put { let it = insertion.entry in
-            let read = read_of before.entry in
-            OnOk result (TreePutsBehind it.at.now base it.spelled.now (value it.new) read behind self.old self.new) }
+            OnOk result (TreePutsBehind it.at.now base it.spelled.now (value it.new) (read_of before.entry) behind self.old self.new) }
     {
         let newline = self.newline_behind(before, behind)?;
         let line = self.pair_line(base, insertion, newline)?;
@@ -136,12 +133,7 @@ impl<'x> Tree<'x> {
         behind: Position,
     ) -> Result<Leaf<'x>, AllocError>
         ensures rest { OnOk result (KeepsRest self.old self.new) }
-        ensures ended { let texts = self.old.texts in
-            let style = leaf_text self.old.style in
-            let old = self.old.slots.items in
-            let now = self.new.slots.items in
-            let read = read_of before.entry in
-            IfOk result (λ newline. EndsBefore style texts read behind old now (leaf_text newline)) }
+        ensures ended { IfOk result (λ newline. TreeEndsBefore (read_of before.entry) behind self.old self.new (leaf_text newline)) }
     {
         if !self.is_last(behind) {
             return Ok(self.style);

@@ -1,7 +1,7 @@
 //! What an edit changes inside the value of a line.
-ghost use Rattle.std.specs.Prelude.{◌≡◌, IfOk, OnOk};
+ghost use Rattle.std.specs.Prelude.{IfOk, OnOk};
 ghost use Rattle.toml_editor.specs.KnownLines.{lines_known};
-ghost use Rattle.toml_editor.specs.Changing.{ChangesBody, ChangesIn, ChangesLine, ChangesOne, ChangesSlot, ChangesSlots};
+ghost use Rattle.toml_editor.specs.Changing.{ChangesBody, ChangesIn, ChangesLine, ChangesOne, ChangesSlot, ChangesSlots, TreeChanges};
 ghost use Rattle.toml_editor.specs.Starting.{read_of};
 ghost use Rattle.toml_editor.specs.OpenOutlines.{value as value_outlined};
 ghost use Rattle.toml_editor.specs.Stands.{KeepsRest};
@@ -160,10 +160,7 @@ impl<'x> Tree<'x> {
         change: Inside<'x>,
     ) -> Result<bool, AllocError>
         ensures rest { OnOk result (KeepsRest self.old self.new) }
-        ensures slots { let read = read_of before.entry in
-            let old = self.old.slots.items in
-            let new = self.new.slots.items in
-            IfOk result (λ done. ChangesSlots self.old.texts read place at.now change.entry old new done) }
+        ensures slots { IfOk result (λ done. TreeChanges (read_of before.entry) place at.now change.entry self.old self.new done) }
     {
         change_at(&mut self.slots, self.texts, before, place, at, change)
     }

@@ -1,12 +1,12 @@
 //! One edit after the other, on the data and on the working tree.
-ghost use Rattle.std.specs.Prelude.{◌≡◌, IfErr, IfOk, IsTrue, OnOk, Some, false, length, map, option_copied, ◌&&◌, not};
+ghost use Rattle.std.specs.Prelude.{◌≡◌, IfErr, IfOk, IsTrue, OnOk, Some, false, map, option_copied, ◌&&◌, not};
 ghost use Rattle.toml_names.specs.model.Data.{kind_at};
 ghost use Rattle.toml_scalar.specs.Spelling.{spelled};
 ghost use Rattle.toml_edits.specs.Edits.{change, remove};
-ghost use Rattle.toml_edits.specs.Lists.{Lead};
 ghost use Rattle.toml_editor.specs.Edited.{MayBeSpread, TakesLastElement};
-ghost use Rattle.toml_editor.specs.Exact.{DoneAll, DoneOne, IsNotPlain, OfNoPlaceAt, SetsMany, Stops, WritesEdit, WritesInsert, WritesRename, WritesSet};
-ghost use Rattle.toml_editor.specs.Making.{HasNames, HasOne, IsMade, IsMany, TellsAny, TellsOne, TellsRow, places_of};
+ghost use Rattle.toml_editor.specs.Exact.{SetsMany, WritesEdit, WritesInsert, WritesRename, WritesSet};
+ghost use Rattle.toml_editor.specs.Made.{AreMadeAll, IsMadeOne, TellsOfAll, TellsOfOne, places_in};
+ghost use Rattle.toml_editor.specs.Making.{HasNames, HasOne, IsMade, IsMany, TellsRow};
 ghost use Rattle.toml_editor.specs.SpelledEdits.{AreSpelled, IsSpelled};
 ghost use Rattle.toml_editor.specs.Starting.{NoneIsGone, read_of};
 ghost use Rattle.toml_editor.specs.Stands.{KeepsRest};
@@ -46,13 +46,8 @@ pub(crate) fn make_all<'x>(
 ) -> Result<(), EditorFault>
     requires names { HasNames read }
     requires spelled { AreSpelled (map change edits.now) spelled.now }
-    ensures made { OnOk result (Lead read.entry.profile (map change edits.now) (kind_at «data».old.root) (kind_at «data».new.root)) }
-    ensures told { let places = places_of (read_of read.entry.before).lines in
-        IfErr result (TellsAny read.entry.profile places (map change edits.now) (kind_at «data».old.root)) }
-    ensures exact { let from = read_of read.entry.before in
-        OnOk result (DoneAll read.entry.profile from (kind_at «data».old.root) (map change edits.now) tree.old tree.new) }
-    ensures stops { let from = read_of read.entry.before in
-        IfErr result (Stops read.entry.profile from (map change edits.now) (kind_at «data».old.root) tree.old) }
+    ensures made { OnOk result (AreMadeAll read.entry (map change edits.now) «data».old «data».new tree.old tree.new) }
+    ensures told { IfErr result (TellsOfAll read.entry (map change edits.now) «data».old tree.old) }
 {
     for (index, edit) in edits.iter().enumerate() {
         if let Err(fault) = make(alloc, tree, read, data, edit, &spelled[index], index) {
@@ -74,13 +69,8 @@ fn make<'x>(
 ) -> Result<(), EditorFault>
     requires names { HasNames read }
     requires spelled { IsSpelled (change edit.now) spelled.now }
-    ensures ok { OnOk result (IsMade read.entry.profile (change edit.now) «data».old.root «data».new.root) }
-    ensures told { let places = places_of (read_of read.entry.before).lines in
-        IfErr result (TellsOne read.entry.profile places index (change edit.now) (kind_at «data».old.root)) }
-    ensures exact { let from = read_of read.entry.before in
-        OnOk result (DoneOne read.entry.profile from (kind_at «data».old.root) (change edit.now) tree.old tree.new) }
-    ensures spread { let from = read_of read.entry.before in
-        IfErr result (OfNoPlaceAt (λ at. IsNotPlain read.entry.profile from (change edit.now) tree.old)) }
+    ensures made { OnOk result (IsMadeOne read.entry (change edit.now) «data».old «data».new tree.old tree.new) }
+    ensures told { IfErr result (TellsOfOne read.entry index (change edit.now) «data».old tree.old) }
 {
     let spread = may_be_spread(alloc, data, read, edit, index)?;
     let only = is_only_element(data, edit);
@@ -254,8 +244,7 @@ fn may_be_spread(
     index: usize,
 ) -> Result<bool, AllocError>
     requires { HasNames read }
-    ensures yes { let places = places_of (read_of read.entry.before).lines in
-        IfOk result (λ spread. IsTrue spread → MayBeSpread places index (change edit.now) (kind_at «data».now.root)) }
+    ensures yes { IfOk result (λ spread. IsTrue spread → MayBeSpread (places_in read.entry) index (change edit.now) (kind_at «data».now.root)) }
     ensures no { IfOk result (λ spread. spread ≡ false → ¬ SetsMany (change edit.now) (kind_at «data».now.root)) }
 {
     Ok(match edit {

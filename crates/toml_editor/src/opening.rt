@@ -4,7 +4,7 @@ ghost use Rattle.toml_text.specs.Source.{text_of};
 ghost use Rattle.toml_tree.specs.Lines.{line as tree_line};
 ghost use Rattle.toml_tree.specs.Spells.{gap_parts};
 ghost use Rattle.toml_tree.specs.View.{assign as tree_assign, gap as tree_gap, header as tree_header, key as tree_key, keyval as tree_keyval, value as tree_value};
-ghost use Rattle.toml_editor.specs.OpenOutlines.{assign as assign_outlined, comment_text, gap_origins, header as header_outlined, leaf_text};
+ghost use Rattle.toml_editor.specs.OpenOutlines.{assign as assign_outlined, gap_origins, header as header_outlined, leaf_text};
 ghost use Rattle.toml_editor.specs.Numbering.{comment_origins, origins_of_entries, origins_of_line, origins_of_value};
 ghost use Rattle.toml_editor.specs.OpenOrigins.{RunFrom, RunsAs, next_number};
 ghost use Rattle.toml_editor.specs.OpenOutlines.{opening_brackets, closing_brackets};

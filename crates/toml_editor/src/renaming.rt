@@ -1,9 +1,8 @@
 //! `rename`: each key part that stands for the address, in headers, keys of lines and keys of pairs, becomes the spelling of
 //! the new name.
 ghost use Rattle.std.specs.Prelude.{◌≡◌, OnOk, Option, Some, option_map};
-ghost use Rattle.toml_text.specs.Source.{text_of};
 ghost use Rattle.toml_editor.specs.KnownLines.{lines_known};
-ghost use Rattle.toml_editor.specs.Becoming.{BodyBecomes, LineBecomes, LinesBecome, OpenBecomes, RenamesLines, SlotAtBecomes, SlotBecomes, SlotsBecome, renamed_below, renamed_own};
+ghost use Rattle.toml_editor.specs.Becoming.{LineBecomes, LinesBecome, OpenBecomes, PartBecomes, SlotAtBecomes, SlotBecomes, SlotsBecome, TreeBecomes, TreeRenames, renamed_below, renamed_own};
 ghost use Rattle.toml_editor.specs.OpenOutlines.{leaf_text, line as line_outlined};
 ghost use Rattle.toml_editor.specs.RenameStanding.{line_part_with, part_number, renamed_address};
 ghost use Rattle.toml_editor.specs.Starting.{NoneIsGone, read_of};
@@ -35,9 +34,7 @@ impl<'x> Tree<'x> {
         name: &Name,
         spelled: &'x str,
     ) -> Result<(), AllocError>
-        ensures renames { let read = read_of before.entry in
-            let text = text_of self.old.texts.source in
-            OnOk result (RenamesLines at.now name.now spelled.now text read self.old.slots.items self.new.slots.items) }
+        ensures renames { OnOk result (TreeRenames at.now name.now spelled.now (read_of before.entry) self.old self.new) }
         ensures texts { OnOk result (self.new.texts ≡ self.old.texts) }
         ensures style { OnOk result (self.new.style ≡ self.old.style) }
         ensures elements { OnOk result (NoneIsGone self.old.elements → NoneIsGone self.new.elements) }
@@ -66,8 +63,7 @@ impl<'x> Tree<'x> {
         before: Before<'_, 'x>,
         renaming: Renaming<'_, 'x>,
     ) -> Result<(), AllocError>
-        ensures slots { let rename = renamed_below renaming.entry in
-            OnOk result (SlotsBecome self.old.texts (read_of before.entry) rename self.old.slots.items self.new.slots.items) }
+        ensures slots { OnOk result (TreeBecomes (read_of before.entry) (renamed_below renaming.entry) self.old self.new) }
         ensures texts { OnOk result (self.new.texts ≡ self.old.texts) }
         ensures style { OnOk result (self.new.style ≡ self.old.style) }
         ensures elements { OnOk result (NoneIsGone self.old.elements → NoneIsGone self.new.elements) }
@@ -195,8 +191,8 @@ impl<'t> Line<'t> {
     ) -> Result<(), AllocError>
         ensures address { self.new.address ≡ self.old.address }
         ensures base { self.new.base ≡ self.old.base }
-        ensures body { let rename = line_part_with (part_number at.now self.old.base) spelled.now in
-            OnOk result (BodyBecomes texts.entry (lines_known known.now) rename self.old.body self.new.body) }
+        ensures body { let part = part_number at.now self.old.base in
+            OnOk result (PartBecomes part spelled.now texts.entry (lines_known known.now) self.old.body self.new.body) }
     {
         match self.seen().part_of(at) {
             Some(part) => self.set_part(texts, known, part, Leaf::New(spelled)),
@@ -228,8 +224,8 @@ impl<'t> Line<'t> {
     ) -> Result<(), AllocError>
         ensures address { self.new.address ≡ self.old.address }
         ensures base { self.new.base ≡ self.old.base }
-        ensures body { let changed = line_part_with (Some part) (leaf_text leaf.entry) in
-            OnOk result (BodyBecomes texts.entry (lines_known known.now) changed self.old.body self.new.body) }
+        ensures body { let text = leaf_text leaf.entry in
+            OnOk result (PartBecomes (Some part) text texts.entry (lines_known known.now) self.old.body self.new.body) }
     {
         self.open(texts, known)?;
         self.body.set_part(part, leaf);

@@ -1,9 +1,8 @@
 //! `set`: the bytes of the value at the address become those of the edit's value.
-ghost use Rattle.std.specs.Prelude.{◌≡◌, IfOk, OnOk};
-ghost use Rattle.toml_text.specs.Source.{text_of};
+ghost use Rattle.std.specs.Prelude.{IfOk, OnOk};
 ghost use Rattle.toml_editor.specs.Starting.{read_of};
 ghost use Rattle.toml_editor.specs.OpenOutlines.{value};
-ghost use Rattle.toml_editor.specs.Stands.{KeepsRest, SetsLines};
+ghost use Rattle.toml_editor.specs.Stands.{KeepsRest, TreeSets};
 
 use crate::inside::Inside;
 use crate::tree::Value;
@@ -21,9 +20,7 @@ impl<'x> Tree<'x> {
         at: &Address,
         new: Value<'x>,
     ) -> Result<bool, AllocError>
-        ensures set { let read = read_of before.entry in
-            let text = text_of self.old.texts.source in
-            IfOk result (λ done. SetsLines at.now (value new.entry) text read self.old.slots.items self.new.slots.items done) }
+        ensures set { IfOk result (λ done. TreeSets at.now (value new.entry) (read_of before.entry) self.old self.new done) }
         ensures rest { OnOk result (KeepsRest self.old self.new) }
     {
         match self.value_line(before, named, at) {

@@ -1,12 +1,11 @@
 //! Where things stand in the working tree.
-ghost use Rattle.std.specs.Prelude.{◌≡◌, ◌+◌, ◌<◌, ◌^◌, ℕ, List, IfOk, map, true};
+ghost use Rattle.std.specs.Prelude.{◌≡◌, ◌+◌, ◌<◌, ◌^◌, List, IfOk, map, true};
 ghost use Rattle.toml_text.specs.Source.{text_of};
 ghost use Rattle.toml_editor.specs.KnownLines.{lines_known};
 ghost use Rattle.toml_tree.specs.Tree.{Line as Lined};
 ghost use Rattle.toml_editor.specs.OpenOutlines.{leaf_text};
 ghost use Rattle.toml_editor.specs.Reading.{fact_of};
-ghost use Rattle.toml_editor.specs.declared.working.Before.{Before};
-ghost use Rattle.toml_editor.specs.Starting.{AreFacts, TakesLine, IsReadOf, NoneIsGone, StandAsRead};
+ghost use Rattle.toml_editor.specs.Starting.{AreFacts, IsAsRead, IsReadOf, StandForUnits, TakesLine};
 ghost use Rattle.toml_editor.specs.Written.{style_of as newline_style};
 ghost use Rattle.toml_editor.specs.Putting.{IsLastAt};
 ghost use Rattle.toml_editor.specs.Placing.{FindsLast, FindsRootEnd, IsOfRoot, PassesSlot};
@@ -85,10 +84,7 @@ impl<'x> Tree<'x> {
     ) -> Result<Tree<'x>, AllocError>
         requires read { IsReadOf (text_of texts.source) before }
         requires facts { AreFacts before facts.now }
-        ensures stands { IfOk result (λ tree. StandAsRead (text_of texts.entry.source) before.entry tree.slots.items) }
-        ensures texts { IfOk result (λ tree. tree.texts ≡ texts.entry) }
-        ensures elements { IfOk result (λ tree. NoneIsGone tree.elements) }
-        ensures style { IfOk result (λ tree. leaf_text tree.style ≡ newline_style (lines_known before.entry.known.now)) }
+        ensures { IfOk result (IsAsRead texts.entry before.entry) }
     {
         Ok(Tree {
             texts,
@@ -376,8 +372,7 @@ fn kept_slots<'x>(
     units: &[Unit],
     facts: &[LineFacts],
 ) -> Result<Vec<Slot<'x>>, AllocError>
-    ensures { IfOk result (λ slots. (text : List ℕ) (before : Before) → before.units.now ≡ units.now → AreFacts before facts.now → IsReadOf text before
-        → StandAsRead text before slots.items) }
+    ensures { IfOk result (λ slots. StandForUnits units.now facts.now slots.items) }
 {
     let mut slots = Vec::with_capacity(alloc, facts.len())?;
     for (first, unit) in units.iter().enumerate() {

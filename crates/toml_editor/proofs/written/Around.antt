@@ -5,7 +5,7 @@ use Rattle.toml_tree.specs.Tree.{Value, Scalar, Array, Inline, Items, Close, Las
 use Rattle.toml_names.specs.declared.mentions.mention.Role.TheVariants.{Valued, Bare}
 use Rattle.toml_names.specs.mentions.Joining.{is_lone}
 use Rattle.toml_names.specs.mentions.Keys.{key_names}
-use Rattle.toml_names.specs.mentions.Mentions.{Named, named_by, named_from, section, fronts, value_named, pair_named}
+use Rattle.toml_names.specs.mentions.Mentions.{Named, fronts, value_named, pair_named}
 use Rattle.toml_names.specs.mentions.Mentions as mentions
 use Rattle.toml_names.specs.model.Addresses.{Address, IsAbove, same_address, element, below}
 use Rattle.toml_units.specs.Units.{element_unit, pair_unit, inside, elements, members}

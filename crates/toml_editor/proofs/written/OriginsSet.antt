@@ -6,7 +6,7 @@ use Rattle.toml_tree.specs.Tree.{Piece, Blank, Value, KeyVal, Expr, BlankLine, K
 use Rattle.toml_names.specs.declared.mentions.mention.Role.TheVariants.{Valued}
 use Rattle.toml_names.specs.mentions.Clear.{AreValuesAt, IsClear}
 use Rattle.toml_names.specs.mentions.Keys.{key_names, part_name, rest_names}
-use Rattle.toml_names.specs.mentions.Mentions.{Named, named, named_by, named_from, root, section, entered, count_tables, followed, ends_table, ends_tables, fronts, value_named, pair_named}
+use Rattle.toml_names.specs.mentions.Mentions.{Named, named, named_by, named_from, root, section, count_tables, ends_table, ends_tables, fronts, value_named, pair_named}
 use Rattle.toml_names.specs.mentions.Mentions as mentions
 use Rattle.toml_names.specs.mentions.Rules.{KeepsRules}
 use Rattle.toml_names.specs.model.Addresses.{Address, element, below}

@@ -5,7 +5,7 @@ use Rattle.toml_tree.specs.Tree.{Piece, Assign, GapLine, Gap, Value, Scalar, Arr
 use Rattle.toml_names.specs.declared.model.address.Step.TheVariants.{Index}
 use Rattle.toml_names.specs.mentions.Clear.{AreValuesAt, IsClear}
 use Rattle.toml_names.specs.mentions.Keys.{key_names}
-use Rattle.toml_names.specs.mentions.Mentions.{fronts, value_named, pair_named}
+use Rattle.toml_names.specs.mentions.Mentions.{pair_named}
 use Rattle.toml_names.specs.mentions.Mentions as mentions
 use Rattle.toml_names.specs.model.Addresses.{Address, IsAbove, same_address, element, below}
 use Rattle.toml_names.proofs.Proved.{not_above_next}

@@ -5,13 +5,13 @@ use Rattle.std.proofs.lemmas.Bool.{cond-false}
 use Rattle.toml_scalar.specs.Spelling.{spelled}
 use Rattle.toml_tree.specs.Bare.{fresh}
 use Rattle.toml_tree.specs.Spells.{EachIs}
-use Rattle.toml_tree.specs.Tree.{Piece, Dotted, Assign, Value, Scalar, Array, Inline, Items, Close, Last, More, Pairs, ClosePairs, LastPair, MorePairs, KeyVal, Expr, BlankLine, KeyValLine, TableLine, ArrayTableLine, Line, Header}
+use Rattle.toml_tree.specs.Tree.{Piece, Dotted, Assign, Value, Scalar, Array, Inline, Items, Close, Last, More, Pairs, ClosePairs, LastPair, MorePairs, Expr, BlankLine, KeyValLine, TableLine, ArrayTableLine, Line, Header}
 use Rattle.toml_tree.specs.Tree as tree
 use Rattle.toml_names.specs.declared.mentions.mention.Role.{Role}
 use Rattle.toml_names.specs.declared.mentions.mention.Role.TheVariants as roles
 use Rattle.toml_names.specs.model.Addresses.{Address, same_address, child, element, below}
 use Rattle.toml_names.specs.mentions.Keys.{Key, key_names, part_name, rest_names}
-use Rattle.toml_names.specs.mentions.Mentions.{Named, named, named_by, named_from, root, value_named, table_at, kind_of, inside, elements, members, fronts, pair_named, section, section_from, is_section, is_tables, count_tables, entered, followed, ends_table, ends_tables}
+use Rattle.toml_names.specs.mentions.Mentions.{Named, named_by, named_from, root, value_named, table_at, kind_of, inside, elements, members, fronts, pair_named, section, section_from, is_section, is_tables, count_tables, entered, followed, ends_table, ends_tables}
 use Rattle.toml_names.specs.mentions.Clear.{IsClear}
 use Rattle.toml_names.proofs.Proved.{not_named_is_clear}
 use Rattle.toml_editor.specs.RenameLaws.{moved, moved_one, RenameNames}

@@ -3,7 +3,7 @@ use Rattle.std.proofs.Common.{◌≡◌, ◌<◌, inl, inr, ℕ, ◌+◌, Option
 use Rattle.std.proofs.lemmas.List.{map-append, length-append}
 use Rattle.toml_tree.specs.Pieces.{piece_of, expr_piece}
 use Rattle.toml_tree.specs.Spells.{joined, value_parts, keyval_parts, blank_parts, expr_parts, IsValue, AreItems, ArePairs, IsExpr, AreLines, EachIs}
-use Rattle.toml_tree.specs.Tree.{Piece, Assign, GapLine, Gap, Value, Scalar, Array, Inline, Items, Close, Last, More, Pairs, ClosePairs, LastPair, MorePairs, KeyVal, Expr, BlankLine, KeyValLine, TableLine, ArrayTableLine, Line, Header}
+use Rattle.toml_tree.specs.Tree.{Piece, Assign, GapLine, Gap, Value, Scalar, Array, Inline, Items, Close, Last, More, Pairs, ClosePairs, LastPair, MorePairs, Expr, BlankLine, KeyValLine, TableLine, ArrayTableLine, Line, Header}
 use Rattle.toml_tree.specs.Tree as tree
 use Rattle.toml_names.specs.declared.mentions.mention.Role.TheVariants as roles
 use Rattle.toml_names.specs.declared.model.address.Step.TheVariants.{Index}

@@ -10,7 +10,7 @@ use Rattle.toml_names.specs.declared.model.address.Step.TheVariants.{Index}
 use Rattle.toml_names.specs.mentions.Alike.{AreAlike}
 use Rattle.toml_names.specs.mentions.Clear.{AreValuesAt, IsClear}
 use Rattle.toml_names.specs.mentions.Keys.{key_names, part_name, rest_names}
-use Rattle.toml_names.specs.mentions.Mentions.{Named, named, named_by, named_from, root, section, entered, count_tables, followed, ends_table, ends_tables, fronts, value_named, pair_named}
+use Rattle.toml_names.specs.mentions.Mentions.{Named, named, named_by, named_from, root, section, count_tables, ends_table, ends_tables, fronts, value_named, pair_named}
 use Rattle.toml_names.specs.mentions.Mentions as mentions
 use Rattle.toml_names.specs.model.Addresses.{Address, IsAbove, same_address, element, below}
 use Rattle.toml_names.proofs.Proved.{clear_of_root, headers_are_clear, line_values_stand_alone, not_above_next}

@@ -6,7 +6,7 @@ use Rattle.toml_tree.specs.Tree.{Piece, Assign, GapLine, Gap, Value, Scalar, Arr
 use Rattle.toml_names.specs.declared.mentions.mention.Role.TheVariants as roles
 use Rattle.toml_names.specs.mentions.Joining.{is_lone}
 use Rattle.toml_names.specs.mentions.Keys.{key_names}
-use Rattle.toml_names.specs.mentions.Mentions.{Named, named_by, named_from, root, section, fronts, value_named, pair_named}
+use Rattle.toml_names.specs.mentions.Mentions.{Named, named_by, named_from, section, fronts, value_named, pair_named}
 use Rattle.toml_names.specs.mentions.Mentions as mentions
 use Rattle.toml_names.specs.model.Addresses.{Address, same_address, element, below}
 use Rattle.toml_names.specs.reader.Names.{own_address}

@@ -1,10 +1,7 @@
-use Rattle.std.proofs.Common.{◌∙◌, ap, map, refl, string_bytes, subst, subst₂, sym}
+use Rattle.std.proofs.Common.{map, refl, string_bytes, subst, subst₂, sym}
 use Rattle.toml_edits.specs.Edits.{change}
-use Rattle.toml_text.specs.Source.{text_of}
-use Rattle.toml_units.specs.View.{all_units}
 use Rattle.toml_editor.specs.Edited.{Tells}
 use Rattle.toml_editor.specs.Editing.{IsMadeText, IsReadFrom}
-use Rattle.toml_editor.specs.Reading.{IsRead}
 use Rattle.toml_editor.specs.declared.making.Read.{Read}
 use Rattle.toml_editor.proofs.ReadDocuments.{read_from, spelled, tree, units_are}
 use Rattle.toml_editor.proofs.editing.make_document.Goals as goal

@@ -32,10 +32,10 @@ returns-in-Err-clause-told c =
     let told = c.in-Err.ensures.told in
     let opened = c.in_ok-tree.ensures in
     let both = stops_told profile (read_of c.args.read.before) d text c.in_ok-tree.tree document
-    spells opened.stands.lines (ap (λ (t : Texts). text_of t.source) opened.texts) opened.elements opened.style
-    (is_hidden c.args.touched.now) cs c.requires.touched old facts part near c.in-Err.fault c.in-Err.ensures.stops in
+    spells opened.stands.lines (ap (λ (t : Texts). text_of t.source) opened.texts_are) opened.elements opened.style
+    (is_hidden c.args.touched.now) cs c.requires.touched old facts part near c.in-Err.fault told.stops in
     any_tells profile text cs d old c.in-Err.fault document spells facts
-    (any_of_all profile (place (named d.lines)) (is_hidden c.args.touched.now) old cs c.requires.touched part near c.in-Err.fault told)
+    (any_of_all profile (place (named d.lines)) (is_hidden c.args.touched.now) old cs c.requires.touched part near c.in-Err.fault told.told)
     both.0 both.1
 
 pub returns-clause-made : goal.returns-clause-made
@@ -52,22 +52,22 @@ returns-clause-made c =
     let near = c.in_ok-data.ensures d.lines is.names old facts in
     let new = kind_at c.make_all.new.«data».root in
     let leads = leads_beside profile (is_hidden c.args.touched.now) cs old (kind_at c.in_ok-data.«data».root) new
-    c.requires.touched near c.in_default.ensures.made in
+    c.requires.touched near c.in_default.ensures.made.lead in
     let opened = c.in_ok-tree.ensures in
     record {
       plain = plain_written profile (read_of c.args.read.before) d text c.in_ok-tree.tree document
-          spells opened.stands.lines (ap (λ (t : Texts). text_of t.source) opened.texts) opened.elements opened.style cs old
+          spells opened.stands.lines (ap (λ (t : Texts). text_of t.source) opened.texts_are) opened.elements opened.style cs old
           (beside (is_hidden c.args.touched.now) old new) c.make_all.new.tree (string_bytes c.in_ok-write_out.field-0.text) facts leads
-          c.in_default.ensures.exact.makes c.in_ok-write_out.ensures.written;
+          c.in_default.ensures.made.done.makes c.in_ok-write_out.ensures.written;
       passed = no_spread_set profile (read_of c.args.read.before) d text c.in_ok-tree.tree document
-          spells opened.stands.lines (ap (λ (t : Texts). text_of t.source) opened.texts) opened.elements opened.style
-          (is_hidden c.args.touched.now) cs c.requires.touched old facts (kind_at c.in_ok-data.«data».root) near (length cs) c.in_default.ensures.exact.passes;
+          spells opened.stands.lines (ap (λ (t : Texts). text_of t.source) opened.texts_are) opened.elements opened.style
+          (is_hidden c.args.touched.now) cs c.requires.touched old facts (kind_at c.in_ok-data.«data».root) near (length cs) c.in_default.ensures.made.done.passes;
       paired = λ told.
           plain_paired profile (read_of c.args.read.before) d text c.in_ok-tree.tree document
-          spells opened.stands.lines (ap (λ (t : Texts). text_of t.source) opened.texts) opened.elements opened.style cs old
+          spells opened.stands.lines (ap (λ (t : Texts). text_of t.source) opened.texts_are) opened.elements opened.style cs old
           (beside (is_hidden c.args.touched.now) old new) c.make_all.new.tree (string_bytes c.in_ok-write_out.field-0.text) facts leads
           c.args.wanted.now c.in_ok-write_out.field-0.certificate.pairs.items document.0 (wanted_outer text cs c.args.wanted.now d spells told)
-          (units_are text c.args.read c.args.facts.now is) opened.stands.origins c.in_default.ensures.exact.makes c.in_ok-write_out.ensures.written c.in_ok-write_out.ensures.paired;
+          (units_are text c.args.read c.args.facts.now is) opened.stands.origins c.in_default.ensures.made.done.makes c.in_ok-write_out.ensures.written c.in_ok-write_out.ensures.paired;
       are_defined = (document, (d, spells, old, facts, (beside (is_hidden c.args.touched.now) old new, leads)));
       pieces = c.in_ok-write_out.ensures.pieces;
     }

@@ -1,34 +1,39 @@
 use Rattle.std.proofs.Common.{inl, inr, refl}
 use Rattle.toml_names.specs.model.Data.{kind_at}
-use Rattle.toml_editor.specs.Starting.{read_of}
-use Rattle.toml_editor.specs.Making.{places_of}
+use Rattle.toml_editor.specs.Made.{places_in}
 use Rattle.toml_editor.proofs.MakesExact.{makes_one, not_last, not_spread, passes_one}
 use Rattle.toml_editor.proofs.Shapes.{made_is, not_made_is}
 use Rattle.toml_editor.proofs.making.make.Goals as goal
 
-pub returns-clause-exact : goal.returns-clause-exact
-returns-clause-exact c = record {
-  makes = makes_one _ _ _ _ _ c.in_ok-done.done c.in_ok-done.ensures;
-  passes =
-      passes_one _ _ (kind_at c.args.data.now.root) _ _ _ c.in_ok-done.done c.in_ok-done.ensures
-      (elim (made_is c.in_ok-done.done _ _ c.not_made-is_spread.ensures c.if-is_spread.false) [
-        | inl h ↦ inl h
-        | inr h ↦ inr (c.in_ok-spread.ensures.no h)
-      ]);
+pub returns-clause-made : goal.returns-clause-made
+returns-clause-made c = record {
+  makes = c.in_ok-applied.ensures.ok;
+  done = record {
+    makes = makes_one _ _ _ _ _ c.in_ok-done.done c.in_ok-done.ensures;
+    passes =
+        passes_one _ _ (kind_at c.args.data.now.root) _ _ _ c.in_ok-done.done c.in_ok-done.ensures
+        (elim (made_is c.in_ok-done.done _ _ c.not_made-is_spread.ensures c.if-is_spread.false) [
+          | inl h ↦ inl h
+          | inr h ↦ inr (c.in_ok-spread.ensures.no h)
+        ]);
+  };
 }
-
-pub returns-then-is_spread-clause-spread : goal.returns-then-is_spread-clause-spread
-returns-then-is_spread-clause-spread c =
-    let both = not_made_is c.in_ok-done.done _ _ c.not_made-is_spread.ensures c.if-is_spread.true in
-    not_spread _ _ (places_of (read_of c.args.read.before).lines) c.args.index (kind_at c.args.data.now.root) _ _ _ c.in_ok-done.done c.in_ok-done.ensures
-    both.0 (c.in_ok-spread.ensures.yes both.1)
 
 pub returns-then-is_spread-clause-told : goal.returns-then-is_spread-clause-told
 returns-then-is_spread-clause-told c =
     let both = not_made_is c.in_ok-done.done _ _ c.not_made-is_spread.ensures c.if-is_spread.true in
-    (refl, (c.in_ok-applied.ensures.ok.0, c.in_ok-spread.ensures.yes both.1))
+    let may = c.in_ok-spread.ensures.yes both.1 in
+    record {
+      told = (refl, (c.in_ok-applied.ensures.ok.0, may));
+      spread =
+          not_spread _ _ (places_in c.args.read) c.args.index (kind_at c.args.data.now.root) _ _ _ c.in_ok-done.done c.in_ok-done.ensures both.0 may;
+    }
 
-pub returns-then-is_last-clause-spread : goal.returns-then-is_last-clause-spread
-returns-then-is_last-clause-spread c =
+pub returns-then-is_last-clause-told : goal.returns-then-is_last-clause-told
+returns-then-is_last-clause-told c =
     let both = not_made_is c.in_ok-done.done _ _ c.not_made-is_last.ensures c.if-is_last.true in
-    not_last _ _ (kind_at c.args.data.now.root) _ _ (c.is_only_element-only.ensures both.1)
+    let takes = c.is_only_element-only.ensures both.1 in
+    record {
+      told = (refl, (c.in_ok-applied.ensures.ok.0, takes));
+      spread = not_last _ _ (kind_at c.args.data.now.root) _ _ takes;
+    }

@@ -4,7 +4,7 @@ use Rattle.toml_names.specs.model.Data.{kind_at}
 use Rattle.toml_edits.specs.Edits.{change}
 use Rattle.toml_edits.specs.Lists.{Lead}
 use Rattle.toml_editor.specs.Exact.{MakesAll}
-use Rattle.toml_editor.specs.Making.{places_of}
+use Rattle.toml_editor.specs.Made.{places_in}
 use Rattle.toml_editor.specs.Starting.{read_of}
 use Rattle.toml_editor.proofs.MadeEdits.{any_of_one, get_map, led_on, take_map, taken_on}
 use Rattle.toml_editor.proofs.MakesExact.{more_made, more_passed, none_made, none_passed, stops_at}
@@ -38,46 +38,43 @@ loop-index-preserved c =
     let near = kind_at c.args.data.now.root in
     let part = kind_at here.«data».root in
     let taken = sym (take_map here.index edits) in (
-      led_on profile edits here.index edit near here.«data».root c.make.new.«data».root (omega arith) c.index-edits-index.is here.invariant.0 c.in_default.ensures.ok,
+      led_on profile edits here.index edit near here.«data».root c.make.new.«data».root (omega arith) c.index-edits-index.is here.invariant.0 c.in_default.ensures.made.makes,
       subst (λ ds. MakesAll profile read ds old c.make.new.tree) (sym (taken_on edits here.index edit (omega arith) c.index-edits-index.is))
-          (more_made profile read made (change edit) old here.tree c.make.new.tree here.invariant.1 c.in_default.ensures.exact.makes),
+          (more_made profile read made (change edit) old here.tree c.make.new.tree here.invariant.1 c.in_default.ensures.made.done.makes),
       more_passed profile read (map change edits) near part here.index (change edit) old here.tree here.invariant.2
           (subst (λ ds. Lead profile ds near part) taken here.invariant.0) (subst (λ ds. MakesAll profile read ds old here.tree) taken here.invariant.1)
-          (get_map edits here.index edit (omega arith) c.index-edits-index.is) c.in_default.ensures.exact.passes,
+          (get_map edits here.index edit (omega arith) c.index-edits-index.is) c.in_default.ensures.made.done.passes,
     )
 
-pub returns-in-Err : goal.returns-in-Err
-returns-in-Err c =
+pub returns-in-Err-clause-told : goal.returns-in-Err-clause-told
+returns-in-Err-clause-told c =
     let edits = c.args.edits.now in
     let here = c.loop-index in
     let edit = c.index-edits-index.result in
     let profile = c.args.read.profile in
     let read = read_of c.args.read.before in
-    let places = places_of (read_of c.args.read.before).lines in
+    let places = places_in c.args.read in
+    let says = c.in-Err.ensures.told in
     let old = c.args.tree.now in
     let near = kind_at c.args.data.now.root in
     let part = kind_at here.«data».root in
     record {
-      made = tt;
-      told = any_of_one profile places edits here.index edit near part c.in-Err.fault (omega arith) c.index-edits-index.is here.invariant.0 c.in-Err.ensures.told;
-      exact = tt;
+      told = any_of_one profile places edits here.index edit near part c.in-Err.fault (omega arith) c.index-edits-index.is here.invariant.0 says.told;
       stops = stops_at profile read places (map change edits) near part here.index (change edit) old here.tree c.in-Err.fault here.invariant.2
           (subst (λ ds. MakesAll profile read ds old here.tree) (sym (take_map here.index edits)) here.invariant.1)
-          (get_map edits here.index edit (omega arith) c.index-edits-index.is) c.in-Err.ensures.told c.in-Err.ensures.spread;
+          (get_map edits here.index edit (omega arith) c.index-edits-index.is) says.told says.spread;
     }
 
-pub returns : goal.returns
-returns c =
+pub returns-clause-made : goal.returns-clause-made
+returns-clause-made c =
     let edits = c.args.edits.now in
     let here = c.loop-index in
     let profile = c.args.read.profile in
     let all = take_all here.index edits c.loop-index-test.false in
     record {
-      made = subst (λ es. Lead profile (map change es) (kind_at c.args.data.now.root) (kind_at here.«data».root)) all here.invariant.0;
-      told = tt;
-      exact = record {
+      lead = subst (λ es. Lead profile (map change es) (kind_at c.args.data.now.root) (kind_at here.«data».root)) all here.invariant.0;
+      done = record {
         makes = subst (λ es. MakesAll profile (read_of c.args.read.before) (map change es) c.args.tree.now here.tree) all here.invariant.1;
         passes = λ k low. here.invariant.2 k (omega (arith, low, length-map edits change));
       };
-      stops = tt;
     }

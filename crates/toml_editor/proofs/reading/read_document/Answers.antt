@@ -1,12 +1,10 @@
-use Rattle.std.proofs.Common.{◌<◌, ◌++◌, ◌∷◌, [], Option, List, Some, subst, sym}
+use Rattle.std.proofs.Common.{◌++◌, ◌∷◌, [], Option, subst}
 use Rattle.std.proofs.lemmas.Result.{err_from_is_err_and}
 use Rattle.toml_text.specs.Source.{text_of}
-use Rattle.toml_tree.specs.HandedOut.{HandsOut, left}
 use Rattle.toml_tree.specs.Lines.{line as tree_line}
 use Rattle.toml_tree.specs.declared.line_reader.LineReader.{LineReader}
-use Rattle.toml_names.specs.reader.Texts.{AreLeft, more_left}
-use Rattle.toml_names.proofs.Proved.{less_is_left}
-use Rattle.toml_editor.proofs.ReadDocuments.{all_read}
+use Rattle.toml_names.specs.reader.Texts.{AreLeft}
+use Rattle.toml_editor.proofs.ReadDocuments.{all_read, behind_it, stood}
 use Rattle.toml_editor.proofs.reading.read_document.Goals as goal
 
 pub returns-in_err-line-clause-refused : goal.returns-in_err-line-clause-refused
@@ -14,8 +12,7 @@ returns-in_err-line-clause-refused c =
     let p = err_from_is_err_and c.from_residual-in_err-line.result c.from_residual-in_err-line.ensures.1 in
     let text = text_of c.args.source in
     let all = c.loop-left.invariant in
-    let stands : HandsOut c.args.profile text all.0 c.in-Some.reader = subst (λ (o : Option LineReader). AreLeft c.args.profile text all.0 o) c.in-Some.is all.1 in
-    rw (p.1, p.2) (c.in_err-line.ensures.hands c.args.profile text all.0 stands)
+    rw (p.1, p.2) (c.in_err-line.ensures.hands c.args.profile text all.0 (stood c.args.profile text all.0 _ c.in-Some.reader c.in-Some.is all.1))
 
 pub take-requires-clause-taken : goal.take-requires-clause-taken
 take-requires-clause-taken c = (c.loop-left.invariant.0, c.loop-left.invariant.2)
@@ -27,33 +24,32 @@ pub refuse_names-requires : goal.refuse_names-requires
 refuse_names-requires c =
     let text = text_of c.args.source in
     let all = c.loop-left.invariant in
-    let stands : HandsOut c.args.profile text all.0 c.in-Some.reader = subst (λ (o : Option LineReader). AreLeft c.args.profile text all.0 o) c.in-Some.is all.1 in
-    let passed = less_is_left c.args.profile text all.0 (left c.in-Some.reader) c.in_ok-line.line c.in_ok-line.more (c.in_ok-line.ensures.hands c.args.profile text all.0 stands) in
-    (c.args.profile, text, all.0 ++ tree_line c.in_ok-line.line ∷ [], passed.0)
+    let line = c.in_ok-line in
+    let passed = behind_it c.args.profile text all.0 _ c.in-Some.reader line.line line.more c.in-Some.is all.1 line.ensures.hands in
+    (c.args.profile, text, all.0 ++ tree_line line.line ∷ [], passed.0)
 
 pub returns-in-Err-clause-refused : goal.returns-in-Err-clause-refused
 returns-in-Err-clause-refused c =
     let text = text_of c.args.source in
     let all = c.loop-left.invariant in
-    let stands : HandsOut c.args.profile text all.0 c.in-Some.reader = subst (λ (o : Option LineReader). AreLeft c.args.profile text all.0 o) c.in-Some.is all.1 in
-    let passed = less_is_left c.args.profile text all.0 (left c.in-Some.reader) c.in_ok-line.line c.in_ok-line.more (c.in_ok-line.ensures.hands c.args.profile text all.0 stands) in
-    c.refuse_names.ensures c.args.profile text (all.0 ++ tree_line c.in_ok-line.line ∷ []) passed.0 (c.in-Err.ensures all.0 all.2)
+    let line = c.in_ok-line in
+    let passed = behind_it c.args.profile text all.0 _ c.in-Some.reader line.line line.more c.in-Some.is all.1 line.ensures.hands in
+    c.refuse_names.ensures c.args.profile text (all.0 ++ tree_line line.line ∷ []) passed.0 (c.in-Err.ensures all.0 all.2)
 
 pub loop-left-smaller : goal.loop-left-smaller
 loop-left-smaller c =
     let text = text_of c.args.source in
     let all = c.loop-left.invariant in
-    let stands : HandsOut c.args.profile text all.0 c.in-Some.reader = subst (λ (o : Option LineReader). AreLeft c.args.profile text all.0 o) c.in-Some.is all.1 in
-    let passed = less_is_left c.args.profile text all.0 (left c.in-Some.reader) c.in_ok-line.line c.in_ok-line.more (c.in_ok-line.ensures.hands c.args.profile text all.0 stands) in
-    subst (λ (o : Option LineReader). more_left c.in_ok-line.more < more_left o) (sym c.in-Some.is) passed.1
+    let line = c.in_ok-line in
+    (behind_it c.args.profile text all.0 _ c.in-Some.reader line.line line.more c.in-Some.is all.1 line.ensures.hands).1
 
 pub loop-left-preserved : goal.loop-left-preserved
 loop-left-preserved c =
     let text = text_of c.args.source in
     let all = c.loop-left.invariant in
-    let stands : HandsOut c.args.profile text all.0 c.in-Some.reader = subst (λ (o : Option LineReader). AreLeft c.args.profile text all.0 o) c.in-Some.is all.1 in
-    let passed = less_is_left c.args.profile text all.0 (left c.in-Some.reader) c.in_ok-line.line c.in_ok-line.more (c.in_ok-line.ensures.hands c.args.profile text all.0 stands) in
-    (all.0 ++ tree_line c.in_ok-line.line ∷ [], passed.0, c.in_default-take.ensures all.0 all.2)
+    let line = c.in_ok-line in
+    let passed = behind_it c.args.profile text all.0 _ c.in-Some.reader line.line line.more c.in-Some.is all.1 line.ensures.hands in
+    (all.0 ++ tree_line line.line ∷ [], passed.0, c.in_default-take.ensures all.0 all.2)
 
 pub returns-clause-read : goal.returns-clause-read
 returns-clause-read c =

@@ -1,4 +1,4 @@
-use Rattle.std.proofs.Common.{ℕ, List}
+use Rattle.std.proofs.Common.{List}
 use Rattle.toml_text.specs.Source.{text_of}
 use Rattle.toml_tree.specs.Tree.{Line}
 use Rattle.toml_names.specs.reader.Texts.{AreLeft, more_left}

@@ -1,4 +1,4 @@
-use Rattle.std.proofs.Common.{None, subst}
+use Rattle.std.proofs.Common.{subst}
 use Rattle.toml_editor.specs.Numbering.{origins_of_line}
 use Rattle.toml_editor.specs.OpenOrigins.{RunsAs}
 use Rattle.toml_editor.proofs.known.KnownLine.open.Goals as goal

@@ -1,0 +1,38 @@
+-- What the making of edits hands out and tells, by what was read of the document.
+use Rattle.std.specs.Prelude.{ℕ, List}
+use Rattle.toml_names.specs.declared.model.datum.Data.{Data}
+use Rattle.toml_names.specs.model.Data.{kind_at}
+use Rattle.toml_edits.specs.Edits.{Change}
+use Rattle.toml_edits.specs.Lists.{Lead}
+use Rattle.toml_editor.specs.declared.fault.EditorFault.{EditorFault}
+use Rattle.toml_editor.specs.declared.making.Read.{Read}
+use Rattle.toml_editor.specs.declared.working.Tree.{Tree}
+use Rattle.toml_editor.specs.Edited.{Places}
+use Rattle.toml_editor.specs.Exact.{DoneAll, DoneOne, IsNotPlain, OfNoPlaceAt, Stops}
+use Rattle.toml_editor.specs.Making.{IsMade, TellsAny, TellsOne, places_of}
+use Rattle.toml_editor.specs.Starting.{read_of}
+
+-- where the things of the text before the edits stand
+abbrev pub places_in : Read → Places
+places_in read = places_of (read_of read.before).lines
+
+-- the edit is made: the one data become the other, and so does the working tree
+pub record IsMadeOne (read : Read) (c : Change) (old new : Data) (before after : Tree) : Type 0 where
+  pub makes : IsMade read.profile c old.root new.root
+  pub done : DoneOne read.profile (read_of read.before) (kind_at old.root) c before after
+
+-- the edit with this number has the fault on the data, and is not plain where the fault is of its place
+pub record TellsOfOne (read : Read) (index : ℕ) (c : Change) (old : Data) (tree : Tree) (fault : EditorFault) : Type 0 where
+  pub told : TellsOne read.profile (places_in read) index c (kind_at old.root) fault
+  pub spread : OfNoPlaceAt (λ at. IsNotPlain read.profile (read_of read.before) c tree) fault
+
+-- the edits are made, one after the other: they lead from the one data to the other, and from the one working tree to the other
+pub record AreMadeAll (read : Read) (cs : List Change) (old new : Data) (before after : Tree) : Type 0 where
+  pub lead : Lead read.profile cs (kind_at old.root) (kind_at new.root)
+  pub done : DoneAll read.profile (read_of read.before) (kind_at old.root) cs before after
+
+-- some edit has the fault on the data to which those before it lead; these set nothing that is spread, and it is not plain where the
+-- fault is of its place
+pub record TellsOfAll (read : Read) (cs : List Change) (old : Data) (tree : Tree) (fault : EditorFault) : Type 0 where
+  pub told : TellsAny read.profile (places_in read) cs (kind_at old.root) fault
+  pub stops : Stops read.profile (read_of read.before) cs (kind_at old.root) tree fault
