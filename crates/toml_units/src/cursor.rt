@@ -1,5 +1,5 @@
 //! A walk over the units of a text, which is read line by line, or was read already.
-ghost use Rattle.std.specs.Prelude.{◌≡◌, [], None, IsSome, IfOk, option_map, slice_get};
+ghost use Rattle.std.specs.Prelude.{◌≡◌, [], None, IsSome, IfOk, OnOk, option_map, slice_get};
 ghost use Rattle.toml_text.specs.Source.{text_of};
 ghost use Rattle.toml_units.specs.Cursors.{ComesOn, EndsAll, Goes, HasLetGo, HasNextNewline, Stand, StandsBefore, StepsOn, Walks, current};
 ghost use Rattle.toml_units.specs.Places.{is_line};
@@ -26,6 +26,9 @@ pub struct UnitCursor<'t> {
     // those of the lines that come behind it in `units`
     newlines: IntoIter<Newline>,
 }
+
+/// How many units are walked past before any of those held are let go.
+const MANY_UNITS: usize = 4096;
 
 /// Whether a unit is a line.
 fn is_line(unit: &Unit) -> bool
@@ -103,31 +106,36 @@ impl<'t> UnitCursor<'t> {
         self.newline
     }
 
-    /// Goes past the unit before which it stands. Where many are held, the address of the one before that is let go, while it is
-    /// still in the cache: so the memory of all addresses goes unit by unit as the walk comes to its end.
+    /// Goes past the unit before which it stands. Where many are held, what was walked past is let go on the way: so the memory
+    /// goes as the walk comes to its end.
     pub fn step(&mut self, alloc: Global) -> Result<(), AllocError>
         requires goes { Goes self.old }
         requires some { IsSome (current self.old) }
         ensures { StepsOn self.old self.new result }
     {
-        self.let_go();
+        self.let_go()?;
         self.go_past(alloc)
     }
 
-    /// Lets the address of the unit go that was walked past last. That of the first unit stays, in whose memory the next line's
-    /// is made.
-    fn let_go(&mut self)
-        ensures { HasLetGo self.old self.new }
+    /// Lets the address of the unit go that was walked past last, while it is still in the cache; that of the first one stays, in
+    /// whose memory the next line's is made. Of many units those walked past are let go as a whole once they are three
+    /// quarters, so that few are moved.
+    fn let_go(&mut self) -> Result<(), AllocError>
+        ensures { OnOk result (HasLetGo self.old self.new) }
     {
-        if self.place < 2 {
-            return;
+        if self.place < 2 || self.place > self.units.len() {
+            return Ok(());
         }
-        if let Some(past) = self.units.get_mut(self.place - 1) {
-            past.address = None;
+        if self.place >= MANY_UNITS.max(self.units.len() / 4 * 3) {
+            self.units = self.units.split_off(self.place)?;
+            self.place = 0;
+            return Ok(());
         }
+        self.units[self.place - 1].address = None;
+        Ok(())
     }
 
-    /// Goes past the unit, and lets no address go.
+    /// Goes past the unit, and lets nothing go.
     fn go_past(&mut self, alloc: Global) -> Result<(), AllocError>
         requires goes { Goes self.old }
         requires some { IsSome (current self.old) }
