@@ -202,6 +202,15 @@ if [ $? -ne 3 ] || [ -s out ]; then
   failed=1
 fi
 
+# So many lines that most are let go on the way.
+yes '[[a]]' | head -n 20000 >many.toml
+printf '[]' >many.json
+run 0 ok - edit many.toml many.json many.out many.cert
+run 0 yes - verify many.toml many.json many.out many.cert
+printf '[{"op":"insert","at":["a",19999,"b"],"value":"1"}]' >many.json
+run 0 ok - edit many.toml many.json many.out many.cert
+run 0 yes - verify many.toml many.json many.out many.cert
+
 # The deepest texts under a stack of 256 KiB.
 deep() {
   local count

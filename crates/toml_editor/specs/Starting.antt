@@ -75,7 +75,7 @@ TakesLine lines number u first found =
 abbrev pub NoneIsGone : Elements → Type 0
 NoneIsGone elements = elements.gone.items ≡ []
 
--- the tree is that of the document in these texts, as it was read, and new lines end as its first one
+-- the tree is that of the document in these texts, as it was read, and new lines end as its first one, in LF where that has no newline
 pub record IsAsRead (texts : Texts) (before : Before) (tree : Tree) : Type 0 where
   pub stands : StandAsRead (text_of texts.source) before tree.slots.items
   pub texts_are : tree.texts ≡ texts

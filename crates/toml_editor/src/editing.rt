@@ -156,12 +156,17 @@ fn make_document<'x>(
 {
     let touched = near_addresses(alloc, edits)?;
     let (source, document) = read(alloc, before, profile, &touched)?;
+    let ReadDocument {
+        lines,
+        facts,
+        taken,
+    } = document;
     let read = Read {
         before: Before {
-            known: &document.lines,
-            units: document.taken.units(),
+            known: &lines,
+            units: taken.units(),
         },
-        names: document.taken.names(),
+        names: taken.names(),
         profile,
     };
     let wanted = outermost(alloc, read.before.units, edits)?;
@@ -169,7 +174,7 @@ fn make_document<'x>(
         alloc,
         source,
         read,
-        &document.facts,
+        facts,
         edits,
         spelled,
         &wanted,
@@ -182,7 +187,7 @@ fn make_document<'x>(
     Ok(Work {
         wanted,
         edited,
-        cursor: UnitCursor::held(document.taken),
+        cursor: UnitCursor::held(taken),
     })
 }
 
@@ -226,26 +231,27 @@ fn certify<'x>(
     }
 }
 
-/// What the edits make of a document, not judged yet; the facts are those of its lines. Of its data those are built that the
-/// edits can touch.
+/// What the edits make of a document, not judged yet; the facts are those of its lines, and are let go once the working tree has
+/// them. Of its data those are built that the edits can touch.
 fn make_text<'x>(
     alloc: Global,
     source: Source<'x>,
     read: Read<'_, 'x>,
-    facts: &[LineFacts],
+    facts: Vec<LineFacts>,
     edits: &'x [Edit],
     spelled: &'x [Spelled],
     wanted: &[bool],
     touched: &AddressSet,
 ) -> Result<Edited, EditorFault>
-    requires read { IsReadFrom (text_of source) read facts.now }
+    requires read { IsReadFrom (text_of source) read facts.items }
     requires spelled { AreSpelled (map change edits.now) spelled.now }
     requires touched { AreNear (is_hidden touched.now) (map change edits.now) }
     ensures made { IfOk result (IsMadeAs read.entry.profile (text_of source.entry) (map change edits.now) wanted.now) }
     ensures told { IfErr result (Tells read.entry.profile (text_of source.entry) (map change edits.now)) }
 {
     let mut data = read.names.data_near(touched)?;
-    let mut tree = Tree::of(Texts { alloc, source }, read.before, facts)?;
+    let mut tree = Tree::of(Texts { alloc, source }, read.before, &facts)?;
+    drop(facts);
     if let Err(fault) = make_all(alloc, &mut tree, read, &mut data, edits, spelled) {
         return Err(fault);
     }

@@ -12,7 +12,7 @@ use crate::known::KnownLine;
 use crate::lines::{Body, Line, Slot, changed};
 use crate::texts::Texts;
 use crate::tree::{Expr, Leaf, OpenLine};
-use crate::working::{Before, Position, Tree};
+use crate::working::{Before, Tree};
 use std::alloc::AllocError;
 use toml_names::{Address, Name, Place, Step};
 

@@ -50,7 +50,7 @@ HandsOn profile text front more (Ok (l, Some r)) = HandsOut profile text (front 
 HandsOn profile text front more (Ok (l, None)) = AreLinesIn profile text (front ++ line l ∷ [])
 HandsOn profile text front more (Err fault) = Refuses profile text fault
 
--- so it is of whatever text the lines up to here were handed out
+-- so it is whichever first lines of whichever text, in whichever profile, were handed out
 abbrev pub HandsNext : LineReader → Result (declared.Line × Option LineReader) SyntaxFault → Type 0
 HandsNext r result = (profile : Profile) (text : List ℕ) (front : List Line) → HandsOut profile text front r
     → HandsOn profile text front (left r) result

@@ -1,4 +1,4 @@
--- A cursor that let units go stands where it stood.
+-- A cursor that let go what it walked past stands where it stood.
 use Rattle.std.proofs.Common.{◌≡◌, ◌∙◌, ◌<◌, ◌+◌, ◌*◌, ◌∷◌, ◌++◌, ℕ, zero, suc, List, [], drop, length, Ok, Err, Result, option_map, refl, sym, ap, subst}
 use Rattle.std.specs.Prelude.{slice_get}
 use Rattle.std.specs.declared.alloc.AllocError.{AllocError}

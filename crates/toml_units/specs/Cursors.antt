@@ -92,7 +92,7 @@ abbrev pub to_go : UnitCursor → ℕ
 to_go c = (to_read c.reading.left * 18446744073709551616 + opened_items c.reading.opened) * 18446744073709551616
     + length (drop c.place c.units.items)
 
--- of units that were walked past something was let go, or of none; all else is as it was
+-- all but the units that were walked past is as it was; of these nothing is said
 pub record HasLetGo (old new : UnitCursor) : Type 0 where
   pub reading : new.reading ≡ old.reading
   pub units : drop new.place new.units.items ≡ drop old.place old.units.items

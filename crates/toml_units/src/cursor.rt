@@ -27,7 +27,7 @@ pub struct UnitCursor<'t> {
     newlines: IntoIter<Newline>,
 }
 
-/// How many units are walked past before any of those held are let go.
+/// How many units are walked past before the units themselves are let go.
 const MANY_UNITS: usize = 4096;
 
 /// Whether a unit is a line.
@@ -106,8 +106,8 @@ impl<'t> UnitCursor<'t> {
         self.newline
     }
 
-    /// Goes past the unit before which it stands. Where many are held, what was walked past is let go on the way: so the memory
-    /// goes as the walk comes to its end.
+    /// Goes past the unit before which it stands. What was walked past is let go on the way, so the memory of many units goes as
+    /// the walk comes to its end.
     pub fn step(&mut self, alloc: Global) -> Result<(), AllocError>
         requires goes { Goes self.old }
         requires some { IsSome (current self.old) }
@@ -118,12 +118,12 @@ impl<'t> UnitCursor<'t> {
     }
 
     /// Lets the address of the unit go that was walked past last, while it is still in the cache; that of the first one stays, in
-    /// whose memory the next line's is made. Of many units those walked past are let go as a whole once they are three
+    /// whose memory that of the next line or item is made. Of many units those walked past are let go as a whole once they are three
     /// quarters, so that few are moved.
     fn let_go(&mut self) -> Result<(), AllocError>
         ensures { OnOk result (HasLetGo self.old self.new) }
     {
-        if self.place < 2 || self.place > self.units.len() {
+        if self.place < 2 || self.place >= self.units.len() {
             return Ok(());
         }
         if self.place >= MANY_UNITS.max(self.units.len() / 4 * 3) {
@@ -135,7 +135,7 @@ impl<'t> UnitCursor<'t> {
         Ok(())
     }
 
-    /// Goes past the unit, and lets nothing go.
+    /// Goes past the unit before which it stands, and nothing else.
     fn go_past(&mut self, alloc: Global) -> Result<(), AllocError>
         requires goes { Goes self.old }
         requires some { IsSome (current self.old) }

@@ -2,6 +2,8 @@
 use Rattle.std.specs.Prelude.{◌≡◌, ℕ, ◌+◌, ◌-◌, if◌then◌else◌, List, [], ◌∷◌, ◌++◌, length, take, Option, Some, None, slice_get, slice_set, slice_index_or}
 use Rattle.std.specs.Global.{Box}
 use Rattle.std.specs.Option.{option_map}
+use Rattle.std.specs.declared.alloc.Global.{Global}
+use Rattle.std.specs.declared.vec.Vec.{Vec}
 use Rattle.toml_names.specs.declared.model.address.Step.{Step}
 use Rattle.toml_names.specs.declared.model.address.Step.TheVariants.{Name, Index}
 use Rattle.toml_names.specs.declared.mentions.mention.Role.{Role}
@@ -50,9 +52,15 @@ abbrev pub names_below : Option (Box Below) → List (List ℕ × ℕ)
 names_below None = []
 names_below (Some b) = b.value.names
 
+-- the nodes of elements, of which there may be no list
+abbrev pub elements_of : Option (Box (Vec ℕ Global)) → List ℕ
+elements_of None = []
+elements_of (Some list) = list.value.items
+
+-- the nodes of the elements below a node
 abbrev pub elements_below : Option (Box Below) → List ℕ
 elements_below None = []
-elements_below (Some b) = b.value.elements.items
+elements_below (Some b) = elements_of b.value.elements
 
 -- the address under a node, whose address is among the earlier ones
 abbrev pub address_under : List Address → Option (ℕ × Step) → Address

@@ -146,7 +146,7 @@ fn find(few: &[(CowStr<'_>, usize)], name: &str) -> Option<usize>
     None
 }
 
-/// Puts a name behind a few. The first takes room for itself alone: of many small tables most have one name.
+/// Puts a name behind a few. The first takes room for itself alone: a great many small tables have one name.
 fn push_few<'t>(
     few: &mut Vec<(CowStr<'t>, usize)>,
     name: CowStr<'t>,

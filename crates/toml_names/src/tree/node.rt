@@ -1,8 +1,9 @@
 //! The nodes of the tree of names.
 ghost use Rattle.std.specs.Cow.{cow_str_bytes};
-ghost use Rattle.std.specs.Prelude.{◌≡◌, ◌↔◌, ℕ, IsTrue, OnOk, OnErr, IfOk, IfSome, IfNone, length, []};
+ghost use Rattle.std.specs.Prelude.{◌≡◌, ◌↔◌, ◌-◌, ◌∷◌, ◌++◌, ℕ, IsTrue, OnOk, OnErr, IfOk, IfSome, IfNone, Some, length, take, []};
 ghost use Rattle.std.specs.Map.{lookup};
 ghost use Rattle.std.specs.Str.{bytes_eq};
+ghost use Rattle.toml_names.specs.tree.Nodes.{elements_of};
 
 use crate::mentions::mention::{Kind, Role};
 use crate::tree::hashing::NameHashing;
@@ -27,7 +28,8 @@ pub enum Under<'t> {
 #[derive(Drop)]
 pub struct Below<'t> {
     names: NameMap<'t>,
-    elements: Vec<usize>,
+    // most are tables, and have none
+    elements: Option<Box<Vec<usize>>>,
 }
 
 /// A node: where it hangs, what it stands for, and what hangs under it.
@@ -43,6 +45,51 @@ pub struct Node<'t> {
     line: usize,
     // most nodes are scalars' and have nothing under them
     below: Option<Box<Below<'t>>>,
+}
+
+/// A list of one element's node.
+fn one_element(alloc: Global, id: usize) -> Result<Box<Vec<usize>>, AllocError>
+    ensures { IfOk result (λ list. elements_of (Some list) ≡ id ∷ []) }
+{
+    let mut elements = Vec::new(alloc);
+    elements.push(id)?;
+    Ok(Box::new(alloc, elements)?)
+}
+
+impl<'t> Below<'t> {
+    /// The nodes of its elements.
+    fn elements(&self) -> &[usize]
+        ensures { result.now ≡ elements_of self.now.elements }
+    {
+        match &self.elements {
+            Some(elements) => elements,
+            None => &[],
+        }
+    }
+
+    /// A new last element.
+    fn link_element(&mut self, alloc: Global, id: usize) -> Result<(), AllocError>
+        ensures names { self.new.names ≡ self.old.names }
+        ensures linked { OnOk result (elements_of self.new.elements ≡ elements_of self.old.elements ++ id ∷ []) }
+        ensures unchanged { OnErr result (elements_of self.new.elements ≡ elements_of self.old.elements) }
+    {
+        if let Some(elements) = &mut self.elements {
+            elements.push(id)?;
+            return Ok(());
+        }
+        self.elements = Some(one_element(alloc, id)?);
+        Ok(())
+    }
+
+    /// The element that was linked last is no more.
+    fn unlink_element(&mut self)
+        ensures names { self.new.names ≡ self.old.names }
+        ensures elements { elements_of self.new.elements ≡ take (length (elements_of self.old.elements) - 1) (elements_of self.old.elements) }
+    {
+        if let Some(elements) = &mut self.elements {
+            let _ = elements.pop();
+        }
+    }
 }
 
 impl<'t> Model for Node<'t> {
@@ -177,7 +224,7 @@ impl<'t> Node<'t> {
         ensures { result.now ≡ self.now.elements }
     {
         match &self.below {
-            Some(below) => &below.elements,
+            Some(below) => below.elements(),
             None => &[],
         }
     }
@@ -200,7 +247,7 @@ impl<'t> Node<'t> {
             None => {
                 let mut names = NameMap::new(alloc);
                 names.find_or_insert(alloc, hashing, name, id)?;
-                let elements = Vec::new(alloc);
+                let elements = None;
                 self.below = Some(Box::new(alloc, Below { names, elements })?);
                 Ok(None)
             }
@@ -222,12 +269,9 @@ impl<'t> Node<'t> {
         ensures unchanged { OnErr result (self.new ≡ self.old) }
     {
         match &mut self.below {
-            Some(below) => {
-                below.elements.push(id)?;
-            }
+            Some(below) => below.link_element(alloc, id)?,
             None => {
-                let mut elements = Vec::new(alloc);
-                elements.push(id)?;
+                let elements = Some(one_element(alloc, id)?);
                 let names = NameMap::new(alloc);
                 self.below = Some(Box::new(alloc, Below { names, elements })?);
             }
@@ -240,7 +284,7 @@ impl<'t> Node<'t> {
         ensures { self.new ≡ without_element self.old }
     {
         if let Some(below) = &mut self.below {
-            let _ = below.elements.pop();
+            below.unlink_element();
         }
     }
 }

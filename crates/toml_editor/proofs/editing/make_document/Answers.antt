@@ -10,8 +10,8 @@ pub make_text-made_text-requires-clause-read : goal.make_text-made_text-requires
 make_text-made_text-requires-clause-read c =
     let document = c.in_ok-source.document in
     let r : Read = record { before = record { known = c.deref.result; units = c.units.result }; names = c.names.result; profile = c.args.profile } in
-    subst (λ t. IsReadFrom t r c.deref-2.result.now) (sym c.in_ok-source.ensures.read.text_is)
-    (read_from c.args.profile c.args.before.now document r c.deref-2.result.now c.in_ok-source.ensures.read.read refl c.deref.ensures.value c.units.ensures c.names.ensures c.deref-2.ensures.value)
+    subst (λ t. IsReadFrom t r document.facts.items) (sym c.in_ok-source.ensures.read.text_is)
+    (read_from c.args.profile c.args.before.now document r document.facts.items c.in_ok-source.ensures.read.read refl c.deref.ensures.value c.units.ensures c.names.ensures refl)
 
 pub returns-clause-work : goal.returns-clause-work
 returns-clause-work c =
@@ -20,14 +20,14 @@ returns-clause-work c =
     let document = c.in_ok-source.document in
     let read = c.in_ok-source.ensures.read.read in
     let r : Read = record { before = record { known = c.deref.result; units = c.units.result }; names = c.names.result; profile = c.args.profile } in
-    let facts = c.deref-2.result.now in
-    let from = read_from c.args.profile before document r facts read refl c.deref.ensures.value c.units.ensures c.names.ensures c.deref-2.ensures.value in
+    let facts = document.facts.items in
+    let from = read_from c.args.profile before document r facts read refl c.deref.ensures.value c.units.ensures c.names.ensures refl in
     let edited = c.in-Ok.edited in
     let told = c.in_ok-wanted.ensures (tree before r facts from) before (spelled before r facts from) (units_are before r facts from) in
     record {
       wanted = (tree before r facts from, spelled before r facts from, told);
       made = subst₂ (λ t fs. IsMadeText c.args.profile t cs fs (string_bytes edited.text) edited.pieces.items edited.certificate.pairs.items)
-          c.in_ok-source.ensures.read.text_is c.deref-3.ensures.value c.in-Ok.ensures.made;
+          c.in_ok-source.ensures.read.text_is c.deref-2.ensures.value c.in-Ok.ensures.made;
       walks = c.held.ensures c.args.profile before _ read.lines.are.spelled read.lines.read_so.taken;
     }
 

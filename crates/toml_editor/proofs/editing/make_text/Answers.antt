@@ -21,9 +21,9 @@ returns-in-Err-clause-told c =
     let text = text_of c.args.source in
     let profile = c.args.read.profile in
     let is = c.requires.read in
-    let d = tree text c.args.read c.args.facts.now is in
-    let document = is_document text c.args.read c.args.facts.now is in
-    let spells = spelled text c.args.read c.args.facts.now is in
+    let d = tree text c.args.read c.args.facts.items is in
+    let document = is_document text c.args.read c.args.facts.items is in
+    let spells = spelled text c.args.read c.args.facts.items is in
     let cs = map change c.args.edits.now in
     let old = fact_at (named d.lines) in
     let facts = has_data profile text d document spells in
@@ -43,9 +43,9 @@ returns-clause-made c =
     let text = text_of c.args.source in
     let profile = c.args.read.profile in
     let is = c.requires.read in
-    let d = tree text c.args.read c.args.facts.now is in
-    let document = is_document text c.args.read c.args.facts.now is in
-    let spells = spelled text c.args.read c.args.facts.now is in
+    let d = tree text c.args.read c.args.facts.items is in
+    let document = is_document text c.args.read c.args.facts.items is in
+    let spells = spelled text c.args.read c.args.facts.items is in
     let cs = map change c.args.edits.now in
     let old = fact_at (named d.lines) in
     let facts = has_data profile text d document spells in
@@ -67,10 +67,10 @@ returns-clause-made c =
           spells opened.stands.lines (ap (λ (t : Texts). text_of t.source) opened.texts_are) opened.elements opened.style cs old
           (beside (is_hidden c.args.touched.now) old new) c.make_all.new.tree (string_bytes c.in_ok-write_out.field-0.text) facts leads
           c.args.wanted.now c.in_ok-write_out.field-0.certificate.pairs.items document.0 (wanted_outer text cs c.args.wanted.now d spells told)
-          (units_are text c.args.read c.args.facts.now is) opened.stands.origins c.in_default.ensures.made.done.makes c.in_ok-write_out.ensures.written c.in_ok-write_out.ensures.paired;
+          (units_are text c.args.read c.args.facts.items is) opened.stands.origins c.in_default.ensures.made.done.makes c.in_ok-write_out.ensures.written c.in_ok-write_out.ensures.paired;
       are_defined = (document, (d, spells, old, facts, (beside (is_hidden c.args.touched.now) old new, leads)));
       pieces = c.in_ok-write_out.ensures.pieces;
     }
 
 pub of-requires-clause-read : goal.of-requires-clause-read
-of-requires-clause-read c = is_read_of (text_of c.args.source) c.args.read c.args.facts.now c.requires.read
+of-requires-clause-read c = is_read_of (text_of c.args.source) c.args.read c.args.facts.items c.requires.read
