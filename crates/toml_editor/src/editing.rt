@@ -171,14 +171,7 @@ fn make_document<'x>(
     };
     let wanted = outermost(alloc, read.before.units, edits)?;
     let made_text = make_text(
-        alloc,
-        source,
-        read,
-        facts,
-        edits,
-        spelled,
-        &wanted,
-        &touched,
+        alloc, source, read, facts, edits, spelled, &wanted, &touched,
     );
     let edited = match made_text {
         Ok(edited) => edited,
