@@ -19,16 +19,16 @@ use Rattle.toml_edits.specs.Lists.{Lead}
 use Rattle.toml_editor.specs.declared.fault.EditorFault.{EditorFault}
 use Rattle.toml_editor.specs.declared.fault.EditorFault.TheVariants.{Edit, LastElement, Spread}
 use Rattle.toml_editor.specs.declared.working.Tree.{Tree}
-use Rattle.toml_editor.specs.Becoming.{RenamesLines}
+use Rattle.toml_editor.specs.Becoming.{TreeRenames}
 use Rattle.toml_editor.specs.CertifiedLists.{ArePlain}
 use Rattle.toml_editor.specs.EditStanding.{EditsStanding, EditAllStanding}
 use Rattle.toml_editor.specs.OpenOutlines.{leaf_text}
 use Rattle.toml_editor.specs.PlainTexts.{IsPlainOn, IsSpreadSet}
-use Rattle.toml_editor.specs.Putting.{InsertsLines}
+use Rattle.toml_editor.specs.Putting.{TreeInserts}
 use Rattle.toml_editor.specs.RemovingIn.{RemovesLines}
 use Rattle.toml_editor.specs.SpelledEdits.{AreSteps}
 use Rattle.toml_editor.specs.Standing.{Read, slots_standing, standing}
-use Rattle.toml_editor.specs.Stands.{KeepsRest, SetsLines, StandFor}
+use Rattle.toml_editor.specs.Stands.{KeepsRest, StandFor, TreeSets}
 use Rattle.toml_editor.specs.Starting.{NoneIsGone}
 use Rattle.toml_editor.specs.Steps.{IsGoodText, AreWritten}
 use Rattle.toml_editor.specs.TreeOutlines.{value_outline}
@@ -77,16 +77,16 @@ MakesAll profile read cs old new = (text : List ℕ) (kinds now : Kinds) → IsA
 -- a `set` of a value's text
 abbrev pub WritesSet : Profile → Read → Address → List ℕ → Tree → Tree → Bool → Type 0
 WritesSet profile read p text old new done = IsText text → (v : Value) → IsValueIn profile v text
-    → SetsLines p (value_outline v) (text_of old.texts.source) read old.slots.items new.slots.items done
+    → TreeSets p (value_outline v) read old new done
 
 -- an `insert` of a value's text, the steps of its address spelled so
 abbrev pub WritesInsert : Profile → Read → Address → List ℕ → List (String Global) → Tree → Tree → Type 0
 WritesInsert profile read p text steps old new = IsText text → (v : Value) → IsValueIn profile v text
-    → InsertsLines p steps (value_outline v) (style old) (text_of old.texts.source) read old.slots.items new.slots.items
+    → TreeInserts p steps (value_outline v) read old new
 
 -- a `rename` to a name
 pub record WritesRename (read : Read) (p : Address) (to : List ℕ) (old new : Tree) : Type 0 where
-  pub lines : RenamesLines p to (spelled to) (text_of old.texts.source) read old.slots.items new.slots.items
+  pub lines : TreeRenames p to (spelled to) read old new
   pub source : KeepsSource old new
   pub whole : NoneIsGone new.elements
 

@@ -17,23 +17,23 @@ abbrev pub places_in : Read → Places
 places_in read = places_of (read_of read.before).lines
 
 -- the edit is made on the data, and where it is plain on the working tree; it sets nothing that is spread over lines
-pub record IsMadeOne (read : Read) (c : Change) (old new : Data) (before after : Tree) : Type 0 where
-  pub makes : IsMade read.profile c old.root new.root
+pub record MakesEdit (read : Read) (c : Change) (old new : Data) (before after : Tree) : Type 0 where
+  pub applied : IsMade read.profile c old.root new.root
   pub done : DoneOne read.profile (read_of read.before) (kind_at old.root) c before after
 
 -- the edit with this number has the fault on the data; where that is of its place, or of a last element, the edit is not plain
-pub record TellsOfOne (read : Read) (index : ℕ) (c : Change) (old : Data) (tree : Tree) (fault : EditorFault) : Type 0 where
+pub record RefusesEdit (read : Read) (index : ℕ) (c : Change) (old : Data) (tree : Tree) (fault : EditorFault) : Type 0 where
   pub told : TellsOne read.profile (places_in read) index c (kind_at old.root) fault
-  pub spread : OfNoPlaceAt (λ at. IsNotPlain read.profile (read_of read.before) c tree) fault
+  pub not_plain : OfNoPlaceAt (λ at. IsNotPlain read.profile (read_of read.before) c tree) fault
 
 -- the edits are made one after the other: they lead from the one data to the other, and where they are plain so they do on the working
 -- tree; none whose forerunners are plain sets anything that is spread over lines
-pub record AreMadeAll (read : Read) (cs : List Change) (old new : Data) (before after : Tree) : Type 0 where
+pub record MakesEdits (read : Read) (cs : List Change) (old new : Data) (before after : Tree) : Type 0 where
   pub lead : Lead read.profile cs (kind_at old.root) (kind_at new.root)
   pub done : DoneAll read.profile (read_of read.before) (kind_at old.root) cs before after
 
 -- Some edit has the fault on the data to which those before it lead. Where these are plain, they set nothing that is spread over lines,
 -- and where the fault is of its place, or of a last element, the edit is not plain.
-pub record TellsOfAll (read : Read) (cs : List Change) (old : Data) (tree : Tree) (fault : EditorFault) : Type 0 where
+pub record RefusesEdits (read : Read) (cs : List Change) (old : Data) (tree : Tree) (fault : EditorFault) : Type 0 where
   pub told : TellsAny read.profile (places_in read) cs (kind_at old.root) fault
   pub stops : Stops read.profile (read_of read.before) cs (kind_at old.root) tree fault

@@ -38,8 +38,7 @@ impl<'x> Tree<'x> {
         new: Value<'x>,
     ) -> Result<bool, AllocError>
         ensures rest { OnOk result (KeepsRest self.old self.new) }
-        ensures root { let read = read_of before.entry in
-            OnOk result (TreeInserts at.now spelled.now (value new.entry) read self.old self.new) }
+        ensures root { OnOk result (TreeInserts at.now spelled.now (value new.entry) (read_of before.entry) self.old self.new) }
     {
         let insertion = Insertion { at, spelled, new };
         if is_at_root(at) {

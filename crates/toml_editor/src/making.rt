@@ -5,7 +5,7 @@ ghost use Rattle.toml_scalar.specs.Spelling.{spelled};
 ghost use Rattle.toml_edits.specs.Edits.{change, remove};
 ghost use Rattle.toml_editor.specs.Edited.{MayBeSpread, TakesLastElement};
 ghost use Rattle.toml_editor.specs.Exact.{SetsMany, WritesEdit, WritesInsert, WritesRename, WritesSet};
-ghost use Rattle.toml_editor.specs.Made.{AreMadeAll, IsMadeOne, TellsOfAll, TellsOfOne, places_in};
+ghost use Rattle.toml_editor.specs.Made.{MakesEdit, MakesEdits, RefusesEdit, RefusesEdits, places_in};
 ghost use Rattle.toml_editor.specs.Making.{HasNames, HasOne, IsMade, IsMany, TellsRow};
 ghost use Rattle.toml_editor.specs.SpelledEdits.{AreSpelled, IsSpelled};
 ghost use Rattle.toml_editor.specs.Starting.{NoneIsGone, read_of};
@@ -46,8 +46,8 @@ pub(crate) fn make_all<'x>(
 ) -> Result<(), EditorFault>
     requires names { HasNames read }
     requires spelled { AreSpelled (map change edits.now) spelled.now }
-    ensures made { OnOk result (AreMadeAll read.entry (map change edits.now) «data».old «data».new tree.old tree.new) }
-    ensures told { IfErr result (TellsOfAll read.entry (map change edits.now) «data».old tree.old) }
+    ensures made { OnOk result (MakesEdits read.entry (map change edits.now) «data».old «data».new tree.old tree.new) }
+    ensures told { IfErr result (RefusesEdits read.entry (map change edits.now) «data».old tree.old) }
 {
     for (index, edit) in edits.iter().enumerate() {
         if let Err(fault) = make(alloc, tree, read, data, edit, &spelled[index], index) {
@@ -69,8 +69,8 @@ fn make<'x>(
 ) -> Result<(), EditorFault>
     requires names { HasNames read }
     requires spelled { IsSpelled (change edit.now) spelled.now }
-    ensures made { OnOk result (IsMadeOne read.entry (change edit.now) «data».old «data».new tree.old tree.new) }
-    ensures told { IfErr result (TellsOfOne read.entry index (change edit.now) «data».old tree.old) }
+    ensures made { OnOk result (MakesEdit read.entry (change edit.now) «data».old «data».new tree.old tree.new) }
+    ensures told { IfErr result (RefusesEdit read.entry index (change edit.now) «data».old tree.old) }
 {
     let spread = may_be_spread(alloc, data, read, edit, index)?;
     let only = is_only_element(data, edit);

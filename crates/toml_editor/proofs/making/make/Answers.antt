@@ -7,7 +7,7 @@ use Rattle.toml_editor.proofs.making.make.Goals as goal
 
 pub returns-clause-made : goal.returns-clause-made
 returns-clause-made c = record {
-  makes = c.in_ok-applied.ensures.ok;
+  applied = c.in_ok-applied.ensures.ok;
   done = record {
     makes = makes_one _ _ _ _ _ c.in_ok-done.done c.in_ok-done.ensures;
     passes =
@@ -25,7 +25,7 @@ returns-then-is_spread-clause-told c =
     let may = c.in_ok-spread.ensures.yes both.1 in
     record {
       told = (refl, (c.in_ok-applied.ensures.ok.0, may));
-      spread =
+      not_plain =
           not_spread _ _ (places_in c.args.read) c.args.index (kind_at c.args.data.now.root) _ _ _ c.in_ok-done.done c.in_ok-done.ensures both.0 may;
     }
 
@@ -35,5 +35,5 @@ returns-then-is_last-clause-told c =
     let takes = c.is_only_element-only.ensures both.1 in
     record {
       told = (refl, (c.in_ok-applied.ensures.ok.0, takes));
-      spread = not_last _ _ (kind_at c.args.data.now.root) _ _ takes;
+      not_plain = not_last _ _ (kind_at c.args.data.now.root) _ _ takes;
     }

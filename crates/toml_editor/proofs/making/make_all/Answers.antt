@@ -38,7 +38,7 @@ loop-index-preserved c =
     let near = kind_at c.args.data.now.root in
     let part = kind_at here.«data».root in
     let taken = sym (take_map here.index edits) in (
-      led_on profile edits here.index edit near here.«data».root c.make.new.«data».root (omega arith) c.index-edits-index.is here.invariant.0 c.in_default.ensures.made.makes,
+      led_on profile edits here.index edit near here.«data».root c.make.new.«data».root (omega arith) c.index-edits-index.is here.invariant.0 c.in_default.ensures.made.applied,
       subst (λ ds. MakesAll profile read ds old c.make.new.tree) (sym (taken_on edits here.index edit (omega arith) c.index-edits-index.is))
           (more_made profile read made (change edit) old here.tree c.make.new.tree here.invariant.1 c.in_default.ensures.made.done.makes),
       more_passed profile read (map change edits) near part here.index (change edit) old here.tree here.invariant.2
@@ -62,7 +62,7 @@ returns-in-Err-clause-told c =
       told = any_of_one profile places edits here.index edit near part c.in-Err.fault (omega arith) c.index-edits-index.is here.invariant.0 says.told;
       stops = stops_at profile read places (map change edits) near part here.index (change edit) old here.tree c.in-Err.fault here.invariant.2
           (subst (λ ds. MakesAll profile read ds old here.tree) (sym (take_map here.index edits)) here.invariant.1)
-          (get_map edits here.index edit (omega arith) c.index-edits-index.is) says.told says.spread;
+          (get_map edits here.index edit (omega arith) c.index-edits-index.is) says.told says.not_plain;
     }
 
 pub returns-clause-made : goal.returns-clause-made
