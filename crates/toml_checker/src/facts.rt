@@ -6,6 +6,7 @@ ghost use Rattle.toml_edits.specs.Edits.{change};
 ghost use Rattle.toml_checker.specs.After.{GivesData, Makes, TellsMade};
 
 use std::alloc::{AllocError, Global};
+use std::mem;
 use toml_edits::{Edit, EditFault, apply_in, near_addresses};
 use toml_names::{AddressSet, Data, LineNames};
 use toml_tree::Profile;
@@ -73,11 +74,29 @@ pub(crate) fn make<'t>(
     }
 }
 
-/// Whether what was made are the data of the lines whose names these are. All names are let go.
-pub(crate) fn are_made(names: LineNames, made: Made) -> Result<bool, AllocError>
+/// What becomes of the names of both texts once they are judged.
+#[derive(Clone, Copy, Drop)]
+pub enum Afterwards {
+    /// They are let go, name by name.
+    LetGo,
+    /// Where it comes to comparing the data, they stay in memory, for a program that ends: then all of it goes at once.
+    Stay,
+}
+
+/// Whether what was made are the data of the lines whose names these are.
+pub(crate) fn are_made(
+    names: LineNames,
+    made: Made,
+    afterwards: Afterwards,
+) -> Result<bool, AllocError>
     requires new { Stand names }
     requires old { Stand made.names }
     ensures { IfOk result (TellsMade names.entry made.entry) }
 {
-    names.has_data_beside(&made.names, &made.touched, &made.data)
+    let holds = names.has_data_beside(&made.names, &made.touched, &made.data)?;
+    if let Afterwards::Stay = afterwards {
+        mem::forget(names);
+        mem::forget(made);
+    }
+    Ok(holds)
 }

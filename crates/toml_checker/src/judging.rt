@@ -11,7 +11,7 @@ ghost use Rattle.toml_checker.specs.Headline.{YesMeans};
 ghost use Rattle.toml_checker.specs.Judging.{IsRefusal, JudgesFound, JudgesUnits};
 ghost use Rattle.toml_checker.specs.Walking.{IsFound};
 
-use crate::facts::{are_made, make};
+use crate::facts::{Afterwards, are_made, make};
 use crate::frame::keeps_frame;
 use crate::verdict::{Reason, Verdict};
 use crate::walk::{Found, Said, walk_through};
@@ -52,6 +52,7 @@ fn judge(
     edits: &[Edit],
     after: &[u8],
     profile: Profile,
+    afterwards: Afterwards,
 ) -> Result<Verdict, AllocError>
     requires { (pairs : List (ℕ × ℕ)) × IsFound profile before.now (map change edits.now) after.now pairs found }
     ensures { JudgesFound profile before.now (map change edits.now) after.now found.entry result }
@@ -70,7 +71,7 @@ fn judge(
     let Some(made) = make(alloc, names, edits, profile)? else {
         return Ok(Verdict::No(Reason::EditsRefused));
     };
-    if !are_made(others, made)? {
+    if !are_made(others, made, afterwards)? {
         return Ok(Verdict::No(Reason::OtherData));
     }
     Ok(judge_units(said, before, edits, after))
@@ -99,6 +100,7 @@ fn judge_from<'s, 't>(
     other: Source<'t>,
     pairs: &[(u64, u64)],
     profile: Profile,
+    afterwards: Afterwards,
 ) -> Result<Verdict, AllocError>
     requires walks { Walks profile before.now cursor [] }
     requires fits { IsText before.now }
@@ -109,7 +111,7 @@ fn judge_from<'s, 't>(
     // each takes some bytes of memory
     prove!(edits.len() <= isize::MAX as usize);
     let found = walk_through(alloc, before, cursor, edits, after, other, pairs, profile)?;
-    judge(alloc, found, before, edits, after, profile)
+    judge(alloc, found, before, edits, after, profile, afterwards)
 }
 
 /// Whether the pairs of the certificate certify, in profile 1, that the second text is what the edits make of the first:
@@ -154,6 +156,40 @@ pub fn check_in(
     ensures verdict { IfOk result (IsVerdict profile before.now (map change edits.now) after.now certificate.now.pairs.items) }
     ensures headline { IfOk result (YesMeans profile before.now (map change edits.now) after.now certificate.now.pairs.items) }
 {
+    let let_go = Afterwards::LetGo;
+    check_texts(alloc, before, edits, after, certificate, profile, let_go)
+}
+
+/// What `check_in` answers, for a program that ends with it: once the data were compared, what both texts name stays in memory,
+/// and goes with the program.
+pub fn check_at_exit(
+    alloc: Global,
+    before: &[u8],
+    edits: &[Edit],
+    after: &[u8],
+    certificate: &Certificate,
+    profile: Profile,
+) -> Result<Verdict, AllocError>
+    ensures verdict { IfOk result (IsVerdict profile before.now (map change edits.now) after.now certificate.now.pairs.items) }
+    ensures headline { IfOk result (YesMeans profile before.now (map change edits.now) after.now certificate.now.pairs.items) }
+{
+    let stay = Afterwards::Stay;
+    check_texts(alloc, before, edits, after, certificate, profile, stay)
+}
+
+/// The same, whatever becomes of what the texts name.
+fn check_texts(
+    alloc: Global,
+    before: &[u8],
+    edits: &[Edit],
+    after: &[u8],
+    certificate: &Certificate,
+    profile: Profile,
+    afterwards: Afterwards,
+) -> Result<Verdict, AllocError>
+    ensures verdict { IfOk result (IsVerdict profile before.now (map change edits.now) after.now certificate.now.pairs.items) }
+    ensures headline { IfOk result (YesMeans profile before.now (map change edits.now) after.now certificate.now.pairs.items) }
+{
     let Ok(source) = Source::new(before) else {
         return Ok(Verdict::No(Reason::BeforeRefused));
     };
@@ -162,12 +198,14 @@ pub fn check_in(
     };
     let cursor = UnitCursor::new(alloc, source, profile)?;
     let pairs = &certificate.pairs;
-    judge_from(alloc, before, cursor, edits, after, other, pairs, profile)
+    judge_from(
+        alloc, before, cursor, edits, after, other, pairs, profile, afterwards,
+    )
 }
 
 /// What `check_in` answers of a document over which a walk has begun, the cursor standing before its first unit: the same
 /// verdict, by the same code, with the same meaning. Where the cursor holds the units of a text that was read already
-/// (`UnitCursor::held`), the second text alone is read.
+/// (`UnitCursor::held`), the second text alone is read. What both texts name is let go, or stays in memory, as is asked.
 pub fn check_walked<'s, 't>(
     alloc: Global,
     before: &'s [u8],
@@ -176,6 +214,7 @@ pub fn check_walked<'s, 't>(
     after: &'t [u8],
     certificate: &Certificate,
     profile: Profile,
+    afterwards: Afterwards,
 ) -> Result<Verdict, AllocError>
     requires walks { Walks profile before.now cursor [] }
     requires document { IsDocumentIn profile before.now }
@@ -186,5 +225,7 @@ pub fn check_walked<'s, 't>(
         return Ok(Verdict::No(Reason::AfterRefused));
     };
     let pairs = &certificate.pairs;
-    judge_from(alloc, before, cursor, edits, after, second, pairs, profile)
+    judge_from(
+        alloc, before, cursor, edits, after, second, pairs, profile, afterwards,
+    )
 }

@@ -29,7 +29,8 @@ mod verdict;
 mod walk;
 mod written;
 
-pub use judging::{check, check_in, check_walked};
+pub use facts::Afterwards;
+pub use judging::{check, check_at_exit, check_in, check_walked};
 pub use marks::first_marks;
 pub use outer::outermost;
 pub use protection::protected;

@@ -22,7 +22,7 @@ use crate::spelled::{Spelled, spell_all};
 use crate::texts::Texts;
 use crate::working::{Before, Tree};
 use std::alloc::{AllocError, Global};
-use toml_checker::{Reason, Verdict, check_walked, outermost};
+use toml_checker::{Afterwards, Reason, Verdict, check_walked, outermost};
 use toml_edits::{Edit, near_addresses};
 use toml_names::{AddressSet, ReadFault};
 use toml_text::{MAX_LEN, Source};
@@ -66,8 +66,27 @@ pub fn edit_in(
     ensures edited { IfOk result (λ r. IsEdited profile before.now (map change edits.now) (string_bytes r.0) r.1.pairs.items) }
     ensures told { IfErr result (Tells profile before.now (map change edits.now)) }
 {
-    let edited = edit_document(alloc, before, edits, profile)?;
+    let edited = edit_document(alloc, before, edits, profile, Afterwards::LetGo)?;
     Ok((edited.text, edited.certificate))
+}
+
+/// What `edit_in` makes, for a program that ends with it: once the data were compared, what both texts name stays in memory, and
+/// goes with the program.
+pub fn edit_at_exit(
+    alloc: Global,
+    before: &[u8],
+    edits: &[Edit],
+    profile: Profile,
+) -> Result<(String, Certificate), EditorFault>
+    ensures edited { IfOk result (λ r. IsEdited profile before.now (map change edits.now) (string_bytes r.0) r.1.pairs.items) }
+    ensures told { IfErr result (Tells profile before.now (map change edits.now)) }
+{
+    let Edited {
+        text,
+        certificate,
+        ..
+    } = edit_document(alloc, before, edits, profile, Afterwards::Stay)?;
+    Ok((text, certificate))
 }
 
 /// What the edits make of a document of profile 1, in pieces: `edit_pieces_in` with `Profile::One`.
@@ -93,7 +112,7 @@ pub fn edit_pieces_in(
     ensures edited { IfOk result (λ r. IsEditedInPieces profile before.now (map change edits.now) r.0.items r.1.pairs.items) }
     ensures told { IfErr result (Tells profile before.now (map change edits.now)) }
 {
-    let edited = edit_document(alloc, before, edits, profile)?;
+    let edited = edit_document(alloc, before, edits, profile, Afterwards::LetGo)?;
     Ok((edited.pieces, edited.certificate))
 }
 
@@ -103,12 +122,13 @@ fn edit_document(
     before: &[u8],
     edits: &[Edit],
     profile: Profile,
+    afterwards: Afterwards,
 ) -> Result<Edited, EditorFault>
     ensures edited { IfOk result (IsEditedAs profile before.now (map change edits.now)) }
     ensures told { IfErr result (Tells profile before.now (map change edits.now)) }
 {
     let spelled = spell_all(alloc, edits)?;
-    edit_with(alloc, before, edits, &spelled, profile)
+    edit_with(alloc, before, edits, &spelled, profile, afterwards)
 }
 
 /// The same with the spellings of the edits, which live as long as the text and the edits: new pieces are lent from all. The
@@ -119,6 +139,7 @@ fn edit_with<'x>(
     edits: &'x [Edit],
     spelled: &'x [Spelled],
     profile: Profile,
+    afterwards: Afterwards,
 ) -> Result<Edited, EditorFault>
     requires spelled { AreSpelled (map change edits.now) spelled.now }
     ensures edited { IfOk result (IsEditedAs profile before.now (map change edits.now)) }
@@ -130,7 +151,9 @@ fn edit_with<'x>(
         edited,
         cursor,
     } = work;
-    certify(alloc, before, cursor, edits, edited, &wanted, profile)
+    certify(
+        alloc, before, cursor, edits, edited, &wanted, profile, afterwards,
+    )
 }
 
 /// What the edits make of a document, when its tree is let go; which of its units are to be kept; and a place before the first of
@@ -193,6 +216,7 @@ fn certify<'x>(
     edited: Edited,
     wanted: &[bool],
     profile: Profile,
+    afterwards: Afterwards,
 ) -> Result<Edited, EditorFault>
     requires walks { Walks profile before.now cursor [] }
     requires made { IsMadeAs profile before.now (map change edits.now) wanted.now edited }
@@ -212,6 +236,7 @@ fn certify<'x>(
         after,
         &edited.certificate,
         profile,
+        afterwards,
     )? {
         Verdict::No(reason) => Err(EditorFault::Unverified(reason)),
         Verdict::Yes => {

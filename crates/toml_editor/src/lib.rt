@@ -29,5 +29,5 @@ mod values;
 mod working;
 mod writing;
 
-pub use editing::{edit, edit_in, edit_pieces, edit_pieces_in};
+pub use editing::{edit, edit_at_exit, edit_in, edit_pieces, edit_pieces_in};
 pub use fault::EditorFault;

@@ -17,7 +17,7 @@ mod tree;
 
 pub use fault::{NameFault, ReadFault, ValueFault};
 pub use line_names::LineNames;
-pub use meaning::keys::{key_address, key_address_into};
+pub use meaning::keys::{key_address, set_to_key};
 pub use meaning::values::read_value;
 pub use mentions::rules::MAX_STEPS;
 pub use model::address::{Address, Step};

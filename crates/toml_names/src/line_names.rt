@@ -1,11 +1,10 @@
 //! The tree of names of lines that are let go once they are entered.
-ghost use Rattle.std.specs.Prelude.{◌≡◌, ◌<◌, ◌∷◌, ◌++◌, List, [], length, IfOk};
+ghost use Rattle.std.specs.Prelude.{◌≡◌, ◌<◌, List, [], IfOk};
 ghost use Rattle.toml_tree.specs.Lines.{line as tree_line};
 ghost use Rattle.toml_tree.specs.Tree as spelled;
 ghost use Rattle.toml_names.specs.mentions.Mentions.{named};
 ghost use Rattle.toml_names.specs.model.Places.{place};
 ghost use Rattle.toml_names.specs.reader.LineNames.{Enters, Stand, StandFor, Takes, TakesAt};
-ghost use Rattle.toml_names.specs.reader.Texts.{Judges};
 
 use crate::fault::NameFault;
 use crate::mentions::mention::{Kind, Role};
@@ -88,29 +87,6 @@ impl<'t> LineNames<'t> {
         match self.enter(line)? {
             Some(node) => Ok(Some(self.tree.address_into(spare, node)?)),
             None => Ok(None),
-        }
-    }
-}
-
-/// What the names of the lines so far come to: a refusal, once there is one, stays.
-#[derive(Drop)]
-pub enum Judged<'t> {
-    Good(LineNames<'t>),
-    Bad(NameFault),
-}
-
-impl<'t> Judged<'t> {
-    /// The same of one line more.
-    pub(crate) fn with(self, line: &Line<'t>) -> Judged<'t>
-        requires { (lines : List spelled.Line) × Judges self lines × (length lines < 18446744073709551615) }
-        ensures { (lines : List spelled.Line) → Judges self.entry lines → Judges result (lines ++ tree_line line.now ∷ []) }
-    {
-        match self {
-            Judged::Good(mut names) => match names.take(line) {
-                Ok(()) => Judged::Good(names),
-                Err(fault) => Judged::Bad(fault),
-            },
-            Judged::Bad(fault) => Judged::Bad(fault),
         }
     }
 }

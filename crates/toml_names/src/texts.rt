@@ -1,20 +1,19 @@
 //! A text read line by line: what it names is judged and told, and no line is kept.
-ghost use Rattle.std.specs.Prelude.{◌≡◌, ◌<◌, ◌∷◌, ◌++◌, ℕ, List, [], length, IfErr, IfOk, OnOk};
+ghost use Rattle.std.specs.Prelude.{◌≡◌, ◌<◌, ℕ, List, Some, IfErr, IfOk, OnOk};
 ghost use Rattle.toml_text.specs.Source.{text_of};
-ghost use Rattle.toml_tree.specs.Lines.{line as tree_line};
 ghost use Rattle.toml_tree.specs.Tree as spelled;
 ghost use Rattle.toml_tree.specs.declared.profile.Profile.{Profile as InProfile};
 ghost use Rattle.toml_names.specs.mentions.FirstMentions.{first_mentions};
 ghost use Rattle.toml_names.specs.mentions.Mentions.{named};
-ghost use Rattle.toml_names.specs.reader.Texts.{AreLeft, GoodText, Judges, PassesLine, PassesLines, RefusesRest, RefusesText, StandForText};
+ghost use Rattle.toml_names.specs.reader.Texts.{AreLeft, AreTaken, GoodText, PassesLine, PassesLines, RefusesRest, RefusesText, StandForText, TakesNext};
 
 use crate::fault::{NameFault, ReadFault};
-use crate::line_names::{Judged, LineNames};
+use crate::line_names::LineNames;
 use crate::model::address::Address;
 use crate::tree::name_tree::NameTree;
 use std::alloc::Global;
 use toml_text::Source;
-use toml_tree::{Line, LineReader, Profile, SyntaxFault};
+use toml_tree::{LineReader, Profile, SyntaxFault};
 
 /// Whether the text is a document of the profile, and else why not. A text that no tree spells is refused for that, whatever
 /// its lines before name. Memory is taken for one line at a time, and for what is named.
@@ -78,16 +77,25 @@ fn pass_line<'t>(
     Ok(more)
 }
 
-/// Judges one line more, and lets it go here, so that the loop around it has nothing to let go.
-fn judge_line<'t>(judged: Judged<'t>, line: Line<'t>) -> Judged<'t>
-    requires { (lines : List spelled.Line) × Judges judged lines × (length lines < 18446744073709551615) }
-    ensures { (lines : List spelled.Line) → Judges judged.entry lines → Judges result (lines ++ tree_line line.entry ∷ []) }
+/// Reads a line, enters what it names, and lets the line go here, so that the loop around has nothing to let go. Behind a line that
+/// is refused the rest is read: a text that no tree spells is refused for that first.
+fn take_next<'t>(
+    alloc: Global,
+    names: &mut LineNames<'t>,
+    reader: LineReader<'t>,
+) -> Result<Option<LineReader<'t>>, ReadFault>
+    requires taken { (profile : InProfile) × (text : List ℕ) × AreTaken profile text names.old (Some reader) }
+    requires room { names.old.count < 18446744073709551615 }
+    ensures { TakesNext names.old reader.entry names.new result }
 {
-    judged.with(&line)
+    let (line, more) = reader.next(alloc)?;
+    match names.take(&line) {
+        Ok(()) => Ok(more),
+        Err(fault) => Err(refuse_names(alloc, more, fault)),
+    }
 }
 
-/// The tree of all that the lines of a text name. The first line that is refused is remembered while the syntax is read to
-/// the end, since a text that no tree spells is refused for that first.
+/// The tree of all that the lines of a text name.
 pub(crate) fn enter_text<'t>(
     alloc: Global,
     source: Source<'t>,
@@ -96,15 +104,10 @@ pub(crate) fn enter_text<'t>(
     ensures stand { IfOk result (λ tree. StandForText profile (text_of source.entry) tree.nodes.items) }
     ensures refused { IfErr result (RefusesText profile (text_of source.entry)) }
 {
-    let mut judged = Judged::Good(LineNames::new(alloc, source)?);
+    let mut names = LineNames::new(alloc, source)?;
     let mut left = Some(LineReader::new(source, profile));
     while let Some(reader) = left {
-        let (line, more) = reader.next(alloc)?;
-        judged = judge_line(judged, line);
-        left = more;
+        left = take_next(alloc, &mut names, reader)?;
     }
-    match judged {
-        Judged::Good(names) => Ok(names.tree),
-        Judged::Bad(fault) => Err(ReadFault::Names(fault)),
-    }
+    Ok(names.tree)
 }

@@ -4,20 +4,27 @@ ghost use Rattle.toml_text.specs.Bytes.{is_bare};
 ghost use Rattle.toml_text.specs.Runs.{run_len};
 ghost use Rattle.toml_scalar.specs.Runs.{is_value_byte};
 
-/// Whether a bare key may have the byte.
+/// Whether a bare key may have the byte. Most are lower-case letters, so these are asked first.
 #[inline]
 pub(crate) fn is_bare(byte: u8) -> bool
     ensures { result ≡ is_bare byte }
 {
-    matches!(byte, b'A'..=b'Z' | b'a'..=b'z' | b'0'..=b'9' | b'-' | b'_')
+    byte.is_ascii_lowercase()
+        || byte.is_ascii_digit()
+        || byte == b'_'
+        || byte == b'-'
+        || byte.is_ascii_uppercase()
 }
 
-/// Whether a value that is no string, array or inline table may have the byte.
+/// Whether a value that is no string, array or inline table may have the byte. Most are digits, so these are asked first.
 #[inline]
 pub(crate) fn is_value_byte(byte: u8) -> bool
     ensures { result ≡ is_value_byte byte }
 {
-    matches!(byte, b'A'..=b'Z' | b'a'..=b'z' | b'0'..=b'9' | b'+' | b'-' | b'.' | b'_' | b':')
+    byte.is_ascii_digit()
+        || byte.is_ascii_lowercase()
+        || byte.is_ascii_uppercase()
+        || matches!(byte, b'+' | b'-' | b'.' | b'_' | b':')
 }
 
 /// How many bytes at the front a bare key may have.

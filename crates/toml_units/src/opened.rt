@@ -73,7 +73,8 @@ impl<'t> Opened<'t> {
         let Some((array, tail)) = array_of(self.line.expr()) else {
             unreachable!()
         };
-        let here = self.at.element_into(spare, self.item as u64)?;
+        let mut here = spare;
+        here.set_to_element(&self.at, self.item as u64)?;
         push_element(alloc, units, &self.at, here, &array.items[self.item])?;
         if self.item + 1 < array.items.len() {
             self.item += 1;

@@ -11,8 +11,7 @@ use crate::lines::{parts, push_first};
 use crate::opened::Opened;
 use crate::unit::Unit;
 use std::alloc::{AllocError, Global};
-use std::mem;
-use toml_names::{Address, LineNames, NameFault, ReadFault, key_address_into, refuse_names};
+use toml_names::{Address, LineNames, NameFault, ReadFault, refuse_names, set_to_key};
 use toml_text::Source;
 use toml_tree::{Expr, Line, LineReader, Profile};
 
@@ -95,8 +94,10 @@ impl<'t> Reading<'t> {
                 Ok(None)
             }
             Expr::KeyVal { keyval, .. } => {
+                // a key that is too long is refused before it has an address
                 self.names.take(line)?;
-                let at = key_address_into(alloc, spare, &self.section, &keyval.assign.key)?;
+                let mut at = spare;
+                set_to_key(alloc, &mut at, &self.section, &keyval.assign.key)?;
                 Ok(Some(at))
             }
             Expr::Std { .. } | Expr::Array { .. } => {
@@ -104,8 +105,7 @@ impl<'t> Reading<'t> {
                 let Some(own) = self.names.take_at(line, spare)? else {
                     return Ok(None);
                 };
-                let old = mem::replace(&mut self.section, Address::root(alloc));
-                self.section = own.copy_into(old)?;
+                self.section.set_to(&own)?;
                 Ok(Some(own))
             }
         }

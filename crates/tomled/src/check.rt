@@ -18,7 +18,7 @@ pub fn run_check(alloc: Global, file: &[u8]) -> Result<Outcome, AllocError>
     run_check_in(alloc, file, Profile::One)
 }
 
-/// Prints `ok` for a document of the profile, and else its refusal.
+/// Prints `ok` for a document of the profile, and else its refusal. What it read stays in memory, for a program that ends.
 pub fn run_check_in(alloc: Global, file: &[u8], profile: Profile) -> Result<Outcome, AllocError>
     ensures { IfOk result (Checks profile file.now) }
 {

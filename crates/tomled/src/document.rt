@@ -14,9 +14,8 @@ ghost use Rattle.tomled.specs.Reading.{HasNumber, IsGoodTextWith, IsNameEnding, 
 use crate::ending::Ending;
 use crate::refusal::Refusal;
 use std::alloc::Global;
-use toml_names::{
-    Address, NameFault, NamedText, ReadFault, judge_text, mentions_of_text, names_of_text,
-};
+use std::mem;
+use toml_names::{Address, NameFault, NamedText, ReadFault, mentions_of_text, names_of_text};
 use toml_text::{MAX_LEN, Source, TextFault};
 use toml_tree::{Profile, SyntaxFault};
 
@@ -31,19 +30,6 @@ fn read_source(file: &[u8]) -> Result<Source<'_>, Ending>
     }
 }
 
-/// Whether the bytes are a document of the profile, and else why not. Nothing else is built of them.
-#[tactic(auto, using(crate::proofs::Judged::no_reading, crate::proofs::Judged::numbered))]
-pub fn judge(alloc: Global, file: &[u8], profile: Profile) -> Result<(), Ending>
-    ensures good { OnOk result (IsDocumentIn profile file.now) }
-    ensures refused { IfErr result (Ends (IsRefused profile file.now)) }
-{
-    let source = read_source(file)?;
-    match judge_text(alloc, source, profile) {
-        Ok(()) => Ok(()),
-        Err(fault) => Err(read_ending(fault)),
-    }
-}
-
 /// The data of a document of the profile, which are lent part by part, or why the bytes are none.
 #[tactic(auto, using(crate::proofs::Judged::no_reading, crate::proofs::Judged::numbered))]
 pub fn read_data(alloc: Global, file: &[u8], profile: Profile) -> Result<NamedText<'_>, Ending>
@@ -55,6 +41,17 @@ pub fn read_data(alloc: Global, file: &[u8], profile: Profile) -> Result<NamedTe
         Ok(whole) => Ok(whole),
         Err(fault) => Err(read_ending(fault)),
     }
+}
+
+/// Whether the bytes are a document of the profile, and else why not. What they name stays in memory: the program ends with the
+/// answer, and then all of it goes at once.
+pub fn judge(alloc: Global, file: &[u8], profile: Profile) -> Result<(), Ending>
+    ensures good { OnOk result (IsDocumentIn profile file.now) }
+    ensures refused { IfErr result (Ends (IsRefused profile file.now)) }
+{
+    let whole = read_data(alloc, file, profile)?;
+    mem::forget(whole);
+    Ok(())
 }
 
 /// The addresses that a document of the profile mentions, each once, or why the bytes are none.

@@ -12,7 +12,7 @@ use crate::outcome::{Answer, Outcome};
 use crate::refusal::Refusal;
 use crate::verify::reason_code;
 use std::alloc::{AllocError, Global};
-use toml_editor::{EditorFault, edit_in};
+use toml_editor::{EditorFault, edit_at_exit};
 use toml_edits::EditFault;
 use toml_text::MAX_LEN;
 use toml_tree::Profile;
@@ -27,7 +27,8 @@ pub fn run_edit(alloc: Global, file: &[u8], edits: &[u8]) -> Result<Outcome, All
 
 /// Prints `ok` where the edits can be made of the document, and has two files written: the edited text, and the text of the
 /// certificate which shows that it keeps all else. Otherwise the refusal, and no file. The edit list is judged before the
-/// document, and the document and the values of the edits are read in the profile.
+/// document, and the document and the values of the edits are read in the profile. What it read stays in memory, for a program that
+/// ends.
 pub fn run_edit_in(
     alloc: Global,
     file: &[u8],
@@ -46,7 +47,7 @@ fn edited(alloc: Global, file: &[u8], edits: &[u8], profile: Profile) -> Result<
     ensures refused { IfErr result (Ends (IsUnedited profile file.now edits.now)) }
 {
     let edits = edit_list(alloc, edits)?;
-    match edit_in(alloc, file, &edits, profile) {
+    match edit_at_exit(alloc, file, &edits, profile) {
         Ok((text, certificate)) => Ok(good(alloc, text, &certificate)?),
         Err(fault) => Err(editor_ending(fault)),
     }

@@ -10,6 +10,7 @@ use crate::ending::Ending;
 use crate::outcome::Outcome;
 use crate::tagged_text::write_tagged;
 use std::alloc::{AllocError, Global};
+use std::mem;
 use toml_names::NamedText;
 use toml_tree::Profile;
 
@@ -20,20 +21,22 @@ pub fn run_show(alloc: Global, file: &[u8]) -> Result<Outcome, AllocError>
     run_show_in(alloc, file, Profile::One)
 }
 
-/// Prints the data of a document of the profile, and else its refusal.
+/// Prints the data of a document of the profile, and else its refusal. What it read stays in memory, for a program that ends.
 pub fn run_show_in(alloc: Global, file: &[u8], profile: Profile) -> Result<Outcome, AllocError>
     ensures { IfOk result (Shows profile file.now) }
 {
     Outcome::of_text(alloc, shown(alloc, file, profile))
 }
 
-/// The line of a document's data.
+/// The line of a document's data. What the document names stays in memory: the program ends once the line is printed.
 fn shown(alloc: Global, file: &[u8], profile: Profile) -> Result<Vec<u8>, Ending>
     ensures good { IfOk result (λ line. ShowsData profile file.now line.items) }
     ensures refused { IfErr result (Ends (IsRefused profile file.now)) }
 {
     let whole = read_data(alloc, file, profile)?;
-    Ok(data_line(alloc, &whole)?)
+    let line = data_line(alloc, &whole)?;
+    mem::forget(whole);
+    Ok(line)
 }
 
 /// The tagged JSON of the data in compact text, and LF.

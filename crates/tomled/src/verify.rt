@@ -10,7 +10,7 @@ use crate::ending::Ending;
 use crate::outcome::Outcome;
 use crate::refusal::Refusal;
 use std::alloc::{AllocError, Global};
-use toml_checker::{Reason, Verdict, check_in};
+use toml_checker::{Reason, Verdict, check_at_exit};
 use toml_tree::Profile;
 use toml_units::{Certificate, CertificateFault, read_certificate};
 
@@ -29,7 +29,7 @@ pub fn run_verify(
 
 /// Prints `yes` where the certificate shows that the text after is what the edits make of the one before, with all that
 /// no edit names; else the refusal. The edit list is judged first, then the certificate, and then both texts,
-/// which are read in the profile, as are the values of the edits.
+/// which are read in the profile, as are the values of the edits. What it read stays in memory, for a program that ends.
 pub fn run_verify_in(
     alloc: Global,
     before: &[u8],
@@ -57,7 +57,7 @@ fn verified(
 {
     let edits = edit_list(alloc, edits)?;
     let certificate = certificate(alloc, cert)?;
-    match check_in(alloc, before, &edits, after, &certificate, profile)? {
+    match check_at_exit(alloc, before, &edits, after, &certificate, profile)? {
         Verdict::Yes => Ok("yes\n".to_string(alloc)?.into_bytes()),
         Verdict::No(reason) => Err(Ending::Refused(reason_refusal(reason))),
     }

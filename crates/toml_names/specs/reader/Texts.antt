@@ -13,8 +13,7 @@ use Rattle.toml_names.specs.declared.fault.NameFault.{NameFault}
 use Rattle.toml_names.specs.declared.fault.NameFault.TheVariants as names
 use Rattle.toml_names.specs.declared.fault.ReadFault.{ReadFault}
 use Rattle.toml_names.specs.declared.fault.ReadFault.TheVariants as faults
-use Rattle.toml_names.specs.declared.line_names.Judged.{Judged}
-use Rattle.toml_names.specs.declared.line_names.Judged.TheVariants.{Good, Bad}
+use Rattle.toml_names.specs.declared.line_names.LineNames.{LineNames as Names}
 use Rattle.toml_names.specs.model.Documents.{IsDocumentIn}
 use Rattle.toml_names.specs.reader.LineNames.{StandFor}
 use Rattle.toml_names.specs.reader.Names.{AreGood, RefusesNames}
@@ -41,7 +40,7 @@ IsOfMemory (faults.Names fault) = fault ≡ names.NoMemory
 abbrev pub RefusedIsNoDocument : Type 0
 RefusedIsNoDocument = (profile : Profile) (text : List ℕ) (fault : ReadFault) → ¬ IsOfMemory fault → RefusesText profile text fault → ¬ IsDocumentIn profile text
 
--- the first lines of the text, and what the names of them come to
+-- the first lines of the text, and what is left to read
 abbrev pub AreLeft : Profile → List ℕ → List Line → Option LineReader → Type 0
 AreLeft profile text front (Some reader) = HandsOut profile text front reader
 AreLeft profile text front None = AreLinesIn profile text front
@@ -81,15 +80,20 @@ abbrev pub RefusesRest : Option LineReader → NameFault → ReadFault → Type 
 RefusesRest more fault result = (profile : Profile) (text : List ℕ) (front : List Line) → AreLeft profile text front more → RefusesNames front fault
     → RefusesText profile text result
 
-abbrev pub Judges : Judged → List Line → Type 0
-Judges (Good names) front = StandFor names front
-Judges (Bad fault) front = RefusesNames front fault
-
--- some first lines were handed out and judged
-pub record AreJudged (profile : Profile) (text : List ℕ) (judged : Judged) (left : Option LineReader) : Type 0 where
+-- some first lines were handed out, and these names stand for what they name
+pub record AreTaken (profile : Profile) (text : List ℕ) (taken : Names) (left : Option LineReader) : Type 0 where
   pub front : List Line
   pub are : AreLeft profile text front left
-  pub judges : Judges judged front
+  pub stand : StandFor taken front
+
+-- one line more was taken, and less is left; or the text is refused
+abbrev pub TakesOn : Profile → List ℕ → ℕ → Names → Result (Option LineReader) ReadFault → Type 0
+TakesOn profile text n taken (Ok more) = AreTaken profile text taken more × (more_left more < n + 1)
+TakesOn profile text n taken (Err fault) = RefusesText profile text fault
+
+-- whichever text it is of which the first lines were taken, one line more is taken
+abbrev pub TakesNext : Names → LineReader → Names → Result (Option LineReader) ReadFault → Type 0
+TakesNext old reader new result = (profile : Profile) (text : List ℕ) → AreTaken profile text old (Some reader) → TakesOn profile text (left reader) new result
 
 -- the nodes stand for what the lines of the text name
 pub record StandForText (profile : Profile) (text : List ℕ) (nodes : List Spot) : Type 0 where

@@ -1,6 +1,6 @@
 //! What a key part, a key and a value stand for (TOML v1.0.0, Keys).
 ghost use Rattle.std.specs.Cow.{cow_str_bytes};
-ghost use Rattle.std.specs.Prelude.{◌≡◌, IfOk};
+ghost use Rattle.std.specs.Prelude.{◌≡◌, IfOk, OnOk};
 ghost use Rattle.toml_tree.specs.View.{key as tree_key, value};
 ghost use Rattle.toml_names.specs.model.Addresses.{below};
 ghost use Rattle.toml_names.specs.mentions.Keys.{spelled_name, key_names};
@@ -45,16 +45,15 @@ pub(crate) fn own_name(alloc: Global, text: &str) -> Result<Name, AllocError>
     Name::spelled(alloc, name.as_str())
 }
 
-/// The address of a whole key in the table whose address is given away.
-fn key_below(alloc: Global, at: Address, key: &Key) -> Result<Address, AllocError>
-    ensures { IfOk result (λ here. here ≡ below at (key_names (tree_key key.now))) }
+/// Goes down to where a whole key leads from the table at the address.
+fn follow(alloc: Global, at: &mut Address, key: &Key) -> Result<(), AllocError>
+    ensures { OnOk result (at.new ≡ below at.old (key_names (tree_key key.now))) }
 {
-    let mut steps = at.into_steps();
-    steps.push(Step::Name(own_name(alloc, key.first.text)?))?;
+    at.push(Step::Name(own_name(alloc, key.first.text)?))?;
     for dotted in &key.rest {
-        steps.push(Step::Name(own_name(alloc, dotted.part.text)?))?;
+        at.push(Step::Name(own_name(alloc, dotted.part.text)?))?;
     }
-    Ok(Address::of(steps))
+    Ok(())
 }
 
 /// The address of a whole key in the table at the address (TOML v1.0.0, Keys).
@@ -62,18 +61,21 @@ pub fn key_address(alloc: Global, at: &Address, key: &Key) -> Result<Address, Al
     ensures { IfOk result (λ here. here ≡ below at.now (key_names (tree_key key.now))) }
 {
     let room = key.rest.len().saturating_add(1);
-    let steps = at.copy_steps(alloc, room)?;
-    key_below(alloc, Address::of(steps), key)
+    let mut here = Address::of(at.copy_steps(alloc, room)?);
+    follow(alloc, &mut here, key)?;
+    Ok(here)
 }
 
-/// The same, made in the memory of an address that is let go.
-pub fn key_address_into(
+/// Makes an address that of a whole key in the table at the other (TOML v1.0.0, Keys), in its own memory. Where memory lacks,
+/// nothing is said of it any more.
+pub fn set_to_key(
     alloc: Global,
-    spare: Address,
+    here: &mut Address,
     at: &Address,
     key: &Key,
-) -> Result<Address, AllocError>
-    ensures { IfOk result (λ here. here ≡ below at.now (key_names (tree_key key.now))) }
+) -> Result<(), AllocError>
+    ensures { OnOk result (here.new ≡ below at.now (key_names (tree_key key.now))) }
 {
-    key_below(alloc, at.copy_into(spare)?, key)
+    here.set_to(at)?;
+    follow(alloc, here, key)
 }

@@ -1,5 +1,5 @@
 //! Addresses: where a thing stands in the data, as a list of steps.
-ghost use Rattle.std.specs.Prelude.{◌≡◌, ◌≤◌, ◌++◌, [], IfOk, OnOk, length, take};
+ghost use Rattle.std.specs.Prelude.{◌≡◌, ◌≤◌, ◌∷◌, ◌++◌, [], IfOk, OnOk, length, take};
 ghost use Rattle.toml_names.specs.model.Addresses.{same_step};
 
 use crate::model::name::Name;
@@ -118,16 +118,22 @@ impl Address {
         })
     }
 
-    /// The same, made in the memory of an address that is let go.
-    pub fn copy_into(&self, spare: Address) -> Result<Address, AllocError>
-        ensures { IfOk result (λ a. a ≡ self.now) }
+    /// Makes it the same as the other, in its own memory: the steps that both begin with stay. Where memory lacks, nothing is said
+    /// of it any more.
+    pub fn set_to(&mut self, other: &Address) -> Result<(), AllocError>
+        ensures { OnOk result (self.new ≡ other.now) }
     {
-        let mut steps = spare.steps;
-        // what both begin with is kept
-        let shared = shared_len(&steps, &self.steps);
+        let steps = &mut self.steps;
+        let shared = shared_len(steps, &other.steps);
         steps.truncate(shared);
-        push_copies(&mut steps, &self.steps[shared..])?;
-        Ok(Address { steps })
+        push_copies(steps, &other.steps[shared..])
+    }
+
+    /// Goes one step down.
+    pub(crate) fn push(&mut self, step: Step) -> Result<(), AllocError>
+        ensures { OnOk result (self.new ≡ self.old ++ step ∷ []) }
+    {
+        Ok(self.steps.push(step)?)
     }
 
     /// The steps copied, with room for so many more.
@@ -148,13 +154,13 @@ impl Address {
         Ok(Address { steps })
     }
 
-    /// The same, made in the memory of an address that is let go.
-    pub fn element_into(&self, spare: Address, index: u64) -> Result<Address, AllocError>
-        ensures { IfOk result (λ a. a ≡ element self.now index) }
+    /// Makes it the address of an element of the array at the other, in its own memory. Where memory lacks, nothing is said of it
+    /// any more.
+    pub fn set_to_element(&mut self, array: &Address, index: u64) -> Result<(), AllocError>
+        ensures { OnOk result (self.new ≡ element array.now index) }
     {
-        let mut at = self.copy_into(spare)?;
-        at.steps.push(Step::Index(index))?;
-        Ok(at)
+        self.set_to(array)?;
+        self.push(Step::Index(index))
     }
 
     /// The address of a name in the table at this one.

@@ -134,12 +134,26 @@ impl<'t> NameMap<'t> {
     }
 }
 
+/// The last byte of a name, if it has one.
+fn last_byte(name: &str) -> Option<u8>
+    ensures { result ≡ slice_get name.now (length name.now - 1) }
+{
+    name.as_bytes().last().copied()
+}
+
+/// Whether two names are one. Names of a table are often alike but for their ends, so these are looked at first.
+fn is_same_name(one: &str, other: &str) -> bool
+    ensures { result ≡ bytes_eq one.now other.now }
+{
+    last_byte(one) == last_byte(other) && one == other
+}
+
 /// Where a name leads among a few, each looked at in turn.
 fn find(few: &[(CowStr<'_>, usize)], name: &str) -> Option<usize>
     ensures { result ≡ lookup (bytes_eq name.now) (children_of few.now) }
 {
     for (known, id) in few {
-        if name == known.as_str() {
+        if is_same_name(name, known.as_str()) {
             return Some(*id);
         }
     }

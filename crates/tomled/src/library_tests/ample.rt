@@ -13,7 +13,7 @@ use std::test::Fail;
 use toml_checker::{Verdict, check, check_in, first_marks, outermost};
 use toml_editor::{edit, edit_in, edit_pieces};
 use toml_edits::{Edit, apply, near_addresses};
-use toml_names::{Address, LineNames, NameFault, key_address, key_address_into, read_lines};
+use toml_names::{Address, LineNames, NameFault, key_address, read_lines, set_to_key};
 use toml_text::Source;
 use toml_tree::{Expr, LineReader, Profile, parse_value};
 use toml_units::{
@@ -190,23 +190,26 @@ fn keys_have_addresses(rt: HostRuntime) {
     assert_eq!(rt; header_steps(rt.alloc(), "[a.\"b\"]"), Some(2));
 }
 
-/// The address of the key of a header in the table at an address, made in the memory of another one.
-fn header_in(alloc: Global, at: &Address, spare: Address) -> Option<Address> {
+/// The address of the key of a header in the table at an address, made of another one.
+fn header_in(alloc: Global, at: &Address, other: Address) -> Option<Address> {
     let doc = doc(alloc, "[b.\"c\"]")?;
     let Expr::Std { header, .. } = doc.lines().first()?.expr() else {
         return None;
     };
-    key_address_into(alloc, spare, at, &header.key).ok()
+    let mut here = other;
+    set_to_key(alloc, &mut here, at, &header.key).ok()?;
+    Some(here)
 }
 
-/// Of two addresses, the second one let go: the first one, that of an element at it, and that of a header's key, each made in
-/// the memory of the second one.
-fn made_in_spare(alloc: Global, row: &str) -> Option<String> {
-    let (at, spare) = row.split_once(' ')?;
+/// Of two addresses what the second one is set to: the first one, that of an element at it, and that of a header's key.
+fn set_to_these(alloc: Global, row: &str) -> Option<String> {
+    let (at, other) = row.split_once(' ')?;
     let at = address(alloc, at)?;
-    let same = at.copy_into(address(alloc, spare)?).ok()?;
-    let element = at.element_into(address(alloc, spare)?, 7).ok()?;
-    let key = header_in(alloc, &at, address(alloc, spare)?)?;
+    let mut same = address(alloc, other)?;
+    same.set_to(&at).ok()?;
+    let mut element = address(alloc, other)?;
+    element.set_to_element(&at, 7).ok()?;
+    let key = header_in(alloc, &at, address(alloc, other)?)?;
     let (same, element, key) = (
         path(alloc, &same)?,
         path(alloc, &element)?,
@@ -215,9 +218,9 @@ fn made_in_spare(alloc: Global, row: &str) -> Option<String> {
     format!(in alloc; "{} {} {}", same.as_str(), element.as_str(), key.as_str()).ok()
 }
 
-// what is let go is longer, the root's, begins otherwise, is the same but for its last step, and is the same; at last the root's
-// address is made in that of something else
-const SPARE: &str = "
+// what is set is longer, the root's, begins otherwise, is the same but for its last step, and is the same; at last something
+// else is set to the root's address
+const SET: &str = "
 /t/#1 /t/#1/#7 /t/#1/b/c | /t/#1 /t/#1/x/y
 /t/#1 /t/#1/#7 /t/#1/b/c | /t/#1 /
 /t/#1 /t/#1/#7 /t/#1/b/c | /t/#1 /u/#1/b
@@ -227,8 +230,8 @@ const SPARE: &str = "
 ";
 
 #[test]
-fn addresses_are_made_in_spare_memory(rt: HostRuntime) -> Result<(), Fail> {
-    assert_lines(&rt, rt.alloc(), SPARE, 6, made_in_spare)
+fn addresses_are_set_to_others(rt: HostRuntime) -> Result<(), Fail> {
+    assert_lines(&rt, rt.alloc(), SET, 6, set_to_these)
 }
 
 fn count_inside(alloc: Global, text: &str) -> Option<usize> {

@@ -43,8 +43,8 @@ returns-then-self-len c =
     let out = (out-Array a).items in
     let many = items_long (expr o.line.expr) a tail line in
     let long = c.len.ensures in (
-      adds_item (expr o.line.expr) a tail line o.at o.item c.index.result.now c.in_ok-here.here c.args.units.now.items c.push_element.new.units.items
-          (omega (arith, c.if-self-len.true, long, out.ok.0)) c.index.ensures c.in_ok-here.ensures c.in_ok-push_element.ensures,
+      adds_item (expr o.line.expr) a tail line o.at o.item c.index.result.now c.set_to_element.new.self c.args.units.now.items c.push_element.new.units.items
+          (omega (arith, c.if-self-len.true, long, out.ok.0)) c.index.ensures c.in_ok-set_to_element.ensures c.in_ok-push_element.ensures,
       omega (arith, c.if-self-len.true, many, long),
     )
 
@@ -57,5 +57,5 @@ returns c =
     let out = (out-Array a).items in
     let many = items_long (expr o.line.expr) a tail line in
     let long = c.len.ensures in
-    adds_last (expr o.line.expr) a tail line o.at o.item c.index.result.now c.in_ok-here.here c.args.units.now.items c.push_element.new.units.items c.push_end.new.units.items c.push_comment.new.units.items
-    (omega (arith, o.more, many, out.ok.0)) (omega (arith, c.if-self-len.false, long, out.ok.0)) c.index.ensures c.in_ok-here.ensures c.in_ok-push_element.ensures c.in_ok-push_end.ensures c.in_ok-push_comment.ensures
+    adds_last (expr o.line.expr) a tail line o.at o.item c.index.result.now c.set_to_element.new.self c.args.units.now.items c.push_element.new.units.items c.push_end.new.units.items c.push_comment.new.units.items
+    (omega (arith, o.more, many, out.ok.0)) (omega (arith, c.if-self-len.false, long, out.ok.0)) c.index.ensures c.in_ok-set_to_element.ensures c.in_ok-push_element.ensures c.in_ok-push_end.ensures c.in_ok-push_comment.ensures

@@ -39,18 +39,18 @@ returns-in_ok-take-in-Blank-clause-names c = λ lines h.
       own_is = sym (ap (own_address (named lines)) is);
     }
 
-pub returns-in_ok-at-in-KeyVal-clause-names : goal.returns-in_ok-at-in-KeyVal-clause-names
-returns-in_ok-at-in-KeyVal-clause-names c = λ lines h.
+pub returns-in_ok-set_to_key-in-KeyVal-clause-names : goal.returns-in_ok-set_to_key-in-KeyVal-clause-names
+returns-in_ok-set_to_key-in-KeyVal-clause-names c = λ lines h.
     let l = tree_line c.args.line.now in
     let is = sym c.expr.ensures ∙ ap expr c.in-KeyVal.is in
     record {
       names = c.in_ok-take-in-KeyVal.ensures lines h.names;
       section_is = h.section_is ∙ sym (pair_stays lines l _ _ _ is);
-      own_is = ap Some (c.in_ok-at-in-KeyVal.ensures ∙ ap (λ at. below at (key_names (tree_key c.in-KeyVal.keyval.assign.key))) h.section_is ∙ ap (λ (k : KeyVal). below (section (named lines)) (key_names k.assign.key)) (sym (keyval_is c.in-KeyVal.keyval))) ∙ sym (ap (own_address (named lines)) is);
+      own_is = ap Some (c.in_ok-set_to_key-in-KeyVal.ensures ∙ ap (λ at. below at (key_names (tree_key c.in-KeyVal.keyval.assign.key))) h.section_is ∙ ap (λ (k : KeyVal). below (section (named lines)) (key_names k.assign.key)) (sym (keyval_is c.in-KeyVal.keyval))) ∙ sym (ap (own_address (named lines)) is);
     }
 
-pub returns-in_ok-self-in-Std-clause-names : goal.returns-in_ok-self-in-Std-clause-names
-returns-in_ok-self-in-Std-clause-names c = λ lines h.
+pub returns-in_ok-set_to-in-Std-clause-names : goal.returns-in_ok-set_to-in-Std-clause-names
+returns-in_ok-set_to-in-Std-clause-names c = λ lines h.
     let l = tree_line c.args.line.now in
     let taken = c.in_ok-own-in-Std.ensures lines h.names in
     let header : IsHeaderLine l.expr = elim c.in-Std.is [
@@ -60,6 +60,6 @@ returns-in_ok-self-in-Std-clause-names c = λ lines h.
     let is : Some c.in-Some.own ≡ own_address (named lines) l.expr = sym c.in-Some.is ∙ taken.1 in
     record {
       names = taken.0;
-      section_is = c.in_ok-self-in-Std.ensures ∙ same_Some c.in-Some.own (section (named (lines ++ l ∷ []))) (is ∙ header_is_section lines l header);
+      section_is = c.in_ok-set_to-in-Std.ensures ∙ same_Some c.in-Some.own (section (named (lines ++ l ∷ []))) (is ∙ header_is_section lines l header);
       own_is = is;
     }
