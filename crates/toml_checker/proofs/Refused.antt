@@ -1,5 +1,5 @@
 -- A text that was refused is no document, and one whose names were found is one.
-use Rattle.std.proofs.Common.{◌≡◌, inl, inr, ◌≤◌, ℕ, List, length, refl, sym, subst, arith}
+use Rattle.std.proofs.Common.{inl, inr, ◌≤◌, ℕ, List, length, sym, subst, arith}
 use Rattle.std.proofs.lemmas.Str.{IsUtf8-from_is_utf8}
 use Rattle.toml_text.specs.Limit.{IsText, max_len}
 use Rattle.toml_text.specs.Source.{IsFaultOf}

@@ -1,6 +1,4 @@
-use Rattle.std.proofs.Common.{[], ◌<◌, ◌^◌, ℕ, List, length, map, subst, arith}
-use Rattle.std.proofs.lemmas.List.{length-map}
-use Rattle.std.proofs.lemmas.Result.{IfOk-weaker}
+use Rattle.std.proofs.Common.{[], ℕ, List, map, subst}
 use Rattle.std.specs.Prelude.{IfOk}
 use Rattle.toml_text.specs.Limit.{IsText}
 use Rattle.toml_units.specs.Cursors.{Walks}
@@ -10,7 +8,6 @@ use Rattle.toml_checker.specs.Demands.{IsVerdict}
 use Rattle.toml_checker.specs.Headline.{YesMeans}
 use Rattle.toml_checker.proofs.Asked.{none_below}
 use Rattle.toml_checker.proofs.Refused.{no_text, refusal_told}
-use Rattle.toml_checker.proofs.Sentence.{yes_means}
 use Rattle.toml_checker.proofs.judging.check_texts.Goals as goal
 
 pub returns-in_default-clause-verdict : goal.returns-in_default-clause-verdict
