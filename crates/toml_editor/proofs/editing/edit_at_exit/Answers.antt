@@ -1,0 +1,4 @@
+use Rattle.toml_editor.proofs.editing.edit_at_exit.Goals as goal
+
+pub returns-clause-edited : goal.returns-clause-edited
+returns-clause-edited c = c.in_ok-text.ensures.edited.edited
