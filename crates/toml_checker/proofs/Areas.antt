@@ -15,8 +15,10 @@ use Rattle.toml_checker.specs.declared.side.Side.TheVariants.{Apart}
 use Rattle.toml_checker.specs.declared.tables.Part.{Part}
 use Rattle.toml_checker.specs.declared.tables.Part.TheVariants as parts
 use Rattle.toml_checker.specs.declared.fronts.Fronts.{Fronts}
-use Rattle.toml_checker.specs.Areas.{whole_by, whole_of, area, IsApart}
-use Rattle.toml_checker.specs.Fronts.{AreFronts, is_far}
+use Rattle.toml_checker.specs.Areas.{whole_by, whole_of, area, IsApart, IsClear}
+use Rattle.toml_checker.specs.declared.fronts.Lead.{Lead}
+use Rattle.toml_checker.specs.declared.fronts.Lead.TheVariants.{Away, Clear}
+use Rattle.toml_checker.specs.Fronts.{AreFronts, Shows, lead}
 use Rattle.toml_checker.specs.Plain.{is_named, stands}
 use Rattle.toml_checker.specs.Sides.{side}
 use Rattle.toml_checker.proofs.CarriedSoFar.{arrived}
@@ -161,7 +163,7 @@ whole_name at q s n is same = sym (ap (λ o. whole_by o at) (ap parted is ∙ pa
 pub whole_index : (at q : Address) (s : Step) (i : ℕ) → at ≡ q ++ s ∷ [] → s ≡ Index i → q ≡ whole_of at
 whole_index at q s i is same = sym (ap (λ o. whole_by o at) (ap parted is ∙ parted_at_last q s ∙ ap (λ (u : Step). Some (q, u)) same))
 
--- ---- what the fronts of a list show to be far
+-- ---- what the fronts of a list show
 
 abbrev Shown : List Change → Fronts → Type 0
 Shown cs fronts = ∥ AreFronts cs fronts ∥₁
@@ -170,9 +172,17 @@ apart_prop : (cs : List Change) (a : Address) → IsProp (IsApart cs a)
 apart_prop [] a = hlevel props
 apart_prop (c ∷ cs) a = ×_prop (hlevel props) (apart_prop cs a)
 
-pub far_apart : (cs : List Change) (fronts : Fronts) (o : Option Address) (a b : Address) (far : Bool) → Shown cs fronts → o ≡ Some a → b ≡ a → far ≡ is_far fronts b → far ≡ true → IfSome o (IsApart cs)
-far_apart cs fronts o a b far shown is same tests so =
-    subst (λ (q : Option Address). IfSome q (IsApart cs)) (sym is) (∥∥₁_elim shown (apart_prop cs a) (λ fit. fit a (sym (sym so ∙ tests ∙ ap (is_far fronts) same))))
+clear_prop : (cs : List Change) (a : Address) → IsProp (IsClear cs a)
+clear_prop [] a = hlevel props
+clear_prop (c ∷ cs) a = ×_prop (hlevel props) (clear_prop cs a)
+
+pub far_apart : (cs : List Change) (fronts : Fronts) (o : Option Address) (a b : Address) (way : Lead) → Shown cs fronts → o ≡ Some a → b ≡ a → way ≡ lead fronts b → way ≡ Away → IfSome o (IsApart cs)
+far_apart cs fronts o a b way shown is same leads so =
+    subst (λ (q : Option Address). IfSome q (IsApart cs)) (sym is) (∥∥₁_elim shown (apart_prop cs a) (λ fit. subst (Shows cs a) (sym (ap (lead fronts) same) ∙ sym leads ∙ so) (fit a)))
+
+pub led_clear : (cs : List Change) (fronts : Fronts) (o : Option Address) (a b : Address) (way : Lead) → Shown cs fronts → o ≡ Some a → b ≡ a → way ≡ lead fronts b → way ≡ Clear → IfSome o (IsClear cs)
+led_clear cs fronts o a b way shown is same leads so =
+    subst (λ (q : Option Address). IfSome q (IsClear cs)) (sym is) (∥∥₁_elim shown (clear_prop cs a) (λ fit. subst (Shows cs a) (sym (ap (lead fronts) same) ∙ sym leads ∙ so) (fit a)))
 
 pub arrives_apart : (cs : List Change) (a to : Address) (test : Bool) → IsApart cs a → test ≡ same_address a to → IsTrue test ↔ (carried cs a ≡ Some to)
 arrives_apart cs a to test apart is = arrived (carried cs a) (Some a) a to test (sym (carried_apart cs a apart)) refl is

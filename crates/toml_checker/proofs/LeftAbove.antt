@@ -1,22 +1,26 @@
 -- What an edit leaves of what is above its place.
-use Rattle.std.proofs.Common.{◌≡◌, ◌⊎◌, inl, inr, ℕ, [], ◌∷◌, ◌++◌, length, Option, Some, None, Bool, true, false, cond, refl, sym, ap, subst, ◌∙◌, arith, append_assoc, length-append}
+use Rattle.std.proofs.Common.{◌≡◌, ◌⊎◌, inl, inr, ℕ, List, not, ◌&&◌, [], ◌∷◌, ◌++◌, length, Option, Some, None, Bool, true, false, cond, refl, sym, ap, subst, ◌∙◌, arith, append_assoc, length-append}
 use Rattle.std.proofs.lemmas.List.{append-nil}
 use Rattle.toml_names.specs.declared.model.address.Step.{Step}
 use Rattle.toml_names.specs.declared.model.address.Step.TheVariants.{Name, Index}
-use Rattle.toml_names.specs.model.Addresses.{Address, IsAbove, same_step}
+use Rattle.std.specs.Prelude.{◌↔◌, IsTrue, option_and_then}
+use Rattle.toml_names.specs.model.Addresses.{Address, IsAbove, same_address, same_step}
 use Rattle.toml_names.proofs.Proved.{same_step-equal}
 use Rattle.toml_edits.specs.Carry.{Carrier, carry, carry_below, emptied, nowhere, up_from, down_above, to_name, setting, inserting, renaming, removing, parted}
 use Rattle.toml_edits.specs.Edits.{Change, set, insert, rename, remove, new_section, new_element, place}
 use Rattle.toml_edits.proofs.Proved.{parted_at_last}
-use Rattle.toml_checker.specs.declared.side.Side.TheVariants.{Apart, Below}
+use Rattle.toml_edits.specs.Lists.{carried}
+use Rattle.toml_checker.specs.declared.side.Side.{Side}
+use Rattle.toml_checker.specs.declared.side.Side.TheVariants.{Apart, Above, At, Below}
 use Rattle.toml_checker.specs.declared.tables.Part.{Part}
 use Rattle.toml_checker.specs.declared.tables.Part.TheVariants as parts
-use Rattle.toml_checker.specs.Areas.{whole_of, area}
+use Rattle.toml_checker.specs.Areas.{whole_of, area, IsClear}
 use Rattle.toml_checker.specs.CarriedTo.{IsAtOrAbove}
-use Rattle.toml_checker.specs.Plain.{is_named, is_of_comment}
+use Rattle.toml_checker.specs.Plain.{is_at_or_above, is_named, is_of_comment, stands}
 use Rattle.toml_checker.specs.Runs.{LeavesHolders}
 use Rattle.toml_checker.specs.Sides.{side}
 use Rattle.toml_checker.proofs.Areas.{carry_apart, place_apart, named_apart, whole_name, whole_index}
+use Rattle.toml_checker.proofs.CarriedSoFar.{arrived}
 use Rattle.toml_checker.proofs.Leaving.{below_keeps}
 use Rattle.toml_checker.proofs.Parted.{ends}
 use Rattle.toml_checker.proofs.Sides.{sides_are_right}
@@ -150,3 +154,43 @@ leaves_apart c q h = record {
     free : (a : Address) → (side (area c) a ≡ Apart) ⊎ IsAbove a (area c) → (part : Part) → is_of_comment part ≡ true → (base : Option ℕ) → is_named part c base (side (place c) a) ≡ false
     free a (inl apart) part is base = ap (is_named part c base) (place_apart c a apart) ∙ named_apart part c base
     free a (inr w) part is base = unnamed_above c a (above_area c a w) part is base
+
+-- ---- no area at the address or above it
+
+clear_lies : (c : Change) (a : Address) → is_at_or_above (side (area c) a) ≡ false → (side (area c) a ≡ Apart) ⊎ IsAbove a (area c)
+clear_lies c a h = by (side (area c) a) refl h
+  where
+    by : (s : Side) → side (area c) a ≡ s → is_at_or_above s ≡ false → (side (area c) a ≡ Apart) ⊎ IsAbove a (area c)
+    by Apart is h = inl is
+    by Above is h = cc
+    by At is h = cc
+    by Below is h = inr ((sides_are_right (area c) a).below.0 is)
+
+clear_carry : (c : Change) (a : Address) → is_at_or_above (side (area c) a) ≡ false → carry c a ≡ Some a
+clear_carry c a h = by (clear_lies c a h)
+  where
+    by : (side (area c) a ≡ Apart) ⊎ IsAbove a (area c) → carry c a ≡ Some a
+    by (inl apart) = carry_apart c a apart
+    by (inr w) = within_stays c a (above_area c a w)
+
+clear_unnamed : (part : Part) → is_of_comment part ≡ true → (c : Change) (a : Address) (base : Option ℕ) → is_at_or_above (side (area c) a) ≡ false → is_named part c base (side (place c) a) ≡ false
+clear_unnamed part comment c a base h = by (clear_lies c a h)
+  where
+    by : (side (area c) a ≡ Apart) ⊎ IsAbove a (area c) → is_named part c base (side (place c) a) ≡ false
+    by (inl apart) = ap (is_named part c base) (place_apart c a apart) ∙ named_apart part c base
+    by (inr w) = unnamed_above c a (above_area c a w) part comment base
+
+-- no edit takes away a comment there, or moves what is there
+pub clear_stands : (part : Part) → is_of_comment part ≡ true → (cs : List Change) (a : Address) (base : Option ℕ) → IsClear cs a → stands part cs (Some a) base ≡ true
+clear_stands part comment [] a base h = refl
+clear_stands part comment (c ∷ cs) a base h =
+    ap (λ b. not b && stands part cs (carry c a) base) (clear_unnamed part comment c a base h.0)
+    ∙ ap (λ o. stands part cs o base) (clear_carry c a h.0)
+    ∙ clear_stands part comment cs a base h.1
+
+clear_carried : (cs : List Change) (a : Address) → IsClear cs a → carried cs a ≡ Some a
+clear_carried [] a h = refl
+clear_carried (c ∷ cs) a h = ap (option_and_then (carried cs)) (clear_carry c a h.0) ∙ clear_carried cs a h.1
+
+pub clear_arrives : (cs : List Change) (a to : Address) (test : Bool) → IsClear cs a → test ≡ same_address a to → IsTrue test ↔ (carried cs a ≡ Some to)
+clear_arrives cs a to test clear is = arrived (carried cs a) (Some a) a to test (sym (clear_carried cs a clear)) refl is

@@ -14,7 +14,9 @@ pub mod ProtectedUnits
 pub mod Sides
 pub mod Leaving
 pub mod Areas
-pub mod AddedSteps
+pub mod LevelSteps
+pub mod AreaLeads
+pub mod AddedLevels
 pub mod RunCovers
 pub mod LeftAbove
 pub mod Passing

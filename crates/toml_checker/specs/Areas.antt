@@ -1,11 +1,12 @@
 -- The area of an edit: the address at which, or below which, all stands that it takes away or moves.
-use Rattle.std.specs.Prelude.{◌≡◌, List, [], ◌∷◌, Option, Some, None}
+use Rattle.std.specs.Prelude.{◌≡◌, false, List, [], ◌∷◌, Option, Some, None}
 use Rattle.toml_names.specs.declared.model.address.Step.{Step}
 use Rattle.toml_names.specs.declared.model.address.Step.TheVariants.{Name, Index}
 use Rattle.toml_names.specs.model.Addresses.{Address}
 use Rattle.toml_edits.specs.Carry.{parted}
 use Rattle.toml_edits.specs.Edits.{Change, set, insert, rename, remove, new_section, new_element}
 use Rattle.toml_checker.specs.declared.side.Side.TheVariants.{Apart}
+use Rattle.toml_checker.specs.Plain.{is_at_or_above}
 use Rattle.toml_checker.specs.Sides.{side}
 
 -- the array of an element, else the address itself
@@ -29,3 +30,8 @@ area (new_element at) = at
 abbrev pub IsApart : List Change → Address → Type 0
 IsApart [] a = Unit {0}
 IsApart (c ∷ cs) a = (side (area c) a ≡ Apart) × IsApart cs a
+
+-- none of the areas is at the address, or above it
+abbrev pub IsClear : List Change → Address → Type 0
+IsClear [] a = Unit {0}
+IsClear (c ∷ cs) a = (is_at_or_above (side (area c) a) ≡ false) × IsClear cs a

@@ -16,7 +16,7 @@ pub mod Headline
 -- words of the code's own contracts
 pub mod Sides
 pub mod Areas
-pub mod Steps
+pub mod Levels
 pub mod Fronts
 pub mod EditLists
 pub mod Plain

@@ -18,7 +18,7 @@ fn shown(list: &EditList, sight: Sight, from: &Address, to: &Address) -> Option<
     ensures { IfSome result (λ arrived. IsTrue arrived ↔ (carried (changes list.now) from.now ≡ Some to.now)) }
 {
     match sight {
-        Sight::Far | Sight::Within => Some(from.is_same(to)),
+        Sight::Far | Sight::Within | Sight::Clear => Some(from.is_same(to)),
         Sight::Covered => match &list.run {
             Some(run) => Some(run.brings(from.steps(), to.steps())),
             // there is always one

@@ -11,7 +11,7 @@ use std::alloc::{AllocError, Global};
 use toml_edits::Edit;
 use toml_names::Step;
 
-/// Edits, with what their areas begin with and one run, so that most addresses need not be asked of each edit.
+/// Edits, with the steps of their areas and one run, so that most addresses need not be asked of each edit.
 #[derive(Drop)]
 pub(crate) struct EditList<'e> {
     pub(crate) edits: &'e [Edit],

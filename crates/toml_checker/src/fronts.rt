@@ -1,10 +1,10 @@
-//! Which addresses are seen by their first two steps to be apart from all that edits touch.
-ghost use Rattle.std.specs.Prelude.{◌≡◌, [], IfOk, OnOk, map};
+//! Which addresses are seen by their steps to be apart from all that edits touch, without asking each edit.
+ghost use Rattle.std.specs.Prelude.{◌≡◌, ◌≤◌, [], IfOk, OnOk, map, vec_len};
 ghost use Rattle.toml_edits.specs.Edits.{change};
 ghost use Rattle.toml_checker.specs.Areas.{area, whole_of};
-ghost use Rattle.toml_checker.specs.Fronts.{AddsArea, AreFronts, is_far, is_far_behind};
+ghost use Rattle.toml_checker.specs.Fronts.{AddsArea, AddsAt, AreFronts, IsDeepened, lead, leads, way_at};
 
-use crate::steps::Steps;
+use crate::levels::Level;
 use std::alloc::{AllocError, Global};
 use toml_edits::Edit;
 use toml_names::Step;
@@ -37,17 +37,24 @@ pub(crate) fn area<'x>(edit: &'x Edit) -> &'x [Step]
     }
 }
 
-/// What the areas of edits begin with.
+/// Where the steps of an address lead, seen from areas of edits.
+#[derive(Clone, Copy)]
+pub(crate) enum Lead {
+    /// To a step that no area has there, past none at which one ends: the address is apart from each.
+    Away,
+    /// To the address, past no step at which one ends: none is at it or above it.
+    Clear,
+    /// Nothing is known.
+    Unknown,
+}
+
+/// The steps of areas, depth by depth.
 #[derive(Drop)]
 pub(crate) struct Fronts<'e> {
     /// Whether one of them is the whole document.
     everywhere: bool,
-    /// Those of one step.
-    short: Steps<'e>,
-    /// The first steps of the others,
-    firsts: Steps<'e>,
-    /// and their second steps.
-    seconds: Steps<'e>,
+    /// The steps that they have at each depth.
+    levels: Vec<Level<'e>>,
 }
 
 impl<'e> Fronts<'e> {
@@ -57,62 +64,91 @@ impl<'e> Fronts<'e> {
     {
         Fronts {
             everywhere: false,
-            short: Steps::none(alloc),
-            firsts: Steps::none(alloc),
-            seconds: Steps::none(alloc),
+            levels: Vec::new(alloc),
         }
     }
 
     /// Adds those of an area.
-    fn add(&mut self, area: &'e [Step]) -> Result<(), AllocError>
+    fn add(&mut self, alloc: Global, area: &'e [Step]) -> Result<(), AllocError>
         ensures { OnOk result (AddsArea area.now self.old self.new) }
     {
-        let Some((first, rest)) = area.split_first() else {
+        let Some((last, before)) = area.split_last() else {
             self.everywhere = true;
             return Ok(());
         };
-        match rest.first() {
-            Some(second) => {
-                self.firsts.add(first)?;
-                self.seconds.add(second)
-            }
-            None => self.short.add(first),
+        for (depth, step) in before.iter().enumerate() {
+            self.add_at(alloc, depth, step, false)?;
         }
+        self.add_at(alloc, before.len(), last, true)
     }
 
-    /// Whether the steps show that no area of more than one step begins with both.
-    fn is_far_behind(&self, first: &Step, rest: &[Step]) -> bool
-        ensures { result ≡ is_far_behind self.now first.now rest.now }
+    /// Adds the step of an area at this depth, at which it ends or goes on.
+    fn add_at(
+        &mut self,
+        alloc: Global,
+        depth: usize,
+        step: &'e Step,
+        ends: bool,
+    ) -> Result<(), AllocError>
+        requires { depth ≤ vec_len self.old.levels }
+        ensures everywhere { self.new.everywhere ≡ self.old.everywhere }
+        ensures adds { OnOk result (AddsAt depth step.now ends self.old self.new) }
     {
-        if !self.firsts.has(first) {
-            return true;
-        }
-        match rest.first() {
-            Some(second) => !self.seconds.has(second),
-            None => false,
-        }
+        self.deepen(alloc, depth)?;
+        self.levels[depth].add(step, ends)
     }
 
-    /// Whether the first two steps of the address show that it is apart from each area. It takes no memory.
-    pub(crate) fn is_far(&self, at: &[Step]) -> bool
-        ensures { result ≡ is_far self.now at.now }
+    /// Makes room for steps at this depth.
+    fn deepen(&mut self, alloc: Global, depth: usize) -> Result<(), AllocError>
+        requires { depth ≤ vec_len self.old.levels }
+        ensures everywhere { self.new.everywhere ≡ self.old.everywhere }
+        ensures deep { OnOk result (IsDeepened depth self.old.levels.items self.new.levels.items) }
     {
-        match at.split_first() {
-            Some((first, rest)) => {
-                !self.everywhere && !self.short.has(first) && self.is_far_behind(first, rest)
-            }
-            None => false,
+        if depth == self.levels.len() {
+            self.levels.push(Level::none(alloc))?;
         }
+        Ok(())
+    }
+
+    /// What the steps of the address show. It takes no memory.
+    pub(crate) fn lead(&self, at: &[Step]) -> Lead
+        ensures { result ≡ lead self.now at.now }
+    {
+        if self.everywhere {
+            return Lead::Unknown;
+        }
+        self.leads(at)
+    }
+
+    /// The same of all but an area that is the whole document.
+    fn leads(&self, at: &[Step]) -> Lead
+        ensures { result ≡ leads self.now.levels.items 0 at.now }
+    {
+        for (depth, step) in at.iter().enumerate() {
+            match self.way(depth, step) {
+                None => return Lead::Away,
+                Some(true) => return Lead::Unknown,
+                Some(false) => {}
+            }
+        }
+        Lead::Clear
+    }
+
+    /// Whether an area ends at the step at this depth; none where no area has it.
+    fn way(&self, depth: usize, step: &Step) -> Option<bool>
+        ensures { result ≡ way_at self.now.levels.items depth step.now }
+    {
+        self.levels.get(depth)?.way(step)
     }
 }
 
-/// What the areas of the edits begin with.
+/// The steps of the areas of the edits.
 pub(crate) fn fronts_of<'e>(alloc: Global, edits: &'e [Edit]) -> Result<Fronts<'e>, AllocError>
     ensures { IfOk result (AreFronts (map change edits.now)) }
 {
     let mut fronts = Fronts::none(alloc);
     for edit in edits {
-        fronts.add(area(edit))?;
+        fronts.add(alloc, area(edit))?;
     }
     Ok(fronts)
 }

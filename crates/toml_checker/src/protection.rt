@@ -21,7 +21,7 @@ fn is_shown(part: Part, sight: Sight) -> bool
 {
     match sight {
         Sight::Far | Sight::Covered => true,
-        Sight::Within => is_of_comment(part),
+        Sight::Within | Sight::Clear => is_of_comment(part),
         Sight::Near => false,
     }
 }

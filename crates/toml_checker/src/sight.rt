@@ -3,6 +3,7 @@ ghost use Rattle.std.specs.Prelude.{◌≡◌};
 ghost use Rattle.toml_checker.specs.Sights.{HasSight};
 
 use crate::edit_list::EditList;
+use crate::fronts::Lead;
 use crate::runs::run_at;
 use toml_units::Unit;
 
@@ -15,13 +16,15 @@ pub(crate) enum Sight {
     Covered,
     /// The array of the run is at its address, or below that. Then no edit moves what is there, or takes away a comment of it.
     Within,
+    /// No area of an edit is at its address or above it. Then no edit moves what is there, or takes away a comment of it.
+    Clear,
     /// Nothing shows: each edit has to be asked.
     Near,
 }
 
 impl<'e> EditList<'e> {
-    /// A sight of the unit: that it is so is proved, that it is the most telling one is not. The run of the unit is made, if there is one, where it has an address that the last run does not
-    /// cover and that is not far from all edits; else the last run stays. None is made at the array of the last run, or above
+    /// A sight of the unit: that it is so is proved, that it is the most telling one is not. The run of the unit is made, if there
+    /// is one, where it has an address that the last run does not cover and of which the steps show nothing; else the last run stays. None is made at the array of the last run, or above
     /// that: comments between elements do not have the edits gone through.
     pub(crate) fn come_to(&mut self, unit: &Unit) -> Sight
         ensures edits { self.new.edits.now ≡ self.old.edits.now }
@@ -36,8 +39,10 @@ impl<'e> EditList<'e> {
         if self.is_within(at.steps()) {
             return Sight::Within;
         }
-        if self.fronts.is_far(at.steps()) {
-            return Sight::Far;
+        match self.fronts.lead(at.steps()) {
+            Lead::Away => return Sight::Far,
+            Lead::Clear => return Sight::Clear,
+            Lead::Unknown => {}
         }
         match run_at(self.edits, at.steps()) {
             Some(run) => {

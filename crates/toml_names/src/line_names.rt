@@ -77,16 +77,19 @@ impl<'t> LineNames<'t> {
         self.tree.place(at)
     }
 
-    /// The same as `take`, and tells the address of the line's value, table or element, made in the memory of an address that is let
-    /// go; a blank line has none.
-    pub fn take_at(&mut self, line: &Line<'t>, spare: Address) -> Result<Option<Address>, NameFault>
+    /// The same as `take`, and makes an address that of the line's value, table or element, in its own memory, and tells whether the
+    /// line has one: a blank line has none, and then the address stays. Where the line is refused, nothing is said of the address any more.
+    pub fn take_at(&mut self, line: &Line<'t>, here: &mut Address) -> Result<bool, NameFault>
         requires stand { Stand self.old }
         requires room { self.old.count < 18446744073709551615 }
-        ensures { (lines : List spelled.Line) → StandFor self.old lines → TakesAt lines (tree_line line.now) self.new result }
+        ensures { (lines : List spelled.Line) → StandFor self.old lines → TakesAt lines (tree_line line.now) here.old self.new here.new result }
     {
         match self.enter(line)? {
-            Some(node) => Ok(Some(self.tree.address_into(spare, node)?)),
-            None => Ok(None),
+            Some(node) => {
+                self.tree.set_to_node(here, node)?;
+                Ok(true)
+            }
+            None => Ok(false),
         }
     }
 }

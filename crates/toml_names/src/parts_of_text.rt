@@ -1,12 +1,14 @@
 //! A text read line by line, whose data are lent part by part and never built.
 ghost use Rattle.std.specs.Prelude.{◌≡◌, [], IfErr, IfOk, Some};
 ghost use Rattle.toml_text.specs.Source.{text_of};
+ghost use Rattle.toml_names.specs.mentions.FirstMentions.{first_mentions};
 ghost use Rattle.toml_names.specs.mentions.Mentions.{named};
 ghost use Rattle.toml_names.specs.model.Data.{IsDataOf};
 ghost use Rattle.toml_names.specs.reader.Parts.{AreItems, AreMembers, IsPart, part_kinds, plain_members, shape_kind};
 ghost use Rattle.toml_names.specs.reader.Texts.{GoodText, RefusesText};
 
 use crate::fault::ReadFault;
+use crate::model::address::Address;
 use crate::texts::enter_text;
 use crate::tree::name_tree::NameTree;
 use crate::tree::parts::Shape;
@@ -45,6 +47,21 @@ pub fn names_of_text<'t>(
 {
     let tree = enter_text(alloc, source, profile)?;
     Ok(NamedText { tree })
+}
+
+/// The distinct addresses of the mentions of a document of the profile, in the order of their first mentions, and the names
+/// from which they were told; other texts are refused as `judge_text` does. No data are built.
+pub fn mentions_of_text<'t>(
+    alloc: Global,
+    source: Source<'t>,
+    profile: Profile,
+) -> Result<(Vec<Address>, NamedText<'t>), ReadFault>
+    ensures good { IfOk result (λ r. (it : GoodText profile (text_of source.entry)) × (r.0.items ≡ first_mentions (named it.lines)) × IsDataOf (named it.lines) (part_kinds r.1 0)) }
+    ensures refused { IfErr result (RefusesText profile (text_of source.entry)) }
+{
+    let tree = enter_text(alloc, source, profile)?;
+    let list = tree.first_mentions()?;
+    Ok((list, NamedText { tree }))
 }
 
 impl<'t> NamedText<'t> {

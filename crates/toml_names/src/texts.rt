@@ -3,13 +3,10 @@ ghost use Rattle.std.specs.Prelude.{◌≡◌, ◌<◌, ℕ, List, Some, IfErr, 
 ghost use Rattle.toml_text.specs.Source.{text_of};
 ghost use Rattle.toml_tree.specs.Tree as spelled;
 ghost use Rattle.toml_tree.specs.declared.profile.Profile.{Profile as InProfile};
-ghost use Rattle.toml_names.specs.mentions.FirstMentions.{first_mentions};
-ghost use Rattle.toml_names.specs.mentions.Mentions.{named};
 ghost use Rattle.toml_names.specs.reader.Texts.{AreLeft, AreTaken, GoodText, PassesLine, PassesLines, RefusesRest, RefusesText, StandForText, TakesNext};
 
 use crate::fault::{NameFault, ReadFault};
 use crate::line_names::LineNames;
-use crate::model::address::Address;
 use crate::tree::name_tree::NameTree;
 use std::alloc::Global;
 use toml_text::Source;
@@ -23,20 +20,6 @@ pub fn judge_text(alloc: Global, source: Source<'_>, profile: Profile) -> Result
 {
     let _ = enter_text(alloc, source, profile)?;
     Ok(())
-}
-
-/// The distinct addresses of the mentions of a document of the profile, in the order of their first mentions; other texts
-/// are refused as `judge_text` does. No data are built.
-pub fn mentions_of_text(
-    alloc: Global,
-    source: Source<'_>,
-    profile: Profile,
-) -> Result<Vec<Address>, ReadFault>
-    ensures good { IfOk result (λ list. (it : GoodText profile (text_of source.entry)) × (list.items ≡ first_mentions (named it.lines))) }
-    ensures refused { IfErr result (RefusesText profile (text_of source.entry)) }
-{
-    let tree = enter_text(alloc, source, profile)?;
-    Ok(tree.first_mentions()?)
 }
 
 /// Why a text is refused of which the first lines have names that are refused, and these lines are left, or none: where no tree

@@ -83,9 +83,9 @@ some_held c first some = λ none.
     absurd (omega (arith, some, long, all))
 
 module _ (profile : Profile) (text : List ℕ) (past : List LinedUnit) (old new : UnitCursor) (s : Stands profile text old past) (none : current old ≡ None)
-    (cleared : List Made) (empty : cleared ≡ []) (first : new.place ≡ 0) where
+    (first : new.place ≡ 0) where
   -- a line was read
-  pub came : old.reading.opened ≡ None → IsHanded profile text s.lines old.reading cleared new.reading new.units.items new.newline
+  pub came : old.reading.opened ≡ None → IsHanded profile text s.lines old.reading new.reading new.units.items new.newline
       → length new.units.items < 18446744073709551616 → IsCome profile text past old new
   came closed h small =
       let at = own_address (named s.lines) h.line.expr in
@@ -93,7 +93,7 @@ module _ (profile : Profile) (text : List ℕ) (past : List LinedUnit) (old new 
       let held = opened_units new.reading.opened in
       let is : ahead new ≡ lined_line at h.line =
       ap (λ i. lined_first new.newline.now newlines (all_units (drop i new.units.items) ++ held)) first
-      ∙ ap (lined_first new.newline.now newlines) (h.units.units ∙ ap (λ us. all_units us ++ line_spans at h.line.expr) empty)
+      ∙ ap (lined_first new.newline.now newlines) h.units.units
       ∙ ap (λ us. record { unit = line_span at h.line.expr; newline = new.newline.now } ∷ us)
       (behind_line new.newline.now newlines (plain_line at h.line.expr) (line_no_lines at h.line.expr))
       ∙ ap (λ n. with_newline n (line_spans at h.line.expr)) h.newline_is in
@@ -115,9 +115,9 @@ module _ (profile : Profile) (text : List ℕ) (past : List LinedUnit) (old new 
       }
 
   -- an item was handed out
-  pub came_item : new.newline ≡ old.newline → new.newlines ≡ old.newlines → HandsMore old.reading cleared new.reading new.units.items
+  pub came_item : (cleared : List Made) → cleared ≡ [] → new.newline ≡ old.newline → new.newlines ≡ old.newlines → HandsMore old.reading cleared new.reading new.units.items
       → length new.units.items < 18446744073709551616 → IsCome profile text past old new
-  came_item newline newlines h small =
+  came_item cleared empty newline newlines h small =
       let held = opened_units new.reading.opened in
       let is : ahead new ≡ ahead old =
       ap (λ i. lined_first new.newline.now (newlines_ahead new) (all_units (drop i new.units.items) ++ held)) first
@@ -140,12 +140,12 @@ module _ (profile : Profile) (text : List ℕ) (past : List LinedUnit) (old new 
       }
 
   -- there was none
-  pub stayed : old.reading.opened ≡ None → IsOver profile text s.lines old.reading cleared new.reading new.units.items → IsCome profile text past old new
-  stayed closed h =
-      let is : ahead new ≡ [] = none_held new (h.units ∙ empty) h.closed in
+  pub stayed : old.reading.opened ≡ None → IsOver profile text s.lines old.reading new.reading → new.units.items ≡ [] → IsCome profile text past old new
+  stayed closed h empty =
+      let is : ahead new ≡ [] = none_held new empty h.closed in
       let done = done_none new.reading.left h.over in
       let items = ap opened_items h.closed in
-      let all = ap (λ i. length (drop i new.units.items)) first ∙ ap length (h.units ∙ empty) in
+      let all = ap (λ i. length (drop i new.units.items)) first ∙ ap length empty in
       record {
         walks = record {
           stands = record {

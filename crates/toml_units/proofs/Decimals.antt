@@ -1,5 +1,5 @@
 -- Numbers in decimal.
-use Rattle.std.proofs.Common.{◌≡◌, ℕ, ◌+◌, ◌<◌, ◌^◌, suc, zero, true, false, Bool, List, [], ◌∷◌, ◌++◌, length, map, take, drop, refl, sym, ap, subst, ◌∙◌, arith, get_or}
+use Rattle.std.proofs.Common.{◌≡◌, ℕ, ◌+◌, ◌<◌, ◌≤◌, ◌^◌, suc, zero, true, false, Bool, List, [], ◌∷◌, ◌++◌, length, map, take, drop, refl, sym, ap, subst, ◌∙◌, arith, get_or}
 use Rattle.std.specs.Char.{is_ascii_digit, digit_value}
 use Rattle.std.specs.Int.{IsInRange}
 use Rattle.std.specs.List.{prefix_len}
@@ -11,12 +11,8 @@ use Rattle.std.proofs.lemmas.Fmt.{decimal_digit, decimal-digits_of, decimal-digi
 use Rattle.std.proofs.lemmas.Int.Digits.{all_below_base_digits_of, first_digits_of, digits_value_is, number_digits_of}
 use Rattle.std.proofs.lemmas.List.{take-append-drop}
 use Rattle.std.proofs.lemmas.Str.{digit_value_digit}
-use Rattle.std.proofs.lemmas.Str.Parse.{IsDigitsTest, numerals_by_value}
-use Rattle.toml_tree.specs.Spells.{EachIs}
-use Rattle.toml_units.specs.Decimals.{number_text, IsPlain, BeginsWithNoDigit, BeginsWithNoNumber, NumbersAreDecimal}
-
-abbrev pub AreDigits : List ℕ → Type 0
-AreDigits bs = EachIs (λ b. is_ascii_digit b ≡ true) bs
+use Rattle.std.proofs.lemmas.Str.Parse.{IsDigitsTest, digits_value_short, numerals_by_value}
+use Rattle.toml_units.specs.Decimals.{AreDigits, number_text, IsPlain, BeginsWithNoDigit, BeginsWithNoNumber, NumbersAreDecimal}
 
 text_of_zero : number_text 0 ≡ 0x30 ∷ []
 unfolding number_text
@@ -97,6 +93,9 @@ tells = record {
   parts = λ c cs h. (from_digit c h.0, h.1);
   more = λ c cs r h. (to_digit c r, h);
 }
+
+pub few_digits : (ds : List ℕ) → AreDigits ds → length ds < 20 → digits_value 10 ds < 2 ^ 64
+few_digits ds are few = let short = digits_value_short (numerals_by_value AreDigits tells) ds 19 are (omega (arith, few)) in omega (arith, short)
 
 pub number_of_digits : (ds : List ℕ) → AreDigits ds → 0 < length ds → (get_or ds 0 0 ≡ 48 → length ds ≡ 1) → digits_value 10 ds < 2 ^ 64 → number_text (digits_value 10 ds) ≡ ds
 number_of_digits ds are some leads low = number_decimal (digits_value 10 ds) low ∙ decimal-digits_value (numerals_by_value AreDigits tells) ds are some leads low

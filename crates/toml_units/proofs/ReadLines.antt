@@ -1,5 +1,5 @@
 -- Lines read one after another, and what all of them give.
-use Rattle.std.proofs.Common.{◌≡◌, ℕ, ◌+◌, ◌<◌, ◌≤◌, List, [], ◌∷◌, ◌++◌, length, Option, Some, None, Ok, sym, ap, subst, ◌∙◌, arith, append_assoc}
+use Rattle.std.proofs.Common.{◌≡◌, Bool, true, false, ℕ, ◌+◌, ◌<◌, ◌≤◌, List, [], ◌∷◌, ◌++◌, length, Option, Some, None, Ok, sym, ap, subst, ◌∙◌, arith, append_assoc}
 use Rattle.std.specs.Borrow.{Bor}
 use Rattle.std.proofs.lemmas.List.{append-nil}
 use Rattle.toml_tree.specs.HandedOut.{HandsOn, HandsOut, left}
@@ -11,7 +11,7 @@ use Rattle.toml_tree.specs.declared.line_reader.LineReader.{LineReader}
 use Rattle.toml_tree.specs.declared.profile.Profile.{Profile}
 use Rattle.toml_names.specs.mentions.Mentions.{Named, root, named, named_by, named_from, section}
 use Rattle.toml_names.specs.model.Documents.{IsDocumentIn}
-use Rattle.toml_names.specs.reader.LineNames.{StandFor}
+use Rattle.toml_names.specs.reader.LineNames.{IsTold, StandFor}
 use Rattle.toml_names.specs.reader.Names.{own_address}
 use Rattle.toml_names.specs.reader.Texts.{AreLeft}
 use Rattle.toml_units.specs.declared.reading.Left.{Left}
@@ -22,9 +22,10 @@ use Rattle.toml_names.specs.model.Addresses.{Address}
 use Rattle.toml_units.specs.Lined.{lined, lined_from, lined_line}
 use Rattle.toml_units.specs.Opened.{AddsFirst, opened_units}
 use Rattle.toml_units.specs.Plain.{line_span, line_spans, plain_from, plain_units}
-use Rattle.toml_units.specs.Reading.{HasEnteredText, HasEntered, HasNames, HasRead, IsDone, IsHanded, IsLeft, IsOver, left_of, to_read}
+use Rattle.toml_units.specs.Reading.{HasEnteredText, HasEntered, HasNames, HasRead, IsDone, IsHanded, IsLeft, IsOver, left_of, to_read, with_left}
 use Rattle.toml_names.proofs.Proved.{pairs_leave_alike}
-use Rattle.toml_units.specs.View.{AddsUnits, Spanned}
+use Rattle.toml_units.specs.Arrays.{IsOwn}
+use Rattle.toml_units.specs.View.{Spanned, all_units}
 use Rattle.toml_units.specs.declared.opened.Opened.{Opened}
 use Rattle.toml_units.proofs.AllLines.{named_from-push}
 use Rattle.toml_units.proofs.OpenedLines.{adds_first}
@@ -64,6 +65,13 @@ few_of : (profile : Profile) (text : List ℕ) (front : List Line) (more : Optio
 few_of profile text front (Some r) h fits = omega (arith, h.few, h.within)
 few_of profile text front None h fits = omega (arith, h.few)
 
+-- the lines were entered, whatever is left to read
+pub begun : (profile : Profile) (text : List ℕ) (lines : List Line) (r : Reading) → HasEnteredText profile text r lines → HasEntered r lines
+begun profile text lines r h = record { names = h.entered.names; section_is = h.entered.section_is; few = h.entered.few }
+
+pub still : (profile : Profile) (text : List ℕ) (lines : List Line) (r : Reading) (left : Left) → HasEnteredText profile text r lines → HasEnteredText profile text (with_left r left) lines
+still profile text lines r left h = record { entered = record { names = h.entered.names; section_is = h.entered.section_is; few = h.entered.few }; fits = h.fits }
+
 has_left : (profile : Profile) (text : List ℕ) (front : List Line) (r : Reading) (more : Option LineReader) → HasEnteredText profile text r front
     → AreLeft profile text front more → IsLeft profile text r front (left_of more)
 has_left profile text front r (Some reader) are h = (are, h)
@@ -77,12 +85,12 @@ module _ (profile : Profile) (text : List ℕ) (lines : List Line) (before : Rea
   pub stood : HasEnteredText profile text before lines × HandsOut profile text lines reader
   stood = subst (λ (left : Left). IsLeft profile text before lines left) is read
 
-  -- a line was handed out and entered, and units of it were added
-  pub handed : (l : declared.Line) (more : Option LineReader) (mid r : Reading) (old new : List Made) (own : Option Address) (newline : Bor (List ℕ))
+  -- a line was handed out and entered, and units of it are held
+  pub handed : (l : declared.Line) (more : Option LineReader) (mid r : Reading) (held : List Made) (own : Option Address) (newline : Bor (List ℕ))
       → HandsOn profile text lines (left reader) (Ok (l, more)) → HasNames lines (tree_line l) mid own
-      → AddsFirst old new (line_spans own (expr l.expr)) (opened_units r.opened) → newline.now ≡ (tree_line l).newline.text
-      → r.names ≡ mid.names → r.section ≡ mid.section → r.left ≡ left_of more → IsHanded profile text lines before old r new newline
-  handed l more mid r old new own newline on entered added ends names at now =
+      → AddsFirst [] held (line_spans own (expr l.expr)) (opened_units r.opened) → newline.now ≡ (tree_line l).newline.text
+      → r.names ≡ mid.names → r.section ≡ mid.section → r.left ≡ left_of more → IsHanded profile text lines before r held newline
+  handed l more mid r held own newline on entered added ends names at now =
       let front = lines ++ tree_line l ∷ [] in
       let passed = passes profile text lines (left reader) l more on in
       let stand : HasEntered r front = record {
@@ -94,7 +102,7 @@ module _ (profile : Profile) (text : List ℕ) (lines : List Line) (before : Rea
         line = tree_line l;
         read = subst (λ (left : Left). IsLeft profile text r front left) (sym now)
             (has_left profile text front r more (record { entered = stand; fits = stood.0.fits }) passed.0);
-        units = subst (λ (o : Option Address). AddsFirst old new (line_spans o (expr l.expr)) (opened_units r.opened)) entered.own_is added;
+        units = subst (λ (o : Option Address). AddsFirst [] held (line_spans o (expr l.expr)) (opened_units r.opened)) entered.own_is added;
         newline_is = ends;
         less = subst (λ (left : Left). to_read left < to_read before.left) (sym now)
             (subst (λ (left : Left). to_read (left_of more) < to_read left) (sym is) passed.1);
@@ -102,14 +110,13 @@ module _ (profile : Profile) (text : List ℕ) (lines : List Line) (before : Rea
       }
 
 -- the text was refused
-pub is_over : (profile : Profile) (text : List ℕ) (lines : List Line) (before r : Reading) (old new : List Made) → r.left ≡ Refused
-    → ¬ IsDocumentIn profile text → r.opened ≡ None → new ≡ old → IsOver profile text lines before old r new
-is_over profile text lines before r old new is none closed units = record {
+pub is_over : (profile : Profile) (text : List ℕ) (lines : List Line) (before r : Reading) → r.left ≡ Refused
+    → ¬ IsDocumentIn profile text → r.opened ≡ None → IsOver profile text lines before r
+is_over profile text lines before r is none closed = record {
   read = subst (λ (left : Left). IsLeft profile text r lines left) (sym is) none;
   over = subst IsDone (sym is) tt;
   closed = closed;
   stays = λ _. is;
-  units = units;
 }
 
 -- what one more line names
@@ -125,18 +132,18 @@ pair_stays lines l ws k b is =
 pub blank_stays : (lines : List Line) (l : Line) (b : Blank) → l.expr ≡ BlankLine b → section (named (lines ++ l ∷ [])) ≡ section (named lines)
 blank_stays lines l b is = ap section (named_push lines l ∙ ap (λ e. named lines ++ named_by (named lines) (length lines) e) is ∙ append-nil (named lines))
 
--- all units of a line were added, and it is not opened;
-pub all_added : (old new : List Made) (own : Option Address) (e : Expr) (o : Option Opened) → AddsUnits old new (line_spans own e) → o ≡ None
-    → AddsFirst old new (line_spans own e) (opened_units o)
-all_added old new own e o h none =
-    subst (λ (p : Option Opened). AddsFirst old new (line_spans own e) (opened_units p)) (sym none)
-    (adds_first old new (line_spans own e) [] (line_spans own e) h (append-nil (line_spans own e)) (omega arith))
+-- all units of a line are held, and it is not opened;
+pub all_held : (units : List Made) (own : Option Address) (e : Expr) (o : Option Opened) → all_units units ≡ line_spans own e → o ≡ None
+    → AddsFirst [] units (line_spans own e) (opened_units o)
+all_held units own e o h none =
+    subst (λ (p : Option Opened). AddsFirst [] units (line_spans own e) (opened_units p)) (sym none)
+    (adds_first [] units (line_spans own e) [] (line_spans own e) h (append-nil (line_spans own e)) (omega arith))
 
 -- or its own, and the others are left
-pub own_added : (old new : List Made) (own : Option Address) (e : Expr) (at : Address) (rest : List Spanned) → AddsUnits old new (line_span own e ∷ []) → own ≡ Some at
-    → line_spans (Some at) e ≡ line_span (Some at) e ∷ rest → AddsFirst old new (line_spans own e) rest
-own_added old new own e at rest h here behind =
-    adds_first old new (line_span own e ∷ []) rest (line_spans own e) h
+pub own_held : (units : List Made) (own : Option Address) (e : Expr) (at : Address) (rest : List Spanned) → IsOwn own e units → own ≡ Some at
+    → line_spans (Some at) e ≡ line_span (Some at) e ∷ rest → AddsFirst [] units (line_spans own e) rest
+own_held units own e at rest h here behind =
+    adds_first [] units (line_span own e ∷ []) rest (line_spans own e) h
     (ap (λ p. line_span p e ∷ rest) here ∙ sym behind ∙ ap (λ p. line_spans p e) (sym here)) (omega arith)
 
 -- what was read stays where only the opened line changes
@@ -158,3 +165,11 @@ module _ (profile : Profile) (text : List ℕ) (lines : List Line) (before r : R
 
   pub read_stays : r.left ≡ before.left → HasRead profile text before lines → HasRead profile text r lines
   read_stays is h = left_stays r.left (subst (λ (left : Left). IsLeft profile text before lines left) (sym is) h)
+
+-- a line that has an address is told it
+pub told_some : (own : Option Address) (old here at : Address) (told : Bool) → IsTold own old here told → own ≡ Some at → own ≡ Some here
+told_some own old here at true h is = h
+told_some own old here at false h is = absurd (no_some (sym h.0 ∙ is))
+  where
+    no_some : None ≡ Some at → ⊥
+    no_some e = cc

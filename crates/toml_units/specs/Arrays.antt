@@ -9,7 +9,7 @@ use Rattle.toml_tree.specs.declared.tree.Value.TheViews.{out-Array}
 use Rattle.toml_names.specs.model.Addresses.{Address}
 use Rattle.toml_units.specs.Plain.{line_span, line_spans, plain_elements}
 use Rattle.toml_units.specs.Units.{tail_units}
-use Rattle.toml_units.specs.View.{AddsUnits, Spanned, spanned}
+use Rattle.toml_units.specs.View.{Spanned, all_units, spanned}
 use Rattle.toml_units.specs.declared.unit.Unit.{Unit as Made}
 
 -- how many items there are
@@ -75,7 +75,11 @@ abbrev pub TellsArray : Option Address → Expr → Option Address → Type 0
 TellsArray own e None = HasItems e → own ≡ None
 TellsArray own e (Some at) = (own ≡ Some at) × HasItems e
 
--- of a line at the address all units were added; or its own alone, where its value is an array with an item, whose address is told
-abbrev pub Begins : List Made → List Made → Option Address → Expr → Option Address → Type 0
-Begins old new own e None = AddsUnits old new (line_spans own e) × TellsArray own e None
-Begins old new own e (Some at) = AddsUnits old new (line_span own e ∷ []) × TellsArray own e (Some at)
+-- the code's only unit is that of the line, which is at the address
+abbrev pub IsOwn : Option Address → Expr → List Made → Type 0
+IsOwn own e units = all_units units ≡ line_span own e ∷ []
+
+-- of a line at the address these are all units; or its own alone, where its value is an array with an item, whose address is told
+abbrev pub Begins : List Made → Option Address → Expr → Option Address → Type 0
+Begins units own e None = (all_units units ≡ line_spans own e) × TellsArray own e None
+Begins units own e (Some at) = IsOwn own e units × TellsArray own e (Some at)

@@ -1,8 +1,9 @@
 -- Numbers in decimal.
-use Rattle.std.specs.Prelude.{◌≡◌, ◌==◌, ◌<◌, ◌+◌, ◌^◌, ℕ, false, if◌then◌else◌, List, [], ◌∷◌, ◌++◌, length, map, slice_index, codes}
+use Rattle.std.specs.Prelude.{◌≡◌, ◌==◌, ◌<◌, ◌+◌, ◌^◌, ℕ, true, false, if◌then◌else◌, List, [], ◌∷◌, ◌++◌, length, map, slice_index, codes}
 use Rattle.std.specs.Char.{is_ascii_digit}
 use Rattle.std.specs.Fmt.{decimal}
 use Rattle.std.specs.Int.Digits.{digits_of}
+use Rattle.toml_tree.specs.Spells.{EachIs}
 
 -- a number in decimal, without leading zeros
 unfoldable pub number_text : ℕ → List ℕ
@@ -11,6 +12,10 @@ number_text n = if n == 0 then codes "0" else map (λ d. 48 + d) (digits_of 10 n
 -- Words of the code's own contracts: there is a digit, and no leading zero;
 abbrev pub IsPlain : List ℕ → Type 0
 IsPlain digits = (0 < length digits) × (slice_index digits 0 ≡ 48 → length digits ≡ 1)
+
+-- all bytes are digits;
+abbrev pub AreDigits : List ℕ → Type 0
+AreDigits bs = EachIs (λ b. is_ascii_digit b ≡ true) bs
 
 -- no digit is the first of the bytes;
 abbrev pub BeginsWithNoDigit : List ℕ → Type 0

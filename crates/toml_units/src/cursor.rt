@@ -3,6 +3,7 @@ ghost use Rattle.std.specs.Prelude.{◌≡◌, [], None, IsSome, IfOk, OnOk, opt
 ghost use Rattle.toml_text.specs.Source.{text_of};
 ghost use Rattle.toml_units.specs.Cursors.{ComesOn, EndsAll, Goes, HasLetGo, HasNextNewline, Stand, StandsBefore, StepsOn, Walks, current};
 ghost use Rattle.toml_units.specs.Places.{is_line};
+ghost use Rattle.toml_units.specs.Reading.{HandsMore};
 
 use crate::reading::{Left, Reading};
 use crate::taken::{Newline, TakenLines};
@@ -166,15 +167,27 @@ impl<'t> UnitCursor<'t> {
         requires { Stand self.old }
         ensures { ComesOn self.old self.new result }
     {
-        let spare = take_spare(alloc, &mut self.units);
         self.place = 0;
         if self.reading.opened.is_some() {
-            return self.reading.next_item(alloc, &mut self.units, spare);
+            return self.hold_item(alloc);
         }
-        if let Some(newline) = self.reading.next(alloc, &mut self.units, spare)? {
-            self.newline = newline;
+        match self.reading.next(alloc, &mut self.units)? {
+            Some(newline) => self.newline = newline,
+            None => self.units.clear(),
         }
         Ok(())
+    }
+
+    /// Holds the units of the next item of the line that is opened.
+    fn hold_item(&mut self, alloc: Global) -> Result<(), AllocError>
+        requires { IsSome self.old.reading.opened }
+        ensures newline { self.new.newline ≡ self.old.newline }
+        ensures newlines { self.new.newlines ≡ self.old.newlines }
+        ensures place { self.new.place ≡ self.old.place }
+        ensures more { OnOk result (HandsMore self.old.reading [] self.new.reading self.new.units.items) }
+    {
+        let spare = take_spare(alloc, &mut self.units);
+        self.reading.next_item(alloc, &mut self.units, spare)
     }
 
     /// The names of all lines, where all units were walked past; none where the text is no document of the profile.

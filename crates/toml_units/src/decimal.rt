@@ -3,7 +3,7 @@ ghost use Rattle.std.specs.Prelude.{◌≡◌, ◌↔◌, ◌<◌, ◌≤◌, �
 ghost use Rattle.std.specs.Char.{is_ascii_digit, digit_value};
 ghost use Rattle.std.specs.List.{prefix_len};
 ghost use Rattle.std.specs.Str.Parse.{digits_value};
-ghost use Rattle.toml_units.specs.Decimals.{IsPlain, BeginsWithNoNumber, BeginsWithNumber};
+ghost use Rattle.toml_units.specs.Decimals.{AreDigits, IsPlain, BeginsWithNoNumber, BeginsWithNumber};
 
 /// How many digits stand at the front.
 fn digits_len(bytes: &[u8]) -> usize
@@ -47,6 +47,32 @@ fn value_of(digits: &[u8]) -> Option<u64>
     Some(value)
 }
 
+/// The number that the digits write, which is below 2^64.
+#[tactic(auto, using(crate::proofs::DigitValues::values))]
+fn short_value(digits: &[u8]) -> u64
+    requires { digits_value 10 digits.now < 2 ^ 64 }
+    ensures { result ≡ digits_value 10 digits.now }
+{
+    let mut value = 0;
+    for digit in digits {
+        value = value * 10 + digit_value(*digit);
+    }
+    value
+}
+
+/// What `value_of` answers of digits alone: of few of them, as most numbers have, it is not asked at each whether the number gets too
+/// large.
+fn number_of(digits: &[u8]) -> Option<u64>
+    requires { AreDigits digits.now }
+    ensures { SomeIff result (digits_value 10 digits.now < 2 ^ 64) (digits_value 10 digits.now) }
+{
+    // 10^19 is below 2^64
+    if digits.len() < 20 {
+        return Some(short_value(digits));
+    }
+    value_of(digits)
+}
+
 /// Whether there is a digit, and no leading zero.
 fn is_plain(digits: &[u8]) -> bool
     ensures { IsTrue result ↔ IsPlain digits.now }
@@ -62,6 +88,6 @@ pub(crate) fn read_number(bytes: &[u8]) -> Option<(u64, &[u8])>
     if !is_plain(digits) {
         return None;
     }
-    let number = value_of(digits)?;
+    let number = number_of(digits)?;
     Some((number, behind))
 }

@@ -6,10 +6,10 @@ ghost use Rattle.toml_names.specs.mentions.Keys.{key_names};
 ghost use Rattle.toml_names.specs.model.Addresses.{Address as Steps, lent};
 ghost use Rattle.toml_names.specs.mentions.Mentions.{named};
 ghost use Rattle.toml_names.specs.reader.Names.{AreOwnAddresses};
-ghost use Rattle.toml_units.specs.Arrays.{Begins, TellsArray};
+ghost use Rattle.toml_units.specs.Arrays.{Begins, IsOwn, TellsArray};
 ghost use Rattle.toml_units.specs.Ends.{blank_end, expr_end};
-ghost use Rattle.toml_units.specs.Plain.{own_base, line_span, line_spans};
-ghost use Rattle.toml_units.specs.View.{AddsUnits, spanned, all_units};
+ghost use Rattle.toml_units.specs.Plain.{own_base, line_span, line_spans, plain_line};
+ghost use Rattle.toml_units.specs.View.{AddsUnits, spanned, all_units, unit};
 ghost use Rattle.toml_tree.specs.Pieces.{expr_start};
 ghost use Rattle.toml_units.specs.Units.{units as units_of};
 
@@ -86,16 +86,15 @@ fn push_own(units: &mut Vec<Unit>, own: Option<Address>, e: &Expr) -> Result<(),
     Ok(())
 }
 
-/// Adds the units of a line at its own address.
-fn push_line(
+/// Adds what lies in a line at its own address, and the comment at its end.
+fn push_rest(
     alloc: Global,
     units: &mut Vec<Unit>,
     own: Option<&Address>,
     e: &Expr,
 ) -> Result<(), AllocError>
-    ensures { OnOk result (AddsUnits units.old.items units.new.items (line_spans (lent own.entry) (expr e.now))) }
+    ensures { OnOk result (AddsUnits units.old.items units.new.items (plain_line (lent own.entry) (expr e.now))) }
 {
-    push_own(units, copied(alloc, own)?, e)?;
     match e {
         Expr::KeyVal { keyval, tail, .. } => {
             if let Some(at) = own {
@@ -107,6 +106,19 @@ fn push_line(
             push_comment(alloc, units, UnitKind::TailComment, own, tail.comment)
         }
     }
+}
+
+/// Adds the units of a line at its own address.
+fn push_line(
+    alloc: Global,
+    units: &mut Vec<Unit>,
+    own: Option<&Address>,
+    e: &Expr,
+) -> Result<(), AllocError>
+    ensures { OnOk result (AddsUnits units.old.items units.new.items (line_spans (lent own.entry) (expr e.now))) }
+{
+    push_own(units, copied(alloc, own)?, e)?;
+    push_rest(alloc, units, own, e)
 }
 
 /// Whether a line is one unit: it has no comment, and nothing lies in a value of it.
@@ -149,22 +161,49 @@ fn array_at(alloc: Global, own: Option<&Address>, e: &Expr) -> Result<Option<Add
     }
 }
 
-/// Adds the units of a line whose own address is given away. Of a line whose value is an array with an item it adds its own
-/// unit alone, and tells the array's address.
-pub(crate) fn push_first(
+/// Holds one unit, the first of those that were held, where there were some.
+pub(crate) fn hold_one(units: &mut Vec<Unit>) -> Result<(), AllocError>
+    ensures { OnOk result (length units.new.items ≡ 1) }
+{
+    if units.is_empty() {
+        units.push(Unit {
+            kind: UnitKind::Line,
+            span: Span { start: 0, end: 0 },
+            address: None,
+            base: None,
+        })?;
+    }
+    units.truncate(1);
+    Ok(())
+}
+
+/// Makes a unit a line's own, which has the line's address already.
+pub(crate) fn set_line(line: &mut Unit, e: &Expr)
+    ensures { unit line.new ≡ line_span line.old.address (expr e.now) }
+{
+    line.base = own_base(line.address.as_ref(), e);
+    line.span = expr_span(e);
+    line.kind = UnitKind::Line;
+}
+
+/// Adds the units of a line behind its own one. Where its value is an array with an item it adds none, and tells the array's
+/// address.
+pub(crate) fn push_behind(
     alloc: Global,
     units: &mut Vec<Unit>,
-    own: Option<Address>,
     e: &Expr,
 ) -> Result<Option<Address>, AllocError>
-    ensures { IfOk result (Begins units.old.items units.new.items own (expr e.now)) }
+    requires { (own : Option Steps) × IsOwn own (expr e.now) units.old.items }
+    ensures { (own : Option Steps) → IsOwn own (expr e.now) units.old.items → IfOk result (Begins units.new.items own (expr e.now)) }
 {
-    let Some(array) = array_at(alloc, own.as_ref(), e)? else {
-        push_line_at(alloc, units, own, e)?;
-        return Ok(None);
-    };
-    push_own(units, own, e)?;
-    Ok(Some(array))
+    if let Some(array) = array_at(alloc, units[0].address.as_ref(), e)? {
+        return Ok(Some(array));
+    }
+    if !is_lone(e) {
+        let own = copied(alloc, units[0].address.as_ref())?;
+        push_rest(alloc, units, own.as_ref(), e)?;
+    }
+    Ok(None)
 }
 
 /// The address at the place, which is given away.

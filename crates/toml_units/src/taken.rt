@@ -76,7 +76,8 @@ impl<'t> TakenLines<'t> {
         ensures { (lines : List Lined) → HasTaken self.old lines → TakesLine lines (tree_line line.now) self.new result }
     {
         let room = Vec::with_capacity(alloc, self.reading.steps_of(line.expr()))?;
-        let own = self.reading.enter(alloc, line, Address::of(room))?;
+        let mut own = Some(Address::of(room));
+        self.reading.enter(alloc, line, &mut own)?;
         push_line_at(alloc, &mut self.units, own, line.expr())?;
         self.newlines.push(Newline::of(line))?;
         Ok(())

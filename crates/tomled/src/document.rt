@@ -54,7 +54,8 @@ pub fn judge(alloc: Global, file: &[u8], profile: Profile) -> Result<(), Ending>
     Ok(())
 }
 
-/// The addresses that a document of the profile mentions, each once, or why the bytes are none.
+/// The addresses that a document of the profile mentions, each once, or why the bytes are none. What they name stays in memory, as
+/// in `judge`.
 #[tactic(auto, using(crate::proofs::Judged::no_reading, crate::proofs::Judged::numbered))]
 pub fn read_mentions(alloc: Global, file: &[u8], profile: Profile) -> Result<Vec<Address>, Ending>
     ensures firsts { IfOk result (λ list. IsGoodTextWith profile file.now (λ lines. list.items ≡ first_mentions (named lines))) }
@@ -62,7 +63,10 @@ pub fn read_mentions(alloc: Global, file: &[u8], profile: Profile) -> Result<Vec
 {
     let source = read_source(file)?;
     match mentions_of_text(alloc, source, profile) {
-        Ok(list) => Ok(list),
+        Ok((list, whole)) => {
+            mem::forget(whole);
+            Ok(list)
+        }
         Err(fault) => Err(read_ending(fault)),
     }
 }

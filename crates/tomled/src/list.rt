@@ -10,6 +10,7 @@ use crate::ending::Ending;
 use crate::outcome::Outcome;
 use serde_json::Value;
 use std::alloc::{AllocError, Global};
+use std::mem;
 use toml_names::{Address, Step};
 use toml_tree::Profile;
 
@@ -21,7 +22,7 @@ pub fn run_list(alloc: Global, file: &[u8]) -> Result<Outcome, AllocError>
 }
 
 /// Prints the distinct addresses of the mentions of a document of the profile in the order of their first mentions, and else
-/// its refusal.
+/// its refusal. What was read stays in memory, for a program that ends with it.
 pub fn run_list_in(alloc: Global, file: &[u8], profile: Profile) -> Result<Outcome, AllocError>
     ensures { IfOk result (Lists profile file.now) }
 {
@@ -34,7 +35,9 @@ fn listed(alloc: Global, file: &[u8], profile: Profile) -> Result<Vec<u8>, Endin
     ensures refused { IfErr result (Ends (IsRefused profile file.now)) }
 {
     let mentions = read_mentions(alloc, file, profile)?;
-    Ok(lines(alloc, &mentions)?)
+    let text = lines(alloc, &mentions)?;
+    mem::forget(mentions);
+    Ok(text)
 }
 
 /// A line for each address.

@@ -1,5 +1,5 @@
 -- What the names of lines that are let go stand for, and what they answer to one more line.
-use Rattle.std.specs.Prelude.{◌≡◌, ◌↔◌, ◌∷◌, ◌++◌, ℕ, Bool, IsTrue, List, [], length, Option, option_map, Result, Ok, Err}
+use Rattle.std.specs.Prelude.{◌≡◌, ◌↔◌, ◌∷◌, ◌++◌, ℕ, Bool, true, false, IsTrue, List, [], length, Option, Some, None, option_map, Result, Ok, Err}
 use Rattle.toml_tree.specs.Tree.{Line}
 use Rattle.toml_names.specs.declared.fault.NameFault.{NameFault}
 use Rattle.toml_names.specs.declared.line_names.LineNames.{LineNames as Names}
@@ -32,10 +32,15 @@ abbrev pub Takes : List Line → Line → Names → Result (Unit {0}) NameFault 
 Takes lines l names (Ok _) = StandFor names (lines ++ l ∷ [])
 Takes lines l names (Err fault) = RefusesNames (lines ++ l ∷ []) fault
 
--- the same, and the address is that of what the line stands for
-abbrev pub TakesAt : List Line → Line → Names → Result (Option Address) NameFault → Type 0
-TakesAt lines l names (Ok at) = StandFor names (lines ++ l ∷ []) × (at ≡ own_address (named lines) l.expr)
-TakesAt lines l names (Err fault) = RefusesNames (lines ++ l ∷ []) fault
+-- the address is that of what the line stands for, if it has one, and else it stays
+abbrev pub IsTold : Option Address → Address → Address → Bool → Type 0
+IsTold own old here true = own ≡ Some here
+IsTold own old here false = (own ≡ None) × (here ≡ old)
+
+-- the same as taken, and the address is told
+abbrev pub TakesAt : List Line → Line → Address → Names → Address → Result Bool NameFault → Type 0
+TakesAt lines l old names here (Ok told) = StandFor names (lines ++ l ∷ []) × IsTold (own_address (named lines) l.expr) old here told
+TakesAt lines l old names here (Err fault) = RefusesNames (lines ++ l ∷ []) fault
 
 -- the line was entered, and this is the node of what it stands for
 pub record IsEntered (lines : List Line) (l : Line) (names : Names) (node : Option ℕ) : Type 0 where

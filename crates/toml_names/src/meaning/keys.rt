@@ -3,7 +3,7 @@ ghost use Rattle.std.specs.Cow.{cow_str_bytes};
 ghost use Rattle.std.specs.Prelude.{◌≡◌, IfOk, OnOk};
 ghost use Rattle.toml_tree.specs.View.{key as tree_key, value};
 ghost use Rattle.toml_names.specs.model.Addresses.{below};
-ghost use Rattle.toml_names.specs.mentions.Keys.{spelled_name, key_names};
+ghost use Rattle.toml_names.specs.mentions.Keys.{spelled_name, key_names, rest_names};
 ghost use Rattle.toml_names.specs.mentions.Mentions.{kind_of};
 ghost use Rattle.toml_names.specs.mentions.View.{kind};
 
@@ -45,11 +45,10 @@ pub(crate) fn own_name(alloc: Global, text: &str) -> Result<Name, AllocError>
     Name::spelled(alloc, name.as_str())
 }
 
-/// Goes down to where a whole key leads from the table at the address.
-fn follow(alloc: Global, at: &mut Address, key: &Key) -> Result<(), AllocError>
-    ensures { OnOk result (at.new ≡ below at.old (key_names (tree_key key.now))) }
+/// Goes down to where the parts of a key behind its first one lead.
+fn follow_rest(alloc: Global, at: &mut Address, key: &Key) -> Result<(), AllocError>
+    ensures { OnOk result (at.new ≡ below at.old (rest_names (tree_key key.now).rest)) }
 {
-    at.push(Step::Name(own_name(alloc, key.first.text)?))?;
     for dotted in &key.rest {
         at.push(Step::Name(own_name(alloc, dotted.part.text)?))?;
     }
@@ -62,7 +61,8 @@ pub fn key_address(alloc: Global, at: &Address, key: &Key) -> Result<Address, Al
 {
     let room = key.rest.len().saturating_add(1);
     let mut here = Address::of(at.copy_steps(alloc, room)?);
-    follow(alloc, &mut here, key)?;
+    here.push(Step::Name(own_name(alloc, key.first.text)?))?;
+    follow_rest(alloc, &mut here, key)?;
     Ok(here)
 }
 
@@ -76,6 +76,7 @@ pub fn set_to_key(
 ) -> Result<(), AllocError>
     ensures { OnOk result (here.new ≡ below at.now (key_names (tree_key key.now))) }
 {
-    here.set_to(at)?;
-    follow(alloc, here, key)
+    let first = spelled_name(alloc, key.first.text)?;
+    here.set_to_child(alloc, at, first.as_str())?;
+    follow_rest(alloc, here, key)
 }

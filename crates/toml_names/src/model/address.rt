@@ -1,5 +1,5 @@
 //! Addresses: where a thing stands in the data, as a list of steps.
-ghost use Rattle.std.specs.Prelude.{◌≡◌, ◌≤◌, ◌∷◌, ◌++◌, [], IfOk, OnOk, length, take};
+ghost use Rattle.std.specs.Prelude.{◌≡◌, ◌≤◌, ◌<◌, ◌∷◌, ◌++◌, [], IfOk, IsTrue, List, OnOk, length, take};
 ghost use Rattle.toml_names.specs.model.Addresses.{same_step};
 
 use crate::model::name::Name;
@@ -51,6 +51,21 @@ impl Step {
     }
 }
 
+impl Step {
+    ghost use Rattle.toml_names.specs.declared.model.address.Step.TheVariants.{Name as ByName};
+
+    /// Makes it a name, in place if it was one.
+    fn set_to_name(&mut self, alloc: Global, text: &str) -> Result<(), AllocError>
+        ensures { OnOk result (self.new ≡ ByName text.now) }
+    {
+        if let Step::Name(name) = self {
+            return name.set_to(alloc, text);
+        }
+        *self = Step::Name(Name::spelled(alloc, text)?);
+        Ok(())
+    }
+}
+
 /// Adds copies of the steps.
 fn push_copies(steps: &mut Vec<Step>, more: &[Step]) -> Result<(), AllocError>
     ensures { OnOk result (steps.new.items ≡ steps.old.items ++ more.now) }
@@ -77,6 +92,7 @@ fn shared_len(one: &[Step], other: &[Step]) -> usize
 }
 
 impl Address {
+    ghost use Rattle.toml_names.specs.declared.model.address.Step.{Step as AnyStep};
     ghost use Rattle.toml_names.specs.model.Addresses.{child, element, is_above, same_address};
 
     /// The steps from the root.
@@ -129,6 +145,14 @@ impl Address {
         push_copies(steps, &other.steps[shared..])
     }
 
+    /// Goes up to the root.
+    pub(crate) fn clear(&mut self)
+        ensures { self.new ≡ [] }
+    {
+        let steps = &mut self.steps;
+        steps.clear();
+    }
+
     /// Goes one step down.
     pub(crate) fn push(&mut self, step: Step) -> Result<(), AllocError>
         ensures { OnOk result (self.new ≡ self.old ++ step ∷ []) }
@@ -161,6 +185,41 @@ impl Address {
     {
         self.set_to(array)?;
         self.push(Step::Index(index))
+    }
+
+    /// Whether it is seen to be one step below the other.
+    fn is_child_of(&self, other: &Address) -> bool
+        ensures { IsTrue result → (s : AnyStep) × (self.now ≡ other.now ++ s ∷ []) }
+    {
+        let fronts = self.steps.len().saturating_sub(1);
+        fronts == other.steps.len() && other.is_above(self)
+    }
+
+    /// Makes its last step a name.
+    fn set_last(&mut self, alloc: Global, text: &str) -> Result<(), AllocError>
+        requires { 0 < length self.old }
+        ensures { (q : List AnyStep) (s : AnyStep) → self.old ≡ q ++ s ∷ [] → OnOk result (self.new ≡ child q text.now) }
+    {
+        let steps = &mut self.steps;
+        let last = steps.len() - 1;
+        steps[last].set_to_name(alloc, text)
+    }
+
+    /// Makes it the address of a name in the table at the other, in its own memory. Most keys stand behind another of their table:
+    /// then the last step alone is changed.
+    pub(crate) fn set_to_child(
+        &mut self,
+        alloc: Global,
+        table: &Address,
+        text: &str,
+    ) -> Result<(), AllocError>
+        ensures { OnOk result (self.new ≡ child table.now text.now) }
+    {
+        if self.is_child_of(table) {
+            return self.set_last(alloc, text);
+        }
+        self.set_to(table)?;
+        self.push(Step::Name(Name::spelled(alloc, text)?))
     }
 
     /// The address of a name in the table at this one.

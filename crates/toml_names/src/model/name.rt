@@ -1,5 +1,5 @@
 //! Names in tables: short ones stand in place, and the copies of a long one share its text.
-ghost use Rattle.std.specs.Prelude.{◌≡◌, IfOk};
+ghost use Rattle.std.specs.Prelude.{◌≡◌, IfOk, OnOk};
 
 use arrayvec::ArrayString;
 use std::alloc::{AllocError, Global};
@@ -58,6 +58,20 @@ impl Name {
         Ok(Name {
             text: NameText::Long(RcStr::from_str(alloc, text)?),
         })
+    }
+
+    /// Makes it the name of a text that is lent, in place if both are short.
+    pub(crate) fn set_to(&mut self, alloc: Global, text: &str) -> Result<(), AllocError>
+        ensures { OnOk result (self.new ≡ text.now) }
+    {
+        if let NameText::Short(short) = &mut self.text {
+            short.clear();
+            if short.try_push_str(text).is_ok() {
+                return Ok(());
+            }
+        }
+        *self = Name::spelled(alloc, text)?;
+        Ok(())
     }
 
     /// The same name. It takes no memory, and is refused only where so many copies share the text that they can't be

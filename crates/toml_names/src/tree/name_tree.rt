@@ -127,15 +127,19 @@ impl<'t> NameTree<'t> {
         self.address_by(&[], id)
     }
 
-    /// The same, made in the memory of an address that is let go.
-    pub(crate) fn address_into(&self, spare: Address, id: usize) -> Result<Address, AllocError>
+    /// Makes an address that of a node, in its own memory. Where memory lacks, nothing is said of it any more.
+    #[cycle(way)]
+    pub(crate) fn set_to_node(&self, here: &mut Address, id: usize) -> Result<(), AllocError>
         requires within { id < vec_len self.now.nodes }
         requires tree { IsTree self.now.nodes.items }
-        ensures { IfOk result (λ a. a ≡ address_at self.now.nodes.items id) }
+        ensures { OnOk result (here.new ≡ address_at self.now.nodes.items id) }
     {
-        let mut room = spare.into_steps();
-        room.clear();
-        self.climb(&[], room, id)
+        let Some((above, step)) = self.above(&[], id)? else {
+            here.clear();
+            return Ok(());
+        };
+        self.set_to_node(here, above)?;
+        here.push(step)
     }
 
     /// The address of a node, of which these steps are the last ones of the first nodes: it shares the texts of their

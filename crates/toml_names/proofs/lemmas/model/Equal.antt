@@ -1,5 +1,5 @@
 -- Addresses that are the same are equal, by their last step too; which address is strictly above which.
-use Rattle.toml_names.proofs.Common.{◌≡◌, true, refl, rules, Decides, pointwise_decides, Step, Address, same_step, same_address, SameStepIsEqual, StepIsSame, common_steps, ℕ, ◌<◌, ◌≤◌, false, ◌&&◌, [], ◌∷◌, length, drop, ap, ◌∙◌, arith, Bool, drop_all, is_above, ◌+◌, List, ◌++◌, length-append, child, element}
+use Rattle.toml_names.proofs.Common.{◌≡◌, true, refl, rules, Decides, pointwise_decides, Step, Address, same_step, same_address, SameStepIsEqual, StepIsSame, common_steps, ℕ, ◌<◌, ◌≤◌, false, ◌&&◌, [], ◌∷◌, length, drop, ap, ◌∙◌, arith, Bool, drop_all, is_above, ◌+◌, List, ◌++◌, ◌-◌, length-append, child, element, IsAbove, slice_set}
 
 pub same_step-equal : SameStepIsEqual
 same_step-equal = search rules
@@ -46,3 +46,13 @@ element_parts p q i j h = grind (arith, common_steps)
 
 pub one_longer : (p : Address) (s : Step) → length (p ++ s ∷ []) ≡ length p + 1
 one_longer p s = length-append p (s ∷ [])
+
+-- what is above another address, and shorter by one step
+pub one_below : (a b : Address) → IsAbove a b → length b - 1 ≡ length a → (s : Step) × (b ≡ a ++ s ∷ [])
+one_below a b (s, [], is) short = (s, is)
+one_below a b (s, t ∷ rest, is) short = absurd (omega (arith, short, ap length is, length-append a (s ∷ t ∷ rest)))
+
+-- another last step
+pub last_set : (q : Address) (s t : Step) → slice_set (q ++ s ∷ []) (length q) t ≡ q ++ t ∷ []
+last_set [] s t = refl
+last_set (r ∷ q) s t = ap (λ p. r ∷ p) (last_set q s t)

@@ -15,3 +15,6 @@ pub returns : goal.returns
 returns c =
     let run = run_is c.args.bytes.now c.split_at.result.0.now c.split_at.result.1.now c.digits_len.result c.digits_len.ensures.run c.split_at.ensures.front c.split_at.ensures.back in
     found_number c.args.bytes.now c.split_at.result.0.now c.split_at.result.1.now run (c.is_plain.ensures.0 c.if-not-is_plain.false) c.in_ok-number.number c.in_ok-number.ensures.0 c.in_ok-number.ensures.1
+
+pub number_of-requires : goal.number_of-requires
+number_of-requires c = (run_is c.args.bytes.now c.split_at.result.0.now c.split_at.result.1.now c.digits_len.result c.digits_len.ensures.run c.split_at.ensures.front c.split_at.ensures.back).are

@@ -6,13 +6,13 @@ returns-in_err-node c = λ lines h.
     let p = err_from_is_err_and c.from_residual.result c.from_residual.ensures.1 in
     rw (p.1, p.2) (c.in_err-node.ensures lines h)
 
-pub address_into-requires-clause-within : goal.address_into-requires-clause-within
-address_into-requires-clause-within c =
+pub set_to_node-requires-clause-within : goal.set_to_node-requires-clause-within
+set_to_node-requires-clause-within c =
     let stand = c.requires.stand in
     let within = subst (λ (o : Option ℕ). IsWithin o c.enter.new.self.tree.nodes.items) c.in-Some.is (c.in_ok-node.ensures stand.0 stand.1).within in
     omega (arith, within)
 
-pub address_into-requires-clause-tree : goal.address_into-requires-clause-tree
-address_into-requires-clause-tree c =
+pub set_to_node-requires-clause-tree : goal.set_to_node-requires-clause-tree
+set_to_node-requires-clause-tree c =
     let stand = c.requires.stand in
     (c.in_ok-node.ensures stand.0 stand.1).stands.keeps.reads.stands.tree

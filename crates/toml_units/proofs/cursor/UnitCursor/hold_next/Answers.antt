@@ -1,4 +1,4 @@
-use Rattle.std.proofs.Common.{◌≡◌, false, Option, Some, None, List, ℕ, refl, subst, arith}
+use Rattle.std.proofs.Common.{◌≡◌, false, [], Option, Some, None, List, ℕ, refl, subst, arith}
 use Rattle.std.proofs.lemmas.Result.{on_ok_weaker}
 use Rattle.std.specs.Borrow.{Bor}
 use Rattle.std.specs.Option.{is_some}
@@ -14,23 +14,20 @@ closed_of (Some o) none = cc
 pub returns-then-is_some : goal.returns-then-is_some
 returns-then-is_some c = λ profile text past s.
     let old = c.args.self.now in
-    let cleared = c.take_spare-spare.new.units.items in
-    on_ok_weaker c.next_item.result
-    (λ more none. came_item profile text past old _ s none cleared c.take_spare-spare.ensures refl refl refl more (omega (arith, c.next_item.new.units.ok.0)))
-    c.next_item.ensures
+    on_ok_weaker c.hold_item.result
+    (λ more none. came_item profile text past old c.hold_item.new.self s none c.hold_item.ensures.place [] refl c.hold_item.ensures.newline c.hold_item.ensures.newlines more (omega (arith, c.hold_item.new.self.units.ok.0)))
+    c.hold_item.ensures.more
 
 pub returns-in-Some : goal.returns-in-Some
 returns-in-Some c = λ profile text past s none.
     let old = c.args.self.now in
-    let cleared = c.take_spare-spare.new.units.items in
-    let hands = λ (o : Option (Bor (List ℕ))). Hands profile text s.lines old.reading cleared c.next.new.self c.next.new.units.items o in
-    came profile text past old _ s none cleared c.take_spare-spare.ensures refl (closed_of old.reading.opened c.if-is_some.ensures)
+    let hands = λ (o : Option (Bor (List ℕ))). Hands profile text s.lines old.reading c.next.new.self c.next.new.units.items o in
+    came profile text past old _ s none refl (closed_of old.reading.opened c.if-is_some.ensures)
     (subst hands c.in-Some.is (c.in_ok-newline.ensures profile text s.lines s.read)) (omega (arith, c.next.new.units.ok.0))
 
-pub returns-in_default : goal.returns-in_default
-returns-in_default c = λ profile text past s none.
+pub returns-in-None : goal.returns-in-None
+returns-in-None c = λ profile text past s none.
     let old = c.args.self.now in
-    let cleared = c.take_spare-spare.new.units.items in
-    let hands = λ (o : Option (Bor (List ℕ))). Hands profile text s.lines old.reading cleared c.next.new.self c.next.new.units.items o in
-    stayed profile text past old _ s none cleared c.take_spare-spare.ensures refl (closed_of old.reading.opened c.if-is_some.ensures)
-    (subst hands c.in_default.is (c.in_ok-newline.ensures profile text s.lines s.read))
+    let hands = λ (o : Option (Bor (List ℕ))). Hands profile text s.lines old.reading c.next.new.self c.next.new.units.items o in
+    stayed profile text past old _ s none refl (closed_of old.reading.opened c.if-is_some.ensures)
+    (subst hands c.in-None.is (c.in_ok-newline.ensures profile text s.lines s.read)) c.clear.ensures.items

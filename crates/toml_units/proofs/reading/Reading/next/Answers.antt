@@ -1,69 +1,23 @@
-use Rattle.std.proofs.Common.{Option, [], ◌∷◌, ◌++◌, refl, ap, subst, ◌∙◌}
-use Rattle.toml_names.specs.model.Addresses.{Address}
-use Rattle.toml_tree.specs.HandedOut.{left}
-use Rattle.toml_tree.specs.Lines.{line as tree_line}
-use Rattle.toml_tree.specs.Tree.{Expr}
-use Rattle.toml_tree.specs.View.{expr}
-use Rattle.toml_units.specs.Arrays.{Begins}
-use Rattle.toml_units.specs.Opened.{rest_of}
-use Rattle.toml_names.specs.declared.fault.ReadFault.TheVariants.{Syntax}
-use Rattle.toml_names.proofs.Proved.{refused_text}
-use Rattle.toml_units.proofs.ReadLines.{all_added, handed, is_over, own_added, passes, stood}
+use Rattle.std.proofs.Common.{ℕ, List, sym, subst}
+use Rattle.std.specs.Prelude.{IfOk}
+use Rattle.toml_tree.specs.Tree.{Line}
+use Rattle.toml_tree.specs.declared.profile.Profile.{Profile}
+use Rattle.toml_units.specs.Reading.{HasEnteredText, Hands, with_left}
+use Rattle.toml_units.specs.declared.reading.Left.{Left}
+use Rattle.toml_units.specs.declared.reading.Reading.{Reading}
+use Rattle.toml_units.proofs.ReadLines.{still, stood}
 use Rattle.toml_units.proofs.reading.Reading.next.Goals as goal
 
-pub refuse_names-requires : goal.refuse_names-requires
-refuse_names-requires c =
+pub hold_read-requires-clause-goes : goal.hold_read-requires-clause-goes
+hold_read-requires-clause-goes c =
+    let self = c.args.self.now in
     let went = c.requires.goes in
-    let out = stood went.0 went.1 went.2 c.args.self.now c.in-Lines.reader c.in-Lines.is went.3 in
-    let passed = passes went.0 went.1 went.2 (left c.in-Lines.reader) c.in-Ok.line c.in-Ok.more (c.in-Ok.ensures.hands went.0 went.1 went.2 out.1) in
-    (went.0, went.1, went.2 ++ tree_line c.in-Ok.line ∷ [], passed.0)
-
-pub returns-in_default-array : goal.returns-in_default-array
-returns-in_default-array c = λ profile text lines read.
-    let self = c.args.self.now in
-    let l = c.in-Ok.line in
-    let mid = c.enter.new.self in
-    let old = c.args.units.now.items in
-    let new = c.push_first.new.units.items in
-    let own = c.in-Ok-enter.own in
-    let out = stood profile text lines self c.in-Lines.reader c.in-Lines.is read in
-    let entered = out.0.entered in
-    let names = c.in-Ok-enter.ensures.names lines (record { names = entered.names; section_is = entered.section_is; few = entered.few }) in
-    let begins = subst (λ (e : Expr). Begins old new own e c.in_ok-array-in-Ok-enter.array) c.expr.ensures c.in_ok-array-in-Ok-enter.ensures in
-    let added = subst (λ (o : Option Address). Begins old new own (expr l.expr) o) c.in_default-array.is begins in
-    handed profile text lines self c.in-Lines.reader c.in-Lines.is read l c.in-Ok.more mid _ old new own _ (c.in-Ok.ensures.hands profile text lines out.1) names
-    (all_added old new own (expr l.expr) mid.opened added.0 (c.in-Ok-enter.ensures.opened ∙ c.requires.closed)) (ap (λ p. p.text) c.newline.ensures) refl refl c.left_of-self.ensures
-
-pub returns-in-Ok-enter : goal.returns-in-Ok-enter
-returns-in-Ok-enter c = λ profile text lines read.
-    let self = c.args.self.now in
-    let l = c.in-Ok.line in
-    let mid = c.enter.new.self in
-    let old = c.args.units.now.items in
-    let new = c.push_first.new.units.items in
-    let own = c.in-Ok-enter.own in
-    let out = stood profile text lines self c.in-Lines.reader c.in-Lines.is read in
-    let entered = out.0.entered in
-    let names = c.in-Ok-enter.ensures.names lines (record { names = entered.names; section_is = entered.section_is; few = entered.few }) in
-    let begins = subst (λ (e : Expr). Begins old new own e c.in_ok-array-in-Ok-enter.array) c.expr.ensures c.in_ok-array-in-Ok-enter.ensures in
-    let added = subst (λ (o : Option Address). Begins old new own (expr l.expr) o) c.in-Some.is begins in
-    handed profile text lines self c.in-Lines.reader c.in-Lines.is read l c.in-Ok.more mid _ old new own _ (c.in-Ok.ensures.hands profile text lines out.1) names
-    (own_added old new own (expr l.expr) c.in-Some.at (rest_of c.of.result) added.0 added.1.0 c.of.ensures) (ap (λ p. p.text) c.newline.ensures) refl refl c.left_of-self.ensures
-
-pub returns-in-Ok : goal.returns-in-Ok
-returns-in-Ok c = λ profile text lines read.
-    let self = c.args.self.now in
-    let l = tree_line c.in-Ok.line in
-    let out = stood profile text lines self c.in-Lines.reader c.in-Lines.is read in
-    let entered = out.0.entered in
-    let refused = c.in-Err-enter.ensures.names lines (record { names = entered.names; section_is = entered.section_is; few = entered.few }) in
-    let passed = passes profile text lines (left c.in-Lines.reader) c.in-Ok.line c.in-Ok.more (c.in-Ok.ensures.hands profile text lines out.1) in
-    is_over profile text lines self c.enter.new.self _ _ c.in-Err-enter.ensures.left
-    (refused_text profile text c.refuse_names.result c.in_ok-told-in-Err-enter.ensures.says (c.refuse_names.ensures profile text (lines ++ l ∷ []) passed.0 refused))
-    (c.in-Err-enter.ensures.opened ∙ c.requires.closed) refl
+    let out = stood went.0 went.1 went.2 self c.in-Lines.reader c.in-Lines.is went.3 in
+    (went.0, went.1, went.2, c.in-Lines.reader, (still went.0 went.1 went.2 self _ out.0, out.1, c.next.ensures.hands))
 
 pub returns : goal.returns
 returns c = λ profile text lines read.
-    let out = stood profile text lines c.args.self.now c.in-Lines.reader c.in-Lines.is read in
-    is_over profile text lines c.args.self.now _ _ _ refl
-    (refused_text profile text (Syntax c.in-Err.fault) c.in_ok-told-in-Err.ensures.says (c.in-Err.ensures.hands profile text lines out.1)) c.requires.closed refl
+    let self = c.args.self.now in
+    let out = stood profile text lines self c.in-Lines.reader c.in-Lines.is read in
+    subst (λ (left : Left). IfOk c.hold_read.result (Hands profile text lines (with_left self left) c.hold_read.new.self c.hold_read.new.units.items)) (sym c.in-Lines.is)
+    (c.hold_read.ensures profile text lines c.in-Lines.reader (still profile text lines self _ out.0, out.1, c.next.ensures.hands))
