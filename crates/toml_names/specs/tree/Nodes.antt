@@ -78,6 +78,10 @@ addresses = addresses_from []
 abbrev pub address_at : List Spot → ℕ → Address
 address_at nodes k = slice_index_or (addresses nodes) k []
 
+-- the address begins with that of the node
+abbrev pub BeginsAt : List Spot → ℕ → Address → Type 0
+BeginsAt nodes id at = take (length (address_at nodes id)) at ≡ address_at nodes id
+
 -- the first place of an address
 abbrev pub place_of : Address → List Address → Option ℕ
 place_of at [] = None

@@ -1,5 +1,5 @@
 //! Addresses: where a thing stands in the data, as a list of steps.
-ghost use Rattle.std.specs.Prelude.{◌≡◌, ◌≤◌, ◌<◌, ◌∷◌, ◌++◌, [], IfOk, IsTrue, List, OnOk, length, take};
+ghost use Rattle.std.specs.Prelude.{◌≡◌, ◌≤◌, ◌<◌, ◌+◌, ◌∷◌, ◌++◌, [], IfOk, IsTrue, List, OnOk, length, take};
 ghost use Rattle.toml_names.specs.model.Addresses.{same_step};
 
 use crate::model::name::Name;
@@ -145,12 +145,42 @@ impl Address {
         push_copies(steps, &other.steps[shared..])
     }
 
-    /// Goes up to the root.
-    pub(crate) fn clear(&mut self)
-        ensures { self.new ≡ [] }
+    /// Goes up, so that this many steps are left.
+    pub(crate) fn truncate(&mut self, depth: usize)
+        ensures { self.new ≡ take depth self.old }
     {
         let steps = &mut self.steps;
-        steps.clear();
+        steps.truncate(depth);
+    }
+
+    /// Makes the step at the depth a name, in place if there is one; those behind it stay.
+    pub(crate) fn put_name(
+        &mut self,
+        alloc: Global,
+        depth: usize,
+        text: &str,
+    ) -> Result<(), AllocError>
+        requires { depth ≤ length self.old }
+        ensures { OnOk result (take (depth + 1) self.new ≡ child (take depth self.old) text.now) }
+    {
+        if depth < self.steps.len() {
+            let steps = &mut self.steps;
+            return steps[depth].set_to_name(alloc, text);
+        }
+        self.push(Step::Name(Name::spelled(alloc, text)?))
+    }
+
+    /// Makes the step at the depth an index, in place if there is one; those behind it stay.
+    pub(crate) fn put_index(&mut self, depth: usize, index: u64) -> Result<(), AllocError>
+        requires { depth ≤ length self.old }
+        ensures { OnOk result (take (depth + 1) self.new ≡ element (take depth self.old) index) }
+    {
+        if depth < self.steps.len() {
+            let steps = &mut self.steps;
+            steps[depth] = Step::Index(index);
+            return Ok(());
+        }
+        self.push(Step::Index(index))
     }
 
     /// Goes one step down.

@@ -8,7 +8,7 @@ ghost use Rattle.toml_names.specs.mentions.Local.{role_after};
 ghost use Rattle.toml_names.specs.mentions.Mentions as mentions;
 ghost use Rattle.toml_names.specs.mentions.Mentions.{is_tables};
 ghost use Rattle.toml_names.specs.tree.NameTree.{HasNoElements, IsAbsent, IsFound, IsTree, IsTreeOf, LeadsBy, root_as};
-ghost use Rattle.toml_names.specs.tree.Nodes.{Spot, AreSteps, IsNotedOnce, address_at, last_step, reverted, undone};
+ghost use Rattle.toml_names.specs.tree.Nodes.{Spot, AreSteps, BeginsAt, IsNotedOnce, address_at, last_step, reverted, undone};
 ghost use Rattle.toml_names.specs.tree.Steps.{GoesOn, Grows, IsBarred, IsNode, IsNoted, Steps};
 ghost use Rattle.toml_names.specs.mentions.View.{kind as kind_of};
 
@@ -128,18 +128,35 @@ impl<'t> NameTree<'t> {
     }
 
     /// Makes an address that of a node, in its own memory. Where memory lacks, nothing is said of it any more.
-    #[cycle(way)]
     pub(crate) fn set_to_node(&self, here: &mut Address, id: usize) -> Result<(), AllocError>
         requires within { id < vec_len self.now.nodes }
         requires tree { IsTree self.now.nodes.items }
         ensures { OnOk result (here.new ≡ address_at self.now.nodes.items id) }
     {
-        let Some((above, step)) = self.above(&[], id)? else {
-            here.clear();
-            return Ok(());
-        };
-        self.set_to_node(here, above)?;
-        here.push(step)
+        self.set_fronts(here, id)?;
+        here.truncate(self.nodes[id].depth());
+        Ok(())
+    }
+
+    /// Makes the first steps of an address those of a node; those behind them stay.
+    #[cycle(way)]
+    fn set_fronts(&self, here: &mut Address, id: usize) -> Result<(), AllocError>
+        requires within { id < vec_len self.now.nodes }
+        requires tree { IsTree self.now.nodes.items }
+        ensures { OnOk result (BeginsAt self.now.nodes.items id here.new) }
+    {
+        match self.nodes[id].under() {
+            Under::Root => Ok(()),
+            Under::Name(above, text) => {
+                self.set_fronts(here, above)?;
+                let name = spelled_name(self.alloc, text)?;
+                here.put_name(self.alloc, self.nodes[above].depth(), name.as_str())
+            }
+            Under::Index(above, index) => {
+                self.set_fronts(here, above)?;
+                here.put_index(self.nodes[above].depth(), index)
+            }
+        }
     }
 
     /// The address of a node, of which these steps are the last ones of the first nodes: it shares the texts of their

@@ -1,5 +1,6 @@
 -- Addresses that are the same are equal, by their last step too; which address is strictly above which.
-use Rattle.toml_names.proofs.Common.{◌≡◌, true, refl, rules, Decides, pointwise_decides, Step, Address, same_step, same_address, SameStepIsEqual, StepIsSame, common_steps, ℕ, ◌<◌, ◌≤◌, false, ◌&&◌, [], ◌∷◌, length, drop, ap, ◌∙◌, arith, Bool, drop_all, is_above, ◌+◌, List, ◌++◌, ◌-◌, length-append, child, element, IsAbove, slice_set}
+use Rattle.toml_names.proofs.Common.{◌≡◌, true, refl, rules, Decides, pointwise_decides, Step, Address, same_step, same_address, SameStepIsEqual, StepIsSame, common_steps, ℕ, ◌<◌, ◌≤◌, false, ◌&&◌, [], ◌∷◌, length, drop, ap, ◌∙◌, arith, Bool, drop_all, is_above, ◌+◌, List, ◌++◌, ◌-◌, length-append, child, element, IsAbove, slice_set, take, sym, suc, zero}
+use Rattle.std.proofs.lemmas.List.{take_all}
 
 pub same_step-equal : SameStepIsEqual
 same_step-equal = search rules
@@ -56,3 +57,21 @@ one_below a b (s, t ∷ rest, is) short = absurd (omega (arith, short, ap length
 pub last_set : (q : Address) (s t : Step) → slice_set (q ++ s ∷ []) (length q) t ≡ q ++ t ∷ []
 last_set [] s t = refl
 last_set (r ∷ q) s t = ap (λ p. r ∷ p) (last_set q s t)
+
+-- an address with a step put at a depth
+pub step_set : (at : Address) (depth : ℕ) (s : Step) → depth < length at → take (depth + 1) (slice_set at depth s) ≡ take depth at ++ s ∷ []
+step_set [] depth s low = absurd (omega (arith, low))
+step_set (t ∷ at) zero s low = refl
+step_set (t ∷ at) (suc depth) s low =
+    let one : suc depth + 1 ≡ suc (depth + 1) = omega arith in
+    ap (λ n. take n (t ∷ slice_set at depth s)) one ∙ ap (λ p. t ∷ p) (step_set at depth s (omega (arith, low)))
+
+pub step_pushed : (at : Address) (depth : ℕ) (s : Step) → depth ≡ length at → take (depth + 1) (at ++ s ∷ []) ≡ take depth at ++ s ∷ []
+step_pushed at depth s is =
+    take_all (depth + 1) (at ++ s ∷ []) (omega (arith, is, length-append at (s ∷ []))) ∙ ap (λ p. p ++ s ∷ []) (sym (take_all depth at (omega (arith, is))))
+
+-- what is as long as a front fits
+pub front_fits : (n : ℕ) (at : Address) → length (take n at) ≡ n → n ≤ length at
+front_fits zero at h = omega arith
+front_fits (suc n) [] h = absurd (omega (arith, h))
+front_fits (suc n) (s ∷ at) h = let more = front_fits n at (omega (arith, h)) in omega (arith, more)

@@ -1,4 +1,4 @@
-use Rattle.toml_names.proofs.Common.{◌≡◌, ◌+◌, ◌-◌, [], ◌∷◌, ◌++◌, length, length-append, slice_set, sym, ap, ap₂, ◌∙◌, arith}
+use Rattle.toml_names.proofs.Common.{◌≡◌, ◌-◌, [], ◌∷◌, ◌++◌, length, length-append, slice_set, ap, ap₂, ◌∙◌, arith}
 use Rattle.std.proofs.lemmas.Result.{on_ok_weaker}
 use Rattle.toml_names.proofs.lemmas.model.Equal.{last_set}
 use Rattle.toml_names.proofs.model.address.Address.set_last.Goals as goal
