@@ -1,5 +1,5 @@
 -- What the steps at a depth are when one is put in.
-use Rattle.std.proofs.Common.{◌≡◌, ℕ, List, Option, Some, Bool, true, false, cond, ◌||◌, Bor, bytes_eq, nat_cmp, ap, sym, ◌∙◌}
+use Rattle.std.proofs.Common.{◌≡◌, ℕ, List, Some, Bool, cond, Bor, bytes_eq, nat_cmp, ap, sym, ◌∙◌}
 use Rattle.std.specs.BTreeMap.{BTreeMap, get_by}
 use Rattle.std.specs.Cmp.Lexicographic.{slice_cmp}
 use Rattle.toml_names.specs.declared.model.address.Step.{Step}

@@ -14,6 +14,7 @@ use Rattle.toml_checker.specs.Levels.{way}
 use Rattle.toml_checker.specs.Plain.{is_at_or_above}
 use Rattle.toml_checker.specs.Sides.{side}
 
+-- whether an area ends at the step, among those of a depth, if there are any
 abbrev pub way_of : Option Level → Step → Option Bool
 way_of None t = None
 way_of (Some level) t = way level t
@@ -76,7 +77,7 @@ abbrev pub Has : Bool → Option Bool → Type 0
 Has true there = there ≡ Some true
 Has false there = IsSome there
 
--- so it is at each depth
+-- each step of each depth stays so
 abbrev pub Rise : List Level → List Level → Type 0
 Rise old new = (depth : ℕ) (t : Step) → Rises (way_at old depth t) (way_at new depth t)
 

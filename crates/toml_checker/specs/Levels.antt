@@ -1,5 +1,5 @@
 -- Which steps areas have at one depth, and whether one ends there.
-use Rattle.std.specs.Prelude.{◌≡◌, Bool, true, false, cond, ◌||◌, Option, Some, None}
+use Rattle.std.specs.Prelude.{◌≡◌, Bool, false, cond, ◌||◌, Option, Some, None}
 use Rattle.std.specs.BTreeMap.{get_by}
 use Rattle.std.specs.Cmp.Lexicographic.{slice_cmp}
 use Rattle.std.specs.Ordering.{nat_cmp}
@@ -8,10 +8,12 @@ use Rattle.toml_names.specs.declared.model.address.Step.TheVariants.{Name, Index
 use Rattle.toml_names.specs.model.Addresses.{same_step}
 use Rattle.toml_checker.specs.declared.levels.Level.{Level}
 
+-- whether an area ends at the step, where one has it
 abbrev pub way : Level → Step → Option Bool
 way level (Name n) = get_by (λ k. slice_cmp nat_cmp n k.now) level.names
 way level (Index i) = get_by (nat_cmp i) level.indices
 
+-- one does
 abbrev pub ends_at : Option Bool → Bool
 ends_at None = false
 ends_at (Some ends) = ends

@@ -1,4 +1,5 @@
-//! Which addresses are seen by their steps to be apart from all that edits touch, without asking each edit.
+//! Which addresses are seen by their steps to be apart from all that edits touch, or to have none of it at them or above, without
+//! asking each edit.
 ghost use Rattle.std.specs.Prelude.{◌≡◌, ◌≤◌, [], IfOk, OnOk, map, vec_len};
 ghost use Rattle.toml_edits.specs.Edits.{change};
 ghost use Rattle.toml_checker.specs.Areas.{area, whole_of};

@@ -24,8 +24,9 @@ pub(crate) enum Sight {
 
 impl<'e> EditList<'e> {
     /// A sight of the unit: that it is so is proved, that it is the most telling one is not. The run of the unit is made, if there
-    /// is one, where it has an address that the last run does not cover and of which the steps show nothing; else the last run stays. None is made at the array of the last run, or above
-    /// that: comments between elements do not have the edits gone through.
+    /// is one, where it has an address that the last run does not cover and of which the steps show nothing; else the last run
+    /// stays. None is made at the array of the last run, or above that: comments between elements do not have the edits gone
+    /// through.
     pub(crate) fn come_to(&mut self, unit: &Unit) -> Sight
         ensures edits { self.new.edits.now ≡ self.old.edits.now }
         ensures sight { HasSight self.new unit.now.address result }

@@ -153,7 +153,7 @@ impl Address {
         steps.truncate(depth);
     }
 
-    /// Makes the step at the depth a name, in place if there is one; those behind it stay.
+    /// Makes the step at the depth a name, in place if there is one. Of those behind it nothing is said.
     pub(crate) fn put_name(
         &mut self,
         alloc: Global,
@@ -170,7 +170,7 @@ impl Address {
         self.push(Step::Name(Name::spelled(alloc, text)?))
     }
 
-    /// Makes the step at the depth an index, in place if there is one; those behind it stay.
+    /// Makes the step at the depth an index, in place if there is one. Of those behind it nothing is said.
     pub(crate) fn put_index(&mut self, depth: usize, index: u64) -> Result<(), AllocError>
         requires { depth ≤ length self.old }
         ensures { OnOk result (take (depth + 1) self.new ≡ element (take depth self.old) index) }

@@ -138,7 +138,7 @@ impl<'t> NameTree<'t> {
         Ok(())
     }
 
-    /// Makes the first steps of an address those of a node; those behind them stay.
+    /// Makes the first steps of an address those of a node. Of those behind them nothing is said.
     #[cycle(way)]
     fn set_fronts(&self, here: &mut Address, id: usize) -> Result<(), AllocError>
         requires within { id < vec_len self.now.nodes }

@@ -1,6 +1,6 @@
-use Rattle.std.proofs.Common.{◌+◌, [], ◌∷◌, ◌++◌, map, take, ap, sym, subst, ◌∙◌, arith}
+use Rattle.std.proofs.Common.{[], ◌∷◌, map, take, ap, sym, subst, ◌∙◌, arith}
 use Rattle.std.proofs.lemmas.List.{map-append, take_all}
-use Rattle.toml_edits.specs.Edits.{Change, change}
+use Rattle.toml_edits.specs.Edits.{change}
 use Rattle.toml_checker.specs.Fronts.{AreFronts, Shows, ShowsSide, lead}
 use Rattle.toml_checker.specs.Sides.{side}
 use Rattle.toml_checker.proofs.CarriedSoFar.{taken}

@@ -1,10 +1,8 @@
-use Rattle.std.proofs.Common.{◌≡◌, ◌+◌, false, List, [], ◌∷◌, ◌++◌, drop, length, refl, sym, subst, ap, arith, ◌∙◌}
+use Rattle.std.proofs.Common.{◌≡◌, ◌+◌, false, [], drop, length, sym, subst, arith, ◌∙◌}
 use Rattle.std.proofs.lemmas.Result.{on_ok_weaker}
-use Rattle.toml_names.specs.declared.model.address.Step.{Step}
-use Rattle.toml_checker.specs.declared.levels.Level.{Level}
 use Rattle.toml_checker.specs.Fronts.{way_at}
 use Rattle.toml_checker.proofs.CarriedSoFar.{dropped, none_left}
-use Rattle.toml_checker.proofs.AreaLeads.{HasArea, adds_area, has_rises, rise_on, rises_on, same_rises}
+use Rattle.toml_checker.proofs.AreaLeads.{HasArea, adds_area, has_rises, rise_on}
 use Rattle.toml_checker.proofs.fronts.Fronts.add.Goals as goal
 
 pub loop-depth-preserved : goal.loop-depth-preserved

@@ -1,4 +1,4 @@
-use Rattle.std.proofs.Common.{◌≡◌, [], ◌∷◌, ◌++◌, inl, inr, Option, Some, None, ap, subst, sym, refl, ◌∙◌}
+use Rattle.std.proofs.Common.{[], ◌∷◌, ◌++◌, inl, inr, Some, ap, subst, sym, ◌∙◌}
 use Rattle.std.proofs.lemmas.Option.{same_Some}
 use Rattle.std.proofs.lemmas.Result.{err_from_is_err_and}
 use Rattle.toml_tree.specs.Lines.{line as tree_line}

@@ -1,10 +1,7 @@
-use Rattle.std.proofs.Common.{ℕ, List, sym, subst}
+use Rattle.std.proofs.Common.{sym, subst}
 use Rattle.std.specs.Prelude.{IfOk}
-use Rattle.toml_tree.specs.Tree.{Line}
-use Rattle.toml_tree.specs.declared.profile.Profile.{Profile}
-use Rattle.toml_units.specs.Reading.{HasEnteredText, Hands, with_left}
+use Rattle.toml_units.specs.Reading.{Hands, with_left}
 use Rattle.toml_units.specs.declared.reading.Left.{Left}
-use Rattle.toml_units.specs.declared.reading.Reading.{Reading}
 use Rattle.toml_units.proofs.ReadLines.{still, stood}
 use Rattle.toml_units.proofs.reading.Reading.next.Goals as goal
 
