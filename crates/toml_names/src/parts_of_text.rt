@@ -1,10 +1,9 @@
 //! A text read line by line, whose data are lent part by part and never built.
 ghost use Rattle.std.specs.Prelude.{◌≡◌, [], IfErr, IfOk, Some};
 ghost use Rattle.toml_text.specs.Source.{text_of};
-ghost use Rattle.toml_names.specs.mentions.FirstMentions.{first_mentions};
 ghost use Rattle.toml_names.specs.mentions.Mentions.{named};
 ghost use Rattle.toml_names.specs.model.Data.{IsDataOf};
-ghost use Rattle.toml_names.specs.reader.Parts.{AreItems, AreMembers, IsPart, part_kinds, plain_members, shape_kind};
+ghost use Rattle.toml_names.specs.reader.Parts.{AreItems, AreMembers, IsPart, TellMentions, part_kinds, plain_members, shape_kind};
 ghost use Rattle.toml_names.specs.reader.Texts.{GoodText, RefusesText};
 
 use crate::fault::ReadFault;
@@ -56,7 +55,7 @@ pub fn mentions_of_text<'t>(
     source: Source<'t>,
     profile: Profile,
 ) -> Result<(Vec<Address>, NamedText<'t>), ReadFault>
-    ensures good { IfOk result (λ r. (it : GoodText profile (text_of source.entry)) × (r.0.items ≡ first_mentions (named it.lines)) × IsDataOf (named it.lines) (part_kinds r.1 0)) }
+    ensures good { IfOk result (λ r. TellMentions profile (text_of source.entry) r.0.items r.1) }
     ensures refused { IfErr result (RefusesText profile (text_of source.entry)) }
 {
     let tree = enter_text(alloc, source, profile)?;

@@ -1,8 +1,8 @@
 -- Lines read one after another, and what all of them give.
-use Rattle.std.proofs.Common.{◌≡◌, Bool, true, false, ℕ, ◌+◌, ◌<◌, ◌≤◌, List, [], ◌∷◌, ◌++◌, length, Option, Some, None, Ok, sym, ap, subst, ◌∙◌, arith, append_assoc}
+use Rattle.std.proofs.Common.{◌≡◌, refl, Bool, true, false, ℕ, ◌+◌, ◌<◌, ◌≤◌, List, [], ◌∷◌, ◌++◌, length, Option, Some, None, Ok, sym, ap, subst, ◌∙◌, arith, append_assoc}
 use Rattle.std.specs.Borrow.{Bor}
 use Rattle.std.proofs.lemmas.List.{append-nil}
-use Rattle.toml_tree.specs.HandedOut.{HandsOn, HandsOut, left}
+use Rattle.toml_tree.specs.HandedOut.{HandsNext, HandsOn, HandsOut, left}
 use Rattle.toml_tree.specs.Lines.{line as tree_line}
 use Rattle.toml_tree.specs.View.{expr}
 use Rattle.toml_tree.specs.Tree.{Blank, BlankLine, Expr, KeyVal, KeyValLine, Line, Piece}
@@ -22,9 +22,9 @@ use Rattle.toml_names.specs.model.Addresses.{Address}
 use Rattle.toml_units.specs.Lined.{lined, lined_from, lined_line}
 use Rattle.toml_units.specs.Opened.{AddsFirst, opened_units}
 use Rattle.toml_units.specs.Plain.{line_span, line_spans, plain_from, plain_units}
-use Rattle.toml_units.specs.Reading.{HasEnteredText, HasEntered, HasNames, HasRead, IsDone, IsHanded, IsLeft, IsOver, left_of, to_read, with_left}
+use Rattle.toml_units.specs.Reading.{Handed, IsReadBehind, HasEnteredText, HasEntered, HasNames, HasRead, IsDone, IsHanded, IsLeft, IsOver, left_of, to_read, with_left}
 use Rattle.toml_names.proofs.Proved.{pairs_leave_alike}
-use Rattle.toml_units.specs.Arrays.{IsOwn}
+use Rattle.toml_units.specs.Arrays.{Begins, IsOwn}
 use Rattle.toml_units.specs.View.{Spanned, all_units}
 use Rattle.toml_units.specs.declared.opened.Opened.{Opened}
 use Rattle.toml_units.proofs.AllLines.{named_from-push}
@@ -109,6 +109,16 @@ module _ (profile : Profile) (text : List ℕ) (lines : List Line) (before : Rea
         kept = λ e. not_refused more (sym now ∙ e);
       }
 
+-- so too where the reader behind the lines handed it out
+module _ (profile : Profile) (text : List ℕ) (lines : List Line) (before : Reading) (by : LineReader) (given : Handed) (at : IsReadBehind profile text lines before by given)
+    (l : declared.Line) (more : Option LineReader) (is : given ≡ Ok (l, more)) where
+  pub read_one : (mid r : Reading) (held : List Made) (own : Option Address) (newline : Bor (List ℕ)) → HasNames lines (tree_line l) mid own
+      → AddsFirst [] held (line_spans own (expr l.expr)) (opened_units r.opened) → newline.now ≡ (tree_line l).newline.text
+      → r.names ≡ mid.names → r.section ≡ mid.section → r.left ≡ left_of more → IsHanded profile text lines (with_left before (Lines by)) r held newline
+  read_one mid r held own newline =
+      handed profile text lines (with_left before (Lines by)) by refl (still profile text lines before (Lines by) at.0, at.1) l more mid r held own newline
+      (subst (HandsNext by) is at.2 profile text lines at.1)
+
 -- the text was refused
 pub is_over : (profile : Profile) (text : List ℕ) (lines : List Line) (before r : Reading) → r.left ≡ Refused
     → ¬ IsDocumentIn profile text → r.opened ≡ None → IsOver profile text lines before r
@@ -145,6 +155,12 @@ pub own_held : (units : List Made) (own : Option Address) (e : Expr) (at : Addre
 own_held units own e at rest h here behind =
     adds_first [] units (line_span own e ∷ []) rest (line_spans own e) h
     (ap (λ p. line_span p e ∷ rest) here ∙ sym behind ∙ ap (λ p. line_spans p e) (sym here)) (omega arith)
+
+-- what was added behind a line's own unit, of an expression that is the same
+pub begun_behind : (first held : List Made) (own : Option Address) (e f : Expr) (told array : Option Address) → e ≡ f → told ≡ array → IsOwn own f first
+    → ((at : Option Address) → IsOwn at e first → Begins held at e told) → Begins held own f array
+begun_behind first held own e f told array same is h begins =
+    subst (Begins held own f) is (subst (λ (x : Expr). Begins held own x told) same (begins own (subst (λ (x : Expr). IsOwn own x first) (sym same) h)))
 
 -- what was read stays where only the opened line changes
 module _ (profile : Profile) (text : List ℕ) (lines : List Line) (before r : Reading) (names : r.names ≡ before.names) (section_is : r.section ≡ before.section) where

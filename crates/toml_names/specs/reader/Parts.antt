@@ -9,9 +9,12 @@ use Rattle.toml_scalar.specs.Values.{scalar_value}
 use Rattle.toml_names.specs.declared.model.address.Step.TheVariants.{Name, Index}
 use Rattle.toml_names.specs.declared.tree.parts.Shape.{Shape}
 use Rattle.toml_names.specs.declared.tree.parts.Shape.TheVariants as shapes
-use Rattle.toml_names.specs.mentions.Mentions.{Kind, a_table, an_array, a_scalar}
+use Rattle.toml_tree.specs.declared.profile.Profile.{Profile}
+use Rattle.toml_names.specs.mentions.FirstMentions.{first_mentions}
+use Rattle.toml_names.specs.mentions.Mentions.{Kind, a_table, an_array, a_scalar, named}
 use Rattle.toml_names.specs.model.Addresses.{Address}
-use Rattle.toml_names.specs.model.Data.{Kinds}
+use Rattle.toml_names.specs.model.Data.{IsDataOf, Kinds}
+use Rattle.toml_names.specs.reader.Texts.{GoodText}
 use Rattle.toml_names.specs.tree.Held.{below_in, below_node}
 use Rattle.toml_names.specs.tree.Nodes.{Spot}
 
@@ -22,6 +25,13 @@ IsPart parts id = id < length parts
 -- what stands at the part, and at each address below it
 abbrev pub part_kinds : List Spot → ℕ → Kinds
 part_kinds = below_node
+
+-- the list has what a document of the profile mentions, each address once, in the order of their first mentions, and the parts are
+-- those of its data
+pub record TellMentions (profile : Profile) (text : List ℕ) (list : List Address) (parts : List Spot) : Type 0 where
+  pub it : GoodText profile text
+  pub mentions : list ≡ first_mentions (named it.lines)
+  pub kinds : IsDataOf (named it.lines) (part_kinds parts 0)
 
 -- the part is there, and its number is greater
 pub record IsBelow (parts : List Spot) (id below : ℕ) : Type 0 where

@@ -8,4 +8,8 @@ pub returns-clause-good : goal.returns-clause-good
 returns-clause-good c =
     let nodes = c.in_ok-tree.tree.nodes.items in
     let s = c.in_ok-tree.ensures.stand in
-    (record { lines = s.lines; are = s.are; good = reader_good s.reads }, c.in_ok-list.ensures (named s.lines) s.reads.stands (joined nodes s.lines s.own s.at s.reads), root_data nodes s.lines s.own s.at s.reads)
+    record {
+      it = record { lines = s.lines; are = s.are; good = reader_good s.reads };
+      mentions = c.in_ok-list.ensures (named s.lines) s.reads.stands (joined nodes s.lines s.own s.at s.reads);
+      kinds = root_data nodes s.lines s.own s.at s.reads;
+    }

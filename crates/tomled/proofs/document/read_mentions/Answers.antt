@@ -14,4 +14,4 @@ returns-in_err-source-clause-refused c =
 pub returns-in-Ok-clause-firsts : goal.returns-in-Ok-clause-firsts
 returns-in-Ok-clause-firsts c =
     subst (λ (bytes : List ℕ). IsText bytes × (it : GoodText c.args.profile bytes) × (c.in-Ok.list.items ≡ first_mentions (named it.lines)))
-    c.in_ok-source.ensures.text (c.in_ok-source.source.is_text, c.in-Ok.ensures.good.0, c.in-Ok.ensures.good.1)
+    c.in_ok-source.ensures.text (c.in_ok-source.source.is_text, c.in-Ok.ensures.good.it, c.in-Ok.ensures.good.mentions)

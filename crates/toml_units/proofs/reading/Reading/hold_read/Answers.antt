@@ -4,7 +4,7 @@ use Rattle.toml_tree.specs.HandedOut.{HandsNext, left}
 use Rattle.toml_tree.specs.Lines.{line as tree_line}
 use Rattle.toml_tree.specs.Tree.{Expr}
 use Rattle.toml_tree.specs.View.{expr}
-use Rattle.toml_units.specs.Arrays.{Begins, IsOwn}
+use Rattle.toml_units.specs.Arrays.{IsOwn}
 use Rattle.toml_units.specs.Opened.{AddsFirst, opened_units}
 use Rattle.toml_units.specs.Plain.{line_spans}
 use Rattle.toml_units.specs.Reading.{IsArrayRead, IsOpened, with_left}
@@ -12,7 +12,7 @@ use Rattle.toml_units.specs.declared.opened.Opened.{Opened}
 use Rattle.toml_units.specs.declared.reading.Left.TheVariants.{Lines}
 use Rattle.toml_names.specs.declared.fault.ReadFault.TheVariants.{Syntax}
 use Rattle.toml_names.proofs.Proved.{refused_text}
-use Rattle.toml_units.proofs.ReadLines.{all_held, begun, handed, is_over, own_held, passes, still}
+use Rattle.toml_units.proofs.ReadLines.{all_held, begun, begun_behind, is_over, own_held, passes, read_one}
 use Rattle.toml_units.proofs.reading.Reading.hold_read.Goals as goal
 
 pub refuse_names-requires : goal.refuse_names-requires
@@ -33,43 +33,28 @@ pub open-requires : goal.open-requires
 open-requires c =
     let went = c.requires.goes in
     let first = c.in-Ok-enter_first.ensures.names went.2 (begun went.0 went.1 went.2 c.args.self.now went.4.0) in
-    let is = subst (λ (e : Expr). IsOwn first.0 e c.enter_first.new.units.items) (sym c.expr.ensures) first.2 in
-    let held = c.push_behind.new.units.items in
-    let begins = subst (λ (e : Expr). Begins held first.0 e c.in_ok-array-in-Ok-enter_first.array) c.expr.ensures (c.in_ok-array-in-Ok-enter_first.ensures first.0 is) in
-    let added = subst (λ (o : Option Address). Begins held first.0 (expr c.in-Ok.read.0.expr) o) c.in-Some.is begins in
+    let added = begun_behind c.enter_first.new.units.items c.push_behind.new.units.items first.0 _ (expr c.in-Ok.read.0.expr) _ _ c.expr.ensures c.in-Some.is first.2 c.in_ok-array-in-Ok-enter_first.ensures in
     subst IsArrayRead (sym c.in-Ok.is) added.1.1
 
 pub returns-in_default : goal.returns-in_default
 returns-in_default c = λ profile text lines by at.
-    let before = with_left c.args.self.now (Lines by) in
     let l = c.in-Ok.read.0 in
     let mid = c.enter_first.new.self in
     let held = c.push_behind.new.units.items in
-    let entered = begun profile text lines c.args.self.now at.0 in
-    let first = c.in-Ok-enter_first.ensures.names lines entered in
-    let is = subst (λ (e : Expr). IsOwn first.0 e c.enter_first.new.units.items) (sym c.expr.ensures) first.2 in
-    let begins = subst (λ (e : Expr). Begins held first.0 e c.in_ok-array-in-Ok-enter_first.array) c.expr.ensures (c.in_ok-array-in-Ok-enter_first.ensures first.0 is) in
-    let added = subst (λ (o : Option Address). Begins held first.0 (expr l.expr) o) c.in_default.is begins in
-    handed profile text lines before by refl (still profile text lines c.args.self.now (Lines by) at.0, at.1) l c.in-Ok.read.1 mid _ held first.0 _
-    (subst (HandsNext by) c.in-Ok.is at.2 profile text lines at.1) first.1
+    let first = c.in-Ok-enter_first.ensures.names lines (begun profile text lines c.args.self.now at.0) in
+    let added = begun_behind c.enter_first.new.units.items held first.0 _ (expr l.expr) _ _ c.expr.ensures c.in_default.is first.2 c.in_ok-array-in-Ok-enter_first.ensures in
+    read_one profile text lines c.args.self.now by c.args.handed at l c.in-Ok.read.1 c.in-Ok.is mid _ held first.0 _ first.1
     (all_held held first.0 (expr l.expr) mid.opened added.0 (c.in-Ok-enter_first.ensures.opened ∙ c.requires.closed)) (ap (λ p. p.text) c.newline.ensures) refl refl c.left_of-self.ensures
 
 pub returns : goal.returns
 returns c = λ profile text lines by at.
-    let before = with_left c.args.self.now (Lines by) in
     let l = c.in-Ok.read.0 in
-    let mid = c.enter_first.new.self in
-    let held = c.push_behind.new.units.items in
-    let entered = begun profile text lines c.args.self.now at.0 in
-    let first = c.in-Ok-enter_first.ensures.names lines entered in
-    let is = subst (λ (e : Expr). IsOwn first.0 e c.enter_first.new.units.items) (sym c.expr.ensures) first.2 in
-    let begins = subst (λ (e : Expr). Begins held first.0 e c.in_ok-array-in-Ok-enter_first.array) c.expr.ensures (c.in_ok-array-in-Ok-enter_first.ensures first.0 is) in
-    let added = subst (λ (o : Option Address). Begins held first.0 (expr l.expr) o) c.in-Some.is begins in
+    let units = c.push_behind.new.units.items in
+    let first = c.in-Ok-enter_first.ensures.names lines (begun profile text lines c.args.self.now at.0) in
+    let added = begun_behind c.enter_first.new.units.items units first.0 _ (expr l.expr) _ _ c.expr.ensures c.in-Some.is first.2 c.in_ok-array-in-Ok-enter_first.ensures in
     let opened = subst (λ h. IsOpened h c.in-Some.at c.open.new.self.opened) c.in-Ok.is c.open.ensures.opened in
-    handed profile text lines before by refl (still profile text lines c.args.self.now (Lines by) at.0, at.1) l c.in-Ok.read.1 mid _ held first.0 _
-    (subst (HandsNext by) c.in-Ok.is at.2 profile text lines at.1) first.1
-    (subst (λ (o : Option Opened). AddsFirst [] held (line_spans first.0 (expr l.expr)) (opened_units o)) (sym opened.1)
-    (own_held held first.0 (expr l.expr) c.in-Some.at _ added.0 added.1.0 opened.2))
+    read_one profile text lines c.args.self.now by c.args.handed at l c.in-Ok.read.1 c.in-Ok.is c.enter_first.new.self _ units first.0 _ first.1
+    (subst (λ (o : Option Opened). AddsFirst [] units (line_spans first.0 (expr l.expr)) (opened_units o)) (sym opened.1) (own_held units first.0 (expr l.expr) c.in-Some.at _ added.0 added.1.0 opened.2))
     (ap (λ p. p.text) c.newline.ensures) c.open.ensures.names c.open.ensures.section (c.open.ensures.left ∙ c.left_of-self.ensures)
 
 pub returns-in-Err-enter_first : goal.returns-in-Err-enter_first
