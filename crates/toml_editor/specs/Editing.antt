@@ -1,11 +1,10 @@
 -- What the steps of an edit hand on to each other.
-use Rattle.std.specs.Prelude.{◌≡◌, ◌↔◌, ◌<◌, ℕ, List, [], Bool, true, Some, length, slice_get, string_bytes}
+use Rattle.std.specs.Prelude.{◌≡◌, ◌↔◌, ◌<◌, ℕ, List, Bool, true, Some, length, slice_get, string_bytes}
 use Rattle.toml_text.specs.Limit.{IsText}
 use Rattle.toml_tree.specs.HandedOut.{AreLinesIn}
 use Rattle.toml_tree.specs.declared.profile.Profile.{Profile}
 use Rattle.toml_edits.specs.Edits.{Change}
 use Rattle.toml_units.specs.declared.piece.Piece.{Piece}
-use Rattle.toml_units.specs.Cursors.{Walks}
 use Rattle.toml_units.specs.Plain.{plain_units}
 use Rattle.toml_units.specs.Units.{units}
 use Rattle.toml_units.specs.View.{all_units}
@@ -16,7 +15,6 @@ use Rattle.toml_editor.specs.Edited.{AreDefinedOn, ArePieces, IsEdited}
 use Rattle.toml_editor.specs.PairedLists.{PairsPlain}
 use Rattle.toml_editor.specs.PlainTexts.{NoSpreadSet, WritesPlain}
 use Rattle.toml_editor.specs.declared.editing.Edited.{Edited}
-use Rattle.toml_editor.specs.declared.editing.Work.{Work}
 use Rattle.toml_editor.specs.declared.making.Read.{Read}
 use Rattle.toml_editor.specs.declared.reading.LineFacts.{LineFacts}
 use Rattle.toml_editor.specs.Making.{HasNames}
@@ -62,10 +60,3 @@ IsEditedAs profile before cs e = IsEditedText profile before cs (string_bytes e.
 -- of the units that have a flag the pairs name first just those whose flag is set
 abbrev pub NameWanted : List Bool → List (ℕ × ℕ) → Type 0
 NameWanted wanted ps = (i : ℕ) → i < length wanted → ((slice_get wanted i ≡ Some true) ↔ IsFirst ps i)
-
--- the flags tell the outer protected units of the document, the cursor stands before the first of its units, and the rest is what the edits
--- make of it
-pub record IsWork (profile : Profile) (before : List ℕ) (cs : List Change) (work : Work) : Type 0 where
-  pub wanted : TellsWanted before cs work.wanted.items
-  pub made : IsMadeAs profile before cs work.wanted.items work.edited
-  pub walks : Walks profile before work.cursor []

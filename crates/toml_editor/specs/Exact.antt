@@ -111,7 +111,7 @@ abbrev pub SetsMany : Change → Kinds → Type 0
 SetsMany (set p value) kinds = (kinds p ≡ Some a_table) ⊎ (kinds p ≡ Some an_array)
 SetsMany _ kinds = ⊥
 
--- and there the text has no one value: it is spread over lines
+-- and there the text has no single value
 abbrev pub IsSpreadOn : Profile → List ℕ → Change → Kinds → Type 0
 IsSpreadOn profile text c kinds = SetsMany c kinds × IsSpreadSet profile text c
 

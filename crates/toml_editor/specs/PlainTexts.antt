@@ -29,7 +29,7 @@ IsNoPlainList profile before cs =
 abbrev pub IsPlainOn : Profile → List ℕ → Change → Type 0
 IsPlainOn profile text c = (d : Doc) → SpellsIn profile d text → IsPlain d.lines c
 
--- it sets an address where no one value stands in the text: a table or an array that stands there is spread over lines or pairs
+-- it sets an address where no single value stands in the text, as where headers, dotted keys or lines of a table make what is there
 abbrev pub IsSpreadSet : Profile → List ℕ → Change → Type 0
 IsSpreadSet profile text (set p value) = (d : Doc) → SpellsIn profile d text → ¬ HasValue d.lines p
 IsSpreadSet profile text _ = ⊥

@@ -1,14 +1,17 @@
 //! The editor as a whole.
-ghost use Rattle.std.specs.Prelude.{[], IfOk, IfErr, map, string_bytes};
+ghost use Rattle.std.specs.Prelude.{◌≡◌, [], IfOk, IfErr, OnOk, map, string_bytes};
 ghost use Rattle.toml_text.specs.Source.{text_of};
 ghost use Rattle.toml_tree.specs.HandedOut.{tree_of};
 ghost use Rattle.toml_tree.specs.declared.profile.Profile.TheVariants.{One};
 ghost use Rattle.toml_names.specs.model.AddressSets.{is_hidden};
 ghost use Rattle.toml_edits.specs.Edits.{change};
 ghost use Rattle.toml_edits.specs.Near.{AreNear};
-ghost use Rattle.toml_units.specs.Cursors.{Walks};
+ghost use Rattle.toml_checker.specs.Outer.{TellOuterOf};
+ghost use Rattle.toml_units.specs.Cursors.{StandsBefore, Walks};
+ghost use Rattle.toml_units.specs.declared.cursor.UnitCursor.{UnitCursor};
 ghost use Rattle.toml_editor.specs.Edited.{IsEdited, ArePieces, IsEditedInPieces, RefusesText, Tells};
-ghost use Rattle.toml_editor.specs.Editing.{IsEditedAs, IsMadeAs, IsReadFrom, IsWork, TellsWanted};
+ghost use Rattle.toml_editor.specs.Editing.{IsEditedAs, IsMadeAs, IsReadFrom, TellsWanted};
+ghost use Rattle.toml_editor.specs.declared.fault.EditorFault.TheVariants.{NoMemory};
 ghost use Rattle.toml_editor.specs.Numbering.{PairsOf};
 ghost use Rattle.toml_editor.specs.Reading.{IsReadAs};
 ghost use Rattle.toml_editor.specs.SpelledEdits.{AreSpelled};
@@ -17,24 +20,26 @@ ghost use Rattle.toml_editor.specs.Writing.{WritesOut};
 use crate::fault::EditorFault;
 use crate::making::{Read, make_all};
 use crate::pairing::names_all;
-use crate::reading::{LineFacts, ReadDocument, read_document};
+use crate::reading::{LineFacts, ReadDocument, let_go, read_document};
 use crate::spelled::{Spelled, spell_all};
 use crate::texts::Texts;
 use crate::working::{Before, Tree};
-use std::alloc::{AllocError, Global};
+use std::alloc::Global;
 use toml_checker::{Afterwards, Reason, Verdict, check_walked, outermost};
 use toml_edits::{Edit, near_addresses};
 use toml_names::{AddressSet, ReadFault};
 use toml_text::{MAX_LEN, Source};
 use toml_tree::{Profile, mark};
-use toml_units::{Certificate, Piece, Unit, UnitCursor, join};
+use toml_units::{Certificate, Piece, TakenLines, Unit, UnitCursor, join};
 
-/// What the editor makes: the pieces of the edited text, the text, and its certificate.
+/// What the editor makes: the pieces of the edited text, the text, its certificate, and which units of the document this is to
+/// name.
 #[derive(Drop)]
 struct Edited {
     pieces: Vec<Piece>,
     text: String,
     certificate: Certificate,
+    wanted: Vec<bool>,
 }
 
 /// The text that the edits make of a document of profile 1, and its certificate: `edit_in` with `Profile::One`.
@@ -131,8 +136,7 @@ fn edit_document(
     edit_with(alloc, before, edits, &spelled, profile, afterwards)
 }
 
-/// The same with the spellings of the edits, which live as long as the text and the edits: new pieces are lent from all. The
-/// judge walks over the units of the first text and reads the second one once the tree of the first and its data are let go.
+/// The same with the spellings of the edits, which live as long as the text and the edits: new pieces are lent from all.
 fn edit_with<'x>(
     alloc: Global,
     before: &'x [u8],
@@ -145,40 +149,34 @@ fn edit_with<'x>(
     ensures edited { IfOk result (IsEditedAs profile before.now (map change edits.now)) }
     ensures told { IfErr result (Tells profile before.now (map change edits.now)) }
 {
-    let work = make_document(alloc, before, edits, spelled, profile)?;
-    let Work {
-        wanted,
-        edited,
-        cursor,
-    } = work;
-    certify(
-        alloc, before, cursor, edits, edited, &wanted, profile, afterwards,
-    )
+    let touched = near_addresses(alloc, edits)?;
+    match read(alloc, before, profile, &touched) {
+        Ok((source, document)) => edit_read(
+            alloc, before, source, document, touched, edits, spelled, profile, afterwards,
+        ),
+        Err(fault) => Err(fault),
+    }
 }
 
-/// What the edits make of a document, when its tree is let go; which of its units are to be kept; and a place before the first of
-/// these.
-#[derive(Drop)]
-struct Work<'x> {
-    wanted: Vec<bool>,
-    edited: Edited,
-    cursor: UnitCursor<'x>,
-}
-
-/// What the edits make of a document, not judged yet.
-fn make_document<'x>(
+/// The same of a document that was read. The judge walks over its units and reads the second text once the working tree, the data
+/// and the lines of the first are let go.
+fn edit_read<'x>(
     alloc: Global,
     before: &'x [u8],
+    source: Source<'x>,
+    document: ReadDocument<'x>,
+    touched: AddressSet,
     edits: &'x [Edit],
     spelled: &'x [Spelled],
     profile: Profile,
-) -> Result<Work<'x>, EditorFault>
+    afterwards: Afterwards,
+) -> Result<Edited, EditorFault>
+    requires read { IsReadAs profile before.now (text_of source) document }
     requires spelled { AreSpelled (map change edits.now) spelled.now }
-    ensures work { IfOk result (IsWork profile before.now (map change edits.now)) }
+    requires touched { AreNear (is_hidden touched) (map change edits.now) }
+    ensures edited { IfOk result (IsEditedAs profile before.now (map change edits.now)) }
     ensures told { IfErr result (Tells profile before.now (map change edits.now)) }
 {
-    let touched = near_addresses(alloc, edits)?;
-    let (source, document) = read(alloc, before, profile, &touched)?;
     let ReadDocument {
         lines,
         facts,
@@ -192,46 +190,46 @@ fn make_document<'x>(
         names: taken.names(),
         profile,
     };
-    let wanted = outermost(alloc, read.before.units, edits)?;
-    let made_text = make_text(
-        alloc, source, read, facts, edits, spelled, &wanted, &touched,
-    );
-    let edited = match made_text {
-        Ok(edited) => edited,
-        Err(fault) => return Err(fault),
-    };
-    Ok(Work {
-        wanted,
-        edited,
-        cursor: UnitCursor::held(taken),
-    })
+    let made = make_text(alloc, source, read, facts, edits, spelled, &touched);
+    drop(lines);
+    drop(touched);
+    match made {
+        Ok(edited) => {
+            certify(alloc, before, taken, edits, &edited, profile, afterwards)?;
+            Ok(edited)
+        }
+        Err(fault) => {
+            let_go(taken);
+            Err(fault)
+        }
+    }
 }
 
-/// What is made is handed on where the judge says yes.
+/// What is made may be handed on where the judge says yes.
 fn certify<'x>(
     alloc: Global,
     before: &'x [u8],
-    cursor: UnitCursor<'x>,
+    taken: TakenLines<'x>,
     edits: &[Edit],
-    edited: Edited,
-    wanted: &[bool],
+    edited: &Edited,
     profile: Profile,
     afterwards: Afterwards,
-) -> Result<Edited, EditorFault>
-    requires walks { Walks profile before.now cursor [] }
-    requires made { IsMadeAs profile before.now (map change edits.now) wanted.now edited }
-    requires wanted { TellsWanted before.now (map change edits.now) wanted.now }
-    ensures edited { IfOk result (IsEditedAs profile before.now (map change edits.now)) }
+) -> Result<(), EditorFault>
+    requires walks { (cursor : UnitCursor) → StandsBefore taken cursor → Walks profile before.now cursor [] }
+    requires made { IsMadeAs profile before.now (map change edits.now) edited.now.wanted.items edited.now }
+    requires wanted { TellsWanted before.now (map change edits.now) edited.now.wanted.items }
+    ensures edited { OnOk result (IsEditedAs profile before.now (map change edits.now) edited.now) }
     ensures told { IfErr result (Tells profile before.now (map change edits.now)) }
 {
     if edited.text.len() > MAX_LEN {
+        let_go(taken);
         return Err(EditorFault::TooLong);
     }
     let after = edited.text.as_bytes();
     match check_walked(
         alloc,
         before,
-        cursor,
+        UnitCursor::held(taken),
         edits,
         after,
         &edited.certificate,
@@ -240,8 +238,8 @@ fn certify<'x>(
     )? {
         Verdict::No(reason) => Err(EditorFault::Unverified(reason)),
         Verdict::Yes => {
-            if names_all(alloc, &edited.certificate.pairs, wanted)? {
-                Ok(edited)
+            if names_all(alloc, &edited.certificate.pairs, &edited.wanted)? {
+                Ok(())
             } else {
                 Err(EditorFault::Unverified(Reason::Lost))
             }
@@ -258,44 +256,52 @@ fn make_text<'x>(
     facts: Vec<LineFacts>,
     edits: &'x [Edit],
     spelled: &'x [Spelled],
-    wanted: &[bool],
     touched: &AddressSet,
 ) -> Result<Edited, EditorFault>
     requires read { IsReadFrom (text_of source) read facts.items }
     requires spelled { AreSpelled (map change edits.now) spelled.now }
     requires touched { AreNear (is_hidden touched.now) (map change edits.now) }
-    ensures made { IfOk result (IsMadeAs read.entry.profile (text_of source.entry) (map change edits.now) wanted.now) }
+    ensures wanted { IfOk result (λ e. TellsWanted (text_of source.entry) (map change edits.now) e.wanted.items) }
+    ensures made { IfOk result (λ e. IsMadeAs read.entry.profile (text_of source.entry) (map change edits.now) e.wanted.items e) }
     ensures told { IfErr result (Tells read.entry.profile (text_of source.entry) (map change edits.now)) }
 {
-    let mut data = read.names.data_near(touched)?;
-    let mut tree = Tree::of(Texts { alloc, source }, read.before, &facts)?;
+    let built = Tree::of(Texts { alloc, source }, read.before, &facts);
     drop(facts);
-    if let Err(fault) = make_all(alloc, &mut tree, read, &mut data, edits, spelled) {
-        return Err(fault);
+    let mut tree = match built {
+        Ok(tree) => tree,
+        Err(error) => return Err(EditorFault::from(error)),
+    };
+    let mut data = read.names.data_near(touched)?;
+    match make_all(alloc, &mut tree, read, &mut data, edits, spelled) {
+        Ok(()) => write_out(alloc, source, read.before.units, edits, &tree),
+        Err(fault) => Err(fault),
     }
-    Ok(write_out(alloc, source, read.before.units, &tree, wanted)?)
 }
 
-/// What stands in the working tree, and its certificate; the units are those of the document.
+/// What stands in the working tree, its certificate, and which of the units are to be kept; the units are those of the document.
 fn write_out<'x>(
     alloc: Global,
     source: Source<'x>,
     units: &[Unit],
+    edits: &[Edit],
     tree: &Tree<'x>,
-    wanted: &[bool],
-) -> Result<Edited, AllocError>
+) -> Result<Edited, EditorFault>
+    ensures wanted { IfOk result (λ e. TellOuterOf units.now (map change edits.now) e.wanted.items) }
     ensures pieces { IfOk result (λ e. ArePieces (text_of source.entry) (string_bytes e.text) e.pieces.items) }
     ensures written { let text = text_of source.entry in
         IfOk result (λ e. WritesOut text (tree_of text []).mark.text tree.now.slots.items (string_bytes e.text)) }
-    ensures paired { IfOk result (λ e. PairsOf units.now wanted.now tree.now.slots.items e.certificate.pairs.items) }
+    ensures paired { IfOk result (λ e. PairsOf units.now e.wanted.items tree.now.slots.items e.certificate.pairs.items) }
+    ensures told { IfErr result (λ fault. fault ≡ NoMemory) }
 {
+    let wanted = outermost(alloc, units, edits)?;
     let pieces = tree.pieces(source, mark(source))?.into_list();
     let text = join(alloc, source, &pieces)?;
-    let certificate = tree.certificate(units, wanted)?;
+    let certificate = tree.certificate(units, &wanted)?;
     Ok(Edited {
         pieces,
         text,
         certificate,
+        wanted,
     })
 }
 

@@ -6,6 +6,7 @@ ghost use Rattle.std.specs.Prelude.{◌≡◌, IfOk, OnOk};
 ghost use Rattle.toml_editor.specs.Starting.{NoneIsGone};
 
 use crate::lines::{changed, is_at_or_above, is_same_way};
+use crate::removing::parent_of;
 use std::alloc::{AllocError, Global};
 use toml_names::{Address, Name, Step};
 
@@ -90,14 +91,10 @@ impl Elements {
                 return gone.put(index);
             }
         }
+        let array = parent_of(alloc, at)?;
         let mut indices = Vec::new(alloc);
         indices.push(index)?;
-        let mut steps = at.copy(alloc)?.into_steps();
-        let _ = steps.pop();
-        self.gone.push(Gone {
-            array: Address::of(steps),
-            indices,
-        })?;
+        self.gone.push(Gone { array, indices })?;
         Ok(())
     }
 
@@ -141,7 +138,9 @@ impl Gone {
 
     /// One element more is gone.
     fn put(&mut self, index: u64) -> Result<(), AllocError> {
-        let place = self.indices.partition_point(|gone| *gone < index);
+        let place = match self.indices.binary_search(&index) {
+            Ok(place) | Err(place) => place,
+        };
         self.indices.insert(place, index)?;
         Ok(())
     }

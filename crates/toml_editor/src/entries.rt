@@ -55,28 +55,27 @@ impl<'t> Entries<'t> {
     /// where none follows the one before it. If nothing but whitespace stands between that comma and the next thing on its
     /// far side, that whitespace goes too. All comments and newlines stay.
     pub(crate) fn take_out(&mut self, alloc: Global, marks: &[bool]) -> Result<(), AllocError> {
-        let list = mem::replace(&mut self.list, VecDeque::new(alloc));
-        let count = list.len();
+        let count = self.list.len();
         let mut left = None;
-        for (index, entry) in list.into_vec().into_iter().enumerate() {
-            let entry = behind(entry, left.take())?;
+        for index in 0..count {
+            let Some(mut entry) = self.list.pop_front() else {
+                return Ok(());
+            };
+            if let Some(gap) = left.take() {
+                entry.stand_behind(alloc, gap)?;
+            }
             if !marks.get(index).copied().unwrap_or(false) {
                 self.list.push_back(entry)?;
             } else if self.end.is_some() || index + 1 < count {
-                let (before, after) = gaps(entry);
-                left = Some(joined(before, after)?);
+                left = Some(left_by(entry)?);
             } else {
-                let (before, after) = gaps(entry);
-                self.close(before, after)?;
+                self.close(entry)?;
             }
         }
-        if let Some(gap) = left {
-            self.end = match self.end.take() {
-                Some(end) => Some(followed(gap, end)?),
-                None => Some(gap),
-            };
+        match left {
+            Some(gap) => self.end_behind(gap),
+            None => Ok(()),
         }
-        Ok(())
     }
 
     /// Takes out the entry with the index in the same way. The others are not gone through.
@@ -84,24 +83,34 @@ impl<'t> Entries<'t> {
         let Some(entry) = self.list.remove(index) else {
             return Ok(());
         };
-        let (before, after) = gaps(entry);
-        if let Some(next) = self.list.get_mut(index) {
-            let left = joined(before, after)?;
-            next.before = followed(left, mem::replace(&mut next.before, Gap::empty(alloc)))?;
-            return Ok(());
+        if index >= self.list.len() && self.end.is_none() {
+            return self.close(entry);
         }
-        match self.end.take() {
-            Some(end) => {
-                let left = joined(before, after)?;
-                self.end = Some(followed(left, end)?);
-                Ok(())
-            }
-            None => self.close(before, after),
+        let left = left_by(entry)?;
+        match self.list.get_mut(index) {
+            Some(next) => next.stand_behind(alloc, left),
+            None => self.end_behind(left),
         }
     }
 
-    /// The gaps that the last entry leaves, where no comma follows it and it is taken out.
-    fn close(&mut self, before: Gap<'t>, after: Gap<'t>) -> Result<(), AllocError> {
+    /// Puts what the last entry has left before what stands behind the last comma.
+    fn end_behind(&mut self, left: Gap<'t>) -> Result<(), AllocError> {
+        self.end = match self.end.take() {
+            Some(end) => Some(followed(left, end)?),
+            None => Some(left),
+        };
+        Ok(())
+    }
+
+    /// Leaves the gaps of the last entry, where no comma follows it and it is taken out.
+    fn close(&mut self, entry: Entry<'t>) -> Result<(), AllocError> {
+        let Entry {
+            origin: _,
+            before,
+            assign: _,
+            value: _,
+            after,
+        } = entry;
         if let Some(last) = self.list.back_mut() {
             if !before.is_ws() {
                 last.after.join(before)?;
@@ -113,8 +122,17 @@ impl<'t> Entries<'t> {
     }
 }
 
-/// The gaps around an entry, which goes.
-fn gaps<'t>(entry: Entry<'t>) -> (Gap<'t>, Gap<'t>) {
+impl<'t> Entry<'t> {
+    /// Puts what a removed entry has left before it.
+    fn stand_behind(&mut self, alloc: Global, left: Gap<'t>) -> Result<(), AllocError> {
+        let before = mem::replace(&mut self.before, Gap::empty(alloc));
+        self.before = followed(left, before)?;
+        Ok(())
+    }
+}
+
+/// The gaps around an entry, which goes, one behind the other.
+fn left_by<'t>(entry: Entry<'t>) -> Result<Gap<'t>, AllocError> {
     let Entry {
         origin: _,
         before,
@@ -122,7 +140,7 @@ fn gaps<'t>(entry: Entry<'t>) -> (Gap<'t>, Gap<'t>) {
         value: _,
         after,
     } = entry;
-    (before, after)
+    joined(before, after)
 }
 
 /// Both gaps, one behind the other.
@@ -140,26 +158,4 @@ fn followed<'t>(left: Gap<'t>, behind: Gap<'t>) -> Result<Gap<'t>, AllocError> {
     } else {
         joined(left, behind)
     }
-}
-
-/// An entry behind what a removed one has left, if one has.
-fn behind<'t>(entry: Entry<'t>, left: Option<Gap<'t>>) -> Result<Entry<'t>, AllocError> {
-    let Entry {
-        origin,
-        before,
-        assign,
-        value,
-        after,
-    } = entry;
-    let before = match left {
-        Some(gap) => followed(gap, before)?,
-        None => before,
-    };
-    Ok(Entry {
-        origin,
-        before,
-        assign,
-        value,
-        after,
-    })
 }

@@ -26,7 +26,7 @@ pub enum EditorFault {
     /// The edit is not defined on the data so far.
     #[error("edit {index}: {fault}")]
     Edit { index: usize, fault: EditFault },
-    /// `set`: what stands at the address is spread over several lines or pairs; `insert`: the parent is an array of tables;
+    /// `set`: what stands at the address is no single value; `insert`: the parent is an array of tables;
     /// `section`: the parent is a value, or stands in one; `element`: the array or its parent is one, or stands in one.
     #[error("edit {index}: its place is spread over several expressions")]
     Spread { index: usize },

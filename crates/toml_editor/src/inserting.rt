@@ -32,7 +32,7 @@ impl<'x> Tree<'x> {
         &mut self,
         before: Before<'_, 'x>,
         named: Option<Place>,
-        parent: Address,
+        parent: &Address,
         at: &Address,
         spelled: &'x [String],
         new: Value<'x>,
@@ -53,7 +53,7 @@ impl<'x> Tree<'x> {
         &mut self,
         before: Before<'_, 'x>,
         named: Option<Place>,
-        parent: Address,
+        parent: &Address,
         insertion: Insertion<'_, 'x>,
     ) -> Result<bool, AllocError>
         ensures { OnOk result (KeepsRest self.old self.new) }
@@ -61,14 +61,14 @@ impl<'x> Tree<'x> {
         let Some((last, above)) = insertion.at.steps().split_last() else {
             return Ok(false);
         };
-        if let Some(place) = self.value_line(before, named, &parent) {
+        if let Some(place) = self.value_line(before, named, parent) {
             let Insertion { at, spelled, new } = insertion;
             return self.change_value(before, place, at, Inside::Insert { spelled, new });
         }
         if matches!(last, Step::Index(_)) {
             return Ok(false);
         }
-        match self.table_place(before, named, &parent) {
+        match self.table_place(before, named, parent) {
             Some(TablePlace::Header(header)) => {
                 let behind = self.last_pair(before, header.next()).unwrap_or(header);
                 self.insert_behind(before, behind, above.len(), insertion)
@@ -146,21 +146,18 @@ impl<'x> Tree<'x> {
         &mut self,
         before: Before<'_, 'x>,
         next: Position,
-        parent: Address,
+        parent: &Address,
         insertion: Insertion<'_, 'x>,
     ) -> Result<bool, AllocError>
         ensures { OnOk result (KeepsRest self.old self.new) }
     {
-        let (alloc, style) = (self.alloc(), self.style);
-        let spelled = insertion.spelled;
-        let line = self.pair_line(parent.steps().len(), insertion, style)?;
         let header = NewHeader {
-            at: &parent,
+            at: parent,
             brackets: Brackets::One,
-            spelled,
+            spelled: insertion.spelled,
         };
-        let above = header.line(alloc, style)?;
-        Ok(self.put(before, next, line)? && self.put(before, next, above)?)
+        let line = self.pair_line(parent.steps().len(), insertion, self.style)?;
+        Ok(self.put(before, next, line)? && self.put_header(before, next, header)?)
     }
 
     /// A line with the key of the steps below its table, whose address has `base` steps.

@@ -299,7 +299,7 @@ impl Expr<'_> {
     /// Whether it is the header of an array of tables.
     fn is_tables(&self) -> bool {
         match self {
-            Expr::Header(header) => header.brackets == Brackets::Two,
+            Expr::Header(header) => matches!(header.brackets, Brackets::Two),
             Expr::Blank | Expr::Pair(_) => false,
         }
     }
@@ -401,7 +401,10 @@ impl<'t> Slot<'t> {
     pub(crate) fn has_no_bytes(&self, index: usize) -> bool {
         match self {
             Slot::Kept(kept) => kept.span.start == kept.span.end,
-            Slot::Lines(lines) => lines.get(index).is_some_and(|line| line.has_no_bytes()),
+            Slot::Lines(lines) => match lines.get(index) {
+                Some(line) => line.has_no_bytes(),
+                None => false,
+            },
         }
     }
 

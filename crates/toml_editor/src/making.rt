@@ -178,7 +178,7 @@ fn write_insert<'x>(
         Some(new) => {
             let parent = parent_of(alloc, at)?;
             let named = read.names.place(&parent);
-            tree.insert(read.before, named, parent, at, steps, new)
+            tree.insert(read.before, named, &parent, at, steps, new)
         }
         // The data have taken the value by now, so it is one of the profile.
         None => Ok(true),
@@ -232,7 +232,7 @@ fn write_header<'x>(
         brackets,
         spelled: &spelled.steps,
     };
-    tree.add_header(read.before, above, new)
+    tree.add_header(read.before, &above, new)
 }
 
 /// Whether the place of the edit with this number may be spread over several expressions.

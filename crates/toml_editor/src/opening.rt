@@ -83,7 +83,9 @@ impl<'t> Opener<'t> {
         ensures next { self.new.next ≡ next_number self.old.next }
     {
         let here = self.next;
-        self.next = here.map(|number| number.saturating_add(1));
+        if let Some(number) = here {
+            self.next = Some(number.saturating_add(1));
+        }
         here
     }
 

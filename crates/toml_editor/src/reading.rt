@@ -1,5 +1,5 @@
 //! The document before the edits, read line by line.
-ghost use Rattle.std.specs.Prelude.{◌≡◌, [], IfErr, IfOk, List};
+ghost use Rattle.std.specs.Prelude.{◌≡◌, [], IfErr, IfOk, List, OnOk};
 ghost use Rattle.toml_text.specs.Source.{text_of};
 ghost use Rattle.toml_tree.specs.HandedOut.{line_ahead};
 ghost use Rattle.toml_tree.specs.Lines.{line as tree_line};
@@ -69,20 +69,46 @@ impl<'x> ReadDocument<'x> {
         requires same { tree_line read.line ≡ line_ahead read.reader }
         ensures { (lines : List Lined) → HasRead self.old lines → ReadsLine lines (tree_line read.entry.line) self.new result }
     {
-        let ReadLine {
-            line,
-            reader,
-            is_last,
-        } = read;
         let first = self.taken.units().len();
-        self.facts.push(facts_of(&line))?;
-        self.taken.take(alloc, &line)?;
-        let is_held = is_last || first == 0 || is_near(self.taken.units().get(first), touched);
-        self.lines
-            .push(KnownLine::of(alloc, reader, line, is_held)?)?;
+        self.facts.push(facts_of(&read.line))?;
+        self.taken.take(alloc, &read.line)?;
+        let is_held = read.is_last || first == 0 || is_near(self.taken.units().get(first), touched);
+        let known = KnownLine::of(alloc, read.reader, read.line, is_held)?;
+        self.lines.push(known)?;
+        Ok(())
+    }
+
+    /// Takes all lines of the text.
+    fn take_all(
+        &mut self,
+        alloc: Global,
+        source: Source<'x>,
+        profile: Profile,
+        touched: &AddressSet,
+    ) -> Result<(), ReadFault>
+        requires new { HasRead self.old [] }
+        ensures read { OnOk result (IsReadText profile (text_of source.entry) self.new) }
+        ensures refused { IfErr result (RefusesText profile (text_of source.entry)) }
+    {
+        let mut left = Some(LineReader::new(source, profile));
+        while let Some(reader) = left {
+            let (line, more) = reader.next(alloc)?;
+            let one = ReadLine {
+                line,
+                reader,
+                is_last: more.is_none(),
+            };
+            if let Err(fault) = self.take(alloc, one, touched) {
+                return Err(refuse_names(alloc, more, fault));
+            }
+            left = more;
+        }
         Ok(())
     }
 }
+
+/// Lets go what was read of lines. Its parts are many, and they are let go one by one here alone.
+pub(crate) fn let_go(_taken: TakenLines<'_>) {}
 
 /// Whether the set reaches a line, by its own unit.
 fn is_near(unit: Option<&Unit>, touched: &AddressSet) -> bool {
@@ -106,20 +132,13 @@ pub(crate) fn read_document<'x>(
     ensures refused { IfErr result (RefusesText profile (text_of source.entry)) }
 {
     let mut read = ReadDocument::new(alloc, source)?;
-    let mut left = Some(LineReader::new(source, profile));
-    while let Some(reader) = left {
-        let (line, more) = reader.next(alloc)?;
-        let one = ReadLine {
-            line,
-            reader,
-            is_last: more.is_none(),
-        };
-        if let Err(fault) = read.take(alloc, one, touched) {
-            return Err(refuse_names(alloc, more, fault));
+    match read.take_all(alloc, source, profile, touched) {
+        Ok(()) => Ok(read),
+        Err(fault) => {
+            let_go(read.taken);
+            Err(fault)
         }
-        left = more;
     }
-    Ok(read)
 }
 
 /// What the working tree knows of a line.

@@ -136,13 +136,17 @@ impl<'x> Tree<'x> {
     ) -> bool {
         let units = before.units;
         let (above, behind) = self.slots.split_at(slot.min(self.slots.len()));
-        above
-            .iter()
-            .rev()
-            .any(|near| near.is_mentioned(units, address, other))
-            || behind
-                .iter()
-                .any(|near| near.is_mentioned(units, address, other))
+        for near in above.iter().rev() {
+            if near.is_mentioned(units, address, other) {
+                return true;
+            }
+        }
+        for near in behind {
+            if near.is_mentioned(units, address, other) {
+                return true;
+            }
+        }
+        false
     }
 
     /// Whether the address is not that of an element, or another element of its array stays.
@@ -296,7 +300,9 @@ fn removed<'t>(
 {
     if !parent.stays && line.seen().mentions(&parent.address) {
         parent.stays = true;
-        return Ok(Some(emptied(texts, known, line, &parent.address)?));
+        let mut line = line;
+        line.stand_for(texts, known, &parent.address)?;
+        return Ok(Some(line));
     }
     if line.is_last() {
         return Ok(Some(Line::empty(texts.alloc)?));
@@ -304,24 +310,25 @@ fn removed<'t>(
     Ok(None)
 }
 
-/// The line as one of the parent: its key's front up to it as an empty table, or as a header.
-fn emptied<'t>(
-    texts: Texts<'t>,
-    known: &[KnownLine<'t>],
-    line: Line<'t>,
-    parent: &Address,
-) -> Result<Line<'t>, AllocError> {
-    let mut line = line;
-    let parts = match line.base {
-        Some(base) => parent.steps().len().saturating_sub(base),
-        None => names_in(parent.steps()),
-    };
-    line.open(texts, known)?;
-    if let Some(open) = line.opened() {
-        open.empty(texts, parts)?;
+impl<'t> Line<'t> {
+    /// Makes it stand for the parent: its key's front up to it as an empty table, or as a header.
+    fn stand_for(
+        &mut self,
+        texts: Texts<'t>,
+        known: &[KnownLine<'t>],
+        parent: &Address,
+    ) -> Result<(), AllocError> {
+        let parts = match self.base {
+            Some(base) => parent.steps().len().saturating_sub(base),
+            None => names_in(parent.steps()),
+        };
+        self.open(texts, known)?;
+        if let Some(open) = self.opened() {
+            open.empty(texts, parts)?;
+        }
+        self.address = Some(parent.copy(texts.alloc)?);
+        Ok(())
     }
-    line.address = Some(parent.copy(texts.alloc)?);
-    Ok(line)
 }
 
 impl<'t> OpenLine<'t> {

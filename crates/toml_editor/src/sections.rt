@@ -1,9 +1,10 @@
 //! `section` and `element`: a header line of a new table, or of a new element of an array of tables.
-ghost use Rattle.std.specs.Prelude.{IfOk, IsTrue, List};
+ghost use Rattle.std.specs.Prelude.{IfOk, IsTrue, List, OnOk};
 ghost use Rattle.toml_editor.specs.Edited.{IsElementInValue, IsInValue, IsRightInValue};
 ghost use Rattle.toml_tree.specs.Tree.{Line as Lined};
 ghost use Rattle.toml_names.specs.reader.LineNames.{Stand, StandFor};
 ghost use Rattle.toml_editor.specs.Making.{places_of};
+ghost use Rattle.toml_editor.specs.Stands.{KeepsRest};
 
 use crate::lines::{Line, Seen, Slot};
 use crate::removing::parent_of;
@@ -35,7 +36,7 @@ pub(crate) struct Above {
     pub(crate) near: Option<Place>,
 }
 
-/// How far a walk through the lines has come that looks for the header line behind all lines of an element.
+/// How far a walk through the lines has come that looks for the first header line behind those of an element.
 #[derive(Clone, Copy)]
 enum Walk {
     /// No header line of the element was met yet.
@@ -49,12 +50,12 @@ enum Walk {
 }
 
 impl<'x> Tree<'x> {
-    /// Puts a header line in, behind all lines of the innermost element of an array of tables in which it is to stand, else
-    /// at the end of the text. It answers `false` where a value stands right above it, or holds what stands there.
+    /// Puts a header line in: before the first header line behind those of the innermost element of an array of tables in
+    /// which it is to stand, else at the end of the text. It answers `false` where a value stands right above it, or holds what stands there.
     pub(crate) fn add_header(
         &mut self,
         before: Before<'_, 'x>,
-        above: Above,
+        above: &Above,
         new: NewHeader<'_, 'x>,
     ) -> Result<bool, AllocError> {
         if self.value_line(before, above.named, &above.at).is_some() {
@@ -65,12 +66,22 @@ impl<'x> Tree<'x> {
             None => None,
         };
         match next {
-            Some(next) => {
-                let line = new.line(self.alloc(), self.style)?;
-                self.put(before, next, line)
-            }
+            Some(next) => self.put_header(before, next, new),
             None => self.add_last(before, new),
         }
+    }
+
+    /// Puts a header line in before the line at a place.
+    pub(crate) fn put_header(
+        &mut self,
+        before: Before<'_, 'x>,
+        at: Position,
+        new: NewHeader<'_, 'x>,
+    ) -> Result<bool, AllocError>
+        ensures { OnOk result (KeepsRest self.old self.new) }
+    {
+        let line = new.line(self.alloc(), self.style)?;
+        self.put(before, at, line)
     }
 
     /// Puts a header line in before the last line where that has no bytes, else behind it.
@@ -83,8 +94,7 @@ impl<'x> Tree<'x> {
             return Ok(false);
         };
         if self.has_no_bytes(last) {
-            let line = new.line(self.alloc(), self.style)?;
-            return self.put(before, last, line);
+            return self.put_header(before, last, new);
         }
         let newline = self.newline_behind(before, last)?;
         let line = new.line(self.alloc(), newline)?;

@@ -129,7 +129,7 @@ pub(crate) enum Expr<'t> {
 }
 
 /// How many brackets stand on each side of a header.
-#[derive(Clone, Copy, Debug, Drop, PartialEq, Eq)]
+#[derive(Clone, Copy)]
 pub(crate) enum Brackets {
     /// `[table]`
     One,
@@ -239,6 +239,11 @@ impl<'t> Gap<'t> {
 
     /// Whether nothing but whitespace stands in it.
     pub(crate) fn is_ws(&self) -> bool {
-        self.parts.iter().all(|part| matches!(part, GapPart::Ws(_)))
+        for part in &self.parts {
+            if !matches!(part, GapPart::Ws(_)) {
+                return false;
+            }
+        }
+        true
     }
 }

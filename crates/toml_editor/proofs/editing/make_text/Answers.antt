@@ -9,6 +9,8 @@ use Rattle.toml_edits.specs.Edits.{change}
 use Rattle.toml_edits.proofs.Proved.{leads_beside}
 use Rattle.toml_editor.specs.declared.texts.Texts.{Texts}
 use Rattle.toml_editor.specs.Starting.{read_of}
+use Rattle.std.proofs.lemmas.Result.{IfOk-weaker}
+use Rattle.toml_editor.proofs.Answered.{if_ok_three}
 use Rattle.toml_editor.proofs.Judgements.{any_tells}
 use Rattle.toml_editor.proofs.NearFaults.{any_of_all, has_data}
 use Rattle.toml_editor.proofs.PassedSpread.{no_spread_set, stops_told}
@@ -16,8 +18,8 @@ use Rattle.toml_editor.proofs.ReadDocuments.{is_document, is_read_of, spelled, t
 use Rattle.toml_editor.proofs.PlainMade.{plain_paired, plain_written, wanted_outer}
 use Rattle.toml_editor.proofs.editing.make_text.Goals as goal
 
-pub returns-in-Err-clause-told : goal.returns-in-Err-clause-told
-returns-in-Err-clause-told c =
+pub returns-clause-told : goal.returns-clause-told
+returns-clause-told c =
     let text = text_of c.args.source in
     let profile = c.args.read.profile in
     let is = c.requires.read in
@@ -29,17 +31,17 @@ returns-in-Err-clause-told c =
     let facts = has_data profile text d document spells in
     let near = c.in_ok-data.ensures d.lines is.names old facts in
     let part = kind_at c.in_ok-data.«data».root in
-    let told = c.in-Err.ensures.told in
-    let opened = c.in_ok-tree.ensures in
-    let both = stops_told profile (read_of c.args.read.before) d text c.in_ok-tree.tree document
+    let told = c.in-Err-make_all.ensures.told in
+    let opened = c.in-Ok.ensures in
+    let both = stops_told profile (read_of c.args.read.before) d text c.in-Ok.tree document
     spells opened.stands.lines (ap (λ (t : Texts). text_of t.source) opened.texts_are) opened.elements opened.style
-    (is_hidden c.args.touched.now) cs c.requires.touched old facts part near c.in-Err.fault told.stops in
-    any_tells profile text cs d old c.in-Err.fault document spells facts
-    (any_of_all profile (place (named d.lines)) (is_hidden c.args.touched.now) old cs c.requires.touched part near c.in-Err.fault told.told)
+    (is_hidden c.args.touched.now) cs c.requires.touched old facts part near c.in-Err-make_all.fault told.stops in
+    any_tells profile text cs d old c.in-Err-make_all.fault document spells facts
+    (any_of_all profile (place (named d.lines)) (is_hidden c.args.touched.now) old cs c.requires.touched part near c.in-Err-make_all.fault told.told)
     both.0 both.1
 
-pub returns-clause-made : goal.returns-clause-made
-returns-clause-made c =
+pub returns-in-Ok-make_all-clause-made : goal.returns-in-Ok-make_all-clause-made
+returns-in-Ok-make_all-clause-made c =
     let text = text_of c.args.source in
     let profile = c.args.read.profile in
     let is = c.requires.read in
@@ -52,25 +54,35 @@ returns-clause-made c =
     let near = c.in_ok-data.ensures d.lines is.names old facts in
     let new = kind_at c.make_all.new.«data».root in
     let leads = leads_beside profile (is_hidden c.args.touched.now) cs old (kind_at c.in_ok-data.«data».root) new
-    c.requires.touched near c.in_default.ensures.made.lead in
-    let opened = c.in_ok-tree.ensures in
-    record {
-      plain = plain_written profile (read_of c.args.read.before) d text c.in_ok-tree.tree document
+    c.requires.touched near c.in-Ok-make_all.ensures.made.lead in
+    let opened = c.in-Ok.ensures in
+    if_ok_three _ _ _ _ c.write_out.result
+    (λ e pieces written paired. record {
+      plain = plain_written profile (read_of c.args.read.before) d text c.in-Ok.tree document
           spells opened.stands.lines (ap (λ (t : Texts). text_of t.source) opened.texts_are) opened.elements opened.style cs old
-          (beside (is_hidden c.args.touched.now) old new) c.make_all.new.tree (string_bytes c.in_ok-write_out.field-0.text) facts leads
-          c.in_default.ensures.made.done.makes c.in_ok-write_out.ensures.written;
-      passed = no_spread_set profile (read_of c.args.read.before) d text c.in_ok-tree.tree document
+          (beside (is_hidden c.args.touched.now) old new) c.make_all.new.tree (string_bytes e.text) facts leads
+          c.in-Ok-make_all.ensures.made.done.makes written;
+      passed = no_spread_set profile (read_of c.args.read.before) d text c.in-Ok.tree document
           spells opened.stands.lines (ap (λ (t : Texts). text_of t.source) opened.texts_are) opened.elements opened.style
-          (is_hidden c.args.touched.now) cs c.requires.touched old facts (kind_at c.in_ok-data.«data».root) near (length cs) c.in_default.ensures.made.done.passes;
+          (is_hidden c.args.touched.now) cs c.requires.touched old facts (kind_at c.in_ok-data.«data».root) near (length cs) c.in-Ok-make_all.ensures.made.done.passes;
       paired = λ told.
-          plain_paired profile (read_of c.args.read.before) d text c.in_ok-tree.tree document
+          plain_paired profile (read_of c.args.read.before) d text c.in-Ok.tree document
           spells opened.stands.lines (ap (λ (t : Texts). text_of t.source) opened.texts_are) opened.elements opened.style cs old
-          (beside (is_hidden c.args.touched.now) old new) c.make_all.new.tree (string_bytes c.in_ok-write_out.field-0.text) facts leads
-          c.args.wanted.now c.in_ok-write_out.field-0.certificate.pairs.items document.0 (wanted_outer text cs c.args.wanted.now d spells told)
-          (units_are text c.args.read c.args.facts.items is) opened.stands.origins c.in_default.ensures.made.done.makes c.in_ok-write_out.ensures.written c.in_ok-write_out.ensures.paired;
+          (beside (is_hidden c.args.touched.now) old new) c.make_all.new.tree (string_bytes e.text) facts leads
+          e.wanted.items e.certificate.pairs.items document.0 (wanted_outer text cs e.wanted.items d spells told)
+          (units_are text c.args.read c.args.facts.items is) opened.stands.origins c.in-Ok-make_all.ensures.made.done.makes written paired;
       are_defined = (document, (d, spells, old, facts, (beside (is_hidden c.args.touched.now) old new, leads)));
-      pieces = c.in_ok-write_out.ensures.pieces;
-    }
+      pieces = pieces;
+    }) c.write_out.ensures.pieces c.write_out.ensures.written c.write_out.ensures.paired
 
-pub of-requires-clause-read : goal.of-requires-clause-read
-of-requires-clause-read c = is_read_of (text_of c.args.source) c.args.read c.args.facts.items c.requires.read
+pub returns-in-Ok-make_all-clause-wanted : goal.returns-in-Ok-make_all-clause-wanted
+returns-in-Ok-make_all-clause-wanted c =
+    let text = text_of c.args.source in
+    let is = c.requires.read in
+    let d = tree text c.args.read c.args.facts.items is in
+    let spells = spelled text c.args.read c.args.facts.items is in
+    IfOk-weaker c.write_out.result _ _
+    (λ e told. (d, spells, told d text spells (units_are text c.args.read c.args.facts.items is))) c.write_out.ensures.wanted
+
+pub of-built-requires-clause-read : goal.of-built-requires-clause-read
+of-built-requires-clause-read c = is_read_of (text_of c.args.source) c.args.read c.args.facts.items c.requires.read

@@ -19,7 +19,7 @@ pub returns : goal.returns
 returns c = λ lines h.
     let l = tree_line c.args.read.line in
     record {
-      lines = ap lines_known c.in_ok-push-2.ensures.items ∙ map-append known_line c.args.self.now.lines.items _ ∙ ap₂ (λ ls ms. ls ++ ms) h.lines (ap (λ (x : Line). x ∷ []) c.in_ok-of.ensures);
+      lines = ap lines_known c.in_ok-push-2.ensures.items ∙ map-append known_line c.args.self.now.lines.items _ ∙ ap₂ (λ ls ms. ls ++ ms) h.lines (ap (λ (x : Line). x ∷ []) c.in_ok-known.ensures);
       facts = c.in_ok-push.ensures.items ∙ ap₂ (λ fs gs. fs ++ gs) h.facts (ap (λ f. f ∷ []) c.facts_of.ensures) ∙ sym (map-append fact_of lines (l ∷ []));
       taken = c.in_ok-take.ensures lines h.taken;
     }

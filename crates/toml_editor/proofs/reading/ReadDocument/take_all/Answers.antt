@@ -5,11 +5,11 @@ use Rattle.toml_tree.specs.Lines.{line as tree_line}
 use Rattle.toml_tree.specs.declared.line_reader.LineReader.{LineReader}
 use Rattle.toml_names.specs.reader.Texts.{AreLeft}
 use Rattle.toml_editor.proofs.ReadDocuments.{all_read, behind_it, stood}
-use Rattle.toml_editor.proofs.reading.read_document.Goals as goal
+use Rattle.toml_editor.proofs.reading.ReadDocument.take_all.Goals as goal
 
 pub returns-in_err-line-clause-refused : goal.returns-in_err-line-clause-refused
 returns-in_err-line-clause-refused c =
-    let p = err_from_is_err_and c.from_residual-in_err-line.result c.from_residual-in_err-line.ensures.1 in
+    let p = err_from_is_err_and c.from_residual.result c.from_residual.ensures.1 in
     let text = text_of c.args.source in
     let all = c.loop-left.invariant in
     rw (p.1, p.2) (c.in_err-line.ensures.hands c.args.profile text all.0 (stood c.args.profile text all.0 _ c.in-Some.reader c.in-Some.is all.1))
@@ -55,4 +55,4 @@ pub returns-clause-read : goal.returns-clause-read
 returns-clause-read c =
     let text = text_of c.args.source in
     let all = c.loop-left.invariant in
-    all_read c.args.profile text all.0 c.loop-left.read (subst (λ (o : Option LineReader). AreLeft c.args.profile text all.0 o) c.in_default.is all.1) all.2
+    all_read c.args.profile text all.0 c.loop-left.self (subst (λ (o : Option LineReader). AreLeft c.args.profile text all.0 o) c.in_default.is all.1) all.2
