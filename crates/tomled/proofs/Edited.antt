@@ -17,8 +17,6 @@ use Rattle.toml_names.specs.declared.fault.NameFault.TheVariants as names
 use Rattle.toml_edits.specs.EditList.{IsEditList}
 use Rattle.toml_edits.specs.Edits.{Change}
 use Rattle.toml_units.specs.Certificates.{certificate_of}
-use Rattle.toml_units.specs.Pieces.{AreHeld}
-use Rattle.toml_units.specs.declared.piece.Piece.{Piece}
 use Rattle.toml_editor.specs.Edited as editor
 use Rattle.toml_editor.specs.declared.fault.EditorFault.{EditorFault}
 use Rattle.toml_editor.specs.declared.fault.EditorFault.TheVariants as faults
@@ -89,8 +87,3 @@ module _ (profile : Profile) (before edits : List ℕ) where
       (λ o gives. inl (good.1, good.2, good.4, subst (λ (out : List ℕ). Gives out (good.1 ∷ good.2 ∷ []) o) good.0 (subst (λ (files : List (List ℕ)). Gives a.out.items files o) good.3 gives)))
   comes (Err (ends.Refused r)) result good bad = IfOk-weaker result (Tells r) (Edits profile before edits) (λ o tells. inr (r, bad, tells))
   comes (Err ends.NoMemory) result good bad = IfOk-weaker result (λ o. ⊥) (Edits profile before edits) (λ o none. absurd none)
-
--- the first text holds each kept span of the pieces
-pub pieces_held : (profile : Profile) (before : List ℕ) (cs : List Change) (list : List Piece) (ps : List (ℕ × ℕ))
-    → editor.IsEditedInPieces profile before cs list ps → AreHeld before list
-pieces_held profile before cs list ps is = is.pieces.tidy.held

@@ -12,4 +12,3 @@ pub mod Verified
 pub mod Edited
 mod PlainPrinted
 pub mod Delivered
-mod Walked

@@ -26,52 +26,53 @@ fn edited(alloc: Global) -> Result<Outcome, AllocError> {
     run_edit(alloc, FILE, EDITS)
 }
 
+/// Whether the fault of the read with the number is told, and no further read is made.
+fn read_fails(alloc: Global, bytes: &[u8], failing: usize) -> bool {
+    let mut giver = Giver {
+        bytes,
+        failing,
+        reads: 0,
+    };
+    let mut reader = Counting::new(&mut giver);
+    let told = matches!(take(alloc, &mut reader, usize::MAX), Err(TakeFault::Device));
+    told && reader.failed() == 1 && giver.reads == failing
+}
+
 #[test]
-fn each_read_fails(rt: HostRuntime) -> Result<(), Fail> {
-    for text in [FILE, EDITS] {
-        // The last read sees the end.
-        for failing in 1..text.len().saturating_add(2) {
-            let mut giver = Giver {
-                bytes: text,
-                failing,
-                reads: 0,
-            };
-            let mut reader = Counting::new(&mut giver);
-            let answer = take(rt.alloc(), &mut reader, usize::MAX);
-            assert!(rt; matches!(&answer, Err(TakeFault::Device)), "read {failing}");
-            assert_eq!(rt; reader.failed(), 1, "read {failing}");
-            assert_eq!(rt; giver.reads, failing);
-        }
+fn each_read_fails(rt: HostRuntime) {
+    // the last read sees the end
+    for failing in 1..22usize {
+        assert!(rt; read_fails(rt.alloc(), FILE, failing), "read {failing}");
     }
-    Ok(())
+    for failing in 1..45usize {
+        assert!(rt; read_fails(rt.alloc(), EDITS, failing), "read {failing}");
+    }
 }
 
 /// Whether so many reads are made to take the file up to the limit, and give so many bytes.
-fn is_taken(alloc: Global, limit: usize, taken: usize, reads: usize) -> Result<bool, Fail> {
+fn is_taken(alloc: Global, limit: usize, taken: usize, reads: usize) -> bool {
     let mut giver = Giver {
         bytes: FILE,
         failing: 0,
         reads: 0,
     };
     let mut reader = Counting::new(&mut giver);
-    let bytes = take(alloc, &mut reader, limit).map_err(|_| "not taken")?;
+    let Ok(bytes) = take(alloc, &mut reader, limit) else {
+        return false;
+    };
     let failed = reader.failed();
-    Ok(bytes.as_slice() == front(FILE, taken) && failed == 0 && giver.reads == reads)
+    bytes.as_slice() == front(FILE, taken) && failed == 0 && giver.reads == reads
 }
 
 #[test]
-fn takes_up_to_the_limit(rt: HostRuntime) -> Result<(), Fail> {
-    // The limit, and how many bytes are taken in how many reads.
-    for (limit, taken, reads) in [
-        (0, 0, 0),
-        (3, 3, 3),
-        (20, 20, 20),
-        (21, 20, 21),
-        (99, 20, 21),
-    ] {
-        assert!(rt; is_taken(rt.alloc(), limit, taken, reads)?, "limit {limit}");
-    }
-    Ok(())
+fn takes_up_to_the_limit(rt: HostRuntime) {
+    let alloc = rt.alloc();
+    // the limit, and how many bytes are taken in how many reads
+    assert!(rt; is_taken(alloc, 0, 0, 0));
+    assert!(rt; is_taken(alloc, 3, 3, 3));
+    assert!(rt; is_taken(alloc, 20, 20, 20));
+    assert!(rt; is_taken(alloc, 21, 20, 21));
+    assert!(rt; is_taken(alloc, 99, 20, 21));
 }
 
 /// The front of so many bytes at most.
@@ -102,28 +103,62 @@ fn delivered(
     ))
 }
 
+/// How many bytes the edit has to write: 19 of the text, 15 of the certificate, 3 on standard output.
+const ALL: usize = 37;
+
+/// Whether just the first so many of these bytes are written, and a fault is told if they are not all.
+fn is_delivered(
+    alloc: Global,
+    text: &mut Keeper,
+    cert: &mut Keeper,
+    out: &mut Keeper,
+    accepted: usize,
+) -> Result<bool, Fail> {
+    let mut err = Keeper::new(alloc, 1, 0);
+    let status = delivered(alloc, text, cert, out, &mut err)?;
+    let (wanted, told) = if accepted < ALL {
+        (3, FAULT)
+    } else {
+        (0, b"".as_slice())
+    };
+    Ok(
+        status == wanted
+            && text.bytes.as_slice() == front(OUT, accepted)
+            && cert.bytes.as_slice() == front(CERT, accepted.saturating_sub(19))
+            && out.bytes.as_slice() == front(b"ok\n", accepted.saturating_sub(34))
+            && err.bytes.as_slice() == told,
+    )
+}
+
 #[test]
 fn each_write_fails(rt: HostRuntime) -> Result<(), Fail> {
     let alloc = rt.alloc();
-    // One byte a write: 19 of the text, 15 of the certificate, 3 on standard output; at 0 none fails.
+    // one byte a write; at 0 none fails
     for failing in 0..38usize {
         let mut text = Keeper::new(alloc, 1, failing);
         let mut cert = Keeper::new(alloc, 1, failing.saturating_sub(19));
         let mut out = Keeper::new(alloc, 1, failing.saturating_sub(34));
-        let mut err = Keeper::new(alloc, 1, 0);
-        let status = delivered(alloc, &mut text, &mut cert, &mut out, &mut err)?;
-        let (wanted, accepted, told) = if failing == 0 {
-            (0, 37, b"".as_slice())
-        } else {
-            (3, failing - 1, FAULT)
-        };
-        let good = status == wanted
-            && text.bytes.as_slice() == front(OUT, accepted)
-            && cert.bytes.as_slice() == front(CERT, accepted.saturating_sub(19))
-            && out.bytes.as_slice() == front(b"ok\n", accepted.saturating_sub(34))
-            && err.bytes.as_slice() == told;
+        let accepted = if failing == 0 { ALL } else { failing - 1 };
+        let good = is_delivered(alloc, &mut text, &mut cert, &mut out, accepted)?;
         assert!(rt; good, "write {failing}");
     }
+    Ok(())
+}
+
+/// The same of writers that take so many bytes a write.
+fn stops(alloc: Global, most: [usize; 3], accepted: usize) -> Result<bool, Fail> {
+    let mut text = Keeper::new(alloc, most[0], 0);
+    let mut cert = Keeper::new(alloc, most[1], 0);
+    let mut out = Keeper::new(alloc, most[2], 0);
+    is_delivered(alloc, &mut text, &mut cert, &mut out, accepted)
+}
+
+#[test]
+fn writes_that_take_no_byte(rt: HostRuntime) -> Result<(), Fail> {
+    let alloc = rt.alloc();
+    assert!(rt; stops(alloc, [0, 9, 9], 0)?);
+    assert!(rt; stops(alloc, [9, 0, 9], 19)?);
+    assert!(rt; stops(alloc, [9, 9, 0], 34)?);
     Ok(())
 }
 
@@ -175,50 +210,21 @@ fn a_fault_that_is_not_told(rt: HostRuntime) -> Result<(), Fail> {
     Ok(())
 }
 
-#[test]
-fn writes_that_take_no_byte(rt: HostRuntime) -> Result<(), Fail> {
-    // How many bytes the writers of OUT, of CERT and of standard output take at most, and what each of them then has.
-    for (most, kept) in [
-        ([0, 9, 9], [b"".as_slice(), b"", b""]),
-        ([9, 0, 9], [OUT, b"", b""]),
-        ([9, 9, 0], [OUT, CERT, b""]),
-    ] {
-        let mut text = Keeper::new(rt.alloc(), most[0], 0);
-        let mut cert = Keeper::new(rt.alloc(), most[1], 0);
-        let mut out = Keeper::new(rt.alloc(), most[2], 0);
-        let mut err = Keeper::new(rt.alloc(), 9, 0);
-        let status = delivered(rt.alloc(), &mut text, &mut cert, &mut out, &mut err)?;
-        let good = status == 3
-            && text.bytes.as_slice() == kept[0]
-            && cert.bytes.as_slice() == kept[1]
-            && out.bytes.as_slice() == kept[2]
-            && err.bytes.as_slice() == FAULT;
-        assert!(rt; good, "{most:?}");
-    }
-    Ok(())
+/// Whether the fault is told with this status and this line.
+fn is_told(alloc: Global, fault: RunFault, status: u8, line: &[u8]) -> bool {
+    let mut err = Keeper::new(alloc, 1, 0);
+    tell(&mut Counting::new(&mut err), fault) == status && err.bytes.as_slice() == line
 }
 
 #[test]
 fn faults_of_a_run(rt: HostRuntime) {
-    let faults = [
-        (RunFault::Words, 2, "bad words\n"),
-        (RunFault::from(TakeFault::Device), 3, "file fault\n"),
-        (RunFault::from(TakeFault::NoMemory), 4, "no memory\n"),
-        (RunFault::from(AllocError), 4, "no memory\n"),
-        (
-            RunFault::from(io::Error::from(io::ErrorKind::NotFound)),
-            3,
-            "file fault\n",
-        ),
-        (
-            RunFault::from(io::Error::from(io::ErrorKind::OutOfMemory)),
-            4,
-            "no memory\n",
-        ),
-    ];
-    for (fault, status, told) in faults {
-        let mut err = Keeper::new(rt.alloc(), 1, 0);
-        assert_eq!(rt; tell(&mut Counting::new(&mut err), fault), status);
-        assert_eq!(rt; err.bytes.as_slice(), told.as_bytes());
-    }
+    let (alloc, no_memory) = (rt.alloc(), b"no memory\n");
+    assert!(rt; is_told(alloc, RunFault::Words, 2, b"bad words\n"));
+    assert!(rt; is_told(alloc, RunFault::from(TakeFault::Device), 3, FAULT));
+    assert!(rt; is_told(alloc, RunFault::from(TakeFault::NoMemory), 4, no_memory));
+    assert!(rt; is_told(alloc, RunFault::from(AllocError), 4, no_memory));
+    let not_found = io::Error::from(io::ErrorKind::NotFound);
+    assert!(rt; is_told(alloc, RunFault::from(not_found), 3, FAULT));
+    let out_of_memory = io::Error::from(io::ErrorKind::OutOfMemory);
+    assert!(rt; is_told(alloc, RunFault::from(out_of_memory), 4, no_memory));
 }

@@ -3,10 +3,6 @@
 
 ghost use Rattle.std.specs.Prelude.{◌≡◌, [], length, IfOk};
 
-#[cfg(test)]
-mod beside_tests;
-#[cfg(test)]
-mod calls;
 mod check;
 mod counting;
 mod delivery;
@@ -17,35 +13,23 @@ mod devices;
 mod document;
 mod edit;
 mod edit_list;
-#[cfg(test)]
-mod edit_tests;
 mod ending;
 mod fault;
 mod input;
 pub mod laws;
-#[cfg(test)]
-mod library_tests;
 mod list;
-#[cfg(test)]
-mod memory_tests;
 mod outcome;
 mod output;
-#[cfg(test)]
-mod partner_tests;
-#[cfg(test)]
-mod profile_tests;
 mod refusal;
-#[cfg(test)]
-mod rows;
 mod show;
 mod tagged;
 mod tagged_text;
-#[cfg(test)]
-mod tests;
 mod verify;
 #[cfg(test)]
-mod verify_tests;
+mod without_profile_tests;
 mod words;
+#[cfg(test)]
+mod written_tests;
 
 use check::run_check_in;
 use clap::error::ErrorKind;

@@ -1,0 +1,45 @@
+//! The calls that take no profile. No command makes them, and that they answer where there is memory no contract says.
+
+use crate::check::run_check;
+use crate::edit::run_edit;
+use crate::list::run_list;
+use crate::outcome::Outcome;
+use crate::show::run_show;
+use crate::verify::run_verify;
+use std::alloc::{AllocError, Global};
+use std::process::Abort;
+use std::test::Fail;
+
+/// A document, of which no edit is made.
+const FILE: &[u8] = b"a = {}\n";
+
+const EDITS: &[u8] = b"[]";
+
+const CERT: &[u8] = b"kept 1\n0 0\n1 1\n";
+
+/// Whether the outcome is a success with this output.
+fn is_told(got: &Outcome, out: &str) -> bool {
+    got.status == 0 && got.out.as_slice() == out.as_bytes() && got.err.is_empty()
+}
+
+/// Whether the calls that read the document say what there is to say of it.
+fn is_read(alloc: Global) -> Result<bool, AllocError> {
+    Ok(
+        is_told(&run_check(alloc, FILE)?, "ok\n")
+            && is_told(&run_show(alloc, FILE)?, "{\"a\":{}}\n")
+            && is_told(&run_list(alloc, FILE)?, "[\"a\"]\n"),
+    )
+}
+
+/// Whether the document is edited, and the edit verified.
+fn is_edited(alloc: Global) -> Result<bool, AllocError> {
+    let edited = run_edit(alloc, FILE, EDITS)?;
+    let verified = run_verify(alloc, FILE, EDITS, FILE, CERT)?;
+    Ok(is_told(&edited, "ok\n") && is_told(&verified, "yes\n"))
+}
+
+#[test]
+fn calls_without_a_profile_answer(rt: HostRuntime) -> Result<(), Fail> {
+    assert!(rt; is_read(rt.alloc())? && is_edited(rt.alloc())?);
+    Ok(())
+}
