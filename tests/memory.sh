@@ -2,16 +2,34 @@
 # Refused memory: each command on some texts, where each allocation of the run is refused in turn, until a run has none
 # left to refuse. Each run before that ends with status 4, `no memory` and no file; the last one gives the answer.
 # So too the edits of data and the reader of names, by a test as it is built: memory that is refused leaves both as they
-# were, and they go on once there is some.
-#   tests/memory.sh crates/tomled/out/tomled crates/tomled/out/tomled_tests
+# were, and they go on once there is some. The last line is `N passed, M failed`.
+#   tests/memory.sh crates/tomled/out/tomled crates/toml_tests/out/toml_tests_tests
 set -u
 program=$(realpath "$1")
 tests=$(realpath "$2")
 folder=$(mktemp -d)
 trap 'rm -rf "$folder"' EXIT
 cd "$folder"
+passed=0
 failed=0
 refusals=0
+
+# fail TEXT, or else pass: how what was looked at came out
+fail() {
+  printf 'FAILED %s\n' "$1"
+  failed=$((failed + 1))
+}
+
+pass() {
+  passed=$((passed + 1))
+}
+
+# counted: the last line, and the exit status
+counted() {
+  printf '%s passed, %s failed\n' "$passed" "$failed"
+  [ "$failed" -eq 0 ]
+  exit
+}
 
 # The request for memory with the number REFUSE, from 1, answers that there is none, and says so on descriptor 9. To ask
 # for less than there is, as a list does that gives back what it has too much, is no such request.
@@ -69,12 +87,13 @@ int posix_memalign(void **to, size_t align, size_t size) {
   return failed;
 }
 C
-cc -shared -fPIC -o refuse.so refuse.c -ldl || exit 1
-
-fail() {
-  printf 'FAILED %s\n' "$1"
-  failed=1
-}
+if ! command -v cc >/dev/null; then
+  fail 'there is no C compiler: apt-get install gcc libc6-dev'
+  counted
+elif ! cc -shared -fPIC -o refuse.so refuse.c -ldl; then
+  fail 'cc does not compile: apt-get install gcc libc6-dev'
+  counted
+fi
 
 # holds FILE TEXT: the bytes of the file, `-` for no such file
 holds() {
@@ -108,9 +127,7 @@ each() {
       return
     fi
   done
-  if [ "$number" -lt 2 ] || ! answers "${wanted[@]}"; then
-    fail "tomled $*: status $status"
-  fi
+  if [ "$number" -lt 2 ] || ! answers "${wanted[@]}"; then fail "tomled $*: status $status"; else pass; fi
   refusals=$((refusals + number - 1))
 }
 
@@ -192,19 +209,18 @@ passes() {
     number=$((number + 1))
     refusing "$number" "$tests" "$1"
     status=$?
-    [ "$status" -eq 0 ] || { fail "$1: allocation $number: status $status"; return; }
+    if [ "$status" -ne 0 ]; then fail "$1: allocation $number: status $status"; return; fi
     cat out >>all
     [ -s refused ] || break
   done
-  grep -q '^test result: ok' out || fail "$1: no such test"
-  [ "$number" -gt 1 ] || fail "$1: no allocation was refused"
+  if grep -q '^test result: ok' out; then pass; else fail "$1: no such test"; fi
+  if [ "$number" -gt 1 ]; then pass; else fail "$1: no allocation was refused"; fi
   for said in "${@:2}"; do
-    grep -q "$said" all || fail "$1: never: $said"
+    if grep -q "$said" all; then pass; else fail "$1: never: $said"; fi
   done
   refusals=$((refusals + number - 1))
 }
 
-passes memory_tests::applies_and_takes_or_wants 'an edit found no memory' 'a line found no memory'
+passes memory::applies_and_takes_or_wants 'an edit found no memory' 'a line found no memory'
 printf '%s allocations were refused\n' "$refusals"
-[ "$failed" -eq 0 ] && echo 'all passed'
-exit "$failed"
+counted

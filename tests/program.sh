@@ -1,12 +1,24 @@
 #!/usr/bin/env bash
-# What no proof says of the built program: bad words, files that can't be read or written, and help.
+# What no proof says of the built program: bad words, files that can't be read or written, and help. The last line is
+# `N passed, M failed`.
 #   tests/program.sh crates/tomled/out/tomled
 set -u
 program=$(realpath "$1")
 folder=$(mktemp -d)
 trap 'rm -rf "$folder"' EXIT
 cd "$folder"
+passed=0
 failed=0
+
+# fail TEXT, or else pass: how what was looked at came out
+fail() {
+  printf 'FAILED %s\n' "$1"
+  failed=$((failed + 1))
+}
+
+pass() {
+  passed=$((passed + 1))
+}
 
 # run STATUS OUT ERR WORDS..: OUT and ERR are the one line on each output, one that ends in `*` what it begins with, `-`
 # for nothing on it
@@ -16,8 +28,9 @@ run() {
   "$program" "$@" >out 2>err
   local got=$?
   if [ "$got" -ne "$status" ] || ! says out "$out" || ! says err "$err"; then
-    printf 'FAILED tomled %s: status %s\n' "$*" "$got"
-    failed=1
+    fail "tomled $*: status $got"
+  else
+    pass
   fi
 }
 
@@ -62,19 +75,13 @@ run 3 - 'file fault' verify good.toml missing.json good.toml kept.txt
 absent() {
   local file
   for file in "$@"; do
-    if [ -e "$file" ]; then
-      printf 'FAILED %s was written\n' "$file"
-      failed=1
-    fi
+    if [ -e "$file" ]; then fail "$file was written"; else pass; fi
   done
 }
 
 # holds FILE TEXT: the bytes of the file
 holds() {
-  if ! printf "$2" | cmp -s - "$1"; then
-    printf 'FAILED %s has other bytes\n' "$1"
-    failed=1
-  fi
+  if printf "$2" | cmp -s - "$1"; then pass; else fail "$1 has other bytes"; fi
 }
 
 printf 'port = 1_000 # keep\n' >before.toml
@@ -192,15 +199,9 @@ holds full.txt ''
 run 3 - 'file fault' edit before.toml edits.json full.toml /dev/full
 holds full.toml 'port = 0x1F # keep\n'
 "$program" check good.toml >/dev/full 2>err
-if [ $? -ne 3 ] || ! says err 'file fault'; then
-  printf 'FAILED standard output is full\n'
-  failed=1
-fi
+if [ $? -ne 3 ] || ! says err 'file fault'; then fail 'standard output is full'; else pass; fi
 "$program" check twice.toml >out 2>/dev/full
-if [ $? -ne 3 ] || [ -s out ]; then
-  printf 'FAILED standard error is full\n'
-  failed=1
-fi
+if [ $? -ne 3 ] || [ -s out ]; then fail 'standard error is full'; else pass; fi
 
 # So many lines that most are let go on the way.
 yes '[[a]]' | head -n 20000 >many.toml
@@ -211,7 +212,7 @@ printf '[{"op":"insert","at":["a",19999,"b"],"value":"1"}]' >many.json
 run 0 ok - edit many.toml many.json many.out many.cert
 run 0 yes - verify many.toml many.json many.out many.cert
 
-# The deepest texts under a stack of 256 KiB.
+# The deepest texts, under a stack of 256 KiB from here to the end.
 deep() {
   local count
   for count in $(seq "$1"); do printf '%s' "$2"; done
@@ -240,19 +241,17 @@ deepest() {
   run 0 ok - edit "$text.toml" "$text.json" deep.toml deep.txt "$@"
   run 0 yes - verify "$text.toml" "$text.json" deep.toml deep.txt "$@"
 }
-(
-  ulimit -s 256
-  for text in arrays tables key; do
-    deepest "$text"
-    deepest "$text" --profile 2
-  done
-  deepest lines --profile 2
-  run 1 - 'refused 104 5' check lines.toml
-  run 0 ok - edit good.toml value.json deep.toml deep.txt
-  run 0 yes - verify good.toml value.json deep.toml deep.txt
-  run 1 - 'refused 32*' edit good.toml lists.json deep.toml deep.txt
-  run 1 - 'refused 301 0' edit good.toml long.json deep.toml deep.txt
-  exit "$failed"
-) || failed=1
-[ "$failed" -eq 0 ] && echo 'all passed'
-exit "$failed"
+ulimit -s 256
+for text in arrays tables key; do
+  deepest "$text"
+  deepest "$text" --profile 2
+done
+deepest lines --profile 2
+run 1 - 'refused 104 5' check lines.toml
+run 0 ok - edit good.toml value.json deep.toml deep.txt
+run 0 yes - verify good.toml value.json deep.toml deep.txt
+run 1 - 'refused 32*' edit good.toml lists.json deep.toml deep.txt
+run 1 - 'refused 301 0' edit good.toml long.json deep.toml deep.txt
+
+printf '%s passed, %s failed\n' "$passed" "$failed"
+[ "$failed" -eq 0 ]
