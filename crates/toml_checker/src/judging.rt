@@ -145,6 +145,9 @@ pub fn check(
 /// | `Unasked` | each line is paired, or owed by an edit, or the last one, of no bytes, and there is an edit |
 /// | `NewComment` | each comment is paired, inside a paired unit, or written by an edit, and no more often than edits write it |
 /// | `NotTheSame` | the mark is in both texts or in neither, and without edits the texts are equal |
+///
+/// Two units are the same where their kinds and bytes are, and of two lines the newlines, unless one of them is the last of its
+/// text. A comment that an edit writes stands in an array or an inline table.
 pub fn check_in(
     alloc: Global,
     before: &[u8],

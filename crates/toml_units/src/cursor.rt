@@ -108,7 +108,7 @@ impl<'t> UnitCursor<'t> {
     }
 
     /// Goes past the unit before which it stands. What was walked past is let go on the way, so the memory of many units goes as
-    /// the walk comes to its end.
+    /// the walk comes to its end. After want of memory nothing is said of the cursor any more.
     pub fn step(&mut self, alloc: Global) -> Result<(), AllocError>
         requires goes { Goes self.old }
         requires some { IsSome (current self.old) }
