@@ -37,11 +37,11 @@ names_found profile text past None is h = h
 names_found profile text past (Some n) is h = record { fits = is; lines = h.lines; are = h.are; stand = h.names_are }
 
 -- all units of a document were walked past
-all_units_of : (profile : Profile) (text : List ℕ) (past : List LinedUnit) (names : Option LineNames) → Ends profile text past names → (doc : IsDocumentIn profile text) → lined doc.1.lines ≡ past
+pub all_units_of : (profile : Profile) (text : List ℕ) (past : List LinedUnit) (names : Option LineNames) → Ends profile text past names → (doc : IsDocumentIn profile text) → lined doc.1.lines ≡ past
 all_units_of profile text past None h doc = absurd (h doc)
 all_units_of profile text past (Some n) h doc = ap (λ (d : Doc). lined d.lines) (one_tree doc.1 (tree_of text h.lines) text doc.2 h.are.spelled.0) ∙ h.units
 
-few_of : (profile : Profile) (text : List ℕ) (doc : IsDocumentIn profile text) → IsFew (lined doc.1.lines)
+pub few_of : (profile : Profile) (text : List ℕ) (doc : IsDocumentIn profile text) → IsFew (lined doc.1.lines)
 few_of profile text doc =
     let d = doc.1 in
     let a = length-map (lined d.lines) (λ (x : LinedUnit). x.unit) in

@@ -67,4 +67,17 @@ pub mod Pairing
 pub mod Finishing
 pub mod Found
 pub mod AddedOne
+pub mod Fresh
+pub mod InLine
+pub mod Setting
+pub mod Hits
+pub mod Same
+pub mod Served
+pub mod Searched
+pub mod SearchDemands
+pub mod FindingLaws
+pub mod Searching
+pub mod Ended
+pub mod Sought
+pub mod Seeking
 pub mod Proved

@@ -31,3 +31,9 @@ pub mod WrittenComments
 pub mod Traces
 pub mod Added
 pub mod Walking
+pub mod Search
+pub mod SearchLaws
+pub mod Findings
+pub mod Searching
+pub mod Seeking
+pub mod Answers

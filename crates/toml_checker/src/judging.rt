@@ -45,7 +45,7 @@ fn judge_units(said: Said, before: &[u8], edits: &[Edit], after: &[u8]) -> Verdi
 }
 
 /// What all demands say of two texts of which this was found.
-fn judge(
+pub(crate) fn judge(
     alloc: Global,
     found: Found,
     before: &[u8],
@@ -78,7 +78,7 @@ fn judge(
 }
 
 /// Why two texts are refused, where the second is not UTF-8 or too long: for the first one, if that is no document.
-fn refuse(alloc: Global, source: Source, profile: Profile) -> Result<Reason, AllocError>
+pub(crate) fn refuse(alloc: Global, source: Source, profile: Profile) -> Result<Reason, AllocError>
     ensures { IfOk result (IsRefusal profile (text_of source.entry)) }
 {
     match judge_text(alloc, source, profile) {

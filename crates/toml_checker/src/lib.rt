@@ -9,6 +9,8 @@ mod counting;
 mod debts;
 mod edit_list;
 mod facts;
+mod finding;
+pub mod finding_laws;
 mod frame;
 mod fronts;
 mod judging;
@@ -30,6 +32,7 @@ mod walk;
 mod written;
 
 pub use facts::Afterwards;
+pub use finding::{Finding, find, find_at_exit, find_in, find_walked};
 pub use judging::{check, check_at_exit, check_in, check_walked};
 pub use marks::first_marks;
 pub use outer::outermost;
