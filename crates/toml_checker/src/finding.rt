@@ -10,8 +10,8 @@ ghost use Rattle.toml_checker.specs.Answers.{FoundMeans, IsAnswer};
 
 use crate::facts::Afterwards;
 use crate::judging::{judge, refuse};
+use crate::search::{Searched, search_through};
 use crate::verdict::{Reason, Verdict};
-use crate::walk::{Searched, search_through};
 use std::alloc::{AllocError, Global};
 use toml_edits::Edit;
 use toml_text::Source;

@@ -23,6 +23,7 @@ mod outer;
 mod pairs;
 mod protection;
 mod runs;
+mod search;
 mod side;
 mod sight;
 mod tables;

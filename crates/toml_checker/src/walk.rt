@@ -1,14 +1,14 @@
 //! Two texts walked through together, unit by unit. Of a text that is read on the way no more than a line is kept at a time,
 //! and what the lines name.
-ghost use Rattle.std.specs.Prelude.{◌≡◌, [], List, IfOk, IsSome, OnOk, map};
+ghost use Rattle.std.specs.Prelude.{◌≡◌, [], List, IfOk, OnOk, map};
 ghost use Rattle.toml_text.specs.Limit.{IsText};
 ghost use Rattle.toml_text.specs.Source.{text_of};
 ghost use Rattle.toml_tree.specs.declared.profile.Profile.{Profile as InProfile};
 ghost use Rattle.toml_edits.specs.Edits.{Change, change};
-ghost use Rattle.toml_units.specs.Cursors.{Goes, Walks, current};
+ghost use Rattle.toml_units.specs.Cursors.{Goes, Walks};
 ghost use Rattle.toml_checker.specs.EditLists.{changes};
 ghost use Rattle.toml_checker.specs.Walking.{AddsNext, CanPass, FinishesOff, GoesOn, HasPassed, HasReached, IsFound, IsGoing, IsKeptWith};
-ghost use Rattle.toml_checker.specs.Seeking.{IsNeeded, IsSearchedOf, IsSought, SearchesAll, Seeks, StepsOn};
+ghost use Rattle.toml_checker.specs.Seeking.{IsNeeded};
 ghost use Rattle.toml_checker.specs.Walking.{IsOn, Passing, PassingTo, Reaching, ReachingTo, SeesNext, TellsAll, TellsNext, TellsPair, lies_ahead};
 
 use crate::added::{Added, Asked, asked_by};
@@ -27,19 +27,19 @@ use toml_units::UnitCursor;
 #[derive(Drop)]
 pub(crate) struct FirstText<'t> {
     text: &'t [u8],
-    cursor: UnitCursor<'t>,
+    pub(crate) cursor: UnitCursor<'t>,
     kept: Kept,
     /// How many units were walked past.
-    passed: u64,
+    pub(crate) passed: u64,
 }
 
 /// The second text on the way, and what was found of the units that were walked past.
 #[derive(Drop)]
 pub(crate) struct SecondText<'t> {
     text: &'t [u8],
-    cursor: UnitCursor<'t>,
+    pub(crate) cursor: UnitCursor<'t>,
     added: Added<'t>,
-    passed: u64,
+    pub(crate) passed: u64,
 }
 
 /// Whether there is more to walk past, behind so many units, before the one with the number; without a number there always is.
@@ -54,7 +54,7 @@ fn lies_ahead(number: Option<u64>, passed: u64) -> bool
 
 impl<'t> FirstText<'t> {
     /// Before the first unit, as the cursor stands.
-    fn new(text: &'t [u8], cursor: UnitCursor<'t>) -> FirstText<'t>
+    pub(crate) fn new(text: &'t [u8], cursor: UnitCursor<'t>) -> FirstText<'t>
         ensures text { result.text ≡ text.entry }
         ensures passed { (profile : InProfile) (cs : List Change) → Walks profile text.now cursor.entry [] → HasPassed profile cs result [] }
     {
@@ -67,7 +67,7 @@ impl<'t> FirstText<'t> {
     }
 
     /// The sight of the unit before which it stands. Behind the last one there is nothing to be seen.
-    fn look(&self, list: &mut EditList) -> Sight
+    pub(crate) fn look(&self, list: &mut EditList) -> Sight
         ensures list { list.new.edits.now ≡ list.old.edits.now }
         ensures sees { SeesNext list.new self.now result }
     {
@@ -78,7 +78,7 @@ impl<'t> FirstText<'t> {
     }
 
     /// Walks past one unit, which is paired or not, and has this sight.
-    fn pass(
+    pub(crate) fn pass(
         &mut self,
         alloc: Global,
         list: &EditList,
@@ -114,7 +114,7 @@ impl<'t> FirstText<'t> {
     }
 
     /// Whether the unit before which it stands would be lost if it were not paired.
-    fn needs_pair(&self, alloc: Global, list: &EditList, sight: Sight) -> Result<bool, AllocError>
+    pub(crate) fn needs_pair(&self, alloc: Global, list: &EditList, sight: Sight) -> Result<bool, AllocError>
         requires { SeesNext list.now self.now sight }
         ensures { IfOk result (IsNeeded (changes list.now) self.now) }
     {
@@ -144,7 +144,7 @@ impl<'t> FirstText<'t> {
 
 impl<'t> SecondText<'t> {
     /// Before the first unit.
-    fn new(
+    pub(crate) fn new(
         alloc: Global,
         text: &'t [u8],
         source: Source<'t>,
@@ -162,7 +162,7 @@ impl<'t> SecondText<'t> {
     }
 
     /// Walks past one unit, which is paired or not.
-    fn pass(&mut self, alloc: Global, asked: &Asked, paired: bool) -> Result<(), AllocError>
+    pub(crate) fn pass(&mut self, alloc: Global, asked: &Asked, paired: bool) -> Result<(), AllocError>
         requires { CanPass self.old.cursor }
         ensures text { self.new.text ≡ self.old.text }
         ensures on { OnOk result (GoesOn self.old.cursor self.old.passed self.new.cursor self.new.passed) }
@@ -206,7 +206,7 @@ impl<'t> SecondText<'t> {
 }
 
 /// Whether the units before which the texts stand are those of the pair, and the same. The first has this sight.
-fn is_pair(
+pub(crate) fn is_pair(
     alloc: Global,
     list: &EditList,
     sight: Sight,
@@ -242,10 +242,10 @@ fn is_pair(
 /// Both texts on the way, the edits, and what they ask for.
 #[derive(Drop)]
 pub(crate) struct Walk<'e, 's, 't> {
-    list: EditList<'e>,
-    asked: Asked<'e>,
-    one: FirstText<'s>,
-    other: SecondText<'t>,
+    pub(crate) list: EditList<'e>,
+    pub(crate) asked: Asked<'e>,
+    pub(crate) one: FirstText<'s>,
+    pub(crate) other: SecondText<'t>,
 }
 
 /// What is said of the units of two documents: whether the pairs fit; and where they do, whether nothing protected is lost, and
@@ -296,65 +296,8 @@ impl<'e, 's, 't> Walk<'e, 's, 't> {
         Ok(true)
     }
 
-    /// Walks on in the second text, to the first unit that is the same as the one before which the first text stands, which has
-    /// this sight. Whether there is one.
-    fn seek(&mut self, alloc: Global, sight: Sight) -> Result<bool, AllocError>
-        requires goes { Goes self.old.other.cursor }
-        requires sees { SeesNext self.old.list self.old.one sight }
-        ensures list { self.new.list ≡ self.old.list }
-        ensures asked { self.new.asked ≡ self.old.asked }
-        ensures one { self.new.one ≡ self.old.one }
-        ensures text { self.new.other.text ≡ self.old.other.text }
-        ensures seeks { Seeks self.old self.new result }
-    {
-        while self.other.cursor.unit().is_some() {
-            let place = (self.one.passed, self.other.passed);
-            if is_pair(alloc, &self.list, sight, &self.one, &self.other, place)? {
-                return Ok(true);
-            }
-            self.other.pass(alloc, &self.asked, false)?;
-        }
-        Ok(false)
-    }
-
-    /// Walks past the next unit of the first text, and if it would be lost unpaired to the unit of the second text that is the
-    /// same, and past that. Whether there is one, or none is needed.
-    fn next(&mut self, alloc: Global, pairs: &mut Vec<(u64, u64)>) -> Result<bool, AllocError>
-        requires going { IsSought self.old pairs.old.items }
-        requires some { IsSome (current self.old.one.cursor) }
-        ensures { StepsOn self.old pairs.old.items self.new pairs.new.items result }
-    {
-        let sight = self.one.look(&mut self.list);
-        if !self.one.needs_pair(alloc, &self.list, sight)? {
-            self.one.pass(alloc, &self.list, sight, false)?;
-            return Ok(true);
-        }
-        if !self.seek(alloc, sight)? {
-            return Ok(false);
-        }
-        pairs.push((self.one.passed, self.other.passed))?;
-        let paired = true;
-        self.one.pass(alloc, &self.list, sight, paired)?;
-        self.other.pass(alloc, &self.asked, paired)?;
-        Ok(true)
-    }
-
-    /// Walks on to the end of the first text, or to a unit that must be paired and for which there is none. The pairs on the way.
-    fn search(&mut self, alloc: Global) -> Result<Vec<(u64, u64)>, AllocError>
-        requires { (profile : InProfile) × (cs : List Change) × IsOn profile cs self.old [] [] }
-        ensures { SearchesAll self.old self.new result }
-    {
-        let mut pairs = Vec::new(alloc);
-        while self.one.cursor.unit().is_some() {
-            if !self.next(alloc, &mut pairs)? {
-                return Ok(pairs);
-            }
-        }
-        Ok(pairs)
-    }
-
     /// Walks on to the end of both texts.
-    fn finish(self, alloc: Global, fits: bool) -> Result<Found<'s, 't>, AllocError>
+    pub(crate) fn finish(self, alloc: Global, fits: bool) -> Result<Found<'s, 't>, AllocError>
         requires { IsGoing self }
         ensures { FinishesOff self.entry fits result }
     {
@@ -410,39 +353,4 @@ pub(crate) fn walk_through<'s, 't>(
     };
     let fits = walk.pair_all(alloc, pairs)?;
     walk.finish(alloc, fits)
-}
-
-/// What was found of two texts, and the pairs with which the search ended.
-#[derive(Drop)]
-pub(crate) struct Searched<'s, 't> {
-    pub(crate) found: Found<'s, 't>,
-    pub(crate) pairs: Vec<(u64, u64)>,
-}
-
-/// What is found of two texts and the pairs that the search makes of their units, the values of the edits read in the profile.
-/// The cursor stands before the first unit of the first text.
-pub(crate) fn search_through<'s, 't>(
-    alloc: Global,
-    before: &'s [u8],
-    cursor: UnitCursor<'s>,
-    edits: &[Edit],
-    after: &'t [u8],
-    other: Source<'t>,
-    profile: Profile,
-) -> Result<Searched<'s, 't>, AllocError>
-    requires before { Walks profile before.now cursor [] }
-    requires fits { IsText before.now }
-    requires after { text_of other ≡ after.now }
-    ensures { IfOk result (IsSearchedOf profile before.now (map change edits.now) after.now) }
-{
-    let second = SecondText::new(alloc, after, other, profile)?;
-    let mut walk = Walk {
-        list: EditList::of(alloc, edits)?,
-        asked: asked_by(alloc, edits, profile)?,
-        one: FirstText::new(before, cursor),
-        other: second,
-    };
-    let pairs = walk.search(alloc)?;
-    let found = walk.finish(alloc, true)?;
-    Ok(Searched { found, pairs })
 }
