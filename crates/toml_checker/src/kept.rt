@@ -3,7 +3,7 @@ ghost use Rattle.std.specs.Prelude.{◌≡◌, IfOk};
 ghost use Rattle.toml_units.specs.View.{unit as span_of};
 ghost use Rattle.toml_checker.specs.EditLists.{changes};
 ghost use Rattle.toml_checker.specs.Sights.{HasSight};
-ghost use Rattle.toml_checker.specs.Traces.{kept_with, nothing_kept};
+ghost use Rattle.toml_checker.specs.Traces.{kept_past, must_pair, nothing_kept, seen_by};
 
 use crate::edit_list::EditList;
 use crate::marks::{reach_with, reaches};
@@ -24,6 +24,17 @@ pub(crate) struct Kept {
     pub(crate) all: bool,
 }
 
+/// What the edits leave of the next unit of the first text, whether it is paired or not.
+#[derive(Clone, Copy)]
+pub(crate) struct Seen {
+    /// Whether it is protected.
+    pub(crate) protected: bool,
+    /// Whether its line, or the last one before it, is still there.
+    pub(crate) home: bool,
+    /// Where it ends.
+    pub(crate) end: usize,
+}
+
 impl Kept {
     /// Nothing was walked past.
     pub(crate) fn none() -> Kept
@@ -36,26 +47,42 @@ impl Kept {
         }
     }
 
-    /// The same behind one unit more.
-    pub(crate) fn with(
+    /// What the edits leave of the next unit.
+    pub(crate) fn see(
         self,
         alloc: Global,
         list: &EditList,
         sight: Sight,
         unit: &Unit,
-        paired: bool,
-    ) -> Result<Kept, AllocError>
+    ) -> Result<Seen, AllocError>
         requires { HasSight list.now unit.now.address sight }
-        ensures { IfOk result (λ kept. kept ≡ kept_with (changes list.now) self (span_of unit.now) paired) }
+        ensures { IfOk result (λ seen. seen ≡ seen_by (changes list.now) self (span_of unit.now)) }
     {
         let protected = is_kept(alloc, list, sight, self.home, unit)?;
         let home = home_with(alloc, list, sight, self.home, unit, protected)?;
-        let end = unit.span.end;
-        let reach = reach_with(self.reach, protected && paired, end);
-        Ok(Kept {
+        Ok(Seen {
+            protected,
             home,
-            reach,
-            all: self.all && (!protected || reaches(reach, end)),
+            end: unit.span.end,
         })
+    }
+
+    /// Whether the next unit, of which this is seen, would be lost if it were not paired.
+    pub(crate) fn must_pair(self, seen: Seen) -> bool
+        ensures { result ≡ must_pair self seen }
+    {
+        seen.protected && !reaches(self.reach, seen.end)
+    }
+
+    /// The same behind the next unit, of which this is seen, and which is paired or not.
+    pub(crate) fn past(self, seen: Seen, paired: bool) -> Kept
+        ensures { result ≡ kept_past self seen paired }
+    {
+        let reach = reach_with(self.reach, seen.protected && paired, seen.end);
+        Kept {
+            home: seen.home,
+            reach,
+            all: self.all && (!seen.protected || reaches(reach, seen.end)),
+        }
     }
 }

@@ -49,8 +49,9 @@ impl<'e, 's, 't> Walk<'e, 's, 't> {
         ensures { StepsOn self.old pairs.old.items self.new pairs.new.items result }
     {
         let sight = self.one.look(&mut self.list);
-        if !self.one.needs_pair(alloc, &self.list, sight)? {
-            self.one.pass(alloc, &self.list, sight, false)?;
+        let seen = self.one.see(alloc, &self.list, sight)?;
+        if !self.one.must_pair(seen) {
+            self.one.pass(alloc, seen, false)?;
             return Ok(true);
         }
         if !self.seek(alloc, sight)? {
@@ -58,7 +59,7 @@ impl<'e, 's, 't> Walk<'e, 's, 't> {
         }
         pairs.push((self.one.passed, self.other.passed))?;
         let paired = true;
-        self.one.pass(alloc, &self.list, sight, paired)?;
+        self.one.pass(alloc, seen, paired)?;
         self.other.pass(alloc, &self.asked, paired)?;
         Ok(true)
     }

@@ -7,13 +7,13 @@ ghost use Rattle.toml_tree.specs.declared.profile.Profile.{Profile as InProfile}
 ghost use Rattle.toml_edits.specs.Edits.{Change, change};
 ghost use Rattle.toml_units.specs.Cursors.{Goes, Walks};
 ghost use Rattle.toml_checker.specs.EditLists.{changes};
-ghost use Rattle.toml_checker.specs.Walking.{AddsNext, CanPass, FinishesOff, GoesOn, HasPassed, HasReached, IsFound, IsGoing, IsKeptWith};
-ghost use Rattle.toml_checker.specs.Seeking.{IsNeeded};
-ghost use Rattle.toml_checker.specs.Walking.{IsOn, Passing, PassingTo, Reaching, ReachingTo, SeesNext, TellsAll, TellsNext, TellsPair, lies_ahead};
+ghost use Rattle.toml_checker.specs.Traces.{must_pair};
+ghost use Rattle.toml_checker.specs.Walking.{AddsNext, CanPass, FinishesOff, GoesOn, HasPassed, HasReached, IsFound, IsGoing, IsSeen};
+ghost use Rattle.toml_checker.specs.Walking.{IsOn, Passes, PassingTo, Reaching, ReachingTo, SeesNext, TellsAll, TellsNext, TellsPair, lies_ahead};
 
 use crate::added::{Added, Asked, asked_by};
 use crate::edit_list::EditList;
-use crate::kept::Kept;
+use crate::kept::{Kept, Seen};
 use crate::pairs::{Spot, are_alike};
 use crate::sight::Sight;
 use std::alloc::{AllocError, Global};
@@ -77,49 +77,48 @@ impl<'t> FirstText<'t> {
         }
     }
 
-    /// Walks past one unit, which is paired or not, and has this sight.
-    pub(crate) fn pass(
-        &mut self,
-        alloc: Global,
-        list: &EditList,
-        sight: Sight,
-        paired: bool,
-    ) -> Result<(), AllocError>
-        requires can { CanPass self.old.cursor }
-        requires sees { SeesNext list.now self.old sight }
-        ensures text { self.new.text ≡ self.old.text }
-        ensures on { OnOk result (GoesOn self.old.cursor self.old.passed self.new.cursor self.new.passed) }
-        ensures passes { Passing (changes list.now) self.old paired self.new result }
-    {
-        self.kept = self.kept_with(alloc, list, sight, paired)?;
-        self.passed = self.passed.saturating_add(1);
-        self.cursor.step(alloc)
-    }
-
-    /// What is found behind the unit before which it stands.
-    fn kept_with(
+    /// What the edits leave of the unit before which it stands, which has this sight. Behind the last one nothing is protected.
+    pub(crate) fn see(
         &self,
         alloc: Global,
         list: &EditList,
         sight: Sight,
-        paired: bool,
-    ) -> Result<Kept, AllocError>
+    ) -> Result<Seen, AllocError>
         requires { SeesNext list.now self.now sight }
-        ensures { IfOk result (IsKeptWith (changes list.now) self.now paired) }
+        ensures { IfOk result (IsSeen (changes list.now) self.now) }
     {
         let Some(unit) = self.cursor.unit() else {
-            return Ok(self.kept);
+            return Ok(Seen {
+                protected: false,
+                home: self.kept.home,
+                end: 0,
+            });
         };
-        self.kept.with(alloc, list, sight, unit, paired)
+        self.kept.see(alloc, list, sight, unit)
     }
 
-    /// Whether the unit before which it stands would be lost if it were not paired.
-    pub(crate) fn needs_pair(&self, alloc: Global, list: &EditList, sight: Sight) -> Result<bool, AllocError>
-        requires { SeesNext list.now self.now sight }
-        ensures { IfOk result (IsNeeded (changes list.now) self.now) }
+    /// Whether the unit before which it stands, of which this is seen, would be lost if it were not paired.
+    pub(crate) fn must_pair(&self, seen: Seen) -> bool
+        ensures { result ≡ must_pair self.now.kept seen }
     {
-        let kept = self.kept_with(alloc, list, sight, false)?;
-        Ok(!kept.all)
+        self.kept.must_pair(seen)
+    }
+
+    /// Walks past one unit, of which this is seen, and which is paired or not.
+    pub(crate) fn pass(
+        &mut self,
+        alloc: Global,
+        seen: Seen,
+        paired: bool,
+    ) -> Result<(), AllocError>
+        requires { CanPass self.old.cursor }
+        ensures text { self.new.text ≡ self.old.text }
+        ensures on { OnOk result (GoesOn self.old.cursor self.old.passed self.new.cursor self.new.passed) }
+        ensures passes { Passes self.old seen paired self.new result }
+    {
+        self.kept = self.kept.past(seen, paired);
+        self.passed = self.passed.saturating_add(1);
+        self.cursor.step(alloc)
     }
 
     /// Walks on past units that are not paired, up to the one with the number, or to the end.
@@ -136,7 +135,8 @@ impl<'t> FirstText<'t> {
     {
         while lies_ahead(number, self.passed) && self.cursor.unit().is_some() {
             let sight = self.look(list);
-            self.pass(alloc, list, sight, false)?;
+            let seen = self.see(alloc, list, sight)?;
+            self.pass(alloc, seen, false)?;
         }
         Ok(())
     }
@@ -278,7 +278,8 @@ impl<'e, 's, 't> Walk<'e, 's, 't> {
         if !is_pair(alloc, &self.list, sight, &self.one, &self.other, pair)? {
             return Ok(false);
         }
-        self.one.pass(alloc, &self.list, sight, true)?;
+        let seen = self.one.see(alloc, &self.list, sight)?;
+        self.one.pass(alloc, seen, true)?;
         self.other.pass(alloc, &self.asked, true)?;
         Ok(true)
     }

@@ -21,10 +21,7 @@ pub pass-requires : goal.pass-requires
 pass-requires c =
     let on : IsOn c.requires.0 c.requires.1 c.args.self.now c.requires.2 c.requires.3 = c.requires.4 in
     let first = subst (λ (ds : List Change). PassingTo ds c.args.self.now.one (Some c.args.pair.0) c.pass_to.new.self (Ok tt)) on.edits c.in_ok-pass_to.ensures.passes c.requires.0 c.requires.2 on.first in
-    record {
-      can = record { goes = (c.requires.0, _, _, first.holds.walks); some = ap is_some (c.in_ok-is_pair.ensures.0 c.if-not-branch.false).first_is };
-      sees = c.look-sight.ensures.sees;
-    }
+    record { goes = (c.requires.0, _, _, first.holds.walks); some = ap is_some (c.in_ok-is_pair.ensures.0 c.if-not-branch.false).first_is }
 
 pub pass-requires-2 : goal.pass-requires-2
 pass-requires-2 c =
@@ -41,6 +38,6 @@ returns c = λ profile cs ms ns on.
     let second = c.in_ok-pass_to-2.ensures.passes profile ns on.second in
     let listed : changes list ≡ cs = ap (map change) (c.look-sight.ensures.list ∙ c.pass_to.ensures.list) ∙ on.edits in
     let told = subst (λ (ds : List Change). TellsPair ds mid c.pass_to-2.new.self c.args.pair c.in_ok-is_pair.field-0) listed c.in_ok-is_pair.ensures in
-    let more = subst (λ (ds : List Change). Passing ds mid true c.pass.new.self (Ok tt)) listed c.in_ok-pass.ensures.passes profile (ms ++ first.more) first.holds in
+    let more = subst (λ (ds : List Change). Passing ds mid true c.pass.new.self (Ok tt)) listed (c.in_ok-pass.ensures.passes (changes list) c.in_ok-seen.ensures) profile (ms ++ first.more) first.holds in
     pair_fits profile cs old ms ns c.args.pair on mid c.pass_to-2.new.self list listed c.pass_to.ensures.text c.pass_to-2.ensures.text first second c.in_ok-is_pair.field-0 told c.if-not-branch.false
     c.pass.new.self c.pass-2.new.self list listed c.pass.ensures.text c.pass-2.ensures.text more (c.in_ok-pass-2.ensures.passes profile (ns ++ second.more) second.holds)
