@@ -8,7 +8,7 @@ use Rattle.toml_names.specs.model.Data.{Kinds, kind_at, IsClosed}
 use Rattle.toml_names.specs.mentions.Mentions.{a_table, an_array}
 use Rattle.toml_edits.specs.After.{IsAfter}
 use Rattle.toml_edits.specs.Carry.{Carrier, carry, carry_below, nowhere, parted}
-use Rattle.toml_edits.specs.Edits.{Change, set, new_section, new_element, place}
+use Rattle.toml_edits.specs.Edits.{Change, set, insert, new_section, new_element, place}
 use Rattle.toml_edits.specs.Faults.{IsFault}
 
 -- for `set`, the address is not the edit's own
@@ -38,6 +38,29 @@ CarriedFront = (c : Change) (a r b : Address) → carry c (a ++ r) ≡ Some b �
 -- In data nothing stands below an address where nothing does.
 abbrev pub DataAreClosed : Type 0
 DataAreClosed = (d : Datum) → IsClosed (kind_at d)
+
+-- Where nothing stands below nothing, something stands at each beginning of an address at which something does.
+abbrev pub FrontsStand : Type 0
+FrontsStand = (kinds : Kinds) → IsClosed kinds → (q r : Address) → IsSome (kinds (q ++ r)) → IsSome (kinds q)
+
+-- the edit puts a value where it is made
+abbrev pub PutsValue : Change → Type 0
+PutsValue (set at value) = Unit {0}
+PutsValue (insert at value) = Unit {0}
+PutsValue _ = ⊥
+
+-- it is a `set` at the address or above it
+abbrev pub SetsOver : Change → Address → Type 0
+SetsOver (set at value) a = (r : Address) × (a ≡ at ++ r)
+SetsOver _ a = ⊥
+
+-- Behind an edit that puts a value something stands at its place.
+abbrev pub ValuesStand : Type 0
+ValuesStand = (profile : Profile) (c : Change) (old new : Kinds) → IsAfter profile c old new → PutsValue c → IsSome (new (place c))
+
+-- What an edit without a fault carries to where it puts a value, or below that, lay under a `set`: else nothing comes to stand there.
+abbrev pub ValuesAreNew : Type 0
+ValuesAreNew = (profile : Profile) (c : Change) (old : Kinds) → IsClosed old → IsFault profile c old None → PutsValue c → (a rest : Address) → IsSome (old a) → carry c a ≡ Some (place c ++ rest) → SetsOver c a
 
 -- Two addresses of the data that an edit without a fault carries to one address are one.
 abbrev pub CarriedApart : Type 0

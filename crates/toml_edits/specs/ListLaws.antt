@@ -10,6 +10,7 @@ use Rattle.toml_edits.specs.After.{IsAfter}
 use Rattle.toml_edits.specs.Carry.{carry}
 use Rattle.toml_edits.specs.Edits.{Change}
 use Rattle.toml_edits.specs.Faults.{IsFault}
+use Rattle.toml_edits.specs.Laws.{Front}
 use Rattle.toml_edits.specs.Lists.{carried, Lead, IsFirstFault}
 
 -- Through two lists, one after the other, a thing is carried by the second to where the first has carried it.
@@ -34,6 +35,15 @@ CarriedStands = (profile : Profile) (c : Change) (old new : Kinds) → IsFault p
 -- Two things of data in which nothing stands below nothing that edits without a fault carry to one address are one.
 abbrev pub ListsCarryApart : Type 0
 ListsCarryApart = (profile : Profile) (cs : List Change) (old new : Kinds) → IsClosed old → Lead profile cs old new → (a b to : Address) → IsSome (old a) → IsSome (old b) → carried cs a ≡ Some to → carried cs b ≡ Some to → a ≡ b
+
+-- A beginning of what a list carries is carried to a beginning of the same length.
+abbrev pub ListsCarryFronts : Type 0
+ListsCarryFronts = (cs : List Change) (a r b : Address) → carried cs (a ++ r) ≡ Some b → Front (carried cs) a b
+
+-- Of two things of such data the one was at or above the other, if edits without a fault carry it to there.
+abbrev pub CarriedKeepOrder : Type 0
+CarriedKeepOrder = (profile : Profile) (cs : List Change) (old new : Kinds) → IsClosed old → Lead profile cs old new → (p a to rest : Address) → IsSome (old p) → IsSome (old a) → carried cs p ≡ Some to → carried cs a ≡ Some (to ++ rest)
+    → (r : Address) × (a ≡ p ++ r)
 
 -- Data in which nothing stands below nothing stay so under an edit without a fault.
 abbrev pub StaysClosed : Type 0

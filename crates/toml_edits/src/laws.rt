@@ -1,8 +1,8 @@
 //! Laws over the definitions: nothing is run.
 ghost use Rattle.toml_edits.specs.EditList.{BadListIsNone, OneEditList};
-ghost use Rattle.toml_edits.specs.ListLaws.{CarriedOn, CarriedStands, DataIndicesAreLow, FaultOrLead, LeadsStayClosed, ListsCarryApart, OneFirstFault, OneLead, StaysClosed};
+ghost use Rattle.toml_edits.specs.ListLaws.{CarriedKeepOrder, CarriedOn, CarriedStands, DataIndicesAreLow, FaultOrLead, LeadsStayClosed, ListsCarryApart, ListsCarryFronts, OneFirstFault, OneLead, StaysClosed};
 ghost use Rattle.toml_edits.specs.NearLaws.{FaultsNear, FaultBeside, HiddenStays, LeadsBeside, LeadsNear};
-ghost use Rattle.toml_edits.specs.Laws.{CarriedAlong, CarriedFront, CarriedApart, DataAreClosed, ElementIsEmpty, NewTablesStay, OneAfter, PartedAtLast, SectionIsEmpty, SetCarries};
+ghost use Rattle.toml_edits.specs.Laws.{CarriedAlong, CarriedFront, CarriedApart, DataAreClosed, ElementIsEmpty, FrontsStand, NewTablesStay, OneAfter, PartedAtLast, SectionIsEmpty, SetCarries, ValuesAreNew, ValuesStand};
 
 /// What is below an address is carried along with it, unless the edit is below the address or a `set` at it. A
 /// beginning of what is carried is carried to a beginning as long. Where no fault holds, and nothing stands below
@@ -15,9 +15,10 @@ pub fn carried()
 {}
 
 /// In data nothing stands below an address where nothing does; an edit without a fault leaves it so, and a list of such
-/// edits. Each index in data is below 2^63.
+/// edits. Something then stands at each beginning of an address at which something does. Each index in data is below 2^63.
 pub fn closed()
     ensures data { DataAreClosed }
+    ensures fronts { FrontsStand }
     ensures stays { StaysClosed }
     ensures leads { LeadsStayClosed }
     ensures indices { DataIndicesAreLow }
@@ -38,12 +39,22 @@ pub fn new_tables()
     ensures element { ElementIsEmpty }
 {}
 
-/// Through a list a thing is carried edit by edit. Edits without a fault carry what stands somewhere to where something
-/// stands, and no two things to one address.
+/// Where an edit puts a value something stands behind it, and nothing comes to stand there, or below, but what lay under a
+/// `set`.
+pub fn values()
+    ensures stand { ValuesStand }
+    ensures fresh { ValuesAreNew }
+{}
+
+/// Through a list a thing is carried edit by edit, and a beginning of it to a beginning as long. Edits without a fault carry
+/// what stands somewhere to where something stands, no two things to one address, and a thing above another only if it was
+/// so.
 pub fn carried_by_lists()
     ensures on { CarriedOn }
+    ensures fronts { ListsCarryFronts }
     ensures stands { CarriedStands }
     ensures apart { ListsCarryApart }
+    ensures order { CarriedKeepOrder }
 {}
 
 /// No list both leads to data and has a first fault; of each there is at most one.

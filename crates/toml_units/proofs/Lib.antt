@@ -30,6 +30,8 @@ pub mod Standing
 pub mod Read
 pub mod Holders
 pub mod Tails
+pub mod AtPlaces
+pub mod OnLines
 pub mod Proved
 pub mod ReadLines
 pub mod Newlines
