@@ -68,7 +68,6 @@ pub mod Finishing
 pub mod Found
 pub mod AddedOne
 pub mod Fresh
-pub mod InLine
 pub mod Setting
 pub mod Hits
 pub mod Same
@@ -76,6 +75,8 @@ pub mod Served
 pub mod Searched
 pub mod SearchDemands
 pub mod FindingLaws
+pub mod FoundAnswers
+pub mod Together
 pub mod Searching
 pub mod Ended
 pub mod Sought

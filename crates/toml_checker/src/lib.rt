@@ -10,7 +10,6 @@ mod debts;
 mod edit_list;
 mod facts;
 mod finding;
-pub mod finding_laws;
 mod frame;
 mod fronts;
 mod judging;

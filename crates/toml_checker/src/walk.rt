@@ -105,12 +105,7 @@ impl<'t> FirstText<'t> {
     }
 
     /// Walks past one unit, of which this is seen, and which is paired or not.
-    pub(crate) fn pass(
-        &mut self,
-        alloc: Global,
-        seen: Seen,
-        paired: bool,
-    ) -> Result<(), AllocError>
+    pub(crate) fn pass(&mut self, alloc: Global, seen: Seen, paired: bool) -> Result<(), AllocError>
         requires { CanPass self.old.cursor }
         ensures text { self.new.text ≡ self.old.text }
         ensures on { OnOk result (GoesOn self.old.cursor self.old.passed self.new.cursor self.new.passed) }
@@ -162,7 +157,12 @@ impl<'t> SecondText<'t> {
     }
 
     /// Walks past one unit, which is paired or not.
-    pub(crate) fn pass(&mut self, alloc: Global, asked: &Asked, paired: bool) -> Result<(), AllocError>
+    pub(crate) fn pass(
+        &mut self,
+        alloc: Global,
+        asked: &Asked,
+        paired: bool,
+    ) -> Result<(), AllocError>
         requires { CanPass self.old.cursor }
         ensures text { self.new.text ≡ self.old.text }
         ensures on { OnOk result (GoesOn self.old.cursor self.old.passed self.new.cursor self.new.passed) }

@@ -17,6 +17,6 @@ returns-clause-passes c = λ cs sees profile ms h.
     let old = c.args.self.now in
     on_ok_weaker c.step.result (λ moves x is. let m : Met = record { lined = x; paired = c.args.paired } in record {
       walks = subst (Walks profile old.text.now c.step.new.self) (sym (lined_push ms m)) (moves.walks x is);
-      kept = c.past.ensures ∙ ap (λ s. kept_past old.kept s c.args.paired) (sees x is) ∙ ap (λ k. kept_with cs k x.unit c.args.paired) h.kept ∙ sym (kept_push cs nothing_kept ms m);
+      kept = c.past-self.ensures ∙ ap (λ s. kept_past old.kept s c.args.paired) (sees x is) ∙ ap (λ k. kept_with cs k x.unit c.args.paired) h.kept ∙ sym (kept_push cs nothing_kept ms m);
       passed = one_more ms m old.passed c.saturating_add-self.result h.passed c.saturating_add-self.ensures;
     }) (c.step.ensures profile old.text.now (lined_of ms) h.walks)
