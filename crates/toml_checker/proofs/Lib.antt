@@ -78,6 +78,7 @@ pub mod FindingLaws
 pub mod FoundAnswers
 pub mod Together
 pub mod Searching
+pub mod SearchSteps
 pub mod Ended
 pub mod Sought
 pub mod Seeking

@@ -1,17 +1,15 @@
 -- What the edits leave of comments in arrays and inline tables, and of what has no address.
-use Rattle.std.proofs.Common.{◌≡◌, ◌⊎◌, inl, inr, ℕ, List, [], ◌∷◌, ◌++◌, Option, Some, None, refl, sym, ap, subst, ◌∙◌}
+use Rattle.std.proofs.Common.{◌≡◌, ◌⊎◌, inl, inr, ℕ, List, [], ◌∷◌, ◌++◌, Option, Some, None, refl, sym, subst, ◌∙◌}
 use Rattle.std.proofs.lemmas.Option.{none-some, same_Some}
 use Rattle.std.specs.Prelude.{slice_get}
-use Rattle.toml_tree.specs.Tree.{Line}
 use Rattle.toml_tree.specs.declared.profile.Profile.{Profile}
 use Rattle.toml_tree.proofs.Proved.{one_tree}
 use Rattle.toml_names.specs.model.Addresses.{Address}
-use Rattle.toml_names.specs.model.Data.{Kinds, IsDataOf}
+use Rattle.toml_names.specs.model.Data.{IsDataOf}
 use Rattle.toml_names.specs.model.Documents.{IsDocumentIn}
 use Rattle.toml_names.specs.mentions.Mentions.{named}
 use Rattle.toml_names.proofs.Proved.{lines_are_closed}
 use Rattle.toml_edits.specs.Edits.{Change}
-use Rattle.toml_edits.specs.Lists.{carried}
 use Rattle.toml_units.specs.declared.unit.UnitKind.{UnitKind}
 use Rattle.toml_units.specs.declared.unit.UnitKind.TheVariants as kinds
 use Rattle.toml_units.specs.Apart.{AreOfOneArray}
@@ -19,10 +17,10 @@ use Rattle.toml_units.specs.Blocks.{IsUnder}
 use Rattle.toml_units.specs.OfLines.{IsOfLine}
 use Rattle.toml_units.specs.Places.{line_of}
 use Rattle.toml_units.specs.Units.{TextUnit, units}
-use Rattle.toml_units.proofs.Proved.{holders_hold_each, units_are_based, units_are_of_lines, units_are_sized, units_have_addresses, units_lie_in_lines}
-use Rattle.toml_checker.specs.CarriedTo.{At, IsCarriedTo}
-use Rattle.toml_checker.specs.Comments.{AreWritten, IsWritten}
-use Rattle.toml_checker.specs.GoneAndChanged.{IsChanged, IsGone, Standing}
+use Rattle.toml_units.proofs.Proved.{holders_hold_each, units_are_of_lines, units_are_sized, units_have_addresses, units_lie_in_lines}
+use Rattle.toml_checker.specs.CarriedTo.{At}
+use Rattle.toml_checker.specs.Comments.{IsWritten}
+use Rattle.toml_checker.specs.GoneAndChanged.{IsChanged, IsGone}
 use Rattle.toml_checker.specs.Laws.{BlankLinesArePartners, CommentsStayTogether, NoneIsWrittenThere, UnplacedAreProtected}
 use Rattle.toml_checker.specs.Lines.{IsEmptyEnd}
 use Rattle.toml_checker.specs.Owed.{IsOwed}
