@@ -1,16 +1,12 @@
 -- Units at one address, by their places.
-use Rattle.std.proofs.Common.{◌≡◌, ◌⊎◌, inl, inr, ℕ, zero, suc, ◌<◌, ◌≤◌, List, [], ◌∷◌, Some, refl, sym, ap, subst, ◌∙◌, arith}
+use Rattle.std.proofs.Common.{◌≡◌, ◌⊎◌, inl, inr, ℕ, zero, suc, ◌<◌, ◌≤◌, List, [], ◌∷◌, Some, sym, ap, subst, ◌∙◌, arith}
 use Rattle.std.specs.Prelude.{slice_get}
 use Rattle.std.proofs.lemmas.Bool.{cases_lt, cases_eq}
 use Rattle.std.proofs.lemmas.Option.{same_Some}
-use Rattle.toml_tree.specs.Spells.{EachIs, Spells}
-use Rattle.toml_tree.specs.Tree.{Doc}
-use Rattle.toml_names.specs.model.Addresses.{Address}
-use Rattle.toml_names.specs.mentions.Mentions.{named}
-use Rattle.toml_names.specs.mentions.Rules.{KeepsRules}
+use Rattle.toml_tree.specs.Spells.{EachIs}
 use Rattle.toml_units.specs.declared.unit.UnitKind.{UnitKind}
 use Rattle.toml_units.specs.declared.unit.UnitKind.TheVariants as kinds
-use Rattle.toml_units.specs.Apart.{AreComments, AreOfOneArray, EachTwo, IsBefore, IsMember}
+use Rattle.toml_units.specs.Apart.{AreComments, EachTwo, IsBefore, IsMember}
 use Rattle.toml_units.specs.Blocks.{AreInOrder, LiesIn}
 use Rattle.toml_units.specs.Holders.{HoldersHoldEach}
 use Rattle.toml_units.specs.Laws.{OnePlace}

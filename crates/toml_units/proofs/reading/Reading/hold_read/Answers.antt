@@ -1,5 +1,4 @@
 use Rattle.std.proofs.Common.{Option, [], ◌∷◌, ◌++◌, refl, sym, ap, subst, ◌∙◌}
-use Rattle.toml_names.specs.model.Addresses.{Address}
 use Rattle.toml_tree.specs.HandedOut.{HandsNext, left}
 use Rattle.toml_tree.specs.Lines.{line as tree_line}
 use Rattle.toml_tree.specs.Tree.{Expr}
