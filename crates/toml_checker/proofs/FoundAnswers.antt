@@ -5,5 +5,5 @@ use Rattle.toml_checker.specs.Answers.{CertifiedIsFound}
 use Rattle.toml_checker.proofs.FindingLaws.{unmet_is_none}
 
 pub certified_is_found : CertifiedIsFound
-certified_is_found profile before after cs ps (answers.Found c) honest certified h = (c, refl)
-certified_is_found profile before after cs ps (answers.No r) honest certified h = absurd (unmet_is_none profile before after cs r ps h honest certified)
+certified_is_found profile before after cs ps (answers.Found c) of_protected certified h = (c, refl)
+certified_is_found profile before after cs ps (answers.No r) of_protected certified h = absurd (unmet_is_none profile before after cs r ps h of_protected certified)

@@ -125,14 +125,14 @@ kept_told cs line k (m ∷ ms) home =
         ((k.all && (not f || reaches reach u.stop)) ≡ true) × AllReached reach us fs (paired_of ms)
         ↔ (k.all ≡ true) × AllReached k.reach (u ∷ us) (x ∷ fs) (m.paired ∷ paired_of ms)
 
-same_sites : (us : List TextUnit) → sites (map spanned us) ≡ map site us
+pub same_sites : (us : List TextUnit) → sites (map spanned us) ≡ map site us
 same_sites [] = refl
 same_sites (u ∷ us) = ap (λ xs. site u ∷ xs) (same_sites us)
 
-many_paired : (ms : List Met) → length (paired_of ms) ≡ length ms
+pub many_paired : (ms : List Met) → length (paired_of ms) ≡ length ms
 many_paired ms = length-map ms (λ (m : Met). m.paired)
 
-many_spans : (ms : List Met) → length (spans_of ms) ≡ length ms
+pub many_spans : (ms : List Met) → length (spans_of ms) ≡ length ms
 many_spans ms = length-map ms (λ (m : Met). m.lined.unit)
 
 many_flags : (cs : List Change) (line : Option Site) (ss : List Site) → length (flags_from cs line ss) ≡ length ss

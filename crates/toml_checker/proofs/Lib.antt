@@ -77,9 +77,9 @@ pub mod SearchDemands
 pub mod FindingLaws
 pub mod FoundAnswers
 pub mod Together
-pub mod Searching
+pub mod SearchTraces
 pub mod SearchSteps
 pub mod Ended
 pub mod Sought
-pub mod Seeking
+pub mod SearchWalking
 pub mod Proved

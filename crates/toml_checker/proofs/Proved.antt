@@ -5,7 +5,7 @@ pub use Rattle.toml_checker.proofs.ProtectedUnits.{inner_are_protected, protecte
 pub use Rattle.toml_checker.proofs.Sides.{sides_are_right}
 pub use Rattle.toml_checker.proofs.Sentence.{certified_stand}
 pub use Rattle.toml_checker.proofs.Verdicts.{certified_is_all_demands, one_verdict}
-pub use Rattle.toml_checker.proofs.FindingLaws.{found_is_met, judged_search, one_reason, pairs_are_met, unmet_is_none}
+pub use Rattle.toml_checker.proofs.FindingLaws.{found_is_met, judged_search, one_reason, never_bad_pair, unmet_is_none}
 pub use Rattle.toml_checker.proofs.FoundAnswers.{certified_is_found}
 pub use Rattle.toml_checker.proofs.SearchDemands.{one_certificate, one_search, outer_is_found, search_finds, search_serves, stuck_is_lost}
 pub use Rattle.toml_checker.proofs.Together.{blank_lines_are_partners, comments_stay_together, none_is_written_there, unplaced_are_protected}

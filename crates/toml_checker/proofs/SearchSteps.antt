@@ -11,8 +11,9 @@ use Rattle.toml_checker.specs.Pairs.{Rise, RiseFrom, IsFirst, IsSecond}
 use Rattle.toml_checker.specs.Traces.{AreAlike, Met, lined_of, paired_of}
 use Rattle.toml_checker.proofs.Traced.{lined_push, last_mark, marks_still}
 use Rattle.toml_checker.specs.Search.{behind}
-use Rattle.toml_checker.specs.Searching.{is_outer, IsNextIn, AreNextIn, HasFound, NoneFits}
-use Rattle.toml_checker.proofs.Searching.{at_place, get_left, long_lined, many_paired, next_in_more, paired_more, set_within}
+use Rattle.toml_checker.specs.SearchTraces.{is_outer, IsNextIn, AreNextIn, HasFound, NoneFits}
+use Rattle.toml_checker.proofs.KeptTraces.{many_paired}
+use Rattle.toml_checker.proofs.SearchTraces.{at_place, get_left, long_lined, next_in_more, paired_more, set_within}
 
 pub found_nothing : (cs : List Change) (text other : List ℕ) → HasFound cs text [] other [] []
 found_nothing cs text other = record {

@@ -22,7 +22,7 @@ use Rattle.toml_checker.proofs.Headline.{Given, IsPair, pair_is, line_stays}
 use Rattle.toml_checker.proofs.OwedLines.{AreApt, all_apt, stays_or_owed, ln}
 use Rattle.toml_checker.proofs.Stands.{Read, all_stand, flag_of, given, read, line_partner}
 
-second_pair : (ps : List (ℕ × ℕ)) (k : ℕ) → IsSecond ps k → (p : ℕ × ℕ) × IsPair p ps × (p.1 ≡ k)
+pub second_pair : (ps : List (ℕ × ℕ)) (k : ℕ) → IsSecond ps k → (p : ℕ × ℕ) × IsPair p ps × (p.1 ≡ k)
 second_pair [] k h = absurd h
 second_pair (q ∷ ps) k (inl e) = (q, inl refl, e)
 second_pair (q ∷ ps) k (inr h) = let r = second_pair ps k h in (r.0, inr r.1, r.2)

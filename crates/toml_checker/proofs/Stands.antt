@@ -224,7 +224,7 @@ flag_is (Some b) = ((λ e. ap Some e), (λ e. same_Some b true e))
 abbrev pub flag_of : List Change → List TextUnit → ℕ → Bool
 flag_of cs us i = flag_at (slice_get (flags cs (map site us)) i)
 
-flag_tells : (cs : List Change) (us : List TextUnit) (i : ℕ) → (flag_of cs us i ≡ true) ↔ IsProtected cs us i
+pub flag_tells : (cs : List Change) (us : List TextUnit) (i : ℕ) → (flag_of cs us i ≡ true) ↔ IsProtected cs us i
 flag_tells cs us i =
     let f = flag_is (slice_get (flags cs (map site us)) i) in
     let t = (flags_tell cs us).1 i in
@@ -271,7 +271,7 @@ given profile before after cs ps c few =
 
 -- ---- a paired line that is protected is the partner of its first
 
-one_second : (ps : List (ℕ × ℕ)) (p q : ℕ × ℕ) → Rise ps → IsPair p ps → IsPair q ps → p.0 ≡ q.0 → p.1 ≡ q.1
+pub one_second : (ps : List (ℕ × ℕ)) (p q : ℕ × ℕ) → Rise ps → IsPair p ps → IsPair q ps → p.0 ≡ q.0 → p.1 ≡ q.1
 one_second [] p q r m n e = absurd m
 one_second (x ∷ ps) p q r (inl a) (inl b) e = ap (λ (y : ℕ × ℕ). y.1) (a ∙ sym b)
 one_second (x ∷ ps) p q r (inl a) (inr n) e = absurd (omega (arith, (past_first x.0 x.1 ps q r n).0, ap (λ (y : ℕ × ℕ). y.0) a, e))

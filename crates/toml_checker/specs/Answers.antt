@@ -8,7 +8,7 @@ use Rattle.toml_checker.specs.declared.finding.Finding.TheVariants as findings
 use Rattle.toml_checker.specs.Demands.{Certified}
 use Rattle.toml_checker.specs.Findings.{IsCertificate, IsFirstUnmet}
 use Rattle.toml_checker.specs.Headline.{Headline}
-use Rattle.toml_checker.specs.Search.{AreHonest}
+use Rattle.toml_checker.specs.Search.{AreOfProtectedIn}
 
 -- a certificate of the outermost protected units, or the first demand that no pairs of protected units meet with those before it
 abbrev pub IsAnswer : Profile → List ℕ → List Change → List ℕ → Finding → Type 0
@@ -22,5 +22,5 @@ FoundMeans profile before cs after (findings.No r) = Unit {0}
 
 -- Law: where any pairs of protected units certify, the answer is a certificate.
 abbrev pub CertifiedIsFound : Type 0
-CertifiedIsFound = (profile : Profile) (before after : List ℕ) (cs : List Change) (ps : List (ℕ × ℕ)) (finding : Finding) → AreHonest before cs ps → Certified profile before cs after ps → IsAnswer profile before cs after finding
+CertifiedIsFound = (profile : Profile) (before after : List ℕ) (cs : List Change) (ps : List (ℕ × ℕ)) (finding : Finding) → AreOfProtectedIn before cs ps → Certified profile before cs after ps → IsAnswer profile before cs after finding
     → (c : Certificate) × (finding ≡ findings.Found c)

@@ -34,6 +34,6 @@ pub mod Walking
 pub mod Search
 pub mod SearchLaws
 pub mod Findings
-pub mod Searching
-pub mod Seeking
+pub mod SearchTraces
+pub mod SearchWalking
 pub mod Answers

@@ -5,7 +5,7 @@ use Rattle.toml_units.specs.declared.unit.UnitKind.TheVariants as kinds
 use Rattle.toml_units.specs.Lined.{LinedUnit}
 use Rattle.toml_units.specs.View.{Spanned}
 use Rattle.toml_checker.specs.declared.kept.Kept.{Kept}
-use Rattle.toml_checker.specs.declared.kept.Seen.{Seen}
+use Rattle.toml_checker.specs.declared.kept.Fate.{Fate}
 use Rattle.toml_checker.specs.CarriedTo.{IsCarriedTo}
 use Rattle.toml_checker.specs.Marks.{reach_with, reaches}
 use Rattle.toml_checker.specs.Plain.{Site, home_with, is_kept_by}
@@ -37,19 +37,16 @@ home_behind cs k u = home_with cs k.home (span_site u)
 abbrev pub is_protected : List Change → Kept → Spanned → Bool
 is_protected cs k u = is_kept_by u.kind cs (home_behind cs k u) (span_site u)
 
-abbrev pub reach_behind : List Change → Kept → Spanned → Bool → Option ℕ
-reach_behind cs k u paired = reach_with k.reach (is_protected cs k u && paired) u.stop
-
--- what is seen of the unit,
-abbrev pub seen_by : List Change → Kept → Spanned → Seen
-seen_by cs k u = record { protected = is_protected cs k u; home = home_behind cs k u; end = u.stop }
+-- what becomes of the unit,
+abbrev pub fate_of : List Change → Kept → Spanned → Fate
+fate_of cs k u = record { protected = is_protected cs k u; home = home_behind cs k u; end = u.stop }
 
 -- whether it is protected and ends further than each protected one that is paired,
-abbrev pub must_pair : Kept → Seen → Bool
+abbrev pub must_pair : Kept → Fate → Bool
 must_pair k s = s.protected && not (reaches k.reach s.end)
 
 -- and what was found behind it
-abbrev pub kept_past : Kept → Seen → Bool → Kept
+abbrev pub kept_past : Kept → Fate → Bool → Kept
 kept_past k s paired = record {
   home = s.home;
   reach = reach_with k.reach (s.protected && paired) s.end;
@@ -58,11 +55,7 @@ kept_past k s paired = record {
 
 -- what was found, behind one unit more
 abbrev pub kept_with : List Change → Kept → Spanned → Bool → Kept
-kept_with cs k u paired = record {
-  home = home_behind cs k u;
-  reach = reach_behind cs k u paired;
-  all = k.all && (not (is_protected cs k u) || reaches (reach_behind cs k u paired) u.stop);
-}
+kept_with cs k u paired = kept_past k (fate_of cs k u) paired
 
 abbrev pub kept_from : List Change → Kept → List Met → Kept
 kept_from cs k [] = k

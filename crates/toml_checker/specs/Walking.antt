@@ -19,7 +19,7 @@ use Rattle.toml_units.specs.View.{unit}
 use Rattle.toml_checker.specs.declared.added.Added.{Added}
 use Rattle.toml_checker.specs.declared.added.Asked.{Asked}
 use Rattle.toml_checker.specs.declared.edit_list.EditList.{EditList}
-use Rattle.toml_checker.specs.declared.kept.Seen.{Seen}
+use Rattle.toml_checker.specs.declared.kept.Fate.{Fate}
 use Rattle.toml_checker.specs.declared.pairs.Spot.{Spot}
 use Rattle.toml_checker.specs.declared.sight.Sight.{Sight}
 use Rattle.toml_checker.specs.declared.walk.FirstText.{FirstText}
@@ -38,7 +38,7 @@ use Rattle.toml_checker.specs.EditLists.{changes}
 use Rattle.toml_checker.specs.Marks.{IsSet}
 use Rattle.toml_checker.specs.Pairs.{IsFirst, IsSecond, PairsFit, Rise}
 use Rattle.toml_checker.specs.Sights.{HasSight}
-use Rattle.toml_checker.specs.Traces.{AreAlike, MayBe, Met, StandsIn, kept_over, lined_of, paired_of, seen_by}
+use Rattle.toml_checker.specs.Traces.{AreAlike, MayBe, Met, StandsIn, kept_over, lined_of, paired_of, fate_of}
 use Rattle.toml_checker.specs.UnmarkedComments.{text_at}
 
 -- the unit at which the code looks, with its newline
@@ -142,13 +142,13 @@ ReachingTo asked old number new result = (profile : Profile) (ms : List Met) →
 abbrev pub SeesNext : EditList → FirstText → Sight → Type 0
 SeesNext list one sight = (x : LinedUnit) → current one.cursor ≡ Some x → HasSight list x.unit.address sight
 
--- this is seen of the unit before which the first text stands
-abbrev pub IsSeen : List Change → FirstText → Seen → Type 0
-IsSeen cs one seen = (x : LinedUnit) → current one.cursor ≡ Some x → seen ≡ seen_by cs one.kept x.unit
+-- this becomes of the unit before which the first text stands
+abbrev pub IsFate : List Change → FirstText → Fate → Type 0
+IsFate cs one fate = (x : LinedUnit) → current one.cursor ≡ Some x → fate ≡ fate_of cs one.kept x.unit
 
--- one more unit was walked past, of which this was seen, whatever the edits are
-abbrev pub Passes : FirstText → Seen → Bool → FirstText → Result (Unit {0}) AllocError → Type 0
-Passes old seen paired new result = (cs : List Change) → IsSeen cs old seen → Passing cs old paired new result
+-- one more unit was walked past, which has this fate, whatever the edits are
+abbrev pub PassesWith : FirstText → Fate → Bool → FirstText → Result (Unit {0}) AllocError → Type 0
+PassesWith old fate paired new result = (cs : List Change) → IsFate cs old fate → Passing cs old paired new result
 
 -- where there is memory, this was found with the unit before which the second text stands, whichever units were walked past before
 abbrev pub AddsNext : Asked → SecondText → Bool → SecondText → Result (Unit {0}) AllocError → Type 0

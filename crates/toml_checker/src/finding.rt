@@ -10,7 +10,7 @@ ghost use Rattle.toml_checker.specs.Answers.{FoundMeans, IsAnswer};
 
 use crate::facts::Afterwards;
 use crate::judging::{judge, refuse};
-use crate::search::{Searched, search_through};
+use crate::search::{Ended, search_through};
 use crate::verdict::{Reason, Verdict};
 use std::alloc::{AllocError, Global};
 use toml_edits::Edit;
@@ -24,8 +24,9 @@ pub enum Finding {
     /// The one certificate whose first numbers are those of the outermost protected units: those that no edit takes away or
     /// changes, and that lie in no other such unit.
     Found(Certificate),
-    /// There is none: the first demand, in the order of the reasons, that no pairs of protected units meet together with those
-    /// before it. It is never `BadPair`.
+    /// No pairs of protected units certify: the first demand, in the order of the reasons, that none meet together with those
+    /// before it. It is never `BadPair`. A certificate that also pairs what the edits name may still be accepted by `check_in`:
+    /// the search looks for none.
     No(Reason),
 }
 
@@ -48,7 +49,7 @@ fn find_from<'s, 't>(
 {
     // each takes some bytes of memory
     prove!(edits.len() <= isize::MAX as usize);
-    let Searched { found, pairs } = search_through(
+    let Ended { found, pairs } = search_through(
         alloc, before, cursor, edits, after, other, profile,
     )?;
     match judge(alloc, found, before, edits, after, profile, afterwards)? {
@@ -71,9 +72,10 @@ pub fn find(
 }
 
 /// The certificate that the second text is what the edits make of the first, whoever wrote it, the texts and the values of the
-/// edits read in the profile. Where some pairs of protected units certify, the answer is `Found`; else it is the first demand
-/// that no such pairs meet with those before it. The pairs are searched on the walk of `check_in`: each protected unit that
-/// lies in no other one goes with the next unit of the second text that is the same.
+/// edits read in the profile. It is `Found` exactly where some pairs of protected units certify, those that no edit takes away
+/// or changes. Else the answer is the first demand that no such pairs meet together with those before it. The pairs are found
+/// on the walk of `check_in`: each protected unit that lies in no other one goes with the next unit of the second text that is
+/// the same.
 pub fn find_in(
     alloc: Global,
     before: &[u8],

@@ -3,7 +3,7 @@ ghost use Rattle.std.specs.Prelude.{◌≡◌, IfOk};
 ghost use Rattle.toml_units.specs.View.{unit as span_of};
 ghost use Rattle.toml_checker.specs.EditLists.{changes};
 ghost use Rattle.toml_checker.specs.Sights.{HasSight};
-ghost use Rattle.toml_checker.specs.Traces.{kept_past, must_pair, nothing_kept, seen_by};
+ghost use Rattle.toml_checker.specs.Traces.{kept_past, must_pair, nothing_kept, fate_of};
 
 use crate::edit_list::EditList;
 use crate::marks::{reach_with, reaches};
@@ -24,9 +24,9 @@ pub(crate) struct Kept {
     pub(crate) all: bool,
 }
 
-/// What the edits leave of the next unit of the first text, whether it is paired or not.
+/// What becomes of the next unit of the first text under the edits, whether it is paired or not.
 #[derive(Clone, Copy)]
-pub(crate) struct Seen {
+pub(crate) struct Fate {
     /// Whether it is protected.
     pub(crate) protected: bool,
     /// Whether its line, or the last one before it, is still there.
@@ -47,42 +47,42 @@ impl Kept {
         }
     }
 
-    /// What the edits leave of the next unit.
-    pub(crate) fn see(
+    /// What becomes of the next unit.
+    pub(crate) fn fate(
         self,
         alloc: Global,
         list: &EditList,
         sight: Sight,
         unit: &Unit,
-    ) -> Result<Seen, AllocError>
+    ) -> Result<Fate, AllocError>
         requires { HasSight list.now unit.now.address sight }
-        ensures { IfOk result (λ seen. seen ≡ seen_by (changes list.now) self (span_of unit.now)) }
+        ensures { IfOk result (λ fate. fate ≡ fate_of (changes list.now) self (span_of unit.now)) }
     {
         let protected = is_kept(alloc, list, sight, self.home, unit)?;
         let home = home_with(alloc, list, sight, self.home, unit, protected)?;
-        Ok(Seen {
+        Ok(Fate {
             protected,
             home,
             end: unit.span.end,
         })
     }
 
-    /// Whether the next unit, of which this is seen, would be lost if it were not paired.
-    pub(crate) fn must_pair(self, seen: Seen) -> bool
-        ensures { result ≡ must_pair self seen }
+    /// Whether the next unit, which has this fate, would be lost if it were not paired.
+    pub(crate) fn must_pair(self, fate: Fate) -> bool
+        ensures { result ≡ must_pair self fate }
     {
-        seen.protected && !reaches(self.reach, seen.end)
+        fate.protected && !reaches(self.reach, fate.end)
     }
 
-    /// The same behind the next unit, of which this is seen, and which is paired or not.
-    pub(crate) fn past(self, seen: Seen, paired: bool) -> Kept
-        ensures { result ≡ kept_past self seen paired }
+    /// The same behind the next unit, which has this fate, and which is paired or not.
+    pub(crate) fn past(self, fate: Fate, paired: bool) -> Kept
+        ensures { result ≡ kept_past self fate paired }
     {
-        let reach = reach_with(self.reach, seen.protected && paired, seen.end);
+        let reach = reach_with(self.reach, fate.protected && paired, fate.end);
         Kept {
-            home: seen.home,
+            home: fate.home,
             reach,
-            all: self.all && (!seen.protected || reaches(reach, seen.end)),
+            all: self.all && (!fate.protected || reaches(reach, fate.end)),
         }
     }
 }

@@ -1,6 +1,6 @@
 //! Laws over the definitions: nothing is run.
 ghost use Rattle.toml_checker.specs.Answers.{CertifiedIsFound};
-ghost use Rattle.toml_checker.specs.Findings.{FoundIsMet, JudgedSearch, OneReason, PairsAreMet, UnmetIsNone};
+ghost use Rattle.toml_checker.specs.Findings.{FoundIsMet, JudgedSearch, OneReason, NeverBadPair, UnmetIsNone};
 ghost use Rattle.toml_checker.specs.Headline.{CertifiedStand};
 ghost use Rattle.toml_checker.specs.Laws.{BlankLinesArePartners, CommentsStayTogether, NoneIsWrittenThere, UnplacedAreProtected};
 ghost use Rattle.toml_checker.specs.Laws.{UnitsAreLow, InnerAreProtected, ProtectedAreCarried, CertifiedIsAllDemands, OneVerdict};
@@ -78,5 +78,5 @@ pub fn findings()
     ensures met { FoundIsMet }
     ensures reason { OneReason }
     ensures none { UnmetIsNone }
-    ensures pairs { PairsAreMet }
+    ensures pairs { NeverBadPair }
 {}

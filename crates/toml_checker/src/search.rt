@@ -6,7 +6,7 @@ ghost use Rattle.toml_text.specs.Source.{text_of};
 ghost use Rattle.toml_tree.specs.declared.profile.Profile.{Profile as InProfile};
 ghost use Rattle.toml_edits.specs.Edits.{Change, change};
 ghost use Rattle.toml_units.specs.Cursors.{Goes, Walks, current};
-ghost use Rattle.toml_checker.specs.Seeking.{IsSearchedOf, IsSought, SearchesAll, Seeks, StepsOn};
+ghost use Rattle.toml_checker.specs.SearchWalking.{IsEndedOf, IsSearchGoing, MovesSecond, SearchesAll, Seeks, StepsOn};
 ghost use Rattle.toml_checker.specs.Walking.{IsOn, SeesNext};
 
 use crate::added::asked_by;
@@ -25,10 +25,7 @@ impl<'e, 's, 't> Walk<'e, 's, 't> {
     fn seek(&mut self, alloc: Global, sight: Sight) -> Result<bool, AllocError>
         requires goes { Goes self.old.other.cursor }
         requires sees { SeesNext self.old.list self.old.one sight }
-        ensures list { self.new.list ≡ self.old.list }
-        ensures asked { self.new.asked ≡ self.old.asked }
-        ensures one { self.new.one ≡ self.old.one }
-        ensures text { self.new.other.text ≡ self.old.other.text }
+        ensures moves { MovesSecond self.old self.new }
         ensures seeks { Seeks self.old self.new result }
     {
         while self.other.cursor.unit().is_some() {
@@ -41,17 +38,18 @@ impl<'e, 's, 't> Walk<'e, 's, 't> {
         Ok(false)
     }
 
-    /// Walks past the next unit of the first text, and if it would be lost unpaired to the unit of the second text that is the
-    /// same, and past that. Whether there is one, or none is needed.
+    /// Walks on by one unit of the first text. If it need not be paired, walks past it. Else walks on in the second text to the
+    /// next unit that is the same, and past both: their numbers are a new pair. False where there is none; the first text then
+    /// still stands before the unit.
     fn next(&mut self, alloc: Global, pairs: &mut Vec<(u64, u64)>) -> Result<bool, AllocError>
-        requires going { IsSought self.old pairs.old.items }
+        requires going { IsSearchGoing self.old pairs.old.items }
         requires some { IsSome (current self.old.one.cursor) }
         ensures { StepsOn self.old pairs.old.items self.new pairs.new.items result }
     {
         let sight = self.one.look(&mut self.list);
-        let seen = self.one.see(alloc, &self.list, sight)?;
-        if !self.one.must_pair(seen) {
-            self.one.pass(alloc, seen, false)?;
+        let fate = self.one.fate(alloc, &self.list, sight)?;
+        if !self.one.must_pair(fate) {
+            self.one.pass(alloc, fate, false)?;
             return Ok(true);
         }
         if !self.seek(alloc, sight)? {
@@ -59,7 +57,7 @@ impl<'e, 's, 't> Walk<'e, 's, 't> {
         }
         pairs.push((self.one.passed, self.other.passed))?;
         let paired = true;
-        self.one.pass(alloc, seen, paired)?;
+        self.one.pass(alloc, fate, paired)?;
         self.other.pass(alloc, &self.asked, paired)?;
         Ok(true)
     }
@@ -81,7 +79,7 @@ impl<'e, 's, 't> Walk<'e, 's, 't> {
 
 /// What was found of two texts, and the pairs with which the search ended.
 #[derive(Drop)]
-pub(crate) struct Searched<'s, 't> {
+pub(crate) struct Ended<'s, 't> {
     pub(crate) found: Found<'s, 't>,
     pub(crate) pairs: Vec<(u64, u64)>,
 }
@@ -96,11 +94,11 @@ pub(crate) fn search_through<'s, 't>(
     after: &'t [u8],
     other: Source<'t>,
     profile: Profile,
-) -> Result<Searched<'s, 't>, AllocError>
+) -> Result<Ended<'s, 't>, AllocError>
     requires before { Walks profile before.now cursor [] }
     requires fits { IsText before.now }
     requires after { text_of other ≡ after.now }
-    ensures { IfOk result (IsSearchedOf profile before.now (map change edits.now) after.now) }
+    ensures { IfOk result (IsEndedOf profile before.now (map change edits.now) after.now) }
 {
     let second = SecondText::new(alloc, after, other, profile)?;
     let mut walk = Walk {
@@ -111,5 +109,5 @@ pub(crate) fn search_through<'s, 't>(
     };
     let pairs = walk.search(alloc)?;
     let found = walk.finish(alloc, true)?;
-    Ok(Searched { found, pairs })
+    Ok(Ended { found, pairs })
 }

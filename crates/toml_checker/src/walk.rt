@@ -8,12 +8,12 @@ ghost use Rattle.toml_edits.specs.Edits.{Change, change};
 ghost use Rattle.toml_units.specs.Cursors.{Goes, Walks};
 ghost use Rattle.toml_checker.specs.EditLists.{changes};
 ghost use Rattle.toml_checker.specs.Traces.{must_pair};
-ghost use Rattle.toml_checker.specs.Walking.{AddsNext, CanPass, FinishesOff, GoesOn, HasPassed, HasReached, IsFound, IsGoing, IsSeen};
-ghost use Rattle.toml_checker.specs.Walking.{IsOn, Passes, PassingTo, Reaching, ReachingTo, SeesNext, TellsAll, TellsNext, TellsPair, lies_ahead};
+ghost use Rattle.toml_checker.specs.Walking.{AddsNext, CanPass, FinishesOff, GoesOn, HasPassed, HasReached, IsFound, IsGoing, IsFate};
+ghost use Rattle.toml_checker.specs.Walking.{IsOn, PassesWith, PassingTo, Reaching, ReachingTo, SeesNext, TellsAll, TellsNext, TellsPair, lies_ahead};
 
 use crate::added::{Added, Asked, asked_by};
 use crate::edit_list::EditList;
-use crate::kept::{Kept, Seen};
+use crate::kept::{Fate, Kept};
 use crate::pairs::{Spot, are_alike};
 use crate::sight::Sight;
 use std::alloc::{AllocError, Global};
@@ -77,41 +77,41 @@ impl<'t> FirstText<'t> {
         }
     }
 
-    /// What the edits leave of the unit before which it stands, which has this sight. Behind the last one nothing is protected.
-    pub(crate) fn see(
+    /// What becomes of the unit before which it stands, which has this sight. Behind the last one nothing is protected.
+    pub(crate) fn fate(
         &self,
         alloc: Global,
         list: &EditList,
         sight: Sight,
-    ) -> Result<Seen, AllocError>
+    ) -> Result<Fate, AllocError>
         requires { SeesNext list.now self.now sight }
-        ensures { IfOk result (IsSeen (changes list.now) self.now) }
+        ensures { IfOk result (IsFate (changes list.now) self.now) }
     {
         let Some(unit) = self.cursor.unit() else {
-            return Ok(Seen {
+            return Ok(Fate {
                 protected: false,
                 home: self.kept.home,
                 end: 0,
             });
         };
-        self.kept.see(alloc, list, sight, unit)
+        self.kept.fate(alloc, list, sight, unit)
     }
 
-    /// Whether the unit before which it stands, of which this is seen, would be lost if it were not paired.
-    pub(crate) fn must_pair(&self, seen: Seen) -> bool
-        ensures { result ≡ must_pair self.now.kept seen }
+    /// Whether the unit before which it stands, which has this fate, would be lost if it were not paired.
+    pub(crate) fn must_pair(&self, fate: Fate) -> bool
+        ensures { result ≡ must_pair self.now.kept fate }
     {
-        self.kept.must_pair(seen)
+        self.kept.must_pair(fate)
     }
 
-    /// Walks past one unit, of which this is seen, and which is paired or not.
-    pub(crate) fn pass(&mut self, alloc: Global, seen: Seen, paired: bool) -> Result<(), AllocError>
+    /// Walks past one unit, which has this fate, and is paired or not.
+    pub(crate) fn pass(&mut self, alloc: Global, fate: Fate, paired: bool) -> Result<(), AllocError>
         requires { CanPass self.old.cursor }
         ensures text { self.new.text ≡ self.old.text }
         ensures on { OnOk result (GoesOn self.old.cursor self.old.passed self.new.cursor self.new.passed) }
-        ensures passes { Passes self.old seen paired self.new result }
+        ensures passes { PassesWith self.old fate paired self.new result }
     {
-        self.kept = self.kept.past(seen, paired);
+        self.kept = self.kept.past(fate, paired);
         self.passed = self.passed.saturating_add(1);
         self.cursor.step(alloc)
     }
@@ -130,8 +130,8 @@ impl<'t> FirstText<'t> {
     {
         while lies_ahead(number, self.passed) && self.cursor.unit().is_some() {
             let sight = self.look(list);
-            let seen = self.see(alloc, list, sight)?;
-            self.pass(alloc, seen, false)?;
+            let fate = self.fate(alloc, list, sight)?;
+            self.pass(alloc, fate, false)?;
         }
         Ok(())
     }
@@ -278,8 +278,8 @@ impl<'e, 's, 't> Walk<'e, 's, 't> {
         if !is_pair(alloc, &self.list, sight, &self.one, &self.other, pair)? {
             return Ok(false);
         }
-        let seen = self.one.see(alloc, &self.list, sight)?;
-        self.one.pass(alloc, seen, true)?;
+        let fate = self.one.fate(alloc, &self.list, sight)?;
+        self.one.pass(alloc, fate, true)?;
         self.other.pass(alloc, &self.asked, true)?;
         Ok(true)
     }

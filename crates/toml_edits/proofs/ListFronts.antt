@@ -11,6 +11,7 @@ use Rattle.toml_edits.specs.Edits.{Change}
 use Rattle.toml_edits.specs.Laws.{FrontsStand}
 use Rattle.toml_edits.specs.ListLaws.{ListsCarryFronts, CarriedKeepOrder}
 use Rattle.toml_edits.specs.Lists.{carried}
+use Rattle.toml_edits.proofs.Apart.{nothing_below}
 use Rattle.toml_edits.proofs.Fronts.{carried_front}
 use Rattle.toml_edits.proofs.ListsApart.{lists_carry_apart, through}
 
@@ -46,10 +47,6 @@ front_same (t ∷ a) (u ∷ b) r s l e =
     ap (λ x. x ∷ a) head ∙ ap (λ x. u ∷ x) (front_same a b r s l rest)
 
 -- ---- data in which nothing stands below nothing
-
-nothing_below : (kinds : Kinds) → IsClosed kinds → (r q : Address) → kinds q ≡ None → kinds (q ++ r) ≡ None
-nothing_below kinds h [] q e = ap kinds (append-nil q) ∙ e
-nothing_below kinds h (s ∷ r) q e = ap kinds (sym (append_assoc q (s ∷ []) r)) ∙ nothing_below kinds h r (q ++ s ∷ []) (h q s e)
 
 pub fronts_stand : FrontsStand
 fronts_stand kinds h q r s = by (kinds q) refl

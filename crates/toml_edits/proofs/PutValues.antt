@@ -13,6 +13,7 @@ use Rattle.toml_edits.specs.Carry.{Carrier, carry_below, emptied, up_from, inser
 use Rattle.toml_edits.specs.Edits.{set, insert, rename, remove, new_section, new_element}
 use Rattle.toml_edits.specs.Laws.{ValuesAreNew, ValuesStand}
 use Rattle.toml_edits.specs.declared.fault.EditFault.TheVariants.{RootNamed, AlreadyThere}
+use Rattle.toml_edits.proofs.Fronts.{onto}
 use Rattle.toml_edits.proofs.Along.{ends}
 use Rattle.toml_edits.proofs.LastStep.{parted_at_last}
 use Rattle.toml_edits.proofs.ListFronts.{fronts_stand}
@@ -27,10 +28,6 @@ values_stand profile (new_section at) old new after puts = absurd puts
 values_stand profile (new_element at) old new after puts = absurd puts
 
 -- ---- where an edit carries, by its parts
-
-onto : (t : Step) (o : Option Address) (b : Address) → option_map (λ r. t ∷ r) o ≡ Some b → (r : Address) × (o ≡ Some r) × (b ≡ t ∷ r)
-onto t None b e = cc
-onto t (Some r) b e = (r, refl, cc)
 
 -- what is carried to below the place comes from below it
 back : (p : Address) (g : Carrier) (a to r : Address) → carry_below p g a ≡ Some to → to ≡ p ++ r → (x : Address) × (a ≡ p ++ x) × (g x ≡ Some r)

@@ -54,7 +54,7 @@ abbrev pub SetsOver : Change → Address → Type 0
 SetsOver (set at value) a = (r : Address) × (a ≡ at ++ r)
 SetsOver _ a = ⊥
 
--- Behind an edit that puts a value something stands at its place.
+-- After an edit that puts a value something stands at its place.
 abbrev pub ValuesStand : Type 0
 ValuesStand = (profile : Profile) (c : Change) (old new : Kinds) → IsAfter profile c old new → PutsValue c → IsSome (new (place c))
 

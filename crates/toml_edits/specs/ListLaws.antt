@@ -40,7 +40,7 @@ ListsCarryApart = (profile : Profile) (cs : List Change) (old new : Kinds) → I
 abbrev pub ListsCarryFronts : Type 0
 ListsCarryFronts = (cs : List Change) (a r b : Address) → carried cs (a ++ r) ≡ Some b → Front (carried cs) a b
 
--- Of two things of such data the one was at or above the other, if edits without a fault carry it to there.
+-- If edits carry one thing to where they carry another, or below, it was at or below that one before.
 abbrev pub CarriedKeepOrder : Type 0
 CarriedKeepOrder = (profile : Profile) (cs : List Change) (old new : Kinds) → IsClosed old → Lead profile cs old new → (p a to rest : Address) → IsSome (old p) → IsSome (old a) → carried cs p ≡ Some to → carried cs a ≡ Some (to ++ rest)
     → (r : Address) × (a ≡ p ++ r)

@@ -1,8 +1,10 @@
 //! Laws over the definitions: nothing is run.
 ghost use Rattle.toml_edits.specs.EditList.{BadListIsNone, OneEditList};
-ghost use Rattle.toml_edits.specs.ListLaws.{CarriedKeepOrder, CarriedOn, CarriedStands, DataIndicesAreLow, FaultOrLead, LeadsStayClosed, ListsCarryApart, ListsCarryFronts, OneFirstFault, OneLead, StaysClosed};
+ghost use Rattle.toml_edits.specs.ListLaws.{CarriedKeepOrder, CarriedOn, CarriedStands, DataIndicesAreLow, ListsCarryApart, ListsCarryFronts};
+ghost use Rattle.toml_edits.specs.ListLaws.{FaultOrLead, LeadsStayClosed, OneFirstFault, OneLead, StaysClosed};
 ghost use Rattle.toml_edits.specs.NearLaws.{FaultsNear, FaultBeside, HiddenStays, LeadsBeside, LeadsNear};
-ghost use Rattle.toml_edits.specs.Laws.{CarriedAlong, CarriedFront, CarriedApart, DataAreClosed, ElementIsEmpty, FrontsStand, NewTablesStay, OneAfter, PartedAtLast, SectionIsEmpty, SetCarries, ValuesAreNew, ValuesStand};
+ghost use Rattle.toml_edits.specs.Laws.{CarriedAlong, CarriedFront, CarriedApart, DataAreClosed, FrontsStand, OneAfter, PartedAtLast};
+ghost use Rattle.toml_edits.specs.Laws.{ElementIsEmpty, NewTablesStay, SectionIsEmpty, SetCarries, ValuesAreNew, ValuesStand};
 
 /// What is below an address is carried along with it, unless the edit is below the address or a `set` at it. A
 /// beginning of what is carried is carried to a beginning as long. Where no fault holds, and nothing stands below
@@ -39,8 +41,8 @@ pub fn new_tables()
     ensures element { ElementIsEmpty }
 {}
 
-/// Where an edit puts a value something stands behind it, and nothing comes to stand there, or below, but what lay under a
-/// `set`.
+/// After an edit that puts a value something stands at its place, and nothing comes to stand there, or below, but what lay
+/// under a `set`.
 pub fn values()
     ensures stand { ValuesStand }
     ensures fresh { ValuesAreNew }

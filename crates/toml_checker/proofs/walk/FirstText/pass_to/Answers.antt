@@ -32,7 +32,7 @@ loop-self-preserved c =
       text = c.pass.ensures.text ∙ inv.text;
       passes = λ profile ms h. let so_far = inv.passes profile ms h in
           gone_one so_far (HasPassed profile cs new) new.cursor new.passed x.0 x.1 c.in_ok-pass.ensures.on.count (sym c.lies_ahead.ensures ∙ c.loop-self-test.true)
-          (subst (λ (ds : List Change). Passing ds now false new (Ok tt)) same (c.in_ok-pass.ensures.passes (changes c.look-sight.new.list) c.in_ok-seen.ensures) profile (ms ++ so_far.more) so_far.holds);
+          (subst (λ (ds : List Change). Passing ds now false new (Ok tt)) same (c.in_ok-pass.ensures.passes (changes c.look-sight.new.list) c.in_ok-fate.ensures) profile (ms ++ so_far.more) so_far.holds);
     }
 
 pub returns-else-is_some-clause-passes : goal.returns-else-is_some-clause-passes

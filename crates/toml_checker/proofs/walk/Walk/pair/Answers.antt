@@ -38,6 +38,6 @@ returns c = λ profile cs ms ns on.
     let second = c.in_ok-pass_to-2.ensures.passes profile ns on.second in
     let listed : changes list ≡ cs = ap (map change) (c.look-sight.ensures.list ∙ c.pass_to.ensures.list) ∙ on.edits in
     let told = subst (λ (ds : List Change). TellsPair ds mid c.pass_to-2.new.self c.args.pair c.in_ok-is_pair.field-0) listed c.in_ok-is_pair.ensures in
-    let more = subst (λ (ds : List Change). Passing ds mid true c.pass.new.self (Ok tt)) listed (c.in_ok-pass.ensures.passes (changes list) c.in_ok-seen.ensures) profile (ms ++ first.more) first.holds in
+    let more = subst (λ (ds : List Change). Passing ds mid true c.pass.new.self (Ok tt)) listed (c.in_ok-pass.ensures.passes (changes list) c.in_ok-fate.ensures) profile (ms ++ first.more) first.holds in
     pair_fits profile cs old ms ns c.args.pair on mid c.pass_to-2.new.self list listed c.pass_to.ensures.text c.pass_to-2.ensures.text first second c.in_ok-is_pair.field-0 told c.if-not-branch.false
     c.pass.new.self c.pass-2.new.self list listed c.pass.ensures.text c.pass-2.ensures.text more (c.in_ok-pass-2.ensures.passes profile (ns ++ second.more) second.holds)
