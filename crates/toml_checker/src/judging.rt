@@ -3,7 +3,6 @@ ghost use Rattle.std.specs.Prelude.{◌≡◌, [], ℕ, IfOk, List, map};
 ghost use Rattle.toml_text.specs.Limit.{IsText};
 ghost use Rattle.toml_text.specs.Source.{text_of};
 ghost use Rattle.toml_tree.specs.declared.profile.Profile.TheVariants.{One};
-ghost use Rattle.toml_names.specs.model.Documents.{IsDocumentIn};
 ghost use Rattle.toml_edits.specs.Edits.{change};
 ghost use Rattle.toml_units.specs.Cursors.{Walks};
 ghost use Rattle.toml_checker.specs.Demands.{IsVerdict};
@@ -203,32 +202,5 @@ fn check_texts(
     let pairs = &certificate.pairs;
     judge_from(
         alloc, before, cursor, edits, after, other, pairs, profile, afterwards,
-    )
-}
-
-/// What `check_in` answers of a document over which a walk has begun, the cursor standing before its first unit: the same
-/// verdict, by the same code, with the same meaning. Where the cursor holds the units of a text that was read already
-/// (`UnitCursor::held`), the second text alone is read. What both texts name is let go, or stays in memory, as is asked.
-pub fn check_walked<'s, 't>(
-    alloc: Global,
-    before: &'s [u8],
-    cursor: UnitCursor<'s>,
-    edits: &[Edit],
-    after: &'t [u8],
-    certificate: &Certificate,
-    profile: Profile,
-    afterwards: Afterwards,
-) -> Result<Verdict, AllocError>
-    requires walks { Walks profile before.now cursor [] }
-    requires document { IsDocumentIn profile before.now }
-    ensures verdict { IfOk result (IsVerdict profile before.now (map change edits.now) after.now certificate.now.pairs.items) }
-    ensures headline { IfOk result (YesMeans profile before.now (map change edits.now) after.now certificate.now.pairs.items) }
-{
-    let Ok(second) = Source::new(after) else {
-        return Ok(Verdict::No(Reason::AfterRefused));
-    };
-    let pairs = &certificate.pairs;
-    judge_from(
-        alloc, before, cursor, edits, after, second, pairs, profile, afterwards,
     )
 }

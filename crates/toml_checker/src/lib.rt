@@ -33,8 +33,7 @@ mod written;
 
 pub use facts::Afterwards;
 pub use finding::{Finding, find, find_at_exit, find_in, find_walked};
-pub use judging::{check, check_at_exit, check_in, check_walked};
-pub use marks::first_marks;
+pub use judging::{check, check_at_exit, check_in};
 pub use outer::outermost;
 pub use protection::protected;
 pub use verdict::{Reason, Verdict};

@@ -1,7 +1,6 @@
 //! Marks on units, and how far marked units reach.
-ghost use Rattle.std.specs.Prelude.{◌≡◌, ◌↔◌, ◌<◌, ◌⊎◌, ℕ, IfOk, length, vec_len};
+ghost use Rattle.std.specs.Prelude.{◌≡◌, ℕ, IfOk, vec_len};
 ghost use Rattle.toml_checker.specs.Marks.{IsSet, reach_with, reaches};
-ghost use Rattle.toml_checker.specs.Pairs.{IsFirst};
 
 use std::alloc::{AllocError, Global};
 
@@ -36,32 +35,6 @@ pub(crate) fn no_marks(alloc: Global, count: usize) -> Result<Vec<bool>, AllocEr
     let mut marks = Vec::with_capacity(alloc, count)?;
     for _ in 0..count {
         marks.push(false)?;
-    }
-    Ok(marks)
-}
-
-/// Marks the unit with the number, if there is one.
-fn mark(marks: &mut Vec<bool>, number: u64)
-    ensures len { vec_len marks.new ≡ vec_len marks.old }
-    ensures marked { (i : ℕ) → i < vec_len marks.old → (IsSet marks.new.items i ↔ ((number ≡ i) ⊎ IsSet marks.old.items i)) }
-{
-    if let Some(place) = marks.get_mut(number as usize) {
-        *place = true;
-    }
-}
-
-/// Which units the pairs name first.
-pub fn first_marks(
-    alloc: Global,
-    count: usize,
-    pairs: &[(u64, u64)],
-) -> Result<Vec<bool>, AllocError>
-    ensures len { IfOk result (λ v. vec_len v ≡ count) }
-    ensures marked { IfOk result (λ v. (i : ℕ) → i < count → (IsSet v.items i ↔ IsFirst pairs.now i)) }
-{
-    let mut marks = no_marks(alloc, count)?;
-    for pair in pairs {
-        mark(&mut marks, pair.0);
     }
     Ok(marks)
 }
