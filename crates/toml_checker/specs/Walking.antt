@@ -162,6 +162,12 @@ pub record IsOn (profile : Profile) (cs : List Change) (w : Walk) (ms ns : List 
   pub first : HasPassed profile cs w.one ms
   pub second : HasReached profile w.asked w.other ns
 
+-- both texts stand before their first units
+pub record IsBegun (profile : Profile) (before : List ℕ) (cs : List Change) (after : List ℕ) (w : Walk) : Type 0 where
+  pub on : IsOn profile cs w [] []
+  pub first_text : w.one.text.now ≡ before
+  pub second_text : w.other.text.now ≡ after
+
 -- they are for some edits, and after some units
 abbrev pub IsGoing : Walk → Type 0
 IsGoing w = (profile : Profile) × (cs : List Change) × (ms : List Met) × (ns : List Met) × IsOn profile cs w ms ns

@@ -9,10 +9,8 @@ ghost use Rattle.toml_units.specs.Cursors.{Goes, Walks, current};
 ghost use Rattle.toml_checker.specs.SearchWalking.{IsEndedOf, IsSearchGoing, MovesSecond, SearchesAll, Seeks, StepsOn};
 ghost use Rattle.toml_checker.specs.Walking.{IsOn, SeesNext};
 
-use crate::added::asked_by;
-use crate::edit_list::EditList;
 use crate::sight::Sight;
-use crate::walk::{FirstText, Found, SecondText, Walk, is_pair};
+use crate::walk::{Found, Walk, is_pair};
 use std::alloc::{AllocError, Global};
 use toml_edits::Edit;
 use toml_text::Source;
@@ -100,13 +98,7 @@ pub(crate) fn search_through<'s, 't>(
     requires after { text_of other ≡ after.now }
     ensures { IfOk result (IsEndedOf profile before.now (map change edits.now) after.now) }
 {
-    let second = SecondText::new(alloc, after, other, profile)?;
-    let mut walk = Walk {
-        list: EditList::of(alloc, edits)?,
-        asked: asked_by(alloc, edits, profile)?,
-        one: FirstText::new(before, cursor),
-        other: second,
-    };
+    let mut walk = Walk::new(alloc, before, cursor, edits, after, other, profile)?;
     let pairs = walk.search(alloc)?;
     let found = walk.finish(alloc, true)?;
     Ok(Ended { found, pairs })

@@ -8,7 +8,7 @@ ghost use Rattle.toml_edits.specs.Edits.{Change, change};
 ghost use Rattle.toml_units.specs.Cursors.{Goes, Walks};
 ghost use Rattle.toml_checker.specs.EditLists.{changes};
 ghost use Rattle.toml_checker.specs.Traces.{must_pair};
-ghost use Rattle.toml_checker.specs.Walking.{AddsNext, CanPass, FinishesOff, GoesOn, HasPassed, HasReached, IsFound, IsGoing, IsFate};
+ghost use Rattle.toml_checker.specs.Walking.{AddsNext, CanPass, FinishesOff, GoesOn, HasPassed, HasReached, IsBegun, IsFound, IsGoing, IsFate};
 ghost use Rattle.toml_checker.specs.Walking.{IsOn, PassesWith, PassingTo, Reaching, ReachingTo, SeesNext, TellsAll, TellsNext, TellsPair, lies_ahead};
 
 use crate::added::{Added, Asked, asked_by};
@@ -267,6 +267,29 @@ pub(crate) struct Found<'s, 't> {
 }
 
 impl<'e, 's, 't> Walk<'e, 's, 't> {
+    /// Before the first units of both texts, the values of the edits read in the profile. The cursor stands before that of the
+    /// first one.
+    pub(crate) fn new(
+        alloc: Global,
+        before: &'s [u8],
+        cursor: UnitCursor<'s>,
+        edits: &'e [Edit],
+        after: &'t [u8],
+        other: Source<'t>,
+        profile: Profile,
+    ) -> Result<Walk<'e, 's, 't>, AllocError>
+        requires before { Walks profile before.now cursor [] }
+        requires after { text_of other ≡ after.now }
+        ensures { IfOk result (IsBegun profile before.now (map change edits.now) after.now) }
+    {
+        Ok(Walk {
+            list: EditList::of(alloc, edits)?,
+            asked: asked_by(alloc, edits, profile)?,
+            one: FirstText::new(before, cursor),
+            other: SecondText::new(alloc, after, other, profile)?,
+        })
+    }
+
     /// Walks on to the units of a pair and, if they are the same, past them. Whether they are.
     fn pair(&mut self, alloc: Global, pair: (u64, u64)) -> Result<bool, AllocError>
         requires { IsGoing self.old }
@@ -346,12 +369,7 @@ pub(crate) fn walk_through<'s, 't>(
     requires after { text_of other ≡ after.now }
     ensures { IfOk result (IsFound profile before.now (map change edits.now) after.now pairs.now) }
 {
-    let mut walk = Walk {
-        list: EditList::of(alloc, edits)?,
-        asked: asked_by(alloc, edits, profile)?,
-        one: FirstText::new(before, cursor),
-        other: SecondText::new(alloc, after, other, profile)?,
-    };
+    let mut walk = Walk::new(alloc, before, cursor, edits, after, other, profile)?;
     let fits = walk.pair_all(alloc, pairs)?;
     walk.finish(alloc, fits)
 }
