@@ -19,7 +19,6 @@ use Rattle.toml_editor.specs.declared.tree.OpenLine.{OpenLine}
 use Rattle.toml_editor.specs.declared.working.Position.{Position}
 use Rattle.toml_editor.specs.Changing.{ChangesBody, ChangesOpen, RenamesOpen, SetsOpen, ChangesAs, ChangesStanding, ChangesLine, ChangesSlot, ChangesSlots}
 use Rattle.toml_editor.specs.OpeningLines.{OpensBody, IsOpened}
-use Rattle.toml_editor.specs.OpenOrigins.{line_numbered}
 use Rattle.toml_editor.specs.OpenOutlines.{line, value}
 use Rattle.toml_editor.specs.Outlines.{ValueOutline, LineOutline}
 use Rattle.toml_editor.specs.RenameStanding.{rename_line_outline, rename_outline_of}
@@ -57,9 +56,9 @@ pub opened_outline : (texts : Texts) (read : Read) (lines : List tree.Line) (old
 opened_outline texts read lines (bodies.Open x) mid o are kept opens is = let e : bodies.Open x ≡ bodies.Open o = sym opens ∙ is in ap (body_outline read) e
 opened_outline texts read lines (bodies.Kept k) mid o are kept opens is =
     let there : slice_get lines k.line ≡ Some kept.line = subst (λ ls. slice_get ls k.line ≡ Some kept.line) are kept.is in
-    let (b, made, outlined) = subst (λ r. MatchOption r (mid ≡ bodies.Kept k) (λ l. IsOpened texts k.first l mid)) there opens in
+    let (b, made, outlined) = subst (λ r. MatchOption r (mid ≡ bodies.Kept k) (λ l. IsOpened texts l mid)) there opens in
     let e : bodies.Open b ≡ bodies.Open o = sym made ∙ is in
-    ap (λ l. line_numbered (Some k.first) (outline_of l)) kept.is ∙ sym (outlined kept.lies) ∙ ap (body_outline read) e
+    ap outline_of kept.is ∙ sym (outlined kept.lies) ∙ ap (body_outline read) e
 
 -- what the document has is opened
 pub never_kept : (texts : Texts) (read : Read) (lines : List tree.Line) (old mid : Body) (k : Kept) → read.lines ≡ lines → BodyKept (text_of texts.source) read old
@@ -67,7 +66,7 @@ pub never_kept : (texts : Texts) (read : Read) (lines : List tree.Line) (old mid
 never_kept texts read lines (bodies.Open x) mid k are kept opens is = let e : bodies.Open x ≡ bodies.Kept k = sym opens ∙ is in cc
 never_kept texts read lines (bodies.Kept j) mid k are kept opens is =
     let there : slice_get lines j.line ≡ Some kept.line = subst (λ ls. slice_get ls j.line ≡ Some kept.line) are kept.is in
-    let (b, made, outlined) = subst (λ r. MatchOption r (mid ≡ bodies.Kept j) (λ l. IsOpened texts j.first l mid)) there opens in
+    let (b, made, outlined) = subst (λ r. MatchOption r (mid ≡ bodies.Kept j) (λ l. IsOpened texts l mid)) there opens in
     let e : bodies.Open b ≡ bodies.Kept k = sym made ∙ is in
     cc
 

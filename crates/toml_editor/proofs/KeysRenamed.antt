@@ -10,8 +10,8 @@ use Rattle.toml_editor.specs.declared.tree.Entries.{Entries}
 use Rattle.toml_editor.specs.declared.tree.Entry.{Entry}
 use Rattle.toml_editor.specs.declared.tree.Value.TheViews.{out-Entries, out-Entry, roll-Entries}
 use Rattle.toml_editor.specs.Leading.{value_in}
-use Rattle.toml_editor.specs.OpenOutlines.{Enclosed, EntryOutline, dotted, entries, entries_of, entry, gap, leaf_text, value}
-use Rattle.toml_editor.specs.Outlines.{DottedOutline, EntriesOutline, End, Marked}
+use Rattle.toml_editor.specs.OpenOutlines.{Enclosed, EntryOutline, dotted, entries, entries_of, entry, gap_text, leaf_text, value}
+use Rattle.toml_editor.specs.Outlines.{DottedOutline, EntriesOutline, End}
 use Rattle.toml_editor.specs.Outlines as outline
 use Rattle.toml_editor.specs.RenamingIn.{KeysRenamed, dotted_with, key_with, pair_with, pairs_with, rest_with}
 use Rattle.toml_editor.proofs.OpenEntries.{value_at}
@@ -79,7 +79,7 @@ module _ (steps : Address) (text : List ℕ) where
   all_there (suc i) (End gap) none = refl
   all_there (suc i) (outline.Entry before a v after es) none = ap (outline.Entry before (option_map (key_with steps text) a) v after) (all_there i es none)
 
-  one_written : (es : List Entry) (end : Option Marked) (i : ℕ) (e n : Entry) → slice_get es i ≡ Some e → entry n ≡ pair_with steps text (entry e)
+  one_written : (es : List Entry) (end : Option (List ℕ)) (i : ℕ) (e n : Entry) → slice_get es i ≡ Some e → entry n ≡ pair_with steps text (entry e)
       → entries_of (map entry (set es i n)) end ≡ key_at_with i (entries_of (map entry es) end)
   one_written [] end i e n is made = absurd (none-some e is)
   one_written (x ∷ es) end zero e n is made =
@@ -97,7 +97,7 @@ module _ (steps : Address) (text : List ℕ) where
       → SoFar (i + 1) old (entries (roll-Entries (record { opening = (out-Entries now).opening; list = list; end = (out-Entries now).end })))
   key_written old now list i e n is written made so_far =
       let items = (out-Entries now).list.items in
-      let end = option_map gap (out-Entries now).end in
+      let end = option_map gap_text (out-Entries now).end in
       let opening = leaf_text (out-Entries now).opening in
       entries_made (record { opening = (out-Entries now).opening; list = list; end = (out-Entries now).end })
       ∙ ap (enclosed opening) (ap (λ es. entries_of (map entry es) end) written ∙ one_written items end i e n is made)

@@ -43,7 +43,6 @@ mod SetInside
 mod KeysRenamed
 mod RenameInside
 mod RenameAway
-mod Numbered
 mod Lying
 mod LinesLie
 mod Started
@@ -53,12 +52,5 @@ mod OpenedGap
 mod OpenedLine
 mod OpenedBody
 mod Got
-mod NumberedOutlines
-mod OutlinesSpelled
-mod TreeOrigins
-mod KeptOrigins
-mod StandingNew
-mod SlotOrigins
-mod OpenedOrigins
 pub mod written
 pub mod Proved

@@ -13,11 +13,9 @@ use Rattle.toml_tree.specs.Tree.{Doc, Line}
 use Rattle.toml_editor.proofs.Lying.{lie_front, lie_back, lie_slice}
 use Rattle.toml_editor.proofs.TreeOutlined.{line_outlined_is}
 use Rattle.toml_editor.specs.declared.lines.Kept.{Kept}
-use Rattle.toml_editor.specs.Numbering.{kept_origins}
 use Rattle.toml_editor.specs.Opening.{LieAt}
-use Rattle.toml_editor.specs.Outlines.{line_origins}
-use Rattle.toml_editor.specs.Standing.{Read, kept_outline}
-use Rattle.toml_editor.specs.Stands.{HasNumbers, IsKept}
+use Rattle.toml_editor.specs.Standing.{Read}
+use Rattle.toml_editor.specs.Stands.{IsKept}
 use Rattle.toml_editor.specs.Starting.{IsKeptOf}
 
 -- a line stands in the text, and begins and ends where that may be cut
@@ -87,8 +85,7 @@ lines_lie d text within spelled =
     each_lies text utf8 d.lines mark spelled.lines.forms lies ends cut
 
 -- a line that is kept as what it is
-module _ (text : List ℕ) (read : Read) (kept : Kept) (l : Line) (is : slice_get read.lines kept.line ≡ Some l) (line : LineLies text l) (says : IsKeptOf l kept)
-    (origins : HasNumbers read.units → kept_origins read.units kept.first ≡ line_origins (kept_outline read kept)) where
+module _ (text : List ℕ) (read : Read) (kept : Kept) (l : Line) (is : slice_get read.lines kept.line ≡ Some l) (line : LineLies text l) (says : IsKeptOf l kept) where
   starts : kept.span.start ≡ line.at
   starts = says.start ∙ expr_starts l.expr line.at (placed_front (expr_parts l.expr) (piece l.newline ∷ []) line.at line.lies.placed)
 
@@ -106,5 +103,4 @@ module _ (text : List ℕ) (read : Read) (kept : Kept) (l : Line) (is : slice_ge
     spells = ap (λ n. slice_range text n kept.span.end) starts ∙ ap (slice_range text line.at) stops ∙ lie_slice text line.at (line_parts l) line.lies ∙ sym (line_outlined_is l);
     last = says.last;
     tables = says.tables;
-    origins = origins;
   }

@@ -18,11 +18,10 @@ use Rattle.toml_editor.specs.declared.fault.EditorFault.TheVariants as faults
 use Rattle.toml_editor.specs.declared.working.Tree.{Tree}
 use Rattle.toml_editor.specs.CertifiedLists.{ArePlain}
 use Rattle.toml_editor.specs.Edited.{MayBeSpread, Places, TakesLastElement}
-use Rattle.toml_editor.specs.EditStanding.{EditsStanding, EditAllStanding}
 use Rattle.toml_editor.specs.Exact.{Follows, IsAt, IsNotPlain, IsNotPlainAt, IsSpreadOn, MakesAll, MakesOne, OfPlain, OfNoPlaceAt, PassesAll, PassesAt, PassesOne, SetsMany, Stops, WritesEdit, style}
 use Rattle.toml_editor.specs.Making.{TellsOne}
 use Rattle.toml_editor.specs.PlainTexts.{IsPlainOn}
-use Rattle.toml_editor.specs.Standing.{Read, Standing, slots_standing}
+use Rattle.toml_editor.specs.Standing.{Read}
 use Rattle.toml_editor.specs.Steps.{AreWritten}
 use Rattle.toml_editor.specs.Written.{IsWritten}
 use Rattle.toml_editor.proofs.written.Follow.{remove_follows, set_follows, set_is_there}
@@ -110,12 +109,6 @@ written_more profile [] c style before mid after is written = (after, subst (λ 
 written_more profile (d ∷ cs) c style before mid after (between, first, rest) written =
     (between, first, written_more profile cs c style between mid after rest written)
 
-edited_more : (profile : Profile) (cs : List Change) (c : Change) (style : List ℕ) (old mid now : List Standing) → EditAllStanding profile style cs old mid
-    → EditsStanding profile style c mid now → EditAllStanding profile style (cs ++ c ∷ []) old now
-edited_more profile [] c style old mid now is edits = (now, subst (λ ss. EditsStanding profile style c ss now) is edits, refl)
-edited_more profile (d ∷ cs) c style old mid now (between, first, rest) edits =
-    (between, first, edited_more profile cs c style between mid now rest edits)
-
 -- the last of them, on the data to which those before it lead
 lead_parted : (profile : Profile) (cs : List Change) (c : Change) (old now : Kinds) → Lead profile (cs ++ c ∷ []) old now
     → (mid : Kinds) × Lead profile cs old mid × IsFault profile c mid None × IsAfter profile c mid now
@@ -138,7 +131,6 @@ none_made profile read tree text kinds now at lead plain = record {
   after = text;
   written = refl;
   at = subst (IsAt profile read tree text) (fun_ext lead) at;
-  lines = refl;
   source = record { texts = refl; style = refl };
 }
 
@@ -155,8 +147,6 @@ more_made profile read cs c old tree new all makes text kinds now at lead plain 
       written = written_more profile cs c (style old) text here.after one.after here.written
           (subst (λ s. IsWritten profile c s here.after one.after) here.source.style one.written);
       at = one.at;
-      lines = edited_more profile cs c (style old) _ _ _ here.lines
-          (subst (λ s. EditsStanding profile s c (slots_standing read tree.slots.items) (slots_standing read new.slots.items)) here.source.style one.lines);
       source = record { texts = one.source.texts ∙ here.source.texts; style = one.source.style ∙ here.source.style };
     }
 

@@ -11,14 +11,14 @@ use Rattle.toml_editor.proofs.Lying.{lie_front, lie_back, lie_next}
 use Rattle.toml_editor.specs.Opening.{LieAt, Lie}
 use Rattle.toml_editor.specs.OpenOutlines.{EntryOutline, entries_of}
 use Rattle.toml_editor.specs.Outlines as outline
-use Rattle.toml_editor.specs.TreeOutlines.{gap_outline, gap_outline_before, assign_outline, value_outline, items_outline, pairs_outline}
+use Rattle.toml_editor.specs.TreeOutlines.{gap_spelled, assign_outline, value_outline, items_outline, pairs_outline}
 
 abbrev pub element_outline : Element → EntryOutline
-element_outline e = record { before = gap_outline_before e.before; assign = None; value = value_outline e.value; after = gap_outline e.after }
+element_outline e = record { before = gap_spelled e.before; assign = None; value = value_outline e.value; after = gap_spelled e.after }
 
 abbrev pub member_outline : Member → EntryOutline
 member_outline m =
-    record { before = gap_outline_before m.before; assign = Some (assign_outline m.pair.assign); value = value_outline m.pair.value; after = gap_outline m.after }
+    record { before = gap_spelled m.before; assign = Some (assign_outline m.pair.assign); value = value_outline m.pair.value; after = gap_spelled m.after }
 
 -- three runs of parts before others stand in the text, and so do the others
 pub around : (text : List ℕ) (at : ℕ) (g ps h rest : List Part) → LieAt text at (g ++ (ps ++ (h ++ rest))) → Lie text g × Lie text ps × Lie text h × Lie text rest
@@ -73,24 +73,24 @@ last_elements_lie text at e (f ∷ es) l =
     let (before, value, after, behind) = around text at (gap_parts e.before) (value_parts e.value) (gap_parts e.after) (symbol (0x2C ∷ []) ∷ rest) l in
     ((before, value, after), last_elements_lie text (behind.0 + size (symbol (0x2C ∷ []) ∷ [])) f es (lie_next text behind.0 (symbol (0x2C ∷ [])) rest behind.1))
 
-elements_outlined : (es : List Element) (g : Gap) → items_outline (before_end es (Close g)) ≡ entries_of (map element_outline es) (Some (gap_outline g))
+elements_outlined : (es : List Element) (g : Gap) → items_outline (before_end es (Close g)) ≡ entries_of (map element_outline es) (Some (gap_spelled g))
 elements_outlined [] g = refl
-elements_outlined (e ∷ es) g = ap (outline.Entry (gap_outline_before e.before) None (value_outline e.value) (gap_outline e.after)) (elements_outlined es g)
+elements_outlined (e ∷ es) g = ap (outline.Entry (gap_spelled e.before) None (value_outline e.value) (gap_spelled e.after)) (elements_outlined es g)
 
 last_elements_outlined : (e : Element) (es : List Element) → items_outline (last_ends (e ∷ es)) ≡ entries_of (map element_outline (e ∷ es)) None
 last_elements_outlined e [] = refl
-last_elements_outlined e (f ∷ es) = ap (outline.Entry (gap_outline_before e.before) None (value_outline e.value) (gap_outline e.after)) (last_elements_outlined f es)
+last_elements_outlined e (f ∷ es) = ap (outline.Entry (gap_spelled e.before) None (value_outline e.value) (gap_spelled e.after)) (last_elements_outlined f es)
 
 -- An array that stands in the text, by its elements. With neither an element nor a gap it stands in none: the gap's place is 0 there, but `[` stands before it.
 pub array_lies : (text : List ℕ) (whole : Piece) (es : List Element) (end : Option CodeGap) → Lie text (value_parts (Array whole (array_items es end)))
-    → EachIs (ElementLies text) es × EndLies text end × (items_outline (array_items es end) ≡ entries_of (map element_outline es) (option_map (λ g. gap_outline (gap g)) end))
+    → EachIs (ElementLies text) es × EndLies text end × (items_outline (array_items es end) ≡ entries_of (map element_outline es) (option_map (λ g. gap_spelled (gap g)) end))
 array_lies text whole es end (at, l) =
     let bracket = symbol (0x5B ∷ []) in
     let items = items_parts (array_items es end) in
     inside es end _ (lie_next text _ bracket items (lie_next text at (begin whole) (bracket ∷ items) l)) (let e : 0 < (at + size (begin whole ∷ [])) + size (bracket ∷ []) = omega arith in e)
   where
     inside : (es : List Element) (end : Option CodeGap) (at : ℕ) → LieAt text at (items_parts (array_items es end)) → 0 < at
-        → EachIs (ElementLies text) es × EndLies text end × (items_outline (array_items es end) ≡ entries_of (map element_outline es) (option_map (λ g. gap_outline (gap g)) end))
+        → EachIs (ElementLies text) es × EndLies text end × (items_outline (array_items es end) ≡ entries_of (map element_outline es) (option_map (λ g. gap_spelled (gap g)) end))
     inside es (Some g) at l low = let (each, last) = elements_lie text at es (gap g) l in (each, last, elements_outlined es (gap g))
     inside [] None at l low = absurd (let e : ⊥ = omega (arith, low, l.placed.0) in e)
     inside (e ∷ es) None at l low = (last_elements_lie text at e es l, tt, last_elements_outlined e es)
@@ -110,26 +110,26 @@ last_members_lie text at m (n ∷ ms) l =
     let (here, behind) = member_lies text at m (symbol (0x2C ∷ []) ∷ rest) l in
     (here, last_members_lie text (behind.0 + size (symbol (0x2C ∷ []) ∷ [])) n ms (lie_next text behind.0 (symbol (0x2C ∷ [])) rest behind.1))
 
-members_outlined : (ms : List Member) (g : Gap) → pairs_outline (pairs_before_end ms (ClosePairs g)) ≡ entries_of (map member_outline ms) (Some (gap_outline g))
+members_outlined : (ms : List Member) (g : Gap) → pairs_outline (pairs_before_end ms (ClosePairs g)) ≡ entries_of (map member_outline ms) (Some (gap_spelled g))
 members_outlined [] g = refl
 members_outlined (m ∷ ms) g =
-    ap (outline.Entry (gap_outline_before m.before) (Some (assign_outline m.pair.assign)) (value_outline m.pair.value) (gap_outline m.after)) (members_outlined ms g)
+    ap (outline.Entry (gap_spelled m.before) (Some (assign_outline m.pair.assign)) (value_outline m.pair.value) (gap_spelled m.after)) (members_outlined ms g)
 
 last_members_outlined : (m : Member) (ms : List Member) → pairs_outline (last_pairs (m ∷ ms)) ≡ entries_of (map member_outline (m ∷ ms)) None
 last_members_outlined m [] = refl
 last_members_outlined m (n ∷ ms) =
-    ap (outline.Entry (gap_outline_before m.before) (Some (assign_outline m.pair.assign)) (value_outline m.pair.value) (gap_outline m.after)) (last_members_outlined n ms)
+    ap (outline.Entry (gap_spelled m.before) (Some (assign_outline m.pair.assign)) (value_outline m.pair.value) (gap_spelled m.after)) (last_members_outlined n ms)
 
 -- the same of an inline table
 pub inline_lies : (text : List ℕ) (whole : Piece) (ms : List Member) (end : Option CodeGap) → Lie text (value_parts (Inline whole (table_pairs ms end)))
-    → EachIs (MemberLies text) ms × EndLies text end × (pairs_outline (table_pairs ms end) ≡ entries_of (map member_outline ms) (option_map (λ g. gap_outline (gap g)) end))
+    → EachIs (MemberLies text) ms × EndLies text end × (pairs_outline (table_pairs ms end) ≡ entries_of (map member_outline ms) (option_map (λ g. gap_spelled (gap g)) end))
 inline_lies text whole ms end (at, l) =
     let brace = symbol (0x7B ∷ []) in
     let pairs = pairs_parts (table_pairs ms end) in
     inside ms end _ (lie_next text _ brace pairs (lie_next text at (begin whole) (brace ∷ pairs) l)) (let e : 0 < (at + size (begin whole ∷ [])) + size (brace ∷ []) = omega arith in e)
   where
     inside : (ms : List Member) (end : Option CodeGap) (at : ℕ) → LieAt text at (pairs_parts (table_pairs ms end)) → 0 < at
-        → EachIs (MemberLies text) ms × EndLies text end × (pairs_outline (table_pairs ms end) ≡ entries_of (map member_outline ms) (option_map (λ g. gap_outline (gap g)) end))
+        → EachIs (MemberLies text) ms × EndLies text end × (pairs_outline (table_pairs ms end) ≡ entries_of (map member_outline ms) (option_map (λ g. gap_spelled (gap g)) end))
     inside ms (Some g) at l low = let (each, last) = members_lie text at ms (gap g) l in (each, last, members_outlined ms (gap g))
     inside [] None at l low = absurd (let e : ⊥ = omega (arith, low, l.placed.0) in e)
     inside (m ∷ ms) None at l low = (last_members_lie text at m ms l, tt, last_members_outlined m ms)

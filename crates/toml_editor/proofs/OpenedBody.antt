@@ -17,11 +17,7 @@ use Rattle.toml_editor.specs.declared.tree.OpenLine.{OpenLine}
 use Rattle.toml_editor.specs.Opening.{Lie}
 use Rattle.toml_editor.specs.OpeningLines.{OpensBody, IsOpened}
 use Rattle.toml_editor.specs.OpenOutlines.{line}
-use Rattle.toml_editor.specs.AsNew.{line_as_new}
-use Rattle.toml_editor.specs.Numbering.{origins_of_line}
-use Rattle.toml_editor.specs.OpenOrigins.{RunFrom}
 use Rattle.toml_editor.specs.TreeOutlines.{line_outline}
-use Rattle.toml_editor.proofs.NumberedOutlines.{line_is_numbered}
 
 -- what `get` of a slice answers
 pub item_got : {X : Type 0} (xs : List X) (i : ℕ) (r : Option (Bor X)) → IsGetResult xs i i r → option_copied r ≡ slice_get xs i
@@ -30,15 +26,14 @@ item_got xs i r h = search (rules, slice_get_past, slice_get-get_or)
 -- the document has the line
 pub body_opened : (texts : Texts) (known : List KnownLine) (old : Body) (kept : Kept) (k : KnownLine) (opened : OpenLine) (b : Box OpenLine)
     → old ≡ bodies.Kept kept → Some k ≡ slice_get known kept.line → b.value ≡ opened
-    → (Lie (text_of texts.source) (line_parts (known_line k)) → line_as_new (line opened) ≡ line_outline (known_line k))
-    → (next : Option ℕ) → RunFrom (Some kept.first) (origins_of_line opened) next → OpensBody texts (lines_known known) old (bodies.Open b)
-body_opened texts known old kept k opened b is found made opens next run =
+    → (Lie (text_of texts.source) (line_parts (known_line k)) → line opened ≡ line_outline (known_line k)) → OpensBody texts (lines_known known) old (bodies.Open b)
+body_opened texts known old kept k opened b is found made opens =
     let all = lines_known known in
     let there : Some (known_line k) ≡ slice_get all kept.line = ap (option_map known_line) found ∙ sym (slice_get-map known_line known kept.line) in
-    let some : IsOpened texts kept.first (known_line k) (bodies.Open b) =
-    (b, refl, λ lies. ap line made ∙ line_is_numbered (line opened) (line_outline (known_line k)) (Some kept.first) next (opens lies) run) in
+    let some : IsOpened texts (known_line k) (bodies.Open b) =
+    (b, refl, λ lies. ap line made ∙ opens lies) in
     subst (λ body. OpensBody texts all body (bodies.Open b)) (sym is)
-    (subst (λ o. MatchOption o (bodies.Open b ≡ bodies.Kept kept) (λ x. IsOpened texts kept.first x (bodies.Open b))) there some)
+    (subst (λ o. MatchOption o (bodies.Open b ≡ bodies.Kept kept) (λ x. IsOpened texts x (bodies.Open b))) there some)
 
 -- it has none
 pub body_stays : (texts : Texts) (known : List KnownLine) (old : Body) (kept : Kept) → old ≡ bodies.Kept kept → None ≡ slice_get known kept.line
@@ -47,4 +42,4 @@ body_stays texts known old kept is none =
     let all = lines_known known in
     let lacks : None ≡ slice_get all kept.line = ap (option_map known_line) none ∙ sym (slice_get-map known_line known kept.line) in
     subst (λ body. OpensBody texts all body body) (sym is)
-    (subst (λ o. MatchOption o (bodies.Kept kept ≡ bodies.Kept kept) (λ x. IsOpened texts kept.first x (bodies.Kept kept))) lacks refl)
+    (subst (λ o. MatchOption o (bodies.Kept kept ≡ bodies.Kept kept) (λ x. IsOpened texts x (bodies.Kept kept))) lacks refl)

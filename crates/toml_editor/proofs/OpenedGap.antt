@@ -7,11 +7,9 @@ use Rattle.toml_tree.specs.Spells.{Part, piece, Placed, joined, all_parts, gap_l
 use Rattle.toml_tree.specs.Tree.{Piece, GapLine, Gap}
 use Rattle.toml_editor.proofs.Lying.{lie_slice}
 use Rattle.toml_editor.specs.declared.tree.GapPart.{GapPart}
-use Rattle.toml_editor.specs.AsNew.{all_new}
 use Rattle.toml_editor.specs.Opening.{Lie}
-use Rattle.toml_editor.specs.Outlines.{Origins, Marked, marked}
 use Rattle.toml_editor.specs.OpenOutlines.{gap_part_text, gap_parts_text}
-use Rattle.toml_editor.specs.TreeOutlines.{comment_origin, gap_lines_origins, gap_spelled}
+use Rattle.toml_editor.specs.TreeOutlines.{gap_spelled}
 
 -- another part behind them
 pub gap_parts_more : (ps : List GapPart) (p : GapPart) → gap_parts_text (ps ++ p ∷ []) ≡ gap_parts_text ps ++ gap_part_text p
@@ -59,20 +57,3 @@ pub gap_ended : (g : Gap) (lines left : List GapLine) (old new : List ℕ) → l
 gap_ended g lines left old new none is behind so_far =
     let old_is = sym (append-nil old) ∙ ap (λ ls. old ++ joined (all_parts gap_line_parts ls)) (sym none) ∙ so_far ∙ ap (λ ls. joined (all_parts gap_line_parts ls)) is in
     behind ∙ ap₂ (λ t u. t ++ u) old_is (sym (append-nil g.ws.text)) ∙ sym (parts_join (all_parts gap_line_parts g.lines) (piece g.ws ∷ []))
-
--- one more line is opened, and a comment on it, if there is one
-pub gap_origins_on : (l : GapLine) (left rest : List GapLine) (old new all : Origins) → left ≡ l ∷ rest → all_new new ≡ all_new old ++ comment_origin l.blank.comment
-    → all_new old ++ gap_lines_origins left ≡ all → all_new new ++ gap_lines_origins rest ≡ all
-gap_origins_on l left rest old new all is here so_far =
-    ap (λ r. r ++ gap_lines_origins rest) here ∙ append_assoc (all_new old) (comment_origin l.blank.comment) (gap_lines_origins rest)
-    ∙ ap (λ ls. all_new old ++ gap_lines_origins ls) (sym is) ∙ so_far
-
--- all lines are opened
-pub gap_origins_ended : (lines left : List GapLine) (units : Origins) → left ≡ [] → all_new units ++ gap_lines_origins left ≡ gap_lines_origins lines
-    → all_new units ≡ gap_lines_origins lines
-gap_origins_ended lines left units none so_far =
-    sym (append-nil (all_new units)) ∙ ap (λ ls. all_new units ++ gap_lines_origins ls) (sym none) ∙ so_far
-
-pub same_marked : (text text' : List ℕ) (units units' : Origins) → text ≡ text' → units ≡ units'
-    → ◌≡◌ {A = Marked} (record { text = text; origins = units }) (record { text = text'; origins = units' })
-same_marked text text' units units' text_is units_is = ap₂ (λ t u. marked t u) text_is units_is

@@ -9,42 +9,32 @@ use Rattle.toml_tree.specs.Tree as tree
 use Rattle.toml_tree.specs.View.{blank, piece}
 use Rattle.toml_editor.proofs.Lying.{lie_front, lie_next}
 use Rattle.toml_editor.specs.Opening.{Lie}
-use Rattle.toml_editor.specs.AsNew.{as_new}
-use Rattle.toml_editor.specs.declared.tree.Comment.{Comment}
-use Rattle.toml_editor.specs.OpenOutlines.{comment, leaf_text}
-use Rattle.toml_editor.specs.Outlines.{Marked, begun, ExprOutline, LineOutline}
+use Rattle.toml_editor.specs.declared.tree.Leaf.{Leaf}
+use Rattle.toml_editor.specs.OpenOutlines.{leaf_text}
+use Rattle.toml_editor.specs.Outlines.{ExprOutline, LineOutline}
 use Rattle.toml_editor.specs.TreeOutlines.{line_outline, line_of}
 
 -- a line of these
-abbrev pub outline_of : List ℕ → ExprOutline → List ℕ → Option Comment → List ℕ → LineOutline
-outline_of ws x tail c newline =
-    record { ws = begun ws; expr = x; tail = tail; comment = option_map as_new (option_map comment c); newline = newline }
+abbrev pub outline_of : List ℕ → ExprOutline → List ℕ → Option Leaf → List ℕ → LineOutline
+outline_of ws x tail c newline = record { ws = ws; expr = x; tail = tail; comment = option_map leaf_text c; newline = newline }
 
 -- a comment that is opened
-comment_is : (c : Option Comment) (p : Option Piece) → option_map (λ o. leaf_text o.text) c ≡ option_map (λ q. q.text.now) p
-    → option_map as_new (option_map comment c) ≡ option_map (λ (q : tree.Piece). begun q.text) (option_map piece p)
-comment_is c p is = by_begun c ∙ ap (option_map begun) is ∙ sym (begun_by p)
-  where
-    by_begun : (c : Option Comment) → option_map as_new (option_map comment c) ≡ option_map begun (option_map (λ o. leaf_text o.text) c)
-    by_begun None = refl
-    by_begun (Some o) = refl
-
-    begun_by : (p : Option Piece) → option_map (λ (q : tree.Piece). begun q.text) (option_map piece p) ≡ option_map begun (option_map (λ q. q.text.now) p)
-    begun_by None = refl
-    begun_by (Some q) = refl
+comment_is : (p : Option Piece) → option_map (λ q. q.text.now) p ≡ option_map (λ (q : tree.Piece). q.text) (option_map piece p)
+comment_is None = refl
+comment_is (Some q) = refl
 
 -- what stands on it is opened, with the whitespace before it and the blank and the newline behind it
-pub line_made : (l : tree.Line) (e : tree.Expr) (ws own_ws : List ℕ) (x own : ExprOutline) (tail : Blank) (blank_ws : List ℕ) (c : Option Comment) (newline : List ℕ) → e ≡ l.expr
+pub line_made : (l : tree.Line) (e : tree.Expr) (ws own_ws : List ℕ) (x own : ExprOutline) (tail : Blank) (blank_ws : List ℕ) (c : Option Leaf) (newline : List ℕ) → e ≡ l.expr
     → ((n : tree.Piece) → line_outline (record { expr = e; newline = n }) ≡ line_of ws x (blank tail) n) → own_ws ≡ ws → own ≡ x → blank_ws ≡ tail.ws.text.now
-    → option_map (λ o. leaf_text o.text) c ≡ option_map (λ p. p.text.now) tail.comment → newline ≡ l.newline.text → outline_of own_ws own blank_ws c newline ≡ line_outline l
+    → option_map leaf_text c ≡ option_map (λ p. p.text.now) tail.comment → newline ≡ l.newline.text → outline_of own_ws own blank_ws c newline ≡ line_outline l
 line_made l e ws own_ws x own tail blank_ws c newline is outlined ws_is x_is tail_is c_is newline_is =
     ap₂ (λ w y. outline_of w y blank_ws c newline) ws_is x_is
-    ∙ ap₂ (λ t m. all_of t m newline) tail_is (comment_is c tail.comment c_is)
-    ∙ ap (all_of tail.ws.text.now (option_map (λ (p : tree.Piece). begun p.text) (option_map piece tail.comment))) newline_is
+    ∙ ap₂ (λ t m. all_of t m newline) tail_is (c_is ∙ comment_is tail.comment)
+    ∙ ap (all_of tail.ws.text.now (option_map (λ (p : tree.Piece). p.text) (option_map piece tail.comment))) newline_is
     ∙ sym (outlined l.newline) ∙ ap (λ y. line_outline (record { expr = y; newline = l.newline })) is
   where
-    all_of : List ℕ → Option Marked → List ℕ → LineOutline
-    all_of t m n = record { ws = begun ws; expr = x; tail = t; comment = m; newline = n }
+    all_of : List ℕ → Option (List ℕ) → List ℕ → LineOutline
+    all_of t m n = record { ws = ws; expr = x; tail = t; comment = m; newline = n }
 
 -- the pair of a line that stands in the text stands there too
 pub pair_lies : (text : List ℕ) (l : tree.Line) (ws : tree.Piece) (k : tree.KeyVal) (tail : tree.Blank) → tree.KeyValLine ws k tail ≡ l.expr → Lie text (line_parts l) → Lie text (keyval_parts k)

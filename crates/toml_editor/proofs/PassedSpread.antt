@@ -27,7 +27,7 @@ use Rattle.toml_editor.specs.CertifiedLists.{ArePlain}
 use Rattle.toml_editor.specs.Exact.{IsAt, IsNotPlainAt, IsSpreadOn, OfNumber, OfPlain, OfNoPlaceAt, PassesAll, PassesAt, Stops, style}
 use Rattle.toml_editor.specs.PlainTexts.{AfterPlain, IsNoPlainEdit, IsPlainOn, IsSpreadSet, NoSpreadSet}
 use Rattle.toml_editor.specs.Standing.{Read, standing}
-use Rattle.toml_editor.specs.Stands.{StandFor}
+use Rattle.toml_editor.specs.Stands.{Stands}
 use Rattle.toml_editor.specs.Starting.{NoneIsGone}
 use Rattle.toml_editor.specs.Steps.{AreWritten, IsGoodText}
 use Rattle.toml_editor.specs.Written.{style_of}
@@ -37,7 +37,7 @@ use Rattle.toml_editor.proofs.written.ScalarsLone.{sets_many}
 use Rattle.toml_editor.proofs.written.Steps.{plain_steps}
 
 module _ (profile : Profile) (read : Read) (d : Doc) (before : List ℕ) (tree : Tree) (document : IsDocumentIn profile before)
-    (spelled : Spells d before) (stands : StandFor before read tree.slots.items (standing d.lines)) (texts : text_of tree.texts.source ≡ before)
+    (spelled : Spells d before) (stands : Stands before read tree.slots.items (standing d.lines)) (texts : text_of tree.texts.source ≡ before)
     (whole : NoneIsGone tree.elements) (styled : style tree ≡ style_of d.lines) where
   abbrev same : document.1 ≡ d
   same = one_tree document.1 d before document.2 spelled
@@ -57,7 +57,7 @@ module _ (profile : Profile) (read : Read) (d : Doc) (before : List ℕ) (tree :
   abbrev at : (old : Kinds) → IsDataOf (named d.lines) old → IsAt profile read tree before old
   at old facts = record {
     good = good_at old facts;
-    stands = subst (λ t. StandFor t read tree.slots.items (standing d.lines)) (sym texts) stands;
+    stands = subst (λ t. Stands t read tree.slots.items (standing d.lines)) (sym texts) stands;
     whole = whole;
     newline = subst IsNewline (sym styled) newline;
   }

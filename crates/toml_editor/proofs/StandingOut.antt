@@ -1,5 +1,5 @@
 -- Lines that the working tree stands for are what its slots spell.
-use Rattle.std.proofs.Common.{◌≡◌, ◌∙◌, ℕ, List, [], ◌∷◌, ◌++◌, map, Option, Some, ap, refl, sym, append_assoc, append-nil}
+use Rattle.std.proofs.Common.{◌≡◌, ◌∙◌, ℕ, List, [], ◌∷◌, ◌++◌, map, Option, ap, refl, sym, append_assoc, append-nil}
 use Rattle.toml_names.specs.model.Addresses.{Address}
 use Rattle.toml_tree.specs.Spells.{EachIs}
 use Rattle.toml_editor.specs.declared.lines.Body.{Body}
@@ -8,12 +8,9 @@ use Rattle.toml_editor.specs.declared.lines.Kept.{Kept}
 use Rattle.toml_editor.specs.declared.lines.Line.{Line}
 use Rattle.toml_editor.specs.declared.lines.Slot.{Slot}
 use Rattle.toml_editor.specs.declared.lines.Slot.TheVariants as slots
-use Rattle.toml_editor.specs.OpenOrigins.{line_numbered}
 use Rattle.toml_editor.specs.Outlines.{line_outlined, lines_outlined}
 use Rattle.toml_editor.specs.Standing.{Read, Standing, kept_outline, body_outline, line_standing, outline_of, slot_standing, slots_standing}
 use Rattle.toml_editor.specs.Stands.{BodyKept, IsKept, SlotKept}
-use Rattle.toml_editor.specs.TreeOutlines.{line_outline}
-use Rattle.toml_editor.proofs.OutlinesSpelled.{line_numbered_spells}
 use Rattle.toml_editor.specs.Writing.{SpellAll, SpellsKept, SpellsLine, SpellsSlot}
 
 -- the texts of lines, one behind the other
@@ -27,10 +24,7 @@ outlined_append (s ∷ ss) ts =
 
 module _ (text : List ℕ) (read : Read) where
   kept_spells : (kept : Kept) → IsKept text read kept → SpellsKept text kept (line_outlined (kept_outline read kept))
-  kept_spells kept h = (
-    h.held,
-    ap (λ l. line_outlined (line_numbered (Some kept.first) (outline_of l))) h.is ∙ line_numbered_spells (Some kept.first) (line_outline h.line) ∙ sym h.spells,
-  )
+  kept_spells kept h = (h.held, ap (λ l. line_outlined (outline_of l)) h.is ∙ sym h.spells)
 
   line_spells : (address : Option Address) (base : Option ℕ) (body : Body) → BodyKept text read body
       → SpellsLine text (record { address = address; base = base; body = body }) (line_outlined (body_outline read body))

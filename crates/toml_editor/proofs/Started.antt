@@ -1,8 +1,8 @@
 -- A slot for each line, unit by unit: the unit of a line comes before those that lie in it.
-use Rattle.std.proofs.Common.{◌≡◌, ◌∙◌, ◌+◌, ◌<◌, ◌≤◌, ◌⊎◌, inl, inr, ℕ, zero, suc, Bool, true, false, true≢false, List, [], ◌∷◌, ◌++◌, map, Option, Some, None, ap, ap₂, refl, sym, subst, add-one, append_assoc, append-nil, length, length-append, drop, drop-drop, arith}
+use Rattle.std.proofs.Common.{◌≡◌, ◌∙◌, ◌+◌, ◌≤◌, ◌⊎◌, inl, inr, ℕ, zero, suc, Bool, true, false, true≢false, List, [], ◌∷◌, ◌++◌, map, Option, Some, None, ap, refl, sym, subst, add-one, append_assoc, append-nil, length, length-append, drop, drop-drop}
 use Rattle.std.specs.Prelude.{option_and_then, slice_get}
-use Rattle.std.proofs.lemmas.List.{drop_all, length-drop, map-append}
-use Rattle.std.proofs.lemmas.Option.{none-some, same_Some, slice_get_within}
+use Rattle.std.proofs.lemmas.List.{drop_all}
+use Rattle.std.proofs.lemmas.Option.{none-some, same_Some}
 use Rattle.toml_names.specs.mentions.Mentions.{Named, root, named_by}
 use Rattle.toml_names.specs.model.Addresses.{Address}
 use Rattle.toml_names.specs.reader.Names.{own_address}
@@ -10,27 +10,20 @@ use Rattle.toml_tree.specs.Spells.{EachIs}
 use Rattle.toml_tree.specs.Tree.{Line}
 use Rattle.toml_units.proofs.Proved.{line_no_lines}
 use Rattle.toml_units.specs.declared.unit.Unit.{Unit as CodeUnit}
+use Rattle.toml_units.specs.declared.unit.UnitKind.{UnitKind}
 use Rattle.toml_units.specs.declared.unit.UnitKind.TheVariants as kinds
 use Rattle.toml_units.specs.Places.{is_line}
 use Rattle.toml_units.specs.Plain.{Spanned, spanned}
 use Rattle.toml_units.specs.Units.{TextUnit, inside_line, line_unit, units, units_from}
 use Rattle.toml_units.specs.View.{all_units, unit}
 use Rattle.toml_editor.proofs.Each.{each_append}
-use Rattle.toml_editor.proofs.KeptOrigins.{BeginWithLine, count_left, first_is, rest_is, tail_numbers, unlike_line}
 use Rattle.toml_editor.proofs.LinesLie.{LineLies, line_kept}
-use Rattle.toml_editor.proofs.NumberedOutlines.{beyond_is, line_new_numbered, line_numbers, numbers_append}
-use Rattle.toml_editor.proofs.OpenedOrigins.{origins_more}
-use Rattle.toml_editor.proofs.TreeOrigins.{count_line, line_outline_is_new}
 use Rattle.toml_editor.specs.declared.lines.Kept.{Kept}
 use Rattle.toml_editor.specs.declared.lines.Slot.{Slot}
 use Rattle.toml_editor.specs.declared.lines.Slot.TheVariants as slots
-use Rattle.toml_editor.specs.AsNew.{line_as_new, standing_as_new}
-use Rattle.toml_editor.specs.Numbering.{kept_origins}
-use Rattle.toml_editor.specs.OpenOrigins.{line_numbered, next_number, numbers}
-use Rattle.toml_editor.specs.Outlines.{LineOutline, line_origins}
-use Rattle.toml_editor.specs.Standing.{Read, Standing, kept_outline, kept_standing, line_stands, outline_of, slot_standing, slots_standing, standing, standing_from, standing_origins}
-use Rattle.toml_editor.specs.Stands.{HasNumbers, SlotKept, StandFor}
-use Rattle.toml_editor.specs.TreeOutlines.{line_outline}
+use Rattle.toml_editor.specs.Outlines.{LineOutline}
+use Rattle.toml_editor.specs.Standing.{Read, Standing, kept_standing, line_stands, outline_of, slot_standing, slots_standing, standing, standing_from}
+use Rattle.toml_editor.specs.Stands.{SlotKept, Stands}
 use Rattle.toml_editor.specs.Starting.{IsKeptOf, KeepsLine}
 
 -- So many units are passed: the slots stand for the first lines, and the units that are left lie in the last of these, or are those of
@@ -45,9 +38,21 @@ pub record StartedWith (text : List ℕ) (read : Read) (passed : ℕ) (all : Lis
   pub lines : left ≡ drop (length all) read.lines
   pub lie : EachIs (LineLies text) left
   pub kept : EachIs (SlotKept text read) all
-  pub are : map standing_as_new (slots_standing read all) ++ standing_from earlier n left ≡ standing read.lines
-  pub within : passed ≤ length read.units
-  pub origins : HasNumbers read.units → standing_origins (slots_standing read all) ≡ numbers (Some 0) (passed + length inner)
+  pub are : slots_standing read all ++ standing_from earlier n left ≡ standing read.lines
+
+-- the first of a list, and the others
+first_is : {A : Type 0} (x y : A) (xs ys : List A) → x ∷ xs ≡ y ∷ ys → x ≡ y
+first_is x y xs ys is = cc
+
+rest_is : {A : Type 0} (x y : A) (xs ys : List A) → x ∷ xs ≡ y ∷ ys → xs ≡ ys
+rest_is x y xs ys is = cc
+
+unlike_line : (k : UnitKind) → ¬ (k ≡ kinds.Line) → is_line k ≡ true → ⊥
+unlike_line kinds.Line other is = other refl
+unlike_line kinds.TailComment other is = true≢false (sym is)
+unlike_line kinds.InnerComment other is = true≢false (sym is)
+unlike_line kinds.Element other is = true≢false (sym is)
+unlike_line kinds.Pair other is = true≢false (sym is)
 
 -- what stands at a place is the first of what is left there
 got_first : {A : Type 0} (xs : List A) (i : ℕ) (x : A) → slice_get xs i ≡ Some x → drop i xs ≡ x ∷ drop (i + 1) xs
@@ -63,11 +68,6 @@ left_got [] zero y ys is = cc
 left_got [] (suc i) y ys is = cc
 left_got (x ∷ xs) zero y ys is = ap Some (sym (first_is y x ys xs is))
 left_got (x ∷ xs) (suc i) y ys is = left_got xs i y ys is
-
--- the units behind those of a line begin with that of the next one
-begins_with_line : (ls : List Line) (earlier : List Named) (n : ℕ) → BeginWithLine (units_from earlier n ls)
-begins_with_line [] earlier n = tt
-begins_with_line (l ∷ ls) earlier n = refl
 
 -- one slot more stands for one line more
 standing_append : (read : Read) (ss ts : List Slot) → slots_standing read (ss ++ ts) ≡ slots_standing read ss ++ slots_standing read ts
@@ -91,50 +91,32 @@ started text read are lie = record {
   lie = lie;
   kept = tt;
   are = refl;
-  within = omega arith;
-  origins = λ few. refl;
 }
 
 -- all units are passed
 pub started_all : (text : List ℕ) (read : Read) (passed : ℕ) (all : List Slot) → length read.units ≤ passed → StartedWith text read passed all
-    → (lines : StandFor text read all (standing read.lines)) × (HasNumbers read.units → standing_origins lines.lines ≡ numbers (Some 0) (length read.units))
-started_all text read passed all past h =
-    by h.inner h.left (sym (ap all_units (drop_all passed read.units past)) ∙ h.units) h.are h.origins
+    → Stands text read all (standing read.lines)
+started_all text read passed all past h = by h.inner h.left (sym (ap all_units (drop_all passed read.units past)) ∙ h.units) h.are
   where
-    AreNumbered : ℕ → Type 0
-    AreNumbered n = HasNumbers read.units → standing_origins (slots_standing read all) ≡ numbers (Some 0) n
-
     by : (inner : List TextUnit) (left : List Line) → [] ≡ map spanned (inner ++ units_from h.earlier h.n left)
-        → map standing_as_new (slots_standing read all) ++ standing_from h.earlier h.n left ≡ standing read.lines → AreNumbered (passed + length inner)
-        → (lines : StandFor text read all (standing read.lines)) × (HasNumbers read.units → standing_origins lines.lines ≡ numbers (Some 0) (length read.units))
-    by (w ∷ ws) left none are origins = cc
-    by [] (l ∷ ls) none are origins = cc
-    by [] [] none are origins = (
-      record {
-        lines = slots_standing read all;
-        stand = record { kept = h.kept; are = refl };
-        are_as_new = sym (append-nil (map standing_as_new (slots_standing read all))) ∙ are;
-      },
-      λ few. origins few ∙ ap (numbers (Some 0)) (let e : passed + 0 ≡ length read.units = omega (arith, past, h.within) in e),
-    )
+        → slots_standing read all ++ standing_from h.earlier h.n left ≡ standing read.lines → Stands text read all (standing read.lines)
+    by (w ∷ ws) left none are = cc
+    by [] (l ∷ ls) none are = cc
+    by [] [] none are = record { kept = h.kept; are = sym (append-nil (slots_standing read all)) ∙ are }
 
 module _ (text : List ℕ) (read : Read) (passed : ℕ) (all : List Slot) (u : CodeUnit) (got : slice_get read.units passed ≡ Some u) (h : StartedWith text read passed all) where
   -- the next unit is the first of those that are left
   next_unit : unit u ∷ all_units (drop (passed + 1) read.units) ≡ map spanned (h.inner ++ units_from h.earlier h.n h.left)
   next_unit = sym (ap all_units (got_first read.units passed u got)) ∙ h.units
 
-  low : passed + 1 ≤ length read.units
-  low = let e = slice_get_within read.units passed u got in omega (arith, e)
-
   -- a unit that is no line lies in the last line
   started_inside : is_line u.kind ≡ false → StartedWith text read (passed + 1) all
-  started_inside other = by h.inner h.left next_unit h.no_lines h.lines h.lie h.are h.origins
+  started_inside other = by h.inner h.left next_unit h.no_lines h.lines h.lie h.are
     where
       by : (inner : List TextUnit) (left : List Line) → unit u ∷ all_units (drop (passed + 1) read.units) ≡ map spanned (inner ++ units_from h.earlier h.n left)
           → EachIs (λ w. ¬ (w.kind ≡ kinds.Line)) inner → left ≡ drop (length all) read.lines → EachIs (LineLies text) left
-          → map standing_as_new (slots_standing read all) ++ standing_from h.earlier h.n left ≡ standing read.lines
-          → (HasNumbers read.units → standing_origins (slots_standing read all) ≡ numbers (Some 0) (passed + length inner)) → StartedWith text read (passed + 1) all
-      by (w ∷ ws) left is none lines lie are origins = record {
+          → slots_standing read all ++ standing_from h.earlier h.n left ≡ standing read.lines → StartedWith text read (passed + 1) all
+      by (w ∷ ws) left is none lines lie are = record {
         inner = ws;
         left = left;
         earlier = h.earlier;
@@ -145,54 +127,32 @@ module _ (text : List ℕ) (read : Read) (passed : ℕ) (all : List Slot) (u : C
         lie = lie;
         kept = h.kept;
         are = are;
-        within = low;
-        origins = λ few. origins few ∙ ap (numbers (Some 0)) (let e : passed + suc (length ws) ≡ (passed + 1) + length ws = omega arith in e);
       }
-      by [] (l ∷ ls) is none lines lie are origins =
+      by [] (l ∷ ls) is none lines lie are =
           let line : u.kind ≡ kinds.Line = ap (λ (s : Spanned). s.kind) (first_is _ _ _ _ is) in
           absurd (true≢false (sym (ap is_line line) ∙ other))
-      by [] [] is none lines lie are origins = cc
+      by [] [] is none lines lie are = cc
 
   -- a unit of a line begins the next one
   pub started_line : (kept : Kept) → KeepsLine read.lines (length all) u passed kept → StartedWith text read (passed + 1) (all ++ slots.Kept kept ∷ [])
-  started_line kept keeps = by h.inner h.left next_unit h.no_lines h.lines h.lie h.are h.origins
+  started_line kept keeps = by h.inner h.left next_unit h.no_lines h.lines h.lie h.are
     where
       by : (inner : List TextUnit) (left : List Line) → unit u ∷ all_units (drop (passed + 1) read.units) ≡ map spanned (inner ++ units_from h.earlier h.n left)
           → EachIs (λ w. ¬ (w.kind ≡ kinds.Line)) inner → left ≡ drop (length all) read.lines → EachIs (LineLies text) left
-          → map standing_as_new (slots_standing read all) ++ standing_from h.earlier h.n left ≡ standing read.lines
-          → (HasNumbers read.units → standing_origins (slots_standing read all) ≡ numbers (Some 0) (passed + length inner))
+          → slots_standing read all ++ standing_from h.earlier h.n left ≡ standing read.lines
           → StartedWith text read (passed + 1) (all ++ slots.Kept kept ∷ [])
-      by (w ∷ ws) left is none lines lie are origins =
+      by (w ∷ ws) left is none lines lie are =
           let same : u.kind ≡ w.kind = ap (λ (s : Spanned). s.kind) (first_is _ _ _ _ is) in
           absurd (unlike_line w.kind none.0 (sym (ap is_line same) ∙ keeps.own))
-      by [] [] is none lines lie are origins = cc
-      by [] (l ∷ ls) is none lines lie are origins =
+      by [] [] is none lines lie are = cc
+      by [] (l ∷ ls) is none lines lie are =
           let own : unit u ≡ spanned (line_unit h.earlier l.expr) = first_is _ _ _ _ is in
           let line : keeps.line ≡ l = first_is _ _ _ _ (sym (got_first read.lines (length all) keeps.line keeps.is) ∙ sym lines) in
           let here : slice_get read.lines kept.line ≡ Some l = ap (slice_get read.lines) keeps.counts ∙ keeps.is ∙ ap Some line in
           let first : slice_get read.units kept.first ≡ Some u = ap (slice_get read.units) keeps.begins ∙ got in
-          let stands : standing_as_new (kept_standing read kept) ≡ line_stands h.earlier l =
+          let stands : kept_standing read kept ≡ line_stands h.earlier l =
           same_standing _ _ _ _ _ _ (ap (option_and_then (λ (x : CodeUnit). x.address)) first ∙ ap (λ (s : Spanned). s.address) own)
-          (ap (option_and_then (λ (x : CodeUnit). x.base)) first ∙ ap (λ (s : Spanned). s.base) own)
-          (ap (λ o. line_as_new (line_numbered (Some kept.first) (outline_of o))) here ∙ line_new_numbered (Some kept.first) (line_outline l)
-          ∙ line_outline_is_new l) in
-          let inner = inside_line (own_address h.earlier l.expr) l.expr in
-          let behind = units_from (h.earlier ++ named_by h.earlier h.n l.expr) (h.n + 1) ls in
-          let outlined : line_origins (kept_outline read kept) ≡ numbers (Some passed) (suc (length inner)) =
-          ap (λ o. line_origins (line_numbered (Some kept.first) (outline_of o))) here ∙ line_numbers (Some kept.first) (line_outline l)
-          ∙ ap₂ (λ k n. numbers (Some k) n) keeps.begins (count_line h.earlier l) in
-          let room : (HasNumbers read.units) → passed + suc (length inner) < 18446744073709551616 = λ few.
-          let all_left = count_left (drop (passed + 1) read.units) inner behind (rest_is _ _ _ _ is) in
-          let total = length-drop (passed + 1) read.units in
-          omega (arith, few, all_left, total, low) in
-          let beyond_own : HasNumbers read.units → numbers (Some (passed + 1)) (length inner) ≡ numbers (next_number (Some passed)) (length inner) = λ few.
-          ap (λ a. numbers a (length inner)) (let e : Some (passed + 1) ≡ next_number (Some passed) = ap Some (omega (arith, room few)) in e) in
-          let own_origins : HasNumbers read.units → kept_origins read.units kept.first ≡ line_origins (kept_outline read kept) = λ few.
-          ap (kept_origins read.units) keeps.begins
-          ∙ ap (λ r. Some passed ∷ r)
-          (tail_numbers (drop (passed + 1) read.units) inner behind (passed + 1) (rest_is _ _ _ _ is) (line_no_lines h.earlier l.expr)
-          (begins_with_line ls (h.earlier ++ named_by h.earlier h.n l.expr) (h.n + 1)) (let r = room few in omega (arith, r)) ∙ beyond_own few)
-          ∙ sym outlined in
+          (ap (option_and_then (λ (x : CodeUnit). x.base)) first ∙ ap (λ (s : Spanned). s.base) own) (ap outline_of here) in
           let long : length (all ++ slots.Kept kept ∷ []) ≡ length all + 1 = length-append all (slots.Kept kept ∷ []) in
           record {
             inner = inside_line (own_address h.earlier l.expr) l.expr;
@@ -203,22 +163,11 @@ module _ (text : List ℕ) (read : Read) (passed : ℕ) (all : List Slot) (u : C
             no_lines = line_no_lines h.earlier l.expr;
             lines = passed_one read.lines (length all) l ls lines ∙ ap (λ k. drop k read.lines) (sym long);
             lie = lie.1;
-            kept = each_append (SlotKept text read) all (slots.Kept kept ∷ []) h.kept (line_kept text read kept l here lie.0 (subst (λ x. IsKeptOf x kept) line keeps.says) own_origins, tt);
+            kept = each_append (SlotKept text read) all (slots.Kept kept ∷ []) h.kept (line_kept text read kept l here lie.0 (subst (λ x. IsKeptOf x kept) line keeps.says), tt);
             are =
                 ap (λ r. r ++ standing_from (h.earlier ++ named_by h.earlier h.n l.expr) (h.n + 1) ls)
-                (ap (map standing_as_new) (standing_append read all (slots.Kept kept ∷ []))
-                ∙ map-append standing_as_new (slots_standing read all) (kept_standing read kept ∷ [])
-                ∙ ap (λ s. map standing_as_new (slots_standing read all) ++ (s ∷ [])) stands)
-                ∙ append_assoc (map standing_as_new (slots_standing read all)) (line_stands h.earlier l ∷ []) (standing_from (h.earlier ++ named_by h.earlier h.n l.expr) (h.n + 1) ls) ∙ are;
-            within = low;
-            origins = λ few.
-                ap standing_origins (standing_append read all (slots.Kept kept ∷ []))
-                ∙ origins_more (λ (s : Standing). line_origins s.outline) (slots_standing read all) (kept_standing read kept)
-                ∙ ap₂ (λ os ps. os ++ ps) (origins few ∙ ap (numbers (Some 0)) (let e : passed + 0 ≡ passed = omega arith in e)) outlined
-                ∙ ap (λ a. numbers (Some 0) passed ++ numbers a (suc (length inner)))
-                (sym (beyond_is 0 passed (let r = room few in omega (arith, r)) ∙ (let e : 0 + passed ≡ passed = omega arith in ap Some e)))
-                ∙ sym (numbers_append (Some 0) passed (suc (length inner)))
-                ∙ ap (numbers (Some 0)) (let e : passed + suc (length inner) ≡ (passed + 1) + length inner = omega arith in e);
+                (standing_append read all (slots.Kept kept ∷ []) ∙ ap (λ s. slots_standing read all ++ (s ∷ [])) stands)
+                ∙ append_assoc (slots_standing read all) (line_stands h.earlier l ∷ []) (standing_from (h.earlier ++ named_by h.earlier h.n l.expr) (h.n + 1) ls) ∙ are;
           }
 
   -- and there is one

@@ -4,7 +4,7 @@ use Rattle.std.specs.Prelude.{option_map}
 use Rattle.toml_tree.proofs.Proved.{parts_join}
 use Rattle.toml_tree.specs.Spells.{Part, piece, symbol, joined, all_parts, gap_parts, dotted_parts, key_parts, equals_parts, assign_parts, value_parts, items_parts, pairs_parts, keyval_parts, blank_parts, comment_parts, header_parts, array_header_parts, expr_parts, line_parts, lines_parts}
 use Rattle.toml_tree.specs.Tree.{Piece, Blank, Dotted, Assign, Gap, Value, Scalar, Array, Inline, Items, Close, Last, More, Pairs, ClosePairs, LastPair, MorePairs, Header, Expr, BlankLine, KeyValLine, TableLine, ArrayTableLine}
-use Rattle.toml_editor.specs.Outlines.{begun, comma_if, comment_outlined, dotted_outlined, assign_outlined, value_outlined, entries_outlined, line_outlined}
+use Rattle.toml_editor.specs.Outlines.{comma_if, comment_outlined, dotted_outlined, assign_outlined, value_outlined, entries_outlined, line_outlined}
 use Rattle.toml_editor.specs.TreeOutlines.{gap_spelled, dotted_outline, assign_outline, value_outline, items_outline, pairs_outline, line_outline, ValueIsOutlined, LineIsOutlined, LinesAreOutlined}
 
 -- texts one behind the other, where the first is that of some parts
@@ -65,19 +65,19 @@ mutual
       entry_is behind g h (assign_parts a) v (assign_outlined (assign_outline a)) (entries_outlined true (pairs_outline ps)) (symbol (0x2C ∷ []) ∷ pairs_parts ps) 0x7D (assign_is a) (value_outlined_is v) (pairs_are true ps)
 
 -- a blank and the newline behind it
-end_is : (tail : Blank) (newline : Piece) → tail.ws.text ++ (comment_outlined (option_map (λ (p : Piece). begun p.text) tail.comment) ++ newline.text) ≡ joined (blank_parts tail ++ piece newline ∷ [])
+end_is : (tail : Blank) (newline : Piece) → tail.ws.text ++ (comment_outlined (option_map (λ (p : Piece). p.text) tail.comment) ++ newline.text) ≡ joined (blank_parts tail ++ piece newline ∷ [])
 end_is tail newline = by tail.comment
   where
-    by : (comment : Option Piece) → tail.ws.text ++ (comment_outlined (option_map (λ (p : Piece). begun p.text) comment) ++ newline.text) ≡ tail.ws.text ++ joined (comment_parts comment ++ piece newline ∷ [])
+    by : (comment : Option Piece) → tail.ws.text ++ (comment_outlined (option_map (λ (p : Piece). p.text) comment) ++ newline.text) ≡ tail.ws.text ++ joined (comment_parts comment ++ piece newline ∷ [])
     by None = ap (λ r. tail.ws.text ++ r) (sym (append-nil newline.text))
     by (Some p) = ap (λ r. tail.ws.text ++ (p.text ++ r)) (sym (append-nil newline.text))
 
 -- what stands on a line, between the whitespace before it and the blank behind it
 ended : (ws : List ℕ) (ps : List Part) (e : List ℕ) (tail : Blank) (newline : Piece) → e ≡ joined ps
-    → ws ++ (e ++ (tail.ws.text ++ (comment_outlined (option_map (λ (p : Piece). begun p.text) tail.comment) ++ newline.text))) ≡ ws ++ joined ((ps ++ blank_parts tail) ++ piece newline ∷ [])
+    → ws ++ (e ++ (tail.ws.text ++ (comment_outlined (option_map (λ (p : Piece). p.text) tail.comment) ++ newline.text))) ≡ ws ++ joined ((ps ++ blank_parts tail) ++ piece newline ∷ [])
 ended ws ps e tail newline is =
     ap (λ r. ws ++ r)
-    (ap (λ r. r ++ (tail.ws.text ++ (comment_outlined (option_map (λ (p : Piece). begun p.text) tail.comment) ++ newline.text))) is
+    (ap (λ r. r ++ (tail.ws.text ++ (comment_outlined (option_map (λ (p : Piece). p.text) tail.comment) ++ newline.text))) is
     ∙ before ps (blank_parts tail ++ piece newline ∷ []) _ (end_is tail newline) ∙ ap joined (sym (append_assoc ps (blank_parts tail) (piece newline ∷ []))))
 
 -- a header's key and what is behind it

@@ -1,14 +1,12 @@
 -- What is written where the working tree stands for the lines of a tree.
-use Rattle.std.proofs.Common.{◌≡◌, ◌∙◌, ◌+◌, ℕ, List, [], ◌∷◌, ◌++◌, ap, ap₂, refl, sym, map}
+use Rattle.std.proofs.Common.{◌≡◌, ◌∙◌, ◌+◌, ℕ, List, [], ◌∷◌, ◌++◌, ap, refl, map}
 use Rattle.toml_names.specs.mentions.Mentions.{Named, named_by, root}
 use Rattle.toml_tree.specs.Tree.{Line}
 use Rattle.toml_tree.proofs.Proved.{text_is_spelled}
 use Rattle.toml_editor.proofs.StandingOut.{all_outlined}
-use Rattle.toml_editor.proofs.OutlinesSpelled.{line_new_spells}
 use Rattle.toml_editor.proofs.TreeOutlined.{lines_outlined_are}
 use Rattle.toml_editor.specs.Outlines.{line_outlined, lines_outlined}
-use Rattle.toml_editor.specs.AsNew.{standing_as_new}
-use Rattle.toml_editor.specs.Standing.{Standing, standing_from}
+use Rattle.toml_editor.specs.Standing.{standing, standing_from}
 use Rattle.toml_editor.specs.TreeOutlines.{line_outline}
 use Rattle.toml_editor.specs.Writing.{LinesAreWritten, TextIsWritten}
 
@@ -16,16 +14,9 @@ standing_outlined : (earlier : List Named) (n : ℕ) (ls : List Line) → all_ou
 standing_outlined earlier n [] = refl
 standing_outlined earlier n (l ∷ ls) = ap (λ r. line_outlined (line_outline l) ++ r) (standing_outlined (earlier ++ named_by earlier n l.expr) (n + 1) ls)
 
--- which units lines have does not count
-pub all_new_spell : (ss : List Standing) → all_outlined (map standing_as_new ss) ≡ all_outlined ss
-all_new_spell [] = refl
-all_new_spell (s ∷ ss) = ap₂ (λ x y. x ++ y) (line_new_spells s.outline) (all_new_spell ss)
-
 pub lines_are_written : LinesAreWritten
 lines_are_written before mark read slots lines out written stands =
-    written read stands.lines stands.stand
-    ∙ ap (λ r. mark ++ r)
-    (sym (all_new_spell stands.lines) ∙ ap all_outlined stands.are_as_new ∙ standing_outlined (root ∷ []) 0 lines ∙ lines_outlined_are lines)
+    written read (standing lines) stands ∙ ap (λ r. mark ++ r) (standing_outlined (root ∷ []) 0 lines ∙ lines_outlined_are lines)
 
 pub text_is_written : TextIsWritten
 text_is_written text d read slots out spelled written stands =

@@ -26,15 +26,6 @@ pub mod LastLines
 pub mod Made
 pub mod Moved
 pub mod Nested
-pub mod OriginsAlong
-pub mod OriginsCounted
-pub mod OriginsListed
-pub mod OriginsOne
-pub mod OriginsPut
-pub mod OriginsRenamed
-pub mod OriginsSet
-pub mod OriginsSetInside
-pub mod OriginsTaken
 pub mod OuterPairs
 pub mod PairsClear
 pub mod Pairwise
@@ -50,7 +41,6 @@ pub mod RenameNamed
 pub mod RenameStanding
 pub mod RenameTexts
 pub mod ScalarsLone
-pub mod SetAlong
 pub mod SetFormed
 pub mod SetKept
 pub mod SetNamed
@@ -83,7 +73,6 @@ pub mod WayHeld
 pub mod WayKeeps
 pub mod WayKept
 pub mod WayOn
-pub mod WayOrigins
 pub mod WayOwed
 pub mod WayPut
 pub mod WayRenamed

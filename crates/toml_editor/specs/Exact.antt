@@ -21,14 +21,13 @@ use Rattle.toml_editor.specs.declared.fault.EditorFault.TheVariants.{Edit, LastE
 use Rattle.toml_editor.specs.declared.working.Tree.{Tree}
 use Rattle.toml_editor.specs.Becoming.{TreeRenames}
 use Rattle.toml_editor.specs.CertifiedLists.{ArePlain}
-use Rattle.toml_editor.specs.EditStanding.{EditsStanding, EditAllStanding}
 use Rattle.toml_editor.specs.OpenOutlines.{leaf_text}
 use Rattle.toml_editor.specs.PlainTexts.{IsPlainOn, IsSpreadSet}
 use Rattle.toml_editor.specs.Putting.{TreeInserts}
 use Rattle.toml_editor.specs.RemovingIn.{RemovesLines}
 use Rattle.toml_editor.specs.SpelledEdits.{AreSteps}
-use Rattle.toml_editor.specs.Standing.{Read, slots_standing, standing}
-use Rattle.toml_editor.specs.Stands.{KeepsRest, StandFor, TreeSets}
+use Rattle.toml_editor.specs.Standing.{Read, standing}
+use Rattle.toml_editor.specs.Stands.{KeepsRest, Stands, TreeSets}
 use Rattle.toml_editor.specs.Starting.{NoneIsGone}
 use Rattle.toml_editor.specs.Steps.{IsGoodText, AreWritten}
 use Rattle.toml_editor.specs.TreeOutlines.{value_outline}
@@ -41,7 +40,7 @@ style tree = leaf_text tree.style
 -- the working tree stands for a text with these data, and no element of an array of tables is gone
 pub record IsAt (profile : Profile) (read : Read) (tree : Tree) (text : List ℕ) (kinds : Kinds) : Type 0 where
   pub good : IsGoodText profile text kinds
-  pub stands : StandFor (text_of tree.texts.source) read tree.slots.items (standing good.tree.lines)
+  pub stands : Stands (text_of tree.texts.source) read tree.slots.items (standing good.tree.lines)
   pub whole : NoneIsGone tree.elements
   pub newline : IsNewline (style tree)
 
@@ -50,12 +49,11 @@ pub record KeepsSource (old new : Tree) : Type 0 where
   pub texts : new.texts ≡ old.texts
   pub style : style new ≡ style old
 
--- the tree now stands for the text that the edit writes of the one for which it stood, and its lines are what the edit makes of them
+-- the tree now stands for the text that the edit writes of the one for which it stood
 pub record Follows (profile : Profile) (read : Read) (c : Change) (old new : Tree) (text : List ℕ) (now : Kinds) : Type 0 where
   pub after : List ℕ
   pub written : IsWritten profile c (style old) text after
   pub at : IsAt profile read new after now
-  pub lines : EditsStanding profile (style old) c (slots_standing read old.slots.items) (slots_standing read new.slots.items)
   pub source : KeepsSource old new
 
 abbrev pub MakesOne : Profile → Read → Change → Tree → Tree → Type 0
@@ -67,7 +65,6 @@ pub record FollowAll (profile : Profile) (read : Read) (cs : List Change) (old n
   pub after : List ℕ
   pub written : AreWritten profile cs (style old) text after
   pub at : IsAt profile read new after now
-  pub lines : EditAllStanding profile (style old) cs (slots_standing read old.slots.items) (slots_standing read new.slots.items)
   pub source : KeepsSource old new
 
 abbrev pub MakesAll : Profile → Read → List Change → Tree → Tree → Type 0

@@ -5,7 +5,7 @@ use Rattle.toml_scalar.specs.Spelling.{spelled}
 use Rattle.toml_names.specs.declared.model.address.Step.TheVariants.{Name}
 use Rattle.toml_names.specs.model.Addresses.{Address}
 use Rattle.toml_tree.specs.Spells.{EachIs}
-use Rattle.toml_editor.specs.Outlines.{AssignOutline, LineOutline, Pair, ValueOutline, begun}
+use Rattle.toml_editor.specs.Outlines.{AssignOutline, LineOutline, Pair, ValueOutline}
 use Rattle.toml_editor.specs.Standing.{Standing, holds}
 
 -- the name, ` = ` and the value, without indentation
@@ -13,7 +13,7 @@ abbrev pub new_assign : List ℕ → AssignOutline
 new_assign name = record { first = spelled name; rest = []; before_equals = 0x20 ∷ []; after_equals = 0x20 ∷ [] }
 
 abbrev pub new_outline : List ℕ → ValueOutline → List ℕ → LineOutline
-new_outline name v newline = record { ws = begun []; expr = Pair (new_assign name) v; tail = []; comment = None; newline = newline }
+new_outline name v newline = record { ws = []; expr = Pair (new_assign name) v; tail = []; comment = None; newline = newline }
 
 abbrev pub new_standing : List ℕ → ValueOutline → List ℕ → Standing
 new_standing name v newline = record { address = Some (Name name ∷ []); base = Some 0; outline = new_outline name v newline }

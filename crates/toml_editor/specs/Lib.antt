@@ -14,14 +14,12 @@ pub mod SetOutlines
 pub mod RenameOutlines
 pub mod Beginnings
 pub mod Apart
-pub mod AsNew
 pub mod Opening
 pub mod Standing
 pub mod InsertStanding
 pub mod Stands
 pub mod Starting
 pub mod Writing
-pub mod Numbering
 pub mod OpeningLines
 pub mod Leading
 pub mod RenamingIn
@@ -34,9 +32,7 @@ pub mod Placing
 pub mod Putting
 pub mod Changing
 pub mod RemoveStanding
-pub mod EditStanding
 pub mod RemovingIn
-pub mod OpenOrigins
 -- what a plain edit writes, and the laws of it
 pub mod Lines
 pub mod Setting
@@ -60,7 +56,6 @@ pub mod Steps
 pub mod CarriedUnits
 pub mod CarriedLists
 pub mod CertifiedLists
-pub mod PairedLists
 -- that the code writes it
 pub mod StandingLaws
 pub mod PlainTexts

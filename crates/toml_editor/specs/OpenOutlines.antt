@@ -3,7 +3,6 @@ use Rattle.std.specs.Prelude.{ℕ, List, [], ◌∷◌, ◌++◌, map, Option, o
 use Rattle.toml_editor.specs.declared.tree.Leaf.{Leaf}
 use Rattle.toml_editor.specs.declared.tree.Leaf.TheVariants as leaves
 use Rattle.toml_editor.specs.declared.tree.Blank.{Blank}
-use Rattle.toml_editor.specs.declared.tree.Comment.{Comment}
 use Rattle.toml_editor.specs.declared.tree.Gap.{Gap}
 use Rattle.toml_editor.specs.declared.tree.GapPart.{GapPart}
 use Rattle.toml_editor.specs.declared.tree.GapPart.TheVariants as parts
@@ -23,7 +22,7 @@ use Rattle.toml_editor.specs.declared.tree.Expr.{Expr}
 use Rattle.toml_editor.specs.declared.tree.Expr.TheVariants as exprs
 use Rattle.toml_editor.specs.declared.tree.OpenLine.{OpenLine}
 use Rattle.toml_editor.specs.Outlines as outline
-use Rattle.toml_editor.specs.Outlines.{Origins, Marked, DottedOutline, AssignOutline, ValueOutline, EntriesOutline, ExprOutline, LineOutline, dotted_outlined, own_assign_outlined, comment_outlined, value_outlined}
+use Rattle.toml_editor.specs.Outlines.{DottedOutline, AssignOutline, ValueOutline, EntriesOutline, ExprOutline, LineOutline, dotted_outlined, own_assign_outlined, comment_outlined, value_outlined}
 
 abbrev pub leaf_text : Leaf → List ℕ
 leaf_text (leaves.Kept start text) = text.now
@@ -32,7 +31,7 @@ leaf_text (leaves.New text) = text.now
 abbrev pub gap_part_text : GapPart → List ℕ
 gap_part_text (parts.Ws ws) = leaf_text ws
 gap_part_text (parts.Newline newline) = leaf_text newline
-gap_part_text (parts.Comment comment) = leaf_text comment.text
+gap_part_text (parts.Comment comment) = leaf_text comment
 
 -- the texts of the parts, one behind the other
 abbrev pub gap_parts_text : List GapPart → List ℕ
@@ -41,30 +40,6 @@ gap_parts_text (p ∷ ps) = gap_part_text p ++ gap_parts_text ps
 
 abbrev pub gap_text : Gap → List ℕ
 gap_text g = gap_parts_text g.parts.items
-
--- the units of each, one behind the other
-abbrev pub all_origins : {A : Type 0} → (A → Origins) → List A → Origins
-all_origins f [] = []
-all_origins f (x ∷ xs) = f x ++ all_origins f xs
-
--- the units in a gap are its comments
-abbrev pub gap_part_origins : GapPart → Origins
-gap_part_origins (parts.Ws ws) = []
-gap_part_origins (parts.Newline newline) = []
-gap_part_origins (parts.Comment comment) = comment.origin ∷ []
-
-abbrev pub gap_origins : Gap → Origins
-gap_origins g = all_origins gap_part_origins g.parts.items
-
-abbrev pub gap : Gap → Marked
-gap g = record { text = gap_text g; origins = gap_origins g }
-
--- a gap behind which a unit begins
-abbrev pub gap_before : Gap → Option ℕ → Marked
-gap_before g origin = record { text = gap_text g; origins = gap_origins g ++ (origin ∷ []) }
-
-abbrev pub comment : Comment → Marked
-comment c = record { text = leaf_text c.text; origins = c.origin ∷ [] }
 
 abbrev pub dotted : Dotted → DottedOutline
 dotted d = record { before_dot = leaf_text d.before_dot; after_dot = leaf_text d.after_dot; part = leaf_text d.part }
@@ -77,25 +52,25 @@ abbrev pub key_text : Key → List ℕ
 key_text k = leaf_text k.first ++ dotted_outlined (map dotted k.rest.items)
 
 -- a comment, where there is one
-abbrev pub comment_text : Option Comment → List ℕ
-comment_text c = comment_outlined (option_map comment c)
+abbrev pub comment_text : Option Leaf → List ℕ
+comment_text c = comment_outlined (option_map leaf_text c)
 
 abbrev pub blank_text : Blank → List ℕ
 blank_text b = leaf_text b.ws ++ comment_text b.comment
 
 -- an entry, and the texts around it
 pub record EntryOutline : Type 0 where
-  pub before : Marked
+  pub before : List ℕ
   pub assign : Option AssignOutline
   pub value : ValueOutline
-  pub after : Marked
+  pub after : List ℕ
 
 -- its text
 abbrev pub entry_outlined : EntryOutline → List ℕ
-entry_outlined e = e.before.text ++ (own_assign_outlined e.assign ++ (value_outlined e.value ++ e.after.text))
+entry_outlined e = e.before ++ (own_assign_outlined e.assign ++ (value_outlined e.value ++ e.after))
 
 -- entries, and what stands behind the last comma
-abbrev pub entries_of : List EntryOutline → Option Marked → EntriesOutline
+abbrev pub entries_of : List EntryOutline → Option (List ℕ) → EntriesOutline
 entries_of [] end = outline.End end
 entries_of (e ∷ es) end = outline.Entry e.before e.assign e.value e.after (entries_of es end)
 
@@ -111,14 +86,14 @@ value_step (layer.Array entries) = outline.Listed entries.value.opening entries.
 value_step (layer.Inline entries) = outline.Braced entries.value.opening entries.value.entries
 
 abbrev pub entries_step : Entries-F ValueOutline Enclosed EntryOutline → Enclosed
-entries_step e = record { opening = leaf_text e.opening; entries = entries_of e.list.items (option_map gap e.end) }
+entries_step e = record { opening = leaf_text e.opening; entries = entries_of e.list.items (option_map gap_text e.end) }
 
 abbrev pub entry_step : Entry-F ValueOutline Enclosed EntryOutline → EntryOutline
 entry_step e = record {
-  before = gap_before e.before e.origin;
+  before = gap_text e.before;
   assign = option_map (λ a. assign a.value) e.assign;
   value = e.value;
-  after = gap e.after;
+  after = gap_text e.after;
 }
 
 abbrev pub value : Value → ValueOutline
@@ -149,9 +124,9 @@ expr (exprs.Header h) = header h
 
 abbrev pub line : OpenLine → LineOutline
 line l = record {
-  ws = record { text = leaf_text l.ws; origins = l.origin ∷ [] };
+  ws = leaf_text l.ws;
   expr = expr l.expr;
   tail = leaf_text l.tail.ws;
-  comment = option_map comment l.tail.comment;
+  comment = option_map leaf_text l.tail.comment;
   newline = leaf_text l.newline;
 }

@@ -1,5 +1,4 @@
--- What opening makes of trees: what is opened has the outline of the tree, where the tree's parts stand in the text. Which units it has is
--- said apart.
+-- What opening makes of trees: what is opened has the outline of the tree, where the tree's parts stand in the text.
 use Rattle.std.specs.Prelude.{◌≡◌, ℕ, List, ◌++◌, map, length, Option, MatchOption, Result, IfOk}
 use Rattle.std.specs.declared.alloc.AllocError.{AllocError}
 use Rattle.toml_text.specs.Source.{text_of}
@@ -19,11 +18,10 @@ use Rattle.toml_editor.specs.declared.tree.Key.{Key}
 use Rattle.toml_editor.specs.declared.tree.KeyVal.{KeyVal}
 use Rattle.toml_editor.specs.declared.tree.OpenLine.{OpenLine}
 use Rattle.toml_editor.specs.declared.tree.Value.{Value}
-use Rattle.toml_editor.specs.AsNew.{as_new, value_as_new, entries_as_new, line_as_new}
-use Rattle.toml_editor.specs.OpenOutlines.{leaf_text, gap, dotted, assign, value, entries, line}
+use Rattle.toml_editor.specs.OpenOutlines.{leaf_text, gap_text, dotted, assign, value, entries, line}
 use Rattle.toml_editor.specs.Outlines as outline
 use Rattle.toml_editor.specs.Outlines.{AssignOutline, ValueOutline}
-use Rattle.toml_editor.specs.TreeOutlines.{gap_outline, dotted_outline, assign_outline, value_outline, line_outline}
+use Rattle.toml_editor.specs.TreeOutlines.{gap_spelled, dotted_outline, assign_outline, value_outline, line_outline}
 
 -- the parts stand in the text, from the place on
 pub record LieAt (text : List ℕ) (at : ℕ) (ps : List Part) : Type 0 where
@@ -43,10 +41,10 @@ abbrev pub OpensAs : {A : Type 0} → {B : Type 0} → Texts → List Part → (
 OpensAs texts ps outlined is result = IfOk result (λ a. Lie (text_of texts.source) ps → outlined a ≡ is)
 
 abbrev pub OpensGap : Texts → tree.Gap → Result Gap AllocError → Type 0
-OpensGap texts g = OpensAs texts (gap_parts g) (λ opened. as_new (gap opened)) (gap_outline g)
+OpensGap texts g = OpensAs texts (gap_parts g) gap_text (gap_spelled g)
 
 abbrev pub OpensValue : Texts → tree.Value → Result Value AllocError → Type 0
-OpensValue texts v = OpensAs texts (value_parts v) (λ opened. value_as_new (value opened)) (value_outline v)
+OpensValue texts v = OpensAs texts (value_parts v) value (value_outline v)
 
 -- The text of a value that an edit brings: it is a value of the profile, and what is opened has its outline; within the limit of a text
 -- there is none only where it is no value of the profile.
@@ -58,19 +56,19 @@ OpensText profile text found =
 -- what stands between the brackets of an array, or the braces of an inline table
 abbrev pub OpensArray : Texts → tree.Value → Result Entries AllocError → Type 0
 OpensArray texts v =
-    OpensAs texts (value_parts v) (λ e. outline.Listed (entries e).opening (entries_as_new (entries e).entries)) (value_outline v)
+    OpensAs texts (value_parts v) (λ e. outline.Listed (entries e).opening (entries e).entries) (value_outline v)
 
 abbrev pub OpensInline : Texts → tree.Value → Result Entries AllocError → Type 0
 OpensInline texts v =
-    OpensAs texts (value_parts v) (λ e. outline.Braced (entries e).opening (entries_as_new (entries e).entries)) (value_outline v)
+    OpensAs texts (value_parts v) (λ e. outline.Braced (entries e).opening (entries e).entries) (value_outline v)
 
 abbrev pub OpensKeyVal : Texts → tree.KeyVal → Result KeyVal AllocError → Type 0
 OpensKeyVal texts k =
-    OpensAs {B = AssignOutline × ValueOutline} texts (keyval_parts k) (λ p. (assign p.assign, value_as_new (value p.value)))
+    OpensAs {B = AssignOutline × ValueOutline} texts (keyval_parts k) (λ p. (assign p.assign, value p.value))
     (assign_outline k.assign, value_outline k.value)
 
 abbrev pub OpensLine : Texts → tree.Line → Result OpenLine AllocError → Type 0
-OpensLine texts l = OpensAs texts (line_parts l) (λ opened. line_as_new (line opened)) (line_outline l)
+OpensLine texts l = OpensAs texts (line_parts l) line (line_outline l)
 
 -- the parts of the key, and what stands between them
 abbrev pub IsKeyOpened : tree.Key → Key → Type 0

@@ -1,23 +1,7 @@
--- Outlines: what stands on a line by its texts, in text order, and by its units, each of which is one of the document or new. An outline
--- has neither places nor kinds of scalars, and what stands between the values of an array or an inline table, but for the commas, is one
--- text. A line of a tree has the outline of the line of the working tree that is opened of it, but for which units it has.
+-- Outlines: what stands on a line by its texts, in text order. An outline has neither places nor kinds of scalars, and what stands between
+-- the values of an array or an inline table, but for the commas, is one text. A line of a tree has the outline of the line of the working
+-- tree that is opened of it.
 use Rattle.std.specs.Prelude.{ℕ, Bool, true, false, List, [], ◌∷◌, ◌++◌, Option, Some, None, if◌then◌else◌}
-
--- which units of the document units are, in text order; none that an edit has written
-abbrev pub Origins : Type 0
-Origins = List (Option ℕ)
-
--- a text, and the units that begin in it, or with what stands behind it
-pub record Marked : Type 0 where
-  pub text : List ℕ
-  pub origins : Origins
-
-abbrev pub marked : List ℕ → Origins → Marked
-marked text origins = record { text = text; origins = origins }
-
--- a text with which a new unit begins
-abbrev pub begun : List ℕ → Marked
-begun text = marked text (None ∷ [])
 
 -- `.` between whitespace, and the key part behind it
 pub record DottedOutline : Type 0 where
@@ -40,10 +24,10 @@ mutual
     Braced : List ℕ → EntriesOutline → ValueOutline
 
   -- what stands behind the bracket or the brace: entries, each with what stands before and behind it, and what stands behind the last
-  -- comma, where one follows the last entry; without an entry all that stands there. An entry begins in what stands before it.
+  -- comma, where one follows the last entry; without an entry all that stands there
   pub data EntriesOutline : Type 0 where
-    End : Option Marked → EntriesOutline
-    Entry : Marked → Option AssignOutline → ValueOutline → Marked → EntriesOutline → EntriesOutline
+    End : Option (List ℕ) → EntriesOutline
+    Entry : List ℕ → Option AssignOutline → ValueOutline → List ℕ → EntriesOutline → EntriesOutline
 
 -- what stands on a line behind the whitespace before it
 pub data ExprOutline : Type 0 where
@@ -51,12 +35,12 @@ pub data ExprOutline : Type 0 where
   Pair : AssignOutline → ValueOutline → ExprOutline
   Header : List ℕ → List ℕ → List ℕ → List DottedOutline → List ℕ → List ℕ → ExprOutline
 
--- a line begins with the whitespace before what stands on it
+-- a line by the whitespace before what stands on it, and what is behind that
 pub record LineOutline : Type 0 where
-  pub ws : Marked
+  pub ws : List ℕ
   pub expr : ExprOutline
   pub tail : List ℕ
-  pub comment : Option Marked
+  pub comment : Option (List ℕ)
   pub newline : List ℕ
 
 -- the text of an outline
@@ -83,9 +67,9 @@ abbrev mutual
 
   pub entries_outlined : Bool → EntriesOutline → List ℕ
   entries_outlined behind (End None) = []
-  entries_outlined behind (End (Some gap)) = comma_if behind ++ gap.text
+  entries_outlined behind (End (Some gap)) = comma_if behind ++ gap
   entries_outlined behind (Entry before a v after es) =
-      comma_if behind ++ (before.text ++ (own_assign_outlined a ++ (value_outlined v ++ (after.text ++ entries_outlined true es))))
+      comma_if behind ++ (before ++ (own_assign_outlined a ++ (value_outlined v ++ (after ++ entries_outlined true es))))
 
 abbrev pub expr_outlined : ExprOutline → List ℕ
 expr_outlined Nothing = []
@@ -93,36 +77,13 @@ expr_outlined (Pair a v) = assign_outlined a ++ value_outlined v
 expr_outlined (Header opening before first rest after closing) =
     opening ++ (before ++ (first ++ (dotted_outlined rest ++ (after ++ closing))))
 
-abbrev pub comment_outlined : Option Marked → List ℕ
+abbrev pub comment_outlined : Option (List ℕ) → List ℕ
 comment_outlined None = []
-comment_outlined (Some c) = c.text
+comment_outlined (Some c) = c
 
 abbrev pub line_outlined : LineOutline → List ℕ
-line_outlined l = l.ws.text ++ (expr_outlined l.expr ++ (l.tail ++ (comment_outlined l.comment ++ l.newline)))
+line_outlined l = l.ws ++ (expr_outlined l.expr ++ (l.tail ++ (comment_outlined l.comment ++ l.newline)))
 
 abbrev pub lines_outlined : List LineOutline → List ℕ
 lines_outlined [] = []
 lines_outlined (l ∷ ls) = line_outlined l ++ lines_outlined ls
-
--- the units of an outline
-abbrev pub origins_if : Option Marked → Origins
-origins_if None = []
-origins_if (Some m) = m.origins
-
-abbrev mutual
-  pub value_origins : ValueOutline → Origins
-  value_origins (Token text) = []
-  value_origins (Listed opening es) = entries_origins es
-  value_origins (Braced opening es) = entries_origins es
-
-  pub entries_origins : EntriesOutline → Origins
-  entries_origins (End gap) = origins_if gap
-  entries_origins (Entry before a v after es) = before.origins ++ (value_origins v ++ (after.origins ++ entries_origins es))
-
-abbrev pub expr_origins : ExprOutline → Origins
-expr_origins Nothing = []
-expr_origins (Pair a v) = value_origins v
-expr_origins (Header opening before first rest after closing) = []
-
-abbrev pub line_origins : LineOutline → Origins
-line_origins l = l.ws.origins ++ (expr_origins l.expr ++ origins_if l.comment)

@@ -14,10 +14,9 @@ use Rattle.toml_editor.specs.declared.lines.Slot.{Slot}
 use Rattle.toml_editor.specs.declared.lines.Slot.TheVariants as slots
 use Rattle.toml_editor.specs.Apart.{HasKeysApart}
 use Rattle.toml_editor.specs.Beginnings.{begins_by}
-use Rattle.toml_editor.specs.OpenOrigins.{line_numbered}
-use Rattle.toml_editor.specs.OpenOutlines.{all_origins, line}
+use Rattle.toml_editor.specs.OpenOutlines.{line}
 use Rattle.toml_editor.specs.Outlines as outline
-use Rattle.toml_editor.specs.Outlines.{Origins, ValueOutline, ExprOutline, LineOutline, begun, line_origins}
+use Rattle.toml_editor.specs.Outlines.{ValueOutline, ExprOutline, LineOutline}
 use Rattle.toml_editor.specs.SetOutlines.{set_outline, has_outline}
 use Rattle.toml_editor.specs.TreeOutlines.{line_outline}
 
@@ -27,10 +26,6 @@ pub record Standing : Type 0 where
   pub address : Option Address
   pub base : Option ℕ
   pub outline : LineOutline
-
--- the units of lines, which of the document they are
-abbrev pub standing_origins : List Standing → Origins
-standing_origins = all_origins (λ (s : Standing). line_origins s.outline)
 
 -- a line of a text, and lines, after what was named before them
 abbrev pub line_stands : List Named → tree.Line → Standing
@@ -50,15 +45,15 @@ pub record Read : Type 0 where
 
 -- a line without anything on it, which stands for one that the document does not have
 abbrev pub no_line : LineOutline
-no_line = record { ws = begun []; expr = outline.Nothing; tail = []; comment = None; newline = [] }
+no_line = record { ws = []; expr = outline.Nothing; tail = []; comment = None; newline = [] }
 
 abbrev pub outline_of : Option tree.Line → LineOutline
 outline_of None = no_line
 outline_of (Some l) = line_outline l
 
--- a line that is as it was, with its units
+-- a line that is as it was
 abbrev pub kept_outline : Read → Kept → LineOutline
-kept_outline read kept = line_numbered (Some kept.first) (outline_of (slice_get read.lines kept.line))
+kept_outline read kept = outline_of (slice_get read.lines kept.line)
 
 abbrev pub kept_standing : Read → Kept → Standing
 kept_standing read kept = record {

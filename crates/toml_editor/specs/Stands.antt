@@ -1,5 +1,5 @@
 -- The working tree stands for lines.
-use Rattle.std.specs.Prelude.{◌≡◌, ◌↔◌, ◌<◌, ℕ, Bool, true, false, List, [], ◌∷◌, ◌++◌, Some, IsTrue, length, map, slice_get, slice_range}
+use Rattle.std.specs.Prelude.{◌≡◌, ◌↔◌, ℕ, Bool, true, false, List, [], ◌∷◌, ◌++◌, Some, IsTrue, map, slice_get, slice_range}
 use Rattle.std.specs.List.{list_any}
 use Rattle.toml_text.specs.Source.{IsHeld, text_of}
 use Rattle.std.specs.declared.vec.Vec.{Vec}
@@ -17,13 +17,11 @@ use Rattle.toml_editor.specs.declared.lines.Slot.{Slot}
 use Rattle.toml_editor.specs.declared.lines.Slot.TheVariants as slots
 use Rattle.toml_editor.specs.declared.working.Tree.{Tree}
 use Rattle.toml_editor.specs.Apart.{HasKeysApart}
-use Rattle.toml_editor.specs.AsNew.{standing_as_new}
-use Rattle.toml_editor.specs.Numbering.{kept_origins}
 use Rattle.toml_editor.specs.Opening.{Lie}
-use Rattle.toml_editor.specs.Outlines.{ValueOutline, line_origins, line_outlined}
+use Rattle.toml_editor.specs.Outlines.{ValueOutline, line_outlined}
 use Rattle.toml_editor.specs.Seeing.{kept_found}
 use Rattle.toml_editor.specs.SetOutlines.{set_outline, has_outline}
-use Rattle.toml_editor.specs.Standing.{Standing, Read, AreOrdered, kept_outline, slots_standing, set_standing, has}
+use Rattle.toml_editor.specs.Standing.{Standing, Read, AreOrdered, slots_standing, set_standing, has}
 use Rattle.toml_editor.specs.TreeOutlines.{line_outline}
 
 -- whether a line is the header of an array of tables
@@ -32,10 +30,6 @@ heads_tables (BlankLine b) = false
 heads_tables (KeyValLine ws pair tail) = false
 heads_tables (TableLine ws header tail) = false
 heads_tables (ArrayTableLine ws header tail) = true
-
--- units in memory have numbers of 64 bits
-abbrev pub HasNumbers : List ReadUnit → Type 0
-HasNumbers units = length units < 18446744073709551616
 
 -- it is a line of the document that stands in the text where its span says, and what it says of that line is so
 pub record IsKept (text : List ℕ) (read : Read) (kept : Kept) : Type 0 where
@@ -46,7 +40,6 @@ pub record IsKept (text : List ℕ) (read : Read) (kept : Kept) : Type 0 where
   pub spells : slice_range text kept.span.start kept.span.end ≡ line_outlined (line_outline line)
   pub last : IsTrue kept.is_last ↔ (line.newline.text ≡ [])
   pub tables : kept.is_tables ≡ heads_tables line.expr
-  pub origins : HasNumbers read.units → kept_origins read.units kept.first ≡ line_origins (kept_outline read kept)
 
 abbrev pub BodyKept : List ℕ → Read → Body → Type 0
 BodyKept text read (bodies.Kept kept) = IsKept text read kept
@@ -66,16 +59,10 @@ OpensSlot units (slots.Lines lines) new = new ≡ slots.Lines lines
 OpensSlot units (slots.Kept kept) new =
     (lines : Vec Line Global) × (new ≡ slots.Lines lines) × (lines.items ≡ kept_line units kept ∷ [])
 
--- the lines that are as they were are kept so, and all lines are these
+-- the slots stand for the lines: those that are as they were are kept so, and all are these
 pub record Stands (text : List ℕ) (read : Read) (slots : List Slot) (ss : List Standing) : Type 0 where
   pub kept : EachIs (SlotKept text read) slots
   pub are : slots_standing read slots ≡ ss
-
--- so they stand for lines of which it is not said which units of the document they have
-pub record StandFor (text : List ℕ) (read : Read) (slots : List Slot) (ss : List Standing) : Type 0 where
-  pub lines : List Standing
-  pub stand : Stands text read slots lines
-  pub are_as_new : map standing_as_new lines ≡ ss
 
 -- nothing of the tree changes but its lines
 pub record KeepsRest (old new : Tree) : Type 0 where

@@ -19,11 +19,10 @@ use Rattle.toml_editor.specs.declared.reading.LineFacts.{LineFacts}
 use Rattle.toml_editor.specs.declared.texts.Texts.{Texts}
 use Rattle.toml_editor.specs.declared.working.Before.{Before}
 use Rattle.toml_editor.specs.declared.working.Tree.{Tree}
-use Rattle.toml_editor.specs.OpenOrigins.{numbers}
 use Rattle.toml_editor.specs.OpenOutlines.{leaf_text}
 use Rattle.toml_editor.specs.Reading.{fact_of}
-use Rattle.toml_editor.specs.Standing.{Read, standing, standing_origins}
-use Rattle.toml_editor.specs.Stands.{HasNumbers, StandFor, heads_tables}
+use Rattle.toml_editor.specs.Standing.{Read, standing}
+use Rattle.toml_editor.specs.Stands.{Stands, heads_tables}
 use Rattle.toml_editor.specs.Written.{style_of}
 
 -- the document as the working tree looks at it, by its units and its lines
@@ -40,10 +39,9 @@ pub record IsReadOf (text : List ℕ) (before : Before) : Type 0 where
 abbrev pub AreFacts : Before → List LineFacts → Type 0
 AreFacts before facts = facts ≡ map fact_of (read_of before).lines
 
--- the slots stand for the lines of the document, with all its units in order
-pub record StandAsRead (text : List ℕ) (before : Before) (slots : List Slot) : Type 0 where
-  pub lines : StandFor text (read_of before) slots (standing (read_of before).lines)
-  pub origins : HasNumbers before.units.now → standing_origins lines.lines ≡ numbers (Some 0) (length before.units.now)
+-- the slots stand for the lines of the document
+abbrev pub StandAsRead : List ℕ → Before → List Slot → Type 0
+StandAsRead text before slots = Stands text (read_of before) slots (standing (read_of before).lines)
 
 -- so it is of whatever document has these units and these facts
 abbrev pub StandForUnits : List TextUnit → List LineFacts → List Slot → Type 0

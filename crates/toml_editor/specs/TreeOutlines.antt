@@ -1,28 +1,13 @@
--- The outlines of trees, and what they spell. Of a tree it is not said which units of the document it has.
-use Rattle.std.specs.Prelude.{◌≡◌, ℕ, List, [], ◌∷◌, ◌++◌, map, Option, Some, None, option_map}
+-- The outlines of trees, and what they spell.
+use Rattle.std.specs.Prelude.{◌≡◌, ℕ, List, [], ◌∷◌, map, Some, None, option_map}
 use Rattle.toml_tree.specs.Spells.{joined, gap_parts, value_parts, line_parts, lines_parts}
-use Rattle.toml_tree.specs.Tree.{Piece, Blank, Dotted, Assign, GapLine, Gap, Value, Scalar, Array, Inline, Items, Close, Last, More, Pairs, ClosePairs, LastPair, MorePairs, Header, BlankLine, KeyValLine, TableLine, ArrayTableLine, Line}
+use Rattle.toml_tree.specs.Tree.{Piece, Blank, Dotted, Assign, Gap, Value, Scalar, Array, Inline, Items, Close, Last, More, Pairs, ClosePairs, LastPair, MorePairs, Header, BlankLine, KeyValLine, TableLine, ArrayTableLine, Line}
 use Rattle.toml_editor.specs.Outlines as outline
-use Rattle.toml_editor.specs.Outlines.{Origins, Marked, begun, DottedOutline, AssignOutline, ValueOutline, EntriesOutline, ExprOutline, LineOutline, value_outlined, line_outlined, lines_outlined}
+use Rattle.toml_editor.specs.Outlines.{DottedOutline, AssignOutline, ValueOutline, EntriesOutline, ExprOutline, LineOutline, value_outlined, line_outlined, lines_outlined}
 
 -- all that a gap has, as one text, and its comments
 abbrev pub gap_spelled : Gap → List ℕ
 gap_spelled g = joined (gap_parts g)
-
-abbrev pub comment_origin : Option Piece → Origins
-comment_origin None = []
-comment_origin (Some c) = None ∷ []
-
-abbrev pub gap_lines_origins : List GapLine → Origins
-gap_lines_origins [] = []
-gap_lines_origins (l ∷ ls) = comment_origin l.blank.comment ++ gap_lines_origins ls
-
-abbrev pub gap_outline : Gap → Marked
-gap_outline g = record { text = gap_spelled g; origins = gap_lines_origins g.lines }
-
--- the same, where a unit begins behind it
-abbrev pub gap_outline_before : Gap → Marked
-gap_outline_before g = record { text = gap_spelled g; origins = gap_lines_origins g.lines ++ (None ∷ []) }
 
 abbrev pub dotted_outline : Dotted → DottedOutline
 dotted_outline d = record { before_dot = d.before_dot.text; after_dot = d.after_dot.text; part = d.part.text }
@@ -42,16 +27,16 @@ abbrev mutual
   value_outline (Inline whole pairs) = outline.Braced (0x7B ∷ []) (pairs_outline pairs)
 
   pub items_outline : Items → EntriesOutline
-  items_outline (Close g) = outline.End (Some (gap_outline g))
-  items_outline (Last g v h) = outline.Entry (gap_outline_before g) None (value_outline v) (gap_outline h) (outline.End None)
-  items_outline (More g v h is) = outline.Entry (gap_outline_before g) None (value_outline v) (gap_outline h) (items_outline is)
+  items_outline (Close g) = outline.End (Some (gap_spelled g))
+  items_outline (Last g v h) = outline.Entry (gap_spelled g) None (value_outline v) (gap_spelled h) (outline.End None)
+  items_outline (More g v h is) = outline.Entry (gap_spelled g) None (value_outline v) (gap_spelled h) (items_outline is)
 
   pub pairs_outline : Pairs → EntriesOutline
-  pairs_outline (ClosePairs g) = outline.End (Some (gap_outline g))
+  pairs_outline (ClosePairs g) = outline.End (Some (gap_spelled g))
   pairs_outline (LastPair g a v h) =
-      outline.Entry (gap_outline_before g) (Some (assign_outline a)) (value_outline v) (gap_outline h) (outline.End None)
+      outline.Entry (gap_spelled g) (Some (assign_outline a)) (value_outline v) (gap_spelled h) (outline.End None)
   pairs_outline (MorePairs g a v h ps) =
-      outline.Entry (gap_outline_before g) (Some (assign_outline a)) (value_outline v) (gap_outline h) (pairs_outline ps)
+      outline.Entry (gap_spelled g) (Some (assign_outline a)) (value_outline v) (gap_spelled h) (pairs_outline ps)
 
 -- a header between so many brackets
 abbrev pub header_outline : List ℕ → List ℕ → Header → ExprOutline
@@ -61,10 +46,10 @@ header_outline opening closing h =
 -- a line by the whitespace before what stands on it, and the blank behind that
 abbrev pub line_of : List ℕ → ExprOutline → Blank → Piece → LineOutline
 line_of ws e tail newline = record {
-  ws = begun ws;
+  ws = ws;
   expr = e;
   tail = tail.ws.text;
-  comment = option_map (λ p. begun p.text) tail.comment;
+  comment = option_map (λ p. p.text) tail.comment;
   newline = newline.text;
 }
 

@@ -12,7 +12,7 @@ use Rattle.toml_editor.specs.declared.lines.Slot.TheVariants as slots
 use Rattle.toml_editor.specs.OpenOutlines.{line}
 use Rattle.toml_editor.specs.Outlines.{line_outlined, lines_outlined}
 use Rattle.toml_editor.specs.Standing.{Read, Standing, standing}
-use Rattle.toml_editor.specs.Stands.{StandFor, Stands}
+use Rattle.toml_editor.specs.Stands.{Stands}
 
 -- the text before the edits, and what is written so far
 pub record Written : Type 0 where
@@ -51,9 +51,9 @@ WritesOut before mark slots out =
 -- Laws: where the slots stand for the lines of a tree, the mark and the text of these lines are written;
 abbrev pub LinesAreWritten : Type 0
 LinesAreWritten = (before mark : List ℕ) (read : Read) (slots : List Slot) (lines : List tree.Line) (out : List ℕ)
-    → WritesOut before mark slots out → StandFor before read slots (standing lines) → out ≡ mark ++ joined (lines_parts lines)
+    → WritesOut before mark slots out → Stands before read slots (standing lines) → out ≡ mark ++ joined (lines_parts lines)
 
 -- where they stand for the lines of the text, the text.
 abbrev pub TextIsWritten : Type 0
 TextIsWritten = (text : List ℕ) (d : tree.Doc) (read : Read) (slots : List Slot) (out : List ℕ) → Spells d text
-    → WritesOut text d.mark.text slots out → StandFor text read slots (standing d.lines) → out ≡ text
+    → WritesOut text d.mark.text slots out → Stands text read slots (standing d.lines) → out ≡ text

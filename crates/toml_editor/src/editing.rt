@@ -1,45 +1,47 @@
 //! The editor as a whole.
-ghost use Rattle.std.specs.Prelude.{◌≡◌, [], IfOk, IfErr, OnOk, map, string_bytes};
+ghost use Rattle.std.specs.Prelude.{◌≡◌, [], IfOk, IfErr, map, string_bytes};
 ghost use Rattle.toml_text.specs.Source.{text_of};
 ghost use Rattle.toml_tree.specs.HandedOut.{tree_of};
 ghost use Rattle.toml_tree.specs.declared.profile.Profile.TheVariants.{One};
 ghost use Rattle.toml_names.specs.model.AddressSets.{is_hidden};
 ghost use Rattle.toml_edits.specs.Edits.{change};
 ghost use Rattle.toml_edits.specs.Near.{AreNear};
-ghost use Rattle.toml_checker.specs.Outer.{TellOuterOf};
 ghost use Rattle.toml_units.specs.Cursors.{StandsBefore, Walks};
 ghost use Rattle.toml_units.specs.declared.cursor.UnitCursor.{UnitCursor};
 ghost use Rattle.toml_editor.specs.Edited.{IsEdited, ArePieces, IsEditedInPieces, RefusesText, Tells};
-ghost use Rattle.toml_editor.specs.Editing.{IsEditedAs, IsMadeAs, IsReadFrom, TellsWanted};
+ghost use Rattle.toml_editor.specs.Editing.{IsEditedAs, IsMadeAs, IsReadFrom};
 ghost use Rattle.toml_editor.specs.declared.fault.EditorFault.TheVariants.{NoMemory};
-ghost use Rattle.toml_editor.specs.Numbering.{PairsOf};
 ghost use Rattle.toml_editor.specs.Reading.{IsReadAs};
 ghost use Rattle.toml_editor.specs.SpelledEdits.{AreSpelled};
 ghost use Rattle.toml_editor.specs.Writing.{WritesOut};
 
 use crate::fault::EditorFault;
 use crate::making::{Read, make_all};
-use crate::pairing::names_all;
 use crate::reading::{LineFacts, ReadDocument, let_go, read_document};
 use crate::spelled::{Spelled, spell_all};
 use crate::texts::Texts;
 use crate::working::{Before, Tree};
 use std::alloc::Global;
-use toml_checker::{Afterwards, Reason, Verdict, check_walked, outermost};
+use toml_checker::{Afterwards, Finding, find_walked};
 use toml_edits::{Edit, near_addresses};
 use toml_names::{AddressSet, ReadFault};
 use toml_text::{MAX_LEN, Source};
 use toml_tree::{Profile, mark};
-use toml_units::{Certificate, Piece, TakenLines, Unit, UnitCursor, join};
+use toml_units::{Certificate, Piece, TakenLines, UnitCursor, join};
 
-/// What the editor makes: the pieces of the edited text, the text, its certificate, and which units of the document this is to
-/// name.
+/// What the edits make, not judged yet: the pieces of the edited text, and the text.
+#[derive(Drop)]
+struct Made {
+    pieces: Vec<Piece>,
+    text: String,
+}
+
+/// What is handed out: the same, with its certificate.
 #[derive(Drop)]
 struct Edited {
     pieces: Vec<Piece>,
     text: String,
     certificate: Certificate,
-    wanted: Vec<bool>,
 }
 
 /// The text that the edits make of a document of profile 1, and its certificate: `edit_in` with `Profile::One`.
@@ -194,10 +196,7 @@ fn edit_read<'x>(
     drop(lines);
     drop(touched);
     match made {
-        Ok(edited) => {
-            certify(alloc, before, taken, edits, &edited, profile, afterwards)?;
-            Ok(edited)
-        }
+        Ok(made) => certify(alloc, before, taken, edits, made, profile, afterwards),
         Err(fault) => {
             let_go(taken);
             Err(fault)
@@ -205,45 +204,34 @@ fn edit_read<'x>(
     }
 }
 
-/// What is made may be handed on where the judge says yes.
+/// What is made is handed on where the judge finds a certificate.
 fn certify<'x>(
     alloc: Global,
     before: &'x [u8],
     taken: TakenLines<'x>,
     edits: &[Edit],
-    edited: &Edited,
+    made: Made,
     profile: Profile,
     afterwards: Afterwards,
-) -> Result<(), EditorFault>
+) -> Result<Edited, EditorFault>
     requires walks { (cursor : UnitCursor) → StandsBefore taken cursor → Walks profile before.now cursor [] }
-    requires made { IsMadeAs profile before.now (map change edits.now) edited.now.wanted.items edited.now }
-    requires wanted { TellsWanted before.now (map change edits.now) edited.now.wanted.items }
-    ensures edited { OnOk result (IsEditedAs profile before.now (map change edits.now) edited.now) }
+    requires made { IsMadeAs profile before.now (map change edits.now) made }
+    ensures edited { IfOk result (IsEditedAs profile before.now (map change edits.now)) }
     ensures told { IfErr result (Tells profile before.now (map change edits.now)) }
 {
-    if edited.text.len() > MAX_LEN {
+    if made.text.len() > MAX_LEN {
         let_go(taken);
         return Err(EditorFault::TooLong);
     }
-    let after = edited.text.as_bytes();
-    match check_walked(
-        alloc,
-        before,
-        UnitCursor::held(taken),
-        edits,
-        after,
-        &edited.certificate,
-        profile,
-        afterwards,
-    )? {
-        Verdict::No(reason) => Err(EditorFault::Unverified(reason)),
-        Verdict::Yes => {
-            if names_all(alloc, &edited.certificate.pairs, &edited.wanted)? {
-                Ok(())
-            } else {
-                Err(EditorFault::Unverified(Reason::Lost))
-            }
-        }
+    let cursor = UnitCursor::held(taken);
+    let after = made.text.as_bytes();
+    match find_walked(alloc, before, cursor, edits, after, profile, afterwards)? {
+        Finding::Found(certificate) => Ok(Edited {
+            pieces: made.pieces,
+            text: made.text,
+            certificate,
+        }),
+        Finding::No(reason) => Err(EditorFault::Unverified(reason)),
     }
 }
 
@@ -257,12 +245,11 @@ fn make_text<'x>(
     edits: &'x [Edit],
     spelled: &'x [Spelled],
     touched: &AddressSet,
-) -> Result<Edited, EditorFault>
+) -> Result<Made, EditorFault>
     requires read { IsReadFrom (text_of source) read facts.items }
     requires spelled { AreSpelled (map change edits.now) spelled.now }
     requires touched { AreNear (is_hidden touched.now) (map change edits.now) }
-    ensures wanted { IfOk result (λ e. TellsWanted (text_of source.entry) (map change edits.now) e.wanted.items) }
-    ensures made { IfOk result (λ e. IsMadeAs read.entry.profile (text_of source.entry) (map change edits.now) e.wanted.items e) }
+    ensures made { IfOk result (IsMadeAs read.entry.profile (text_of source.entry) (map change edits.now)) }
     ensures told { IfErr result (Tells read.entry.profile (text_of source.entry) (map change edits.now)) }
 {
     let built = Tree::of(Texts { alloc, source }, read.before, &facts);
@@ -273,36 +260,21 @@ fn make_text<'x>(
     };
     let mut data = read.names.data_near(touched)?;
     match make_all(alloc, &mut tree, read, &mut data, edits, spelled) {
-        Ok(()) => write_out(alloc, source, read.before.units, edits, &tree),
+        Ok(()) => write_out(alloc, source, &tree),
         Err(fault) => Err(fault),
     }
 }
 
-/// What stands in the working tree, its certificate, and which of the units are to be kept; the units are those of the document.
-fn write_out<'x>(
-    alloc: Global,
-    source: Source<'x>,
-    units: &[Unit],
-    edits: &[Edit],
-    tree: &Tree<'x>,
-) -> Result<Edited, EditorFault>
-    ensures wanted { IfOk result (λ e. TellOuterOf units.now (map change edits.now) e.wanted.items) }
-    ensures pieces { IfOk result (λ e. ArePieces (text_of source.entry) (string_bytes e.text) e.pieces.items) }
+/// What stands in the working tree.
+fn write_out<'x>(alloc: Global, source: Source<'x>, tree: &Tree<'x>) -> Result<Made, EditorFault>
+    ensures pieces { IfOk result (λ made. ArePieces (text_of source.entry) (string_bytes made.text) made.pieces.items) }
     ensures written { let text = text_of source.entry in
-        IfOk result (λ e. WritesOut text (tree_of text []).mark.text tree.now.slots.items (string_bytes e.text)) }
-    ensures paired { IfOk result (λ e. PairsOf units.now e.wanted.items tree.now.slots.items e.certificate.pairs.items) }
+        IfOk result (λ made. WritesOut text (tree_of text []).mark.text tree.now.slots.items (string_bytes made.text)) }
     ensures told { IfErr result (λ fault. fault ≡ NoMemory) }
 {
-    let wanted = outermost(alloc, units, edits)?;
     let pieces = tree.pieces(source, mark(source))?.into_list();
     let text = join(alloc, source, &pieces)?;
-    let certificate = tree.certificate(units, &wanted)?;
-    Ok(Edited {
-        pieces,
-        text,
-        certificate,
-        wanted,
-    })
+    Ok(Made { pieces, text })
 }
 
 /// The text and its document, or why there is none.

@@ -37,7 +37,6 @@ impl<'t> Entries<'t> {
             )
         };
         let entry = Entry {
-            origin: None,
             before,
             assign,
             value,
@@ -105,7 +104,6 @@ impl<'t> Entries<'t> {
     /// Leaves the gaps of the last entry, where no comma follows it and it is taken out.
     fn close(&mut self, entry: Entry<'t>) -> Result<(), AllocError> {
         let Entry {
-            origin: _,
             before,
             assign: _,
             value: _,
@@ -134,7 +132,6 @@ impl<'t> Entry<'t> {
 /// The gaps around an entry, which goes, one behind the other.
 fn left_by<'t>(entry: Entry<'t>) -> Result<Gap<'t>, AllocError> {
     let Entry {
-        origin: _,
         before,
         assign: _,
         value: _,

@@ -36,7 +36,7 @@ pub enum EditorFault {
     /// The edited text would be longer than a text may be.
     #[error("the edited text is too long")]
     TooLong,
-    /// The judge did not certify the edited text.
+    /// The judge found no certificate of the edited text: the first demand that none meets.
     #[error("the edited text is not certified")]
     Unverified(Reason),
     /// A growth was refused.

@@ -1,11 +1,9 @@
 //! The lines of the document, for edits that change something on them.
-ghost use Rattle.std.specs.Prelude.{◌≡◌, ℕ, IfOk, Option, Some};
+ghost use Rattle.std.specs.Prelude.{◌≡◌, IfOk};
 ghost use Rattle.toml_tree.specs.HandedOut.{line_ahead};
 ghost use Rattle.toml_tree.specs.Lines.{line as tree_line};
 ghost use Rattle.toml_editor.specs.KnownLines.{known_line};
-ghost use Rattle.toml_editor.specs.Numbering.{origins_of_line};
 ghost use Rattle.toml_editor.specs.Opening.{OpensLine};
-ghost use Rattle.toml_editor.specs.OpenOrigins.{RunsAs};
 
 use crate::opening::Opener;
 use crate::texts::Texts;
@@ -39,12 +37,11 @@ impl<'x> KnownLine<'x> {
         Ok(KnownLine::Place(reader))
     }
 
-    /// All that stands on it; its first unit has this number.
-    pub(crate) fn open(&self, texts: Texts<'x>, first: usize) -> Result<OpenLine<'x>, AllocError>
-        ensures opened { OpensLine texts.entry (known_line self.now) result }
-        ensures numbered { (next : Option ℕ) × RunsAs origins_of_line (Some first) next result }
+    /// All that stands on it.
+    pub(crate) fn open(&self, texts: Texts<'x>) -> Result<OpenLine<'x>, AllocError>
+        ensures { OpensLine texts.entry (known_line self.now) result }
     {
-        let mut opener = Opener::kept(texts, first);
+        let opener = Opener::kept(texts);
         match self {
             KnownLine::Held(line) => opener.line(line),
             KnownLine::Place(reader) => {

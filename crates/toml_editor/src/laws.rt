@@ -5,7 +5,6 @@ ghost use Rattle.toml_editor.specs.CarriedLists.{ListIsCarried};
 ghost use Rattle.toml_editor.specs.CertifiedLists.{PartnersCertify, OuterAreNamed, OuterPartnersCertify, PlainListIsCertified};
 ghost use Rattle.toml_editor.specs.ChangedUnits.{SetUnits};
 ghost use Rattle.toml_editor.specs.PlainAnswers.{FirstFaultIsAnswered, FirstSpreadIsAnswered, LongIsAnswered, PlainIsAnswered};
-ghost use Rattle.toml_editor.specs.PairedLists.{PlainListIsPaired};
 ghost use Rattle.toml_editor.specs.InsertLaws.{InsertNames, InsertRules, InsertShort, InsertData, InsertForms, InsertOfProfile, InsertKeepsLines};
 ghost use Rattle.toml_editor.specs.RemoveLaws.{RemoveNames, RemoveGood, RemoveData, RemoveForms, RemoveOfProfile, RemoveKeepsLines};
 ghost use Rattle.toml_editor.specs.RenameLaws.{RenameNames, RenameGood, RenameData, RenameForms, RenameOfProfile, RenameKeepsLine};
@@ -130,14 +129,12 @@ pub fn carried_by_lists()
 
 /// Within the limit of a text all demands of the judge hold of these pairs, and of those of them alone whose first unit
 /// lies in no other unit that is protected: these name just such units. So for each list of plain edits without a fault
-/// there is a text that it writes, with such pairs, and if it is within the limit the judge's verdict on it is yes. Such pairs
-/// are read off lines with their units on which the edits are made one by one.
+/// there is a text that it writes, with such pairs, and if it is within the limit the judge's verdict on it is yes.
 pub fn certified()
     ensures partners { PartnersCertify }
     ensures named { OuterAreNamed }
     ensures outer { OuterPartnersCertify }
     ensures list { PlainListIsCertified }
-    ensures paired { PlainListIsPaired }
 {}
 
 /// Within the limit of a text the good texts are the documents of the profile.

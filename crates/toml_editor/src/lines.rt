@@ -223,7 +223,7 @@ impl<'t> Line<'t> {
     {
         if let Body::Kept(kept) = self.body {
             if let Some(line) = known.get(kept.line) {
-                let opened = line.open(texts, kept.first)?;
+                let opened = line.open(texts)?;
                 self.body = Body::Open(Box::new(texts.alloc, opened)?);
             }
         }
@@ -274,7 +274,7 @@ impl<'t> Line<'t> {
             comment: None,
         };
         let open = OpenLine {
-            origin: None,
+            is_new: true,
             ws: Leaf::EMPTY,
             expr,
             tail,

@@ -1,65 +1,65 @@
 //! The tree of a document, or of a value that an edit brings, as a part of the working tree.
-ghost use Rattle.std.specs.Prelude.{◌≡◌, [], ◌∷◌, IfOk, IfSome, None, Some, option_map};
+ghost use Rattle.std.specs.Prelude.{◌≡◌, IfOk, IfSome, option_map};
 ghost use Rattle.toml_text.specs.Source.{text_of};
 ghost use Rattle.toml_tree.specs.Lines.{line as tree_line};
 ghost use Rattle.toml_tree.specs.Spells.{gap_parts};
 ghost use Rattle.toml_tree.specs.View.{assign as tree_assign, gap as tree_gap, header as tree_header, key as tree_key, keyval as tree_keyval, value as tree_value};
-ghost use Rattle.toml_editor.specs.OpenOutlines.{assign as assign_outlined, gap_origins, header as header_outlined, leaf_text};
-ghost use Rattle.toml_editor.specs.Numbering.{comment_origins, origins_of_entries, origins_of_line, origins_of_value};
-ghost use Rattle.toml_editor.specs.OpenOrigins.{RunFrom, RunsAs, next_number};
+ghost use Rattle.toml_editor.specs.OpenOutlines.{assign as assign_outlined, header as header_outlined, leaf_text};
 ghost use Rattle.toml_editor.specs.OpenOutlines.{opening_brackets, closing_brackets};
 ghost use Rattle.toml_editor.specs.Opening.{IsKeyOpened, Lie, OpensArray, OpensGap, OpensInline, OpensKeyVal, OpensLine, OpensValue};
 ghost use Rattle.toml_editor.specs.Opening.{array_tree, inline_tree};
-ghost use Rattle.toml_editor.specs.TreeOutlines.{assign_outline, gap_lines_origins, gap_spelled, header_outline};
+ghost use Rattle.toml_editor.specs.TreeOutlines.{assign_outline, gap_spelled, header_outline};
 
 use crate::texts::Texts;
 use crate::tree::{
-    Assign, Blank, Brackets, Comment, Dotted, Entries, Entry, Expr, Gap, GapPart, Header, Key,
-    KeyVal, Leaf, OpenLine, Value,
+    Assign, Blank, Brackets, Dotted, Entries, Entry, Expr, Gap, GapPart, Header, Key, KeyVal, Leaf,
+    OpenLine, Value,
 };
 use std::alloc::AllocError;
 use std::collections::VecDeque;
 use toml_text::Span;
 use toml_tree::{Line, Piece};
 
-/// Opens trees, a unit at a time.
+/// Opens trees.
 #[derive(Clone, Copy)]
 pub(crate) struct Opener<'t> {
     /// The text of which the tree is.
     texts: Texts<'t>,
-    /// The number of the next unit of the document; none where an edit brings the tree.
-    next: Option<usize>,
+    /// Whether the tree is the document's, and not one that an edit brings.
+    is_kept: bool,
 }
 
 impl<'t> Opener<'t> {
-    /// Opens what stands in the document; this is the number of its first unit.
-    pub(crate) fn kept(texts: Texts<'t>, first: usize) -> Opener<'t>
-        ensures texts { result.texts ≡ texts.entry }
-        ensures next { result.next ≡ Some first }
+    /// Opens what stands in the document.
+    pub(crate) fn kept(texts: Texts<'t>) -> Opener<'t>
+        ensures { result.texts ≡ texts.entry }
     {
         Opener {
             texts,
-            next: Some(first),
+            is_kept: true,
         }
     }
 
     /// Opens what an edit brings.
     pub(crate) fn new(texts: Texts<'t>) -> Opener<'t>
-        ensures texts { result.texts ≡ texts.entry }
-        ensures next { result.next ≡ None }
+        ensures { result.texts ≡ texts.entry }
     {
-        Opener { texts, next: None }
+        Opener {
+            texts,
+            is_kept: false,
+        }
     }
 
     fn leaf(self, piece: Piece<'t>) -> Leaf<'t>
         ensures { leaf_text result ≡ piece.entry.text.now }
     {
-        match self.next {
-            Some(_) => Leaf::Kept {
+        if self.is_kept {
+            Leaf::Kept {
                 start: piece.start,
                 text: piece.text,
-            },
-            None => Leaf::New(piece.text),
+            }
+        } else {
+            Leaf::New(piece.text)
         }
     }
 
@@ -67,47 +67,22 @@ impl<'t> Opener<'t> {
     fn opening(self, whole: Piece<'t>, mark: &'static str) -> Leaf<'t>
         ensures { leaf_text result ≡ mark.entry.now }
     {
-        match self.next {
-            Some(_) => Leaf::Kept {
+        if self.is_kept {
+            Leaf::Kept {
                 start: whole.start,
                 text: mark,
-            },
-            None => Leaf::New(mark),
+            }
+        } else {
+            Leaf::New(mark)
         }
     }
 
-    /// The number of the unit that is opened now.
-    fn origin(&mut self) -> Option<usize>
-        ensures texts { self.new.texts ≡ self.old.texts }
-        ensures here { result ≡ self.old.next }
-        ensures next { self.new.next ≡ next_number self.old.next }
-    {
-        let here = self.next;
-        if let Some(number) = here {
-            self.next = Some(number.saturating_add(1));
-        }
-        here
-    }
-
-    fn comment(&mut self, comment: Piece<'t>) -> Comment<'t>
-        ensures texts { self.new.texts ≡ self.old.texts }
-        ensures opened { leaf_text result.text ≡ comment.entry.text.now }
-        ensures numbered { RunFrom self.old.next (result.origin ∷ []) self.new.next }
-    {
-        Comment {
-            origin: self.origin(),
-            text: self.leaf(comment),
-        }
-    }
-
-    fn blank(&mut self, blank: toml_tree::Blank<'t>) -> Blank<'t>
-        ensures texts { self.new.texts ≡ self.old.texts }
+    fn blank(self, blank: toml_tree::Blank<'t>) -> Blank<'t>
         ensures ws { leaf_text result.ws ≡ blank.entry.ws.text.now }
-        ensures comment { option_map (λ c. leaf_text c.text) result.comment ≡ option_map (λ p. p.text.now) blank.entry.comment }
-        ensures numbered { RunFrom self.old.next (comment_origins result.comment) self.new.next }
+        ensures comment { option_map leaf_text result.comment ≡ option_map (λ p. p.text.now) blank.entry.comment }
     {
         let comment = match blank.comment {
-            Some(comment) => Some(self.comment(comment)),
+            Some(comment) => Some(self.leaf(comment)),
             None => None,
         };
         Blank {
@@ -116,10 +91,8 @@ impl<'t> Opener<'t> {
         }
     }
 
-    fn gap(&mut self, gap: &toml_tree::Gap<'t>) -> Result<Gap<'t>, AllocError>
-        ensures texts { self.new.texts ≡ self.old.texts }
-        ensures opened { OpensGap self.old.texts (tree_gap gap.now) result }
-        ensures numbered { RunsAs gap_origins self.old.next self.new.next result }
+    fn gap(self, gap: &toml_tree::Gap<'t>) -> Result<Gap<'t>, AllocError>
+        ensures { OpensGap self.entry.texts (tree_gap gap.now) result }
     {
         if gap.lines().is_empty() {
             return Gap::space(self.texts.alloc, self.leaf(gap.ws()));
@@ -131,7 +104,7 @@ impl<'t> Opener<'t> {
         for line in gap.lines() {
             opened.push_ws(self.leaf(line.blank.ws))?;
             if let Some(comment) = line.blank.comment {
-                opened.parts.push(GapPart::Comment(self.comment(comment)))?;
+                opened.parts.push(GapPart::Comment(self.leaf(comment)))?;
             }
             opened
                 .parts
@@ -143,11 +116,12 @@ impl<'t> Opener<'t> {
 
     /// A gap with lines of the document, if no comment is on them: then it needs no parts.
     fn bare_lines(self, gap: &toml_tree::Gap<'t>) -> Option<Leaf<'t>>
-        ensures opened { let all = tree_gap gap.now in
+        ensures { let all = tree_gap gap.now in
             IfSome result (λ l. Lie (text_of self.entry.texts.source) (gap_parts all) → leaf_text l ≡ gap_spelled all) }
-        ensures bare { IfSome result (λ l. gap_lines_origins (tree_gap gap.now).lines ≡ []) }
     {
-        let _ = self.next?;
+        if !self.is_kept {
+            return None;
+        }
         for line in gap.lines() {
             if line.blank.comment.is_some() {
                 return None;
@@ -196,10 +170,8 @@ impl<'t> Opener<'t> {
 
     /// A value with all that stands in it.
     #[cycle(opening)]
-    pub(crate) fn value(&mut self, value: &toml_tree::Value<'t>) -> Result<Value<'t>, AllocError>
-        ensures texts { self.new.texts ≡ self.old.texts }
-        ensures opened { OpensValue self.old.texts (tree_value value.now) result }
-        ensures numbered { RunsAs origins_of_value self.old.next self.new.next result }
+    pub(crate) fn value(self, value: &toml_tree::Value<'t>) -> Result<Value<'t>, AllocError>
+        ensures { OpensValue self.entry.texts (tree_value value.now) result }
     {
         match value {
             toml_tree::Value::Scalar(_, token) => Ok(Value::Scalar(self.leaf(*token))),
@@ -215,19 +187,15 @@ impl<'t> Opener<'t> {
     }
 
     #[cycle(opening)]
-    fn array(&mut self, array: &toml_tree::Array<'t>) -> Result<Entries<'t>, AllocError>
-        ensures texts { self.new.texts ≡ self.old.texts }
-        ensures opened { OpensArray self.old.texts (array_tree array.now) result }
-        ensures numbered { RunsAs origins_of_entries self.old.next self.new.next result }
+    fn array(self, array: &toml_tree::Array<'t>) -> Result<Entries<'t>, AllocError>
+        ensures { OpensArray self.entry.texts (array_tree array.now) result }
     {
         let mut list = Vec::with_capacity(self.texts.alloc, array.items.len())?;
         for item in &array.items {
             let before = self.gap(&item.before)?;
-            let origin = self.origin();
             let value = self.value(&item.value)?;
             let after = self.gap(&item.after)?;
             list.push(Entry {
-                origin,
                 before,
                 assign: None,
                 value,
@@ -246,19 +214,15 @@ impl<'t> Opener<'t> {
     }
 
     #[cycle(opening)]
-    fn inline(&mut self, table: &toml_tree::InlineTable<'t>) -> Result<Entries<'t>, AllocError>
-        ensures texts { self.new.texts ≡ self.old.texts }
-        ensures opened { OpensInline self.old.texts (inline_tree table.now) result }
-        ensures numbered { RunsAs origins_of_entries self.old.next self.new.next result }
+    fn inline(self, table: &toml_tree::InlineTable<'t>) -> Result<Entries<'t>, AllocError>
+        ensures { OpensInline self.entry.texts (inline_tree table.now) result }
     {
         let mut list = Vec::with_capacity(self.texts.alloc, table.pairs.len())?;
         for pair in &table.pairs {
             let before = self.gap(&pair.before)?;
-            let origin = self.origin();
             let keyval = self.keyval(&pair.keyval)?;
             let after = self.gap(&pair.after)?;
             list.push(Entry {
-                origin,
                 before,
                 assign: Some(Box::new(self.texts.alloc, keyval.assign)?),
                 value: keyval.value,
@@ -277,10 +241,8 @@ impl<'t> Opener<'t> {
     }
 
     #[cycle(opening)]
-    fn keyval(&mut self, pair: &toml_tree::KeyVal<'t>) -> Result<KeyVal<'t>, AllocError>
-        ensures texts { self.new.texts ≡ self.old.texts }
-        ensures opened { OpensKeyVal self.old.texts (tree_keyval pair.now) result }
-        ensures numbered { RunsAs (λ p. origins_of_value p.value) self.old.next self.new.next result }
+    fn keyval(self, pair: &toml_tree::KeyVal<'t>) -> Result<KeyVal<'t>, AllocError>
+        ensures { OpensKeyVal self.entry.texts (tree_keyval pair.now) result }
     {
         Ok(KeyVal {
             assign: self.assign(&pair.assign)?,
@@ -304,13 +266,10 @@ impl<'t> Opener<'t> {
         })
     }
 
-    /// A line with all that stands on it.
-    pub(crate) fn line(&mut self, line: &Line<'t>) -> Result<OpenLine<'t>, AllocError>
-        ensures texts { self.new.texts ≡ self.old.texts }
-        ensures opened { OpensLine self.old.texts (tree_line line.now) result }
-        ensures numbered { RunsAs origins_of_line self.old.next self.new.next result }
+    /// A line of the document with all that stands on it.
+    pub(crate) fn line(self, line: &Line<'t>) -> Result<OpenLine<'t>, AllocError>
+        ensures { OpensLine self.entry.texts (tree_line line.now) result }
     {
-        let origin = self.origin();
         let (ws, expr, tail) = match line.expr() {
             toml_tree::Expr::Blank(blank) => (Leaf::EMPTY, Expr::Blank, *blank),
             toml_tree::Expr::KeyVal { ws, keyval, tail } => {
@@ -326,7 +285,7 @@ impl<'t> Opener<'t> {
             }
         };
         Ok(OpenLine {
-            origin,
+            is_new: false,
             ws,
             expr,
             tail: self.blank(tail),

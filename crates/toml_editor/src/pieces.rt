@@ -114,10 +114,10 @@ impl<'t> Pieces<'t> {
 
     /// Begins a line of the document, or a new one. The brackets of a new header line are new too, so that they are not taken
     /// from the header line behind it.
-    pub(crate) fn begin(&mut self, origin: Option<usize>)
+    pub(crate) fn begin(&mut self, is_new: bool)
         ensures { self.new ≡ self.old }
     {
-        if origin.is_none() {
+        if is_new {
             self.at = None;
         }
     }

@@ -334,7 +334,7 @@ impl<'t> Line<'t> {
 impl<'t> OpenLine<'t> {
     /// Makes it a line of an empty table, whose key has so many parts of this one's.
     fn empty(&mut self, texts: Texts<'t>, parts: usize) -> Result<(), AllocError> {
-        self.origin = None;
+        self.is_new = true;
         self.tail = Blank {
             ws: Leaf::EMPTY,
             comment: None,

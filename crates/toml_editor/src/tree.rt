@@ -1,8 +1,7 @@
 //! The working tree: the lines of the text as the edits made so far have left them. It has the shapes of the tree of a
-//! document, but its pieces are kept or new, and lines, comments, elements and pairs know which unit of the document they
-//! are.
+//! document, but its pieces are kept or new.
 ghost use Rattle.std.specs.Prelude.{◌≡◌, ◌↔◌, ◌++◌, [], IfOk, OnOk, IsTrue};
-ghost use Rattle.toml_editor.specs.OpenOutlines.{leaf_text, gap_part_text, gap_text, gap_origins, gap_part_origins};
+ghost use Rattle.toml_editor.specs.OpenOutlines.{leaf_text, gap_part_text, gap_text};
 
 use std::alloc::{AllocError, Global};
 use std::collections::VecDeque;
@@ -16,14 +15,6 @@ pub(crate) enum Leaf<'t> {
     New(&'t str),
 }
 
-/// A comment, from `#` on.
-#[derive(Drop)]
-pub(crate) struct Comment<'t> {
-    /// Which unit of the document it is; none where an edit has written it.
-    pub(crate) origin: Option<usize>,
-    pub(crate) text: Leaf<'t>,
-}
-
 /// What stands between the values of an array, or the pairs of an inline table, but for the commas.
 #[derive(Drop)]
 pub(crate) struct Gap<'t> {
@@ -31,12 +22,13 @@ pub(crate) struct Gap<'t> {
 }
 
 /// A part of a gap; the parts are in text order.
-#[derive(Drop)]
+#[derive(Clone, Copy)]
 pub(crate) enum GapPart<'t> {
     Ws(Leaf<'t>),
     /// A newline, or newlines of the document with the whitespace around them.
     Newline(Leaf<'t>),
-    Comment(Comment<'t>),
+    /// From `#` on.
+    Comment(Leaf<'t>),
 }
 
 /// `.` between whitespace, and the key part behind it.
@@ -88,8 +80,6 @@ pub(crate) struct Entries<'t> {
 #[derive(Drop)]
 #[cycle(value)]
 pub(crate) struct Entry<'t> {
-    /// Which unit of the document it is; none where an edit has written it.
-    pub(crate) origin: Option<usize>,
     pub(crate) before: Gap<'t>,
     /// A pair's key; an element has none, and most entries are elements.
     pub(crate) assign: Option<Box<Assign<'t>>>,
@@ -98,10 +88,10 @@ pub(crate) struct Entry<'t> {
 }
 
 /// Whitespace, and a comment if one follows.
-#[derive(Drop)]
+#[derive(Clone, Copy)]
 pub(crate) struct Blank<'t> {
     pub(crate) ws: Leaf<'t>,
-    pub(crate) comment: Option<Comment<'t>>,
+    pub(crate) comment: Option<Leaf<'t>>,
 }
 
 /// A key/value pair of a line.
@@ -140,8 +130,8 @@ pub(crate) enum Brackets {
 /// A line whose pieces can be changed.
 #[derive(Drop)]
 pub(crate) struct OpenLine<'t> {
-    /// Which unit of the document it is; none where an edit has written it.
-    pub(crate) origin: Option<usize>,
+    /// Whether an edit has written it.
+    pub(crate) is_new: bool,
     pub(crate) ws: Leaf<'t>,
     pub(crate) expr: Expr<'t>,
     pub(crate) tail: Blank<'t>,
@@ -189,8 +179,7 @@ impl Blank<'_> {
 impl<'t> Gap<'t> {
     /// A gap of nothing.
     pub(crate) fn empty(alloc: Global) -> Gap<'t>
-        ensures text { gap_text result ≡ [] }
-        ensures origins { gap_origins result ≡ [] }
+        ensures { gap_text result ≡ [] }
     {
         Gap {
             parts: Vec::new(alloc),
@@ -199,8 +188,7 @@ impl<'t> Gap<'t> {
 
     /// A gap of this one part.
     pub(crate) fn one(alloc: Global, part: GapPart<'t>) -> Result<Gap<'t>, AllocError>
-        ensures text { IfOk result (λ g. gap_text g ≡ gap_part_text part.entry) }
-        ensures origins { IfOk result (λ g. gap_origins g ≡ gap_part_origins part.entry) }
+        ensures { IfOk result (λ g. gap_text g ≡ gap_part_text part.entry) }
     {
         let mut parts = Vec::with_capacity(alloc, 1)?;
         parts.push(part)?;
@@ -209,8 +197,7 @@ impl<'t> Gap<'t> {
 
     /// A gap of this whitespace.
     pub(crate) fn space(alloc: Global, ws: Leaf<'t>) -> Result<Gap<'t>, AllocError>
-        ensures text { IfOk result (λ g. gap_text g ≡ leaf_text ws.entry) }
-        ensures origins { IfOk result (λ g. gap_origins g ≡ []) }
+        ensures { IfOk result (λ g. gap_text g ≡ leaf_text ws.entry) }
     {
         if ws.is_empty() {
             return Ok(Gap::empty(alloc));
@@ -220,8 +207,7 @@ impl<'t> Gap<'t> {
 
     /// Puts whitespace behind it, unless it has no bytes.
     pub(crate) fn push_ws(&mut self, ws: Leaf<'t>) -> Result<(), AllocError>
-        ensures text { OnOk result (gap_text self.new ≡ gap_text self.old ++ leaf_text ws.entry) }
-        ensures origins { OnOk result (gap_origins self.new ≡ gap_origins self.old) }
+        ensures { OnOk result (gap_text self.new ≡ gap_text self.old ++ leaf_text ws.entry) }
     {
         if !ws.is_empty() {
             self.parts.push(GapPart::Ws(ws))?;

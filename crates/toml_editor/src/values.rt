@@ -360,7 +360,6 @@ impl<'t> Texts<'t> {
 
     /// Cuts the key of a pair to so many parts, and makes its value an empty inline table.
     fn empty_pair(self, pair: &mut Entry<'t>, parts: usize) -> Result<(), AllocError> {
-        pair.origin = None;
         if let Some(assign) = &mut pair.assign {
             assign.cut(parts);
         }

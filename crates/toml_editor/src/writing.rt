@@ -68,7 +68,7 @@ impl<'t> Pieces<'t> {
     fn open_line(&mut self, line: &OpenLine<'t>) -> Result<(), AllocError>
         ensures { Writes (line_outlined (line_outline line.now)) self.old self.new result }
     {
-        self.begin(line.origin);
+        self.begin(line.is_new);
         self.leaf(line.ws)?;
         match &line.expr {
             Expr::Blank => {}
@@ -101,7 +101,7 @@ impl<'t> Pieces<'t> {
     {
         self.leaf(blank.ws)?;
         match &blank.comment {
-            Some(comment) => self.leaf(comment.text),
+            Some(comment) => self.leaf(*comment),
             None => Ok(()),
         }
     }
@@ -185,8 +185,9 @@ impl<'t> Pieces<'t> {
     {
         for part in &gap.parts {
             match part {
-                GapPart::Ws(leaf) | GapPart::Newline(leaf) => self.leaf(*leaf)?,
-                GapPart::Comment(comment) => self.leaf(comment.text)?,
+                GapPart::Ws(leaf) | GapPart::Newline(leaf) | GapPart::Comment(leaf) => {
+                    self.leaf(*leaf)?
+                }
             }
         }
         Ok(())

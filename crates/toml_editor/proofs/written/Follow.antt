@@ -1,5 +1,5 @@
 -- The working tree after a plain edit stands for the text that the edit writes.
-use Rattle.std.proofs.Common.{◌≡◌, ℕ, Bool, true, List, [], ◌++◌, length, map, None, refl, sym, subst, ap, ap₂, ◌∙◌}
+use Rattle.std.proofs.Common.{◌≡◌, ℕ, Bool, true, List, [], ◌++◌, length, None, refl, sym, subst, ap, ◌∙◌, subst₂}
 use Rattle.std.specs.List.{list_any}
 use Rattle.toml_text.specs.Forms.{IsNewline}
 use Rattle.toml_text.specs.Source.{text_of}
@@ -15,21 +15,18 @@ use Rattle.toml_edits.specs.Edits.{Change, set, remove}
 use Rattle.toml_edits.specs.Faults.{IsFault}
 use Rattle.toml_editor.specs.declared.texts.Texts.{Texts}
 use Rattle.toml_editor.specs.declared.working.Tree.{Tree}
-use Rattle.toml_editor.specs.EditStanding.{EditsStanding}
 use Rattle.toml_editor.specs.Exact.{Follows, IsAt, KeepsSource, style}
 use Rattle.toml_editor.specs.OpenOutlines.{leaf_text}
-use Rattle.toml_editor.specs.RemoveStanding.{is_pair, remove_standing}
+use Rattle.toml_editor.specs.RemoveStanding.{is_pair}
 use Rattle.toml_editor.specs.Removing.{remove_lines}
 use Rattle.toml_editor.specs.RemovingIn.{RemovesLines}
 use Rattle.toml_editor.specs.Setting.{set_lines}
-use Rattle.toml_editor.specs.Standing.{AreOrdered, Read, has, set_standing, slots_standing, standing}
-use Rattle.toml_editor.specs.Stands.{KeepsRest, SetsLines, StandFor, Stands}
+use Rattle.toml_editor.specs.Standing.{Read, standing}
+use Rattle.toml_editor.specs.Stands.{KeepsRest, SetsLines, Stands}
 use Rattle.toml_editor.specs.Starting.{NoneIsGone}
 use Rattle.toml_editor.specs.Steps.{IsGoodText, IsPlain}
 use Rattle.toml_editor.specs.TreeOutlines.{value_outline}
 use Rattle.toml_editor.specs.Written.{AreEdited, HasPair, HasValue, IsWritten}
-use Rattle.toml_editor.proofs.StandingNew.{has_new, is_pair_new, ordered_of, remove_standing_new, set_standing_new}
-use Rattle.toml_editor.proofs.TreeOrigins.{outline_is_new}
 use Rattle.toml_editor.proofs.written.RemoveStanding.{pair_stands, remove_stands}
 use Rattle.toml_editor.proofs.written.Steps.{plain_step, step_lines}
 use Rattle.toml_editor.proofs.written.SetStanding.{set_stands}
@@ -42,10 +39,9 @@ use Rattle.toml_editor.proofs.written.StandingOrder.{rules_order}
 pub follows : (profile : Profile) (read : Read) (c : Change) (old new : Tree) (text : List ℕ) (kinds now : Kinds) (edited : List Line) → IsNewline (style old)
     → (good : IsGoodText profile text kinds) → IsFault profile c kinds None → IsAfter profile c kinds now
     → AreEdited profile c (style old) good.tree.lines edited
-    → StandFor (text_of new.texts.source) read new.slots.items (standing edited) → NoneIsGone new.elements → KeepsSource old new
-    → EditsStanding profile (style old) c (slots_standing read old.slots.items) (slots_standing read new.slots.items)
+    → Stands (text_of new.texts.source) read new.slots.items (standing edited) → NoneIsGone new.elements → KeepsSource old new
     → Follows profile read c old new text now
-follows profile read c old new text kinds now edited newline good none is_after are stands whole source lines =
+follows profile read c old new text kinds now edited newline good none is_after are stands whole source =
     let after = good.tree.mark.text ++ joined (lines_parts edited) in
     let written : IsWritten profile c (style old) text after = (good.tree, good.spelled, edited, are, refl) in
     let step = plain_step profile c (style old) text after kinds now newline good none is_after written in
@@ -56,11 +52,10 @@ follows profile read c old new text kinds now edited newline good none is_after 
       written = written;
       at = record {
         good = step.0;
-        stands = subst (StandFor (text_of new.texts.source) read new.slots.items) (sym (places_do_not_stand step.0.tree.lines edited same)) stands;
+        stands = subst (Stands (text_of new.texts.source) read new.slots.items) (sym (places_do_not_stand step.0.tree.lines edited same)) stands;
         whole = whole;
         newline = subst IsNewline (sym source.style) newline;
       };
-      lines = lines;
       source = source;
     }
 
@@ -74,21 +69,13 @@ module _ (profile : Profile) (read : Read) (old new : Tree) (p : Address) (value
   set_follows apart v is done sets =
       let lines = at.good.tree.lines in
       let rules = at.good.good.0 in
-      let ss = at.stands.lines in
-      let ordered = ordered_of ss (subst AreOrdered (sym at.stands.are_as_new) (rules_order lines rules)) in
-      let made = sets apart ss at.stands.stand ordered in
+      let made = sets apart (standing lines) at.stands (rules_order lines rules) in
       let edited = set_lines p v lines in
-      let as_new = set_standing_new p (value_outline v) ss
-      ∙ ap₂ (λ w ls. map (set_standing p w) ls) (outline_is_new v) at.stands.are_as_new ∙ sym (set_stands p v lines apart there rules) in
-      let stands : StandFor (text_of new.texts.source) read new.slots.items (standing edited) = record {
-        lines = map (set_standing p (value_outline v)) ss;
-        stand = subst (λ (s : Texts). Stands (text_of s.source) read new.slots.items (map (set_standing p (value_outline v)) ss)) (sym rest.texts) made.0;
-        are_as_new = as_new;
-      } in (
-        made.1 ∙ sym (has_new p ss) ∙ ap (list_any (has p)) at.stands.are_as_new ∙ value_stands p lines apart there,
+      let stands : Stands (text_of new.texts.source) read new.slots.items (standing edited) =
+      subst₂ (λ (s : Texts) ls. Stands (text_of s.source) read new.slots.items ls) (sym rest.texts) (sym (set_stands p v lines apart there rules)) made.0 in (
+        made.1 ∙ value_stands p lines apart there,
         follows profile read (set p value) old new text kinds now edited at.newline at.good none is_after (v, is, there, refl) stands
-            (subst NoneIsGone (sym rest.elements) at.whole) (record { texts = rest.texts; style = ap leaf_text rest.style })
-            (v, is, made.0.are ∙ ap (map (set_standing p (value_outline v))) (sym at.stands.stand.are)),
+            (subst NoneIsGone (sym rest.elements) at.whole) (record { texts = rest.texts; style = ap leaf_text rest.style }),
       )
 
 -- a `set` that is made is one of a value that is there
@@ -97,10 +84,8 @@ pub set_is_there : (profile : Profile) (read : Read) (old new : Tree) (p : Addre
     → done ≡ true → HasValue at.good.tree.lines p
 set_is_there profile read old new p text kinds at apart v done sets is =
     let lines = at.good.tree.lines in
-    let ss = at.stands.lines in
-    let ordered = ordered_of ss (subst AreOrdered (sym at.stands.are_as_new) (rules_order lines at.good.good.0)) in
-    let made = sets apart ss at.stands.stand ordered in
-    standing_is_value p lines (ap (list_any (has p)) (sym at.stands.are_as_new) ∙ has_new p ss ∙ sym made.1 ∙ is)
+    let made = sets apart (standing lines) at.stands (rules_order lines at.good.good.0) in
+    standing_is_value p lines (sym made.1 ∙ is)
 
 -- a `remove` of a name that has a line at the root is made, and so is the text
 pub remove_follows : (profile : Profile) (read : Read) (old new : Tree) (p : Address) (text : List ℕ) (kinds now : Kinds) (at : IsAt profile read old text kinds)
@@ -109,16 +94,10 @@ pub remove_follows : (profile : Profile) (read : Read) (old new : Tree) (p : Add
 remove_follows profile read old new p text kinds now at none is_after (name, is, there) removes =
     let lines = at.good.tree.lines in
     let rules = at.good.good.0 in
-    let ss = at.stands.lines in
-    let ordered = ordered_of ss (subst AreOrdered (sym at.stands.are_as_new) (rules_order lines rules)) in
     let pair = subst (λ q. HasPair lines q → list_any (is_pair q) (standing lines) ≡ true) (sym is) (λ has_pair. pair_stands name lines has_pair rules) there in
-    let (rest, made) = removes (ap length is) ss at.stands.stand ordered (sym (is_pair_new p ss) ∙ ap (list_any (is_pair p)) at.stands.are_as_new ∙ pair) in
+    let (rest, made) = removes (ap length is) (standing lines) at.stands (rules_order lines rules) pair in
     let edited = remove_lines p lines in
-    let stands : StandFor (text_of new.texts.source) read new.slots.items (standing edited) = record {
-      lines = remove_standing p ss;
-      stand = subst (λ (s : Texts). Stands (text_of s.source) read new.slots.items (remove_standing p ss)) (sym rest.texts) made;
-      are_as_new = remove_standing_new p ss ∙ ap (remove_standing p) at.stands.are_as_new ∙ sym (remove_stands p lines);
-    } in
+    let stands : Stands (text_of new.texts.source) read new.slots.items (standing edited) =
+    subst₂ (λ (s : Texts) ls. Stands (text_of s.source) read new.slots.items ls) (sym rest.texts) (sym (remove_stands p lines)) made in
     follows profile read (remove p) old new text kinds now edited at.newline at.good none is_after (name, is, there, refl) stands
     (subst NoneIsGone (sym rest.elements) at.whole) (record { texts = rest.texts; style = ap leaf_text rest.style })
-    (made.are ∙ ap (remove_standing p) (sym at.stands.stand.are))

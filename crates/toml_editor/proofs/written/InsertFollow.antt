@@ -1,5 +1,5 @@
 -- The working tree after an `insert` of a name at the root stands for the text that the edit writes.
-use Rattle.std.proofs.Common.{ℕ, List, map, None, refl, sym, subst, ap, ap₂, ◌∙◌}
+use Rattle.std.proofs.Common.{ℕ, List, map, None, refl, sym, subst, ap, ◌∙◌, subst₂}
 use Rattle.std.specs.declared.alloc.Global.{Global}
 use Rattle.std.specs.declared.string.String.{String}
 use Rattle.toml_text.specs.Source.{text_of}
@@ -15,17 +15,14 @@ use Rattle.toml_editor.specs.declared.texts.Texts.{Texts}
 use Rattle.toml_editor.specs.declared.working.Tree.{Tree}
 use Rattle.toml_editor.specs.Exact.{Follows, IsAt, style}
 use Rattle.toml_editor.specs.Inserting.{insert_lines}
-use Rattle.toml_editor.specs.InsertStanding.{AreRooted, insert_standing}
 use Rattle.toml_editor.specs.OpenOutlines.{leaf_text}
 use Rattle.toml_editor.specs.Putting.{InsertsLines, IsRootName}
 use Rattle.toml_editor.specs.SpelledEdits.{AreSteps, step_spelled}
 use Rattle.toml_editor.specs.Standing.{Read, standing}
-use Rattle.toml_editor.specs.Stands.{KeepsRest, StandFor, Stands}
+use Rattle.toml_editor.specs.Stands.{KeepsRest, Stands}
 use Rattle.toml_editor.specs.Starting.{NoneIsGone}
 use Rattle.toml_editor.specs.Steps.{IsPlain}
 use Rattle.toml_editor.specs.TreeOutlines.{value_outline}
-use Rattle.toml_editor.proofs.StandingNew.{insert_standing_new, rooted_of}
-use Rattle.toml_editor.proofs.TreeOrigins.{outline_is_new}
 use Rattle.toml_editor.proofs.written.Follow.{follows}
 use Rattle.toml_editor.proofs.written.InsertStands.{insert_stands, root_comes_first}
 
@@ -40,18 +37,9 @@ module _ (profile : Profile) (read : Read) (old new : Tree) (p : Address) (value
       let lines = at.good.tree.lines in
       let forms = at.good.spelled.0.lines.forms in
       let root : IsRootName name p steps = record { at_is = own; steps_is = spelled ∙ ap (map step_spelled) own } in
-      let ss = at.stands.lines in
-      let rooted = rooted_of ss (subst AreRooted (sym at.stands.are_as_new) (root_comes_first lines forms)) in
-      let made = inserts name root ss at.stands.stand rooted in
+      let made = inserts name root (standing lines) at.stands (root_comes_first lines forms) in
       let edited = insert_lines name v (style old) lines in
-      let now_lines = insert_standing name (value_outline v) (style old) ss in
-      let as_new = insert_standing_new name (value_outline v) (style old) ss
-      ∙ ap₂ (λ w ls. insert_standing name w (style old) ls) (outline_is_new v) at.stands.are_as_new ∙ sym (insert_stands name v (style old) lines forms) in
-      let stands : StandFor (text_of new.texts.source) read new.slots.items (standing edited) = record {
-        lines = now_lines;
-        stand = subst (λ (s : Texts). Stands (text_of s.source) read new.slots.items now_lines) (sym rest.texts) made;
-        are_as_new = as_new;
-      } in
+      let stands : Stands (text_of new.texts.source) read new.slots.items (standing edited) =
+      subst₂ (λ (s : Texts) ls. Stands (text_of s.source) read new.slots.items ls) (sym rest.texts) (sym (insert_stands name v (style old) lines forms)) made in
       follows profile read (insert p value) old new text kinds now edited at.newline at.good none is_after (v, is, name, own, refl) stands
       (subst NoneIsGone (sym rest.elements) at.whole) (record { texts = rest.texts; style = ap leaf_text rest.style })
-      (v, is, name, own, made.are ∙ ap (insert_standing name (value_outline v) (style old)) (sym at.stands.stand.are))

@@ -1,7 +1,6 @@
 -- The lines after a `remove` of a name at the root, by what finds them.
-use Rattle.std.proofs.Common.{◌≡◌, ℕ, ◌+◌, ◌==◌, Bool, true, false, cond, None, List, [], ◌∷◌, ◌++◌, length, refl, sym, ap, ap₂, ◌∙◌, subst, append-nil}
+use Rattle.std.proofs.Common.{◌≡◌, ℕ, ◌+◌, ◌==◌, Bool, true, false, cond, List, [], ◌∷◌, ◌++◌, length, refl, sym, ap, ap₂, ◌∙◌, subst, append-nil}
 use Rattle.std.specs.List.{list_any}
-use Rattle.toml_tree.specs.Bare.{fresh}
 use Rattle.toml_tree.specs.Tree.{Piece, Expr, BlankLine, KeyValLine, TableLine, ArrayTableLine, Line}
 use Rattle.toml_names.specs.declared.model.address.Step.TheVariants.{Name}
 use Rattle.toml_names.specs.mentions.Alike.{AreAlike}
@@ -66,35 +65,16 @@ module _ (p : Address) where
           one_goes over ys (n + 1) m (alike_trans over xs ys (pairs_leave_alike xs n (section xs) pair.assign pair.value) alike) ls rest
           (length newline.text == 0)
 
-  pub all_removed : (ls : List Line) (xs : List Named) (n : ℕ) → Behind xs n ls
+  all_removed : (ls : List Line) (xs : List Named) (n : ℕ) → Behind xs n ls
   all_removed [] xs n ys m alike = refl
   all_removed (l ∷ ls) xs n ys m alike = one_removed xs ys n m alike l.expr l.newline ls (all_removed ls (xs ++ named_by xs n l.expr) (n + 1))
 
   -- a pair on a line
-  pub pair_here : (xs : List Named) (e : Expr) (newline : Piece) → HasValueAt p xs e → is_pair p (line_stands xs (record { expr = e; newline = newline })) ≡ true
+  pair_here : (xs : List Named) (e : Expr) (newline : Piece) → HasValueAt p xs e → is_pair p (line_stands xs (record { expr = e; newline = newline })) ≡ true
   pair_here xs (BlankLine b) newline own = absurd own
   pair_here xs (TableLine ws header tail) newline own = absurd own
   pair_here xs (ArrayTableLine ws header tail) newline own = absurd own
   pair_here xs (KeyValLine ws pair tail) newline own = ap (λ a. same_address a p) own ∙ self p
-
-  -- none on a line that stays
-  pub no_pair : (xs : List Named) (e : Expr) (newline : Piece) → (let l : Line = record { expr = e; newline = newline } in remove_line p xs l ≡ l ∷ [])
-      → is_pair p (line_stands xs (record { expr = e; newline = newline })) ≡ false
-  no_pair xs (BlankLine b) newline stays = refl
-  no_pair xs (TableLine ws header tail) newline stays = refl
-  no_pair xs (ArrayTableLine ws header tail) newline stays = refl
-  no_pair xs (KeyValLine ws pair tail) newline stays = by (same_address (below (section xs) (key_names pair.assign.key)) p) stays
-    where
-      l : Line
-      l = record { expr = KeyValLine ws pair tail; newline = newline }
-
-      left : (b : Bool) → ¬ (cond b (empty_line ∷ []) [] ≡ l ∷ [])
-      left true is = let e : empty_line ≡ l = cc in let f : BlankLine (record { ws = fresh []; comment = None }) ≡ KeyValLine ws pair tail = ap (λ (x : Line). x.expr) e in cc
-      left false is = cc
-
-      by : (b : Bool) → cond b (left_behind l) (l ∷ []) ≡ l ∷ [] → b ≡ false
-      by true is = absurd (left (length newline.text == 0) is)
-      by false is = refl
 
   pair_there : (front : List Line) (l : Line) (back : List Line) (xs : List Named) (n : ℕ) → HasValueAt p (named_from xs n front) l.expr
       → list_any (is_pair p) (standing_from xs n (front ++ l ∷ back)) ≡ true

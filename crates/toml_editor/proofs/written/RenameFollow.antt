@@ -1,5 +1,5 @@
 -- The working tree after a `rename` stands for the text that the edit writes.
-use Rattle.std.proofs.Common.{◌≡◌, ◌⊎◌, inl, inr, ℕ, List, [], ◌∷◌, ◌++◌, map, None, refl, sym, ap, subst, ◌∙◌}
+use Rattle.std.proofs.Common.{◌≡◌, ◌⊎◌, inl, inr, ℕ, List, [], ◌∷◌, ◌++◌, map, None, refl, sym, subst, subst₂}
 use Rattle.toml_scalar.specs.Spelling.{spelled}
 use Rattle.toml_text.specs.Source.{text_of}
 use Rattle.toml_tree.specs.Tree.{Line}
@@ -19,9 +19,8 @@ use Rattle.toml_editor.specs.declared.working.Tree.{Tree}
 use Rattle.toml_editor.specs.Exact.{Follows, IsAt, WritesRename}
 use Rattle.toml_editor.specs.RenameStanding.{rename_standing}
 use Rattle.toml_editor.specs.Renaming.{rename_lines}
-use Rattle.toml_editor.specs.Standing.{AreOrdered, Read, standing}
-use Rattle.toml_editor.specs.Stands.{StandFor, Stands}
-use Rattle.toml_editor.proofs.StandingNew.{ordered_of, rename_standing_new}
+use Rattle.toml_editor.specs.Standing.{Read, standing}
+use Rattle.toml_editor.specs.Stands.{Stands}
 use Rattle.toml_editor.proofs.written.Fitting.{last_step, unnamed}
 use Rattle.toml_editor.proofs.written.Follow.{follows}
 use Rattle.toml_editor.proofs.written.RenameStanding.{rename_stands}
@@ -46,14 +45,7 @@ module _ (profile : Profile) (read : Read) (old new : Tree) (p : Address) (to te
 
   pub rename_follows : Follows profile read (rename p to) old new text now
   rename_follows =
-      let ss = at.stands.lines in
-      let ordered = ordered_of ss (subst AreOrdered (sym at.stands.are_as_new) (rules_order lines at.good.good.0)) in
-      let made = writes.lines (none RootNamed) ss at.stands.stand ordered in
-      let now_lines = map (rename_standing p to (spelled to)) ss in
-      let stands : StandFor (text_of new.texts.source) read new.slots.items (standing (rename_lines p to lines)) = record {
-        lines = now_lines;
-        stand = subst (λ (s : Texts). Stands (text_of s.source) read new.slots.items now_lines) (sym writes.source.texts) made;
-        are_as_new = rename_standing_new p (spelled to) to ss ∙ ap (map (rename_standing p to (spelled to))) at.stands.are_as_new ∙ sym renamed;
-      } in
+      let made = writes.lines (none RootNamed) (standing lines) at.stands (rules_order lines at.good.good.0) in
+      let stands : Stands (text_of new.texts.source) read new.slots.items (standing (rename_lines p to lines)) =
+      subst₂ (λ (s : Texts) ls. Stands (text_of s.source) read new.slots.items ls) (sym writes.source.texts) (sym renamed) made in
       follows profile read (rename p to) old new text kinds now (rename_lines p to lines) at.newline at.good none is_after refl stands writes.whole writes.source
-      (made.are ∙ ap (map (rename_standing p to (spelled to))) (sym at.stands.stand.are))

@@ -10,10 +10,10 @@ use Rattle.toml_names.specs.reader.Names.{header_end, own_address}
 use Rattle.toml_names.proofs.Proved.{key_places_are_not_named, line_places_are_not_named}
 use Rattle.toml_units.specs.Units.{line_base}
 use Rattle.toml_editor.specs.Outlines as outline
-use Rattle.toml_editor.specs.Outlines.{marked, begun, AssignOutline, EntriesOutline, ExprOutline}
+use Rattle.toml_editor.specs.Outlines.{AssignOutline, EntriesOutline, ExprOutline}
 use Rattle.toml_editor.specs.Standing.{line_stands, standing_from, standing}
 use Rattle.toml_editor.specs.StandingLaws.{PlacesDoNotStand}
-use Rattle.toml_editor.specs.TreeOutlines.{gap_lines_origins, gap_outline, gap_outline_before, dotted_outline, assign_outline, value_outline, items_outline, pairs_outline, header_outline, line_of, line_outline}
+use Rattle.toml_editor.specs.TreeOutlines.{gap_spelled, dotted_outline, assign_outline, value_outline, items_outline, pairs_outline, header_outline, line_of, line_outline}
 
 -- ---- outlines
 
@@ -28,21 +28,8 @@ gap_lines_bare (l ∷ ls) ws = by l.blank.comment (gap_lines_bare ls ws)
     by None more = ap (λ r. l.blank.ws.text ++ (l.newline.text ++ r)) more
     by (Some p) more = ap (λ r. l.blank.ws.text ++ (p.text ++ (l.newline.text ++ r))) more
 
-gap_lines_bare_origins : (ls : List GapLine) → gap_lines_origins (map bare_gap_line ls) ≡ gap_lines_origins ls
-gap_lines_bare_origins [] = refl
-gap_lines_bare_origins (l ∷ ls) = by l.blank.comment (gap_lines_bare_origins ls)
-  where
-    by : (c : Option Piece) → gap_lines_origins (map bare_gap_line ls) ≡ gap_lines_origins ls
-        → gap_lines_origins (bare_gap_line (record { blank = record { ws = l.blank.ws; comment = c }; newline = l.newline }) ∷ map bare_gap_line ls)
-        ≡ gap_lines_origins (record { blank = record { ws = l.blank.ws; comment = c }; newline = l.newline } ∷ ls)
-    by None more = more
-    by (Some p) more = ap (λ r. None ∷ r) more
-
-gap_bare : (g : Gap) → gap_outline (bare_gap g) ≡ gap_outline g
-gap_bare g = ap₂ marked (gap_lines_bare g.lines g.ws) (gap_lines_bare_origins g.lines)
-
-gap_before_bare : (g : Gap) → gap_outline_before (bare_gap g) ≡ gap_outline_before g
-gap_before_bare g = ap₂ (λ t u. marked t (u ++ (None ∷ []))) (gap_lines_bare g.lines g.ws) (gap_lines_bare_origins g.lines)
+gap_bare : (g : Gap) → gap_spelled (bare_gap g) ≡ gap_spelled g
+gap_bare g = gap_lines_bare g.lines g.ws
 
 rest_bare : (ds : List Dotted) → map dotted_outline (map bare_dotted ds) ≡ map dotted_outline ds
 rest_bare [] = refl
@@ -53,12 +40,12 @@ assign_bare a =
     ap (λ r. record { first = a.key.first.text; rest = r; before_equals = a.before_equals.text; after_equals = a.after_equals.text }) (rest_bare a.key.rest)
 
 entry_bare : (g : Gap) (a b : Option AssignOutline) (v : Value) (h : Gap) (es fs : EntriesOutline) → a ≡ b → value_outline (bare_value v) ≡ value_outline v → es ≡ fs
-    → outline.Entry (gap_outline_before (bare_gap g)) a (value_outline (bare_value v)) (gap_outline (bare_gap h)) es
-    ≡ outline.Entry (gap_outline_before g) b (value_outline v) (gap_outline h) fs
+    → outline.Entry (gap_spelled (bare_gap g)) a (value_outline (bare_value v)) (gap_spelled (bare_gap h)) es
+    ≡ outline.Entry (gap_spelled g) b (value_outline v) (gap_spelled h) fs
 entry_bare g a b v h es fs assign value rest =
-    ap₂ (λ s t. outline.Entry s a (value_outline (bare_value v)) t es) (gap_before_bare g) (gap_bare h)
-    ∙ ap₂ (λ x w. outline.Entry (gap_outline_before g) x w (gap_outline h) es) assign value
-    ∙ ap (outline.Entry (gap_outline_before g) b (value_outline v) (gap_outline h)) rest
+    ap₂ (λ s t. outline.Entry s a (value_outline (bare_value v)) t es) (gap_bare g) (gap_bare h)
+    ∙ ap₂ (λ x w. outline.Entry (gap_spelled g) x w (gap_spelled h) es) assign value
+    ∙ ap (outline.Entry (gap_spelled g) b (value_outline v) (gap_spelled h)) rest
 
 mutual
   value_bare : (v : Value) → value_outline (bare_value v) ≡ value_outline v
@@ -76,7 +63,7 @@ mutual
   pairs_bare (LastPair g a v h) = entry_bare g _ _ v h (outline.End None) (outline.End None) (ap Some (assign_bare a)) (value_bare v) refl
   pairs_bare (MorePairs g a v h ps) = entry_bare g _ _ v h (pairs_outline (bare_pairs ps)) (pairs_outline ps) (ap Some (assign_bare a)) (value_bare v) (pairs_bare ps)
 
-comment_bare : (c : Option Piece) → option_map (λ (p : Piece). begun p.text) (bare_comment c) ≡ option_map (λ (p : Piece). begun p.text) c
+comment_bare : (c : Option Piece) → option_map (λ (p : Piece). p.text) (bare_comment c) ≡ option_map (λ (p : Piece). p.text) c
 comment_bare None = refl
 comment_bare (Some p) = refl
 
@@ -85,7 +72,7 @@ header_bare opening closing h = ap (λ r. outline.Header opening h.before.text h
 
 tail_bare : (ws : List ℕ) (e f : ExprOutline) (b : Blank) (newline : Piece) → e ≡ f → line_of ws e (bare_blank b) (bare newline) ≡ line_of ws f b newline
 tail_bare ws e f b newline is =
-    ap₂ (λ x c. record { ws = begun ws; expr = x; tail = b.ws.text; comment = c; newline = newline.text }) is (comment_bare b.comment)
+    ap₂ (λ x c. record { ws = ws; expr = x; tail = b.ws.text; comment = c; newline = newline.text }) is (comment_bare b.comment)
 
 line_expr_bare : (e : Expr) (newline : Piece) → line_outline (bare_line (record { expr = e; newline = newline })) ≡ line_outline (record { expr = e; newline = newline })
 line_expr_bare (BlankLine b) newline = tail_bare [] outline.Nothing outline.Nothing b newline refl

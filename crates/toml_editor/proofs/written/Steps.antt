@@ -159,7 +159,7 @@ plain_steps profile (c ∷ cs) style before after old now newline good lead writ
 
 -- ---- one text
 
-pub first_name : (m n : List ℕ) (p : Address) → p ≡ Name m ∷ [] → p ≡ Name n ∷ [] → m ≡ n
+first_name : (m n : List ℕ) (p : Address) → p ≡ Name m ∷ [] → p ≡ Name n ∷ [] → m ≡ n
 first_name m n p a b = let e : Name m ∷ [] ≡ Name n ∷ [] = sym a ∙ b in cc
 
 one_edited : (profile : Profile) (c : Change) (style : List ℕ) (old one two : List Line) → AreEdited profile c style old one → AreEdited profile c style old two → one ≡ two

@@ -138,7 +138,7 @@ set_goes p value profile style before after old now newline good none is_after (
     }
 
 -- units of edited lines are at addresses that their lines name
-pub address_clear : (p : Address) (lines : List Line) → AreLines lines → KeepsRules (named lines) → EachIs (λ m. IsClear p m.address) (named lines) → EachIs (λ u. (a : Address) → u.address ≡ Some a → IsClear p a) (units lines)
+address_clear : (p : Address) (lines : List Line) → AreLines lines → KeepsRules (named lines) → EachIs (λ m. IsClear p m.address) (named lines) → EachIs (λ u. (a : Address) → u.address ≡ Some a → IsClear p a) (units lines)
 address_clear p lines forms keeps clear =
     let d = put_doc (mark_of []) lines in
     let facts = lines_have_data lines keeps in

@@ -20,7 +20,6 @@ use Rattle.toml_checker.specs.Comments as written
 use Rattle.toml_checker.specs.Plain.{Site, site, next_line, is_kept}
 use Rattle.toml_units.specs.Bares.{bare_unit}
 use Rattle.toml_editor.specs.CarriedLists.{ListIsCarried}
-use Rattle.toml_editor.specs.Outlines.{Origins}
 use Rattle.toml_editor.specs.Steps.{IsGoodText, AreWritten}
 use Rattle.toml_editor.proofs.written.Steps.{plain_step}
 use Rattle.toml_units.proofs.Proved.{units_of_bares}
@@ -30,8 +29,7 @@ use Rattle.toml_editor.proofs.written.WayComments.{added, comments, times_cons}
 use Rattle.toml_editor.proofs.written.WayFits.{Fits, newlines}
 use Rattle.toml_editor.proofs.written.WayKeeps.{moved_site, Keeps, no_more, line_goes, same_ends}
 use Rattle.toml_editor.proofs.written.WayKept.{same_way, same_olds, same_news, same_adds}
-use Rattle.toml_editor.proofs.written.WayOn.{Whole, goes_on}
-use Rattle.toml_editor.proofs.written.WayOrigins.{along}
+use Rattle.toml_editor.proofs.written.WayOn.{goes_on}
 use Rattle.toml_editor.proofs.written.WayWhole.{HasWay, partners, same_newlines, as_many}
 
 -- ---- no edit
@@ -87,7 +85,7 @@ module _ (ends : List (List ℕ)) where
         (a + one_line u.kind),
   )
 
-pub none_way : (lines : List Line) → HasWay [] [] lines lines
+none_way : (lines : List Line) → HasWay [] [] lines lines
 none_way lines = record {
   way = same_way (units lines);
   olds_are = same_olds (units lines);
@@ -97,11 +95,6 @@ none_way lines = record {
   comments_few =
       λ t. as_many t (texts (comments (added (same_way (units lines))))) [] (ap (λ us. texts (comments us)) (same_adds (units lines)));
 }
-
--- all units go along
-pub none_goes : (lines : List Line) → (none_way lines).way ≡ same_way (units lines)
-unfolding none_way
-none_goes lines = refl
 
 -- ---- one edit, and others
 
@@ -114,30 +107,25 @@ times_append t (x ∷ xs) ys =
     omega (arith, a, b, more)
 
 module _ (c : Change) (cs : List Change) (ts : List (List ℕ)) (more : List (List (List ℕ))) (lines edited mid after : List Line) where
-  whole : (first : HasWay (c ∷ []) (ts ∷ []) lines edited) → bare_lines mid ≡ bare_lines edited → (second : HasWay cs more mid after)
-      → Whole c cs ts more (newlines lines) (newlines mid) (newlines after) None None 0 0 first.way second.way
-  whole first again second =
+  way_on : HasWay (c ∷ []) (ts ∷ []) lines edited → bare_lines mid ≡ bare_lines edited → HasWay cs more mid after
+      → HasWay (c ∷ cs) (ts ∷ more) lines after
+  way_on first again second =
       let meets : map bare_unit (news first.way) ≡ map bare_unit (olds second.way) =
       ap (map bare_unit) first.news_are ∙ sym (units_of_bares edited) ∙ ap units (sym again) ∙ units_of_bares mid
       ∙ ap (map bare_unit) (sym second.olds_are) in
       let ends : newlines edited ≡ newlines mid = same_newlines edited mid (sym again) in
       let fit = subst (λ ns. Fits (c ∷ []) (ts ∷ []) (newlines lines) ns None 0 0 first.way) ends first.fits in
       let keep = subst (λ ns. Keeps (c ∷ []) (newlines lines) ns None None 0 0 first.way) ends first.keeps in
-      goes_on c cs ts more (newlines lines) (newlines mid)
-      (newlines after) first.way second.way meets None None None 0 0 0 fit keep second.fits second.keeps
-
-  pub way_on : HasWay (c ∷ []) (ts ∷ []) lines edited → bare_lines mid ≡ bare_lines edited → HasWay cs more mid after
-      → HasWay (c ∷ cs) (ts ∷ more) lines after
-  way_on first again second =
-      let all = whole first again second in
+      let whole = goes_on c cs ts more (newlines lines) (newlines mid)
+      (newlines after) first.way second.way meets None None None 0 0 0 fit keep second.fits second.keeps in
       record {
-        way = all.way;
-        olds_are = all.olds_are ∙ first.olds_are;
-        news_are = all.news_are ∙ second.news_are;
-        fits = all.fits;
-        keeps = all.keeps;
+        way = whole.way;
+        olds_are = whole.olds_are ∙ first.olds_are;
+        news_are = whole.news_are ∙ second.news_are;
+        fits = whole.fits;
+        keeps = whole.keeps;
         comments_few = λ t.
-            let few = all.few t in
+            let few = whole.few t in
             let one = first.comments_few t in
             let two = second.comments_few t in
             let a = times_append t ts [] in
@@ -145,12 +133,6 @@ module _ (c : Change) (cs : List Change) (ts : List (List ℕ)) (more : List (Li
             let none : times t [] ≡ 0 = refl in
             omega (arith, few, one, two, a, b, none);
       }
-
-  -- along which the origins go as along the one and the other
-  pub origins_on : (first : HasWay (c ∷ []) (ts ∷ []) lines edited) (again : bare_lines mid ≡ bare_lines edited) (second : HasWay cs more mid after)
-      → (os : Origins) → along (way_on first again second).way os ≡ along second.way (along first.way os)
-  unfolding way_on
-  origins_on first again second os = (whole first again second).origins_go os
 
 -- the way of a list, and the comments in its values
 pub record HasListWay (cs : List Change) (d e : Doc) : Type 0 where

@@ -1,5 +1,5 @@
 -- The units after an `insert` at the root.
-use Rattle.std.proofs.Common.{◌≡◌, ℕ, ◌+◌, Bool, true, false, cond, Some, None, List, [], ◌∷◌, ◌++◌, length, length-append, refl, sym, ap, ap₂, ◌∙◌, append_assoc, append-nil, true≢false, ◌⊎◌, inl, inr, ◌<◌, zero, suc, arith, Option}
+use Rattle.std.proofs.Common.{◌≡◌, ℕ, ◌+◌, Bool, true, false, cond, Some, None, List, [], ◌∷◌, ◌++◌, length, refl, sym, ap, ap₂, ◌∙◌, append_assoc, append-nil, true≢false, ◌⊎◌, inl, inr, ◌<◌, zero, suc, arith, Option}
 use Rattle.std.specs.Prelude.{slice_get}
 use Rattle.toml_scalar.specs.Spelling.{spelled}
 use Rattle.toml_tree.specs.Bare.{fresh}
@@ -27,20 +27,9 @@ pub lines_first : (ls : List Line) (xs : List Named) (n : ℕ) → BeginWithLine
 lines_first [] xs n = tt
 lines_first (l ∷ ls) xs n = refl
 
--- how many units are in front of a new line behind the last line with a key and a value before the first header
-abbrev pub count_front : List Named → ℕ → List Line → ℕ
-count_front xs n [] = 0
-count_front xs n (l ∷ ls) =
-    length (line_units xs l.expr) + cond (has_pair ls) (count_front (xs ++ named_by xs n l.expr) (n + 1) ls) 0
-
--- and in front of one that is put where `insert` puts it
-abbrev pub put_count : List Line → ℕ
-put_count lines = cond (has_pair lines) (count_front (root ∷ []) 0 lines) 0
-
--- behind so many units the newlines of the lines in front and behind stay where the block is put in, but for that of a last line
-pub record IsPutWell (k : ℕ) (old block new : List TextUnit) (before after : List (List ℕ)) : Type 0 where
+-- the newlines of the lines in front and behind stay where the block is put in, but for that of a last line
+pub record IsPutWell (old block new : List TextUnit) (before after : List (List ℕ)) : Type 0 where
   pub put : IsBlockPut old block new
-  pub count : length put.front ≡ k
   pub front_ends : (a : ℕ) → a < lines_in put.front → (slice_get before a ≡ slice_get after a) ⊎ (a + 1 ≡ length before)
   pub back_ends : (a : ℕ) → slice_get before (lines_in put.front + a) ≡ slice_get after (lines_in put.front + suc a)
   pub full : put.back ≡ [] → LastIsFull put.front
@@ -64,10 +53,10 @@ some_lines : (xs : List Named) (n : ℕ) (l : Line) (ls : List Line) → 0 < lin
 some_lines xs n l ls = let both = lines_append (line_units xs l.expr)
     (units_from (xs ++ named_by xs n l.expr) (n + 1) ls) in let one = line_lines xs l.expr in omega (arith, both, one)
 
-put_behind : (k : ℕ) (us old block new : List TextUnit) (before after : List (List ℕ)) (newline : List ℕ) → lines_in us ≡ 1 → 0 < lines_in old
-    → IsPutWell k old block new before after
-    → IsPutWell (length us + k) (us ++ old) block (us ++ new) (newline ∷ before) (newline ∷ after)
-put_behind k us old block new before after newline one some h =
+put_behind : (us old block new : List TextUnit) (before after : List (List ℕ)) (newline : List ℕ) → lines_in us ≡ 1 → 0 < lines_in old
+    → IsPutWell old block new before after
+    → IsPutWell (us ++ old) block (us ++ new) (newline ∷ before) (newline ∷ after)
+put_behind us old block new before after newline one some h =
     let put = h.put in
     let all : lines_in (us ++ put.front) ≡ suc (lines_in put.front) = lines_append us put.front ∙ ap (λ n. n + lines_in put.front) one ∙ (let e : 1 + lines_in put.front ≡ suc (lines_in put.front) = omega arith in e) in
     record {
@@ -78,7 +67,6 @@ put_behind k us old block new before after newline one some h =
         after = ap (λ l. us ++ l) put.after ∙ sym (append_assoc us put.front (block ++ put.back));
         next = put.next;
       };
-      count = length-append us put.front ∙ ap (λ n. length us + n) h.count;
       front_ends = λ a low. ends a (omega (arith, low, all));
       back_ends = λ a.
           ap (slice_get (newline ∷ before)) (let e : lines_in (us ++ put.front) + a ≡ suc (lines_in put.front + a) = omega (arith, all) in e)
@@ -108,11 +96,11 @@ module _ (name : List ℕ) (v : Value) (style : List ℕ) where
       ap (λ s. line_of (record { start = 0; text = spelled name ++ 0x20 ∷ 0x3D ∷ 0x20 ∷ joined (value_parts v ++ piece (fresh []) ∷ []) }) (s ++ Name (spelled_name (spelled name)) ∷ []) (length s)) at_root
       ∙ ap₂ (λ t m. line_of (fresh (spelled name ++ 0x20 ∷ 0x3D ∷ 0x20 ∷ t)) (Name m ∷ []) 0) new_text (spelled_again name)
 
-  abbrev Well : ℕ → List TextUnit → List TextUnit → List (List ℕ) → List (List ℕ) → Type 0
-  Well k old new = IsPutWell k old block new
+  abbrev Well : List TextUnit → List TextUnit → List (List ℕ) → List (List ℕ) → Type 0
+  Well old new = IsPutWell old block new
 
   put_first : (xs : List Named) (n m : ℕ) (ls : List Line) (ending : List ℕ) → section xs ≡ []
-      → Well 0 (units_from xs n ls) (line_units xs (new_expr name v) ++ units_from (xs ++ named_by xs m (new_expr name v)) (m + 1) ls) (newlines ls) (ending ∷ newlines ls)
+      → Well (units_from xs n ls) (line_units xs (new_expr name v) ++ units_from (xs ++ named_by xs m (new_expr name v)) (m + 1) ls) (newlines ls) (ending ∷ newlines ls)
   put_first xs n m ls ending at_root = record {
     put = record {
       front = [];
@@ -121,7 +109,6 @@ module _ (name : List ℕ) (v : Value) (style : List ℕ) where
       after = ap₂ (λ s t. s ++ t) (new_units xs at_root) (sym (units_alike ls xs (xs ++ named_by xs m (new_expr name v)) n (m + 1) (alike_pair xs xs (alike_self xs) m (section xs) (new_assign name) v)));
       next = lines_first ls xs n;
     };
-    count = refl;
     front_ends = λ a low. let e : ⊥ = omega (arith, low) in absurd e;
     back_ends = λ a. ap (slice_get (newlines ls)) (let e : 0 + a ≡ a = omega arith in e) ∙ ap (slice_get (ending ∷ newlines ls)) (let e : suc a ≡ 0 + suc a = omega arith in e);
     full = λ none. tt;
@@ -129,7 +116,7 @@ module _ (name : List ℕ) (v : Value) (style : List ℕ) where
 
   -- the last line gets a newline
   put_end : (xs : List Named) (n : ℕ) (l : Line) → has_key l.expr ≡ true → section (xs ++ named_by xs n l.expr) ≡ []
-      → Well (length (line_units xs l.expr) + 0) (line_units xs l.expr ++ []) (line_units xs l.expr ++ (line_units (xs ++ named_by xs n l.expr) (new_expr name v) ++ [])) (l.newline.text ∷ []) (style ∷ [] ∷ [])
+      → Well (line_units xs l.expr ++ []) (line_units xs l.expr ++ (line_units (xs ++ named_by xs n l.expr) (new_expr name v) ++ [])) (l.newline.text ∷ []) (style ∷ [] ∷ [])
   put_end xs n l keyed at_root = record {
     put = record {
       front = line_units xs l.expr;
@@ -138,7 +125,6 @@ module _ (name : List ℕ) (v : Value) (style : List ℕ) where
       after = ap (λ b. line_units xs l.expr ++ (b ++ [])) (new_units (xs ++ named_by xs n l.expr) at_root);
       next = tt;
     };
-    count = omega arith;
     front_ends = λ a low. let one = line_lines xs l.expr in inr (omega (arith, low, one));
     back_ends = λ a. ap (slice_get (l.newline.text ∷ [])) (count a) ∙ ap (slice_get (style ∷ [] ∷ [])) (sym (count (suc a)));
     full = λ none. full_line xs l.expr keyed;
@@ -149,7 +135,7 @@ module _ (name : List ℕ) (v : Value) (style : List ℕ) where
 
   put_line : (xs : List Named) (n : ℕ) (l : Line) (ls : List Line) → has_pair (l ∷ ls) ≡ true → has_pair ls ≡ false
       → section (xs ++ named_by xs n l.expr) ≡ []
-      → Well (length (line_units xs l.expr) + 0) (units_from xs n (l ∷ ls)) (units_from xs n (line_behind name v style l ls)) (newlines (l ∷ ls))
+      → Well (units_from xs n (l ∷ ls)) (units_from xs n (line_behind name v style l ls)) (newlines (l ∷ ls))
       (newlines (line_behind name v style l ls))
   put_line xs n l [] has none at_root = put_end xs n l (by l.expr has) at_root
     where
@@ -161,12 +147,11 @@ module _ (name : List ℕ) (v : Value) (style : List ℕ) where
       by (TableLine ws h b) is = is
       by (ArrayTableLine ws h b) is = is
   put_line xs n l (m ∷ ms) has none at_root =
-      put_behind 0 (line_units xs l.expr) (units_from (xs ++ named_by xs n l.expr) (n + 1) (m ∷ ms)) block _ (newlines (m ∷ ms))
+      put_behind (line_units xs l.expr) (units_from (xs ++ named_by xs n l.expr) (n + 1) (m ∷ ms)) block _ (newlines (m ∷ ms))
       (style ∷ newlines (m ∷ ms)) l.newline.text (line_lines xs l.expr) (some_lines (xs ++ named_by xs n l.expr) (n + 1) m ms)
       (put_first (xs ++ named_by xs n l.expr) (n + 1) (n + 1) (m ∷ ms) style at_root)
 
-  put_last : (ls : List Line) (xs : List Named) (n : ℕ) → section xs ≡ [] → has_pair ls ≡ true
-      → Well (count_front xs n ls) (units_from xs n ls) (units_from xs n (insert_behind name v style ls)) (newlines ls) (newlines (insert_behind name v style ls))
+  put_last : (ls : List Line) (xs : List Named) (n : ℕ) → section xs ≡ [] → has_pair ls ≡ true → Well (units_from xs n ls) (units_from xs n (insert_behind name v style ls)) (newlines ls) (newlines (insert_behind name v style ls))
   put_last [] xs n at_root has = absurd (true≢false (sym has))
   put_last (l ∷ ls) xs n at_root has = by (has_pair ls) refl (λ h. put_last ls (xs ++ named_by xs n l.expr) (n + 1) here h)
     where
@@ -178,17 +163,17 @@ module _ (name : List ℕ) (v : Value) (style : List ℕ) where
       some (m ∷ ms) has = some_lines (xs ++ named_by xs n l.expr) (n + 1) m ms
 
       by : (b : Bool) → has_pair ls ≡ b
-          → (has_pair ls ≡ true → Well (count_front (xs ++ named_by xs n l.expr) (n + 1) ls) (units_from (xs ++ named_by xs n l.expr) (n + 1) ls) (units_from (xs ++ named_by xs n l.expr) (n + 1) (insert_behind name v style ls)) (newlines ls) (newlines (insert_behind name v style ls)))
-          → Well (length (line_units xs l.expr) + cond b (count_front (xs ++ named_by xs n l.expr) (n + 1) ls) 0) (units_from xs n (l ∷ ls)) (units_from xs n (cond b (l ∷ insert_behind name v style ls) (line_behind name v style l ls))) (newlines (l ∷ ls)) (newlines (cond b (l ∷ insert_behind name v style ls) (line_behind name v style l ls)))
-      by true is more = put_behind (count_front (xs ++ named_by xs n l.expr) (n + 1) ls) (line_units xs l.expr) _ block _ (newlines ls) (newlines (insert_behind name v style ls)) l.newline.text
+          → (has_pair ls ≡ true → Well (units_from (xs ++ named_by xs n l.expr) (n + 1) ls) (units_from (xs ++ named_by xs n l.expr) (n + 1) (insert_behind name v style ls)) (newlines ls) (newlines (insert_behind name v style ls)))
+          → Well (units_from xs n (l ∷ ls)) (units_from xs n (cond b (l ∷ insert_behind name v style ls) (line_behind name v style l ls))) (newlines (l ∷ ls)) (newlines (cond b (l ∷ insert_behind name v style ls) (line_behind name v style l ls)))
+      by true is more = put_behind (line_units xs l.expr) _ block _ (newlines ls) (newlines (insert_behind name v style ls)) l.newline.text
           (line_lines xs l.expr) (some ls is) (more is)
       by false is more = put_line xs n l ls has is here
 
-  pub put_lines : (lines : List Line) → Well (put_count lines) (units lines) (units (insert_lines name v style lines)) (newlines lines) (newlines (insert_lines name v style lines))
+  pub put_lines : (lines : List Line) → Well (units lines) (units (insert_lines name v style lines)) (newlines lines) (newlines (insert_lines name v style lines))
   put_lines lines = by (has_pair lines) refl
     where
       by : (b : Bool) → has_pair lines ≡ b
-          → Well (cond b (count_front (root ∷ []) 0 lines) 0) (units lines) (units (cond b (insert_behind name v style lines) (new_line name v style ∷ lines))) (newlines lines) (newlines (cond b (insert_behind name v style lines) (new_line name v style ∷ lines)))
+          → Well (units lines) (units (cond b (insert_behind name v style lines) (new_line name v style ∷ lines))) (newlines lines) (newlines (cond b (insert_behind name v style lines) (new_line name v style ∷ lines)))
       by true is = put_last lines (root ∷ []) 0 refl is
       by false is = put_first (root ∷ []) 0 0 lines style refl
 

@@ -1,17 +1,14 @@
 -- The units after a `remove` at the root.
-use Rattle.std.proofs.Common.{◌≡◌, ℕ, ◌+◌, ◌<◌, ◌==◌, true, false, cond, Option, List, [], ◌∷◌, ◌++◌, length, length-append, refl, sym, ap, ap₂, ◌∙◌, subst, append_assoc, zero, suc, arith}
+use Rattle.std.proofs.Common.{◌≡◌, ℕ, ◌+◌, ◌<◌, ◌==◌, true, false, cond, Option, List, [], ◌∷◌, ◌++◌, length, refl, sym, ap, ap₂, ◌∙◌, subst, append_assoc, zero, suc, arith}
 use Rattle.toml_tree.specs.Spells.{AreLines}
 use Rattle.toml_tree.specs.Tree.{Piece, Value, Line}
 use Rattle.toml_names.specs.declared.model.address.Step.TheVariants.{Name}
 use Rattle.toml_names.specs.mentions.Alike.{AreAlike}
-use Rattle.toml_names.specs.mentions.Mentions.{Named, named, named_by, root}
-use Rattle.toml_names.specs.model.Addresses.{Address}
+use Rattle.toml_names.specs.mentions.Mentions.{Named, named, named_by}
 use Rattle.toml_units.specs.Units.{TextUnit, line_units, units_from, units}
 use Rattle.toml_editor.specs.Blocks.{root_pair}
 use Rattle.toml_editor.specs.Lines.{lines_from}
-use Rattle.toml_editor.specs.RemoveStanding.{is_pair}
 use Rattle.toml_editor.specs.Removing.{remove_line, left_behind, empty_line, remove_lines}
-use Rattle.toml_editor.specs.Standing.{line_stands}
 use Rattle.toml_editor.specs.UnitBlocks.{IsBlockTaken, root_line, left_of, RemoveUnits}
 use Rattle.std.specs.Prelude.{slice_get}
 use Rattle.toml_names.specs.mentions.Rules.{KeepsRules}
@@ -23,7 +20,6 @@ use Rattle.toml_editor.proofs.written.Alike.{alike_sym, alike_trans}
 use Rattle.toml_editor.proofs.written.Formed.{newline_some}
 use Rattle.toml_editor.proofs.written.Plain.{next_alike}
 use Rattle.toml_editor.proofs.written.RemoveNamed.{Claim, BehindOne, AtOne, by_document}
-use Rattle.toml_editor.proofs.written.RemoveStanding.{no_pair, pair_here}
 use Rattle.toml_editor.proofs.written.UnitsAlike.{units_alike}
 use Rattle.toml_editor.proofs.written.UnitsPut.{lines_first, line_lines}
 
@@ -42,36 +38,21 @@ later : (l : Line) (ls : List Line) → AreEnded (l ∷ ls) → AreEnded ls
 later l [] is = tt
 later l (m ∷ ls) is = is.1
 
--- how many units are in front of the first line with a key whose value stands at the address, and how many are on it
-abbrev pub gone_count : Address → List Named → ℕ → List Line → ℕ
-gone_count p xs n [] = 0
-gone_count p xs n (l ∷ ls) =
-    cond (is_pair p (line_stands xs l)) 0 (length (line_units xs l.expr) + gone_count p (xs ++ named_by xs n l.expr) (n + 1) ls)
-
-abbrev pub gone_size : Address → List Named → ℕ → List Line → ℕ
-gone_size p xs n [] = 0
-gone_size p xs n (l ∷ ls) =
-    cond (is_pair p (line_stands xs l)) (length (line_units xs l.expr)) (gone_size p (xs ++ named_by xs n l.expr) (n + 1) ls)
-
 module _ (name : List ℕ) where
   abbrev gone : List Named → Line → List Line
   gone = remove_line (Name name ∷ [])
 
-  -- behind so many units those of the name's line, so many, are taken out, and the newlines of the other lines stay
-  pub record AreTaken (k size : ℕ) (old new : List TextUnit) (before after : List (List ℕ)) : Type 0 where
+  -- the units of the name's line are taken out, and the newlines of the other lines stay
+  pub record AreTaken (old new : List TextUnit) (before after : List (List ℕ)) : Type 0 where
     pub piece : Piece
     pub value : Value
     pub comment : Option Piece
     pub taken : IsBlockTaken old (root_line piece name value comment) new
-    pub count : length taken.front ≡ k
-    pub own : length (root_line piece name value comment) ≡ size
     pub front_ends : (a : ℕ) → a < lines_in taken.front → slice_get before a ≡ slice_get after a
     pub back_ends : (a : ℕ) → a < lines_in taken.back → slice_get before (lines_in taken.front + suc a) ≡ slice_get after (lines_in taken.front + a)
 
-  taken_behind : (k size all_k all_size : ℕ) (us old new : List TextUnit) (before after : List (List ℕ)) (newline : List ℕ) → lines_in us ≡ 1
-      → length us + k ≡ all_k → size ≡ all_size → AreTaken k size old new before after
-      → AreTaken all_k all_size (us ++ old) (us ++ new) (newline ∷ before) (newline ∷ after)
-  taken_behind k size all_k all_size us old new before after newline one many same h =
+  taken_behind : (us old new : List TextUnit) (before after : List (List ℕ)) (newline : List ℕ) → lines_in us ≡ 1 → AreTaken old new before after → AreTaken (us ++ old) (us ++ new) (newline ∷ before) (newline ∷ after)
+  taken_behind us old new before after newline one h =
       let taken = h.taken in
       let all : lines_in (us ++ taken.front) ≡ suc (lines_in taken.front) = lines_append us taken.front ∙ ap (λ n. n + lines_in taken.front) one ∙ (let e : 1 + lines_in taken.front ≡ suc (lines_in taken.front) = omega arith in e) in
       record {
@@ -85,8 +66,6 @@ module _ (name : List ℕ) where
           after = ap (λ l. us ++ l) taken.after ∙ sym (append_assoc us taken.front (left_of taken.back ++ taken.back));
           next = taken.next;
         };
-        count = length-append us taken.front ∙ ap (λ n. length us + n) h.count ∙ many;
-        own = h.own ∙ same;
         front_ends = λ a low. ends a (omega (arith, low, all));
         back_ends = λ a low.
             ap (slice_get (newline ∷ before)) (let e : lines_in (us ++ taken.front) + suc a ≡ suc (lines_in taken.front + suc a) = omega (arith, all) in e)
@@ -109,20 +88,13 @@ module _ (name : List ℕ) where
 
   -- of lines that end as those of a text do
   abbrev Taken : Claim name
-  Taken xs ys n ls = AreEnded ls
-      → AreTaken (gone_count (Name name ∷ []) xs n ls) (gone_size (Name name ∷ []) xs n ls) (units_from xs n ls) (units_from xs n (lines_from gone xs n ls)) (newlines ls) (newlines (lines_from gone xs n ls))
+  Taken xs ys n ls = AreEnded ls → AreTaken (units_from xs n ls) (units_from xs n (lines_from gone xs n ls)) (newlines ls) (newlines (lines_from gone xs n ls))
 
   behind_one : BehindOne name Taken
   behind_one xs ys n l ls alike stays more is =
-      let p : Address = Name name ∷ [] in
       let kept = lines_from gone (xs ++ named_by xs n l.expr) (n + 1) ls in
-      let k = gone_count p (xs ++ named_by xs n l.expr) (n + 1) ls in
-      let size = gone_size p (xs ++ named_by xs n l.expr) (n + 1) ls in
-      let none : is_pair p (line_stands xs l) ≡ false = no_pair p xs l.expr l.newline stays.0 in
-      subst (λ r. AreTaken (gone_count p xs n (l ∷ ls)) (gone_size p xs n (l ∷ ls)) (units_from xs n (l ∷ ls)) (units_from xs n (r ++ kept)) (newlines (l ∷ ls)) (newlines (r ++ kept))) (sym stays.0)
-      (taken_behind k size (gone_count p xs n (l ∷ ls)) (gone_size p xs n (l ∷ ls)) (line_units xs l.expr) (units_from (xs ++ named_by xs n l.expr) (n + 1) ls) (units_from (xs ++ named_by xs n l.expr) (n + 1) kept) (newlines ls) (newlines kept) l.newline.text (line_lines xs l.expr)
-      (ap (λ b. cond b 0 (length (line_units xs l.expr) + k)) (sym none)) (ap (λ b. cond b (length (line_units xs l.expr)) size) (sym none))
-      (more (later l ls is)))
+      subst (λ r. AreTaken (units_from xs n (l ∷ ls)) (units_from xs n (r ++ kept)) (newlines (l ∷ ls)) (newlines (r ++ kept))) (sym stays.0)
+      (taken_behind (line_units xs l.expr) (units_from (xs ++ named_by xs n l.expr) (n + 1) ls) (units_from (xs ++ named_by xs n l.expr) (n + 1) kept) (newlines ls) (newlines kept) l.newline.text (line_lines xs l.expr) (more (later l ls is)))
 
   at_one : AtOne name Taken
   at_one xs ys n l ls alike goes same is =
@@ -131,7 +103,6 @@ module _ (name : List ℕ) where
       (alike_trans xs ys (ys ++ root_pair name goes.value) alike (goes.alike ys alike))
       (subst (λ b. AreAlike (ys ++ b) (xs ++ named_by xs n l.expr)) (goes.names ys alike) (alike_sym (xs ++ named_by xs n l.expr) (ys ++ named_by ys 0 l.expr) (next_alike xs ys n l.expr alike))) in
       let us = units_from (xs ++ named_by xs n l.expr) (n + 1) ls in
-      let here : is_pair (Name name ∷ []) (line_stands xs l) ≡ true = pair_here (Name name ∷ []) xs l.expr l.newline goes.own in
       let again : units_from xs n ls ≡ us = units_alike ls xs (xs ++ named_by xs n l.expr) n (n + 1) behind_it in
       record {
         piece = goes.units.0;
@@ -144,10 +115,6 @@ module _ (name : List ℕ) where
           after = ap₂ (λ a b. units_from xs n (a ++ b)) goes.gone same ∙ left_units xs n n l ls is ∙ ap (λ r. left_of r ++ r) again;
           next = lines_first ls (xs ++ named_by xs n l.expr) (n + 1);
         };
-        count = ap (λ b. cond b 0 (length (line_units xs l.expr) + gone_count (Name name ∷ []) (xs ++ named_by xs n l.expr) (n + 1) ls)) (sym here);
-        own =
-            ap length (sym goes.units.2)
-            ∙ ap (λ b. cond b (length (line_units xs l.expr)) (gone_size (Name name ∷ []) (xs ++ named_by xs n l.expr) (n + 1) ls)) (sym here);
         front_ends = λ a low. let e : ⊥ = omega (arith, low) in absurd e;
         back_ends = λ a low.
             ap (slice_get (l.newline.text ∷ newlines ls)) (let e : 0 + suc a ≡ suc a = omega arith in e)
@@ -156,7 +123,7 @@ module _ (name : List ℕ) where
       }
 
   pub lines_taken : (lines : List Line) → AreLines lines → HasPair lines (Name name ∷ []) → KeepsRules (named lines)
-      → AreTaken (gone_count (Name name ∷ []) (root ∷ []) 0 lines) (gone_size (Name name ∷ []) (root ∷ []) 0 lines) (units lines) (units (remove_lines (Name name ∷ []) lines)) (newlines lines) (newlines (remove_lines (Name name ∷ []) lines))
+      → AreTaken (units lines) (units (remove_lines (Name name ∷ []) lines)) (newlines lines) (newlines (remove_lines (Name name ∷ []) lines))
   lines_taken lines is there keeps = by_document name Taken behind_one at_one lines there keeps (ended lines is)
 
 pub remove_units : RemoveUnits

@@ -15,12 +15,10 @@ use Rattle.toml_checker.specs.declared.tables.Part.TheVariants as parts
 use Rattle.toml_checker.specs.Owed.{IsOwed}
 use Rattle.toml_checker.specs.Plain.{Site, site, next_line, stands}
 use Rattle.toml_units.specs.Bares.{bare_unit}
-use Rattle.toml_editor.specs.Outlines.{Origins}
 use Rattle.toml_editor.proofs.written.Way.{Step, both, old, new, olds, news, one_line, is_here}
 use Rattle.toml_editor.proofs.written.WayComments.{added, comments, times_cons}
 use Rattle.toml_editor.proofs.written.WayFits.{Matches, IsAsked, Fits}
 use Rattle.toml_editor.proofs.written.WayKeeps.{moved_site, Ends, Stays, ComesBlank, Keeps, no_more, kept_on, moved_on, line_moved_on, line_is}
-use Rattle.toml_editor.proofs.written.WayOrigins as origins
 use Rattle.toml_editor.proofs.written.WayOwed.{along, IsOwedBelow, owed_below, owed_on, below_on, written_on}
 
 at_map : {P Q : Address → Type 0} → ((a : Address) → P a → Q a) → (o : Option Address) → At o P → At o Q
@@ -240,10 +238,6 @@ module _ (c : Change) (cs : List Change) (ts : List (List ℕ)) (more : List (Li
 
   -- ---- the whole way
 
-  -- the origins go along the whole way as along the two
-  abbrev Composes : List Step → List Step → List Step → Type 0
-  Composes r s t = (os : Origins) → origins.along r os ≡ origins.along t (origins.along s os)
-
   pub record Whole (line next : Option Site) (a d : ℕ) (s t : List Step) : Type 0 where
     pub way : List Step
     pub olds_are : olds way ≡ olds s
@@ -252,7 +246,6 @@ module _ (c : Change) (cs : List Change) (ts : List (List ℕ)) (more : List (Li
     pub keeps : Keeps (c ∷ cs) before after line next a d way
     pub few : (x : List ℕ)
         → times x (texts (comments (added way))) ≤ times x (texts (comments (added s))) + times x (texts (comments (added t)))
-    pub origins_go : Composes way s t
 
   abbrev pub Meets : List Step → List Step → Type 0
   Meets s t = map bare_unit (news s) ≡ map bare_unit (olds t)
@@ -273,7 +266,6 @@ module _ (c : Change) (cs : List Change) (ts : List (List ℕ)) (more : List (Li
         fits = (asked fits.0, r.fits);
         keeps = (keeps.0, r.keeps);
         few = λ x. counted_too r.way (is_comment v.kind) x (r.few x);
-        origins_go = λ os. ap (λ l. None ∷ l) (r.origins_go os);
       }
     where
       asked : IsAsked cs more between after d v → IsAsked (c ∷ cs) (ts ∷ more) before after d v
@@ -305,12 +297,7 @@ module _ (c : Change) (cs : List Change) (ts : List (List ℕ)) (more : List (Li
         fits = (lost_on c cs line u fit.0, r.fits);
         keeps = r.keeps;
         few = r.few;
-        origins_go = gone r.way r.origins_go;
       }
-    where
-      gone : (r : List Step) → Composes r s t → Composes (old u ∷ r) (old u ∷ s) t
-      gone r more [] = more []
-      gone r more (o ∷ os) = more os
 
   -- ---- the cases
 
@@ -341,19 +328,10 @@ module _ (c : Change) (cs : List Change) (ts : List (List ℕ)) (more : List (Li
         fits = tt;
         keeps = tt;
         few = λ x. omega arith;
-        origins_go = λ os. refl;
       }
   none (both x v ∷ t) is = cc
   none (old x ∷ t) is = cc
   none (new v ∷ t) is = comes v [] t (none t is)
-
-  lost_then : (u w x : TextUnit) (s t r : List Step) → Composes r s t → Composes (old u ∷ r) (both u w ∷ s) (old x ∷ t)
-  lost_then u w x s t r more [] = more []
-  lost_then u w x s t r more (o ∷ os) = more os
-
-  both_then : (u w x v : TextUnit) (s t r : List Step) → Composes r s t → Composes (both u v ∷ r) (both u w ∷ s) (both x v ∷ t)
-  both_then u w x v s t r more [] = ap (λ l. None ∷ l) (more [])
-  both_then u w x v s t r more (o ∷ os) = ap (λ l. o ∷ l) (more os)
 
   passes : (u w : TextUnit) (s : List Step) → ((t : List Step) → Meets s t → GoesOn s t) → (t : List Step) → Meets (both u w ∷ s) t
       → GoesOn (both u w ∷ s) t
@@ -376,7 +354,6 @@ module _ (c : Change) (cs : List Change) (ts : List (List ℕ)) (more : List (Li
         );
         keeps = r.keeps;
         few = r.few;
-        origins_go = lost_then u w x s t r.way r.origins_go;
       }
   passes u w s go (both x v ∷ t) is = λ line mid next a b d fit keep fits keeps.
       let same = head w x (news s) (olds t) is in
@@ -394,7 +371,6 @@ module _ (c : Change) (cs : List Change) (ts : List (List ℕ)) (more : List (Li
         fits = (both_match line mid next a b d u w v fit.0 keep.0 n l, r.fits);
         keeps = (both_stay line mid next a b d u w v fit.0 keep.0 n l, r.keeps);
         few = r.few;
-        origins_go = both_then u w x v s t r.way r.origins_go;
       }
 
   came : (w : TextUnit) (s : List Step) → ((t : List Step) → Meets s t → GoesOn s t) → (t : List Step) → Meets (new w ∷ s) t
@@ -413,7 +389,6 @@ module _ (c : Change) (cs : List Change) (ts : List (List ℕ)) (more : List (Li
         fits = r.fits;
         keeps = r.keeps;
         few = λ y. let e = r.few y in let f = fewer (is_comment w.kind) y in omega (arith, e, f);
-        origins_go = r.origins_go;
       }
     where
       fewer : (z : Bool) (y : List ℕ)
@@ -436,7 +411,6 @@ module _ (c : Change) (cs : List Change) (ts : List (List ℕ)) (more : List (Li
         fits = (new_asked mid next b d w v fit.0 keep.0 n l, r.fits);
         keeps = (new_blank mid next b d w v fit.0 keep.0 n l, r.keeps);
         few = λ y. counted mid next b d w v fit.0 keep.0 n l (added r.way) (added s) y (times y (texts (comments (added t)))) (r.few y);
-        origins_go = λ os. ap (λ l. None ∷ l) (r.origins_go os);
       }
 
   pub goes_on : (s t : List Step) → Meets s t → GoesOn s t

@@ -1,5 +1,5 @@
 -- The way of an `insert` at the root.
-use Rattle.std.proofs.Common.{◌≡◌, ◌⊎◌, inl, inr, ◌<◌, ◌+◌, ℕ, suc, Option, Some, None, List, [], ◌∷◌, ◌++◌, map, length, length-append, refl, sym, ap, ap₂, ◌∙◌, subst, subst₂, true≢false, arith, append-nil}
+use Rattle.std.proofs.Common.{◌≡◌, ◌⊎◌, inl, inr, ◌<◌, ◌+◌, ℕ, suc, Option, Some, None, List, [], ◌∷◌, ◌++◌, map, length, refl, sym, ap, ap₂, ◌∙◌, subst, subst₂, true≢false, arith, append-nil}
 use Rattle.std.specs.Prelude.{slice_get, option_and_then}
 use Rattle.toml_tree.specs.Bare.{fresh}
 use Rattle.toml_tree.specs.Spells.{EachIs}
@@ -9,22 +9,19 @@ use Rattle.toml_names.specs.model.Addresses.{Address}
 use Rattle.toml_edits.specs.Carry.{carry}
 use Rattle.toml_edits.specs.Edits.{Change, insert}
 use Rattle.toml_units.specs.declared.unit.UnitKind.TheVariants as kinds
-use Rattle.toml_units.specs.Units.{TextUnit, inside, units}
+use Rattle.toml_units.specs.Units.{TextUnit, inside}
 use Rattle.toml_checker.specs.CarriedTo.{At}
 use Rattle.toml_checker.specs.Comments.{texts}
 use Rattle.toml_checker.specs.Owed.{IsOwed}
 use Rattle.toml_checker.specs.Plain.{Site}
 use Rattle.toml_editor.specs.Inserting.{insert_lines}
-use Rattle.toml_editor.specs.Outlines.{Origins}
 use Rattle.toml_editor.specs.RenamedUnits.{GoTogether}
 use Rattle.toml_editor.specs.UnitBlocks.{BeginWithLine, root_line, pair_text}
 use Rattle.toml_editor.proofs.Each.{each_append}
-use Rattle.toml_editor.proofs.written.OriginsAlong.{along_append, zip_along, nones, new_along}
 use Rattle.toml_editor.proofs.written.Way.{both, new, olds, news, one_line}
 use Rattle.toml_editor.proofs.written.WayBlock.{line_after, olds_append, news_append, added_append, fits_append, new_fits, new_olds, new_news, new_adds, lines_append, inside_lines, same_comments, inside_asked}
 use Rattle.toml_editor.proofs.written.WayComments.{added, comments}
 use Rattle.toml_editor.proofs.written.WayFits.{Matches, IsAsked, SameNewline, newlines}
-use Rattle.toml_editor.proofs.written.WayOrigins.{along}
 use Rattle.toml_editor.proofs.written.WayRenamed.{zip_adds}
 use Rattle.toml_editor.proofs.written.WayKeeps.{ComesBlank, Keeps, next_after}
 use Rattle.toml_editor.proofs.written.WayKept.{IsFixed, insert_header, same_way, same_keeps, same_olds, same_news, new_keeps, inner_blank, keeps_append, count_lines}
@@ -32,19 +29,11 @@ use Rattle.toml_editor.proofs.written.UnitsGone.{value_in}
 use Rattle.toml_names.specs.mentions.Mentions.{root}
 use Rattle.toml_editor.proofs.written.WayWhole.{HasWay, as_many}
 use Rattle.toml_editor.proofs.written.WayZip.{IsNear, lost_line, no_comment_lost, carried_to, zip, lines_in, zip_olds, zip_news, zip_fits}
-use Rattle.toml_editor.proofs.written.UnitsPut.{IsPutWell, put_count, put_lines}
+use Rattle.toml_editor.proofs.written.UnitsPut.{IsPutWell, put_lines}
 
 pub all_same : (us : List TextUnit) → GoTogether (λ u w. u ≡ w) us us
 all_same [] = tt
 all_same (u ∷ us) = (refl, all_same us)
-
--- a block put in between units that stay
-put_along : (us vs block : List TextUnit) (front back : Origins) → length front ≡ length us → length back ≡ length vs
-    → along (zip us us ++ (map new block ++ zip vs vs)) (front ++ back) ≡ front ++ (nones block ++ back)
-put_along us vs block front back first second =
-    along_append (zip us us) (map new block ++ zip vs vs) front back (first ∙ ap length (sym (zip_olds (λ u w. u ≡ w) us us (all_same us))))
-    ∙ ap₂ (λ x y. x ++ y) (zip_along us front first)
-    (new_along block (zip vs vs) back ∙ ap (λ l. nones block ++ l) (zip_along vs back second))
 
 module _ (name text : List ℕ) (v : Value) where
   abbrev p : Address
@@ -103,7 +92,7 @@ module _ (name text : List ℕ) (v : Value) where
   some_lines [] line = inl refl
   some_lines (u ∷ us) line = let e : one_line u.kind ≡ 1 = ap one_line line in inr (omega (arith, e))
 
-  put_keeps : {k : ℕ} {before after : List (List ℕ)} {us ws : List TextUnit} (well : IsPutWell k us block ws before after)
+  put_keeps : {before after : List (List ℕ)} {us ws : List TextUnit} (well : IsPutWell us block ws before after)
       → lines_in us ≡ length before → lines_in ws ≡ length after
       → Keeps (c ∷ []) before after None None 0 0 (zip well.put.front well.put.front ++ (map new block ++ zip well.put.back well.put.back))
   put_keeps {before} {after} well old_count new_count =
@@ -192,20 +181,7 @@ module _ (name text : List ℕ) (v : Value) where
             ∙ ap (λ us. texts (comments us)) (append-nil (inside p v)) ∙ same_comments p v ∙ sym (append-nil ts));
       }
     where
-      front_same : {k : ℕ} {before after : List (List ℕ)} {us ws : List TextUnit} (well : IsPutWell k us block ws before after) (x : ℕ) → x < lines_in well.put.front → SameNewline (c ∷ []) (ts ∷ []) before after (0 + x) (0 + x)
+      front_same : {before after : List (List ℕ)} {us ws : List TextUnit} (well : IsPutWell us block ws before after) (x : ℕ) → x < lines_in well.put.front → SameNewline (c ∷ []) (ts ∷ []) before after (0 + x) (0 + x)
       front_same {before} {after} well x low =
           let e : x ≡ 0 + x = omega arith in
           subst (λ n. SameNewline (c ∷ []) (ts ∷ []) before after n n) e (elim (well.front_ends x low) [ inl is ↦ inl is | inr last ↦ inr (inl last) ])
-
-  -- the origins in front and behind stay, and those of the new line are new
-  pub insert_along : (style : List ℕ) (lines : List Line) (front back : Origins) → length front ≡ put_count lines
-      → length front + length back ≡ length (units lines) → along (insert_way style lines).way (front ++ back) ≡ front ++ (nones block ++ back)
-  unfolding insert_way
-  insert_along style lines front back count all =
-      put_along (put_lines name v style lines).put.front (put_lines name v style lines).put.back block front back here (
-      let e = length-append (put_lines name v style lines).put.front (put_lines name v style lines).put.back in
-      let f = ap length (put_lines name v style lines).put.before in
-      omega (arith, here, all, e, f))
-    where
-      here : length front ≡ length (put_lines name v style lines).put.front
-      here = count ∙ sym (put_lines name v style lines).count

@@ -122,26 +122,19 @@ module _ (q : Address) (n to : List ℕ) where
     );
   }
 
-  -- the way: all units go together, one by one
-  pub rename_way_is : (lines : List Line) → AreLines lines → ¬ IsNamed (named lines) (child q to) → KeepsRules (named lines)
-      → (h : HasWay (c ∷ []) ([] ∷ []) lines (rename_lines p to lines)) × (h.way ≡ zip (units lines) (units (rename_lines p to lines)))
-  rename_way_is lines is free keeps =
+  pub rename_way : (lines : List Line) → AreLines lines → ¬ IsNamed (named lines) (child q to) → KeepsRules (named lines)
+      → HasWay (c ∷ []) ([] ∷ []) lines (rename_lines p to lines)
+  rename_way lines is free keeps =
       let us = units lines in
       let ws = units (rename_lines p to lines) in
       let together = rename_units q n to lines is free keeps in
-      let ends = rename_newlines p to lines (root ∷ []) 0 in (
-        record {
-          way = zip us ws;
-          olds_are = zip_olds (IsCarried c) us ws together;
-          news_are = zip_news (IsCarried c) us ws together;
-          fits = zip_fits (c ∷ []) ([] ∷ []) (newlines lines) (newlines (rename_lines p to lines)) (IsCarried c) (matches (newlines lines) (newlines (rename_lines p to lines))) us ws together None 0 0
-              (λ x low. inl (ap (λ ns. slice_get ns (0 + x)) (sym ends)));
-          keeps = zip_keeps c (newlines lines) (newlines (rename_lines p to lines)) (sym ends) header us ws together None None refl 0;
-          comments_few = λ t. as_many t (texts (comments (added (zip us ws)))) [] (ap (λ xs. texts (comments xs)) (zip_adds us ws));
-        },
-        refl,
-      )
-
-  pub rename_way : (lines : List Line) → AreLines lines → ¬ IsNamed (named lines) (child q to) → KeepsRules (named lines)
-      → HasWay (c ∷ []) ([] ∷ []) lines (rename_lines p to lines)
-  rename_way lines is free keeps = (rename_way_is lines is free keeps).0
+      let ends = rename_newlines p to lines (root ∷ []) 0 in
+      record {
+        way = zip us ws;
+        olds_are = zip_olds (IsCarried c) us ws together;
+        news_are = zip_news (IsCarried c) us ws together;
+        fits = zip_fits (c ∷ []) ([] ∷ []) (newlines lines) (newlines (rename_lines p to lines)) (IsCarried c) (matches (newlines lines) (newlines (rename_lines p to lines))) us ws together None 0 0
+            (λ x low. inl (ap (λ ns. slice_get ns (0 + x)) (sym ends)));
+        keeps = zip_keeps c (newlines lines) (newlines (rename_lines p to lines)) (sym ends) header us ws together None None refl 0;
+        comments_few = λ t. as_many t (texts (comments (added (zip us ws)))) [] (ap (λ xs. texts (comments xs)) (zip_adds us ws));
+      }

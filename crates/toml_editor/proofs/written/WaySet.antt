@@ -27,14 +27,11 @@ use Rattle.toml_checker.proofs.Proved.{sides_are_right}
 use Rattle.toml_editor.specs.ChangedUnits.{is_inner, LiesInValue, HoldsValue, HasNewValue, IsSetTo, AreMadeOf}
 use Rattle.toml_editor.specs.Held.{HoldAt}
 use Rattle.toml_editor.specs.Lines.{lines_from}
-use Rattle.toml_editor.specs.Outlines.{value_origins}
 use Rattle.toml_editor.specs.RenamedUnits.{IsCarried}
 use Rattle.toml_editor.specs.Setting.{set_line, set_lines}
-use Rattle.toml_editor.specs.TreeOutlines.{value_outline}
 use Rattle.toml_editor.specs.Written.{HasValue}
 use Rattle.toml_editor.proofs.written.Clear.{self}
 use Rattle.toml_editor.proofs.written.Pairwise.{Alone, pairs_of_all}
-use Rattle.toml_editor.proofs.written.SetAlong.{GoAlong, inside_is_new, none_along, lies_along, holds_along, stays_along}
 use Rattle.toml_editor.proofs.written.SetKept.{values_at}
 use Rattle.toml_editor.proofs.written.UnitsGone.{inner_line, value_in}
 use Rattle.toml_editor.proofs.written.UnitsSet.{set_units}
@@ -243,7 +240,6 @@ module _ (p : Address) (some : ¬ (p ≡ [])) (text : List ℕ) (IsOld : Value �
     keeps : (line next : Option Site) → Goes line next → (a : ℕ) → Keep line next a a way
     none : held p us ≡ 0 → added way ≡ []
     few : held p us ≤ 1 → (t : List ℕ) → times t (texts (comments (added way))) ≤ times t ts
-    origins : GoAlong p (value_origins (value_outline v)) us way
 
   goes : (u : TextUnit) (us ws : List TextUnit) → LiesInValue p u → SetWay us ws → SetWay (u ∷ us) ws
   goes u us ws lies m = record {
@@ -261,7 +257,6 @@ module _ (p : Address) (some : ¬ (p ≡ [])) (text : List ℕ) (IsOld : Value �
         (inner_line u.kind lies.0) in let f : a ≡ a + one_line u.kind = omega (arith, e) in f) (m.keeps line next home a);
     none = λ is. m.none (omega (arith, is));
     few = λ low t. m.few (omega (arith, low)) t;
-    origins = lies_along p (value_origins (value_outline v)) u us m.way lies m.origins;
   }
 
   stays : (u w : TextUnit) (us ws : List TextUnit) → Stays u w → SetWay us ws → SetWay (u ∷ us) (w ∷ ws)
@@ -280,7 +275,6 @@ module _ (p : Address) (some : ¬ (p ≡ [])) (text : List ℕ) (IsOld : Value �
         );
     none = λ is. m.none (omega (arith, is));
     few = λ low t. m.few (omega (arith, low)) t;
-    origins = stays_along p (value_origins (value_outline v)) u w us m.way s.not_in s.not_it m.origins;
   }
 
   holds_one : (u : TextUnit) → HoldsValue p u → (u.kind ≡ kinds.Line → IsSome u.base) → one_held p u ≡ 1
@@ -339,7 +333,6 @@ module _ (p : Address) (some : ¬ (p ≡ [])) (text : List ℕ) (IsOld : Value �
             let rest = m.none (omega (arith, low, one)) in
             as_many t (texts (comments (added (block ++ m.way)))) ts
             (ap (λ xs. texts (comments xs)) (added_append block m.way ∙ ap₂ (λ x y. x ++ y) (new_adds (inside p v)) rest ∙ append-nil (inside p v)) ∙ same_comments p v);
-        origins = holds_along p (value_origins (value_outline v)) u w us (inside p v) m.way holds (inside_is_new v p) m.origins;
       }
     where
       new_line_after : (xs : List TextUnit) (l : Option Site) → line_after l (map new xs) ≡ l
@@ -356,33 +349,24 @@ module _ (p : Address) (some : ¬ (p ≡ [])) (text : List ℕ) (IsOld : Value �
         keeps = λ line next home a. tt;
         none = λ is. refl;
         few = λ low t. omega arith;
-        origins = none_along p (value_origins (value_outline v));
       }
   way_of (u ∷ us) ws (here, rest, inl (lies, gone), is, more) = subst (SetWay (u ∷ us)) (sym (is ∙ ap (λ l. l ++ rest) gone)) (goes u us rest lies (way_of us rest more))
   way_of (u ∷ us) ws (here, rest, inr (inl (holds, w, has, made)), is, more) = subst (SetWay (u ∷ us)) (sym (is ∙ ap (λ l. l ++ rest) made)) (changes u w us rest holds has (way_of us rest more))
   way_of (u ∷ us) ws (here, rest, inr (inr (not_in, not_it, w, carried, bytes, same, made)), is, more) =
       subst (SetWay (u ∷ us)) (sym (is ∙ ap (λ l. l ++ rest) made)) (stays u w us rest (record { not_in = not_in; not_it = not_it; carried = carried; same = same }) (way_of us rest more))
 
--- the way, and which units of the document its units are
-pub set_way_along : (p : Address) (text : List ℕ) (v : Value) (lines : List Line) → ¬ (p ≡ []) → AreLines lines → IsValue v → HasValue lines p → KeepsRules (named lines)
-    → (h : HasWay (set p text ∷ []) (texts (comments (inside [] v)) ∷ []) lines (set_lines p v lines))
-    × GoAlong p (value_origins (value_outline v)) (units lines) h.way
-set_way_along p text v lines some is formed at keeps =
+pub set_way : (p : Address) (text : List ℕ) (v : Value) (lines : List Line) → ¬ (p ≡ []) → AreLines lines → IsValue v → HasValue lines p → KeepsRules (named lines)
+    → HasWay (set p text ∷ []) (texts (comments (inside [] v)) ∷ []) lines (set_lines p v lines)
+set_way p text v lines some is formed at keeps =
     let ends = sym (set_newlines p v lines (root ∷ []) 0) in
     let m = way_of p some text (HoldAt lines p) v (newlines lines) (newlines (set_lines p v lines)) ends (units lines) (units (set_lines p v lines)) (set_units p text v lines some is formed at keeps) in
     let ts = texts (comments (inside [] v)) in
-    let few : held p (units lines) ≤ 1 = (let a = lines_held p lines (root ∷ []) 0 in let b = one_there_only p (named lines) (values_at p lines at keeps) (pairs_of_all Alone (named lines) (line_values_stand_alone lines keeps)) in omega (arith, a, b)) in (
-      record {
-        way = m.way;
-        olds_are = m.olds_are;
-        news_are = m.news_are;
-        fits = m.fits None refl 0;
-        keeps = m.keeps None None refl 0;
-        comments_few = λ t. let a = m.few few t in let b = as_many t ts (ts ++ []) (sym (append-nil ts)) in omega (arith, a, b);
-      },
-      m.origins,
-    )
-
-pub set_way : (p : Address) (text : List ℕ) (v : Value) (lines : List Line) → ¬ (p ≡ []) → AreLines lines → IsValue v → HasValue lines p → KeepsRules (named lines)
-    → HasWay (set p text ∷ []) (texts (comments (inside [] v)) ∷ []) lines (set_lines p v lines)
-set_way p text v lines some is formed at keeps = (set_way_along p text v lines some is formed at keeps).0
+    let few : held p (units lines) ≤ 1 = (let a = lines_held p lines (root ∷ []) 0 in let b = one_there_only p (named lines) (values_at p lines at keeps) (pairs_of_all Alone (named lines) (line_values_stand_alone lines keeps)) in omega (arith, a, b)) in
+    record {
+      way = m.way;
+      olds_are = m.olds_are;
+      news_are = m.news_are;
+      fits = m.fits None refl 0;
+      keeps = m.keeps None None refl 0;
+      comments_few = λ t. let a = m.few few t in let b = as_many t ts (ts ++ []) (sym (append-nil ts)) in omega (arith, a, b);
+    }

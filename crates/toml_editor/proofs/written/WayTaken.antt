@@ -1,5 +1,5 @@
 -- The way of a `remove` at the root.
-use Rattle.std.proofs.Common.{◌≡◌, ◌⊎◌, inl, inr, ◌<◌, ◌+◌, ℕ, suc, Bool, true, false, cond, ◌&&◌, Option, Some, None, List, [], ◌∷◌, ◌++◌, map, length, length-append, refl, sym, ap, ap₂, ◌∙◌, subst, subst₂, true≢false, arith, append-nil}
+use Rattle.std.proofs.Common.{◌≡◌, ◌⊎◌, inl, inr, ◌<◌, ◌+◌, ℕ, suc, Bool, true, false, cond, ◌&&◌, Option, Some, None, List, [], ◌∷◌, ◌++◌, map, length, refl, sym, ap, ap₂, ◌∙◌, subst, subst₂, true≢false, arith, append-nil}
 use Rattle.std.specs.Prelude.{slice_get, option_and_then, not}
 use Rattle.toml_tree.specs.Spells.{EachIs, AreLines}
 use Rattle.toml_tree.specs.Tree.{Piece, Line}
@@ -24,22 +24,19 @@ use Rattle.toml_checker.specs.Plain.{Site, site, next_line, stands, is_named, is
 use Rattle.toml_checker.specs.Sides.{side}
 use Rattle.toml_checker.proofs.Proved.{sides_are_right}
 use Rattle.toml_editor.specs.ChangedUnits.{is_inner, LiesInValue}
-use Rattle.toml_editor.specs.Outlines.{Origins}
 use Rattle.toml_editor.specs.Removing.{remove_lines}
 use Rattle.toml_editor.specs.UnitBlocks.{root_line, left_of, BeginWithLine}
 use Rattle.toml_editor.specs.Written.{HasPair}
 use Rattle.toml_editor.proofs.Each.{each_front, each_back}
-use Rattle.toml_editor.proofs.written.OriginsAlong.{along_append, same_along, nones, new_along, old_along}
 use Rattle.toml_editor.proofs.written.SetKept.{clear_carried}
 use Rattle.toml_editor.proofs.written.UnitsGone.{inner_line, value_in}
-use Rattle.toml_editor.proofs.written.UnitsTaken.{AreTaken, gone_count, gone_size, lines_taken}
+use Rattle.toml_editor.proofs.written.UnitsTaken.{AreTaken, lines_taken}
 use Rattle.toml_editor.proofs.written.Way.{Step, old, new, olds, news, one_line, is_here}
 use Rattle.toml_editor.proofs.written.WayBlock.{line_after, olds_append, news_append, added_append, fits_append, new_olds, new_news, new_adds, lines_append, inside_lines}
 use Rattle.toml_editor.proofs.written.WayComments.{added, comments}
 use Rattle.toml_editor.proofs.written.WayFits.{Matches, Fits, SameNewline, newlines}
 use Rattle.toml_editor.proofs.written.WayKeeps.{ComesBlank, Keeps, next_after}
 use Rattle.toml_editor.proofs.written.WayKept.{HeaderIsOwed, header_named, IsFixed, same_way, same_olds, same_news, same_adds, same_keeps, new_keeps, old_keeps, keeps_append, count_lines}
-use Rattle.toml_editor.proofs.written.WayOrigins.{along}
 use Rattle.toml_editor.proofs.written.WayWhole.{HasWay, as_many}
 use Rattle.toml_editor.proofs.written.WayZip.{IsNear, lost_line, carried_to, lines_in}
 
@@ -214,16 +211,6 @@ module _ (name : List ℕ) (before after : List (List ℕ)) where
       (record { line = λ is. inr (omega (arith, count), refl, (λ none. cc)); comment = λ is. absurd (true≢false (sym is)) }, tt)
   left_asked (u ∷ us) k count line a = tt
 
--- a block taken out between units that stay, and what is left of it
-taken_along : (us block left vs : List TextUnit) (front own back : Origins) → length front ≡ length us → length own ≡ length block
-    → length back ≡ length vs
-    → along (same_way us ++ (map old block ++ (map new left ++ same_way vs))) (front ++ (own ++ back)) ≡ front ++ (nones left ++ back)
-taken_along us block left vs front own back first second third =
-    along_append (same_way us) (map old block ++ (map new left ++ same_way vs)) front (own ++ back) (first ∙ ap length (sym (same_olds us)))
-    ∙ ap₂ (λ x y. x ++ y) (same_along us front first)
-    (old_along block (map new left ++ same_way vs) own back second
-    ∙ new_along left (same_way vs) back ∙ ap (λ l. nones left ++ l) (same_along vs back third))
-
 -- behind the block come all lines but what is left
 module _ (name : List ℕ) (lines : List Line) where
   abbrev gone : Address
@@ -231,13 +218,6 @@ module _ (name : List ℕ) (lines : List Line) where
 
   abbrev edited : List Line
   edited = remove_lines gone lines
-
-  -- the units in front of the line that goes, and those on it
-  abbrev pub place : ℕ
-  place = gone_count gone (root ∷ []) 0 lines
-
-  abbrev pub size : ℕ
-  size = gone_size gone (root ∷ []) 0 lines
 
   abbrev Fitting : Option Site → ℕ → ℕ → List Step → Type 0
   Fitting = Fits (remove gone ∷ []) ([] ∷ []) (newlines lines) (newlines edited)
@@ -253,7 +233,7 @@ module _ (name : List ℕ) (lines : List Line) where
   abbrev Keep : Option Site → Option Site → ℕ → ℕ → List Step → Type 0
   Keep = Keeps (remove gone ∷ []) (newlines lines) (newlines edited)
 
-  taken_keeps : (h : AreTaken name place size (units lines) (units edited) (newlines lines) (newlines edited))
+  taken_keeps : (h : AreTaken name (units lines) (units edited) (newlines lines) (newlines edited))
       → EachIs (IsFar name (newlines lines) (newlines edited)) h.taken.front
       → EachIs (IsFar name (newlines lines) (newlines edited)) h.taken.back
       → lines_in (root_line h.piece name h.value h.comment) ≡ 1
@@ -298,7 +278,7 @@ module _ (name : List ℕ) (lines : List Line) where
       (new_keeps c before after left (left_blank back) behind mid (n + 1) n)
       (back_keeps h back back_far refl (line_after behind (map new left)) (next_after mid (map new left)) old_total new_total)))))
     where
-      back_keeps : (h : AreTaken name place size (units lines) (units edited) (newlines lines) (newlines edited)) (back : List TextUnit)
+      back_keeps : (h : AreTaken name (units lines) (units edited) (newlines lines) (newlines edited)) (back : List TextUnit)
           → EachIs (IsFar name (newlines lines) (newlines edited)) back → back ≡ h.taken.back → (line next : Option Site)
           → lines_in h.taken.front + (1 + lines_in h.taken.back) ≡ length (newlines lines)
           → lines_in h.taken.front + lines_in (left_of h.taken.back ++ h.taken.back) ≡ length (newlines edited)
@@ -325,7 +305,7 @@ module _ (name : List ℕ) (lines : List Line) where
           })
           (inl (λ x low at. omega (arith, at, first, second))))
 
-  way_by : (h : AreTaken name place size (units lines) (units edited) (newlines lines) (newlines edited))
+  way_by : (h : AreTaken name (units lines) (units edited) (newlines lines) (newlines edited))
       → EachIs (IsFar name (newlines lines) (newlines edited)) (units edited) → HasWay (remove gone ∷ []) ([] ∷ []) lines edited
   way_by h far =
       let front = h.taken.front in
@@ -388,7 +368,7 @@ module _ (name : List ℕ) (lines : List Line) where
       after_inner [] lies = refl
       after_inner (x ∷ xs) lies = ap (λ b. line_after (cond b (Some (site x)) (Some (Gone name (newlines lines) (newlines edited)))) (map old xs)) (inner_line x.kind lies.0.0) ∙ after_inner xs lies.1
 
-      block_goes : (h : AreTaken name place size (units lines) (units edited) (newlines lines) (newlines edited)) (line : Option Site) (n : ℕ) → Fitting line n n (map old (root_line h.piece name h.value h.comment))
+      block_goes : (h : AreTaken name (units lines) (units edited) (newlines lines) (newlines edited)) (line : Option Site) (n : ℕ) → Fitting line n n (map old (root_line h.piece name h.value h.comment))
       block_goes h line n =
           let inner = inside gone h.value in
           let tail = comment_units kinds.TailComment (Some gone) h.comment in
@@ -401,7 +381,7 @@ module _ (name : List ℕ) (lines : List Line) where
                 (tail_lost name (newlines lines) (newlines edited) h.comment ((n + 1) + lines_in (olds (map old inner))) (n + lines_in (news (map old inner)))))),
           )
 
-      back_stays : (h : AreTaken name place size (units lines) (units edited) (newlines lines) (newlines edited)) (line : Option Site) (back : List TextUnit) → EachIs (IsFar name (newlines lines) (newlines edited)) back → back ≡ h.taken.back
+      back_stays : (h : AreTaken name (units lines) (units edited) (newlines lines) (newlines edited)) (line : Option Site) (back : List TextUnit) → EachIs (IsFar name (newlines lines) (newlines edited)) back → back ≡ h.taken.back
           → Fitting line ((lines_in h.taken.front + 1) + lines_in (olds (map new (left_of h.taken.back)))) (lines_in h.taken.front + lines_in (news (map new (left_of h.taken.back)))) (same_way back)
       back_stays h line [] far is = tt
       back_stays h line (u ∷ us) far is =
@@ -416,38 +396,3 @@ module _ (name : List ℕ) (lines : List Line) where
   pub remove_way : AreLines lines → HasPair lines gone → KeepsRules (named lines)
       → EachIs (IsFar name (newlines lines) (newlines edited)) (units edited) → HasWay (remove gone ∷ []) ([] ∷ []) lines edited
   remove_way is there keeps far = way_by (lines_taken name lines is there keeps) far
-
-  -- what becomes of origins: those of the line go, and what is left of it is new
-  pub record GoOut (way : List Step) (front own back : Origins) : Type 0 where
-    pub left : List TextUnit
-    pub goes : along way (front ++ (own ++ back)) ≡ front ++ (nones left ++ back)
-    pub count : length front + (length left + length back) ≡ length (units edited)
-
-  goes_by : (h : AreTaken name place size (units lines) (units edited) (newlines lines) (newlines edited))
-      → (far : EachIs (IsFar name (newlines lines) (newlines edited)) (units edited)) → (front own back : Origins)
-      → length front ≡ place → length own ≡ size → length front + (length own + length back) ≡ length (units lines)
-      → GoOut (way_by h far).way front own back
-  unfolding way_by
-  goes_by h far front own back count own_count all =
-      let block = root_line h.piece name h.value h.comment in
-      let first : length front ≡ length h.taken.front = count ∙ sym h.count in
-      let second : length own ≡ length block = own_count ∙ sym h.own in
-      let before = ap length h.taken.before in
-      let after = ap length h.taken.after in
-      let a = length-append h.taken.front (block ++ h.taken.back) in
-      let b = length-append block h.taken.back in
-      let d = length-append h.taken.front (left_of h.taken.back ++ h.taken.back) in
-      let e = length-append (left_of h.taken.back) h.taken.back in
-      let third : length back ≡ length h.taken.back = omega (arith, first, second, all, before, a, b) in
-      record {
-        left = left_of h.taken.back;
-        goes = taken_along h.taken.front block (left_of h.taken.back) h.taken.back front own back first second third;
-        count = omega (arith, first, third, after, d, e);
-      }
-
-  pub remove_along : (is : AreLines lines) (there : HasPair lines gone) (keeps : KeepsRules (named lines))
-      → (far : EachIs (IsFar name (newlines lines) (newlines edited)) (units edited)) → (front own back : Origins)
-      → length front ≡ place → length own ≡ size → length front + (length own + length back) ≡ length (units lines)
-      → GoOut (remove_way is there keeps far).way front own back
-  unfolding remove_way
-  remove_along is there keeps far = goes_by (lines_taken name lines is there keeps) far

@@ -35,7 +35,7 @@ none_lost cs written before after (old u ∷ s) line a b fit = (fit.0, none_lost
 none_lost cs written before after (new w ∷ s) line a b fit = none_lost cs written before after s line a (b + one_line w.kind) fit.1
 
 module _ (cs : List Change) (written : List (List (List ℕ))) (d e : Doc) (edited : List Line) (h : HasWay cs written d.lines edited) where
-  abbrev pub ps : List (ℕ × ℕ)
+  abbrev ps : List (ℕ × ℕ)
   ps = pairs cs None 0 0 h.way
 
   first_is : (i : ℕ) → IsFirst ps i ↔ IsProtected cs (units d.lines) i
@@ -48,23 +48,22 @@ module _ (cs : List Change) (written : List (List (List ℕ))) (d e : Doc) (edit
         (λ protected. subst (IsFirst ps) (let z : 0 + i ≡ i = omega arith in z) (first_of cs h.way None 0 0 i none (((flags_tell cs (olds h.way)).1 i).1 protected))),
       )
 
-  pub are_partners : AreWritten cs written → map seen (units e.lines) ≡ map seen (units edited) → newlines e.lines ≡ newlines edited → ArePartners cs d e ps
-  are_partners are same ends =
+  pub partners : AreWritten cs written → map seen (units e.lines) ≡ map seen (units edited) → newlines e.lines ≡ newlines edited → (ps : List (ℕ × ℕ)) × ArePartners cs d e ps
+  partners are same ends =
       let fit = subst (λ ns. Fits cs written (newlines d.lines) ns None 0 0 h.way) (sym ends) h.fits in
       let is : map seen (units e.lines) ≡ map seen (news h.way) = same ∙ ap (map seen) (sym h.news_are) in
       let place : Place cs written d e 0 0 0 0 h.way = record {
         old = subst (Stands unit_kind (units d.lines) 0 0) (sym h.olds_are) (whole unit_kind (units d.lines));
         new = subst (Stands seen_kind (map seen (units e.lines)) 0 0) is (whole seen_kind (map seen (units e.lines)));
-      } in
-      record {
-        named = first_is;
-        fit = pairs_fit cs written d e h.way place fit;
-        lines = no_lines_added cs written d e h.way place is fit;
-        comments = no_comments_added cs written (newlines d.lines) (newlines e.lines) e h.way are fit is h.comments_few;
-      }
-
-  pub partners : AreWritten cs written → map seen (units e.lines) ≡ map seen (units edited) → newlines e.lines ≡ newlines edited → (ps : List (ℕ × ℕ)) × ArePartners cs d e ps
-  partners are same ends = (ps, are_partners are same ends)
+      } in (
+        ps,
+        record {
+          named = first_is;
+          fit = pairs_fit cs written d e h.way place fit;
+          lines = no_lines_added cs written d e h.way place is fit;
+          comments = no_comments_added cs written (newlines d.lines) (newlines e.lines) e h.way are fit is h.comments_few;
+        },
+      )
 
 -- what is the same is not more
 pub as_many : (t : List ℕ) (xs ys : List (List ℕ)) → xs ≡ ys → times t xs ≤ times t ys

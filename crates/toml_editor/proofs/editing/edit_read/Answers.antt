@@ -1,7 +1,7 @@
 use Rattle.std.proofs.Common.{map, refl, string_bytes, subst, sym}
 use Rattle.toml_edits.specs.Edits.{change}
 use Rattle.toml_editor.specs.Edited.{Tells}
-use Rattle.toml_editor.specs.Editing.{IsMadeText, IsReadFrom, TellsWanted}
+use Rattle.toml_editor.specs.Editing.{IsMadeText, IsReadFrom}
 use Rattle.toml_editor.specs.declared.making.Read.{Read}
 use Rattle.toml_editor.proofs.ReadDocuments.{read_from}
 use Rattle.toml_editor.proofs.editing.edit_read.Goals as goal
@@ -20,13 +20,9 @@ certify-requires-clause-walks c cursor stands =
 
 pub certify-requires-clause-made : goal.certify-requires-clause-made
 certify-requires-clause-made c =
-    let edited = c.in-Ok.edited in
-    subst (λ t. IsMadeText c.args.profile t (map change c.args.edits.now) edited.wanted.items (string_bytes edited.text) edited.pieces.items edited.certificate.pairs.items)
+    let made = c.in-Ok.made in
+    subst (λ t. IsMadeText c.args.profile t (map change c.args.edits.now) (string_bytes made.text) made.pieces.items)
     c.requires.read.text_is c.in-Ok.ensures.made
-
-pub certify-requires-clause-wanted : goal.certify-requires-clause-wanted
-certify-requires-clause-wanted c =
-    subst (λ t. TellsWanted t (map change c.args.edits.now) c.in-Ok.edited.wanted.items) c.requires.read.text_is c.in-Ok.ensures.wanted
 
 pub returns-in-Err-clause-told : goal.returns-in-Err-clause-told
 returns-in-Err-clause-told c =

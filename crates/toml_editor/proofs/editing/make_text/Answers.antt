@@ -9,13 +9,12 @@ use Rattle.toml_edits.specs.Edits.{change}
 use Rattle.toml_edits.proofs.Proved.{leads_beside}
 use Rattle.toml_editor.specs.declared.texts.Texts.{Texts}
 use Rattle.toml_editor.specs.Starting.{read_of}
-use Rattle.std.proofs.lemmas.Result.{IfOk-weaker}
-use Rattle.toml_editor.proofs.Answered.{if_ok_three}
+use Rattle.toml_editor.proofs.Answered.{if_ok_two}
 use Rattle.toml_editor.proofs.Judgements.{any_tells}
 use Rattle.toml_editor.proofs.NearFaults.{any_of_all, has_data}
 use Rattle.toml_editor.proofs.PassedSpread.{no_spread_set, stops_told}
-use Rattle.toml_editor.proofs.ReadDocuments.{is_document, is_read_of, spelled, tree, units_are}
-use Rattle.toml_editor.proofs.PlainMade.{plain_paired, plain_written, wanted_outer}
+use Rattle.toml_editor.proofs.ReadDocuments.{is_document, is_read_of, spelled, tree}
+use Rattle.toml_editor.proofs.PlainMade.{plain_written}
 use Rattle.toml_editor.proofs.editing.make_text.Goals as goal
 
 pub returns-clause-told : goal.returns-clause-told
@@ -34,7 +33,7 @@ returns-clause-told c =
     let told = c.in-Err-make_all.ensures.told in
     let opened = c.in-Ok.ensures in
     let both = stops_told profile (read_of c.args.read.before) d text c.in-Ok.tree document
-    spells opened.stands.lines (ap (λ (t : Texts). text_of t.source) opened.texts_are) opened.elements opened.style
+    spells opened.stands (ap (λ (t : Texts). text_of t.source) opened.texts_are) opened.elements opened.style
     (is_hidden c.args.touched.now) cs c.requires.touched old facts part near c.in-Err-make_all.fault told.stops in
     any_tells profile text cs d old c.in-Err-make_all.fault document spells facts
     (any_of_all profile (place (named d.lines)) (is_hidden c.args.touched.now) old cs c.requires.touched part near c.in-Err-make_all.fault told.told)
@@ -56,33 +55,18 @@ returns-in-Ok-make_all-clause-made c =
     let leads = leads_beside profile (is_hidden c.args.touched.now) cs old (kind_at c.in_ok-data.«data».root) new
     c.requires.touched near c.in-Ok-make_all.ensures.made.lead in
     let opened = c.in-Ok.ensures in
-    if_ok_three _ _ _ _ c.write_out.result
-    (λ e pieces written paired. record {
+    if_ok_two _ _ _ c.write_out.result
+    (λ made pieces written. record {
       plain = plain_written profile (read_of c.args.read.before) d text c.in-Ok.tree document
-          spells opened.stands.lines (ap (λ (t : Texts). text_of t.source) opened.texts_are) opened.elements opened.style cs old
-          (beside (is_hidden c.args.touched.now) old new) c.make_all.new.tree (string_bytes e.text) facts leads
+          spells opened.stands (ap (λ (t : Texts). text_of t.source) opened.texts_are) opened.elements opened.style cs old
+          (beside (is_hidden c.args.touched.now) old new) c.make_all.new.tree (string_bytes made.text) facts leads
           c.in-Ok-make_all.ensures.made.done.makes written;
       passed = no_spread_set profile (read_of c.args.read.before) d text c.in-Ok.tree document
-          spells opened.stands.lines (ap (λ (t : Texts). text_of t.source) opened.texts_are) opened.elements opened.style
+          spells opened.stands (ap (λ (t : Texts). text_of t.source) opened.texts_are) opened.elements opened.style
           (is_hidden c.args.touched.now) cs c.requires.touched old facts (kind_at c.in_ok-data.«data».root) near (length cs) c.in-Ok-make_all.ensures.made.done.passes;
-      paired = λ told.
-          plain_paired profile (read_of c.args.read.before) d text c.in-Ok.tree document
-          spells opened.stands.lines (ap (λ (t : Texts). text_of t.source) opened.texts_are) opened.elements opened.style cs old
-          (beside (is_hidden c.args.touched.now) old new) c.make_all.new.tree (string_bytes e.text) facts leads
-          e.wanted.items e.certificate.pairs.items document.0 (wanted_outer text cs e.wanted.items d spells told)
-          (units_are text c.args.read c.args.facts.items is) opened.stands.origins c.in-Ok-make_all.ensures.made.done.makes written paired;
       are_defined = (document, (d, spells, old, facts, (beside (is_hidden c.args.touched.now) old new, leads)));
       pieces = pieces;
-    }) c.write_out.ensures.pieces c.write_out.ensures.written c.write_out.ensures.paired
-
-pub returns-in-Ok-make_all-clause-wanted : goal.returns-in-Ok-make_all-clause-wanted
-returns-in-Ok-make_all-clause-wanted c =
-    let text = text_of c.args.source in
-    let is = c.requires.read in
-    let d = tree text c.args.read c.args.facts.items is in
-    let spells = spelled text c.args.read c.args.facts.items is in
-    IfOk-weaker c.write_out.result _ _
-    (λ e told. (d, spells, told d text spells (units_are text c.args.read c.args.facts.items is))) c.write_out.ensures.wanted
+    }) c.write_out.ensures.pieces c.write_out.ensures.written
 
 pub of-built-requires-clause-read : goal.of-built-requires-clause-read
 of-built-requires-clause-read c = is_read_of (text_of c.args.source) c.args.read c.args.facts.items c.requires.read

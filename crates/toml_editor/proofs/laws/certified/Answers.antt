@@ -1,6 +1,5 @@
 use Rattle.toml_editor.proofs.written.Certify.{partners_certify, outer_partners_certify, plain_list_is_certified}
 use Rattle.toml_editor.proofs.written.OuterPairs.{outer_are_named}
-use Rattle.toml_editor.proofs.written.OriginsOne.{plain_list_is_paired}
 use Rattle.toml_editor.proofs.laws.certified.Goals as goal
 
 pub returns : goal.returns
@@ -9,5 +8,4 @@ returns c = record {
   named = outer_are_named;
   outer = outer_partners_certify;
   list = plain_list_is_certified;
-  paired = plain_list_is_paired;
 }

@@ -3,17 +3,12 @@ use Rattle.toml_text.specs.Source.{text_of}
 use Rattle.toml_tree.specs.Spells.{SpellsValue, value_parts, joined}
 use Rattle.toml_tree.specs.View.{value as tree_value}
 use Rattle.toml_editor.specs.declared.texts.Texts.{Texts}
-use Rattle.toml_editor.specs.Numbering.{origins_of_value}
 use Rattle.toml_editor.specs.Opening.{Lie}
-use Rattle.toml_editor.specs.OpenOrigins.{RunFrom}
-use Rattle.toml_editor.specs.OpenOutlines.{value}
-use Rattle.toml_editor.proofs.NumberedOutlines.{new_value}
 use Rattle.toml_editor.proofs.spelled.open_value.Goals as goal
 
 pub returns-in_ok-value-in-Ok-parse_value_in : goal.returns-in_ok-value-in-Ok-parse_value_in
 returns-in_ok-value-in-Ok-parse_value_in c =
     let v = tree_value c.in-Ok-parse_value_in.value in
-    let opened = c.in_ok-value-in-Ok-parse_value_in in
     let spelled = c.in-Ok-parse_value_in.ensures.spelled in
     let lies : Lie (text_of c.new-in-Ok-parse_value_in.result.texts.source) (value_parts v) = (
       0,
@@ -21,9 +16,8 @@ returns-in_ok-value-in-Ok-parse_value_in c =
         placed = spelled.placed;
         front = [];
         back = [];
-        split = ap (λ (t : Texts). text_of t.source) c.new-in-Ok-parse_value_in.ensures.texts ∙ sym spelled.text_is ∙ sym (append-nil (joined (value_parts v)));
+        split = ap (λ (t : Texts). text_of t.source) c.new-in-Ok-parse_value_in.ensures ∙ sym spelled.text_is ∙ sym (append-nil (joined (value_parts v)));
         begins = refl;
       },
     ) in
-    let run = subst (λ first. RunFrom first (origins_of_value opened.field-0) c.value.new.self.next) c.new-in-Ok-parse_value_in.ensures.next opened.ensures.numbered in
-    (v, (subst (SpellsValue v 0) (c.in-Ok.ensures.0 ∙ c.as_bytes.ensures.value) spelled, c.in-Ok-parse_value_in.ensures.of_profile), sym (new_value (value opened.field-0) c.value.new.self.next run) ∙ opened.ensures.opened lies)
+    (v, (subst (SpellsValue v 0) (c.in-Ok.ensures.0 ∙ c.as_bytes.ensures.value) spelled, c.in-Ok-parse_value_in.ensures.of_profile), c.in_ok-value-in-Ok-parse_value_in.ensures lies)

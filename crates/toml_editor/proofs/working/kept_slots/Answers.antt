@@ -41,5 +41,4 @@ pub returns : goal.returns
 returns c text before units facts is =
     let read = read_of before in
     let past = subst (λ (us : List TextUnit). length us ≤ c.loop-first.first) (sym units) c.loop-first-test.false in
-    let (lines, origins) = started_all text read c.loop-first.first c.loop-first.slots.items past (c.loop-first.invariant text before units facts is) in
-    record { lines = lines; origins = origins }
+    started_all text read c.loop-first.first c.loop-first.slots.items past (c.loop-first.invariant text before units facts is)

@@ -8,7 +8,7 @@ pub returns-in_ok-new-clause-opened : goal.returns-in_ok-new-clause-opened
 returns-in_ok-new-clause-opened c =
     let found : Some c.in-Some.line.now ≡ slice_get c.args.known.now c.in-Kept.kept.line = sym (ap option_copied c.in-Some.is) ∙ item_got _ _ _ c.get.ensures.lookup in
     body_opened c.args.texts c.args.known.now _ c.in-Kept.kept c.in-Some.line.now c.in_ok-opened.opened c.in_ok-new.field-0 c.in-Kept.is found c.in_ok-new.ensures.ok
-    c.in_ok-opened.ensures.opened c.in_ok-opened.ensures.numbered.0 c.in_ok-opened.ensures.numbered.1
+    c.in_ok-opened.ensures
 
 pub returns-in_default-get-clause-opened : goal.returns-in_default-get-clause-opened
 returns-in_default-get-clause-opened c =

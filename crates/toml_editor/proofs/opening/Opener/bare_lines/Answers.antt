@@ -3,8 +3,8 @@ use Rattle.toml_tree.specs.View.{gap, gap_line}
 use Rattle.toml_editor.proofs.OpenedGap.{first_is, gap_slice}
 use Rattle.toml_editor.proofs.opening.Opener.bare_lines.Goals as goal
 
-pub returns-clause-opened : goal.returns-clause-opened
-returns-clause-opened c lies =
+pub returns : goal.returns
+returns c lies =
     let g = gap c.args.gap.now in
     let first = c.in_ok-first.first.now in
     let (rest, is) = first_is first c.lines.result.now c.in_ok-first.ensures.value in
