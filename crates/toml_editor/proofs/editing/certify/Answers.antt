@@ -37,3 +37,7 @@ returns-in-No-clause-told c =
       c.requires.made.passed,
       (after, unmet),
     )
+
+-- where there is no certificate nothing is handed out, so a body that hands out a text is refused at once
+pub returns-in-No-clause-edited : goal.returns-in-No-clause-edited
+returns-in-No-clause-edited c = tt
