@@ -1,11 +1,11 @@
 #!/usr/bin/env python3
-"""Times `tomled verify` and `tomled edit` on large texts, beside `tomled check` of the same text.
+"""Times `tomled verify`, `certify` and `edit` on large texts, beside `tomled check` of the same text.
 
   bench/verify.py --binary crates/tomled/out/tomled
 
 Each text is edited by `set`, once and a hundred times, and the certificate keeps all that no edit names. For each text it
 prints the best of some runs: the seconds of `check`, of `verify` with one edit and with a hundred, the ratios, and the
-peak memory of both in megabytes; and the same of `edit`. No test rests on these numbers.
+peak memory of both in megabytes; and the same of `certify`, which has to find that certificate, and of `edit`. No test rests on these numbers.
 """
 import argparse
 import importlib.util
@@ -116,7 +116,7 @@ def main():
     binary = os.path.abspath(options.binary)
     print('%-14s %-7s %8s %8s %8s %8s %8s %9s %9s' % ('text', 'command', 'check', 'one', 'hundred', 'one/chk', 'hun/one', 'MB check', 'MB one'))
     for name, make in (('flat keys', flat), ('tables', tables), ('array tables', array_tables), ('one array', array)):
-        plain, verified, made = None, [], []
+        plain, verified, certified, made = None, [], [], []
         with tempfile.TemporaryDirectory() as folder:
             for count in (1, 100):
                 before, after, edits, kept = make(count)
@@ -131,11 +131,15 @@ def main():
                     plain = timed([binary, 'check', paths[0]], options.runs, 0)
                 verified.append(timed([binary, 'verify'] + paths, options.runs, 0))
                 out, cert = os.path.join(folder, 'out'), os.path.join(folder, 'out_cert')
+                certified.append(timed([binary, 'certify'] + paths[:3] + [cert], options.runs, 0))
+                with open(cert, 'rb') as found, open(paths[3], 'rb') as shown:
+                    if found.read() != shown.read():
+                        raise SystemExit('%s: another certificate' % name)
                 made.append(timed([binary, 'edit', paths[0], paths[1], out, cert], options.runs, 0))
                 with open(out, 'rb') as written:
                     if written.read() != after:
                         raise SystemExit('%s: another text' % name)
-        for command, ((one, memory), (hundred, _)) in (('verify', verified), ('edit', made)):
+        for command, ((one, memory), (hundred, _)) in (('verify', verified), ('certify', certified), ('edit', made)):
             print('%-14s %-7s %8.2f %8.2f %8.2f %8.2f %8.2f %9.0f %9.0f' % (name, command, plain[0], one, hundred, one / plain[0], hundred / one, plain[1], memory))
 
 

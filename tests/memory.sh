@@ -146,6 +146,7 @@ edited() {
   printf "$2" >after
   printf "$3" >shown
   each 0 'yes\n' '' - - verify before edits after shown
+  each 0 'yes\n' '' - "$3" certify before edits after cert
 }
 
 # refused LINE WORDS..: a refusal
@@ -186,6 +187,7 @@ each 0 '["t"]\n["t","x"]\n["t","y"]\n' '' - - show --list --profile 2 before
 each 0 "{\"t\":{\"x\":$(integer 1),\"y\":$(integer 2)}}\n" '' - - show --profile 2 before
 each 0 'ok\n' '' "$(cat after)\n" "$(cat shown)\n" edit --profile 2 before edits text cert
 each 0 'yes\n' '' - - verify --profile 2 before edits after shown
+each 0 'yes\n' '' - - certify --profile 2 before edits after
 printf '[a.b.c]\n[a]\nb.x = 1\n[a.b]\n' >before
 refused '201 4' check before
 refused '201 4' show before
@@ -195,9 +197,12 @@ printf '[{"op":"set","at":["b"],"value":"1"}]' >edits
 printf 'kept 1\n0 0\n' >shown
 refused '301 0' edit before edits text cert
 refused '403 0' verify before edits before shown
+refused '403 0' certify before edits before cert
 printf '[]' >edits
 refused '406 0' verify before edits before shown
 refused '330 0' verify before edits before edits
+printf '# c\na = 1\n' >after
+refused '407 0' certify before edits after cert
 
 "$program" --help >help
 each 0 "$(sed 's/\\/\\\\/g; s/%/%%/g' help)\n" '' - - --help

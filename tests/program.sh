@@ -62,6 +62,7 @@ run 0 'Prints the data of a TOML document*' - show --help
 run 0 'Says whether a file is a TOML document*' - check --help
 run 0 'Edits a TOML document*' - edit --help
 run 0 'Says whether an edited TOML document*' - verify --help
+run 0 'Judges whether a TOML document*' - certify --help
 printf '[]' >none.json
 printf 'kept 1\n0 0\n1 1\n' >kept.txt
 run 0 yes - verify good.toml none.json good.toml kept.txt
@@ -84,9 +85,15 @@ holds() {
   if printf "$2" | cmp -s - "$1"; then pass; else fail "$1 has other bytes"; fi
 }
 
+# same FILE FILE: they have the same bytes
+same() {
+  if cmp -s "$1" "$2"; then pass; else fail "$1 and $2 differ"; fi
+}
+
 printf 'port = 1_000 # keep\n' >before.toml
 printf '[{"op":"set","at":["port"],"value":"0x1F"}]' >edits.json
 printf '[{"op":"set","at":["host"],"value":"1"}]' >missing.json
+printf '[{"op":"set","at":["port"]}]' >bad.json
 run 0 ok - edit before.toml edits.json after.toml cert.txt
 holds after.toml 'port = 0x1F # keep\n'
 holds cert.txt 'kept 1\n1 1\n2 2\n'
@@ -108,6 +115,56 @@ absent refused.toml refused.txt
 run 3 - 'file fault' edit before.toml edits.json opened.toml ./none/refused.txt
 holds opened.toml ''
 
+# The certificate of a text that another program wrote. CERT is made only where it is named, and there is a certificate.
+printf 'port=0x1F   # keep\n' >other.toml
+run 0 yes - certify before.toml edits.json other.toml other.cert
+holds other.cert 'kept 1\n1 1\n2 2\n'
+run 0 yes - verify before.toml edits.json other.toml other.cert
+rm other.cert
+run 0 yes - certify before.toml edits.json other.toml
+printf 'port = 0x1F # kept\n' >lost.toml
+run 1 - 'refused 406 0' certify before.toml edits.json lost.toml other.cert
+run 1 - 'refused 321 0' certify before.toml before.toml other.toml other.cert
+run 1 - 'refused 320 0' certify before.toml bad.json other.toml other.cert
+run 2 - 'error:*' certify
+run 2 - 'error:*' certify before.toml edits.json
+run 2 - 'error:*' certify before.toml edits.json other.toml other.cert more
+run 3 - 'file fault' certify none.toml edits.json other.toml other.cert
+run 3 - 'file fault' certify before.toml none.txt other.toml other.cert
+run 3 - 'file fault' certify before.toml edits.json none.toml other.cert
+absent other.cert
+printf 'what stood there before it, which is longer than the certificate\n' >other.cert
+run 1 - 'refused 406 0' certify before.toml edits.json lost.toml other.cert
+holds other.cert 'what stood there before it, which is longer than the certificate\n'
+run 0 yes - certify before.toml edits.json other.toml other.cert
+holds other.cert 'kept 1\n1 1\n2 2\n'
+run 3 - 'file fault' certify before.toml edits.json other.toml none/other.cert
+run 3 - 'file fault' certify before.toml edits.json other.toml .
+run 3 - 'file fault' certify before.toml edits.json other.toml /dev/full
+
+# One of its three texts may be standard input, of which there is one. A file may have that name too.
+run 0 yes - certify - edits.json other.toml piped.cert <before.toml
+holds piped.cert 'kept 1\n1 1\n2 2\n'
+run 0 yes - certify before.toml - other.toml <edits.json
+run 0 yes - certify before.toml edits.json - <other.toml
+run 0 yes - certify --profile 2 before.toml edits.json - <other.toml
+run 1 - 'refused 406 0' certify before.toml edits.json - unpiped.cert <lost.toml
+run 1 - 'refused 321 0' certify before.toml - other.toml </dev/null
+run 2 - 'bad words' certify - - other.toml unpiped.cert <before.toml
+run 2 - 'bad words' certify - edits.json - unpiped.cert <before.toml
+run 2 - 'bad words' certify before.toml - - unpiped.cert <edits.json
+run 2 - 'bad words' certify - - - unpiped.cert <before.toml
+run 3 - 'file fault' certify - edits.json other.toml unpiped.cert <.
+run 3 - 'file fault' certify - edits.json other.toml unpiped.cert <&-
+absent unpiped.cert
+run 3 - 'file fault' check - <before.toml
+run 3 - 'file fault' verify - edits.json other.toml piped.cert <before.toml
+run 0 yes - certify before.toml edits.json other.toml - <before.toml
+holds - 'kept 1\n1 1\n2 2\n'
+cp before.toml ./-
+run 0 yes - certify ./- edits.json other.toml </dev/null
+rm ./-
+
 # The profile, before and behind the paths of each command; another one, none, two.
 printf 't = {\n  x = 1, # one\n  y = 2,\n}\n' >two.toml
 printf '[{"op":"remove","at":["t","x"]}]' >two.json
@@ -127,8 +184,11 @@ holds two.out 't = {\n   # one\n  y = 2,\n}\n'
 holds two.cert 'kept 1\n2 1\n3 2\n4 3\n'
 run 0 yes - verify --profile=2 two.toml two.json two.out two.cert
 run 1 - 'refused 401 0' verify two.toml two.json two.out two.cert --profile 1
+run 1 - 'refused 401 0' certify --profile 1 two.toml two.json two.out no.cert
+run 0 yes - certify two.toml two.json two.out found.cert --profile 2
+holds found.cert 'kept 1\n2 1\n3 2\n4 3\n'
 for words in 'check two.toml' 'show two.toml' 'show --list two.toml' 'edit two.toml two.json no.out no.cert' \
-  'verify two.toml two.json two.out two.cert'; do
+  'verify two.toml two.json two.out two.cert' 'certify two.toml two.json two.out no.cert'; do
   run 2 - 'error:*' $words --profile 3
   run 2 - 'error:*' $words --profile 0
   run 2 - 'error:*' $words --profile 01
@@ -188,6 +248,10 @@ for command in check show; do
   run 1 - 'refused 102 16777216' "$command" over.toml
   run 1 - 'refused 101 16777216' "$command" cut.toml
 done
+run 0 yes - certify limit.toml none.json - certified.limit <limit.toml
+holds certified.limit 'kept 1\n0 0\n'
+run 1 - 'refused 401 0' certify - none.json limit.toml <over.toml
+run 1 - 'refused 402 0' certify limit.toml none.json - <over.toml
 run 1 - 'refused 401 0' verify over.toml none.json limit.toml kept.limit
 run 1 - 'refused 402 0' verify limit.toml none.json over.toml kept.limit
 { printf 'kept 1\n'; yes '1 1' | head -c 16777216; } >long.txt
@@ -203,14 +267,44 @@ if [ $? -ne 3 ] || ! says err 'file fault'; then fail 'standard output is full';
 "$program" check twice.toml >out 2>/dev/full
 if [ $? -ne 3 ] || [ -s out ]; then fail 'standard error is full'; else pass; fi
 
+# Outputs that are closed, as a process may be started. No file that is opened gets what is to be printed.
+closed() {
+  local status=$1
+  shift
+  "$program" "$@" >&- 2>err
+  if [ $? -ne "$status" ] || ! says err 'file fault'; then fail "standard output is closed: tomled $*"; else pass; fi
+}
+closed 3 check good.toml
+closed 3 edit before.toml edits.json closed.toml closed.txt
+holds closed.toml 'port = 0x1F # keep\n'
+closed 3 certify before.toml edits.json other.toml closed.cert
+holds closed.cert 'kept 1\n1 1\n2 2\n'
+"$program" check twice.toml >out 2>&-
+if [ $? -ne 3 ] || [ -s out ]; then fail 'standard error is closed'; else pass; fi
+"$program" certify before.toml edits.json other.toml closed.cert <&- >&- 2>&-
+if [ $? -ne 3 ]; then fail 'all three are closed'; else pass; fi
+holds closed.cert 'kept 1\n1 1\n2 2\n'
+
+# A pipe whose reader has gone.
+mkfifo pipe
+for words in 'check good.toml' 'certify before.toml edits.json other.toml piped.cert'; do
+  : <pipe &
+  { wait $!; "$program" $words 2>err; } >pipe
+  if [ $? -ne 3 ] || ! says err 'file fault'; then fail "nothing reads standard output: tomled $words"; else pass; fi
+done
+
 # So many lines that most are let go on the way.
 yes '[[a]]' | head -n 20000 >many.toml
 printf '[]' >many.json
 run 0 ok - edit many.toml many.json many.out many.cert
 run 0 yes - verify many.toml many.json many.out many.cert
+run 0 yes - certify many.toml many.json many.out found.cert
+same many.cert found.cert
 printf '[{"op":"insert","at":["a",19999,"b"],"value":"1"}]' >many.json
 run 0 ok - edit many.toml many.json many.out many.cert
 run 0 yes - verify many.toml many.json many.out many.cert
+run 0 yes - certify many.toml many.json many.out found.cert
+same many.cert found.cert
 
 # The deepest texts, under a stack of 256 KiB from here to the end.
 deep() {
@@ -240,6 +334,8 @@ deepest() {
   run 0 yes - verify "$text.toml" insert.json deep.toml deep.txt "$@"
   run 0 ok - edit "$text.toml" "$text.json" deep.toml deep.txt "$@"
   run 0 yes - verify "$text.toml" "$text.json" deep.toml deep.txt "$@"
+  run 0 yes - certify "$text.toml" "$text.json" deep.toml found.txt "$@"
+  same deep.txt found.txt
 }
 ulimit -s 256
 for text in arrays tables key; do

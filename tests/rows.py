@@ -71,6 +71,18 @@ def verify(before, edits, after, cert, wanted):
     return Run('verify BEFORE EDITS AFTER CERT', files, wanted)
 
 
+def certified(before, edits, after, cert):
+    """The certificate is found, and written where it is asked for."""
+    files = {'BEFORE': before, 'EDITS': edits, 'AFTER': after}
+    return [Run('certify BEFORE EDITS AFTER CERT', files, done(b'yes\n', {'CERT': cert})),
+            Run('certify BEFORE EDITS AFTER', files, done(b'yes\n'))]
+
+
+def not_certified(refusal, before, edits, after):
+    files = {'BEFORE': before, 'EDITS': edits, 'AFTER': after}
+    return [Run('certify BEFORE EDITS AFTER CERT', files, refused(refusal))]
+
+
 def document(text):
     return [Run('check FILE', {'FILE': text}, done(b'ok\n'))]
 
@@ -101,7 +113,7 @@ def listed(text, addresses):
 
 def edited(before, edits, after, cert):
     return [edit(before, edits, done(b'ok\n', {'OUT': after, 'CERT': cert})),
-            verify(before, edits, after, cert, done(b'yes\n'))]
+            verify(before, edits, after, cert, done(b'yes\n')), *certified(before, edits, after, cert)]
 
 
 def not_edited(refusal, before, edits):
@@ -109,8 +121,17 @@ def not_edited(refusal, before, edits):
 
 
 def judged(verdict, before, edits, after, cert):
-    wanted = done(b'yes\n') if verdict == b'yes' else refused(verdict)
-    return [verify(before, edits, after, cert, wanted)]
+    if verdict == b'yes':
+        return [verify(before, edits, after, cert, done(b'yes\n')), *certified(before, edits, after, cert)]
+    return [verify(before, edits, after, cert, refused(verdict))]
+
+
+def judged_beside(before, edits, after, cert, found):
+    """A certificate with pairs that `certify` does not look for, and what that finds, or says."""
+    runs = [verify(before, edits, after, cert, done(b'yes\n'))]
+    if found.startswith(b'refused'):
+        return runs + not_certified(found, before, edits, after)
+    return runs + certified(before, edits, after, found)
 
 
 # The fields that rows of a command may have.
@@ -119,7 +140,8 @@ FIELDS = {
     'show': {'text, data': shown, 'value, type, shown': value_shown},
     'list': {'text, addresses': listed},
     'edit': {'before, edits, after, cert': edited, 'refusal, before, edits': not_edited},
-    'verify': {'verdict, before, edits, after, cert': judged},
+    'verify': {'verdict, before, edits, after, cert': judged, 'before, edits, after, cert, found': judged_beside},
+    'certify': {'before, edits, after, cert': certified, 'refusal, before, edits, after': not_certified},
 }
 
 

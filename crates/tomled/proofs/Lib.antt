@@ -9,6 +9,7 @@ pub mod Written
 pub mod Unique
 pub mod Listed
 pub mod Verified
+pub mod Certified
 pub mod Edited
 mod PlainPrinted
 pub mod Delivered

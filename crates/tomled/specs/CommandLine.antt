@@ -13,6 +13,10 @@ use Rattle.clap.specs.declared.builder.command.Command.TheViews.{out-Command}
 abbrev pub required_argument : Text → Rule
 required_argument name = record (new_rule name) { required = true }
 
+-- an argument that may be left out
+abbrev pub optional_argument : Text → Rule
+optional_argument name = new_rule name
+
 -- an argument of no value, told by two dashes and its name, that is true where it is given
 abbrev pub flag : Text → Rule
 flag name = record (new_rule name) { long = Some name; action = Some SetTrue }
@@ -54,6 +58,13 @@ verify_paths = with_rule (with_rule (with_rule (with_rule (new_app (codes "verif
 abbrev pub verify : Choices → App
 verify profiles = with_profile profiles verify_paths
 
+-- `certify BEFORE EDITS AFTER`, and CERT behind them
+abbrev pub certify_paths : App
+certify_paths = with_rule (with_rule (with_rule (with_rule (new_app (codes "certify")) (required_argument (codes "BEFORE"))) (required_argument (codes "EDITS"))) (required_argument (codes "AFTER"))) (optional_argument (codes "CERT"))
+
+abbrev pub certify : Choices → App
+certify profiles = with_profile profiles certify_paths
+
 -- `tomled` before its subcommands are added: it wants one
 abbrev pub root : App
 root = on_top (λ shape. record shape { subcommand_required = true }) (new_app (codes "tomled"))
@@ -66,9 +77,13 @@ readers profiles = with_subcommand (with_subcommand root (show profiles).top) (c
 unfoldable pub editors : Choices → App
 editors profiles = with_subcommand (readers profiles) (edit profiles).top
 
+-- and with `verify`
+unfoldable pub verifiers : Choices → App
+verifiers profiles = with_subcommand (editors profiles) (verify profiles).top
+
 -- the whole command line
 unfoldable pub tool : Choices → App
-tool profiles = with_subcommand (editors profiles) (verify profiles).top
+tool profiles = with_subcommand (verifiers profiles) (certify profiles).top
 
 -- a parse reads this definition of the command, which has no global argument
 pub record IsDefined (app : App) (command : Command) : Type 0 where

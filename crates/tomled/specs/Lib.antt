@@ -13,5 +13,6 @@ pub mod Listing
 pub mod EditLists
 pub mod Verify
 pub mod Edit
+pub mod Certify
 pub mod RunFaults
 pub mod Delivery

@@ -1,4 +1,5 @@
 //! Laws over the definitions: nothing is run.
+ghost use Rattle.tomled.specs.Certify.{EditedIsCertified};
 ghost use Rattle.tomled.specs.Edit.{PlainIsPrinted};
 ghost use Rattle.tomled.specs.Listing.{OneListing};
 ghost use Rattle.tomled.specs.Show.{OneLine};
@@ -19,4 +20,10 @@ pub fn edited()
 /// A document has at most one list of its addresses.
 pub fn listed()
     ensures { OneListing }
+{}
+
+/// Of what `edit` writes `certify` says `yes`, and has the very certificate written that `edit` writes beside it; but for want of
+/// memory.
+pub fn certified()
+    ensures { EditedIsCertified }
 {}

@@ -3,7 +3,9 @@
 
 ghost use Rattle.std.specs.Prelude.{◌≡◌, [], length, IfOk};
 
+mod certify;
 mod check;
+mod command_line;
 mod counting;
 mod delivery;
 #[cfg(test)]
@@ -31,6 +33,7 @@ mod words;
 #[cfg(test)]
 mod written_tests;
 
+use certify::run_certify_in;
 use check::run_check_in;
 use clap::error::ErrorKind;
 use counting::Counting;
@@ -43,13 +46,13 @@ use outcome::Outcome;
 use show::run_show_in;
 use std::alloc::Global;
 use std::fs::File;
-use std::io::Write;
+use std::io::{Input, Write};
 use std::process::ExitCode;
 use std::rt::{Env, Files};
 use std::{env, io};
 use toml_text::MAX_LEN;
 use verify::run_verify_in;
-use words::{Request, WordsFault, read_words};
+use words::{Request, STANDARD_INPUT, WordsFault, read_words};
 
 /// One byte more than the longest document has, so that a longer file shows.
 const MOST: usize = MAX_LEN + 1;
@@ -65,11 +68,16 @@ fn main(rt: HostRuntime) -> ExitCode {
 }
 
 /// Does what the words of the process ask, and gives the exit status.
-fn run<R: Env + Files + AllocGlobal, O: Write, E: Write>(
+fn run<R: Env + Files + Input + AllocGlobal, O: Write, E: Write>(
     rt: &R,
     out: &mut Counting<O>,
     err: &mut Counting<E>,
 ) -> Result<u8, RunFault> {
+    // What is opened first gets the places of the standard streams that the process was started without. Here that is a folder,
+    // which is neither read nor written: else a file would be opened there, and have in it what was to be printed.
+    let _first = File::open(rt, "/");
+    let _second = File::open(rt, "/");
+    let _third = File::open(rt, "/");
     let owned = arguments(rt)?;
     let mut words = Vec::with_capacity(rt.alloc(), owned.len())?;
     for word in &owned {
@@ -88,7 +96,10 @@ fn run<R: Env + Files + AllocGlobal, O: Write, E: Write>(
 }
 
 /// What the request comes to. Its files are read in the order of the words.
-fn answer<R: Files + AllocGlobal>(rt: &R, request: &Request<'_>) -> Result<Outcome, RunFault> {
+fn answer<R: Files + Input + AllocGlobal>(
+    rt: &R,
+    request: &Request<'_>,
+) -> Result<Outcome, RunFault> {
     let alloc = rt.alloc();
     Ok(match *request {
         Request::Show {
@@ -127,6 +138,22 @@ fn answer<R: Files + AllocGlobal>(rt: &R, request: &Request<'_>) -> Result<Outco
             let cert = read(rt, cert, usize::MAX)?;
             run_verify_in(alloc, &before, &edits, &after, &cert, profile)?
         }
+        Request::Certify {
+            before,
+            edits,
+            after,
+            cert,
+            profile,
+        } => {
+            let before = read_input(rt, before, MOST)?;
+            let edits = read_input(rt, edits, usize::MAX)?;
+            let after = read_input(rt, after, MOST)?;
+            let outcome = run_certify_in(alloc, &before, &edits, &after, profile)?;
+            match cert {
+                Some(_) => outcome,
+                None => outcome.without_files(alloc),
+            }
+        }
     })
 }
 
@@ -141,13 +168,16 @@ fn outputs<R: Files + AllocGlobal>(
     ensures { IfOk result (λ files. length files.items ≡ length outcome.now.files.items) }
 {
     let mut files = Vec::with_capacity(rt.alloc(), outcome.files.len())?;
-    if let Request::Edit { out, cert, .. } = *request {
-        for (path, _) in [out, cert].iter().zip(&outcome.files) {
-            let Ok(file) = File::create(rt, *path) else {
-                return Err(RunFault::File);
-            };
-            files.push(Counting::new(file))?;
-        }
+    let (first, second) = match *request {
+        Request::Edit { out, cert, .. } => (Some(out), Some(cert)),
+        Request::Certify { cert, .. } => (cert, None),
+        _ => (None, None),
+    };
+    for (path, _) in [first, second].iter().flatten().zip(&outcome.files) {
+        let Ok(file) = File::create(rt, *path) else {
+            return Err(RunFault::File);
+        };
+        files.push(Counting::new(file))?;
     }
     // No outcome has a file that the words do not name.
     if files.len() != outcome.files.len() {
@@ -177,6 +207,19 @@ fn arguments<R: Env + AllocGlobal>(rt: &R) -> Result<Vec<String>, RunFault> {
 fn read<R: Files + AllocGlobal>(rt: &R, path: &str, limit: usize) -> Result<Vec<u8>, RunFault> {
     let mut file = Counting::new(File::open(rt, path)?);
     Ok(take(rt.alloc(), &mut file, limit)?)
+}
+
+/// The same, of standard input where the word names that.
+fn read_input<R: Files + Input + AllocGlobal>(
+    rt: &R,
+    word: &str,
+    limit: usize,
+) -> Result<Vec<u8>, RunFault> {
+    if word == STANDARD_INPUT {
+        let mut input = Counting::new(rt.reader());
+        return Ok(take(rt.alloc(), &mut input, limit)?);
+    }
+    read(rt, word, limit)
 }
 
 /// The parser's text: the help that was asked for, or what is wrong with the words.

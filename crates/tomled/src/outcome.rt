@@ -1,5 +1,5 @@
 //! What a run of the program answers.
-ghost use Rattle.std.specs.Prelude.{IfOk};
+ghost use Rattle.std.specs.Prelude.{◌≡◌, [], IfOk};
 ghost use Rattle.tomled.specs.Outcomes.{Answers, ComesTo};
 
 use crate::ending::Ending;
@@ -60,6 +60,17 @@ impl Outcome {
                 Outcome::of(alloc, Ok(Answer { out, files: none }))
             }
             Err(ending) => Outcome::of(alloc, Err(ending)),
+        }
+    }
+
+    /// What is printed, with no file to be written.
+    pub fn without_files(self, alloc: Global) -> Outcome
+        ensures files { result.files.items ≡ [] }
+        ensures rest { result ≡ record self { files = result.files } }
+    {
+        Outcome {
+            files: Vec::new(alloc),
+            ..self
         }
     }
 }

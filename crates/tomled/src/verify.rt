@@ -79,7 +79,7 @@ fn certificate(alloc: Global, bytes: &[u8]) -> Result<Certificate, Ending>
 }
 
 /// The refusal of a reason of the checker; it has no place.
-fn reason_refusal(reason: Reason) -> Refusal
+pub fn reason_refusal(reason: Reason) -> Refusal
     ensures { IsReasonRefusal reason result }
 {
     Refusal {

@@ -1,5 +1,6 @@
 //! The calls that take no profile. No command makes them, and that they answer where there is memory no contract says.
 
+use crate::certify::run_certify;
 use crate::check::run_check;
 use crate::edit::run_edit;
 use crate::list::run_list;
@@ -31,11 +32,12 @@ fn is_read(alloc: Global) -> Result<bool, AllocError> {
     )
 }
 
-/// Whether the document is edited, and the edit verified.
+/// Whether the document is edited, and the edit verified and certified.
 fn is_edited(alloc: Global) -> Result<bool, AllocError> {
     let edited = run_edit(alloc, FILE, EDITS)?;
     let verified = run_verify(alloc, FILE, EDITS, FILE, CERT)?;
-    Ok(is_told(&edited, "ok\n") && is_told(&verified, "yes\n"))
+    let certified = run_certify(alloc, FILE, EDITS, FILE)?;
+    Ok(is_told(&edited, "ok\n") && is_told(&verified, "yes\n") && is_told(&certified, "yes\n"))
 }
 
 #[test]

@@ -1,21 +1,25 @@
 //! The words of the command line.
-ghost use Rattle.std.specs.Prelude.{◌≡◌, IfErr, IfOk, false, option_and_then, option_map, true};
+ghost use Rattle.std.specs.Prelude.{◌≡◌, IfErr, IfOk, option_and_then, option_map, true};
 ghost use Rattle.clap.specs.Walk.{texts};
-ghost use Rattle.clap.specs.Words.{FailsBy, fault_of, first_of, found_of, kind_of, rows_of, rule_of};
-ghost use Rattle.clap.specs.Words.{subcommand_of, subcommand_rows_of, takes};
-ghost use Rattle.tomled.specs.CommandLine.{IsDefined, check, edit, edit_paths, editors, flag, profile, readers, required_argument, show, tool, verify, verify_paths};
-ghost use Rattle.tomled.specs.Request.{IsFaultIn, IsRequestIn, asked_by, asked_of, check_of, edit_of, is_true, profile_of, show_of, verify_of};
+ghost use Rattle.clap.specs.Words.{FailsBy, fault_of, first_of, found_of, kind_of, rows_of, subcommand_of, subcommand_rows_of, takes};
+ghost use Rattle.tomled.specs.CommandLine.{tool};
+ghost use Rattle.tomled.specs.Request.{IsFaultIn, IsRequestIn, are_both_input, asked_by, asked_of, certify_of, check_of, edit_of, is_true};
+ghost use Rattle.tomled.specs.Request.{profile_of, show_of, verify_of};
 
 #[cfg(test)]
 mod tests;
 
+use crate::command_line::command;
+use clap::ArgMatches;
 use clap::error::ErrorKind;
-use clap::{Arg, ArgAction, ArgMatches, Command};
-use std::alloc::{AllocError, Global};
+use std::alloc::Global;
 use toml_tree::Profile;
 
 /// The numbers of the profiles.
 static PROFILES: [&str; 2] = ["1", "2"];
+
+/// The word for standard input, where a command takes it.
+pub const STANDARD_INPUT: &str = "-";
 
 /// What the words ask for.
 #[derive(Debug, Drop, PartialEq, Eq)]
@@ -50,6 +54,16 @@ pub enum Request<'a> {
         cert: &'a str,
         profile: Profile,
     },
+    /// Whether a text is what edits make of another, and the certificate which shows it. One of the three that are read may be
+    /// `STANDARD_INPUT`.
+    Certify {
+        before: &'a str,
+        edits: &'a str,
+        after: &'a str,
+        /// Where the certificate is to be written.
+        cert: Option<&'a str>,
+        profile: Profile,
+    },
 }
 
 /// Why words make no request.
@@ -58,7 +72,7 @@ pub enum WordsFault {
     /// What the parser answers to the words: a mistake in them, the text for who asks for help, or
     /// want of memory.
     Parser(clap::Error),
-    /// The parser took the words, and gave no subcommand, no path or no profile.
+    /// The parser took the words, and gave no subcommand, no path or no profile; or two paths are standard input.
     Missing,
 }
 
@@ -91,140 +105,6 @@ fn parse<'a>(
     command.try_get_matches_from(words)
 }
 
-fn command<'a>(alloc: Global, profiles: &'a [&'a str]) -> Result<Command<'a>, AllocError>
-    ensures { IfOk result (IsDefined (tool profiles.entry)) }
-{
-    let command = editing_commands(alloc, profiles)?;
-    let verify = verify_command(alloc, profiles)?;
-    command.subcommand(verify)
-}
-
-/// The command with all subcommands but `verify`.
-fn editing_commands<'a>(alloc: Global, profiles: &'a [&'a str]) -> Result<Command<'a>, AllocError>
-    ensures { IfOk result (IsDefined (editors profiles.entry)) }
-{
-    let command = reading_commands(alloc, profiles)?;
-    let edit = edit_command(alloc, profiles)?;
-    command.subcommand(edit)
-}
-
-/// The command with the subcommands that read one document.
-#[tactic(auto, unfolding(crate::specs::CommandLine::readers))]
-fn reading_commands<'a>(alloc: Global, profiles: &'a [&'a str]) -> Result<Command<'a>, AllocError>
-    ensures { IfOk result (IsDefined (readers profiles.entry)) }
-{
-    let show = show_command(alloc, profiles)?;
-    let check = check_command(alloc, profiles)?;
-    Command::new(alloc, "tomled")
-        .bin_name("tomled")?
-        .about("Reads and edits TOML documents, and keeps their layout")
-        .subcommand_required(true)
-        .subcommand(show)?
-        .subcommand(check)
-}
-
-fn show_command<'a>(alloc: Global, profiles: &'a [&'a str]) -> Result<Command<'a>, AllocError>
-    ensures { IfOk result (IsDefined (show profiles.entry)) }
-{
-    let file = path(alloc, "FILE", "The document");
-    let list = flag(alloc, "list", "List the addresses in place of the data");
-    Command::new(alloc, "show")
-        .about("Prints the data of a TOML document as tagged JSON")
-        .arg(file)?
-        .arg(list)?
-        .arg(profile_option(alloc, profiles))
-}
-
-fn check_command<'a>(alloc: Global, profiles: &'a [&'a str]) -> Result<Command<'a>, AllocError>
-    ensures { IfOk result (IsDefined (check profiles.entry)) }
-{
-    let file = path(alloc, "FILE", "The document");
-    Command::new(alloc, "check")
-        .about("Says whether a file is a TOML document")
-        .arg(file)?
-        .arg(profile_option(alloc, profiles))
-}
-
-fn edit_command<'a>(alloc: Global, profiles: &'a [&'a str]) -> Result<Command<'a>, AllocError>
-    ensures { IfOk result (IsDefined (edit profiles.entry)) }
-{
-    let command = edit_paths(alloc)?;
-    command.arg(profile_option(alloc, profiles))
-}
-
-/// The command with its paths.
-fn edit_paths<'a>(alloc: Global) -> Result<Command<'a>, AllocError>
-    ensures { IfOk result (IsDefined edit_paths) }
-{
-    let file = path(alloc, "FILE", "The document");
-    let edits = path(alloc, "EDITS", "The edits, a JSON list");
-    let out = path(alloc, "OUT", "The file to write the edited document to");
-    let cert = path(alloc, "CERT", "The file to write the certificate to");
-    Command::new(alloc, "edit")
-        .about("Edits a TOML document, and keeps all that no edit names")
-        .arg(file)?
-        .arg(edits)?
-        .arg(out)?
-        .arg(cert)
-}
-
-fn verify_command<'a>(alloc: Global, profiles: &'a [&'a str]) -> Result<Command<'a>, AllocError>
-    ensures { IfOk result (IsDefined (verify profiles.entry)) }
-{
-    let command = verify_paths(alloc)?;
-    command.arg(profile_option(alloc, profiles))
-}
-
-/// The command with its paths.
-fn verify_paths<'a>(alloc: Global) -> Result<Command<'a>, AllocError>
-    ensures { IfOk result (IsDefined verify_paths) }
-{
-    let before = path(alloc, "BEFORE", "The document before the edits");
-    let edits = path(alloc, "EDITS", "The edits, a JSON list");
-    let after = path(alloc, "AFTER", "The document after the edits");
-    let cert = path(alloc, "CERT", "The certificate: which parts are kept");
-    Command::new(alloc, "verify")
-        .about("Says whether an edited TOML document is what the edits make, and keeps all else")
-        .arg(before)?
-        .arg(edits)?
-        .arg(after)?
-        .arg(cert)
-}
-
-fn path<'a>(alloc: Global, name: &'a str, help: &'a str) -> Arg<'a>
-    ensures rule { rule_of result ≡ required_argument name.entry.now }
-    ensures local { result.global ≡ false }
-    ensures help { result.help ≡ Some help.entry }
-{
-    Arg::new(alloc, name).required(true).help(help)
-}
-
-fn flag<'a>(alloc: Global, name: &'a str, help: &'a str) -> Arg<'a>
-    ensures rule { rule_of result ≡ flag name.entry.now }
-    ensures local { result.global ≡ false }
-    ensures help { result.help ≡ Some help.entry }
-{
-    Arg::new(alloc, name)
-        .long(name)
-        .action(ArgAction::SetTrue)
-        .help(help)
-}
-
-/// `--profile N`: which texts are TOML, 1 where it is not given.
-fn profile_option<'a>(alloc: Global, profiles: &'a [&'a str]) -> Arg<'a>
-    ensures rule { rule_of result ≡ profile profiles.entry }
-    ensures local { result.global ≡ false }
-{
-    Arg::new(alloc, "profile")
-        .long("profile")
-        .value_name("N")
-        .default_value("1")
-        .value_parser(profiles)
-        .help(
-            "1 is TOML 1.0; in 2 an inline table may stand on several lines, with comments and a last comma",
-        )
-}
-
 /// The request of the subcommand that was met, if it has its paths.
 fn requested<'a>(matches: &ArgMatches<'a>) -> Option<Request<'a>>
     ensures { option_map asked_by result
@@ -236,6 +116,7 @@ fn requested<'a>(matches: &ArgMatches<'a>) -> Option<Request<'a>>
         "check" => check_request(found),
         "edit" => edit_request(found),
         "verify" => verify_request(found),
+        "certify" => certify_request(found),
         _ => None,
     }
 }
@@ -293,6 +174,36 @@ fn verify_request<'a>(found: &ArgMatches<'a>) -> Option<Request<'a>>
         cert,
         profile,
     })
+}
+
+fn certify_request<'a>(found: &ArgMatches<'a>) -> Option<Request<'a>>
+    ensures { option_map asked_by result ≡ certify_of (rows_of (found_of found.now)) }
+{
+    let before = first_value(found, "BEFORE")?;
+    let edits = first_value(found, "EDITS")?;
+    let after = first_value(found, "AFTER")?;
+    let cert = first_value(found, "CERT");
+    let profile = profile_given(found)?;
+    if are_both_input(before, edits)
+        || are_both_input(before, after)
+        || are_both_input(edits, after)
+    {
+        return None;
+    }
+    Some(Request::Certify {
+        before,
+        edits,
+        after,
+        cert,
+        profile,
+    })
+}
+
+/// Whether both paths are standard input, which is read but once.
+fn are_both_input(one: &str, other: &str) -> bool
+    ensures { result ≡ are_both_input one.now other.now }
+{
+    one == STANDARD_INPUT && other == STANDARD_INPUT
 }
 
 /// The profile: the parser answers `1` where the option is not given, and lets no other text than the two through.

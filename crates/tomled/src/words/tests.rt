@@ -85,12 +85,38 @@ tomled verify --profile=2 a b c d
 tomled verify a b --profile 2 c d
 tomled verify a b c d --profile 2
 
+Certify { before: "a", edits: "b", after: "c", cert: None, profile: One }
+tomled certify a b c
+tomled certify --profile 1 a b c
+tomled certify a b c --profile=1
+
+Certify { before: "a", edits: "b", after: "c", cert: Some("d"), profile: One }
+tomled certify a b c d
+tomled certify a b --profile 1 c d
+
+Certify { before: "a", edits: "b", after: "c", cert: Some("d"), profile: Two }
+tomled certify --profile 2 a b c d
+tomled certify a b c d --profile=2
+
+Certify { before: "-", edits: "b", after: "c", cert: None, profile: One }
+tomled certify - b c
+
+Certify { before: "a", edits: "-", after: "c", cert: Some("-"), profile: One }
+tomled certify a - c -
+
+Certify { before: "a", edits: "b", after: "-", cert: Some("d"), profile: Two }
+tomled certify a b - d --profile 2
+
+Check { file: "-", profile: One }
+tomled check -
+
 help, status 0
 tomled --help
 tomled show --help
 tomled check --help
 tomled edit --help
 tomled verify --help
+tomled certify --help
 tomled help
 "#;
 
@@ -110,6 +136,17 @@ tomled check a b
 tomled check --list a
 tomled verify a b c
 tomled verify a b c d e
+tomled certify
+tomled certify a b
+tomled certify a b c d e
+tomled certify --profile 3 a b c
+tomled certify --profile 1 --profile 1 a b c
+
+missing
+tomled certify - - c
+tomled certify - b - d
+tomled certify a - -
+tomled certify --profile 2 - - - d
 
 mistake, status 2
 tomled show --profile 3 a

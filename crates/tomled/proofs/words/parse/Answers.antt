@@ -6,15 +6,15 @@ use Rattle.clap.specs.Words.{App, FailsBy, HasMatchesOf, fault_of, is_simple, is
 use Rattle.clap.specs.Words.{kind_of, takes}
 use Rattle.clap.specs.declared.error.kind.ErrorKind.TheVariants.{OutOfMemory}
 use Rattle.clap.proofs.OnLiterals.{clap_on_literals}
-use Rattle.tomled.specs.CommandLine.{Choices, editors, readers, tool}
+use Rattle.tomled.specs.CommandLine.{Choices, editors, readers, tool, verifiers}
 use Rattle.tomled.proofs.words.parse.Goals as goal
 
 tool_is_simple : (profiles : Choices) → is_simple (tool profiles) ≡ true
-unfolding clap_on_literals tool editors readers
+unfolding clap_on_literals tool verifiers editors readers
 tool_is_simple profiles = refl
 
 tool_is_free : (profiles : Choices) → is_simple_and_free (tool profiles) ≡ true
-unfolding clap_on_literals tool editors readers
+unfolding clap_on_literals tool verifiers editors readers
 tool_is_free profiles = refl
 
 pub returns-clause-ok : goal.returns-clause-ok

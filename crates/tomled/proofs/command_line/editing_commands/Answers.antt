@@ -1,7 +1,7 @@
 use Rattle.std.proofs.lemmas.Result.{IfOk-weaker}
 use Rattle.tomled.specs.CommandLine.{IsDefined, edit, editors, readers}
 use Rattle.tomled.proofs.Commands.{added}
-use Rattle.tomled.proofs.words.editing_commands.Goals as goal
+use Rattle.tomled.proofs.command_line.editing_commands.Goals as goal
 
 pub returns : goal.returns
 unfolding editors
