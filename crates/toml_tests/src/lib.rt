@@ -15,6 +15,8 @@ mod memory;
 #[cfg(test)]
 mod names;
 #[cfg(test)]
+mod places;
+#[cfg(test)]
 mod reader;
 #[cfg(test)]
 mod rows;

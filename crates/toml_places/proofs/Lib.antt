@@ -1,0 +1,13 @@
+pub mod Sound
+pub mod Complete
+pub mod Within
+pub mod Fronts
+pub mod SpelledBack
+pub mod Addresses
+pub mod Cuts
+pub mod Numbers
+pub mod Loops
+pub mod Refused
+pub mod Parts
+pub mod Led
+pub mod Proved
