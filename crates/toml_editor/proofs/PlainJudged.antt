@@ -12,20 +12,17 @@ use Rattle.toml_names.specs.model.Data.{IsDataOf, Kinds}
 use Rattle.toml_names.specs.model.Documents.{IsDocumentIn}
 use Rattle.toml_edits.specs.Edits.{Change}
 use Rattle.toml_edits.specs.Lists.{Lead}
-use Rattle.toml_units.specs.Units.{units}
 use Rattle.toml_checker.specs.declared.verdict.Reason.{Reason}
 use Rattle.toml_checker.specs.Documents.{OfTree}
 use Rattle.toml_checker.specs.Findings.{IsCertificate, IsFirstUnmet}
 use Rattle.toml_checker.proofs.Proved.{found_is_met}
-use Rattle.toml_editor.specs.CertifiedLists.{AreOuterPartners, ArePlain}
+use Rattle.toml_editor.specs.CertifiedLists.{ArePlain}
 use Rattle.toml_editor.specs.PlainTexts.{IsNoPlainList, WritesPlain}
 use Rattle.toml_editor.specs.Steps.{AreWritten, IsGoodText}
 use Rattle.toml_editor.specs.Written.{style_of}
-use Rattle.toml_editor.proofs.written.Certify.{outer_partners_certify}
+use Rattle.toml_editor.proofs.written.Certify.{outer_partners, outer_partners_certify}
 use Rattle.toml_editor.proofs.written.Elsewhere.{style_is_newline}
-use Rattle.toml_editor.proofs.written.OuterPairs.{outer_are_named, outer_of}
-use Rattle.toml_editor.proofs.written.Steps.{plain_steps}
-use Rattle.toml_editor.proofs.written.UnitsListed.{list_is_carried}
+use Rattle.toml_editor.proofs.written.OuterPairs.{outer_are_named}
 
 -- what is made is a text, within the limit
 pub within_limit : {Z : Type 0} (s : String Z) → length (string_bytes s) ≤ max_len → IsText (string_bytes s)
@@ -47,14 +44,11 @@ module _ (profile : Profile) (before after : List ℕ) (cs : List Change) (docum
       let newline = style_is_newline d.lines document.2.lines.forms in
       let edits : AreWritten profile cs (style_of d.lines) before after =
       of_tree (λ (e : Doc). ArePlain profile cs (style_of e.lines) before → AreWritten profile cs (style_of e.lines) before after) written plain in
-      let new = (plain_steps profile cs (style_of d.lines) before after old now newline good lead edits).0 in
-      let all = list_is_carried cs profile (style_of d.lines) before after old now newline good lead edits new in
-      let outer = outer_of cs (units d.lines) all.0 in
-      let partners : AreOuterPartners cs d new.tree outer.0 = record { all = all.0; are = all.1; outer = outer.1 } in (
-        outer.0,
+      let (new, os, partners) = outer_partners cs profile (style_of d.lines) before after old now newline good lead edits in (
+        os,
         record {
-          certified = outer_partners_certify cs profile (style_of d.lines) before after old now newline document.0 within good lead edits new outer.0 partners;
-          outermost = (d, document.2, outer_are_named cs d new.tree outer.0 partners);
+          certified = outer_partners_certify cs profile (style_of d.lines) before after old now newline document.0 within good lead edits new os partners;
+          outermost = (d, document.2, outer_are_named cs d new.tree os partners);
         },
       )
 

@@ -1,5 +1,5 @@
 -- Documents that were read line by line.
-use Rattle.std.proofs.Common.{◌≡◌, ◌<◌, ◌∷◌, ◌++◌, ◌∙◌, [], ℕ, List, Option, Some, Result, Ok, Err, ap, map, sym, subst, subst₂}
+use Rattle.std.proofs.Common.{◌≡◌, ◌<◌, ◌∷◌, ◌++◌, ◌∙◌, [], ℕ, List, Option, Some, Ok, ap, map, sym, subst, subst₂}
 use Rattle.toml_tree.specs.HandedOut.{AreLinesIn, HandsNext, HandsOut, left, tree_of}
 use Rattle.toml_tree.specs.Lines.{line}
 use Rattle.toml_editor.specs.KnownLines.{lines_known}
@@ -8,13 +8,11 @@ use Rattle.toml_tree.specs.Tree.{Doc, Line}
 use Rattle.toml_tree.specs.declared.line.Line as declared
 use Rattle.toml_tree.specs.declared.line_reader.LineReader.{LineReader}
 use Rattle.toml_tree.specs.declared.profile.Profile.{Profile}
-use Rattle.toml_names.specs.declared.fault.NameFault.{NameFault}
 use Rattle.toml_names.specs.model.Documents.{IsDocumentIn}
 use Rattle.toml_names.specs.reader.LineNames.{StandFor}
 use Rattle.toml_names.specs.reader.Texts.{AreLeft, more_left}
 use Rattle.toml_names.proofs.Proved.{less_is_left, taken_are_good}
 use Rattle.toml_units.specs.Plain.{plain_units, spanned}
-use Rattle.toml_units.specs.Taken.{TakesLine}
 use Rattle.toml_units.specs.Units.{units}
 use Rattle.toml_units.specs.View.{all_units}
 use Rattle.toml_units.proofs.Proved.{plain_is_units}
@@ -23,7 +21,7 @@ use Rattle.toml_editor.specs.declared.reading.LineFacts.{LineFacts}
 use Rattle.toml_editor.specs.declared.reading.ReadDocument.{ReadDocument}
 use Rattle.toml_editor.specs.Editing.{IsReadFrom}
 use Rattle.toml_editor.specs.Starting.{IsReadOf, read_of}
-use Rattle.toml_editor.specs.Reading.{HasRead, IsRead, IsReadText, ReadsLine, fact_of}
+use Rattle.toml_editor.specs.Reading.{HasRead, IsRead, IsReadText, fact_of}
 
 -- what is left of the text is a reader that stands behind these lines
 pub stood : (profile : Profile) (text : List ℕ) (front : List Line) (o : Option LineReader) (r : LineReader) → o ≡ Some r → AreLeft profile text front o
@@ -36,13 +34,6 @@ pub behind_it : (profile : Profile) (text : List ℕ) (front : List Line) (o : O
 behind_it profile text front o r l more is are hands =
     let passed = less_is_left profile text front (left r) l more (hands profile text front (stood profile text front o r is are)) in
     (passed.0, subst (λ o. more_left more < more_left o) (sym is) passed.1)
-
--- one line more was read
-pub reads_line : (lines : List Line) (old new : ReadDocument) (l : Line) (r : Result (Unit {0}) NameFault) → HasRead old lines
-    → lines_known new.lines.items ≡ lines ++ l ∷ [] → new.facts.items ≡ map fact_of (lines ++ l ∷ [])
-    → TakesLine lines l new.taken r → ReadsLine lines l new r
-reads_line lines old new l (Ok u) h readers facts taken = record { lines = readers; facts = facts; taken = taken }
-reads_line lines old new l (Err fault) h readers facts taken = taken
 
 -- all lines were read
 pub all_read : (profile : Profile) (text : List ℕ) (lines : List Line) (read : ReadDocument) → AreLinesIn profile text lines → HasRead read lines → IsReadText profile text read
@@ -76,7 +67,7 @@ module _ (text : List ℕ) (read : Read) (facts : List LineFacts) (h : IsReadFro
   pub is_document : IsDocumentIn read.profile text
   is_document = (h.within, tree, spelled, taken_are_good read.names.now tree.lines h.names, h.lines.spelled.1)
 
-  pub units_are : all_units read.before.units.now ≡ map spanned (units tree.lines)
+  units_are : all_units read.before.units.now ≡ map spanned (units tree.lines)
   units_are = h.units ∙ plain_is_units tree text spelled
 
   pub is_read_of : IsReadOf text read.before

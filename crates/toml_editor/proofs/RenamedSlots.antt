@@ -45,11 +45,6 @@ slots_become texts read f (s ∷ old) (t ∷ now) all kept =
 
 -- ---- lines that stay
 
-and_false : (a b : Bool) → (a ≡ true → b ≡ true → false ≡ true) → (a && b) ≡ false
-and_false true true h = sym (h refl refl)
-and_false true false h = refl
-and_false false b h = refl
-
 module _ (p : Address) (to spelled : List ℕ) where
   abbrev own : Standing → Standing
   own = rename_own p to spelled

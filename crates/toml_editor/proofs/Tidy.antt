@@ -107,10 +107,6 @@ end_is P [] p h = h
 end_is P (q ∷ []) p h = h
 end_is P (q ∷ (r ∷ ps)) p h = end_is P (r ∷ ps) p h
 
-pub ends_some : (P : Piece → Type 0) (ps : List Piece) → EndsWith P ps → 0 < length ps
-ends_some P [] h = absurd h
-ends_some P (q ∷ ps) h = omega arith
-
 pub ends_kept : (place : ℕ) (last : Span) (ps : List Piece) → Some (Kept last) ≡ slice_get ps (length ps - 1) → IsTrue (nat_eq last.end place) ↔ EndsWith (IsKeptTo place) ps
 ends_kept place last ps is =
     let h = ends_with (IsKeptTo place) (Kept last) ps is in

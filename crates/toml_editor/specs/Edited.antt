@@ -113,8 +113,9 @@ AreDefinedOn profile before cs = IsDocumentIn profile before × OfData before (A
 -- What a fault of the editor tells. Of an edit: that the text is a document, and the fault is the edit's on the data so far. That its
 -- place is spread, or that it takes a last element: that it is defined on these data, and not plain if those before it are. That the result
 -- is too long: all edits are defined, and where they are plain, what they write is too long. That the judge refuses it: all edits are
--- defined, the list is not one of plain edits, and the reason is the first demand that no certificate meets of some text. And each time that no edit before, or of the list, sets what is spread, if those
--- before it are plain. Of want of memory: nothing.
+-- defined, the list is not one of plain edits, and the reason is the first demand that no certificate meets of some text. That this is the
+-- text which was made says `certify` alone: here `AfterRefused` can always be told, by the text `=`. And each time that no edit before, or
+-- of the list, sets what is spread, if those before it are plain. Of want of memory: nothing.
 abbrev pub Tells : Profile → List ℕ → List Change → EditorFault → Type 0
 Tells profile before cs (Edit index fault) =
     IsDocumentIn profile before × OnDataSoFar profile before cs index (λ c kinds. IsFault profile c kinds (Some fault))
@@ -131,5 +132,5 @@ Tells profile before cs TooLong =
     × NoSpreadSet profile before cs (length cs)
 Tells profile before cs (Unverified reason) =
     AreDefinedOn profile before cs × IsNoPlainList profile before cs × NoSpreadSet profile before cs (length cs)
-    × ((after : List ℕ) × IsFirstUnmet profile before cs after reason)
+    × ((after : List ℕ) × IsText after × IsFirstUnmet profile before cs after reason)
 Tells profile before cs fault = RefusesText profile before fault

@@ -7,10 +7,13 @@ use Rattle.toml_edits.specs.Edits.{Change}
 use Rattle.toml_units.specs.declared.piece.Piece.{Piece}
 use Rattle.toml_units.specs.Plain.{plain_units}
 use Rattle.toml_units.specs.View.{all_units}
+use Rattle.toml_checker.specs.Findings.{IsFirstUnmet}
 use Rattle.toml_editor.specs.Edited.{AreDefinedOn, ArePieces, IsEdited}
 use Rattle.toml_editor.specs.PlainTexts.{NoSpreadSet, WritesPlain}
 use Rattle.toml_editor.specs.declared.editing.Edited.{Edited}
-use Rattle.toml_editor.specs.declared.editing.Made.{Made}
+use Rattle.toml_editor.specs.declared.editing.Unjudged.{Unjudged}
+use Rattle.toml_editor.specs.declared.fault.EditorFault.{EditorFault}
+use Rattle.toml_editor.specs.declared.fault.EditorFault.TheVariants.{Unverified}
 use Rattle.toml_editor.specs.declared.making.Read.{Read}
 use Rattle.toml_editor.specs.declared.reading.LineFacts.{LineFacts}
 use Rattle.toml_editor.specs.Making.{HasNames}
@@ -33,8 +36,13 @@ pub record IsMadeText (profile : Profile) (before : List ℕ) (cs : List Change)
   pub pieces : ArePieces before after list
 
 -- the same of what the code hands on: its text, and its pieces
-abbrev pub IsMadeAs : Profile → List ℕ → List Change → Made → Type 0
+abbrev pub IsMadeAs : Profile → List ℕ → List Change → Unjudged → Type 0
 IsMadeAs profile before cs made = IsMadeText profile before cs (string_bytes made.text) made.pieces.items
+
+-- a refusal by the judge has the first demand that no certificate of this text meets
+abbrev pub IsJudged : Profile → List ℕ → List Change → List ℕ → EditorFault → Type 0
+IsJudged profile before cs after (Unverified reason) = IsFirstUnmet profile before cs after reason
+IsJudged profile before cs after _ = Unit {0}
 
 -- the text is certified to be what the edits make of the first one, and the pieces of that one are it
 pub record IsEditedText (profile : Profile) (before : List ℕ) (cs : List Change) (after : List ℕ) (list : List Piece) (ps : List (ℕ × ℕ)) : Type 0 where

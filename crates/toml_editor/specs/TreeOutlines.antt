@@ -5,7 +5,7 @@ use Rattle.toml_tree.specs.Tree.{Piece, Blank, Dotted, Assign, Gap, Value, Scala
 use Rattle.toml_editor.specs.Outlines as outline
 use Rattle.toml_editor.specs.Outlines.{DottedOutline, AssignOutline, ValueOutline, EntriesOutline, ExprOutline, LineOutline, value_outlined, line_outlined, lines_outlined}
 
--- all that a gap has, as one text, and its comments
+-- all that a gap has, as one text
 abbrev pub gap_spelled : Gap → List ℕ
 gap_spelled g = joined (gap_parts g)
 

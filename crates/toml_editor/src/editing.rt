@@ -9,7 +9,7 @@ ghost use Rattle.toml_edits.specs.Near.{AreNear};
 ghost use Rattle.toml_units.specs.Cursors.{StandsBefore, Walks};
 ghost use Rattle.toml_units.specs.declared.cursor.UnitCursor.{UnitCursor};
 ghost use Rattle.toml_editor.specs.Edited.{IsEdited, ArePieces, IsEditedInPieces, RefusesText, Tells};
-ghost use Rattle.toml_editor.specs.Editing.{IsEditedAs, IsMadeAs, IsReadFrom};
+ghost use Rattle.toml_editor.specs.Editing.{IsEditedAs, IsJudged, IsMadeAs, IsReadFrom};
 ghost use Rattle.toml_editor.specs.declared.fault.EditorFault.TheVariants.{NoMemory};
 ghost use Rattle.toml_editor.specs.Reading.{IsReadAs};
 ghost use Rattle.toml_editor.specs.SpelledEdits.{AreSpelled};
@@ -31,7 +31,7 @@ use toml_units::{Certificate, Piece, TakenLines, UnitCursor, join};
 
 /// What the edits make, not judged yet: the pieces of the edited text, and the text.
 #[derive(Drop)]
-struct Made {
+struct Unjudged {
     pieces: Vec<Piece>,
     text: String,
 }
@@ -59,8 +59,8 @@ pub fn edit(
 /// The text that the edits make of a document, one after the other, and the certificate which shows that all else is kept:
 /// it pairs each unit that no edit names and that lies in no other such unit, and no others.
 ///
-/// The document and the values of the edits are read in the profile. The text and the certificate are judged in it before
-/// they are handed out. Of plain edits (a `set` where a value stands, a `rename`, an `insert` of a name at the root, a `remove`
+/// The document and the values of the edits are read in the profile. The judge finds the certificate in it before the text is
+/// handed out. Of plain edits (a `set` where a value stands, a `rename`, an `insert` of a name at the root, a `remove`
 /// of one there that is a line) the text is the one that their definition gives, byte for byte (`WritesPlain`); what is answered of
 /// them, and where behind them stands an edit with a fault or a `set` of what is spread, says `laws::plain_answers`. Faults
 /// are told in the order of `EditorFault`.
@@ -204,13 +204,13 @@ fn edit_read<'x>(
     }
 }
 
-/// What is made is handed on where the judge finds a certificate.
+/// What is made is handed on where the judge finds a certificate; a reason of the judge is of this text.
 fn certify<'x>(
     alloc: Global,
     before: &'x [u8],
     taken: TakenLines<'x>,
     edits: &[Edit],
-    made: Made,
+    made: Unjudged,
     profile: Profile,
     afterwards: Afterwards,
 ) -> Result<Edited, EditorFault>
@@ -218,6 +218,7 @@ fn certify<'x>(
     requires made { IsMadeAs profile before.now (map change edits.now) made }
     ensures edited { IfOk result (IsEditedAs profile before.now (map change edits.now)) }
     ensures told { IfErr result (Tells profile before.now (map change edits.now)) }
+    ensures judged { IfErr result (IsJudged profile before.now (map change edits.now) (string_bytes made.text)) }
 {
     if made.text.len() > MAX_LEN {
         let_go(taken);
@@ -245,7 +246,7 @@ fn make_text<'x>(
     edits: &'x [Edit],
     spelled: &'x [Spelled],
     touched: &AddressSet,
-) -> Result<Made, EditorFault>
+) -> Result<Unjudged, EditorFault>
     requires read { IsReadFrom (text_of source) read facts.items }
     requires spelled { AreSpelled (map change edits.now) spelled.now }
     requires touched { AreNear (is_hidden touched.now) (map change edits.now) }
@@ -266,7 +267,11 @@ fn make_text<'x>(
 }
 
 /// What stands in the working tree.
-fn write_out<'x>(alloc: Global, source: Source<'x>, tree: &Tree<'x>) -> Result<Made, EditorFault>
+fn write_out<'x>(
+    alloc: Global,
+    source: Source<'x>,
+    tree: &Tree<'x>,
+) -> Result<Unjudged, EditorFault>
     ensures pieces { IfOk result (λ made. ArePieces (text_of source.entry) (string_bytes made.text) made.pieces.items) }
     ensures written { let text = text_of source.entry in
         IfOk result (λ made. WritesOut text (tree_of text []).mark.text tree.now.slots.items (string_bytes made.text)) }
@@ -274,7 +279,7 @@ fn write_out<'x>(alloc: Global, source: Source<'x>, tree: &Tree<'x>) -> Result<M
 {
     let pieces = tree.pieces(source, mark(source))?.into_list();
     let text = join(alloc, source, &pieces)?;
-    Ok(Made { pieces, text })
+    Ok(Unjudged { pieces, text })
 }
 
 /// The text and its document, or why there is none.

@@ -5,8 +5,8 @@
 ghost use Rattle.std.specs.Prelude.{◌≡◌, IfOk, OnOk};
 ghost use Rattle.toml_editor.specs.Starting.{NoneIsGone};
 
-use crate::lines::{changed, is_at_or_above, is_same_way};
 use crate::removing::parent_of;
+use crate::steps::{changed, is_at_or_above, is_same_way};
 use std::alloc::{AllocError, Global};
 use toml_names::{Address, Name, Step};
 

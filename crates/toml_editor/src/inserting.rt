@@ -2,7 +2,8 @@
 ghost use Rattle.std.specs.Prelude.{◌≡◌, ◌++◌, ◌∷◌, IfOk, OnOk, drop, false, take};
 ghost use Rattle.toml_editor.specs.KnownLines.{lines_known};
 ghost use Rattle.toml_editor.specs.OpenOutlines.{leaf_text, value};
-ghost use Rattle.toml_editor.specs.Putting.{EndsOne, EndsSlot, EndsSlots, IsElsewhere, IsRootLine, PutsSlot, PutsSlots, TreeEndsBefore, TreeInserts, TreePutsBehind};
+ghost use Rattle.toml_editor.specs.Putting.{EndsOne, EndsSlot, EndsSlots, IsElsewhere, IsRootLine};
+ghost use Rattle.toml_editor.specs.Putting.{PutsSlot, PutsSlots, TreeEndsBefore, TreeInserts, TreePutsBehind};
 ghost use Rattle.toml_editor.specs.Starting.{read_of};
 ghost use Rattle.toml_editor.specs.Stands.{KeepsRest};
 

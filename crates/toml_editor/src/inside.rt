@@ -7,7 +7,8 @@ ghost use Rattle.toml_editor.specs.OpenOutlines.{value as value_outlined};
 ghost use Rattle.toml_editor.specs.Stands.{KeepsRest};
 
 use crate::known::KnownLine;
-use crate::lines::{Body, Line, Slot, below};
+use crate::lines::{Body, Line, Slot};
+use crate::steps::below;
 use crate::texts::Texts;
 use crate::tree::{Expr, Value};
 use crate::working::{Before, Position, Tree};

@@ -10,7 +10,8 @@ ghost use Rattle.toml_editor.specs.RemoveLaws.{RemoveNames, RemoveGood, RemoveDa
 ghost use Rattle.toml_editor.specs.RenameLaws.{RenameNames, RenameGood, RenameData, RenameForms, RenameOfProfile, RenameKeepsLine};
 ghost use Rattle.toml_editor.specs.RenamedHeaders.{RenameAlong, RenameAlongElement};
 ghost use Rattle.toml_editor.specs.RenamedUnits.{RenameUnits};
-ghost use Rattle.toml_editor.specs.StandingLaws.{PlacesDoNotStand, RenameStands, RulesOrder, SetStands, StandingIsValue, ValueStands, InsertStands, RootComesFirst, PairStands, RemoveStands};
+ghost use Rattle.toml_editor.specs.StandingLaws.{InsertStands, PairStands, PlacesDoNotStand, RemoveStands, RenameStands, RootComesFirst};
+ghost use Rattle.toml_editor.specs.StandingLaws.{RulesOrder, SetStands, StandingIsValue, ValueStands};
 ghost use Rattle.toml_editor.specs.RenameOutlines.{RenameIsOutlined};
 ghost use Rattle.toml_editor.specs.SetLaws.{SetNames, SetRules, SetShort, SetData, SetForms, SetOfProfile, SetWithin, SetElsewhere, SetKeepsLine};
 ghost use Rattle.toml_editor.specs.SetOutlines.{SetIsOutlined};

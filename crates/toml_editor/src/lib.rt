@@ -21,6 +21,8 @@ mod sections;
 mod seen;
 mod setting;
 mod spelled;
+mod starting;
+mod steps;
 mod texts;
 mod tree;
 mod values;

@@ -1,5 +1,5 @@
 //! The lines of the working tree: kept as they stand in the document until an edit changes something on them.
-ghost use Rattle.std.specs.Prelude.{◌≡◌, ◌≤◌, ◌∷◌, IfOk, List, OnOk, None, [], drop, length, set};
+ghost use Rattle.std.specs.Prelude.{◌≡◌, IfOk, List, OnOk, None, [], length};
 ghost use Rattle.std.specs.List.{list_any};
 ghost use Rattle.toml_editor.specs.KnownLines.{lines_known};
 ghost use Rattle.toml_tree.specs.Tree.{Line as ReadLine};
@@ -7,18 +7,16 @@ ghost use Rattle.toml_editor.specs.declared.lines.Line.{Line as WorkingLine};
 ghost use Rattle.toml_editor.specs.OpenOutlines.{expr as expr_outlined, leaf_text};
 ghost use Rattle.toml_editor.specs.OpeningLines.{HasOutline, OpensBody, OpensToEndIn, alone};
 ghost use Rattle.toml_editor.specs.Outlines.{Nothing};
-ghost use Rattle.toml_editor.specs.RenameStanding.{names_in};
 ghost use Rattle.toml_editor.specs.Seeing.{FindsIn, SeesLine, kept_found, line_found, read_by, seen};
 ghost use Rattle.toml_editor.specs.Putting.{LineIsLast, SlotIsLast};
 ghost use Rattle.toml_editor.specs.Stands.{OpensSlot, kept_line};
-ghost use Rattle.toml_editor.specs.Standing.{Read, begins, is_below, lies_below, slot_standing};
+ghost use Rattle.toml_editor.specs.Standing.{Read, is_below, lies_below, slot_standing};
 
 use crate::known::KnownLine;
 use crate::texts::Texts;
 use crate::tree::{Blank, Brackets, Expr, Leaf, OpenLine};
-use crate::values::behind;
 use std::alloc::{AllocError, Global};
-use toml_names::{Address, Step};
+use toml_names::Address;
 use toml_text::Span;
 use toml_units::Unit;
 
@@ -84,56 +82,6 @@ pub(crate) enum Slot<'t> {
     /// The line of the document, as it was; its address is that of its unit.
     Kept(Kept),
     Lines(Vec<Line<'t>>),
-}
-
-/// The steps of the address behind the first so many.
-pub(crate) fn below(at: &Address, used: usize) -> &[Step]
-    ensures { result.now ≡ drop used at.now }
-{
-    behind(at.steps(), used)
-}
-
-/// The address with another step at a place. It takes no memory.
-pub(crate) fn changed(at: Address, place: usize, step: Step) -> Address
-    ensures { result ≡ set at place step }
-{
-    let mut steps = at.into_steps();
-    if let Some(old) = steps.get_mut(place) {
-        *old = step;
-    }
-    Address::of(steps)
-}
-
-/// Whether the first address is a beginning of the second.
-pub(crate) fn is_at_or_above(at: &Address, other: &Address) -> bool
-    ensures { result ≡ begins at.now other.now }
-{
-    begins(at.steps(), other.steps())
-}
-
-/// Whether the steps begin with the first ones. The last of these are compared first: elements of one array differ there.
-fn begins(above: &[Step], steps: &[Step]) -> bool
-    ensures { result ≡ begins above.now steps.now }
-{
-    if steps.len() < above.len() {
-        return false;
-    }
-    for place in (0..above.len()).rev() {
-        if !above[place].is_same(&steps[place]) {
-            return false;
-        }
-    }
-    true
-}
-
-/// Whether the steps are the same.
-pub(crate) fn is_same_way(one: &[Step], other: &[Step]) -> bool {
-    one.len() == other.len() && begins(one, other)
-}
-
-/// Whether the address is that of an element.
-pub(crate) fn is_element(at: &Address) -> bool {
-    matches!(at.steps().last(), Some(Step::Index(_)))
 }
 
 impl Kept {
@@ -302,28 +250,6 @@ impl Expr<'_> {
             Expr::Header(header) => matches!(header.brackets, Brackets::Two),
             Expr::Blank | Expr::Pair(_) => false,
         }
-    }
-}
-
-/// How many of the steps are names.
-pub(crate) fn names_in(steps: &[Step]) -> usize
-    ensures { result ≡ names_in steps.now }
-{
-    let mut count = 0;
-    for step in steps {
-        count += names_of(step);
-    }
-    count
-}
-
-/// One for a name, and none for an index.
-fn names_of(step: &Step) -> usize
-    ensures counts { result ≡ names_in (step.now ∷ []) }
-    ensures most { result ≤ 1 }
-{
-    match step {
-        Step::Name(_) => 1,
-        Step::Index(_) => 0,
     }
 }
 

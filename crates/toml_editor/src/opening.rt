@@ -3,7 +3,8 @@ ghost use Rattle.std.specs.Prelude.{◌≡◌, IfOk, IfSome, option_map};
 ghost use Rattle.toml_text.specs.Source.{text_of};
 ghost use Rattle.toml_tree.specs.Lines.{line as tree_line};
 ghost use Rattle.toml_tree.specs.Spells.{gap_parts};
-ghost use Rattle.toml_tree.specs.View.{assign as tree_assign, gap as tree_gap, header as tree_header, key as tree_key, keyval as tree_keyval, value as tree_value};
+ghost use Rattle.toml_tree.specs.View.{assign as tree_assign, gap as tree_gap, header as tree_header, key as tree_key};
+ghost use Rattle.toml_tree.specs.View.{keyval as tree_keyval, value as tree_value};
 ghost use Rattle.toml_editor.specs.OpenOutlines.{assign as assign_outlined, header as header_outlined, leaf_text};
 ghost use Rattle.toml_editor.specs.OpenOutlines.{opening_brackets, closing_brackets};
 ghost use Rattle.toml_editor.specs.Opening.{IsKeyOpened, Lie, OpensArray, OpensGap, OpensInline, OpensKeyVal, OpensLine, OpensValue};
@@ -97,35 +98,28 @@ impl<'t> Opener<'t> {
         if gap.lines().is_empty() {
             return Gap::space(self.texts.alloc, self.leaf(gap.ws()));
         }
-        if let Some(lines) = self.bare_lines(gap) {
-            return Gap::one(self.texts.alloc, GapPart::Newline(lines));
+        if let Some(lines) = self.kept_lines(gap) {
+            return Gap::one(self.texts.alloc, GapPart::Lines(lines));
         }
         let mut opened = Gap::empty(self.texts.alloc);
         for line in gap.lines() {
             opened.push_ws(self.leaf(line.blank.ws))?;
             if let Some(comment) = line.blank.comment {
-                opened.parts.push(GapPart::Comment(self.leaf(comment)))?;
+                opened.parts.push(GapPart::Lines(self.leaf(comment)))?;
             }
-            opened
-                .parts
-                .push(GapPart::Newline(self.leaf(line.newline)))?;
+            opened.parts.push(GapPart::Lines(self.leaf(line.newline)))?;
         }
         opened.push_ws(self.leaf(gap.ws()))?;
         Ok(opened)
     }
 
-    /// A gap with lines of the document, if no comment is on them: then it needs no parts.
-    fn bare_lines(self, gap: &toml_tree::Gap<'t>) -> Option<Leaf<'t>>
+    /// A gap with lines of the document: it needs no parts.
+    fn kept_lines(self, gap: &toml_tree::Gap<'t>) -> Option<Leaf<'t>>
         ensures { let all = tree_gap gap.now in
             IfSome result (λ l. Lie (text_of self.entry.texts.source) (gap_parts all) → leaf_text l ≡ gap_spelled all) }
     {
         if !self.is_kept {
             return None;
-        }
-        for line in gap.lines() {
-            if line.blank.comment.is_some() {
-                return None;
-            }
         }
         let first = gap.lines().first()?;
         let span = Span {

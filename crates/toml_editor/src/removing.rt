@@ -9,7 +9,8 @@ ghost use Rattle.toml_editor.specs.Stands.{KeepsRest};
 
 use crate::inside::Inside;
 use crate::known::KnownLine;
-use crate::lines::{Line, Slot, is_element, names_in};
+use crate::lines::{Line, Slot};
+use crate::steps::{is_element, names_in};
 use crate::texts::Texts;
 use crate::tree::{Blank, Brackets, Expr, Header, Leaf, OpenLine};
 use crate::working::{Before, Position, TablePlace, Tree};

@@ -2,14 +2,16 @@
 //! the new name.
 ghost use Rattle.std.specs.Prelude.{◌≡◌, OnOk, Option, Some, option_map};
 ghost use Rattle.toml_editor.specs.KnownLines.{lines_known};
-ghost use Rattle.toml_editor.specs.Becoming.{LineBecomes, LinesBecome, OpenBecomes, PartBecomes, SlotAtBecomes, SlotBecomes, SlotsBecome, TreeBecomes, TreeRenames, renamed_below, renamed_own};
+ghost use Rattle.toml_editor.specs.Becoming.{LineBecomes, LinesBecome, OpenBecomes, PartBecomes, SlotAtBecomes, SlotBecomes};
+ghost use Rattle.toml_editor.specs.Becoming.{SlotsBecome, TreeBecomes, TreeRenames, renamed_below, renamed_own};
 ghost use Rattle.toml_editor.specs.OpenOutlines.{leaf_text, line as line_outlined};
 ghost use Rattle.toml_editor.specs.RenameStanding.{line_part_with, part_number, renamed_address};
 ghost use Rattle.toml_editor.specs.Starting.{NoneIsGone, read_of};
 
 use crate::inside::Inside;
 use crate::known::KnownLine;
-use crate::lines::{Body, Line, Slot, changed};
+use crate::lines::{Body, Line, Slot};
+use crate::steps::changed;
 use crate::texts::Texts;
 use crate::tree::{Expr, Leaf, OpenLine};
 use crate::working::{Before, Tree};

@@ -6,7 +6,8 @@ ghost use Rattle.toml_editor.specs.RenameStanding.{part_number};
 ghost use Rattle.toml_editor.specs.Seeing.{heads, heads_below, is_dotted, is_sought, seen, steps_to};
 ghost use Rattle.toml_editor.specs.Standing.{leads_to, lies_below};
 
-use crate::lines::{Seen, Sought, is_at_or_above, is_same_way, names_in};
+use crate::lines::{Seen, Sought};
+use crate::steps::{is_at_or_above, is_same_way, names_in};
 use crate::working::Position;
 use toml_names::{Address, Step};
 

@@ -25,10 +25,8 @@ pub(crate) struct Gap<'t> {
 #[derive(Clone, Copy)]
 pub(crate) enum GapPart<'t> {
     Ws(Leaf<'t>),
-    /// A newline, or newlines of the document with the whitespace around them.
-    Newline(Leaf<'t>),
-    /// From `#` on.
-    Comment(Leaf<'t>),
+    /// A newline or a comment, or lines of the document with the whitespace around them.
+    Lines(Leaf<'t>),
 }
 
 /// `.` between whitespace, and the key part behind it.

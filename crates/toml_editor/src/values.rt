@@ -1,12 +1,13 @@
 //! The four edits inside a value.
-ghost use Rattle.std.specs.Prelude.{◌≡◌, IfOk, OnOk, drop, option_and_then, option_map, slice_get};
+ghost use Rattle.std.specs.Prelude.{◌≡◌, IfOk, OnOk, option_and_then, option_map, slice_get};
 ghost use Rattle.toml_editor.specs.Putting.{AssignsOne};
-ghost use Rattle.toml_editor.specs.Leading.{LeadsOn, SetsEntry, first_index, key_in, leads, led_by, open_names, pair_key};
+ghost use Rattle.toml_editor.specs.Leading.{LeadsOn, SetsEntry, key_in, leads, led_by, open_names, pair_key};
 ghost use Rattle.toml_editor.specs.OpenOutlines.{assign as assign_outline, entries as entries_outline};
 ghost use Rattle.toml_editor.specs.OpenOutlines.{entry as entry_outline, value as value_outline};
 ghost use Rattle.toml_editor.specs.RenamingIn.{KeysRenamed, RenamesEntry, RenamesIn, key_with, pair_with, reaches};
 ghost use Rattle.toml_editor.specs.Stands.{SetsIn};
 
+use crate::steps::{behind, index_first};
 use crate::texts::Texts;
 use crate::tree::{Assign, Entries, Entry, Key, Leaf, Value};
 use std::alloc::AllocError;
@@ -378,24 +379,6 @@ fn key_at<'a, 't>(pairs: &'a VecDeque<Entry<'t>>, index: usize) -> Option<&'a Ke
     ensures { option_map (λ k. open_names k.now) result ≡ option_and_then pair_key (slice_get pairs.now.items index) }
 {
     Some(&pairs.get(index)?.assign.as_ref()?.key)
-}
-
-/// The index with which the steps begin, if they begin with one.
-fn index_first(steps: &[Step]) -> Option<usize>
-    ensures { result ≡ first_index steps.now }
-{
-    match steps.first() {
-        Some(Step::Index(index)) => Some(*index as usize),
-        _ => None,
-    }
-}
-
-/// The steps behind the first so many.
-pub(crate) fn behind(steps: &[Step], used: usize) -> &[Step]
-    ensures { result.now ≡ drop used steps.now }
-{
-    let (_, rest) = steps.split_at(used.min(steps.len()));
-    rest
 }
 
 impl<'t> Assign<'t> {

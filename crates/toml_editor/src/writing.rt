@@ -1,7 +1,9 @@
 //! The working tree written as pieces.
 ghost use Rattle.std.specs.Prelude.{◌≡◌, ℕ, List, IfOk, false};
 ghost use Rattle.toml_text.specs.Source.{text_of};
-ghost use Rattle.toml_editor.specs.OpenOutlines.{gap_text, assign as assign_outline, blank_text, entries as entries_outline, entry as entry_outline, entry_outlined, header as header_outline, key_text, line as line_outline, value as value_outline};
+ghost use Rattle.toml_editor.specs.OpenOutlines.{assign as assign_outline, blank_text, entries as entries_outline, entry as entry_outline};
+ghost use Rattle.toml_editor.specs.OpenOutlines.{entry_outlined, gap_text, header as header_outline, key_text, line as line_outline};
+ghost use Rattle.toml_editor.specs.OpenOutlines.{value as value_outline};
 ghost use Rattle.toml_editor.specs.Outlines.{assign_outlined, entries_outlined, expr_outlined, line_outlined, value_outlined};
 ghost use Rattle.toml_editor.specs.Writing.{SpellAll, SpellsLine, SpellsSlot, Writes, WritesOut};
 
@@ -185,9 +187,7 @@ impl<'t> Pieces<'t> {
     {
         for part in &gap.parts {
             match part {
-                GapPart::Ws(leaf) | GapPart::Newline(leaf) | GapPart::Comment(leaf) => {
-                    self.leaf(*leaf)?
-                }
+                GapPart::Ws(leaf) | GapPart::Lines(leaf) => self.leaf(*leaf)?,
             }
         }
         Ok(())

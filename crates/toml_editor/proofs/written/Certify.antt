@@ -14,7 +14,7 @@ use Rattle.toml_checker.specs.Demands.{Certified}
 use Rattle.toml_checker.specs.Kept.{AllKept}
 use Rattle.toml_checker.specs.Lines.{NoLinesAdded}
 use Rattle.toml_checker.specs.Pairs.{PairsFit}
-use Rattle.toml_editor.specs.CertifiedLists.{PartnersCertify, OuterPartnersCertify, ArePlain, PlainListIsCertified}
+use Rattle.toml_editor.specs.CertifiedLists.{AreOuterPartners, PartnersCertify, OuterPartnersCertify, ArePlain, PlainListIsCertified}
 use Rattle.toml_editor.specs.Steps.{IsGoodText, AreWritten}
 use Rattle.toml_editor.proofs.written.OuterPairs.{outer_of, outer_pairs_fit, outer_kept, outer_lines, outer_comments}
 use Rattle.toml_editor.proofs.written.Steps.{good_texts_are_documents, plain_is_written, plain_step, plain_steps}
@@ -73,19 +73,27 @@ list_is_written (c ∷ cs) profile style before old now newline good (none, mid,
     let others = list_is_written cs profile style first.0 mid now newline step.0 lead (plain.1 first.0 first.1) in
     (others.0, (first.0, first.1, others.1))
 
+-- what they write is a good text, and has outer partners with the first one
+pub outer_partners : (cs : List Change) (profile : Profile) (style before after : List ℕ) (old now : Kinds) → IsNewline style
+    → (good : IsGoodText profile before old) → Lead profile cs old now → AreWritten profile cs style before after
+    → (new : IsGoodText profile after now) × (os : List (ℕ × ℕ)) × AreOuterPartners cs good.tree new.tree os
+outer_partners cs profile style before after old now newline good lead written =
+    let new = (plain_steps profile cs style before after old now newline good lead written).0 in
+    let all = list_is_carried cs profile style before after old now newline good lead written new in
+    let outer = outer_of cs (units good.tree.lines) all.0 in
+    (new, outer.0, record { all = all.0; are = all.1; outer = outer.1 })
+
 pub plain_list_is_certified : PlainListIsCertified
 plain_list_is_certified cs profile style before old now newline within good lead plain =
     let text = list_is_written cs profile style before old now newline good lead plain in
-    let made = plain_steps profile cs style before text.0 old now newline good lead text.1 in
-    let all = list_is_carried cs profile style before text.0 old now newline good lead text.1 made.0 in
-    let outer = outer_of cs (units good.tree.lines) all.0 in (
+    let (new, pairs, partners) = outer_partners cs profile style before text.0 old now newline good lead text.1 in (
       text.0,
       text.1,
       record {
-        new = made.0;
-        pairs = outer.0;
-        partners = record { all = all.0; are = all.1; outer = outer.1 };
+        new = new;
+        pairs = pairs;
+        partners = partners;
         verdict = λ still os are.
-            outer_partners_certify cs profile style before text.0 old now newline within still good lead text.1 made.0 os are;
+            outer_partners_certify cs profile style before text.0 old now newline within still good lead text.1 new os are;
       },
     )

@@ -151,7 +151,8 @@ module _ (name : List ℕ) (v : Value) (style : List ℕ) where
       (style ∷ newlines (m ∷ ms)) l.newline.text (line_lines xs l.expr) (some_lines (xs ++ named_by xs n l.expr) (n + 1) m ms)
       (put_first (xs ++ named_by xs n l.expr) (n + 1) (n + 1) (m ∷ ms) style at_root)
 
-  put_last : (ls : List Line) (xs : List Named) (n : ℕ) → section xs ≡ [] → has_pair ls ≡ true → Well (units_from xs n ls) (units_from xs n (insert_behind name v style ls)) (newlines ls) (newlines (insert_behind name v style ls))
+  put_last : (ls : List Line) (xs : List Named) (n : ℕ) → section xs ≡ [] → has_pair ls ≡ true
+      → Well (units_from xs n ls) (units_from xs n (insert_behind name v style ls)) (newlines ls) (newlines (insert_behind name v style ls))
   put_last [] xs n at_root has = absurd (true≢false (sym has))
   put_last (l ∷ ls) xs n at_root has = by (has_pair ls) refl (λ h. put_last ls (xs ++ named_by xs n l.expr) (n + 1) here h)
     where
@@ -163,8 +164,10 @@ module _ (name : List ℕ) (v : Value) (style : List ℕ) where
       some (m ∷ ms) has = some_lines (xs ++ named_by xs n l.expr) (n + 1) m ms
 
       by : (b : Bool) → has_pair ls ≡ b
-          → (has_pair ls ≡ true → Well (units_from (xs ++ named_by xs n l.expr) (n + 1) ls) (units_from (xs ++ named_by xs n l.expr) (n + 1) (insert_behind name v style ls)) (newlines ls) (newlines (insert_behind name v style ls)))
-          → Well (units_from xs n (l ∷ ls)) (units_from xs n (cond b (l ∷ insert_behind name v style ls) (line_behind name v style l ls))) (newlines (l ∷ ls)) (newlines (cond b (l ∷ insert_behind name v style ls) (line_behind name v style l ls)))
+          → (has_pair ls ≡ true → Well (units_from (xs ++ named_by xs n l.expr) (n + 1) ls)
+          (units_from (xs ++ named_by xs n l.expr) (n + 1) (insert_behind name v style ls)) (newlines ls) (newlines (insert_behind name v style ls)))
+          → Well (units_from xs n (l ∷ ls)) (units_from xs n (cond b (l ∷ insert_behind name v style ls) (line_behind name v style l ls)))
+          (newlines (l ∷ ls)) (newlines (cond b (l ∷ insert_behind name v style ls) (line_behind name v style l ls)))
       by true is more = put_behind (line_units xs l.expr) _ block _ (newlines ls) (newlines (insert_behind name v style ls)) l.newline.text
           (line_lines xs l.expr) (some ls is) (more is)
       by false is more = put_line xs n l ls has is here

@@ -35,8 +35,14 @@ returns-in-No-clause-told c =
       c.requires.made.are_defined,
       no_is_not_plain c.args.profile before after cs c.requires.made.are_defined.0 within c.requires.made.plain c.in-No.reason unmet,
       c.requires.made.passed,
-      (after, unmet),
+      (after, within, unmet),
     )
+
+pub returns-in-No-clause-judged : goal.returns-in-No-clause-judged
+returns-in-No-clause-judged c =
+    let cs = map change c.args.edits.now in
+    let answer = subst (IsAnswer c.args.profile c.args.before.now cs c.as_bytes-after.result.now) c.in-No.is c.in_ok-certificate.ensures.answer in
+    subst (λ t. IsFirstUnmet c.args.profile c.args.before.now cs t c.in-No.reason) c.as_bytes-after.ensures.value answer
 
 -- where there is no certificate nothing is handed out, so a body that hands out a text is refused at once
 pub returns-in-No-clause-edited : goal.returns-in-No-clause-edited

@@ -5,8 +5,8 @@ use Rattle.toml_units.specs.Places.{is_line}
 use Rattle.toml_editor.specs.declared.lines.Kept.{Kept}
 use Rattle.toml_editor.proofs.FactsKept.{fact_got, fact_kept}
 use Rattle.toml_editor.proofs.OpenedBody.{item_got}
-use Rattle.toml_editor.proofs.working.kept_of.Goals as goal
-use Rattle.toml_editor.proofs.working.kept_of.Goals.{in-Line, in_default}
+use Rattle.toml_editor.proofs.starting.kept_of.Goals as goal
+use Rattle.toml_editor.proofs.starting.kept_of.Goals.{in-Line, in_default}
 
 pub returns : goal.returns
 returns c = λ lines are.

@@ -1,7 +1,7 @@
 use Rattle.std.proofs.Common.{◌∙◌, ◌+◌, ◌-◌, ◌&&◌, drop, ap, sym, arith}
 use Rattle.toml_editor.proofs.Beginning.{begins_short, begins_at, begins_apart}
 use Rattle.toml_editor.specs.Standing.{begins}
-use Rattle.toml_editor.proofs.lines.begins.Goals as goal
+use Rattle.toml_editor.proofs.steps.begins.Goals as goal
 
 pub returns-then-steps-above : goal.returns-then-steps-above
 returns-then-steps-above c = sym (begins_short c.args.above.now c.args.steps.now (omega arith))

@@ -7,8 +7,8 @@ use Rattle.toml_editor.specs.declared.lines.Slot.TheVariants as slots
 use Rattle.toml_editor.specs.Starting.{TakesLine, read_of}
 use Rattle.toml_editor.proofs.Started.{StartedWith, started, started_line, started_past, started_all}
 use Rattle.toml_editor.proofs.LinesLie.{lines_lie}
-use Rattle.toml_editor.proofs.working.kept_slots.Goals as goal
-use Rattle.toml_editor.proofs.working.kept_slots.Goals.{in-Some+in_ok-push, in_default}
+use Rattle.toml_editor.proofs.starting.kept_slots.Goals as goal
+use Rattle.toml_editor.proofs.starting.kept_slots.Goals.{in-Some+in_ok-push, in_default}
 
 pub loop-first-init : goal.loop-first-init
 loop-first-init c text before units facts is =

@@ -1,7 +1,7 @@
 use Rattle.std.proofs.Common.{◌≡◌, ◌+◌, ◌∙◌, ◌∷◌, ap, sym, map, length, refl}
 use Rattle.toml_tree.specs.View.{gap, gap_line}
 use Rattle.toml_editor.proofs.OpenedGap.{first_is, gap_slice}
-use Rattle.toml_editor.proofs.opening.Opener.bare_lines.Goals as goal
+use Rattle.toml_editor.proofs.opening.Opener.kept_lines.Goals as goal
 
 pub returns : goal.returns
 returns c lies =

@@ -1,6 +1,6 @@
 use Rattle.std.proofs.Common.{arith}
 use Rattle.toml_editor.proofs.Renamed.{one_step_more}
-use Rattle.toml_editor.proofs.lines.names_in.Goals as goal
+use Rattle.toml_editor.proofs.steps.names_in.Goals as goal
 
 pub loop-step-preserved : goal.loop-step-preserved
 loop-step-preserved c = (
