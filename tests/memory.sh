@@ -104,7 +104,7 @@ holds() {
 refusing() {
   local number=$1
   shift
-  timeout 30 env REFUSE="$number" LD_PRELOAD="$folder/refuse.so" "$@" >out 2>err 9>refused
+  timeout 30 env REFUSE="$number" LD_PRELOAD="$folder/refuse.so" "$@" <"${input:-/dev/null}" >out 2>err 9>refused
 }
 
 # answers STATUS OUT ERR TEXT CERT: the run ended so; STATUS is the first word, the others are bytes of files
@@ -147,6 +147,7 @@ edited() {
   printf "$3" >shown
   each 0 'yes\n' '' - - verify before edits after shown
   each 0 'yes\n' '' - "$3" certify before edits after cert
+  input=after each 0 'yes\n' '' - "$3" certify before edits - cert
 }
 
 # refused LINE WORDS..: a refusal

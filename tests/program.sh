@@ -1,6 +1,6 @@
 #!/usr/bin/env bash
-# What no proof says of the built program: bad words, files that can't be read or written, and help. The last line is
-# `N passed, M failed`.
+# What no proof says of the built program: bad words, files that can't be read or written, standard input, outputs that are
+# full or closed, and help. The last line is `N passed, M failed`.
 #   tests/program.sh crates/tomled/out/tomled
 set -u
 program=$(realpath "$1")
@@ -141,6 +141,10 @@ holds other.cert 'kept 1\n1 1\n2 2\n'
 run 3 - 'file fault' certify before.toml edits.json other.toml none/other.cert
 run 3 - 'file fault' certify before.toml edits.json other.toml .
 run 3 - 'file fault' certify before.toml edits.json other.toml /dev/full
+# All three are read before CERT is opened.
+cp other.toml over.toml
+run 0 yes - certify before.toml edits.json over.toml over.toml
+holds over.toml 'kept 1\n1 1\n2 2\n'
 
 # One of its three texts may be standard input, of which there is one. A file may have that name too.
 run 0 yes - certify - edits.json other.toml piped.cert <before.toml
@@ -160,7 +164,8 @@ absent unpiped.cert
 run 3 - 'file fault' check - <before.toml
 run 3 - 'file fault' verify - edits.json other.toml piped.cert <before.toml
 run 0 yes - certify before.toml edits.json other.toml - <before.toml
-holds - 'kept 1\n1 1\n2 2\n'
+holds ./- 'kept 1\n1 1\n2 2\n'
+rm ./-
 cp before.toml ./-
 run 0 yes - certify ./- edits.json other.toml </dev/null
 rm ./-
@@ -281,17 +286,20 @@ closed 3 certify before.toml edits.json other.toml closed.cert
 holds closed.cert 'kept 1\n1 1\n2 2\n'
 "$program" check twice.toml >out 2>&-
 if [ $? -ne 3 ] || [ -s out ]; then fail 'standard error is closed'; else pass; fi
+rm closed.cert
 "$program" certify before.toml edits.json other.toml closed.cert <&- >&- 2>&-
 if [ $? -ne 3 ]; then fail 'all three are closed'; else pass; fi
 holds closed.cert 'kept 1\n1 1\n2 2\n'
 
 # A pipe whose reader has gone.
 mkfifo pipe
+rm -f piped.cert
 for words in 'check good.toml' 'certify before.toml edits.json other.toml piped.cert'; do
   : <pipe &
   { wait $!; "$program" $words 2>err; } >pipe
   if [ $? -ne 3 ] || ! says err 'file fault'; then fail "nothing reads standard output: tomled $words"; else pass; fi
 done
+holds piped.cert 'kept 1\n1 1\n2 2\n'
 
 # So many lines that most are let go on the way.
 yes '[[a]]' | head -n 20000 >many.toml

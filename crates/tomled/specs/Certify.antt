@@ -14,8 +14,8 @@ use Rattle.tomled.specs.declared.outcome.Answer.{Answer}
 use Rattle.tomled.specs.declared.outcome.Outcome.{Outcome}
 use Rattle.tomled.specs.declared.refusal.Refusal.{Refusal}
 
--- the bytes are the list of some edits, and the certificate shows that the one text is what these make of the other: it names first
--- the units that no edit takes away or changes and that lie in no other such unit
+-- the bytes are the list of some edits, and the certificate shows that the one text is what these make of the other: the first numbers
+-- of its pairs are those of the units that no edit takes away or changes and that lie in no other such unit, and no others
 pub record IsCertified (profile : Profile) (before edits after certificate : List ℕ) : Type 0 where
   pub changes : List Change
   pub listed : IsEditList edits changes
@@ -38,7 +38,9 @@ IsUncertified profile before edits after r = IsListRefusal edits r ⊎ LacksCert
 
 -- the answer is `yes` and LF, and a certificate as the one file
 abbrev pub IsCertifying : Profile → List ℕ → List ℕ → List ℕ → Answer → Type 0
-IsCertifying profile before edits after a = (a.out.items ≡ codes "yes\n") × (certificate : List ℕ) × (texts_of a.files.items ≡ certificate ∷ []) × IsCertified profile before edits after certificate
+IsCertifying profile before edits after a =
+    (a.out.items ≡ codes "yes\n") × (certificate : List ℕ) × (texts_of a.files.items ≡ certificate ∷ [])
+    × IsCertified profile before edits after certificate
 
 -- `yes` and LF, and a certificate as the one file, exactly where there is one; else the refusal, and no file
 abbrev pub Certifies : Profile → List ℕ → List ℕ → List ℕ → Outcome → Type 0

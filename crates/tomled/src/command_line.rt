@@ -78,7 +78,7 @@ fn edit_command<'a>(alloc: Global, profiles: &'a [&'a str]) -> Result<Command<'a
     command.arg(profile_option(alloc, profiles))
 }
 
-/// The command with its paths.
+/// `edit` with its paths, without its profile.
 fn edit_paths<'a>(alloc: Global) -> Result<Command<'a>, AllocError>
     ensures { IfOk result (IsDefined edit_paths) }
 {
@@ -101,7 +101,7 @@ fn verify_command<'a>(alloc: Global, profiles: &'a [&'a str]) -> Result<Command<
     command.arg(profile_option(alloc, profiles))
 }
 
-/// The command with its paths.
+/// `verify` with its paths, without its profile.
 fn verify_paths<'a>(alloc: Global) -> Result<Command<'a>, AllocError>
     ensures { IfOk result (IsDefined verify_paths) }
 {
@@ -124,7 +124,7 @@ fn certify_command<'a>(alloc: Global, profiles: &'a [&'a str]) -> Result<Command
     command.arg(profile_option(alloc, profiles))
 }
 
-/// The command with its paths.
+/// `certify` with its paths, of which the last may be left out, without its profile.
 fn certify_paths<'a>(alloc: Global) -> Result<Command<'a>, AllocError>
     ensures { IfOk result (IsDefined certify_paths) }
 {

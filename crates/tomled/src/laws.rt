@@ -22,8 +22,8 @@ pub fn listed()
     ensures { OneListing }
 {}
 
-/// Of what `edit` writes `certify` says `yes`, and has the very certificate written that `edit` writes beside it; but for want of
-/// memory.
+/// Of what `edit` writes for fewer than 2^63 edits `certify` says `yes`, and has the very certificate written that `edit` writes
+/// beside it; but for want of memory.
 pub fn certified()
     ensures { EditedIsCertified }
 {}

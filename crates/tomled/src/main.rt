@@ -51,6 +51,7 @@ use std::process::ExitCode;
 use std::rt::{Env, Files};
 use std::{env, io};
 use toml_text::MAX_LEN;
+use toml_tree::Profile;
 use verify::run_verify_in;
 use words::{Request, STANDARD_INPUT, WordsFault, read_words};
 
@@ -74,7 +75,8 @@ fn run<R: Env + Files + Input + AllocGlobal, O: Write, E: Write>(
     err: &mut Counting<E>,
 ) -> Result<u8, RunFault> {
     // What is opened first gets the places of the standard streams that the process was started without. Here that is a folder,
-    // which is neither read nor written: else a file would be opened there, and have in it what was to be printed.
+    // which is neither read nor written: else a file would be opened there, and have in it what was to be printed. Where `/` can't
+    // be opened nothing keeps these places.
     let _first = File::open(rt, "/");
     let _second = File::open(rt, "/");
     let _third = File::open(rt, "/");
@@ -145,16 +147,27 @@ fn answer<R: Files + Input + AllocGlobal>(
             cert,
             profile,
         } => {
-            let before = read_input(rt, before, MOST)?;
-            let edits = read_input(rt, edits, usize::MAX)?;
-            let after = read_input(rt, after, MOST)?;
-            let outcome = run_certify_in(alloc, &before, &edits, &after, profile)?;
+            let outcome = certified(rt, before, edits, after, profile)?;
             match cert {
                 Some(_) => outcome,
                 None => outcome.without_files(alloc),
             }
         }
     })
+}
+
+/// What `certify` comes to. One of the words may name standard input.
+fn certified<R: Files + Input + AllocGlobal>(
+    rt: &R,
+    before: &str,
+    edits: &str,
+    after: &str,
+    profile: Profile,
+) -> Result<Outcome, RunFault> {
+    let before = read_input(rt, before, MOST)?;
+    let edits = read_input(rt, edits, usize::MAX)?;
+    let after = read_input(rt, after, MOST)?;
+    Ok(run_certify_in(rt.alloc(), &before, &edits, &after, profile)?)
 }
 
 /// The files that the outcome has bytes for, made or emptied. None of them is opened for a refusal. Their memory is taken
