@@ -4,15 +4,14 @@ use crate::rows::profile;
 use crate::worked::{assert_answers, edits, units_of};
 use std::alloc::Global;
 use std::test::Fail;
-use toml_checker::outermost;
 use toml_editor::{edit_pieces, edit_pieces_in};
 use toml_edits::Edit;
 use toml_text::{Source, Span};
 use toml_tree::Profile;
-use toml_units::{Piece, Unit, join};
+use toml_units::{Certificate, Piece, Unit, join};
 
-/// In a profile, edits and texts: each unit that the edits leave as it is, and that lies in no other such unit, lies in one
-/// kept piece.
+/// In a profile, edits and texts: each unit that the certificate pairs, which are those that the edits leave as they are and that
+/// lie in no other such unit, lies in one kept piece.
 const KEPT: &str = r#"
 1
 kept | [{"op":"set","at":["port"],"value":"0x1F"}] | port = 1_000 # keep¶
@@ -59,11 +58,12 @@ fn holds(piece: &Piece, span: Span) -> bool {
     }
 }
 
-/// Whether each unit that is marked lies in a kept piece.
-fn are_kept(pieces: &[Piece], units: &[Unit], marks: &[bool]) -> bool {
-    for (unit, marked) in units.iter().zip(marks) {
-        if *marked && !is_kept(pieces, unit.span) {
-            return false;
+/// Whether each unit that the certificate pairs lies in a kept piece.
+fn are_kept(pieces: &[Piece], units: &[Unit], certificate: &Certificate) -> bool {
+    for (paired, _) in &certificate.pairs {
+        match units.get(*paired as usize) {
+            Some(unit) if is_kept(pieces, unit.span) => (),
+            _ => return false,
         }
     }
     true
@@ -71,9 +71,8 @@ fn are_kept(pieces: &[Piece], units: &[Unit], marks: &[bool]) -> bool {
 
 fn kept_by(alloc: Global, text: &str, edits: &[Edit], profile: Profile) -> Option<bool> {
     let units = units_of(alloc, text)?;
-    let marks = outermost(alloc, &units, edits).ok()?;
-    let (pieces, _) = edit_pieces_in(alloc, text.as_bytes(), edits, profile).ok()?;
-    Some(are_kept(&pieces, &units, &marks))
+    let (pieces, certificate) = edit_pieces_in(alloc, text.as_bytes(), edits, profile).ok()?;
+    Some(are_kept(&pieces, &units, &certificate))
 }
 
 fn kept_units(alloc: Global, word: &str, asked: &str) -> Option<String> {
