@@ -147,7 +147,7 @@ fn answer<R: Files + Input + AllocGlobal>(
             cert,
             profile,
         } => {
-            let outcome = certified(rt, before, edits, after, profile)?;
+            let outcome = outcome_of_certify(rt, before, edits, after, profile)?;
             match cert {
                 Some(_) => outcome,
                 None => outcome.without_files(alloc),
@@ -157,7 +157,7 @@ fn answer<R: Files + Input + AllocGlobal>(
 }
 
 /// What `certify` comes to. One of the words may name standard input.
-fn certified<R: Files + Input + AllocGlobal>(
+fn outcome_of_certify<R: Files + Input + AllocGlobal>(
     rt: &R,
     before: &str,
     edits: &str,
