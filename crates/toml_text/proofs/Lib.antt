@@ -7,5 +7,7 @@ pub mod Comments
 pub mod Bounds
 pub mod Ends
 pub mod Found
+pub mod LineEnds
+pub mod Characters
 pub mod Firsts
 pub mod Proved

@@ -4,4 +4,5 @@ pub mod Limit
 pub mod Longest
 pub mod Runs
 pub mod Source
+pub mod Positions
 pub mod Laws

@@ -1,5 +1,6 @@
 //! Laws over the definitions: each function's contract is one or two, and nothing is run.
 ghost use Rattle.toml_text.specs.Laws.{RunIsPiece, RunIsFound, NewlineIsPiece, NewlineIsFound, CommentIsPiece, CommentIsFound, RunIsLongest, RunStops, BeginsApart, BeginsWider, CommentIsUnmarked, BasicIsUnmarked, LiteralIsUnmarked};
+ghost use Rattle.toml_text.specs.Positions.{CharactersBegin};
 
 /// `run_len` finds the longest run of bytes that pass a test at the front.
 pub fn runs()
@@ -32,4 +33,9 @@ pub fn unmarked()
     ensures comment { CommentIsUnmarked }
     ensures basic { BasicIsUnmarked }
     ensures literal { LiteralIsUnmarked }
+{}
+
+/// A column, which counts the bytes that begin a character, counts characters.
+pub fn characters()
+    ensures { CharactersBegin }
 {}

@@ -4,13 +4,15 @@
 
 mod fault;
 pub mod laws;
+mod lines;
 mod scan;
 mod source;
 mod span;
 mod unmarked;
 
 pub use fault::TextFault;
+pub use lines::position;
 pub use scan::{newline_len, ws_len};
 pub use source::{MAX_LEN, Source};
-pub use span::Span;
+pub use span::{Position, Span};
 pub use unmarked::unmarked_len;
