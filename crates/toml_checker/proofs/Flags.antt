@@ -12,8 +12,8 @@ use Rattle.toml_units.specs.declared.unit.UnitKind.{UnitKind}
 use Rattle.toml_units.specs.declared.unit.UnitKind.TheVariants as kinds
 use Rattle.toml_units.specs.Places.{is_line, line_with, line_from}
 use Rattle.toml_units.specs.Units.{TextUnit}
-use Rattle.toml_checker.specs.declared.side.Side.{Side}
-use Rattle.toml_checker.specs.declared.side.Side.TheVariants.{Apart, Above, At, Below}
+use Rattle.toml_edits.specs.declared.side.Side.{Side}
+use Rattle.toml_edits.specs.declared.side.Side.TheVariants.{Apart, Above, At, Below}
 use Rattle.toml_checker.specs.declared.tables.Part.{Part}
 use Rattle.toml_checker.specs.declared.tables.Part.TheVariants as parts
 use Rattle.toml_checker.specs.CarriedTo.{IsAtOrAbove, At as InAt}
@@ -21,8 +21,9 @@ use Rattle.toml_checker.specs.GoneAndChanged.{Removes, Sets, SetsAbove, SetsIt, 
 use Rattle.toml_checker.specs.Plain as plain
 use Rattle.toml_checker.specs.Plain.{stands, is_named, Site, site, next_line, home_stands, is_kept, flags_from, flags, FlagsTell}
 use Rattle.toml_checker.specs.Protected.{Stays, standing}
-use Rattle.toml_checker.specs.Sides.{side}
-use Rattle.toml_checker.proofs.Sides.{Seen, seen, sides_are_right}
+use Rattle.toml_edits.specs.Sides as places
+use Rattle.toml_edits.specs.Sides.{side}
+use Rattle.toml_edits.proofs.Proved.{sides_are_right}
 
 -- the test says whether it is so
 abbrev pub D : Bool → Type 0 → Type 0
@@ -57,45 +58,60 @@ d_less m n = ((λ e. grind (arith, nat_tests)), (λ h. let l : m < n = h in grin
 
 -- ---- the sides
 
-seen_front : (x : Side) (p a : Address) → Seen x p a → plain.is_at_or_above x ≡ true → IsAtOrAbove p a
+abbrev Seen : Side → Address → Address → Type 0
+Seen Apart p a = Unit {0}
+Seen Above p a = IsAbove p a
+Seen At p a = p ≡ a
+Seen Below p a = IsAbove a p
+
+seen : (p a : Address) → Seen (side p a) p a
+seen p a = by (side p a) refl
+  where
+    by : (x : Side) → side p a ≡ x → Seen x p a
+    by Apart e = tt
+    by Above e = (sides_are_right p a).above.0 e
+    by At e = (sides_are_right p a).at.0 e
+    by Below e = (sides_are_right p a).below.0 e
+
+seen_front : (x : Side) (p a : Address) → Seen x p a → places.is_at_or_above x ≡ true → IsAtOrAbove p a
 seen_front Above p a w e = (w.0 ∷ w.1, w.2)
 seen_front At p a w e = ([], sym w ∙ sym (append-nil p))
 seen_front Apart p a w e = cc
 seen_front Below p a w e = cc
 
-pub front : (p a : Address) → D (plain.is_at_or_above (side p a)) (IsAtOrAbove p a)
+pub front : (p a : Address) → D (places.is_at_or_above (side p a)) (IsAtOrAbove p a)
 front p a = (seen_front (side p a) p a (seen p a), back)
   where
-    back : IsAtOrAbove p a → plain.is_at_or_above (side p a) ≡ true
-    back ([], is) = ap plain.is_at_or_above ((sides_are_right p a).at.1 (sym (is ∙ append-nil p)))
-    back (s ∷ r, is) = ap plain.is_at_or_above ((sides_are_right p a).above.1 (s, r, is))
+    back : IsAtOrAbove p a → places.is_at_or_above (side p a) ≡ true
+    back ([], is) = ap places.is_at_or_above ((sides_are_right p a).at.1 (sym (is ∙ append-nil p)))
+    back (s ∷ r, is) = ap places.is_at_or_above ((sides_are_right p a).above.1 (s, r, is))
 
-seen_above : (x : Side) (p a : Address) → Seen x p a → plain.is_above x ≡ true → IsAbove p a
+seen_above : (x : Side) (p a : Address) → Seen x p a → places.is_above x ≡ true → IsAbove p a
 seen_above Above p a w e = w
 seen_above At p a w e = cc
 seen_above Apart p a w e = cc
 seen_above Below p a w e = cc
 
-above : (p a : Address) → D (plain.is_above (side p a)) (IsAbove p a)
-above p a = (seen_above (side p a) p a (seen p a), (λ w. ap plain.is_above ((sides_are_right p a).above.1 w)))
+above : (p a : Address) → D (places.is_above (side p a)) (IsAbove p a)
+above p a = (seen_above (side p a) p a (seen p a), (λ w. ap places.is_above ((sides_are_right p a).above.1 w)))
 
-seen_at : (x : Side) (p a : Address) → Seen x p a → plain.is_at x ≡ true → p ≡ a
+seen_at : (x : Side) (p a : Address) → Seen x p a → places.is_at x ≡ true → p ≡ a
 seen_at At p a w e = w
 seen_at Above p a w e = cc
 seen_at Apart p a w e = cc
 seen_at Below p a w e = cc
 
-at_it : (p a : Address) → D (plain.is_at (side p a)) (p ≡ a)
-at_it p a = (seen_at (side p a) p a (seen p a), (λ e. ap plain.is_at ((sides_are_right p a).at.1 e)))
+at_it : (p a : Address) → D (places.is_at (side p a)) (p ≡ a)
+at_it p a = (seen_at (side p a) p a (seen p a), (λ e. ap places.is_at ((sides_are_right p a).at.1 e)))
 
-seen_below : (x : Side) (p a : Address) → Seen x p a → plain.is_below x ≡ true → IsAbove a p
+seen_below : (x : Side) (p a : Address) → Seen x p a → places.is_below x ≡ true → IsAbove a p
 seen_below Below p a w e = w
 seen_below Above p a w e = cc
 seen_below Apart p a w e = cc
 seen_below At p a w e = cc
 
-below : (p a : Address) → D (plain.is_below (side p a)) (IsAbove a p)
-below p a = (seen_below (side p a) p a (seen p a), (λ w. ap plain.is_below ((sides_are_right p a).below.1 w)))
+below : (p a : Address) → D (places.is_below (side p a)) (IsAbove a p)
+below p a = (seen_below (side p a) p a (seen p a), (λ w. ap places.is_below ((sides_are_right p a).below.1 w)))
 
 -- ---- the tables
 
@@ -142,7 +158,7 @@ renames (new_element at) a = no (λ w. w)
 renames_in : (c : Change) (n : ℕ) (a : Address) → D (plain.renames_in c n (side (place c) a)) (Renames c a × (n < length (place c)))
 renames_in (set at value) n a = no (λ w. w.0)
 renames_in (insert at value) n a = no (λ w. w.0)
-renames_in (rename at to) n a = d_and (plain.is_at_or_above (side at a)) (nat_lt n (length at)) (IsAtOrAbove at a) (n < length at) (front at a) (d_less n (length at))
+renames_in (rename at to) n a = d_and (places.is_at_or_above (side at a)) (nat_lt n (length at)) (IsAtOrAbove at a) (n < length at) (front at a) (d_less n (length at))
 renames_in (remove at) n a = no (λ w. w.0)
 renames_in (new_section at) n a = no (λ w. w.0)
 renames_in (new_element at) n a = no (λ w. w.0)
@@ -157,8 +173,8 @@ line_gone c a (Some n) = d_or (plain.removes c (side (place c) a)) (plain.sets_a
 pub line_changed : (c : Change) (a : Address) (b : Option ℕ) → D (plain.line_is_changed c b (side (place c) a)) (LineIsChanged c (Some a) b)
 line_changed c a None = renames c a
 line_changed c a (Some n) =
-    d_or (plain.sets_it c (side (place c) a)) (plain.is_below (side (place c) a) || plain.renames_in c n (side (place c) a)) (SetsIt c a) (IsWithin c a ⊎ (Renames c a × (n < length (place c)))) (sets_it c a)
-    (d_or (plain.is_below (side (place c) a)) (plain.renames_in c n (side (place c) a)) (IsWithin c a) (Renames c a × (n < length (place c))) (below (place c) a) (renames_in c n a))
+    d_or (plain.sets_it c (side (place c) a)) (places.is_below (side (place c) a) || plain.renames_in c n (side (place c) a)) (SetsIt c a) (IsWithin c a ⊎ (Renames c a × (n < length (place c)))) (sets_it c a)
+    (d_or (places.is_below (side (place c) a)) (plain.renames_in c n (side (place c) a)) (IsWithin c a) (Renames c a × (n < length (place c))) (below (place c) a) (renames_in c n a))
 
 -- ---- lists
 
@@ -274,7 +290,7 @@ by_kind kinds.InnerComment cs o b line =
     (λ s. splits_to kinds.InnerComment b (base_of line) (HomeGoes (base_of line)) CommentGoes (λ c o l. left_only (HomeGoes (base_of line) c l ⊎ CommentGoes c o)) cs o (address_of line) s)
 by_kind kinds.Element cs o b line =
     d_as (stands parts.Element cs o b) (Never ElementNamed cs o) (Stays cs (st kinds.Element o b (address_of line) (base_of line)))
-    (never_is parts.Element b ElementNamed (λ c a. d_or (plain.part_is_gone c (side (place c) a)) (plain.is_below (side (place c) a)) (PartIsGone c a) (IsWithin c a) (part_gone c a) (below (place c) a)) (λ c. nowhere_named) cs o)
+    (never_is parts.Element b ElementNamed (λ c a. d_or (plain.part_is_gone c (side (place c) a)) (places.is_below (side (place c) a)) (PartIsGone c a) (IsWithin c a) (part_gone c a) (below (place c) a)) (λ c. nowhere_named) cs o)
     (λ n. splits_from kinds.Element b (base_of line) Nothing ElementNamed (λ c o l. right_only (ElementNamed c o)) cs o (address_of line) (never_nothing cs (address_of line)) n)
     (λ s. (splits_to kinds.Element b (base_of line) Nothing ElementNamed (λ c o l. right_only (ElementNamed c o)) cs o (address_of line) s).1)
 

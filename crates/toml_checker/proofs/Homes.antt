@@ -6,9 +6,9 @@ use Rattle.toml_units.specs.declared.unit.UnitKind.{UnitKind}
 use Rattle.toml_units.specs.declared.unit.UnitKind.TheVariants as kinds
 use Rattle.toml_units.specs.Places.{is_line}
 use Rattle.toml_names.specs.model.Addresses.{Address}
-use Rattle.toml_checker.specs.declared.side.Side.{Side}
+use Rattle.toml_edits.specs.declared.side.Side.{Side}
 use Rattle.toml_checker.specs.declared.tables.Part.TheVariants as parts
-use Rattle.toml_checker.specs.Sides.{side}
+use Rattle.toml_edits.specs.Sides.{side}
 use Rattle.toml_checker.specs.Plain.{Site, home_stands, home_with, is_kept_by, is_named, line_is_changed, line_is_gone, next_line, stands}
 
 pub home_next : (cs : List Change) (line : Option Site) (s : Site) → home_with cs (home_stands cs line) s ≡ home_stands cs (next_line line s)

@@ -11,17 +11,9 @@ pub mod MadeNear
 pub mod InBlocks
 pub mod Within
 pub mod ProtectedUnits
-pub mod Sides
-pub mod Leaving
-pub mod Areas
-pub mod LevelSteps
-pub mod AreaLeads
-pub mod AddedLevels
-pub mod RunCovers
 pub mod LeftAbove
-pub mod Passing
-pub mod Running
-pub mod Seen
+pub mod Named
+pub mod Sighted
 pub mod Flags
 pub mod Walked
 pub mod Examples
@@ -40,6 +32,7 @@ pub mod OuterUnits
 pub mod OwedLines
 pub mod AtOrAbove
 pub mod Owing
+pub mod SoFar
 pub mod AskedLines
 pub mod EditedLists
 pub mod Asked

@@ -8,7 +8,7 @@ use Rattle.toml_edits.specs.Carry.{parted}
 use Rattle.toml_edits.specs.Edits.{Change}
 use Rattle.toml_edits.proofs.Proved.{parted_at_last}
 use Rattle.toml_checker.specs.declared.debts.Debt.{Debt}
-use Rattle.toml_checker.specs.Debts.{Covers, AnyCovers, IsOwedBy}
+use Rattle.toml_checker.specs.Debts.{Covers, AnyCovers, IsOwedBy, MayCover}
 use Rattle.toml_checker.specs.Owed.{IsOwed}
 
 abbrev Parts : Type 0
@@ -22,63 +22,46 @@ one_covers ds i d a low is h all =
     let here : drop i ds ≡ d ∷ drop (i + 1) ds = drop_more ds i d low ∙ ap (λ x. x ∷ drop (i + 1) ds) (sym is) in
     all.0 (subst (λ xs. AnyCovers xs a) (sym here) (inl h))
 
-either : (ds : List Debt) (d : Debt) (a : Address) → AnyCovers (ds ++ d ∷ []) a ↔ (AnyCovers ds a ⊎ Covers d a)
-either [] d a = (first, last)
+-- what one debt covers more
+pub pushed : (ds : List Debt) (d : Debt) (a : Address) → AnyCovers (ds ++ d ∷ []) a ↔ (Covers d a ⊎ AnyCovers ds a)
+pushed [] d a = (λ h. h, λ h. h)
+pushed (x ∷ ds) d a = parts (pushed ds d a)
   where
-    first : Covers d a ⊎ ⊥ → ⊥ ⊎ Covers d a
-    first (inl h) = inr h
-    first (inr h) = absurd h
-
-    last : ⊥ ⊎ Covers d a → Covers d a ⊎ ⊥
-    last (inl h) = absurd h
-    last (inr h) = inl h
-either (x ∷ ds) d a = parts (either ds d a)
-  where
-    parts : AnyCovers (ds ++ d ∷ []) a ↔ (AnyCovers ds a ⊎ Covers d a) → (Covers x a ⊎ AnyCovers (ds ++ d ∷ []) a) ↔ ((Covers x a ⊎ AnyCovers ds a) ⊎ Covers d a)
+    parts : AnyCovers (ds ++ d ∷ []) a ↔ (Covers d a ⊎ AnyCovers ds a) → (Covers x a ⊎ AnyCovers (ds ++ d ∷ []) a) ↔ (Covers d a ⊎ (Covers x a ⊎ AnyCovers ds a))
     parts w = (there, back)
       where
-        there : Covers x a ⊎ AnyCovers (ds ++ d ∷ []) a → (Covers x a ⊎ AnyCovers ds a) ⊎ Covers d a
-        there (inl h) = inl (inl h)
+        there : Covers x a ⊎ AnyCovers (ds ++ d ∷ []) a → Covers d a ⊎ (Covers x a ⊎ AnyCovers ds a)
+        there (inl h) = inr (inl h)
         there (inr h) = by (w.0 h)
           where
-            by : AnyCovers ds a ⊎ Covers d a → (Covers x a ⊎ AnyCovers ds a) ⊎ Covers d a
-            by (inl k) = inl (inr k)
-            by (inr k) = inr k
+            by : Covers d a ⊎ AnyCovers ds a → Covers d a ⊎ (Covers x a ⊎ AnyCovers ds a)
+            by (inl k) = inl k
+            by (inr k) = inr (inr k)
 
-        back : (Covers x a ⊎ AnyCovers ds a) ⊎ Covers d a → Covers x a ⊎ AnyCovers (ds ++ d ∷ []) a
-        back (inl (inl h)) = inl h
-        back (inl (inr h)) = inr (w.1 (inl h))
-        back (inr h) = inr (w.1 (inr h))
+        back : Covers d a ⊎ (Covers x a ⊎ AnyCovers ds a) → Covers x a ⊎ AnyCovers (ds ++ d ∷ []) a
+        back (inl h) = inr (w.1 (inl h))
+        back (inr (inl h)) = inl h
+        back (inr (inr h)) = inr (w.1 (inr h))
 
--- one edit more whose debts are known
-module _ (cs left later : List Change) (c : Change) (a : Address) (split : left ≡ c ∷ later) (old : List Debt) (all : (AnyCovers old a ⊎ IsOwed left a) ↔ IsOwed cs a) where
-  now : (AnyCovers old a ⊎ (IsOwedBy c later a ⊎ IsOwed later a)) ↔ IsOwed cs a
-  now = subst (λ xs. (AnyCovers old a ⊎ IsOwed xs a) ↔ IsOwed cs a) split all
+pub none_pushed : (ds : List Debt) (a : Address) → AnyCovers ds a ↔ (⊥ ⊎ AnyCovers ds a)
+none_pushed ds a = (there, back)
+  where
+    there : AnyCovers ds a → ⊥ ⊎ AnyCovers ds a
+    there h = inr h
 
-  pub no_debt : (⊥ ↔ IsOwedBy c later a) → (AnyCovers old a ⊎ IsOwed later a) ↔ IsOwed cs a
-  no_debt none = ((λ h. now.0 (in_now h)), (λ h. out (now.1 h)))
-    where
-      in_now : AnyCovers old a ⊎ IsOwed later a → AnyCovers old a ⊎ (IsOwedBy c later a ⊎ IsOwed later a)
-      in_now (inl h) = inl h
-      in_now (inr h) = inr (inr h)
+    back : ⊥ ⊎ AnyCovers ds a → AnyCovers ds a
+    back (inl h) = absurd h
+    back (inr h) = h
 
-      out : AnyCovers old a ⊎ (IsOwedBy c later a ⊎ IsOwed later a) → AnyCovers old a ⊎ IsOwed later a
-      out (inl h) = inl h
-      out (inr (inl h)) = absurd (none.1 h)
-      out (inr (inr h)) = inr h
+-- one edit more in front, whose debt is known
+pub owed_more : (c : Change) (later : List Change) (owed : Option Debt) (old new : List Debt) (a : Address) → (MayCover owed a ↔ IsOwedBy c later a) → (AnyCovers old a ↔ IsOwed later a) → (AnyCovers new a ↔ (MayCover owed a ⊎ AnyCovers old a))
+    → AnyCovers new a ↔ IsOwed (c ∷ later) a
+owed_more c later owed old new a one all push = ((λ h. out (push.0 h)), (λ h. push.1 (back h)))
+  where
+    out : MayCover owed a ⊎ AnyCovers old a → IsOwedBy c later a ⊎ IsOwed later a
+    out (inl h) = inl (one.0 h)
+    out (inr h) = inr (all.0 h)
 
-  pub debt_more : (d : Debt) → (Covers d a ↔ IsOwedBy c later a) → (AnyCovers (old ++ d ∷ []) a ⊎ IsOwed later a) ↔ IsOwed cs a
-  debt_more d one = ((λ h. now.0 (in_now h)), (λ h. out (now.1 h)))
-    where
-      in_now : AnyCovers (old ++ d ∷ []) a ⊎ IsOwed later a → AnyCovers old a ⊎ (IsOwedBy c later a ⊎ IsOwed later a)
-      in_now (inl h) = by ((either old d a).0 h)
-        where
-          by : AnyCovers old a ⊎ Covers d a → AnyCovers old a ⊎ (IsOwedBy c later a ⊎ IsOwed later a)
-          by (inl k) = inl k
-          by (inr k) = inr (inl (one.0 k))
-      in_now (inr h) = inr (inr h)
-
-      out : AnyCovers old a ⊎ (IsOwedBy c later a ⊎ IsOwed later a) → AnyCovers (old ++ d ∷ []) a ⊎ IsOwed later a
-      out (inl h) = inl ((either old d a).1 (inl h))
-      out (inr (inl h)) = inl ((either old d a).1 (inr (one.1 h)))
-      out (inr (inr h)) = inr h
+    back : IsOwedBy c later a ⊎ IsOwed later a → MayCover owed a ⊎ AnyCovers old a
+    back (inl h) = inl (one.1 h)
+    back (inr h) = inr (all.1 h)

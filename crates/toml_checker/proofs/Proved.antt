@@ -2,7 +2,6 @@
 pub use Rattle.toml_checker.proofs.Flags.{flags_tell}
 pub use Rattle.toml_checker.proofs.LowUnits.{units_are_low}
 pub use Rattle.toml_checker.proofs.ProtectedUnits.{inner_are_protected, protected_are_carried}
-pub use Rattle.toml_checker.proofs.Sides.{sides_are_right}
 pub use Rattle.toml_checker.proofs.Sentence.{certified_stand}
 pub use Rattle.toml_checker.proofs.Verdicts.{certified_is_all_demands, one_verdict}
 pub use Rattle.toml_checker.proofs.FindingLaws.{found_is_met, judged_search, one_reason, never_bad_pair, unmet_is_none}

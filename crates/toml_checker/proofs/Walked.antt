@@ -11,7 +11,7 @@ use Rattle.toml_units.specs.Units.{TextUnit}
 use Rattle.toml_units.specs.View.{unit, all_units}
 use Rattle.toml_checker.specs.declared.tables.Part.{Part}
 use Rattle.toml_checker.specs.Plain.{stands, is_named, next_line, is_kept, Site, site, made_site, flags_from, flags, TellProtected}
-use Rattle.toml_checker.specs.Sides.{side}
+use Rattle.toml_edits.specs.Sides.{side}
 use Rattle.toml_checker.proofs.CarriedSoFar.{dropped}
 use Rattle.toml_checker.proofs.Flags.{stands_nowhere, flags_tell}
 

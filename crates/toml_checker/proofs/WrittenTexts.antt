@@ -2,7 +2,6 @@
 use Rattle.std.proofs.Common.{◌≡◌, ℕ, ◌<◌, inl, inr, List, [], ◌∷◌, ◌++◌, map, Option, Some, None, refl, sym, ap, subst, ◌∙◌}
 use Rattle.std.specs.List.{filter, flat_map}
 use Rattle.std.specs.Prelude.{Contains}
-use Rattle.std.proofs.lemmas.List.{append-nil}
 use Rattle.toml_tree.proofs.Proved.{one_value}
 use Rattle.toml_names.specs.model.Addresses.{Address}
 use Rattle.toml_edits.specs.Edits.{Change, set, insert, rename, remove, new_section, new_element, place}
@@ -88,7 +87,3 @@ writes_it (c ∷ cs) (w ∷ ws) h u (inr k) = inr (writes_it cs ws h.1 u k)
 pub flat_lists : (ws : List Written) → flat_map (λ (w : Written). plain w.texts.items) ws ≡ flat_map (λ (ts : List (List ℕ)). ts) (lists ws)
 flat_lists [] = refl
 flat_lists (w ∷ ws) = ap (λ rest. plain w.texts.items ++ rest) (flat_lists ws)
-
--- a loop that ends has them all
-pub all_there : (cs left : List Change) (ws : List Written) → left ≡ [] → ((rest : List Written) → AreWrittenBy left rest → AreWrittenBy cs (ws ++ rest)) → AreWrittenBy cs ws
-all_there cs left ws none h = subst (AreWrittenBy cs) (append-nil ws) (h [] (subst (λ xs. AreWrittenBy xs []) (sym none) tt))

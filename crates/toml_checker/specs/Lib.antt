@@ -14,13 +14,9 @@ pub mod After
 pub mod Laws
 pub mod Headline
 -- words of the code's own contracts
-pub mod Sides
-pub mod Areas
-pub mod Levels
-pub mod Fronts
 pub mod EditLists
+pub mod Longer
 pub mod Plain
-pub mod Runs
 pub mod Sights
 pub mod Marks
 pub mod Debts

@@ -10,32 +10,11 @@ use Rattle.toml_units.specs.declared.unit.UnitKind.TheVariants as kinds
 use Rattle.toml_units.specs.Places.{is_line}
 use Rattle.toml_units.specs.Units.{TextUnit}
 use Rattle.toml_units.specs.View.{all_units, spanned}
-use Rattle.toml_checker.specs.declared.moving.Way.{Way}
-use Rattle.toml_checker.specs.declared.moving.Way.TheVariants.{First, Own}
-use Rattle.toml_checker.specs.declared.side.Side.{Side}
-use Rattle.toml_checker.specs.declared.side.Side.TheVariants.{Apart, Above, At, Below}
+use Rattle.toml_edits.specs.declared.side.Side.{Side}
 use Rattle.toml_checker.specs.declared.tables.Part.{Part}
 use Rattle.toml_checker.specs.declared.tables.Part.TheVariants as parts
 use Rattle.toml_checker.specs.Protected.{IsProtected}
-use Rattle.toml_checker.specs.Sides.{side}
-
-abbrev pub is_at_or_above : Side → Bool
-is_at_or_above Apart = false
-is_at_or_above Above = true
-is_at_or_above At = true
-is_at_or_above Below = false
-
-abbrev pub is_above : Side → Bool
-is_above Above = true
-is_above _ = false
-
-abbrev pub is_at : Side → Bool
-is_at At = true
-is_at _ = false
-
-abbrev pub is_below : Side → Bool
-is_below Below = true
-is_below _ = false
+use Rattle.toml_edits.specs.Sides.{is_above, is_at, is_at_or_above, is_below, side}
 
 abbrev pub removes : Change → Side → Bool
 removes (remove at) s = is_at_or_above s
@@ -78,18 +57,6 @@ is_named parts.Line c base s = line_is_gone c base s || line_is_changed c base s
 is_named parts.Home c base s = line_is_gone c base s
 is_named parts.Element c base s = part_is_gone c s || is_below s
 is_named parts.Comment c base s = part_is_gone c s
-
--- what is asked for a comment: its line, or itself
-abbrev pub is_of_comment : Part → Bool
-is_of_comment parts.Line = false
-is_of_comment parts.Home = true
-is_of_comment parts.Element = false
-is_of_comment parts.Comment = true
-
--- where a thing stands on its way
-abbrev pub here : Way → Address
-here (First a) = a.now
-here (Own a) = a
 
 -- no edit names it, each where those before it have carried it
 abbrev pub stands : Part → List Change → Option Address → Option ℕ → Bool

@@ -21,7 +21,7 @@ use Rattle.toml_checker.specs.declared.added.Asked.{Asked}
 use Rattle.toml_checker.specs.declared.edit_list.EditList.{EditList}
 use Rattle.toml_checker.specs.declared.kept.Fate.{Fate}
 use Rattle.toml_checker.specs.declared.pairs.Spot.{Spot}
-use Rattle.toml_checker.specs.declared.sight.Sight.{Sight}
+use Rattle.toml_edits.specs.declared.walking.Sight.{Sight}
 use Rattle.toml_checker.specs.declared.walk.FirstText.{FirstText}
 use Rattle.toml_checker.specs.declared.walk.SecondText.{SecondText}
 use Rattle.toml_checker.specs.declared.walk.Found.{Found}

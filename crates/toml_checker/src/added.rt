@@ -1,9 +1,8 @@
 //! That no line and no comment is added unasked.
-ghost use Rattle.std.specs.Prelude.{◌≡◌, ◌↔◌, ◌∷◌, ◌++◌, [], ℕ, List, IsTrue, IfOk, OnOk, map};
-ghost use Rattle.toml_edits.specs.Edits.{change};
+ghost use Rattle.std.specs.Prelude.{◌≡◌, ◌↔◌, ◌∷◌, ◌++◌, [], ℕ, List, IsTrue, IfOk, OnOk};
 ghost use Rattle.toml_units.specs.Places.{is_line};
 ghost use Rattle.toml_units.specs.View.{unit as span_of};
-ghost use Rattle.toml_checker.specs.Added.{AddsText, AreAllowedWith, Asks, HasAdded, IsLineAsked, met_of};
+ghost use Rattle.toml_checker.specs.Added.{AddsText, AreAllowedWith, HasAdded, IsLineAsked, met_of};
 ghost use Rattle.toml_checker.specs.CarriedTo.{At};
 ghost use Rattle.toml_checker.specs.Debts.{AnyCovers, IsAsked};
 ghost use Rattle.toml_checker.specs.UnmarkedComments.{text_at};
@@ -12,38 +11,21 @@ ghost use Rattle.toml_checker.specs.Walking.{AddsNoComments};
 ghost use Rattle.toml_checker.specs.WrittenComments.{IsAllowed};
 
 use crate::counting::no_more;
-use crate::debts::{Debt, any_covers, debts};
+use crate::debts::{Debt, any_covers};
 use crate::marks::{reach_with, reaches};
 use crate::pairs::has_no_bytes;
 use crate::unmarked::{is_unmarked, text_at};
-use crate::written::{Written, all_texts, all_written, any_writes};
+use crate::written::{Written, all_texts, any_writes};
 use std::alloc::{AllocError, Global};
-use toml_edits::Edit;
 use toml_names::Address;
-use toml_tree::Profile;
 use toml_units::{Unit, UnitKind};
 
 /// What edits ask for: what they owe, the comments that they write, and whether there are any.
 #[derive(Drop)]
 pub(crate) struct Asked<'e> {
-    debts: Vec<Debt>,
-    written: Vec<Written<'e>>,
-    edited: bool,
-}
-
-/// What the edits ask for, their values read in the profile.
-pub(crate) fn asked_by<'e>(
-    alloc: Global,
-    edits: &'e [Edit],
-    profile: Profile,
-) -> Result<Asked<'e>, AllocError>
-    ensures { IfOk result (Asks profile (map change edits.now)) }
-{
-    Ok(Asked {
-        debts: debts(alloc, edits)?,
-        written: all_written(alloc, edits, profile)?,
-        edited: !edits.is_empty(),
-    })
+    pub(crate) debts: Vec<Debt>,
+    pub(crate) written: Vec<Written<'e>>,
+    pub(crate) edited: bool,
 }
 
 /// Whether the unit is a line.

@@ -1,13 +1,14 @@
 //! What edits owe.
-ghost use Rattle.std.specs.Prelude.{◌≡◌, ◌↔◌, ◌⊎◌, ◌∷◌, [], IsTrue, IfOk, List, map, option_map};
+ghost use Rattle.std.specs.Prelude.{◌≡◌, ◌↔◌, ◌⊎◌, IsTrue, IfOk, OnOk, option_map};
 ghost use Rattle.toml_checker.specs.Debts.{Covers, AnyCovers, MayCover, IsOwedBy};
+ghost use Rattle.toml_checker.specs.EditLists.{changes};
 ghost use Rattle.toml_checker.specs.Owed as owed;
 ghost use Rattle.toml_edits.specs.Edits.{change};
 ghost use Rattle.toml_edits.specs.Carry.{parted};
 ghost use Rattle.toml_names.specs.model.Addresses.{Address as Steps, child};
 
 use crate::above::is_at_or_above;
-use crate::along::carried_along;
+use crate::edit_list::EditList;
 use std::alloc::{AllocError, Global};
 use toml_edits::Edit;
 use toml_names::{Address, Name, Step};
@@ -66,13 +67,17 @@ fn result_of(alloc: Global, edit: &Edit) -> Result<Option<Address>, AllocError>
 }
 
 /// What an edit owes behind the edits that follow it; nothing, where its result is carried nowhere.
-fn owed_by(alloc: Global, edit: &Edit, later: &[Edit]) -> Result<Option<Debt>, AllocError>
-    ensures { IfOk result (λ d. (a : Steps) → MayCover d a ↔ IsOwedBy (change edit.now) (map change later.now) a) }
+pub(crate) fn owed_by(
+    alloc: Global,
+    edit: &Edit,
+    later: &EditList,
+) -> Result<Option<Debt>, AllocError>
+    ensures { IfOk result (λ d. (a : Steps) → MayCover d a ↔ IsOwedBy (change edit.now) (changes later.now) a) }
 {
     let Some(made) = result_of(alloc, edit)? else {
         return Ok(None);
     };
-    let Some(at) = carried_along(alloc, later, made)? else {
+    let Some(at) = later.carry(alloc, &made)? else {
         return Ok(None);
     };
     Ok(Some(Debt {
@@ -81,19 +86,14 @@ fn owed_by(alloc: Global, edit: &Edit, later: &[Edit]) -> Result<Option<Debt>, A
     }))
 }
 
-/// What the edits owe, each result carried once through the edits that follow.
-pub(crate) fn debts(alloc: Global, edits: &[Edit]) -> Result<Vec<Debt>, AllocError>
-    ensures { IfOk result (λ ds. (a : Steps) → AnyCovers ds.items a ↔ owed.IsOwed (map change edits.now) a) }
+/// Adds what an edit owes, if anything.
+pub(crate) fn push_owed(debts: &mut Vec<Debt>, owed: Option<Debt>) -> Result<(), AllocError>
+    ensures { OnOk result ((a : Steps) → AnyCovers debts.new.items a ↔ (MayCover owed a ⊎ AnyCovers debts.old.items a)) }
 {
-    let mut debts = Vec::new(alloc);
-    let mut left = edits;
-    while let Some((edit, later)) = left.split_first() {
-        if let Some(owed) = owed_by(alloc, edit, later)? {
-            debts.push(owed)?;
-        }
-        left = later;
+    if let Some(debt) = owed {
+        debts.push(debt)?;
     }
-    Ok(debts)
+    Ok(())
 }
 
 impl Debt {

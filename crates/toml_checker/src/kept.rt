@@ -8,8 +8,8 @@ ghost use Rattle.toml_checker.specs.Traces.{kept_past, must_pair, nothing_kept, 
 use crate::edit_list::EditList;
 use crate::marks::{reach_with, reaches};
 use crate::protection::{home_with, is_kept};
-use crate::sight::Sight;
 use std::alloc::{AllocError, Global};
+use toml_edits::Sight;
 use toml_units::Unit;
 
 /// What was found of the units of the first text that were walked past.

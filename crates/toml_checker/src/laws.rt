@@ -6,7 +6,7 @@ ghost use Rattle.toml_checker.specs.Laws.{BlankLinesArePartners, CommentsStayTog
 ghost use Rattle.toml_checker.specs.Laws.{UnitsAreLow, InnerAreProtected, ProtectedAreCarried, CertifiedIsAllDemands, OneVerdict};
 ghost use Rattle.toml_checker.specs.Plain.{FlagsTell};
 ghost use Rattle.toml_checker.specs.SearchLaws.{OneCertificate, OneSearch, OuterIsSearched, SearchFinds, SearchServes, StuckIsLost};
-ghost use Rattle.toml_checker.specs.Sides.{SidesAreRight};
+ghost use Rattle.toml_checker.specs.Sights.{SeenIsStands};
 
 /// What lies in a protected unit is protected and carried along with it; a protected unit is carried to an address.
 pub fn protection()
@@ -25,10 +25,10 @@ pub fn verdicts()
     ensures one { OneVerdict }
 {}
 
-/// The plain functions say where places lie, and which units are protected.
+/// The plain functions say which units are protected, and what is seen of a list of edits, which of its edits name them.
 pub fn plain()
-    ensures sides { SidesAreRight }
     ensures flags { FlagsTell }
+    ensures seen { SeenIsStands }
 {}
 
 /// What is certified has the headline's meaning: two documents, the data that the edits make, a partner of its own for

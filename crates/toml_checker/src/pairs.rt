@@ -8,9 +8,9 @@ ghost use Rattle.toml_checker.specs.Walking.{AreAlikeAt, bytes_at};
 
 use crate::arriving::is_carried_to;
 use crate::edit_list::EditList;
-use crate::sight::Sight;
 use crate::unmarked::text_at;
 use std::alloc::{AllocError, Global};
+use toml_edits::Sight;
 use toml_units::{Unit, UnitKind};
 
 /// A unit of a text, and the newline of its line.

@@ -2,32 +2,43 @@
 ghost use Rattle.std.specs.Prelude.{◌≡◌, map, Some, IfOk, Option, ℕ, true};
 ghost use Rattle.toml_edits.specs.Edits.{change};
 ghost use Rattle.toml_checker.specs.EditLists.{changes};
-ghost use Rattle.toml_checker.specs.Sights.{HasSight, StandsBySight};
+ghost use Rattle.toml_checker.specs.Sights.{HasSight};
 ghost use Rattle.toml_checker.specs.Plain.{stands, made_site, home_with, is_kept_by, TellProtectedOf};
 
 use crate::edit_list::EditList;
-use crate::moving::Way;
-use crate::side::side_of;
-use crate::sight::Sight;
-use crate::tables::{Part, is_named, is_of_comment};
+use crate::sight::stands_by;
+use crate::tables::{Part, is_named};
 use std::alloc::{AllocError, Global};
-use toml_edits::{Edit, place};
+use toml_edits::{Edit, Sight, carry, place, side_of};
 use toml_names::Address;
 use toml_units::{Unit, UnitKind};
 
-/// Whether the sight of an address shows that no edit names the part at it.
-fn is_shown(part: Part, sight: Sight) -> bool
-    ensures { result ≡ true → StandsBySight part sight }
-{
-    match sight {
-        Sight::Far | Sight::Covered => true,
-        Sight::Within | Sight::Clear => is_of_comment(part),
-        Sight::Near => false,
-    }
-}
-
 /// Whether no edit names the part at the address, each where those before it have carried it. What stands nowhere is named
 /// no more.
+fn stands_along(
+    alloc: Global,
+    part: Part,
+    edits: &[Edit],
+    first: &Address,
+    base: Option<usize>,
+) -> Result<bool, AllocError>
+    ensures { IfOk result (λ b. b ≡ stands part (map change edits.now) (Some first.now) base) }
+{
+    let mut here = first.copy(alloc)?;
+    for edit in edits {
+        let side = side_of(place(edit).steps(), here.steps());
+        if is_named(part, edit, base, side) {
+            return Ok(false);
+        }
+        match carry(alloc, edit, &here)? {
+            Some(next) => here = next,
+            None => return Ok(true),
+        }
+    }
+    Ok(true)
+}
+
+/// The same of an address that has this sight.
 fn stands_at(
     alloc: Global,
     part: Part,
@@ -39,21 +50,11 @@ fn stands_at(
     requires { HasSight list.now (Some first.now) sight }
     ensures { IfOk result (λ b. b ≡ stands part (changes list.now) (Some first.now) base) }
 {
-    if is_shown(part, sight) {
-        return Ok(true);
+    match sight {
+        Sight::Unknown => stands_along(alloc, part, list.edits, first, base),
+        Sight::Nowhere => Ok(false),
+        Sight::Somewhere(trace) => Ok(stands_by(part, base, trace)),
     }
-    let mut way = Way::First(first);
-    for edit in list.edits {
-        let side = side_of(place(edit).steps(), way.at().steps());
-        if is_named(part, edit, base, side) {
-            return Ok(false);
-        }
-        match way.on(alloc, edit)? {
-            Some(next) => way = next,
-            None => return Ok(true),
-        }
-    }
-    Ok(true)
 }
 
 /// The same of a unit, which may have no address.
@@ -140,7 +141,7 @@ pub(crate) fn home_with(
 pub fn protected(alloc: Global, units: &[Unit], edits: &[Edit]) -> Result<Vec<bool>, AllocError>
     ensures { IfOk result (λ flags. TellProtectedOf units.now (map change edits.now) flags.items) }
 {
-    let mut list = EditList::of(alloc, edits)?;
+    let list = EditList::of(alloc, edits)?;
     let mut flags = Vec::with_capacity(alloc, units.len())?;
     let mut home = true;
     for unit in units {

@@ -9,10 +9,9 @@ ghost use Rattle.toml_units.specs.Cursors.{Goes, Walks, current};
 ghost use Rattle.toml_checker.specs.SearchWalking.{IsEndedOf, IsSearchGoing, MovesSecond, SearchesAll, Seeks, StepsOn};
 ghost use Rattle.toml_checker.specs.Walking.{IsOn, SeesNext};
 
-use crate::sight::Sight;
 use crate::walk::{Found, Walk, is_pair};
 use std::alloc::{AllocError, Global};
-use toml_edits::Edit;
+use toml_edits::{Edit, Sight};
 use toml_text::Source;
 use toml_tree::Profile;
 use toml_units::UnitCursor;
@@ -44,7 +43,7 @@ impl<'e, 's, 't> Walk<'e, 's, 't> {
         requires some { IsSome (current self.old.one.cursor) }
         ensures { StepsOn self.old pairs.old.items self.new pairs.new.items result }
     {
-        let sight = self.one.look(&mut self.list);
+        let sight = self.one.look(&self.list);
         let fate = self.one.fate(alloc, &self.list, sight)?;
         if !self.one.must_pair(fate) {
             self.one.pass(alloc, fate, false)?;

@@ -1,56 +1,41 @@
-//! What shows at once of how a list of edits treats what stands at an address.
-ghost use Rattle.std.specs.Prelude.{◌≡◌};
-ghost use Rattle.toml_checker.specs.Sights.{HasSight};
+//! What edits do to a unit, by what the tree of their list shows of it.
+ghost use Rattle.std.specs.Prelude.{◌≡◌, ℕ};
+ghost use Rattle.toml_checker.specs.Sights.{line_is_left, more_than, seen_by, stands_by};
 
-use crate::edit_list::EditList;
-use crate::fronts::Lead;
-use crate::runs::run_at;
-use toml_units::Unit;
+use crate::tables::Part;
+use toml_edits::Trace;
 
-/// What shows of a unit, so that most need not be asked of each edit.
-#[derive(Clone, Copy)]
-pub(crate) enum Sight {
-    /// It has no address, or that is apart from the areas of all edits.
-    Far,
-    /// It is an element of the run, or below one.
-    Covered,
-    /// The array of the run is at its address, or below that. Then no edit moves what is there, or takes away a comment of it.
-    Within,
-    /// No area of an edit is at its address or above it. Then no edit moves what is there, or takes away a comment of it.
-    Clear,
-    /// Nothing shows: each edit has to be asked.
-    Near,
+/// Whether a place of more steps than these is renamed.
+fn is_past(renamed: Option<usize>, steps: usize) -> bool
+    ensures { result ≡ more_than steps renamed }
+{
+    match renamed {
+        Some(deepest) => steps < deepest,
+        None => false,
+    }
 }
 
-impl<'e> EditList<'e> {
-    /// A sight of the unit: that it is so is proved, that it is the most telling one is not. The run of the unit is made, if there
-    /// is one, where it has an address that the last run does not cover and of which the steps show nothing; else the last run
-    /// stays. None is made at the array of the last run, or above that: comments between elements do not have the edits gone
-    /// through.
-    pub(crate) fn come_to(&mut self, unit: &Unit) -> Sight
-        ensures edits { self.new.edits.now ≡ self.old.edits.now }
-        ensures sight { HasSight self.new unit.now.address result }
-    {
-        let Some(at) = &unit.address else {
-            return Sight::Far;
-        };
-        if self.is_covered(at.steps()) {
-            return Sight::Covered;
+/// Whether a line or a pair stays as it is.
+fn line_is_left(base: Option<usize>, trace: Trace) -> bool
+    ensures { result ≡ line_is_left base (seen_by trace) }
+{
+    match base {
+        None => !(trace.set || is_past(trace.renamed, 0)),
+        Some(steps) => {
+            let changed = trace.below || is_past(trace.renamed, steps);
+            !(trace.set || changed)
         }
-        if self.is_within(at.steps()) {
-            return Sight::Within;
-        }
-        match self.fronts.lead(at.steps()) {
-            Lead::Away => return Sight::Far,
-            Lead::Clear => return Sight::Clear,
-            Lead::Unknown => {}
-        }
-        match run_at(self.edits, at.steps()) {
-            Some(run) => {
-                self.run = Some(run);
-                Sight::Covered
-            }
-            None => Sight::Near,
-        }
+    }
+}
+
+/// Whether no edit names the part at the base, of a thing that stands somewhere in the end.
+pub(crate) fn stands_by(part: Part, base: Option<usize>, trace: Trace) -> bool
+    ensures { result ≡ stands_by part base (seen_by trace) }
+{
+    match part {
+        Part::Line => line_is_left(base, trace),
+        Part::Home => base.is_some() || !trace.set,
+        Part::Element => !(trace.set || trace.below),
+        Part::Comment => !trace.set,
     }
 }

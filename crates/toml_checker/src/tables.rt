@@ -1,10 +1,10 @@
 //! What edits take away and change, read off where their places lie.
 ghost use Rattle.std.specs.Prelude.{◌≡◌};
 ghost use Rattle.toml_edits.specs.Edits.{change};
-ghost use Rattle.toml_checker.specs.Plain.{is_at_or_above, removes, sets, sets_above, sets_it, renames, renames_in, part_is_gone, line_is_gone, line_is_changed, is_named, is_of_comment};
+ghost use Rattle.toml_edits.specs.Sides.{is_at_or_above};
+ghost use Rattle.toml_checker.specs.Plain.{removes, sets, sets_above, sets_it, renames, renames_in, part_is_gone, line_is_gone, line_is_changed, is_named};
 
-use crate::side::Side;
-use toml_edits::Edit;
+use toml_edits::{Edit, Side};
 
 /// What a unit is asked for.
 #[derive(Clone, Copy, Debug, Drop, PartialEq, Eq)]
@@ -19,7 +19,7 @@ pub enum Part {
     Comment,
 }
 
-pub(crate) fn is_at_or_above(side: Side) -> bool
+fn is_at_or_above(side: Side) -> bool
     ensures { result ≡ is_at_or_above side }
 {
     match side {
@@ -114,16 +114,6 @@ fn line_is_changed(edit: &Edit, base: Option<usize>, side: Side) -> bool
         Some(steps) => {
             sets_it(edit, side) || side == Side::Below || renames_in(edit, steps, side)
         }
-    }
-}
-
-/// Whether it is asked for a comment: its line, or itself.
-pub(crate) fn is_of_comment(part: Part) -> bool
-    ensures { result ≡ is_of_comment part }
-{
-    match part {
-        Part::Home | Part::Comment => true,
-        Part::Line | Part::Element => false,
     }
 }
 

@@ -11,13 +11,13 @@ ghost use Rattle.toml_checker.specs.Traces.{must_pair};
 ghost use Rattle.toml_checker.specs.Walking.{AddsNext, CanPass, FinishesOff, GoesOn, HasPassed, HasReached, IsBegun, IsFound, IsGoing, IsFate};
 ghost use Rattle.toml_checker.specs.Walking.{IsOn, PassesWith, PassingTo, Reaching, ReachingTo, SeesNext, TellsAll, TellsNext, TellsPair, lies_ahead};
 
-use crate::added::{Added, Asked, asked_by};
+use crate::added::{Added, Asked};
+use crate::asking::asked_by;
 use crate::edit_list::EditList;
 use crate::kept::{Fate, Kept};
 use crate::pairs::{Spot, are_alike};
-use crate::sight::Sight;
 use std::alloc::{AllocError, Global};
-use toml_edits::Edit;
+use toml_edits::{Edit, Sight};
 use toml_names::LineNames;
 use toml_text::Source;
 use toml_tree::Profile;
@@ -67,13 +67,12 @@ impl<'t> FirstText<'t> {
     }
 
     /// The sight of the unit before which it stands. Behind the last one there is nothing to be seen.
-    pub(crate) fn look(&self, list: &mut EditList) -> Sight
-        ensures list { list.new.edits.now ≡ list.old.edits.now }
-        ensures sees { SeesNext list.new self.now result }
+    pub(crate) fn look(&self, list: &EditList) -> Sight
+        ensures { SeesNext list.now self.now result }
     {
         match self.cursor.unit() {
             Some(unit) => list.come_to(unit),
-            None => Sight::Near,
+            None => Sight::Unknown,
         }
     }
 
@@ -120,13 +119,12 @@ impl<'t> FirstText<'t> {
     fn pass_to(
         &mut self,
         alloc: Global,
-        list: &mut EditList,
+        list: &EditList,
         number: Option<u64>,
     ) -> Result<(), AllocError>
         requires { Goes self.old.cursor }
-        ensures list { list.new.edits.now ≡ list.old.edits.now }
         ensures text { self.new.text ≡ self.old.text }
-        ensures passes { PassingTo (changes list.old) self.old number self.new result }
+        ensures passes { PassingTo (changes list.now) self.old number self.new result }
     {
         while lies_ahead(number, self.passed) && self.cursor.unit().is_some() {
             let sight = self.look(list);
@@ -282,9 +280,10 @@ impl<'e, 's, 't> Walk<'e, 's, 't> {
         requires after { text_of other ≡ after.now }
         ensures { IfOk result (IsBegun profile before.now (map change edits.now) after.now) }
     {
+        let (list, asked) = asked_by(alloc, edits, profile)?;
         Ok(Walk {
-            list: EditList::of(alloc, edits)?,
-            asked: asked_by(alloc, edits, profile)?,
+            list,
+            asked,
             one: FirstText::new(before, cursor),
             other: SecondText::new(alloc, after, other, profile)?,
         })
@@ -295,9 +294,9 @@ impl<'e, 's, 't> Walk<'e, 's, 't> {
         requires { IsGoing self.old }
         ensures { TellsNext self.old pair self.new result }
     {
-        self.one.pass_to(alloc, &mut self.list, Some(pair.0))?;
+        self.one.pass_to(alloc, &self.list, Some(pair.0))?;
         self.other.pass_to(alloc, &self.asked, Some(pair.1))?;
-        let sight = self.one.look(&mut self.list);
+        let sight = self.one.look(&self.list);
         if !is_pair(alloc, &self.list, sight, &self.one, &self.other, pair)? {
             return Ok(false);
         }
@@ -326,12 +325,12 @@ impl<'e, 's, 't> Walk<'e, 's, 't> {
         ensures { FinishesOff self.entry fits result }
     {
         let Walk {
-            mut list,
+            list,
             asked,
             mut one,
             mut other,
         } = self;
-        one.pass_to(alloc, &mut list, None)?;
+        one.pass_to(alloc, &list, None)?;
         other.pass_to(alloc, &asked, None)?;
         let FirstText { cursor, kept, .. } = one;
         let SecondText {

@@ -1,17 +1,18 @@
 //! The comments that edits write.
-ghost use Rattle.std.specs.Prelude.{◌≡◌, ◌↔◌, ◌++◌, ℕ, List, IsTrue, IfOk, OnOk, map, string_bytes};
+ghost use Rattle.std.specs.Prelude.{◌≡◌, ◌↔◌, ◌++◌, ℕ, List, IsTrue, IfOk, OnOk, string_bytes};
 ghost use Rattle.std.specs.List.{flat_map};
 ghost use Rattle.toml_checker.specs.Comments.{AreCommentsOf, AreCommentsIn};
 ghost use Rattle.toml_checker.specs.Counts.{plain};
-ghost use Rattle.toml_checker.specs.WrittenComments.{HasValue, HaveValues, IsWrittenBy, AreWrittenBy, LiesBelow, Writes, AnyWrites};
+ghost use Rattle.toml_checker.specs.EditLists.{changes};
+ghost use Rattle.toml_checker.specs.WrittenComments.{HasValue, IsWrittenBy, LiesBelow, Writes, AnyWrites};
 ghost use Rattle.toml_edits.specs.Edits.{change};
 ghost use Rattle.toml_edits.specs.ValueTexts.{IsBadValue};
 ghost use Rattle.toml_tree.specs.Spells.{SpellsValue};
 ghost use Rattle.toml_tree.specs.View.{value as tree_value};
 
 use crate::above::is_at_or_above;
-use crate::along::carried_along;
 use crate::counting::{counted, has};
+use crate::edit_list::EditList;
 use crate::marks::no_marks;
 use crate::unmarked::{texts_of, unmarked};
 use std::alloc::{AllocError, Global};
@@ -87,35 +88,18 @@ fn comments_in<'e>(
 }
 
 /// What an edit writes, where the others follow it.
-fn written_by<'e>(
+pub(crate) fn written_by<'e>(
     alloc: Global,
     edit: &'e Edit,
-    later: &[Edit],
+    later: &EditList,
     profile: Profile,
 ) -> Result<Written<'e>, AllocError>
-    ensures { IfOk result (λ w. HasValue profile (change edit.now) → IsWrittenBy (change edit.now) (map change later.now) w) }
+    ensures { IfOk result (λ w. HasValue profile (change edit.now) → IsWrittenBy (change edit.now) (changes later.now) w) }
 {
     let texts = comments_in(alloc, edit, profile)?;
     let counts = counted(alloc, &texts)?;
-    let at = carried_along(alloc, later, place(edit).copy(alloc)?)?;
+    let at = later.carry(alloc, place(edit))?;
     Ok(Written { at, texts, counts })
-}
-
-/// What each of the edits writes, where no value is refused in the profile; each place carried once through the edits that follow.
-pub(crate) fn all_written<'e>(
-    alloc: Global,
-    edits: &'e [Edit],
-    profile: Profile,
-) -> Result<Vec<Written<'e>>, AllocError>
-    ensures { IfOk result (λ ws. HaveValues profile (map change edits.now) → AreWrittenBy (map change edits.now) ws.items) }
-{
-    let mut written = Vec::new(alloc);
-    let mut left = edits;
-    while let Some((edit, later)) = left.split_first() {
-        written.push(written_by(alloc, edit, later, profile)?)?;
-        left = later;
-    }
-    Ok(written)
 }
 
 /// Whether the place is at or above the address, if there are both.

@@ -10,7 +10,17 @@ pub mod Lists
 pub mod ListLaws
 pub mod Near
 pub mod NearLaws
+-- what a list does, as a tree
+pub mod Sides
+pub mod Trees
+pub mod Notes
+pub mod Fronts
+pub mod Fitting
+pub mod Runs
+pub mod Moves
+pub mod Told
 -- words of the code's own contracts
+pub mod Walks
 pub mod Readings
 pub mod Changed
 pub mod Courses

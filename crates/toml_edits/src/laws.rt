@@ -4,6 +4,9 @@ ghost use Rattle.toml_edits.specs.ListLaws.{CarriedKeepOrder, CarriedOn, Carried
 ghost use Rattle.toml_edits.specs.ListLaws.{FaultOrLead, LeadsStayClosed, OneFirstFault, OneLead, StaysClosed};
 ghost use Rattle.toml_edits.specs.NearLaws.{FaultsNear, FaultBeside, HiddenStays, LeadsBeside, LeadsNear};
 ghost use Rattle.toml_edits.specs.Laws.{CarriedAlong, CarriedFront, CarriedApart, DataAreClosed, FrontsStand, OneAfter, PartedAtLast};
+ghost use Rattle.toml_edits.specs.Fitting.{CarriedStayLow, CarriesRest};
+ghost use Rattle.toml_edits.specs.Notes.{SeenIsCarried};
+ghost use Rattle.toml_edits.specs.Sides.{SidesAreRight};
 ghost use Rattle.toml_edits.specs.Laws.{ElementIsEmpty, NewTablesStay, SectionIsEmpty, SetCarries, ValuesAreNew, ValuesStand};
 
 /// What is below an address is carried along with it, unless the edit is below the address or a `set` at it. A
@@ -86,4 +89,17 @@ pub fn near()
 pub fn near_faults()
     ensures faults { FaultsNear }
     ensures fault { FaultBeside }
+{}
+
+/// The plain function says where a place lies, seen from an address. What is removed, or lies strictly below what is set, is carried
+/// nowhere; all else is carried somewhere, where indices have room, and these rise by one at most.
+pub fn sides()
+    ensures sides { SidesAreRight }
+    ensures rest { CarriesRest }
+    ensures low { CarriedStayLow }
+{}
+
+/// What is seen of a list of edits is where it carries a thing.
+pub fn seen()
+    ensures { SeenIsCarried }
 {}

@@ -16,7 +16,7 @@ use Rattle.toml_checker.specs.declared.tables.Part.TheVariants as parts
 use Rattle.toml_checker.specs.CarriedTo.{At}
 use Rattle.toml_checker.specs.Comments.{is_comment}
 use Rattle.toml_checker.specs.Plain.{Site, site, next_line, stands, is_named, is_kept, home_stands}
-use Rattle.toml_checker.specs.Sides.{side}
+use Rattle.toml_edits.specs.Sides.{side}
 use Rattle.toml_editor.proofs.written.Way.{Step, both, old, new, one_line, is_here}
 use Rattle.toml_editor.proofs.written.WayOwed.{IsOwedBelow}
 

@@ -9,14 +9,14 @@ use Rattle.toml_edits.specs.Carry.{carry}
 use Rattle.toml_edits.specs.Edits.{Change, insert, rename, place}
 use Rattle.toml_units.specs.declared.unit.UnitKind.TheVariants as kinds
 use Rattle.toml_units.specs.Units.{TextUnit, line_units, units_from}
-use Rattle.toml_checker.specs.declared.side.Side.{Side}
-use Rattle.toml_checker.specs.declared.side.Side.TheVariants as sides
+use Rattle.toml_edits.specs.declared.side.Side.{Side}
+use Rattle.toml_edits.specs.declared.side.Side.TheVariants as sides
 use Rattle.toml_checker.specs.declared.tables.Part.TheVariants as parts
 use Rattle.toml_checker.specs.CarriedTo.{IsAtOrAbove, At}
 use Rattle.toml_checker.specs.Comments.{is_comment}
 use Rattle.toml_checker.specs.Plain.{Site, site, next_line, stands, is_named}
-use Rattle.toml_checker.specs.Sides.{side}
-use Rattle.toml_checker.proofs.Proved.{sides_are_right}
+use Rattle.toml_edits.specs.Sides.{side}
+use Rattle.toml_edits.proofs.Proved.{sides_are_right}
 use Rattle.toml_editor.specs.ChangedUnits.{LiesInValue}
 use Rattle.toml_editor.specs.RenamedUnits.{IsCarried, GoTogether}
 use Rattle.toml_editor.specs.UnitBlocks.{BeginWithLine}

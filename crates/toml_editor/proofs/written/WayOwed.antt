@@ -8,17 +8,16 @@ use Rattle.toml_edits.specs.Carry.{carry}
 use Rattle.toml_edits.specs.Edits.{Change, set, insert, rename, remove, new_section, new_element, place}
 use Rattle.toml_edits.specs.Laws.{IsNotSet}
 use Rattle.toml_edits.specs.Lists.{carried}
-use Rattle.toml_edits.proofs.Proved.{carried_along, carried_front}
+use Rattle.toml_edits.proofs.Proved.{carried_along, carried_front, sides_are_right}
 use Rattle.toml_units.specs.Units.{TextUnit}
-use Rattle.toml_checker.specs.declared.side.Side.TheVariants as sides
+use Rattle.toml_edits.specs.declared.side.Side.TheVariants as sides
 use Rattle.toml_checker.specs.declared.tables.Part.{Part}
 use Rattle.toml_checker.specs.declared.tables.Part.TheVariants as parts
 use Rattle.toml_checker.specs.CarriedTo.{IsAtOrAbove, IsCarriedTo, At}
 use Rattle.toml_checker.specs.Comments.{IsWritten}
 use Rattle.toml_checker.specs.Owed.{result, Owes, IsOwed}
 use Rattle.toml_checker.specs.Plain.{stands, is_named}
-use Rattle.toml_checker.specs.Sides.{side}
-use Rattle.toml_checker.proofs.Proved.{sides_are_right}
+use Rattle.toml_edits.specs.Sides.{side}
 
 -- what holds of an address holds of itself, where no edit carries it
 at_itself : (P : Address → Type 0) (r q : Address) → carried [] r ≡ Some q → P q → P r

@@ -14,15 +14,15 @@ use Rattle.toml_units.specs.declared.unit.UnitKind.{UnitKind}
 use Rattle.toml_units.specs.declared.unit.UnitKind.TheVariants as kinds
 use Rattle.toml_units.specs.Places.{is_line}
 use Rattle.toml_units.specs.Units.{TextUnit, comment_units, inside, units}
-use Rattle.toml_checker.specs.declared.side.Side.{Side}
-use Rattle.toml_checker.specs.declared.side.Side.TheVariants as sides
+use Rattle.toml_edits.specs.declared.side.Side.{Side}
+use Rattle.toml_edits.specs.declared.side.Side.TheVariants as sides
 use Rattle.toml_checker.specs.declared.tables.Part.TheVariants as parts
 use Rattle.toml_checker.specs.CarriedTo.{At}
 use Rattle.toml_checker.specs.Comments.{texts, is_comment}
 use Rattle.toml_checker.specs.Owed.{IsOwed}
 use Rattle.toml_checker.specs.Plain.{Site, site, next_line, stands, is_named, is_kept, home_stands, part_is_gone}
-use Rattle.toml_checker.specs.Sides.{side}
-use Rattle.toml_checker.proofs.Proved.{sides_are_right}
+use Rattle.toml_edits.specs.Sides.{side}
+use Rattle.toml_edits.proofs.Proved.{sides_are_right}
 use Rattle.toml_editor.specs.ChangedUnits.{is_inner, LiesInValue}
 use Rattle.toml_editor.specs.Removing.{remove_lines}
 use Rattle.toml_editor.specs.UnitBlocks.{root_line, left_of, BeginWithLine}

@@ -10,16 +10,17 @@ use Rattle.toml_units.specs.declared.unit.UnitKind.{UnitKind}
 use Rattle.toml_units.specs.declared.unit.UnitKind.TheVariants as kinds
 use Rattle.toml_units.specs.Places.{is_line, line_of}
 use Rattle.toml_units.specs.Units.{TextUnit}
-use Rattle.toml_checker.specs.declared.side.Side.{Side}
-use Rattle.toml_checker.specs.declared.side.Side.TheVariants as sides
+use Rattle.toml_edits.specs.declared.side.Side.{Side}
+use Rattle.toml_edits.specs.declared.side.Side.TheVariants as sides
 use Rattle.toml_checker.specs.CarriedTo.{IsAtOrAbove, IsCarriedTo}
 use Rattle.toml_checker.specs.Comments.{is_comment}
 use Rattle.toml_checker.specs.GoneAndChanged.{IsChanged}
 use Rattle.toml_checker.specs.declared.tables.Part.TheVariants as parts
 use Rattle.toml_checker.specs.Plain.{Site, site, next_line, stands, is_named, is_kept, home_stands}
 use Rattle.toml_checker.specs.Protected.{standing}
-use Rattle.toml_checker.specs.Sides.{side}
-use Rattle.toml_checker.proofs.Proved.{flags_tell, sides_are_right}
+use Rattle.toml_edits.specs.Sides.{side}
+use Rattle.toml_edits.proofs.Proved.{sides_are_right}
+use Rattle.toml_checker.proofs.Proved.{flags_tell}
 use Rattle.toml_editor.specs.RenamedUnits.{GoTogether}
 use Rattle.toml_editor.proofs.written.Way.{Step, both, olds, news, one_line, is_here}
 use Rattle.toml_editor.proofs.written.WayFits.{SameNewline, Matches, Fits}

@@ -1,14 +1,17 @@
-use Rattle.std.proofs.Common.{List, map, ap, refl, sym, ◌∙◌, Some, arith}
-use Rattle.toml_edits.specs.declared.edit.Edit.{Edit}
-use Rattle.toml_edits.specs.Edits.{change}
+use Rattle.std.proofs.Common.{Some, refl, sym, ◌∙◌}
 use Rattle.toml_edits.specs.Lists.{carried}
-use Rattle.toml_checker.specs.Plain.{here}
-use Rattle.toml_checker.proofs.CarriedSoFar.{arrived, none_left}
+use Rattle.toml_checker.specs.EditLists.{changes}
+use Rattle.toml_checker.proofs.CarriedSoFar.{arrived}
 use Rattle.toml_checker.proofs.arriving.arrives.Goals as goal
 
-pub returns : goal.returns
-returns c =
-    let es = c.args.list.now.edits.now in
-    let at = here c.loop-edit.way in
-    arrived (carried (map change es) c.args.from.now) (carried (map change es) c.args.from.now) c.at.result.now c.args.to.now c.is_same.result refl
-    (c.loop-edit.invariant ∙ ap (λ (ds : List Edit). carried (map change ds) at) (none_left es c.loop-edit.edit-index (omega arith)) ∙ ap Some (sym c.at.ensures)) c.is_same.ensures
+pub returns-then-stays : goal.returns-then-stays
+returns-then-stays c =
+    let list = c.args.list.now in
+    let from = c.args.from.now in
+    arrived (carried (changes list) from) (carried (changes list) from) from c.args.to.now c.is_same.result refl (c.stays.ensures c.if-stays.true list from c.requires) c.is_same.ensures
+
+pub returns-in-Some : goal.returns-in-Some
+returns-in-Some c =
+    let list = c.args.list.now in
+    let from = c.args.from.now in
+    arrived (carried (changes list) from) (carried (changes list) from) c.in-Some.at c.args.to.now c.is_same-in-Some.result refl (sym c.in_ok-at.ensures ∙ c.in-Some.is) c.is_same-in-Some.ensures

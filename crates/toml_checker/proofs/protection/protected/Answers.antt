@@ -6,7 +6,7 @@ use Rattle.toml_checker.proofs.Walked.{all_told, one_told}
 use Rattle.toml_checker.proofs.protection.protected.Goals as goal
 
 pub loop-unit-init : goal.loop-unit-init
-loop-unit-init c = record { list = c.in_ok-list.ensures; line = None; home_is = refl; told = ap (λ fs. fs ++ flags (map change c.args.edits.now) (map made_site c.args.units.now)) c.in_ok-flags.ensures.items }
+loop-unit-init c = record { line = None; home_is = refl; told = ap (λ fs. fs ++ flags (map change c.args.edits.now) (map made_site c.args.units.now)) c.in_ok-flags.ensures.items }
 
 pub loop-unit-preserved : goal.loop-unit-preserved
 loop-unit-preserved c =
@@ -16,12 +16,10 @@ loop-unit-preserved c =
     let u = c.unit-item.result in
     let inv = c.loop-unit.invariant in
     let next = next_line inv.line (made_site u) in
-    let same = c.come_to-sight.ensures.edits ∙ inv.list in
-    let changed = ap (map change) same in
+    let changed = ap (map change) c.in_ok-list.ensures in
     let kept = c.in_ok-protected.ensures ∙ ap (λ ds. is_kept_by u.kind ds c.loop-unit.home (made_site u)) changed in
     let home = c.in_ok-home.ensures ∙ ap (λ ds. home_with ds c.loop-unit.home (made_site u)) changed ∙ ap (λ b. home_with cs b (made_site u)) inv.home_is ∙ home_next cs inv.line (made_site u) in
     record {
-      list = same;
       line = next;
       home_is = home;
       told = ap (λ fs. fs ++ flags_from cs next (map made_site (drop (i + 1) ms))) c.in_ok-push.ensures.items

@@ -1,18 +1,11 @@
-use Rattle.std.proofs.Common.{◌≡◌, false, None, sym, ap, ◌∙◌}
-use Rattle.toml_edits.specs.Carry.{carry}
-use Rattle.toml_edits.specs.Edits.{change, place}
-use Rattle.std.specs.Prelude.{option_map}
-use Rattle.toml_checker.specs.Plain.{here, is_named}
-use Rattle.toml_checker.specs.Sides.{side}
-use Rattle.toml_checker.proofs.Walked.{nowhere_left}
+use Rattle.std.proofs.Common.{Some, sym, subst, ◌∙◌}
+use Rattle.toml_checker.specs.Sights.{HasSight}
+use Rattle.toml_checker.proofs.Sighted.{nowhere_stands_not, somewhere_stands}
 use Rattle.toml_checker.proofs.protection.stands_at.Goals as goal
 
-pub returns-in-None : goal.returns-in-None
-returns-in-None c =
-    let e = change c.edit-item.result in
-    let at = here c.loop-edit.way in
-    let lies : c.side_of-side.result ≡ side (place e) at =
-    c.side_of-side.ensures ∙ ap (λ p. side p c.steps-in-loop-edit.result.now) (c.steps.ensures ∙ c.place.ensures) ∙ ap (side (place e)) (c.steps-in-loop-edit.ensures ∙ c.at.ensures) in
-    let named : is_named c.args.part e c.args.base (side (place e) at) ≡ false = ap (is_named c.args.part e c.args.base) (sym lies) ∙ sym c.is_named.ensures ∙ c.if-is_named.false in
-    let away : carry e at ≡ None = sym c.in_ok-next.ensures ∙ ap (option_map here) c.in-None.is in
-    sym (sym c.loop-edit.invariant ∙ nowhere_left c.args.part c.args.list.now.edits.now c.loop-edit.edit-index c.edit-item.result at c.args.base c.loop-edit-test.true c.edit-item.is named away)
+pub returns-in-Nowhere : goal.returns-in-Nowhere
+returns-in-Nowhere c = sym (nowhere_stands_not c.args.part c.args.base c.args.list.now c.args.first.now (subst (HasSight c.args.list.now (Some c.args.first.now)) c.in-Nowhere.is c.requires))
+
+pub returns-in-Somewhere : goal.returns-in-Somewhere
+returns-in-Somewhere c =
+    c.stands_by.ensures ∙ sym (somewhere_stands c.args.part c.args.base c.args.list.now c.args.first.now c.in-Somewhere.trace (subst (HasSight c.args.list.now (Some c.args.first.now)) c.in-Somewhere.is c.requires))

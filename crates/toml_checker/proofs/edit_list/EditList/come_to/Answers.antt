@@ -1,9 +1,13 @@
+use Rattle.std.proofs.Common.{sym, subst}
+use Rattle.std.proofs.Math.Logic.{∥∥₁_map}
+use Rattle.std.specs.Prelude.{IfSome}
+use Rattle.toml_edits.specs.Told.{TellsOf}
 use Rattle.toml_checker.specs.EditLists.{changes}
-use Rattle.toml_checker.proofs.Areas.{far_apart, led_clear}
+use Rattle.toml_checker.specs.Sights.{HasSight}
 use Rattle.toml_checker.proofs.edit_list.EditList.come_to.Goals as goal
 
-pub returns-in-Away-clause-sight : goal.returns-in-Away-clause-sight
-returns-in-Away-clause-sight c = far_apart (changes c.args.self.now) c.args.self.now.fronts c.args.unit.now.address c.in-Some.at c.steps-3.result.now c.lead.result c.args.self.now.fitting c.in-Some.is c.steps-3.ensures c.lead.ensures c.in-Away.is
-
-pub returns-in-Clear-clause-sight : goal.returns-in-Clear-clause-sight
-returns-in-Clear-clause-sight c = led_clear (changes c.args.self.now) c.args.self.now.fronts c.args.unit.now.address c.in-Some.at c.steps-3.result.now c.lead.result c.args.self.now.fitting c.in-Some.is c.steps-3.ensures c.lead.ensures c.in-Clear.is
+pub returns-in-Some-Some : goal.returns-in-Some-Some
+returns-in-Some-Some c =
+    let list = c.args.self.now in
+    subst (λ o. HasSight list o c.look.result) (sym c.in-Some-Some.is-0)
+    (∥∥₁_map list.tells (λ h. c.look.ensures (changes list) (subst (λ o. IfSome o (TellsOf (changes list))) c.in-Some-Some.is-1 h) list.few))

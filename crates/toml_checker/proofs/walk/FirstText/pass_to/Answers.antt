@@ -9,7 +9,6 @@ use Rattle.toml_checker.proofs.walk.FirstText.pass_to.Goals as goal
 pub loop-self-init : goal.loop-self-init
 loop-self-init c = record {
   goes = c.requires;
-  list = refl;
   text = refl;
   passes = λ profile ms h. gone_none (HasPassed profile (changes c.args.list.now) c.args.self.now) c.args.self.now.cursor c.args.self.now.passed ms c.args.number h;
 }
@@ -23,16 +22,13 @@ loop-self-preserved c =
     let new = c.pass.new.self in
     let inv = c.loop-self.invariant in
     let cs : List Change = changes c.args.list.now in
-    let listed = c.look-sight.ensures.list ∙ inv.list in
-    let same : changes c.look-sight.new.list ≡ cs = ap (map change) listed in
     let x = one_ahead now.cursor c.unit.result c.is_some.result c.unit.ensures c.is_some.ensures c.if-is_some.true in
     record {
       goes = c.in_ok-pass.ensures.on.goes;
-      list = listed;
       text = c.pass.ensures.text ∙ inv.text;
       passes = λ profile ms h. let so_far = inv.passes profile ms h in
           gone_one so_far (HasPassed profile cs new) new.cursor new.passed x.0 x.1 c.in_ok-pass.ensures.on.count (sym c.lies_ahead.ensures ∙ c.loop-self-test.true)
-          (subst (λ (ds : List Change). Passing ds now false new (Ok tt)) same (c.in_ok-pass.ensures.passes (changes c.look-sight.new.list) c.in_ok-fate.ensures) profile (ms ++ so_far.more) so_far.holds);
+          (c.in_ok-pass.ensures.passes cs c.in_ok-fate.ensures profile (ms ++ so_far.more) so_far.holds);
     }
 
 pub returns-else-is_some-clause-passes : goal.returns-else-is_some-clause-passes

@@ -10,9 +10,8 @@ use Rattle.toml_checker.proofs.walk.FirstText.pass_to.Given as goal
 abbrev pub invariant-loop-self : goal.invariant-loop-self
 invariant-loop-self l = record {
   goes : Goes l.self.cursor;
-  list : l.list.edits.now ≡ l.fn.list.edits.now;
   text : l.self.text ≡ l.fn.self.text;
-  passes : (profile : Profile) (ms : List Met) → HasPassed profile (changes l.fn.list) l.fn.self ms → Gone (HasPassed profile (changes l.fn.list) l.self) l.fn.self.cursor l.fn.self.passed ms l.fn.number l.self.cursor l.self.passed;
+  passes : (profile : Profile) (ms : List Met) → HasPassed profile (changes l.list) l.fn.self ms → Gone (HasPassed profile (changes l.list) l.self) l.fn.self.cursor l.fn.self.passed ms l.fn.number l.self.cursor l.self.passed;
 }
 
 abbrev pub decreases-loop-self : goal.decreases-loop-self

@@ -6,7 +6,7 @@ pub returns : goal.returns
 returns c =
     let cs : List Change = map change c.args.edits.now in
     record {
-      on = record { edits = ap (map change) c.in_ok-of.ensures; asks = c.in_ok-asked_by.ensures; first = c.new.ensures.passed c.args.profile cs c.requires.before; second = c.in_ok-new.ensures.1 c.in_ok-asked_by.field-0 };
+      on = record { edits = ap (map change) c.in_ok-list.ensures.0; asks = c.in_ok-list.ensures.1; first = c.new.ensures.passed c.args.profile cs c.requires.before; second = c.in_ok-new.ensures.1 c.in_ok-list.asked };
       first_text = ap (λ t. t.now) c.new.ensures.text;
       second_text = ap (λ t. t.now) c.in_ok-new.ensures.0;
     }

@@ -10,10 +10,10 @@ pub returns-then-not-branch : goal.returns-then-not-branch
 returns-then-not-branch c = λ profile cs ms ns on.
     let old = c.args.self.now in
     let mid = c.pass_to.new.self in
-    let list = c.look-sight.new.list in
+    let list = old.list in
     let first = subst (λ (ds : List Change). PassingTo ds old.one (Some c.args.pair.0) mid (Ok tt)) on.edits c.in_ok-pass_to.ensures.passes profile ms on.first in
     let second = c.in_ok-pass_to-2.ensures.passes profile ns on.second in
-    let listed : changes list ≡ cs = ap (map change) (c.look-sight.ensures.list ∙ c.pass_to.ensures.list) ∙ on.edits in
+    let listed : changes list ≡ cs = on.edits in
     let told = subst (λ (ds : List Change). TellsPair ds mid c.pass_to-2.new.self c.args.pair c.in_ok-is_pair.field-0) listed c.in_ok-is_pair.ensures in
     pair_misfits profile cs old ms ns c.args.pair on mid c.pass_to-2.new.self list listed c.pass_to.ensures.text c.pass_to-2.ensures.text first second c.in_ok-is_pair.field-0 told c.if-not-branch.true
 
@@ -33,10 +33,10 @@ pub returns : goal.returns
 returns c = λ profile cs ms ns on.
     let old = c.args.self.now in
     let mid = c.pass_to.new.self in
-    let list = c.look-sight.new.list in
+    let list = old.list in
     let first = subst (λ (ds : List Change). PassingTo ds old.one (Some c.args.pair.0) mid (Ok tt)) on.edits c.in_ok-pass_to.ensures.passes profile ms on.first in
     let second = c.in_ok-pass_to-2.ensures.passes profile ns on.second in
-    let listed : changes list ≡ cs = ap (map change) (c.look-sight.ensures.list ∙ c.pass_to.ensures.list) ∙ on.edits in
+    let listed : changes list ≡ cs = on.edits in
     let told = subst (λ (ds : List Change). TellsPair ds mid c.pass_to-2.new.self c.args.pair c.in_ok-is_pair.field-0) listed c.in_ok-is_pair.ensures in
     let more = subst (λ (ds : List Change). Passing ds mid true c.pass.new.self (Ok tt)) listed (c.in_ok-pass.ensures.passes (changes list) c.in_ok-fate.ensures) profile (ms ++ first.more) first.holds in
     pair_fits profile cs old ms ns c.args.pair on mid c.pass_to-2.new.self list listed c.pass_to.ensures.text c.pass_to-2.ensures.text first second c.in_ok-is_pair.field-0 told c.if-not-branch.false

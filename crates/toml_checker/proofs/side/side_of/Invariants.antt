@@ -1,6 +1,0 @@
-use Rattle.std.proofs.Common.{◌≡◌, drop}
-use Rattle.toml_checker.specs.Sides.{side}
-use Rattle.toml_checker.proofs.side.side_of.Given as goal
-
-abbrev pub invariant-loop-step : goal.invariant-loop-step
-invariant-loop-step l = side (drop l.step-index l.place) l.left ≡ side l.place l.steps

@@ -1,0 +1,327 @@
+-- What the code does along a way, in the words of the tree.
+use Rattle.std.proofs.Common.{◌≡◌, ℕ, ◌+◌, ◌-◌, Bor, List, [], ◌∷◌, Option, Some, None, Bool, true, false, cond, bytes_eq, string_bytes, refl, sym, ap, subst, ◌∙◌}
+use Rattle.std.specs.Prelude.{IfSome, option_map, ◌==◌}
+use Rattle.std.specs.BTreeMap.{get, get_by_text, is_at}
+use Rattle.std.specs.Cmp.Lexicographic.{slice_cmp}
+use Rattle.std.specs.Ordering.{nat_cmp, is_eq}
+use Rattle.std.specs.Cmp.{unsigned_ties}
+use Rattle.std.proofs.lemmas.Bool.{eqb-true, eq-eqb}
+use Rattle.toml_edits.specs.declared.shifts.Run.{Run}
+use Rattle.toml_edits.specs.Runs.{AreApart, index_in, with_lost, without}
+use Rattle.toml_edits.proofs.Indices.{lost_here, lost_high, lost_low, without_high, without_low}
+use Rattle.std.specs.Map.{lookup}
+use Rattle.toml_names.specs.declared.model.address.Step.{Step}
+use Rattle.toml_names.specs.declared.model.address.Step.TheVariants.{Name, Index}
+use Rattle.toml_names.specs.model.Addresses.{Address, same_step}
+use Rattle.toml_names.proofs.Proved.{same_step-self}
+use Rattle.toml_edits.specs.declared.moves.Moves.{Moves}
+use Rattle.toml_edits.specs.declared.moves.Moves.TheViews.{out-Moves}
+use Rattle.toml_edits.specs.declared.moves.Act.{Act}
+use Rattle.toml_edits.specs.declared.moves.Act.TheVariants as acts
+use Rattle.toml_edits.specs.Fronts.{Goes, SameBut, Along, IsMarked, with_set, with_below, with_renamed}
+use Rattle.toml_edits.specs.Trees.{Told, Down}
+use Rattle.toml_edits.specs.Moves.{Elements, Names, Entered, EnteredAt, EnteredElement, element_in, IsFresh, IsMarkedTree, IsPut, IsRenamedTree, LostAt, TakenAt, branch_of, down_of, marks_of, moves, to_of, turn}
+
+pub fresh_down : (to : Told (Option (List ℕ))) (f : Moves) → IsFresh to f → (u : Step) → down_of f u ≡ Some (Some (record { to = u; tree = None }))
+fresh_down to f h (Name n) = ap (λ (b : Bool). cond b (Some None) (branch_of n (get_by_text (out-Moves f).names n))) h.3 ∙ ap (branch_of n) (h.2 n)
+fresh_down to f h (Index i) =
+    ap (λ (b : Bool). cond b (Some None) (element_in (out-Moves f).elements (index_in (out-Moves f).runs i))) h.3 ∙ ap (λ rs. element_in (out-Moves f).elements (index_in rs i)) h.4 ∙ ap (λ (o : Option Moves). Some (Some (record { to = Index i; tree = o }))) (h.5 i)
+
+-- a tree of a thing that no edit touches is as none
+pub as_none : (to : Told (Option (List ℕ))) (f t : Moves) → IsFresh to f → (act : Act) (way : Address) → Along moves way (turn act) (Some f) t → Along moves way (turn act) None t
+as_none to f t h acts.Set [] e = (e.0 ∙ ap with_set h.1, e.1)
+as_none to f t h acts.Stay [] e = (e.0 ∙ ap with_below h.1, λ u. e.1 u ∙ fresh_down to f h u)
+as_none to f t h (acts.Lose n) [] e = (e.0 ∙ ap with_below h.1, (λ u x. e.1.0 u x ∙ fresh_down to f h u, e.1.1))
+as_none to f t h (acts.Take n m) [] e = (e.0 ∙ ap with_below h.1, (λ u x y. e.1.0 u x y ∙ fresh_down to f h u, subst (λ d. Goes (IsMarked moves) d (down_of t (Name n.now))) (fresh_down to f h (Name m.now)) e.1.1, λ x. subst (λ w. IfSome (down_of t (Name m.now)) (λ d. w ≡ Some d)) (fresh_down to f h (Name m.now)) (e.1.2 x)))
+as_none to f t h (acts.LoseAt i) [] e =
+    (e.0 ∙ ap with_below h.1, (λ n. e.1.0 n ∙ fresh_down to f h (Name n), λ j l. e.1.1 j l ∙ fresh_down to f h (Index j), e.1.2, λ j l r. e.1.3 j l r ∙ fresh_down to f h (Index (j - 1))))
+as_none to f t h (acts.DropAt i) [] e =
+    (e.0 ∙ ap with_below h.1, (λ n. e.1.0 n ∙ fresh_down to f h (Name n), λ j l. e.1.1 j l ∙ fresh_down to f h (Index j), λ j l r. e.1.2 j l r ∙ fresh_down to f h (Index (j + 1))))
+as_none to f t h acts.Mark [] e = (e.0 ∙ ap with_renamed h.1, λ u. e.1 u ∙ fresh_down to f h u)
+as_none to f t h act (s ∷ way) e = (e.0 ∙ ap with_below h.1, λ u x. e.1 u x ∙ fresh_down to f h u, subst (λ d. Goes (Along moves way (turn act)) d (down_of t s)) (fresh_down to f h s) e.2)
+
+-- a tree by what it knows of the name in the end
+abbrev named : Moves → Told (Option (List ℕ)) → Down Moves
+named t o = option_map (option_map (λ (m : List ℕ). record { to = Name m; tree = Some t })) o
+
+-- behind a name, where a tree was, and where none was
+pub child_goes : (act : Act) (way : Address) (n : List ℕ) (old t : Moves) → Entered act way old t → Goes (Along moves way (turn act)) (branch_of n (Some old)) (branch_of n (Some t))
+child_goes act way n old t h = by (to_of old) refl
+  where
+    by : (o : Told (Option (List ℕ))) → to_of old ≡ o → Goes (Along moves way (turn act)) (option_map (option_map (λ m. record { to = Name m; tree = Some old })) o) (branch_of n (Some t))
+    by None e = ap (named t) (h.0 ∙ e)
+    by (Some None) e = ap (named t) (h.0 ∙ e)
+    by (Some (Some m)) e = (t, ap (named t) (h.0 ∙ e), h.1)
+
+pub fresh_goes : (act : Act) (way : Address) (n : List ℕ) (f t : Moves) → IsFresh (Some (Some n)) f → Entered act way f t → Goes (Along moves way (turn act)) (branch_of n None) (branch_of n (Some t))
+fresh_goes act way n f t fresh h = (t, ap (named t) (h.0 ∙ fresh.0), as_none (Some (Some n)) f t fresh act way h.1)
+
+-- ---- from the parts to the tree
+
+put_same : (n m : List ℕ) (t : Moves) (old new : Names) → IsPut n t old new → same_step (Name n) (Name m) ≡ false → get_by_text new m ≡ get_by_text old m
+put_same n m t old new put e = put m ∙ ap (λ (b : Bool). cond b (Some t) (get_by_text old m)) e
+
+put_here : (n : List ℕ) (t : Moves) (old new : Names) → IsPut n t old new → get_by_text new n ≡ Some t
+put_here n t old new put = put n ∙ ap (λ (b : Bool). cond b (Some t) (get_by_text old n)) (same_step-self (Name n))
+
+-- the tree behind: its fields are those before, but for the mark and these parts
+pub record IsBehind (old new : Moves) (names : Names) (runs : List Run) (elements : Elements) : Type 0 where
+  pub to : to_of new ≡ to_of old
+  pub marks : marks_of new ≡ with_below (marks_of old)
+  pub cleared : (out-Moves new).cleared ≡ (out-Moves old).cleared
+  pub names_are : (out-Moves new).names ≡ names
+  pub runs_are : (out-Moves new).runs ≡ runs
+  pub elements_are : (out-Moves new).elements ≡ elements
+
+down_name : (t : Moves) (n : List ℕ) → (out-Moves t).cleared ≡ false → down_of t (Name n) ≡ branch_of n (get_by_text (out-Moves t).names n)
+down_name t n e = ap (λ (b : Bool). cond b (Some None) (branch_of n (get_by_text (out-Moves t).names n))) e
+
+down_index : (t : Moves) (i : ℕ) → (out-Moves t).cleared ≡ false → down_of t (Index i) ≡ element_in (out-Moves t).elements (index_in (out-Moves t).runs i)
+down_index t i e = ap (λ (b : Bool). cond b (Some None) (element_in (out-Moves t).elements (index_in (out-Moves t).runs i))) e
+
+down_lost : (t : Moves) (u : Step) → (out-Moves t).cleared ≡ true → down_of t u ≡ Some None
+down_lost t (Name n) e = ap (λ (b : Bool). cond b (Some None) (branch_of n (get_by_text (out-Moves t).names n))) e
+down_lost t (Index i) e = ap (λ (b : Bool). cond b (Some None) (element_in (out-Moves t).elements (index_in (out-Moves t).runs i))) e
+
+-- a name, an index, of which nothing changed
+names_same : (old new : Moves) (runs : List Run) (elements : Elements) → IsBehind old new (out-Moves old).names runs elements → (n : List ℕ) → down_of new (Name n) ≡ down_of old (Name n)
+names_same old new runs elements b n = ap (λ (x : Bool). cond x (Some None) (branch_of n (get_by_text (out-Moves new).names n))) b.cleared ∙ ap (λ (ns : Names). cond (out-Moves old).cleared (Some None) (branch_of n (get_by_text ns n))) b.names_are
+
+indices_same : (old new : Moves) (names : Names) → IsBehind old new names (out-Moves old).runs (out-Moves old).elements → (i : ℕ) → down_of new (Index i) ≡ down_of old (Index i)
+indices_same old new names b i =
+    ap (λ (x : Bool). cond x (Some None) (element_in (out-Moves new).elements (index_in (out-Moves new).runs i))) b.cleared
+    ∙ ap (λ (es : Elements). cond (out-Moves old).cleared (Some None) (element_in es (index_in (out-Moves new).runs i))) b.elements_are
+    ∙ ap (λ (rs : List Run). cond (out-Moves old).cleared (Some None) (element_in (out-Moves old).elements (index_in rs i))) b.runs_are
+
+pub through_name : (act : Act) (way : Address) (n : List ℕ) (old new : Moves) (names : Names) → (out-Moves old).cleared ≡ false → IsBehind old new names (out-Moves old).runs (out-Moves old).elements → EnteredAt act n way (out-Moves old).names names → Entered act (Name n ∷ way) old new
+through_name act way n old new names plain b h = (b.to, (b.marks, same, goes))
+  where
+    got : (m : List ℕ) → get_by_text (out-Moves new).names m ≡ get_by_text names m
+    got m = ap (λ (ns : Names). get_by_text ns m) b.names_are
+
+    same : SameBut (Name n) (down_of old) (down_of new)
+    same (Name m) e = down_name new m (b.cleared ∙ plain) ∙ ap (branch_of m) (got m ∙ put_same n m h.0 (out-Moves old).names names h.1 e) ∙ sym (down_name old m plain)
+    same (Index i) e = indices_same old new names b i
+
+    goes : Goes (Along moves way (turn act)) (down_of old (Name n)) (down_of new (Name n))
+    goes =
+        subst (λ d. Goes (Along moves way (turn act)) d (down_of new (Name n))) (sym (down_name old n plain))
+        (subst (λ d. Goes (Along moves way (turn act)) (branch_of n (get_by_text (out-Moves old).names n)) d) (sym (down_name new n (b.cleared ∙ plain) ∙ ap (branch_of n) (got n ∙ put_here n h.0 (out-Moves old).names names h.1))) h.2)
+
+-- an element that stands somewhere, no other of which stands there
+pub through_element : (act : Act) (way : Address) (i f : ℕ) (old new : Moves) (elements : Elements) → (out-Moves old).cleared ≡ false → IsBehind old new (out-Moves old).names (out-Moves old).runs elements → AreApart (out-Moves old).runs → index_in (out-Moves old).runs i ≡ Some f
+    → EnteredElement act f way (out-Moves old).elements elements → Entered act (Index i ∷ way) old new
+through_element act way i f old new elements plain b apart at h = (b.to, (b.marks, same, goes))
+  where
+    es : Elements
+    es = (out-Moves old).elements
+
+    rs : List Run
+    rs = (out-Moves old).runs
+
+    now : (j : ℕ) → down_of new (Index j) ≡ element_in elements (index_in rs j)
+    now j = down_index new j (b.cleared ∙ plain) ∙ ap (λ (x : Elements). element_in x (index_in (out-Moves new).runs j)) b.elements_are ∙ ap (λ (x : List Run). element_in elements (index_in x j)) b.runs_are
+
+    other : (j : ℕ) → ¬ (i ≡ j) → (o : Option ℕ) → index_in rs j ≡ o → element_in elements o ≡ element_in es o
+    other j ne None e = refl
+    other j ne (Some g) e = ap (λ (o : Option Moves). Some (Some (record { to = Index g; tree = o }))) (h.1 g ∙ ap (λ (x : Bool). cond x (Some h.0) (get nat_cmp es g)) (differs (f == g) refl))
+      where
+        differs : (x : Bool) → f == g ≡ x → x ≡ false
+        differs false y = refl
+        differs true y = absurd (ne (apart i j f at (e ∙ ap Some (sym (eqb-true f g y)))))
+
+    same : SameBut (Index i) (down_of old) (down_of new)
+    same (Name m) e = names_same old new rs elements b m
+    same (Index j) e = now j ∙ other j (λ s. let x : false ≡ true = sym e ∙ ap (λ (k : ℕ). i == k) (sym s) ∙ eq-eqb i i refl in cc) (index_in rs j) refl ∙ sym (down_index old j plain)
+
+    there : down_of old (Index i) ≡ Some (Some (record { to = Index f; tree = get nat_cmp es f }))
+    there = down_index old i plain ∙ ap (element_in es) at
+
+    behind : down_of new (Index i) ≡ Some (Some (record { to = Index f; tree = Some h.0 }))
+    behind = now i ∙ ap (element_in elements) at ∙ ap (λ (o : Option Moves). Some (Some (record { to = Index f; tree = o }))) (h.1 f ∙ ap (λ (x : Bool). cond x (Some h.0) (get nat_cmp es f)) (eq-eqb f f refl))
+
+    goes : Goes (Along moves way (turn act)) (down_of old (Index i)) (down_of new (Index i))
+    goes = subst (λ d. Goes (Along moves way (turn act)) d (down_of new (Index i))) (sym there) (h.0, behind, h.2)
+
+-- one that stands nowhere
+pub past_element : (act : Act) (way : Address) (i : ℕ) (old new : Moves) → IsBehind old new (out-Moves old).names (out-Moves old).runs (out-Moves old).elements → index_in (out-Moves old).runs i ≡ None → Entered act (Index i ∷ way) old new
+past_element act way i old new b at = (b.to, (b.marks, same, subst (λ d. Goes (Along moves way (turn act)) d (down_of new (Index i))) (sym gone) (indices_same old new (out-Moves old).names b i ∙ gone)))
+  where
+    same : SameBut (Index i) (down_of old) (down_of new)
+    same (Name m) e = names_same old new (out-Moves old).runs (out-Moves old).elements b m
+    same (Index j) e = indices_same old new (out-Moves old).names b j
+
+    by : (x : Bool) → cond x (Some None) (element_in (out-Moves old).elements None) ≡ Some None
+    by true = refl
+    by false = refl
+
+    gone : down_of old (Index i) ≡ Some None
+    gone = ap (λ (o : Option ℕ). cond (out-Moves old).cleared (Some None) (element_in (out-Moves old).elements o)) at ∙ by (out-Moves old).cleared
+
+-- where all below is lost it stays so
+pub through_lost : (act : Act) (s : Step) (way : Address) (old new : Moves) → (out-Moves old).cleared ≡ true → to_of new ≡ to_of old → marks_of new ≡ with_below (marks_of old) → (out-Moves new).cleared ≡ true → Entered act (s ∷ way) old new
+through_lost act s way old new lost to marks still =
+    (to, (marks, λ u e. down_lost new u still ∙ sym (down_lost old u lost), subst (λ d. Goes (Along moves way (turn act)) d (down_of new s)) (sym (down_lost old s lost)) (down_lost new s still)))
+
+-- ---- at the end of the way
+
+pub set_there : (old new : Moves) → to_of new ≡ to_of old → marks_of new ≡ with_set (marks_of old) → (out-Moves new).cleared ≡ true → Entered acts.Set [] old new
+set_there old new to marks lost = (to, (marks, λ u. down_lost new u lost))
+
+all_same : (old new : Moves) → IsBehind old new (out-Moves old).names (out-Moves old).runs (out-Moves old).elements → (u : Step) → down_of new u ≡ down_of old u
+all_same old new b (Name n) = names_same old new (out-Moves old).runs (out-Moves old).elements b n
+all_same old new b (Index i) = indices_same old new (out-Moves old).names b i
+
+pub stay_there : (old new : Moves) → IsBehind old new (out-Moves old).names (out-Moves old).runs (out-Moves old).elements → Entered acts.Stay [] old new
+stay_there old new b = (b.to, (b.marks, all_same old new b))
+
+-- the same of a mark
+marked_down : (old t : Moves) → IsMarkedTree old t → (u : Step) → down_of t u ≡ down_of old u
+marked_down old t b (Name n) = ap (λ (x : Bool). cond x (Some None) (branch_of n (get_by_text (out-Moves t).names n))) b.cleared ∙ ap (λ (ns : Names). cond (out-Moves old).cleared (Some None) (branch_of n (get_by_text ns n))) b.names
+marked_down old t b (Index i) =
+    ap (λ (x : Bool). cond x (Some None) (element_in (out-Moves t).elements (index_in (out-Moves t).runs i))) b.cleared
+    ∙ ap (λ (es : Elements). cond (out-Moves old).cleared (Some None) (element_in es (index_in (out-Moves t).runs i))) b.elements
+    ∙ ap (λ (rs : List Run). cond (out-Moves old).cleared (Some None) (element_in (out-Moves old).elements (index_in rs i))) b.runs
+
+pub mark_there : (old new : Moves) → IsMarkedTree old new → Entered acts.Mark [] old new
+mark_there old new b = (b.to, (b.marks, marked_down old new b))
+
+-- under a name nothing stands any more; where all below is lost that is so before
+pub lose_there : (n : Bor (List ℕ)) (old new : Moves) (names : Names) → IsBehind old new names (out-Moves old).runs (out-Moves old).elements → LostAt n.now (out-Moves old).names names → Entered (acts.Lose n) [] old new
+lose_there n old new names b h = (b.to, (b.marks, (same, here (out-Moves old).cleared refl)))
+  where
+    same : SameBut (Name n.now) (down_of old) (down_of new)
+    same (Name m) e =
+        ap (λ (x : Bool). cond x (Some None) (branch_of m (get_by_text (out-Moves new).names m))) b.cleared ∙ ap (λ (ns : Names). cond (out-Moves old).cleared (Some None) (branch_of m (get_by_text ns m))) b.names_are
+        ∙ ap (λ (o : Option Moves). cond (out-Moves old).cleared (Some None) (branch_of m o)) (put_same n.now m h.0 (out-Moves old).names names h.1 e)
+    same (Index i) e = indices_same old new names b i
+
+    here : (x : Bool) → (out-Moves old).cleared ≡ x → down_of new (Name n.now) ≡ Some None
+    here true e = down_lost new (Name n.now) (b.cleared ∙ e)
+    here false e =
+        down_name new n.now (b.cleared ∙ e) ∙ ap (λ (ns : Names). branch_of n.now (get_by_text ns n.now)) b.names_are ∙ ap (branch_of n.now) (put_here n.now h.0 (out-Moves old).names names h.1)
+        ∙ ap (named h.0) h.2
+
+-- or what stood under another one
+pub take_there : (n to : Bor (List ℕ)) (old new : Moves) (names : Names) → IsBehind old new names (out-Moves old).runs (out-Moves old).elements → TakenAt n.now to.now (out-Moves old).names names → Entered (acts.Take n to) [] old new
+take_there n to old new names b h = (b.to, (b.marks, (same, goes (out-Moves old).cleared refl, unknown (out-Moves old).cleared refl)))
+  where
+    pick : List ℕ → Bool → Bool → Option Moves
+    pick m x y = cond x (Some h.0) (cond y (Some h.1) (get_by_text (out-Moves old).names m))
+
+    now : (m : List ℕ) → down_of new (Name m) ≡ cond (out-Moves old).cleared (Some None) (branch_of m (pick m (bytes_eq n.now m) (bytes_eq to.now m)))
+    now m =
+        ap (λ (x : Bool). cond x (Some None) (branch_of m (get_by_text (out-Moves new).names m))) b.cleared ∙ ap (λ (ns : Names). cond (out-Moves old).cleared (Some None) (branch_of m (get_by_text ns m))) b.names_are
+        ∙ ap (λ (o : Option Moves). cond (out-Moves old).cleared (Some None) (branch_of m o)) (h.2 m)
+
+    same : (u : Step) → same_step (Name n.now) u ≡ false → same_step (Name to.now) u ≡ false → down_of new u ≡ down_of old u
+    same (Name m) e f = now m ∙ ap (λ (o : Option Moves). cond (out-Moves old).cleared (Some None) (branch_of m o)) (ap (λ (x : Bool). pick m x (bytes_eq to.now m)) e ∙ ap (pick m false) f)
+    same (Index i) e f = indices_same old new names b i
+
+    there : (m : List ℕ) → (out-Moves old).cleared ≡ false → down_of new (Name m) ≡ branch_of m (pick m (bytes_eq n.now m) (bytes_eq to.now m))
+    there m e = now m ∙ ap (λ (x : Bool). cond x (Some None) (branch_of m (pick m (bytes_eq n.now m) (bytes_eq to.now m)))) e
+
+    goes : (x : Bool) → (out-Moves old).cleared ≡ x → Goes (IsMarked moves) (down_of old (Name to.now)) (down_of new (Name n.now))
+    goes true e = subst (λ d. Goes (IsMarked moves) d (down_of new (Name n.now))) (sym (down_lost old (Name to.now) e)) (down_lost new (Name n.now) (b.cleared ∙ e))
+    goes false e =
+        subst (λ d. Goes (IsMarked moves) d (down_of new (Name n.now))) (sym (down_name old to.now e))
+        (subst (λ d. Goes (IsMarked moves) (branch_of to.now (get_by_text (out-Moves old).names to.now)) d)
+        (sym (there n.now e ∙ ap (branch_of n.now) (ap (λ (x : Bool). pick n.now x (bytes_eq to.now n.now)) (same_step-self (Name n.now))))) h.3)
+
+    unknown : (x : Bool) → (out-Moves old).cleared ≡ x → same_step (Name n.now) (Name to.now) ≡ false → IfSome (down_of new (Name to.now)) (λ d. down_of old (Name to.now) ≡ Some d)
+    unknown true e f = subst (λ w. IfSome w (λ d. down_of old (Name to.now) ≡ Some d)) (sym (down_lost new (Name to.now) (b.cleared ∙ e))) (down_lost old (Name to.now) e)
+    unknown false e f =
+        subst (λ w. IfSome w (λ d. down_of old (Name to.now) ≡ Some d))
+        (sym
+        (there to.now e ∙ ap (branch_of to.now) (ap (λ (x : Bool). pick to.now x (bytes_eq to.now to.now)) f ∙ ap (pick to.now false) (same_step-self (Name to.now))) ∙ ap (named h.1) h.4))
+        tt
+
+-- elements shift
+shifted : (old new : Moves) (runs : List Run) → IsBehind old new (out-Moves old).names runs (out-Moves old).elements → (j k : ℕ) → index_in runs j ≡ index_in (out-Moves old).runs k → down_of new (Index j) ≡ down_of old (Index k)
+shifted old new runs b j k e =
+    ap (λ (x : Bool). cond x (Some None) (element_in (out-Moves new).elements (index_in (out-Moves new).runs j))) b.cleared
+    ∙ ap (λ (es : Elements). cond (out-Moves old).cleared (Some None) (element_in es (index_in (out-Moves new).runs j))) b.elements_are
+    ∙ ap (λ (rs : List Run). cond (out-Moves old).cleared (Some None) (element_in (out-Moves old).elements (index_in rs j))) b.runs_are
+    ∙ ap (λ (o : Option ℕ). cond (out-Moves old).cleared (Some None) (element_in (out-Moves old).elements o)) e
+
+pub drop_there : (i : ℕ) (old new : Moves) → IsBehind old new (out-Moves old).names (without i (out-Moves old).runs) (out-Moves old).elements → Entered (acts.DropAt i) [] old new
+drop_there i old new b =
+    (b.to, (b.marks, (names_same old new _ (out-Moves old).elements b, λ j l. shifted old new _ b j j (without_low i (out-Moves old).runs j l), λ j l r. shifted old new _ b j (j + 1) (without_high i (out-Moves old).runs j l r))))
+
+pub lose_at_there : (i : ℕ) (old new : Moves) → IsBehind old new (out-Moves old).names (with_lost i (out-Moves old).runs) (out-Moves old).elements → Entered (acts.LoseAt i) [] old new
+lose_at_there i old new b = (
+  b.to,
+  (
+    b.marks,
+    (
+      names_same old new _ (out-Moves old).elements b,
+      λ j l. shifted old new _ b j j (lost_low i (out-Moves old).runs j l),
+      gone,
+      λ j l r. shifted old new _ b j (j - 1) (lost_high i (out-Moves old).runs j l r),
+    ),
+  ),
+)
+  where
+    by : (x : Bool) → cond x (Some None) (element_in (out-Moves old).elements None) ≡ Some None
+    by true = refl
+    by false = refl
+
+    gone : down_of new (Index i) ≡ Some None
+    gone =
+        ap (λ (x : Bool). cond x (Some None) (element_in (out-Moves new).elements (index_in (out-Moves new).runs i))) b.cleared
+        ∙ ap (λ (es : Elements). cond (out-Moves old).cleared (Some None) (element_in es (index_in (out-Moves new).runs i))) b.elements_are
+        ∙ ap (λ (rs : List Run). cond (out-Moves old).cleared (Some None) (element_in (out-Moves old).elements (index_in rs i))) b.runs_are
+        ∙ ap (λ (o : Option ℕ). cond (out-Moves old).cleared (Some None) (element_in (out-Moves old).elements o)) (lost_here i (out-Moves old).runs) ∙ by (out-Moves old).cleared
+
+-- ---- the tree that is put under the new name, of what was taken out
+
+taken_goes : (n to : List ℕ) (old t : Moves) → IsMarkedTree old t → Goes (IsMarked moves) (branch_of to (Some old)) (branch_of n (Some t))
+taken_goes n to old t b = by (to_of old) refl
+  where
+    by : (o : Told (Option (List ℕ))) → to_of old ≡ o → Goes (IsMarked moves) (option_map (option_map (λ m. record { to = Name m; tree = Some old })) o) (branch_of n (Some t))
+    by None e = ap (named t) (b.to ∙ e)
+    by (Some None) e = ap (named t) (b.to ∙ e)
+    by (Some (Some m)) e = (t, ap (named t) (b.to ∙ e), (b.marks, marked_down old t b))
+
+pub taken_tree : (to : List ℕ) (kept : Option Moves) (old t : Moves) → kept ≡ Some old → IsMarkedTree old t → IsRenamedTree to kept t
+taken_tree to kept old t is b = λ n. subst (λ o. Goes (IsMarked moves) (branch_of to o) (branch_of n (Some t))) (sym is) (taken_goes n to old t b)
+
+pub untaken_tree : (to : List ℕ) (kept : Option Moves) (f t : Moves) → kept ≡ None → IsFresh (Some (Some to)) f → IsMarkedTree f t → IsRenamedTree to kept t
+untaken_tree to kept f t is fresh b = λ n.
+    subst (λ o. Goes (IsMarked moves) (branch_of to o) (branch_of n (Some t))) (sym is)
+    (t, ap (named t) (b.to ∙ fresh.0), (b.marks ∙ ap with_renamed fresh.1, λ u. marked_down f t b u ∙ fresh_down (Some (Some to)) f fresh u))
+
+-- ---- what the code put in behind a name
+
+pub names_still : (old new : Names) → new.entries ≡ old.entries → (m : List ℕ) → get_by_text new m ≡ get_by_text old m
+names_still old new same m = ap (lookup (is_at (λ k. slice_cmp nat_cmp m (string_bytes k)))) same
+
+pub elements_still : (old new : Elements) → new.entries ≡ old.entries → (j : ℕ) → get nat_cmp new j ≡ get nat_cmp old j
+elements_still old new same j = ap (lookup (is_at (nat_cmp j))) same
+
+same_index : (i j : ℕ) → is_eq (nat_cmp i j) ≡ (i == j)
+same_index i j = sym (unsigned_ties i j)
+
+-- an element was put in, and nothing changed before
+pub element_put : (old mid new : Elements) (i : ℕ) (t : Moves) → mid.entries ≡ old.entries → ((j : ℕ) → get nat_cmp new j ≡ cond (is_at (nat_cmp i) j) (Some t) (get nat_cmp mid j))
+    → (j : ℕ) → get nat_cmp new j ≡ cond (i == j) (Some t) (get nat_cmp old j)
+element_put old mid new i t same more j =
+    more j ∙ ap (λ b. cond b (Some t) (get nat_cmp mid j)) (same_index i j) ∙ ap (cond (i == j) (Some t)) (elements_still old mid same j)
+
+pub child_entered : (act : Act) (way : Address) (n : List ℕ) (old new : Names) (child t : Moves) → get_by_text old n ≡ Some child → IsPut n t old new → Entered act way child t → EnteredAt act n way old new
+child_entered act way n old new child t is put h = (t, put, subst (λ o. Goes (Along moves way (turn act)) (branch_of n o) (branch_of n (Some t))) (sym is) (child_goes act way n child t h))
+
+pub fresh_entered : (act : Act) (way : Address) (n : List ℕ) (old new : Names) (f t : Moves) → get_by_text old n ≡ None → IsPut n t old new → IsFresh (Some (Some n)) f → Entered act way f t → EnteredAt act n way old new
+fresh_entered act way n old new f t is put fresh h = (t, put, subst (λ o. Goes (Along moves way (turn act)) (branch_of n o) (branch_of n (Some t))) (sym is) (fresh_goes act way n f t fresh h))
+
+pub element_entered : (act : Act) (way : Address) (f : ℕ) (old new : Elements) (child t : Moves) → get nat_cmp old f ≡ Some child → ((g : ℕ) → get nat_cmp new g ≡ cond (f == g) (Some t) (get nat_cmp old g)) → Entered act way child t → EnteredElement act f way old new
+element_entered act way f old new child t is put h = (t, put, subst (λ o. Along moves way (turn act) o t) (sym is) h.1)
+
+pub element_fresh : (act : Act) (way : Address) (f : ℕ) (old new : Elements) (e t : Moves) → get nat_cmp old f ≡ None → ((g : ℕ) → get nat_cmp new g ≡ cond (f == g) (Some t) (get nat_cmp old g)) → IsFresh (Some None) e → Entered act way e t → EnteredElement act f way old new
+element_fresh act way f old new e t is put fresh h = (t, put, subst (λ o. Along moves way (turn act) o t) (sym is) (as_none (Some None) e t fresh act way h.1))
+
+pub lose_at_told : (act : Act) (i : ℕ) (old new : Moves) (runs : List Run) → act ≡ acts.LoseAt i → IsBehind old new (out-Moves old).names runs (out-Moves old).elements → runs ≡ with_lost i (out-Moves old).runs → Entered act [] old new
+lose_at_told act i old new runs is behind h = subst (λ x. Entered x [] old new) (sym is) (lose_at_there i old new (subst (λ rs. IsBehind old new (out-Moves old).names rs (out-Moves old).elements) h behind))
+
+pub drop_at_told : (act : Act) (i : ℕ) (old new : Moves) (runs : List Run) → act ≡ acts.DropAt i → IsBehind old new (out-Moves old).names runs (out-Moves old).elements → runs ≡ without i (out-Moves old).runs → Entered act [] old new
+drop_at_told act i old new runs is behind h = subst (λ x. Entered x [] old new) (sym is) (drop_there i old new (subst (λ rs. IsBehind old new (out-Moves old).names rs (out-Moves old).elements) h behind))
