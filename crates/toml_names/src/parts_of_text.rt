@@ -3,11 +3,13 @@ ghost use Rattle.std.specs.Prelude.{◌≡◌, [], IfErr, IfOk, Some};
 ghost use Rattle.toml_text.specs.Source.{text_of};
 ghost use Rattle.toml_names.specs.mentions.Mentions.{named};
 ghost use Rattle.toml_names.specs.model.Data.{IsDataOf};
-ghost use Rattle.toml_names.specs.reader.Parts.{AreItems, AreMembers, IsPart, TellMentions, part_kinds, plain_members, shape_kind};
+ghost use Rattle.toml_names.specs.reader.Parts.{AreItems, AreMembers, IsPart, StandForNames, TellMentions, part_kinds, plain_members, shape_kind};
 ghost use Rattle.toml_names.specs.reader.Texts.{GoodText, RefusesText};
+ghost use Rattle.toml_names.specs.tree.Placing.{IsPlaceOf};
 
 use crate::fault::ReadFault;
 use crate::model::address::Address;
+use crate::model::place::Place;
 use crate::texts::enter_text;
 use crate::tree::name_tree::NameTree;
 use crate::tree::parts::Shape;
@@ -42,6 +44,7 @@ pub fn names_of_text<'t>(
     profile: Profile,
 ) -> Result<NamedText<'t>, ReadFault>
     ensures good { IfOk result (λ whole. (it : GoodText profile (text_of source.entry)) × IsDataOf (named it.lines) (part_kinds whole 0)) }
+    ensures stand { IfOk result (StandForNames profile (text_of source.entry)) }
     ensures refused { IfErr result (RefusesText profile (text_of source.entry)) }
 {
     let tree = enter_text(alloc, source, profile)?;
@@ -71,6 +74,13 @@ impl<'t> NamedText<'t> {
     {
         let _ = &self.tree;
         0
+    }
+
+    /// Where what stands at the address stands in the text; none where the data have nothing there.
+    pub fn place(&self, at: &Address) -> Option<Place>
+        ensures { IsPlaceOf self.now at.now result }
+    {
+        self.tree.place(at)
     }
 
     /// What stands at a part. The value of a scalar is made here.

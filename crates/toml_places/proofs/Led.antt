@@ -53,7 +53,7 @@ same_back parts None here (FromEnd n) t stands is = absurd (no_array_here here i
 same_back parts None here Behind t stands is = absurd (no_array_here here is.0 stands is.1)
 
 -- nor does what stands behind it
-next_stands : (parts : List Spot) (part next : Option ℕ) (here : Kinds) (t : Step) → Stands parts part here → Stands parts next (below_step t (kinds_in parts part)) → Stands parts next (below_step t here)
+pub next_stands : (parts : List Spot) (part next : Option ℕ) (here : Kinds) (t : Step) → Stands parts part here → Stands parts next (below_step t (kinds_in parts part)) → Stands parts next (below_step t here)
 next_stands parts (Some id) next here t stands behind = subst (λ k. Stands parts next (below_step t k)) (the_same parts id here stands) behind
 next_stands parts None None here t stands behind = below_none here t [] stands
 next_stands parts None (Some id) here t stands behind = absurd (false≢true (ap is_some (behind.1 []) ∙ part_is_there parts id behind.0))

@@ -10,4 +10,5 @@ pub mod Loops
 pub mod Refused
 pub mod Parts
 pub mod Led
+pub mod LedTo
 pub mod Proved

@@ -1,11 +1,13 @@
 -- Laws: the plain reader finds the places, and nothing else; a place leads to one address; what an address is spelled as is read back.
-use Rattle.std.specs.Prelude.{◌≡◌, ◌≤◌, ◌^◌, ℕ, List, ◌∷◌, ◌++◌, map, length, take, Some, Ok, Err}
+use Rattle.std.specs.Prelude.{◌≡◌, ◌≤◌, ◌^◌, ℕ, List, [], ◌∷◌, ◌++◌, map, length, take, Some, IsSome, Ok, Err}
 use Rattle.toml_names.specs.declared.model.address.Step.{Step}
 use Rattle.toml_names.specs.model.Addresses.{Address}
 use Rattle.toml_names.specs.model.Data.{IsClosed, Kinds}
 use Rattle.toml_names.specs.model.Indices.{IsLow}
+use Rattle.toml_names.specs.reader.Parts.{IsPart, part_kinds}
+use Rattle.toml_names.specs.tree.Nodes.{Spot}
 use Rattle.toml_places.specs.declared.place.PlaceStep.{PlaceStep}
-use Rattle.toml_places.specs.Leading.{LeadsTo, below_step}
+use Rattle.toml_places.specs.Leading.{LeadsTo, below_step, below_steps}
 use Rattle.toml_places.specs.Places.{SpellsPlace}
 use Rattle.toml_places.specs.Reading.{read_steps}
 use Rattle.toml_places.specs.Spelled.{place_text, plain_step}
@@ -45,3 +47,11 @@ OneAddress = (kinds : Kinds) (place : List PlaceStep) (one two : Address) → Le
 -- In closed data what stands below a step is what the data have there.
 abbrev pub BelowClosed : Type 0
 BelowClosed = (kinds : Kinds) (s : Step) (at : Address) → IsClosed kinds → below_step s kinds at ≡ kinds (s ∷ at)
+
+-- So it is at the end of an address too.
+abbrev pub BelowStepsClosed : Type 0
+BelowStepsClosed = (kinds : Kinds) (at rest : Address) → IsClosed kinds → below_steps at kinds rest ≡ kinds (at ++ rest)
+
+-- Something stands at each part of a text's data.
+abbrev pub PartStands : Type 0
+PartStands = (parts : List Spot) (id : ℕ) → IsPart parts id → IsSome (part_kinds parts id [])

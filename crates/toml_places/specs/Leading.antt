@@ -25,6 +25,11 @@ IsStep kinds Behind s = (len : ℕ) × IsArrayOf kinds len × (s ≡ steps.Index
 abbrev pub below_step : Step → Kinds → Kinds
 below_step s kinds at = option_and_then (λ here. kinds (s ∷ at)) (kinds [])
 
+-- what stands at an address and below it, step by step
+abbrev pub below_steps : Address → Kinds → Kinds
+below_steps [] kinds = kinds
+below_steps (s ∷ at) kinds = below_steps at (below_step s kinds)
+
 -- the place leads to the address, step by step
 abbrev pub LeadsTo : Kinds → List PlaceStep → Address → Type 0
 LeadsTo kinds [] at = at ≡ []

@@ -1,4 +1,4 @@
--- Words of the code's own contracts: which part stands for what, and which is found among members.
+-- Which part stands for what, and words of the code's own contracts: which part is found among members.
 use Rattle.std.specs.Prelude.{◌≡◌, ℕ, List, [], Option, Some, None, MatchOption}
 use Rattle.toml_names.specs.declared.model.address.Step.{Step}
 use Rattle.toml_names.specs.model.Addresses.{Address}

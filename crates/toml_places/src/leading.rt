@@ -5,7 +5,7 @@ ghost use Rattle.std.specs.Str.{bytes_eq};
 ghost use Rattle.toml_names.specs.declared.model.address.Step.TheVariants as steps;
 ghost use Rattle.toml_names.specs.mentions.Mentions.{an_array};
 ghost use Rattle.toml_names.specs.reader.Parts.{IsPart, part_kinds, plain_members, shape_kind};
-ghost use Rattle.toml_places.specs.Leading.{IsAddressOf, below_step};
+ghost use Rattle.toml_places.specs.Leading.{IsAddressOf, below_step, below_steps};
 ghost use Rattle.toml_places.specs.Parts.{IsLengthOf, IsStepOf, Stands, kinds_in};
 
 use crate::place::{Place, PlaceStep};
@@ -50,8 +50,10 @@ fn array_len(names: &NamedText<'_>, part: Option<usize>) -> Result<Option<u64>, 
     Ok(Some(names.items(id).len() as u64))
 }
 
-/// The step of an address that a step of a place is, by the part that stands at the place so far.
-fn step_in(
+/// The step of an address that a step of a place is, by the part that stands at the place so far, None where nothing does: a name and
+/// an index as they stand, `[-n]` the n-th element from the end of the array, `[+]` the index behind its last. None where no array
+/// stands there, or it has fewer than n elements.
+pub fn step_in(
     names: &NamedText<'_>,
     part: Option<usize>,
     step: &PlaceStep,
@@ -99,8 +101,8 @@ fn item(names: &NamedText<'_>, id: usize, index: u64) -> Option<usize>
     names.items(id).get(index as usize).copied()
 }
 
-/// The part one step below a part.
-fn part_in(
+/// The part one step below a part; None where nothing stands there, as below nothing. No data are built.
+pub fn part_in(
     names: &NamedText<'_>,
     part: Option<usize>,
     step: &Step,
@@ -113,6 +115,17 @@ fn part_in(
         (Some(id), Step::Name(name)) => member(names, id, name.as_str()),
         (Some(id), Step::Index(index)) => Ok(item(names, id, *index)),
     }
+}
+
+/// The part of a text's data that stands at the steps of an address; None where nothing stands there. No data are built.
+pub fn part_at(names: &NamedText<'_>, at: &[Step]) -> Result<Option<usize>, AllocError>
+    ensures { IfOk result (λ part. Stands names.now part (below_steps at.now (part_kinds names.now 0))) }
+{
+    let mut part = Some(names.root());
+    for step in at {
+        part = part_in(names, part, step)?;
+    }
+    Ok(part)
 }
 
 impl Place {

@@ -11,5 +11,6 @@ mod reading;
 mod spelling;
 
 pub use fault::PlaceFault;
+pub use leading::{part_at, part_in, step_in};
 pub use place::{Place, PlaceStep, read_place};
 pub use spelling::spell_place;

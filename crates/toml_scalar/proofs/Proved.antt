@@ -12,6 +12,6 @@ pub use Rattle.toml_scalar.proofs.LongestPart.{part_longest}
 pub use Rattle.toml_scalar.proofs.ScalarValues.{token_has_value, value_is_of_token, scalar_found, scalar_meant, one_scalar_value}
 pub use Rattle.toml_scalar.proofs.NameValues.{name_found, name_meant, name_total}
 pub use Rattle.toml_scalar.proofs.OneNames.{one_name}
-pub use Rattle.toml_scalar.proofs.SpellingLaws.{spelled_names}
+pub use Rattle.toml_scalar.proofs.SpellingLaws.{spelled_names, quoted_means}
 pub use Rattle.toml_scalar.proofs.FaultPlaces.{scalar_fault_at, key_fault_at, value_fault_at}
 pub use Rattle.toml_scalar.proofs.StringLaws.{string_sound, string_found, string_longest, value_found, value_means, one_string_kind, one_string_value, string_begins}

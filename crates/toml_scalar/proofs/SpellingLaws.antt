@@ -11,7 +11,7 @@ use Rattle.toml_text.specs.Forms.{Each}
 use Rattle.toml_scalar.specs.Integers.{digits_value}
 use Rattle.toml_scalar.specs.Strings.{StringPiece, Plain, Escape, UnicodeEscape, IsBasicPiece, EachPiece, MeansString, piece_text, piece_means, pieces_text, escaped, IsEscape}
 use Rattle.toml_scalar.specs.Names.{IsBareKey, IsName}
-use Rattle.toml_scalar.specs.Spelling.{is_bare_key, hex_digit, hex_digits, hex_escape, spelled_byte, short_escape, quoted, SpelledNames}
+use Rattle.toml_scalar.specs.Spelling.{is_bare_key, hex_digit, hex_digits, hex_escape, spelled_byte, short_escape, quoted, SpelledNames, SpelledStrings}
 use Rattle.toml_scalar.specs.declared.strings.kind.StringKind.TheVariants.{Basic}
 
 -- some piece of a basic string has this text and means this byte
@@ -92,7 +92,7 @@ spells_all (b ∷ bs) =
       means = ap (λ t. t ++ flat_map piece_means rest.pieces) first.means ∙ ap (λ t. b ∷ t) rest.means;
     }
 
-quoted_means : (name : List ℕ) → MeansString Basic (quoted name) name
+pub quoted_means : SpelledStrings
 quoted_means name =
     let all = spells_all name in
     ([], all.pieces, (refl, all.are_pieces), ap (λ t. 0x22 ∷ (t ++ 0x22 ∷ [])) (sym all.text_is), sym all.means)

@@ -3,6 +3,8 @@ use Rattle.std.specs.Prelude.{ℕ, ◌+◌, ◌/◌, ◌%◌, Bool, ◌||◌, �
 use Rattle.std.specs.List.{flat_map, list_all}
 use Rattle.toml_text.specs.Bytes.{is_bare, is_control}
 use Rattle.toml_scalar.specs.Names.{IsName}
+use Rattle.toml_scalar.specs.Strings.{MeansString}
+use Rattle.toml_scalar.specs.declared.strings.kind.StringKind.TheVariants.{Basic}
 
 -- a name that may stand bare is not empty and has bytes of bare keys only
 abbrev pub is_bare_key : List ℕ → Bool
@@ -37,9 +39,9 @@ spelled_byte b =
     else if is_control b then hex_escape b
     else b ∷ []
 
--- a name between marks
+-- characters between marks
 abbrev pub quoted : List ℕ → List ℕ
-quoted name = 0x22 ∷ (flat_map spelled_byte name ++ 0x22 ∷ [])
+quoted characters = 0x22 ∷ (flat_map spelled_byte characters ++ 0x22 ∷ [])
 
 -- the spelling that a new or renamed key gets
 abbrev pub spelled : List ℕ → List ℕ
@@ -48,6 +50,10 @@ spelled name = if is_bare_key name then name else quoted name
 -- a name's spelling names it
 abbrev pub SpelledNames : Type 0
 SpelledNames = (name : List ℕ) → IsName (spelled name) name
+
+-- the spelling of a string means its characters
+abbrev pub SpelledStrings : Type 0
+SpelledStrings = (characters : List ℕ) → MeansString Basic (quoted characters) characters
 
 -- a key part has one name
 abbrev pub OneName : Type 0

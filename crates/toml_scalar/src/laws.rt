@@ -3,7 +3,7 @@ ghost use Rattle.toml_scalar.specs.FaultLaws.{ScalarFaultIsAt, KeyFaultIsAt, Val
 ghost use Rattle.toml_scalar.specs.MomentLaws.{MomentIsForm, FormIsMoment, OneMomentKind, MomentBegins, MomentIsRun, SpaceIsApart, DateText, TimeText, LocalText, OffsetText};
 ghost use Rattle.toml_scalar.specs.NumberLaws.{IntegerFormIsForm, FormIsIntegerForm, FittingFits, FitsIsFitting, IntegerIsForm, FormIsInteger, FloatIsForm, FormIsFloat, BoolIsForm, FormIsBool};
 ghost use Rattle.toml_scalar.specs.ScanLaws.{ScanIsSound, ScanIsFound, ScanIsLongest, OneKind, TokenBegins, PartIsSound, PartIsFound, PartIsLongest, PartBegins};
-ghost use Rattle.toml_scalar.specs.Spelling.{OneName, SpelledNames};
+ghost use Rattle.toml_scalar.specs.Spelling.{OneName, SpelledNames, SpelledStrings};
 ghost use Rattle.toml_scalar.specs.ValueLaws.{TokenHasValue, ValueIsOfToken, ScalarIsFound, ScalarIsMeant, OneScalarValue, NameIsFound, NameIsMeant, NameIsTotal};
 
 /// Which runs are integers (of the form, and in range), floats and booleans.
@@ -79,6 +79,11 @@ pub fn names()
 /// The spelling of a name names it.
 pub fn spelled_names()
     ensures { SpelledNames }
+{}
+
+/// The spelling of a string means its characters.
+pub fn spelled_strings()
+    ensures { SpelledStrings }
 {}
 
 /// The faults of what stands at a place are at that place.

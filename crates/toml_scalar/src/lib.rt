@@ -23,4 +23,4 @@ pub use names::{name_of, read_key};
 pub use read::{read_scalar, scalar_of};
 pub use scalar::{FloatText, Moment, Scalar, is_same};
 pub use scan::{begins_key, begins_scalar, scan_key, scan_scalar};
-pub use spelling::spell_key;
+pub use spelling::{spell_key, spell_string};

@@ -14,7 +14,7 @@ pub fn spell_key(alloc: Global, name: &str) -> Result<String, AllocError>
     if is_bare_key(name.as_bytes()) {
         String::from_str(alloc, name)
     } else {
-        quoted(alloc, name)
+        spell_string(alloc, name)
     }
 }
 
@@ -30,13 +30,13 @@ fn is_bare_key(name: &[u8]) -> bool
     !name.is_empty()
 }
 
-/// A name as a basic string.
-fn quoted(alloc: Global, name: &str) -> Result<String, AllocError>
-    ensures { IfOk result (λ text. string_bytes text ≡ quoted name.now) }
+/// The spelling of characters as a basic string.
+pub fn spell_string(alloc: Global, characters: &str) -> Result<String, AllocError>
+    ensures { IfOk result (λ text. string_bytes text ≡ quoted characters.now) }
 {
-    let mut text = String::with_capacity(alloc, name.len() + 2)?;
+    let mut text = String::with_capacity(alloc, characters.len() + 2)?;
     text.push('"')?;
-    for character in name.chars() {
+    for character in characters.chars() {
         push_spelled(&mut text, character)?;
     }
     text.push('"')?;

@@ -16,6 +16,7 @@ use Rattle.toml_names.specs.model.Addresses.{Address}
 use Rattle.toml_names.specs.model.Data.{IsDataOf, Kinds}
 use Rattle.toml_names.specs.reader.Texts.{GoodText}
 use Rattle.toml_names.specs.tree.Held.{below_in, below_node}
+use Rattle.toml_names.specs.tree.NameTree.{IsTreeOf}
 use Rattle.toml_names.specs.tree.Nodes.{Spot}
 
 -- there is a part with this number
@@ -32,6 +33,12 @@ pub record TellMentions (profile : Profile) (text : List ℕ) (list : List Addre
   pub it : GoodText profile text
   pub mentions : list ≡ first_mentions (named it.lines)
   pub kinds : IsDataOf (named it.lines) (part_kinds parts 0)
+
+-- the parts stand for what the lines of a document of the profile name: they are those of its data
+pub record StandForNames (profile : Profile) (text : List ℕ) (parts : List Spot) : Type 0 where
+  pub it : GoodText profile text
+  pub kinds : IsDataOf (named it.lines) (part_kinds parts 0)
+  pub names : IsTreeOf parts (named it.lines)
 
 -- the part is there, and its number is greater
 pub record IsBelow (parts : List Spot) (id below : ℕ) : Type 0 where

@@ -9,3 +9,12 @@ pub returns-clause-good : goal.returns-clause-good
 returns-clause-good c =
     let s = c.in_ok-tree.ensures.stand in
     (record { lines = s.lines; are = s.are; good = reader_good s.reads }, root_data c.in_ok-tree.tree.nodes.items s.lines s.own s.at s.reads)
+
+pub returns-clause-stand : goal.returns-clause-stand
+returns-clause-stand c =
+    let s = c.in_ok-tree.ensures.stand in
+    record {
+      it = record { lines = s.lines; are = s.are; good = reader_good s.reads };
+      kinds = root_data c.in_ok-tree.tree.nodes.items s.lines s.own s.at s.reads;
+      names = s.reads.stands;
+    }
