@@ -1,0 +1,15 @@
+use Rattle.std.proofs.Common.{◌≡◌, ℕ, length, subst, arith}
+use Rattle.std.specs.Prelude.{min, string_bytes}
+use Rattle.toml_text.specs.Positions.{IsPosition}
+use Rattle.toml_explain.proofs.Opened.{opens_at, opens_with}
+use Rattle.toml_explain.proofs.opening.opened.Goals as goal
+
+pub returns-clause-word : goal.returns-clause-word
+returns-clause-word c = opens_with string_bytes c.args.file.word.now c.args.rest.now c.position-place.result c.positioned.result c.positioned.ensures
+
+pub returns-clause-position : goal.returns-clause-position
+returns-clause-position c =
+    let bytes = c.args.file.bytes.now in
+    let held : c.min.result ≡ min c.args.at (length bytes) = omega arith in
+    let exact = subst (λ (n : ℕ). IsPosition bytes n c.position-place.result) held c.position-place.ensures in
+    opens_at string_bytes c.args.file.word.now c.args.rest.now bytes c.args.at c.position-place.result c.positioned.result exact c.positioned.ensures

@@ -1,0 +1,64 @@
+-- Where the explanation of a text that is no document begins.
+use Rattle.std.specs.Prelude.{◌≡◌, ◌<◌, ◌≤◌, ◌+◌, ℕ, List, [], ◌∷◌, ◌++◌, Option, Some, None, slice_get}
+use Rattle.toml_text.specs.Limit.{IsText}
+use Rattle.toml_tree.specs.HandedOut.{AreLinesIn, HandsOut, left}
+use Rattle.toml_tree.specs.Pieces.{expr_start}
+use Rattle.toml_tree.specs.Profiles.{SpelledByNone}
+use Rattle.toml_tree.specs.Tree.{Expr, BlankLine, KeyValLine, TableLine, ArrayTableLine, Line}
+use Rattle.toml_tree.specs.declared.line_reader.LineReader.{LineReader}
+use Rattle.toml_tree.specs.declared.profile.Profile.{Profile}
+use Rattle.toml_names.specs.reader.Texts.{AreLeft, more_left}
+use Rattle.toml_units.specs.Ends.{expr_end}
+use Rattle.toml_explain.specs.declared.spans.LineSpans.{LineSpans}
+use Rattle.toml_explain.specs.Openings.{OpensAt}
+
+-- the line of a text of the profile that has the number, from 0
+pub record HasLine (profile : Profile) (bytes : List ℕ) (number : ℕ) (l : Line) : Type 0 where
+  pub text : IsText bytes
+  pub lines : List Line
+  pub are : AreLinesIn profile bytes lines
+  pub here : slice_get lines number ≡ Some l
+
+-- where the key of a line begins; of a blank line there is none, and the place is its start
+abbrev pub key_start : Expr → ℕ
+key_start (BlankLine b) = b.ws.start
+key_start (KeyValLine ws k b) = k.assign.key.first.start
+key_start (TableLine ws h b) = h.key.first.start
+key_start (ArrayTableLine ws h b) = h.key.first.start
+
+-- The text begins with the line and the column of the key of that line.
+abbrev pub OpensAtKey : Profile → List ℕ → List ℕ → ℕ → List ℕ → Type 0
+OpensAtKey profile word bytes number text = (l : Line) → HasLine profile bytes number l → OpensAt word bytes (key_start l.expr) text
+
+-- It begins with the line and the column of a place in the expression of that line, or directly behind it.
+pub record OpensIn (word bytes : List ℕ) (e : Expr) (text : List ℕ) : Type 0 where
+  pub at : ℕ
+  pub low : expr_start e ≤ at
+  pub high : at ≤ expr_end e
+  pub opens : OpensAt word bytes at text
+
+abbrev pub OpensInLine : Profile → List ℕ → List ℕ → ℕ → List ℕ → Type 0
+OpensInLine profile word bytes number text = (l : Line) → HasLine profile bytes number l → OpensIn word bytes l.expr text
+
+-- the spans of an expression
+pub record AreSpansOf (e : Expr) (s : LineSpans) : Type 0 where
+  pub key : s.key.start ≡ key_start e
+  pub start : s.whole.start ≡ expr_start e
+  pub stop : s.whole.end ≡ expr_end e
+
+-- The spans of one line more, and what is left behind it; or the text has no tree. It is so whichever first lines of whichever text
+-- were handed out before.
+abbrev pub ReadsSpans : LineReader → Option (LineSpans × Option LineReader) → Type 0
+ReadsSpans r (Some read) = (profile : Profile) (text : List ℕ) (front : List Line) → HandsOut profile text front r
+    → (l : Line) × AreSpansOf l.expr read.0 × AreLeft profile text (front ++ l ∷ []) read.1 × (more_left read.1 < left r + 1)
+ReadsSpans r None = (profile : Profile) (text : List ℕ) (front : List Line) → HandsOut profile text front r → SpelledByNone profile text
+
+-- the spans are those of the line with the number, where there is one
+abbrev pub Finds : List Line → ℕ → LineSpans → Type 0
+Finds lines number s = (l : Line) → slice_get lines number ≡ Some l → AreSpansOf l.expr s
+
+abbrev pub AreSpansIn : Profile → List ℕ → ℕ → LineSpans → Type 0
+AreSpansIn profile text number s = (lines : List Line) → AreLinesIn profile text lines → Finds lines number s
+
+abbrev pub AreSpansAt : Profile → List ℕ → ℕ → LineSpans → Type 0
+AreSpansAt profile bytes number s = (l : Line) → HasLine profile bytes number l → AreSpansOf l.expr s

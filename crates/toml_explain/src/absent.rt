@@ -1,0 +1,87 @@
+//! Places of a document at which nothing stands that is asked for.
+ghost use Rattle.std.specs.Prelude.{IfOk, string_bytes};
+ghost use Rattle.toml_explain.specs.Openings.{OpensWith};
+
+use crate::edit::look_up;
+use crate::input::Input;
+use crate::place::shown_place;
+use crate::telling::told_at;
+use std::alloc::{AllocError, Global};
+use toml_names::{Step, names_of_text};
+use toml_places::{Place, PlaceFault, PlaceStep, read_place};
+use toml_text::Source;
+use toml_tree::Profile;
+
+/// The steps of a place before the first that is counted from the end of an array.
+fn plain_steps(alloc: Global, place: &Place) -> Result<Vec<Step>, AllocError> {
+    let mut steps = Vec::new(alloc);
+    for step in place.steps() {
+        match step {
+            PlaceStep::Name(name) => steps.push(Step::Name(name.copy()?))?,
+            PlaceStep::Index(index) => steps.push(Step::Index(*index))?,
+            PlaceStep::FromEnd(_) | PlaceStep::Behind => return Ok(steps),
+        }
+    }
+    Ok(steps)
+}
+
+/// The steps to which a place leads in a text; where it leads nowhere, its plain ones.
+fn steps_of(
+    alloc: Global,
+    bytes: &[u8],
+    profile: Profile,
+    place: &Place,
+) -> Result<Vec<Step>, AllocError> {
+    let Ok(source) = Source::new(bytes) else {
+        return plain_steps(alloc, place);
+    };
+    match names_of_text(alloc, source, profile) {
+        Ok(names) => match place.address(alloc, &names)? {
+            Some(address) => Ok(address.into_steps()),
+            None => plain_steps(alloc, place),
+        },
+        Err(fault) => {
+            fault.told()?;
+            plain_steps(alloc, place)
+        }
+    }
+}
+
+/// What is wrong with what stands, or does not stand, at a place.
+fn absent_sentence(alloc: Global, shown: &str, code: u16) -> Result<String, AllocError> {
+    match code {
+        301 => format!(in alloc; "nothing stands at {shown}"),
+        307 => {
+            format!(in alloc;
+                "headers or dotted keys make what stands at {shown}, and no single value"
+            )
+        }
+        _ => format!(in alloc; "what stands at {shown} is refused"),
+    }
+}
+
+/// Why a place of a document has no answer: nothing stands there (301), or no single value (307). Below that the line in which what
+/// stands there, or else its parent, is named first, where one stands; with 301 a name that is near. It fails for want of memory alone.
+pub fn explain_absent(
+    alloc: Global,
+    file: Input<'_>,
+    place: &[u8],
+    code: u16,
+    profile: Profile,
+) -> Result<String, AllocError>
+    ensures { IfOk result (λ text. OpensWith file.entry.word.now (string_bytes text)) }
+{
+    let shown = shown_place(alloc, place)?;
+    let mut sentence = absent_sentence(alloc, shown.as_str(), code)?;
+    let read = match read_place(alloc, place) {
+        Ok(read) => read,
+        Err(PlaceFault::NoMemory) => return Err(AllocError),
+        Err(PlaceFault::BadPlace { .. }) => return told_at(alloc, file, None, sentence),
+    };
+    let steps = steps_of(alloc, file.bytes, profile, &read)?;
+    let found = look_up(alloc, file.bytes, profile, &steps)?;
+    if code == 301 {
+        sentence.push_str(found.question.as_str())?;
+    }
+    told_at(alloc, file, found.spot, sentence)
+}

@@ -1,0 +1,136 @@
+//! A line as it is shown, and the carets below what is meant in it.
+
+use crate::glyph::{Columns, Glyph, columns_of, glyph_of};
+use bstr::ByteSlice;
+use std::alloc::{AllocError, Global};
+use toml_text::Span;
+
+/// How many columns of a line are shown at most.
+const MAX_COLUMNS: usize = 160;
+
+/// What stands where a line was cut, and below it.
+const CUT: &str = "..";
+
+const BELOW_CUT: &str = "  ";
+
+/// How many columns of a longer line are shown beside what stands where it was cut.
+const ROOM: usize = 156;
+
+/// The columns of a line that are shown, from the first up to the last, which is left out.
+#[derive(Clone, Copy)]
+struct Window {
+    first: usize,
+    last: usize,
+}
+
+/// All columns, or those around the place.
+fn window_of(columns: Columns) -> Window {
+    if columns.all <= MAX_COLUMNS {
+        return Window {
+            first: 0,
+            last: columns.all,
+        };
+    }
+    let latest = columns.all.saturating_sub(ROOM);
+    let first = columns.place.saturating_sub(ROOM / 2).min(latest);
+    Window {
+        first,
+        last: first.saturating_add(ROOM),
+    }
+}
+
+/// A line as it is shown, and what stands below it.
+#[derive(Drop)]
+pub(crate) struct Drawing {
+    pub text: String,
+    pub below: String,
+    // whether a caret stands below
+    marked: bool,
+}
+
+impl Drawing {
+    fn new(alloc: Global) -> Drawing {
+        Drawing {
+            text: String::new(alloc),
+            below: String::new(alloc),
+            marked: false,
+        }
+    }
+
+    /// Adds a character that is not meant: a tab stands below a tab, and nothing behind the last caret.
+    fn push_plain(&mut self, glyph: Glyph) -> Result<(), AllocError> {
+        self.text.push(glyph.shown)?;
+        if self.marked {
+            return Ok(());
+        }
+        if glyph.shown == '\t' {
+            return self.below.push('\t');
+        }
+        push_times(&mut self.below, ' ', glyph.columns)
+    }
+
+    /// Adds a character that is meant: carets stand below it, below the first one at least one.
+    fn push_meant(&mut self, glyph: Glyph) -> Result<(), AllocError> {
+        self.text.push(glyph.shown)?;
+        let is_first = !self.marked;
+        self.marked = true;
+        if glyph.shown == '\t' {
+            return self.below.push(if is_first { '^' } else { '\t' });
+        }
+        push_times(
+            &mut self.below,
+            '^',
+            glyph.columns.max(usize::from(is_first)),
+        )
+    }
+
+    /// Adds what stands where the line was cut.
+    fn push_cut(&mut self) -> Result<(), AllocError> {
+        self.text.push_str(CUT)?;
+        self.below.push_str(BELOW_CUT)
+    }
+
+    /// Adds a caret behind the line, where nothing in it is meant.
+    fn close(&mut self) -> Result<(), AllocError> {
+        if self.marked {
+            return Ok(());
+        }
+        self.below.push('^')
+    }
+}
+
+/// Adds a character so many times.
+fn push_times(text: &mut String, character: char, times: usize) -> Result<(), AllocError> {
+    for _ in 0..times {
+        text.push(character)?;
+    }
+    Ok(())
+}
+
+/// Draws a line of which the bytes of a span are meant, or one place where the span has none. What stands behind the line is
+/// meant by one caret.
+pub(crate) fn draw(alloc: Global, line: &[u8], meant: Span) -> Result<Drawing, AllocError> {
+    let shown = window_of(columns_of(line, meant.start));
+    let mut drawing = Drawing::new(alloc);
+    if 0 < shown.first {
+        drawing.push_cut()?;
+    }
+    let mut column = 0usize;
+    for (start, end, character) in line.char_indices() {
+        let glyph = glyph_of(line, start, end, character, column);
+        let next = column.saturating_add(glyph.columns);
+        if shown.first <= column && next <= shown.last {
+            if meant.start <= start && start < meant.end {
+                drawing.push_meant(glyph)?;
+            } else {
+                drawing.push_plain(glyph)?;
+            }
+        }
+        column = next;
+    }
+    drawing.close()?;
+    if shown.last < column {
+        drawing.text.push_str(CUT)?;
+    }
+    Ok(drawing)
+}

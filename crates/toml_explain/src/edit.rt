@@ -1,0 +1,191 @@
+//! Edits that are refused.
+ghost use Rattle.std.specs.Prelude.{IfOk, string_bytes};
+ghost use Rattle.toml_explain.specs.Openings.{OpensWith};
+
+use crate::input::Input;
+use crate::standing::{front_of, suggestion};
+use crate::telling::{excerpt_at, spot_of, told, told_at};
+use crate::value::flaw_of;
+use std::alloc::{AllocError, Global};
+use toml_edits::{Edit, place};
+use toml_names::{Address, Step, names_of_text};
+use toml_places::spell_place;
+use toml_text::{Source, Span};
+use toml_tree::Profile;
+
+/// What an edit does.
+fn action(edit: &Edit) -> &'static str {
+    match edit {
+        Edit::Set { .. } => "set",
+        Edit::Insert { .. } => "insertion",
+        Edit::Rename { .. } => "rename",
+        Edit::Remove { .. } => "removal",
+        Edit::Section { .. } => "new section",
+        Edit::Element { .. } => "new element",
+    }
+}
+
+/// An address as a place of the command line.
+pub(crate) fn address_text(alloc: Global, at: &Address) -> Result<String, AllocError> {
+    match spell_place(alloc, at)? {
+        Some(text) => Ok(text),
+        None => String::from_str(alloc, "an index of the root"),
+    }
+}
+
+/// Which edit it is, and what it does.
+fn edit_text(alloc: Global, edit: &Edit, index: usize) -> Result<String, AllocError> {
+    let action = action(edit);
+    let address = address_text(alloc, place(edit))?;
+    format!(in alloc; "edit {index}, {action} of {}: ", address.as_str())
+}
+
+/// Nothing stands where the edit looks for something.
+fn nothing(edit: &Edit) -> &'static str {
+    match edit {
+        Edit::Set { .. } | Edit::Rename { .. } | Edit::Remove { .. } => "nothing stands there",
+        Edit::Insert { .. } | Edit::Section { .. } => "nothing stands at its parent",
+        Edit::Element { .. } => "nothing stands at the parent of the array",
+    }
+}
+
+/// The index of the edit is not one of the array.
+fn outside(edit: &Edit) -> &'static str {
+    match edit {
+        Edit::Element { .. } => "a new table stands behind the last element of an array of tables",
+        _ => "its parent is no array, or the index is greater than its length",
+    }
+}
+
+/// The rule that an edit breaks, by the code.
+fn edit_rule(edit: &Edit, code: u16) -> &'static str {
+    match code {
+        301 => nothing(edit),
+        302 => match edit {
+            Edit::Rename { .. } => "the table has a member of the new name already",
+            _ => "the table has a member of this name already",
+        },
+        303 => "its parent is no table",
+        304 => outside(edit),
+        305 => "an element of an array has no name",
+        306 => "the value is none of TOML",
+        307 => "headers or dotted keys make what stands there, and no single value",
+        308 => "it is the only element of an array of tables, which would vanish",
+        310 => "the root itself can't be edited",
+        312 => "an address has at most 100 steps, and the result would have a longer one",
+        313 => "an element of an array of tables is named by an index behind a name",
+        _ => "it is refused",
+    }
+}
+
+/// What is found in a file about the address of an edit: where that or its parent stands, and a question which name is meant.
+#[derive(Drop)]
+pub(crate) struct Found {
+    pub spot: Option<Span>,
+    pub question: String,
+}
+
+/// Where an address of a file, or its parent, stands, and which name may be meant where it does not.
+pub(crate) fn look_up(
+    alloc: Global,
+    bytes: &[u8],
+    profile: Profile,
+    steps: &[Step],
+) -> Result<Found, AllocError> {
+    let nowhere = Found {
+        spot: None,
+        question: String::new(alloc),
+    };
+    let Ok(source) = Source::new(bytes) else {
+        return Ok(nowhere);
+    };
+    let names = match names_of_text(alloc, source, profile) {
+        Ok(names) => names,
+        Err(fault) => {
+            fault.told()?;
+            return Ok(nowhere);
+        }
+    };
+    let reached = front_of(&names, steps)?;
+    let question = suggestion(alloc, &names, reached, steps)?;
+    let spot = if steps.len() <= reached.depth.saturating_add(1) {
+        spot_of(
+            alloc,
+            source,
+            profile,
+            &steps[..reached.depth.min(steps.len())],
+        )?
+    } else {
+        None
+    };
+    Ok(Found { spot, question })
+}
+
+/// The value of an edit.
+fn value_of(edit: &Edit) -> Option<&str> {
+    match edit {
+        Edit::Set { value, .. } | Edit::Insert { value, .. } => Some(value.as_str()),
+        _ => None,
+    }
+}
+
+/// Why the value of an edit is none (306): the line of its place in the file, and the value.
+fn explain_value(
+    alloc: Global,
+    file: Input<'_>,
+    sentence: String,
+    spot: Option<Span>,
+    value: &str,
+    profile: Profile,
+) -> Result<String, AllocError>
+    ensures { IfOk result (λ text. OpensWith file.entry.word.now (string_bytes text)) }
+{
+    let flaw = flaw_of(alloc, value, profile)?;
+    let mut excerpt = excerpt_at(alloc, file.bytes, spot)?;
+    if let Some(span) = spot {
+        excerpt.push_line(file.bytes, span, "")?;
+    }
+    if let Some(meant) = flaw.meant {
+        excerpt.push_unnumbered(value.as_bytes(), meant)?;
+    }
+    let mut text = sentence;
+    text.push_str(": ")?;
+    text.push_str(flaw.sentence.as_str())?;
+    told(alloc, file, spot, text, excerpt)
+}
+
+/// Why an edit of a list is refused (301 to 308, 310, 312, 313): which edit it is, counted from 0 as in the refusal, what it does, and the
+/// rule. Below that the line of the file in which its address, or else the parent of that, is named first, where one stands there. A
+/// name that is missing (301) is told with one that is near. A value that is none (306) is shown with the place in it. The
+/// file is one before all edits. It fails for want of memory alone.
+pub fn explain_edit(
+    alloc: Global,
+    file: Input<'_>,
+    edits: &[Edit],
+    index: usize,
+    code: u16,
+    profile: Profile,
+) -> Result<String, AllocError>
+    ensures { IfOk result (λ text. OpensWith file.entry.word.now (string_bytes text)) }
+{
+    let Some(edit) = edits.get(index) else {
+        return told_at(
+            alloc,
+            file,
+            None,
+            format!(in alloc; "edit {index} is refused")?,
+        );
+    };
+    let found = look_up(alloc, file.bytes, profile, place(edit).steps())?;
+    let mut sentence = edit_text(alloc, edit, index)?;
+    sentence.push_str(edit_rule(edit, code))?;
+    if code == 301 {
+        sentence.push_str(found.question.as_str())?;
+    }
+    match value_of(edit) {
+        Some(value) if code == 306 => {
+            explain_value(alloc, file, sentence, found.spot, value, profile)
+        }
+        _ => told_at(alloc, file, found.spot, sentence),
+    }
+}

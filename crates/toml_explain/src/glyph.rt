@@ -1,0 +1,79 @@
+//! What the characters of a line are shown as, and how many columns they take.
+
+use bstr::ByteSlice;
+use unicode_width::UnicodeWidthChar;
+
+/// How far apart the stops of tabs are.
+const TAB: usize = 8;
+
+/// The mark, which is shown nowhere.
+const MARK: char = '\u{FEFF}';
+
+/// What a character is shown as.
+#[derive(Clone, Copy)]
+pub(crate) struct Glyph {
+    pub shown: char,
+    pub columns: usize,
+}
+
+/// What can't be shown as it is.
+const UNKNOWN: Glyph = Glyph {
+    shown: '?',
+    columns: 1,
+};
+
+/// Whether the character is one of the text, and does not stand for bytes that are no UTF-8. Of such a piece that begins as U+FFFD
+/// does the last byte is missing.
+fn is_genuine(bytes: &[u8], start: usize, end: usize, character: char) -> bool {
+    character != '\u{FFFD}' || (bytes.get(start) == Some(&0xEF) && end.saturating_sub(start) == 3)
+}
+
+/// What a character of a line is shown as that begins in the column, from 0: a tab goes on to the next stop; other control
+/// characters, U+FEFF and bytes that are no UTF-8 are shown as `?`.
+pub(crate) fn glyph_of(
+    line: &[u8],
+    start: usize,
+    end: usize,
+    character: char,
+    column: usize,
+) -> Glyph {
+    if character == '\t' {
+        return Glyph {
+            shown: character,
+            columns: TAB - column % TAB,
+        };
+    }
+    if character == MARK || !is_genuine(line, start, end, character) {
+        return UNKNOWN;
+    }
+    match character.width() {
+        Some(columns) => Glyph {
+            shown: character,
+            columns,
+        },
+        None => UNKNOWN,
+    }
+}
+
+/// How many columns a line takes, and the one in which the character at a place begins, from 0; behind the line the next one.
+#[derive(Clone, Copy)]
+pub(crate) struct Columns {
+    pub all: usize,
+    pub place: usize,
+}
+
+/// The columns of a line, and of the place in it.
+pub(crate) fn columns_of(line: &[u8], at: usize) -> Columns {
+    let mut all = 0usize;
+    let mut place = 0;
+    for (start, end, character) in line.char_indices() {
+        if start <= at {
+            place = all;
+        }
+        all = all.saturating_add(glyph_of(line, start, end, character, all).columns);
+    }
+    if line.len() <= at {
+        place = all;
+    }
+    Columns { all, place }
+}

@@ -1,0 +1,37 @@
+//! Refusals as people read them: behind a code and a number, what is wrong and where, with the line and carets below it.
+#![tactic(auto)]
+
+mod absent;
+mod added;
+mod data;
+mod differing;
+mod document;
+mod drawing;
+mod edit;
+mod excerpt;
+mod glyph;
+mod input;
+mod list;
+mod lost;
+mod opening;
+mod pairs;
+mod place;
+mod reason;
+mod redefined;
+mod role;
+mod seeker;
+mod sentence;
+mod spans;
+mod standing;
+mod telling;
+mod token;
+mod value;
+mod words;
+
+pub use absent::explain_absent;
+pub use document::explain_document;
+pub use edit::explain_edit;
+pub use input::Input;
+pub use list::explain_list;
+pub use place::explain_place;
+pub use reason::{Judged, explain_reason};

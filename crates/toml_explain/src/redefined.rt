@@ -1,0 +1,152 @@
+//! Names that are defined twice (201), and addresses that are too long (203).
+ghost use Rattle.std.specs.Prelude.{◌≡◌, ◌≤◌, ◌-◌, IfOk, max, min, string_bytes};
+ghost use Rattle.toml_explain.specs.Documents.{OpensAtKey, OpensInLine};
+ghost use Rattle.toml_explain.specs.Openings.{OpensWith};
+
+use crate::excerpt::{Excerpt, line_number};
+use crate::input::Input;
+use crate::opening::opened;
+use crate::role::rule;
+use crate::seeker::{Clash, Sought, seek};
+use crate::spans::spans_at;
+use crate::words::with_lines;
+use std::alloc::{AllocError, Global};
+use toml_names::{Address, NameFault, ReadFault, judge_text};
+use toml_places::spell_place;
+use toml_text::{Source, Span};
+use toml_tree::Profile;
+
+/// Why a line is refused whose address has too many steps (203): its key is shown. Lines are counted from 1.
+pub(crate) fn explain_long(
+    alloc: Global,
+    file: Input<'_>,
+    profile: Profile,
+    line: usize,
+) -> Result<String, AllocError>
+    ensures word { IfOk result (λ text. OpensWith file.entry.word.now (string_bytes text)) }
+    ensures key { IfOk result (λ text. OpensAtKey profile file.entry.word.now file.entry.bytes.now (line - 1) (string_bytes text)) }
+{
+    let spans = spans_at(alloc, file.bytes, profile, line.saturating_sub(1))?;
+    let lines = long_lines(alloc, file.bytes, spans.key)?;
+    opened(alloc, file, spans.key.start, lines.as_str())
+}
+
+/// The sentence of an address of too many steps, and the line of its key.
+fn long_lines(alloc: Global, bytes: &[u8], key: Span) -> Result<String, AllocError> {
+    let mut excerpt = Excerpt::new(alloc, line_number(bytes, key.start))?;
+    excerpt.push_line(bytes, key, "")?;
+    let sentence = "an address has at most 100 steps, and this line makes a longer one";
+    with_lines(String::from_str(alloc, sentence)?, excerpt)
+}
+
+/// The place nearest to another, from the start of a span up to its end.
+fn held(place: usize, span: Span) -> usize
+    ensures { result ≡ max (min place span.end) span.start }
+{
+    place.min(span.end).max(span.start)
+}
+
+/// Two mentions of which the one forbids the other, and the address that they both name.
+#[derive(Drop)]
+pub(crate) struct Redefined {
+    address: Address,
+    pub clash: Option<Clash>,
+}
+
+/// Which address is defined twice in bytes of which the names are refused for that.
+pub(crate) fn find_redefined(
+    alloc: Global,
+    bytes: &[u8],
+    profile: Profile,
+) -> Result<Option<Redefined>, AllocError> {
+    let Ok(source) = Source::new(bytes) else {
+        return Ok(None);
+    };
+    let fault = match judge_text(alloc, source, profile) {
+        Ok(()) => return Ok(None),
+        Err(fault) => fault,
+    };
+    match fault {
+        ReadFault::Names(NameFault::Redefined { address, .. }) => {
+            let clash = seek(alloc, source, profile, address.steps(), Sought::Clash)?.clash;
+            Ok(Some(Redefined { address, clash }))
+        }
+        other => {
+            other.told()?;
+            Ok(None)
+        }
+    }
+}
+
+/// The sentence of what is defined twice: its address, and the rule.
+fn redefined_sentence(
+    alloc: Global,
+    redefined: &Redefined,
+    clash: Clash,
+) -> Result<String, AllocError> {
+    let rule = rule(clash.first.role, clash.again.role);
+    match spell_place(alloc, &redefined.address)? {
+        Some(address) => format!(in alloc; "{address} {rule}"),
+        None => format!(in alloc; "this {rule}"),
+    }
+}
+
+/// What is said of the first mention.
+const FIRST: &str = "first defined here";
+
+/// The line of the mention that may not be, and that of the earliest mention that forbids it.
+fn clash_lines(alloc: Global, bytes: &[u8], clash: Clash) -> Result<Excerpt, AllocError> {
+    let (first, again) = (clash.first.span, clash.again.span);
+    let number = line_number(bytes, again.start);
+    let mut excerpt = Excerpt::new(alloc, number)?;
+    excerpt.push_line(bytes, again, "")?;
+    if line_number(bytes, first.start) == number {
+        excerpt.push_more(bytes, first, FIRST)?;
+    } else {
+        excerpt.push_line(bytes, first, FIRST)?;
+    }
+    Ok(excerpt)
+}
+
+/// The sentence and the lines of what is defined twice in a line, or the line alone where nothing is.
+fn redefined_lines(
+    alloc: Global,
+    bytes: &[u8],
+    redefined: &Option<Redefined>,
+    line: Span,
+) -> Result<String, AllocError> {
+    if let Some(twice) = redefined {
+        if let Some(clash) = twice.clash {
+            let sentence = redefined_sentence(alloc, twice, clash)?;
+            return with_lines(sentence, clash_lines(alloc, bytes, clash)?);
+        }
+    }
+    let mut excerpt = Excerpt::new(alloc, line_number(bytes, line.start))?;
+    excerpt.push_line(bytes, line, "")?;
+    let sentence = String::from_str(alloc, "a name in this line is defined already")?;
+    with_lines(sentence, excerpt)
+}
+
+/// Where the mention stands that may not be, if there is one.
+fn again_at(redefined: &Option<Redefined>) -> Option<usize> {
+    Some(redefined.as_ref()?.clash?.again.span.start)
+}
+
+/// Why a line is refused that breaks the table rules (201): the key part whose mention does is shown, and the earliest mention that
+/// forbids it. Lines are counted from 1.
+pub(crate) fn explain_redefined(
+    alloc: Global,
+    file: Input<'_>,
+    profile: Profile,
+    line: usize,
+) -> Result<String, AllocError>
+    ensures word { IfOk result (λ text. OpensWith file.entry.word.now (string_bytes text)) }
+    ensures line { IfOk result (λ text. OpensInLine profile file.entry.word.now file.entry.bytes.now (line - 1) (string_bytes text)) }
+{
+    let spans = spans_at(alloc, file.bytes, profile, line.saturating_sub(1))?;
+    let redefined = find_redefined(alloc, file.bytes, profile)?;
+    let again = again_at(&redefined).unwrap_or(spans.key.start);
+    let at = held(again, spans.whole);
+    let lines = redefined_lines(alloc, file.bytes, &redefined, spans.whole)?;
+    opened(alloc, file, at, lines.as_str())
+}

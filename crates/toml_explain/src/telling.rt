@@ -1,0 +1,68 @@
+//! A sentence at a place of a file, or at none.
+ghost use Rattle.std.specs.Prelude.{IfOk, string_bytes};
+ghost use Rattle.toml_explain.specs.Openings.{OpensWith};
+
+use crate::excerpt::{Excerpt, line_number};
+use crate::input::Input;
+use crate::opening::{bare_opened, opened};
+use crate::seeker::{Sought, seek};
+use crate::words::with_lines;
+use std::alloc::{AllocError, Global};
+use toml_names::Step;
+use toml_text::{Source, Span};
+use toml_tree::Profile;
+
+/// Where what stands at steps is named or stands first in a text; the root is not.
+pub(crate) fn spot_of(
+    alloc: Global,
+    source: Source<'_>,
+    profile: Profile,
+    steps: &[Step],
+) -> Result<Option<Span>, AllocError> {
+    Ok(seek(alloc, source, profile, steps, Sought::Spot)?.spot)
+}
+
+/// No line, with room for the number of the line in which a span of the bytes begins.
+pub(crate) fn excerpt_at(
+    alloc: Global,
+    bytes: &[u8],
+    spot: Option<Span>,
+) -> Result<Excerpt, AllocError> {
+    match spot {
+        Some(span) => Excerpt::new(alloc, line_number(bytes, span.start)),
+        None => Ok(Excerpt::unnumbered(alloc)),
+    }
+}
+
+/// A sentence and lines, behind the word of a file and the position of a span, where there is one.
+pub(crate) fn told(
+    alloc: Global,
+    file: Input<'_>,
+    spot: Option<Span>,
+    sentence: String,
+    excerpt: Excerpt,
+) -> Result<String, AllocError>
+    ensures { IfOk result (λ text. OpensWith file.entry.word.now (string_bytes text)) }
+{
+    let lines = with_lines(sentence, excerpt)?;
+    match spot {
+        Some(span) => opened(alloc, file, span.start, lines.as_str()),
+        None => bare_opened(alloc, file.word, lines.as_str()),
+    }
+}
+
+/// A sentence, and the line of a span of a file below it, where there is one.
+pub(crate) fn told_at(
+    alloc: Global,
+    file: Input<'_>,
+    spot: Option<Span>,
+    sentence: String,
+) -> Result<String, AllocError>
+    ensures { IfOk result (λ text. OpensWith file.entry.word.now (string_bytes text)) }
+{
+    let mut excerpt = excerpt_at(alloc, file.bytes, spot)?;
+    if let Some(span) = spot {
+        excerpt.push_line(file.bytes, span, "")?;
+    }
+    told(alloc, file, spot, sentence, excerpt)
+}

@@ -1,0 +1,107 @@
+//! Values of edits that are none (306).
+
+use crate::redefined::find_redefined;
+use crate::sentence::{byte_sentence, meant_at};
+use crate::standing::quoted;
+use std::alloc::{AllocError, Global};
+use toml_text::{Source, Span};
+use toml_tree::{Profile, SyntaxFault, parse_value_in};
+
+/// What is wrong in a value, and what is meant of it; nothing, where it is too long to be shown.
+#[derive(Drop)]
+pub(crate) struct Flaw {
+    pub sentence: String,
+    pub meant: Option<Span>,
+}
+
+/// What stands before a value that is read as the value of a key, and its length.
+const FRONT: &str = "v = ";
+
+const FRONT_LEN: usize = 4;
+
+/// How many bytes a value has at most that is shown as a string.
+const MAX_SHOWN: usize = 60;
+
+/// The code and the place of a fault.
+pub(crate) fn code_of(fault: SyntaxFault) -> Result<(u16, usize), AllocError> {
+    match fault {
+        SyntaxFault::BadCharacter { at } => Ok((103, at)),
+        SyntaxFault::Expected { at } => Ok((104, at)),
+        SyntaxFault::BadString { at } => Ok((105, at)),
+        SyntaxFault::BadNumber { at } => Ok((106, at)),
+        SyntaxFault::IntegerRange { at } => Ok((107, at)),
+        SyntaxFault::BadDate { at } => Ok((108, at)),
+        SyntaxFault::TooDeep { at } => Ok((109, at)),
+        SyntaxFault::NoMemory => Err(AllocError),
+    }
+}
+
+/// How the text of a value would be given as a string; nothing, where it begins as a string, an array or an inline table does.
+fn as_string(alloc: Global, value: &str) -> Result<String, AllocError> {
+    match value.as_bytes() {
+        [b'"' | b'\'' | b'[' | b'{', ..] => Ok(String::new(alloc)),
+        bytes if bytes.len() > MAX_SHOWN => {
+            String::from_str(alloc, "; --string takes it as a string")
+        }
+        _ => {
+            let word = quoted(alloc, value)?;
+            format!(in alloc;
+                "; as a string it is {}, or --string takes it so",
+                word.as_str()
+            )
+        }
+    }
+}
+
+/// The flaw of a value that the grammar refuses.
+fn bad_syntax(alloc: Global, value: &str, fault: SyntaxFault) -> Result<Flaw, AllocError> {
+    let (code, at) = code_of(fault)?;
+    let mut sentence = match (code, at) {
+        (104, 0) => String::from_str(alloc, "no value of TOML begins so")?,
+        _ => byte_sentence(alloc, value.as_bytes(), code, at)?,
+    };
+    sentence.push_str(as_string(alloc, value)?.as_str())?;
+    Ok(Flaw {
+        sentence,
+        meant: Some(meant_at(value.as_bytes(), code, at)),
+    })
+}
+
+/// The part of a value that a span is of a text which begins with `FRONT`.
+fn shifted(span: Span) -> Span {
+    Span {
+        start: span.start.saturating_sub(FRONT_LEN),
+        end: span.end.saturating_sub(FRONT_LEN),
+    }
+}
+
+/// The flaw of a value in which a name is defined twice.
+fn bad_names(alloc: Global, value: &str, profile: Profile) -> Result<Flaw, AllocError> {
+    let mut text = String::from_str(alloc, FRONT)?;
+    text.push_str(value)?;
+    let meant = match find_redefined(alloc, text.as_str().as_bytes(), profile)? {
+        Some(twice) => match twice.clash {
+            Some(clash) => Some(shifted(clash.again.span)),
+            None => None,
+        },
+        None => None,
+    };
+    Ok(Flaw {
+        sentence: String::from_str(alloc, "a key in it is defined already")?,
+        meant,
+    })
+}
+
+/// What is wrong in the value of an edit.
+pub(crate) fn flaw_of(alloc: Global, value: &str, profile: Profile) -> Result<Flaw, AllocError> {
+    let Ok(source) = Source::new(value.as_bytes()) else {
+        return Ok(Flaw {
+            sentence: String::from_str(alloc, "a text has at most 16777216 bytes")?,
+            meant: None,
+        });
+    };
+    match parse_value_in(alloc, source, profile) {
+        Ok(_) => bad_names(alloc, value, profile),
+        Err(fault) => bad_syntax(alloc, value, fault),
+    }
+}

@@ -1,0 +1,5 @@
+pub mod Steps
+pub mod Parents
+pub mod Walking
+pub mod Wishes
+pub mod Laws

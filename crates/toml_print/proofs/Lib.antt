@@ -1,0 +1,14 @@
+pub mod Behind
+pub mod Built
+pub mod Escapes
+pub mod Found
+pub mod FoundLines
+pub mod OneValue
+pub mod PartsPrinted
+pub mod Proved
+pub mod Searched
+pub mod Tagging
+pub mod Texts
+pub mod TreesTagged
+pub mod Unique
+pub mod Written

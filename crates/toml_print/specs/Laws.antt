@@ -1,0 +1,20 @@
+-- Laws: data have one tree, one tagged JSON, and one text in each form.
+use Rattle.std.specs.Prelude.{◌≡◌, ℕ, List}
+use Rattle.toml_names.specs.model.Data.{Kinds}
+use Rattle.toml_print.specs.JsonTexts.{tagged}
+use Rattle.toml_print.specs.Printed.{IsPrinted}
+use Rattle.toml_print.specs.Tagged.{IsTagged}
+use Rattle.toml_print.specs.Trees.{Tree, IsTreeOf}
+use Rattle.toml_print.specs.declared.form.Form.{Form}
+
+-- data have at most one tree,
+abbrev pub OneTree : Type 0
+OneTree = (f : Kinds) (t u : Tree) → IsTreeOf f t → IsTreeOf f u → t ≡ u
+
+-- of which the tagged JSON is theirs;
+abbrev pub TreeIsTagged : Type 0
+TreeIsTagged = (f : Kinds) (t : Tree) → IsTreeOf f t → IsTagged f (tagged t)
+
+-- and they are at most one text in a form.
+abbrev pub OnePrinted : Type 0
+OnePrinted = (form : Form) (f : Kinds) (one two : List ℕ) → IsPrinted form f one → IsPrinted form f two → one ≡ two

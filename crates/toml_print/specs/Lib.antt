@@ -1,0 +1,9 @@
+pub mod Tagged
+pub mod TaggedText
+pub mod Trees
+pub mod JsonTexts
+pub mod Printed
+pub mod Writing
+pub mod ValueTexts
+pub mod Searching
+pub mod Laws

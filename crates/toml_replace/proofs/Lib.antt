@@ -1,0 +1,6 @@
+pub mod Joined
+pub mod Names
+pub mod Makings
+pub mod Workings
+pub mod Spared
+pub mod Wholes

@@ -1,0 +1,4 @@
+pub mod Calls
+pub mod Beside
+pub mod Replacement
+pub mod Steps

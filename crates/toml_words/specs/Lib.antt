@@ -1,0 +1,4 @@
+pub mod CommandLine
+pub mod Request
+pub mod Marking
+pub mod Told

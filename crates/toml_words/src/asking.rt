@@ -1,0 +1,453 @@
+//! What the parser's matches ask for.
+ghost use Rattle.std.specs.Prelude.{◌≡◌, ◌≤◌, IfErr, IfOk, count_by, length, map, option_and_then, option_map, true};
+ghost use Rattle.clap.specs.Walk.{texts};
+ghost use Rattle.clap.specs.Words.{FailsBy, all_of, fault_of, first_of, found_of, kind_of, rows_of, subcommand_of, subcommand_rows_of, takes};
+ghost use Rattle.toml_words.specs.CommandLine.{tool};
+ghost use Rattle.toml_words.specs.Request.{IsFaultIn, IsRequestIn, apply_of, are_both_input, asked_by, asked_destination, asked_edit, asked_of, asked_value, certificate_of, certify_of, check_of};
+ghost use Rattle.toml_words.specs.Request.{chosen, destination_of, edit_of, editing_of, form_of, get_of, insert_of, is_editing, is_given, is_input, new_value_of, one_of, profile_of, reading_of, remove_of};
+ghost use Rattle.toml_words.specs.Request.{rename_of, set_of, show_of, validate_of, value_of, verify_of, word_of};
+
+use crate::command_line::command;
+use crate::marking::{is_marked, unmarked};
+use crate::request::{Destination, Form, NewValue, OneEdit, Request, STANDARD_INPUT};
+use clap::ArgMatches;
+use clap::error::ErrorKind;
+use std::alloc::{AllocError, Global};
+use toml_tree::Profile;
+
+/// The numbers of the profiles.
+static PROFILES: [&str; 2] = ["1", "2"];
+
+/// Why words make no request.
+#[derive(Debug, Drop)]
+pub enum WordsFault {
+    /// What the parser answers to the words: a mistake in them, the text for who asks for help, or want of memory.
+    Parser(clap::Error),
+    /// The parser took the words, and they ask for nothing: two ways to print exclude each other, two files are standard input, or
+    /// what is to be changed in place is.
+    Nothing,
+    /// There was no memory.
+    NoMemory,
+}
+
+/// The request of the program's words, its own name first. Values that begin with a hyphen are marked (`marked_words`).
+pub fn read_words<'a>(alloc: Global, words: &'a [&'a str]) -> Result<Request<'a>, WordsFault>
+    ensures ok { IfOk result (IsRequestIn (texts words.entry.now)) }
+    ensures err { IfErr result (IsFaultIn (texts words.entry.now)) }
+{
+    let matches = match parse(alloc, words, PROFILES.as_slice()) {
+        Ok(matches) => matches,
+        Err(error) => return Err(WordsFault::Parser(error)),
+    };
+    match requested(alloc, &matches) {
+        Ok(Some(request)) => Ok(request),
+        Ok(None) => Err(WordsFault::Nothing),
+        Err(_) => Err(WordsFault::NoMemory),
+    }
+}
+
+fn parse<'a>(
+    alloc: Global,
+    words: &'a [&'a str],
+    profiles: &'a [&'a str],
+) -> Result<ArgMatches<'a>, clap::Error>
+    ensures ok { IfOk result (λ matches.
+        subcommand_rows_of matches ≡ subcommand_of (tool profiles.entry) (texts words.entry.now)) }
+    ensures kinds { FailsBy (fault_of (tool profiles.entry) (texts words.entry.now)) result }
+    ensures err { IfErr result (λ error. takes (tool profiles.entry) (texts words.entry.now) ≡ true
+        → kind_of error ≡ ErrorKind.OutOfMemory) }
+{
+    let command = command(alloc, profiles)?;
+    command.try_get_matches_from(words)
+}
+
+/// The request of the subcommand that was met, if it asks for anything.
+fn requested<'a>(alloc: Global, matches: &ArgMatches<'a>) -> Result<Option<Request<'a>>, AllocError>
+    ensures { IfOk result (λ request. option_map asked_by request
+        ≡ option_and_then asked_of (subcommand_rows_of matches.now)) }
+{
+    let Some((name, found)) = matches.subcommand() else {
+        return Ok(None);
+    };
+    if name == "validate" {
+        return validate_request(alloc, found);
+    }
+    Ok(if is_editing(name) {
+        editing_request(name, found)
+    } else {
+        reading_request(name, found)
+    })
+}
+
+/// Whether the subcommand is one of those that edit a file by their words.
+fn is_editing(name: &str) -> bool
+    ensures { result ≡ is_editing name.now }
+{
+    name == "set" || name == "insert" || name == "rename" || name == "remove" || name == "apply"
+}
+
+/// What such a subcommand asks.
+fn editing_request<'a>(name: &str, found: &ArgMatches<'a>) -> Option<Request<'a>>
+    ensures { option_map asked_by result ≡ editing_of name.now (rows_of (found_of found.now)) }
+{
+    match name {
+        "set" => set_request(found),
+        "insert" => insert_request(found),
+        "rename" => rename_request(found),
+        "remove" => remove_request(found),
+        "apply" => apply_request(found),
+        _ => None,
+    }
+}
+
+/// What the others ask, of which each has no list of files.
+fn reading_request<'a>(name: &str, found: &ArgMatches<'a>) -> Option<Request<'a>>
+    ensures { option_map asked_by result ≡ reading_of name.now (rows_of (found_of found.now)) }
+{
+    match name {
+        "get" => get_request(found),
+        "check" => check_request(found),
+        "show" => show_request(found),
+        "edit" => edit_request(found),
+        "verify" => verify_request(found),
+        "certify" => certify_request(found),
+        _ => None,
+    }
+}
+
+fn get_request<'a>(found: &ArgMatches<'a>) -> Option<Request<'a>>
+    ensures { option_map asked_by result ≡ get_of (rows_of (found_of found.now)) }
+{
+    let file = word(found, "FILE")?;
+    let place = word(found, "PLACE")?;
+    let form = form_given(found)?;
+    let default = value(found, "default");
+    let profile = profile_given(found)?;
+    Some(Request::Get {
+        file,
+        place,
+        form,
+        default,
+        profile,
+    })
+}
+
+/// The form: at most one may be given.
+fn form_given(found: &ArgMatches<'_>) -> Option<Form>
+    ensures { result ≡ form_of (rows_of (found_of found.now)) }
+{
+    chosen(
+        is_given(found, "json"),
+        is_given(found, "tagged"),
+        is_given(found, "toml"),
+        is_given(found, "type"),
+    )
+}
+
+fn chosen(json: bool, tagged: bool, toml: bool, kind: bool) -> Option<Form>
+    ensures { result ≡ chosen json tagged toml kind }
+{
+    match (json, tagged, toml, kind) {
+        (false, false, false, false) => Some(Form::Plain),
+        (true, false, false, false) => Some(Form::Json),
+        (false, true, false, false) => Some(Form::Tagged),
+        (false, false, true, false) => Some(Form::Toml),
+        (false, false, false, true) => Some(Form::TypeName),
+        _ => None,
+    }
+}
+
+fn set_request<'a>(found: &ArgMatches<'a>) -> Option<Request<'a>>
+    ensures { option_map asked_by result ≡ set_of (rows_of (found_of found.now)) }
+{
+    let value = new_value(found)?;
+    let parents = is_given(found, "parents");
+    one_request(found, OneEdit::Set { value, parents })
+}
+
+fn insert_request<'a>(found: &ArgMatches<'a>) -> Option<Request<'a>>
+    ensures { option_map asked_by result ≡ insert_of (rows_of (found_of found.now)) }
+{
+    let value = new_value(found)?;
+    let parents = is_given(found, "parents");
+    one_request(found, OneEdit::Insert { value, parents })
+}
+
+fn rename_request<'a>(found: &ArgMatches<'a>) -> Option<Request<'a>>
+    ensures { option_map asked_by result ≡ rename_of (rows_of (found_of found.now)) }
+{
+    let to = value(found, "NAME")?;
+    one_request(found, OneEdit::Rename { to })
+}
+
+fn remove_request<'a>(found: &ArgMatches<'a>) -> Option<Request<'a>>
+    ensures { option_map asked_by result ≡ remove_of (rows_of (found_of found.now)) }
+{
+    one_request(found, OneEdit::Remove)
+}
+
+/// The value, and whether it is the text of a string.
+fn new_value<'a>(found: &ArgMatches<'a>) -> Option<NewValue<'a>>
+    ensures { option_map asked_value result ≡ new_value_of (rows_of (found_of found.now)) }
+{
+    let text = value(found, "VALUE")?;
+    let is_string = is_given(found, "string");
+    Some(NewValue { text, is_string })
+}
+
+/// The request of one edit.
+fn one_request<'a>(found: &ArgMatches<'a>, edit: OneEdit<'a>) -> Option<Request<'a>>
+    ensures { option_map asked_by result ≡ one_of (asked_edit edit.entry) (rows_of (found_of found.now)) }
+{
+    let file = word(found, "FILE")?;
+    let place = word(found, "PLACE")?;
+    let destination = destination_given(found, file)?;
+    let profile = profile_given(found)?;
+    Some(Request::One {
+        file,
+        place,
+        edit,
+        destination,
+        profile,
+    })
+}
+
+/// Where the edited text goes. Standard input can't be changed in place.
+fn destination_given<'a>(found: &ArgMatches<'a>, file: &str) -> Option<Destination<'a>>
+    ensures { option_map asked_destination result ≡ destination_of file.now (rows_of (found_of found.now)) }
+{
+    let in_place = is_given(found, "in-place");
+    if in_place && is_input(file) {
+        return None;
+    }
+    let certificate = certificate_given(found)?;
+    Some(Destination {
+        in_place,
+        certificate,
+    })
+}
+
+/// The path of the certificate, if one is given. None at all where it begins with a hyphen.
+fn certificate_given<'a>(found: &ArgMatches<'a>) -> Option<Option<&'a str>>
+    ensures { option_map (option_map (λ path. path.now)) result ≡ certificate_of (rows_of (found_of found.now)) }
+{
+    match first_value(found, "certificate") {
+        None => Some(None),
+        Some(path) => {
+            if is_marked(path) {
+                None
+            } else {
+                Some(Some(path))
+            }
+        }
+    }
+}
+
+fn apply_request<'a>(found: &ArgMatches<'a>) -> Option<Request<'a>>
+    ensures { option_map asked_by result ≡ apply_of (rows_of (found_of found.now)) }
+{
+    let file = word(found, "FILE")?;
+    let edits = word(found, "EDITS")?;
+    let destination = destination_given(found, file)?;
+    let profile = profile_given(found)?;
+    if are_both_input(file, edits) {
+        return None;
+    }
+    Some(Request::Apply {
+        file,
+        edits,
+        destination,
+        profile,
+    })
+}
+
+fn validate_request<'a>(
+    alloc: Global,
+    found: &ArgMatches<'a>,
+) -> Result<Option<Request<'a>>, AllocError>
+    ensures { IfOk result (λ request. option_map asked_by request ≡ validate_of (rows_of (found_of found.now))) }
+{
+    let Some(given) = all_values(found, "FILE") else {
+        return Ok(None);
+    };
+    let Some(profile) = profile_given(found) else {
+        return Ok(None);
+    };
+    if inputs(given) > 1 {
+        return Ok(None);
+    }
+    let mut files = Vec::with_capacity(alloc, given.len())?;
+    files.extend_from_slice(given)?;
+    Ok(Some(Request::Validate { files, profile }))
+}
+
+/// How many of the paths are standard input.
+fn inputs(files: &[&str]) -> usize
+    ensures count { result ≡ count_by is_input (texts files.now) }
+    ensures few { result ≤ length files.now }
+{
+    let mut count = 0;
+    for (i, file) in files.iter().enumerate() {
+        if is_input(file) {
+            count += 1;
+        }
+    }
+    count
+}
+
+fn show_request<'a>(found: &ArgMatches<'a>) -> Option<Request<'a>>
+    ensures { option_map asked_by result ≡ show_of (rows_of (found_of found.now)) }
+{
+    let file = first_value(found, "FILE")?;
+    let list = is_given(found, "list");
+    let explain = is_given(found, "explain");
+    let profile = profile_given(found)?;
+    Some(Request::Show {
+        file,
+        list,
+        explain,
+        profile,
+    })
+}
+
+fn check_request<'a>(found: &ArgMatches<'a>) -> Option<Request<'a>>
+    ensures { option_map asked_by result ≡ check_of (rows_of (found_of found.now)) }
+{
+    let file = first_value(found, "FILE")?;
+    let explain = is_given(found, "explain");
+    let profile = profile_given(found)?;
+    Some(Request::Check {
+        file,
+        explain,
+        profile,
+    })
+}
+
+fn edit_request<'a>(found: &ArgMatches<'a>) -> Option<Request<'a>>
+    ensures { option_map asked_by result ≡ edit_of (rows_of (found_of found.now)) }
+{
+    let file = first_value(found, "FILE")?;
+    let edits = first_value(found, "EDITS")?;
+    let out = first_value(found, "OUT")?;
+    let cert = first_value(found, "CERT")?;
+    let explain = is_given(found, "explain");
+    let profile = profile_given(found)?;
+    Some(Request::Edit {
+        file,
+        edits,
+        out,
+        cert,
+        explain,
+        profile,
+    })
+}
+
+fn verify_request<'a>(found: &ArgMatches<'a>) -> Option<Request<'a>>
+    ensures { option_map asked_by result ≡ verify_of (rows_of (found_of found.now)) }
+{
+    let before = first_value(found, "BEFORE")?;
+    let edits = first_value(found, "EDITS")?;
+    let after = first_value(found, "AFTER")?;
+    let cert = first_value(found, "CERT")?;
+    let explain = is_given(found, "explain");
+    let profile = profile_given(found)?;
+    Some(Request::Verify {
+        before,
+        edits,
+        after,
+        cert,
+        explain,
+        profile,
+    })
+}
+
+fn certify_request<'a>(found: &ArgMatches<'a>) -> Option<Request<'a>>
+    ensures { option_map asked_by result ≡ certify_of (rows_of (found_of found.now)) }
+{
+    let before = first_value(found, "BEFORE")?;
+    let edits = first_value(found, "EDITS")?;
+    let after = first_value(found, "AFTER")?;
+    let cert = first_value(found, "CERT");
+    let profile = profile_given(found)?;
+    if are_both_input(before, edits)
+        || are_both_input(before, after)
+        || are_both_input(edits, after)
+    {
+        return None;
+    }
+    Some(Request::Certify {
+        before,
+        edits,
+        after,
+        cert,
+        profile,
+    })
+}
+
+/// Whether both paths are standard input, which is read but once.
+fn are_both_input(one: &str, other: &str) -> bool
+    ensures { result ≡ are_both_input one.now other.now }
+{
+    is_input(one) && is_input(other)
+}
+
+/// Whether the path is standard input.
+fn is_input(path: &str) -> bool
+    ensures { result ≡ is_input path.now }
+{
+    path == STANDARD_INPUT
+}
+
+/// The profile: the parser answers `1` where the option is not given, and lets no other text than the two through.
+fn profile_given(found: &ArgMatches<'_>) -> Option<Profile>
+    ensures { result ≡ profile_of (rows_of (found_of found.now)) }
+{
+    match first_value(found, "profile")? {
+        "1" => Some(Profile::One),
+        "2" => Some(Profile::Two),
+        _ => None,
+    }
+}
+
+/// Whether the flag was given: the parser answers `true` or `false` for it.
+fn is_given(found: &ArgMatches<'_>, flag: &str) -> bool
+    ensures { result ≡ is_given flag.now (rows_of (found_of found.now)) }
+{
+    match first_value(found, flag) {
+        Some(text) => text == "true",
+        None => false,
+    }
+}
+
+/// A word that is no value, so it may not be marked.
+fn word<'a>(found: &ArgMatches<'a>, argument: &str) -> Option<&'a str>
+    ensures { option_map (λ word. word.now) result ≡ word_of argument.now (rows_of (found_of found.now)) }
+{
+    let word = first_value(found, argument)?;
+    if is_marked(word) {
+        return None;
+    }
+    Some(word)
+}
+
+/// A value, without its mark.
+fn value<'a>(found: &ArgMatches<'a>, argument: &str) -> Option<&'a str>
+    ensures { option_map (λ value. value.now) result ≡ value_of argument.now (rows_of (found_of found.now)) }
+{
+    let word = first_value(found, argument)?;
+    Some(unmarked(word))
+}
+
+fn first_value<'a>(found: &ArgMatches<'a>, argument: &str) -> Option<&'a str>
+    ensures { option_map (λ value. value.now) result
+        ≡ first_of argument.now (rows_of (found_of found.now)) }
+{
+    found.get_str(argument)
+}
+
+fn all_values<'m, 'a>(found: &'m ArgMatches<'a>, argument: &str) -> Option<&'m [&'a str]>
+    ensures { option_map (λ values. texts values.now) result
+        ≡ all_of argument.now (rows_of (found_of found.entry.now)) }
+{
+    found.get_strs(argument)
+}

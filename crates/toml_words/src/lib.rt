@@ -1,0 +1,17 @@
+//! The words of the command line, and what they ask.
+#![tactic(auto)]
+
+mod arguments;
+mod asking;
+mod command_line;
+mod commands;
+mod marking;
+mod request;
+#[cfg(test)]
+mod tests;
+mod told;
+
+pub use asking::{WordsFault, read_words};
+pub use marking::marked_words;
+pub use request::{Destination, Form, NewValue, OneEdit, Request, STANDARD_INPUT};
+pub use told::{ParserText, parser_text};
