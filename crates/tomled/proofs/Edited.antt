@@ -20,7 +20,7 @@ use Rattle.toml_units.specs.Certificates.{certificate_of}
 use Rattle.toml_editor.specs.Edited as editor
 use Rattle.toml_editor.specs.declared.fault.EditorFault.{EditorFault}
 use Rattle.toml_editor.specs.declared.fault.EditorFault.TheVariants as faults
-use Rattle.tomled.specs.Edit.{Edits, IsEditing, IsEditorEnding, IsUnedited, TellsNumber}
+use Rattle.tomled.specs.Edit.{Edits, IsEditing, IsEditorEnding, IsUnedited, IsUnmade, TellsNumber}
 use Rattle.tomled.specs.Outcomes.{Answers, Ends, Gives, Tells, texts_of}
 use Rattle.tomled.specs.Reading.{HasNumber}
 use Rattle.tomled.specs.declared.ending.Ending.{Ending}
@@ -71,10 +71,15 @@ numbered profile before cs (faults.Unverified reason) told = tt
 numbered profile before cs faults.NoMemory told = tt
 
 module _ (profile : Profile) (before edits : List ℕ) where
-  -- the ending of an editor's fault is one of `edit`
-  pub unedited : (cs : List Change) (fault : EditorFault) (e : Ending) → IsEditList edits cs → editor.Tells profile before cs fault → IsEditorEnding fault e → Ends (IsUnedited profile before edits) e
-  unedited cs fault (ends.Refused r) listed told stands = inr (record { changes = cs; listed = listed; fault = fault; told = told; stands = stands })
-  unedited cs fault ends.NoMemory listed told stands = tt
+  -- the ending of an editor's fault is one of the edits,
+  pub unmade : (cs : List Change) (fault : EditorFault) (e : Ending) → editor.Tells profile before cs fault → IsEditorEnding fault e → Ends (IsUnmade profile before cs) e
+  unmade cs fault (ends.Refused r) told stands = record { fault = fault; told = told; stands = stands }
+  unmade cs fault ends.NoMemory told stands = tt
+
+  -- and so of `edit`
+  pub unedited : (cs : List Change) (e : Ending) → IsEditList edits cs → Ends (IsUnmade profile before cs) e → Ends (IsUnedited profile before edits) e
+  unedited cs (ends.Refused r) listed is = inr (record { changes = cs; listed = listed; unmade = is })
+  unedited cs ends.NoMemory listed is = tt
 
   pub edited : (cs : List Change) (text : List ℕ) (pairs : List (ℕ × ℕ)) (a : Answer) → IsEditList edits cs → editor.IsEdited profile before cs text pairs → a.out.items ≡ codes "ok\n" → texts_of a.files.items ≡ text ∷ certificate_of pairs ∷ []
       → IsEditing profile before edits a

@@ -43,8 +43,8 @@ module _ (profile : Profile) (before list : List ℕ) (cs : List Change) (after 
   no_refusal r (inl (inr bad)) = bad_list_is_none list bad.1 r.place cs bad.2 bad.3 listed
   no_refusal r (inr h) =
       let same : h.changes ≡ cs = one_edit_list list h.changes cs h.listed listed in
-      let memory = is_memory h.fault (subst (λ ds. editor.Tells profile before ds h.fault) same h.told) in
-      let e = subst (λ f. IsEditorEnding f (Refused r)) memory h.stands in
+      let memory = is_memory h.unmade.fault (subst (λ ds. editor.Tells profile before ds h.unmade.fault) same h.unmade.told) in
+      let e = subst (λ f. IsEditorEnding f (Refused r)) memory h.unmade.stands in
       cc
 
   printed : (o : Outcome) → Edits profile before list o

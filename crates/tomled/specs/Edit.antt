@@ -78,13 +78,17 @@ abbrev pub TellsNumber : EditorFault → Type 0
 TellsNumber (faults.Names fault) = HasNumber fault
 TellsNumber _ = Unit {0}
 
+-- the refusal stands for what the editor tells of these edits of the document
+pub record IsUnmade (profile : Profile) (before : List ℕ) (changes : List Change) (r : Refusal) : Type 0 where
+  pub fault : EditorFault
+  pub told : editor.Tells profile before changes fault
+  pub stands : IsEditorEnding fault (Refused r)
+
 -- the bytes are the list of some edits, and the refusal stands for what the editor tells of them and the document
 pub record IsEditorRefusal (profile : Profile) (before edits : List ℕ) (r : Refusal) : Type 0 where
   pub changes : List Change
   pub listed : IsEditList edits changes
-  pub fault : EditorFault
-  pub told : editor.Tells profile before changes fault
-  pub stands : IsEditorEnding fault (Refused r)
+  pub unmade : IsUnmade profile before changes r
 
 -- the edit list is judged first
 abbrev pub IsUnedited : Profile → List ℕ → List ℕ → Refusal → Type 0

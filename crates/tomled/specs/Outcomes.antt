@@ -1,5 +1,5 @@
 -- What a run of the program comes to.
-use Rattle.std.specs.Prelude.{◌≡◌, ℕ, List, [], map, Result, Ok, Err, Vec}
+use Rattle.std.specs.Prelude.{◌≡◌, ◌⊎◌, ℕ, List, [], map, None, Result, Ok, Err, Some, Vec}
 use Rattle.std.specs.declared.alloc.Global.{Global}
 use Rattle.toml_tree.specs.declared.profile.Profile.{Profile}
 use Rattle.toml_names.specs.model.Documents.{IsDocumentIn}
@@ -16,6 +16,7 @@ texts_of = map (λ (v : Vec ℕ Global). v.items)
 -- status 0, the text on standard output, and the bytes of each file to be written
 pub record Gives (text : List ℕ) (written : List (List ℕ)) (o : Outcome) : Type 0 where
   pub status : o.status ≡ 0
+  pub refusal : o.refusal ≡ None
   pub out : o.out.items ≡ text
   pub err : o.err.items ≡ []
   pub files : texts_of o.files.items ≡ written
@@ -27,8 +28,17 @@ Prints text = Gives text []
 -- status 1, and one refusal line on standard error
 pub record Tells (r : Refusal) (o : Outcome) : Type 0 where
   pub status : o.status ≡ 1
+  pub refusal : o.refusal ≡ Some r
   pub out : o.out.items ≡ []
   pub err : o.err.items ≡ refusal_line r
+  pub files : o.files.items ≡ []
+
+-- status 5, and the refusal line of a place at which nothing stands
+pub record IsMissing (o : Outcome) : Type 0 where
+  pub status : o.status ≡ 5
+  pub refusal : o.refusal ≡ Some (record { code = 301; place = 0 })
+  pub out : o.out.items ≡ []
+  pub err : o.err.items ≡ refusal_line (record { code = 301; place = 0 })
   pub files : o.files.items ≡ []
 
 -- what a command's answer comes to: its text is printed and its files are written, its refusal told
@@ -55,3 +65,19 @@ IsRefused profile bytes r = (¬ IsDocumentIn profile bytes) × IsRefusalOf profi
 -- the bytes are no document of the profile, and the answer tells why
 abbrev pub Refuses : Profile → List ℕ → Outcome → Type 0
 Refuses profile bytes o = (r : Refusal) × IsRefused profile bytes r × Tells r o
+
+-- status 0 with a text and files that are good, or a refusal that is true, and no file
+abbrev pub GivesOrTells : (List ℕ → List (List ℕ) → Type 0) → (Refusal → Type 0) → Outcome → Type 0
+GivesOrTells Good Bad o = ((text : List ℕ) × (written : List (List ℕ)) × Good text written × Gives text written o) ⊎ ((r : Refusal) × Bad r × Tells r o)
+
+-- so an answer
+abbrev pub IsGood : (List ℕ → List (List ℕ) → Type 0) → Answer → Type 0
+IsGood Good a = Good a.out.items (texts_of a.files.items)
+
+-- the status with the text on standard error, and nothing else
+pub record Fails (status : ℕ) (text : List ℕ) (o : Outcome) : Type 0 where
+  pub is : o.status ≡ status
+  pub refusal : o.refusal ≡ None
+  pub out : o.out.items ≡ []
+  pub err : o.err.items ≡ text
+  pub files : o.files.items ≡ []

@@ -9,8 +9,8 @@ use Rattle.toml_tree.specs.declared.profile.Profile.{Profile}
 use Rattle.toml_names.specs.model.Data.{Kinds, IsDataOf}
 use Rattle.toml_names.specs.mentions.Mentions.{named}
 use Rattle.toml_names.specs.reader.Names.{AreGood}
+use Rattle.toml_print.specs.Tagged.{IsTagged}
 use Rattle.tomled.specs.Outcomes.{Prints, Refuses}
-use Rattle.tomled.specs.Tagged.{IsTagged}
 use Rattle.tomled.specs.declared.outcome.Outcome.{Outcome}
 
 -- the line is the data's tagged JSON in compact text, and LF

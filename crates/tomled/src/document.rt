@@ -7,7 +7,7 @@ ghost use Rattle.toml_names.specs.model.Data.{IsDataOf};
 ghost use Rattle.toml_names.specs.model.Documents.{IsDocumentIn};
 ghost use Rattle.toml_names.specs.mentions.FirstMentions.{first_mentions};
 ghost use Rattle.toml_names.specs.mentions.Mentions.{named};
-ghost use Rattle.toml_names.specs.reader.Parts.{part_kinds};
+ghost use Rattle.toml_names.specs.reader.Parts.{StandForNames, part_kinds};
 ghost use Rattle.tomled.specs.Outcomes.{Ends, IsRefused};
 ghost use Rattle.tomled.specs.Reading.{HasNumber, IsGoodTextWith, IsNameEnding, IsReadEnding, IsSyntaxEnding, IsTextRefusal, IsNumbered};
 
@@ -20,7 +20,7 @@ use toml_text::{MAX_LEN, Source, TextFault};
 use toml_tree::{Profile, SyntaxFault};
 
 /// The text that the bytes are, or why they are none.
-fn read_source(file: &[u8]) -> Result<Source<'_>, Ending>
+pub fn read_source(file: &[u8]) -> Result<Source<'_>, Ending>
     ensures text { IfOk result (λ source. text_of source ≡ file.now) }
     ensures refused { (profile : Profile) → IfErr result (Ends (IsRefused profile file.now)) }
 {
@@ -34,6 +34,7 @@ fn read_source(file: &[u8]) -> Result<Source<'_>, Ending>
 #[tactic(auto, using(crate::proofs::Judged::no_reading, crate::proofs::Judged::numbered))]
 pub fn read_data(alloc: Global, file: &[u8], profile: Profile) -> Result<NamedText<'_>, Ending>
     ensures facts { IfOk result (λ whole. IsGoodTextWith profile file.now (λ lines. IsDataOf (named lines) (part_kinds whole 0))) }
+    ensures names { IfOk result (StandForNames profile file.now) }
     ensures refused { IfErr result (Ends (IsRefused profile file.now)) }
 {
     let source = read_source(file)?;

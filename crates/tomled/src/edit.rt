@@ -1,8 +1,10 @@
 //! `edit`: what edits make of a document, and the certificate which shows it.
-ghost use Rattle.std.specs.Prelude.{◌≡◌, [], ◌∷◌, codes, string_bytes, IfErr, IfOk};
+ghost use Rattle.std.specs.Prelude.{◌≡◌, [], ◌∷◌, codes, map, string_bytes, IfErr, IfOk};
+ghost use Rattle.toml_edits.specs.Edits.{change};
+ghost use Rattle.toml_editor.specs.Edited.{IsEdited};
 ghost use Rattle.toml_tree.specs.declared.profile.Profile.TheVariants.{One};
 ghost use Rattle.toml_units.specs.Certificates.{certificate_of};
-ghost use Rattle.tomled.specs.Edit.{Edits, IsEditEnding, IsEditing, IsEditorEnding, IsUnedited, TellsNumber};
+ghost use Rattle.tomled.specs.Edit.{Edits, IsEditEnding, IsEditing, IsEditorEnding, IsUnedited, IsUnmade, TellsNumber};
 ghost use Rattle.tomled.specs.Outcomes.{Ends, texts_of};
 
 use crate::document::{name_ending, syntax_ending, text_refusal};
@@ -13,7 +15,7 @@ use crate::refusal::Refusal;
 use crate::verify::reason_code;
 use std::alloc::{AllocError, Global};
 use toml_editor::{EditorFault, edit_at_exit};
-use toml_edits::EditFault;
+use toml_edits::{Edit, EditFault};
 use toml_text::MAX_LEN;
 use toml_tree::Profile;
 use toml_units::{Certificate, certificate_text};
@@ -41,14 +43,29 @@ pub fn run_edit_in(
 }
 
 /// `ok` and LF, the edited text and its certificate.
-#[tactic(auto, using(crate::proofs::Edited::numbered, crate::proofs::Edited::unedited, crate::proofs::Edited::edited))]
+#[tactic(auto, using(crate::proofs::Edited::unedited, crate::proofs::Edited::edited))]
 fn edited(alloc: Global, file: &[u8], edits: &[u8], profile: Profile) -> Result<Answer, Ending>
     ensures good { IfOk result (IsEditing profile file.now edits.now) }
     ensures refused { IfErr result (Ends (IsUnedited profile file.now edits.now)) }
 {
     let edits = edit_list(alloc, edits)?;
-    match edit_at_exit(alloc, file, &edits, profile) {
-        Ok((text, certificate)) => Ok(good(alloc, text, &certificate)?),
+    let (text, certificate) = make(alloc, file, &edits, profile)?;
+    Ok(good(alloc, text, &certificate)?)
+}
+
+/// What the edits make of the document, and the certificate which shows it.
+#[tactic(auto, using(crate::proofs::Edited::numbered, crate::proofs::Edited::unmade))]
+pub fn make(
+    alloc: Global,
+    file: &[u8],
+    edits: &[Edit],
+    profile: Profile,
+) -> Result<(String, Certificate), Ending>
+    ensures good { IfOk result (λ r. IsEdited profile file.now (map change edits.now) (string_bytes r.0) r.1.pairs.items) }
+    ensures refused { IfErr result (Ends (IsUnmade profile file.now (map change edits.now))) }
+{
+    match edit_at_exit(alloc, file, edits, profile) {
+        Ok(made) => Ok(made),
         Err(fault) => Err(editor_ending(fault)),
     }
 }

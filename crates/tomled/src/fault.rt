@@ -17,7 +17,7 @@ pub enum RunFault {
 }
 
 impl RunFault {
-    ghost use Rattle.tomled.specs.RunFaults.{status_of, told};
+    ghost use Rattle.tomled.specs.RunFaults.{fault_of_kind, status_of, told};
 
     /// The exit status.
     pub fn status(self) -> u8
@@ -27,6 +27,16 @@ impl RunFault {
             RunFault::Words => 2,
             RunFault::File => 3,
             RunFault::Memory => 4,
+        }
+    }
+
+    /// What a file that could not be opened comes to, by the kind of the error.
+    pub fn of_kind(kind: io::ErrorKind) -> RunFault
+        ensures { result ≡ fault_of_kind kind }
+    {
+        match kind {
+            io::ErrorKind::OutOfMemory => RunFault::Memory,
+            _ => RunFault::File,
         }
     }
 
@@ -82,9 +92,6 @@ impl From<io::Error> for RunFault {
     ghost from_gives = { λ error fault. fault ≡ fault_of_kind (error_kind error) };
 
     fn from(error: io::Error) -> RunFault {
-        match error.kind() {
-            io::ErrorKind::OutOfMemory => RunFault::Memory,
-            _ => RunFault::File,
-        }
+        RunFault::of_kind(error.kind())
     }
 }

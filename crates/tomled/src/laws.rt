@@ -3,12 +3,10 @@ ghost use Rattle.tomled.specs.Certify.{EditedIsCertified};
 ghost use Rattle.tomled.specs.Edit.{PlainIsPrinted};
 ghost use Rattle.tomled.specs.Listing.{OneListing};
 ghost use Rattle.tomled.specs.Show.{OneLine};
-ghost use Rattle.tomled.specs.Tagged.{OneTagged};
 
-/// Data have at most one tagged JSON, and a document at most one line of it.
+/// A document has at most one line of tagged JSON.
 pub fn shown()
-    ensures tagged { OneTagged }
-    ensures line { OneLine }
+    ensures { OneLine }
 {}
 
 /// Where all edits of a list are defined on the data so far and plain on a document, and the text that they write is within the

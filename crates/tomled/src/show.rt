@@ -8,10 +8,10 @@ ghost use Rattle.tomled.specs.Show.{IsLineOf, Shows, ShowsData};
 use crate::document::read_data;
 use crate::ending::Ending;
 use crate::outcome::Outcome;
-use crate::tagged_text::write_tagged;
 use std::alloc::{AllocError, Global};
 use std::mem;
 use toml_names::NamedText;
+use toml_print::write_tagged;
 use toml_tree::Profile;
 
 /// What `show` prints for a document of profile 1, and for other bytes: `run_show_in` with `Profile::One`.

@@ -104,3 +104,19 @@ pub fn reason_code(reason: Reason) -> u16
         Reason::NotTheSame => 409,
     }
 }
+
+/// The reason that has the code, if one has.
+pub fn reason_of(code: u16) -> Option<Reason> {
+    match code {
+        401 => Some(Reason::BeforeRefused),
+        402 => Some(Reason::AfterRefused),
+        403 => Some(Reason::EditsRefused),
+        404 => Some(Reason::OtherData),
+        405 => Some(Reason::BadPair),
+        406 => Some(Reason::Lost),
+        407 => Some(Reason::Unasked),
+        408 => Some(Reason::NewComment),
+        409 => Some(Reason::NotTheSame),
+        _ => None,
+    }
+}

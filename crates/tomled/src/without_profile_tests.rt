@@ -3,6 +3,7 @@
 use crate::certify::run_certify;
 use crate::check::run_check;
 use crate::edit::run_edit;
+use crate::get::{GetForm, run_get};
 use crate::list::run_list;
 use crate::outcome::Outcome;
 use crate::show::run_show;
@@ -10,6 +11,7 @@ use crate::verify::run_verify;
 use std::alloc::{AllocError, Global};
 use std::process::Abort;
 use std::test::Fail;
+use toml_print::Form;
 
 /// A document, of which no edit is made.
 const FILE: &[u8] = b"a = {}\n";
@@ -32,6 +34,21 @@ fn is_read(alloc: Global) -> Result<bool, AllocError> {
     )
 }
 
+/// Whether what stands at a place is printed, or else the default.
+fn is_gotten(alloc: Global) -> Result<bool, AllocError> {
+    let form = GetForm::Printed(Form::TypeName);
+    let there = run_get(alloc, FILE, b"a", form, None)?;
+    let spelled = run_get(alloc, FILE, b"a", GetForm::Toml, None)?;
+    let default = run_get(alloc, FILE, b"b", form, Some(b"7"))?;
+    let missing = run_get(alloc, FILE, b"b", form, None)?;
+    Ok(
+        is_told(&there, "table\n")
+            && is_told(&spelled, "{}\n")
+            && is_told(&default, "7\n")
+            && missing.status == 5,
+    )
+}
+
 /// Whether the document is edited, and the edit verified and certified.
 fn is_edited(alloc: Global) -> Result<bool, AllocError> {
     let edited = run_edit(alloc, FILE, EDITS)?;
@@ -42,6 +59,6 @@ fn is_edited(alloc: Global) -> Result<bool, AllocError> {
 
 #[test]
 fn calls_without_a_profile_answer(rt: HostRuntime) -> Result<(), Fail> {
-    assert!(rt; is_read(rt.alloc())? && is_edited(rt.alloc())?);
+    assert!(rt; is_read(rt.alloc())? && is_gotten(rt.alloc())? && is_edited(rt.alloc())?);
     Ok(())
 }

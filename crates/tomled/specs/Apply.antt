@@ -1,0 +1,14 @@
+-- What `apply` answers.
+use Rattle.std.specs.Prelude.{◌≡◌, ℕ, List, [], ◌∷◌}
+use Rattle.toml_tree.specs.declared.profile.Profile.{Profile}
+use Rattle.tomled.specs.Edit.{AreEdited, IsUnedited}
+use Rattle.tomled.specs.Outcomes.{GivesOrTells}
+use Rattle.tomled.specs.declared.outcome.Outcome.{Outcome}
+
+-- the text is the one that `edit` writes, and the one file its certificate
+abbrev pub IsApplied : Profile → List ℕ → List ℕ → List ℕ → List (List ℕ) → Type 0
+IsApplied profile before edits text written = (certificate : List ℕ) × AreEdited profile before edits text certificate × (written ≡ certificate ∷ [])
+
+-- the edited text, where `edit` writes it; else the refusal of `edit`
+abbrev pub Applies : Profile → List ℕ → List ℕ → Outcome → Type 0
+Applies profile before edits = GivesOrTells (IsApplied profile before edits) (IsUnedited profile before edits)

@@ -1,0 +1,65 @@
+-- What a command with one edit answers.
+use Rattle.std.specs.Prelude.{◌≡◌, ◌⊎◌, ℕ, List, [], ◌∷◌, if◌then◌else◌}
+use Rattle.toml_tree.specs.declared.profile.Profile.{Profile}
+use Rattle.toml_scalar.specs.Spelling.{quoted}
+use Rattle.toml_names.specs.mentions.Mentions.{named}
+use Rattle.toml_names.specs.model.Data.{IsDataOf, Kinds}
+use Rattle.toml_names.specs.reader.Texts.{GoodText}
+use Rattle.toml_edits.specs.Edits.{Change}
+use Rattle.toml_units.specs.Certificates.{certificate_of}
+use Rattle.toml_editor.specs.Edited as editor
+use Rattle.toml_places.specs.declared.place.PlaceStep.{PlaceStep}
+use Rattle.toml_places.specs.Reads.{IsPlace}
+use Rattle.toml_one.specs.Wishes.{AreEditsAt, Wished, to_set, to_insert, to_rename, to_remove}
+use Rattle.toml_words.specs.Request.{AskedEdit, AskedValue, set, insert, rename, remove}
+use Rattle.tomled.specs.Edit.{IsUnmade}
+use Rattle.tomled.specs.Outcomes.{GivesOrTells, IsRefused}
+use Rattle.tomled.specs.Get.{IsBadPlace}
+use Rattle.tomled.specs.declared.outcome.Outcome.{Outcome}
+use Rattle.tomled.specs.declared.refusal.Refusal.{Refusal}
+
+-- the text of a value: of a string's characters their spelling
+abbrev pub value_text : AskedValue → List ℕ
+value_text v = if v.is_string then quoted v.text else v.text
+
+-- what the words of an edit wish
+abbrev pub wished_by : AskedEdit → Wished
+wished_by (set value parents) = to_set (value_text value) parents
+wished_by (insert value parents) = to_insert (value_text value) parents
+wished_by (rename name) = to_rename name
+wished_by remove = to_remove
+
+-- the edits stand for the wish at the place in the document
+pub record AreWished (profile : Profile) (before : List ℕ) (steps : List PlaceStep) (wish : Wished) (changes : List Change) : Type 0 where
+  pub it : GoodText profile before
+  pub kinds : Kinds
+  pub facts : IsDataOf (named it.lines) kinds
+  pub edits : AreEditsAt kinds (named it.lines) steps wish changes
+
+-- PLACE is a place, the text is what the edits make of the document that stand for the wish there, and the one file the certificate which
+-- shows it
+pub record IsMadeAt (profile : Profile) (before place : List ℕ) (wish : Wished) (text : List ℕ) (written : List (List ℕ)) : Type 0 where
+  pub steps : List PlaceStep
+  pub spelled : IsPlace place steps
+  pub changes : List Change
+  pub wished : AreWished profile before steps wish changes
+  pub pairs : List (ℕ × ℕ)
+  pub edited : editor.IsEdited profile before changes text pairs
+  pub files : written ≡ certificate_of pairs ∷ []
+
+-- PLACE is a place, and the edits that stand for the wish there are refused
+pub record IsRefusedAt (profile : Profile) (before place : List ℕ) (wish : Wished) (r : Refusal) : Type 0 where
+  pub steps : List PlaceStep
+  pub spelled : IsPlace place steps
+  pub changes : List Change
+  pub wished : AreWished profile before steps wish changes
+  pub unmade : IsUnmade profile before changes r
+
+-- PLACE is judged first, then the document, and then the edits
+abbrev pub IsUnmadeAt : Profile → List ℕ → List ℕ → Wished → Refusal → Type 0
+IsUnmadeAt profile before place wish r =
+    IsBadPlace place r ⊎ (((steps : List PlaceStep) × IsPlace place steps × IsRefused profile before r) ⊎ IsRefusedAt profile before place wish r)
+
+-- the edited text and its certificate, or a refusal
+abbrev pub MakesWish : Profile → List ℕ → List ℕ → Wished → Outcome → Type 0
+MakesWish profile before place wish = GivesOrTells (IsMadeAt profile before place wish) (IsUnmadeAt profile before place wish)
