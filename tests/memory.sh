@@ -1,6 +1,7 @@
 #!/usr/bin/env bash
 # Refused memory: each command on some texts, where each allocation of the run is refused in turn, until a run has none
-# left to refuse. Each run before that ends with status 4, `no memory` and no file; the last one gives the answer.
+# left to refuse. Each run before that ends with status 4, `no memory` and no file; the last one gives the answer. A file
+# that is edited in place then has its old text or the new one, and no other file is left beside it.
 # So too the edits of data and the reader of names, by a test as it is built: memory that is refused leaves both as they
 # were, and they go on once there is some. The last line is `N passed, M failed`.
 #   tests/memory.sh crates/tomled/out/tomled crates/toml_tests/out/toml_tests_tests
@@ -107,12 +108,21 @@ refusing() {
   timeout 30 env REFUSE="$number" LD_PRELOAD="$folder/refuse.so" "$@" <"${input:-/dev/null}" >out 2>err 9>refused
 }
 
-# answers STATUS OUT ERR TEXT CERT: the run ended so; STATUS is the first word, the others are bytes of files
-answers() {
-  [ "$status" -eq "$1" ] && holds out "$2" && holds err "$3" && holds text "$4" && holds cert "$5"
+# tells TEXT: standard error has these bytes, or, where they end in `+`, them and more lines
+tells() {
+  case $1 in
+  *'+') [ "$(head -n 1 err)" = "${1%?}" ] && [ "$(wc -l <err)" -gt 1 ] ;;
+  *) holds err "$1" ;;
+  esac
 }
 
-# each STATUS OUT ERR TEXT CERT WORDS..: what the last run prints and writes
+# answers STATUS OUT ERR TEXT CERT: the run ended so; STATUS is the first word, the others are bytes of files
+answers() {
+  [ "$status" -eq "$1" ] && holds out "$2" && tells "$3" && holds text "$4" && holds cert "$5"
+}
+
+# each STATUS OUT ERR TEXT CERT WORDS..: what the last run prints and writes. With goes_on=1 the others may too: the library
+# that measures how near two names are makes lists with a call that goes on where it gets less room than it asked for.
 each() {
   local wanted=("${@:1:5}") number=0 status
   shift 5
@@ -122,7 +132,7 @@ each() {
     refusing "$number" "$program" "$@"
     status=$?
     [ -s refused ] || break
-    if ! answers 4 '' 'no memory\n' - -; then
+    if ! answers 4 '' 'no memory\n' - - && { [ -z "${goes_on:-}" ] || ! answers "${wanted[@]}"; }; then
       fail "tomled $*: allocation $number: status $status"
       return
     fi
@@ -131,10 +141,48 @@ each() {
   refusals=$((refusals + number - 1))
 }
 
+# replaces OLD NEW WORDS..: the words change the file of the folder `place` in place, whole or not at all
+replaces() {
+  local old=$1 new=$2 number=0 status
+  shift 2
+  while :; do
+    number=$((number + 1))
+    rm -rf place cert
+    mkdir place
+    printf "$old" >place/file
+    refusing "$number" "$program" "$@"
+    status=$?
+    [ -s refused ] || break
+    if ! answers_in_place 4 'no memory\n' || { ! holds place/file "$old" && ! holds place/file "$new"; }; then
+      fail "tomled $*: allocation $number: status $status, beside the file: $(ls -A place)"
+      return
+    fi
+  done
+  if [ "$number" -lt 2 ] || ! answers_in_place 0 '' || ! holds place/file "$new"; then
+    fail "tomled $*: status $status"
+  else
+    pass
+  fi
+  refusals=$((refusals + number - 1))
+}
+
+# answers_in_place STATUS ERR: the run ended so, printed nothing else, and left one file
+answers_in_place() {
+  [ "$status" -eq "$1" ] && holds out '' && holds err "$2" && [ "$(ls -A place)" = file ]
+}
+
+# before TEXT: the file that is edited
+before() {
+  old=$1
+  printf "$old" >before
+}
+
 # document TEXT DATA ADDRESSES: what is read of it
 document() {
-  printf "$1" >before
+  before "$1"
   each 0 'ok\n' '' - - check before
+  each 0 '' '' - - validate before
+  each 0 "$2\n" '' - - get --tagged before .
   each 0 "$2\n" '' - - show before
   each 0 "$3\n" '' - - show --list before
 }
@@ -148,6 +196,8 @@ edited() {
   each 0 'yes\n' '' - - verify before edits after shown
   each 0 'yes\n' '' - "$3" certify before edits after cert
   input=after each 0 'yes\n' '' - "$3" certify before edits - cert
+  each 0 "$2" '' - "$3" apply before edits --certificate cert
+  replaces "$old" "$2" apply -i place/file edits
 }
 
 # refused LINE WORDS..: a refusal
@@ -155,6 +205,21 @@ refused() {
   local line=$1
   shift
   each 1 '' "refused $line\n" - - "$@"
+}
+
+# explained LINE WORDS..: a refusal that is explained
+explained() {
+  local line=$1
+  shift
+  each 1 '' "refused $line+" - - "$@"
+}
+
+# made WORDS NEW: what the words make of the file before, printed and in place; they have FILE for it
+made() {
+  local words
+  read -ra words <<<"$1"
+  each 0 "$2" '' - - "${words[@]/#FILE/before}"
+  replaces "$old" "$2" "${words[@]/#FILE/place/file}" -i
 }
 
 integer() {
@@ -198,12 +263,72 @@ printf '[{"op":"set","at":["b"],"value":"1"}]' >edits
 printf 'kept 1\n0 0\n' >shown
 refused '301 0' edit before edits text cert
 refused '403 0' verify before edits before shown
-refused '403 0' certify before edits before cert
+goes_on=1 explained '403 0' certify before edits before cert
 printf '[]' >edits
 refused '406 0' verify before edits before shown
 refused '330 0' verify before edits before edits
 printf '# c\na = 1\n' >after
-refused '407 0' certify before edits after cert
+explained '407 0' certify before edits after cert
+
+# What stands at a place.
+printf 's = "a\\tb" # c\nx = [0x1F, 2.50, nan]\n[t.u]\nd = 1979-05-27 07:32:00z\n[[v]]\nk = 1\n' >before
+each 0 'a\tb\n' '' - - get before s
+each 0 '"a\\tb"\n' '' - - get --json before s
+each 0 '[31,2.50,"nan"]\n' '' - - get before x
+each 0 '0x1F\n' '' - - get --toml before 'x[-3]'
+each 0 'datetime\n' '' - - get before --type 't . "u".d'
+each 0 '1\n' '' - - get before 'v[-1].k'
+each 0 'none\n' '' - - get before 'v[+].k' --default none
+input=before each 0 '31\n' '' - - get - 'x[0]'
+goes_on=1 each 5 '' 'refused 301 0+' - - get before t.w
+explained '307 0' get --toml before t
+explained '340 2' get before a..b
+
+# One edit, printed and in place.
+before 'a = 1 # c\nx = [1]\n'
+made 'set FILE a 2' 'a = 2 # c\nx = [1]\n'
+made 'set FILE a -1' 'a = -1 # c\nx = [1]\n'
+made 'set FILE b --string 2' 'a = 1 # c\nx = [1]\nb = "2"\n'
+made 'insert FILE x[+] 2' 'a = 1 # c\nx = [1, 2]\n'
+made 'set FILE t.u[+].k 2 --parents' 'a = 1 # c\nx = [1]\n[t]\n[[t.u]]\nk = 2\n'
+made 'rename FILE a é' '"é" = 1 # c\nx = [1]\n'
+made 'remove FILE x[-1]' 'a = 1 # c\nx = []\n'
+made 'set FILE a 1' 'a = 1 # c\nx = [1]\n'
+each 0 'a = 2 # c\nx = [1]\n' '' - 'kept 1\n1 1\n2 2\n4 4\n' set before a 2 --certificate cert
+replaces 'a = 1\n' 'a = 2\n' set -i place/file a 2 --certificate cert
+if holds cert 'kept 1\n1 1\n'; then pass; else fail 'the certificate of an edit in place'; fi
+explained '301 0' set before z.z 1
+explained '302 0' insert -i before a 1
+explained '306 0' set before a '{k = 1, k = 2}'
+explained '306 0' set before a abc
+explained '310 0' remove before .
+
+# What is told of texts and edits that are refused.
+printf '[{"op":"set","at":["a"],"value":"2"},{"op":"rename","at":["aa"],"to":"b"}]' >edits
+explained '301 1' apply before edits
+explained '301 1' edit --explain before edits text cert
+printf '[1]' >list
+input=list explained '320 0' apply before - --in-place --certificate cert
+printf '[{"op":"set","at":["a"],"value":"2"}]' >edits
+printf 'a = 2\nx = [1]\n' >after
+explained '406 0' certify before edits after
+printf 'a = 2 # c\nx = [2, 1]\n' >after
+explained '404 0' certify before edits after
+explained '404 0' verify --explain before edits after shown
+printf 'a = 1\n' >bare
+printf 'a = 2 # c\n' >after
+explained '408 0' certify bare edits after
+printf 'a = 08' >after
+explained '402 0' certify before edits after
+explained '106 4' check --explain after
+explained '106 4' validate before after
+printf 'a.b = 1 # \xE6\x97\xA5\n[a]\n' >after
+explained '201 2' show --explain after
+explained '201 2' get after a
+printf '\t"\xE6\x97\xA5" = "\xFF"' >after
+explained '101 10' show --list --explain after
+each 3 '' 'file fault+' - - get missing a
+each 3 '' 'file fault+' - - validate before missing
 
 "$program" --help >help
 each 0 "$(sed 's/\\/\\\\/g; s/%/%%/g' help)\n" '' - - --help

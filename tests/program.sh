@@ -1,9 +1,11 @@
 #!/usr/bin/env bash
 # What no proof says of the built program: bad words, files that can't be read or written, standard input, outputs that are
-# full or closed, and help. The last line is `N passed, M failed`.
+# full or closed, and help. The last line is `N passed, M failed`. Its parts are here and in program/*.sh: the
+# commands that get, edit and validate, what is told of refusals, files in place, and the deepest texts.
 #   tests/program.sh crates/tomled/out/tomled
 set -u
 program=$(realpath "$1")
+parts=$(dirname "$(realpath "$0")")/program
 folder=$(mktemp -d)
 trap 'rm -rf "$folder"' EXIT
 cd "$folder"
@@ -20,12 +22,15 @@ pass() {
   passed=$((passed + 1))
 }
 
-# run STATUS OUT ERR WORDS..: OUT and ERR are the one line on each output, one that ends in `*` what it begins with, `-`
-# for nothing on it
+# What runs the program, where something else does.
+by=()
+
+# run STATUS OUT ERR WORDS..: OUT and ERR are the one line on each output, one that ends in `*` what it begins with, one
+# that ends in `+` its first line, with others behind it, `-` for nothing on it
 run() {
   local status=$1 out=$2 err=$3
   shift 3
-  "$program" "$@" >out 2>err
+  "${by[@]}" "$program" "$@" >out 2>err
   local got=$?
   if [ "$got" -ne "$status" ] || ! says out "$out" || ! says err "$err"; then
     fail "tomled $*: status $got"
@@ -37,6 +42,7 @@ run() {
 says() {
   case $2 in
   -) [ ! -s "$1" ] ;;
+  *'+') [ "$(head -n 1 "$1")" = "${2%?}" ] && [ "$(wc -l <"$1")" -gt 1 ] ;;
   *'*') [ "$(head -c $((${#2} - 1)) "$1")" = "${2%?}" ] ;;
   *) printf '%s\n' "$2" | cmp -s - "$1" ;;
   esac
@@ -123,18 +129,18 @@ run 0 yes - verify before.toml edits.json other.toml other.cert
 rm other.cert
 run 0 yes - certify before.toml edits.json other.toml
 printf 'port = 0x1F # kept\n' >lost.toml
-run 1 - 'refused 406 0' certify before.toml edits.json lost.toml other.cert
-run 1 - 'refused 321 0' certify before.toml before.toml other.toml other.cert
-run 1 - 'refused 320 0' certify before.toml bad.json other.toml other.cert
+run 1 - 'refused 406 0+' certify before.toml edits.json lost.toml other.cert
+run 1 - 'refused 321 0+' certify before.toml before.toml other.toml other.cert
+run 1 - 'refused 320 0+' certify before.toml bad.json other.toml other.cert
 run 2 - 'error:*' certify
 run 2 - 'error:*' certify before.toml edits.json
 run 2 - 'error:*' certify before.toml edits.json other.toml other.cert more
-run 3 - 'file fault' certify none.toml edits.json other.toml other.cert
-run 3 - 'file fault' certify before.toml none.txt other.toml other.cert
-run 3 - 'file fault' certify before.toml edits.json none.toml other.cert
+run 3 - 'file fault+' certify none.toml edits.json other.toml other.cert
+run 3 - 'file fault+' certify before.toml none.txt other.toml other.cert
+run 3 - 'file fault+' certify before.toml edits.json none.toml other.cert
 absent other.cert
 printf 'what stood there before it, which is longer than the certificate\n' >other.cert
-run 1 - 'refused 406 0' certify before.toml edits.json lost.toml other.cert
+run 1 - 'refused 406 0+' certify before.toml edits.json lost.toml other.cert
 holds other.cert 'what stood there before it, which is longer than the certificate\n'
 run 0 yes - certify before.toml edits.json other.toml other.cert
 holds other.cert 'kept 1\n1 1\n2 2\n'
@@ -152,14 +158,14 @@ holds piped.cert 'kept 1\n1 1\n2 2\n'
 run 0 yes - certify before.toml - other.toml <edits.json
 run 0 yes - certify before.toml edits.json - <other.toml
 run 0 yes - certify --profile 2 before.toml edits.json - <other.toml
-run 1 - 'refused 406 0' certify before.toml edits.json - unpiped.cert <lost.toml
-run 1 - 'refused 321 0' certify before.toml - other.toml </dev/null
+run 1 - 'refused 406 0+' certify before.toml edits.json - unpiped.cert <lost.toml
+run 1 - 'refused 321 0+' certify before.toml - other.toml </dev/null
 run 2 - 'bad words' certify - - other.toml unpiped.cert <before.toml
 run 2 - 'bad words' certify - edits.json - unpiped.cert <before.toml
 run 2 - 'bad words' certify before.toml - - unpiped.cert <edits.json
 run 2 - 'bad words' certify - - - unpiped.cert <before.toml
-run 3 - 'file fault' certify - edits.json other.toml unpiped.cert <.
-run 3 - 'file fault' certify - edits.json other.toml unpiped.cert <&-
+run 3 - 'file fault+' certify - edits.json other.toml unpiped.cert <.
+run 3 - 'file fault+' certify - edits.json other.toml unpiped.cert <&-
 absent unpiped.cert
 run 3 - 'file fault' check - <before.toml
 run 3 - 'file fault' verify - edits.json other.toml piped.cert <before.toml
@@ -189,11 +195,13 @@ holds two.out 't = {\n   # one\n  y = 2,\n}\n'
 holds two.cert 'kept 1\n2 1\n3 2\n4 3\n'
 run 0 yes - verify --profile=2 two.toml two.json two.out two.cert
 run 1 - 'refused 401 0' verify two.toml two.json two.out two.cert --profile 1
-run 1 - 'refused 401 0' certify --profile 1 two.toml two.json two.out no.cert
+run 1 - 'refused 401 0+' certify --profile 1 two.toml two.json two.out no.cert
 run 0 yes - certify two.toml two.json two.out found.cert --profile 2
 holds found.cert 'kept 1\n2 1\n3 2\n4 3\n'
 for words in 'check two.toml' 'show two.toml' 'show --list two.toml' 'edit two.toml two.json no.out no.cert' \
-  'verify two.toml two.json two.out two.cert' 'certify two.toml two.json two.out no.cert'; do
+  'verify two.toml two.json two.out two.cert' 'certify two.toml two.json two.out no.cert' 'get two.toml t.x' \
+  'set -i two.toml t.x 2' 'insert two.toml u 1' 'rename two.toml t u' 'remove two.toml t' 'apply -i two.toml two.json' \
+  'validate two.toml good.toml'; do
   run 2 - 'error:*' $words --profile 3
   run 2 - 'error:*' $words --profile 0
   run 2 - 'error:*' $words --profile 01
@@ -255,8 +263,8 @@ for command in check show; do
 done
 run 0 yes - certify limit.toml none.json - certified.limit <limit.toml
 holds certified.limit 'kept 1\n0 0\n'
-run 1 - 'refused 401 0' certify - none.json limit.toml <over.toml
-run 1 - 'refused 402 0' certify limit.toml none.json - <over.toml
+run 1 - 'refused 401 0+' certify - none.json limit.toml <over.toml
+run 1 - 'refused 402 0+' certify limit.toml none.json - <over.toml
 run 1 - 'refused 401 0' verify over.toml none.json limit.toml kept.limit
 run 1 - 'refused 402 0' verify limit.toml none.json over.toml kept.limit
 { printf 'kept 1\n'; yes '1 1' | head -c 16777216; } >long.txt
@@ -313,49 +321,14 @@ run 0 ok - edit many.toml many.json many.out many.cert
 run 0 yes - verify many.toml many.json many.out many.cert
 run 0 yes - certify many.toml many.json many.out found.cert
 same many.cert found.cert
+run 0 1 - get many.toml 'a[-1].b' --default 1
+cp many.toml many.copy
+run 0 - - apply -i many.copy many.json
+same many.copy many.out
+run 0 - - validate many.toml many.copy
+run 0 1 - get many.copy 'a[-1].b'
 
-# The deepest texts, under a stack of 256 KiB from here to the end.
-deep() {
-  local count
-  for count in $(seq "$1"); do printf '%s' "$2"; done
-}
-{ printf 'a = '; deep 100 '['; deep 100 ']'; printf '\n'; } >arrays.toml
-{ printf 'a = '; deep 99 '{b = '; printf 1; deep 99 '}'; printf '\n'; } >tables.toml
-{ printf 'a = '; deep 99 $'{\nb = '; printf 1; deep 99 $', # c\n}'; printf '\n'; } >lines.toml
-{ deep 99 'a.'; printf 'a = 1\n'; } >key.toml
-printf '[{"op":"insert","at":["z"],"value":"1"}]' >insert.json
-{ printf '[{"op":"set","at":["a"'; deep 99 ',0'; printf '],"value":"1"}]'; } >arrays.json
-{ printf '[{"op":"set","at":["a"'; deep 99 ',"b"'; printf '],"value":"2"}]'; } >tables.json
-cp tables.json lines.json
-{ printf '[{"op":"set","at":["a"'; deep 99 ',"a"'; printf '],"value":"2"}]'; } >key.json
-{ printf '[{"op":"set","at":["a"],"value":"'; deep 100 '['; deep 100 ']'; printf '"}]'; } >value.json
-{ deep 1000 '['; deep 1000 ']'; } >lists.json
-{ printf '[{"op":"remove","at":["a"'; deep 20000 ',"a"'; printf ']}]'; } >long.json
-# deepest NAME WORDS..: each command of the text, with these words behind
-deepest() {
-  local text=$1
-  shift
-  run 0 ok - check "$text.toml" "$@"
-  run 0 '{"a":*' - show "$text.toml" "$@"
-  run 0 '["a"]*' - show --list "$text.toml" "$@"
-  run 0 ok - edit "$text.toml" insert.json deep.toml deep.txt "$@"
-  run 0 yes - verify "$text.toml" insert.json deep.toml deep.txt "$@"
-  run 0 ok - edit "$text.toml" "$text.json" deep.toml deep.txt "$@"
-  run 0 yes - verify "$text.toml" "$text.json" deep.toml deep.txt "$@"
-  run 0 yes - certify "$text.toml" "$text.json" deep.toml found.txt "$@"
-  same deep.txt found.txt
-}
-ulimit -s 256
-for text in arrays tables key; do
-  deepest "$text"
-  deepest "$text" --profile 2
-done
-deepest lines --profile 2
-run 1 - 'refused 104 5' check lines.toml
-run 0 ok - edit good.toml value.json deep.toml deep.txt
-run 0 yes - verify good.toml value.json deep.toml deep.txt
-run 1 - 'refused 32*' edit good.toml lists.json deep.toml deep.txt
-run 1 - 'refused 301 0' edit good.toml long.json deep.toml deep.txt
+for part in commands explained in_place deepest; do . "$parts/$part.sh"; done
 
 printf '%s passed, %s failed\n' "$passed" "$failed"
 [ "$failed" -eq 0 ]

@@ -4,7 +4,8 @@
   tests/rows.py PROGRAM [FILE..]   runs the rows of all files tests/rows/COMMAND/*.txt, or of these
   tests/rows.py --count            says how many rows there are
 
-The last line is 'N passed, M failed'; a fault in a file counts as a failed row. COMMAND is a folder of FIELDS below.
+The last line is 'N passed, M failed'; a fault in a file counts as a failed row. COMMAND is a folder of FIELDS in
+asked.py.
 
 A file is paragraphs with one empty line between two of them. A line that begins with // is a comment. The first
 paragraph is the head, two lines behind its comments:
@@ -14,7 +15,7 @@ paragraph is the head, two lines behind its comments:
 
 `profiles` says how each row is asked: without --profile, with --profile 1, with --profile 2. `fields` says what the
 lines of a row are, and so what is asked of it (FIELDS). Each other paragraph is a row, a field one line of it, or
-comments alone. In a field these characters stand for others:
+comments alone. Words are taken apart as a shell does, behind what follows. In a field these characters stand for others:
 
     ∅ no character, so that an empty field has a line
     ¶ newline   ␣ space   ␀ U+0000   ␉ tab   ␍ CR   ␡ U+007F   ␤ U+0085   □ U+FEFF
@@ -27,122 +28,25 @@ import collections
 import concurrent.futures
 import os
 import re
+import shlex
+import stat
 import subprocess
 import sys
 import tempfile
 import unicodedata
 
+from asked import ANSWERED, FIELDS, Fault, Outcome, Shape, done, refused, words_of
+
 ROWS = os.path.join(os.path.dirname(os.path.abspath(__file__)), 'rows')
 SECONDS = 30
+# The permissions of the files that a run finds, which it leaves as they are.
+MODE = 0o640
 # How many runs may hang before the others are not made.
 MOST_HANGS = 5
 WAYS = {'none': [], '1': ['--profile', '1'], '2': ['--profile', '2']}
 MARKS = {'¶': '\n', '␣': ' ', '␀': '\0', '␉': '\t', '␍': '\r', '␡': '\x7f', '␤': '\x85', '□': '\ufeff'}
 
 Row = collections.namedtuple('Row', 'file line ways fields asked')
-# The words of a run, the files that it finds, and what is to come of it.
-Run = collections.namedtuple('Run', 'words files wanted')
-# What a run prints and ends with, and the files that it leaves beside those that it found.
-Outcome = collections.namedtuple('Outcome', 'status out err files')
-# What is wanted of a run that may say `ok` or refuse.
-ANSWERED = Outcome('0 or 1', b'ok, or beside it', b'refused ..', {})
-
-
-class Fault(Exception):
-    """Why a line of a file is none of a row."""
-
-
-# What is asked of a row.
-
-def done(out, files=None):
-    return Outcome(0, out, b'', files or {})
-
-
-def refused(line):
-    return Outcome(1, b'', line + b'\n', {})
-
-
-def edit(before, edits, wanted):
-    return Run('edit FILE EDITS OUT CERT', {'FILE': before, 'EDITS': edits}, wanted)
-
-
-def verify(before, edits, after, cert, wanted):
-    files = {'BEFORE': before, 'EDITS': edits, 'AFTER': after, 'CERT': cert}
-    return Run('verify BEFORE EDITS AFTER CERT', files, wanted)
-
-
-def certified(before, edits, after, cert):
-    """The certificate is found, and written where it is asked for."""
-    files = {'BEFORE': before, 'EDITS': edits, 'AFTER': after}
-    return [Run('certify BEFORE EDITS AFTER CERT', files, done(b'yes\n', {'CERT': cert})),
-            Run('certify BEFORE EDITS AFTER', files, done(b'yes\n'))]
-
-
-def not_certified(refusal, before, edits, after):
-    files = {'BEFORE': before, 'EDITS': edits, 'AFTER': after}
-    return [Run('certify BEFORE EDITS AFTER CERT', files, refused(refusal))]
-
-
-def document(text):
-    return [Run('check FILE', {'FILE': text}, done(b'ok\n'))]
-
-
-def fronts(text):
-    """The text up to each of its bytes is a document, or refused with some line."""
-    return [Run('check FILE', {'FILE': text[:end]}, ANSWERED) for end in range(len(text) + 1)]
-
-
-def no_document(refusal, text):
-    """Each command that reads the text refuses it so; `verify` has a refusal of its own for it."""
-    reads = ['check FILE', 'show FILE', 'show --list FILE']
-    return [Run(words, {'FILE': text}, refused(refusal)) for words in reads] + [
-        edit(text, b'[]', refused(refusal)), verify(text, b'[]', text, b'kept 1\n', refused(b'refused 401 0'))]
-
-
-def shown(text, data):
-    return [Run('show FILE', {'FILE': text}, done(data + b'\n'))]
-
-
-def value_shown(value, kind, text):
-    return shown(b'a = ' + value, b'{"a":{"type":"%s","value":"%s"}}' % (kind, text))
-
-
-def listed(text, addresses):
-    return [Run('show --list FILE', {'FILE': text}, done(addresses))]
-
-
-def edited(before, edits, after, cert):
-    return [edit(before, edits, done(b'ok\n', {'OUT': after, 'CERT': cert})),
-            verify(before, edits, after, cert, done(b'yes\n')), *certified(before, edits, after, cert)]
-
-
-def not_edited(refusal, before, edits):
-    return [edit(before, edits, refused(refusal))]
-
-
-def judged(verdict, before, edits, after, cert):
-    if verdict == b'yes':
-        return [verify(before, edits, after, cert, done(b'yes\n')), *certified(before, edits, after, cert)]
-    return [verify(before, edits, after, cert, refused(verdict))]
-
-
-def judged_beside(before, edits, after, cert, found):
-    """A certificate with pairs that `certify` does not look for, and what that finds, or says."""
-    runs = [verify(before, edits, after, cert, done(b'yes\n'))]
-    if found.startswith(b'refused'):
-        return runs + not_certified(found, before, edits, after)
-    return runs + certified(before, edits, after, found)
-
-
-# The fields that rows of a command may have.
-FIELDS = {
-    'check': {'text': document, 'refusal, text': no_document, 'each front of': fronts},
-    'show': {'text, data': shown, 'value, type, shown': value_shown},
-    'list': {'text, addresses': listed},
-    'edit': {'before, edits, after, cert': edited, 'refusal, before, edits': not_edited},
-    'verify': {'verdict, before, edits, after, cert': judged, 'before, edits, after, cert, found': judged_beside},
-    'certify': {'before, edits, after, cert': certified, 'refusal, before, edits, after': not_certified},
-}
 
 
 # What stands in a file.
@@ -212,7 +116,8 @@ def read_row(file, lines, head):
     ways, names, asked = head
     if len(lines) != len(names):
         raise Fault(f'{len(lines)} fields in place of {len(names)}: {", ".join(names)}')
-    return Row(file, lines[0][0], ways, [meant(line) for _, line in lines], asked)
+    fields = [words_of(meant(line)) if 'words' in name else meant(line) for name, (_, line) in zip(names, lines)]
+    return Row(file, lines[0][0], ways, fields, asked)
 
 
 def read_rows(file):
@@ -244,37 +149,60 @@ def read_all(files):
 
 def read(path):
     """The bytes of a file, or what else stands there."""
-    if os.path.islink(path) or not os.path.isfile(path):
+    if os.path.islink(path):
+        return b'link to ' + os.fsencode(os.readlink(path))
+    if not os.path.isfile(path):
         return b'no file'
     with open(path, 'rb') as stream:
         return stream.read()
 
 
+def lay_out(folder, asked):
+    """Puts into the folder what a run finds, and answers it by name."""
+    for name, text in asked.files.items():
+        with open(os.path.join(folder, name), 'wb') as stream:
+            stream.write(text)
+        os.chmod(os.path.join(folder, name), MODE)
+    for name, target in asked.links.items():
+        os.symlink(target, os.path.join(folder, name))
+    return {name: read(os.path.join(folder, name)) for name in os.listdir(folder)}
+
+
+def left_new(folder, asked, found):
+    """What stands in the folder and did not, or otherwise; None for what is gone."""
+    left = {name: read(os.path.join(folder, name)) for name in sorted(os.listdir(folder))}
+    new = {name: text for name, text in left.items() if found.get(name) != text}
+    new.update({name: None for name in found if name not in left})
+    for name in asked.files:
+        mode = stat.S_IMODE(os.stat(os.path.join(folder, name)).st_mode) if name in left else MODE
+        if mode != MODE:
+            new[f'mode of {name}'] = b'%o' % mode
+    return new
+
+
 def run(program, way, asked):
     """What comes of a run, in a folder of its own."""
     with tempfile.TemporaryDirectory() as folder:
-        for name, text in asked.files.items():
-            with open(os.path.join(folder, name), 'wb') as stream:
-                stream.write(text)
-        words = [program, *asked.words.split(), *WAYS[way]]
-        ended = subprocess.run(words, cwd=folder, stdin=subprocess.DEVNULL, capture_output=True, timeout=SECONDS,
-                               check=False)
-        left = {name: read(os.path.join(folder, name)) for name in sorted(os.listdir(folder))}
-    new = {name: text for name, text in left.items() if asked.files.get(name) != text}
-    new.update({name: None for name in asked.files if name not in left})
+        found = lay_out(folder, asked)
+        ended = subprocess.run([program, *asked.words, *WAYS[way]], cwd=folder, input=asked.stdin, capture_output=True,
+                               timeout=SECONDS, check=False)
+        new = left_new(folder, asked, found)
     return Outcome(ended.returncode, ended.stdout, ended.stderr, new)
 
 
 def is_wanted(got, wanted):
-    if wanted is not ANSWERED:
-        return got == wanted
-    refusal = re.fullmatch(rb'refused (10[1-9]|20[13]) [0-9]+\n', got.err)
-    return got == done(b'ok\n') or bool(refusal) and got == refused(got.err[:-1])
+    if wanted is ANSWERED:
+        refusal = re.fullmatch(rb'refused (10[1-9]|20[13]) [0-9]+\n', got.err)
+        return got == done(b'ok\n') or bool(refusal) and got == refused(got.err[:-1])
+    if isinstance(wanted.err, Shape):
+        return got._replace(err=wanted.err) == wanted and bool(wanted.err.fits(got.err))
+    return got == wanted
 
 
 def told(outcome):
     """An outcome in words, the beginning of what is long."""
-    parts = [('status', outcome.status), ('output', outcome.out), ('error', outcome.err), *outcome.files.items()]
+    err = outcome.err.told if isinstance(outcome.err, Shape) else outcome.err
+    parts = [('status', outcome.status), ('output', outcome.out), ('error', err), *outcome.files.items()]
     return ', '.join(f'{name} {value[:300] if isinstance(value, bytes) else value}' for name, value in parts)
 
 
@@ -291,7 +219,7 @@ def failures(program, row, hangs):
                 got = Outcome(f'none after {SECONDS} seconds', b'', b'', {})
                 hangs.append(asked.words)
             if not is_wanted(got, asked.wanted):
-                words = ' '.join([asked.words, *WAYS[way]])
+                words = shlex.join([*asked.words, *WAYS[way]])
                 failed.append(f'  {words}\n    wanted {told(asked.wanted)}\n    came {told(got)}')
     return failed
 

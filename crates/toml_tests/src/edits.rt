@@ -41,7 +41,7 @@ fn read(alloc: Global, _: &str, list: &str) -> Option<String> {
     }
 }
 
-fn edits_text(alloc: Global, edits: &[Edit]) -> Option<String> {
+pub fn edits_text(alloc: Global, edits: &[Edit]) -> Option<String> {
     let mut text = String::new(alloc);
     for edit in edits {
         text.push_str(edit_text(alloc, edit)?.as_str()).ok()?;
@@ -67,39 +67,17 @@ fn lists_are_read(rt: HostRuntime) -> Result<(), Fail> {
 }
 
 /// Of the data of a text, read in a profile: what stands at a path once an edit is made, or why it is refused. Then the data
-/// are as they were.
+/// are as they were. Each fault stands here once: the rows of `edit` have the others.
 const APPLIED: &str = r#"
 1 | a = 1¶x = [1, 2]
 NotATable | / | [{"op":"insert","at":["a","k"],"value":"1"}]
 NoSuchPlace | / | [{"op":"insert","at":["q","k"],"value":"1"}]
 IndexOutside | / | [{"op":"insert","at":["x",3],"value":"1"}]
-IndexOutside | / | [{"op":"insert","at":["a",0],"value":"1"}]
 AlreadyThere | / | [{"op":"insert","at":["a"],"value":"1"}]
 NotAName | / | [{"op":"rename","at":["x",0],"to":"b"}]
-AlreadyThere | / | [{"op":"rename","at":["a"],"to":"a"}]
-AlreadyThere | / | [{"op":"rename","at":["a"],"to":"x"}]
 BadValue | / | [{"op":"set","at":["a"],"value":"1 "}]
-BadValue | / | [{"op":"set","at":["a"],"value":"{k = 1, k = 2}"}]
-NoSuchPlace | / | [{"op":"remove","at":["b"]}]
 RootNamed | / | [{"op":"remove","at":[]}]
-AlreadyThere | / | [{"op":"section","at":["a"]}]
-NotATable | / | [{"op":"section","at":["a","k"]}]
-NoSuchPlace | / | [{"op":"section","at":["q","k"]}]
-NoSuchPlace | / | [{"op":"section","at":["q",0]}]
-NotAName | / | [{"op":"section","at":["x",2]}]
-NotAName | / | [{"op":"section","at":["a",0]}]
-RootNamed | / | [{"op":"section","at":[]}]
-IndexOutside | / | [{"op":"element","at":["x",1]}]
-IndexOutside | / | [{"op":"element","at":["x",3]}]
-IndexOutside | / | [{"op":"element","at":["a",0]}]
-IndexOutside | / | [{"op":"element","at":["q",1]}]
 NotAnElement | / | [{"op":"element","at":["x"]}]
-NotAnElement | / | [{"op":"element","at":[0]}]
-NotAnElement | / | [{"op":"element","at":["x",0,0]}]
-NotAnElement | / | [{"op":"element","at":["q",0,0]}]
-NotATable | / | [{"op":"element","at":["a","n",0]}]
-NoSuchPlace | / | [{"op":"element","at":["q","n",0]}]
-RootNamed | / | [{"op":"element","at":[]}]
 Integer(2) | /x/#1 | [{"op":"insert","at":["x",2],"value":"3"}]
 Integer(3) | /x/#2 | [{"op":"insert","at":["x",2],"value":"3"}]
 
@@ -169,7 +147,7 @@ fn applied(alloc: Global, of: &str, asked: &str) -> Option<String> {
 
 #[test]
 fn edits_are_made_on_data(rt: HostRuntime) -> Result<(), Fail> {
-    assert_answers(&rt, rt.alloc(), APPLIED, 59, applied)
+    assert_answers(&rt, rt.alloc(), APPLIED, 37, applied)
 }
 
 /// Where an edit carries an address.

@@ -11,9 +11,13 @@ mod editor;
 #[cfg(test)]
 mod edits;
 #[cfg(test)]
+mod explain;
+#[cfg(test)]
 mod memory;
 #[cfg(test)]
 mod names;
+#[cfg(test)]
+mod one;
 #[cfg(test)]
 mod places;
 #[cfg(test)]
@@ -30,3 +34,5 @@ mod tree;
 mod units;
 #[cfg(test)]
 mod worked;
+#[cfg(test)]
+mod written;
