@@ -297,7 +297,7 @@ made 'set FILE a 1' 'a = 1 # c\nx = [1]\n'
 each 0 'a = 2 # c\nx = [1]\n' '' - 'kept 1\n1 1\n2 2\n4 4\n' set before a 2 --certificate cert
 replaces 'a = 1\n' 'a = 2\n' set -i place/file a 2 --certificate cert
 if holds cert 'kept 1\n1 1\n'; then pass; else fail 'the certificate of an edit in place'; fi
-explained '301 0' set before z.z 1
+goes_on=1 explained '301 0' set before z.z 1
 explained '302 0' insert -i before a 1
 explained '306 0' set before a '{k = 1, k = 2}'
 explained '306 0' set before a abc
@@ -305,8 +305,8 @@ explained '310 0' remove before .
 
 # What is told of texts and edits that are refused.
 printf '[{"op":"set","at":["a"],"value":"2"},{"op":"rename","at":["aa"],"to":"b"}]' >edits
-explained '301 1' apply before edits
-explained '301 1' edit --explain before edits text cert
+goes_on=1 explained '301 1' apply before edits
+goes_on=1 explained '301 1' edit --explain before edits text cert
 printf '[1]' >list
 input=list explained '320 0' apply before - --in-place --certificate cert
 printf '[{"op":"set","at":["a"],"value":"2"}]' >edits
