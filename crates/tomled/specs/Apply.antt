@@ -5,7 +5,7 @@ use Rattle.tomled.specs.Edit.{AreEdited, IsUnedited}
 use Rattle.tomled.specs.Outcomes.{GivesOrTells}
 use Rattle.tomled.specs.declared.outcome.Outcome.{Outcome}
 
--- the text is the one that `edit` writes, and the one file its certificate
+-- the text is one that `edit` may write by its contract, and the one file its certificate
 abbrev pub IsApplied : Profile → List ℕ → List ℕ → List ℕ → List (List ℕ) → Type 0
 IsApplied profile before edits text written = (certificate : List ℕ) × AreEdited profile before edits text certificate × (written ≡ certificate ∷ [])
 
