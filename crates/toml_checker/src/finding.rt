@@ -106,7 +106,7 @@ pub fn find_at_exit(
     find_texts(alloc, before, edits, after, profile, stay)
 }
 
-/// The same, whatever becomes of what the texts name.
+/// Looks for the certificate; what the texts name is let go at the end, or left to the end of the program.
 fn find_texts(
     alloc: Global,
     before: &[u8],

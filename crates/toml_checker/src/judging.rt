@@ -179,7 +179,7 @@ pub fn check_at_exit(
     check_texts(alloc, before, edits, after, certificate, profile, stay)
 }
 
-/// The same, whatever becomes of what the texts name.
+/// Judges the texts; what they name is let go at the end, or left to the end of the program.
 fn check_texts(
     alloc: Global,
     before: &[u8],

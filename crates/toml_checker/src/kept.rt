@@ -74,7 +74,7 @@ impl Kept {
         fate.protected && !reaches(self.reach, fate.end)
     }
 
-    /// The same behind the next unit, which has this fate, and which is paired or not.
+    /// What is kept of the units up to the next one, which has this fate, and which is paired or not.
     pub(crate) fn past(self, fate: Fate, paired: bool) -> Kept
         ensures { result ≡ kept_past self fate paired }
     {

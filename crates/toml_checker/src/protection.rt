@@ -38,7 +38,7 @@ fn stands_along(
     Ok(true)
 }
 
-/// The same of an address that has this sight.
+/// Whether the part stands that has this address, of which the edits are seen as the sight tells.
 fn stands_at(
     alloc: Global,
     part: Part,
@@ -57,7 +57,7 @@ fn stands_at(
     }
 }
 
-/// The same of a unit, which may have no address.
+/// Whether the part of a unit stands. The unit may have no address.
 fn stands(
     alloc: Global,
     part: Part,

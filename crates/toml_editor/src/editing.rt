@@ -138,7 +138,7 @@ fn edit_document(
     edit_with(alloc, before, edits, &spelled, profile, afterwards)
 }
 
-/// The same with the spellings of the edits, which live as long as the text and the edits: new pieces are lent from all.
+/// Edits the text with the spellings of the edits. These live as long as the text and the edits: new pieces are lent from all.
 fn edit_with<'x>(
     alloc: Global,
     before: &'x [u8],
@@ -160,7 +160,7 @@ fn edit_with<'x>(
     }
 }
 
-/// The same of a document that was read. The judge walks over its units and reads the second text once the working tree, the data
+/// Edits a document that was read. The judge walks over its units and reads the second text once the working tree, the data
 /// and the lines of the first are let go.
 fn edit_read<'x>(
     alloc: Global,

@@ -49,7 +49,7 @@ impl<'x> Tree<'x> {
         }
     }
 
-    /// The same of what is no name at the root.
+    /// Puts a value in at an address that is no name at the root.
     fn insert_below(
         &mut self,
         before: Before<'_, 'x>,
@@ -249,7 +249,7 @@ fn end_at<'t>(
     }
 }
 
-/// The same of the line with the index, if there is one.
+/// Gives the line with the index another newline, if there is one.
 fn end_one<'t>(
     lines: &mut Vec<Line<'t>>,
     texts: Texts<'t>,

@@ -94,7 +94,7 @@ impl<'t> Line<'t> {
     }
 }
 
-/// The same of the line with the index, if there is one.
+/// Changes what stands at the address in the value of the line with the index, if there is one.
 fn change_one<'t>(
     lines: &mut Vec<Line<'t>>,
     texts: Texts<'t>,
@@ -113,7 +113,7 @@ fn change_one<'t>(
 }
 
 impl<'t> Slot<'t> {
-    /// The same of its line with the index, if there is one.
+    /// Changes what stands at the address in the value of its line with the index, if there is one.
     fn change(
         &mut self,
         texts: Texts<'t>,
@@ -133,7 +133,7 @@ impl<'t> Slot<'t> {
     }
 }
 
-/// The same of the line at a place, if there is one.
+/// Changes what stands at the address in the value of the line at a place, if there is one.
 fn change_at<'t>(
     slots: &mut Vec<Slot<'t>>,
     texts: Texts<'t>,
@@ -152,7 +152,7 @@ fn change_at<'t>(
 }
 
 impl<'x> Tree<'x> {
-    /// The same of the line at a place.
+    /// Changes what stands at the address in the value of the line at a place.
     pub(crate) fn change_value(
         &mut self,
         before: Before<'_, 'x>,

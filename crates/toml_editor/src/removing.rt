@@ -65,7 +65,7 @@ impl<'x> Tree<'x> {
         }
     }
 
-    /// The same of what no line's value is, or holds.
+    /// Takes out a table or an array of tables, which is no line's value, and in none.
     fn remove_table(
         &mut self,
         before: Before<'_, 'x>,

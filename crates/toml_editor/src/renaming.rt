@@ -93,7 +93,7 @@ fn rename_in_slot<'t>(
     }
 }
 
-/// The same in all slots.
+/// Renames in the lines of all slots at the address or below.
 fn rename_in_slots<'t>(
     slots: &mut Vec<Slot<'t>>,
     texts: Texts<'t>,

@@ -45,7 +45,7 @@ enum Walk {
     Within,
     /// The first header line behind the last one of the element.
     Behind(Position),
-    /// The same, where another element of the array has begun, so that no line of this one follows.
+    /// The first header line behind the last one of the element, where it begins another element of the array: no line of this one follows.
     Ended(Position),
 }
 

@@ -88,7 +88,7 @@ impl<'t> Texts<'t> {
         }
     }
 
-    /// The same in the value of the entry with the index, if there is one.
+    /// Sets what stands at the steps in the value of the entry with the index, if there is one.
     #[cycle(setting)]
     fn set_entry(
         self,
@@ -227,7 +227,7 @@ impl<'t> Texts<'t> {
         }
     }
 
-    /// The same in the value of the entry with the index, if there is one.
+    /// Renames what the steps name in the value of the entry with the index, if there is one.
     #[cycle(renaming)]
     fn rename_entry(
         self,

@@ -163,7 +163,7 @@ impl<'x> Tree<'x> {
         self.sought_value(before, at)
     }
 
-    /// The same where the document's names have it.
+    /// The line whose value stands at the address, or holds what stands there, by the place that the document's names have for it.
     fn near_value(
         &self,
         before: Before<'_, 'x>,
@@ -235,7 +235,7 @@ impl<'x> Tree<'x> {
         }
     }
 
-    /// The same where the document's names have it.
+    /// Where the table at the address stands, by the place that the document's names have for it.
     pub(crate) fn near_table(
         &self,
         before: Before<'_, 'x>,

@@ -197,7 +197,7 @@ fn enter(tree: &mut Moves, way: &[Step], act: Act) -> Result<bool, AllocError>
     }
 }
 
-/// The same behind a name, which may be new.
+/// Enters the act behind a name, which may be new.
 #[cycle(enter)]
 fn enter_name(
     alloc: Global,
@@ -218,7 +218,7 @@ fn enter_name(
     Ok(told)
 }
 
-/// The same behind an element, by where it stands in the end.
+/// Enters the act behind an element, which is told by where it stands in the end.
 #[cycle(enter)]
 fn enter_element(
     alloc: Global,

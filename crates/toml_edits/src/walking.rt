@@ -102,7 +102,7 @@ impl Trace {
         }
     }
 
-    /// The same from one step further up, where an edit renames the thing, and where they may move it, or not.
+    /// The trace from one step further up, where an edit renames the thing or not, and may move it or not.
     fn deeper(self, renamed: bool, moved: bool) -> Trace
         requires { IfSome self.renamed (λ n. n < 2 ^ 64 - 1) }
         ensures { (result.set ≡ self.set) × (result.below ≡ self.below) × (result.renamed ≡ one_deeper renamed self.renamed) × (result.moved ≡ (moved || self.moved)) }
@@ -128,7 +128,7 @@ fn has_room(step: &Step) -> bool
     }
 }
 
-/// The same of all steps.
+/// Whether each index among the steps has room to rise with each edit.
 fn have_room(steps: &[Step]) -> bool
     ensures { result ≡ true → IsLow (2 ^ 63) steps.now }
 {

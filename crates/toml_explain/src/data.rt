@@ -15,7 +15,7 @@ pub(crate) fn told_names(fault: NameFault) -> Result<(), AllocError> {
     }
 }
 
-/// The same of a syntax fault.
+/// Passes on that there was no memory for reading the syntax.
 pub(crate) fn told_syntax(fault: SyntaxFault) -> Result<(), AllocError>
     ensures { OnOk result (¬ (fault ≡ NoMemory)) }
 {

@@ -33,7 +33,7 @@ impl<'d> Difference<'d> {
         }
     }
 
-    /// The same, one step further down.
+    /// This difference, told from one step further up.
     fn below(self, step: Step) -> Result<Difference<'d>, AllocError> {
         let Difference {
             mut steps,

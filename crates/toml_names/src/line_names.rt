@@ -77,8 +77,8 @@ impl<'t> LineNames<'t> {
         self.tree.place(at)
     }
 
-    /// The same as `take`, and makes an address that of the line's value, table or element, in its own memory, and tells whether
-    /// the line has one: a blank line has none, and then the address stays. Where the line is refused, nothing is said of the
+    /// Takes one line more as `take` does, makes an address that of the line's value, table or element, in its own memory, and
+    /// tells whether the line has one: a blank line has none, and then the address stays. Where the line is refused, nothing is said of the
     /// address any more.
     pub fn take_at(&mut self, line: &Line<'t>, here: &mut Address) -> Result<bool, NameFault>
         requires stand { Stand self.old }

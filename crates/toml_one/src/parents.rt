@@ -208,7 +208,7 @@ fn made_at(
     made_missing(alloc, names, above, found, &to.at, next)
 }
 
-/// The same where nothing stands there.
+/// The edit that makes what is missing at a front at which nothing stands.
 fn made_missing(
     alloc: Global,
     names: &NamedText<'_>,
@@ -249,7 +249,7 @@ fn made_table(
     }
 }
 
-/// The same where there is such a step.
+/// The section or the element that is made at this step.
 fn table_at(
     alloc: Global,
     names: &NamedText<'_>,

@@ -65,7 +65,7 @@ fn item_at<'v, 't>(items: &'v [Item<'t>], step: &Step) -> Option<&'v Item<'t>>
     }
 }
 
-/// The same in one of the elements of an array, at a first step and those behind it.
+/// The spelling of what stands in one of the elements of an array, at a first step and those behind it.
 #[cycle(find)]
 fn find_in_items<'t>(
     alloc: Global,
@@ -81,7 +81,7 @@ fn find_in_items<'t>(
     }
 }
 
-/// The same in one of the pairs of an inline table.
+/// The spelling of what stands in one of the pairs of an inline table.
 #[cycle(find)]
 fn find_in_pairs<'t>(
     alloc: Global,
@@ -99,7 +99,7 @@ fn find_in_pairs<'t>(
     Ok(None)
 }
 
-/// The same in a pair.
+/// The spelling of what stands in a pair, at the steps of its key and those behind them.
 #[cycle(find)]
 fn find_in_pair<'t>(
     alloc: Global,

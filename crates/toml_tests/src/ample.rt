@@ -29,7 +29,7 @@ fn judged(alloc: Global, edits: &[Edit]) -> Option<Verdict> {
     check(alloc, file, edits, text.as_bytes(), &certificate).ok()
 }
 
-/// The same in profile 2, of an inline table over several lines.
+/// What the judge says in profile 2 of edits of an inline table over several lines.
 fn judged_in_2(alloc: Global, edits: &[Edit]) -> Option<Verdict> {
     let (file, two) = (b"port = { # c\n}\n", Profile::Two);
     let (text, certificate) = edit_in(alloc, file, edits, two).ok()?;

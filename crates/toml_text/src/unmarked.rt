@@ -38,7 +38,7 @@ fn stops(bytes: u8x16, mark: u8, other: u8) -> u64
     (control | bytes.simd_eq(u8x16::splat(0x7F)) | marks).to_bitmask()
 }
 
-/// The same for bytes too few for a block.
+/// The length of the run in bytes too few for a block.
 fn few_len(bytes: &[u8], mark: u8, other: u8) -> usize
     ensures run { result ≡ run_len (is_unmarked mark other) bytes.now }
     ensures within { result ≤ length bytes.now }

@@ -144,7 +144,7 @@ pub fn answer(
     }
 }
 
-/// The same of a request that reads one file.
+/// The outcome of a request that reads one file.
 fn answer_of_file(
     alloc: Global,
     request: &Request<'_>,

@@ -145,7 +145,7 @@ fn each_write_fails(rt: HostRuntime) -> Result<(), Fail> {
     Ok(())
 }
 
-/// The same of writers that take so many bytes a write.
+/// Whether a delivery stops where it has to, to writers that take so many bytes a write.
 fn stops(alloc: Global, most: [usize; 3], accepted: usize) -> Result<bool, Fail> {
     let mut text = Keeper::new(alloc, most[0], 0);
     let mut cert = Keeper::new(alloc, most[1], 0);

@@ -46,7 +46,7 @@ pub fn explained(
     with_text(outcome, text.as_str())
 }
 
-/// The same of `check` of a file.
+/// The outcome of `check` of a file, with what is said of its refusal behind the line.
 pub fn explained_check(
     alloc: Global,
     word: &str,

@@ -68,7 +68,7 @@ impl Outcome {
         }
     }
 
-    /// The same with nothing on standard output.
+    /// The outcome with nothing on standard output.
     pub fn without_text(self, alloc: Global) -> Outcome
         ensures out { result.out.items ≡ [] }
         ensures rest { result ≡ record self { out = result.out } }

@@ -29,7 +29,7 @@ impl Model for Address {
 }
 
 impl Step {
-    /// The same step. It takes no memory.
+    /// A copy of the step. It takes no memory.
     pub fn copy(&self) -> Result<Step, AllocError>
         ensures { IfOk result (λ s. s ≡ self.now) }
     {

@@ -122,7 +122,7 @@ fn enter(set: &mut AddressSet, way: &[Step], last: Option<&str>) -> Result<(), A
     }
 }
 
-/// The same where no steps are left.
+/// Puts in the address of the way so far, or the name behind it.
 #[cycle(enter)]
 fn enter_last(set: &mut AddressSet, last: Option<&str>) -> Result<(), AllocError>
     ensures { OnOk result (HidesLess set.old set.new (last_step last.entry)) }
@@ -136,7 +136,7 @@ fn enter_last(set: &mut AddressSet, last: Option<&str>) -> Result<(), AllocError
     }
 }
 
-/// The same behind a name, which may be new.
+/// Puts in what is left of an address behind a name, which may be new.
 #[cycle(enter)]
 fn enter_name(
     alloc: Global,
@@ -157,7 +157,7 @@ fn enter_name(
     Ok(())
 }
 
-/// The same behind an index, which may be new.
+/// Puts in what is left of an address behind an index, which may be new.
 #[cycle(enter)]
 fn enter_element(
     alloc: Global,

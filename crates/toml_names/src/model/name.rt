@@ -74,7 +74,7 @@ impl Name {
         Ok(())
     }
 
-    /// The same name. It takes no memory, and is refused only where so many copies share the text that they can't be
+    /// A copy of the name. It takes no memory, and is refused only where so many copies share the text that they can't be
     /// counted.
     pub fn copy(&self) -> Result<Name, AllocError>
         ensures { IfOk result (λ n. n ≡ self.now) }

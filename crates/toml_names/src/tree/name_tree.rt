@@ -171,7 +171,7 @@ impl<'t> NameTree<'t> {
         self.climb(steps, room, id)
     }
 
-    /// The same, its steps written into this list, which is empty.
+    /// The address of a node, its steps written into this list, which is empty.
     fn climb(&self, steps: &[Step], room: Vec<Step>, id: usize) -> Result<Address, AllocError>
         requires within { id < vec_len self.now.nodes }
         requires tree { IsTree self.now.nodes.items }

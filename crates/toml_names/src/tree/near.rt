@@ -34,7 +34,7 @@ impl<'t> NameTree<'t> {
         }
     }
 
-    /// The same at the node of a table: of its names those that the set has.
+    /// The data at the node of a table: of its names those that the set has.
     #[cycle(near)]
     fn table_near(&self, id: usize, set: &AddressSet) -> Result<Datum, AllocError>
         requires within { id < vec_len self.now.nodes }
@@ -53,7 +53,7 @@ impl<'t> NameTree<'t> {
         Ok(Datum::Table(members))
     }
 
-    /// The same at the node of an array.
+    /// The data at the node of an array: of each element what the set does not hide.
     #[cycle(near)]
     fn array_near(&self, id: usize, set: &AddressSet) -> Result<Datum, AllocError>
         requires within { id < vec_len self.now.nodes }
@@ -70,7 +70,7 @@ impl<'t> NameTree<'t> {
         Ok(Datum::Array(items))
     }
 
-    /// The same at the node of an element of an array, which stands at the index. Where the set has nothing there, it stands
+    /// The data at the node of an element of an array, which stands at the index. Where the set has nothing there, it stands
     /// alone.
     #[cycle(near)]
     fn element_near(&self, id: usize, index: usize, set: &AddressSet) -> Result<Datum, AllocError>

@@ -25,7 +25,7 @@ impl<'t> NameTree<'t> {
         self.are_elements_shown(id, 0, set)
     }
 
-    /// The same of what stands at the names of a node.
+    /// Whether the set hides nothing of what stands at the names of a node and below them.
     #[cycle(shown)]
     fn are_names_shown(&self, id: usize, set: &AddressSet) -> bool
         requires within { id < vec_len self.now.nodes }
@@ -45,7 +45,7 @@ impl<'t> NameTree<'t> {
         true
     }
 
-    /// The same at the node of a name, which is hidden where the set lacks it.
+    /// Whether the set hides nothing at the node of a name. It is hidden where the set lacks the name.
     #[cycle(shown)]
     fn is_name_shown(&self, id: usize, name: &str, set: &AddressSet) -> bool
         requires within { id < vec_len self.now.nodes }
@@ -58,7 +58,7 @@ impl<'t> NameTree<'t> {
         }
     }
 
-    /// The same of what stands at the elements of a node from this index on.
+    /// Whether the set hides nothing of what stands at the elements of a node from this index on, and below them.
     #[cycle(shown)]
     pub(crate) fn are_elements_shown(&self, id: usize, from: usize, set: &AddressSet) -> bool
         requires within { id < vec_len self.now.nodes }
@@ -74,7 +74,7 @@ impl<'t> NameTree<'t> {
         true
     }
 
-    /// The same at the node of an element, below which all is hidden where the set lacks its index.
+    /// Whether the set hides nothing at the node of an element. Below it all is hidden where the set lacks its index.
     #[cycle(shown)]
     fn is_element_shown(&self, id: usize, index: usize, set: &AddressSet) -> bool
         requires within { id < vec_len self.now.nodes }
