@@ -6,18 +6,26 @@ ghost use Rattle.toml_scalar.specs.ScanLaws.{ScanIsSound, ScanIsFound, ScanIsLon
 ghost use Rattle.toml_scalar.specs.Spelling.{OneName, SpelledNames, SpelledStrings};
 ghost use Rattle.toml_scalar.specs.ValueLaws.{TokenHasValue, ValueIsOfToken, ScalarIsFound, ScalarIsMeant, OneScalarValue, NameIsFound, NameIsMeant, NameIsTotal};
 
-/// Which runs are integers (of the form, and in range), floats and booleans.
-pub fn numbers()
+/// Which runs have the form of an integer, and which of these are in range.
+pub fn integer_forms()
     ensures form { IntegerFormIsForm }
     ensures form_found { FormIsIntegerForm }
     ensures range { FittingFits }
     ensures range_found { FitsIsFitting }
+{}
+
+/// Which runs are integers and booleans.
+pub fn integers_and_booleans()
     ensures integer { IntegerIsForm }
     ensures integer_found { FormIsInteger }
-    ensures float { FloatIsForm }
-    ensures float_found { FormIsFloat }
     ensures boolean { BoolIsForm }
     ensures boolean_found { FormIsBool }
+{}
+
+/// Which runs are floats.
+pub fn floats()
+    ensures float { FloatIsForm }
+    ensures float_found { FormIsFloat }
 {}
 
 /// Which runs are dates and times, and of which kind.

@@ -2,6 +2,7 @@
 //! a line enter, and what the finished tree tells.
 
 pub mod across;
+pub mod addressing;
 pub mod alike;
 pub mod beside;
 pub mod entering;
