@@ -5,10 +5,10 @@ use Rattle.toml_tree.specs.declared.profile.Profile.{Profile}
 use Rattle.toml_names.specs.model.Addresses.{Address}
 use Rattle.toml_edits.specs.Edits.{change, place}
 use Rattle.toml_edits.specs.declared.edit.Edit.{Edit}
-use Rattle.toml_editor.specs.declared.working.Tree.{Tree}
+use Rattle.toml_working.specs.declared.working.Tree.{Tree}
 use Rattle.toml_editor.specs.Exact.{WritesEdit}
-use Rattle.toml_editor.specs.Standing.{Read}
-use Rattle.toml_editor.specs.Starting.{NoneIsGone}
+use Rattle.toml_working.specs.Standing.{Read}
+use Rattle.toml_working.specs.Starting.{NoneIsGone}
 
 pub edit_written : {E : Type 0} (r : Result Bool E) (profile : Profile) (read : Read) (old new : Tree) (at : Address) (e f : Edit) → e ≡ f
     → (NoneIsGone old.elements → at ≡ place (change e))

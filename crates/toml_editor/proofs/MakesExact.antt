@@ -15,15 +15,15 @@ use Rattle.toml_edits.specs.Edits.{Change, place, set, insert, rename, remove, n
 use Rattle.toml_edits.specs.Lists.{Lead}
 use Rattle.toml_editor.specs.declared.fault.EditorFault.{EditorFault}
 use Rattle.toml_editor.specs.declared.fault.EditorFault.TheVariants as faults
-use Rattle.toml_editor.specs.declared.working.Tree.{Tree}
+use Rattle.toml_working.specs.declared.working.Tree.{Tree}
 use Rattle.toml_editor.specs.CertifiedLists.{ArePlain}
 use Rattle.toml_editor.specs.Edited.{MayBeSpread, Places, TakesLastElement}
 use Rattle.toml_editor.specs.Exact.{Follows, IsAt, IsNotPlain, IsNotPlainAt, IsSpreadOn, MakesAll, MakesOne, OfPlain, OfNoPlaceAt, PassesAll, PassesAt, PassesOne, SetsMany, Stops, WritesEdit, style}
 use Rattle.toml_editor.specs.Making.{TellsOne}
 use Rattle.toml_editor.specs.PlainTexts.{IsPlainOn}
-use Rattle.toml_editor.specs.Standing.{Read}
+use Rattle.toml_working.specs.Standing.{Read}
 use Rattle.toml_editor.specs.Steps.{AreWritten}
-use Rattle.toml_editor.specs.Written.{IsWritten}
+use Rattle.toml_working.specs.Written.{IsWritten}
 use Rattle.toml_editor.proofs.written.Follow.{remove_follows, set_follows, set_is_there}
 use Rattle.toml_editor.proofs.written.InsertFollow.{insert_follows}
 use Rattle.toml_editor.proofs.written.RenameFollow.{rename_follows}

@@ -22,15 +22,15 @@ use Rattle.toml_edits.specs.Near.{AreNear}
 use Rattle.toml_edits.proofs.Proved.{leads_beside, one_lead}
 use Rattle.toml_editor.specs.declared.fault.EditorFault.{EditorFault}
 use Rattle.toml_editor.specs.declared.fault.EditorFault.TheVariants as faults
-use Rattle.toml_editor.specs.declared.working.Tree.{Tree}
+use Rattle.toml_working.specs.declared.working.Tree.{Tree}
 use Rattle.toml_editor.specs.CertifiedLists.{ArePlain}
 use Rattle.toml_editor.specs.Exact.{IsAt, IsNotPlainAt, IsSpreadOn, OfNumber, OfPlain, OfNoPlaceAt, PassesAll, PassesAt, Stops, style}
 use Rattle.toml_editor.specs.PlainTexts.{AfterPlain, IsNoPlainEdit, IsPlainOn, IsSpreadSet, NoSpreadSet}
-use Rattle.toml_editor.specs.Standing.{Read, standing}
-use Rattle.toml_editor.specs.Stands.{Stands}
-use Rattle.toml_editor.specs.Starting.{NoneIsGone}
+use Rattle.toml_working.specs.Standing.{Read, standing}
+use Rattle.toml_working.specs.Stands.{Stands}
+use Rattle.toml_working.specs.Starting.{NoneIsGone}
 use Rattle.toml_editor.specs.Steps.{AreWritten, IsGoodText}
-use Rattle.toml_editor.specs.Written.{style_of}
+use Rattle.toml_working.specs.Written.{style_of}
 use Rattle.toml_editor.proofs.NearFaults.{near_front, near_one, place_shown}
 use Rattle.toml_editor.proofs.written.Elsewhere.{style_is_newline}
 use Rattle.toml_editor.proofs.written.ScalarsLone.{sets_many}

@@ -13,17 +13,17 @@ use Rattle.toml_names.specs.model.Documents.{IsDocumentIn}
 use Rattle.toml_names.specs.reader.Names.{AreGood}
 use Rattle.toml_edits.specs.Edits.{Change}
 use Rattle.toml_edits.specs.Lists.{Lead}
-use Rattle.toml_editor.specs.declared.texts.Texts.{Texts}
-use Rattle.toml_editor.specs.declared.working.Tree.{Tree}
+use Rattle.toml_working.specs.declared.texts.Texts.{Texts}
+use Rattle.toml_working.specs.declared.working.Tree.{Tree}
 use Rattle.toml_editor.specs.CertifiedLists.{ArePlain}
 use Rattle.toml_editor.specs.Exact.{FollowAll, IsAt, MakesAll, style}
 use Rattle.toml_editor.specs.PlainTexts.{WritesPlain}
-use Rattle.toml_editor.specs.Standing.{Read, standing}
-use Rattle.toml_editor.specs.Stands.{Stands}
-use Rattle.toml_editor.specs.Starting.{NoneIsGone}
+use Rattle.toml_working.specs.Standing.{Read, standing}
+use Rattle.toml_working.specs.Stands.{Stands}
+use Rattle.toml_working.specs.Starting.{NoneIsGone}
 use Rattle.toml_editor.specs.Steps.{AreWritten}
-use Rattle.toml_editor.specs.Writing.{WritesOut}
-use Rattle.toml_editor.specs.Written.{style_of}
+use Rattle.toml_working.specs.Writing.{WritesOut}
+use Rattle.toml_working.specs.Written.{style_of}
 use Rattle.toml_editor.proofs.WrittenOut.{lines_are_written}
 use Rattle.toml_editor.proofs.written.Elsewhere.{style_is_newline}
 use Rattle.toml_editor.proofs.written.Steps.{plain_steps}

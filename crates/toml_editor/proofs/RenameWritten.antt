@@ -4,12 +4,12 @@ use Rattle.std.specs.Prelude.{Result, Ok, Err, OnOk}
 use Rattle.toml_scalar.specs.Spelling.{spelled}
 use Rattle.toml_text.specs.Source.{text_of}
 use Rattle.toml_names.specs.model.Addresses.{Address}
-use Rattle.toml_editor.specs.declared.working.Tree.{Tree}
-use Rattle.toml_editor.specs.Becoming.{RenamesLines}
+use Rattle.toml_working.specs.declared.working.Tree.{Tree}
+use Rattle.toml_working.specs.Becoming.{RenamesLines}
 use Rattle.toml_editor.specs.Exact.{WritesRename}
-use Rattle.toml_editor.specs.OpenOutlines.{leaf_text}
-use Rattle.toml_editor.specs.Standing.{Read}
-use Rattle.toml_editor.specs.Starting.{NoneIsGone}
+use Rattle.toml_working.specs.OpenOutlines.{leaf_text}
+use Rattle.toml_working.specs.Standing.{Read}
+use Rattle.toml_working.specs.Starting.{NoneIsGone}
 
 pub rename_is_written : {A E : Type 0} (r : Result A E) (read : Read) (p : Address) (name to spelling : List ℕ) (old new : Tree) → name ≡ to → spelling ≡ spelled to
     → OnOk r (RenamesLines p name spelling (text_of old.texts.source) read old.slots.items new.slots.items) → OnOk r (new.texts ≡ old.texts) → OnOk r (new.style ≡ old.style)

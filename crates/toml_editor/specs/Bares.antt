@@ -3,10 +3,10 @@ use Rattle.std.specs.Prelude.{◌≡◌, ℕ, List}
 use Rattle.toml_tree.specs.Bare.{bare_value, bare_lines}
 use Rattle.toml_tree.specs.Tree.{Value, Line}
 use Rattle.toml_names.specs.model.Addresses.{Address}
-use Rattle.toml_editor.specs.Inserting.{insert_lines}
-use Rattle.toml_editor.specs.Removing.{remove_lines}
-use Rattle.toml_editor.specs.Renaming.{rename_lines}
-use Rattle.toml_editor.specs.Setting.{set_lines}
+use Rattle.toml_working.specs.Inserting.{insert_lines}
+use Rattle.toml_working.specs.Removing.{remove_lines}
+use Rattle.toml_working.specs.Renaming.{rename_lines}
+use Rattle.toml_working.specs.Setting.{set_lines}
 
 -- Laws: where the pieces of a tree stand does not count. The edited tree, without its places, is what the edit makes of the tree
 -- without its places.

@@ -13,7 +13,7 @@ use Rattle.toml_checker.specs.Lines.{NoLinesAdded}
 use Rattle.toml_checker.specs.Pairs.{PairsFit, IsFirst}
 use Rattle.toml_checker.specs.Protected.{IsProtected}
 use Rattle.toml_editor.specs.Steps.{IsGoodText}
-use Rattle.toml_editor.specs.Written.{IsWritten}
+use Rattle.toml_working.specs.Written.{IsWritten}
 
 -- The pairs name just the protected units of the first tree; they fit, and the second tree has no line and no comment that is unasked.
 pub record ArePartners (cs : List Change) (d e : Doc) (ps : List (ℕ × ℕ)) : Type 0 where

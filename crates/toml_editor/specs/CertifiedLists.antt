@@ -15,7 +15,7 @@ use Rattle.toml_checker.specs.Outer.{IsOuter}
 use Rattle.toml_checker.specs.Pairs.{IsFirst}
 use Rattle.toml_editor.specs.CarriedUnits.{ArePartners}
 use Rattle.toml_editor.specs.Steps.{IsGoodText, IsPlain, AreWritten}
-use Rattle.toml_editor.specs.Written.{IsWritten}
+use Rattle.toml_working.specs.Written.{IsWritten}
 
 -- Law: pairs of partners certify the text that a list of plain edits without a fault writes of a document.
 abbrev pub PartnersCertify : Type 0

@@ -26,7 +26,7 @@ use Rattle.toml_checker.specs.Findings.{IsFirstUnmet}
 use Rattle.toml_checker.specs.Outer.{IsOuter}
 use Rattle.toml_checker.specs.Pairs.{IsFirst}
 use Rattle.toml_editor.specs.PlainTexts.{IsNoPlainEdit, IsNoPlainList, NoSpreadSet, WritesPlain}
-use Rattle.toml_editor.specs.Tidy.{AreTidy}
+use Rattle.toml_working.specs.Tidy.{AreTidy}
 use Rattle.toml_editor.specs.declared.fault.EditorFault.{EditorFault}
 use Rattle.toml_editor.specs.declared.fault.EditorFault.TheVariants.{Text, Syntax, Names, Edit, Spread, LastElement, TooLong, Unverified, NoMemory}
 

@@ -15,9 +15,9 @@ use Rattle.toml_editor.specs.declared.editing.Unjudged.{Unjudged}
 use Rattle.toml_editor.specs.declared.fault.EditorFault.{EditorFault}
 use Rattle.toml_editor.specs.declared.fault.EditorFault.TheVariants.{Unverified}
 use Rattle.toml_editor.specs.declared.making.Read.{Read}
-use Rattle.toml_editor.specs.declared.reading.LineFacts.{LineFacts}
+use Rattle.toml_working.specs.declared.reading.LineFacts.{LineFacts}
 use Rattle.toml_editor.specs.Making.{HasNames}
-use Rattle.toml_editor.specs.Starting.{AreFacts, read_of}
+use Rattle.toml_working.specs.Starting.{AreFacts, read_of}
 
 -- by what the edits are made on it: the lines of the text, their names, their units and the facts of them
 pub record IsReadFrom (text : List ℕ) (read : Read) (known : List LineFacts) : Type 0 where

@@ -18,20 +18,20 @@ use Rattle.toml_edits.specs.Faults.{IsFault}
 use Rattle.toml_edits.specs.Lists.{Lead}
 use Rattle.toml_editor.specs.declared.fault.EditorFault.{EditorFault}
 use Rattle.toml_editor.specs.declared.fault.EditorFault.TheVariants.{Edit, LastElement, Spread}
-use Rattle.toml_editor.specs.declared.working.Tree.{Tree}
-use Rattle.toml_editor.specs.Becoming.{TreeRenames}
+use Rattle.toml_working.specs.declared.working.Tree.{Tree}
+use Rattle.toml_working.specs.Becoming.{TreeRenames}
 use Rattle.toml_editor.specs.CertifiedLists.{ArePlain}
-use Rattle.toml_editor.specs.OpenOutlines.{leaf_text}
+use Rattle.toml_working.specs.OpenOutlines.{leaf_text}
 use Rattle.toml_editor.specs.PlainTexts.{IsPlainOn, IsSpreadSet}
-use Rattle.toml_editor.specs.Putting.{TreeInserts}
-use Rattle.toml_editor.specs.RemovingIn.{RemovesLines}
+use Rattle.toml_working.specs.Putting.{TreeInserts}
+use Rattle.toml_working.specs.RemovingIn.{RemovesLines}
 use Rattle.toml_editor.specs.SpelledEdits.{AreSteps}
-use Rattle.toml_editor.specs.Standing.{Read, standing}
-use Rattle.toml_editor.specs.Stands.{KeepsRest, Stands, TreeSets}
-use Rattle.toml_editor.specs.Starting.{NoneIsGone}
+use Rattle.toml_working.specs.Standing.{Read, standing}
+use Rattle.toml_working.specs.Stands.{KeepsRest, Stands, TreeSets}
+use Rattle.toml_working.specs.Starting.{NoneIsGone}
 use Rattle.toml_editor.specs.Steps.{IsGoodText, AreWritten}
-use Rattle.toml_editor.specs.TreeOutlines.{value_outline}
-use Rattle.toml_editor.specs.Written.{IsWritten}
+use Rattle.toml_working.specs.TreeOutlines.{value_outline}
+use Rattle.toml_working.specs.Written.{IsWritten}
 
 -- the newline of new lines is that of the text before all edits
 abbrev pub style : Tree → List ℕ

@@ -1,46 +1,12 @@
-pub mod Tidy
 pub mod Faults
 pub mod Edited
 -- words of the code's own contracts
 pub mod Making
-pub mod KnownLines
-pub mod Reading
 pub mod Editing
 -- what the working tree stands for
-pub mod Outlines
-pub mod OpenOutlines
-pub mod TreeOutlines
-pub mod SetOutlines
-pub mod RenameOutlines
-pub mod Beginnings
-pub mod Apart
-pub mod Opening
-pub mod Standing
-pub mod InsertStanding
-pub mod Stands
-pub mod Starting
-pub mod Writing
-pub mod OpeningLines
-pub mod Leading
-pub mod RenamingIn
-pub mod RenameStanding
-pub mod Turning
-pub mod Becoming
 pub mod SpelledEdits
-pub mod Seeing
-pub mod Placing
-pub mod Putting
-pub mod Changing
-pub mod RemoveStanding
-pub mod RemovingIn
 -- what a plain edit writes, and the laws of it
-pub mod Lines
-pub mod Setting
 pub mod Held
-pub mod Inserting
-pub mod Removing
-pub mod Renaming
-pub mod Written
 pub mod SetLaws
 pub mod Blocks
 pub mod InsertLaws

@@ -10,7 +10,7 @@ use Rattle.toml_names.specs.mentions.Mentions.{a_table, an_array, named}
 use Rattle.toml_names.specs.reader.LineNames.{StandFor}
 use Rattle.toml_tree.specs.Tree.{Line}
 use Rattle.toml_editor.specs.declared.making.Read.{Read}
-use Rattle.toml_editor.specs.Starting.{read_of}
+use Rattle.toml_working.specs.Starting.{read_of}
 use Rattle.toml_names.specs.declared.model.address.Step.TheVariants.{Index}
 use Rattle.toml_edits.specs.Applied.{IsApplied}
 use Rattle.toml_edits.specs.Edits.{Change}

@@ -12,7 +12,7 @@ use Rattle.toml_edits.specs.Faults.{IsFault}
 use Rattle.toml_edits.specs.Lists.{Lead}
 use Rattle.toml_editor.specs.CertifiedLists.{ArePlain}
 use Rattle.toml_editor.specs.Steps.{AreWritten, IsPlain}
-use Rattle.toml_editor.specs.Written.{HasValue, style_of}
+use Rattle.toml_working.specs.Written.{HasValue, style_of}
 
 -- where each edit is plain on the text written so far, the text is the one that they write of the first
 abbrev pub WritesPlain : Profile → List ℕ → List Change → List ℕ → Type 0

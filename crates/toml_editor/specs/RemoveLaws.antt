@@ -14,8 +14,8 @@ use Rattle.toml_names.specs.reader.Names.{AreGood}
 use Rattle.toml_edits.specs.After.{IsAfter}
 use Rattle.toml_edits.specs.Edits.{remove}
 use Rattle.toml_editor.specs.Blocks.{IsPut, root_pair, named_plain}
-use Rattle.toml_editor.specs.Removing.{left_behind, remove_lines}
-use Rattle.toml_editor.specs.Written.{HasPair}
+use Rattle.toml_working.specs.Removing.{left_behind, remove_lines}
+use Rattle.toml_working.specs.Written.{HasPair}
 
 -- Law: the old lines name what the new ones do, and the name's value in the root.
 abbrev pub RemoveNames : Type 0

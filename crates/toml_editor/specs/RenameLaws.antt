@@ -15,7 +15,7 @@ use Rattle.toml_names.specs.model.Places.{IsNamed}
 use Rattle.toml_names.specs.reader.Names.{AreGood}
 use Rattle.toml_edits.specs.After.{IsAfter}
 use Rattle.toml_edits.specs.Edits.{rename}
-use Rattle.toml_editor.specs.Renaming.{rename_lines}
+use Rattle.toml_working.specs.Renaming.{rename_lines}
 
 -- where an address leads once the name n in the table at q is another
 abbrev pub moved : Address → List ℕ → List ℕ → Address → Address

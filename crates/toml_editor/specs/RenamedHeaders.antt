@@ -6,7 +6,7 @@ use Rattle.toml_names.specs.mentions.Keys.{key_names}
 use Rattle.toml_names.specs.mentions.Mentions.{Named, entered}
 use Rattle.toml_names.specs.model.Addresses.{Address, child, element}
 use Rattle.toml_names.specs.reader.Names.{header_end}
-use Rattle.toml_editor.specs.Renaming.{rename_part, rename_key}
+use Rattle.toml_working.specs.Renaming.{rename_part, rename_key}
 
 -- the parts behind one that led to `here`, where the address goes on with these steps: a part for each name, and none for an index
 abbrev pub rename_rest_along : Address → List ℕ → Address → Address → List Dotted → List Dotted

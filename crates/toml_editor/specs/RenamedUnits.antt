@@ -11,7 +11,7 @@ use Rattle.toml_edits.specs.Edits.{Change, rename}
 use Rattle.toml_units.specs.Units.{TextUnit, units}
 use Rattle.toml_checker.specs.GoneAndChanged.{IsChanged}
 use Rattle.toml_checker.specs.Protected.{standing}
-use Rattle.toml_editor.specs.Renaming.{rename_lines}
+use Rattle.toml_working.specs.Renaming.{rename_lines}
 
 -- the lists are as long as each other, and each goes with the one at its place
 abbrev pub GoTogether : {A B : Type 0} → (A → B → Type 0) → List A → List B → Type 0

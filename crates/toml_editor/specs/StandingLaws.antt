@@ -10,16 +10,16 @@ use Rattle.toml_names.specs.mentions.Mentions.{named}
 use Rattle.toml_names.specs.mentions.Rules.{KeepsRules}
 use Rattle.toml_names.specs.model.Addresses.{Address, child}
 use Rattle.toml_names.specs.model.Places.{IsNamed}
-use Rattle.toml_editor.specs.RenameStanding.{rename_standing}
-use Rattle.toml_editor.specs.Renaming.{rename_lines}
-use Rattle.toml_editor.specs.InsertStanding.{AreRooted, insert_standing}
-use Rattle.toml_editor.specs.Inserting.{insert_lines}
-use Rattle.toml_editor.specs.RemoveStanding.{is_pair, remove_standing}
-use Rattle.toml_editor.specs.Removing.{remove_lines}
-use Rattle.toml_editor.specs.Setting.{set_lines}
-use Rattle.toml_editor.specs.Standing.{AreOrdered, standing, set_standing, has}
-use Rattle.toml_editor.specs.TreeOutlines.{value_outline}
-use Rattle.toml_editor.specs.Written.{HasPair, HasValue}
+use Rattle.toml_working.specs.RenameStanding.{rename_standing}
+use Rattle.toml_working.specs.Renaming.{rename_lines}
+use Rattle.toml_working.specs.InsertStanding.{AreRooted, insert_standing}
+use Rattle.toml_working.specs.Inserting.{insert_lines}
+use Rattle.toml_working.specs.RemoveStanding.{is_pair, remove_standing}
+use Rattle.toml_working.specs.Removing.{remove_lines}
+use Rattle.toml_working.specs.Setting.{set_lines}
+use Rattle.toml_working.specs.Standing.{AreOrdered, standing, set_standing, has}
+use Rattle.toml_working.specs.TreeOutlines.{value_outline}
+use Rattle.toml_working.specs.Written.{HasPair, HasValue}
 
 -- Law: places do not count.
 abbrev pub PlacesDoNotStand : Type 0

@@ -15,7 +15,7 @@ use Rattle.toml_edits.specs.After.{IsAfter}
 use Rattle.toml_edits.specs.Edits.{Change, set, insert, rename, remove}
 use Rattle.toml_edits.specs.Faults.{IsFault}
 use Rattle.toml_edits.specs.Lists.{Lead}
-use Rattle.toml_editor.specs.Written.{HasValue, HasPair, IsWritten, style_of}
+use Rattle.toml_working.specs.Written.{HasValue, HasPair, IsWritten, style_of}
 
 -- a text that a good tree of the profile spells, and its data
 pub record IsGoodText (profile : Profile) (text : List ℕ) (kinds : Kinds) : Type 0 where

@@ -10,9 +10,9 @@ use Rattle.toml_names.specs.mentions.Mentions.{named}
 use Rattle.toml_names.specs.mentions.Rules.{KeepsRules}
 use Rattle.toml_units.specs.declared.unit.UnitKind.TheVariants as kinds
 use Rattle.toml_units.specs.Units.{TextUnit, inside, comment_units, units}
-use Rattle.toml_editor.specs.Inserting.{insert_lines}
-use Rattle.toml_editor.specs.Removing.{remove_lines}
-use Rattle.toml_editor.specs.Written.{HasPair}
+use Rattle.toml_working.specs.Inserting.{insert_lines}
+use Rattle.toml_working.specs.Removing.{remove_lines}
+use Rattle.toml_working.specs.Written.{HasPair}
 
 -- a keyval line of a name in the root: itself, what lies in its value, and its comment
 abbrev pub root_line : Piece → List ℕ → Value → Option Piece → List TextUnit

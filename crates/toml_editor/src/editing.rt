@@ -11,9 +11,9 @@ ghost use Rattle.toml_units.specs.declared.cursor.UnitCursor.{UnitCursor};
 ghost use Rattle.toml_editor.specs.Edited.{IsEdited, ArePieces, IsEditedInPieces, RefusesText, Tells};
 ghost use Rattle.toml_editor.specs.Editing.{IsEditedAs, IsJudged, IsMadeAs, IsReadFrom};
 ghost use Rattle.toml_editor.specs.declared.fault.EditorFault.TheVariants.{NoMemory};
-ghost use Rattle.toml_editor.specs.Reading.{IsReadAs};
+ghost use Rattle.toml_working.specs.Reading.{IsReadAs};
 ghost use Rattle.toml_editor.specs.SpelledEdits.{AreSpelled};
-ghost use Rattle.toml_editor.specs.Writing.{WritesOut};
+ghost use Rattle.toml_working.specs.Writing.{WritesOut};
 
 use crate::fault::EditorFault;
 use crate::making::{Read, make_all};

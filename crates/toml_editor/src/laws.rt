@@ -12,13 +12,13 @@ ghost use Rattle.toml_editor.specs.RenamedHeaders.{RenameAlong, RenameAlongEleme
 ghost use Rattle.toml_editor.specs.RenamedUnits.{RenameUnits};
 ghost use Rattle.toml_editor.specs.StandingLaws.{InsertStands, PairStands, PlacesDoNotStand, RemoveStands, RenameStands, RootComesFirst};
 ghost use Rattle.toml_editor.specs.StandingLaws.{RulesOrder, SetStands, StandingIsValue, ValueStands};
-ghost use Rattle.toml_editor.specs.RenameOutlines.{RenameIsOutlined};
+ghost use Rattle.toml_working.specs.RenameOutlines.{RenameIsOutlined};
 ghost use Rattle.toml_editor.specs.SetLaws.{SetNames, SetRules, SetShort, SetData, SetForms, SetOfProfile, SetWithin, SetElsewhere, SetKeepsLine};
-ghost use Rattle.toml_editor.specs.SetOutlines.{SetIsOutlined};
-ghost use Rattle.toml_editor.specs.TreeOutlines.{ValueIsOutlined, LineIsOutlined, LinesAreOutlined};
+ghost use Rattle.toml_working.specs.SetOutlines.{SetIsOutlined};
+ghost use Rattle.toml_working.specs.TreeOutlines.{ValueIsOutlined, LineIsOutlined, LinesAreOutlined};
 ghost use Rattle.toml_editor.specs.UnitBlocks.{InsertUnits, RemoveUnits};
 ghost use Rattle.toml_editor.specs.Steps.{GoodTextsAreDocuments, PlainIsWritten, PlainStep, PlainSteps, OneWritten, OneListWritten, StyleIsNewline};
-ghost use Rattle.toml_editor.specs.Writing.{LinesAreWritten, TextIsWritten};
+ghost use Rattle.toml_working.specs.Writing.{LinesAreWritten, TextIsWritten};
 
 /// After a `set` the lines name what they named, the new value in the place of the old. They keep the table rules and the
 /// bound on addresses, where the value keeps them at its address; they have the data that the edit makes, and are

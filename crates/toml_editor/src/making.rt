@@ -8,8 +8,8 @@ ghost use Rattle.toml_editor.specs.Exact.{SetsMany, WritesEdit, WritesInsert, Wr
 ghost use Rattle.toml_editor.specs.Made.{MakesEdit, MakesEdits, RefusesEdit, RefusesEdits, places_in};
 ghost use Rattle.toml_editor.specs.Making.{HasNames, HasOne, IsMade, IsMany, TellsRow};
 ghost use Rattle.toml_editor.specs.SpelledEdits.{AreSpelled, IsSpelled};
-ghost use Rattle.toml_editor.specs.Starting.{NoneIsGone, read_of};
-ghost use Rattle.toml_editor.specs.Stands.{KeepsRest};
+ghost use Rattle.toml_working.specs.Starting.{NoneIsGone, read_of};
+ghost use Rattle.toml_working.specs.Stands.{KeepsRest};
 
 use crate::fault::EditorFault;
 use crate::removing::parent_of;

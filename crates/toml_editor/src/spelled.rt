@@ -1,7 +1,7 @@
 //! The texts that edits bring: their values read, and their names spelled.
 ghost use Rattle.std.specs.Prelude.{◌≡◌, IfOk, map, string_bytes};
 ghost use Rattle.toml_edits.specs.Edits.{change};
-ghost use Rattle.toml_editor.specs.Opening.{OpensText};
+ghost use Rattle.toml_working.specs.Opening.{OpensText};
 ghost use Rattle.toml_editor.specs.SpelledEdits.{AreSpelled, AreSteps, IsNewName, IsSpelled, step_spelled};
 
 use crate::opening::Opener;

@@ -10,9 +10,9 @@ use Rattle.toml_names.specs.model.Addresses.{Address, IsAbove, element, below}
 use Rattle.toml_names.specs.mentions.Keys.{key_names, part_name, rest_names}
 use Rattle.toml_editor.specs.SetLaws.{SetWithin, SetElsewhere}
 use Rattle.toml_editor.specs.Steps.{StyleIsNewline}
-use Rattle.toml_editor.specs.Lines.{array_of, inline_of}
+use Rattle.toml_working.specs.Lines.{array_of, inline_of}
 use Rattle.toml_tree.specs.Bare.{fresh, bare_key, bare_assign, bare_gap, bare_value, bare_items, bare_pairs}
-use Rattle.toml_editor.specs.Setting.{set_at, set_within, set_items, set_pairs}
+use Rattle.toml_working.specs.Setting.{set_at, set_within, set_items, set_pairs}
 use Rattle.toml_tree.proofs.Proved.{bare_items_text, bare_pairs_text}
 use Rattle.toml_editor.proofs.written.Clear.{differ}
 

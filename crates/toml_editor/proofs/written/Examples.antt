@@ -15,12 +15,12 @@ use Rattle.toml_tree.specs.Bare.{fresh}
 use Rattle.toml_tree.specs.Spells.{joined, lines_parts}
 use Rattle.toml_tree.specs.Tree.{Piece, Blank, Key, Assign, Gap, Value, Scalar, Last, More, MorePairs, ClosePairs, LastPair, Header, Expr, BlankLine, KeyValLine, TableLine, ArrayTableLine, Line}
 use Rattle.toml_names.specs.declared.model.address.Step.TheVariants.{Name, Index}
-use Rattle.toml_editor.specs.Inserting.{insert_lines}
-use Rattle.toml_editor.specs.Lines.{array_of, inline_of}
-use Rattle.toml_editor.specs.Removing.{remove_lines}
-use Rattle.toml_editor.specs.Renaming.{rename_lines}
-use Rattle.toml_editor.specs.Setting.{set_lines}
-use Rattle.toml_editor.specs.Written.{style_of}
+use Rattle.toml_working.specs.Inserting.{insert_lines}
+use Rattle.toml_working.specs.Lines.{array_of, inline_of}
+use Rattle.toml_working.specs.Removing.{remove_lines}
+use Rattle.toml_working.specs.Renaming.{rename_lines}
+use Rattle.toml_working.specs.Setting.{set_lines}
+use Rattle.toml_working.specs.Written.{style_of}
 
 -- ---- trees
 

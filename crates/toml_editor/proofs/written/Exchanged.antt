@@ -8,7 +8,7 @@ use Rattle.toml_names.specs.model.Addresses.{Address, same_address, element, bel
 use Rattle.toml_units.specs.Units.{gap_units, inside, elements, members}
 use Rattle.toml_editor.specs.ChangedUnits.{IsExchanged}
 use Rattle.toml_editor.specs.Held.{StandsAt, StandsWithin, StandsInItems, StandsInPairs}
-use Rattle.toml_editor.specs.Setting.{set_within, set_items, set_pairs, set_value}
+use Rattle.toml_working.specs.Setting.{set_within, set_items, set_pairs, set_value}
 use Rattle.toml_editor.proofs.written.Clear.{same_is}
 use Rattle.toml_editor.proofs.written.UnitsIn.{of_element, of_pair}
 use Rattle.toml_editor.proofs.written.WayHeld.{held, between, at_end, gap_held}

@@ -13,20 +13,20 @@ use Rattle.toml_names.specs.model.Data.{Kinds}
 use Rattle.toml_edits.specs.After.{IsAfter}
 use Rattle.toml_edits.specs.Edits.{Change, set, remove}
 use Rattle.toml_edits.specs.Faults.{IsFault}
-use Rattle.toml_editor.specs.declared.texts.Texts.{Texts}
-use Rattle.toml_editor.specs.declared.working.Tree.{Tree}
+use Rattle.toml_working.specs.declared.texts.Texts.{Texts}
+use Rattle.toml_working.specs.declared.working.Tree.{Tree}
 use Rattle.toml_editor.specs.Exact.{Follows, IsAt, KeepsSource, style}
-use Rattle.toml_editor.specs.OpenOutlines.{leaf_text}
-use Rattle.toml_editor.specs.RemoveStanding.{is_pair}
-use Rattle.toml_editor.specs.Removing.{remove_lines}
-use Rattle.toml_editor.specs.RemovingIn.{RemovesLines}
-use Rattle.toml_editor.specs.Setting.{set_lines}
-use Rattle.toml_editor.specs.Standing.{Read, standing}
-use Rattle.toml_editor.specs.Stands.{KeepsRest, SetsLines, Stands}
-use Rattle.toml_editor.specs.Starting.{NoneIsGone}
+use Rattle.toml_working.specs.OpenOutlines.{leaf_text}
+use Rattle.toml_working.specs.RemoveStanding.{is_pair}
+use Rattle.toml_working.specs.Removing.{remove_lines}
+use Rattle.toml_working.specs.RemovingIn.{RemovesLines}
+use Rattle.toml_working.specs.Setting.{set_lines}
+use Rattle.toml_working.specs.Standing.{Read, standing}
+use Rattle.toml_working.specs.Stands.{KeepsRest, SetsLines, Stands}
+use Rattle.toml_working.specs.Starting.{NoneIsGone}
 use Rattle.toml_editor.specs.Steps.{IsGoodText, IsPlain}
-use Rattle.toml_editor.specs.TreeOutlines.{value_outline}
-use Rattle.toml_editor.specs.Written.{AreEdited, HasPair, HasValue, IsWritten}
+use Rattle.toml_working.specs.TreeOutlines.{value_outline}
+use Rattle.toml_working.specs.Written.{AreEdited, HasPair, HasValue, IsWritten}
 use Rattle.toml_editor.proofs.written.RemoveStanding.{pair_stands, remove_stands}
 use Rattle.toml_editor.proofs.written.Steps.{plain_step, step_lines}
 use Rattle.toml_editor.proofs.written.SetStanding.{set_stands}

@@ -9,7 +9,7 @@ use Rattle.toml_names.specs.mentions.Mentions.{Named, entered, count_tables}
 use Rattle.toml_names.specs.model.Addresses.{Address, child, element}
 use Rattle.toml_names.specs.reader.Names.{header_end}
 use Rattle.toml_editor.specs.RenamedHeaders.{rename_rest_along, rename_along, RenameAlong, RenameAlongElement}
-use Rattle.toml_editor.specs.Renaming.{rename_part, rename_rest, rename_key}
+use Rattle.toml_working.specs.Renaming.{rename_part, rename_rest, rename_key}
 
 module _ (xs : List Named) where
   -- the step that a header puts on where it passes through an array of tables

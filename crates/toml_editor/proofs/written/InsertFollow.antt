@@ -11,18 +11,18 @@ use Rattle.toml_names.specs.model.Data.{Kinds}
 use Rattle.toml_edits.specs.After.{IsAfter}
 use Rattle.toml_edits.specs.Edits.{insert}
 use Rattle.toml_edits.specs.Faults.{IsFault}
-use Rattle.toml_editor.specs.declared.texts.Texts.{Texts}
-use Rattle.toml_editor.specs.declared.working.Tree.{Tree}
+use Rattle.toml_working.specs.declared.texts.Texts.{Texts}
+use Rattle.toml_working.specs.declared.working.Tree.{Tree}
 use Rattle.toml_editor.specs.Exact.{Follows, IsAt, style}
-use Rattle.toml_editor.specs.Inserting.{insert_lines}
-use Rattle.toml_editor.specs.OpenOutlines.{leaf_text}
-use Rattle.toml_editor.specs.Putting.{InsertsLines, IsRootName}
+use Rattle.toml_working.specs.Inserting.{insert_lines}
+use Rattle.toml_working.specs.OpenOutlines.{leaf_text}
+use Rattle.toml_working.specs.Putting.{InsertsLines, IsRootName}
 use Rattle.toml_editor.specs.SpelledEdits.{AreSteps, step_spelled}
-use Rattle.toml_editor.specs.Standing.{Read, standing}
-use Rattle.toml_editor.specs.Stands.{KeepsRest, Stands}
-use Rattle.toml_editor.specs.Starting.{NoneIsGone}
+use Rattle.toml_working.specs.Standing.{Read, standing}
+use Rattle.toml_working.specs.Stands.{KeepsRest, Stands}
+use Rattle.toml_working.specs.Starting.{NoneIsGone}
 use Rattle.toml_editor.specs.Steps.{IsPlain}
-use Rattle.toml_editor.specs.TreeOutlines.{value_outline}
+use Rattle.toml_working.specs.TreeOutlines.{value_outline}
 use Rattle.toml_editor.proofs.written.Follow.{follows}
 use Rattle.toml_editor.proofs.written.InsertStands.{insert_stands, root_comes_first}
 

@@ -4,7 +4,7 @@ use Rattle.toml_text.specs.Forms.{IsNewline}
 use Rattle.toml_scalar.proofs.Proved.{spelled_names}
 use Rattle.toml_tree.specs.Spells.{IsValue, IsExpr, AreLines, depth, max_depth}
 use Rattle.toml_tree.specs.Tree.{Value, Line}
-use Rattle.toml_editor.specs.Inserting.{new_expr, new_line, line_behind, has_pair, insert_behind, insert_lines}
+use Rattle.toml_working.specs.Inserting.{new_expr, new_line, line_behind, has_pair, insert_behind, insert_lines}
 use Rattle.toml_editor.specs.InsertLaws.{InsertForms}
 use Rattle.toml_editor.proofs.written.Formed.{line_before}
 

@@ -11,12 +11,12 @@ use Rattle.toml_names.specs.mentions.Mentions.{Kind, Named, named, value_facts, 
 use Rattle.toml_names.specs.mentions.Clear.{IsClear}
 use Rattle.toml_names.proofs.Proved.{inside_is_below, not_named_is_clear, more_keep_rules, value_keeps_rules}
 use Rattle.toml_names.specs.mentions.Rules.{KeepsRules}
-use Rattle.toml_editor.specs.Inserting.{insert_lines}
+use Rattle.toml_working.specs.Inserting.{insert_lines}
 use Rattle.toml_editor.specs.Blocks.{root_pair, named_plain}
 use Rattle.toml_editor.specs.InsertLaws.{InsertRules, InsertShort, InsertData}
 use Rattle.toml_editor.proofs.written.BlockFacts.{each_put, has_old, has_block, has_new}
 use Rattle.toml_editor.proofs.written.Clear.{IsUnder}
-use Rattle.toml_editor.proofs.Each.{each_weaker}
+use Rattle.toml_working.proofs.Each.{each_weaker}
 use Rattle.toml_editor.proofs.written.InsertNamed.{insert_names}
 use Rattle.toml_editor.proofs.written.Pairwise.{each_of_all, Has, has_of_any, any_of_has}
 use Rattle.toml_editor.proofs.written.SetKept.{F, block, clear_under, block_short, in_block, of_block}

@@ -7,7 +7,7 @@ use Rattle.toml_names.specs.declared.model.address.Step.TheVariants.{Name}
 use Rattle.toml_names.specs.declared.mentions.mention.Role.TheVariants.{Valued}
 use Rattle.toml_names.specs.mentions.Keys.{spelled_name, name_or_empty}
 use Rattle.toml_names.specs.mentions.Mentions.{Named, named_by, root, pair_named, section, value_named, inside}
-use Rattle.toml_editor.specs.Inserting.{new_assign, new_expr, new_line, line_behind, has_pair, insert_behind, insert_lines}
+use Rattle.toml_working.specs.Inserting.{new_assign, new_expr, new_line, line_behind, has_pair, insert_behind, insert_lines}
 use Rattle.toml_editor.specs.Blocks.{IsPut, root_pair}
 use Rattle.toml_editor.specs.InsertLaws.{InsertNames}
 use Rattle.toml_editor.proofs.written.Alike.{alike_self, alike_pair, section_pair}

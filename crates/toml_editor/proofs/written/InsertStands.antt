@@ -14,11 +14,11 @@ use Rattle.toml_names.specs.mentions.Keys.{Key, key_names, part_name, rest_names
 use Rattle.toml_names.specs.mentions.Mentions.{Named, named_by, root, section, section_from, followed, entered, ends_table, ends_tables}
 use Rattle.toml_names.specs.reader.Names.{own_address}
 use Rattle.toml_units.specs.Units.{line_base}
-use Rattle.toml_editor.specs.Inserting as lines
-use Rattle.toml_editor.specs.InsertStanding.{LeavesRoot, RootIsFirst, has_pair, insert_behind, line_behind, new_standing, new_outline, pair_or}
-use Rattle.toml_editor.specs.Standing.{Standing, holds, leads_to, line_stands, standing_from, standing}
+use Rattle.toml_working.specs.Inserting as lines
+use Rattle.toml_working.specs.InsertStanding.{LeavesRoot, RootIsFirst, has_pair, insert_behind, line_behind, new_standing, new_outline, pair_or}
+use Rattle.toml_working.specs.Standing.{Standing, holds, leads_to, line_stands, standing_from, standing}
 use Rattle.toml_editor.specs.StandingLaws.{InsertStands, RootComesFirst}
-use Rattle.toml_editor.specs.TreeOutlines.{line_outline, value_outline}
+use Rattle.toml_working.specs.TreeOutlines.{line_outline, value_outline}
 use Rattle.toml_editor.proofs.written.Alike.{alike_self, alike_pair, section_pair}
 use Rattle.toml_editor.proofs.written.InsertNamed.{spelled_again, stays}
 use Rattle.toml_editor.proofs.written.UnitsAlike.{base_alike, own_alike, step_alike}

@@ -8,15 +8,15 @@ use Rattle.toml_names.specs.mentions.Keys.{key_names}
 use Rattle.toml_names.specs.mentions.Mentions.{Named, named_by, root, section}
 use Rattle.toml_names.specs.model.Addresses.{Address, same_address, element, below}
 use Rattle.toml_editor.specs.InsertLaws.{InsertOfProfile}
-use Rattle.toml_editor.specs.Inserting.{new_line, line_behind, has_pair, insert_behind, insert_lines}
-use Rattle.toml_editor.specs.Lines.{lines_from}
+use Rattle.toml_working.specs.Inserting.{new_line, line_behind, has_pair, insert_behind, insert_lines}
+use Rattle.toml_working.specs.Lines.{lines_from}
 use Rattle.toml_editor.specs.RemoveLaws.{RemoveOfProfile}
-use Rattle.toml_editor.specs.Removing.{remove_line, left_behind, empty_line}
+use Rattle.toml_working.specs.Removing.{remove_line, left_behind, empty_line}
 use Rattle.toml_editor.specs.RenameLaws.{RenameOfProfile}
-use Rattle.toml_editor.specs.Renaming.{rename_value, rename_items, rename_pairs, rename_expr, rename_line}
+use Rattle.toml_working.specs.Renaming.{rename_value, rename_items, rename_pairs, rename_expr, rename_line}
 use Rattle.toml_editor.specs.SetLaws.{SetOfProfile}
-use Rattle.toml_editor.specs.Setting.{set_within, set_items, set_pairs, set_expr, set_line}
-use Rattle.toml_editor.proofs.Each.{each_append}
+use Rattle.toml_working.specs.Setting.{set_within, set_items, set_pairs, set_expr, set_line}
+use Rattle.toml_working.proofs.Each.{each_append}
 use Rattle.toml_editor.proofs.written.RemoveKept.{two_ways}
 
 abbrev ArePlain : List Line → Type 0

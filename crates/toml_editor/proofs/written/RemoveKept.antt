@@ -13,12 +13,12 @@ use Rattle.toml_names.specs.mentions.Clear.{IsClear}
 use Rattle.toml_names.proofs.Proved.{line_values_stand_alone, not_named_is_clear, some_keep_rules}
 use Rattle.toml_editor.specs.Blocks.{IsPut, root_pair, named_plain}
 use Rattle.toml_editor.specs.RemoveLaws.{RemoveForms, RemoveGood, RemoveData}
-use Rattle.toml_editor.specs.Lines.{lines_from}
-use Rattle.toml_editor.specs.Removing.{remove_line, remove_lines, left_behind, empty_line}
-use Rattle.toml_editor.specs.Written.{HasPair}
+use Rattle.toml_working.specs.Lines.{lines_from}
+use Rattle.toml_working.specs.Removing.{remove_line, remove_lines, left_behind, empty_line}
+use Rattle.toml_working.specs.Written.{HasPair}
 use Rattle.toml_editor.proofs.written.BlockFacts.{each_old, has_old, has_new}
 use Rattle.toml_editor.proofs.written.Clear.{IsUnder}
-use Rattle.toml_editor.proofs.Each.{each_append, each_back, each_weaker}
+use Rattle.toml_working.proofs.Each.{each_append, each_back, each_weaker}
 use Rattle.toml_editor.proofs.written.Formed.{newline_some, line_before}
 use Rattle.toml_editor.proofs.written.InsertKept.{block_under}
 use Rattle.toml_editor.proofs.written.Pairwise.{PairsAre, pairs_back, pairs_between, Alone, pairs_of_all, Has, has_of_any, any_of_has, from_has}

@@ -8,13 +8,13 @@ use Rattle.toml_names.specs.mentions.Keys.{key_names}
 use Rattle.toml_names.specs.mentions.Mentions.{Named, named_by, named_from, root, section}
 use Rattle.toml_names.specs.model.Addresses.{Address, same_address, below}
 use Rattle.toml_names.proofs.Proved.{pairs_leave_alike}
-use Rattle.toml_editor.specs.Lines.{lines_from}
+use Rattle.toml_working.specs.Lines.{lines_from}
 use Rattle.toml_editor.specs.RemoveLaws.{HasValueAt}
-use Rattle.toml_editor.specs.RemoveStanding.{empty_standing, is_pair, left_standing, remove_standing, without_one}
-use Rattle.toml_editor.specs.Removing.{empty_line, left_behind, remove_line}
-use Rattle.toml_editor.specs.Standing.{line_stands, standing_from}
+use Rattle.toml_working.specs.RemoveStanding.{empty_standing, is_pair, left_standing, remove_standing, without_one}
+use Rattle.toml_working.specs.Removing.{empty_line, left_behind, remove_line}
+use Rattle.toml_working.specs.Standing.{line_stands, standing_from}
 use Rattle.toml_editor.specs.StandingLaws.{PairStands, RemoveStands}
-use Rattle.toml_editor.specs.TreeOutlines.{line_outline}
+use Rattle.toml_working.specs.TreeOutlines.{line_outline}
 use Rattle.toml_editor.proofs.written.Alike.{alike_self, alike_trans}
 use Rattle.toml_editor.proofs.written.Clear.{self}
 use Rattle.toml_editor.proofs.written.RemoveNamed.{remove_keeps_lines}

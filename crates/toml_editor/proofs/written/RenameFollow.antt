@@ -14,13 +14,13 @@ use Rattle.toml_edits.specs.declared.fault.EditFault.TheVariants.{AlreadyThere, 
 use Rattle.toml_edits.specs.After.{IsAfter}
 use Rattle.toml_edits.specs.Edits.{rename}
 use Rattle.toml_edits.specs.Faults.{IsFault}
-use Rattle.toml_editor.specs.declared.texts.Texts.{Texts}
-use Rattle.toml_editor.specs.declared.working.Tree.{Tree}
+use Rattle.toml_working.specs.declared.texts.Texts.{Texts}
+use Rattle.toml_working.specs.declared.working.Tree.{Tree}
 use Rattle.toml_editor.specs.Exact.{Follows, IsAt, WritesRename}
-use Rattle.toml_editor.specs.RenameStanding.{rename_standing}
-use Rattle.toml_editor.specs.Renaming.{rename_lines}
-use Rattle.toml_editor.specs.Standing.{Read, standing}
-use Rattle.toml_editor.specs.Stands.{Stands}
+use Rattle.toml_working.specs.RenameStanding.{rename_standing}
+use Rattle.toml_working.specs.Renaming.{rename_lines}
+use Rattle.toml_working.specs.Standing.{Read, standing}
+use Rattle.toml_working.specs.Stands.{Stands}
 use Rattle.toml_editor.proofs.written.Fitting.{last_step, unnamed}
 use Rattle.toml_editor.proofs.written.Follow.{follows}
 use Rattle.toml_editor.proofs.written.RenameStanding.{rename_stands}

@@ -10,8 +10,8 @@ use Rattle.toml_names.specs.model.Addresses.{Address, same_address, child, eleme
 use Rattle.toml_names.specs.mentions.Keys.{part_name, key_names}
 use Rattle.toml_names.specs.mentions.Mentions.{Named, named_by, root, section, entered}
 use Rattle.toml_editor.specs.RenameLaws.{RenameForms}
-use Rattle.toml_editor.specs.Lines.{lines_from}
-use Rattle.toml_editor.specs.Renaming.{rename_part, rename_rest, rename_key, rename_assign, rename_value, rename_items, rename_pairs, rename_header, rename_expr, rename_line}
+use Rattle.toml_working.specs.Lines.{lines_from}
+use Rattle.toml_working.specs.Renaming.{rename_part, rename_rest, rename_key, rename_assign, rename_value, rename_items, rename_pairs, rename_header, rename_expr, rename_line}
 
 module _ (p : Address) (to : List ℕ) where
   part_formed : (here : Address) (part : Piece) → IsKeyPart part.text → IsKeyPart (rename_part p to here part).text

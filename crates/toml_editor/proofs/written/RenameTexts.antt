@@ -10,7 +10,7 @@ use Rattle.toml_names.specs.mentions.Mentions.{Named, entered, count_tables}
 use Rattle.toml_names.specs.model.Addresses.{Address, IsAbove, child, element, below}
 use Rattle.toml_names.specs.reader.Names.{header_end}
 use Rattle.toml_checker.specs.CarriedTo.{IsAtOrAbove}
-use Rattle.toml_editor.specs.Renaming.{rename_part, rename_rest, rename_key, rename_assign, rename_value, rename_items, rename_pairs}
+use Rattle.toml_working.specs.Renaming.{rename_part, rename_rest, rename_key, rename_assign, rename_value, rename_items, rename_pairs}
 use Rattle.toml_editor.proofs.written.Clear.{differ}
 use Rattle.toml_editor.proofs.written.Elsewhere.{beyond}
 use Rattle.toml_editor.proofs.written.Texts.{both_texts, back_text}

@@ -13,12 +13,12 @@ use Rattle.toml_names.specs.mentions.Mentions.{Named, named_by, named_from, root
 use Rattle.toml_names.specs.mentions.Alike.{AreAlike}
 use Rattle.toml_names.specs.mentions.Clear.{AreClear, AreValuesAt, IsClear}
 use Rattle.toml_names.proofs.Proved.{alike_name_the_same, alike_stay_alike, clear_of_root, headers_are_clear, inside_is_below, not_above_next, section_from-append, section_is_clear}
-use Rattle.toml_editor.specs.Lines.{lines_from}
-use Rattle.toml_editor.specs.Setting.{set_within, set_items, set_pairs, set_value, set_expr, set_line}
+use Rattle.toml_working.specs.Lines.{lines_from}
+use Rattle.toml_working.specs.Setting.{set_within, set_items, set_pairs, set_value, set_expr, set_line}
 use Rattle.toml_editor.specs.SetLaws.{swapped_one, swapped, SetNames}
 use Rattle.toml_editor.proofs.written.Alike.{alike_self, alike_pairs, section_pair, each_from}
 use Rattle.toml_editor.proofs.written.Clear.{clear_more, differ, above_false, above_true, above_apart, below-cons, same_is, self}
-use Rattle.toml_editor.proofs.Each.{each_front, each_back}
+use Rattle.toml_working.proofs.Each.{each_front, each_back}
 
 -- ---- what is swapped
 

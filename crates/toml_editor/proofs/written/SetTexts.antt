@@ -7,7 +7,7 @@ use Rattle.toml_tree.proofs.Proved.{bare_value_text}
 use Rattle.toml_names.specs.model.Addresses.{Address, IsAbove, same_step}
 use Rattle.toml_names.proofs.Proved.{same_step-equal}
 use Rattle.toml_edits.specs.Carry.{carry_below, emptied, setting}
-use Rattle.toml_editor.specs.Setting.{set_within}
+use Rattle.toml_working.specs.Setting.{set_within}
 use Rattle.toml_editor.proofs.written.Elsewhere.{set_within_kept}
 use Rattle.toml_editor.proofs.written.Unplaced.{set_bared}
 

@@ -23,12 +23,12 @@ use Rattle.toml_edits.specs.Edits.{Change, set, insert, rename, remove, new_sect
 use Rattle.toml_edits.specs.Faults.{IsFault}
 use Rattle.toml_edits.specs.declared.fault.EditFault.TheVariants.{RootNamed, NotAName, AlreadyThere, AddressLength}
 use Rattle.toml_edits.proofs.Proved.{one_after}
-use Rattle.toml_editor.specs.Inserting.{insert_lines}
-use Rattle.toml_editor.specs.Removing.{remove_lines}
-use Rattle.toml_editor.specs.Renaming.{rename_lines}
-use Rattle.toml_editor.specs.Setting.{set_lines}
+use Rattle.toml_working.specs.Inserting.{insert_lines}
+use Rattle.toml_working.specs.Removing.{remove_lines}
+use Rattle.toml_working.specs.Renaming.{rename_lines}
+use Rattle.toml_working.specs.Setting.{set_lines}
 use Rattle.toml_editor.specs.Steps.{IsGoodText, IsPlain, GoodTextsAreDocuments, PlainIsWritten, PlainStep, PlainSteps, AreWritten, OneWritten, OneListWritten}
-use Rattle.toml_editor.specs.Written.{AreEdited, HasPair, IsWritten}
+use Rattle.toml_working.specs.Written.{AreEdited, HasPair, IsWritten}
 use Rattle.toml_editor.proofs.written.Fitting.{all_fit, keeps_value, unnamed, last_step}
 use Rattle.toml_editor.proofs.written.InsertFormed.{insert_forms}
 use Rattle.toml_editor.proofs.written.InsertKept.{insert_rules, insert_short, insert_data}

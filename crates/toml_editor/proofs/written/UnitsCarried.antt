@@ -20,7 +20,7 @@ use Rattle.toml_names.specs.mentions.Clear.{IsClear}
 use Rattle.toml_names.specs.mentions.Rules.{KeepsRules}
 use Rattle.toml_names.proofs.Proved.{lines_have_data, places_are_not_named}
 use Rattle.toml_units.proofs.Proved.{units_are_named}
-use Rattle.toml_editor.specs.Removing.{remove_lines}
+use Rattle.toml_working.specs.Removing.{remove_lines}
 use Rattle.toml_editor.proofs.written.RemoveKept.{remove_forms, remove_good, left_clear}
 use Rattle.toml_editor.proofs.written.Pairwise.{has_of_any, from_has}
 use Rattle.toml_editor.proofs.written.Way.{Seen, seen}
@@ -29,15 +29,15 @@ use Rattle.toml_edits.specs.After.{IsAfter}
 use Rattle.toml_edits.specs.Faults.{IsFault}
 use Rattle.toml_text.specs.Forms.{IsNewline}
 use Rattle.toml_editor.specs.CarriedUnits.{PlainIsCarried}
-use Rattle.toml_editor.specs.Inserting.{insert_lines}
-use Rattle.toml_editor.specs.Renaming.{rename_lines}
+use Rattle.toml_working.specs.Inserting.{insert_lines}
+use Rattle.toml_working.specs.Renaming.{rename_lines}
 use Rattle.toml_editor.specs.Steps.{IsGoodText}
 use Rattle.toml_editor.proofs.written.Fitting.{unnamed, last_step, all_fit}
 use Rattle.toml_editor.proofs.written.InsertFormed.{insert_forms}
 use Rattle.toml_editor.proofs.written.RenameFormed.{rename_forms}
 use Rattle.toml_editor.proofs.written.WayComments.{comments}
-use Rattle.toml_editor.specs.Setting.{set_lines}
-use Rattle.toml_editor.specs.Written.{HasValue, HasPair, IsWritten}
+use Rattle.toml_working.specs.Setting.{set_lines}
+use Rattle.toml_working.specs.Written.{HasValue, HasPair, IsWritten}
 use Rattle.toml_editor.proofs.written.SetKept.{set_short}
 use Rattle.toml_editor.proofs.written.SetFormed.{set_forms}
 use Rattle.toml_editor.proofs.written.WaySet.{set_way}

@@ -13,7 +13,7 @@ use Rattle.toml_names.specs.mentions.Keys.{spelled_name, key_names}
 use Rattle.toml_names.specs.mentions.Mentions.{Named, named_by, root, section}
 use Rattle.toml_units.specs.Units.{TextUnit, line_units, inside, comment_units, units_from, units}
 use Rattle.toml_units.specs.declared.unit.UnitKind.TheVariants as kinds
-use Rattle.toml_editor.specs.Inserting.{new_assign, new_expr, new_line, line_behind, has_pair, insert_behind, insert_lines}
+use Rattle.toml_working.specs.Inserting.{new_assign, new_expr, new_line, line_behind, has_pair, insert_behind, insert_lines}
 use Rattle.toml_editor.specs.UnitBlocks.{BeginWithLine, IsBlockPut, root_line, pair_text, InsertUnits}
 use Rattle.toml_editor.proofs.written.Alike.{alike_self, alike_pair}
 use Rattle.toml_editor.proofs.written.InsertNamed.{spelled_again, stays}

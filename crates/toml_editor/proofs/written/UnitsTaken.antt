@@ -7,12 +7,12 @@ use Rattle.toml_names.specs.mentions.Alike.{AreAlike}
 use Rattle.toml_names.specs.mentions.Mentions.{Named, named, named_by}
 use Rattle.toml_units.specs.Units.{TextUnit, line_units, units_from, units}
 use Rattle.toml_editor.specs.Blocks.{root_pair}
-use Rattle.toml_editor.specs.Lines.{lines_from}
-use Rattle.toml_editor.specs.Removing.{remove_line, left_behind, empty_line, remove_lines}
+use Rattle.toml_working.specs.Lines.{lines_from}
+use Rattle.toml_working.specs.Removing.{remove_line, left_behind, empty_line, remove_lines}
 use Rattle.toml_editor.specs.UnitBlocks.{IsBlockTaken, root_line, left_of, RemoveUnits}
 use Rattle.std.specs.Prelude.{slice_get}
 use Rattle.toml_names.specs.mentions.Rules.{KeepsRules}
-use Rattle.toml_editor.specs.Written.{HasPair}
+use Rattle.toml_working.specs.Written.{HasPair}
 use Rattle.toml_editor.proofs.written.WayZip.{lines_in}
 use Rattle.toml_editor.proofs.written.WayFits.{newlines}
 use Rattle.toml_editor.proofs.written.WayBlock.{lines_append}

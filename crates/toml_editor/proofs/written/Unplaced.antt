@@ -7,14 +7,14 @@ use Rattle.toml_names.specs.model.Addresses.{Address, same_address, child, eleme
 use Rattle.toml_names.specs.mentions.Keys.{part_name, key_names}
 use Rattle.toml_names.specs.mentions.Mentions.{Named, named_by, root, section, entered}
 use Rattle.toml_names.proofs.Proved.{key_places_are_not_named, line_places_are_not_named}
-use Rattle.toml_editor.specs.Inserting.{new_line, line_behind, has_pair, insert_behind}
-use Rattle.toml_editor.specs.Lines.{array_of, inline_of, lines_from}
+use Rattle.toml_working.specs.Inserting.{new_line, line_behind, has_pair, insert_behind}
+use Rattle.toml_working.specs.Lines.{array_of, inline_of, lines_from}
 use Rattle.toml_tree.specs.Bare.{fresh, bare, bare_blank, bare_dotted, bare_key, bare_assign, bare_gap, bare_value, bare_items, bare_pairs, bare_header, bare_expr, bare_line}
 use Rattle.toml_tree.proofs.Proved.{bare_items_text, bare_pairs_text}
 use Rattle.toml_editor.specs.Bares.{SetBares, InsertBares, RenameBares, RemoveBares}
-use Rattle.toml_editor.specs.Removing.{remove_line, left_behind, empty_line}
-use Rattle.toml_editor.specs.Renaming.{rename_part, rename_rest, rename_key, rename_assign, rename_value, rename_items, rename_pairs, rename_header, rename_expr, rename_line}
-use Rattle.toml_editor.specs.Setting.{set_at, set_within, set_items, set_pairs, set_expr, set_line}
+use Rattle.toml_working.specs.Removing.{remove_line, left_behind, empty_line}
+use Rattle.toml_working.specs.Renaming.{rename_part, rename_rest, rename_key, rename_assign, rename_value, rename_items, rename_pairs, rename_header, rename_expr, rename_line}
+use Rattle.toml_working.specs.Setting.{set_at, set_within, set_items, set_pairs, set_expr, set_line}
 
 pub array_bared : (is : Items) → bare_value (array_of is) ≡ array_of (bare_items is)
 array_bared is = ap (λ t. Array (fresh (0x5B ∷ t)) (bare_items is)) (sym (bare_items_text is))

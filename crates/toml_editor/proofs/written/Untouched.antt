@@ -12,12 +12,12 @@ use Rattle.toml_names.specs.mentions.Keys.{part_name, key_names, rest_names}
 use Rattle.toml_names.specs.mentions.Mentions.{Named, named, named_by, named_from, root, section, entered}
 use Rattle.toml_names.specs.model.Addresses.{Address, IsAbove, child, element, below}
 use Rattle.toml_editor.specs.InsertLaws.{InsertKeepsLines}
-use Rattle.toml_editor.specs.Inserting.{new_line, line_behind, has_pair, insert_behind, insert_lines}
-use Rattle.toml_editor.specs.Lines.{array_of, inline_of, lines_from}
+use Rattle.toml_working.specs.Inserting.{new_line, line_behind, has_pair, insert_behind, insert_lines}
+use Rattle.toml_working.specs.Lines.{array_of, inline_of, lines_from}
 use Rattle.toml_editor.specs.RenameLaws.{HasNoPart, IsBesideKeys, RenameKeepsLine}
-use Rattle.toml_editor.specs.Renaming.{rename_part, rename_rest, rename_key, rename_assign, rename_value, rename_items, rename_pairs, rename_header, rename_expr}
+use Rattle.toml_working.specs.Renaming.{rename_part, rename_rest, rename_key, rename_assign, rename_value, rename_items, rename_pairs, rename_header, rename_expr}
 use Rattle.toml_editor.specs.SetLaws.{IsBesideValue, SetKeepsLine}
-use Rattle.toml_editor.specs.Setting.{set_value, set_expr}
+use Rattle.toml_working.specs.Setting.{set_value, set_expr}
 use Rattle.toml_editor.proofs.written.Clear.{differ}
 use Rattle.toml_editor.proofs.written.Elsewhere.{beyond, set_within_kept}
 use Rattle.toml_editor.proofs.written.Unplaced.{array_bared, inline_bared, set_bared}

@@ -20,10 +20,10 @@ use Rattle.toml_checker.specs.CarriedTo.{IsAtOrAbove, At}
 use Rattle.toml_checker.specs.Comments.{texts, is_comment}
 use Rattle.toml_checker.specs.Owed.{IsOwed}
 use Rattle.toml_checker.specs.Plain.{Site}
-use Rattle.toml_editor.specs.Lines.{lines_from}
+use Rattle.toml_working.specs.Lines.{lines_from}
 use Rattle.toml_editor.specs.RenameLaws.{moved}
 use Rattle.toml_editor.specs.RenamedUnits.{IsCarried}
-use Rattle.toml_editor.specs.Renaming.{rename_line, rename_lines}
+use Rattle.toml_working.specs.Renaming.{rename_line, rename_lines}
 use Rattle.toml_editor.proofs.written.Moved.{moved_root}
 use Rattle.toml_editor.proofs.written.RenameKept.{renamed_moved}
 use Rattle.toml_editor.proofs.written.WayComments.{added, comments}

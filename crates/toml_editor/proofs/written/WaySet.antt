@@ -26,10 +26,10 @@ use Rattle.toml_edits.specs.Sides.{side}
 use Rattle.toml_edits.proofs.Proved.{sides_are_right}
 use Rattle.toml_editor.specs.ChangedUnits.{is_inner, LiesInValue, HoldsValue, HasNewValue, IsSetTo, AreMadeOf}
 use Rattle.toml_editor.specs.Held.{HoldAt}
-use Rattle.toml_editor.specs.Lines.{lines_from}
+use Rattle.toml_working.specs.Lines.{lines_from}
 use Rattle.toml_editor.specs.RenamedUnits.{IsCarried}
-use Rattle.toml_editor.specs.Setting.{set_line, set_lines}
-use Rattle.toml_editor.specs.Written.{HasValue}
+use Rattle.toml_working.specs.Setting.{set_line, set_lines}
+use Rattle.toml_working.specs.Written.{HasValue}
 use Rattle.toml_editor.proofs.written.Clear.{self}
 use Rattle.toml_editor.proofs.written.Pairwise.{Alone, pairs_of_all}
 use Rattle.toml_editor.proofs.written.SetKept.{values_at}

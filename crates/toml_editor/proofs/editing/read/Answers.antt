@@ -2,7 +2,7 @@ use Rattle.std.proofs.Common.{◌∙◌, ap, sym, subst}
 use Rattle.toml_names.specs.reader.Texts as texts
 use Rattle.toml_editor.specs.Edited.{RefusesText}
 use Rattle.toml_editor.specs.Faults.{of_names, of_syntax}
-use Rattle.toml_editor.specs.Reading.{IsReadText}
+use Rattle.toml_working.specs.Reading.{IsReadText}
 use Rattle.toml_editor.proofs.Judgements.{names_told, text_refused, tree_refused}
 use Rattle.toml_editor.proofs.editing.read.Goals as goal
 

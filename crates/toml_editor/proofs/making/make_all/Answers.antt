@@ -5,7 +5,7 @@ use Rattle.toml_edits.specs.Edits.{change}
 use Rattle.toml_edits.specs.Lists.{Lead}
 use Rattle.toml_editor.specs.Exact.{MakesAll}
 use Rattle.toml_editor.specs.Made.{places_in}
-use Rattle.toml_editor.specs.Starting.{read_of}
+use Rattle.toml_working.specs.Starting.{read_of}
 use Rattle.toml_editor.proofs.MadeEdits.{any_of_one, get_map, led_on, take_map, taken_on}
 use Rattle.toml_editor.proofs.MakesExact.{more_made, more_passed, none_made, none_passed, stops_at}
 use Rattle.toml_editor.proofs.SpelledOne.{as_many, one_spelled}

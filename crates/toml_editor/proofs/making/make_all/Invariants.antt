@@ -3,7 +3,7 @@ use Rattle.toml_names.specs.model.Data.{kind_at}
 use Rattle.toml_edits.specs.Edits.{change}
 use Rattle.toml_edits.specs.Lists.{Lead}
 use Rattle.toml_editor.specs.Exact.{MakesAll, PassesAll}
-use Rattle.toml_editor.specs.Starting.{read_of}
+use Rattle.toml_working.specs.Starting.{read_of}
 use Rattle.toml_editor.proofs.making.make_all.Given as goal
 
 abbrev pub invariant-loop-index : goal.invariant-loop-index

@@ -2,10 +2,10 @@ use Rattle.std.proofs.Common.{◌∙◌, subst, subst₂}
 use Rattle.std.proofs.lemmas.Result.{IfOk-weaker, on_ok_weaker}
 use Rattle.toml_edits.specs.Edits.{change}
 use Rattle.toml_editor.specs.Exact.{WritesInsert, WritesSet}
-use Rattle.toml_editor.specs.RemovingIn.{RemovesLines}
+use Rattle.toml_working.specs.RemovingIn.{RemovesLines}
 use Rattle.toml_editor.specs.SpelledEdits.{IsSpelled}
-use Rattle.toml_editor.specs.Starting.{read_of}
-use Rattle.toml_editor.proofs.Answered.{if_ok_both, if_ok_with}
+use Rattle.toml_working.specs.Starting.{read_of}
+use Rattle.toml_working.proofs.Answered.{if_ok_both, if_ok_with}
 use Rattle.toml_editor.proofs.EditWritten.{edit_written}
 use Rattle.toml_editor.proofs.making.write_edit.Goals as goal
 

@@ -3,10 +3,10 @@ use Rattle.std.proofs.lemmas.Result.{on_ok_weaker}
 use Rattle.toml_tree.proofs.Proved.{one_value}
 use Rattle.toml_text.specs.Source.{text_of}
 use Rattle.toml_editor.specs.Exact.{style}
-use Rattle.toml_editor.specs.Opening.{OpensText}
-use Rattle.toml_editor.specs.Putting.{InsertsLines}
-use Rattle.toml_editor.specs.Starting.{read_of}
-use Rattle.toml_editor.specs.TreeOutlines.{value_outline}
+use Rattle.toml_working.specs.Opening.{OpensText}
+use Rattle.toml_working.specs.Putting.{InsertsLines}
+use Rattle.toml_working.specs.Starting.{read_of}
+use Rattle.toml_working.specs.TreeOutlines.{value_outline}
 use Rattle.toml_editor.proofs.making.write_insert.Goals as goal
 
 pub returns-in_ok-parent-in-Some-clause-insert : goal.returns-in_ok-parent-in-Some-clause-insert

@@ -1,5 +1,5 @@
 use Rattle.std.proofs.Common.{◌∙◌}
-use Rattle.toml_editor.specs.Starting.{read_of}
+use Rattle.toml_working.specs.Starting.{read_of}
 use Rattle.toml_editor.proofs.RenameWritten.{rename_is_written}
 use Rattle.toml_editor.proofs.making.write_rename.Goals as goal
 

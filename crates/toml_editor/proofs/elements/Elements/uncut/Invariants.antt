@@ -1,6 +1,0 @@
-use Rattle.std.proofs.Common.{◌≡◌, take}
-use Rattle.toml_editor.specs.Starting.{NoneIsGone}
-use Rattle.toml_editor.proofs.elements.Elements.uncut.Given as goal
-
-abbrev pub invariant-loop-step : goal.invariant-loop-step
-invariant-loop-step l = NoneIsGone l.self → l.steps.items ≡ take l.step-index l.step-items

@@ -1,9 +1,0 @@
-use Rattle.std.proofs.Common.{◌≡◌, ℕ, List}
-use Rattle.toml_editor.proofs.Started.{StartedWith}
-use Rattle.toml_editor.specs.declared.working.Before.{Before}
-use Rattle.toml_editor.specs.Starting.{AreFacts, IsReadOf, read_of}
-use Rattle.toml_editor.proofs.starting.kept_slots.Given as goal
-
-abbrev pub invariant-loop-first : goal.invariant-loop-first
-invariant-loop-first l = (text : List ℕ) (before : Before) → before.units.now ≡ l.units → AreFacts before l.facts → IsReadOf text before
-    → StartedWith text (read_of before) l.first l.slots.items

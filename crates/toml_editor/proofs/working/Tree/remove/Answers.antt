@@ -1,9 +1,0 @@
-use Rattle.toml_editor.specs.Starting.{read_of}
-use Rattle.toml_editor.proofs.Answered.{on_ok_always}
-use Rattle.toml_editor.proofs.RemovedOne.{none_goes}
-use Rattle.toml_editor.proofs.working.Tree.remove.Goals as goal
-
-pub returns-in-None : goal.returns-in-None
-returns-in-None c =
-    on_ok_always _ c.remove_table.result
-    (none_goes c.args.at.now (read_of c.args.before) c.args.self.now c.remove_table.new.self (c.value_line.ensures.1 c.in-None.is))

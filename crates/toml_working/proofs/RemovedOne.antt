@@ -1,0 +1,204 @@
+-- The line that a `remove` at the root takes out: no other stands at the address or below it.
+use Rattle.std.proofs.Common.{◌≡◌, ◌∙◌, ℕ, ◌<◌, Bool, true, false, cond, ◌||◌, List, [], ◌∷◌, ◌++◌, length, set, Option, Some, None, refl, ap, ap₂, sym, subst, arith, true≢false, append_assoc}
+use Rattle.std.specs.List.{list_any}
+use Rattle.std.specs.Prelude.{slice_get}
+use Rattle.std.proofs.lemmas.List.Folds.{list_any-append}
+use Rattle.toml_names.proofs.Proved.{same_address-decides}
+use Rattle.toml_names.specs.model.Addresses.{Address}
+use Rattle.toml_text.specs.Source.{text_of}
+use Rattle.toml_tree.specs.Spells.{EachIs}
+use Rattle.toml_working.specs.declared.lines.Slot.{Slot}
+use Rattle.toml_working.specs.declared.lines.Sought.TheVariants as kinds
+use Rattle.toml_working.specs.declared.working.Position.{Position}
+use Rattle.toml_working.specs.declared.working.Tree.{Tree}
+use Rattle.toml_working.specs.RemoveStanding.{is_pair, is_value_at, left_standing, remove_standing, without}
+use Rattle.toml_working.specs.RemovingIn.{LeavesSlot, LeavesSlots, RemovesLines}
+use Rattle.toml_working.specs.Seeing.{HoldsNone, IsSoughtAt, line_at, steps_of, steps_to}
+use Rattle.toml_working.specs.Standing.{Standing, Read, StandAlone, begins, covers, covers_at, holds, is_below, leads_to, lies_below, slot_standing, slots_standing}
+use Rattle.toml_working.specs.Stands.{KeepsRest, SlotKept}
+use Rattle.toml_working.proofs.Beginning.{begins_self}
+use Rattle.toml_working.proofs.Alone.{item_split, slot_split, split_within}
+use Rattle.toml_working.proofs.AtPlace.{holder_at}
+use Rattle.toml_working.proofs.Each.{each_back, each_front, each_get, each_set, each_weaker}
+use Rattle.toml_working.proofs.Turned.{one_turned}
+use Rattle.toml_editor.proofs.written.Pairwise.{PairsAre, pairs_of_all}
+
+-- the address of a pair's line
+pair_address : (p : Address) (base : Option ℕ) (own : Option Address) → is_value_at p base own ≡ true → own ≡ Some p
+pair_address p None own is = cc
+pair_address p (Some n) None is = cc
+pair_address p (Some n) (Some a) is = ap Some ((same_address-decides a p).0 is)
+
+-- what the line of a pair covers stands at the pair's address or below it
+pair_covers : (p : Address) (base : Option ℕ) (own : Option Address) (t : Standing) → is_value_at p base own ≡ true → covers_at base own t ≡ is_below p t
+pair_covers p None own t is = cc
+pair_covers p (Some n) None t is = cc
+pair_covers p (Some n) (Some a) t is = ap (λ b. is_below b t) ((same_address-decides a p).0 is)
+
+-- what holds the address covers the pair's line
+holder_covers : (p : Address) (base : Option ℕ) (own : Option Address) (t : Standing) → leads_to p base own ≡ true → is_pair p t ≡ true → covers_at base own t ≡ true
+holder_covers p None own t leads is = cc
+holder_covers p (Some n) None t leads is = cc
+holder_covers p (Some n) (Some a) t leads is = ap (lies_below a) (pair_address p t.base t.address is) ∙ leads
+
+-- the line of a pair holds its address, and stands there
+pair_holds : (p : Address) (base : Option ℕ) (own : Option Address) → is_value_at p base own ≡ true → leads_to p base own ≡ true
+pair_holds p None own is = cc
+pair_holds p (Some n) None is = cc
+pair_holds p (Some n) (Some a) is = subst (λ q. begins q p ≡ true) (sym ((same_address-decides a p).0 is)) (begins_self p)
+
+pair_below : (p : Address) (s : Standing) → is_pair p s ≡ true → is_below p s ≡ true
+pair_below p s is = ap (lies_below p) (pair_address p s.base s.address is) ∙ begins_self p
+
+-- what stands elsewhere is no pair's there
+no_pair : (p : Address) (base : Option ℕ) (own : Option Address) → lies_below p own ≡ false → is_value_at p base own ≡ false
+no_pair p base own apart = by (is_value_at p base own) refl
+  where
+    by : (b : Bool) → is_value_at p base own ≡ b → is_value_at p base own ≡ false
+    by true is = absurd (true≢false (sym (begins_self p) ∙ sym (ap (lies_below p) (pair_address p base own is)) ∙ apart))
+    by false is = is
+
+-- of lines that stand alone none is covered by another
+around : (front : List Standing) (s : Standing) (back : List Standing) → PairsAre (λ x t. (covers x t ≡ false) × (covers t x ≡ false)) (front ++ s ∷ back)
+    → EachIs (λ t. covers s t ≡ false) front × EachIs (λ t. covers s t ≡ false) back
+around [] s back h = (tt, each_weaker (λ t. (covers s t ≡ false) × (covers t s ≡ false)) (λ t. covers s t ≡ false) (λ t k. k.0) back h.0)
+around (x ∷ front) s back h =
+    let here = each_back (λ t. (covers x t ≡ false) × (covers t x ≡ false)) front (s ∷ back) h.0 in
+    let rest = around front s back h.1 in
+    ((here.0.1, rest.0), rest.1)
+
+-- none of these is the pair's line
+none_is : (p : Address) (s : Standing) (ts : List Standing) → holds p s ≡ true → EachIs (λ t. covers s t ≡ false) ts → list_any (is_pair p) ts ≡ false
+none_is p s [] leads h = refl
+none_is p s (t ∷ ts) leads h = ap (λ b. b || list_any (is_pair p) ts) (by (is_pair p t) refl) ∙ none_is p s ts leads h.1
+  where
+    by : (b : Bool) → is_pair p t ≡ b → is_pair p t ≡ false
+    by true is = absurd (true≢false (sym (holder_covers p s.base s.address t leads is) ∙ h.0))
+    by false is = is
+
+or_none : (b : Bool) → (b || false) ≡ b
+or_none true = refl
+or_none false = refl
+
+-- so the line that holds the address is the pair's
+holder_is : (p : Address) (front : List Standing) (s : Standing) (back : List Standing) → holds p s ≡ true
+    → EachIs (λ t. covers s t ≡ false) front × EachIs (λ t. covers s t ≡ false) back → list_any (is_pair p) (front ++ s ∷ back) ≡ true → is_pair p s ≡ true
+holder_is p front s back leads apart there =
+    let none_back : (is_pair p s || list_any (is_pair p) back) ≡ is_pair p s = ap (λ b. is_pair p s || b) (none_is p s back leads apart.1) ∙ or_none (is_pair p s) in
+    sym none_back ∙ ap (λ b. b || (is_pair p s || list_any (is_pair p) back)) (sym (none_is p s front leads apart.0))
+    ∙ sym (list_any-append (is_pair p) front (s ∷ back)) ∙ there
+
+-- lines of which the test is false stay
+all_stay : (test : Standing → Bool) (xs : List Standing) → EachIs (λ t. test t ≡ false) xs → without test xs ≡ xs
+all_stay test [] h = refl
+all_stay test (x ∷ xs) h = ap₂ (λ b r. cond b (left_standing x) (x ∷ []) ++ r) h.0 (all_stay test xs h.1)
+
+one_goes : (test : Standing → Bool) (front : List Standing) (s : Standing) (back : List Standing) → EachIs (λ t. test t ≡ false) front → test s ≡ true
+    → EachIs (λ t. test t ≡ false) back → without test (front ++ s ∷ back) ≡ front ++ (left_standing s ++ back)
+one_goes test [] s back none here rest = ap₂ (λ b r. cond b (left_standing s) (s ∷ []) ++ r) here (all_stay test back rest)
+one_goes test (x ∷ front) s back none here rest =
+    ap₂ (λ b r. cond b (left_standing x) (x ∷ []) ++ r) none.0 (one_goes test front s back none.1 here rest)
+
+-- the lines that are left, those of one slot changed
+regrouped : (before front left back behind : List Standing) → before ++ ((front ++ (left ++ back)) ++ behind) ≡ (before ++ front) ++ (left ++ (back ++ behind))
+regrouped before front left back behind = simp append_assoc
+
+-- the line at the place is the pair's, and the lines around it stand elsewhere
+record IsPlaced (p : Address) (read : Read) (slots : List Slot) (at : Position) (ss : List Standing) : Type 0 where
+  slot : Slot
+  line : Standing
+  before : List Standing
+  front : List Standing
+  back : List Standing
+  behind : List Standing
+  there : slice_get slots at.slot ≡ Some slot
+  placed : line_at read slots at ≡ Some line
+  own : slot_standing read slot ≡ front ++ line ∷ back
+  set_to : (new : Slot) → slots_standing read (set slots at.slot new) ≡ before ++ (slot_standing read new ++ behind)
+  all : ss ≡ (before ++ front) ++ line ∷ (back ++ behind)
+  pair : is_pair p line ≡ true
+  ahead : EachIs (λ t. is_below p t ≡ false) (before ++ front)
+  after : EachIs (λ t. is_below p t ≡ false) (back ++ behind)
+
+is_placed : (p : Address) (read : Read) (slots : List Slot) (at : Position) (ss : List Standing) → IsSoughtAt kinds.Holder p read slots at
+    → slots_standing read slots ≡ ss → StandAlone ss → list_any (is_pair p) ss ≡ true → IsPlaced p read slots at ss
+is_placed p read slots at ss found are alone there =
+    let (slot, s, slot_is, placed, line_is, leads) = holder_at read slots at p found in
+    let (before, behind, split, set_to) = slot_split read slots at.slot slot slot_is in
+    let (front, back, own, new) = item_split (slot_standing read slot) at.index s line_is in
+    let all = sym are ∙ split_within before front s back behind (slot_standing read slot) (slots_standing read slots) split own in
+    let apart = around (before ++ front) s (back ++ behind) (pairs_of_all _ _ (subst StandAlone all alone)) in
+    let pair = holder_is p (before ++ front) s (back ++ behind) leads apart (subst (λ xs. list_any (is_pair p) xs ≡ true) all there) in
+    let elsewhere : (t : Standing) → covers s t ≡ false → is_below p t ≡ false = λ t h. sym (pair_covers p s.base s.address t pair) ∙ h in
+    record {
+      slot = slot;
+      line = s;
+      before = before;
+      front = front;
+      back = back;
+      behind = behind;
+      there = slot_is;
+      placed = placed;
+      own = own;
+      set_to = set_to;
+      all = all;
+      pair = pair;
+      ahead = each_weaker (λ t. covers s t ≡ false) (λ t. is_below p t ≡ false) elsewhere (before ++ front) apart.0;
+      after = each_weaker (λ t. covers s t ≡ false) (λ t. is_below p t ≡ false) elsewhere (back ++ behind) apart.1;
+    }
+
+-- what is left of the slot of that line
+placed_goes : (p : Address) (read : Read) (old now : List Slot) (at : Position) (ss : List Standing) (t : Slot) (h : IsPlaced p read old at ss)
+    → now ≡ set old at.slot t → slot_standing read t ≡ without (is_below p) (slot_standing read h.slot) → slots_standing read now ≡ remove_standing p ss
+placed_goes p read old now at ss t h put left =
+    let no_pairs : (xs : List Standing) → EachIs (λ x. is_below p x ≡ false) xs → EachIs (λ x. is_pair p x ≡ false) xs =
+    λ xs. each_weaker (λ x. is_below p x ≡ false) (λ x. is_pair p x ≡ false) (λ x k. no_pair p x.base x.address k) xs in
+    let slot_left = left ∙ ap (without (is_below p)) h.own
+    ∙ one_goes (is_below p) h.front h.line h.back (each_back _ h.before h.front h.ahead) (pair_below p h.line h.pair) (each_front _ h.back h.behind h.after) in
+    ap (slots_standing read) put ∙ h.set_to t ∙ ap (λ r. h.before ++ (r ++ h.behind)) slot_left
+    ∙ regrouped h.before h.front (left_standing h.line) h.back h.behind
+    ∙ sym (one_goes (is_pair p) (h.before ++ h.front) h.line (h.back ++ h.behind) (no_pairs _ h.ahead) h.pair (no_pairs _ h.after))
+    ∙ ap (remove_standing p) (sym h.all)
+
+pub holder_goes : (p : Address) (read : Read) (old now : Tree) (at : Position) → KeepsRest old now
+    → (length p ≡ 1 → LeavesSlots p read.units at.slot old.slots.items now.slots.items) → IsSoughtAt kinds.Holder p read old.slots.items at → RemovesLines p read old now
+holder_goes p read old now at rest leaves found one ss stands ordered there =
+    let text = text_of old.texts.source in
+    let h = is_placed p read old.slots.items at ss found stands.are ordered.alone there in
+    let (t, put, left) = one_turned (LeavesSlot p read.units) at.slot old.slots.items now.slots.items h.slot h.there (leaves one) in
+    let (kept, is) = left text read refl (each_get (SlotKept text read) old.slots.items at.slot h.slot stands.kept h.there) in (
+      rest,
+      record {
+        kept = subst (EachIs (SlotKept text read)) (sym put) (each_set (SlotKept text read) old.slots.items at.slot t stands.kept kept);
+        are = placed_goes p read old.slots.items now.slots.items at ss t h put is;
+      },
+    )
+
+-- the line at the place does not hold it in its value
+pub never_inside : (p : Address) (read : Read) (old now : Tree) (at : Position) (steps : ℕ) → steps ≡ steps_of (line_at read old.slots.items at) → steps < length p
+    → IsSoughtAt kinds.Holder p read old.slots.items at → RemovesLines p read old now
+never_inside p read old now at steps counts low found one ss stands ordered there =
+    let h = is_placed p read old.slots.items at ss found stands.are ordered.alone there in
+    let same : steps ≡ length p = counts ∙ ap steps_of h.placed ∙ ap steps_to (pair_address p h.line.base h.line.address h.pair) in
+    absurd (omega arith)
+
+-- a line holds it
+any_holds : (p : Address) (ss : List Standing) → list_any (is_pair p) ss ≡ true → list_any (holds p) ss ≡ false → ⊥
+any_holds p [] there none = cc
+any_holds p (s ∷ ss) there none = by (is_pair p s) refl there none (any_holds p ss)
+  where
+    later : (b : Bool) → (b || list_any (holds p) ss) ≡ false → list_any (holds p) ss ≡ false
+    later true e = absurd (true≢false e)
+    later false e = e
+
+    by : (b : Bool) → is_pair p s ≡ b → (b || list_any (is_pair p) ss) ≡ true → (holds p s || list_any (holds p) ss) ≡ false
+        → (list_any (is_pair p) ss ≡ true → list_any (holds p) ss ≡ false → ⊥) → ⊥
+    by true is h k rest = true≢false (ap (λ b. b || list_any (holds p) ss) (sym (pair_holds p s.base s.address is)) ∙ k)
+    by false is h k rest = rest h (later (holds p s) k)
+
+-- where none does, no such edit is made
+pub none_goes : (p : Address) (read : Read) (old now : Tree) → HoldsNone p read.units old.slots.items → RemovesLines p read old now
+none_goes p read old now none one ss stands ordered there =
+    let not_root : ¬ (p ≡ []) = λ is. let e : length p ≡ 0 = ap length is in absurd (omega arith) in
+    let all = none not_root read.lines (subst StandAlone (sym stands.are) ordered.alone) in
+    absurd (any_holds p ss there (subst (λ xs. list_any (holds p) xs ≡ false) stands.are all))

@@ -1,0 +1,32 @@
+-- `remove` on lines by what finds them: the line whose value stands at the address goes; a last line leaves one of no bytes.
+use Rattle.std.specs.Prelude.{ℕ, Bool, false, List, [], ◌∷◌, ◌++◌, length, ◌==◌, if◌then◌else◌, Option, Some, None}
+use Rattle.toml_names.specs.model.Addresses.{Address, same_address}
+use Rattle.toml_working.specs.Standing.{Standing, no_line}
+
+-- a line of no bytes
+abbrev pub empty_standing : Standing
+empty_standing = record { address = None; base = None; outline = no_line }
+
+-- what is left where a line goes
+abbrev pub left_standing : Standing → List Standing
+left_standing s = if length s.outline.newline == 0 then empty_standing ∷ [] else []
+
+-- lines, but for those of which the test is true
+abbrev pub without_one : (Standing → Bool) → Standing → List Standing
+without_one test s = if test s then left_standing s else s ∷ []
+
+abbrev pub without : (Standing → Bool) → List Standing → List Standing
+without test [] = []
+without test (s ∷ ss) = without_one test s ++ without test ss
+
+-- whether a line with this base and address has a key and a value, and the value is what stands at the other address
+abbrev pub is_value_at : Address → Option ℕ → Option Address → Bool
+is_value_at p None own = false
+is_value_at p (Some n) None = false
+is_value_at p (Some n) (Some a) = same_address a p
+
+abbrev pub is_pair : Address → Standing → Bool
+is_pair p s = is_value_at p s.base s.address
+
+abbrev pub remove_standing : Address → List Standing → List Standing
+remove_standing p = without (is_pair p)

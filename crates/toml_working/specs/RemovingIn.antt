@@ -1,0 +1,52 @@
+-- What a `remove` of a line at the root makes of the lines of the working tree.
+use Rattle.std.specs.Prelude.{◌≡◌, true, ℕ, List, [], ◌∷◌, length, map, Option, Some, None}
+use Rattle.std.specs.List.{list_any}
+use Rattle.toml_names.specs.model.Addresses.{Address}
+use Rattle.toml_text.specs.Source.{text_of}
+use Rattle.toml_tree.specs.Spells.{EachIs}
+use Rattle.toml_units.specs.declared.unit.Unit.{Unit as ReadUnit}
+use Rattle.toml_working.specs.declared.lines.Line.{Line}
+use Rattle.toml_working.specs.declared.lines.Slot.{Slot}
+use Rattle.toml_working.specs.declared.working.Tree.{Tree}
+use Rattle.toml_working.specs.RemoveStanding.{is_pair, left_standing, remove_standing, without, without_one}
+use Rattle.toml_working.specs.Standing.{Standing, Read, AreOrdered, is_below, line_standing, slot_standing}
+use Rattle.toml_working.specs.Stands.{BodyKept, KeepsRest, SlotKept, Stands}
+use Rattle.toml_working.specs.Turning.{OneTurns}
+
+abbrev pub LinesKept : List ℕ → Read → List Line → Type 0
+LinesKept text read = EachIs (λ (l : Line). BodyKept text read l.body)
+
+abbrev pub lines_of : Option Line → List Line
+lines_of None = []
+lines_of (Some l) = l ∷ []
+
+-- what is left of a line that is taken out
+abbrev pub LeavesBehind : Line → Option Line → Type 0
+LeavesBehind l left = (text : List ℕ) (read : Read) → BodyKept text read l.body
+    → LinesKept text read (lines_of left) × (map (line_standing read) (lines_of left) ≡ left_standing (line_standing read l))
+
+-- what is left of a line that is taken out if it stands at the address or below it,
+abbrev pub LeavesOf : Address → Line → Option Line → Type 0
+LeavesOf p l left = (text : List ℕ) (read : Read) → BodyKept text read l.body
+    → LinesKept text read (lines_of left) × (map (line_standing read) (lines_of left) ≡ without_one (is_below p) (line_standing read l))
+
+-- of lines,
+abbrev pub LeavesLines : Address → List Line → List Line → Type 0
+LeavesLines p old now = (text : List ℕ) (read : Read) → LinesKept text read old
+    → LinesKept text read now × (map (line_standing read) now ≡ without (is_below p) (map (line_standing read) old))
+
+-- of those of a slot,
+abbrev pub LeavesSlot : Address → List ReadUnit → Slot → Slot → Type 0
+LeavesSlot p units old now = (text : List ℕ) (read : Read) → read.units ≡ units → SlotKept text read old
+    → SlotKept text read now × (slot_standing read now ≡ without (is_below p) (slot_standing read old))
+
+-- and of those of the slot with the number, while the others stay; or there is none
+abbrev pub LeavesSlots : Address → List ReadUnit → ℕ → List Slot → List Slot → Type 0
+LeavesSlots p units = OneTurns (LeavesSlot p units)
+
+-- a `remove` at the root on lines, one of which has the value
+abbrev pub RemovesLines : Address → Read → Tree → Tree → Type 0
+RemovesLines p read old now =
+    length p ≡ 1 → (ss : List Standing) → Stands (text_of old.texts.source) read old.slots.items ss → AreOrdered ss
+    → list_any (is_pair p) ss ≡ true
+    → KeepsRest old now × Stands (text_of old.texts.source) read now.slots.items (remove_standing p ss)

@@ -1,0 +1,86 @@
+-- The working tree stands for lines.
+use Rattle.std.specs.Prelude.{◌≡◌, ◌↔◌, ℕ, Bool, true, false, List, [], ◌∷◌, ◌++◌, Some, IsTrue, map, slice_get, slice_range}
+use Rattle.std.specs.List.{list_any}
+use Rattle.toml_text.specs.Source.{IsHeld, text_of}
+use Rattle.std.specs.declared.vec.Vec.{Vec}
+use Rattle.std.specs.declared.alloc.Global.{Global}
+use Rattle.toml_names.specs.model.Addresses.{Address}
+use Rattle.toml_tree.specs.Spells.{EachIs, line_parts}
+use Rattle.toml_tree.specs.Tree as tree
+use Rattle.toml_tree.specs.Tree.{Expr, BlankLine, KeyValLine, TableLine, ArrayTableLine}
+use Rattle.toml_units.specs.declared.unit.Unit.{Unit as ReadUnit}
+use Rattle.toml_working.specs.declared.lines.Body.{Body}
+use Rattle.toml_working.specs.declared.lines.Body.TheVariants as bodies
+use Rattle.toml_working.specs.declared.lines.Kept.{Kept}
+use Rattle.toml_working.specs.declared.lines.Line.{Line}
+use Rattle.toml_working.specs.declared.lines.Slot.{Slot}
+use Rattle.toml_working.specs.declared.lines.Slot.TheVariants as slots
+use Rattle.toml_working.specs.declared.working.Tree.{Tree}
+use Rattle.toml_working.specs.Apart.{HasKeysApart}
+use Rattle.toml_working.specs.Opening.{Lie}
+use Rattle.toml_working.specs.Outlines.{ValueOutline, line_outlined}
+use Rattle.toml_working.specs.Seeing.{kept_found}
+use Rattle.toml_working.specs.SetOutlines.{set_outline, has_outline}
+use Rattle.toml_working.specs.Standing.{Standing, Read, AreOrdered, slots_standing, set_standing, has}
+use Rattle.toml_working.specs.TreeOutlines.{line_outline}
+
+-- whether a line is the header of an array of tables
+abbrev pub heads_tables : Expr → Bool
+heads_tables (BlankLine b) = false
+heads_tables (KeyValLine ws pair tail) = false
+heads_tables (TableLine ws header tail) = false
+heads_tables (ArrayTableLine ws header tail) = true
+
+-- it is a line of the document that stands in the text where its span says, and what it says of that line is so
+pub record IsKept (text : List ℕ) (read : Read) (kept : Kept) : Type 0 where
+  pub line : tree.Line
+  pub is : slice_get read.lines kept.line ≡ Some line
+  pub lies : Lie text (line_parts line)
+  pub held : IsHeld text kept.span
+  pub spells : slice_range text kept.span.start kept.span.end ≡ line_outlined (line_outline line)
+  pub last : IsTrue kept.is_last ↔ (line.newline.text ≡ [])
+  pub tables : kept.is_tables ≡ heads_tables line.expr
+
+abbrev pub BodyKept : List ℕ → Read → Body → Type 0
+BodyKept text read (bodies.Kept kept) = IsKept text read kept
+BodyKept text read (bodies.Open opened) = Unit {0}
+
+abbrev pub SlotKept : List ℕ → Read → Slot → Type 0
+SlotKept text read (slots.Kept kept) = IsKept text read kept
+SlotKept text read (slots.Lines lines) = EachIs (λ (l : Line). BodyKept text read l.body) lines.items
+
+-- a line that is as it was, with its address and base by the units
+abbrev pub kept_line : List ReadUnit → Kept → Line
+kept_line units kept = record { address = (kept_found units kept).address; base = (kept_found units kept).base; body = bodies.Kept kept }
+
+-- a slot of one line that is as it was gets this as one of its own
+abbrev pub OpensSlot : List ReadUnit → Slot → Slot → Type 0
+OpensSlot units (slots.Lines lines) new = new ≡ slots.Lines lines
+OpensSlot units (slots.Kept kept) new =
+    (lines : Vec Line Global) × (new ≡ slots.Lines lines) × (lines.items ≡ kept_line units kept ∷ [])
+
+-- the slots stand for the lines: those that are as they were are kept so, and all are these
+pub record Stands (text : List ℕ) (read : Read) (slots : List Slot) (ss : List Standing) : Type 0 where
+  pub kept : EachIs (SlotKept text read) slots
+  pub are : slots_standing read slots ≡ ss
+
+-- nothing of the tree changes but its lines
+pub record KeepsRest (old new : Tree) : Type 0 where
+  pub texts : new.texts ≡ old.texts
+  pub elements : new.elements ≡ old.elements
+  pub style : new.style ≡ old.style
+
+-- a `set` in a value: at the steps below it the new one stands where one stood, and it tells whether one did
+abbrev pub SetsIn : Address → ValueOutline → ValueOutline → ValueOutline → Bool → Type 0
+SetsIn steps new old now done =
+    HasKeysApart old → (at : Address) → (now ≡ set_outline (at ++ steps) new at old) × (done ≡ has_outline (at ++ steps) at old)
+
+-- a `set` on lines, below the root
+abbrev pub SetsLines : Address → ValueOutline → List ℕ → Read → List Slot → List Slot → Bool → Type 0
+SetsLines p new text read old now done =
+    ¬ (p ≡ []) → (ss : List Standing) → Stands text read old ss → AreOrdered ss
+    → Stands text read now (map (set_standing p new) ss) × (done ≡ list_any (has p) ss)
+
+-- so it is of the lines of a tree
+abbrev pub TreeSets : Address → ValueOutline → Read → Tree → Tree → Bool → Type 0
+TreeSets p new read old now = SetsLines p new (text_of old.texts.source) read old.slots.items now.slots.items

@@ -1,0 +1,44 @@
+-- The text after one plain edit.
+use Rattle.std.specs.Prelude.{◌≡◌, true, ℕ, List, [], ◌∷◌, ◌++◌, Any, length, ◌==◌, if◌then◌else◌}
+use Rattle.toml_tree.specs.Profiles.{SpellsIn, IsValueIn}
+use Rattle.toml_tree.specs.Spells.{joined, lines_parts}
+use Rattle.toml_tree.specs.Tree.{Value, Line, Doc}
+use Rattle.toml_tree.specs.declared.profile.Profile.{Profile}
+use Rattle.toml_names.specs.model.Addresses.{Address}
+use Rattle.toml_names.specs.mentions.Joining.{is_lone}
+use Rattle.toml_names.specs.mentions.Mentions.{named}
+use Rattle.toml_names.specs.declared.model.address.Step.TheVariants.{Name}
+use Rattle.toml_names.specs.declared.mentions.mention.Role.TheVariants.{Valued}
+use Rattle.toml_edits.specs.Edits.{Change, set, insert, rename, remove}
+use Rattle.toml_working.specs.Setting.{set_lines}
+use Rattle.toml_working.specs.Inserting.{insert_lines}
+use Rattle.toml_working.specs.Removing.{remove_lines}
+use Rattle.toml_working.specs.Renaming.{rename_lines}
+
+-- the newline of the first line, or LF where there is none
+abbrev pub style_of : List Line → List ℕ
+style_of [] = 0x0A ∷ []
+style_of (l ∷ ls) = if length l.newline.text == 0 then 0x0A ∷ [] else l.newline.text
+
+-- a value stands at the address: a key's, or an element of an array in a value
+abbrev pub HasValue : List Line → Address → Type 0
+HasValue lines p = Any (λ m. (m.address ≡ p) × (is_lone m.role ≡ true)) (named lines)
+
+-- a key's value stands there
+abbrev pub HasPair : List Line → Address → Type 0
+HasPair lines p = Any (λ m. (m.address ≡ p) × (m.role ≡ Valued)) (named lines)
+
+-- the lines after a plain edit; `style` is that of the text before all edits
+abbrev pub AreEdited : Profile → Change → List ℕ → List Line → List Line → Type 0
+AreEdited profile (set p text) style old new = (v : Value) × IsValueIn profile v text × HasValue old p × (new ≡ set_lines p v old)
+AreEdited profile (insert p text) style old new =
+    (v : Value) × IsValueIn profile v text × (name : List ℕ) × (p ≡ Name name ∷ []) × (new ≡ insert_lines name v style old)
+AreEdited profile (rename p to) style old new = new ≡ rename_lines p to old
+AreEdited profile (remove p) style old new = (name : List ℕ) × (p ≡ Name name ∷ []) × HasPair old p × (new ≡ remove_lines p old)
+AreEdited profile _ style old new = ⊥
+
+-- the text after it, the mark kept
+abbrev pub IsWritten : Profile → Change → List ℕ → List ℕ → List ℕ → Type 0
+IsWritten profile c style before after =
+    (d : Doc) × SpellsIn profile d before × (new : List Line) × AreEdited profile c style d.lines new
+    × (after ≡ d.mark.text ++ joined (lines_parts new))

@@ -1,0 +1,307 @@
+//! `insert`: an element of an array, a pair of an inline table, or a line with a key and a value.
+ghost use Rattle.std.specs.Prelude.{◌≡◌, ◌++◌, ◌∷◌, IfOk, OnOk, drop, false, take};
+ghost use Rattle.toml_working.specs.KnownLines.{lines_known};
+ghost use Rattle.toml_working.specs.OpenOutlines.{leaf_text, value};
+ghost use Rattle.toml_working.specs.Putting.{EndsOne, EndsSlot, EndsSlots, IsElsewhere, IsRootLine};
+ghost use Rattle.toml_working.specs.Putting.{PutsSlot, PutsSlots, TreeEndsBefore, TreeInserts, TreePutsBehind};
+ghost use Rattle.toml_working.specs.Starting.{read_of};
+ghost use Rattle.toml_working.specs.Stands.{KeepsRest};
+
+use crate::inside::Inside;
+use crate::known::KnownLine;
+use crate::lines::{Line, Slot};
+use crate::sections::NewHeader;
+use crate::texts::Texts;
+use crate::tree::{Brackets, Expr, KeyVal, Leaf, Value};
+use crate::working::{Before, Position, TablePlace, Tree};
+use std::alloc::{AllocError, Global};
+use toml_names::{Address, Place, Step};
+use toml_units::Unit;
+
+/// A value for an address, and the spellings of the steps of it.
+#[derive(Drop)]
+struct Insertion<'a, 'x> {
+    at: &'a Address,
+    spelled: &'x [String],
+    new: Value<'x>,
+}
+
+impl<'x> Tree<'x> {
+    /// Puts a value in at the address; `spelled` are the spellings of its steps, and `named` is the place that the document's
+    /// names have for the parent. It answers `false` where the parent is no table, and no array in a value.
+    pub(crate) fn insert(
+        &mut self,
+        before: Before<'_, 'x>,
+        named: Option<Place>,
+        parent: &Address,
+        at: &Address,
+        spelled: &'x [String],
+        new: Value<'x>,
+    ) -> Result<bool, AllocError>
+        ensures rest { OnOk result (KeepsRest self.old self.new) }
+        ensures root { OnOk result (TreeInserts at.now spelled.now (value new.entry) (read_of before.entry) self.old self.new) }
+    {
+        let insertion = Insertion { at, spelled, new };
+        if is_at_root(at) {
+            self.insert_at_root(before, insertion)
+        } else {
+            self.insert_below(before, named, parent, insertion)
+        }
+    }
+
+    /// Puts a value in at an address that is no name at the root.
+    fn insert_below(
+        &mut self,
+        before: Before<'_, 'x>,
+        named: Option<Place>,
+        parent: &Address,
+        insertion: Insertion<'_, 'x>,
+    ) -> Result<bool, AllocError>
+        ensures { OnOk result (KeepsRest self.old self.new) }
+    {
+        let Some((last, above)) = insertion.at.steps().split_last() else {
+            return Ok(false);
+        };
+        if let Some(place) = self.value_line(before, named, parent) {
+            let Insertion { at, spelled, new } = insertion;
+            return self.change_value(before, place, at, Inside::Insert { spelled, new });
+        }
+        if matches!(last, Step::Index(_)) {
+            return Ok(false);
+        }
+        match self.table_place(before, named, parent) {
+            Some(TablePlace::Header(header)) => {
+                let behind = self.last_pair(before, header.next()).unwrap_or(header);
+                self.insert_behind(before, behind, above.len(), insertion)
+            }
+            Some(TablePlace::Dotted(line)) => {
+                let base = self.base(before, line);
+                let behind = self.last_pair(before, line).unwrap_or(line);
+                self.insert_behind(before, behind, base, insertion)
+            }
+            Some(TablePlace::Implicit(header)) => {
+                self.insert_before(before, header, parent, insertion)
+            }
+            None => Ok(false),
+        }
+    }
+
+    /// Puts a line in behind the last one with a key and a value before the first header, or as the first line.
+    fn insert_at_root(
+        &mut self,
+        before: Before<'_, 'x>,
+        insertion: Insertion<'_, 'x>,
+    ) -> Result<bool, AllocError>
+        ensures rest { OnOk result (KeepsRest self.old self.new) }
+        ensures root { let it = insertion.entry in
+            OnOk result (TreeInserts it.at.now it.spelled.now (value it.new) (read_of before.entry) self.old self.new) }
+    {
+        match self.last_root_pair(before) {
+            Some(behind) => {
+                self.root_end = behind;
+                self.insert_behind(before, behind, 0, insertion)
+            }
+            None => {
+                let line = self.pair_line(0, insertion, self.style)?;
+                self.put(before, Position { slot: 0, index: 0 }, line)
+            }
+        }
+    }
+
+    /// Puts a line in behind another; its table's address has `base` steps.
+    fn insert_behind(
+        &mut self,
+        before: Before<'_, 'x>,
+        behind: Position,
+        base: usize,
+        insertion: Insertion<'_, 'x>,
+    ) -> Result<bool, AllocError>
+        ensures rest { OnOk result (KeepsRest self.old self.new) }
+        ensures put { let it = insertion.entry in
+            OnOk result (TreePutsBehind it.at.now base it.spelled.now (value it.new) (read_of before.entry) behind self.old self.new) }
+    {
+        let newline = self.newline_behind(before, behind)?;
+        let line = self.pair_line(base, insertion, newline)?;
+        self.put(before, behind.next(), line)
+    }
+
+    /// The newline of a line that is put in behind another. Where this one was the last line of the text, it gets the newline
+    /// of new lines, and the new one has none.
+    pub(crate) fn newline_behind(
+        &mut self,
+        before: Before<'_, 'x>,
+        behind: Position,
+    ) -> Result<Leaf<'x>, AllocError>
+        ensures rest { OnOk result (KeepsRest self.old self.new) }
+        ensures ended { IfOk result (λ newline. TreeEndsBefore (read_of before.entry) behind self.old self.new (leaf_text newline)) }
+    {
+        if !self.is_last(behind) {
+            return Ok(self.style);
+        }
+        end_at(&mut self.slots, self.texts, before, behind, self.style)?;
+        Ok(Leaf::EMPTY)
+    }
+
+    /// Puts a header line for the parent, and a line behind it, in before another.
+    fn insert_before(
+        &mut self,
+        before: Before<'_, 'x>,
+        next: Position,
+        parent: &Address,
+        insertion: Insertion<'_, 'x>,
+    ) -> Result<bool, AllocError>
+        ensures { OnOk result (KeepsRest self.old self.new) }
+    {
+        let header = NewHeader {
+            at: parent,
+            brackets: Brackets::One,
+            spelled: insertion.spelled,
+        };
+        let line = self.pair_line(parent.steps().len(), insertion, self.style)?;
+        Ok(self.put(before, next, line)? && self.put_header(before, next, header)?)
+    }
+
+    /// A line with the key of the steps below its table, whose address has `base` steps.
+    fn pair_line(
+        &self,
+        base: usize,
+        insertion: Insertion<'_, 'x>,
+        newline: Leaf<'x>,
+    ) -> Result<Line<'x>, AllocError>
+        ensures { let it = insertion.entry in
+            IfOk result (IsRootLine it.at.now base it.spelled.now (value it.new) (leaf_text newline.entry)) }
+    {
+        let Insertion { at, spelled, new } = insertion;
+        let (_, parts) = spelled.split_at(base.min(spelled.len()));
+        let expr = Expr::Pair(KeyVal {
+            assign: self.texts.assign(parts)?,
+            value: new,
+        });
+        let address = at.copy(self.alloc())?;
+        Line::new(self.alloc(), Some(address), Some(base), expr, newline)
+    }
+
+    /// Puts a line in at a place: before the one that stands there, or behind the last one of the slot.
+    pub(crate) fn put(
+        &mut self,
+        before: Before<'_, 'x>,
+        at: Position,
+        line: Line<'x>,
+    ) -> Result<bool, AllocError>
+        ensures rest { OnOk result (KeepsRest self.old self.new) }
+        ensures put { let old = self.old.slots.items in
+            let now = self.new.slots.items in
+            OnOk result (PutsSlots (read_of before.entry) at line.entry old now) }
+    {
+        put_at(&mut self.slots, self.texts.alloc, before, at, line)
+    }
+}
+
+/// Whether the address is that of a name at the root.
+fn is_at_root(at: &Address) -> bool
+    ensures { result ≡ false → IsElsewhere at.now }
+{
+    matches!(at.steps(), [Step::Name(_)])
+}
+
+/// Puts a line in at a place, if there is such a slot: before the one that stands there, or behind the last one of the slot.
+fn put_at<'t>(
+    slots: &mut Vec<Slot<'t>>,
+    alloc: Global,
+    before: Before<'_, 't>,
+    at: Position,
+    line: Line<'t>,
+) -> Result<bool, AllocError>
+    ensures { OnOk result (PutsSlots (read_of before.entry) at line.entry slots.old.items slots.new.items) }
+{
+    match slots.get_mut(at.slot) {
+        Some(slot) => slot.put(alloc, before, at.index, line),
+        None => Ok(false),
+    }
+}
+
+/// Puts a line in among others: before the one with the index, or behind the last one.
+fn put_in<'t>(lines: &mut Vec<Line<'t>>, index: usize, line: Line<'t>) -> Result<(), AllocError>
+    ensures { OnOk result (lines.new.items ≡ take index lines.old.items ++ line.entry ∷ drop index lines.old.items) }
+{
+    if index < lines.len() {
+        lines.insert(index, line)?;
+    } else {
+        lines.push(line)?;
+    }
+    Ok(())
+}
+
+/// Gives the line at a place another newline, if there is one.
+fn end_at<'t>(
+    slots: &mut Vec<Slot<'t>>,
+    texts: Texts<'t>,
+    before: Before<'_, 't>,
+    at: Position,
+    newline: Leaf<'t>,
+) -> Result<(), AllocError>
+    ensures { let read = read_of before.entry in
+        OnOk result (EndsSlots (leaf_text newline.entry) texts.entry read at slots.old.items slots.new.items) }
+{
+    match slots.get_mut(at.slot) {
+        Some(slot) => slot.end_in(texts, before, at.index, newline),
+        None => Ok(()),
+    }
+}
+
+/// Gives the line with the index another newline, if there is one.
+fn end_one<'t>(
+    lines: &mut Vec<Line<'t>>,
+    texts: Texts<'t>,
+    known: &[KnownLine<'t>],
+    index: usize,
+    newline: Leaf<'t>,
+) -> Result<(), AllocError>
+    ensures { let read = lines_known known.now in
+        OnOk result (EndsOne (leaf_text newline.entry) texts.entry read index lines.old.items lines.new.items) }
+{
+    match lines.get_mut(index) {
+        Some(line) => line.end_in(texts, known, newline),
+        None => Ok(()),
+    }
+}
+
+impl<'t> Slot<'t> {
+    /// Puts a line in among its own: before the one with the index, or behind the last one.
+    fn put(
+        &mut self,
+        alloc: Global,
+        before: Before<'_, 't>,
+        index: usize,
+        line: Line<'t>,
+    ) -> Result<bool, AllocError>
+        ensures { OnOk result (PutsSlot (read_of before.entry) index line.entry self.old self.new) }
+    {
+        self.open(alloc, before.units)?;
+        match self {
+            Slot::Lines(lines) => {
+                put_in(lines, index, line)?;
+                Ok(true)
+            }
+            Slot::Kept(_) => Ok(false),
+        }
+    }
+
+    /// Gives its line with the index another newline, if there is one.
+    fn end_in(
+        &mut self,
+        texts: Texts<'t>,
+        before: Before<'_, 't>,
+        index: usize,
+        newline: Leaf<'t>,
+    ) -> Result<(), AllocError>
+        ensures { let read = read_of before.entry in
+            OnOk result (EndsSlot (leaf_text newline.entry) texts.entry read index self.old self.new) }
+    {
+        self.open(texts.alloc, before.units)?;
+        match self {
+            Slot::Lines(lines) => end_one(lines, texts, before.known, index, newline),
+            Slot::Kept(_) => Ok(()),
+        }
+    }
+}

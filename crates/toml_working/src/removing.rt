@@ -1,0 +1,372 @@
+//! `remove`: elements and pairs in a value, and lines.
+ghost use Rattle.std.specs.Prelude.{◌≡◌, IfOk, OnOk, length, true};
+ghost use Rattle.toml_editor.specs.Making.{IsParent};
+ghost use Rattle.toml_working.specs.RemovingIn.{LeavesBehind, LeavesLines, LeavesOf, LeavesSlot, LeavesSlots, RemovesLines};
+ghost use Rattle.toml_working.specs.Seeing.{IsSoughtAt};
+ghost use Rattle.toml_working.specs.declared.lines.Sought.TheVariants.{Holder};
+ghost use Rattle.toml_working.specs.Starting.{read_of};
+ghost use Rattle.toml_working.specs.Stands.{KeepsRest};
+
+use crate::inside::Inside;
+use crate::known::KnownLine;
+use crate::lines::{Line, Slot};
+use crate::steps::{is_element, names_in};
+use crate::texts::Texts;
+use crate::tree::{Blank, Brackets, Expr, Header, Leaf, OpenLine};
+use crate::working::{Before, Position, TablePlace, Tree};
+use std::alloc::{AllocError, Global};
+use std::mem;
+use toml_names::{Address, Place, Step};
+use toml_units::Unit;
+
+/// What is left of the first removed line that mentions the parent, where no line that stays does.
+#[derive(Drop)]
+struct Parent {
+    address: Address,
+    /// It is left already.
+    stays: bool,
+}
+
+impl<'x> Tree<'x> {
+    /// Takes out what stands at the address. It answers `false`, and changes nothing, at the only element of an array of
+    /// tables: without its header there would be no array.
+    pub(crate) fn remove(
+        &mut self,
+        before: Before<'_, 'x>,
+        named: Option<Place>,
+        at: &Address,
+    ) -> Result<bool, AllocError>
+        ensures { OnOk result (RemovesLines at.now (read_of before.entry) self.old self.new) }
+    {
+        match self.value_line(before, named, at) {
+            Some(place) => {
+                self.remove_value(before, place, at)?;
+                Ok(true)
+            }
+            None => self.remove_table(before, named, at),
+        }
+    }
+
+    /// Takes out the value at the address: the line at the place has it, or holds it.
+    fn remove_value(
+        &mut self,
+        before: Before<'_, 'x>,
+        place: Position,
+        at: &Address,
+    ) -> Result<(), AllocError>
+        ensures { let read = read_of before.entry in
+            OnOk result (IsSoughtAt Holder at.now read self.old.slots.items place → RemovesLines at.now read self.old self.new) }
+    {
+        if self.depth(before, place) < at.steps().len() {
+            self.change_value(before, place, at, Inside::Remove)?;
+            Ok(())
+        } else {
+            self.remove_line(before, place.slot, at)
+        }
+    }
+
+    /// Takes out a table or an array of tables, which is no line's value, and in none.
+    fn remove_table(
+        &mut self,
+        before: Before<'_, 'x>,
+        named: Option<Place>,
+        at: &Address,
+    ) -> Result<bool, AllocError> {
+        let first = self.first_slot(before, named, at);
+        if !self.leaves_elements(before, first, at)? {
+            return Ok(false);
+        }
+        self.remove_lines(before, first, at)?;
+        self.elements.take_out(self.texts.alloc, at)?;
+        Ok(true)
+    }
+
+    /// The slot before which no line stands at the address or below. The lines of an element of an array of tables begin with
+    /// its header.
+    pub(crate) fn first_slot(
+        &self,
+        before: Before<'_, 'x>,
+        named: Option<Place>,
+        at: &Address,
+    ) -> usize {
+        match self.near_table(before, named, at) {
+            Some(TablePlace::Header(header)) if is_element(at) => header.slot,
+            _ => 0,
+        }
+    }
+
+    /// Takes out the line of the slot whose value stands at the address: no other line is at it or below.
+    fn remove_line(
+        &mut self,
+        before: Before<'_, 'x>,
+        slot: usize,
+        at: &Address,
+    ) -> Result<(), AllocError>
+        ensures rest { OnOk result (KeepsRest self.old self.new) }
+        ensures slots { let units = before.entry.units.now in
+            OnOk result (length at.now ≡ 1 → LeavesSlots at.now units slot self.old.slots.items self.new.slots.items) }
+    {
+        let mut parent = self.parent_left(before, at, slot)?;
+        remove_in(&mut self.slots, self.texts, before, slot, at, &mut parent)
+    }
+
+    /// The parent of the address, and whether it is the root or a line that is not at the address, nor below it, mentions it:
+    /// such a line is mostly near before the slot.
+    fn parent_left(
+        &self,
+        before: Before<'_, 'x>,
+        at: &Address,
+        slot: usize,
+    ) -> Result<Parent, AllocError>
+        ensures { IfOk result (λ parent. length at.now ≡ 1 → parent.stays ≡ true) }
+    {
+        let address = parent_of(self.alloc(), at)?;
+        let stays = address.steps().is_empty()
+            || self.is_mentioned_around(before, slot, &address, at);
+        Ok(Parent { address, stays })
+    }
+
+    /// Whether a line that is not at the other address, nor below it, mentions the address. The slots before this one are asked
+    /// first, the nearest before the others.
+    fn is_mentioned_around(
+        &self,
+        before: Before<'_, 'x>,
+        slot: usize,
+        address: &Address,
+        other: &Address,
+    ) -> bool {
+        let units = before.units;
+        let (above, behind) = self.slots.split_at(slot.min(self.slots.len()));
+        for near in above.iter().rev() {
+            if near.is_mentioned(units, address, other) {
+                return true;
+            }
+        }
+        for near in behind {
+            if near.is_mentioned(units, address, other) {
+                return true;
+            }
+        }
+        false
+    }
+
+    /// Whether the address is not that of an element, or another element of its array stays.
+    fn leaves_elements(
+        &self,
+        before: Before<'_, 'x>,
+        first: usize,
+        at: &Address,
+    ) -> Result<bool, AllocError> {
+        if !is_element(at) {
+            return Ok(true);
+        }
+        let array = parent_of(self.alloc(), at)?;
+        Ok(self.is_mentioned_around(before, first, &array, at))
+    }
+
+    /// Takes out all lines at the address and below, of which the slot has the first or comes before it. Where no other line
+    /// mentions the parent, the first of them that does becomes the parent as an empty table.
+    fn remove_lines(
+        &mut self,
+        before: Before<'_, 'x>,
+        first: usize,
+        at: &Address,
+    ) -> Result<(), AllocError> {
+        let texts = self.texts;
+        let mut parent = self.parent_left(before, at, first)?;
+        let mut is_met = false;
+        for slot in self.slots.iter_mut().skip(first) {
+            if slot.is_below(before.units, at) {
+                slot.remove(texts, before, at, &mut parent)?;
+                is_met = true;
+            }
+            // behind the header of a later element no line is one of this
+            if is_met && slot.begins_later(before.units, at) {
+                return Ok(());
+            }
+        }
+        Ok(())
+    }
+}
+
+impl<'t> Slot<'t> {
+    /// Whether one of its lines is the header of a later element of the array.
+    fn begins_later<'a>(&'a self, units: &'a [Unit], at: &Address) -> bool {
+        for index in 0..self.count() {
+            let Some(line) = self.seen(units, index) else {
+                return false;
+            };
+            if line.begins_later(at) {
+                return true;
+            }
+        }
+        false
+    }
+
+    /// Whether a line of it that is not at the other address, nor below it, mentions the address.
+    fn is_mentioned<'a>(&'a self, units: &'a [Unit], address: &Address, other: &Address) -> bool {
+        for index in 0..self.count() {
+            let Some(line) = self.seen(units, index) else {
+                return false;
+            };
+            if line.mentions(address) && !line.is_below(other) {
+                return true;
+            }
+        }
+        false
+    }
+
+    /// Takes out its lines at the address and below.
+    fn remove(
+        &mut self,
+        texts: Texts<'t>,
+        before: Before<'_, 't>,
+        at: &Address,
+        parent: &mut Parent,
+    ) -> Result<(), AllocError>
+        ensures { OnOk result (parent.old.stays ≡ true → LeavesSlot at.now before.entry.units.now self.old self.new) }
+    {
+        self.open(texts.alloc, before.units)?;
+        match self {
+            Slot::Lines(lines) => remove_from(lines, texts, before.known, at, parent),
+            Slot::Kept(_) => Ok(()),
+        }
+    }
+}
+
+/// Takes out the lines of the slot at the address and below, if there is such a slot.
+fn remove_in<'t>(
+    slots: &mut Vec<Slot<'t>>,
+    texts: Texts<'t>,
+    before: Before<'_, 't>,
+    slot: usize,
+    at: &Address,
+    parent: &mut Parent,
+) -> Result<(), AllocError>
+    ensures { let units = before.entry.units.now in
+        OnOk result (parent.old.stays ≡ true → LeavesSlots at.now units slot slots.old.items slots.new.items) }
+{
+    match slots.get_mut(slot) {
+        Some(lines) => lines.remove(texts, before, at, parent),
+        None => Ok(()),
+    }
+}
+
+/// Takes out the lines at the address and below.
+fn remove_from<'t>(
+    lines: &mut Vec<Line<'t>>,
+    texts: Texts<'t>,
+    known: &[KnownLine<'t>],
+    at: &Address,
+    parent: &mut Parent,
+) -> Result<(), AllocError>
+    ensures { OnOk result (parent.old.stays ≡ true → LeavesLines at.now lines.old.items lines.new.items) }
+{
+    let old = mem::replace(lines, Vec::new(texts.alloc));
+    for line in old {
+        if let Some(left) = left_of(texts, known, line, at, parent)? {
+            lines.push(left)?;
+        }
+    }
+    Ok(())
+}
+
+/// What is left of a line once what stands at the address and below is taken out.
+fn left_of<'t>(
+    texts: Texts<'t>,
+    known: &[KnownLine<'t>],
+    line: Line<'t>,
+    at: &Address,
+    parent: &mut Parent,
+) -> Result<Option<Line<'t>>, AllocError>
+    ensures parent { OnOk result (parent.old.stays ≡ true → parent.new.stays ≡ true) }
+    ensures left { IfOk result (λ left. parent.old.stays ≡ true → LeavesOf at.now line.entry left) }
+{
+    if line.seen().is_below(at) {
+        removed(texts, known, line, parent)
+    } else {
+        Ok(Some(line))
+    }
+}
+
+/// What is left of a removed line: its parent as an empty table, or of the last line one of no bytes.
+fn removed<'t>(
+    texts: Texts<'t>,
+    known: &[KnownLine<'t>],
+    line: Line<'t>,
+    parent: &mut Parent,
+) -> Result<Option<Line<'t>>, AllocError>
+    ensures parent { OnOk result (parent.old.stays ≡ true → parent.new.stays ≡ true) }
+    ensures left { IfOk result (λ left. parent.old.stays ≡ true → LeavesBehind line.entry left) }
+{
+    if !parent.stays && line.seen().mentions(&parent.address) {
+        parent.stays = true;
+        let mut line = line;
+        line.stand_for(texts, known, &parent.address)?;
+        return Ok(Some(line));
+    }
+    if line.is_last() {
+        return Ok(Some(Line::empty(texts.alloc)?));
+    }
+    Ok(None)
+}
+
+impl<'t> Line<'t> {
+    /// Makes it stand for the parent: its key's front up to it as an empty table, or as a header.
+    fn stand_for(
+        &mut self,
+        texts: Texts<'t>,
+        known: &[KnownLine<'t>],
+        parent: &Address,
+    ) -> Result<(), AllocError> {
+        let parts = match self.base {
+            Some(base) => parent.steps().len().saturating_sub(base),
+            None => names_in(parent.steps()),
+        };
+        self.open(texts, known)?;
+        if let Some(open) = self.opened() {
+            open.empty(texts, parts)?;
+        }
+        self.address = Some(parent.copy(texts.alloc)?);
+        Ok(())
+    }
+}
+
+impl<'t> OpenLine<'t> {
+    /// Makes it a line of an empty table, whose key has so many parts of this one's.
+    fn empty(&mut self, texts: Texts<'t>, parts: usize) -> Result<(), AllocError> {
+        self.is_new = true;
+        self.tail = Blank {
+            ws: Leaf::EMPTY,
+            comment: None,
+        };
+        match &mut self.expr {
+            Expr::Blank => {}
+            Expr::Pair(pair) => {
+                pair.assign.cut(parts);
+                pair.value = texts.empty_table()?;
+            }
+            Expr::Header(header) => header.cut(parts),
+        }
+        Ok(())
+    }
+}
+
+impl Header<'_> {
+    /// Leaves so many parts of its key, between single brackets.
+    fn cut(&mut self, parts: usize) {
+        self.brackets = Brackets::One;
+        self.before = Leaf::EMPTY;
+        self.key.cut(parts);
+        self.after = Leaf::EMPTY;
+    }
+}
+
+/// The address without its last step.
+pub(crate) fn parent_of(alloc: Global, at: &Address) -> Result<Address, AllocError>
+    ensures { IfOk result (λ q. IsParent at.now q) }
+{
+    let mut steps = at.copy(alloc)?.into_steps();
+    let _ = steps.pop();
+    Ok(Address::of(steps))
+}

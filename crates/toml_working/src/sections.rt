@@ -1,0 +1,272 @@
+//! `section` and `element`: a header line of a new table, or of a new element of an array of tables.
+ghost use Rattle.std.specs.Prelude.{IfOk, IsTrue, List, OnOk};
+ghost use Rattle.toml_editor.specs.Edited.{IsElementInValue, IsInValue, IsRightInValue};
+ghost use Rattle.toml_tree.specs.Tree.{Line as Lined};
+ghost use Rattle.toml_names.specs.reader.LineNames.{Stand, StandFor};
+ghost use Rattle.toml_editor.specs.Making.{places_of};
+ghost use Rattle.toml_working.specs.Stands.{KeepsRest};
+
+use crate::lines::{Line, Seen, Slot};
+use crate::removing::parent_of;
+use crate::tree::{Brackets, Expr, Header, Key, Leaf, OpenLine};
+use crate::working::{Before, Position, Tree};
+use std::alloc::{AllocError, Global};
+use toml_names::{Address, LineNames, Place, Step};
+use toml_units::Unit;
+
+/// A header line that is to be put in.
+#[derive(Clone, Copy)]
+pub(crate) struct NewHeader<'a, 'x> {
+    /// Where its table or element stands.
+    pub(crate) at: &'a Address,
+    pub(crate) brackets: Brackets,
+    /// The spellings of the steps of the address.
+    pub(crate) spelled: &'x [String],
+}
+
+/// What stands above the table or the element of a header line that is to be put in.
+#[derive(Drop)]
+pub(crate) struct Above {
+    /// The address right above its own.
+    pub(crate) at: Address,
+    /// The place that the document's names have for it.
+    pub(crate) named: Option<Place>,
+    /// The innermost element of an array of tables there or above, if there is one, and its place by the same names.
+    pub(crate) element: Option<Address>,
+    pub(crate) near: Option<Place>,
+}
+
+/// How far a walk through the lines has come that looks for the first header line behind those of an element.
+#[derive(Clone, Copy)]
+enum Walk {
+    /// No header line of the element was met yet.
+    Before,
+    /// The last header line that was met is one of the element.
+    Within,
+    /// The first header line behind the last one of the element.
+    Behind(Position),
+    /// The first header line behind the last one of the element, where it begins another element of the array: no line of this one follows.
+    Ended(Position),
+}
+
+impl<'x> Tree<'x> {
+    /// Puts a header line in: before the first header line behind those of the innermost element of an array of tables in
+    /// which it is to stand, else at the end of the text. It answers `false` where a value stands right above it, or holds what stands there.
+    pub(crate) fn add_header(
+        &mut self,
+        before: Before<'_, 'x>,
+        above: &Above,
+        new: NewHeader<'_, 'x>,
+    ) -> Result<bool, AllocError> {
+        if self.value_line(before, above.named, &above.at).is_some() {
+            return Ok(false);
+        }
+        let next = match &above.element {
+            Some(element) => self.behind_element(before, above.near, element),
+            None => None,
+        };
+        match next {
+            Some(next) => self.put_header(before, next, new),
+            None => self.add_last(before, new),
+        }
+    }
+
+    /// Puts a header line in before the line at a place.
+    pub(crate) fn put_header(
+        &mut self,
+        before: Before<'_, 'x>,
+        at: Position,
+        new: NewHeader<'_, 'x>,
+    ) -> Result<bool, AllocError>
+        ensures { OnOk result (KeepsRest self.old self.new) }
+    {
+        let line = new.line(self.alloc(), self.style)?;
+        self.put(before, at, line)
+    }
+
+    /// Puts a header line in before the last line where that has no bytes, else behind it.
+    fn add_last(
+        &mut self,
+        before: Before<'_, 'x>,
+        new: NewHeader<'_, 'x>,
+    ) -> Result<bool, AllocError> {
+        let Some(last) = self.last_line() else {
+            return Ok(false);
+        };
+        if self.has_no_bytes(last) {
+            return self.put_header(before, last, new);
+        }
+        let newline = self.newline_behind(before, last)?;
+        let line = new.line(self.alloc(), newline)?;
+        self.put(before, last.next(), line)
+    }
+
+    /// The last line.
+    fn last_line(&self) -> Option<Position> {
+        for slot in (0..self.slots.len()).rev() {
+            if let Some(index) = self.slots[slot].count().checked_sub(1) {
+                return Some(Position { slot, index });
+            }
+        }
+        None
+    }
+
+    /// Whether the line at a place has no bytes, and ends in no newline.
+    fn has_no_bytes(&self, at: Position) -> bool {
+        match self.slots.get(at.slot) {
+            Some(slot) => slot.has_no_bytes(at.index),
+            None => false,
+        }
+    }
+
+    /// The first header line behind the last one that stands at the element or below it. `named` is the place that the
+    /// document's names have for the element.
+    fn behind_element(
+        &self,
+        before: Before<'_, 'x>,
+        named: Option<Place>,
+        element: &Address,
+    ) -> Option<Position> {
+        let mut walk = Walk::Before;
+        for slot in self.first_slot(before, named, element)..self.slots.len() {
+            walk = self.slots[slot].walked(before.units, slot, element, walk);
+            if let Walk::Ended(next) = walk {
+                return Some(next);
+            }
+        }
+        match walk {
+            Walk::Behind(next) | Walk::Ended(next) => Some(next),
+            Walk::Before | Walk::Within => None,
+        }
+    }
+}
+
+impl Slot<'_> {
+    /// Goes on with a walk through its lines.
+    fn walked<'a>(&'a self, units: &'a [Unit], slot: usize, element: &Address, walk: Walk) -> Walk {
+        let mut walk = walk;
+        for index in 0..self.count() {
+            let Some(line) = self.seen(units, index) else {
+                return walk;
+            };
+            if line.is_header() {
+                walk = walk.past(line, element, Position { slot, index });
+            }
+        }
+        walk
+    }
+}
+
+impl Walk {
+    /// The walk past a header line at a place.
+    fn past(self, line: Seen<'_>, element: &Address, at: Position) -> Walk {
+        let next = match self {
+            Walk::Ended(_) => return self,
+            _ if line.is_below(element) => return Walk::Within,
+            Walk::Before => return Walk::Before,
+            Walk::Within => at,
+            Walk::Behind(next) => next,
+        };
+        if line.begins_later(element) {
+            Walk::Ended(next)
+        } else {
+            Walk::Behind(next)
+        }
+    }
+}
+
+impl<'x> NewHeader<'_, 'x> {
+    /// The line, with this newline: the names of the address between brackets, indices left out.
+    pub(crate) fn line(self, alloc: Global, newline: Leaf<'x>) -> Result<Line<'x>, AllocError> {
+        let header = Header {
+            brackets: self.brackets,
+            before: Leaf::EMPTY,
+            key: names_key(alloc, self.at, self.spelled)?,
+            after: Leaf::EMPTY,
+        };
+        let address = self.at.copy(alloc)?;
+        Line::new(alloc, Some(address), None, Expr::Header(header), newline)
+    }
+}
+
+/// The key of the names of an address, by the spellings of its steps; indices are left out.
+fn names_key<'t>(
+    alloc: Global,
+    at: &Address,
+    spelled: &'t [String],
+) -> Result<Key<'t>, AllocError> {
+    let mut key = Key::none(alloc);
+    let mut first = true;
+    for (step, text) in at.steps().iter().zip(spelled) {
+        if let Step::Name(_) = step {
+            key.push(first, text.as_str())?;
+            first = false;
+        }
+    }
+    Ok(key)
+}
+
+/// The element at the address, or the innermost one above it.
+pub(crate) fn innermost_element(
+    alloc: Global,
+    at: &Address,
+) -> Result<Option<Address>, AllocError> {
+    let count = steps_to_index(at.steps());
+    if count == 0 {
+        return Ok(None);
+    }
+    let mut steps = at.copy(alloc)?.into_steps();
+    steps.truncate(count);
+    Ok(Some(Address::of(steps)))
+}
+
+/// How many steps there are up to the last index, it among them; none where there is no index.
+fn steps_to_index(steps: &[Step]) -> usize {
+    let mut count = 0;
+    for (place, step) in steps.iter().enumerate() {
+        if let Step::Index(_) = step {
+            count = place + 1;
+        }
+    }
+    count
+}
+
+/// Whether what stands right above the address is the value of a line of the document, or stands in one.
+pub(crate) fn is_right_in_value(
+    alloc: Global,
+    names: &LineNames,
+    at: &Address,
+) -> Result<bool, AllocError>
+    requires { Stand names.now }
+    ensures { (lines : List Lined) → StandFor names.now lines → IfOk result (λ yes. IsTrue yes → IsRightInValue (places_of lines) at.now) }
+{
+    if at.steps().is_empty() {
+        return Ok(false);
+    }
+    let above = parent_of(alloc, at)?;
+    Ok(is_in_value(names.place(&above)))
+}
+
+/// Whether the array whose element the address is, or the table in which the array stands, is the value of a line of the
+/// document, or stands in one.
+pub(crate) fn is_element_in_value(
+    alloc: Global,
+    names: &LineNames,
+    at: &Address,
+) -> Result<bool, AllocError>
+    requires { Stand names.now }
+    ensures { (lines : List Lined) → StandFor names.now lines → IfOk result (λ yes. IsTrue yes → IsElementInValue (places_of lines) at.now) }
+{
+    if at.steps().is_empty() {
+        return Ok(false);
+    }
+    let array = parent_of(alloc, at)?;
+    Ok(is_in_value(names.place(&array)) || is_right_in_value(alloc, names, &array)?)
+}
+
+/// Whether it is the value of a line, or stands in one.
+fn is_in_value(place: Option<Place>) -> bool
+    ensures { IsTrue result → IsInValue place }
+{
+    matches!(place, Some(Place::KeyVal(_)) | Some(Place::Inside(_)))
+}

@@ -1,0 +1,145 @@
+//! A line by what finds it: what it is to an address.
+ghost use Rattle.std.specs.Prelude.{◌≡◌};
+ghost use Rattle.toml_names.specs.model.Addresses.{lent};
+ghost use Rattle.toml_working.specs.Placing.{is_header, pair_at};
+ghost use Rattle.toml_working.specs.RenameStanding.{part_number};
+ghost use Rattle.toml_working.specs.Seeing.{heads, heads_below, is_dotted, is_sought, seen, steps_to};
+ghost use Rattle.toml_working.specs.Standing.{leads_to, lies_below};
+
+use crate::lines::{Seen, Sought};
+use crate::steps::{is_at_or_above, is_same_way, names_in};
+use crate::working::Position;
+use toml_names::{Address, Step};
+
+impl Seen<'_> {
+    /// How many steps its address has.
+    pub(crate) fn steps(self) -> usize
+        ensures { result ≡ steps_to (lent self.entry.address) }
+    {
+        match self.address {
+            Some(address) => address.steps().len(),
+            None => 0,
+        }
+    }
+
+    /// Whether it is a header line.
+    pub(crate) fn is_header(self) -> bool
+        ensures { result ≡ is_header self.entry.base (lent self.entry.address) }
+    {
+        matches!((self.base, self.address), (None, Some(_)))
+    }
+
+    /// Its place, if it has a key and a value, or the last one of those before it.
+    pub(crate) fn pair_at(self, place: Position, last: Option<Position>) -> Option<Position>
+        ensures { result ≡ pair_at self.entry.base place last }
+    {
+        match self.base {
+            Some(_) => Some(place),
+            None => last,
+        }
+    }
+
+    /// Whether it is the header line of what stands at the address.
+    fn is_header_of(self, at: &Address) -> bool
+        ensures { result ≡ heads at.now self.entry.base (lent self.entry.address) }
+    {
+        match (self.base, self.address) {
+            (None, Some(own)) => own.is_same(at),
+            _ => false,
+        }
+    }
+
+    /// Whether it stands at the address or below it.
+    pub(crate) fn is_below(self, at: &Address) -> bool
+        ensures { result ≡ lies_below at.now (lent self.entry.address) }
+    {
+        match self.address {
+            Some(own) => is_at_or_above(at, own),
+            None => false,
+        }
+    }
+
+    /// Whether its value is what stands at the address, or holds it.
+    fn holds(self, at: &Address) -> bool
+        ensures { result ≡ leads_to at.now self.entry.base (lent self.entry.address) }
+    {
+        match (self.base, self.address) {
+            (Some(_), Some(own)) => is_at_or_above(own, at),
+            _ => false,
+        }
+    }
+
+    /// Whether the address is that of a table which dotted keys make, its own one among them.
+    fn is_dotted_in(self, at: &Address) -> bool
+        ensures { result ≡ is_dotted at.now self.entry.base (lent self.entry.address) }
+    {
+        match (self.base, self.address) {
+            (Some(base), Some(own)) => base < at.steps().len() && at.is_above(own),
+            _ => false,
+        }
+    }
+
+    /// Whether it is a header line at the address or below it.
+    fn is_header_below(self, at: &Address) -> bool
+        ensures { result ≡ heads_below at.now self.entry.base (lent self.entry.address) }
+    {
+        self.base.is_none() && self.is_below(at)
+    }
+
+    /// Whether it is what is sought.
+    pub(crate) fn is_sought(self, what: Sought, at: &Address) -> bool
+        ensures { result ≡ is_sought what at.now (seen self.entry) }
+    {
+        match what {
+            Sought::Holder => self.holds(at),
+            Sought::Header => self.is_header_of(at),
+            Sought::Dotted => self.is_dotted_in(at),
+            Sought::HeaderBelow => self.is_header_below(at),
+        }
+    }
+
+    /// Whether its own key mentions the address: a keyval each table that its key passes, and its value; a header each table
+    /// and element that its key passes, and what it stands for.
+    pub(crate) fn mentions(self, at: &Address) -> bool {
+        if !self.is_below(at) {
+            return false;
+        }
+        match self.base {
+            Some(base) => base < at.steps().len(),
+            None => !self.passes_on(at),
+        }
+    }
+
+    /// Whether a header's key passes from an array of tables, at the address, on to an element of it.
+    fn passes_on(self, at: &Address) -> bool {
+        let (Some(own), count) = (self.address, at.steps().len()) else {
+            return false;
+        };
+        let is_own = self.is_tables && own.steps().len() == count.saturating_add(1);
+        matches!(own.steps().get(count), Some(Step::Index(_))) && !is_own
+    }
+
+    /// Whether it is the header of a later element of the array of tables whose element stands at the address. New elements come
+    /// last, and so do their indices.
+    pub(crate) fn begins_later(self, at: &Address) -> bool {
+        let Some(own) = self.address else {
+            return false;
+        };
+        match (own.steps().split_last(), at.steps().split_last()) {
+            (Some((Step::Index(index), array)), Some((Step::Index(element), other))) => {
+                self.is_header() && index > element && is_same_way(array, other)
+            }
+            _ => false,
+        }
+    }
+
+    /// Which part of its key stands for the address, if one does.
+    pub(crate) fn part_of(self, at: &Address) -> Option<usize>
+        ensures { result ≡ part_number at.now self.entry.base }
+    {
+        match self.base {
+            Some(base) => at.steps().len().checked_sub(base.saturating_add(1)),
+            None => names_in(at.steps()).checked_sub(1),
+        }
+    }
+}

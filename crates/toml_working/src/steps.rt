@@ -1,0 +1,97 @@
+//! The steps of addresses.
+ghost use Rattle.std.specs.Prelude.{◌≡◌, ◌≤◌, ◌∷◌, [], drop, set};
+ghost use Rattle.toml_working.specs.Leading.{first_index};
+ghost use Rattle.toml_working.specs.RenameStanding.{names_in};
+ghost use Rattle.toml_working.specs.Standing.{begins};
+
+use toml_names::{Address, Step};
+
+/// The steps of the address behind the first so many.
+pub(crate) fn below(at: &Address, used: usize) -> &[Step]
+    ensures { result.now ≡ drop used at.now }
+{
+    behind(at.steps(), used)
+}
+
+/// The address with another step at a place. It takes no memory.
+pub(crate) fn changed(at: Address, place: usize, step: Step) -> Address
+    ensures { result ≡ set at place step }
+{
+    let mut steps = at.into_steps();
+    if let Some(old) = steps.get_mut(place) {
+        *old = step;
+    }
+    Address::of(steps)
+}
+
+/// Whether the first address is a beginning of the second.
+pub(crate) fn is_at_or_above(at: &Address, other: &Address) -> bool
+    ensures { result ≡ begins at.now other.now }
+{
+    begins(at.steps(), other.steps())
+}
+
+/// Whether the steps begin with the first ones. The last of these are compared first: elements of one array differ there.
+fn begins(above: &[Step], steps: &[Step]) -> bool
+    ensures { result ≡ begins above.now steps.now }
+{
+    if steps.len() < above.len() {
+        return false;
+    }
+    for place in (0..above.len()).rev() {
+        if !above[place].is_same(&steps[place]) {
+            return false;
+        }
+    }
+    true
+}
+
+/// Whether the steps are the same.
+pub(crate) fn is_same_way(one: &[Step], other: &[Step]) -> bool {
+    one.len() == other.len() && begins(one, other)
+}
+
+/// Whether the address is that of an element.
+pub(crate) fn is_element(at: &Address) -> bool {
+    matches!(at.steps().last(), Some(Step::Index(_)))
+}
+
+/// How many of the steps are names.
+pub(crate) fn names_in(steps: &[Step]) -> usize
+    ensures { result ≡ names_in steps.now }
+{
+    let mut count = 0;
+    for step in steps {
+        count += names_of(step);
+    }
+    count
+}
+
+/// One for a name, and none for an index.
+fn names_of(step: &Step) -> usize
+    ensures counts { result ≡ names_in (step.now ∷ []) }
+    ensures most { result ≤ 1 }
+{
+    match step {
+        Step::Name(_) => 1,
+        Step::Index(_) => 0,
+    }
+}
+
+/// The index with which the steps begin, if they begin with one.
+pub(crate) fn index_first(steps: &[Step]) -> Option<usize>
+    ensures { result ≡ first_index steps.now }
+{
+    match steps.first() {
+        Some(Step::Index(index)) => Some(*index as usize),
+        _ => None,
+    }
+}
+
+/// The steps behind the first so many.
+pub(crate) fn behind(steps: &[Step], used: usize) -> &[Step]
+    ensures { result.now ≡ drop used steps.now }
+{
+    let (_, rest) = steps.split_at(used.min(steps.len()));
+    rest
+}

@@ -1,0 +1,233 @@
+//! The working tree: the lines of the text as the edits made so far have left them. It has the shapes of the tree of a
+//! document, but its pieces are kept or new.
+ghost use Rattle.std.specs.Prelude.{◌≡◌, ◌↔◌, ◌++◌, [], IfOk, OnOk, IsTrue};
+ghost use Rattle.toml_working.specs.OpenOutlines.{leaf_text, gap_part_text, gap_text};
+
+use std::alloc::{AllocError, Global};
+use std::collections::VecDeque;
+
+/// A piece of the working text.
+#[derive(Clone, Copy)]
+pub(crate) enum Leaf<'t> {
+    /// It begins here in the text before the edits.
+    Kept { start: usize, text: &'t str },
+    /// An edit has written it.
+    New(&'t str),
+}
+
+/// What stands between the values of an array, or the pairs of an inline table, but for the commas.
+#[derive(Drop)]
+pub(crate) struct Gap<'t> {
+    pub(crate) parts: Vec<GapPart<'t>>,
+}
+
+/// A part of a gap; the parts are in text order.
+#[derive(Clone, Copy)]
+pub(crate) enum GapPart<'t> {
+    Ws(Leaf<'t>),
+    /// A newline or a comment, or lines of the document with the whitespace around them.
+    Lines(Leaf<'t>),
+}
+
+/// `.` between whitespace, and the key part behind it.
+#[derive(Clone, Copy)]
+pub(crate) struct Dotted<'t> {
+    pub(crate) before_dot: Leaf<'t>,
+    pub(crate) after_dot: Leaf<'t>,
+    pub(crate) part: Leaf<'t>,
+}
+
+/// A key by its parts.
+#[derive(Drop)]
+pub(crate) struct Key<'t> {
+    pub(crate) first: Leaf<'t>,
+    pub(crate) rest: Vec<Dotted<'t>>,
+}
+
+/// A key, and `=` between whitespace.
+#[derive(Drop)]
+pub(crate) struct Assign<'t> {
+    pub(crate) key: Key<'t>,
+    pub(crate) before_equals: Leaf<'t>,
+    pub(crate) after_equals: Leaf<'t>,
+}
+
+/// A value.
+#[derive(Drop)]
+#[cycle(value)]
+pub(crate) enum Value<'t> {
+    Scalar(Leaf<'t>),
+    Array(Box<Entries<'t>>),
+    Inline(Box<Entries<'t>>),
+}
+
+/// What stands between the brackets of an array, or the braces of an inline table.
+#[derive(Drop)]
+#[cycle(value)]
+pub(crate) struct Entries<'t> {
+    /// The bracket or the brace with which it begins. What stands before an element may be new or taken out, so this tells
+    /// where the element is kept from.
+    pub(crate) opening: Leaf<'t>,
+    /// A queue, since elements put in or taken out at the front then move no others.
+    pub(crate) list: VecDeque<Entry<'t>>,
+    /// What stands behind the last comma, where one follows the last entry; without an entry all that stands there.
+    pub(crate) end: Option<Gap<'t>>,
+}
+
+/// An element of an array, or a pair of an inline table, with what stands around it up to the brackets or the commas.
+#[derive(Drop)]
+#[cycle(value)]
+pub(crate) struct Entry<'t> {
+    pub(crate) before: Gap<'t>,
+    /// A pair's key; an element has none, and most entries are elements.
+    pub(crate) assign: Option<Box<Assign<'t>>>,
+    pub(crate) value: Value<'t>,
+    pub(crate) after: Gap<'t>,
+}
+
+/// Whitespace, and a comment if one follows.
+#[derive(Clone, Copy)]
+pub(crate) struct Blank<'t> {
+    pub(crate) ws: Leaf<'t>,
+    pub(crate) comment: Option<Leaf<'t>>,
+}
+
+/// A key/value pair of a line.
+#[derive(Drop)]
+pub(crate) struct KeyVal<'t> {
+    pub(crate) assign: Assign<'t>,
+    pub(crate) value: Value<'t>,
+}
+
+/// A header between its brackets.
+#[derive(Drop)]
+pub(crate) struct Header<'t> {
+    pub(crate) brackets: Brackets,
+    pub(crate) before: Leaf<'t>,
+    pub(crate) key: Key<'t>,
+    pub(crate) after: Leaf<'t>,
+}
+
+/// What stands on a line, behind the whitespace before it.
+#[derive(Drop)]
+pub(crate) enum Expr<'t> {
+    Blank,
+    Pair(KeyVal<'t>),
+    Header(Header<'t>),
+}
+
+/// How many brackets stand on each side of a header.
+#[derive(Clone, Copy)]
+pub(crate) enum Brackets {
+    /// `[table]`
+    One,
+    /// `[[array of tables]]`
+    Two,
+}
+
+/// A line whose pieces can be changed.
+#[derive(Drop)]
+pub(crate) struct OpenLine<'t> {
+    /// Whether an edit has written it.
+    pub(crate) is_new: bool,
+    pub(crate) ws: Leaf<'t>,
+    pub(crate) expr: Expr<'t>,
+    pub(crate) tail: Blank<'t>,
+    pub(crate) newline: Leaf<'t>,
+}
+
+impl<'t> Leaf<'t> {
+    /// The piece of no bytes.
+    pub(crate) const EMPTY: Leaf<'static> = Leaf::New("");
+
+    /// Its text.
+    pub(crate) fn text(self) -> &'t str
+        ensures { result.now ≡ leaf_text self.entry }
+    {
+        match self {
+            Leaf::Kept { text, .. } | Leaf::New(text) => text,
+        }
+    }
+
+    /// Whether it has no bytes.
+    pub(crate) fn is_empty(self) -> bool
+        ensures { IsTrue result ↔ (leaf_text self.entry ≡ []) }
+    {
+        self.text().is_empty()
+    }
+}
+
+impl OpenLine<'_> {
+    /// Whether it has no bytes, and ends in no newline.
+    pub(crate) fn has_no_bytes(&self) -> bool {
+        matches!(self.expr, Expr::Blank)
+            && self.ws.is_empty()
+            && self.tail.has_no_bytes()
+            && self.newline.is_empty()
+    }
+}
+
+impl Blank<'_> {
+    /// Whether nothing stands there.
+    fn has_no_bytes(&self) -> bool {
+        self.ws.is_empty() && self.comment.is_none()
+    }
+}
+
+impl<'t> Gap<'t> {
+    /// A gap of nothing.
+    pub(crate) fn empty(alloc: Global) -> Gap<'t>
+        ensures { gap_text result ≡ [] }
+    {
+        Gap {
+            parts: Vec::new(alloc),
+        }
+    }
+
+    /// A gap of this one part.
+    pub(crate) fn one(alloc: Global, part: GapPart<'t>) -> Result<Gap<'t>, AllocError>
+        ensures { IfOk result (λ g. gap_text g ≡ gap_part_text part.entry) }
+    {
+        let mut parts = Vec::with_capacity(alloc, 1)?;
+        parts.push(part)?;
+        Ok(Gap { parts })
+    }
+
+    /// A gap of this whitespace.
+    pub(crate) fn space(alloc: Global, ws: Leaf<'t>) -> Result<Gap<'t>, AllocError>
+        ensures { IfOk result (λ g. gap_text g ≡ leaf_text ws.entry) }
+    {
+        if ws.is_empty() {
+            return Ok(Gap::empty(alloc));
+        }
+        Gap::one(alloc, GapPart::Ws(ws))
+    }
+
+    /// Puts whitespace behind it, unless it has no bytes.
+    pub(crate) fn push_ws(&mut self, ws: Leaf<'t>) -> Result<(), AllocError>
+        ensures { OnOk result (gap_text self.new ≡ gap_text self.old ++ leaf_text ws.entry) }
+    {
+        if !ws.is_empty() {
+            self.parts.push(GapPart::Ws(ws))?;
+        }
+        Ok(())
+    }
+
+    /// Puts another gap behind it.
+    pub(crate) fn join(&mut self, other: Gap<'t>) -> Result<(), AllocError> {
+        for part in other.parts {
+            self.parts.push(part)?;
+        }
+        Ok(())
+    }
+
+    /// Whether nothing but whitespace stands in it.
+    pub(crate) fn is_ws(&self) -> bool {
+        for part in &self.parts {
+            if !matches!(part, GapPart::Ws(_)) {
+                return false;
+            }
+        }
+        true
+    }
+}

@@ -1,0 +1,391 @@
+//! The four edits inside a value.
+ghost use Rattle.std.specs.Prelude.{◌≡◌, IfOk, OnOk, option_and_then, option_map, slice_get};
+ghost use Rattle.toml_working.specs.Putting.{AssignsOne};
+ghost use Rattle.toml_working.specs.Leading.{LeadsOn, SetsEntry, key_in, leads, led_by, open_names, pair_key};
+ghost use Rattle.toml_working.specs.OpenOutlines.{assign as assign_outline, entries as entries_outline};
+ghost use Rattle.toml_working.specs.OpenOutlines.{entry as entry_outline, value as value_outline};
+ghost use Rattle.toml_working.specs.RenamingIn.{KeysRenamed, RenamesEntry, RenamesIn, key_with, pair_with, reaches};
+ghost use Rattle.toml_working.specs.Stands.{SetsIn};
+
+use crate::steps::{behind, index_first};
+use crate::texts::Texts;
+use crate::tree::{Assign, Entries, Entry, Key, Leaf, Value};
+use std::alloc::AllocError;
+use std::collections::VecDeque;
+use toml_names::Step;
+
+impl<'t> Texts<'t> {
+    /// The entry that leads on to what the steps name, strictly below it, and how many steps lead to it.
+    fn further(
+        self,
+        value: &Value<'t>,
+        steps: &[Step],
+    ) -> Result<Option<(usize, usize)>, AllocError> {
+        match value {
+            Value::Scalar(_) => Ok(None),
+            Value::Array(_) => Ok(match steps {
+                [Step::Index(index), _, ..] => Some((*index as usize, 1)),
+                _ => None,
+            }),
+            Value::Inline(pairs) => match steps.split_last() {
+                Some((_, parent)) => self.pair_on(pairs, parent),
+                None => Ok(None),
+            },
+        }
+    }
+
+    /// The innermost value that holds what the steps name, or would hold it, and the steps that are left there.
+    fn holder<'v, 's>(
+        self,
+        value: &'v mut Value<'t>,
+        steps: &'s [Step],
+    ) -> Result<Option<(&'v mut Value<'t>, &'s [Step])>, AllocError> {
+        let Some((index, used)) = self.further(value, steps)? else {
+            return Ok(Some((value, steps)));
+        };
+        let entries = match value {
+            Value::Scalar(_) => return Ok(None),
+            Value::Array(entries) | Value::Inline(entries) => entries,
+        };
+        match entries.list.get_mut(index) {
+            Some(entry) => self.holder(&mut entry.value, behind(steps, used)),
+            None => Ok(None),
+        }
+    }
+
+    /// Puts a value in place of the one at the steps. It answers `false`, and changes nothing, where no single value stands
+    /// there.
+    #[cycle(setting)]
+    pub(crate) fn set_in(
+        self,
+        own: &mut Value<'t>,
+        steps: &[Step],
+        new: Value<'t>,
+    ) -> Result<bool, AllocError>
+        ensures { let new = value_outline new.entry in
+            IfOk result (λ done. SetsIn steps.now new (value_outline own.old) (value_outline own.new) done) }
+    {
+        if steps.is_empty() {
+            *own = new;
+            return Ok(true);
+        }
+        match own {
+            Value::Scalar(_) => Ok(false),
+            Value::Array(elements) => match index_first(steps) {
+                Some(index) => {
+                    let done = self.set_entry(elements, index, behind(steps, 1), new)?;
+                    Ok(done)
+                }
+                None => Ok(false),
+            },
+            Value::Inline(pairs) => match self.pair_on(pairs, steps)? {
+                Some((index, used)) => {
+                    let done = self.set_entry(pairs, index, behind(steps, used), new)?;
+                    Ok(done)
+                }
+                None => Ok(false),
+            },
+        }
+    }
+
+    /// Sets what stands at the steps in the value of the entry with the index, if there is one.
+    #[cycle(setting)]
+    fn set_entry(
+        self,
+        entries: &mut Entries<'t>,
+        index: usize,
+        steps: &[Step],
+        new: Value<'t>,
+    ) -> Result<bool, AllocError>
+        ensures { let new = value_outline new.entry in
+            IfOk result (λ done. SetsEntry index steps.now new (entries_outline entries.old) (entries_outline entries.new) done) }
+    {
+        match entries.list.get_mut(index) {
+            Some(entry) => {
+                let done = self.set_in(&mut entry.value, steps, new)?;
+                Ok(done)
+            }
+            None => Ok(false),
+        }
+    }
+
+    /// A pair whose value is what the steps name, or holds it: its index, and how many parts its key has.
+    fn pair_on(
+        self,
+        pairs: &Entries<'t>,
+        steps: &[Step],
+    ) -> Result<Option<(usize, usize)>, AllocError>
+        ensures { IfOk result (LeadsOn (entries_outline pairs.now).entries steps.now) }
+    {
+        for index in 0..pairs.list.len() {
+            if let Some(used) = self.key_on(pairs, index, steps)? {
+                return Ok(Some((index, used)));
+            }
+        }
+        Ok(None)
+    }
+
+    /// How many parts the key of the pair with the index has, if the steps begin with all of them.
+    fn key_on(
+        self,
+        pairs: &Entries<'t>,
+        index: usize,
+        steps: &[Step],
+    ) -> Result<Option<usize>, AllocError>
+        ensures { IfOk result (λ used. used ≡ led_by (key_in (entries_outline pairs.now).entries index) steps.now) }
+    {
+        let Some(key) = key_at(&pairs.list, index) else {
+            return Ok(None);
+        };
+        let leads = self.leads(key, steps)?;
+        Ok(leads.then_some(key.parts()))
+    }
+
+    /// Whether the steps begin with all parts of the key.
+    fn leads(self, key: &Key<'t>, steps: &[Step]) -> Result<bool, AllocError>
+        ensures { IfOk result (λ all. all ≡ leads (open_names key.now) steps.now) }
+    {
+        let parts = key.parts();
+        if steps.len() < parts {
+            return Ok(false);
+        }
+        Ok(self.common(key, steps)? == parts)
+    }
+
+    /// Puts a value in at the steps: an element of an array, or a pair of the innermost inline table at or above the parent.
+    /// `spelled` are the spellings of the steps.
+    pub(crate) fn insert_in(
+        self,
+        own: &mut Value<'t>,
+        steps: &[Step],
+        spelled: &'t [String],
+        new: Value<'t>,
+    ) -> Result<bool, AllocError> {
+        let Some((holder, rest)) = self.holder(own, steps)? else {
+            return Ok(false);
+        };
+        match (holder, rest) {
+            (Value::Array(entries), [Step::Index(index)]) => {
+                entries.put(self.alloc, *index as usize, None, new)?;
+                Ok(true)
+            }
+            (Value::Inline(entries), _) => {
+                let used = spelled.len().saturating_sub(rest.len());
+                let (_, parts) = spelled.split_at(used);
+                let assign = Box::new(self.alloc, self.assign(parts)?)?;
+                let count = entries.list.len();
+                entries.put(self.alloc, count, Some(assign), new)?;
+                Ok(true)
+            }
+            _ => Ok(false),
+        }
+    }
+
+    /// The key of these parts, and ` = `.
+    pub(crate) fn assign(self, parts: &'t [String]) -> Result<Assign<'t>, AllocError>
+        ensures { IfOk result (AssignsOne parts.now) }
+    {
+        Ok(Assign {
+            key: Key::of(self.alloc, parts)?,
+            before_equals: Leaf::New(" "),
+            after_equals: Leaf::New(" "),
+        })
+    }
+
+    /// Writes another key part wherever one stands for the steps.
+    #[cycle(renaming)]
+    pub(crate) fn rename_in(
+        self,
+        own: &mut Value<'t>,
+        steps: &[Step],
+        to: &'t str,
+    ) -> Result<(), AllocError>
+        ensures { OnOk result (RenamesIn steps.now to.now (value_outline own.old) (value_outline own.new)) }
+    {
+        let Some((_, parent)) = steps.split_last() else {
+            return Ok(());
+        };
+        match own {
+            Value::Scalar(_) => Ok(()),
+            Value::Array(elements) => match index_first(steps) {
+                Some(index) => {
+                    self.rename_entry(elements, index, behind(steps, 1), to)?;
+                    Ok(())
+                }
+                None => Ok(()),
+            },
+            Value::Inline(pairs) => match self.pair_on(pairs, parent)? {
+                Some((index, used)) => {
+                    self.rename_entry(pairs, index, behind(steps, used), to)?;
+                    Ok(())
+                }
+                None => {
+                    self.rename_keys(pairs, steps, to)?;
+                    Ok(())
+                }
+            },
+        }
+    }
+
+    /// Renames what the steps name in the value of the entry with the index, if there is one.
+    #[cycle(renaming)]
+    fn rename_entry(
+        self,
+        entries: &mut Entries<'t>,
+        index: usize,
+        steps: &[Step],
+        to: &'t str,
+    ) -> Result<(), AllocError>
+        ensures { OnOk result (RenamesEntry index steps.now to.now (entries_outline entries.old) (entries_outline entries.new)) }
+    {
+        match entries.list.get_mut(index) {
+            Some(entry) => {
+                self.rename_in(&mut entry.value, steps, to)?;
+                Ok(())
+            }
+            None => Ok(()),
+        }
+    }
+
+    /// Writes another part in the keys of the pairs, wherever one stands for the steps.
+    fn rename_keys(
+        self,
+        pairs: &mut Entries<'t>,
+        steps: &[Step],
+        to: &'t str,
+    ) -> Result<(), AllocError>
+        ensures { OnOk result (KeysRenamed steps.now to.now (entries_outline pairs.old) (entries_outline pairs.new)) }
+    {
+        for index in 0..pairs.list.len() {
+            if let Some(pair) = pairs.list.get_mut(index) {
+                self.rename_pair(pair, steps, to)?;
+            }
+        }
+        Ok(())
+    }
+
+    /// Writes another part in the key of a pair, if one stands for the steps.
+    fn rename_pair(
+        self,
+        pair: &mut Entry<'t>,
+        steps: &[Step],
+        to: &'t str,
+    ) -> Result<(), AllocError>
+        ensures { OnOk result (entry_outline pair.new ≡ pair_with steps.now to.now (entry_outline pair.old)) }
+    {
+        if let Some(assign) = &mut pair.assign {
+            self.rename_key(assign, steps, to)?;
+        }
+        Ok(())
+    }
+
+    /// Writes another part in the key, if one stands for the steps.
+    fn rename_key(
+        self,
+        assign: &mut Assign<'t>,
+        steps: &[Step],
+        to: &'t str,
+    ) -> Result<(), AllocError>
+        ensures { OnOk result (assign_outline assign.new ≡ key_with steps.now to.now (assign_outline assign.old)) }
+    {
+        if self.reaches(&assign.key, steps)? {
+            assign
+                .key
+                .set_part(steps.len().saturating_sub(1), Leaf::New(to));
+        }
+        Ok(())
+    }
+
+    /// Whether the first parts of the key are the steps, each of them.
+    fn reaches(self, key: &Key<'t>, steps: &[Step]) -> Result<bool, AllocError>
+        ensures { IfOk result (λ all. all ≡ reaches (open_names key.now) steps.now) }
+    {
+        Ok(self.common(key, steps)? == steps.len())
+    }
+
+    /// Takes out what stands at the steps: an element of an array, or all pairs at or below them.
+    pub(crate) fn remove_in(self, own: &mut Value<'t>, steps: &[Step]) -> Result<(), AllocError> {
+        let Some((holder, rest)) = self.holder(own, steps)? else {
+            return Ok(());
+        };
+        match (holder, rest) {
+            (Value::Array(entries), [Step::Index(index)]) => {
+                entries.take_one(self.alloc, *index as usize)
+            }
+            (Value::Inline(entries), _) => self.remove_pairs(entries, rest),
+            _ => Ok(()),
+        }
+    }
+
+    /// Takes out all pairs at or below the steps. Where no other pair mentions the parent, which is a table of dotted keys,
+    /// the first of them becomes the parent as an empty inline table.
+    fn remove_pairs(self, entries: &mut Entries<'t>, steps: &[Step]) -> Result<(), AllocError> {
+        let parent = steps.len().saturating_sub(1);
+        let mut marks = Vec::with_capacity(self.alloc, entries.list.len())?;
+        let mut stays = parent == 0;
+        for pair in &entries.list {
+            let common = self.common_of(pair, steps)?;
+            marks.push(common == steps.len())?;
+            stays = stays || (common == parent && common < steps.len());
+        }
+        if !stays {
+            self.replace_first(entries, &mut marks, parent)?;
+        }
+        entries.take_out(self.alloc, &marks)
+    }
+
+    /// How many parts a pair's key has in common with the steps.
+    fn common_of(self, pair: &Entry<'t>, steps: &[Step]) -> Result<usize, AllocError> {
+        match &pair.assign {
+            Some(assign) => self.common(&assign.key, steps),
+            None => Ok(0),
+        }
+    }
+
+    /// Makes of the first marked pair one whose key has so many parts, and whose value is an empty inline table. Its mark
+    /// goes.
+    fn replace_first(
+        self,
+        entries: &mut Entries<'t>,
+        marks: &mut [bool],
+        parts: usize,
+    ) -> Result<(), AllocError> {
+        for (pair, mark) in entries.list.iter_mut().zip(marks.iter_mut()) {
+            if *mark {
+                *mark = false;
+                return self.empty_pair(pair, parts);
+            }
+        }
+        Ok(())
+    }
+
+    /// Cuts the key of a pair to so many parts, and makes its value an empty inline table.
+    fn empty_pair(self, pair: &mut Entry<'t>, parts: usize) -> Result<(), AllocError> {
+        if let Some(assign) = &mut pair.assign {
+            assign.cut(parts);
+        }
+        pair.value = self.empty_table()?;
+        Ok(())
+    }
+
+    /// `{}`
+    pub(crate) fn empty_table(self) -> Result<Value<'t>, AllocError> {
+        Ok(Value::Inline(Box::new(self.alloc, Entries::none(self.alloc))?))
+    }
+}
+
+/// The key of the pair with the index.
+fn key_at<'a, 't>(pairs: &'a VecDeque<Entry<'t>>, index: usize) -> Option<&'a Key<'t>>
+    ensures { option_map (λ k. open_names k.now) result ≡ option_and_then pair_key (slice_get pairs.now.items index) }
+{
+    Some(&pairs.get(index)?.assign.as_ref()?.key)
+}
+
+impl<'t> Assign<'t> {
+    /// Leaves so many parts of the key, and ` = `.
+    pub(crate) fn cut(&mut self, parts: usize) {
+        self.key.cut(parts);
+        self.before_equals = Leaf::New(" ");
+        self.after_equals = Leaf::New(" ");
+    }
+}

@@ -1,0 +1,195 @@
+//! The working tree written as pieces.
+ghost use Rattle.std.specs.Prelude.{◌≡◌, ℕ, List, IfOk, false};
+ghost use Rattle.toml_text.specs.Source.{text_of};
+ghost use Rattle.toml_working.specs.OpenOutlines.{assign as assign_outline, blank_text, entries as entries_outline, entry as entry_outline};
+ghost use Rattle.toml_working.specs.OpenOutlines.{entry_outlined, gap_text, header as header_outline, key_text, line as line_outline};
+ghost use Rattle.toml_working.specs.OpenOutlines.{value as value_outline};
+ghost use Rattle.toml_working.specs.Outlines.{assign_outlined, entries_outlined, expr_outlined, line_outlined, value_outlined};
+ghost use Rattle.toml_working.specs.Writing.{SpellAll, SpellsLine, SpellsSlot, Writes, WritesOut};
+
+use crate::lines::{Body, Line, Slot};
+use crate::pieces::Pieces;
+use crate::tree::{
+    Assign, Blank, Brackets, Entries, Entry, Expr, Gap, GapPart, Header, Key, OpenLine, Value,
+};
+use crate::working::Tree;
+use std::alloc::AllocError;
+use toml_text::Source;
+use toml_tree::Piece;
+
+impl<'t> Tree<'t> {
+    /// The pieces of the text, behind the mark of the document.
+    pub(crate) fn pieces(
+        &self,
+        source: Source<'t>,
+        mark: Piece<'t>,
+    ) -> Result<Pieces<'t>, AllocError>
+        ensures before { IfOk result (λ pieces. pieces.before ≡ text_of source.entry) }
+        ensures written { IfOk result (λ pieces. WritesOut (text_of source.entry) mark.entry.text.now self.now.slots.items pieces.out) }
+    {
+        let mut pieces = Pieces::none(self.alloc(), source);
+        pieces.place(mark.start, mark.text)?;
+        for slot in &self.slots {
+            pieces.slot(slot)?;
+        }
+        Ok(pieces)
+    }
+}
+
+impl<'t> Pieces<'t> {
+    fn slot(&mut self, slot: &Slot<'t>) -> Result<(), AllocError>
+        ensures before { self.new.before ≡ self.old.before }
+        ensures written { (text : List ℕ) → SpellsSlot self.old.before slot.now text → Writes text self.old self.new result }
+    {
+        match slot {
+            Slot::Kept(kept) => self.keep(kept.span),
+            Slot::Lines(lines) => self.lines(lines),
+        }
+    }
+
+    fn lines(&mut self, lines: &[Line<'t>]) -> Result<(), AllocError>
+        ensures before { self.new.before ≡ self.old.before }
+        ensures written { (text : List ℕ) → SpellAll (SpellsLine self.old.before) lines.now text → Writes text self.old self.new result }
+    {
+        for line in lines {
+            self.line(line)?;
+        }
+        Ok(())
+    }
+
+    fn line(&mut self, line: &Line<'t>) -> Result<(), AllocError>
+        ensures before { self.new.before ≡ self.old.before }
+        ensures written { (text : List ℕ) → SpellsLine self.old.before line.now text → Writes text self.old self.new result }
+    {
+        match &line.body {
+            Body::Kept(kept) => self.keep(kept.span),
+            Body::Open(open) => self.open_line(open),
+        }
+    }
+
+    fn open_line(&mut self, line: &OpenLine<'t>) -> Result<(), AllocError>
+        ensures { Writes (line_outlined (line_outline line.now)) self.old self.new result }
+    {
+        self.begin(line.is_new);
+        self.leaf(line.ws)?;
+        match &line.expr {
+            Expr::Blank => {}
+            Expr::Pair(pair) => {
+                self.assign(&pair.assign)?;
+                self.value(&pair.value)?;
+            }
+            Expr::Header(header) => self.header(header)?,
+        }
+        self.blank(&line.tail)?;
+        self.leaf(line.newline)
+    }
+
+    fn header(&mut self, header: &Header<'t>) -> Result<(), AllocError>
+        ensures { Writes (expr_outlined (header_outline header.now)) self.old self.new result }
+    {
+        let (opening, closing) = match header.brackets {
+            Brackets::One => ("[", "]"),
+            Brackets::Two => ("[[", "]]"),
+        };
+        self.symbol(opening)?;
+        self.leaf(header.before)?;
+        self.key(&header.key)?;
+        self.leaf(header.after)?;
+        self.symbol(closing)
+    }
+
+    fn blank(&mut self, blank: &Blank<'t>) -> Result<(), AllocError>
+        ensures { Writes (blank_text blank.now) self.old self.new result }
+    {
+        self.leaf(blank.ws)?;
+        match &blank.comment {
+            Some(comment) => self.leaf(*comment),
+            None => Ok(()),
+        }
+    }
+
+    fn key(&mut self, key: &Key<'t>) -> Result<(), AllocError>
+        ensures { Writes (key_text key.now) self.old self.new result }
+    {
+        self.leaf(key.first)?;
+        for dotted in &key.rest {
+            self.leaf(dotted.before_dot)?;
+            self.symbol(".")?;
+            self.leaf(dotted.after_dot)?;
+            self.leaf(dotted.part)?;
+        }
+        Ok(())
+    }
+
+    fn assign(&mut self, assign: &Assign<'t>) -> Result<(), AllocError>
+        ensures { Writes (assign_outlined (assign_outline assign.now)) self.old self.new result }
+    {
+        self.key(&assign.key)?;
+        self.leaf(assign.before_equals)?;
+        self.symbol("=")?;
+        self.leaf(assign.after_equals)
+    }
+
+    #[cycle(writing)]
+    fn value(&mut self, value: &Value<'t>) -> Result<(), AllocError>
+        ensures { Writes (value_outlined (value_outline value.now)) self.old self.new result }
+    {
+        match value {
+            Value::Scalar(token) => self.leaf(*token),
+            Value::Array(entries) => {
+                self.leaf(entries.opening)?;
+                self.entries(entries)?;
+                self.symbol("]")
+            }
+            Value::Inline(entries) => {
+                self.leaf(entries.opening)?;
+                self.entries(entries)?;
+                self.symbol("}")
+            }
+        }
+    }
+
+    #[cycle(writing)]
+    fn entries(&mut self, entries: &Entries<'t>) -> Result<(), AllocError>
+        ensures { Writes (entries_outlined false (entries_outline entries.now).entries) self.old self.new result }
+    {
+        let mut is_behind = false;
+        for entry in entries.list.iter() {
+            if is_behind {
+                self.symbol(",")?;
+            }
+            is_behind = true;
+            self.entry(entry)?;
+        }
+        if let Some(end) = &entries.end {
+            if is_behind {
+                self.symbol(",")?;
+            }
+            self.gap(end)?;
+        }
+        Ok(())
+    }
+
+    #[cycle(writing)]
+    fn entry(&mut self, entry: &Entry<'t>) -> Result<(), AllocError>
+        ensures { Writes (entry_outlined (entry_outline entry.now)) self.old self.new result }
+    {
+        self.gap(&entry.before)?;
+        if let Some(assign) = &entry.assign {
+            self.assign(assign)?;
+        }
+        self.value(&entry.value)?;
+        self.gap(&entry.after)
+    }
+
+    fn gap(&mut self, gap: &Gap<'t>) -> Result<(), AllocError>
+        ensures { Writes (gap_text gap.now) self.old self.new result }
+    {
+        for part in &gap.parts {
+            match part {
+                GapPart::Ws(leaf) | GapPart::Lines(leaf) => self.leaf(*leaf)?,
+            }
+        }
+        Ok(())
+    }
+}
