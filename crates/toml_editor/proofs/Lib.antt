@@ -15,3 +15,6 @@ pub mod SetOutlined
 pub mod RenameOutlined
 pub mod written
 pub mod Proved
+mod ReadDocuments
+mod Each
+mod Answered

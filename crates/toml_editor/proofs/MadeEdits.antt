@@ -11,7 +11,8 @@ use Rattle.toml_edits.specs.After.{IsAfter}
 use Rattle.toml_edits.specs.Edits.{Change, change}
 use Rattle.toml_edits.specs.Faults.{IsFault}
 use Rattle.toml_edits.specs.Lists.{Lead}
-use Rattle.toml_editor.specs.Edited.{Places, SoFar, OfDefined, MayBeSpread, TakesLastElement}
+use Rattle.toml_editor.specs.Edited.{SoFar, OfDefined, MayBeSpread, TakesLastElement}
+use Rattle.toml_working.specs.InValues.{Places}
 use Rattle.toml_editor.specs.Making.{IsMade, TellsOne, TellsAny}
 use Rattle.toml_editor.specs.declared.fault.EditorFault.{EditorFault}
 use Rattle.toml_editor.specs.declared.fault.EditorFault.TheVariants as faults

@@ -17,7 +17,8 @@ use Rattle.toml_editor.specs.declared.fault.EditorFault.{EditorFault}
 use Rattle.toml_editor.specs.declared.fault.EditorFault.TheVariants as faults
 use Rattle.toml_working.specs.declared.working.Tree.{Tree}
 use Rattle.toml_editor.specs.CertifiedLists.{ArePlain}
-use Rattle.toml_editor.specs.Edited.{MayBeSpread, Places, TakesLastElement}
+use Rattle.toml_editor.specs.Edited.{MayBeSpread, TakesLastElement}
+use Rattle.toml_working.specs.InValues.{Places}
 use Rattle.toml_editor.specs.Exact.{Follows, IsAt, IsNotPlain, IsNotPlainAt, IsSpreadOn, MakesAll, MakesOne, OfPlain, OfNoPlaceAt, PassesAll, PassesAt, PassesOne, SetsMany, Stops, WritesEdit, style}
 use Rattle.toml_editor.specs.Making.{TellsOne}
 use Rattle.toml_editor.specs.PlainTexts.{IsPlainOn}

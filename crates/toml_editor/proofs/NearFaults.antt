@@ -21,7 +21,8 @@ use Rattle.toml_edits.specs.Edits as edits
 use Rattle.toml_edits.specs.Faults.{IsFault}
 use Rattle.toml_edits.specs.Near.{AreNear, IsNear}
 use Rattle.toml_edits.proofs.Proved.{leads_beside, fault_beside}
-use Rattle.toml_editor.specs.Edited.{Places, SoFar, OfDefined, MayBeSpread, TakesLastElement}
+use Rattle.toml_editor.specs.Edited.{SoFar, OfDefined, MayBeSpread, TakesLastElement}
+use Rattle.toml_working.specs.InValues.{Places}
 use Rattle.toml_editor.specs.Making.{TellsAny}
 use Rattle.toml_editor.specs.declared.fault.EditorFault.{EditorFault}
 use Rattle.toml_editor.specs.declared.fault.EditorFault.TheVariants as faults

@@ -3,12 +3,15 @@ use Rattle.std.proofs.Common.{◌≡◌, ◌∙◌, ◌+◌, ℕ, List, [], ◌�
 use Rattle.toml_names.specs.mentions.Mentions.{Named, named_by, root}
 use Rattle.toml_tree.specs.Tree.{Line}
 use Rattle.toml_tree.proofs.Proved.{text_is_spelled}
-use Rattle.toml_working.proofs.StandingOut.{all_outlined}
-use Rattle.toml_working.proofs.TreeOutlined.{lines_outlined_are}
+use Rattle.toml_working.proofs.Proved.{lines_outlined_are}
 use Rattle.toml_working.specs.Outlines.{line_outlined, lines_outlined}
-use Rattle.toml_working.specs.Standing.{standing, standing_from}
+use Rattle.toml_working.specs.Standing.{Standing, standing, standing_from}
 use Rattle.toml_working.specs.TreeOutlines.{line_outline}
 use Rattle.toml_working.specs.Writing.{LinesAreWritten, TextIsWritten}
+
+-- the texts of lines, one behind the other
+abbrev all_outlined : List Standing → List ℕ
+all_outlined ss = lines_outlined (map (λ (s : Standing). s.outline) ss)
 
 standing_outlined : (earlier : List Named) (n : ℕ) (ls : List Line) → all_outlined (standing_from earlier n ls) ≡ lines_outlined (map line_outline ls)
 standing_outlined earlier n [] = refl

@@ -1,3 +1,4 @@
+pub mod AddressTests
 pub mod Alike
 pub mod Around
 pub mod AroundLines

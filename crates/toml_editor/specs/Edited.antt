@@ -26,7 +26,8 @@ use Rattle.toml_checker.specs.Findings.{IsFirstUnmet}
 use Rattle.toml_checker.specs.Outer.{IsOuter}
 use Rattle.toml_checker.specs.Pairs.{IsFirst}
 use Rattle.toml_editor.specs.PlainTexts.{IsNoPlainEdit, IsNoPlainList, NoSpreadSet, WritesPlain}
-use Rattle.toml_working.specs.Tidy.{AreTidy}
+use Rattle.toml_working.specs.InValues.{Places, IsElementInValue, IsRightInValue}
+use Rattle.toml_working.specs.Tidy.{ArePieces}
 use Rattle.toml_editor.specs.declared.fault.EditorFault.{EditorFault}
 use Rattle.toml_editor.specs.declared.fault.EditorFault.TheVariants.{Text, Syntax, Names, Edit, Spread, LastElement, TooLong, Unverified, NoMemory}
 
@@ -42,12 +43,7 @@ pub record IsEdited (profile : Profile) (before : List ℕ) (cs : List Change) (
   pub plain : WritesPlain profile before cs after
   pub passed : NoSpreadSet profile before cs (length cs)
 
--- the pieces, which are tidy, are the text
-pub record ArePieces (before after : List ℕ) (pieces : List Piece) : Type 0 where
-  pub joined : joined_text before pieces ≡ after
-  pub tidy : AreTidy before pieces
-
--- the same as pieces
+-- the same as pieces, which are tidy
 pub record IsEditedInPieces (profile : Profile) (before : List ℕ) (cs : List Change) (list : List Piece) (ps : List (ℕ × ℕ)) : Type 0 where
   pub after : List ℕ
   pub edited : IsEdited profile before cs after ps
@@ -60,24 +56,6 @@ SoFar profile cs old index P = (mid : Kinds) × Lead profile (take index cs) old
 -- the same of the data of a text
 abbrev pub OnDataSoFar : Profile → List ℕ → List Change → ℕ → (Change → Kinds → Type 0) → Type 0
 OnDataSoFar profile before cs index P = OfData before (λ old. SoFar profile cs old index P)
-
--- where the things of a text stand in it
-abbrev pub Places : Type 0
-Places = Address → Option Place
-
--- it is the value of a line, or stands in one
-abbrev pub IsInValue : Option Place → Type 0
-IsInValue (Some (KeyVal line)) = Unit {0}
-IsInValue (Some (Inside line)) = Unit {0}
-IsInValue _ = ⊥
-
--- what stands right above the address is the value of a line, or stands in one
-abbrev pub IsRightInValue : Places → Address → Type 0
-IsRightInValue places at = (q : Address) × (s : Step) × (at ≡ q ++ s ∷ []) × IsInValue (places q)
-
--- the array whose element the address is, or the table in which the array stands, is the value of a line, or stands in one
-abbrev pub IsElementInValue : Places → Address → Type 0
-IsElementInValue places at = (q : Address) × (s : Step) × (at ≡ q ++ s ∷ []) × (IsInValue (places q) ⊎ IsRightInValue places q)
 
 -- A value for a table or an array, or a new element of an array: its place may be spread over lines. A section or an element of an array
 -- of tables: of the first edit only where its header line would stand in a value; what later ones stand in is not said.

@@ -8,7 +8,8 @@ use Rattle.toml_units.specs.declared.piece.Piece.{Piece}
 use Rattle.toml_units.specs.Plain.{plain_units}
 use Rattle.toml_units.specs.View.{all_units}
 use Rattle.toml_checker.specs.Findings.{IsFirstUnmet}
-use Rattle.toml_editor.specs.Edited.{AreDefinedOn, ArePieces, IsEdited}
+use Rattle.toml_editor.specs.Edited.{AreDefinedOn, IsEdited}
+use Rattle.toml_working.specs.Tidy.{ArePieces}
 use Rattle.toml_editor.specs.PlainTexts.{NoSpreadSet, WritesPlain}
 use Rattle.toml_editor.specs.declared.editing.Edited.{Edited}
 use Rattle.toml_editor.specs.declared.editing.Unjudged.{Unjudged}

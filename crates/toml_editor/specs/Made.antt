@@ -7,9 +7,10 @@ use Rattle.toml_edits.specs.Lists.{Lead}
 use Rattle.toml_editor.specs.declared.fault.EditorFault.{EditorFault}
 use Rattle.toml_editor.specs.declared.making.Read.{Read}
 use Rattle.toml_working.specs.declared.working.Tree.{Tree}
-use Rattle.toml_editor.specs.Edited.{Places}
+use Rattle.toml_working.specs.InValues.{Places}
 use Rattle.toml_editor.specs.Exact.{DoneAll, DoneOne, IsNotPlain, OfNoPlaceAt, Stops}
-use Rattle.toml_editor.specs.Making.{IsMade, TellsAny, TellsOne, places_of}
+use Rattle.toml_editor.specs.Making.{IsMade, TellsAny, TellsOne}
+use Rattle.toml_working.specs.InValues.{places_of}
 use Rattle.toml_working.specs.Starting.{read_of}
 
 -- where the things of the text before the edits stand

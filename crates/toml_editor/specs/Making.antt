@@ -15,7 +15,9 @@ use Rattle.toml_names.specs.declared.model.address.Step.TheVariants.{Index}
 use Rattle.toml_edits.specs.Applied.{IsApplied}
 use Rattle.toml_edits.specs.Edits.{Change}
 use Rattle.toml_edits.specs.Faults.{IsFault}
-use Rattle.toml_editor.specs.Edited.{Places, SoFar, OfDefined, MayBeSpread, TakesLastElement}
+use Rattle.toml_working.specs.InValues.{Places, places_of}
+use Rattle.toml_editor.specs.Edited.{SoFar, OfDefined, MayBeSpread, TakesLastElement}
+use Rattle.toml_working.specs.InValues.{Places}
 use Rattle.toml_editor.specs.declared.fault.EditorFault.{EditorFault}
 use Rattle.toml_editor.specs.declared.fault.EditorFault.TheVariants.{Edit, Spread, LastElement, NoMemory}
 
@@ -30,14 +32,6 @@ IsMany found = (kind_in found [] ≡ Some a_table) ⊎ (kind_in found [] ≡ Som
 -- what was found has a first element, and no second one
 abbrev pub HasOne : Option Datum → Type 0
 HasOne found = IsSome (kind_in found (Index 0 ∷ [])) × (kind_in found (Index 1 ∷ []) ≡ None)
-
--- the address without its last step, if it has one
-abbrev pub IsParent : Address → Address → Type 0
-IsParent at q = (at ≡ []) ⊎ ((s : Step) × (at ≡ q ++ s ∷ []))
-
--- where the things of the lines stand
-abbrev pub places_of : List Line → Places
-places_of lines = place (named lines)
 
 -- the names are those of the lines of the document
 abbrev pub HasNames : Read → Type 0

@@ -1,5 +1,5 @@
 -- Law of the units after a `rename`.
-use Rattle.std.specs.Prelude.{◌≡◌, ℕ, List, [], ◌∷◌, Option, option_and_then}
+use Rattle.std.specs.Prelude.{◌≡◌, ℕ, List, Option, option_and_then}
 use Rattle.toml_tree.specs.Spells.{AreLines}
 use Rattle.toml_tree.specs.Tree.{Line}
 use Rattle.toml_names.specs.mentions.Mentions.{named}
@@ -11,13 +11,8 @@ use Rattle.toml_edits.specs.Edits.{Change, rename}
 use Rattle.toml_units.specs.Units.{TextUnit, units}
 use Rattle.toml_checker.specs.GoneAndChanged.{IsChanged}
 use Rattle.toml_checker.specs.Protected.{standing}
+use Rattle.toml_working.specs.Together.{GoTogether}
 use Rattle.toml_working.specs.Renaming.{rename_lines}
-
--- the lists are as long as each other, and each goes with the one at its place
-abbrev pub GoTogether : {A B : Type 0} → (A → B → Type 0) → List A → List B → Type 0
-GoTogether R [] [] = Unit {0}
-GoTogether R (x ∷ xs) (y ∷ ys) = R x y × GoTogether R xs ys
-GoTogether R _ _ = ⊥
 
 -- The unit as the edit leaves it: its address is carried, its kind and its base stay, and its text stays unless the edit changes it,
 -- whatever line it is of.

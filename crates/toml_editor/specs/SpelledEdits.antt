@@ -8,7 +8,7 @@ use Rattle.toml_names.specs.declared.model.address.Step.TheVariants.{Name, Index
 use Rattle.toml_names.specs.model.Addresses.{Address}
 use Rattle.toml_edits.specs.Edits.{Change, insert, rename}
 use Rattle.toml_editor.specs.declared.spelled.Spelled.{Spelled}
-use Rattle.toml_editor.specs.RenamedUnits.{GoTogether}
+use Rattle.toml_working.specs.Together.{GoTogether}
 
 -- a step is spelled by its name; an index has no bytes
 abbrev pub step_spelled : Step → List ℕ

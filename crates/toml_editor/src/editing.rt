@@ -8,7 +8,8 @@ ghost use Rattle.toml_edits.specs.Edits.{change};
 ghost use Rattle.toml_edits.specs.Near.{AreNear};
 ghost use Rattle.toml_units.specs.Cursors.{StandsBefore, Walks};
 ghost use Rattle.toml_units.specs.declared.cursor.UnitCursor.{UnitCursor};
-ghost use Rattle.toml_editor.specs.Edited.{IsEdited, ArePieces, IsEditedInPieces, RefusesText, Tells};
+ghost use Rattle.toml_editor.specs.Edited.{IsEdited, IsEditedInPieces, RefusesText, Tells};
+ghost use Rattle.toml_working.specs.Tidy.{ArePieces};
 ghost use Rattle.toml_editor.specs.Editing.{IsEditedAs, IsJudged, IsMadeAs, IsReadFrom};
 ghost use Rattle.toml_editor.specs.declared.fault.EditorFault.TheVariants.{NoMemory};
 ghost use Rattle.toml_working.specs.Reading.{IsReadAs};
@@ -17,10 +18,7 @@ ghost use Rattle.toml_working.specs.Writing.{WritesOut};
 
 use crate::fault::EditorFault;
 use crate::making::{Read, make_all};
-use crate::reading::{LineFacts, ReadDocument, let_go, read_document};
 use crate::spelled::{Spelled, spell_all};
-use crate::texts::Texts;
-use crate::working::{Before, Tree};
 use std::alloc::Global;
 use toml_checker::{Afterwards, Finding, find_walked};
 use toml_edits::{Edit, near_addresses};
@@ -28,6 +26,7 @@ use toml_names::{AddressSet, ReadFault};
 use toml_text::{MAX_LEN, Source};
 use toml_tree::{Profile, mark};
 use toml_units::{Certificate, Piece, TakenLines, UnitCursor, join};
+use toml_working::{Before, LineFacts, ReadDocument, Texts, Tree, let_go, read_document};
 
 /// What the edits make, not judged yet: the pieces of the edited text, and the text.
 #[derive(Drop)]

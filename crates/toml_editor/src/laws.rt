@@ -15,7 +15,6 @@ ghost use Rattle.toml_editor.specs.StandingLaws.{RulesOrder, SetStands, Standing
 ghost use Rattle.toml_working.specs.RenameOutlines.{RenameIsOutlined};
 ghost use Rattle.toml_editor.specs.SetLaws.{SetNames, SetRules, SetShort, SetData, SetForms, SetOfProfile, SetWithin, SetElsewhere, SetKeepsLine};
 ghost use Rattle.toml_working.specs.SetOutlines.{SetIsOutlined};
-ghost use Rattle.toml_working.specs.TreeOutlines.{ValueIsOutlined, LineIsOutlined, LinesAreOutlined};
 ghost use Rattle.toml_editor.specs.UnitBlocks.{InsertUnits, RemoveUnits};
 ghost use Rattle.toml_editor.specs.Steps.{GoodTextsAreDocuments, PlainIsWritten, PlainStep, PlainSteps, OneWritten, OneListWritten, StyleIsNewline};
 ghost use Rattle.toml_working.specs.Writing.{LinesAreWritten, TextIsWritten};
@@ -154,12 +153,8 @@ pub fn plain_edits()
     ensures steps { PlainSteps }
 {}
 
-/// A value, a line and lines spell the texts of their outlines. What a `set` and a `rename` make of a value's tree they make of
-/// its outline.
+/// What a `set` and a `rename` make of a value's tree they make of its outline.
 pub fn outlines()
-    ensures value { ValueIsOutlined }
-    ensures line { LineIsOutlined }
-    ensures lines { LinesAreOutlined }
     ensures set { SetIsOutlined }
     ensures rename { RenameIsOutlined }
 {}

@@ -3,31 +3,10 @@
 #![tactic(auto)]
 
 mod editing;
-mod elements;
-mod entries;
 mod fault;
-mod inserting;
-mod inside;
-mod known;
 pub mod laws;
-mod lines;
 mod making;
-mod opening;
-mod pieces;
-mod reading;
-mod removing;
-mod renaming;
-mod sections;
-mod seen;
-mod setting;
 mod spelled;
-mod starting;
-mod steps;
-mod texts;
-mod tree;
-mod values;
-mod working;
-mod writing;
 
 pub use editing::{edit, edit_at_exit, edit_in, edit_pieces, edit_pieces_in};
 pub use fault::EditorFault;

@@ -12,17 +12,15 @@ ghost use Rattle.toml_working.specs.Starting.{NoneIsGone, read_of};
 ghost use Rattle.toml_working.specs.Stands.{KeepsRest};
 
 use crate::fault::EditorFault;
-use crate::removing::parent_of;
-use crate::sections::{
-    Above, NewHeader, innermost_element, is_element_in_value, is_right_in_value,
-};
-use crate::spelled::{Spelled, open_value};
-use crate::tree::Brackets;
-use crate::working::{Before, Tree};
+use crate::spelled::Spelled;
 use std::alloc::{AllocError, Global};
 use toml_edits::{Edit, EditFault, apply_in, place};
 use toml_names::{Address, Data, Datum, LineNames, Name, Step};
 use toml_tree::Profile;
+use toml_working::{
+    Above, Before, Brackets, NewHeader, Tree, innermost_element, is_element_in_value,
+    is_right_in_value, open_value, parent_of,
+};
 
 /// What was read of the document, in the profile, by which the edits are made on its working tree.
 #[derive(Clone, Copy)]

@@ -1,18 +1,12 @@
-//! The texts that edits bring: their values read, and their names spelled.
+//! The names that edits bring, spelled.
 ghost use Rattle.std.specs.Prelude.{◌≡◌, IfOk, map, string_bytes};
 ghost use Rattle.toml_edits.specs.Edits.{change};
-ghost use Rattle.toml_working.specs.Opening.{OpensText};
 ghost use Rattle.toml_editor.specs.SpelledEdits.{AreSpelled, AreSteps, IsNewName, IsSpelled, step_spelled};
 
-use crate::opening::Opener;
-use crate::texts::Texts;
-use crate::tree::Value;
 use std::alloc::{AllocError, Global};
 use toml_edits::{Edit, place};
 use toml_names::{Address, Step};
-use toml_scalar::{SyntaxFault, spell_key};
-use toml_text::Source;
-use toml_tree::{Profile, parse_value_in};
+use toml_scalar::spell_key;
 
 /// The spellings of an edit's names.
 #[derive(Drop)]
@@ -51,24 +45,6 @@ fn new_name(alloc: Global, edit: &Edit) -> Result<String, AllocError>
     match edit {
         Edit::Rename { to, .. } => spell_key(alloc, to),
         _ => Ok(String::new(alloc)),
-    }
-}
-
-/// The text of a value of the profile as a part of the working tree, if it is one.
-pub(crate) fn open_value<'t>(
-    alloc: Global,
-    text: &'t str,
-    profile: Profile,
-) -> Result<Option<Value<'t>>, AllocError>
-    ensures { IfOk result (OpensText profile text.now) }
-{
-    let Ok(source) = Source::new(text.as_bytes()) else {
-        return Ok(None);
-    };
-    match parse_value_in(alloc, source, profile) {
-        Ok(value) => Ok(Some(Opener::new(Texts { alloc, source }).value(&value)?)),
-        Err(SyntaxFault::NoMemory) => Err(AllocError),
-        Err(_) => Ok(None),
     }
 }
 

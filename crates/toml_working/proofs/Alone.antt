@@ -24,7 +24,7 @@ use Rattle.toml_working.specs.Standing.{Standing, Read, StandAlone, begins, lies
 use Rattle.toml_working.proofs.AtPlace.{slot_of}
 pub use Rattle.toml_working.proofs.Beginning.{begins_self}
 use Rattle.toml_working.proofs.Each.{each_back}
-use Rattle.toml_editor.proofs.written.Pairwise.{PairsAre, pairs_of_all}
+use Rattle.toml_working.proofs.Pairwise.{PairsAre, pairs_of_all}
 
 pub begins_through : (a p b : Address) → begins a p ≡ true → begins p b ≡ true → begins a b ≡ true
 begins_through [] p b h k = refl

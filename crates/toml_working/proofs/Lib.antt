@@ -37,3 +37,6 @@ mod OpenedGap
 mod OpenedLine
 mod OpenedBody
 mod Got
+mod Clear
+mod Pairwise
+pub mod Proved

@@ -4,7 +4,7 @@ use Rattle.std.specs.declared.alloc.Global.{Global}
 use Rattle.std.specs.declared.vec.Vec.{Vec}
 use Rattle.std.proofs.lemmas.Option.{none-some, same_Some, slice_get-get_or, slice_get_past}
 use Rattle.std.specs.Prelude.{slice_get}
-use Rattle.toml_editor.specs.RenamedUnits.{GoTogether}
+use Rattle.toml_working.specs.Together.{GoTogether}
 use Rattle.toml_working.proofs.Past.{past_end}
 
 module _ {A : Type 0} (R : A → A → Type 0) where

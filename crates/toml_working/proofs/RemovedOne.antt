@@ -21,7 +21,7 @@ use Rattle.toml_working.proofs.Alone.{item_split, slot_split, split_within}
 use Rattle.toml_working.proofs.AtPlace.{holder_at}
 use Rattle.toml_working.proofs.Each.{each_back, each_front, each_get, each_set, each_weaker}
 use Rattle.toml_working.proofs.Turned.{one_turned}
-use Rattle.toml_editor.proofs.written.Pairwise.{PairsAre, pairs_of_all}
+use Rattle.toml_working.proofs.Pairwise.{PairsAre, pairs_of_all}
 
 -- the address of a pair's line
 pair_address : (p : Address) (base : Option ℕ) (own : Option Address) → is_value_at p base own ≡ true → own ≡ Some p

@@ -21,8 +21,8 @@ use Rattle.toml_working.specs.Standing.{begins}
 use Rattle.toml_working.proofs.Beginning.{still_off}
 use Rattle.toml_working.proofs.Each.{each_weaker}
 use Rattle.toml_working.proofs.SetInside.{apart_in, has_value, index_on, key_each, led_at, led_on, not_both, not_led}
-use Rattle.toml_editor.proofs.written.Clear.{above_true, differ}
-use Rattle.toml_editor.proofs.written.Pairwise.{each_of_all}
+use Rattle.toml_working.proofs.Clear.{above_true, differ}
+use Rattle.toml_working.proofs.Pairwise.{each_of_all}
 
 -- ---- addresses and keys
 

@@ -29,7 +29,7 @@ use Rattle.toml_working.proofs.RenameAway.{step_other}
 use Rattle.toml_working.proofs.RenameInside.{value_kept}
 use Rattle.toml_working.proofs.SetAway.{one_is_apart, others_before}
 use Rattle.toml_working.proofs.Turned.{one_turned}
-use Rattle.toml_editor.proofs.written.Pairwise.{PairsAre, pairs_of_all}
+use Rattle.toml_working.proofs.Pairwise.{PairsAre, pairs_of_all}
 
 -- ---- slots
 

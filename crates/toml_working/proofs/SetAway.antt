@@ -14,7 +14,7 @@ use Rattle.toml_working.specs.SetOutlines.{set_outline}
 use Rattle.toml_working.specs.Standing.{Standing, StandAlone, IsApart, begins, leads_to, covers_at, covers, lies_below, holds, with_value_outline, set_outline_of, set_standing, expr_has, outline_has, has}
 use Rattle.toml_working.proofs.Each.{each_back}
 use Rattle.toml_working.proofs.SetInside.{aside}
-use Rattle.toml_editor.proofs.written.Pairwise.{PairsAre, pairs_of_all, each_of_all}
+use Rattle.toml_working.proofs.Pairwise.{PairsAre, pairs_of_all, each_of_all}
 
 -- a line that does not hold what stands there
 away_expr : (p : Address) (new : ValueOutline) (at : Address) (e : ExprOutline) → begins at p ≡ false

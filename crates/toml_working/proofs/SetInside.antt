@@ -18,9 +18,9 @@ use Rattle.toml_working.specs.SetOutlines.{outlined_names, set_outline, set_outl
 use Rattle.toml_working.specs.Standing.{begins}
 use Rattle.toml_working.specs.Stands.{SetsIn}
 use Rattle.toml_working.proofs.Beginning.{begins_self, still_off}
-use Rattle.toml_editor.proofs.written.Clear.{above_apart, differ, self}
+use Rattle.toml_working.proofs.Clear.{above_apart, differ, self}
 use Rattle.toml_working.proofs.Each.{each_weaker}
-use Rattle.toml_editor.proofs.written.Pairwise.{each_of_all}
+use Rattle.toml_working.proofs.Pairwise.{each_of_all}
 
 -- ---- addresses and keys
 

@@ -15,7 +15,7 @@ use Rattle.toml_working.specs.declared.working.Tree.{Tree}
 use Rattle.toml_working.specs.OpenOutlines.{line}
 use Rattle.toml_working.specs.Outlines.{LineOutline}
 use Rattle.toml_working.specs.RenameStanding.{line_part_with, rename_below, rename_own, rename_standing}
-use Rattle.toml_editor.specs.RenamedUnits.{GoTogether}
+use Rattle.toml_working.specs.Together.{GoTogether}
 use Rattle.toml_working.specs.Standing.{Standing, Read, AreOrdered, body_outline, slot_standing}
 use Rattle.toml_working.specs.Stands.{BodyKept, SlotKept, Stands}
 use Rattle.toml_working.specs.Turning.{LineTurns, OneTurns}

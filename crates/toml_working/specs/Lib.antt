@@ -1,4 +1,6 @@
 pub mod Tidy
+pub mod Together
+pub mod InValues
 -- words of the code's own contracts
 pub mod KnownLines
 pub mod Reading

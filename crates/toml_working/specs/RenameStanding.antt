@@ -1,14 +1,15 @@
 -- `rename` on lines, by what finds them: a line at the address or below it gets the new name in its own address and, where a part of its
 -- key stands for the address, the new spelling there; on the line whose value holds what stands at the address that part of a key in
 -- the value gets it.
-use Rattle.std.specs.Prelude.{ℕ, suc, ◌+◌, ◌-◌, List, [], ◌∷◌, length, set, Option, Some, None, option_map, if◌then◌else◌}
+use Rattle.std.specs.Prelude.{◌≡◌, ℕ, suc, ◌+◌, ◌-◌, List, [], ◌∷◌, length, set, Option, Some, None, option_map, if◌then◌else◌}
 use Rattle.std.specs.Bool.{nat_lt}
 use Rattle.toml_names.specs.declared.model.address.Step.TheVariants.{Name, Index}
-use Rattle.toml_names.specs.model.Addresses.{Address}
-use Rattle.toml_working.specs.Outlines.{ExprOutline, LineOutline, Nothing, Pair, Header}
-use Rattle.toml_working.specs.RenameOutlines.{rename_outline}
+use Rattle.toml_names.specs.model.Addresses.{Address, below}
+use Rattle.toml_working.specs.Outlines.{AssignOutline, ExprOutline, LineOutline, ValueOutline, Nothing, Pair, Header}
+use Rattle.toml_working.specs.RenameOutlines.{rename_outline, rename_outlined}
 use Rattle.toml_working.specs.RenamingIn.{first_with, rest_with, part_with}
-use Rattle.toml_working.specs.Standing.{Standing, is_below, with_value_outline}
+use Rattle.toml_working.specs.SetOutlines.{outlined_names}
+use Rattle.toml_working.specs.Standing.{Standing, begins, is_below, with_value_outline}
 
 -- how many of the steps are names
 abbrev pub names_in : Address → ℕ
@@ -35,6 +36,14 @@ key_part_with i text (Header opening before first rest after closing) =
 abbrev pub own_part_with : Option ℕ → List ℕ → ExprOutline → ExprOutline
 own_part_with None text e = e
 own_part_with (Some i) text e = key_part_with i text e
+
+-- Law: the key and the value of a line whose key stands in the table at the first address, each renamed, are the pair with one part of its
+-- key renamed where the address of its value begins with the new name's, else with the value alone.
+abbrev pub PairIsRenamed : Type 0
+PairIsRenamed = (p at : Address) (text : List ℕ) (a : AssignOutline) (v : ValueOutline)
+    → Pair (rename_outlined p text at a) (rename_outline p text (below at (outlined_names a)) v)
+    ≡ (if begins p (below at (outlined_names a)) then own_part_with (minus (length p) (length at + 1)) text (Pair a (rename_outline p text (below at (outlined_names a)) v))
+    else Pair a (rename_outline p text (below at (outlined_names a)) v))
 
 -- the address with the last name of the first another one
 abbrev pub renamed_address : Address → List ℕ → Address → Address

@@ -3,7 +3,7 @@ use Rattle.std.specs.Prelude.{◌≡◌, ◌≢◌, ◌<◌, ◌≤◌, ℕ, Lis
 use Rattle.std.specs.Global.{Global}
 use Rattle.toml_text.specs.declared.span.Span.{Span}
 use Rattle.toml_tree.specs.Spells.{EachIs}
-use Rattle.toml_units.specs.Pieces.{AreHeld}
+use Rattle.toml_units.specs.Pieces.{AreHeld, joined_text}
 use Rattle.toml_units.specs.declared.piece.Piece.{Piece}
 use Rattle.toml_units.specs.declared.piece.Piece.TheVariants.{Kept, New}
 
@@ -73,3 +73,8 @@ TakesKept place old new (Some last) = (last.end ≡ place) × (old ≡ new ++ Ke
 abbrev pub TakesNew : List Piece → List Piece → Option (String Global) → Type 0
 TakesNew old new None = (new ≡ old) × (¬ EndsWith IsNew old)
 TakesNew old new (Some last) = old ≡ new ++ New last ∷ []
+
+-- the pieces, which are tidy, are the text
+pub record ArePieces (before after : List ℕ) (pieces : List Piece) : Type 0 where
+  pub joined : joined_text before pieces ≡ after
+  pub tidy : AreTidy before pieces

@@ -12,17 +12,17 @@ use toml_names::{Address, Name, Step};
 
 /// The elements that were taken out of an array of tables.
 #[derive(Drop)]
-struct Gone {
+pub struct Gone {
     /// Where the array stands, uncut.
-    array: Address,
+    pub array: Address,
     /// Their indices, uncut, which rise.
-    indices: Vec<u64>,
+    pub indices: Vec<u64>,
 }
 
 /// Those of all arrays of tables.
 #[derive(Drop)]
-pub(crate) struct Elements {
-    gone: Vec<Gone>,
+pub struct Elements {
+    pub gone: Vec<Gone>,
 }
 
 impl Elements {
@@ -36,7 +36,7 @@ impl Elements {
     }
 
     /// The uncut address of what stands at the address, which counts the elements that are left.
-    pub(crate) fn uncut(&self, alloc: Global, at: &Address) -> Result<Address, AllocError>
+    pub fn uncut(&self, alloc: Global, at: &Address) -> Result<Address, AllocError>
         ensures { IfOk result (λ a. NoneIsGone self.now → a ≡ at.now) }
     {
         let mut steps = Vec::with_capacity(alloc, at.steps().len())?;

@@ -29,7 +29,7 @@ struct Insertion<'a, 'x> {
 impl<'x> Tree<'x> {
     /// Puts a value in at the address; `spelled` are the spellings of its steps, and `named` is the place that the document's
     /// names have for the parent. It answers `false` where the parent is no table, and no array in a value.
-    pub(crate) fn insert(
+    pub fn insert(
         &mut self,
         before: Before<'_, 'x>,
         named: Option<Place>,

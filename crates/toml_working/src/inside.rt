@@ -17,7 +17,7 @@ use toml_names::{Address, Step};
 
 /// What becomes of what stands in a value at some steps.
 #[derive(Drop)]
-pub(crate) enum Inside<'t> {
+pub enum Inside<'t> {
     /// A value stands there in place of the old one.
     Set(Value<'t>),
     /// A value is put in there; these are the spellings of the whole address.

@@ -14,7 +14,7 @@ use toml_tree::{Line, LineReader};
 /// A line of the document. Those are held on which an edit may change something, as far as the edits tell by their addresses: so
 /// no line is read twice, and a document takes memory for few of its lines.
 #[derive(Drop)]
-pub(crate) enum KnownLine<'x> {
+pub enum KnownLine<'x> {
     Held(Box<Line<'x>>),
     /// It was let go, and this hands it out again.
     Place(LineReader<'x>),

@@ -22,50 +22,50 @@ use toml_units::Unit;
 
 /// A line that is as it was.
 #[derive(Clone, Copy)]
-pub(crate) struct Kept {
+pub struct Kept {
     /// Its number in the document, from 0.
-    pub(crate) line: usize,
+    pub line: usize,
     /// Where it stands, with its newline.
-    pub(crate) span: Span,
+    pub span: Span,
     /// Whether it is the header of an array of tables.
-    pub(crate) is_tables: bool,
+    pub is_tables: bool,
     /// Whether it is the last line, which ends in no newline.
-    pub(crate) is_last: bool,
+    pub is_last: bool,
     /// The number of its first unit, which is the line itself.
-    pub(crate) first: usize,
+    pub first: usize,
 }
 
 /// What stands on a line.
 #[derive(Drop)]
-pub(crate) enum Body<'t> {
+pub enum Body<'t> {
     Kept(Kept),
     Open(Box<OpenLine<'t>>),
 }
 
 /// A line of the working tree.
 #[derive(Drop)]
-pub(crate) struct Line<'t> {
+pub struct Line<'t> {
     /// Where its value, table or element stands; none for a blank line.
-    pub(crate) address: Option<Address>,
+    pub address: Option<Address>,
     /// Of a line with a key and a value: how many steps the address of the table has in which it stands.
-    pub(crate) base: Option<usize>,
-    pub(crate) body: Body<'t>,
+    pub base: Option<usize>,
+    pub body: Body<'t>,
 }
 
 /// A line by what finds it.
 #[derive(Clone, Copy)]
-pub(crate) struct Seen<'a> {
+pub struct Seen<'a> {
     /// Where its value, table or element stands; none for a blank line.
-    pub(crate) address: Option<&'a Address>,
+    pub address: Option<&'a Address>,
     /// Of a line with a key and a value: how many steps the address of the table has in which it stands.
-    pub(crate) base: Option<usize>,
+    pub base: Option<usize>,
     /// Whether it is the header of an array of tables.
-    pub(crate) is_tables: bool,
+    pub is_tables: bool,
 }
 
 /// What a line is sought as.
 #[derive(Clone, Copy)]
-pub(crate) enum Sought {
+pub enum Sought {
     /// Its value is what stands at the address, or holds it.
     Holder,
     /// It is the header line of what stands at the address.
@@ -78,7 +78,7 @@ pub(crate) enum Sought {
 
 /// The lines that now stand where one line of the document stood, in text order.
 #[derive(Drop)]
-pub(crate) enum Slot<'t> {
+pub enum Slot<'t> {
     /// The line of the document, as it was; its address is that of its unit.
     Kept(Kept),
     Lines(Vec<Line<'t>>),

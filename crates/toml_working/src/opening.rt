@@ -287,3 +287,21 @@ impl<'t> Opener<'t> {
         })
     }
 }
+
+/// The text of a value of the profile as a part of the working tree, if it is one.
+pub fn open_value<'t>(
+    alloc: Global,
+    text: &'t str,
+    profile: Profile,
+) -> Result<Option<Value<'t>>, AllocError>
+    ensures { IfOk result (OpensText profile text.now) }
+{
+    let Ok(source) = Source::new(text.as_bytes()) else {
+        return Ok(None);
+    };
+    match parse_value_in(alloc, source, profile) {
+        Ok(value) => Ok(Some(Opener::new(Texts { alloc, source }).value(&value)?)),
+        Err(SyntaxFault::NoMemory) => Err(AllocError),
+        Err(_) => Ok(None),
+    }
+}

@@ -1,7 +1,7 @@
 //! The pieces of the edited text: kept spans of the text before the edits, and new texts.
 ghost use Rattle.std.specs.Prelude.{◌≡◌, ◌↔◌, [], IsTrue, slice_range};
 ghost use Rattle.toml_text.specs.Source.{IsHeld, text_of};
-ghost use Rattle.toml_editor.specs.Edited.{ArePieces};
+ghost use Rattle.toml_working.specs.Tidy.{ArePieces};
 ghost use Rattle.toml_working.specs.OpenOutlines.{leaf_text};
 ghost use Rattle.toml_working.specs.Tidy.{IsKeptTo, IsNew, EndsWith, TakesKept, TakesNew};
 ghost use Rattle.toml_working.specs.Writing.{Writes};
@@ -16,14 +16,14 @@ use toml_units::Piece;
 /// touch. Clauses see them as the text before the edits and what is written so
 /// far. Where memory runs out the piece that was written last may be lost.
 #[derive(Drop)]
-pub(crate) struct Pieces<'t> {
-    alloc: Global,
-    source: Source<'t>,
-    list: Vec<Piece>,
+pub struct Pieces<'t> {
+    pub alloc: Global,
+    pub source: Source<'t>,
+    pub list: Vec<Piece>,
     /// Where the last kept span ends; the next one begins there or behind it.
-    end: usize,
+    pub end: usize,
     /// Where the piece that was written last ends in the text before the edits, if it is one of that text.
-    at: Option<usize>,
+    pub at: Option<usize>,
 }
 
 impl<'t> Model for Pieces<'t> {
@@ -54,7 +54,7 @@ impl<'t> Pieces<'t> {
     }
 
     /// The pieces.
-    pub(crate) fn into_list(self) -> Vec<Piece>
+    pub fn into_list(self) -> Vec<Piece>
         ensures { ArePieces self.entry.before self.entry.out result.items }
     {
         self.list

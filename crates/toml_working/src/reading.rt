@@ -19,22 +19,22 @@ use toml_units::{TakenLines, Unit};
 
 /// What the working tree knows of a line that is as it was.
 #[derive(Clone, Copy)]
-pub(crate) struct LineFacts {
+pub struct LineFacts {
     /// Where it stands, with its newline.
-    pub(crate) span: Span,
+    pub span: Span,
     /// Whether it is the header of an array of tables.
-    pub(crate) is_tables: bool,
+    pub is_tables: bool,
     /// Whether it is the last line, which ends in no newline.
-    pub(crate) is_last: bool,
+    pub is_last: bool,
 }
 
 /// A document that was read.
 #[derive(Drop)]
-pub(crate) struct ReadDocument<'x> {
-    pub(crate) lines: Vec<KnownLine<'x>>,
-    pub(crate) facts: Vec<LineFacts>,
+pub struct ReadDocument<'x> {
+    pub lines: Vec<KnownLine<'x>>,
+    pub facts: Vec<LineFacts>,
     /// What the lines name, and their units.
-    pub(crate) taken: TakenLines<'x>,
+    pub taken: TakenLines<'x>,
 }
 
 /// A line that was read just now, what handed it out, and whether it is the last one.
@@ -108,7 +108,7 @@ impl<'x> ReadDocument<'x> {
 }
 
 /// Lets go what was read of lines. Its parts are many, and they are let go one by one here alone.
-pub(crate) fn let_go(_taken: TakenLines<'_>) {}
+pub fn let_go(_taken: TakenLines<'_>) {}
 
 /// Whether the set reaches a line, by its own unit.
 fn is_near(unit: Option<&Unit>, touched: &AddressSet) -> bool {
@@ -122,7 +122,7 @@ fn is_near(unit: Option<&Unit>, touched: &AddressSet) -> bool {
 }
 
 /// The document of the profile that the text is, or why it is none. The set has the addresses that edits touch.
-pub(crate) fn read_document<'x>(
+pub fn read_document<'x>(
     alloc: Global,
     source: Source<'x>,
     profile: Profile,

@@ -1,6 +1,6 @@
 //! `remove`: elements and pairs in a value, and lines.
 ghost use Rattle.std.specs.Prelude.{◌≡◌, IfOk, OnOk, length, true};
-ghost use Rattle.toml_editor.specs.Making.{IsParent};
+ghost use Rattle.toml_working.specs.InValues.{IsParent};
 ghost use Rattle.toml_working.specs.RemovingIn.{LeavesBehind, LeavesLines, LeavesOf, LeavesSlot, LeavesSlots, RemovesLines};
 ghost use Rattle.toml_working.specs.Seeing.{IsSoughtAt};
 ghost use Rattle.toml_working.specs.declared.lines.Sought.TheVariants.{Holder};
@@ -30,7 +30,7 @@ struct Parent {
 impl<'x> Tree<'x> {
     /// Takes out what stands at the address. It answers `false`, and changes nothing, at the only element of an array of
     /// tables: without its header there would be no array.
-    pub(crate) fn remove(
+    pub fn remove(
         &mut self,
         before: Before<'_, 'x>,
         named: Option<Place>,
@@ -363,7 +363,7 @@ impl Header<'_> {
 }
 
 /// The address without its last step.
-pub(crate) fn parent_of(alloc: Global, at: &Address) -> Result<Address, AllocError>
+pub fn parent_of(alloc: Global, at: &Address) -> Result<Address, AllocError>
     ensures { IfOk result (λ q. IsParent at.now q) }
 {
     let mut steps = at.copy(alloc)?.into_steps();

@@ -28,7 +28,7 @@ struct Renaming<'a, 't> {
 
 impl<'x> Tree<'x> {
     /// Renames what stands at the address, and carries the addresses of lines at it and below.
-    pub(crate) fn rename(
+    pub fn rename(
         &mut self,
         before: Before<'_, 'x>,
         named: Option<Place>,

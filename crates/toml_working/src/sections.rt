@@ -1,9 +1,9 @@
 //! `section` and `element`: a header line of a new table, or of a new element of an array of tables.
 ghost use Rattle.std.specs.Prelude.{IfOk, IsTrue, List, OnOk};
-ghost use Rattle.toml_editor.specs.Edited.{IsElementInValue, IsInValue, IsRightInValue};
+ghost use Rattle.toml_working.specs.InValues.{IsElementInValue, IsInValue, IsRightInValue};
 ghost use Rattle.toml_tree.specs.Tree.{Line as Lined};
 ghost use Rattle.toml_names.specs.reader.LineNames.{Stand, StandFor};
-ghost use Rattle.toml_editor.specs.Making.{places_of};
+ghost use Rattle.toml_working.specs.InValues.{places_of};
 ghost use Rattle.toml_working.specs.Stands.{KeepsRest};
 
 use crate::lines::{Line, Seen, Slot};
@@ -16,24 +16,24 @@ use toml_units::Unit;
 
 /// A header line that is to be put in.
 #[derive(Clone, Copy)]
-pub(crate) struct NewHeader<'a, 'x> {
+pub struct NewHeader<'a, 'x> {
     /// Where its table or element stands.
-    pub(crate) at: &'a Address,
-    pub(crate) brackets: Brackets,
+    pub at: &'a Address,
+    pub brackets: Brackets,
     /// The spellings of the steps of the address.
-    pub(crate) spelled: &'x [String],
+    pub spelled: &'x [String],
 }
 
 /// What stands above the table or the element of a header line that is to be put in.
 #[derive(Drop)]
-pub(crate) struct Above {
+pub struct Above {
     /// The address right above its own.
-    pub(crate) at: Address,
+    pub at: Address,
     /// The place that the document's names have for it.
-    pub(crate) named: Option<Place>,
+    pub named: Option<Place>,
     /// The innermost element of an array of tables there or above, if there is one, and its place by the same names.
-    pub(crate) element: Option<Address>,
-    pub(crate) near: Option<Place>,
+    pub element: Option<Address>,
+    pub near: Option<Place>,
 }
 
 /// How far a walk through the lines has come that looks for the first header line behind those of an element.
@@ -52,7 +52,7 @@ enum Walk {
 impl<'x> Tree<'x> {
     /// Puts a header line in: before the first header line behind those of the innermost element of an array of tables in
     /// which it is to stand, else at the end of the text. It answers `false` where a value stands right above it, or holds what stands there.
-    pub(crate) fn add_header(
+    pub fn add_header(
         &mut self,
         before: Before<'_, 'x>,
         above: &Above,
@@ -207,7 +207,7 @@ fn names_key<'t>(
 }
 
 /// The element at the address, or the innermost one above it.
-pub(crate) fn innermost_element(
+pub fn innermost_element(
     alloc: Global,
     at: &Address,
 ) -> Result<Option<Address>, AllocError> {
@@ -232,7 +232,7 @@ fn steps_to_index(steps: &[Step]) -> usize {
 }
 
 /// Whether what stands right above the address is the value of a line of the document, or stands in one.
-pub(crate) fn is_right_in_value(
+pub fn is_right_in_value(
     alloc: Global,
     names: &LineNames,
     at: &Address,
@@ -249,7 +249,7 @@ pub(crate) fn is_right_in_value(
 
 /// Whether the array whose element the address is, or the table in which the array stands, is the value of a line of the
 /// document, or stands in one.
-pub(crate) fn is_element_in_value(
+pub fn is_element_in_value(
     alloc: Global,
     names: &LineNames,
     at: &Address,

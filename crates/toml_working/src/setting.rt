@@ -13,7 +13,7 @@ use toml_names::{Address, Place};
 impl<'x> Tree<'x> {
     /// Puts a value in place of the one at the address. It answers `false` where no single value stands there: a table that
     /// headers or dotted keys make, or an array of tables.
-    pub(crate) fn set(
+    pub fn set(
         &mut self,
         before: Before<'_, 'x>,
         named: Option<Place>,

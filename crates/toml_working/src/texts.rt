@@ -15,9 +15,9 @@ use toml_text::Source;
 
 /// Memory, and the text of which trees are opened: that before the edits, or the value of an edit.
 #[derive(Clone, Copy)]
-pub(crate) struct Texts<'t> {
-    pub(crate) alloc: Global,
-    pub(crate) source: Source<'t>,
+pub struct Texts<'t> {
+    pub alloc: Global,
+    pub source: Source<'t>,
 }
 
 impl<'t> Texts<'t> {

@@ -8,7 +8,7 @@ use std::collections::VecDeque;
 
 /// A piece of the working text.
 #[derive(Clone, Copy)]
-pub(crate) enum Leaf<'t> {
+pub enum Leaf<'t> {
     /// It begins here in the text before the edits.
     Kept { start: usize, text: &'t str },
     /// An edit has written it.
@@ -17,13 +17,13 @@ pub(crate) enum Leaf<'t> {
 
 /// What stands between the values of an array, or the pairs of an inline table, but for the commas.
 #[derive(Drop)]
-pub(crate) struct Gap<'t> {
-    pub(crate) parts: Vec<GapPart<'t>>,
+pub struct Gap<'t> {
+    pub parts: Vec<GapPart<'t>>,
 }
 
 /// A part of a gap; the parts are in text order.
 #[derive(Clone, Copy)]
-pub(crate) enum GapPart<'t> {
+pub enum GapPart<'t> {
     Ws(Leaf<'t>),
     /// A newline or a comment, or lines of the document with the whitespace around them.
     Lines(Leaf<'t>),
@@ -31,31 +31,31 @@ pub(crate) enum GapPart<'t> {
 
 /// `.` between whitespace, and the key part behind it.
 #[derive(Clone, Copy)]
-pub(crate) struct Dotted<'t> {
-    pub(crate) before_dot: Leaf<'t>,
-    pub(crate) after_dot: Leaf<'t>,
-    pub(crate) part: Leaf<'t>,
+pub struct Dotted<'t> {
+    pub before_dot: Leaf<'t>,
+    pub after_dot: Leaf<'t>,
+    pub part: Leaf<'t>,
 }
 
 /// A key by its parts.
 #[derive(Drop)]
-pub(crate) struct Key<'t> {
-    pub(crate) first: Leaf<'t>,
-    pub(crate) rest: Vec<Dotted<'t>>,
+pub struct Key<'t> {
+    pub first: Leaf<'t>,
+    pub rest: Vec<Dotted<'t>>,
 }
 
 /// A key, and `=` between whitespace.
 #[derive(Drop)]
-pub(crate) struct Assign<'t> {
-    pub(crate) key: Key<'t>,
-    pub(crate) before_equals: Leaf<'t>,
-    pub(crate) after_equals: Leaf<'t>,
+pub struct Assign<'t> {
+    pub key: Key<'t>,
+    pub before_equals: Leaf<'t>,
+    pub after_equals: Leaf<'t>,
 }
 
 /// A value.
 #[derive(Drop)]
 #[cycle(value)]
-pub(crate) enum Value<'t> {
+pub enum Value<'t> {
     Scalar(Leaf<'t>),
     Array(Box<Entries<'t>>),
     Inline(Box<Entries<'t>>),
@@ -64,53 +64,53 @@ pub(crate) enum Value<'t> {
 /// What stands between the brackets of an array, or the braces of an inline table.
 #[derive(Drop)]
 #[cycle(value)]
-pub(crate) struct Entries<'t> {
+pub struct Entries<'t> {
     /// The bracket or the brace with which it begins. What stands before an element may be new or taken out, so this tells
     /// where the element is kept from.
-    pub(crate) opening: Leaf<'t>,
+    pub opening: Leaf<'t>,
     /// A queue, since elements put in or taken out at the front then move no others.
-    pub(crate) list: VecDeque<Entry<'t>>,
+    pub list: VecDeque<Entry<'t>>,
     /// What stands behind the last comma, where one follows the last entry; without an entry all that stands there.
-    pub(crate) end: Option<Gap<'t>>,
+    pub end: Option<Gap<'t>>,
 }
 
 /// An element of an array, or a pair of an inline table, with what stands around it up to the brackets or the commas.
 #[derive(Drop)]
 #[cycle(value)]
-pub(crate) struct Entry<'t> {
-    pub(crate) before: Gap<'t>,
+pub struct Entry<'t> {
+    pub before: Gap<'t>,
     /// A pair's key; an element has none, and most entries are elements.
-    pub(crate) assign: Option<Box<Assign<'t>>>,
-    pub(crate) value: Value<'t>,
-    pub(crate) after: Gap<'t>,
+    pub assign: Option<Box<Assign<'t>>>,
+    pub value: Value<'t>,
+    pub after: Gap<'t>,
 }
 
 /// Whitespace, and a comment if one follows.
 #[derive(Clone, Copy)]
-pub(crate) struct Blank<'t> {
-    pub(crate) ws: Leaf<'t>,
-    pub(crate) comment: Option<Leaf<'t>>,
+pub struct Blank<'t> {
+    pub ws: Leaf<'t>,
+    pub comment: Option<Leaf<'t>>,
 }
 
 /// A key/value pair of a line.
 #[derive(Drop)]
-pub(crate) struct KeyVal<'t> {
-    pub(crate) assign: Assign<'t>,
-    pub(crate) value: Value<'t>,
+pub struct KeyVal<'t> {
+    pub assign: Assign<'t>,
+    pub value: Value<'t>,
 }
 
 /// A header between its brackets.
 #[derive(Drop)]
-pub(crate) struct Header<'t> {
-    pub(crate) brackets: Brackets,
-    pub(crate) before: Leaf<'t>,
-    pub(crate) key: Key<'t>,
-    pub(crate) after: Leaf<'t>,
+pub struct Header<'t> {
+    pub brackets: Brackets,
+    pub before: Leaf<'t>,
+    pub key: Key<'t>,
+    pub after: Leaf<'t>,
 }
 
 /// What stands on a line, behind the whitespace before it.
 #[derive(Drop)]
-pub(crate) enum Expr<'t> {
+pub enum Expr<'t> {
     Blank,
     Pair(KeyVal<'t>),
     Header(Header<'t>),
@@ -118,7 +118,7 @@ pub(crate) enum Expr<'t> {
 
 /// How many brackets stand on each side of a header.
 #[derive(Clone, Copy)]
-pub(crate) enum Brackets {
+pub enum Brackets {
     /// `[table]`
     One,
     /// `[[array of tables]]`
@@ -127,18 +127,18 @@ pub(crate) enum Brackets {
 
 /// A line whose pieces can be changed.
 #[derive(Drop)]
-pub(crate) struct OpenLine<'t> {
+pub struct OpenLine<'t> {
     /// Whether an edit has written it.
-    pub(crate) is_new: bool,
-    pub(crate) ws: Leaf<'t>,
-    pub(crate) expr: Expr<'t>,
-    pub(crate) tail: Blank<'t>,
-    pub(crate) newline: Leaf<'t>,
+    pub is_new: bool,
+    pub ws: Leaf<'t>,
+    pub expr: Expr<'t>,
+    pub tail: Blank<'t>,
+    pub newline: Leaf<'t>,
 }
 
 impl<'t> Leaf<'t> {
     /// The piece of no bytes.
-    pub(crate) const EMPTY: Leaf<'static> = Leaf::New("");
+    pub const EMPTY: Leaf<'static> = Leaf::New("");
 
     /// Its text.
     pub(crate) fn text(self) -> &'t str

@@ -19,9 +19,9 @@ use toml_units::Unit;
 
 /// The place of a line: the slot, and the index among the lines that stand there.
 #[derive(Clone, Copy)]
-pub(crate) struct Position {
-    pub(crate) slot: usize,
-    pub(crate) index: usize,
+pub struct Position {
+    pub slot: usize,
+    pub index: usize,
 }
 
 impl Position {
@@ -39,7 +39,7 @@ impl Position {
 
 /// Where a table stands that is no value of a line, nor inside one.
 #[derive(Clone, Copy)]
-pub(crate) enum TablePlace {
+pub enum TablePlace {
     /// The header line that makes it.
     Header(Position),
     /// A line whose dotted key makes it.
@@ -50,9 +50,9 @@ pub(crate) enum TablePlace {
 
 /// The document before the edits, as the working tree looks at it.
 #[derive(Clone, Copy)]
-pub(crate) struct Before<'a, 'x> {
-    pub(crate) known: &'a [KnownLine<'x>],
-    pub(crate) units: &'a [Unit],
+pub struct Before<'a, 'x> {
+    pub known: &'a [KnownLine<'x>],
+    pub units: &'a [Unit],
 }
 
 /// The working tree. There is a slot for each line of the document, and in it the lines that now stand there.
@@ -60,20 +60,20 @@ pub(crate) struct Before<'a, 'x> {
 /// It holds neither the document nor its names: each lifetime that its type would name for them makes all its methods dearer
 /// to prove. Who asks for a line or a table hands in the document, and says where the names have it.
 #[derive(Drop)]
-pub(crate) struct Tree<'x> {
-    pub(crate) texts: Texts<'x>,
-    pub(crate) slots: Vec<Slot<'x>>,
+pub struct Tree<'x> {
+    pub texts: Texts<'x>,
+    pub slots: Vec<Slot<'x>>,
     /// Which elements of arrays of tables are gone. All addresses here are uncut.
-    pub(crate) elements: Elements,
+    pub elements: Elements,
     /// The newline of new lines: that of the document's first line, or LF where that has none.
-    pub(crate) style: Leaf<'x>,
+    pub style: Leaf<'x>,
     /// Where the last line with a key and a value before the first header was put in, if one was: a guess that is tested.
-    pub(crate) root_end: Position,
+    pub root_end: Position,
 }
 
 impl<'x> Tree<'x> {
     /// The tree of a document that is as it was.
-    pub(crate) fn of(
+    pub fn of(
         texts: Texts<'x>,
         before: Before<'_, 'x>,
         facts: &[LineFacts],

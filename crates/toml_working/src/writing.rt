@@ -19,7 +19,7 @@ use toml_tree::Piece;
 
 impl<'t> Tree<'t> {
     /// The pieces of the text, behind the mark of the document.
-    pub(crate) fn pieces(
+    pub fn pieces(
         &self,
         source: Source<'t>,
         mark: Piece<'t>,

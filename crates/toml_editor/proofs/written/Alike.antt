@@ -7,7 +7,7 @@ use Rattle.toml_names.specs.mentions.Alike.{AreAlike}
 use Rattle.toml_names.specs.mentions.Mentions.{Named, named_by, named_from, pair_named, section, is_tables_at, count_tables}
 use Rattle.toml_names.specs.model.Addresses.{Address}
 use Rattle.toml_names.proofs.Proved.{pairs_leave_alike}
-use Rattle.toml_working.proofs.Each.{each_front}
+use Rattle.toml_editor.proofs.Each.{each_front}
 use Rattle.toml_editor.proofs.written.Pairwise.{PairsAre, pairs_front}
 
 pub alike_self : (xs : List Named) → AreAlike xs xs

@@ -13,7 +13,7 @@ use Rattle.toml_names.proofs.Proved.{named_has_line, below_is_of_its_line, line_
 use Rattle.toml_units.specs.Units.{element_unit, pair_unit, inside, elements, members, line_units, units_from, units, comment_units}
 use Rattle.toml_units.specs.declared.unit.UnitKind.TheVariants as kinds
 use Rattle.toml_working.specs.Written.{HasValue}
-use Rattle.toml_working.proofs.Each.{each_append, each_back, each_weaker}
+use Rattle.toml_editor.proofs.Each.{each_append, each_back, each_weaker}
 use Rattle.toml_editor.proofs.written.Alike.{each_from, pairs_from}
 use Rattle.toml_editor.proofs.written.Around.{IsSole, sole}
 use Rattle.toml_editor.proofs.written.Clear.{above_apart, self}

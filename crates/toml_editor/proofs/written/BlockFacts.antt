@@ -3,7 +3,7 @@ use Rattle.std.proofs.Common.{◌⊎◌, inl, inr, List, ◌++◌, sym, subst}
 use Rattle.toml_tree.specs.Spells.{EachIs}
 use Rattle.toml_names.specs.mentions.Mentions.{Named}
 use Rattle.toml_editor.specs.Blocks.{IsPut}
-use Rattle.toml_working.proofs.Each.{each_append, each_front, each_back}
+use Rattle.toml_editor.proofs.Each.{each_append, each_front, each_back}
 pub use Rattle.toml_editor.proofs.written.Pairwise.{pairs_front, pairs_back, pairs_between}
 use Rattle.toml_editor.proofs.written.Pairwise.{Has, has_append_left, has_append_right, has_parts}
 

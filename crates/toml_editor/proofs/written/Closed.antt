@@ -10,7 +10,7 @@ use Rattle.toml_names.specs.mentions.Keys.{Key, part_name, rest_names}
 use Rattle.toml_names.specs.mentions.Mentions.{Named, inside, elements, members, fronts, table_at, value_named, pair_named}
 use Rattle.toml_names.specs.model.Addresses.{Address, IsAbove, child, element, below}
 use Rattle.toml_names.proofs.Proved.{inside_is_below}
-use Rattle.toml_working.proofs.Each.{each_append, each_weaker}
+use Rattle.toml_editor.proofs.Each.{each_append, each_weaker}
 use Rattle.toml_editor.proofs.written.Clear.{below-cons}
 use Rattle.toml_editor.proofs.written.Pairwise.{Has, has_parts, has_append_left, has_append_right, from_has}
 

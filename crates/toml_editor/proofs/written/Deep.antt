@@ -8,7 +8,7 @@ use Rattle.toml_names.specs.model.Addresses.{Address, element, below}
 use Rattle.toml_names.specs.mentions.Keys.{Key, key_names, part_name, rest_names}
 use Rattle.toml_names.specs.mentions.Mentions.{Named, inside, elements, members, fronts, pair_named, value_named}
 use Rattle.toml_names.specs.mentions.Rules.{max_steps}
-use Rattle.toml_working.proofs.Each.{each_front, each_back}
+use Rattle.toml_editor.proofs.Each.{each_front, each_back}
 
 abbrev pub AllShort : List Named → Type 0
 AllShort = EachIs (λ m. length m.address ≤ max_steps)

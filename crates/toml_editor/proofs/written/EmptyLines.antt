@@ -12,7 +12,7 @@ use Rattle.toml_names.specs.reader.Names.{own_address}
 use Rattle.toml_units.specs.Units.{TextUnit, comment_units, inside, line_unit, line_units, units_from, units}
 use Rattle.toml_units.specs.declared.unit.UnitKind.TheVariants as kinds
 use Rattle.toml_editor.specs.UnitBlocks.{BeginWithLine}
-use Rattle.toml_working.proofs.Each.{each_append}
+use Rattle.toml_editor.proofs.Each.{each_append}
 use Rattle.toml_editor.proofs.written.LastLines.{no_lines, tail_no_line, both_long, pair_long}
 use Rattle.toml_editor.proofs.written.UnitsGone.{value_in}
 use Rattle.toml_editor.proofs.written.UnitsPut.{lines_first}

@@ -11,7 +11,7 @@ use Rattle.toml_names.specs.model.Addresses.{Address}
 use Rattle.toml_names.specs.model.Data.{Kinds, IsDataOf}
 use Rattle.toml_names.specs.model.Places.{IsNamed}
 use Rattle.toml_edits.specs.ValueTexts.{IsGoodValue}
-use Rattle.toml_working.proofs.Each.{each_weaker}
+use Rattle.toml_editor.proofs.Each.{each_weaker}
 use Rattle.toml_editor.proofs.written.Pairwise.{Has, has_of_any, any_of_has, has_weaker, all_of_each, members_self, taken}
 
 at_most : (a b : ℕ) → ¬ (b < a) → a ≤ b

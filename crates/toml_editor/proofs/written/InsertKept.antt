@@ -16,7 +16,7 @@ use Rattle.toml_editor.specs.Blocks.{root_pair, named_plain}
 use Rattle.toml_editor.specs.InsertLaws.{InsertRules, InsertShort, InsertData}
 use Rattle.toml_editor.proofs.written.BlockFacts.{each_put, has_old, has_block, has_new}
 use Rattle.toml_editor.proofs.written.Clear.{IsUnder}
-use Rattle.toml_working.proofs.Each.{each_weaker}
+use Rattle.toml_editor.proofs.Each.{each_weaker}
 use Rattle.toml_editor.proofs.written.InsertNamed.{insert_names}
 use Rattle.toml_editor.proofs.written.Pairwise.{each_of_all, Has, has_of_any, any_of_has}
 use Rattle.toml_editor.proofs.written.SetKept.{F, block, clear_under, block_short, in_block, of_block}

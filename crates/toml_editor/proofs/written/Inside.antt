@@ -28,7 +28,7 @@ use Rattle.toml_checker.specs.Plain.{Site, site, next_line, flags_from, stands}
 use Rattle.toml_checker.specs.Protected.{IsProtected}
 use Rattle.toml_checker.proofs.Proved.{flags_tell}
 use Rattle.toml_editor.specs.CarriedUnits.{ArePartners}
-use Rattle.toml_working.proofs.Each.{each_get}
+use Rattle.toml_editor.proofs.Each.{each_get}
 use Rattle.toml_editor.proofs.written.EmptyLines.{empty_ends, behind_empty}
 use Rattle.toml_editor.proofs.written.Nested.{IsIn, of_second, fits, seconds_rise, firsts_rise, before_at, member_at, two_at, no_line_inside, next_at, tail_next, NearLine, NoLine, nearest}
 use Rattle.toml_editor.proofs.written.Way.{is_here}

@@ -15,7 +15,7 @@ use Rattle.toml_working.specs.Apart.{HasKeysApart, EachApart, KeysApart, begins_
 use Rattle.toml_working.specs.SetOutlines.{outlined_names}
 use Rattle.toml_working.specs.Standing.{Standing, IsApart, standing, standing_from}
 use Rattle.toml_working.specs.TreeOutlines.{assign_outline, value_outline, items_outline, pairs_outline, line_outline}
-use Rattle.toml_working.proofs.Each.{each_front, each_back, each_weaker}
+use Rattle.toml_editor.proofs.Each.{each_front, each_back, each_weaker}
 use Rattle.toml_editor.proofs.SetOutlined.{names_outlined}
 use Rattle.toml_editor.proofs.written.Alike.{pairs_from}
 use Rattle.toml_editor.proofs.written.Clear.{below-cons}

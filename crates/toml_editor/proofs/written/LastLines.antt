@@ -11,7 +11,7 @@ use Rattle.toml_units.specs.Units.{TextUnit, comment_units, inside, line_units}
 use Rattle.toml_units.specs.declared.unit.UnitKind.{UnitKind}
 use Rattle.toml_units.specs.declared.unit.UnitKind.TheVariants as kinds
 use Rattle.toml_editor.specs.ChangedUnits.{is_inner, LiesInValue}
-use Rattle.toml_working.proofs.Each.{each_append}
+use Rattle.toml_editor.proofs.Each.{each_append}
 use Rattle.toml_editor.proofs.written.UnitsGone.{inner_line, value_in}
 use Rattle.toml_editor.proofs.written.WayBlock.{lines_append}
 use Rattle.toml_editor.proofs.written.WayZip.{lines_in}

@@ -14,7 +14,7 @@ use Rattle.toml_units.specs.Tails.{TailsEnd}
 use Rattle.toml_units.specs.Units.{TextUnit, units}
 use Rattle.toml_units.proofs.Proved.{units_nest}
 use Rattle.toml_checker.specs.Pairs.{RiseFrom, Rise, AllFit, StandsAs, IsFirst, IsSecond}
-use Rattle.toml_working.proofs.Each.{each_get}
+use Rattle.toml_editor.proofs.Each.{each_get}
 
 -- ---- pairs
 

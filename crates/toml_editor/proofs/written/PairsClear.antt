@@ -10,7 +10,7 @@ use Rattle.toml_names.specs.mentions.Mentions as mentions
 use Rattle.toml_names.specs.model.Addresses.{Address, IsAbove, child, below}
 use Rattle.toml_names.proofs.Proved.{inside_moves}
 use Rattle.toml_names.specs.reader.Names.{header_end}
-use Rattle.toml_working.proofs.Each.{each_front, each_back}
+use Rattle.toml_editor.proofs.Each.{each_front, each_back}
 use Rattle.toml_editor.proofs.written.SetNamed.{end_not_above}
 
 values_map : (p : Address) (ms : List Named) → AreValuesAt p ms → AreValuesAt p (map (shifted 0 []) ms)

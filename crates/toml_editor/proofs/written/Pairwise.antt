@@ -6,7 +6,7 @@ use Rattle.toml_tree.specs.Spells.{EachIs}
 use Rattle.toml_names.specs.mentions.Joining.{is_lone}
 use Rattle.toml_names.specs.mentions.Mentions.{Named}
 use Rattle.toml_names.specs.mentions.Rules.{may_follow}
-use Rattle.toml_working.proofs.Each.{each_append, each_front, each_back, each_weaker}
+use Rattle.toml_editor.proofs.Each.{each_append, each_front, each_back, each_weaker}
 
 abbrev pub PairsAre : {A : Type 0} → (A → A → Type 0) → List A → Type 0
 PairsAre R [] = Unit {0}

@@ -16,7 +16,7 @@ use Rattle.toml_editor.specs.RenameLaws.{RenameOfProfile}
 use Rattle.toml_working.specs.Renaming.{rename_value, rename_items, rename_pairs, rename_expr, rename_line}
 use Rattle.toml_editor.specs.SetLaws.{SetOfProfile}
 use Rattle.toml_working.specs.Setting.{set_within, set_items, set_pairs, set_expr, set_line}
-use Rattle.toml_working.proofs.Each.{each_append}
+use Rattle.toml_editor.proofs.Each.{each_append}
 use Rattle.toml_editor.proofs.written.RemoveKept.{two_ways}
 
 abbrev ArePlain : List Line → Type 0

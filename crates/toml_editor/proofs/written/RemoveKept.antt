@@ -18,7 +18,7 @@ use Rattle.toml_working.specs.Removing.{remove_line, remove_lines, left_behind, 
 use Rattle.toml_working.specs.Written.{HasPair}
 use Rattle.toml_editor.proofs.written.BlockFacts.{each_old, has_old, has_new}
 use Rattle.toml_editor.proofs.written.Clear.{IsUnder}
-use Rattle.toml_working.proofs.Each.{each_append, each_back, each_weaker}
+use Rattle.toml_editor.proofs.Each.{each_append, each_back, each_weaker}
 use Rattle.toml_editor.proofs.written.Formed.{newline_some, line_before}
 use Rattle.toml_editor.proofs.written.InsertKept.{block_under}
 use Rattle.toml_editor.proofs.written.Pairwise.{PairsAre, pairs_back, pairs_between, Alone, pairs_of_all, Has, has_of_any, any_of_has, from_has}

@@ -23,7 +23,7 @@ use Rattle.toml_working.specs.Written.{HasPair}
 use Rattle.toml_working.specs.Removing.{remove_line, remove_lines, left_behind, empty_line}
 use Rattle.toml_editor.proofs.written.Alike.{alike_self, alike_pair}
 use Rattle.toml_editor.proofs.written.Behind.{put_behind, put_here}
-use Rattle.toml_working.proofs.Each.{each_front, each_back, each_weaker, each_append}
+use Rattle.toml_editor.proofs.Each.{each_front, each_back, each_weaker, each_append}
 use Rattle.toml_editor.proofs.written.Pairwise.{PairsAre, pairs_back, pairs_between, Alone, Has, has_of_any, has_parts, from_has, pairs_of_all}
 use Rattle.toml_editor.proofs.written.Plain.{next_alike, behind, behind_alike, plain_is}
 use Rattle.toml_editor.proofs.written.Clear.{same_is, self}

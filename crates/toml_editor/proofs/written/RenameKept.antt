@@ -13,7 +13,7 @@ use Rattle.toml_edits.specs.Edits.{rename}
 use Rattle.toml_edits.proofs.Proved.{parted_at_last}
 use Rattle.toml_editor.specs.RenameLaws.{moved, moved_one, RenameGood, RenameData}
 use Rattle.toml_working.specs.Renaming.{rename_lines}
-use Rattle.toml_working.proofs.Each.{each_map, each_weaker}
+use Rattle.toml_editor.proofs.Each.{each_map, each_weaker}
 use Rattle.toml_editor.proofs.written.Moved.{moved_apart, moved_length}
 use Rattle.toml_editor.proofs.written.Pairwise.{each_of_all, all_of_each, Has, has_of_any, any_of_has, has_map, map_has, has_weaker, taken}
 use Rattle.toml_editor.proofs.written.RenameNamed.{rename_names}

@@ -18,7 +18,7 @@ use Rattle.toml_editor.specs.RenameLaws.{moved, moved_one, RenameNames}
 use Rattle.toml_working.specs.Lines.{lines_from}
 use Rattle.toml_working.specs.Renaming.{rename_part, rename_rest, rename_key, rename_assign, rename_value, rename_items, rename_pairs, rename_header, rename_expr, rename_line, rename_lines}
 use Rattle.toml_editor.proofs.written.Clear.{below-cons, same_is}
-use Rattle.toml_working.proofs.Each.{each_front, each_back}
+use Rattle.toml_editor.proofs.Each.{each_front, each_back}
 use Rattle.toml_editor.proofs.written.Alike.{adds, count_cons, each_from}
 use Rattle.toml_editor.proofs.written.InsertNamed.{spelled_again}
 use Rattle.toml_editor.proofs.written.Moved.{moved_root, moved_name, moved_index, moved_same}

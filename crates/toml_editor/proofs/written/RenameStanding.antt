@@ -29,9 +29,9 @@ use Rattle.toml_working.specs.Renaming.{rename_expr, rename_header, rename_key, 
 use Rattle.toml_working.specs.Standing.{Standing, begins, line_stands, standing_from}
 use Rattle.toml_editor.specs.StandingLaws.{RenameStands}
 use Rattle.toml_working.specs.TreeOutlines.{assign_outline, dotted_outline, header_outline, line_of, value_outline}
-use Rattle.toml_working.proofs.Each.{each_front, each_back}
-use Rattle.toml_working.proofs.RenameAway.{minus_some, pair_renamed, step_other}
-use Rattle.toml_working.proofs.RenameInside.{above_behind, above_more, child_apart, part_kept, same_behind}
+use Rattle.toml_editor.proofs.Each.{each_front, each_back}
+use Rattle.toml_working.proofs.Proved.{pair_renamed}
+use Rattle.toml_editor.proofs.written.AddressTests.{above_behind, above_more, child_apart, minus_some, same_behind, step_other}
 use Rattle.toml_editor.proofs.RenameOutlined.{assign_renamed, part_renamed, value_renamed}
 use Rattle.toml_editor.proofs.SetOutlined.{names_outlined}
 use Rattle.toml_editor.proofs.written.Alike.{each_from}
@@ -107,7 +107,7 @@ module _ (to : List ℕ) where
   off p here (Index i ∷ steps) ds h = off p (element here i) steps ds (above_more here (Index i ∷ []) p h)
   off p here (Name m ∷ steps) [] h = refl
   off p here (Name m ∷ steps) (d ∷ ds) h =
-      ap₂ (λ t r. dot d t ∷ r) (part_renamed p to (child here m) d.part ∙ part_kept p text (child here m) d.part.text (child_apart p text here m h))
+      ap₂ (λ t r. dot d t ∷ r) (part_renamed p to (child here m) d.part ∙ ap (λ b. cond b text d.part.text) (child_apart p here m h))
       (off p (child here m) steps ds (above_more here (Name m ∷ []) p h))
 
   -- the parts behind one that led to `here`, where the address is that of a name from there on
@@ -154,7 +154,7 @@ module _ (to : List ℕ) where
         let p = here ++ child (s ∷ q) n in
         let apart = same_behind here (Name m ∷ []) (child (s ∷ q) n) ∙ ap (λ b. same_step (Name m) s && b) (shorter q n) ∙ and_right (same_step (Name m) s) false refl in
         ap (λ t. dot d t ∷ dots (rename_rest_along p to (child here m) steps ds))
-        (part_renamed p to (child here m) d.part ∙ part_kept p text (child here m) d.part.text apart)
+        (part_renamed p to (child here m) d.part ∙ ap (λ b. cond b text d.part.text) apart)
         ∙ by (same_step s (Name m)) refl (along q (child here m) steps ds)
       where
         -- one part further

@@ -16,7 +16,7 @@ use Rattle.toml_editor.specs.Exact.{SetsMany}
 use Rattle.toml_editor.specs.PlainTexts.{IsSpreadSet}
 use Rattle.toml_editor.specs.Steps.{IsGoodText}
 use Rattle.toml_working.specs.Written.{HasValue}
-use Rattle.toml_working.proofs.Each.{each_append}
+use Rattle.toml_editor.proofs.Each.{each_append}
 use Rattle.toml_editor.proofs.written.Pairwise.{has_of_any, any_of_has, has_each}
 
 -- if a scalar stands there, it is a value of its own

@@ -9,7 +9,7 @@ use Rattle.toml_editor.specs.SetLaws.{SetForms}
 use Rattle.toml_working.specs.Lines.{lines_from}
 use Rattle.toml_working.specs.Setting.{set_within, set_items, set_pairs, set_value, set_expr, set_line}
 use Rattle.toml_editor.proofs.written.Deep.{AllShort, pair_deep}
-use Rattle.toml_working.proofs.Each.{each_back}
+use Rattle.toml_editor.proofs.Each.{each_back}
 use Rattle.toml_editor.proofs.written.Alike.{each_from}
 use Rattle.toml_editor.proofs.written.Pairwise.{each_of_all}
 

@@ -18,7 +18,7 @@ use Rattle.toml_working.specs.Setting.{set_within, set_items, set_pairs, set_val
 use Rattle.toml_editor.specs.SetLaws.{swapped_one, swapped, SetNames}
 use Rattle.toml_editor.proofs.written.Alike.{alike_self, alike_pairs, section_pair, each_from}
 use Rattle.toml_editor.proofs.written.Clear.{clear_more, differ, above_false, above_true, above_apart, below-cons, same_is, self}
-use Rattle.toml_working.proofs.Each.{each_front, each_back}
+use Rattle.toml_editor.proofs.Each.{each_front, each_back}
 
 -- ---- what is swapped
 

@@ -16,7 +16,7 @@ use Rattle.toml_names.proofs.Proved.{clear_of_root, headers_are_clear, line_valu
 use Rattle.toml_units.specs.Units.{line_base}
 use Rattle.toml_working.specs.Standing.{Standing, StandAlone, begins, covers, covers_at, lies_below, line_stands, standing_from, standing}
 use Rattle.toml_editor.specs.StandingLaws.{RulesOrder}
-use Rattle.toml_working.proofs.Each.{each_front, each_back, each_weaker}
+use Rattle.toml_editor.proofs.Each.{each_front, each_back, each_weaker}
 use Rattle.toml_editor.proofs.written.Alike.{alike_self, each_from}
 use Rattle.toml_editor.proofs.written.BlockFacts.{pairs_front, pairs_between}
 use Rattle.toml_editor.proofs.written.KeptApart.{kept_apart}

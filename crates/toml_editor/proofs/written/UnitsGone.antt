@@ -11,7 +11,7 @@ use Rattle.toml_units.specs.Units.{TextUnit, comment_units, gap_line_units, gap_
 use Rattle.toml_units.specs.declared.unit.UnitKind.{UnitKind}
 use Rattle.toml_units.specs.declared.unit.UnitKind.TheVariants as kinds
 use Rattle.toml_editor.specs.ChangedUnits.{is_inner, LiesInValue, IsSetTo, AreMadeOf}
-use Rattle.toml_working.proofs.Each.{each_append}
+use Rattle.toml_editor.proofs.Each.{each_append}
 use Rattle.toml_editor.proofs.written.UnitsIn.{of_element, of_pair}
 
 -- what may stand in a value is no line

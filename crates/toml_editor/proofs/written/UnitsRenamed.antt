@@ -20,9 +20,10 @@ use Rattle.toml_units.specs.declared.unit.UnitKind.TheVariants as kinds
 use Rattle.toml_checker.specs.GoneAndChanged.{LineIsChanged}
 use Rattle.toml_working.specs.Lines.{lines_from}
 use Rattle.toml_editor.specs.RenameLaws.{moved, moved_one}
-use Rattle.toml_editor.specs.RenamedUnits.{GoTogether, IsCarried, RenameUnits}
+use Rattle.toml_editor.specs.RenamedUnits.{IsCarried, RenameUnits}
+use Rattle.toml_working.specs.Together.{GoTogether}
 use Rattle.toml_working.specs.Renaming.{rename_key, rename_assign, rename_value, rename_items, rename_pairs, rename_header, rename_expr, rename_line, rename_lines}
-use Rattle.toml_working.proofs.Each.{each_front, each_back}
+use Rattle.toml_editor.proofs.Each.{each_front, each_back}
 use Rattle.toml_editor.proofs.written.Alike.{each_from}
 use Rattle.toml_editor.proofs.written.Moved.{moved_root, moved_length}
 use Rattle.toml_editor.proofs.written.RenameKept.{renamed_moved}

@@ -27,7 +27,7 @@ use Rattle.toml_editor.specs.ChangedUnits.{LiesInValue, IsExchanged, IsSetTo, Ar
 use Rattle.toml_editor.specs.Held.{StandsAt, StandsWithin, StandsInItems, StandsInPairs, StandsOnLine, StandsFrom, HoldAt}
 use Rattle.toml_working.specs.Lines.{lines_from}
 use Rattle.toml_working.specs.Setting.{set_within, set_items, set_pairs, set_value, set_expr, set_line}
-use Rattle.toml_working.proofs.Each.{each_front, each_back}
+use Rattle.toml_editor.proofs.Each.{each_front, each_back}
 use Rattle.toml_editor.proofs.written.Alike.{alike_self, each_from}
 use Rattle.toml_editor.proofs.written.Around.{IsSole, AreSoleItems, AreSolePairs}
 use Rattle.toml_editor.proofs.written.AroundLines.{IsSoleLine, AreSoleLines, lines_sole}

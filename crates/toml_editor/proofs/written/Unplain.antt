@@ -6,7 +6,7 @@ use Rattle.toml_names.specs.mentions.Mentions.{Named, named}
 use Rattle.toml_names.specs.mentions.Rules.{KeepsRules, IsShort}
 use Rattle.toml_names.proofs.Proved.{moved_keep_rules}
 use Rattle.toml_editor.specs.Blocks.{unnumbered, named_plain}
-use Rattle.toml_working.proofs.Each.{each_map, map_each}
+use Rattle.toml_editor.proofs.Each.{each_map, map_each}
 use Rattle.toml_editor.proofs.written.Deep.{AllShort}
 use Rattle.toml_editor.proofs.written.Pairwise.{PairsAre, each_of_all, all_of_each, pairs_map, Has, has_map, map_has}
 

@@ -18,7 +18,8 @@ use Rattle.toml_checker.specs.Plain.{Site, site, next_line, stands, is_named}
 use Rattle.toml_edits.specs.Sides.{side}
 use Rattle.toml_edits.proofs.Proved.{sides_are_right}
 use Rattle.toml_editor.specs.ChangedUnits.{LiesInValue}
-use Rattle.toml_editor.specs.RenamedUnits.{IsCarried, GoTogether}
+use Rattle.toml_editor.specs.RenamedUnits.{IsCarried}
+use Rattle.toml_working.specs.Together.{GoTogether}
 use Rattle.toml_editor.specs.UnitBlocks.{BeginWithLine}
 use Rattle.toml_editor.proofs.written.LastLines.{LastIsFull, inner_is_no_line}
 use Rattle.toml_editor.proofs.written.UnitsPut.{line_lines}

@@ -15,9 +15,9 @@ use Rattle.toml_checker.specs.Comments.{texts}
 use Rattle.toml_checker.specs.Owed.{IsOwed}
 use Rattle.toml_checker.specs.Plain.{Site}
 use Rattle.toml_working.specs.Inserting.{insert_lines}
-use Rattle.toml_editor.specs.RenamedUnits.{GoTogether}
+use Rattle.toml_working.specs.Together.{GoTogether}
 use Rattle.toml_editor.specs.UnitBlocks.{BeginWithLine, root_line, pair_text}
-use Rattle.toml_working.proofs.Each.{each_append}
+use Rattle.toml_editor.proofs.Each.{each_append}
 use Rattle.toml_editor.proofs.written.Way.{both, new, olds, news, one_line}
 use Rattle.toml_editor.proofs.written.WayBlock.{line_after, olds_append, news_append, added_append, fits_append, new_fits, new_olds, new_news, new_adds, lines_append, inside_lines, same_comments, inside_asked}
 use Rattle.toml_editor.proofs.written.WayComments.{added, comments}

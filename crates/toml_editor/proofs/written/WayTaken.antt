@@ -27,7 +27,7 @@ use Rattle.toml_editor.specs.ChangedUnits.{is_inner, LiesInValue}
 use Rattle.toml_working.specs.Removing.{remove_lines}
 use Rattle.toml_editor.specs.UnitBlocks.{root_line, left_of, BeginWithLine}
 use Rattle.toml_working.specs.Written.{HasPair}
-use Rattle.toml_working.proofs.Each.{each_front, each_back}
+use Rattle.toml_editor.proofs.Each.{each_front, each_back}
 use Rattle.toml_editor.proofs.written.SetKept.{clear_carried}
 use Rattle.toml_editor.proofs.written.UnitsGone.{inner_line, value_in}
 use Rattle.toml_editor.proofs.written.UnitsTaken.{AreTaken, lines_taken}

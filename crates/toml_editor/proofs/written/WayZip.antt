@@ -21,7 +21,7 @@ use Rattle.toml_checker.specs.Protected.{standing}
 use Rattle.toml_edits.specs.Sides.{side}
 use Rattle.toml_edits.proofs.Proved.{sides_are_right}
 use Rattle.toml_checker.proofs.Proved.{flags_tell}
-use Rattle.toml_editor.specs.RenamedUnits.{GoTogether}
+use Rattle.toml_working.specs.Together.{GoTogether}
 use Rattle.toml_editor.proofs.written.Way.{Step, both, olds, news, one_line, is_here}
 use Rattle.toml_editor.proofs.written.WayFits.{SameNewline, Matches, Fits}
 

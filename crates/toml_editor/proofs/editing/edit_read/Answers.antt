@@ -3,7 +3,7 @@ use Rattle.toml_edits.specs.Edits.{change}
 use Rattle.toml_editor.specs.Edited.{Tells}
 use Rattle.toml_editor.specs.Editing.{IsMadeText, IsReadFrom}
 use Rattle.toml_editor.specs.declared.making.Read.{Read}
-use Rattle.toml_working.proofs.ReadDocuments.{read_from}
+use Rattle.toml_editor.proofs.ReadDocuments.{read_from}
 use Rattle.toml_editor.proofs.editing.edit_read.Goals as goal
 
 pub make_text-made-requires-clause-read : goal.make_text-made-requires-clause-read

@@ -9,11 +9,11 @@ use Rattle.toml_edits.specs.Edits.{change}
 use Rattle.toml_edits.proofs.Proved.{leads_beside}
 use Rattle.toml_working.specs.declared.texts.Texts.{Texts}
 use Rattle.toml_working.specs.Starting.{read_of}
-use Rattle.toml_working.proofs.Answered.{if_ok_two}
+use Rattle.toml_editor.proofs.Answered.{if_ok_two}
 use Rattle.toml_editor.proofs.Judgements.{any_tells}
 use Rattle.toml_editor.proofs.NearFaults.{any_of_all, has_data}
 use Rattle.toml_editor.proofs.PassedSpread.{no_spread_set, stops_told}
-use Rattle.toml_working.proofs.ReadDocuments.{is_document, is_read_of, spelled, tree}
+use Rattle.toml_editor.proofs.ReadDocuments.{is_document, is_read_of, spelled, tree}
 use Rattle.toml_editor.proofs.PlainMade.{plain_written}
 use Rattle.toml_editor.proofs.editing.make_text.Goals as goal
 

@@ -2,7 +2,7 @@ use Rattle.std.proofs.Common.{sym, subst}
 use Rattle.toml_edits.specs.Edits.{change}
 use Rattle.toml_names.specs.model.Data.{kind_at}
 use Rattle.toml_editor.specs.Edited.{MayBeSpread}
-use Rattle.toml_editor.specs.Making.{places_of}
+use Rattle.toml_working.specs.InValues.{places_of}
 use Rattle.toml_working.specs.Starting.{read_of}
 use Rattle.toml_editor.proofs.making.may_be_spread.Goals as goal
 

@@ -5,7 +5,7 @@ use Rattle.toml_editor.specs.Exact.{WritesInsert, WritesSet}
 use Rattle.toml_working.specs.RemovingIn.{RemovesLines}
 use Rattle.toml_editor.specs.SpelledEdits.{IsSpelled}
 use Rattle.toml_working.specs.Starting.{read_of}
-use Rattle.toml_working.proofs.Answered.{if_ok_both, if_ok_with}
+use Rattle.toml_editor.proofs.Answered.{if_ok_both, if_ok_with}
 use Rattle.toml_editor.proofs.EditWritten.{edit_written}
 use Rattle.toml_editor.proofs.making.write_edit.Goals as goal
 

@@ -4,7 +4,7 @@ use Rattle.toml_tree.specs.Spells.{SpellsValue, value_parts, joined}
 use Rattle.toml_tree.specs.View.{value as tree_value}
 use Rattle.toml_working.specs.declared.texts.Texts.{Texts}
 use Rattle.toml_working.specs.Opening.{Lie}
-use Rattle.toml_editor.proofs.spelled.open_value.Goals as goal
+use Rattle.toml_working.proofs.opening.open_value.Goals as goal
 
 pub returns-in_ok-value-in-Ok-parse_value_in : goal.returns-in_ok-value-in-Ok-parse_value_in
 returns-in_ok-value-in-Ok-parse_value_in c =

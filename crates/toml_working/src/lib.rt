@@ -1,0 +1,37 @@
+//! The working tree: the lines of a document, opened where an edit changes something on them, the changes of the six edits,
+//! and the pieces of the text that then stands there. No judge is known here.
+#![tactic(auto)]
+
+mod elements;
+mod entries;
+mod inserting;
+mod inside;
+mod known;
+pub mod laws;
+mod lines;
+mod opening;
+mod pieces;
+mod reading;
+mod removing;
+mod renaming;
+mod sections;
+mod seen;
+mod setting;
+mod starting;
+mod steps;
+mod texts;
+mod tree;
+mod values;
+mod working;
+mod writing;
+
+pub use elements::Elements;
+pub use known::KnownLine;
+pub use opening::open_value;
+pub use pieces::Pieces;
+pub use reading::{LineFacts, ReadDocument, let_go, read_document};
+pub use removing::parent_of;
+pub use sections::{Above, NewHeader, innermost_element, is_element_in_value, is_right_in_value};
+pub use texts::Texts;
+pub use tree::{Brackets, Value};
+pub use working::{Before, Tree};
