@@ -7,7 +7,8 @@ ghost use Rattle.toml_tree.specs.View.{assign as tree_assign, gap as tree_gap, h
 ghost use Rattle.toml_tree.specs.View.{keyval as tree_keyval, value as tree_value};
 ghost use Rattle.toml_working.specs.OpenOutlines.{assign as assign_outlined, header as header_outlined, leaf_text};
 ghost use Rattle.toml_working.specs.OpenOutlines.{opening_brackets, closing_brackets};
-ghost use Rattle.toml_working.specs.Opening.{IsKeyOpened, Lie, OpensArray, OpensGap, OpensInline, OpensKeyVal, OpensLine, OpensValue};
+ghost use Rattle.toml_working.specs.Opening.{IsKeyOpened, Lie, OpensArray, OpensGap, OpensInline, OpensKeyVal, OpensLine};
+ghost use Rattle.toml_working.specs.Opening.{OpensText, OpensValue};
 ghost use Rattle.toml_working.specs.Opening.{array_tree, inline_tree};
 ghost use Rattle.toml_working.specs.TreeOutlines.{assign_outline, gap_spelled, header_outline};
 
@@ -16,10 +17,11 @@ use crate::tree::{
     Assign, Blank, Brackets, Dotted, Entries, Entry, Expr, Gap, GapPart, Header, Key, KeyVal, Leaf,
     OpenLine, Value,
 };
-use std::alloc::AllocError;
+use std::alloc::{AllocError, Global};
 use std::collections::VecDeque;
-use toml_text::Span;
-use toml_tree::{Line, Piece};
+use toml_scalar::SyntaxFault;
+use toml_text::{Source, Span};
+use toml_tree::{Line, Piece, Profile, parse_value_in};
 
 /// Opens trees.
 #[derive(Clone, Copy)]
