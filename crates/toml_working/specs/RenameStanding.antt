@@ -37,12 +37,12 @@ abbrev pub own_part_with : Option ℕ → List ℕ → ExprOutline → ExprOutli
 own_part_with None text e = e
 own_part_with (Some i) text e = key_part_with i text e
 
--- Law: the key and the value of a line whose key stands in the table at the first address, each renamed, are the pair with one part of its
--- key renamed where the address of its value begins with the new name's, else with the value alone.
+-- Law: a pair whose key stands in the table at the second address, its key and its value renamed, is the pair with one part of its key
+-- renamed where the first address is at its own or above it, else with its value renamed alone.
 abbrev pub PairIsRenamed : Type 0
 PairIsRenamed = (p at : Address) (text : List ℕ) (a : AssignOutline) (v : ValueOutline)
     → Pair (rename_outlined p text at a) (rename_outline p text (below at (outlined_names a)) v)
-    ≡ (if begins p (below at (outlined_names a)) then own_part_with (minus (length p) (length at + 1)) text (Pair a (rename_outline p text (below at (outlined_names a)) v))
+    ≡ (if begins p (below at (outlined_names a)) then own_part_with (minus (length p) (length at + 1)) text (Pair a v)
     else Pair a (rename_outline p text (below at (outlined_names a)) v))
 
 -- the address with the last name of the first another one
