@@ -20,7 +20,7 @@ use toml_units::Unit;
 
 /// A value for an address, and the spellings of the steps of it.
 #[derive(Drop)]
-struct Insertion<'a, 'x> {
+pub(crate) struct Insertion<'a, 'x> {
     at: &'a Address,
     spelled: &'x [String],
     new: Value<'x>,
@@ -71,13 +71,14 @@ impl<'x> Tree<'x> {
         }
         match self.table_place(before, named, parent) {
             Some(TablePlace::Header(header)) => {
-                let behind = self.last_pair(before, header.next()).unwrap_or(header);
-                self.insert_behind(before, behind, above.len(), insertion)
+                let last = self.last_of_section(before, header.next(), above);
+                self.insert_in_section(before, last.unwrap_or(header), above.len(), insertion)
             }
             Some(TablePlace::Dotted(line)) => {
                 let base = self.base(before, line);
-                let behind = self.last_pair(before, line).unwrap_or(line);
-                self.insert_behind(before, behind, base, insertion)
+                let (table, _) = above.split_at(base.min(above.len()));
+                let last = self.last_of_section(before, line, table);
+                self.insert_in_section(before, last.unwrap_or(line), base, insertion)
             }
             Some(TablePlace::Implicit(header)) => {
                 self.insert_before(before, header, parent, insertion)
@@ -109,7 +110,7 @@ impl<'x> Tree<'x> {
     }
 
     /// Puts a line in behind another; its table's address has `base` steps.
-    fn insert_behind(
+    pub(crate) fn insert_behind(
         &mut self,
         before: Before<'_, 'x>,
         behind: Position,

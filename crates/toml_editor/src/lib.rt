@@ -6,6 +6,8 @@ mod editing;
 mod elements;
 mod entries;
 mod fault;
+mod flat;
+mod guessing;
 mod inserting;
 mod inside;
 mod known;

@@ -128,7 +128,7 @@ impl<'x> Tree<'x> {
         element: &Address,
     ) -> Option<Position> {
         let mut walk = Walk::Before;
-        for slot in self.first_slot(before, named, element)..self.slots.len() {
+        for slot in self.first_slot(before, named, element, true)..self.slots.len() {
             walk = self.slots[slot].walked(before.units, slot, element, walk);
             if let Walk::Ended(next) = walk {
                 return Some(next);
