@@ -4,12 +4,12 @@ ghost use Rattle.clap.specs.Walk.{texts};
 ghost use Rattle.clap.specs.Words.{FailsBy, all_of, fault_of, first_of, found_of, kind_of, rows_of, subcommand_of, subcommand_rows_of, takes};
 ghost use Rattle.toml_words.specs.CommandLine.{tool};
 ghost use Rattle.toml_words.specs.Request.{IsFaultIn, IsRequestIn, apply_of, are_both_input, asked_by, asked_destination, asked_edit, asked_of, asked_value, certificate_of, certify_of, check_of};
-ghost use Rattle.toml_words.specs.Request.{chosen, destination_of, edit_of, editing_of, form_of, get_of, insert_of, is_editing, is_given, is_input, new_value_of, one_of, profile_of, reading_of, remove_of};
+ghost use Rattle.toml_words.specs.Request.{chosen, destination_of, edit_of, editing_of, form_of, get_of, insert_of, is_editing, is_given, is_input, layout_of, new_value_of, one_of, profile_of, reading_of, remove_of};
 ghost use Rattle.toml_words.specs.Request.{rename_of, set_of, show_of, validate_of, value_of, verify_of, word_of};
 
 use crate::command_line::command;
 use crate::marking::{is_marked, unmarked};
-use crate::request::{Destination, Form, NewValue, OneEdit, Request, STANDARD_INPUT};
+use crate::request::{Destination, Form, Layout, NewValue, OneEdit, Request, STANDARD_INPUT};
 use clap::ArgMatches;
 use clap::error::ErrorKind;
 use std::alloc::{AllocError, Global};
@@ -17,6 +17,9 @@ use toml_tree::Profile;
 
 /// The numbers of the profiles.
 static PROFILES: [&str; 2] = ["1", "2"];
+
+/// The words of the layouts.
+static LAYOUTS: [&str; 2] = ["plain", "follow"];
 
 /// Why words make no request.
 #[derive(Debug, Drop)]
@@ -35,7 +38,7 @@ pub fn read_words<'a>(alloc: Global, words: &'a [&'a str]) -> Result<Request<'a>
     ensures ok { IfOk result (IsRequestIn (texts words.entry.now)) }
     ensures err { IfErr result (IsFaultIn (texts words.entry.now)) }
 {
-    let matches = match parse(alloc, words, PROFILES.as_slice()) {
+    let matches = match parse(alloc, words, PROFILES.as_slice(), LAYOUTS.as_slice()) {
         Ok(matches) => matches,
         Err(error) => return Err(WordsFault::Parser(error)),
     };
@@ -50,14 +53,15 @@ fn parse<'a>(
     alloc: Global,
     words: &'a [&'a str],
     profiles: &'a [&'a str],
+    layouts: &'a [&'a str],
 ) -> Result<ArgMatches<'a>, clap::Error>
     ensures ok { IfOk result (λ matches.
-        subcommand_rows_of matches ≡ subcommand_of (tool profiles.entry) (texts words.entry.now)) }
-    ensures kinds { FailsBy (fault_of (tool profiles.entry) (texts words.entry.now)) result }
-    ensures err { IfErr result (λ error. takes (tool profiles.entry) (texts words.entry.now) ≡ true
+        subcommand_rows_of matches ≡ subcommand_of (tool profiles.entry layouts.entry) (texts words.entry.now)) }
+    ensures kinds { FailsBy (fault_of (tool profiles.entry layouts.entry) (texts words.entry.now)) result }
+    ensures err { IfErr result (λ error. takes (tool profiles.entry layouts.entry) (texts words.entry.now) ≡ true
         → kind_of error ≡ ErrorKind.OutOfMemory) }
 {
-    let command = command(alloc, profiles)?;
+    let command = command(alloc, profiles, layouts)?;
     command.try_get_matches_from(words)
 }
 
@@ -202,12 +206,14 @@ fn one_request<'a>(found: &ArgMatches<'a>, edit: OneEdit<'a>) -> Option<Request<
     let file = word(found, "FILE")?;
     let place = word(found, "PLACE")?;
     let destination = destination_given(found, file)?;
+    let layout = layout_given(found)?;
     let profile = profile_given(found)?;
     Some(Request::One {
         file,
         place,
         edit,
         destination,
+        layout,
         profile,
     })
 }
@@ -249,6 +255,7 @@ fn apply_request<'a>(found: &ArgMatches<'a>) -> Option<Request<'a>>
     let file = word(found, "FILE")?;
     let edits = word(found, "EDITS")?;
     let destination = destination_given(found, file)?;
+    let layout = layout_given(found)?;
     let profile = profile_given(found)?;
     if are_both_input(file, edits) {
         return None;
@@ -257,6 +264,7 @@ fn apply_request<'a>(found: &ArgMatches<'a>) -> Option<Request<'a>>
         file,
         edits,
         destination,
+        layout,
         profile,
     })
 }
@@ -405,6 +413,17 @@ fn profile_given(found: &ArgMatches<'_>) -> Option<Profile>
     match first_value(found, "profile")? {
         "1" => Some(Profile::One),
         "2" => Some(Profile::Two),
+        _ => None,
+    }
+}
+
+/// The layout: the parser answers `follow` where the option is not given, and lets no other text than the two through.
+fn layout_given(found: &ArgMatches<'_>) -> Option<Layout>
+    ensures { result ≡ layout_of (rows_of (found_of found.now)) }
+{
+    match first_value(found, "layout")? {
+        "plain" => Some(Layout::Plain),
+        "follow" => Some(Layout::Follow),
         _ => None,
     }
 }
