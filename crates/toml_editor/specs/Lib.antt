@@ -22,6 +22,7 @@ pub mod Starting
 pub mod Writing
 pub mod OpeningLines
 pub mod Layouts
+pub mod Gaps
 pub mod Leading
 pub mod RenamingIn
 pub mod RenameStanding

@@ -1,133 +1,15 @@
-//! What stands between entries, by layout `Follow`: a gap in its parts, and the gaps around an entry that is put in.
+//! The gaps around an entry that is put in, by layout `Follow`.
 use crate::layout::Layout;
+use crate::parts::{are_ws, past_first_newline, past_last_newline};
 use crate::texts::Texts;
 use crate::tree::{Assign, Entries, Entry, Gap, GapPart, Leaf};
 use std::alloc::{AllocError, Global};
 use std::collections::VecDeque;
 use std::mem;
 use toml_names::Step;
-use toml_text::{Span, newline_len, unmarked_len, ws_len};
 
-impl<'t> Texts<'t> {
-    /// The gap in parts that are whitespace, a newline or a comment each.
-    pub(crate) fn parted(self, gap: &Gap<'t>) -> Result<Gap<'t>, AllocError> {
-        let mut parted = Gap::empty(self.alloc);
-        for part in &gap.parts {
-            match part {
-                GapPart::Lines(Leaf::Kept { start, text }) => {
-                    self.part(&mut parted, *start, start.saturating_add(text.len()))?;
-                }
-                other => parted.parts.push(*other)?,
-            }
-        }
-        Ok(parted)
-    }
-
-    /// Puts the parts of what stands in the document between these places behind the gap.
-    fn part(self, parted: &mut Gap<'t>, start: usize, end: usize) -> Result<(), AllocError> {
-        let mut at = start;
-        for _ in start..end {
-            let Some((part, len)) = self.part_at(at, end) else {
-                return Ok(());
-            };
-            parted.parts.push(part)?;
-            at = at.saturating_add(len);
-        }
-        Ok(())
-    }
-
-    /// The part of a gap that begins at a place of the document, and its length; none where the gap ends there.
-    fn part_at(self, at: usize, end: usize) -> Option<(GapPart<'t>, usize)> {
-        let rest = self.kept(at, end)?.text().as_bytes();
-        let ws = ws_len(rest);
-        if ws > 0 {
-            return Some((GapPart::Ws(self.kept(at, at.saturating_add(ws))?), ws));
-        }
-        let newline = newline_len(rest);
-        if newline > 0 {
-            let leaf = self.kept(at, at.saturating_add(newline))?;
-            return Some((GapPart::Newline(leaf), newline));
-        }
-        let comment = unmarked_len(rest, b'\n', b'\n');
-        let leaf = self.kept(at, at.saturating_add(comment))?;
-        Some((GapPart::Comment(leaf), comment))
-    }
-
-    /// What stands in the document between these places, if anything does.
-    pub(crate) fn kept(self, start: usize, end: usize) -> Option<Leaf<'t>> {
-        let span = Span { start, end };
-        if start == end || !self.source.holds(span) {
-            return None;
-        }
-        let text = self.source.slice(span);
-        Some(Leaf::Kept { start, text })
-    }
-}
-
-impl<'t> Leaf<'t> {
-    /// The same text, written anew.
-    fn anew(self) -> Leaf<'t> {
-        Leaf::New(self.text())
-    }
-}
-
-impl<'t> GapPart<'t> {
-    /// The same part, written anew.
-    fn anew(self) -> GapPart<'t> {
-        match self {
-            GapPart::Ws(leaf) => GapPart::Ws(leaf.anew()),
-            GapPart::Comment(leaf) => GapPart::Comment(leaf.anew()),
-            GapPart::Newline(leaf) => GapPart::Newline(leaf.anew()),
-            GapPart::Lines(leaf) => GapPart::Lines(leaf.anew()),
-        }
-    }
-}
-
-impl<'t> Gap<'t> {
-    /// Puts these parts behind it.
-    pub(crate) fn add(&mut self, parts: &[GapPart<'t>]) -> Result<(), AllocError> {
-        self.parts.extend_from_slice(parts)
-    }
-
-    /// Puts the same parts behind it, written anew.
-    pub(crate) fn add_anew(&mut self, parts: &[GapPart<'t>]) -> Result<(), AllocError> {
-        for part in parts {
-            self.parts.push(part.anew())?;
-        }
-        Ok(())
-    }
-}
-
-/// The index of the first newline.
-fn first_newline(parts: &[GapPart<'_>]) -> Option<usize> {
-    for (index, part) in parts.iter().enumerate() {
-        if let GapPart::Newline(_) = part {
-            return Some(index);
-        }
-    }
-    None
-}
-
-/// The index of the last newline. Behind it only whitespace stands, since a comment ends in a newline.
-pub(crate) fn last_newline(parts: &[GapPart<'_>]) -> Option<usize> {
-    for index in (0..parts.len()).rev() {
-        if let Some(GapPart::Newline(_)) = parts.get(index) {
-            return Some(index);
-        }
-    }
-    None
-}
-
-/// The parts from an index on and before another.
-pub(crate) fn range<'a, 't>(
-    parts: &'a [GapPart<'t>],
-    start: usize,
-    end: usize,
-) -> &'a [GapPart<'t>] {
-    let (front, _) = parts.split_at(end.min(parts.len()));
-    let (_, own) = front.split_at(start.min(front.len()));
-    own
-}
+/// The parts up to a newline and with it, and those behind.
+type Split<'a, 't> = (&'a [GapPart<'t>], &'a [GapPart<'t>]);
 
 /// The whitespace before the first comment that stands on a line of its own.
 fn comment_indent<'a, 't>(parts: &'a [GapPart<'t>]) -> Option<&'a [GapPart<'t>]> {
@@ -140,6 +22,13 @@ fn comment_indent<'a, 't>(parts: &'a [GapPart<'t>]) -> Option<&'a [GapPart<'t>]>
         }
     }
     None
+}
+
+/// The parts from an index on and before another.
+fn range<'a, 't>(parts: &'a [GapPart<'t>], start: usize, end: usize) -> &'a [GapPart<'t>] {
+    let (front, _) = parts.split_at(end.min(parts.len()));
+    let (_, own) = front.split_at(start.min(front.len()));
+    own
 }
 
 /// Whether tabs stand there, and nothing else.
@@ -162,60 +51,51 @@ fn is_tab_run(text: &str) -> bool {
     true
 }
 
-/// How an item begins its line, whose gap before it these parts are: its newline, and the whitespace behind it. None where it
-/// begins none.
-fn margin<'t>(alloc: Global, parts: &[GapPart<'t>]) -> Result<Option<Gap<'t>>, AllocError> {
-    let Some(newline) = last_newline(parts) else {
-        return Ok(None);
-    };
+/// How an item begins its line: its newline, the last of these parts, and its indent.
+fn margin<'t>(
+    alloc: Global,
+    line: &[GapPart<'t>],
+    indent: &[GapPart<'t>],
+) -> Result<Gap<'t>, AllocError> {
     let mut margin = Gap::empty(alloc);
-    margin.add_anew(range(parts, newline, parts.len()))?;
-    Ok(Some(margin))
+    if let Some(newline) = line.last() {
+        margin.parts.push(newline.anew())?;
+    }
+    margin.add_anew(indent)?;
+    Ok(margin)
 }
 
-/// How an item begins its line that is put in between brackets where none stands, the newline at the index being the last
-/// there: as far in as the first comment on a line of its own, else two spaces or one tab further than the closing bracket.
+/// How an item begins its line that is put in between brackets where none stands: as far in as the first comment on a line of
+/// its own, else two spaces or one tab further than the closing bracket.
 fn margin_alone<'t>(
     alloc: Global,
     parts: &[GapPart<'t>],
-    newline: usize,
+    split: Split<'_, 't>,
 ) -> Result<Gap<'t>, AllocError> {
-    let behind = newline.saturating_add(1);
-    let mut margin = Gap::empty(alloc);
-    margin.add_anew(range(parts, newline, behind))?;
+    let (line, closing) = split;
     if let Some(indent) = comment_indent(parts) {
-        margin.add_anew(indent)?;
-        return Ok(margin);
+        return margin(alloc, line, indent);
     }
-    let closing = range(parts, behind, parts.len());
-    margin.add_anew(closing)?;
+    let mut margin = margin(alloc, line, closing)?;
     let step = if are_tabs(closing) { "\t" } else { "  " };
     margin.push_ws(Leaf::New(step))?;
     Ok(margin)
 }
 
-/// The gaps around an item that is put in on a line of its own, behind the newline at the index, where there is one: up to it
-/// and the item's whitespace, and the newline of the item and what stands behind. Else the item stands before the gap.
+/// The gaps around an item that is put in on a line of its own where a gap splits: up to there and the item's indent, and the
+/// newline of the item and what stands behind.
 fn on_line<'t>(
     alloc: Global,
-    parts: &[GapPart<'t>],
-    newline: Option<usize>,
-    margin: &Gap<'t>,
+    split: Split<'_, 't>,
+    margin: &[GapPart<'t>],
 ) -> Result<(Gap<'t>, Gap<'t>), AllocError> {
     let (mut before, mut behind) = (Gap::empty(alloc), Gap::empty(alloc));
-    let own = &margin.parts;
-    match newline {
-        Some(index) => {
-            before.add(range(parts, 0, index.saturating_add(1)))?;
-            before.add(range(own, 1, own.len()))?;
-            behind.add(range(own, 0, 1))?;
-            behind.add(range(parts, index.saturating_add(1), parts.len()))?;
-        }
-        None => {
-            before.add(own)?;
-            behind.add(parts)?;
-        }
+    before.add(split.0)?;
+    if let Some((newline, indent)) = margin.split_first() {
+        before.add(indent)?;
+        behind.parts.push(*newline)?;
     }
+    behind.add(split.1)?;
     Ok((before, behind))
 }
 
@@ -228,16 +108,18 @@ impl<'t> Entries<'t> {
         index: usize,
         is_pair: bool,
     ) -> Result<(Gap<'t>, Gap<'t>), AllocError> {
-        let beside = match self.list.get(index) {
-            Some(other) => Some(other),
-            None => self.list.back(),
+        let Some(last) = self.list.len().checked_sub(1) else {
+            return self.room_alone(texts, is_pair);
         };
-        let Some(beside) = beside else {
+        let Some(beside) = self.list.get(index.min(last)) else {
             return self.room_alone(texts, is_pair);
         };
         let before = texts.parted(&beside.before)?;
-        match margin(texts.alloc, &before.parts)? {
-            Some(margin) => self.room_on_line(texts, index, &margin),
+        match past_last_newline(&before.parts) {
+            Some((line, indent)) => {
+                let margin = margin(texts.alloc, line, indent)?;
+                self.room_on_line(texts, index, &margin)
+            }
             None => {
                 let space = self.behind_comma(texts.alloc)?;
                 self.room(texts.alloc, index, space)
@@ -285,10 +167,9 @@ impl<'t> Entries<'t> {
             Some(end) => texts.parted(&end)?,
             None => Gap::empty(alloc),
         };
-        let newline = last_newline(&between.parts);
-        if let Some(index) = newline {
-            let margin = margin_alone(alloc, &between.parts, index)?;
-            let (before, behind) = on_line(alloc, &between.parts, newline, &margin)?;
+        if let Some(split) = past_last_newline(&between.parts) {
+            let margin = margin_alone(alloc, &between.parts, split)?;
+            let (before, behind) = on_line(alloc, split, &margin.parts)?;
             self.end = Some(behind);
             return Ok((before, Gap::empty(alloc)));
         }
@@ -304,22 +185,43 @@ impl<'t> Entries<'t> {
     /// What stands behind the first comma that an entry follows, where that is nothing or one character of whitespace; else one
     /// space.
     fn behind_comma(&self, alloc: Global) -> Result<Gap<'t>, AllocError> {
-        let Some(second) = self.list.get(1) else {
-            return Gap::space(alloc, Leaf::New(" "));
-        };
-        match second.before.parts.as_slice() {
-            [] => Ok(Gap::empty(alloc)),
-            [GapPart::Ws(leaf)] if leaf.text().len() == 1 => Gap::space(alloc, leaf.anew()),
-            _ => Gap::space(alloc, Leaf::New(" ")),
+        match self.list.get(1) {
+            Some(second) => parting(alloc, &second.before.parts),
+            None => Gap::space(alloc, Leaf::New(" ")),
         }
     }
 }
 
+/// These parts, written anew, where they are nothing or one character of whitespace; else one space.
+fn parting<'t>(alloc: Global, parts: &[GapPart<'t>]) -> Result<Gap<'t>, AllocError> {
+    let mut gap = Gap::empty(alloc);
+    if parts.len() <= 1 && are_ws(parts) && text_len(parts) <= 1 {
+        gap.add_anew(parts)?;
+    } else {
+        gap.push_ws(Leaf::New(" "))?;
+    }
+    Ok(gap)
+}
+
+/// How long the text of the first part is.
+fn text_len(parts: &[GapPart<'_>]) -> usize {
+    match parts.first() {
+        Some(part) => part.leaf().text().len(),
+        None => 0,
+    }
+}
+
 impl<'t> Texts<'t> {
-    /// The gaps around an item that is put in on a line of its own in the gap, behind its first newline, where it has one.
+    /// The gaps around an item that is put in on a line of its own in the gap: behind its first newline, and where it has none
+    /// before it.
     fn line_in(self, gap: &Gap<'t>, margin: &Gap<'t>) -> Result<(Gap<'t>, Gap<'t>), AllocError> {
         let gap = self.parted(gap)?;
-        on_line(self.alloc, &gap.parts, first_newline(&gap.parts), margin)
+        if let Some(split) = past_first_newline(&gap.parts) {
+            return on_line(self.alloc, split, &margin.parts);
+        }
+        let mut before = Gap::empty(self.alloc);
+        before.add(&margin.parts)?;
+        Ok((before, gap))
     }
 
     /// The index at which a pair is put in at the steps: behind the last one. By layout `Follow` it is behind the last one below

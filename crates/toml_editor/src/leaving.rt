@@ -1,5 +1,9 @@
 //! What is left where an entry is taken out, by layout `Follow`.
-use crate::gaps::{last_newline, range};
+ghost use Rattle.std.specs.Prelude.{◌≡◌, ◌++◌, IfOk, option_map};
+ghost use Rattle.toml_editor.specs.Gaps.{are_blank, are_ws, around, ends_container, ends_line, gives_way, goes_with_comma, if_any, is_alone, left_by};
+ghost use Rattle.toml_editor.specs.Gaps.{begins_line as begins};
+
+use crate::parts::{are_blank, are_ws, begins_line, past_last_newline, trimmed, without_ws};
 use crate::texts::Texts;
 use crate::tree::{Entries, Entry, Gap, GapPart};
 use std::alloc::{AllocError, Global};
@@ -25,53 +29,22 @@ struct Left<'t> {
     behind: Option<Gap<'t>>,
 }
 
-/// Whether only whitespace stands there.
-fn is_ws(parts: &[GapPart<'_>]) -> bool {
-    leading_ws(parts) == parts.len()
-}
-
-/// The same of what may be there.
-fn is_ws_if_any(parts: Option<&[GapPart<'_>]>) -> bool {
+/// Whether only whitespace stands there, if there is something.
+fn is_ws_if_any(parts: Option<&[GapPart<'_>]>) -> bool
+    ensures { result ≡ if_any are_ws (option_map (λ p. p.now) parts.entry) }
+{
     match parts {
-        Some(parts) => is_ws(parts),
+        Some(parts) => are_ws(parts),
         None => true,
     }
 }
 
-/// How many parts of whitespace they begin with.
-fn leading_ws(parts: &[GapPart<'_>]) -> usize {
-    for (index, part) in parts.iter().enumerate() {
-        if !matches!(part, GapPart::Ws(_)) {
-            return index;
-        }
-    }
-    parts.len()
-}
-
-/// The index from which on only whitespace stands.
-fn trailing_ws(parts: &[GapPart<'_>]) -> usize {
-    for index in (0..parts.len()).rev() {
-        if !matches!(parts.get(index), Some(GapPart::Ws(_))) {
-            return index + 1;
-        }
-    }
-    0
-}
-
-/// Whether only whitespace and newlines stand there.
-fn is_blank(parts: &[GapPart<'_>]) -> bool {
-    for part in parts {
-        if !matches!(part, GapPart::Ws(_) | GapPart::Newline(_)) {
-            return false;
-        }
-    }
-    true
-}
-
-/// The same of what may be there.
-fn is_blank_if_any(parts: Option<&[GapPart<'_>]>) -> bool {
+/// Whether only whitespace and newlines stand there, if there is something.
+fn is_blank_if_any(parts: Option<&[GapPart<'_>]>) -> bool
+    ensures { result ≡ if_any are_blank (option_map (λ p. p.now) parts.entry) }
+{
     match parts {
-        Some(parts) => is_blank(parts),
+        Some(parts) => are_blank(parts),
         None => true,
     }
 }
@@ -81,8 +54,12 @@ fn joined<'t>(
     alloc: Global,
     one: &[GapPart<'t>],
     other: &[GapPart<'t>],
-) -> Result<Gap<'t>, AllocError> {
-    let mut gap = Gap::empty(alloc);
+) -> Result<Gap<'t>, AllocError>
+    ensures { IfOk result (λ g. g.parts.items ≡ one.now ++ other.now) }
+{
+    let mut gap = Gap {
+        parts: Vec::new(alloc),
+    };
     gap.add(one)?;
     gap.add(other)?;
     Ok(gap)
@@ -96,65 +73,74 @@ fn without_piece<'t>(
     before: &[GapPart<'t>],
     behind: &[GapPart<'t>],
     is_closed: bool,
-) -> Result<Gap<'t>, AllocError> {
-    let ws = leading_ws(behind);
-    let is_first = last_newline(before).is_some();
-    let (is_trimmed, skip) = match (is_first, behind.get(ws)) {
-        (false, Some(_)) => (true, 0),
-        (false, None) => (is_closed, if is_closed { 0 } else { ws }),
-        (true, Some(GapPart::Newline(_))) => (true, ws.saturating_add(1)),
-        (true, _) => (false, ws),
-    };
-    let end = if is_trimmed {
-        trailing_ws(before)
+) -> Result<Gap<'t>, AllocError>
+    ensures { IfOk result (λ g. g.parts.items ≡ left_by before.now behind.now is_closed) }
+{
+    let rest = without_ws(behind);
+    if begins_line(before) {
+        return match rest {
+            [GapPart::Newline(_), more @ ..] => joined(alloc, trimmed(before), more),
+            _ => joined(alloc, before, rest),
+        };
+    }
+    if is_closed || !are_ws(behind) {
+        joined(alloc, trimmed(before), behind)
     } else {
-        before.len()
-    };
-    joined(
-        alloc,
-        range(before, 0, end),
-        range(behind, skip, behind.len()),
-    )
+        joined(alloc, before, rest)
+    }
 }
 
 impl<'a, 't> Around<'a, 't> {
     /// Whether it is the first thing on its line.
-    fn begins_line(self) -> bool {
-        last_newline(self.before).is_some()
+    fn begins_line(self) -> bool
+        ensures { result ≡ begins self.entry.before.now }
+    {
+        begins_line(self.before)
     }
 
-    /// Whether behind it and its comma only a comment stands on its line, or nothing.
-    fn ends_line(self) -> bool {
-        !is_ws(self.after) || !is_ws_if_any(self.behind)
+    /// Whether behind it, or behind it and its comma, a newline or a comment comes first.
+    fn ends_line(self) -> bool
+        ensures { result ≡ ends_line (around self.entry) }
+    {
+        !are_ws(self.after) || !is_ws_if_any(self.behind)
     }
 
     /// Whether the closing bracket comes behind it and its comma.
-    fn ends_container(self) -> bool {
-        self.is_last && is_ws(self.after) && is_ws_if_any(self.behind)
+    fn ends_container(self) -> bool
+        ensures { result ≡ ends_container (around self.entry) }
+    {
+        self.is_last && are_ws(self.after) && is_ws_if_any(self.behind)
     }
 
-    /// Whether nothing but whitespace and newlines stands between the brackets beside it.
-    fn is_alone(self) -> bool {
+    /// Whether nothing but whitespace and newlines stands beside it between the brackets.
+    fn is_alone(self) -> bool
+        ensures { result ≡ is_alone (around self.entry) }
+    {
         self.above.is_none()
             && self.is_last
-            && is_blank(self.before)
-            && is_blank(self.after)
+            && are_blank(self.before)
+            && are_blank(self.after)
             && is_blank_if_any(self.behind)
     }
 
     /// Whether the next entry takes its place.
-    fn gives_way(self) -> bool {
-        let is_within = !self.ends_line() || (self.above.is_none() && !self.begins_line());
-        !self.is_last && is_within && is_blank(self.after) && is_blank_if_any(self.behind)
+    fn gives_way(self) -> bool
+        ensures { result ≡ gives_way (around self.entry) }
+    {
+        let is_first = self.above.is_none() && !self.begins_line();
+        let is_within = !self.ends_line() || is_first;
+        !self.is_last && is_within && are_blank(self.after) && is_blank_if_any(self.behind)
     }
 
     /// Whether all goes from the end of the entry before it to its own.
-    fn goes_with_comma(self) -> bool {
+    fn goes_with_comma(self) -> bool
+        ensures { result ≡ goes_with_comma (around self.entry) }
+    {
         !self.begins_line()
             && self.is_last
             && self.above.is_some()
             && is_blank_if_any(self.above)
-            && is_blank(self.before)
+            && are_blank(self.before)
     }
 
     /// What is left.
@@ -181,21 +167,25 @@ impl<'a, 't> Around<'a, 't> {
                 behind,
             });
         }
-        let own = match last_newline(self.before) {
-            Some(newline) if self.ends_container() => self.without_last_line(alloc, newline)?,
+        let own = match past_last_newline(self.before) {
+            Some((front, _)) if self.ends_container() => self.without_last_line(alloc, front)?,
             _ => self.without_itself(alloc)?,
         };
         self.without_comma(alloc, own)
     }
 
-    /// What the last item leaves, which stands on a line of its own with the closing bracket: the line before it, up to its
-    /// newline, and what stands before the bracket. Where the line before it ends in a comment, that keeps its newline.
-    fn without_last_line(self, alloc: Global, newline: usize) -> Result<Gap<'t>, AllocError> {
-        let line = range(self.before, 0, newline);
-        if let Some(GapPart::Comment(_)) = line.last() {
-            return joined(alloc, range(self.before, 0, newline.saturating_add(1)), &[]);
+    /// What the last item leaves, which stands on a line of its own with the closing bracket: what stands up to its newline, and
+    /// behind it before the bracket. Where the line before it ends in a comment, that keeps its newline.
+    fn without_last_line(
+        self,
+        alloc: Global,
+        front: &[GapPart<'t>],
+    ) -> Result<Gap<'t>, AllocError> {
+        match front {
+            [.., GapPart::Comment(_), _] => joined(alloc, front, &[]),
+            [line @ .., _] => joined(alloc, line, self.behind.unwrap_or(self.after)),
+            [] => joined(alloc, self.behind.unwrap_or(self.after), &[]),
         }
-        joined(alloc, line, self.behind.unwrap_or(self.after))
     }
 
     /// What it leaves with its comma: where more than whitespace stands between, the comma goes by itself.
@@ -203,7 +193,7 @@ impl<'a, 't> Around<'a, 't> {
         let Some(behind) = self.behind else {
             return without_piece(alloc, self.before, self.after, self.is_last);
         };
-        if is_ws(self.after) {
+        if are_ws(self.after) {
             return without_piece(alloc, self.before, behind, self.is_last);
         }
         let own = without_piece(alloc, self.before, self.after, false)?;

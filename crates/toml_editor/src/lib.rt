@@ -18,6 +18,7 @@ mod lines;
 mod making;
 mod neighbours;
 mod opening;
+mod parts;
 mod pieces;
 mod reading;
 mod removing;

@@ -243,18 +243,22 @@ impl<'x> Tree<'x> {
             let Some(place) = at else {
                 return last;
             };
-            let Some(line) = self.seen(before, place) else {
-                return last;
-            };
-            if line.is_header() {
-                return last;
-            }
-            if line.is_below(address) && line.steps() > address.steps().len() {
-                last = place;
+            match self.sort(before, place) {
+                Some(Sort::Header) | None => return last,
+                Some(Sort::Pair) if self.is_strictly_below(before, place, address) => last = place,
+                Some(_) => {}
             }
             at = self.line_from(place.next());
         }
         last
+    }
+
+    /// Whether the line at a place stands strictly below the address.
+    fn is_strictly_below(&self, before: Before<'_, 'x>, at: Position, address: &Address) -> bool {
+        match self.seen(before, at) {
+            Some(line) => line.is_below(address) && line.steps() > address.steps().len(),
+            None => false,
+        }
     }
 
     /// How a line with a key and a value begins that is put in behind another: as that one, where it has a key and a value; behind
