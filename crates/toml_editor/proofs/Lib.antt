@@ -54,3 +54,4 @@ mod OpenedBody
 mod Got
 pub mod written
 pub mod Proved
+mod GapParts

@@ -71,6 +71,8 @@ pub(crate) struct Tree<'x> {
     pub(crate) root_end: Position,
     /// The line behind which the last one was put in, in the section of a table: a guess that is tested.
     pub(crate) section_end: Position,
+    /// Whether a blank line was written before a header line at the end of the text.
+    pub(crate) is_parted: bool,
 }
 
 impl<'x> Tree<'x> {
@@ -91,6 +93,7 @@ impl<'x> Tree<'x> {
             style: style_of(texts.alloc, before.known)?,
             root_end: Position { slot: 0, index: 0 },
             section_end: Position { slot: 0, index: 0 },
+            is_parted: false,
         })
     }
 

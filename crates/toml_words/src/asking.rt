@@ -11,7 +11,8 @@ use crate::command_line::command;
 use crate::marking::is_marked;
 use crate::request::{Destination, Form, NewValue, OneEdit, Request};
 use crate::values::{
-    all_values, are_both_input, first_value, is_given, is_input, profile_given, value, word,
+    all_values, are_both_input, first_value, is_given, is_input, layout_given, profile_given, value,
+    word,
 };
 use clap::ArgMatches;
 use clap::error::ErrorKind;
@@ -19,6 +20,9 @@ use std::alloc::{AllocError, Global};
 
 /// The numbers of the profiles.
 static PROFILES: [&str; 2] = ["1", "2"];
+
+/// The words of the layouts.
+static LAYOUTS: [&str; 2] = ["plain", "follow"];
 
 /// Why words make no request.
 #[derive(Debug, Drop)]
@@ -37,7 +41,7 @@ pub fn read_words<'a>(alloc: Global, words: &'a [&'a str]) -> Result<Request<'a>
     ensures ok { IfOk result (IsRequestIn (texts words.entry.now)) }
     ensures err { IfErr result (IsFaultIn (texts words.entry.now)) }
 {
-    let matches = match parse(alloc, words, PROFILES.as_slice()) {
+    let matches = match parse(alloc, words, PROFILES.as_slice(), LAYOUTS.as_slice()) {
         Ok(matches) => matches,
         Err(error) => return Err(WordsFault::Parser(error)),
     };
@@ -52,14 +56,15 @@ fn parse<'a>(
     alloc: Global,
     words: &'a [&'a str],
     profiles: &'a [&'a str],
+    layouts: &'a [&'a str],
 ) -> Result<ArgMatches<'a>, clap::Error>
     ensures ok { IfOk result (λ matches.
-        subcommand_rows_of matches ≡ subcommand_of (tool profiles.entry) (texts words.entry.now)) }
-    ensures kinds { FailsBy (fault_of (tool profiles.entry) (texts words.entry.now)) result }
-    ensures err { IfErr result (λ error. takes (tool profiles.entry) (texts words.entry.now) ≡ true
+        subcommand_rows_of matches ≡ subcommand_of (tool profiles.entry layouts.entry) (texts words.entry.now)) }
+    ensures kinds { FailsBy (fault_of (tool profiles.entry layouts.entry) (texts words.entry.now)) result }
+    ensures err { IfErr result (λ error. takes (tool profiles.entry layouts.entry) (texts words.entry.now) ≡ true
         → kind_of error ≡ ErrorKind.OutOfMemory) }
 {
-    let command = command(alloc, profiles)?;
+    let command = command(alloc, profiles, layouts)?;
     command.try_get_matches_from(words)
 }
 
@@ -204,12 +209,14 @@ fn one_request<'a>(found: &ArgMatches<'a>, edit: OneEdit<'a>) -> Option<Request<
     let file = word(found, "FILE")?;
     let place = word(found, "PLACE")?;
     let destination = destination_given(found, file)?;
+    let layout = layout_given(found)?;
     let profile = profile_given(found)?;
     Some(Request::One {
         file,
         place,
         edit,
         destination,
+        layout,
         profile,
     })
 }
@@ -251,6 +258,7 @@ fn apply_request<'a>(found: &ArgMatches<'a>) -> Option<Request<'a>>
     let file = word(found, "FILE")?;
     let edits = word(found, "EDITS")?;
     let destination = destination_given(found, file)?;
+    let layout = layout_given(found)?;
     let profile = profile_given(found)?;
     if are_both_input(file, edits) {
         return None;
@@ -259,6 +267,7 @@ fn apply_request<'a>(found: &ArgMatches<'a>) -> Option<Request<'a>>
         file,
         edits,
         destination,
+        layout,
         profile,
     })
 }

@@ -2,10 +2,10 @@
 ghost use Rattle.std.specs.Prelude.{◌≡◌, option_map};
 ghost use Rattle.clap.specs.Walk.{texts};
 ghost use Rattle.clap.specs.Words.{all_of, first_of, found_of, rows_of};
-ghost use Rattle.toml_words.specs.Request.{are_both_input, is_given, is_input, profile_of, value_of, word_of};
+ghost use Rattle.toml_words.specs.Request.{are_both_input, is_given, is_input, layout_of, profile_of, value_of, word_of};
 
 use crate::marking::{is_marked, unmarked};
-use crate::request::STANDARD_INPUT;
+use crate::request::{Layout, STANDARD_INPUT};
 use clap::ArgMatches;
 use toml_tree::Profile;
 
@@ -30,6 +30,17 @@ pub(crate) fn profile_given(found: &ArgMatches<'_>) -> Option<Profile>
     match first_value(found, "profile")? {
         "1" => Some(Profile::One),
         "2" => Some(Profile::Two),
+        _ => None,
+    }
+}
+
+/// The layout: the parser answers `follow` where the option is not given, and lets no other text than the two through.
+pub(crate) fn layout_given(found: &ArgMatches<'_>) -> Option<Layout>
+    ensures { result ≡ layout_of (rows_of (found_of found.now)) }
+{
+    match first_value(found, "layout")? {
+        "plain" => Some(Layout::Plain),
+        "follow" => Some(Layout::Follow),
         _ => None,
     }
 }
