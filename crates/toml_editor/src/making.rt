@@ -12,6 +12,7 @@ ghost use Rattle.toml_working.specs.Starting.{NoneIsGone, read_of};
 ghost use Rattle.toml_working.specs.Stands.{KeepsRest};
 
 use crate::fault::EditorFault;
+use crate::flat::removes_flat;
 use crate::removing::parent_of;
 use crate::sections::{
     Above, NewHeader, innermost_element, is_element_in_value, is_right_in_value,
@@ -74,8 +75,9 @@ fn make<'x>(
 {
     let spread = may_be_spread(alloc, data, read, edit, index)?;
     let only = is_only_element(data, edit);
+    let flat = removes_flat(data, edit);
     applied(alloc, data, edit, index, read.profile)?;
-    let done = write_edit(alloc, tree, read, edit, spelled)?;
+    let done = write_edit(alloc, tree, read, edit, spelled, flat)?;
     let is_spread = not_made(done, spread);
     if is_spread {
         return Err(EditorFault::Spread { index });
@@ -112,13 +114,15 @@ fn applied(
     }
 }
 
-/// Makes the edit on the working tree. It answers `false` where the tree has no one place for it.
+/// Makes the edit on the working tree; where it removes a table, `flat` says that no table stands in that. It answers `false`
+/// where the tree has no one place for it.
 fn write_edit<'x>(
     alloc: Global,
     tree: &mut Tree<'x>,
     read: Read<'_, 'x>,
     edit: &'x Edit,
     spelled: &'x Spelled,
+    flat: bool,
 ) -> Result<bool, AllocError>
     requires names { HasNames read }
     requires spelled { IsSpelled (change edit.now) spelled.now }
@@ -134,7 +138,7 @@ fn write_edit<'x>(
             write_rename(alloc, tree, read, &at, to.as_str(), spelled.to.as_str())?;
             Ok(true)
         }
-        Edit::Remove { .. } => tree.remove(read.before, read.names.place(&at), &at),
+        Edit::Remove { .. } => tree.remove(read.before, read.names.place(&at), &at, flat),
         Edit::Section { .. } => write_header(alloc, tree, read, &at, Brackets::One, spelled),
         Edit::Element { .. } => write_header(alloc, tree, read, &at, Brackets::Two, spelled),
     }

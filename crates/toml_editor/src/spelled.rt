@@ -4,6 +4,7 @@ ghost use Rattle.toml_edits.specs.Edits.{change};
 ghost use Rattle.toml_working.specs.Opening.{OpensText};
 ghost use Rattle.toml_editor.specs.SpelledEdits.{AreSpelled, AreSteps, IsNewName, IsSpelled, step_spelled};
 
+use crate::layout::Layout;
 use crate::opening::Opener;
 use crate::texts::Texts;
 use crate::tree::Value;
@@ -66,7 +67,14 @@ pub(crate) fn open_value<'t>(
         return Ok(None);
     };
     match parse_value_in(alloc, source, profile) {
-        Ok(value) => Ok(Some(Opener::new(Texts { alloc, source }).value(&value)?)),
+        Ok(value) => {
+            let texts = Texts {
+                alloc,
+                source,
+                layout: Layout::Plain,
+            };
+            Ok(Some(Opener::new(texts).value(&value)?))
+        }
         Err(SyntaxFault::NoMemory) => Err(AllocError),
         Err(_) => Ok(None),
     }

@@ -37,3 +37,4 @@ mod OpenedGap
 mod OpenedLine
 mod OpenedBody
 mod Got
+mod GapParts

@@ -105,9 +105,11 @@ impl<'t> Opener<'t> {
         for line in gap.lines() {
             opened.push_ws(self.leaf(line.blank.ws))?;
             if let Some(comment) = line.blank.comment {
-                opened.parts.push(GapPart::Lines(self.leaf(comment)))?;
+                opened.parts.push(GapPart::Comment(self.leaf(comment)))?;
             }
-            opened.parts.push(GapPart::Lines(self.leaf(line.newline)))?;
+            opened
+                .parts
+                .push(GapPart::Newline(self.leaf(line.newline)))?;
         }
         opened.push_ws(self.leaf(gap.ws()))?;
         Ok(opened)
