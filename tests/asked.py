@@ -165,10 +165,10 @@ def listed(text, addresses):
 
 
 def edited(before, edits, after, cert):
-    """`apply` prints the text that `edit` writes."""
+    """`apply` prints the text that `edit` writes, in layout `plain`."""
     return [edit(before, edits, done(b'ok\n', {'OUT': after, 'CERT': cert})),
             verify(before, edits, after, cert, done(b'yes\n')), *certified(before, edits, after, cert),
-            Run(with_certificate(['apply', 'FILE', 'EDITS']), {'FILE': before, 'EDITS': edits},
+            Run(with_certificate(['apply', '--layout', 'plain', 'FILE', 'EDITS']), {'FILE': before, 'EDITS': edits},
                 done(after, {'CERT': cert}))]
 
 
@@ -241,11 +241,12 @@ def not_made(words, file, refusal):
 # `apply`.
 
 def applied(file, edits, after, cert):
-    """EDITS or FILE may be standard input. The text is printed, or put in FILE."""
+    """EDITS or FILE may be standard input. The text is printed, or put in FILE. The layout is `follow`."""
     files = {'FILE': file, 'EDITS': edits}
     words = ['apply', 'FILE', 'EDITS']
     put = changed(file, after)
     return [Run(words, files, done(after)),
+            Run(['apply', '--layout', 'follow', 'FILE', 'EDITS'], files, done(after)),
             Run(['apply', 'FILE', '-'], {'FILE': file}, done(after), stdin=edits),
             Run(['apply', '-', 'EDITS'], {'EDITS': edits}, done(after), stdin=file),
             Run(with_certificate(words), files, done(after, {'CERT': cert})),

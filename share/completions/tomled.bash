@@ -5,7 +5,7 @@ _tomled_given() {
   local i given=0
   for ((i = 2; i < COMP_CWORD; i++)); do
     case ${COMP_WORDS[i]} in
-      --certificate | --default | --profile)
+      --certificate | --default | --layout | --profile)
         # Readline makes three words of --option=value.
         i=$((i + 1))
         if [ "${COMP_WORDS[i]}" = = ]; then i=$((i + 1)); fi
@@ -19,7 +19,7 @@ _tomled_given() {
 
 _tomled() {
   local commands='get validate check show set insert rename remove apply edit verify certify help'
-  local edits='-i --in-place --certificate' values='--string --parents'
+  local edits='-i --in-place --certificate --layout' values='--string --parents'
   local current=${COMP_WORDS[COMP_CWORD]} before=${COMP_WORDS[COMP_CWORD - 1]} options='' paths=0
   if [ "$current" = = ]; then
     current=''
@@ -51,6 +51,7 @@ _tomled() {
 
   case $before:$current in
     --profile:*) mapfile -t COMPREPLY < <(compgen -W '1 2' -- "$current") ;;
+    --layout:*) mapfile -t COMPREPLY < <(compgen -W 'plain follow' -- "$current") ;;
     --certificate:*) compopt -o default ;;
     --default:*) ;;
     *:-*) mapfile -t COMPREPLY < <(compgen -W "$options --profile -h --help" -- "$current") ;;

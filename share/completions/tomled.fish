@@ -58,6 +58,7 @@ complete -c tomled -n '__tomled_in set insert' -l string -d 'VALUE is the text o
 complete -c tomled -n '__tomled_in set insert' -l parents -d 'Make the tables that are missing above PLACE'
 complete -c tomled -n '__tomled_in set insert rename remove apply' -s i -l in-place -d 'Write the edited text to FILE, and print nothing'
 complete -c tomled -n '__tomled_in set insert rename remove apply' -l certificate -r -F -d 'Write there which parts of FILE were kept'
+complete -c tomled -n '__tomled_in set insert rename remove apply' -l layout -x -a 'plain follow' -d 'How new text is written'
 
 complete -c tomled -n '__tomled_in get set insert rename remove check show; and __tomled_below 1' -F
 complete -c tomled -n '__tomled_in apply; and __tomled_below 2' -F

@@ -51,14 +51,14 @@ module _ (profile : Profile) (cs : List Change) (asked : Asked) (e : Doc) (text 
       let x = lined_of_unit e text spells k w there in
       let m = whose_image (λ (m : Met). m.lined) ms k x.0 (subst (λ xs. slice_get xs k ≡ Some x.0) is x.1) in
       let same : IsUnitAt e text k m.0.lined w = subst (λ y. IsUnitAt e text k y w) (sym m.2) x.2 in
-      (line_is_asked cs e text ps asked.debts.items asks.debts asked.edited asks.edited k m.0.lined w same line m.0.paired (paired_at k m.0 m.1)).0
+      (line_is_asked cs e text ps asked.debts asks.debts asked.edited asks.edited k m.0.lined w same line m.0.paired (paired_at k m.0 m.1)).0
       (each_get (IsLineAsked asked) ms k m.0 h m.1 (ap (λ (s : Spanned). s.kind) same.is ∙ line))
 
   all_lines : NoLinesAdded cs e ps → EachIs (IsLineAsked asked) ms
   all_lines all = each_all (IsLineAsked asked) ms (λ k m at a_line.
       let w = unit_of e text spells k m.lined (subst (λ xs. slice_get xs k ≡ Some m.lined) (sym is) (image_at (λ (m : Met). m.lined) ms k m at)) in
       let line : w.0.kind ≡ kinds.Line = sym (ap (λ (s : Spanned). s.kind) w.1.is) ∙ a_line in
-      (line_is_asked cs e text ps asked.debts.items asks.debts asked.edited asks.edited k m.lined w.0 w.1 line m.paired (paired_at k m at)).1
+      (line_is_asked cs e text ps asked.debts asks.debts asked.edited asks.edited k m.lined w.0 w.1 line m.paired (paired_at k m at)).1
       (all k w.0 w.1.there line))
 
   no_lines : IsTrue added.lines ↔ NoLinesAdded cs e ps

@@ -8,10 +8,10 @@ use Rattle.toml_units.specs.declared.unit.UnitKind.TheVariants as kinds
 use Rattle.toml_units.specs.Lined.{LinedUnit}
 use Rattle.toml_units.specs.Plain.{spanned}
 use Rattle.toml_units.specs.Units.{TextUnit}
-use Rattle.toml_checker.specs.declared.debts.Debt.{Debt}
+use Rattle.toml_checker.specs.declared.debts.Debts.{Debts}
 use Rattle.toml_checker.specs.Added.{has_no_bytes}
 use Rattle.toml_checker.specs.CarriedTo.{At}
-use Rattle.toml_checker.specs.Debts.{AnyCovers, IsAsked}
+use Rattle.toml_checker.specs.Debts.{IsAsked, IsCovered}
 use Rattle.toml_checker.specs.Lines.{IsEmptyEnd}
 use Rattle.toml_checker.specs.Owed.{IsOwed}
 use Rattle.toml_checker.specs.Pairs.{IsSecond}
@@ -30,11 +30,11 @@ empty_is [] h = refl
 empty_is (b ∷ bs) h = cc
 
 module _ (cs : List Change) (e : Doc) (text : List ℕ) (ps : List (ℕ × ℕ))
-    (ds : List Debt) (owed : (a : Address) → AnyCovers ds a ↔ IsOwed cs a) (edited : Bool) (edits : (edited ≡ true) ↔ ¬ (cs ≡ []))
+    (ds : Debts) (owed : (a : Address) → IsCovered ds a ↔ IsOwed cs a) (edited : Bool) (edits : (edited ≡ true) ↔ ¬ (cs ≡ []))
     (k : ℕ) (x : LinedUnit) (w : TextUnit) (same : IsUnitAt e text k x w) (line : w.kind ≡ kinds.Line) (paired : Bool) (pair : (paired ≡ true) ↔ IsSecond ps k) where
   to : IsAsked ds paired (edited && has_no_bytes x.newline) (spanned w) → IsSecond ps k ⊎ At w.address (IsOwed cs) ⊎ IsEmptyEnd cs e k w
   to (inl p) = inl (pair.0 p)
-  to (inr (inl o)) = inr (inl (at_other (AnyCovers ds) (IsOwed cs) (λ a. (owed a).0) w.address o))
+  to (inr (inl o)) = inr (inl (at_other (IsCovered ds) (IsOwed cs) (λ a. (owed a).0) w.address o))
   to (inr (inr (last, empty))) =
       let t = parts_true edited (has_no_bytes x.newline) last in
       let zero_long : length w.piece.text ≡ 0 = omega arith in
@@ -42,7 +42,7 @@ module _ (cs : List Change) (e : Doc) (text : List ℕ) (ps : List (ℕ × ℕ))
 
   from : IsSecond ps k ⊎ At w.address (IsOwed cs) ⊎ IsEmptyEnd cs e k w → IsAsked ds paired (edited && has_no_bytes x.newline) (spanned w)
   from (inl p) = inl (pair.1 p)
-  from (inr (inl o)) = inr (inl (at_other (IsOwed cs) (AnyCovers ds) (λ a. (owed a).1) w.address o))
+  from (inr (inl o)) = inr (inl (at_other (IsOwed cs) (IsCovered ds) (λ a. (owed a).1) w.address o))
   from (inr (inr (last, empty, some))) =
       let b : has_no_bytes x.newline ≡ true = ap has_no_bytes ((same.last line).1 last) in
       let t : edited ≡ true = edits.1 some in

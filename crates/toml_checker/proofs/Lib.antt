@@ -76,3 +76,4 @@ pub mod Ended
 pub mod Sought
 pub mod SearchWalking
 pub mod Proved
+pub mod PlaceTrees

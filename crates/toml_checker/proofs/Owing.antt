@@ -1,5 +1,5 @@
 -- What edits owe, by debts.
-use Rattle.std.proofs.Common.{◌≡◌, ℕ, ◌+◌, ◌<◌, ◌↔◌, ◌⊎◌, inl, inr, List, [], ◌∷◌, ◌++◌, length, drop, get_or, Option, Some, sym, ap, subst, ◌∙◌}
+use Rattle.std.proofs.Common.{◌≡◌, ℕ, ◌+◌, ◌<◌, ◌↔◌, ◌⊎◌, inl, inr, true, List, [], ◌∷◌, ◌++◌, length, drop, get_or, Option, Some, sym, ap, subst, ◌∙◌}
 use Rattle.std.specs.Prelude.{option_map}
 use Rattle.std.proofs.lemmas.List.{drop_more}
 use Rattle.toml_names.specs.declared.model.address.Step.{Step}
@@ -8,8 +8,12 @@ use Rattle.toml_edits.specs.Carry.{parted}
 use Rattle.toml_edits.specs.Edits.{Change}
 use Rattle.toml_edits.proofs.Proved.{parted_at_last}
 use Rattle.toml_checker.specs.declared.debts.Debt.{Debt}
-use Rattle.toml_checker.specs.Debts.{Covers, AnyCovers, IsOwedBy, MayCover}
+use Rattle.toml_checker.specs.declared.debts.Debts.{Debts}
+use Rattle.toml_checker.specs.declared.place_tree.PlaceTree.{PlaceTree}
+use Rattle.toml_checker.specs.Debts.{AnyCovers, Covers, CoversMore, IsCovered, IsOwedBy, MayCover}
 use Rattle.toml_checker.specs.Owed.{IsOwed}
+use Rattle.toml_checker.specs.PlaceTrees.{MeetsMore, meets}
+use Rattle.toml_checker.proofs.PlaceTrees.{more_met, now_met, still_met}
 
 abbrev Parts : Type 0
 Parts = Address × Step
@@ -21,6 +25,9 @@ pub one_covers : (ds : List Debt) (i : ℕ) (d : Debt) (a : Address) → i < len
 one_covers ds i d a low is h all =
     let here : drop i ds ≡ d ∷ drop (i + 1) ds = drop_more ds i d low ∙ ap (λ x. x ∷ drop (i + 1) ds) (sym is) in
     all.0 (subst (λ xs. AnyCovers xs a) (sym here) (inl h))
+
+pub none_covers : (ds : List Debt) (a : Address) → ds ≡ [] → ¬ AnyCovers ds a
+none_covers ds a none h = subst (λ (xs : List Debt). AnyCovers xs a) none h
 
 -- what one debt covers more
 pub pushed : (ds : List Debt) (d : Debt) (a : Address) → AnyCovers (ds ++ d ∷ []) a ↔ (Covers d a ⊎ AnyCovers ds a)
@@ -43,25 +50,62 @@ pushed (x ∷ ds) d a = parts (pushed ds d a)
         back (inr (inl h)) = inl h
         back (inr (inr h)) = inr (w.1 (inr h))
 
-pub none_pushed : (ds : List Debt) (a : Address) → AnyCovers ds a ↔ (⊥ ⊎ AnyCovers ds a)
-none_pushed ds a = (there, back)
+-- what the debts cover with one more: of the tree, or of the others
+pub long_more : (tree : Option PlaceTree) (long more : List Debt) (d : Debt) (a : Address) → more ≡ long ++ d ∷ [] → ((meets tree a ≡ true) ⊎ AnyCovers more a) ↔ (Covers d a ⊎ ((meets tree a ≡ true) ⊎ AnyCovers long a))
+long_more tree long more d a is = (there, back)
   where
-    there : AnyCovers ds a → ⊥ ⊎ AnyCovers ds a
+    there : (meets tree a ≡ true) ⊎ AnyCovers more a → Covers d a ⊎ ((meets tree a ≡ true) ⊎ AnyCovers long a)
+    there (inl h) = inr (inl h)
+    there (inr h) = by ((pushed long d a).0 (subst (λ ds. AnyCovers ds a) is h))
+      where
+        by : Covers d a ⊎ AnyCovers long a → Covers d a ⊎ ((meets tree a ≡ true) ⊎ AnyCovers long a)
+        by (inl k) = inl k
+        by (inr k) = inr (inr k)
+
+    back : Covers d a ⊎ ((meets tree a ≡ true) ⊎ AnyCovers long a) → (meets tree a ≡ true) ⊎ AnyCovers more a
+    back (inl h) = inr (subst (λ ds. AnyCovers ds a) (sym is) ((pushed long d a).1 (inl h)))
+    back (inr (inl h)) = inl h
+    back (inr (inr h)) = inr (subst (λ ds. AnyCovers ds a) (sym is) ((pushed long d a).1 (inr h)))
+
+pub tree_more : (old : Option PlaceTree) (new : PlaceTree) (long : List Debt) (d : Debt) (way : Address) (a : Address) → way ≡ d.at → MeetsMore old (Some new) d.below way
+    → ((meets (Some new) a ≡ true) ⊎ AnyCovers long a) ↔ (Covers d a ⊎ ((meets old a ≡ true) ⊎ AnyCovers long a))
+tree_more old new long d way a is more = (there, back)
+  where
+    own : MeetsMore old (Some new) d.below d.at
+    own = subst (MeetsMore old (Some new) d.below) is more
+
+    there : (meets (Some new) a ≡ true) ⊎ AnyCovers long a → Covers d a ⊎ ((meets old a ≡ true) ⊎ AnyCovers long a)
+    there (inl h) = by (more_met old (Some new) d.below d.at a own h)
+      where
+        by : Covers d a ⊎ (meets old a ≡ true) → Covers d a ⊎ ((meets old a ≡ true) ⊎ AnyCovers long a)
+        by (inl k) = inl k
+        by (inr k) = inr (inl k)
+    there (inr h) = inr (inr h)
+
+    back : Covers d a ⊎ ((meets old a ≡ true) ⊎ AnyCovers long a) → (meets (Some new) a ≡ true) ⊎ AnyCovers long a
+    back (inl h) = inl (now_met old (Some new) d.below d.at a own h)
+    back (inr (inl h)) = inl (still_met old (Some new) d.below d.at a own h)
+    back (inr (inr h)) = inr h
+
+pub none_owed : (P : Type 0) → P ↔ (⊥ ⊎ P)
+none_owed P = (there, back)
+  where
+    there : P → ⊥ ⊎ P
     there h = inr h
 
-    back : ⊥ ⊎ AnyCovers ds a → AnyCovers ds a
+    back : ⊥ ⊎ P → P
     back (inl h) = absurd h
     back (inr h) = h
 
 -- one edit more in front, whose debt is known
-pub owed_more : (c : Change) (later : List Change) (owed : Option Debt) (old new : List Debt) (a : Address) → (MayCover owed a ↔ IsOwedBy c later a) → (AnyCovers old a ↔ IsOwed later a) → (AnyCovers new a ↔ (MayCover owed a ⊎ AnyCovers old a))
-    → AnyCovers new a ↔ IsOwed (c ∷ later) a
+pub owed_more : (c : Change) (later : List Change) (owed : Option Debt) (old new : Debts) (a : Address) → (MayCover owed a ↔ IsOwedBy c later a) → (IsCovered old a ↔ IsOwed later a) → CoversMore (MayCover owed) old new a
+    → IsCovered new a ↔ IsOwed (c ∷ later) a
 owed_more c later owed old new a one all push = ((λ h. out (push.0 h)), (λ h. push.1 (back h)))
   where
-    out : MayCover owed a ⊎ AnyCovers old a → IsOwedBy c later a ⊎ IsOwed later a
+    out : MayCover owed a ⊎ IsCovered old a → IsOwedBy c later a ⊎ IsOwed later a
     out (inl h) = inl (one.0 h)
     out (inr h) = inr (all.0 h)
 
-    back : IsOwedBy c later a ⊎ IsOwed later a → MayCover owed a ⊎ AnyCovers old a
+    back : IsOwedBy c later a ⊎ IsOwed later a → MayCover owed a ⊎ IsCovered old a
     back (inl h) = inl (one.1 h)
     back (inr h) = inr (all.1 h)

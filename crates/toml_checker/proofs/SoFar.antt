@@ -5,23 +5,23 @@ use Rattle.toml_tree.specs.declared.profile.Profile.{Profile}
 use Rattle.toml_names.specs.model.Addresses.{Address}
 use Rattle.toml_edits.specs.declared.edit.Edit.{Edit}
 use Rattle.toml_edits.specs.Edits.{Change, change}
-use Rattle.toml_checker.specs.declared.debts.Debt.{Debt}
+use Rattle.toml_checker.specs.declared.debts.Debts.{Debts}
 use Rattle.toml_checker.specs.declared.written.Written.{Written}
-use Rattle.toml_checker.specs.Debts.{AnyCovers}
+use Rattle.toml_checker.specs.Debts.{IsCovered, IsNothingOwed}
 use Rattle.toml_checker.specs.Owed.{IsOwed}
 use Rattle.toml_checker.specs.WrittenComments.{AreWrittenBy, HasValue, HaveValues, IsWrittenBy}
 
 -- what the edits from one on ask for, as it was found so far
-pub record IsSoFar (profile : Profile) (cs : List Change) (ds : List Debt) (ws : List Written) : Type 0 where
-  pub debts : (a : Address) → AnyCovers ds a ↔ IsOwed cs a
+pub record IsSoFar (profile : Profile) (cs : List Change) (ds : Debts) (ws : List Written) : Type 0 where
+  pub debts : (a : Address) → IsCovered ds a ↔ IsOwed cs a
   pub written : HaveValues profile cs → AreWrittenBy cs (reverse ws)
 
-nothing : (profile : Profile) → IsSoFar profile [] [] []
-nothing profile = record { debts = λ a. (λ h. h, λ h. h); written = λ h. tt }
+nothing : (profile : Profile) (ds : Debts) → IsNothingOwed ds → IsSoFar profile [] ds []
+nothing profile ds none = record { debts = λ a. (λ h. none a h, λ h. absurd h); written = λ h. tt }
 
 -- behind the last edit
-pub at_end : (profile : Profile) (es later : List Edit) → later ≡ [] → IsSoFar profile (map change later) [] []
-at_end profile es later none = subst (λ ds. IsSoFar profile (map change ds) [] []) (sym none) (nothing profile)
+pub at_end : (profile : Profile) (later : List Edit) (ds : Debts) → later ≡ [] → IsNothingOwed ds → IsSoFar profile (map change later) ds []
+at_end profile later ds none owed = subst (λ es. IsSoFar profile (map change es) ds []) (sym none) (nothing profile ds owed)
 
 pub none_behind : (es later : List Edit) → later ≡ drop (length es) es → later ≡ []
 none_behind es later is = is ∙ drop_all (length es) es (omega arith)
@@ -37,7 +37,7 @@ pub from_on : (es : List Edit) (i : ℕ) → take (length es - i) (drop i es) �
 from_on es i = take_rest es i
 
 -- one edit more in front
-pub one_more : (profile : Profile) (c : Change) (cs : List Change) (debts new : List Debt) (written more : List Written) (w : Written) → IsSoFar profile cs debts written → ((a : Address) → AnyCovers new a ↔ IsOwed (c ∷ cs) a)
+pub one_more : (profile : Profile) (c : Change) (cs : List Change) (debts new : Debts) (written more : List Written) (w : Written) → IsSoFar profile cs debts written → ((a : Address) → IsCovered new a ↔ IsOwed (c ∷ cs) a)
     → (HasValue profile c → IsWrittenBy c cs w) → more ≡ written ++ w ∷ [] → IsSoFar profile (c ∷ cs) new more
 one_more profile c cs debts new written more w h owed is pushed = record {
   debts = owed;

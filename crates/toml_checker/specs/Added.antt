@@ -11,7 +11,7 @@ use Rattle.toml_checker.specs.declared.added.Added.{Added}
 use Rattle.toml_checker.specs.declared.added.Asked.{Asked}
 use Rattle.toml_checker.specs.Comments.{is_comment}
 use Rattle.toml_checker.specs.Counts.{plain}
-use Rattle.toml_checker.specs.Debts.{AnyCovers, IsAsked}
+use Rattle.toml_checker.specs.Debts.{IsAsked, IsCovered}
 use Rattle.toml_checker.specs.Marks.{reach_with, reaches}
 use Rattle.toml_checker.specs.Owed.{IsOwed}
 use Rattle.toml_checker.specs.Traces.{Met}
@@ -20,7 +20,7 @@ use Rattle.toml_checker.specs.WrittenComments.{AreWrittenBy, HaveValues, IsAllow
 
 -- what the edits ask for: the addresses that they owe, the comments that they write where their values are of the profile, and whether there are any
 pub record Asks (profile : Profile) (cs : List Change) (asked : Asked) : Type 0 where
-  pub debts : (a : Address) → AnyCovers asked.debts.items a ↔ IsOwed cs a
+  pub debts : (a : Address) → IsCovered asked.debts a ↔ IsOwed cs a
   pub written : HaveValues profile cs → AreWrittenBy cs asked.written.items
   pub edited : (asked.edited ≡ true) ↔ ¬ (cs ≡ [])
 
@@ -35,7 +35,7 @@ met_of u newline paired = record { lined = record { unit = unit u; newline = new
 
 -- a line is asked for; only the last of a text has no newline
 abbrev pub IsLineAsked : Asked → Met → Type 0
-IsLineAsked asked m = m.lined.unit.kind ≡ kinds.Line → IsAsked asked.debts.items m.paired (asked.edited && has_no_bytes m.lined.newline) m.lined.unit
+IsLineAsked asked m = m.lined.unit.kind ≡ kinds.Line → IsAsked asked.debts m.paired (asked.edited && has_no_bytes m.lined.newline) m.lined.unit
 
 -- the furthest end of paired units
 abbrev pub reach_from : Option ℕ → List Met → Option ℕ

@@ -33,3 +33,4 @@ pub mod Findings
 pub mod SearchTraces
 pub mod SearchWalking
 pub mod Answers
+pub mod PlaceTrees

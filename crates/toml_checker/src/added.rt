@@ -4,14 +4,14 @@ ghost use Rattle.toml_units.specs.Places.{is_line};
 ghost use Rattle.toml_units.specs.View.{unit as span_of};
 ghost use Rattle.toml_checker.specs.Added.{AddsText, AreAllowedWith, HasAdded, IsLineAsked, met_of};
 ghost use Rattle.toml_checker.specs.CarriedTo.{At};
-ghost use Rattle.toml_checker.specs.Debts.{AnyCovers, IsAsked};
+ghost use Rattle.toml_checker.specs.Debts.{IsAsked, IsCovered};
 ghost use Rattle.toml_checker.specs.UnmarkedComments.{text_at};
 ghost use Rattle.toml_checker.specs.Traces.{Met};
 ghost use Rattle.toml_checker.specs.Walking.{AddsNoComments};
 ghost use Rattle.toml_checker.specs.WrittenComments.{IsAllowed};
 
 use crate::counting::no_more;
-use crate::debts::{Debt, any_covers};
+use crate::debts::Debts;
 use crate::marks::{reach_with, reaches};
 use crate::pairs::has_no_bytes;
 use crate::unmarked::{is_unmarked, text_at};
@@ -23,7 +23,7 @@ use toml_units::{Unit, UnitKind};
 /// What edits ask for: what they owe, the comments that they write, and whether there are any.
 #[derive(Drop)]
 pub(crate) struct Asked<'e> {
-    pub(crate) debts: Vec<Debt>,
+    pub(crate) debts: Debts,
     pub(crate) written: Vec<Written<'e>>,
     pub(crate) edited: bool,
 }
@@ -36,17 +36,17 @@ fn is_line(unit: &Unit) -> bool
 }
 
 /// Whether a debt covers the address, if there is one.
-fn is_owed(debts: &[Debt], at: &Option<Address>) -> bool
-    ensures { IsTrue result ↔ At at.now (AnyCovers debts.now) }
+fn is_owed(debts: &Debts, at: &Option<Address>) -> bool
+    ensures { IsTrue result ↔ At at.now (IsCovered debts.now) }
 {
     match at {
-        Some(address) => any_covers(debts, address),
+        Some(address) => debts.cover(address),
         None => false,
     }
 }
 
 /// Whether the line is paired, or owed, or the last one and of no bytes.
-fn is_asked(line: &Unit, paired: bool, last: bool, debts: &[Debt]) -> bool
+fn is_asked(line: &Unit, paired: bool, last: bool, debts: &Debts) -> bool
     ensures { IsTrue result ↔ IsAsked debts.now paired last (span_of line.now) }
 {
     paired || is_owed(debts, &line.address) || (last && line.span.start == line.span.end)

@@ -4,7 +4,7 @@ ghost use Rattle.toml_edits.specs.Edits.{change};
 ghost use Rattle.toml_checker.specs.Added.{Asks};
 
 use crate::added::Asked;
-use crate::debts::{owed_by, push_owed};
+use crate::debts::{no_debts, owed_by, with_owed};
 use crate::edit_list::EditList;
 use crate::written::written_by;
 use std::alloc::{AllocError, Global};
@@ -20,12 +20,12 @@ pub(crate) fn asked_by<'e>(
     ensures { IfOk result (λ p. (p.0.edits.now ≡ edits.now) × Asks profile (map change edits.now) p.1) }
 {
     let mut later = EditList::none(alloc, &edits[edits.len()..]);
-    let mut debts = Vec::new(alloc);
+    let mut debts = no_debts(alloc);
     let mut written = Vec::new(alloc);
     for count in 0..edits.len() {
         let left = &edits[edits.len() - 1 - count..];
         let edit = &left[0];
-        push_owed(&mut debts, owed_by(alloc, edit, &later)?)?;
+        debts = with_owed(alloc, debts, owed_by(alloc, edit, &later)?)?;
         written.push(written_by(alloc, edit, &later, profile)?)?;
         later = later.with_front(left)?;
     }

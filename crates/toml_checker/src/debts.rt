@@ -1,6 +1,6 @@
 //! What edits owe.
-ghost use Rattle.std.specs.Prelude.{◌≡◌, ◌↔◌, ◌⊎◌, IsTrue, IfOk, OnOk, option_map};
-ghost use Rattle.toml_checker.specs.Debts.{Covers, AnyCovers, MayCover, IsOwedBy};
+ghost use Rattle.std.specs.Prelude.{◌≡◌, ◌↔◌, ◌⊎◌, IsTrue, IfOk, option_map};
+ghost use Rattle.toml_checker.specs.Debts.{AnyCovers, Covers, CoversMore, IsCovered, IsNothingOwed, MayCover, IsOwedBy};
 ghost use Rattle.toml_checker.specs.EditLists.{changes};
 ghost use Rattle.toml_checker.specs.Owed as owed;
 ghost use Rattle.toml_edits.specs.Edits.{change};
@@ -9,15 +9,23 @@ ghost use Rattle.toml_names.specs.model.Addresses.{Address as Steps, child};
 
 use crate::above::is_at_or_above;
 use crate::edit_list::EditList;
+use crate::place_tree::{PlaceTree, meets, with_place};
 use std::alloc::{AllocError, Global};
 use toml_edits::Edit;
-use toml_names::{Address, Name, Step};
+use toml_names::{Address, MAX_STEPS, Name, Step};
 
 /// What an edit owes: all at or above an address, and all below it, unless it is a removal.
 #[derive(Drop)]
 pub(crate) struct Debt {
     pub(crate) at: Address,
     pub(crate) below: bool,
+}
+
+/// What edits owe: the debts at addresses that are no longer than those of things can be, as a tree, and the others.
+#[derive(Drop)]
+pub(crate) struct Debts {
+    tree: Option<PlaceTree>,
+    long: Vec<Debt>,
 }
 
 /// The address of the steps.
@@ -86,14 +94,53 @@ pub(crate) fn owed_by(
     }))
 }
 
-/// Adds what an edit owes, if anything.
-pub(crate) fn push_owed(debts: &mut Vec<Debt>, owed: Option<Debt>) -> Result<(), AllocError>
-    ensures { OnOk result ((a : Steps) → AnyCovers debts.new.items a ↔ (MayCover owed a ⊎ AnyCovers debts.old.items a)) }
+/// Nothing is owed.
+pub(crate) fn no_debts(alloc: Global) -> Debts
+    ensures { IsNothingOwed result }
 {
-    if let Some(debt) = owed {
-        debts.push(debt)?;
+    Debts {
+        tree: None,
+        long: Vec::new(alloc),
     }
-    Ok(())
+}
+
+/// What is owed with one debt more.
+fn with_debt(alloc: Global, debts: Debts, debt: Debt) -> Result<Debts, AllocError>
+    ensures { IfOk result (λ new. (a : Steps) → CoversMore (Covers debt) debts new a) }
+{
+    let Debts { tree, mut long } = debts;
+    if debt.at.steps().len() > MAX_STEPS + 1 {
+        long.push(debt)?;
+        return Ok(Debts { tree, long });
+    }
+    let tree = with_place(alloc, tree, debt.at.steps(), debt.below)?;
+    Ok(Debts {
+        tree: Some(tree),
+        long,
+    })
+}
+
+/// What is owed with what an edit owes, if anything.
+pub(crate) fn with_owed(
+    alloc: Global,
+    debts: Debts,
+    owed: Option<Debt>,
+) -> Result<Debts, AllocError>
+    ensures { IfOk result (λ new. (a : Steps) → CoversMore (MayCover owed) debts new a) }
+{
+    match owed {
+        Some(debt) => with_debt(alloc, debts, debt),
+        None => Ok(debts),
+    }
+}
+
+impl Debts {
+    /// Whether the address is owed.
+    pub(crate) fn cover(&self, at: &Address) -> bool
+        ensures { IsTrue result ↔ IsCovered self.now at.now }
+    {
+        meets(self.tree.as_ref(), at.steps()) || any_covers(&self.long, at)
+    }
 }
 
 impl Debt {
@@ -106,7 +153,7 @@ impl Debt {
 }
 
 /// Whether one of them covers the address.
-pub(crate) fn any_covers(debts: &[Debt], at: &Address) -> bool
+fn any_covers(debts: &[Debt], at: &Address) -> bool
     ensures { IsTrue result ↔ AnyCovers debts.now at.now }
 {
     for debt in debts {

@@ -18,6 +18,7 @@ pub mod laws;
 mod marks;
 mod outer;
 mod pairs;
+mod place_tree;
 mod protection;
 mod search;
 mod sight;

@@ -1,5 +1,5 @@
 -- From what was judged and told to the editor's answers.
-use Rattle.std.proofs.Common.{ℕ, ◌≤◌, List, length, arith}
+use Rattle.std.proofs.Common.{◌≡◌, ℕ, ◌≤◌, List, [], ◌∷◌, length, arith, subst, sym}
 use Rattle.std.proofs.lemmas.Str.{IsUtf8-from_is_utf8}
 use Rattle.toml_text.specs.Limit.{IsText, max_len}
 use Rattle.toml_text.specs.Source.{IsFaultOf}
@@ -23,8 +23,13 @@ use Rattle.toml_names.specs.reader.Texts as texts
 use Rattle.toml_names.proofs.Proved.{refused_text}
 use Rattle.toml_edits.specs.Edits.{Change}
 use Rattle.toml_editor.specs.PlainTexts.{IsNoPlainEdit, NoSpreadSet}
-use Rattle.toml_editor.specs.Edited.{RefusesText, Tells}
+use Rattle.toml_units.specs.declared.piece.Piece.{Piece}
+use Rattle.toml_editor.specs.Edited.{IsEditedWith, RefusesText, Tells, TellsOfData, TellsWith}
+use Rattle.toml_editor.specs.Editing.{IsEditedText, TellsIn}
 use Rattle.toml_editor.specs.Exact.{OfNoPlaceAt, OfNumber}
+use Rattle.toml_working.specs.Layouts.{AreSaid}
+use Rattle.toml_working.specs.declared.layout.Layout.{Layout}
+use Rattle.toml_working.specs.declared.layout.Layout.TheVariants as layouts
 use Rattle.toml_editor.specs.Making.{TellsAny}
 use Rattle.toml_editor.specs.declared.fault.EditorFault.{EditorFault}
 use Rattle.toml_editor.specs.declared.fault.EditorFault.TheVariants as faults
@@ -74,3 +79,54 @@ any_tells profile before cs d old (faults.Syntax f) document spelled facts h pas
 any_tells profile before cs d old (faults.Names f) document spelled facts h passed not = absurd h
 any_tells profile before cs d old faults.TooLong document spelled facts h passed not = absurd h
 any_tells profile before cs d old (faults.Unverified r) document spelled facts h passed not = absurd h
+
+-- so it is of the data alone
+pub any_tells_of_data : (profile : Profile) (before : List ℕ) (cs : List Change) (d : Doc) (old : Kinds) (fault : EditorFault) → IsDocumentIn profile before
+    → Spells d before → IsDataOf (named d.lines) old → TellsAny profile (place (named d.lines)) cs old fault → TellsOfData profile before cs fault
+any_tells_of_data profile before cs d old (faults.Edit i f) document spelled facts h = (document, (d, spelled, old, facts, h))
+any_tells_of_data profile before cs d old (faults.Spread i) document spelled facts h = (document, (d, spelled, (d, spelled, old, facts, h)))
+any_tells_of_data profile before cs d old (faults.LastElement i) document spelled facts h = (document, (d, spelled, old, facts, h))
+any_tells_of_data profile before cs d old faults.NoMemory document spelled facts h = tt
+any_tells_of_data profile before cs d old (faults.Text f) document spelled facts h = absurd h
+any_tells_of_data profile before cs d old (faults.Syntax f) document spelled facts h = absurd h
+any_tells_of_data profile before cs d old (faults.Names f) document spelled facts h = absurd h
+any_tells_of_data profile before cs d old faults.TooLong document spelled facts h = absurd h
+any_tells_of_data profile before cs d old (faults.Unverified r) document spelled facts h = absurd h
+
+-- ---- layouts
+
+-- why a text is no document is told in each
+pub refused_tells : (layout : Layout) (profile : Profile) (before : List ℕ) (cs : List Change) (fault : EditorFault) → RefusesText profile before fault
+    → TellsIn layout profile before cs fault
+refused_tells layout profile before cs (faults.Text f) h = record { of_data = h; said = λ said. h }
+refused_tells layout profile before cs (faults.Syntax f) h = record { of_data = h; said = λ said. h }
+refused_tells layout profile before cs (faults.Names f) h = record { of_data = h; said = λ said. h }
+refused_tells layout profile before cs faults.NoMemory h = record { of_data = tt; said = λ said. tt }
+refused_tells layout profile before cs (faults.Edit i f) h = absurd h
+refused_tells layout profile before cs (faults.Spread i) h = absurd h
+refused_tells layout profile before cs (faults.LastElement i) h = absurd h
+refused_tells layout profile before cs faults.TooLong h = absurd h
+refused_tells layout profile before cs (faults.Unverified r) h = absurd h
+
+pub memory_tells : (layout : Layout) (profile : Profile) (before : List ℕ) (cs : List Change) (fault : EditorFault) → fault ≡ faults.NoMemory
+    → TellsIn layout profile before cs fault
+memory_tells layout profile before cs fault is = subst (TellsIn layout profile before cs) (sym is) (record { of_data = tt; said = λ said. tt })
+
+-- in `Plain` it is said of all edits what they write
+pub plain_is_said : (cs : List Change) → AreSaid layouts.Plain cs
+plain_is_said [] = tt
+plain_is_said (c ∷ cs) = (tt, plain_is_said cs)
+
+pub tells_with : (layout : Layout) (profile : Profile) (before : List ℕ) (cs : List Change) (fault : EditorFault) → TellsIn layout profile before cs fault
+    → TellsWith layout profile before cs fault
+tells_with layouts.Plain profile before cs fault h = h.said (plain_is_said cs)
+tells_with layouts.Follow profile before cs fault h = record { of_data = h.of_data; said = h.said }
+
+pub plain_tells : (profile : Profile) (before : List ℕ) (cs : List Change) (fault : EditorFault) → TellsIn layouts.Plain profile before cs fault
+    → Tells profile before cs fault
+plain_tells profile before cs fault h = h.said (plain_is_said cs)
+
+pub edited_with : (layout : Layout) (profile : Profile) (before after : List ℕ) (cs : List Change) (list : List Piece) (ps : List (ℕ × ℕ))
+    → IsEditedText layout profile before cs after list ps → IsEditedWith layout profile before cs after ps
+edited_with layouts.Plain profile before after cs list ps h = h.said (plain_is_said cs)
+edited_with layouts.Follow profile before after cs list ps h = record { certified = h.certified; outer = h.outer; said = h.said }

@@ -17,6 +17,7 @@ use Rattle.toml_working.specs.declared.texts.Texts.{Texts}
 use Rattle.toml_working.specs.declared.working.Tree.{Tree}
 use Rattle.toml_editor.specs.CertifiedLists.{ArePlain}
 use Rattle.toml_editor.specs.Exact.{FollowAll, IsAt, MakesAll, style}
+use Rattle.toml_working.specs.Layouts.{AreSaid}
 use Rattle.toml_editor.specs.PlainTexts.{WritesPlain}
 use Rattle.toml_working.specs.Standing.{Read, standing}
 use Rattle.toml_working.specs.Stands.{Stands}
@@ -48,10 +49,11 @@ module _ (profile : Profile) (read : Read) (d : Doc) (before : List ℕ) (tree :
     newline = subst IsNewline (sym styled) (style_is_newline d.lines spelled.lines.forms);
   }
 
-  module _ (cs : List Change) (old now : Kinds) (new : Tree) (out : List ℕ) (facts : IsDataOf (named d.lines) old) (lead : Lead profile cs old now) where
+  module _ (cs : List Change) (old now : Kinds) (new : Tree) (out : List ℕ) (facts : IsDataOf (named d.lines) old) (lead : Lead profile cs old now)
+      (said : AreSaid tree.texts.layout cs) where
     -- once plain edits are made, the tree stands for the text that they write,
     all_follow : MakesAll profile read cs tree new → ArePlain profile cs (style_of d.lines) before → FollowAll profile read cs tree new before now
-    all_follow makes plain = makes before old now (at old facts) lead (subst (λ s. ArePlain profile cs s before) (sym styled) plain)
+    all_follow makes plain = makes before old now (at old facts) lead said (subst (λ s. ArePlain profile cs s before) (sym styled) plain)
 
     -- and that is what is written of it
     out_is : (makes : MakesAll profile read cs tree new) → WritesOut before d.mark.text new.slots.items out

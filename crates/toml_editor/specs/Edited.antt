@@ -4,6 +4,7 @@ use Rattle.toml_text.specs.Limit.{IsText, max_len}
 use Rattle.toml_text.specs.Source.{IsFaultOf}
 use Rattle.toml_tree.specs.Profiles.{IsOfProfile}
 use Rattle.toml_tree.specs.Document.{Refuses}
+use Rattle.toml_tree.specs.Spells.{EachIs}
 use Rattle.toml_tree.specs.declared.profile.Profile.{Profile}
 use Rattle.toml_names.specs.declared.model.address.Step.{Step}
 use Rattle.toml_names.specs.declared.model.place.Place.{Place}
@@ -25,9 +26,12 @@ use Rattle.toml_checker.specs.Documents.{AreDefined, OfTree, OfData}
 use Rattle.toml_checker.specs.Findings.{IsFirstUnmet}
 use Rattle.toml_checker.specs.Outer.{IsOuter}
 use Rattle.toml_checker.specs.Pairs.{IsFirst}
+use Rattle.toml_working.specs.Layouts.{PutsNothingIn}
 use Rattle.toml_editor.specs.PlainTexts.{IsNoPlainEdit, IsNoPlainList, NoSpreadSet, WritesPlain}
 use Rattle.toml_working.specs.InValues.{Places, IsElementInValue, IsRightInValue}
 use Rattle.toml_working.specs.Tidy.{ArePieces}
+use Rattle.toml_working.specs.declared.layout.Layout.{Layout}
+use Rattle.toml_working.specs.declared.layout.Layout.TheVariants as layouts
 use Rattle.toml_editor.specs.declared.fault.EditorFault.{EditorFault}
 use Rattle.toml_editor.specs.declared.fault.EditorFault.TheVariants.{Text, Syntax, Names, Edit, Spread, LastElement, TooLong, Unverified, NoMemory}
 
@@ -42,6 +46,16 @@ pub record IsEdited (profile : Profile) (before : List ℕ) (cs : List Change) (
   pub outer : NamesOuter before cs ps
   pub plain : WritesPlain profile before cs after
   pub passed : NoSpreadSet profile before cs (length cs)
+
+-- The same in a layout. In `Follow` it is said of lists without an `insert` what they write: as in `Plain`.
+pub record IsEditedBeside (profile : Profile) (before : List ℕ) (cs : List Change) (after : List ℕ) (ps : List (ℕ × ℕ)) : Type 0 where
+  pub certified : Certified profile before cs after ps
+  pub outer : NamesOuter before cs ps
+  pub said : EachIs PutsNothingIn cs → IsEdited profile before cs after ps
+
+abbrev pub IsEditedWith : Layout → Profile → List ℕ → List Change → List ℕ → List (ℕ × ℕ) → Type 0
+IsEditedWith layouts.Plain = IsEdited
+IsEditedWith layouts.Follow = IsEditedBeside
 
 -- the same as pieces, which are tidy
 pub record IsEditedInPieces (profile : Profile) (before : List ℕ) (cs : List Change) (list : List Piece) (ps : List (ℕ × ℕ)) : Type 0 where
@@ -112,3 +126,27 @@ Tells profile before cs (Unverified reason) =
     AreDefinedOn profile before cs × IsNoPlainList profile before cs × NoSpreadSet profile before cs (length cs)
     × ((after : List ℕ) × IsText after × IsFirstUnmet profile before cs after reason)
 Tells profile before cs fault = RefusesText profile before fault
+
+-- What each fault tells of the data in every layout. That the result is too long: that all edits are defined. That the judge refuses it: so
+-- too, and the reason is the first demand that no certificate meets of some text.
+abbrev pub TellsOfData : Profile → List ℕ → List Change → EditorFault → Type 0
+TellsOfData profile before cs (Edit index fault) =
+    IsDocumentIn profile before × OnDataSoFar profile before cs index (λ c kinds. IsFault profile c kinds (Some fault))
+TellsOfData profile before cs (Spread index) =
+    IsDocumentIn profile before
+    × OfTree before (λ d. OnDataSoFar profile before cs index (OfDefined profile (MayBeSpread (place (named d.lines)) index)))
+TellsOfData profile before cs (LastElement index) =
+    IsDocumentIn profile before × OnDataSoFar profile before cs index (OfDefined profile TakesLastElement)
+TellsOfData profile before cs TooLong = AreDefinedOn profile before cs
+TellsOfData profile before cs (Unverified reason) =
+    AreDefinedOn profile before cs × ((after : List ℕ) × IsText after × IsFirstUnmet profile before cs after reason)
+TellsOfData profile before cs fault = RefusesText profile before fault
+
+-- What a fault tells in a layout: in `Follow` of lists without an `insert` all that it tells in `Plain`.
+pub record TellsBeside (profile : Profile) (before : List ℕ) (cs : List Change) (fault : EditorFault) : Type 0 where
+  pub of_data : TellsOfData profile before cs fault
+  pub said : EachIs PutsNothingIn cs → Tells profile before cs fault
+
+abbrev pub TellsWith : Layout → Profile → List ℕ → List Change → EditorFault → Type 0
+TellsWith layouts.Plain = Tells
+TellsWith layouts.Follow = TellsBeside

@@ -21,6 +21,7 @@ use Rattle.toml_editor.specs.declared.fault.EditorFault.TheVariants.{Edit, LastE
 use Rattle.toml_working.specs.declared.working.Tree.{Tree}
 use Rattle.toml_working.specs.Becoming.{TreeRenames}
 use Rattle.toml_editor.specs.CertifiedLists.{ArePlain}
+use Rattle.toml_working.specs.Layouts.{AreSaid, IsSaid}
 use Rattle.toml_working.specs.OpenOutlines.{leaf_text}
 use Rattle.toml_editor.specs.PlainTexts.{IsPlainOn, IsSpreadSet}
 use Rattle.toml_working.specs.Putting.{TreeInserts}
@@ -56,9 +57,11 @@ pub record Follows (profile : Profile) (read : Read) (c : Change) (old new : Tre
   pub at : IsAt profile read new after now
   pub source : KeepsSource old new
 
+-- so it does where it is said of the edit what it writes, and this is plain
 abbrev pub MakesOne : Profile → Read → Change → Tree → Tree → Type 0
 MakesOne profile read c old new = (text : List ℕ) (kinds now : Kinds) → IsAt profile read old text kinds
-    → IsFault profile c kinds None → IsAfter profile c kinds now → IsPlainOn profile text c → Follows profile read c old new text now
+    → IsFault profile c kinds None → IsAfter profile c kinds now → IsSaid old.texts.layout c → IsPlainOn profile text c
+    → Follows profile read c old new text now
 
 -- the same of edits one after the other
 pub record FollowAll (profile : Profile) (read : Read) (cs : List Change) (old new : Tree) (text : List ℕ) (now : Kinds) : Type 0 where
@@ -69,7 +72,7 @@ pub record FollowAll (profile : Profile) (read : Read) (cs : List Change) (old n
 
 abbrev pub MakesAll : Profile → Read → List Change → Tree → Tree → Type 0
 MakesAll profile read cs old new = (text : List ℕ) (kinds now : Kinds) → IsAt profile read old text kinds
-    → Lead profile cs kinds now → ArePlain profile cs (style old) text → FollowAll profile read cs old new text now
+    → Lead profile cs kinds now → AreSaid old.texts.layout cs → ArePlain profile cs (style old) text → FollowAll profile read cs old new text now
 
 -- a `set` of a value's text
 abbrev pub WritesSet : Profile → Read → Address → List ℕ → Tree → Tree → Bool → Type 0
@@ -123,7 +126,7 @@ PassesOne profile read near c tree = (text : List ℕ) (kinds now : Kinds) → I
 abbrev pub OfPlain : Profile → Read → List Change → Tree → ℕ → (Change → List ℕ → Kinds → Type 0) → Type 0
 OfPlain profile read cs tree k P = (c : Change) → slice_get cs k ≡ Some c → (text : List ℕ) (kinds mid now : Kinds)
     → IsAt profile read tree text kinds → Lead profile (take k cs) kinds mid → IsFault profile c mid None → IsAfter profile c mid now
-    → ArePlain profile (take k cs) (style tree) text
+    → AreSaid tree.texts.layout (take k cs) → ArePlain profile (take k cs) (style tree) text
     → (between : List ℕ) → AreWritten profile (take k cs) (style tree) text between → P c between mid
 
 -- the edit with this number, where those before it are plain, sets nothing that is spread; of the data those are known that are near

@@ -8,9 +8,9 @@ ghost use Rattle.toml_edits.specs.Edits.{change};
 ghost use Rattle.toml_edits.specs.Near.{AreNear};
 ghost use Rattle.toml_units.specs.Cursors.{StandsBefore, Walks};
 ghost use Rattle.toml_units.specs.declared.cursor.UnitCursor.{UnitCursor};
-ghost use Rattle.toml_editor.specs.Edited.{IsEdited, IsEditedInPieces, RefusesText, Tells};
+ghost use Rattle.toml_editor.specs.Edited.{IsEdited, IsEditedWith, IsEditedInPieces, RefusesText, Tells, TellsWith};
 ghost use Rattle.toml_working.specs.Tidy.{ArePieces};
-ghost use Rattle.toml_editor.specs.Editing.{IsEditedAs, IsJudged, IsMadeAs, IsReadFrom};
+ghost use Rattle.toml_editor.specs.Editing.{IsEditedAs, IsJudged, IsMadeAs, IsReadFrom, TellsIn};
 ghost use Rattle.toml_editor.specs.declared.fault.EditorFault.TheVariants.{NoMemory};
 ghost use Rattle.toml_working.specs.Reading.{IsReadAs};
 ghost use Rattle.toml_editor.specs.SpelledEdits.{AreSpelled};
@@ -26,7 +26,9 @@ use toml_names::{AddressSet, ReadFault};
 use toml_text::{MAX_LEN, Source};
 use toml_tree::{Profile, mark};
 use toml_units::{Certificate, Piece, TakenLines, UnitCursor, join};
-use toml_working::{Before, LineFacts, ReadDocument, Texts, Tree, let_go, read_document};
+use toml_working::{
+    Before, Layout, LineFacts, ReadDocument, Texts, Tree, let_go, read_document,
+};
 
 /// What the edits make, not judged yet: the pieces of the edited text, and the text.
 #[derive(Drop)]
@@ -72,8 +74,7 @@ pub fn edit_in(
     ensures edited { IfOk result (λ r. IsEdited profile before.now (map change edits.now) (string_bytes r.0) r.1.pairs.items) }
     ensures told { IfErr result (Tells profile before.now (map change edits.now)) }
 {
-    let edited = edit_document(alloc, before, edits, profile, Afterwards::LetGo)?;
-    Ok((edited.text, edited.certificate))
+    edit_with(alloc, before, edits, profile, Layout::Plain)
 }
 
 /// What `edit_in` makes, for a program that ends with it: once the data were compared, what both texts name stays in memory, and
@@ -87,11 +88,44 @@ pub fn edit_at_exit(
     ensures edited { IfOk result (λ r. IsEdited profile before.now (map change edits.now) (string_bytes r.0) r.1.pairs.items) }
     ensures told { IfErr result (Tells profile before.now (map change edits.now)) }
 {
+    edit_with_at_exit(alloc, before, edits, profile, Layout::Plain)
+}
+
+/// What `edit_in` makes, in a layout. By `Layout::Plain` it is that. By `Layout::Follow` new text is written as its neighbours
+/// are: the text differs from that of `Layout::Plain` in whitespace, newlines and commas on lines that the edits name or write, in
+/// where a new line or pair stands, and in one blank line.
+#[tactic(auto, using(crate::proofs::Judgements::tells_with))]
+pub fn edit_with(
+    alloc: Global,
+    before: &[u8],
+    edits: &[Edit],
+    profile: Profile,
+    layout: Layout,
+) -> Result<(String, Certificate), EditorFault>
+    ensures edited { IfOk result (λ r. IsEditedWith layout profile before.now (map change edits.now) (string_bytes r.0) r.1.pairs.items) }
+    ensures told { IfErr result (TellsWith layout profile before.now (map change edits.now)) }
+{
+    let edited = edit_document(alloc, before, edits, profile, layout, Afterwards::LetGo)?;
+    Ok((edited.text, edited.certificate))
+}
+
+/// What `edit_with` makes, for a program that ends with it, as `edit_at_exit`.
+#[tactic(auto, using(crate::proofs::Judgements::tells_with))]
+pub fn edit_with_at_exit(
+    alloc: Global,
+    before: &[u8],
+    edits: &[Edit],
+    profile: Profile,
+    layout: Layout,
+) -> Result<(String, Certificate), EditorFault>
+    ensures edited { IfOk result (λ r. IsEditedWith layout profile before.now (map change edits.now) (string_bytes r.0) r.1.pairs.items) }
+    ensures told { IfErr result (TellsWith layout profile before.now (map change edits.now)) }
+{
     let Edited {
         text,
         certificate,
         ..
-    } = edit_document(alloc, before, edits, profile, Afterwards::Stay)?;
+    } = edit_document(alloc, before, edits, profile, layout, Afterwards::Stay)?;
     Ok((text, certificate))
 }
 
@@ -109,6 +143,7 @@ pub fn edit_pieces(
 
 /// What `edit_in` makes, certified in the same way, in pieces: kept spans of the text before the edits, which rise and do not overlap, and
 /// new texts. No piece is empty; new texts that meet are one, and so are kept spans that touch.
+#[tactic(auto, using(crate::proofs::Judgements::plain_tells))]
 pub fn edit_pieces_in(
     alloc: Global,
     before: &[u8],
@@ -118,42 +153,53 @@ pub fn edit_pieces_in(
     ensures edited { IfOk result (λ r. IsEditedInPieces profile before.now (map change edits.now) r.0.items r.1.pairs.items) }
     ensures told { IfErr result (Tells profile before.now (map change edits.now)) }
 {
-    let edited = edit_document(alloc, before, edits, profile, Afterwards::LetGo)?;
+    let edited = edit_document(
+        alloc,
+        before,
+        edits,
+        profile,
+        Layout::Plain,
+        Afterwards::LetGo,
+    )?;
     Ok((edited.pieces, edited.certificate))
 }
 
 /// What the edits make of a document, where the judge certifies it.
+#[tactic(auto, using(crate::proofs::Judgements::memory_tells))]
 fn edit_document(
     alloc: Global,
     before: &[u8],
     edits: &[Edit],
     profile: Profile,
+    layout: Layout,
     afterwards: Afterwards,
 ) -> Result<Edited, EditorFault>
-    ensures edited { IfOk result (IsEditedAs profile before.now (map change edits.now)) }
-    ensures told { IfErr result (Tells profile before.now (map change edits.now)) }
+    ensures edited { IfOk result (IsEditedAs layout profile before.now (map change edits.now)) }
+    ensures told { IfErr result (TellsIn layout profile before.now (map change edits.now)) }
 {
     let spelled = spell_all(alloc, edits)?;
-    edit_with(alloc, before, edits, &spelled, profile, afterwards)
+    edit_spelled(alloc, before, edits, &spelled, profile, layout, afterwards)
 }
 
 /// Edits the text with the spellings of the edits. These live as long as the text and the edits: new pieces are lent from all.
-fn edit_with<'x>(
+#[tactic(auto, using(crate::proofs::Judgements::memory_tells, crate::proofs::Judgements::refused_tells))]
+fn edit_spelled<'x>(
     alloc: Global,
     before: &'x [u8],
     edits: &'x [Edit],
     spelled: &'x [Spelled],
     profile: Profile,
+    layout: Layout,
     afterwards: Afterwards,
 ) -> Result<Edited, EditorFault>
     requires spelled { AreSpelled (map change edits.now) spelled.now }
-    ensures edited { IfOk result (IsEditedAs profile before.now (map change edits.now)) }
-    ensures told { IfErr result (Tells profile before.now (map change edits.now)) }
+    ensures edited { IfOk result (IsEditedAs layout profile before.now (map change edits.now)) }
+    ensures told { IfErr result (TellsIn layout profile before.now (map change edits.now)) }
 {
     let touched = near_addresses(alloc, edits)?;
     match read(alloc, before, profile, &touched) {
         Ok((source, document)) => edit_read(
-            alloc, before, source, document, touched, edits, spelled, profile, afterwards,
+            alloc, before, source, document, touched, edits, spelled, profile, layout, afterwards,
         ),
         Err(fault) => Err(fault),
     }
@@ -170,13 +216,14 @@ fn edit_read<'x>(
     edits: &'x [Edit],
     spelled: &'x [Spelled],
     profile: Profile,
+    layout: Layout,
     afterwards: Afterwards,
 ) -> Result<Edited, EditorFault>
     requires read { IsReadAs profile before.now (text_of source) document }
     requires spelled { AreSpelled (map change edits.now) spelled.now }
     requires touched { AreNear (is_hidden touched) (map change edits.now) }
-    ensures edited { IfOk result (IsEditedAs profile before.now (map change edits.now)) }
-    ensures told { IfErr result (Tells profile before.now (map change edits.now)) }
+    ensures edited { IfOk result (IsEditedAs layout profile before.now (map change edits.now)) }
+    ensures told { IfErr result (TellsIn layout profile before.now (map change edits.now)) }
 {
     let ReadDocument {
         lines,
@@ -191,11 +238,11 @@ fn edit_read<'x>(
         names: taken.names(),
         profile,
     };
-    let made = make_text(alloc, source, read, facts, edits, spelled, &touched);
+    let made = make_text(alloc, source, read, facts, edits, spelled, &touched, layout);
     drop(lines);
     drop(touched);
     match made {
-        Ok(made) => certify(alloc, before, taken, edits, made, profile, afterwards),
+        Ok(it) => certify(alloc, before, taken, edits, it, profile, layout, afterwards),
         Err(fault) => {
             let_go(taken);
             Err(fault)
@@ -204,6 +251,7 @@ fn edit_read<'x>(
 }
 
 /// What is made is handed on where the judge finds a certificate; a reason of the judge is of this text.
+#[tactic(auto, using(crate::proofs::Judgements::memory_tells))]
 fn certify<'x>(
     alloc: Global,
     before: &'x [u8],
@@ -211,12 +259,13 @@ fn certify<'x>(
     edits: &[Edit],
     made: Unjudged,
     profile: Profile,
+    layout: Layout,
     afterwards: Afterwards,
 ) -> Result<Edited, EditorFault>
     requires walks { (cursor : UnitCursor) → StandsBefore taken cursor → Walks profile before.now cursor [] }
-    requires made { IsMadeAs profile before.now (map change edits.now) made }
-    ensures edited { IfOk result (IsEditedAs profile before.now (map change edits.now)) }
-    ensures told { IfErr result (Tells profile before.now (map change edits.now)) }
+    requires made { IsMadeAs layout profile before.now (map change edits.now) made }
+    ensures edited { IfOk result (IsEditedAs layout profile before.now (map change edits.now)) }
+    ensures told { IfErr result (TellsIn layout profile before.now (map change edits.now)) }
     ensures judged { IfErr result (IsJudged profile before.now (map change edits.now) (string_bytes made.text)) }
 {
     if made.text.len() > MAX_LEN {
@@ -237,6 +286,7 @@ fn certify<'x>(
 
 /// What the edits make of a document, not judged yet; the facts are those of its lines, and are let go once the working tree has
 /// them. Of its data those are built that the edits can touch.
+#[tactic(auto, using(crate::proofs::Judgements::memory_tells))]
 fn make_text<'x>(
     alloc: Global,
     source: Source<'x>,
@@ -245,14 +295,20 @@ fn make_text<'x>(
     edits: &'x [Edit],
     spelled: &'x [Spelled],
     touched: &AddressSet,
+    layout: Layout,
 ) -> Result<Unjudged, EditorFault>
     requires read { IsReadFrom (text_of source) read facts.items }
     requires spelled { AreSpelled (map change edits.now) spelled.now }
     requires touched { AreNear (is_hidden touched.now) (map change edits.now) }
-    ensures made { IfOk result (IsMadeAs read.entry.profile (text_of source.entry) (map change edits.now)) }
-    ensures told { IfErr result (Tells read.entry.profile (text_of source.entry) (map change edits.now)) }
+    ensures made { IfOk result (IsMadeAs layout read.entry.profile (text_of source.entry) (map change edits.now)) }
+    ensures told { IfErr result (TellsIn layout read.entry.profile (text_of source.entry) (map change edits.now)) }
 {
-    let built = Tree::of(Texts { alloc, source }, read.before, &facts);
+    let texts = Texts {
+        alloc,
+        source,
+        layout,
+    };
+    let built = Tree::of(texts, read.before, &facts);
     drop(facts);
     let mut tree = match built {
         Ok(tree) => tree,

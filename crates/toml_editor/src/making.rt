@@ -19,7 +19,7 @@ use toml_names::{Address, Data, Datum, LineNames, Name, Step};
 use toml_tree::Profile;
 use toml_working::{
     Above, Before, Brackets, NewHeader, Tree, innermost_element, is_element_in_value,
-    is_right_in_value, open_value, parent_of,
+    is_right_in_value, open_value, parent_of, removes_flat,
 };
 
 /// What was read of the document, in the profile, by which the edits are made on its working tree.
@@ -72,8 +72,9 @@ fn make<'x>(
 {
     let spread = may_be_spread(alloc, data, read, edit, index)?;
     let only = is_only_element(data, edit);
+    let flat = removes_flat(data, edit);
     applied(alloc, data, edit, index, read.profile)?;
-    let done = write_edit(alloc, tree, read, edit, spelled)?;
+    let done = write_edit(alloc, tree, read, edit, spelled, flat)?;
     let is_spread = not_made(done, spread);
     if is_spread {
         return Err(EditorFault::Spread { index });
@@ -110,13 +111,15 @@ fn applied(
     }
 }
 
-/// Makes the edit on the working tree. It answers `false` where the tree has no one place for it.
+/// Makes the edit on the working tree; where it removes a table, `flat` says that no table stands in that. It answers `false`
+/// where the tree has no one place for it.
 fn write_edit<'x>(
     alloc: Global,
     tree: &mut Tree<'x>,
     read: Read<'_, 'x>,
     edit: &'x Edit,
     spelled: &'x Spelled,
+    flat: bool,
 ) -> Result<bool, AllocError>
     requires names { HasNames read }
     requires spelled { IsSpelled (change edit.now) spelled.now }
@@ -132,7 +135,7 @@ fn write_edit<'x>(
             write_rename(alloc, tree, read, &at, to.as_str(), spelled.to.as_str())?;
             Ok(true)
         }
-        Edit::Remove { .. } => tree.remove(read.before, read.names.place(&at), &at),
+        Edit::Remove { .. } => tree.remove(read.before, read.names.place(&at), &at, flat),
         Edit::Section { .. } => write_header(alloc, tree, read, &at, Brackets::One, spelled),
         Edit::Element { .. } => write_header(alloc, tree, read, &at, Brackets::Two, spelled),
     }

@@ -1,11 +1,12 @@
 -- What the code does along a way, in the words of the tree.
-use Rattle.std.proofs.Common.{◌≡◌, ℕ, ◌+◌, ◌-◌, Bor, List, [], ◌∷◌, Option, Some, None, Bool, true, false, cond, bytes_eq, string_bytes, refl, sym, ap, subst, ◌∙◌}
+use Rattle.std.proofs.Common.{◌≡◌, ℕ, ◌+◌, ◌-◌, Bor, List, [], ◌∷◌, Option, Some, None, Bool, true, false, true≢false, is_some, cond, bytes_eq, string_bytes, refl, sym, ap, subst, ◌∙◌}
 use Rattle.std.specs.Prelude.{IfSome, option_map, ◌==◌}
 use Rattle.std.specs.BTreeMap.{get, get_by_text, is_at}
-use Rattle.std.specs.Cmp.Lexicographic.{slice_cmp}
+use Rattle.std.specs.Cmp.Lexicographic.{bytes_decides, slice_cmp}
 use Rattle.std.specs.Ordering.{nat_cmp, is_eq}
 use Rattle.std.specs.Cmp.{unsigned_ties}
 use Rattle.std.proofs.lemmas.Bool.{eqb-true, eq-eqb}
+use Rattle.std.proofs.lemmas.Option.{same_Some}
 use Rattle.toml_edits.specs.declared.shifts.Run.{Run}
 use Rattle.toml_edits.specs.Runs.{AreApart, index_in, with_lost, without}
 use Rattle.toml_edits.proofs.Indices.{lost_here, lost_high, lost_low, without_high, without_low}
@@ -20,7 +21,7 @@ use Rattle.toml_edits.specs.declared.moves.Act.{Act}
 use Rattle.toml_edits.specs.declared.moves.Act.TheVariants as acts
 use Rattle.toml_edits.specs.Fronts.{Goes, SameBut, Along, IsMarked, with_set, with_below, with_renamed}
 use Rattle.toml_edits.specs.Trees.{Told, Down}
-use Rattle.toml_edits.specs.Moves.{Elements, Names, Entered, EnteredAt, EnteredElement, element_in, IsFresh, IsMarkedTree, IsPut, IsRenamedTree, LostAt, TakenAt, branch_of, down_of, marks_of, moves, to_of, turn}
+use Rattle.toml_edits.specs.Moves.{Elements, Names, Entered, EnteredAt, EnteredElement, element_in, IsElementOpened, IsElementPut, IsFresh, IsKept, IsMarkedTree, IsOpened, IsPut, IsRenamedTree, LostAt, TakenAt, branch_of, down_of, marks_of, moves, to_of, turn}
 
 pub fresh_down : (to : Told (Option (List ℕ))) (f : Moves) → IsFresh to f → (u : Step) → down_of f u ≡ Some (Some (record { to = u; tree = None }))
 fresh_down to f h (Name n) = ap (λ (b : Bool). cond b (Some None) (branch_of n (get_by_text (out-Moves f).names n))) h.3 ∙ ap (branch_of n) (h.2 n)
@@ -308,17 +309,72 @@ pub element_put : (old mid new : Elements) (i : ℕ) (t : Moves) → mid.entries
 element_put old mid new i t same more j =
     more j ∙ ap (λ b. cond b (Some t) (get nat_cmp mid j)) (same_index i j) ∙ ap (cond (i == j) (Some t)) (elements_still old mid same j)
 
-pub child_entered : (act : Act) (way : Address) (n : List ℕ) (old new : Names) (child t : Moves) → get_by_text old n ≡ Some child → IsPut n t old new → Entered act way child t → EnteredAt act n way old new
-child_entered act way n old new child t is put h = (t, put, subst (λ o. Goes (Along moves way (turn act)) (branch_of n o) (branch_of n (Some t))) (sym is) (child_goes act way n child t h))
+-- a tree that is there, put in once more
+same_put : (n : List ℕ) (u : Moves) (ns : Names) → get_by_text ns n ≡ Some u → IsPut n u ns ns
+same_put n u ns is m = by (bytes_eq n m) refl
+  where
+    by : (b : Bool) → bytes_eq n m ≡ b → get_by_text ns m ≡ cond b (Some u) (get_by_text ns m)
+    by false e = refl
+    by true e = ap (get_by_text ns) (sym ((bytes_decides n m).0 e)) ∙ is
 
-pub fresh_entered : (act : Act) (way : Address) (n : List ℕ) (old new : Names) (f t : Moves) → get_by_text old n ≡ None → IsPut n t old new → IsFresh (Some (Some n)) f → Entered act way f t → EnteredAt act n way old new
-fresh_entered act way n old new f t is put fresh h = (t, put, subst (λ o. Goes (Along moves way (turn act)) (branch_of n o) (branch_of n (Some t))) (sym is) (fresh_goes act way n f t fresh h))
+same_element_put : (f : ℕ) (u : Moves) (es : Elements) → get nat_cmp es f ≡ Some u → IsElementPut f u es es
+same_element_put f u es is g = by (f == g) refl
+  where
+    by : (b : Bool) → f == g ≡ b → get nat_cmp es g ≡ cond b (Some u) (get nat_cmp es g)
+    by false e = refl
+    by true e = ap (get nat_cmp es) (sym (eqb-true f g e)) ∙ is
 
-pub element_entered : (act : Act) (way : Address) (f : ℕ) (old new : Elements) (child t : Moves) → get nat_cmp old f ≡ Some child → ((g : ℕ) → get nat_cmp new g ≡ cond (f == g) (Some t) (get nat_cmp old g)) → Entered act way child t → EnteredElement act f way old new
-element_entered act way f old new child t is put h = (t, put, subst (λ o. Along moves way (turn act) o t) (sym is) h.1)
+-- a tree put over another at one place
+over : (b : Bool) (x y z : Option Moves) → cond b x (cond b y z) ≡ cond b x z
+over true x y z = refl
+over false x y z = refl
 
-pub element_fresh : (act : Act) (way : Address) (f : ℕ) (old new : Elements) (e t : Moves) → get nat_cmp old f ≡ None → ((g : ℕ) → get nat_cmp new g ≡ cond (f == g) (Some t) (get nat_cmp old g)) → IsFresh (Some None) e → Entered act way e t → EnteredElement act f way old new
-element_fresh act way f old new e t is put fresh h = (t, put, subst (λ o. Along moves way (turn act) o t) (sym is) (as_none (Some None) e t fresh act way h.1))
+pub name_opened : (n : List ℕ) (old new : Names) (b : Bool) → new.entries ≡ old.entries → b ≡ is_some (get_by_text old n) → b ≡ true → IsOpened n old new
+name_opened n old new b same told there = by (get_by_text old n) refl
+  where
+    by : (o : Option Moves) → get_by_text old n ≡ o → IsOpened n old new
+    by None e = absurd (true≢false (sym there ∙ told ∙ ap is_some e))
+    by (Some u) e = (u, λ m. names_still old new same m ∙ same_put n u old e m, subst (λ o. IsKept (Some (Some n)) o u) (sym e) refl)
+
+pub element_opened : (f : ℕ) (old new : Elements) (b : Bool) → new.entries ≡ old.entries → b ≡ is_some (get nat_cmp old f) → b ≡ true → IsElementOpened f old new
+element_opened f old new b same told there = by (get nat_cmp old f) refl
+  where
+    by : (o : Option Moves) → get nat_cmp old f ≡ o → IsElementOpened f old new
+    by None e = absurd (true≢false (sym there ∙ told ∙ ap is_some e))
+    by (Some u) e = (u, λ g. elements_still old new same g ∙ same_element_put f u old e g, subst (λ o. IsKept (Some None) o u) (sym e) refl)
+
+none_there : (o : Option Moves) (b : Bool) → b ≡ is_some o → b ≡ false → o ≡ None
+none_there None b told none = refl
+none_there (Some u) b told none = absurd (true≢false (sym told ∙ none))
+
+pub name_put : (n : List ℕ) (f : Moves) (old new : Names) (b : Bool) → b ≡ is_some (get_by_text old n) → b ≡ false → IsPut n f old new → IsFresh (Some (Some n)) f → IsOpened n old new
+name_put n f old new b told none put fresh = (f, put, subst (λ o. IsKept (Some (Some n)) o f) (sym (none_there (get_by_text old n) b told none)) fresh)
+
+pub element_was_put : (f : ℕ) (t : Moves) (old new : Elements) (b : Bool) → b ≡ is_some (get nat_cmp old f) → b ≡ false → IsElementPut f t old new → IsFresh (Some None) t → IsElementOpened f old new
+element_was_put f t old new b told none put fresh = (t, put, subst (λ o. IsKept (Some None) o t) (sym (none_there (get nat_cmp old f) b told none)) fresh)
+
+kept_goes : (act : Act) (way : Address) (n : List ℕ) (o : Option Moves) (u t : Moves) → IsKept (Some (Some n)) o u → Entered act way u t → Goes (Along moves way (turn act)) (branch_of n o) (branch_of n (Some t))
+kept_goes act way n None u t fresh e = fresh_goes act way n u t fresh e
+kept_goes act way n (Some v) u t same e = child_goes act way n v t (subst (λ x. Entered act way x t) (sym same) e)
+
+kept_along : (act : Act) (way : Address) (o : Option Moves) (u t : Moves) → IsKept (Some None) o u → Entered act way u t → Along moves way (turn act) o t
+kept_along act way None u t fresh e = as_none (Some None) u t fresh act way e.1
+kept_along act way (Some v) u t same e = subst (λ x. Along moves way (turn act) (Some x) t) (sym same) e.1
+
+-- the tree that is there now is the one that was put in
+pub opened_entered : (act : Act) (way : Address) (n : List ℕ) (old mid new : Names) (u t : Moves) → IsOpened n old mid → get_by_text mid n ≡ Some u → IsPut n t mid new → Entered act way u t → EnteredAt act n way old new
+opened_entered act way n old mid new u t h at put e = (
+  t,
+  λ m. put m ∙ ap (cond (bytes_eq n m) (Some t)) (h.1 m) ∙ over (bytes_eq n m) (Some t) (Some h.0) (get_by_text old m),
+  kept_goes act way n (get_by_text old n) h.0 t h.2 (subst (λ x. Entered act way x t) (same_Some u h.0 (sym at ∙ put_here n h.0 old mid h.1)) e),
+)
+
+pub element_entered : (act : Act) (way : Address) (f : ℕ) (old mid new : Elements) (u t : Moves) → IsElementOpened f old mid → get nat_cmp mid f ≡ Some u → IsElementPut f t mid new → Entered act way u t → EnteredElement act f way old new
+element_entered act way f old mid new u t h at put e = (
+  t,
+  λ g. put g ∙ ap (cond (f == g) (Some t)) (h.1 g) ∙ over (f == g) (Some t) (Some h.0) (get nat_cmp old g),
+  kept_along act way (get nat_cmp old f) h.0 t h.2 (subst (λ x. Entered act way x t) (same_Some u h.0 (sym at ∙ h.1 f ∙ ap (λ (b : Bool). cond b (Some h.0) (get nat_cmp old f)) (eq-eqb f f refl))) e),
+)
 
 pub lose_at_told : (act : Act) (i : ℕ) (old new : Moves) (runs : List Run) → act ≡ acts.LoseAt i → IsBehind old new (out-Moves old).names runs (out-Moves old).elements → runs ≡ with_lost i (out-Moves old).runs → Entered act [] old new
 lose_at_told act i old new runs is behind h = subst (λ x. Entered x [] old new) (sym is) (lose_at_there i old new (subst (λ rs. IsBehind old new (out-Moves old).names rs (out-Moves old).elements) h behind))

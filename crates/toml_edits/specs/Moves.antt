@@ -71,8 +71,11 @@ abbrev pub EnteredAt : Act → List ℕ → Address → Names → Names → Type
 EnteredAt act n way old new = (t : Moves) × IsPut n t old new × Goes (Along moves way (turn act)) (branch_of n (get_by_text old n)) (branch_of n (Some t))
 
 -- one tree was put in at an index
+abbrev pub IsElementPut : ℕ → Moves → Elements → Elements → Type 0
+IsElementPut f t old new = (g : ℕ) → get nat_cmp new g ≡ (if f == g then Some t else get nat_cmp old g)
+
 abbrev pub EnteredElement : Act → ℕ → Address → Elements → Elements → Type 0
-EnteredElement act f way old new = (t : Moves) × ((g : ℕ) → get nat_cmp new g ≡ (if f == g then Some t else get nat_cmp old g)) × Along moves way (turn act) (get nat_cmp old f) t
+EnteredElement act f way old new = (t : Moves) × IsElementPut f t old new × Along moves way (turn act) (get nat_cmp old f) t
 
 -- a tree of a thing that no edit touches
 abbrev pub IsFresh : Told (Option (List ℕ)) → Moves → Type 0
@@ -98,3 +101,15 @@ pub record IsMarkedTree (old new : Moves) : Type 0 where
   pub names : (out-Moves new).names ≡ (out-Moves old).names
   pub runs : (out-Moves new).runs ≡ (out-Moves old).runs
   pub elements : (out-Moves new).elements ≡ (out-Moves old).elements
+
+-- the tree that is kept, or one of a thing that no edit touches, where none is
+abbrev pub IsKept : Told (Option (List ℕ)) → Option Moves → Moves → Type 0
+IsKept to None t = IsFresh to t
+IsKept to (Some u) t = u ≡ t
+
+-- a tree is kept of a name, of an element
+abbrev pub IsOpened : List ℕ → Names → Names → Type 0
+IsOpened n old new = (t : Moves) × IsPut n t old new × IsKept (Some (Some n)) (get_by_text old n) t
+
+abbrev pub IsElementOpened : ℕ → Elements → Elements → Type 0
+IsElementOpened f old new = (t : Moves) × IsElementPut f t old new × IsKept (Some None) (get nat_cmp old f) t

@@ -47,6 +47,20 @@ LostShifts = (i : ℕ) (rs : List Run) (j : ℕ) → i < 2 ^ 64 → (j < i → i
 abbrev pub AreApart : List Run → Type 0
 AreApart rs = (i j f : ℕ) → index_in rs i ≡ Some f → index_in rs j ≡ Some f → i ≡ j
 
+-- the first run begins at this index or before it, and each at or before the start of the one before it in the list
+abbrev pub FallFrom : ℕ → List Run → Type 0
+FallFrom n [] = Unit {0}
+FallFrom n (r ∷ rs) = (r.start ≤ n) × FallFrom r.start rs
+
+abbrev pub StartsFall : List Run → Type 0
+StartsFall [] = Unit {0}
+StartsFall (r ∷ rs) = FallFrom r.start rs
+
+-- the runs of one array
+pub record AreRuns (rs : List Run) : Type 0 where
+  pub apart : AreApart rs
+  pub fall : StartsFall rs
+
 -- what the code leaves, and puts in, of runs that begin with one in which the index is
 abbrev pub LeavesRest : ℕ → List Run → List Run → Type 0
 LeavesRest i [] new = new ≡ []

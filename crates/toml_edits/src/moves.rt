@@ -3,7 +3,7 @@ ghost use Rattle.std.specs.Prelude.{◌≡◌, ◌∷◌, [], List, Some, IfOk, 
 ghost use Rattle.toml_edits.specs.Carry.{parted};
 ghost use Rattle.toml_edits.specs.Edits.{Change, change, place as place_of};
 ghost use Rattle.toml_edits.specs.Fronts.{InsertedFront, IsFront, MadeFront, RemovedFront, RenamedFront};
-ghost use Rattle.toml_edits.specs.Moves.{Entered, EnteredAt, EnteredElement, IsFresh, IsMarkedTree, IsRenamedTree, LostAt, TakenAt, moves, name_of};
+ghost use Rattle.toml_edits.specs.Moves.{Entered, EnteredAt, EnteredElement, IsElementOpened, IsFresh, IsMarkedTree, IsOpened, IsRenamedTree, LostAt, TakenAt, moves, name_of};
 ghost use Rattle.toml_edits.specs.Told.{IfTold, TellsOf};
 
 use crate::edit::{Edit, place};
@@ -208,14 +208,11 @@ fn enter_name(
 ) -> Result<bool, AllocError>
     ensures { IfTold result (EnteredAt act.entry name.now rest.now names.old names.new) }
 {
-    if let Some(tree) = names.get_mut(name) {
-        return enter(tree, rest, act);
+    open_name(alloc, names, name)?;
+    match names.get_mut(name) {
+        Some(tree) => enter(tree, rest, act),
+        None => Ok(false),
     }
-    let mut tree = Moves::of(alloc, Stand::Under(Name::spelled(alloc, name)?));
-    let told = enter(&mut tree, rest, act)?;
-    let key = String::from_str(alloc, name)?;
-    names.insert(key, tree)?;
-    Ok(told)
 }
 
 /// Enters the act behind an element, which is told by where it stands in the end.
@@ -229,16 +226,50 @@ fn enter_element(
 ) -> Result<bool, AllocError>
     ensures { IfTold result (EnteredElement act.entry to rest.now elements.old elements.new) }
 {
-    if let Some(tree) = elements.get_mut(&to) {
-        return enter(tree, rest, act);
+    open_element(alloc, elements, to)?;
+    match elements.get_mut(&to) {
+        Some(tree) => enter(tree, rest, act),
+        None => Ok(false),
     }
-    let mut tree = Moves::of(alloc, Stand::Nowhere);
-    let told = enter(&mut tree, rest, act)?;
-    elements.insert(to, tree)?;
-    Ok(told)
 }
 
-/// At the end of the way.
+/// Puts a tree in for a name that has none. It stands apart, since a tree on the stack of `enter` would stand there once for
+/// each step of a way.
+#[inline(never)]
+fn open_name(
+    alloc: Global,
+    names: &mut BTreeMap<String, Moves>,
+    name: &str,
+) -> Result<(), AllocError>
+    ensures { OnOk result (IsOpened name.now names.old names.new) }
+{
+    if names.contains_key(name) {
+        return Ok(());
+    }
+    let to = Name::spelled(alloc, name)?;
+    let key = String::from_str(alloc, name)?;
+    names.insert(key, Moves::of(alloc, Stand::Under(to)))?;
+    Ok(())
+}
+
+/// The same for an element.
+#[inline(never)]
+fn open_element(
+    alloc: Global,
+    elements: &mut BTreeMap<u64, Moves>,
+    to: u64,
+) -> Result<(), AllocError>
+    ensures { OnOk result (IsElementOpened to elements.old elements.new) }
+{
+    if elements.contains_key(&to) {
+        return Ok(());
+    }
+    elements.insert(to, Moves::of(alloc, Stand::Nowhere))?;
+    Ok(())
+}
+
+/// At the end of the way. It stands apart for the same reason.
+#[inline(never)]
 fn enter_last(tree: &mut Moves, act: Act) -> Result<bool, AllocError>
     ensures { IfTold result (Entered act.entry [] tree.old tree.new) }
 {

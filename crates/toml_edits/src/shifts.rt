@@ -1,6 +1,7 @@
 //! Where the elements of an array stand behind edits.
+ghost use Rattle.std.specs.Bool.{nat_lt};
 ghost use Rattle.std.specs.Prelude.{◌≡◌, ◌+◌, [], true, IfOk, IfSome, OnOk};
-ghost use Rattle.toml_edits.specs.Runs.{AreApart, IsWithinFirst, LeavesRest, PushesLost, further, index_in, without, with_lost};
+ghost use Rattle.toml_edits.specs.Runs.{AreApart, IsWithinFirst, LeavesRest, PushesLost, StartsFall, further, index_in, without, with_lost};
 
 use std::alloc::{AllocError, Global};
 use std::marker::Model;
@@ -13,7 +14,7 @@ pub struct Run {
     pub(crate) to: Option<u64>,
 }
 
-/// Where the elements of an array stand in the end: no two at one index.
+/// Where the elements of an array stand in the end: no two at one index. The last run comes first, so their starts fall.
 #[derive(Drop)]
 pub struct Runs {
     runs: Vec<Run>,
@@ -21,14 +22,14 @@ pub struct Runs {
 
 impl Model for Runs {
     ghost use Rattle.std.specs.Prelude.{List};
-    ghost use Rattle.toml_edits.specs.Runs.{AreApart};
+    ghost use Rattle.toml_edits.specs.Runs.{AreRuns};
     ghost use Rattle.toml_edits.specs.declared.shifts.Run.{Run};
 
     ghost Value = { List Run };
 
     ghost view = { λ r. r.runs.items };
 
-    ghost invariant = { λ r. AreApart r.runs.items };
+    ghost invariant = { λ r. AreRuns r.runs.items };
 }
 
 impl Runs {
@@ -79,16 +80,20 @@ fn further(to: Option<u64>, count: u64) -> Option<u64>
     }
 }
 
-/// Where the element stands in the end, if anywhere.
+/// Where the element stands in the end, if anywhere: the run in which it is is the first one that does not begin behind it.
 fn index_in(runs: &[Run], index: u64) -> Option<u64>
+    requires { StartsFall runs.now }
     ensures { result ≡ index_in runs.now index }
 {
-    for run in runs {
-        if run.start <= index {
-            return further(run.to, index - run.start);
-        }
+    let place = runs.partition_point(
+        |run: &Run| -> bool
+            ensures { result ≡ nat_lt index run.now.start }
+        { index < run.start },
+    );
+    match runs.get(place) {
+        Some(run) => further(run.to, index.saturating_sub(run.start)),
+        None => Some(index),
     }
-    Some(index)
 }
 
 /// The runs without the first one, where that begins at the index: another that begins there covers it.

@@ -1,40 +1,40 @@
 -- How what is told begins.
-use Rattle.std.proofs.Common.{◌≡◌, ℕ, List, [], ◌∷◌, ◌++◌, length, subst, ◌∙◌, append_assoc, arith}
-use Rattle.std.specs.Prelude.{Result, Ok, Err, IfOk, decimal, max, min}
+use Rattle.std.proofs.Common.{◌≡◌, ◌≢◌, ◌-◌, ℕ, List, ◌++◌, length, inl, inr, subst, arith}
+use Rattle.std.specs.Prelude.{Result, Ok, Err, IfOk, max, min}
 use Rattle.toml_text.specs.declared.span.Position.{Position}
 use Rattle.toml_text.specs.Positions.{IsPosition}
 use Rattle.toml_tree.specs.declared.profile.Profile.{Profile}
-use Rattle.toml_explain.specs.Documents.{AreSpansAt, AreSpansOf, OpensAtKey, OpensInLine}
-use Rattle.toml_explain.specs.Openings.{OpensAt, OpensBare, OpensWith, opening, bare_opening}
+use Rattle.toml_explain.specs.Documents.{AreSpansAt, AreSpansOf, OpensAs, OpensAtKey, OpensInLine}
+use Rattle.toml_explain.specs.Openings.{OpensAt, OpensBare, OpensInFile, opening, bare_opening}
 use Rattle.toml_explain.specs.declared.spans.LineSpans.{LineSpans}
 use Rattle.toml_explain.proofs.Lines.{ends_behind}
 
--- the word stands in front of all else
-opening_with : (word rest text : List ℕ) (p : Position) → text ≡ opening word p ++ rest → OpensWith word text
-opening_with word rest text p is = record {
-  rest = decimal p.line ++ ((0x3A ∷ []) ++ (decimal p.column ++ ((0x3A ∷ 0x20 ∷ []) ++ rest)));
-  begins = is ∙ simp append_assoc;
-}
-
-bare_with : (word rest text : List ℕ) → text ≡ bare_opening word ++ rest → OpensWith word text
-bare_with word rest text is = record { rest = 0x20 ∷ rest; begins = is ∙ simp append_assoc }
-
 module _ {S E : Type 0} (f : S → List ℕ) (word rest : List ℕ) where
-  pub opens_with : (p : Position) (r : Result S E) → IfOk r (λ t. f t ≡ opening word p ++ rest) → IfOk r (λ t. OpensWith word (f t))
-  opens_with p (Ok t) e = opening_with word rest (f t) p e
-  opens_with p (Err d) e = tt
-
   pub opens_at : (bytes : List ℕ) (at : ℕ) (p : Position) (r : Result S E) → IsPosition bytes (min at (length bytes)) p → IfOk r (λ t. f t ≡ opening word p ++ rest) → IfOk r (λ t. OpensAt word bytes at (f t))
   opens_at bytes at p (Ok t) is e = record { position = p; exact = is; rest = rest; begins = e }
   opens_at bytes at p (Err d) is e = tt
 
-  pub bare_opens_with : (r : Result S E) → IfOk r (λ t. f t ≡ bare_opening word ++ rest) → IfOk r (λ t. OpensWith word (f t))
-  bare_opens_with (Ok t) e = bare_with word rest (f t) e
-  bare_opens_with (Err d) e = tt
-
   pub bare_opens : (r : Result S E) → IfOk r (λ t. f t ≡ bare_opening word ++ rest) → IfOk r (λ t. OpensBare word (f t))
   bare_opens (Ok t) e = record { rest = rest; begins = e }
   bare_opens (Err d) e = tt
+
+module _ {S E : Type 0} (f : S → List ℕ) (word bytes : List ℕ) where
+  -- at some place, or at none
+  pub at_in_file : (at : ℕ) (r : Result S E) → IfOk r (λ t. OpensAt word bytes at (f t)) → IfOk r (λ t. OpensInFile word bytes (f t))
+  at_in_file at (Ok t) opens = inl (at, opens)
+  at_in_file at (Err d) opens = tt
+
+  pub bare_in_file : (r : Result S E) → IfOk r (λ t. OpensBare word (f t)) → IfOk r (λ t. OpensInFile word bytes (f t))
+  bare_in_file (Ok t) opens = inr opens
+  bare_in_file (Err d) opens = tt
+
+  -- by the code of a refusal
+  pub opens_as : (profile : Profile) (code place : ℕ) (r : Result S E) → IfOk r (λ t. OpensInFile word bytes (f t))
+      → (code ≢ 102 → code ≢ 201 → code ≢ 203 → IfOk r (λ t. OpensAt word bytes place (f t))) → (code ≡ 102 → IfOk r (λ t. OpensBare word (f t)))
+      → (code ≡ 201 → IfOk r (λ t. OpensInLine profile word bytes (place - 1) (f t))) → (code ≡ 203 → IfOk r (λ t. OpensAtKey profile word bytes (place - 1) (f t)))
+      → IfOk r (λ t. OpensAs profile word bytes code place (f t))
+  opens_as profile code place (Ok t) file byte long twice key = record { file = file; byte = byte; long = long; twice = twice; key = key }
+  opens_as profile code place (Err d) file byte long twice key = tt
 
 -- at the key of a line, and in a line
 module _ (profile : Profile) (word bytes : List ℕ) (number : ℕ) (s : LineSpans) (are : AreSpansAt profile bytes number s) where

@@ -1,5 +1,5 @@
 -- Where the explanation of a text that is no document begins.
-use Rattle.std.specs.Prelude.{◌≡◌, ◌<◌, ◌≤◌, ◌+◌, ℕ, List, [], ◌∷◌, ◌++◌, Option, Some, None, slice_get}
+use Rattle.std.specs.Prelude.{◌≡◌, ◌≢◌, ◌<◌, ◌≤◌, ◌+◌, ◌-◌, ℕ, List, [], ◌∷◌, ◌++◌, Option, Some, None, slice_get}
 use Rattle.toml_text.specs.Limit.{IsText}
 use Rattle.toml_tree.specs.HandedOut.{AreLinesIn, HandsOut, left}
 use Rattle.toml_tree.specs.Pieces.{expr_start}
@@ -10,7 +10,7 @@ use Rattle.toml_tree.specs.declared.profile.Profile.{Profile}
 use Rattle.toml_names.specs.reader.Texts.{AreLeft, more_left}
 use Rattle.toml_units.specs.Ends.{expr_end}
 use Rattle.toml_explain.specs.declared.spans.LineSpans.{LineSpans}
-use Rattle.toml_explain.specs.Openings.{OpensAt}
+use Rattle.toml_explain.specs.Openings.{OpensAt, OpensBare, OpensInFile}
 
 -- the line of a text of the profile that has the number, from 0
 pub record HasLine (profile : Profile) (bytes : List ℕ) (number : ℕ) (l : Line) : Type 0 where
@@ -39,6 +39,16 @@ pub record OpensIn (word bytes : List ℕ) (e : Expr) (text : List ℕ) : Type 0
 
 abbrev pub OpensInLine : Profile → List ℕ → List ℕ → ℕ → List ℕ → Type 0
 OpensInLine profile word bytes number text = (l : Line) → HasLine profile bytes number l → OpensIn word bytes l.expr text
+
+-- The text begins as the code and the place of a refusal ask: with the line and the column of the byte; with the word alone, of a text that
+-- is too long; with those of a place in the line, of a name that is defined again; with those of the line's key, of a long address. Lines
+-- are counted from 1 here.
+pub record OpensAs (profile : Profile) (word bytes : List ℕ) (code place : ℕ) (text : List ℕ) : Type 0 where
+  pub file : OpensInFile word bytes text
+  pub byte : code ≢ 102 → code ≢ 201 → code ≢ 203 → OpensAt word bytes place text
+  pub long : code ≡ 102 → OpensBare word text
+  pub twice : code ≡ 201 → OpensInLine profile word bytes (place - 1) text
+  pub key : code ≡ 203 → OpensAtKey profile word bytes (place - 1) text
 
 -- the spans of an expression
 pub record AreSpansOf (e : Expr) (s : LineSpans) : Type 0 where

@@ -1,6 +1,6 @@
 //! Places of a document at which nothing stands that is asked for.
 ghost use Rattle.std.specs.Prelude.{IfOk, string_bytes};
-ghost use Rattle.toml_explain.specs.Openings.{OpensWith};
+ghost use Rattle.toml_explain.specs.Openings.{OpensInFile};
 
 use crate::edit::look_up;
 use crate::input::Input;
@@ -65,21 +65,21 @@ fn absent_sentence(alloc: Global, shown: &str, code: u16) -> Result<String, Allo
 pub fn explain_absent(
     alloc: Global,
     file: Input<'_>,
-    place: &[u8],
+    place: &str,
     code: u16,
     profile: Profile,
 ) -> Result<String, AllocError>
-    ensures { IfOk result (λ text. OpensWith file.entry.word.now (string_bytes text)) }
+    ensures { IfOk result (λ text. OpensInFile file.entry.word.now file.entry.bytes.now (string_bytes text)) }
 {
     let shown = shown_place(alloc, place)?;
     let mut sentence = absent_sentence(alloc, shown.as_str(), code)?;
-    let read = match read_place(alloc, place) {
+    let read = match read_place(alloc, place.as_bytes()) {
         Ok(read) => read,
         Err(PlaceFault::NoMemory) => return Err(AllocError),
         Err(PlaceFault::BadPlace { .. }) => return told_at(alloc, file, None, sentence),
     };
     let steps = steps_of(alloc, file.bytes, profile, &read)?;
-    let found = look_up(alloc, file.bytes, profile, &steps)?;
+    let found = look_up(alloc, file.bytes, profile, &steps, steps.len())?;
     if code == 301 {
         sentence.push_str(found.question.as_str())?;
     }

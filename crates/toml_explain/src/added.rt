@@ -1,6 +1,6 @@
 //! Lines and comments of an edited text that nobody asked for (407, 408).
 ghost use Rattle.std.specs.Prelude.{IfOk, string_bytes};
-ghost use Rattle.toml_explain.specs.Openings.{OpensWith};
+ghost use Rattle.toml_explain.specs.Openings.{OpensInFile};
 
 use crate::lost::unit_words;
 use crate::pairs::{Pairing, Side, bytes_of, carried, pair_units};
@@ -241,7 +241,7 @@ pub(crate) fn explain_added(
     judged: Judged<'_>,
     comments: bool,
 ) -> Result<String, AllocError>
-    ensures { IfOk result (λ text. OpensWith judged.entry.after.word.now (string_bytes text)) }
+    ensures { IfOk result (λ text. OpensInFile judged.entry.after.word.now judged.entry.after.bytes.now (string_bytes text)) }
 {
     let Some((unit, span)) = first_added(alloc, judged, comments)? else {
         return plain(

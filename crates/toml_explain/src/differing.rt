@@ -1,6 +1,6 @@
 //! Data that are not what edits give (404).
 ghost use Rattle.std.specs.Prelude.{IfOk, string_bytes};
-ghost use Rattle.toml_explain.specs.Openings.{OpensWith};
+ghost use Rattle.toml_explain.specs.Openings.{OpensInFile};
 
 use crate::data::data_of;
 use crate::edit::{address_text, look_up};
@@ -241,7 +241,7 @@ fn difference_sentence(
 
 /// Where the data of the text after differ from those that the edits give.
 pub(crate) fn explain_difference(alloc: Global, judged: Judged<'_>) -> Result<String, AllocError>
-    ensures { IfOk result (λ text. OpensWith judged.entry.after.word.now (string_bytes text)) }
+    ensures { IfOk result (λ text. OpensInFile judged.entry.after.word.now judged.entry.after.bytes.now (string_bytes text)) }
 {
     let Some((made, found_data)) = both_data(alloc, judged)? else {
         return plain(
@@ -258,6 +258,14 @@ pub(crate) fn explain_difference(alloc: Global, judged: Judged<'_>) -> Result<St
         );
     };
     let (sentence, address) = difference_sentence(alloc, difference)?;
-    let spot = look_up(alloc, judged.after.bytes, judged.profile, address.steps())?.spot;
+    let steps = address.steps();
+    let spot = look_up(
+        alloc,
+        judged.after.bytes,
+        judged.profile,
+        steps,
+        steps.len(),
+    )?
+    .spot;
     told_at(alloc, judged.after, spot, sentence)
 }

@@ -1,7 +1,7 @@
 //! Why bytes are no document.
 ghost use Rattle.std.specs.Prelude.{◌≡◌, ◌≢◌, ◌-◌, IfOk, string_bytes};
-ghost use Rattle.toml_explain.specs.Documents.{OpensAtKey, OpensInLine};
-ghost use Rattle.toml_explain.specs.Openings.{OpensAt, OpensBare, OpensWith};
+ghost use Rattle.toml_explain.specs.Documents.{OpensAs, OpensAtKey, OpensInLine};
+ghost use Rattle.toml_explain.specs.Openings.{OpensAt, OpensBare, OpensInFile};
 
 use crate::excerpt::{Excerpt, line_number};
 use crate::input::Input;
@@ -10,6 +10,7 @@ use crate::redefined::{explain_long, explain_redefined};
 use crate::sentence::{byte_sentence, meant_at};
 use crate::words::with_lines;
 use std::alloc::{AllocError, Global};
+use toml_text::MAX_LEN;
 use toml_tree::Profile;
 
 /// The sentence of a refusal whose place is a byte, and the line.
@@ -26,7 +27,7 @@ fn explain_byte(
     code: u16,
     place: usize,
 ) -> Result<String, AllocError>
-    ensures word { IfOk result (λ text. OpensWith file.entry.word.now (string_bytes text)) }
+    ensures file { IfOk result (λ text. OpensInFile file.entry.word.now file.entry.bytes.now (string_bytes text)) }
     ensures byte { IfOk result (λ text. OpensAt file.entry.word.now file.entry.bytes.now place (string_bytes text)) }
 {
     let at = place.min(file.bytes.len());
@@ -34,12 +35,17 @@ fn explain_byte(
     opened(alloc, file, place, lines.as_str())
 }
 
-/// Why a text is too long.
+/// Why a text is too long: the file itself, or what edits make of one that is not.
 fn explain_length(alloc: Global, file: Input<'_>) -> Result<String, AllocError>
-    ensures word { IfOk result (λ text. OpensWith file.entry.word.now (string_bytes text)) }
+    ensures file { IfOk result (λ text. OpensInFile file.entry.word.now file.entry.bytes.now (string_bytes text)) }
     ensures length { IfOk result (λ text. OpensBare file.entry.word.now (string_bytes text)) }
 {
-    bare_opened(alloc, file.word, "a text has at most 16777216 bytes\n")
+    let sentence = if file.bytes.len() <= MAX_LEN {
+        "a text has at most 16777216 bytes, and the edits make a longer one\n"
+    } else {
+        "a text has at most 16777216 bytes\n"
+    };
+    bare_opened(alloc, file.word, sentence)
 }
 
 /// Why bytes are no document of the profile, by the code and the place of their refusal, as people read it: the word of the file,
@@ -48,7 +54,7 @@ fn explain_length(alloc: Global, file: Input<'_>) -> Result<String, AllocError>
 /// | Code | The position |
 /// |---|---|
 /// | 101, 103 to 109 | that of the byte `place`, from 0; one behind the end is the end |
-/// | 102 | none: the word alone |
+/// | 102 | none: the word alone. Of bytes that are not too long it is told as one of what edits make of them |
 /// | 201 | in the line `place`, from 1: that of the key part whose mention breaks the table rules |
 /// | 203 | in the line `place`, from 1: that of its key |
 ///
@@ -60,7 +66,20 @@ pub fn explain_document(
     code: u16,
     place: usize,
 ) -> Result<String, AllocError>
-    ensures word { IfOk result (λ text. OpensWith file.entry.word.now (string_bytes text)) }
+    ensures { IfOk result (λ text. OpensAs profile file.entry.word.now file.entry.bytes.now code place (string_bytes text)) }
+{
+    document_text(alloc, file, profile, code, place)
+}
+
+/// The same, code by code.
+fn document_text(
+    alloc: Global,
+    file: Input<'_>,
+    profile: Profile,
+    code: u16,
+    place: usize,
+) -> Result<String, AllocError>
+    ensures file { IfOk result (λ text. OpensInFile file.entry.word.now file.entry.bytes.now (string_bytes text)) }
     ensures byte { code ≢ 102 → code ≢ 201 → code ≢ 203 → IfOk result (λ text. OpensAt file.entry.word.now file.entry.bytes.now place (string_bytes text)) }
     ensures length { code ≡ 102 → IfOk result (λ text. OpensBare file.entry.word.now (string_bytes text)) }
     ensures twice { code ≡ 201 → IfOk result (λ text. OpensInLine profile file.entry.word.now file.entry.bytes.now (place - 1) (string_bytes text)) }

@@ -1,8 +1,9 @@
 //! Edits that are refused.
 ghost use Rattle.std.specs.Prelude.{IfOk, string_bytes};
-ghost use Rattle.toml_explain.specs.Openings.{OpensWith};
+ghost use Rattle.toml_explain.specs.Openings.{OpensInFile};
 
 use crate::input::Input;
+use crate::origin::origin;
 use crate::standing::{front_of, suggestion};
 use crate::telling::{excerpt_at, spot_of, told, told_at};
 use crate::value::flaw_of;
@@ -29,7 +30,7 @@ fn action(edit: &Edit) -> &'static str {
 pub(crate) fn address_text(alloc: Global, at: &Address) -> Result<String, AllocError> {
     match spell_place(alloc, at)? {
         Some(text) => Ok(text),
-        None => String::from_str(alloc, "an index of the root"),
+        None => String::from_str(alloc, "an index at which nothing can stand"),
     }
 }
 
@@ -85,12 +86,14 @@ pub(crate) struct Found {
     pub question: String,
 }
 
-/// Where an address of a file, or its parent, stands, and which name may be meant where it does not.
+/// Where an address of a file, or its parent, stands, and which name may be meant where it does not. Of an address of so many steps these
+/// are the ones that may stand in the file.
 pub(crate) fn look_up(
     alloc: Global,
     bytes: &[u8],
     profile: Profile,
     steps: &[Step],
+    all: usize,
 ) -> Result<Found, AllocError> {
     let nowhere = Found {
         spot: None,
@@ -108,7 +111,7 @@ pub(crate) fn look_up(
     };
     let reached = front_of(&names, steps)?;
     let question = suggestion(alloc, &names, reached, steps)?;
-    let spot = if steps.len() <= reached.depth.saturating_add(1) {
+    let spot = if all <= reached.depth.saturating_add(1) {
         spot_of(
             alloc,
             source,
@@ -119,6 +122,31 @@ pub(crate) fn look_up(
         None
     };
     Ok(Found { spot, question })
+}
+
+/// What is found in a file about the address of the edit with the index. The edits in front of it may have moved what stands there, or
+/// made it. No name is asked for where one of them took a name away.
+fn look_up_edit(
+    alloc: Global,
+    bytes: &[u8],
+    profile: Profile,
+    edits: &[Edit],
+    index: usize,
+    edit: &Edit,
+) -> Result<Found, AllocError> {
+    let steps = place(edit).steps();
+    let earlier = &edits[..index.min(edits.len())];
+    let old = origin(alloc, earlier, steps)?;
+    let mut found = look_up(alloc, bytes, profile, &old, steps.len())?;
+    if earlier.iter().any(takes_name) {
+        found.question = String::new(alloc);
+    }
+    Ok(found)
+}
+
+/// Whether an edit takes a name away.
+fn takes_name(edit: &Edit) -> bool {
+    matches!(edit, Edit::Rename { .. } | Edit::Remove { .. })
 }
 
 /// The value of an edit.
@@ -138,7 +166,7 @@ fn explain_value(
     value: &str,
     profile: Profile,
 ) -> Result<String, AllocError>
-    ensures { IfOk result (λ text. OpensWith file.entry.word.now (string_bytes text)) }
+    ensures { IfOk result (λ text. OpensInFile file.entry.word.now file.entry.bytes.now (string_bytes text)) }
 {
     let flaw = flaw_of(alloc, value, profile)?;
     let mut excerpt = excerpt_at(alloc, file.bytes, spot)?;
@@ -155,9 +183,9 @@ fn explain_value(
 }
 
 /// Why an edit of a list is refused (301 to 308, 310, 312, 313): which edit it is, counted from 0 as in the refusal, what it does, and the
-/// rule. Below that the line of the file in which its address, or else the parent of that, is named first, where one stands there. A
-/// name that is missing (301) is told with one that is near. A value that is none (306) is shown with the place in it. The
-/// file is one before all edits. It fails for want of memory alone.
+/// rule. The file is one before all edits: below the sentence stands its line in which is named first what then stands at the address, or
+/// else at its parent, where that stood in the file already. A name that is missing (301) is told with one that is near. A value that is
+/// none (306) is shown with the place in it. It fails for want of memory alone.
 pub fn explain_edit(
     alloc: Global,
     file: Input<'_>,
@@ -166,7 +194,7 @@ pub fn explain_edit(
     code: u16,
     profile: Profile,
 ) -> Result<String, AllocError>
-    ensures { IfOk result (λ text. OpensWith file.entry.word.now (string_bytes text)) }
+    ensures { IfOk result (λ text. OpensInFile file.entry.word.now file.entry.bytes.now (string_bytes text)) }
 {
     let Some(edit) = edits.get(index) else {
         return told_at(
@@ -176,7 +204,7 @@ pub fn explain_edit(
             format!(in alloc; "edit {index} is refused")?,
         );
     };
-    let found = look_up(alloc, file.bytes, profile, place(edit).steps())?;
+    let found = look_up_edit(alloc, file.bytes, profile, edits, index, edit)?;
     let mut sentence = edit_text(alloc, edit, index)?;
     sentence.push_str(edit_rule(edit, code))?;
     if code == 301 {

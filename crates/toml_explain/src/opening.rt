@@ -1,6 +1,6 @@
 //! With what an explanation begins.
 ghost use Rattle.std.specs.Prelude.{◌≡◌, ◌++◌, IfOk, string_bytes};
-ghost use Rattle.toml_explain.specs.Openings.{OpensAt, OpensBare, OpensWith, bare_opening, opening, place_opening};
+ghost use Rattle.toml_explain.specs.Openings.{OpensAt, OpensBare, OpensInFile, bare_opening, opening, place_opening};
 
 use crate::input::Input;
 use itoa::Buffer;
@@ -29,7 +29,7 @@ pub(crate) fn opened(
     at: usize,
     rest: &str,
 ) -> Result<String, AllocError>
-    ensures word { IfOk result (λ text. OpensWith file.entry.word.now (string_bytes text)) }
+    ensures file { IfOk result (λ text. OpensInFile file.entry.word.now file.entry.bytes.now (string_bytes text)) }
     ensures position { IfOk result (λ text. OpensAt file.entry.word.now file.entry.bytes.now at (string_bytes text)) }
 {
     let place = position(file.bytes, at.min(file.bytes.len()));
@@ -48,8 +48,7 @@ fn behind_word(alloc: Global, word: &str, rest: &str) -> Result<String, AllocErr
 
 /// A text, behind the word of a file.
 pub(crate) fn bare_opened(alloc: Global, word: &str, rest: &str) -> Result<String, AllocError>
-    ensures word { IfOk result (λ text. OpensWith word.now (string_bytes text)) }
-    ensures bare { IfOk result (λ text. OpensBare word.now (string_bytes text)) }
+    ensures { IfOk result (λ text. OpensBare word.now (string_bytes text)) }
 {
     behind_word(alloc, word, rest)
 }

@@ -1,12 +1,10 @@
 //! Places of a command line that are none.
 ghost use Rattle.std.specs.Prelude.{◌≡◌, ◌≤◌, count_by, length, IfOk, string_bytes};
 ghost use Rattle.toml_text.specs.Positions.{begins_character};
-ghost use Rattle.toml_explain.specs.Openings.{OpensPlace};
+ghost use Rattle.toml_explain.specs.Openings.{OpensPlace, shown_character, shown_text};
 
 use crate::excerpt::{Excerpt, at_place};
-use crate::glyph::glyph_of;
 use crate::opening::place_opened;
-use bstr::ByteSlice;
 use std::alloc::{AllocError, Global};
 
 /// How many characters begin; each byte that is no UTF-8 counts as `toml_text::position` counts it.
@@ -23,11 +21,24 @@ fn characters(bytes: &[u8]) -> usize
     count
 }
 
-/// What a place is shown as where no line is shown: its characters, `?` for one that can't be shown.
-pub(crate) fn shown_place(alloc: Global, place: &[u8]) -> Result<String, AllocError> {
+/// What a character is shown as in front of a line.
+fn shown_character(character: char) -> char
+    ensures { result ≡ shown_character character }
+{
+    match character {
+        '\t' => character,
+        '\0'..='\u{1F}' | '\u{7F}'..='\u{9F}' | '\u{FEFF}' => '?',
+        _ => character,
+    }
+}
+
+/// What a place is shown as in front of a line: its characters, `?` for one that can't be shown.
+pub(crate) fn shown_place(alloc: Global, place: &str) -> Result<String, AllocError>
+    ensures { IfOk result (λ text. string_bytes text ≡ shown_text place.now) }
+{
     let mut text = String::new(alloc);
-    for (start, end, character) in place.char_indices() {
-        text.push(glyph_of(place, start, end, character, 0).shown)?;
+    for character in place.chars() {
+        text.push(shown_character(character))?;
     }
     Ok(text)
 }
@@ -51,16 +62,17 @@ fn place_sentence(place: &[u8], at: usize) -> &'static str {
 
 /// Why a text is refused as a place (code 340) at a byte of it, counted from 0, or at its end: the place and the column, counted from 1
 /// in characters, and below it the place with a caret. A byte behind the end is the end. It fails for want of memory alone.
-pub fn explain_place(alloc: Global, place: &[u8], at: usize) -> Result<String, AllocError>
+pub fn explain_place(alloc: Global, place: &str, at: usize) -> Result<String, AllocError>
     ensures { IfOk result (λ text. OpensPlace place.now at (string_bytes text)) }
 {
     let at = at.min(place.len());
+    let bytes = place.as_bytes();
     let mut excerpt = Excerpt::unnumbered(alloc);
-    excerpt.push_text(place, at_place(at))?;
-    let mut rest = String::from_str(alloc, place_sentence(place, at))?;
+    excerpt.push_text(bytes, at_place(at))?;
+    let mut rest = String::from_str(alloc, place_sentence(bytes, at))?;
     rest.push('\n')?;
     rest.push_str(excerpt.into_text().as_str())?;
-    let column = characters(&place[..at]) + 1;
+    let column = characters(&bytes[..at]) + 1;
     place_opened(
         alloc,
         shown_place(alloc, place)?.as_str(),

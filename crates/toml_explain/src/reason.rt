@@ -1,22 +1,18 @@
 //! The judge's reasons.
 ghost use Rattle.std.specs.Prelude.{IfOk, string_bytes};
-ghost use Rattle.toml_explain.specs.Openings.{OpensWith};
-ghost use Rattle.toml_explain.specs.Reasons.{told_word};
+ghost use Rattle.toml_explain.specs.Openings.{OpensInFile};
+ghost use Rattle.toml_explain.specs.Reasons.{told_of};
 
 use crate::added::explain_added;
 use crate::data::data_of;
 use crate::differing::explain_difference;
-use crate::document::explain_document;
 use crate::edit::explain_edit;
 use crate::input::Input;
 use crate::lost::explain_lost;
 use crate::telling::told_at;
-use crate::value::code_of;
 use std::alloc::{AllocError, Global};
 use toml_checker::Reason;
 use toml_edits::{Edit, EditFault, apply_in};
-use toml_names::{NameFault, ReadFault, judge_text};
-use toml_text::{MAX_LEN, Source, TextFault};
 use toml_tree::Profile;
 use toml_units::Certificate;
 
@@ -30,43 +26,9 @@ pub struct Judged<'a> {
     pub profile: Profile,
 }
 
-/// The code and the place of the refusal of bytes that are no document; none where they are one.
-fn refusal_of(
-    alloc: Global,
-    bytes: &[u8],
-    profile: Profile,
-) -> Result<Option<(u16, usize)>, AllocError> {
-    let source = match Source::new(bytes) {
-        Ok(source) => source,
-        Err(TextFault::NotUtf8 { at }) => return Ok(Some((101, at))),
-        Err(TextFault::TooLong) => return Ok(Some((102, MAX_LEN))),
-    };
-    match judge_text(alloc, source, profile) {
-        Ok(()) => Ok(None),
-        Err(ReadFault::Syntax(fault)) => Ok(Some(code_of(fault)?)),
-        Err(ReadFault::Names(NameFault::Redefined { line, .. })) => {
-            Ok(Some((201, line.saturating_add(1))))
-        }
-        Err(ReadFault::Names(NameFault::LongAddress { line })) => {
-            Ok(Some((203, line.saturating_add(1))))
-        }
-        Err(ReadFault::Names(NameFault::NoMemory)) => Err(AllocError),
-    }
-}
-
-/// Why a text of the two is no document: the syntax or table rule that it breaks.
-fn explain_text(alloc: Global, file: Input<'_>, profile: Profile) -> Result<String, AllocError>
-    ensures { IfOk result (λ text. OpensWith file.entry.word.now (string_bytes text)) }
-{
-    match refusal_of(alloc, file.bytes, profile)? {
-        Some((code, place)) => explain_document(alloc, file, profile, code, place),
-        None => plain(alloc, file, "this is a document"),
-    }
-}
-
 /// A sentence of a whole file.
 pub(crate) fn plain(alloc: Global, file: Input<'_>, sentence: &str) -> Result<String, AllocError>
-    ensures { IfOk result (λ text. OpensWith file.entry.word.now (string_bytes text)) }
+    ensures { IfOk result (λ text. OpensInFile file.entry.word.now file.entry.bytes.now (string_bytes text)) }
 {
     told_at(alloc, file, None, String::from_str(alloc, sentence)?)
 }
@@ -107,7 +69,7 @@ fn first_refused(
 
 /// Why the edits are not defined.
 fn explain_edits(alloc: Global, judged: Judged<'_>) -> Result<String, AllocError>
-    ensures { IfOk result (λ text. OpensWith judged.entry.before.word.now (string_bytes text)) }
+    ensures { IfOk result (λ text. OpensInFile judged.entry.before.word.now judged.entry.before.bytes.now (string_bytes text)) }
 {
     let (before, edits, profile) = (judged.before, judged.edits, judged.profile);
     match first_refused(alloc, before.bytes, edits, profile)? {
@@ -116,20 +78,45 @@ fn explain_edits(alloc: Global, judged: Judged<'_>) -> Result<String, AllocError
     }
 }
 
-/// Why the judge says no: 401 and 402 as the rule that the text breaks, 403 as the edit that is refused; 404 tells the first address, in the
-/// order of the names' bytes, at which the data differ, and what each has there; 406 shows the first unit of the text before that is
-/// lost, 407 and 408 the first line or comment of the text after that nobody asked for. Where there is no certificate, the pairs are those of
-/// the search for one. It fails for want of memory alone.
+/// Why an edited text is not handed out that the judge refuses (309), behind the word of the file that was to be edited: the judge's
+/// reason. It fails for want of memory alone.
+pub fn explain_unverified(
+    alloc: Global,
+    file: Input<'_>,
+    reason: Option<Reason>,
+) -> Result<String, AllocError>
+    ensures { IfOk result (λ text. OpensInFile file.entry.word.now file.entry.bytes.now (string_bytes text)) }
+{
+    let because = match reason {
+        Some(Reason::BeforeRefused) => "this is no document",
+        Some(Reason::AfterRefused) => "the edited text is no document",
+        Some(Reason::EditsRefused) => "the edits can't be made of this text",
+        Some(Reason::OtherData) => "the data are not those that the edits give",
+        Some(Reason::Lost) => "what no edit names is not kept",
+        Some(Reason::Unasked) => "the edited text has a line that no edit asks for",
+        Some(Reason::NewComment) => "the edited text has a comment that no edit asks for",
+        Some(Reason::BadPair | Reason::NotTheSame) | None => "the texts do not fit together",
+    };
+    let sentence = format!(in alloc;
+        "what the edits make of this file is not handed out, since the judge refuses it: {because}"
+    )?;
+    told_at(alloc, file, None, sentence)
+}
+
+/// Why the judge says no: 403 as the edit that is refused; 404 tells the first address, in the order of the names' bytes, at which the data
+/// differ, and what each has there; 406 shows the first unit of the text before that is lost, 407 and 408 the first line or comment of the
+/// text after that nobody asked for. Where there is no certificate, the pairs are those of the search for one. Of 401 and 402 it says that
+/// the text is no document: why, `explain_document` says by its refusal. It fails for want of memory alone.
 pub fn explain_reason(
     alloc: Global,
     judged: Judged<'_>,
     reason: Reason,
 ) -> Result<String, AllocError>
-    ensures { IfOk result (λ text. OpensWith (told_word judged.entry reason) (string_bytes text)) }
+    ensures { IfOk result (λ text. OpensInFile (told_of judged.entry reason).word.now (told_of judged.entry reason).bytes.now (string_bytes text)) }
 {
     match reason {
-        Reason::BeforeRefused => explain_text(alloc, judged.before, judged.profile),
-        Reason::AfterRefused => explain_text(alloc, judged.after, judged.profile),
+        Reason::BeforeRefused => plain(alloc, judged.before, "this is no document"),
+        Reason::AfterRefused => plain(alloc, judged.after, "this is no document"),
         Reason::EditsRefused => explain_edits(alloc, judged),
         Reason::OtherData => explain_difference(alloc, judged),
         Reason::BadPair => {

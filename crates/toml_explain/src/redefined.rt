@@ -1,7 +1,7 @@
 //! Names that are defined twice (201), and addresses that are too long (203).
 ghost use Rattle.std.specs.Prelude.{◌≡◌, ◌≤◌, ◌-◌, IfOk, max, min, string_bytes};
 ghost use Rattle.toml_explain.specs.Documents.{OpensAtKey, OpensInLine};
-ghost use Rattle.toml_explain.specs.Openings.{OpensWith};
+ghost use Rattle.toml_explain.specs.Openings.{OpensInFile};
 
 use crate::excerpt::{Excerpt, line_number};
 use crate::input::Input;
@@ -23,7 +23,7 @@ pub(crate) fn explain_long(
     profile: Profile,
     line: usize,
 ) -> Result<String, AllocError>
-    ensures word { IfOk result (λ text. OpensWith file.entry.word.now (string_bytes text)) }
+    ensures file { IfOk result (λ text. OpensInFile file.entry.word.now file.entry.bytes.now (string_bytes text)) }
     ensures key { IfOk result (λ text. OpensAtKey profile file.entry.word.now file.entry.bytes.now (line - 1) (string_bytes text)) }
 {
     let spans = spans_at(alloc, file.bytes, profile, line.saturating_sub(1))?;
@@ -140,7 +140,7 @@ pub(crate) fn explain_redefined(
     profile: Profile,
     line: usize,
 ) -> Result<String, AllocError>
-    ensures word { IfOk result (λ text. OpensWith file.entry.word.now (string_bytes text)) }
+    ensures file { IfOk result (λ text. OpensInFile file.entry.word.now file.entry.bytes.now (string_bytes text)) }
     ensures line { IfOk result (λ text. OpensInLine profile file.entry.word.now file.entry.bytes.now (line - 1) (string_bytes text)) }
 {
     let spans = spans_at(alloc, file.bytes, profile, line.saturating_sub(1))?;

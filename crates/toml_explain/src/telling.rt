@@ -1,6 +1,6 @@
 //! A sentence at a place of a file, or at none.
 ghost use Rattle.std.specs.Prelude.{IfOk, string_bytes};
-ghost use Rattle.toml_explain.specs.Openings.{OpensWith};
+ghost use Rattle.toml_explain.specs.Openings.{OpensInFile};
 
 use crate::excerpt::{Excerpt, line_number};
 use crate::input::Input;
@@ -42,7 +42,7 @@ pub(crate) fn told(
     sentence: String,
     excerpt: Excerpt,
 ) -> Result<String, AllocError>
-    ensures { IfOk result (λ text. OpensWith file.entry.word.now (string_bytes text)) }
+    ensures { IfOk result (λ text. OpensInFile file.entry.word.now file.entry.bytes.now (string_bytes text)) }
 {
     let lines = with_lines(sentence, excerpt)?;
     match spot {
@@ -58,7 +58,7 @@ pub(crate) fn told_at(
     spot: Option<Span>,
     sentence: String,
 ) -> Result<String, AllocError>
-    ensures { IfOk result (λ text. OpensWith file.entry.word.now (string_bytes text)) }
+    ensures { IfOk result (λ text. OpensInFile file.entry.word.now file.entry.bytes.now (string_bytes text)) }
 {
     let mut excerpt = excerpt_at(alloc, file.bytes, spot)?;
     if let Some(span) = spot {

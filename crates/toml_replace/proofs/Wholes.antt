@@ -81,12 +81,13 @@ module _ (path text : List ℕ) (certificate : Option (List ℕ × List ℕ)) wh
               removed = r;
               beside = begin.which.1;
               tried = begin.which.2;
+              cut = finish.which.1;
               is_work = finish.which.0;
               spared = subst (AllByRecursion (Spares (string_bytes place.file))) (sym order)
                   (undone_spares path (string_bytes place.file) (string_bytes place.new) place.mode begin.which.0 finish.calls certificate r
                   begin.which.1 begin.which.2 finish.which.0);
               order = order;
             });
-            cause = cause_in fault begin.calls finish.calls last finish.which.1;
+            cause = cause_in fault begin.calls finish.calls last finish.which.2;
           };
         }

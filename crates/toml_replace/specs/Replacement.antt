@@ -1,5 +1,5 @@
 -- Which calls give a file another text, or leave it as it was.
-use Rattle.std.specs.Prelude.{◌≡◌, ◌≢◌, ◌⊎◌, ℕ, true, false, List, [], ◌∷◌, ◌++◌, length}
+use Rattle.std.specs.Prelude.{◌≡◌, ◌≢◌, ◌⊎◌, ℕ, Bool, true, false, List, [], ◌∷◌, ◌++◌, length}
 use Rattle.std.specs.Prelude.{Option, Some, None, Result, Ok, Err, IsErr, OnOk, OnErr, IfErr, option_map, ⊤}
 use Rattle.std.specs.Borrow.{Bor}
 use Rattle.std.specs.List.{AllByRecursion}
@@ -82,8 +82,49 @@ IsWork file new certificate (stores path bytes done) = (certificate ≡ Some (pa
 IsWork file new certificate (renames from to done) = (from ≡ new) × (to ≡ file) × IsErr done
 IsWork file new certificate _ = ⊥
 
--- The new file was made, and the last call takes it away. All calls spared the file.
-pub record IsTakenAway (path : List ℕ) (certificate : Option (List ℕ × List ℕ)) (calls : List Call) : Type 0 where
+-- the same call on the new file, on the certificate or between these, whatever the answers
+abbrev pub AsksAs : Call → Call → Type 0
+AsksAs (writes text done) (writes other did) = text ≡ other
+AsksAs (syncs done) (syncs did) = ⊤
+AsksAs (sets_mode mode done) (sets_mode other did) = mode ≡ other
+AsksAs (compares path to same) (compares other at is) = (path ≡ other) × (to ≡ at)
+AsksAs (stores path bytes done) (stores other others did) = (path ≡ other) × (bytes ≡ others)
+AsksAs (renames from to done) (renames other at did) = (from ≡ other) × (to ≡ at)
+AsksAs _ _ = ⊥
+
+-- a path leads to a file of ours, or that is not known
+abbrev pub IsRefusal : Result Bool Error → Type 0
+IsRefusal (Ok false) = ⊥
+IsRefusal _ = ⊤
+
+-- the call failed
+abbrev pub Stops : Call → Type 0
+Stops (writes text done) = IsErr done
+Stops (syncs done) = IsErr done
+Stops (sets_mode mode done) = IsErr done
+Stops (compares path other same) = IsRefusal same
+Stops (stores path bytes done) = IsErr done
+Stops (renames from to done) = IsErr done
+Stops _ = ⊥
+
+-- The calls are those of the plan, in their order, up to one that failed.
+pub record IsCutShort (plan calls : List Call) : Type 0 where
+  pub done : List Call
+  pub next : Call
+  pub left : List Call
+  pub failed : Call
+  pub order : plan ≡ done ++ next ∷ left
+  pub asked : AsksAs next failed
+  pub stopped : Stops failed
+  pub are : calls ≡ done ++ failed ∷ []
+
+-- what is done once the new file is made: it is filled, the certificate is written, and the new file takes the file's place
+abbrev pub planned : List ℕ → List ℕ → List ℕ → ℕ → Option (List ℕ × List ℕ) → List Call
+planned file new text mode certificate = filled text mode ++ (certified file new certificate ++ renames new file (Ok tt) ∷ [])
+
+-- The new file was made, what was to be done with it went well up to a call that failed, and the last call takes it away. So a certificate
+-- is written only behind answers that its path leads neither to the file nor to the new one. All calls spared the file.
+pub record IsTakenAway (path text : List ℕ) (certificate : Option (List ℕ × List ℕ)) (calls : List Call) : Type 0 where
   pub file : List ℕ
   pub new : List ℕ
   pub mode : ℕ
@@ -92,13 +133,14 @@ pub record IsTakenAway (path : List ℕ) (certificate : Option (List ℕ × List
   pub removed : Result (Unit {0}) Error
   pub beside : IsBeside file new
   pub tried : AllByRecursion (IsTaken file) taken
+  pub cut : IsCutShort (planned file new text mode certificate) work
   pub is_work : AllByRecursion (IsWork file new certificate) work
   pub spared : AllByRecursion (Spares file) calls
   pub order : calls ≡ begun path file mode taken new ++ (work ++ removes new removed ∷ [])
 
 -- nothing was made, or it was taken away
-abbrev pub IsUndone : List ℕ → Option (List ℕ × List ℕ) → List Call → Type 0
-IsUndone path certificate calls = AllByRecursion ChangesNothing calls ⊎ IsTakenAway path certificate calls
+abbrev pub IsUndone : List ℕ → List ℕ → Option (List ℕ × List ℕ) → List Call → Type 0
+IsUndone path text certificate calls = AllByRecursion ChangesNothing calls ⊎ IsTakenAway path text certificate calls
 
 -- the call, on the file or on the new one, answered this error
 abbrev pub FailsFile : Error → Call → Type 0
@@ -135,5 +177,5 @@ HasCause (Certificate e) calls = SomeCall (FailsCertificate e) calls
 pub record IsReplacement (path text : List ℕ) (certificate : Option (List ℕ × List ℕ)) (result : Result (Unit {0}) ReplaceFault)
     (calls : List Call) : Type 0 where
   pub done : OnOk result (IsDone path text certificate calls)
-  pub undone : OnErr result (IsUndone path certificate calls)
+  pub undone : OnErr result (IsUndone path text certificate calls)
   pub cause : IfErr result (λ fault. HasCause fault calls)

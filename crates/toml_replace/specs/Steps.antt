@@ -8,7 +8,7 @@ use Rattle.toml_replace.specs.declared.fault.ReplaceFault.TheVariants.{File, Cer
 use Rattle.toml_replace.specs.declared.replacing.Place.{Place}
 use Rattle.toml_replace.specs.Beside.{IsBeside}
 use Rattle.toml_replace.specs.Calls.{Call, makes, compares, renames, SomeCall}
-use Rattle.toml_replace.specs.Replacement.{IsTaken, begun, filled, certified, IsApart, ChangesNothing, IsWork, FailsFile, FailsCertificate, HasCause}
+use Rattle.toml_replace.specs.Replacement.{IsTaken, begun, filled, certified, planned, IsApart, ChangesNothing, IsCutShort, IsWork, FailsFile, FailsCertificate, HasCause}
 
 -- nothing was made, for a cause
 abbrev pub MakesNothing : Error → List Call → Type 0
@@ -29,7 +29,8 @@ IsBeginning path (Err e) calls = MakesNothing e calls
 abbrev pub IsFilling : List ℕ → ℕ → Result (Unit {0}) Error → List Call → Type 0
 IsFilling text mode (Ok u) calls = calls ≡ filled text mode
 IsFilling text mode (Err e) calls =
-    ((file new : List ℕ) (certificate : Option (List ℕ × List ℕ)) → AllByRecursion (IsWork file new certificate) calls) × SomeCall (FailsFile e) calls
+    ((file new : List ℕ) (certificate : Option (List ℕ × List ℕ)) → AllByRecursion (IsWork file new certificate) calls) × IsCutShort (filled text mode) calls
+    × SomeCall (FailsFile e) calls
 
 abbrev pub IsComparing : List ℕ → List ℕ → Result (Unit {0}) Error → List Call → Type 0
 IsComparing path other (Ok u) calls = (calls ≡ compares path other (Ok false) ∷ []) × (path ≢ other)
@@ -37,7 +38,8 @@ IsComparing path other (Err e) calls = (same : Result Bool Error) × (calls ≡ 
 
 abbrev pub IsCertifying : List ℕ → List ℕ → Option (List ℕ × List ℕ) → Result (Unit {0}) Error → List Call → Type 0
 IsCertifying file new certificate (Ok u) calls = (calls ≡ certified file new certificate) × IsApart file new certificate
-IsCertifying file new certificate (Err e) calls = AllByRecursion (IsWork file new certificate) calls × SomeCall (FailsCertificate e) calls
+IsCertifying file new certificate (Err e) calls =
+    AllByRecursion (IsWork file new certificate) calls × IsCutShort (certified file new certificate) calls × SomeCall (FailsCertificate e) calls
 
 -- the call is the fault's cause
 abbrev pub Causes : ReplaceFault → Call → Type 0
@@ -46,6 +48,6 @@ Causes (Certificate e) call = FailsCertificate e call
 
 abbrev pub IsFinishing : List ℕ → List ℕ → List ℕ → ℕ → Option (List ℕ × List ℕ) → Result (Unit {0}) ReplaceFault → List Call → Type 0
 IsFinishing file new text mode certificate (Ok u) calls =
-    (calls ≡ filled text mode ++ (certified file new certificate ++ renames new file (Ok tt) ∷ [])) × IsApart file new certificate
+    (calls ≡ planned file new text mode certificate) × IsApart file new certificate
 IsFinishing file new text mode certificate (Err fault) calls =
-    AllByRecursion (IsWork file new certificate) calls × SomeCall (Causes fault) calls
+    AllByRecursion (IsWork file new certificate) calls × IsCutShort (planned file new text mode certificate) calls × SomeCall (Causes fault) calls

@@ -12,4 +12,4 @@ mod tests;
 pub use disk::Disk;
 pub use fault::ReplaceFault;
 pub use real::RealDisk;
-pub use replacing::replace;
+pub use replacing::{refuse_same, replace};

@@ -40,12 +40,12 @@ fn fill<D: Disk>(disk: &mut D, text: &[u8], mode: u32) -> io::Result<()>
     disk.set_mode(mode)
 }
 
-/// Refuses a path of the certificate that leads to another file of ours.
-fn refuse_same<D: Disk>(disk: &mut D, path: &str, other: &str) -> io::Result<()>
+/// Refuses a path of a certificate that leads to a file of ours.
+pub fn refuse_same<D: Disk>(disk: &mut D, path: &str, other: &str) -> io::Result<()>
     ensures { Made (D.calls disk.old) (D.calls disk.new) (IsComparing path.now other.now result) }
 {
     if disk.is_same(path, other)? {
-        let message = "the certificate may not take the place of the text";
+        let message = "the certificate may not take the place of what is read or edited";
         return Err(io::Error::new(io::ErrorKind::InvalidInput, message));
     }
     Ok(())

@@ -5,7 +5,7 @@ use toml_checker::Reason;
 use toml_edits::read_edits;
 use toml_explain::{
     Input, Judged, explain_absent, explain_document, explain_edit, explain_list, explain_place,
-    explain_reason,
+    explain_reason, explain_unverified,
 };
 use toml_tree::Profile;
 
@@ -36,11 +36,11 @@ fn refusals_are_explained(rt: HostRuntime) -> Result<(), Fail> {
     assert_eq!(rt; number.as_str().strip_prefix("F:2:6: "), Some(NUMBER));
     let again = explain_document(alloc, input(TWICE), one, 201, 4)?;
     assert_eq!(rt; again.as_str().strip_prefix("F:4:2: "), Some(AGAIN));
-    let place = explain_place(alloc, "é..b".as_bytes(), 3)?;
+    let place = explain_place(alloc, "é..b", 3)?;
     assert_eq!(rt; place.as_str(), PLACE);
     let list = explain_list(alloc, "E", 321, 0)?;
     assert_eq!(rt; list.as_str(), "E: this is no JSON list\n");
-    let absent = explain_absent(alloc, input(GOOD), "s.prt".as_bytes(), 301, one)?;
+    let absent = explain_absent(alloc, input(GOOD), "s.prt", 301, one)?;
     assert_eq!(rt; absent.as_str().strip_prefix("F:1:2: "), Some(ABSENT));
     let list = r#"[{"op":"remove","at":["s","port"]}]"#;
     let edits = read_edits(alloc, list.as_bytes()).ok().ok_or("edits")?;
@@ -53,6 +53,8 @@ fn refusals_are_explained(rt: HostRuntime) -> Result<(), Fail> {
         certificate: None,
         profile: one,
     };
+    let unsure = explain_unverified(alloc, input(GOOD), Some(Reason::Lost))?;
+    assert!(rt; unsure.as_str().starts_with("F: ") && unsure.as_str().ends_with("is not kept\n"));
     let other = explain_reason(alloc, judged, Reason::OtherData)?;
     assert!(rt;
         other

@@ -46,6 +46,13 @@ AreProfiles profiles = texts profiles.now ≡ codes "1" ∷ codes "2" ∷ []
 abbrev pub profile : Choices → Rule
 profile profiles = record (option (codes "profile")) { defaults = codes "1" ∷ []; parser = Some (Names profiles) }
 
+abbrev pub AreLayouts : Choices → Type 0
+AreLayouts layouts = texts layouts.now ≡ codes "plain" ∷ codes "follow" ∷ []
+
+-- `--layout L`, one of these, and `follow` where it is not given
+abbrev pub layout : Choices → Rule
+layout layouts = record (option (codes "layout")) { defaults = codes "follow" ∷ []; parser = Some (Names layouts) }
+
 -- a command of these arguments, in this order; options may stand before, between and behind the others
 abbrev pub command : Text → List Rule → App
 command name rules = on_top (λ shape. record shape { rules = rules }) (new_app name)
@@ -55,25 +62,25 @@ get profiles = command (codes "get") (required_argument (codes "FILE") ∷ requi
     ∷ flag (codes "toml") ∷ flag (codes "type") ∷ option (codes "default") ∷ profile profiles ∷ [])
 
 -- what the commands that edit take beside the edit
-abbrev pub edit_options : Choices → List Rule
-edit_options profiles = in_place ∷ option (codes "certificate") ∷ profile profiles ∷ []
+abbrev pub edit_options : Choices → Choices → List Rule
+edit_options profiles layouts = in_place ∷ option (codes "certificate") ∷ layout layouts ∷ profile profiles ∷ []
 
-abbrev pub set : Choices → App
-set profiles = command (codes "set") (required_argument (codes "FILE") ∷ required_argument (codes "PLACE") ∷ required_argument (codes "VALUE")
-    ∷ flag (codes "string") ∷ flag (codes "parents") ∷ edit_options profiles)
+abbrev pub set : Choices → Choices → App
+set profiles layouts = command (codes "set") (required_argument (codes "FILE") ∷ required_argument (codes "PLACE") ∷ required_argument (codes "VALUE")
+    ∷ flag (codes "string") ∷ flag (codes "parents") ∷ edit_options profiles layouts)
 
-abbrev pub insert : Choices → App
-insert profiles = command (codes "insert") (required_argument (codes "FILE") ∷ required_argument (codes "PLACE") ∷ required_argument (codes "VALUE")
-    ∷ flag (codes "string") ∷ flag (codes "parents") ∷ edit_options profiles)
+abbrev pub insert : Choices → Choices → App
+insert profiles layouts = command (codes "insert") (required_argument (codes "FILE") ∷ required_argument (codes "PLACE") ∷ required_argument (codes "VALUE")
+    ∷ flag (codes "string") ∷ flag (codes "parents") ∷ edit_options profiles layouts)
 
-abbrev pub rename : Choices → App
-rename profiles = command (codes "rename") (required_argument (codes "FILE") ∷ required_argument (codes "PLACE") ∷ required_argument (codes "NAME") ∷ edit_options profiles)
+abbrev pub rename : Choices → Choices → App
+rename profiles layouts = command (codes "rename") (required_argument (codes "FILE") ∷ required_argument (codes "PLACE") ∷ required_argument (codes "NAME") ∷ edit_options profiles layouts)
 
-abbrev pub remove : Choices → App
-remove profiles = command (codes "remove") (required_argument (codes "FILE") ∷ required_argument (codes "PLACE") ∷ edit_options profiles)
+abbrev pub remove : Choices → Choices → App
+remove profiles layouts = command (codes "remove") (required_argument (codes "FILE") ∷ required_argument (codes "PLACE") ∷ edit_options profiles layouts)
 
-abbrev pub apply : Choices → App
-apply profiles = command (codes "apply") (required_argument (codes "FILE") ∷ required_argument (codes "EDITS") ∷ edit_options profiles)
+abbrev pub apply : Choices → Choices → App
+apply profiles layouts = command (codes "apply") (required_argument (codes "FILE") ∷ required_argument (codes "EDITS") ∷ edit_options profiles layouts)
 
 abbrev pub validate : Choices → App
 validate profiles = command (codes "validate") (several_arguments (codes "FILE") ∷ profile profiles ∷ [])
@@ -97,8 +104,8 @@ certify profiles = command (codes "certify") (required_argument (codes "BEFORE")
     ∷ optional_argument (codes "CERT") ∷ profile profiles ∷ [])
 
 -- the commands that edit a file by their words
-unfoldable pub editors : Choices → List App
-editors profiles = set profiles ∷ insert profiles ∷ rename profiles ∷ remove profiles ∷ apply profiles ∷ []
+unfoldable pub editors : Choices → Choices → List App
+editors profiles layouts = set profiles layouts ∷ insert profiles layouts ∷ rename profiles layouts ∷ remove profiles layouts ∷ apply profiles layouts ∷ []
 
 -- those that read one
 unfoldable pub readers : Choices → List App
@@ -118,8 +125,8 @@ with_subcommands app [] = app
 with_subcommands app (sub ∷ subs) = with_subcommands (with_subcommand app sub.top) subs
 
 -- the whole command line
-unfoldable pub tool : Choices → App
-tool profiles = with_subcommands (with_subcommands (with_subcommands root (readers profiles)) (editors profiles)) (judges profiles)
+unfoldable pub tool : Choices → Choices → App
+tool profiles layouts = with_subcommands (with_subcommands (with_subcommands root (readers profiles)) (editors profiles layouts)) (judges profiles)
 
 -- a parse reads this definition of the command, which has no global argument
 pub record IsDefined (app : App) (command : Command) : Type 0 where

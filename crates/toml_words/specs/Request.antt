@@ -8,11 +8,13 @@ use Rattle.clap.specs.declared.error.Error.{Error}
 use Rattle.clap.specs.declared.error.kind.ErrorKind.TheVariants.{OutOfMemory}
 use Rattle.toml_tree.specs.declared.profile.Profile.{Profile}
 use Rattle.toml_tree.specs.declared.profile.Profile.TheVariants.{One, Two}
-use Rattle.toml_words.specs.CommandLine.{AreProfiles, Choices, tool}
+use Rattle.toml_words.specs.CommandLine.{AreLayouts, AreProfiles, Choices, tool}
 use Rattle.toml_words.specs.Marking.{is_marked, unmarked}
 use Rattle.toml_words.specs.declared.request.Destination.{Destination}
 use Rattle.toml_words.specs.declared.request.Form.{Form}
 use Rattle.toml_words.specs.declared.request.Form.TheVariants.{Plain, Json, Tagged, Toml, TypeName}
+use Rattle.toml_words.specs.declared.request.Layout.{Layout}
+use Rattle.toml_words.specs.declared.request.Layout.TheVariants as laid
 use Rattle.toml_words.specs.declared.request.NewValue.{NewValue}
 use Rattle.toml_words.specs.declared.request.OneEdit.{OneEdit}
 use Rattle.toml_words.specs.declared.request.OneEdit.TheVariants as edits
@@ -46,8 +48,8 @@ pub data Asked : Type 0 where
   verify : (before edits after cert : Text) (explain : Bool) (profile : Profile) → Asked
   certify : (before edits after : Text) (cert : Option Text) (profile : Profile) → Asked
   get : (file place : Text) (form : Form) (default : Option Text) (profile : Profile) → Asked
-  edit_one : (file place : Text) (edit : AskedEdit) (destination : AskedDestination) (profile : Profile) → Asked
-  apply : (file edits : Text) (destination : AskedDestination) (profile : Profile) → Asked
+  edit_one : (file place : Text) (edit : AskedEdit) (destination : AskedDestination) (layout : Layout) (profile : Profile) → Asked
+  apply : (file edits : Text) (destination : AskedDestination) (layout : Layout) (profile : Profile) → Asked
   validate : (files : List Text) (profile : Profile) → Asked
 
 abbrev pub asked_value : NewValue → AskedValue
@@ -70,8 +72,8 @@ asked_by (requests.Edit file edits out cert explain profile) = edit file.now edi
 asked_by (requests.Verify before edits after cert explain profile) = verify before.now edits.now after.now cert.now explain profile
 asked_by (requests.Certify before edits after cert profile) = certify before.now edits.now after.now (option_map (λ path. path.now) cert) profile
 asked_by (requests.Get file place form default profile) = get file.now place.now form (option_map (λ text. text.now) default) profile
-asked_by (requests.One file place e destination profile) = edit_one file.now place.now (asked_edit e) (asked_destination destination) profile
-asked_by (requests.Apply file edits destination profile) = apply file.now edits.now (asked_destination destination) profile
+asked_by (requests.One file place e destination layout profile) = edit_one file.now place.now (asked_edit e) (asked_destination destination) layout profile
+asked_by (requests.Apply file edits destination layout profile) = apply file.now edits.now (asked_destination destination) layout profile
 asked_by (requests.Validate files profile) = validate (texts files.items) profile
 
 -- the flag's first value is the text `true`
@@ -89,6 +91,14 @@ profile_named text = if bytes_eq text (codes "1") then Some One else if bytes_eq
 -- that of the option's first value
 abbrev pub profile_of : List Row → Option Profile
 profile_of rows = option_and_then profile_named (first_of (codes "profile") rows)
+
+-- the layout of this name
+abbrev pub layout_named : Text → Option Layout
+layout_named text = if bytes_eq text (codes "plain") then Some laid.Plain else if bytes_eq text (codes "follow") then Some laid.Follow else None
+
+-- that of the option's first value
+abbrev pub layout_of : List Row → Option Layout
+layout_of rows = option_and_then layout_named (first_of (codes "layout") rows)
 
 -- the first value, where it is not marked
 abbrev pub unless_marked : Text → Option Text
@@ -178,8 +188,8 @@ destination_of file rows =
 -- what one edit asks with these values
 abbrev pub one_of : AskedEdit → List Row → Option Asked
 one_of e rows =
-    option_and_then (λ file. option_and_then (λ place. option_and_then (λ destination. option_map (edit_one file place e destination) (profile_of rows)) (destination_of file rows))
-    (word_of (codes "PLACE") rows)) (word_of (codes "FILE") rows)
+    option_and_then (λ file. option_and_then (λ place. option_and_then (λ destination. option_and_then (λ layout. option_map (edit_one file place e destination layout) (profile_of rows))
+    (layout_of rows)) (destination_of file rows)) (word_of (codes "PLACE") rows)) (word_of (codes "FILE") rows)
 
 abbrev pub new_value_of : List Row → Option AskedValue
 new_value_of rows = option_map (λ text. record { text = text; is_string = is_given (codes "string") rows }) (value_of (codes "VALUE") rows)
@@ -200,7 +210,8 @@ remove_of = one_of remove
 -- what `apply` asks with these values
 abbrev pub apply_with : List Row → Text → Text → Option Asked
 apply_with rows file edits =
-    option_and_then (λ destination. option_and_then (λ profile. if are_both_input file edits then None else Some (apply file edits destination profile)) (profile_of rows)) (destination_of file rows)
+    option_and_then (λ destination. option_and_then (λ layout. option_and_then (λ profile. if are_both_input file edits then None else Some (apply file edits destination layout profile)) (profile_of rows))
+    (layout_of rows)) (destination_of file rows)
 
 abbrev pub apply_of : List Row → Option Asked
 apply_of rows = option_and_then (λ file. option_and_then (apply_with rows file) (word_of (codes "EDITS") rows)) (word_of (codes "FILE") rows)
@@ -245,29 +256,35 @@ asked_of met =
     else reading_of met.0 met.1
 
 -- what the subcommand asks that the definition gives for the words
-abbrev pub asked_in : Choices → List Text → Option Asked
-asked_in profiles words = option_and_then asked_of (subcommand_of (tool profiles) words)
+abbrev pub asked_in : Choices → Choices → List Text → Option Asked
+asked_in profiles layouts words = option_and_then asked_of (subcommand_of (tool profiles layouts) words)
 
 -- the definition finds no fault in the words, and they ask this request
 pub record IsRequestIn (words : List Text) (request : Request) : Type 0 where
   pub profiles : Choices
   pub numbers : AreProfiles profiles
-  pub faultless : fault_of (tool profiles) words ≡ []
-  pub asked : asked_in profiles words ≡ Some (asked_by request)
+  pub layouts : Choices
+  pub names : AreLayouts layouts
+  pub faultless : fault_of (tool profiles layouts) words ≡ []
+  pub asked : asked_in profiles layouts words ≡ Some (asked_by request)
 
 -- the parser's error has a kind that the definition gives for the words, or is want of memory, and only that where it takes them
 pub record IsRefusedBy (words : List Text) (error : Error) : Type 0 where
   pub profiles : Choices
   pub numbers : AreProfiles profiles
-  pub kind : HasKind (fault_of (tool profiles) words) error
-  pub taken : takes (tool profiles) words ≡ true → kind_of error ≡ OutOfMemory
+  pub layouts : Choices
+  pub names : AreLayouts layouts
+  pub kind : HasKind (fault_of (tool profiles layouts) words) error
+  pub taken : takes (tool profiles layouts) words ≡ true → kind_of error ≡ OutOfMemory
 
 -- the definition finds no fault in the words, and they ask nothing
 pub record AsksNothing (words : List Text) : Type 0 where
   pub profiles : Choices
   pub numbers : AreProfiles profiles
-  pub faultless : fault_of (tool profiles) words ≡ []
-  pub nothing : asked_in profiles words ≡ None
+  pub layouts : Choices
+  pub names : AreLayouts layouts
+  pub faultless : fault_of (tool profiles layouts) words ≡ []
+  pub nothing : asked_in profiles layouts words ≡ None
 
 abbrev pub IsFaultIn : List Text → WordsFault → Type 0
 IsFaultIn words (Parser error) = IsRefusedBy words error

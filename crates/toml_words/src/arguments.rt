@@ -1,7 +1,7 @@
 //! The arguments of commands, as `clap` is told them.
 ghost use Rattle.std.specs.Prelude.{◌≡◌, Some, false};
 ghost use Rattle.clap.specs.Words.{rule_of};
-ghost use Rattle.toml_words.specs.CommandLine.{flag, in_place, optional_argument, option, profile, required_argument, several_arguments};
+ghost use Rattle.toml_words.specs.CommandLine.{flag, in_place, layout, optional_argument, option, profile, required_argument, several_arguments};
 
 use clap::{Arg, ArgAction};
 use std::alloc::Global;
@@ -66,6 +66,19 @@ pub(crate) fn option<'a>(alloc: Global, name: &'a str, value: &'a str, help: &'a
         .long(name)
         .value_name(value)
         .help(help)
+}
+
+/// `--layout L`: how new text is laid out, as its neighbours are where it is not given.
+pub(crate) fn layout<'a>(alloc: Global, layouts: &'a [&'a str]) -> Arg<'a>
+    ensures rule { rule_of result ≡ layout layouts.entry }
+    ensures local { result.global ≡ false }
+{
+    Arg::new(alloc, "layout")
+        .long("layout")
+        .value_name("LAYOUT")
+        .default_value("follow")
+        .value_parser(layouts)
+        .help("follow writes new text as its neighbours are written; plain always in one way")
 }
 
 /// `--profile N`: which texts are TOML, 1 where it is not given.

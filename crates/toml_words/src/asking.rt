@@ -1,22 +1,28 @@
 //! What the parser's matches ask for.
 ghost use Rattle.std.specs.Prelude.{◌≡◌, ◌≤◌, IfErr, IfOk, count_by, length, map, option_and_then, option_map, true};
 ghost use Rattle.clap.specs.Walk.{texts};
-ghost use Rattle.clap.specs.Words.{FailsBy, all_of, fault_of, first_of, found_of, kind_of, rows_of, subcommand_of, subcommand_rows_of, takes};
+ghost use Rattle.clap.specs.Words.{FailsBy, fault_of, found_of, kind_of, rows_of, subcommand_of, subcommand_rows_of, takes};
 ghost use Rattle.toml_words.specs.CommandLine.{tool};
-ghost use Rattle.toml_words.specs.Request.{IsFaultIn, IsRequestIn, apply_of, are_both_input, asked_by, asked_destination, asked_edit, asked_of, asked_value, certificate_of, certify_of, check_of};
-ghost use Rattle.toml_words.specs.Request.{chosen, destination_of, edit_of, editing_of, form_of, get_of, insert_of, is_editing, is_given, is_input, new_value_of, one_of, profile_of, reading_of, remove_of};
-ghost use Rattle.toml_words.specs.Request.{rename_of, set_of, show_of, validate_of, value_of, verify_of, word_of};
+ghost use Rattle.toml_words.specs.Request.{IsFaultIn, IsRequestIn, apply_of, asked_by, asked_destination, asked_edit, asked_of, asked_value, certificate_of, certify_of, check_of};
+ghost use Rattle.toml_words.specs.Request.{chosen, destination_of, edit_of, editing_of, form_of, get_of, insert_of, is_editing, is_input, new_value_of, one_of, reading_of, remove_of};
+ghost use Rattle.toml_words.specs.Request.{rename_of, set_of, show_of, validate_of, verify_of};
 
 use crate::command_line::command;
-use crate::marking::{is_marked, unmarked};
-use crate::request::{Destination, Form, NewValue, OneEdit, Request, STANDARD_INPUT};
+use crate::marking::is_marked;
+use crate::request::{Destination, Form, NewValue, OneEdit, Request};
+use crate::values::{
+    all_values, are_both_input, first_value, is_given, is_input, layout_given, profile_given, value,
+    word,
+};
 use clap::ArgMatches;
 use clap::error::ErrorKind;
 use std::alloc::{AllocError, Global};
-use toml_tree::Profile;
 
 /// The numbers of the profiles.
 static PROFILES: [&str; 2] = ["1", "2"];
+
+/// The words of the layouts.
+static LAYOUTS: [&str; 2] = ["plain", "follow"];
 
 /// Why words make no request.
 #[derive(Debug, Drop)]
@@ -35,7 +41,7 @@ pub fn read_words<'a>(alloc: Global, words: &'a [&'a str]) -> Result<Request<'a>
     ensures ok { IfOk result (IsRequestIn (texts words.entry.now)) }
     ensures err { IfErr result (IsFaultIn (texts words.entry.now)) }
 {
-    let matches = match parse(alloc, words, PROFILES.as_slice()) {
+    let matches = match parse(alloc, words, PROFILES.as_slice(), LAYOUTS.as_slice()) {
         Ok(matches) => matches,
         Err(error) => return Err(WordsFault::Parser(error)),
     };
@@ -50,14 +56,15 @@ fn parse<'a>(
     alloc: Global,
     words: &'a [&'a str],
     profiles: &'a [&'a str],
+    layouts: &'a [&'a str],
 ) -> Result<ArgMatches<'a>, clap::Error>
     ensures ok { IfOk result (λ matches.
-        subcommand_rows_of matches ≡ subcommand_of (tool profiles.entry) (texts words.entry.now)) }
-    ensures kinds { FailsBy (fault_of (tool profiles.entry) (texts words.entry.now)) result }
-    ensures err { IfErr result (λ error. takes (tool profiles.entry) (texts words.entry.now) ≡ true
+        subcommand_rows_of matches ≡ subcommand_of (tool profiles.entry layouts.entry) (texts words.entry.now)) }
+    ensures kinds { FailsBy (fault_of (tool profiles.entry layouts.entry) (texts words.entry.now)) result }
+    ensures err { IfErr result (λ error. takes (tool profiles.entry layouts.entry) (texts words.entry.now) ≡ true
         → kind_of error ≡ ErrorKind.OutOfMemory) }
 {
-    let command = command(alloc, profiles)?;
+    let command = command(alloc, profiles, layouts)?;
     command.try_get_matches_from(words)
 }
 
@@ -202,12 +209,14 @@ fn one_request<'a>(found: &ArgMatches<'a>, edit: OneEdit<'a>) -> Option<Request<
     let file = word(found, "FILE")?;
     let place = word(found, "PLACE")?;
     let destination = destination_given(found, file)?;
+    let layout = layout_given(found)?;
     let profile = profile_given(found)?;
     Some(Request::One {
         file,
         place,
         edit,
         destination,
+        layout,
         profile,
     })
 }
@@ -249,6 +258,7 @@ fn apply_request<'a>(found: &ArgMatches<'a>) -> Option<Request<'a>>
     let file = word(found, "FILE")?;
     let edits = word(found, "EDITS")?;
     let destination = destination_given(found, file)?;
+    let layout = layout_given(found)?;
     let profile = profile_given(found)?;
     if are_both_input(file, edits) {
         return None;
@@ -257,6 +267,7 @@ fn apply_request<'a>(found: &ArgMatches<'a>) -> Option<Request<'a>>
         file,
         edits,
         destination,
+        layout,
         profile,
     })
 }
@@ -382,72 +393,4 @@ fn certify_request<'a>(found: &ArgMatches<'a>) -> Option<Request<'a>>
         cert,
         profile,
     })
-}
-
-/// Whether both paths are standard input, which is read but once.
-fn are_both_input(one: &str, other: &str) -> bool
-    ensures { result ≡ are_both_input one.now other.now }
-{
-    is_input(one) && is_input(other)
-}
-
-/// Whether the path is standard input.
-fn is_input(path: &str) -> bool
-    ensures { result ≡ is_input path.now }
-{
-    path == STANDARD_INPUT
-}
-
-/// The profile: the parser answers `1` where the option is not given, and lets no other text than the two through.
-fn profile_given(found: &ArgMatches<'_>) -> Option<Profile>
-    ensures { result ≡ profile_of (rows_of (found_of found.now)) }
-{
-    match first_value(found, "profile")? {
-        "1" => Some(Profile::One),
-        "2" => Some(Profile::Two),
-        _ => None,
-    }
-}
-
-/// Whether the flag was given: the parser answers `true` or `false` for it.
-fn is_given(found: &ArgMatches<'_>, flag: &str) -> bool
-    ensures { result ≡ is_given flag.now (rows_of (found_of found.now)) }
-{
-    match first_value(found, flag) {
-        Some(text) => text == "true",
-        None => false,
-    }
-}
-
-/// A word that is no value, so it may not be marked.
-fn word<'a>(found: &ArgMatches<'a>, argument: &str) -> Option<&'a str>
-    ensures { option_map (λ word. word.now) result ≡ word_of argument.now (rows_of (found_of found.now)) }
-{
-    let word = first_value(found, argument)?;
-    if is_marked(word) {
-        return None;
-    }
-    Some(word)
-}
-
-/// A value, without its mark.
-fn value<'a>(found: &ArgMatches<'a>, argument: &str) -> Option<&'a str>
-    ensures { option_map (λ value. value.now) result ≡ value_of argument.now (rows_of (found_of found.now)) }
-{
-    let word = first_value(found, argument)?;
-    Some(unmarked(word))
-}
-
-fn first_value<'a>(found: &ArgMatches<'a>, argument: &str) -> Option<&'a str>
-    ensures { option_map (λ value. value.now) result
-        ≡ first_of argument.now (rows_of (found_of found.now)) }
-{
-    found.get_str(argument)
-}
-
-fn all_values<'m, 'a>(found: &'m ArgMatches<'a>, argument: &str) -> Option<&'m [&'a str]>
-    ensures { option_map (λ values. texts values.now) result
-        ≡ all_of argument.now (rows_of (found_of found.entry.now)) }
-{
-    found.get_strs(argument)
 }

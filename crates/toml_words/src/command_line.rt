@@ -10,11 +10,15 @@ use clap::Command;
 use std::alloc::{AllocError, Global};
 
 /// The command with all subcommands.
-pub(crate) fn command<'a>(alloc: Global, profiles: &'a [&'a str]) -> Result<Command<'a>, AllocError>
-    ensures { IfOk result (IsDefined (tool profiles.entry)) }
+pub(crate) fn command<'a>(
+    alloc: Global,
+    profiles: &'a [&'a str],
+    layouts: &'a [&'a str],
+) -> Result<Command<'a>, AllocError>
+    ensures { IfOk result (IsDefined (tool profiles.entry layouts.entry)) }
 {
     let readers = readers(alloc, profiles)?;
-    let editors = editors(alloc, profiles)?;
+    let editors = editors(alloc, profiles, layouts)?;
     let judges = judges(alloc, profiles)?;
     root(alloc)?
         .subcommands(readers)?
@@ -48,14 +52,18 @@ fn readers<'a>(alloc: Global, profiles: &'a [&'a str]) -> Result<Vec<Command<'a>
 
 /// Those that edit a file by their words.
 #[tactic(auto, unfolding(crate::specs::CommandLine::editors))]
-fn editors<'a>(alloc: Global, profiles: &'a [&'a str]) -> Result<Vec<Command<'a>>, AllocError>
-    ensures { IfOk result (λ list. AreDefined (editors profiles.entry) list.items) }
+fn editors<'a>(
+    alloc: Global,
+    profiles: &'a [&'a str],
+    layouts: &'a [&'a str],
+) -> Result<Vec<Command<'a>>, AllocError>
+    ensures { IfOk result (λ list. AreDefined (editors profiles.entry layouts.entry) list.items) }
 {
-    let set = set_command(alloc, profiles)?;
-    let insert = insert_command(alloc, profiles)?;
-    let rename = rename_command(alloc, profiles)?;
-    let remove = remove_command(alloc, profiles)?;
-    let apply = apply_command(alloc, profiles)?;
+    let set = set_command(alloc, profiles, layouts)?;
+    let insert = insert_command(alloc, profiles, layouts)?;
+    let rename = rename_command(alloc, profiles, layouts)?;
+    let remove = remove_command(alloc, profiles, layouts)?;
+    let apply = apply_command(alloc, profiles, layouts)?;
     Ok(vec![in alloc; set, insert, rename, remove, apply]?)
 }
 

@@ -3,7 +3,7 @@ ghost use Rattle.std.specs.Prelude.{◌≡◌, IfOk, codes, false, map};
 ghost use Rattle.clap.specs.Words.{new_app, rule_of};
 ghost use Rattle.toml_words.specs.CommandLine.{AreLocal, IsDefined, flag as flag_of, option as option_of, apply, certify, check, command as command_of, edit, get, insert, remove, rename, set, show, validate, verify};
 
-use crate::arguments::{flag, in_place, option, optional, profile, required, several};
+use crate::arguments::{flag, in_place, layout, option, optional, profile, required, several};
 use clap::{Arg, Command};
 use std::alloc::{AllocError, Global};
 
@@ -105,8 +105,9 @@ pub(crate) fn get_command<'a>(
 pub(crate) fn set_command<'a>(
     alloc: Global,
     profiles: &'a [&'a str],
+    layouts: &'a [&'a str],
 ) -> Result<Command<'a>, AllocError>
-    ensures { IfOk result (IsDefined (set profiles.entry)) }
+    ensures { IfOk result (IsDefined (set profiles.entry layouts.entry)) }
 {
     let usage = Usage {
         name: "set",
@@ -125,6 +126,7 @@ pub(crate) fn set_command<'a>(
         ),
         in_place(alloc),
         certificate(alloc),
+        layout(alloc, layouts),
         profile(alloc, profiles),
     ]?;
     command(alloc, usage, arguments)
@@ -133,8 +135,9 @@ pub(crate) fn set_command<'a>(
 pub(crate) fn insert_command<'a>(
     alloc: Global,
     profiles: &'a [&'a str],
+    layouts: &'a [&'a str],
 ) -> Result<Command<'a>, AllocError>
-    ensures { IfOk result (IsDefined (insert profiles.entry)) }
+    ensures { IfOk result (IsDefined (insert profiles.entry layouts.entry)) }
 {
     let usage = Usage {
         name: "insert",
@@ -153,6 +156,7 @@ pub(crate) fn insert_command<'a>(
         ),
         in_place(alloc),
         certificate(alloc),
+        layout(alloc, layouts),
         profile(alloc, profiles),
     ]?;
     command(alloc, usage, arguments)
@@ -161,8 +165,9 @@ pub(crate) fn insert_command<'a>(
 pub(crate) fn rename_command<'a>(
     alloc: Global,
     profiles: &'a [&'a str],
+    layouts: &'a [&'a str],
 ) -> Result<Command<'a>, AllocError>
-    ensures { IfOk result (IsDefined (rename profiles.entry)) }
+    ensures { IfOk result (IsDefined (rename profiles.entry layouts.entry)) }
 {
     let usage = Usage {
         name: "rename",
@@ -175,6 +180,7 @@ pub(crate) fn rename_command<'a>(
         required(alloc, "NAME", "The new name, as it is, and no key"),
         in_place(alloc),
         certificate(alloc),
+        layout(alloc, layouts),
         profile(alloc, profiles),
     ]?;
     command(alloc, usage, arguments)
@@ -183,8 +189,9 @@ pub(crate) fn rename_command<'a>(
 pub(crate) fn remove_command<'a>(
     alloc: Global,
     profiles: &'a [&'a str],
+    layouts: &'a [&'a str],
 ) -> Result<Command<'a>, AllocError>
-    ensures { IfOk result (IsDefined (remove profiles.entry)) }
+    ensures { IfOk result (IsDefined (remove profiles.entry layouts.entry)) }
 {
     let usage = Usage {
         name: "remove",
@@ -196,6 +203,7 @@ pub(crate) fn remove_command<'a>(
         required(alloc, "PLACE", PLACE),
         in_place(alloc),
         certificate(alloc),
+        layout(alloc, layouts),
         profile(alloc, profiles),
     ]?;
     command(alloc, usage, arguments)
@@ -204,8 +212,9 @@ pub(crate) fn remove_command<'a>(
 pub(crate) fn apply_command<'a>(
     alloc: Global,
     profiles: &'a [&'a str],
+    layouts: &'a [&'a str],
 ) -> Result<Command<'a>, AllocError>
-    ensures { IfOk result (IsDefined (apply profiles.entry)) }
+    ensures { IfOk result (IsDefined (apply profiles.entry layouts.entry)) }
 {
     let usage = Usage {
         name: "apply",
@@ -221,6 +230,7 @@ pub(crate) fn apply_command<'a>(
         ),
         in_place(alloc),
         certificate(alloc),
+        layout(alloc, layouts),
         profile(alloc, profiles),
     ]?;
     command(alloc, usage, arguments)

@@ -10,8 +10,10 @@ mod request;
 #[cfg(test)]
 mod tests;
 mod told;
+mod values;
 
 pub use asking::{WordsFault, read_words};
 pub use marking::marked_words;
-pub use request::{Destination, Form, NewValue, OneEdit, Request, STANDARD_INPUT};
+pub use request::{Destination, Form, Layout, NewValue, OneEdit, Request, STANDARD_INPUT};
 pub use told::{ParserText, parser_text};
+pub use values::is_input;

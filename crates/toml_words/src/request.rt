@@ -68,6 +68,7 @@ pub enum Request<'a> {
         place: &'a str,
         edit: OneEdit<'a>,
         destination: Destination<'a>,
+        layout: Layout,
         profile: Profile,
     },
     /// What a list of edits makes of the file.
@@ -75,6 +76,7 @@ pub enum Request<'a> {
         file: &'a str,
         edits: &'a str,
         destination: Destination<'a>,
+        layout: Layout,
         profile: Profile,
     },
     /// Which of the files are no TOML documents, and why.
@@ -127,6 +129,15 @@ pub struct NewValue<'a> {
     pub text: &'a str,
     /// The text is that of a string, and no TOML.
     pub is_string: bool,
+}
+
+/// How new text is laid out.
+#[derive(Clone, Copy, Debug, PartialEq, Eq)]
+pub enum Layout {
+    /// Always in the same way.
+    Plain,
+    /// As its neighbours are.
+    Follow,
 }
 
 /// Where an edited text goes.

@@ -56,21 +56,21 @@ tomled get F z --type --default=-1
 Get { file: "-F", place: "z", form: Toml, default: Some(""), profile: Two }
 tomled get --toml --default= --profile 2 -- -F z
 
-One { file: "F", place: "n", edit: Set { value: NewValue { text: "-1", is_string: false }, parents: false }, destination: Destination { in_place: true, certificate: None }, profile: One }
+One { file: "F", place: "n", edit: Set { value: NewValue { text: "-1", is_string: false }, parents: false }, destination: Destination { in_place: true, certificate: None }, layout: Follow, profile: One }
 tomled set F n -1 -i
 tomled set -i F n -1
 tomled set F n --in-place -- -1
 
-One { file: "F", place: "n", edit: Insert { value: NewValue { text: "-x", is_string: true }, parents: true }, destination: Destination { in_place: false, certificate: Some("C") }, profile: Two }
+One { file: "F", place: "n", edit: Insert { value: NewValue { text: "-x", is_string: true }, parents: true }, destination: Destination { in_place: false, certificate: Some("C") }, layout: Follow, profile: Two }
 tomled insert --certificate C --parents F n --profile 2 --string -x
 
-One { file: "F", place: "n", edit: Rename { to: "--string" }, destination: Destination { in_place: false, certificate: None }, profile: One }
+One { file: "F", place: "n", edit: Rename { to: "--string" }, destination: Destination { in_place: false, certificate: None }, layout: Follow, profile: One }
 tomled rename F n --string
 
-One { file: "F", place: ".", edit: Remove, destination: Destination { in_place: false, certificate: None }, profile: One }
-tomled remove F .
+One { file: "F", place: ".", edit: Remove, destination: Destination { in_place: false, certificate: None }, layout: Plain, profile: One }
+tomled remove F . --layout plain
 
-Apply { file: "F", edits: "-", destination: Destination { in_place: true, certificate: Some("C") }, profile: One }
+Apply { file: "F", edits: "-", destination: Destination { in_place: true, certificate: Some("C") }, layout: Follow, profile: One }
 tomled apply F - -i --certificate=C
 
 Validate { files: ["a", "-", "b"], profile: Two }

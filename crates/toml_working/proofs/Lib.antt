@@ -37,6 +37,7 @@ mod OpenedGap
 mod OpenedLine
 mod OpenedBody
 mod Got
+mod GapParts
 mod Clear
 mod Pairwise
 pub mod Proved

@@ -19,6 +19,8 @@ pub mod Stands
 pub mod Starting
 pub mod Writing
 pub mod OpeningLines
+pub mod Layouts
+pub mod Gaps
 pub mod Leading
 pub mod RenamingIn
 pub mod RenameStanding

@@ -30,6 +30,8 @@ leaf_text (leaves.New text) = text.now
 
 abbrev pub gap_part_text : GapPart → List ℕ
 gap_part_text (parts.Ws ws) = leaf_text ws
+gap_part_text (parts.Comment comment) = leaf_text comment
+gap_part_text (parts.Newline newline) = leaf_text newline
 gap_part_text (parts.Lines lines) = leaf_text lines
 
 -- the texts of the parts, one behind the other

@@ -17,6 +17,7 @@ use Rattle.toml_working.specs.declared.working.Position.{Position}
 use Rattle.toml_working.specs.declared.working.Tree.{Tree}
 use Rattle.toml_working.specs.Becoming.{LineBecomes}
 use Rattle.toml_working.specs.InsertStanding.{AreRooted, end_in, insert_standing, line_behind, new_standing}
+use Rattle.toml_working.specs.Layouts.{IsPlainLayout}
 use Rattle.toml_working.specs.OpenOutlines.{assign, leaf_text}
 use Rattle.toml_working.specs.Outlines.{ValueOutline}
 use Rattle.toml_working.specs.Placing.{lines_before, lines_from}
@@ -120,17 +121,17 @@ PutsBehind at base steps v style texts read place old now = base ≡ 0 → (name
     × (slots_standing read now ≡ lines_before read old place.slot place.index
     ++ (line_behind name v style s s.outline.newline ++ lines_from read old place.slot (place.index + 1)))
 
--- so it is of the lines of a tree
+-- so it is of the lines of a tree, in layout `Plain`
 abbrev pub TreePutsBehind : Address → ℕ → List (String Global) → ValueOutline → Read → Position → Tree → Tree → Type 0
-TreePutsBehind at base steps v read place old now =
-    PutsBehind at base steps v (leaf_text old.style) old.texts read place old.slots.items now.slots.items
+TreePutsBehind at base steps v read place old now = IsPlainLayout old.texts.layout
+    → PutsBehind at base steps v (leaf_text old.style) old.texts read place old.slots.items now.slots.items
 
 -- behind the last line of the root, or as the first line
 abbrev pub InsertsLines : Address → List (String Global) → ValueOutline → List ℕ → List ℕ → Read → List Slot → List Slot → Type 0
 InsertsLines at steps v style text read old now = (name : List ℕ) → IsRootName name at steps → (ss : List Standing)
     → Stands text read old ss → AreRooted ss → Stands text read now (insert_standing name v style ss)
 
--- so it is of the lines of a tree
+-- so it is of the lines of a tree, in layout `Plain`
 abbrev pub TreeInserts : Address → List (String Global) → ValueOutline → Read → Tree → Tree → Type 0
-TreeInserts at steps v read old now =
-    InsertsLines at steps v (leaf_text old.style) (text_of old.texts.source) read old.slots.items now.slots.items
+TreeInserts at steps v read old now = IsPlainLayout old.texts.layout
+    → InsertsLines at steps v (leaf_text old.style) (text_of old.texts.source) read old.slots.items now.slots.items

@@ -1,4 +1,6 @@
 //! What stands in arrays and inline tables: entries put in and taken out, with their commas.
+use crate::layout::Layout;
+use crate::texts::Texts;
 use crate::tree::{Assign, Entries, Entry, Gap, Leaf, Value};
 use std::alloc::{AllocError, Global};
 use std::collections::VecDeque;
@@ -15,26 +17,19 @@ impl<'t> Entries<'t> {
     }
 
     /// Puts an entry in before the one with the index, or behind the last one. An element of an array has no key.
-    ///
-    /// Where there is no entry it stands directly behind the bracket. Before another one it takes its place, and a comma and
-    /// one space part them; behind the last one it stands behind a comma and one space.
     pub(crate) fn put(
         &mut self,
-        alloc: Global,
+        texts: Texts<'t>,
         index: usize,
         assign: Option<Box<Assign<'t>>>,
         value: Value<'t>,
     ) -> Result<(), AllocError> {
-        let space = Gap::space(alloc, Leaf::New(" "))?;
-        let (before, after) = if let Some(other) = self.list.get_mut(index) {
-            (mem::replace(&mut other.before, space), Gap::empty(alloc))
-        } else if let Some(last) = self.list.back_mut() {
-            (space, mem::replace(&mut last.after, Gap::empty(alloc)))
-        } else {
-            (
-                Gap::empty(alloc),
-                self.end.take().unwrap_or(Gap::empty(alloc)),
-            )
+        let (before, after) = match texts.layout {
+            Layout::Plain => {
+                let space = Gap::space(texts.alloc, Leaf::New(" "))?;
+                self.room(texts.alloc, index, space)?
+            }
+            Layout::Follow => self.room_beside(texts, index, assign.is_some())?,
         };
         let entry = Entry {
             before,
@@ -50,10 +45,51 @@ impl<'t> Entries<'t> {
         Ok(())
     }
 
+    /// Makes room for an entry before the one with the index, or behind the last one, and answers the gaps around it; behind the
+    /// comma that parts it from another this space is to stand. Where there is no entry it stands directly behind the bracket.
+    /// Before another one it takes its place.
+    pub(crate) fn room(
+        &mut self,
+        alloc: Global,
+        index: usize,
+        space: Gap<'t>,
+    ) -> Result<(Gap<'t>, Gap<'t>), AllocError> {
+        if let Some(other) = self.list.get_mut(index) {
+            let before = mem::replace(&mut other.before, space);
+            return Ok((before, Gap::empty(alloc)));
+        }
+        if let Some(last) = self.list.back_mut() {
+            let after = mem::replace(&mut last.after, Gap::empty(alloc));
+            return Ok((space, after));
+        }
+        let after = self.end.take().unwrap_or(Gap::empty(alloc));
+        Ok((Gap::empty(alloc), after))
+    }
+
+    /// Takes out the entries with these marks, one after the other in text order.
+    pub(crate) fn remove_marked(
+        &mut self,
+        texts: Texts<'t>,
+        marks: &[bool],
+    ) -> Result<(), AllocError> {
+        match texts.layout {
+            Layout::Plain => self.take_out(texts.alloc, marks),
+            Layout::Follow => self.close_all(texts, marks),
+        }
+    }
+
+    /// Takes out the entry with the index.
+    pub(crate) fn remove_one(&mut self, texts: Texts<'t>, index: usize) -> Result<(), AllocError> {
+        match texts.layout {
+            Layout::Plain => self.take_one(texts.alloc, index),
+            Layout::Follow => self.close_one(texts, index),
+        }
+    }
+
     /// Takes out the entries with these marks, one after the other in text order, each with a comma: the one behind it, or
     /// where none follows the one before it. If nothing but whitespace stands between that comma and the next thing on its
     /// far side, that whitespace goes too. All comments and newlines stay.
-    pub(crate) fn take_out(&mut self, alloc: Global, marks: &[bool]) -> Result<(), AllocError> {
+    fn take_out(&mut self, alloc: Global, marks: &[bool]) -> Result<(), AllocError> {
         let count = self.list.len();
         let mut left = None;
         for index in 0..count {
@@ -78,7 +114,7 @@ impl<'t> Entries<'t> {
     }
 
     /// Takes out the entry with the index in the same way. The others are not gone through.
-    pub(crate) fn take_one(&mut self, alloc: Global, index: usize) -> Result<(), AllocError> {
+    fn take_one(&mut self, alloc: Global, index: usize) -> Result<(), AllocError> {
         let Some(entry) = self.list.remove(index) else {
             return Ok(());
         };

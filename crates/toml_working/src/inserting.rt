@@ -1,6 +1,7 @@
 //! `insert`: an element of an array, a pair of an inline table, or a line with a key and a value.
-ghost use Rattle.std.specs.Prelude.{◌≡◌, ◌++◌, ◌∷◌, IfOk, OnOk, drop, false, take};
+ghost use Rattle.std.specs.Prelude.{◌≡◌, ◌++◌, ◌∷◌, IfOk, None, OnOk, drop, false, take};
 ghost use Rattle.toml_working.specs.KnownLines.{lines_known};
+ghost use Rattle.toml_working.specs.Layouts.{IsPlainLayout};
 ghost use Rattle.toml_working.specs.OpenOutlines.{leaf_text, value};
 ghost use Rattle.toml_working.specs.Putting.{EndsOne, EndsSlot, EndsSlots, IsElsewhere, IsRootLine};
 ghost use Rattle.toml_working.specs.Putting.{PutsSlot, PutsSlots, TreeEndsBefore, TreeInserts, TreePutsBehind};
@@ -9,6 +10,7 @@ ghost use Rattle.toml_working.specs.Stands.{KeepsRest};
 
 use crate::inside::Inside;
 use crate::known::KnownLine;
+use crate::layout::Layout;
 use crate::lines::{Line, Slot};
 use crate::sections::NewHeader;
 use crate::texts::Texts;
@@ -20,7 +22,7 @@ use toml_units::Unit;
 
 /// A value for an address, and the spellings of the steps of it.
 #[derive(Drop)]
-struct Insertion<'a, 'x> {
+pub(crate) struct Insertion<'a, 'x> {
     at: &'a Address,
     spelled: &'x [String],
     new: Value<'x>,
@@ -71,13 +73,14 @@ impl<'x> Tree<'x> {
         }
         match self.table_place(before, named, parent) {
             Some(TablePlace::Header(header)) => {
-                let behind = self.last_pair(before, header.next()).unwrap_or(header);
-                self.insert_behind(before, behind, above.len(), insertion)
+                let last = self.last_of_section(before, header.next(), above);
+                self.insert_in_section(before, last.unwrap_or(header), above.len(), insertion)
             }
             Some(TablePlace::Dotted(line)) => {
                 let base = self.base(before, line);
-                let behind = self.last_pair(before, line).unwrap_or(line);
-                self.insert_behind(before, behind, base, insertion)
+                let (table, _) = above.split_at(base.min(above.len()));
+                let behind = self.table_end(before, line, table, parent);
+                self.insert_in_section(before, behind, base, insertion)
             }
             Some(TablePlace::Implicit(header)) => {
                 self.insert_before(before, header, parent, insertion)
@@ -86,7 +89,23 @@ impl<'x> Tree<'x> {
         }
     }
 
-    /// Puts a line in behind the last one with a key and a value before the first header, or as the first line.
+    /// The line behind which a new one goes of a table that a line's dotted key makes: the last one with a key and a value in
+    /// the section; by layout `Follow` the last one of the table there.
+    fn table_end(
+        &self,
+        before: Before<'_, 'x>,
+        line: Position,
+        section: &[Step],
+        table: &Address,
+    ) -> Position {
+        match self.texts.layout {
+            Layout::Plain => self.last_of_section(before, line, section).unwrap_or(line),
+            Layout::Follow => self.last_below(before, line, table),
+        }
+    }
+
+    /// Puts a line in behind the last one with a key and a value before the first header, or as the first line. By layout
+    /// `Follow` it goes behind the comment lines with which the text begins, where these do not belong to what follows.
     fn insert_at_root(
         &mut self,
         before: Before<'_, 'x>,
@@ -101,15 +120,46 @@ impl<'x> Tree<'x> {
                 self.root_end = behind;
                 self.insert_behind(before, behind, 0, insertion)
             }
-            None => {
-                let line = self.pair_line(0, insertion, self.style)?;
-                self.put(before, Position { slot: 0, index: 0 }, line)
+            None => match self.comments_end(before) {
+                Some(behind) => self.insert_behind(before, behind, 0, insertion),
+                None => {
+                    let line = self.pair_line(0, insertion, self.style)?;
+                    self.put(before, Position { slot: 0, index: 0 }, line)
+                }
+            },
+        }
+    }
+
+    /// By layout `Follow` the last of the comment lines behind which the first line of the root goes, if there are some.
+    fn comments_end(&self, before: Before<'_, 'x>) -> Option<Position>
+        ensures { IsPlainLayout self.now.texts.layout → result ≡ None }
+    {
+        match self.texts.layout {
+            Layout::Plain => None,
+            Layout::Follow => self.first_comments(before),
+        }
+    }
+
+    /// The line as it is; by layout `Follow` it begins as its neighbours do, behind one of which it is put in.
+    fn laid_out(
+        &self,
+        before: Before<'_, 'x>,
+        behind: Position,
+        line: Line<'x>,
+    ) -> Result<Line<'x>, AllocError>
+        ensures { IfOk result (λ l. IsPlainLayout self.now.texts.layout → l ≡ line.entry) }
+    {
+        match self.texts.layout {
+            Layout::Plain => Ok(line),
+            Layout::Follow => {
+                let (ws, equals) = self.beginning(before, behind)?;
+                Ok(line.beginning_as(ws, equals))
             }
         }
     }
 
     /// Puts a line in behind another; its table's address has `base` steps.
-    fn insert_behind(
+    pub(crate) fn insert_behind(
         &mut self,
         before: Before<'_, 'x>,
         behind: Position,
@@ -122,7 +172,8 @@ impl<'x> Tree<'x> {
     {
         let newline = self.newline_behind(before, behind)?;
         let line = self.pair_line(base, insertion, newline)?;
-        self.put(before, behind.next(), line)
+        let laid = self.laid_out(before, behind, line)?;
+        self.put(before, behind.next(), laid)
     }
 
     /// The newline of a line that is put in behind another. Where this one was the last line of the text, it gets the newline
@@ -158,7 +209,30 @@ impl<'x> Tree<'x> {
             spelled: insertion.spelled,
         };
         let line = self.pair_line(parent.steps().len(), insertion, self.style)?;
+        if let Layout::Follow = self.texts.layout {
+            return self.put_both(before, next, header, line);
+        }
         Ok(self.put(before, next, line)? && self.put_header(before, next, header)?)
+    }
+
+    /// The same by layout `Follow`: before the comment lines above the other line, and as that one begins.
+    fn put_both(
+        &mut self,
+        before: Before<'_, 'x>,
+        next: Position,
+        header: NewHeader<'_, 'x>,
+        line: Line<'x>,
+    ) -> Result<bool, AllocError>
+        ensures { OnOk result (KeepsRest self.old self.new) }
+    {
+        let at = self.above_comments(before, next);
+        let ws = self.ws_at(next);
+        let (own, equals) = self.beginning_below(before, at, ws)?;
+        let line = line.beginning_as(own, equals);
+        let head = header
+            .line(self.alloc(), self.style)?
+            .beginning_as(ws, None);
+        Ok(self.put(before, at, line)? && self.put(before, at, head)?)
     }
 
     /// A line with the key of the steps below its table, whose address has `base` steps.

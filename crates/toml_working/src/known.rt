@@ -5,11 +5,12 @@ ghost use Rattle.toml_tree.specs.Lines.{line as tree_line};
 ghost use Rattle.toml_working.specs.KnownLines.{known_line};
 ghost use Rattle.toml_working.specs.Opening.{OpensLine};
 
+use crate::neighbours::Equals;
 use crate::opening::Opener;
 use crate::texts::Texts;
-use crate::tree::OpenLine;
+use crate::tree::{Leaf, OpenLine};
 use std::alloc::{AllocError, Global};
-use toml_tree::{Line, LineReader};
+use toml_tree::{Expr, Line, LineReader};
 
 /// A line of the document. Those are held on which an edit may change something, as far as the edits tell by their addresses: so
 /// no line is read twice, and a document takes memory for few of its lines.
@@ -51,6 +52,14 @@ impl<'x> KnownLine<'x> {
         }
     }
 
+    /// What stands around its `=`, if it has one.
+    pub(crate) fn equals(&self, alloc: Global) -> Result<Option<Equals<'x>>, AllocError> {
+        match self {
+            KnownLine::Held(line) => Ok(equals_of(line)),
+            KnownLine::Place(reader) => Ok(equals_of(&read_again(alloc, *reader)?)),
+        }
+    }
+
     /// Its newline, the empty text where it has none.
     pub(crate) fn newline(&self, alloc: Global) -> Result<&'x str, AllocError>
         ensures { IfOk result (λ newline. newline.now ≡ (known_line self.now).newline.text) }
@@ -59,6 +68,17 @@ impl<'x> KnownLine<'x> {
             KnownLine::Held(line) => Ok(line.newline().text),
             KnownLine::Place(reader) => Ok(read_again(alloc, *reader)?.newline().text),
         }
+    }
+}
+
+/// What stands around the `=` of a line of the document, if it has one.
+fn equals_of<'x>(line: &Line<'x>) -> Option<Equals<'x>> {
+    match line.expr() {
+        Expr::KeyVal { keyval, .. } => Some(Equals {
+            before: Leaf::New(keyval.assign.before_equals.text),
+            after: Leaf::New(keyval.assign.after_equals.text),
+        }),
+        _ => None,
     }
 }
 

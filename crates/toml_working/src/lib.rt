@@ -4,12 +4,20 @@
 
 mod elements;
 mod entries;
+mod flat;
+mod gaps;
+mod guessing;
+mod headers;
 mod inserting;
 mod inside;
 mod known;
 pub mod laws;
+mod layout;
+mod leaving;
 mod lines;
+mod neighbours;
 mod opening;
+mod parts;
 mod pieces;
 mod reading;
 mod removing;
@@ -26,7 +34,9 @@ mod working;
 mod writing;
 
 pub use elements::Elements;
+pub use flat::removes_flat;
 pub use known::KnownLine;
+pub use layout::Layout;
 pub use opening::open_value;
 pub use pieces::Pieces;
 pub use reading::{LineFacts, ReadDocument, let_go, read_document};

@@ -12,6 +12,7 @@ ghost use Rattle.toml_working.specs.Opening.{OpensText, OpensValue};
 ghost use Rattle.toml_working.specs.Opening.{array_tree, inline_tree};
 ghost use Rattle.toml_working.specs.TreeOutlines.{assign_outline, gap_spelled, header_outline};
 
+use crate::layout::Layout;
 use crate::texts::Texts;
 use crate::tree::{
     Assign, Blank, Brackets, Dotted, Entries, Entry, Expr, Gap, GapPart, Header, Key, KeyVal, Leaf,
@@ -107,9 +108,11 @@ impl<'t> Opener<'t> {
         for line in gap.lines() {
             opened.push_ws(self.leaf(line.blank.ws))?;
             if let Some(comment) = line.blank.comment {
-                opened.parts.push(GapPart::Lines(self.leaf(comment)))?;
+                opened.parts.push(GapPart::Comment(self.leaf(comment)))?;
             }
-            opened.parts.push(GapPart::Lines(self.leaf(line.newline)))?;
+            opened
+                .parts
+                .push(GapPart::Newline(self.leaf(line.newline)))?;
         }
         opened.push_ws(self.leaf(gap.ws()))?;
         Ok(opened)
@@ -302,7 +305,14 @@ pub fn open_value<'t>(
         return Ok(None);
     };
     match parse_value_in(alloc, source, profile) {
-        Ok(value) => Ok(Some(Opener::new(Texts { alloc, source }).value(&value)?)),
+        Ok(value) => {
+            let texts = Texts {
+                alloc,
+                source,
+                layout: Layout::Plain,
+            };
+            Ok(Some(Opener::new(texts).value(&value)?))
+        }
         Err(SyntaxFault::NoMemory) => Err(AllocError),
         Err(_) => Ok(None),
     }

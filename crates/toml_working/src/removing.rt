@@ -13,7 +13,7 @@ use crate::lines::{Line, Slot};
 use crate::steps::{is_element, names_in};
 use crate::texts::Texts;
 use crate::tree::{Blank, Brackets, Expr, Header, Leaf, OpenLine};
-use crate::working::{Before, Position, TablePlace, Tree};
+use crate::working::{Before, Position, Tree};
 use std::alloc::{AllocError, Global};
 use std::mem;
 use toml_names::{Address, Place, Step};
@@ -28,13 +28,14 @@ struct Parent {
 }
 
 impl<'x> Tree<'x> {
-    /// Takes out what stands at the address. It answers `false`, and changes nothing, at the only element of an array of
-    /// tables: without its header there would be no array.
+    /// Takes out what stands at the address. Where it is a table, `flat` says that no table stands in it. It answers `false`, and
+    /// changes nothing, at the only element of an array of tables: without its header there would be no array.
     pub fn remove(
         &mut self,
         before: Before<'_, 'x>,
         named: Option<Place>,
         at: &Address,
+        flat: bool,
     ) -> Result<bool, AllocError>
         ensures { OnOk result (RemovesLines at.now (read_of before.entry) self.old self.new) }
     {
@@ -43,7 +44,7 @@ impl<'x> Tree<'x> {
                 self.remove_value(before, place, at)?;
                 Ok(true)
             }
-            None => self.remove_table(before, named, at),
+            None => self.remove_table(before, named, at, flat),
         }
     }
 
@@ -61,7 +62,7 @@ impl<'x> Tree<'x> {
             self.change_value(before, place, at, Inside::Remove)?;
             Ok(())
         } else {
-            self.remove_line(before, place.slot, at)
+            self.remove_line(before, place, at)
         }
     }
 
@@ -71,43 +72,56 @@ impl<'x> Tree<'x> {
         before: Before<'_, 'x>,
         named: Option<Place>,
         at: &Address,
+        flat: bool,
     ) -> Result<bool, AllocError> {
-        let first = self.first_slot(before, named, at);
+        let first = self.first_slot(before, named, at, flat || is_element(at));
         if !self.leaves_elements(before, first, at)? {
             return Ok(false);
         }
-        self.remove_lines(before, first, at)?;
+        self.remove_lines(before, first, at, flat)?;
         self.elements.take_out(self.texts.alloc, at)?;
         Ok(true)
     }
 
-    /// The slot before which no line stands at the address or below. The lines of an element of an array of tables begin with
-    /// its header.
-    pub(crate) fn first_slot(
-        &self,
-        before: Before<'_, 'x>,
-        named: Option<Place>,
-        at: &Address,
-    ) -> usize {
-        match self.near_table(before, named, at) {
-            Some(TablePlace::Header(header)) if is_element(at) => header.slot,
-            _ => 0,
-        }
-    }
-
-    /// Takes out the line of the slot whose value stands at the address: no other line is at it or below.
+    /// Takes out the line at the place, whose value stands at the address: no other line is at it or below.
     fn remove_line(
         &mut self,
         before: Before<'_, 'x>,
-        slot: usize,
+        place: Position,
         at: &Address,
     ) -> Result<(), AllocError>
         ensures rest { OnOk result (KeepsRest self.old self.new) }
         ensures slots { let units = before.entry.units.now in
-            OnOk result (length at.now ≡ 1 → LeavesSlots at.now units slot self.old.slots.items self.new.slots.items) }
+            OnOk result (length at.now ≡ 1 → LeavesSlots at.now units place.slot self.old.slots.items self.new.slots.items) }
     {
-        let mut parent = self.parent_left(before, at, slot)?;
-        remove_in(&mut self.slots, self.texts, before, slot, at, &mut parent)
+        let mut parent = self.parent_of_line(before, at, place)?;
+        remove_in(
+            &mut self.slots,
+            self.texts,
+            before,
+            place.slot,
+            at,
+            &mut parent,
+        )
+    }
+
+    /// The parent of the address of a line. Where this is the table in whose section the line stands, the header of the section
+    /// mentions it.
+    fn parent_of_line(
+        &self,
+        before: Before<'_, 'x>,
+        at: &Address,
+        place: Position,
+    ) -> Result<Parent, AllocError>
+        ensures { IfOk result (λ parent. length at.now ≡ 1 → parent.stays ≡ true) }
+    {
+        if self.base(before, place).saturating_add(1) < at.steps().len() {
+            return self.parent_left(before, at, place.slot);
+        }
+        Ok(Parent {
+            address: parent_of(self.alloc(), at)?,
+            stays: true,
+        })
     }
 
     /// The parent of the address, and whether it is the root or a line that is not at the address, nor below it, mentions it:
@@ -171,6 +185,7 @@ impl<'x> Tree<'x> {
         before: Before<'_, 'x>,
         first: usize,
         at: &Address,
+        flat: bool,
     ) -> Result<(), AllocError> {
         let texts = self.texts;
         let mut parent = self.parent_left(before, at, first)?;
@@ -179,6 +194,9 @@ impl<'x> Tree<'x> {
             if slot.is_below(before.units, at) {
                 slot.remove(texts, before, at, &mut parent)?;
                 is_met = true;
+            } else if flat && is_met && slot.has_header(before.units) {
+                // all lines of such a table stand in one section
+                return Ok(());
             }
             // behind the header of a later element no line is one of this
             if is_met && slot.begins_later(before.units, at) {

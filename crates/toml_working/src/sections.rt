@@ -6,6 +6,7 @@ ghost use Rattle.toml_names.specs.reader.LineNames.{Stand, StandFor};
 ghost use Rattle.toml_working.specs.InValues.{places_of};
 ghost use Rattle.toml_working.specs.Stands.{KeepsRest};
 
+use crate::layout::Layout;
 use crate::lines::{Line, Seen, Slot};
 use crate::removing::parent_of;
 use crate::tree::{Brackets, Expr, Header, Key, Leaf, OpenLine};
@@ -61,6 +62,9 @@ impl<'x> Tree<'x> {
         if self.value_line(before, above.named, &above.at).is_some() {
             return Ok(false);
         }
+        if let Layout::Follow = self.texts.layout {
+            return self.add_beside(before, above, new);
+        }
         let next = match &above.element {
             Some(element) => self.behind_element(before, above.near, element),
             None => None,
@@ -102,7 +106,7 @@ impl<'x> Tree<'x> {
     }
 
     /// The last line.
-    fn last_line(&self) -> Option<Position> {
+    pub(crate) fn last_line(&self) -> Option<Position> {
         for slot in (0..self.slots.len()).rev() {
             if let Some(index) = self.slots[slot].count().checked_sub(1) {
                 return Some(Position { slot, index });
@@ -112,7 +116,7 @@ impl<'x> Tree<'x> {
     }
 
     /// Whether the line at a place has no bytes, and ends in no newline.
-    fn has_no_bytes(&self, at: Position) -> bool {
+    pub(crate) fn has_no_bytes(&self, at: Position) -> bool {
         match self.slots.get(at.slot) {
             Some(slot) => slot.has_no_bytes(at.index),
             None => false,
@@ -128,7 +132,7 @@ impl<'x> Tree<'x> {
         element: &Address,
     ) -> Option<Position> {
         let mut walk = Walk::Before;
-        for slot in self.first_slot(before, named, element)..self.slots.len() {
+        for slot in self.first_slot(before, named, element, true)..self.slots.len() {
             walk = self.slots[slot].walked(before.units, slot, element, walk);
             if let Walk::Ended(next) = walk {
                 return Some(next);

@@ -32,7 +32,7 @@ pub(crate) fn is_at_or_above(at: &Address, other: &Address) -> bool
 }
 
 /// Whether the steps begin with the first ones. The last of these are compared first: elements of one array differ there.
-fn begins(above: &[Step], steps: &[Step]) -> bool
+pub(crate) fn begins(above: &[Step], steps: &[Step]) -> bool
     ensures { result ≡ begins above.now steps.now }
 {
     if steps.len() < above.len() {

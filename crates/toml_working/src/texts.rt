@@ -7,17 +7,20 @@ ghost use Rattle.toml_working.specs.OpenOutlines.{dotted, leaf_text};
 ghost use Rattle.toml_working.specs.Putting.{IsOnePart};
 ghost use Rattle.toml_working.specs.RenamingIn.{first_with, rest_with};
 
+use crate::layout::Layout;
 use crate::tree::{Dotted, Key, Leaf};
 use std::alloc::{AllocError, Global};
 use toml_names::{Name, Step};
 use toml_scalar::name_of;
 use toml_text::Source;
 
-/// Memory, and the text of which trees are opened: that before the edits, or the value of an edit.
+/// Memory, the text of which trees are opened, which is that before the edits, or the value of an edit, and how new text is laid
+/// out.
 #[derive(Clone, Copy)]
 pub struct Texts<'t> {
     pub alloc: Global,
     pub source: Source<'t>,
+    pub layout: Layout,
 }
 
 impl<'t> Texts<'t> {

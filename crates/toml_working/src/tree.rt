@@ -25,7 +25,10 @@ pub struct Gap<'t> {
 #[derive(Clone, Copy)]
 pub enum GapPart<'t> {
     Ws(Leaf<'t>),
-    /// A newline or a comment, or lines of the document with the whitespace around them.
+    /// Behind it, in the same gap, stands its newline.
+    Comment(Leaf<'t>),
+    Newline(Leaf<'t>),
+    /// Lines of the document with the whitespace around them, not taken apart yet.
     Lines(Leaf<'t>),
 }
 
@@ -154,6 +157,20 @@ impl<'t> Leaf<'t> {
         ensures { IsTrue result ↔ (leaf_text self.entry ≡ []) }
     {
         self.text().is_empty()
+    }
+}
+
+impl<'t> GapPart<'t> {
+    /// What stands there.
+    pub(crate) fn leaf(self) -> Leaf<'t>
+        ensures { leaf_text result ≡ gap_part_text self.entry }
+    {
+        match self {
+            GapPart::Ws(leaf)
+            | GapPart::Comment(leaf)
+            | GapPart::Newline(leaf)
+            | GapPart::Lines(leaf) => leaf,
+        }
     }
 }
 

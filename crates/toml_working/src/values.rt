@@ -166,15 +166,15 @@ impl<'t> Texts<'t> {
         };
         match (holder, rest) {
             (Value::Array(entries), [Step::Index(index)]) => {
-                entries.put(self.alloc, *index as usize, None, new)?;
+                entries.put(self, *index as usize, None, new)?;
                 Ok(true)
             }
             (Value::Inline(entries), _) => {
                 let used = spelled.len().saturating_sub(rest.len());
                 let (_, parts) = spelled.split_at(used);
-                let assign = Box::new(self.alloc, self.assign(parts)?)?;
-                let count = entries.list.len();
-                entries.put(self.alloc, count, Some(assign), new)?;
+                let mut assign = Box::new(self.alloc, self.assign(parts)?)?;
+                let index = self.pair_index(entries, rest, &mut assign)?;
+                entries.put(self, index, Some(assign), new)?;
                 Ok(true)
             }
             _ => Ok(false),
@@ -310,7 +310,7 @@ impl<'t> Texts<'t> {
         };
         match (holder, rest) {
             (Value::Array(entries), [Step::Index(index)]) => {
-                entries.take_one(self.alloc, *index as usize)
+                entries.remove_one(self, *index as usize)
             }
             (Value::Inline(entries), _) => self.remove_pairs(entries, rest),
             _ => Ok(()),
@@ -331,7 +331,7 @@ impl<'t> Texts<'t> {
         if !stays {
             self.replace_first(entries, &mut marks, parent)?;
         }
-        entries.take_out(self.alloc, &marks)
+        entries.remove_marked(self, &marks)
     }
 
     /// How many parts a pair's key has in common with the steps.

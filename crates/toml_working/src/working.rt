@@ -69,6 +69,10 @@ pub struct Tree<'x> {
     pub style: Leaf<'x>,
     /// Where the last line with a key and a value before the first header was put in, if one was: a guess that is tested.
     pub root_end: Position,
+    /// The line behind which the last one was put in, in the section of a table: a guess that is tested.
+    pub section_end: Position,
+    /// Whether a blank line was written before a header line at the end of the text.
+    pub is_parted: bool,
 }
 
 impl<'x> Tree<'x> {
@@ -88,6 +92,8 @@ impl<'x> Tree<'x> {
             elements: Elements::all(texts.alloc),
             style: style_of(texts.alloc, before.known)?,
             root_end: Position { slot: 0, index: 0 },
+            section_end: Position { slot: 0, index: 0 },
+            is_parted: false,
         })
     }
 

@@ -186,9 +186,7 @@ impl<'t> Pieces<'t> {
         ensures { Writes (gap_text gap.now) self.old self.new result }
     {
         for part in &gap.parts {
-            match part {
-                GapPart::Ws(leaf) | GapPart::Lines(leaf) => self.leaf(*leaf)?,
-            }
+            self.leaf(part.leaf())?;
         }
         Ok(())
     }

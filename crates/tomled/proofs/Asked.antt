@@ -4,13 +4,15 @@ use Rattle.std.specs.declared.alloc.Global.{Global}
 use Rattle.std.proofs.Math.ListN.{get_or}
 use Rattle.std.specs.Option.{option_copied}
 use Rattle.toml_tree.specs.declared.profile.Profile.{Profile}
+use Rattle.toml_editor.specs.declared.layout.Layout as editor
 use Rattle.toml_words.specs.Request.{asked_by, asked_edit}
 use Rattle.toml_words.specs.declared.request.Destination.{Destination}
 use Rattle.toml_words.specs.declared.request.Form.{Form}
+use Rattle.toml_words.specs.declared.request.Layout.{Layout}
 use Rattle.toml_words.specs.declared.request.OneEdit.{OneEdit}
 use Rattle.toml_words.specs.declared.request.Request.{Request}
 use Rattle.toml_words.specs.declared.request.Request.TheVariants as requests
-use Rattle.tomled.specs.Answering.{IsAnswer, IsShown, OfTwo, OfThree, OfFour, get_form}
+use Rattle.tomled.specs.Answering.{IsAnswer, IsShown, OfTwo, OfThree, OfFour, get_form, text_layout}
 use Rattle.tomled.specs.Apply.{Applies}
 use Rattle.tomled.specs.Certify.{Certifies}
 use Rattle.tomled.specs.Check.{Checks}
@@ -54,19 +56,22 @@ module _ (request : Request) (profile : Profile) (bytes : List ℕ) (o : Outcome
       (subst (λ f. Gets profile bytes steps f (option_copied default) o) form_is
       (subst (λ d. Gets profile bytes steps in_form d o) default_is so)))
 
-  pub makes_wish : (file place : Bor (List ℕ)) (e : OneEdit) (destination : Destination) → request ≡ requests.One file place e destination profile
-      → (steps : List ℕ) → steps ≡ place.now → MakesWish profile bytes steps (wished_by (asked_edit e)) o → IsAnswer (asked_by request) (bytes ∷ []) o
-  makes_wish file place e destination is steps steps_is so =
-      subst (λ r. IsAnswer (asked_by r) (bytes ∷ []) o) (sym is) (subst (λ s. MakesWish profile bytes s (wished_by (asked_edit e)) o) steps_is so)
+  pub makes_wish : (file place : Bor (List ℕ)) (e : OneEdit) (destination : Destination) (layout : Layout) → request ≡ requests.One file place e destination layout profile
+      → (steps : List ℕ) → steps ≡ place.now → (laid : editor.Layout) → laid ≡ text_layout layout → MakesWish laid profile bytes steps (wished_by (asked_edit e)) o → IsAnswer (asked_by request) (bytes ∷ []) o
+  makes_wish file place e destination layout is steps steps_is laid laid_is so =
+      subst (λ r. IsAnswer (asked_by r) (bytes ∷ []) o) (sym is)
+      (subst (λ s. MakesWish (text_layout layout) profile bytes s (wished_by (asked_edit e)) o) steps_is
+      (subst (λ l. MakesWish l profile bytes steps (wished_by (asked_edit e)) o) laid_is so))
 
 -- of more
 module _ (request : Request) (xs : List (Vec ℕ Global)) (o : Outcome) (profile : Profile) (first second : List ℕ) where
-  pub applies : (file list : Bor (List ℕ)) (destination : Destination) → request ≡ requests.Apply file list destination profile
-      → (a b : Vec ℕ Global) → xs ≡ a ∷ b ∷ [] → first ≡ a.items → second ≡ b.items → Applies profile first second o → IsAnswer (asked_by request) (texts_of xs) o
-  applies file list destination is a b items p q so =
+  pub applies : (file list : Bor (List ℕ)) (destination : Destination) (layout : Layout) → request ≡ requests.Apply file list destination layout profile
+      → (laid : editor.Layout) → laid ≡ text_layout layout → (a b : Vec ℕ Global) → xs ≡ a ∷ b ∷ [] → first ≡ a.items → second ≡ b.items → Applies laid profile first second o → IsAnswer (asked_by request) (texts_of xs) o
+  applies file list destination layout is laid laid_is a b items p q so =
       subst (λ r. IsAnswer (asked_by r) (texts_of xs) o) (sym is)
-      (subst (λ (ys : List (Vec ℕ Global)). OfTwo (λ one two. Applies profile one two o) (texts_of ys)) (sym items)
-      (subst (λ t. Applies profile a.items t o) q (subst (λ t. Applies profile t second o) p so)))
+      (subst (λ (ys : List (Vec ℕ Global)). OfTwo (λ one two. Applies (text_layout layout) profile one two o) (texts_of ys)) (sym items)
+      (subst (λ l. Applies l profile a.items b.items o) laid_is
+      (subst (λ t. Applies laid profile a.items t o) q (subst (λ t. Applies laid profile t second o) p so))))
 
   pub edits : (file list out cert : Bor (List ℕ)) (explain : Bool) → request ≡ requests.Edit file list out cert explain profile
       → (a b : Vec ℕ Global) → xs ≡ a ∷ b ∷ [] → first ≡ a.items → second ≡ b.items → Edits profile first second o → IsAnswer (asked_by request) (texts_of xs) o

@@ -11,6 +11,7 @@ use Rattle.toml_units.specs.Certificates.{certificate_of}
 use Rattle.toml_checker.specs.Findings.{IsCertificate, IsFirstUnmet}
 use Rattle.toml_checker.proofs.Proved.{found_is_met, one_certificate}
 use Rattle.tomled.specs.Certify.{Certifies, EditedIsCertified, LacksCertificate, IsCertified, IsCertifying, IsUncertified}
+use Rattle.toml_editor.specs.declared.layout.Layout.TheVariants.{Plain}
 use Rattle.tomled.specs.Edit.{AreEdited}
 use Rattle.tomled.specs.EditLists.{IsListRefusal}
 use Rattle.tomled.specs.Outcomes.{Answers, Ends, Gives, Tells, texts_of}
@@ -55,7 +56,7 @@ module _ (profile : Profile) (before edits after : List ℕ) where
       v.written ∙ (ap certificate_of pairs ∙ sym w.written)
 
   -- what the editor writes is certified by its own
-  written : (certificate : List ℕ) → AreEdited profile before edits after certificate → IsCertified profile before edits after certificate
+  written : (certificate : List ℕ) → AreEdited Plain profile before edits after certificate → IsCertified profile before edits after certificate
   written certificate e = record {
     changes = e.changes;
     listed = e.listed;
@@ -64,7 +65,7 @@ module _ (profile : Profile) (before edits after : List ℕ) where
     written = e.written;
   }
 
-  gives : (certificate : List ℕ) → ((cs : List Change) → IsEditList edits cs → length cs < 2 ^ 63) → AreEdited profile before edits after certificate → (o : Outcome) → Certifies profile before edits after o
+  gives : (certificate : List ℕ) → ((cs : List Change) → IsEditList edits cs → length cs < 2 ^ 63) → AreEdited Plain profile before edits after certificate → (o : Outcome) → Certifies profile before edits after o
       → Gives (codes "yes\n") (certificate ∷ []) o
   gives certificate few e o (inl (found, is, given)) =
       subst (λ (t : List ℕ). Gives (codes "yes\n") (t ∷ []) o) (one_text found certificate few is (written certificate e)) given

@@ -18,6 +18,8 @@ use Rattle.toml_edits.specs.EditList.{IsEditList}
 use Rattle.toml_edits.specs.Edits.{Change}
 use Rattle.toml_units.specs.Certificates.{certificate_of}
 use Rattle.toml_editor.specs.Edited as editor
+use Rattle.toml_editor.specs.declared.layout.Layout.{Layout}
+use Rattle.toml_editor.specs.declared.layout.Layout.TheVariants as layouts
 use Rattle.toml_editor.specs.declared.fault.EditorFault.{EditorFault}
 use Rattle.toml_editor.specs.declared.fault.EditorFault.TheVariants as faults
 use Rattle.tomled.specs.Edit.{Edits, IsEditing, IsEditorEnding, IsUnedited, IsUnmade, TellsNumber}
@@ -59,34 +61,52 @@ refused_line d (names.LongAddress line) few refused = let there = refused.there 
 refused_line d names.NoMemory few refused = tt
 
 -- so the number of a line that the editor tells is a machine number
-pub numbered : (profile : Profile) (before : List ℕ) (cs : List Change) (fault : EditorFault) → editor.Tells profile before cs fault → TellsNumber fault
-numbered profile before cs (faults.Text fault) told = tt
-numbered profile before cs (faults.Syntax fault) told = tt
-numbered profile before cs (faults.Names fault) told = refused_line told.2.0 fault (lines_are_few told.2.0 before told.1 told.2.1) told.2.2.1
-numbered profile before cs (faults.Edit index fault) told = tt
-numbered profile before cs (faults.Spread index) told = tt
-numbered profile before cs (faults.LastElement index) told = tt
-numbered profile before cs faults.TooLong told = tt
-numbered profile before cs (faults.Unverified reason) told = tt
-numbered profile before cs faults.NoMemory told = tt
+told_number : (profile : Profile) (before : List ℕ) (cs : List Change) (fault : EditorFault) → editor.Tells profile before cs fault → TellsNumber fault
+told_number profile before cs (faults.Text fault) told = tt
+told_number profile before cs (faults.Syntax fault) told = tt
+told_number profile before cs (faults.Names fault) told = refused_line told.2.0 fault (lines_are_few told.2.0 before told.1 told.2.1) told.2.2.1
+told_number profile before cs (faults.Edit index fault) told = tt
+told_number profile before cs (faults.Spread index) told = tt
+told_number profile before cs (faults.LastElement index) told = tt
+told_number profile before cs faults.TooLong told = tt
+told_number profile before cs (faults.Unverified reason) told = tt
+told_number profile before cs faults.NoMemory told = tt
 
-module _ (profile : Profile) (before edits : List ℕ) where
+told_of_data : (profile : Profile) (before : List ℕ) (cs : List Change) (fault : EditorFault) → editor.TellsOfData profile before cs fault
+    → TellsNumber fault
+told_of_data profile before cs (faults.Text fault) told = tt
+told_of_data profile before cs (faults.Syntax fault) told = tt
+told_of_data profile before cs (faults.Names fault) told = refused_line told.2.0 fault (lines_are_few told.2.0 before told.1 told.2.1) told.2.2.1
+told_of_data profile before cs (faults.Edit index fault) told = tt
+told_of_data profile before cs (faults.Spread index) told = tt
+told_of_data profile before cs (faults.LastElement index) told = tt
+told_of_data profile before cs faults.TooLong told = tt
+told_of_data profile before cs (faults.Unverified reason) told = tt
+told_of_data profile before cs faults.NoMemory told = tt
+
+pub numbered : (layout : Layout) (profile : Profile) (before : List ℕ) (cs : List Change) (fault : EditorFault)
+    → editor.TellsWith layout profile before cs fault → TellsNumber fault
+numbered layouts.Plain profile before cs fault told = told_number profile before cs fault told
+numbered layouts.Follow profile before cs fault told = told_of_data profile before cs fault told.of_data
+
+module _ (layout : Layout) (profile : Profile) (before edits : List ℕ) where
   -- the ending of an editor's fault is one of the edits,
-  pub unmade : (cs : List Change) (fault : EditorFault) (e : Ending) → editor.Tells profile before cs fault → IsEditorEnding fault e → Ends (IsUnmade profile before cs) e
+  pub unmade : (cs : List Change) (fault : EditorFault) (e : Ending) → editor.TellsWith layout profile before cs fault → IsEditorEnding fault e → Ends (IsUnmade layout profile before cs) e
   unmade cs fault (ends.Refused r) told stands = record { fault = fault; told = told; stands = stands }
   unmade cs fault ends.NoMemory told stands = tt
 
   -- and so of `edit`
-  pub unedited : (cs : List Change) (e : Ending) → IsEditList edits cs → Ends (IsUnmade profile before cs) e → Ends (IsUnedited profile before edits) e
+  pub unedited : (cs : List Change) (e : Ending) → IsEditList edits cs → Ends (IsUnmade layout profile before cs) e → Ends (IsUnedited layout profile before edits) e
   unedited cs (ends.Refused r) listed is = inr (record { changes = cs; listed = listed; unmade = is })
   unedited cs ends.NoMemory listed is = tt
 
-  pub edited : (cs : List Change) (text : List ℕ) (pairs : List (ℕ × ℕ)) (a : Answer) → IsEditList edits cs → editor.IsEdited profile before cs text pairs → a.out.items ≡ codes "ok\n" → texts_of a.files.items ≡ text ∷ certificate_of pairs ∷ []
+module _ (profile : Profile) (before edits : List ℕ) where
+  pub edited : (cs : List Change) (text : List ℕ) (pairs : List (ℕ × ℕ)) (a : Answer) → IsEditList edits cs → editor.IsEditedWith layouts.Plain profile before cs text pairs → a.out.items ≡ codes "ok\n" → texts_of a.files.items ≡ text ∷ certificate_of pairs ∷ []
       → IsEditing profile before edits a
   edited cs text pairs a listed is printed written = (printed, text, certificate_of pairs, written, record { changes = cs; listed = listed; pairs = pairs; edited = is; written = refl })
 
   -- what the command comes to
-  pub comes : (answer : Result Answer Ending) (result : Result Outcome AllocError) → IfOk answer (IsEditing profile before edits) → IfErr answer (Ends (IsUnedited profile before edits)) → IfOk result (Answers answer) → IfOk result (Edits profile before edits)
+  pub comes : (answer : Result Answer Ending) (result : Result Outcome AllocError) → IfOk answer (IsEditing profile before edits) → IfErr answer (Ends (IsUnedited layouts.Plain profile before edits)) → IfOk result (Answers answer) → IfOk result (Edits profile before edits)
   comes (Ok a) result good bad =
       IfOk-weaker result (Gives a.out.items (texts_of a.files.items)) (Edits profile before edits)
       (λ o gives. inl (good.1, good.2, good.4, subst (λ (out : List ℕ). Gives out (good.1 ∷ good.2 ∷ []) o) good.0 (subst (λ (files : List (List ℕ)). Gives a.out.items files o) good.3 gives)))

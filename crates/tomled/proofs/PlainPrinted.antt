@@ -9,6 +9,7 @@ use Rattle.toml_edits.specs.Edits.{Change}
 use Rattle.toml_edits.proofs.Proved.{one_edit_list, bad_list_is_none}
 use Rattle.toml_editor.specs.Edited as editor
 use Rattle.toml_editor.specs.PlainAnswers.{PlainSoFar}
+use Rattle.toml_editor.specs.declared.layout.Layout.TheVariants.{Plain}
 use Rattle.toml_editor.specs.declared.fault.EditorFault.{EditorFault}
 use Rattle.toml_editor.specs.declared.fault.EditorFault.TheVariants as faults
 use Rattle.toml_editor.proofs.Proved.{plain_is_answered}
@@ -38,7 +39,7 @@ module _ (profile : Profile) (before list : List ℕ) (cs : List Change) (after 
     | inr memory ↦ cc
   ]
 
-  no_refusal : (r : Refusal) → IsUnedited profile before list r → ⊥
+  no_refusal : (r : Refusal) → IsUnedited Plain profile before list r → ⊥
   no_refusal r (inl (inl no_list)) = no_list.2 listed.0 listed.1
   no_refusal r (inl (inr bad)) = bad_list_is_none list bad.1 r.place cs bad.2 bad.3 listed
   no_refusal r (inr h) =
@@ -48,12 +49,12 @@ module _ (profile : Profile) (before list : List ℕ) (cs : List Change) (after 
       cc
 
   printed : (o : Outcome) → Edits profile before list o
-      → (certificate : List ℕ) × AreEdited profile before list after certificate × Gives (codes "ok\n") (after ∷ certificate ∷ []) o
+      → (certificate : List ℕ) × AreEdited Plain profile before list after certificate × Gives (codes "ok\n") (after ∷ certificate ∷ []) o
   printed o (inl (text, certificate, edited, gives)) =
       let same : edited.changes ≡ cs = one_edit_list list edited.changes cs edited.listed listed in
       let is = text_is text edited.pairs (subst (λ ds. editor.IsEdited profile before ds text edited.pairs) same edited.edited) in (
         certificate,
-        subst (λ t. AreEdited profile before list t certificate) is edited,
+        subst (λ t. AreEdited Plain profile before list t certificate) is edited,
         subst (λ t. Gives (codes "ok\n") (t ∷ certificate ∷ []) o) is gives,
       )
   printed o (inr (r, unedited, tells)) = absurd (no_refusal r unedited)

@@ -3,6 +3,10 @@ use Rattle.std.specs.Prelude.{◌≡◌, ◌⊎◌, ℕ, length, Bool, true, fal
 use Rattle.toml_tree.specs.declared.profile.Profile.{Profile}
 use Rattle.toml_print.specs.declared.form.Form.TheVariants as printed
 use Rattle.toml_words.specs.Request.{Asked, show, check, edit, verify, certify, get, edit_one, apply, validate}
+use Rattle.toml_editor.specs.declared.layout.Layout as editor
+use Rattle.toml_editor.specs.declared.layout.Layout.TheVariants as layouts
+use Rattle.toml_words.specs.declared.request.Layout.{Layout}
+use Rattle.toml_words.specs.declared.request.Layout.TheVariants as words
 use Rattle.toml_words.specs.declared.request.Form.{Form}
 use Rattle.toml_words.specs.declared.request.Form.TheVariants.{Plain, Json, Tagged, Toml, TypeName}
 use Rattle.tomled.specs.Apply.{Applies}
@@ -30,8 +34,8 @@ words_read (edit file edits out cert explain profile) = file ∷ edits ∷ []
 words_read (verify before edits after cert explain profile) = before ∷ edits ∷ after ∷ cert ∷ []
 words_read (certify before edits after cert profile) = before ∷ edits ∷ after ∷ []
 words_read (get file place form default profile) = file ∷ []
-words_read (edit_one file place e destination profile) = file ∷ []
-words_read (apply file edits destination profile) = file ∷ edits ∷ []
+words_read (edit_one file place e destination layout profile) = file ∷ []
+words_read (apply file edits destination layout profile) = file ∷ edits ∷ []
 words_read (validate files profile) = []
 
 -- the form in which `get` prints
@@ -41,6 +45,11 @@ get_form Json = forms.Printed printed.Json
 get_form Tagged = forms.Printed printed.Tagged
 get_form TypeName = forms.Printed printed.TypeName
 get_form Toml = forms.Toml
+
+-- how the editor lays new text out
+abbrev pub text_layout : Layout → editor.Layout
+text_layout words.Plain = layouts.Plain
+text_layout words.Follow = layouts.Follow
 
 -- it holds of the bytes of one thing that was read, of two, of three or of four, and there are no more
 abbrev pub OfOne : (List ℕ → Type 0) → List (List ℕ) → Type 0
@@ -70,8 +79,8 @@ abbrev pub IsAnswer : Asked → List (List ℕ) → Outcome → Type 0
 IsAnswer (show file listed explain profile) inputs o = OfOne (λ bytes. IsShown listed profile bytes o) inputs
 IsAnswer (check file explain profile) inputs o = OfOne (λ bytes. Checks profile bytes o) inputs
 IsAnswer (get file place form default profile) inputs o = OfOne (λ bytes. Gets profile bytes place (get_form form) default o) inputs
-IsAnswer (edit_one file place e destination profile) inputs o = OfOne (λ bytes. MakesWish profile bytes place (wished_by e) o) inputs
-IsAnswer (apply file edits destination profile) inputs o = OfTwo (λ bytes list. Applies profile bytes list o) inputs
+IsAnswer (edit_one file place e destination layout profile) inputs o = OfOne (λ bytes. MakesWish (text_layout layout) profile bytes place (wished_by e) o) inputs
+IsAnswer (apply file edits destination layout profile) inputs o = OfTwo (λ bytes list. Applies (text_layout layout) profile bytes list o) inputs
 IsAnswer (edit file edits out cert explain profile) inputs o = OfTwo (λ bytes list. Edits profile bytes list o) inputs
 IsAnswer (verify before edits after cert explain profile) inputs o = OfFour (λ first list second certificate. Verifies profile first list second certificate o) inputs
 IsAnswer (certify before edits after cert profile) inputs o = OfThree (λ first list second. Certifies profile first list second o) inputs

@@ -6,6 +6,7 @@ use Rattle.toml_edits.specs.Edits.{Change}
 use Rattle.toml_units.specs.Certificates.{certificate_of}
 use Rattle.toml_checker.specs.Findings.{IsCertificate, IsFirstUnmet}
 use Rattle.toml_checker.specs.declared.verdict.Reason.{Reason}
+use Rattle.toml_editor.specs.declared.layout.Layout.TheVariants.{Plain}
 use Rattle.tomled.specs.Edit.{AreEdited}
 use Rattle.tomled.specs.EditLists.{IsListRefusal}
 use Rattle.tomled.specs.Outcomes.{Gives, Tells, texts_of}
@@ -52,4 +53,4 @@ Certifies profile before edits after o =
 -- edits than a machine can count.
 abbrev pub EditedIsCertified : Type 0
 EditedIsCertified = (profile : Profile) (before edits text certificate : List ℕ) → ((cs : List Change) → IsEditList edits cs → length cs < 2 ^ 63)
-    → AreEdited profile before edits text certificate → (o : Outcome) → Certifies profile before edits text o → Gives (codes "yes\n") (certificate ∷ []) o
+    → AreEdited Plain profile before edits text certificate → (o : Outcome) → Certifies profile before edits text o → Gives (codes "yes\n") (certificate ∷ []) o

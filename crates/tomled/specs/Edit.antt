@@ -11,6 +11,8 @@ use Rattle.toml_units.specs.Certificates.{certificate_of}
 use Rattle.toml_names.specs.model.Data.{Kinds}
 use Rattle.toml_editor.specs.Edited as editor
 use Rattle.toml_editor.specs.PlainAnswers.{PlainSoFar}
+use Rattle.toml_editor.specs.declared.layout.Layout.{Layout}
+use Rattle.toml_editor.specs.declared.layout.Layout.TheVariants.{Plain}
 use Rattle.toml_editor.specs.declared.fault.EditorFault.{EditorFault}
 use Rattle.toml_editor.specs.declared.fault.EditorFault.TheVariants as faults
 use Rattle.tomled.specs.EditLists.{IsListRefusal}
@@ -24,12 +26,12 @@ use Rattle.tomled.specs.declared.outcome.Outcome.{Outcome}
 use Rattle.tomled.specs.declared.refusal.Refusal.{Refusal}
 
 -- the bytes are the list of some edits, and the files are a text and a certificate which shows that the text is what these
--- edits make of the one before
-pub record AreEdited (profile : Profile) (before edits text certificate : List ℕ) : Type 0 where
+-- edits make, in the layout, of the one before
+pub record AreEdited (layout : Layout) (profile : Profile) (before edits text certificate : List ℕ) : Type 0 where
   pub changes : List Change
   pub listed : IsEditList edits changes
   pub pairs : List (ℕ × ℕ)
-  pub edited : editor.IsEdited profile before changes text pairs
+  pub edited : editor.IsEditedWith layout profile before changes text pairs
   pub written : certificate ≡ certificate_of pairs
 
 -- the code of a fault of an edit; want of memory has none
@@ -79,33 +81,33 @@ TellsNumber (faults.Names fault) = HasNumber fault
 TellsNumber _ = Unit {0}
 
 -- the refusal stands for what the editor tells of these edits of the document
-pub record IsUnmade (profile : Profile) (before : List ℕ) (changes : List Change) (r : Refusal) : Type 0 where
+pub record IsUnmade (layout : Layout) (profile : Profile) (before : List ℕ) (changes : List Change) (r : Refusal) : Type 0 where
   pub fault : EditorFault
-  pub told : editor.Tells profile before changes fault
+  pub told : editor.TellsWith layout profile before changes fault
   pub stands : IsEditorEnding fault (Refused r)
 
 -- the bytes are the list of some edits, and the refusal stands for what the editor tells of them and the document
-pub record IsEditorRefusal (profile : Profile) (before edits : List ℕ) (r : Refusal) : Type 0 where
+pub record IsEditorRefusal (layout : Layout) (profile : Profile) (before edits : List ℕ) (r : Refusal) : Type 0 where
   pub changes : List Change
   pub listed : IsEditList edits changes
-  pub unmade : IsUnmade profile before changes r
+  pub unmade : IsUnmade layout profile before changes r
 
 -- the edit list is judged first
-abbrev pub IsUnedited : Profile → List ℕ → List ℕ → Refusal → Type 0
-IsUnedited profile before edits r = IsListRefusal edits r ⊎ IsEditorRefusal profile before edits r
+abbrev pub IsUnedited : Layout → Profile → List ℕ → List ℕ → Refusal → Type 0
+IsUnedited layout profile before edits r = IsListRefusal edits r ⊎ IsEditorRefusal layout profile before edits r
 
 -- the answer is `ok` and LF, and the edited text and its certificate as files
 abbrev pub IsEditing : Profile → List ℕ → List ℕ → Answer → Type 0
-IsEditing profile before edits a = (a.out.items ≡ codes "ok\n") × (text : List ℕ) × (certificate : List ℕ) × (texts_of a.files.items ≡ text ∷ certificate ∷ []) × AreEdited profile before edits text certificate
+IsEditing profile before edits a = (a.out.items ≡ codes "ok\n") × (text : List ℕ) × (certificate : List ℕ) × (texts_of a.files.items ≡ text ∷ certificate ∷ []) × AreEdited Plain profile before edits text certificate
 
 -- `ok` and LF and two files, an edited text and its certificate; or a refusal, and no file
 abbrev pub Edits : Profile → List ℕ → List ℕ → Outcome → Type 0
 Edits profile before edits o =
-    ((text : List ℕ) × (certificate : List ℕ) × AreEdited profile before edits text certificate × Gives (codes "ok\n") (text ∷ certificate ∷ []) o) ⊎ ((r : Refusal) × IsUnedited profile before edits r × Tells r o)
+    ((text : List ℕ) × (certificate : List ℕ) × AreEdited Plain profile before edits text certificate × Gives (codes "ok\n") (text ∷ certificate ∷ []) o) ⊎ ((r : Refusal) × IsUnedited Plain profile before edits r × Tells r o)
 
 -- Law: where all edits of a list are defined on the data so far and plain on a document, and the text that they write is within the
 -- limit, the answer is `ok`, with that text as the first file.
 abbrev pub PlainIsPrinted : Type 0
 PlainIsPrinted = (profile : Profile) (before edits : List ℕ) (cs : List Change) (after : List ℕ) (now : Kinds) → IsEditList edits cs
     → PlainSoFar profile before cs (length cs) after now → length after ≤ max_len → (o : Outcome) → Edits profile before edits o
-    → (certificate : List ℕ) × AreEdited profile before edits after certificate × Gives (codes "ok\n") (after ∷ certificate ∷ []) o
+    → (certificate : List ℕ) × AreEdited Plain profile before edits after certificate × Gives (codes "ok\n") (after ∷ certificate ∷ []) o

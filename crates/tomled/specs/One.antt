@@ -8,6 +8,7 @@ use Rattle.toml_names.specs.reader.Texts.{GoodText}
 use Rattle.toml_edits.specs.Edits.{Change}
 use Rattle.toml_units.specs.Certificates.{certificate_of}
 use Rattle.toml_editor.specs.Edited as editor
+use Rattle.toml_editor.specs.declared.layout.Layout.{Layout}
 use Rattle.toml_places.specs.declared.place.PlaceStep.{PlaceStep}
 use Rattle.toml_places.specs.Reads.{IsPlace}
 use Rattle.toml_one.specs.Wishes.{AreEditsAt, Wished, to_set, to_insert, to_rename, to_remove}
@@ -38,28 +39,28 @@ pub record AreWished (profile : Profile) (before : List ℕ) (steps : List Place
 
 -- PLACE is a place, the text is what the edits make of the document that stand for the wish there, and the one file the certificate which
 -- shows it
-pub record IsMadeAt (profile : Profile) (before place : List ℕ) (wish : Wished) (text : List ℕ) (written : List (List ℕ)) : Type 0 where
+pub record IsMadeAt (layout : Layout) (profile : Profile) (before place : List ℕ) (wish : Wished) (text : List ℕ) (written : List (List ℕ)) : Type 0 where
   pub steps : List PlaceStep
   pub spelled : IsPlace place steps
   pub changes : List Change
   pub wished : AreWished profile before steps wish changes
   pub pairs : List (ℕ × ℕ)
-  pub edited : editor.IsEdited profile before changes text pairs
+  pub edited : editor.IsEditedWith layout profile before changes text pairs
   pub files : written ≡ certificate_of pairs ∷ []
 
 -- PLACE is a place, and the edits that stand for the wish there are refused
-pub record IsRefusedAt (profile : Profile) (before place : List ℕ) (wish : Wished) (r : Refusal) : Type 0 where
+pub record IsRefusedAt (layout : Layout) (profile : Profile) (before place : List ℕ) (wish : Wished) (r : Refusal) : Type 0 where
   pub steps : List PlaceStep
   pub spelled : IsPlace place steps
   pub changes : List Change
   pub wished : AreWished profile before steps wish changes
-  pub unmade : IsUnmade profile before changes r
+  pub unmade : IsUnmade layout profile before changes r
 
 -- PLACE is judged first, then the document, and then the edits
-abbrev pub IsUnmadeAt : Profile → List ℕ → List ℕ → Wished → Refusal → Type 0
-IsUnmadeAt profile before place wish r =
-    IsBadPlace place r ⊎ (((steps : List PlaceStep) × IsPlace place steps × IsRefused profile before r) ⊎ IsRefusedAt profile before place wish r)
+abbrev pub IsUnmadeAt : Layout → Profile → List ℕ → List ℕ → Wished → Refusal → Type 0
+IsUnmadeAt layout profile before place wish r =
+    IsBadPlace place r ⊎ (((steps : List PlaceStep) × IsPlace place steps × IsRefused profile before r) ⊎ IsRefusedAt layout profile before place wish r)
 
 -- the edited text and its certificate, or a refusal
-abbrev pub MakesWish : Profile → List ℕ → List ℕ → Wished → Outcome → Type 0
-MakesWish profile before place wish = GivesOrTells (IsMadeAt profile before place wish) (IsUnmadeAt profile before place wish)
+abbrev pub MakesWish : Layout → Profile → List ℕ → List ℕ → Wished → Outcome → Type 0
+MakesWish layout profile before place wish = GivesOrTells (IsMadeAt layout profile before place wish) (IsUnmadeAt layout profile before place wish)

@@ -1,7 +1,7 @@
 //! What a request comes to, by the bytes of what it reads.
 ghost use Rattle.std.specs.Prelude.{◌≡◌, IfOk, map, option_map};
 ghost use Rattle.toml_words.specs.Request.{asked_by};
-ghost use Rattle.tomled.specs.Answering.{Answers, AnswersOfFile, IsShown, get_form, source_word, words_read};
+ghost use Rattle.tomled.specs.Answering.{Answers, AnswersOfFile, IsShown, get_form, source_word, text_layout, words_read};
 ghost use Rattle.tomled.specs.Outcomes.{texts_of};
 
 use crate::apply::run_apply_in;
@@ -18,7 +18,7 @@ use std::alloc::{AllocError, Global};
 use toml_print::Form as Printed;
 use toml_text::MAX_LEN;
 use toml_tree::Profile;
-use toml_words::{Form, Request};
+use toml_words::{Form, Layout, Request};
 
 /// One byte more than the longest document has, so that a longer file shows.
 pub const MOST: usize = MAX_LEN + 1;
@@ -111,11 +111,15 @@ pub fn answer(
     ensures { IfOk result (Answers (asked_by request.now) (texts_of inputs.now)) }
 {
     match *request {
-        Request::Apply { profile, .. } => {
+        Request::Apply {
+            layout,
+            profile,
+            ..
+        } => {
             let [file, edits] = inputs else {
                 return Ok(None);
             };
-            Ok(Some(run_apply_in(alloc, file, edits, profile)?))
+            Ok(Some(run_apply_in(alloc, file, edits, profile, text_layout(layout))?))
         }
         Request::Edit { profile, .. } => {
             let [file, edits] = inputs else {
@@ -170,9 +174,13 @@ fn answer_of_file(
         Request::One {
             place,
             edit,
+            layout,
             profile,
             ..
-        } => Ok(Some(run_one_in(alloc, file, place.as_bytes(), edit, profile)?)),
+        } => {
+            let (place, layout) = (place.as_bytes(), text_layout(layout));
+            Ok(Some(run_one_in(alloc, file, place, edit, profile, layout)?))
+        }
         _ => Ok(None),
     }
 }
@@ -198,6 +206,16 @@ fn bytes_of<'a>(text: Option<&'a str>) -> Option<&'a [u8]>
     ensures { option_map (λ bytes. bytes.now) result ≡ option_map (λ text. text.now) text.entry }
 {
     Some(text?.as_bytes())
+}
+
+/// How the editor lays new text out.
+fn text_layout(layout: Layout) -> toml_editor::Layout
+    ensures { result ≡ text_layout layout }
+{
+    match layout {
+        Layout::Plain => toml_editor::Layout::Plain,
+        Layout::Follow => toml_editor::Layout::Follow,
+    }
 }
 
 /// How `get` prints in this form.

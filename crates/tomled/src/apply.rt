@@ -10,6 +10,7 @@ use crate::edit_list::edit_list;
 use crate::ending::Ending;
 use crate::outcome::{Answer, Outcome};
 use std::alloc::{AllocError, Global};
+use toml_editor::Layout;
 use toml_tree::Profile;
 use toml_units::{Certificate, certificate_text};
 
@@ -20,20 +21,27 @@ pub fn run_apply_in(
     file: &[u8],
     edits: &[u8],
     profile: Profile,
+    layout: Layout,
 ) -> Result<Outcome, AllocError>
-    ensures { IfOk result (Applies profile file.now edits.now) }
+    ensures { IfOk result (Applies layout profile file.now edits.now) }
 {
-    Outcome::of(alloc, applied(alloc, file, edits, profile))
+    Outcome::of(alloc, applied(alloc, file, edits, profile, layout))
 }
 
 /// The edited text, and its certificate.
 #[tactic(auto, using(crate::proofs::Edited::unedited, crate::proofs::Applied::applied))]
-fn applied(alloc: Global, file: &[u8], edits: &[u8], profile: Profile) -> Result<Answer, Ending>
-    ensures good { IfOk result (IsGood (IsApplied profile file.now edits.now)) }
-    ensures refused { IfErr result (Ends (IsUnedited profile file.now edits.now)) }
+fn applied(
+    alloc: Global,
+    file: &[u8],
+    edits: &[u8],
+    profile: Profile,
+    layout: Layout,
+) -> Result<Answer, Ending>
+    ensures good { IfOk result (IsGood (IsApplied layout profile file.now edits.now)) }
+    ensures refused { IfErr result (Ends (IsUnedited layout profile file.now edits.now)) }
 {
     let edits = edit_list(alloc, edits)?;
-    let (text, certificate) = make(alloc, file, &edits, profile)?;
+    let (text, certificate) = make(alloc, file, &edits, profile, layout)?;
     Ok(text_answer(alloc, text, &certificate)?)
 }
 

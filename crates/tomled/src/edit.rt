@@ -1,7 +1,8 @@
 //! `edit`: what edits make of a document, and the certificate which shows it.
 ghost use Rattle.std.specs.Prelude.{◌≡◌, [], ◌∷◌, codes, map, string_bytes, IfErr, IfOk};
 ghost use Rattle.toml_edits.specs.Edits.{change};
-ghost use Rattle.toml_editor.specs.Edited.{IsEdited};
+ghost use Rattle.toml_editor.specs.Edited.{IsEditedWith};
+ghost use Rattle.toml_editor.specs.declared.layout.Layout.TheVariants.{Plain};
 ghost use Rattle.toml_tree.specs.declared.profile.Profile.TheVariants.{One};
 ghost use Rattle.toml_units.specs.Certificates.{certificate_of};
 ghost use Rattle.tomled.specs.Edit.{Edits, IsEditEnding, IsEditing, IsEditorEnding, IsUnedited, IsUnmade, TellsNumber};
@@ -14,7 +15,7 @@ use crate::outcome::{Answer, Outcome};
 use crate::refusal::Refusal;
 use crate::verify::reason_code;
 use std::alloc::{AllocError, Global};
-use toml_editor::{EditorFault, edit_at_exit};
+use toml_editor::{EditorFault, Layout, edit_with_at_exit};
 use toml_edits::{Edit, EditFault};
 use toml_text::MAX_LEN;
 use toml_tree::Profile;
@@ -46,25 +47,26 @@ pub fn run_edit_in(
 #[tactic(auto, using(crate::proofs::Edited::unedited, crate::proofs::Edited::edited))]
 fn edited(alloc: Global, file: &[u8], edits: &[u8], profile: Profile) -> Result<Answer, Ending>
     ensures good { IfOk result (IsEditing profile file.now edits.now) }
-    ensures refused { IfErr result (Ends (IsUnedited profile file.now edits.now)) }
+    ensures refused { IfErr result (Ends (IsUnedited Plain profile file.now edits.now)) }
 {
     let edits = edit_list(alloc, edits)?;
-    let (text, certificate) = make(alloc, file, &edits, profile)?;
+    let (text, certificate) = make(alloc, file, &edits, profile, Layout::Plain)?;
     Ok(good(alloc, text, &certificate)?)
 }
 
-/// What the edits make of the document, and the certificate which shows it.
+/// What the edits make of the document in the layout, and the certificate which shows it.
 #[tactic(auto, using(crate::proofs::Edited::numbered, crate::proofs::Edited::unmade))]
 pub fn make(
     alloc: Global,
     file: &[u8],
     edits: &[Edit],
     profile: Profile,
+    layout: Layout,
 ) -> Result<(String, Certificate), Ending>
-    ensures good { IfOk result (λ r. IsEdited profile file.now (map change edits.now) (string_bytes r.0) r.1.pairs.items) }
-    ensures refused { IfErr result (Ends (IsUnmade profile file.now (map change edits.now))) }
+    ensures good { IfOk result (λ r. IsEditedWith layout profile file.now (map change edits.now) (string_bytes r.0) r.1.pairs.items) }
+    ensures refused { IfErr result (Ends (IsUnmade layout profile file.now (map change edits.now))) }
 {
-    match edit_at_exit(alloc, file, edits, profile) {
+    match edit_with_at_exit(alloc, file, edits, profile, layout) {
         Ok(made) => Ok(made),
         Err(fault) => Err(editor_ending(fault)),
     }

@@ -14,6 +14,7 @@ use crate::get::place_of;
 use crate::outcome::{Answer, Outcome};
 use std::alloc::{AllocError, Global};
 use std::mem;
+use toml_editor::Layout;
 use toml_edits::Edit;
 use toml_one::{Wish, edits_at};
 use toml_places::Place;
@@ -30,22 +31,44 @@ pub fn run_one_in(
     place: &[u8],
     edit: OneEdit<'_>,
     profile: Profile,
+    layout: Layout,
 ) -> Result<Outcome, AllocError>
-    ensures { IfOk result (MakesWish profile file.now place.now (wished_by (asked_edit edit.entry))) }
+    ensures { IfOk result (MakesWish layout profile file.now place.now (wished_by (asked_edit edit.entry))) }
 {
     match edit {
         OneEdit::Set { value, parents } => {
             let text = value_text(alloc, value)?;
             let value = text.as_str();
-            run_wish(alloc, file, place, Wish::Set { value, parents }, profile)
+            run_wish(
+                alloc,
+                file,
+                place,
+                Wish::Set { value, parents },
+                profile,
+                layout,
+            )
         }
         OneEdit::Insert { value, parents } => {
             let text = value_text(alloc, value)?;
             let value = text.as_str();
-            run_wish(alloc, file, place, Wish::Insert { value, parents }, profile)
+            run_wish(
+                alloc,
+                file,
+                place,
+                Wish::Insert { value, parents },
+                profile,
+                layout,
+            )
         }
-        OneEdit::Rename { to } => run_wish(alloc, file, place, Wish::Rename { to }, profile),
-        OneEdit::Remove => run_wish(alloc, file, place, Wish::Remove, profile),
+        OneEdit::Rename { to } => run_wish(
+            alloc,
+            file,
+            place,
+            Wish::Rename { to },
+            profile,
+            layout,
+        ),
+        OneEdit::Remove => run_wish(alloc, file, place, Wish::Remove, profile, layout),
     }
 }
 
@@ -67,10 +90,11 @@ fn run_wish(
     place: &[u8],
     wish: Wish<'_>,
     profile: Profile,
+    layout: Layout,
 ) -> Result<Outcome, AllocError>
-    ensures { IfOk result (MakesWish profile file.now place.now (wished wish.entry)) }
+    ensures { IfOk result (MakesWish layout profile file.now place.now (wished wish.entry)) }
 {
-    Outcome::of(alloc, made_at(alloc, file, place, wish, profile))
+    Outcome::of(alloc, made_at(alloc, file, place, wish, profile, layout))
 }
 
 /// The edited text, and its certificate.
@@ -81,13 +105,14 @@ fn made_at(
     place: &[u8],
     wish: Wish<'_>,
     profile: Profile,
+    layout: Layout,
 ) -> Result<Answer, Ending>
-    ensures good { IfOk result (IsGood (IsMadeAt profile file.now place.now (wished wish.entry))) }
-    ensures refused { IfErr result (Ends (IsUnmadeAt profile file.now place.now (wished wish.entry))) }
+    ensures good { IfOk result (IsGood (IsMadeAt layout profile file.now place.now (wished wish.entry))) }
+    ensures refused { IfErr result (Ends (IsUnmadeAt layout profile file.now place.now (wished wish.entry))) }
 {
     let place = place_of(alloc, place)?;
     let edits = edits_of(alloc, file, &place, wish, profile)?;
-    let (text, certificate) = make(alloc, file, &edits, profile)?;
+    let (text, certificate) = make(alloc, file, &edits, profile, layout)?;
     Ok(text_answer(alloc, text, &certificate)?)
 }
 

@@ -22,7 +22,7 @@ loop-count-preserved c =
     let next : i ≡ length es - (c.loop-count.count + 1) = omega arith in
     record {
       later = c.in_ok-later.ensures ∙ from_on es i ∙ ap (λ k. drop k es) next;
-      found = subst (λ (ds : List Edit). IsSoFar c.args.profile (map change ds) c.push_owed.new.debts.items c.push.new.self.items) (sym split)
-          (one_more c.args.profile (change e) (map change later) c.loop-count.debts.items c.push_owed.new.debts.items c.loop-count.written.items c.push.new.self.items c.in_ok-written_by.field-0 found
-          (λ a. owed_more (change e) (map change later) c.in_ok-owed_by.field-0 c.loop-count.debts.items c.push_owed.new.debts.items a (c.in_ok-owed_by.ensures a) (found.debts a) (c.in_ok-push_owed.ensures a)) c.in_ok-written_by.ensures c.in_ok-push.ensures.items);
+      found = subst (λ (ds : List Edit). IsSoFar c.args.profile (map change ds) c.in_ok-debts.debts c.push.new.self.items) (sym split)
+          (one_more c.args.profile (change e) (map change later) c.loop-count.debts c.in_ok-debts.debts c.loop-count.written.items c.push.new.self.items c.in_ok-written_by.field-0 found
+          (λ a. owed_more (change e) (map change later) c.in_ok-owed_by.field-0 c.loop-count.debts c.in_ok-debts.debts a (c.in_ok-owed_by.ensures a) (found.debts a) (c.in_ok-debts.ensures a)) c.in_ok-written_by.ensures c.in_ok-push.ensures.items);
     }

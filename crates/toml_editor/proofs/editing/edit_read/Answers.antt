@@ -1,7 +1,6 @@
 use Rattle.std.proofs.Common.{map, refl, string_bytes, subst, sym}
 use Rattle.toml_edits.specs.Edits.{change}
-use Rattle.toml_editor.specs.Edited.{Tells}
-use Rattle.toml_editor.specs.Editing.{IsMadeText, IsReadFrom}
+use Rattle.toml_editor.specs.Editing.{IsMadeText, IsReadFrom, TellsIn}
 use Rattle.toml_editor.specs.declared.making.Read.{Read}
 use Rattle.toml_editor.proofs.ReadDocuments.{read_from}
 use Rattle.toml_editor.proofs.editing.edit_read.Goals as goal
@@ -20,10 +19,10 @@ certify-requires-clause-walks c cursor stands =
 
 pub certify-requires-clause-made : goal.certify-requires-clause-made
 certify-requires-clause-made c =
-    let made = c.in-Ok.made in
-    subst (λ t. IsMadeText c.args.profile t (map change c.args.edits.now) (string_bytes made.text) made.pieces.items)
+    let made = c.in-Ok.it in
+    subst (λ t. IsMadeText c.args.layout c.args.profile t (map change c.args.edits.now) (string_bytes made.text) made.pieces.items)
     c.requires.read.text_is c.in-Ok.ensures.made
 
 pub returns-in-Err-clause-told : goal.returns-in-Err-clause-told
 returns-in-Err-clause-told c =
-    subst (λ t. Tells c.args.profile t (map change c.args.edits.now) c.in-Err.fault) c.requires.read.text_is c.in-Err.ensures.told
+    subst (λ t. TellsIn c.args.layout c.args.profile t (map change c.args.edits.now) c.in-Err.fault) c.requires.read.text_is c.in-Err.ensures.told

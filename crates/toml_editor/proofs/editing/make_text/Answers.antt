@@ -1,4 +1,4 @@
-use Rattle.std.proofs.Common.{ap, length, map, string_bytes}
+use Rattle.std.proofs.Common.{ap, length, map, string_bytes, subst, sym}
 use Rattle.toml_text.specs.Source.{text_of}
 use Rattle.toml_names.specs.model.AddressSets.{is_hidden}
 use Rattle.toml_names.specs.model.Data.{fact_at, kind_at}
@@ -8,9 +8,10 @@ use Rattle.toml_names.specs.mentions.Mentions.{named}
 use Rattle.toml_edits.specs.Edits.{change}
 use Rattle.toml_edits.proofs.Proved.{leads_beside}
 use Rattle.toml_working.specs.declared.texts.Texts.{Texts}
+use Rattle.toml_working.specs.Layouts.{AreSaid}
 use Rattle.toml_working.specs.Starting.{read_of}
 use Rattle.toml_editor.proofs.Answered.{if_ok_two}
-use Rattle.toml_editor.proofs.Judgements.{any_tells}
+use Rattle.toml_editor.proofs.Judgements.{any_tells, any_tells_of_data}
 use Rattle.toml_editor.proofs.NearFaults.{any_of_all, has_data}
 use Rattle.toml_editor.proofs.PassedSpread.{no_spread_set, stops_told}
 use Rattle.toml_editor.proofs.ReadDocuments.{is_document, is_read_of, spelled, tree}
@@ -32,12 +33,17 @@ returns-clause-told c =
     let part = kind_at c.in_ok-data.«data».root in
     let told = c.in-Err-make_all.ensures.told in
     let opened = c.in-Ok.ensures in
-    let both = stops_told profile (read_of c.args.read.before) d text c.in-Ok.tree document
-    spells opened.stands (ap (λ (t : Texts). text_of t.source) opened.texts_are) opened.elements opened.style
-    (is_hidden c.args.touched.now) cs c.requires.touched old facts part near c.in-Err-make_all.fault told.stops in
-    any_tells profile text cs d old c.in-Err-make_all.fault document spells facts
-    (any_of_all profile (place (named d.lines)) (is_hidden c.args.touched.now) old cs c.requires.touched part near c.in-Err-make_all.fault told.told)
-    both.0 both.1
+    let fault = c.in-Err-make_all.fault in
+    let any = any_of_all profile (place (named d.lines)) (is_hidden c.args.touched.now) old cs c.requires.touched part near fault told.told in
+    record {
+      of_data = any_tells_of_data profile text cs d old fault document spells facts any;
+      said = λ said.
+          let here = subst (λ (t : Texts). AreSaid t.layout cs) (sym opened.texts_are) said in
+          let both = stops_told profile (read_of c.args.read.before) d text c.in-Ok.tree document
+          spells opened.stands (ap (λ (t : Texts). text_of t.source) opened.texts_are) opened.elements opened.style
+          (is_hidden c.args.touched.now) cs c.requires.touched old facts part near here fault told.stops in
+          any_tells profile text cs d old fault document spells facts any both.0 both.1;
+    }
 
 pub returns-in-Ok-make_all-clause-made : goal.returns-in-Ok-make_all-clause-made
 returns-in-Ok-make_all-clause-made c =
@@ -57,13 +63,16 @@ returns-in-Ok-make_all-clause-made c =
     let opened = c.in-Ok.ensures in
     if_ok_two _ _ _ c.write_out.result
     (λ made pieces written. record {
-      plain = plain_written profile (read_of c.args.read.before) d text c.in-Ok.tree document
+      plain = λ said.
+          plain_written profile (read_of c.args.read.before) d text c.in-Ok.tree document
           spells opened.stands (ap (λ (t : Texts). text_of t.source) opened.texts_are) opened.elements opened.style cs old
           (beside (is_hidden c.args.touched.now) old new) c.make_all.new.tree (string_bytes made.text) facts leads
-          c.in-Ok-make_all.ensures.made.done.makes written;
-      passed = no_spread_set profile (read_of c.args.read.before) d text c.in-Ok.tree document
+          (subst (λ (t : Texts). AreSaid t.layout cs) (sym opened.texts_are) said) c.in-Ok-make_all.ensures.made.done.makes written;
+      passed = λ said.
+          no_spread_set profile (read_of c.args.read.before) d text c.in-Ok.tree document
           spells opened.stands (ap (λ (t : Texts). text_of t.source) opened.texts_are) opened.elements opened.style
-          (is_hidden c.args.touched.now) cs c.requires.touched old facts (kind_at c.in_ok-data.«data».root) near (length cs) c.in-Ok-make_all.ensures.made.done.passes;
+          (is_hidden c.args.touched.now) cs c.requires.touched old facts (kind_at c.in_ok-data.«data».root) near
+          (subst (λ (t : Texts). AreSaid t.layout cs) (sym opened.texts_are) said) (length cs) c.in-Ok-make_all.ensures.made.done.passes;
       are_defined = (document, (d, spells, old, facts, (beside (is_hidden c.args.touched.now) old new, leads)));
       pieces = pieces;
     }) c.write_out.ensures.pieces c.write_out.ensures.written

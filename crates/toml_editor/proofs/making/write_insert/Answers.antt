@@ -14,9 +14,9 @@ returns-in_ok-parent-in-Some-clause-insert c =
     let old = c.args.tree.now in
     let (w, of_text, outlined) = subst (OpensText c.args.read.profile c.args.value.now) c.in-Some.is c.in_ok-new.ensures in
     on_ok_weaker c.insert.result
-    (λ inserts within v is.
+    (λ inserts within v is plain.
     subst (λ o. InsertsLines c.args.at.now c.args.steps.now o (style old) (text_of old.texts.source) (read_of c.args.read.before) old.slots.items c.insert.new.self.slots.items)
-    (outlined ∙ ap value_outline (one_value w v 0 c.args.value.now of_text.0 is.0)) inserts)
+    (outlined ∙ ap value_outline (one_value w v 0 c.args.value.now of_text.0 is.0)) (inserts plain))
     c.insert.ensures.root
 
 pub returns-in-None-clause-insert : goal.returns-in-None-clause-insert

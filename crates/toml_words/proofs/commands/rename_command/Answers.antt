@@ -6,6 +6,6 @@ use Rattle.toml_words.proofs.commands.rename_command.Goals as goal
 
 pub returns : goal.returns
 returns c =
-    let rules : map rule_of c.in_ok-arguments.arguments.items ≡ required_argument (codes "FILE") ∷ required_argument (codes "PLACE") ∷ required_argument (codes "NAME") ∷ edit_options c.args.profiles =
-    rw (c.in_ok-arguments.ensures.items, c.required.ensures.rule, c.required-2.ensures.rule, c.required-3.ensures.rule, c.in_place.ensures.rule, c.certificate.ensures.rule, c.profile.ensures.rule) refl in
+    let rules : map rule_of c.in_ok-arguments.arguments.items ≡ required_argument (codes "FILE") ∷ required_argument (codes "PLACE") ∷ required_argument (codes "NAME") ∷ edit_options c.args.profiles c.args.layouts =
+    rw (c.in_ok-arguments.ensures.items, c.required.ensures.rule, c.required-2.ensures.rule, c.required-3.ensures.rule, c.in_place.ensures.rule, c.certificate.ensures.rule, c.layout.ensures.rule, c.profile.ensures.rule) refl in
     subst (λ (rules : List Rule). IfOk c.command.result (IsDefined (command (codes "rename") rules))) rules c.command.ensures

@@ -4,7 +4,7 @@ use Rattle.tomled.proofs.answering.answer.Goals as goal
 pub returns-in_ok-run_apply_in-in-Apply : goal.returns-in_ok-run_apply_in-in-Apply
 returns-in_ok-run_apply_in-in-Apply c =
     applies c.args.request.now c.args.inputs.now c.in_ok-run_apply_in-in-Apply.field-0 c.in-Apply.profile c.deref.result.now c.deref-in-Apply.result.now
-    c.in-Apply.file c.in-Apply.edits c.in-Apply.destination c.in-Apply.is c.file-item.result c.edits-item.result
+    c.in-Apply.file c.in-Apply.edits c.in-Apply.destination c.in-Apply.layout c.in-Apply.is c.text_layout.result c.text_layout.ensures c.file-item.result c.edits-item.result
     (two_of c.args.inputs.now c.file-item.result c.edits-item.result c.in-len2.len_at_least c.in-len2.len_below c.file-item.is c.edits-item.is)
     c.deref.ensures.value c.deref-in-Apply.ensures.value c.in_ok-run_apply_in-in-Apply.ensures
 

@@ -15,19 +15,19 @@ returns-in-Some-clause-root c =
     let read = read_of c.args.before in
     let slots = tree.slots.items in
     on_ok_weaker c.insert_behind.result
-    (behind_root it.at.now it.spelled.now (value it.new) (leaf_text tree.style) tree.texts read c.in-Some.behind slots
+    (λ puts plain. behind_root it.at.now it.spelled.now (value it.new) (leaf_text tree.style) tree.texts read c.in-Some.behind slots
     c.insert_behind.new.self.slots.items
-    (λ first. subst (FindsLastOf read slots (slots_standing read slots)) c.in-Some.is (c.last_root_pair.ensures read.lines first)))
+    (λ first. subst (FindsLastOf read slots (slots_standing read slots)) c.in-Some.is (c.last_root_pair.ensures read.lines first)) (puts plain))
     c.insert_behind.ensures.put
 
-pub returns-in_ok-line-in-None-clause-root : goal.returns-in_ok-line-in-None-clause-root
-returns-in_ok-line-in-None-clause-root c =
+pub returns-in_ok-line-in-None-comments_end-clause-root : goal.returns-in_ok-line-in-None-comments_end-clause-root
+returns-in_ok-line-in-None-comments_end-clause-root c =
     let it = c.args.insertion in
     let tree = c.args.self.now in
     let read = read_of c.args.before in
     let slots = tree.slots.items in
     on_ok_weaker c.put.result
-    (first_of_root it.at.now it.spelled.now (value it.new) (leaf_text tree.style) (text_of tree.texts.source) read slots
-    c.put.new.self.slots.items c.in_ok-line-in-None.line
-    (λ first. subst (FindsLastOf read slots (slots_standing read slots)) c.in-None.is (c.last_root_pair.ensures read.lines first)) c.in_ok-line-in-None.ensures)
+    (λ puts plain. first_of_root it.at.now it.spelled.now (value it.new) (leaf_text tree.style) (text_of tree.texts.source) read slots
+    c.put.new.self.slots.items c.in_ok-line-in-None-comments_end.line
+    (λ first. subst (FindsLastOf read slots (slots_standing read slots)) c.in-None.is (c.last_root_pair.ensures read.lines first)) c.in_ok-line-in-None-comments_end.ensures puts)
     c.put.ensures.put

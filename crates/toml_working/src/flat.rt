@@ -1,0 +1,78 @@
+//! Tables in which no table stands: all their lines stand in one section.
+use crate::lines::Slot;
+use crate::working::{Before, TablePlace, Tree};
+use toml_edits::Edit;
+use toml_names::{Address, Data, Datum, Place};
+use toml_units::Unit;
+
+/// Whether the edit removes a table in which no table stands.
+pub fn removes_flat(data: &Data, edit: &Edit) -> bool {
+    match edit {
+        Edit::Remove { at } => is_flat(data.root.at(at)),
+        _ => false,
+    }
+}
+
+/// Whether it is a table of scalars and arrays of scalars.
+fn is_flat(found: Option<&Datum>) -> bool {
+    let Some(Datum::Table(members)) = found else {
+        return false;
+    };
+    for (_, member) in members {
+        if !has_no_table(member) {
+            return false;
+        }
+    }
+    true
+}
+
+/// Whether it is a scalar or an array of scalars.
+fn has_no_table(member: &Datum) -> bool {
+    match member {
+        Datum::Scalar(_) => true,
+        Datum::Array(items) => are_scalars(items),
+        Datum::Table(_) => false,
+    }
+}
+
+/// Whether all are scalars.
+fn are_scalars(items: &[Datum]) -> bool {
+    for item in items {
+        if !matches!(item, Datum::Scalar(_)) {
+            return false;
+        }
+    }
+    true
+}
+
+impl<'x> Tree<'x> {
+    /// The slot before which no line stands at the address or below, where the lines there begin with a header: those of an
+    /// element of an array of tables, and of a table in which no table stands.
+    pub(crate) fn first_slot(
+        &self,
+        before: Before<'_, 'x>,
+        named: Option<Place>,
+        at: &Address,
+        begins: bool,
+    ) -> usize {
+        match self.near_table(before, named, at) {
+            Some(TablePlace::Header(header)) if begins => header.slot,
+            _ => 0,
+        }
+    }
+}
+
+impl<'t> Slot<'t> {
+    /// Whether one of its lines is a header.
+    pub(crate) fn has_header<'a>(&'a self, units: &'a [Unit]) -> bool {
+        for index in 0..self.count() {
+            let Some(line) = self.seen(units, index) else {
+                return false;
+            };
+            if line.is_header() {
+                return true;
+            }
+        }
+        false
+    }
+}

@@ -1,0 +1,50 @@
+//! Where the section of a table ends, by a guess: else many insertions into one long section would each go through all of it.
+ghost use Rattle.std.specs.Prelude.{OnOk};
+ghost use Rattle.toml_working.specs.Stands.{KeepsRest};
+
+use crate::inserting::Insertion;
+use crate::steps::begins;
+use crate::working::{Before, Position, Tree};
+use std::alloc::AllocError;
+use toml_names::Step;
+
+impl<'x> Tree<'x> {
+    /// The last line with a key and a value from a place in the section of a table on, before the next header. The guess is
+    /// taken where its line stands in that section.
+    pub(crate) fn last_of_section(
+        &self,
+        before: Before<'_, 'x>,
+        from: Position,
+        table: &[Step],
+    ) -> Option<Position> {
+        if self.is_of_section(before, self.section_end, table) {
+            return self.last_pair(before, self.section_end);
+        }
+        self.last_pair(before, from)
+    }
+
+    /// Whether the line at a place has a key and a value, and stands in the section of the table.
+    fn is_of_section(&self, before: Before<'_, 'x>, at: Position, table: &[Step]) -> bool {
+        let Some(line) = self.seen(before, at) else {
+            return false;
+        };
+        match (line.base, line.address) {
+            (Some(base), Some(own)) => base == table.len() && begins(table, own.steps()),
+            _ => false,
+        }
+    }
+
+    /// Puts a line in behind another of the section of a table, whose address has `base` steps.
+    pub(crate) fn insert_in_section(
+        &mut self,
+        before: Before<'_, 'x>,
+        behind: Position,
+        base: usize,
+        insertion: Insertion<'_, 'x>,
+    ) -> Result<bool, AllocError>
+        ensures { OnOk result (KeepsRest self.old self.new) }
+    {
+        self.section_end = behind;
+        self.insert_behind(before, behind, base, insertion)
+    }
+}
