@@ -1,14 +1,13 @@
 -- What `apply` answers.
 use Rattle.std.specs.Prelude.{◌≡◌, ℕ, List, [], ◌∷◌}
 use Rattle.toml_tree.specs.declared.profile.Profile.{Profile}
-use Rattle.tomled.specs.Edit.{AreEdited, IsUnedited}
-use Rattle.tomled.specs.Outcomes.{GivesOrTells}
+use Rattle.tomled.specs.Edit.{AreEdited, PrintsText, SaysOfList}
 use Rattle.tomled.specs.declared.outcome.Outcome.{Outcome}
 
--- the text is one that `edit` may write by its contract, and the one file its certificate
+-- the text is one that the edits of the list make, and the one file its certificate
 abbrev pub IsApplied : Profile → List ℕ → List ℕ → List ℕ → List (List ℕ) → Type 0
 IsApplied profile before edits text written = (certificate : List ℕ) × AreEdited profile before edits text certificate × (written ≡ certificate ∷ [])
 
--- the edited text, where `edit` writes it; else the refusal of `edit`
+-- what `edit` says of the list, word for word, but for the way in which a text is handed out
 abbrev pub Applies : Profile → List ℕ → List ℕ → Outcome → Type 0
-Applies profile before edits = GivesOrTells (IsApplied profile before edits) (IsUnedited profile before edits)
+Applies = SaysOfList PrintsText
