@@ -1,7 +1,8 @@
 #!/usr/bin/env bash
 # Refused memory: each command on some texts, where each allocation of the run is refused in turn, until a run has none
 # left to refuse. Each run before that ends with status 4, `no memory` and no file; the last one gives the answer. A file
-# that is edited in place then has its old text or the new one, and no other file is left beside it.
+# that is edited in place then has its old text or the new one, and no other file is left beside it; once it is to be
+# replaced, want of memory is a file fault, status 3.
 # So too the edits of data and the reader of names, by a test as it is built: memory that is refused leaves both as they
 # were, and they go on once there is some. The last line is `N passed, M failed`.
 #   tests/memory.sh crates/tomled/out/tomled crates/toml_tests/out/toml_tests_tests
@@ -156,7 +157,8 @@ replaces() {
     refusing "$number" "$program" "$@"
     status=$?
     [ -s refused ] || break
-    if ! answers_in_place 4 'no memory\n' || { ! holds place/file "$old" && ! holds place/file "$new"; }; then
+    if { ! answers_in_place 4 'no memory\n' && ! answers_in_place 3 'file fault+'; } \
+      || { ! holds place/file "$old" && ! holds place/file "$new"; }; then
       fail "tomled $*: allocation $number: status $status, beside the file: $(ls -A place)"
       return
     fi
@@ -171,7 +173,7 @@ replaces() {
 
 # answers_in_place STATUS ERR: the run ended so, printed nothing else, and left one file
 answers_in_place() {
-  [ "$status" -eq "$1" ] && holds out '' && holds err "$2" && [ "$(ls -A place)" = file ]
+  [ "$status" -eq "$1" ] && holds out '' && tells "$2" && [ "$(ls -A place)" = file ]
 }
 
 # before TEXT: the file that is edited

@@ -144,8 +144,8 @@ run 1 - 'refused 406 0+' certify before.toml edits.json lost.toml other.cert
 holds other.cert 'what stood there before it, which is longer than the certificate\n'
 run 0 yes - certify before.toml edits.json other.toml other.cert
 holds other.cert 'kept 1\n1 1\n2 2\n'
-run 3 - 'file fault' certify before.toml edits.json other.toml none/other.cert
-run 3 - 'file fault' certify before.toml edits.json other.toml .
+run 3 - 'file fault+' certify before.toml edits.json other.toml none/other.cert
+run 3 - 'file fault+' certify before.toml edits.json other.toml .
 run 3 - 'file fault' certify before.toml edits.json other.toml /dev/full
 # All three are read before CERT is opened.
 cp other.toml over.toml

@@ -57,6 +57,20 @@ run 3 - 'file fault+' get good.toml/none a
 reasoned good.toml/none
 run 3 - 'file fault+' get folder a
 reasoned folder
+run 3 - 'file fault+' validate folder good.toml
+reasoned folder
+if grep -q '^folder: Is a directory' err; then pass; else fail 'of a folder the reason is not told'; fi
+run 3 - 'file fault+' get - a <folder
+if grep -q '^-: Is a directory' err; then pass; else fail 'of a folder as standard input the reason is not told'; fi
+
+# Outputs that can't be opened.
+run 3 - 'file fault' edit good.toml none.json folder out.cert
+run 3 - 'file fault+' edit good.toml none.json folder out.cert --explain
+reasoned folder
+run 3 - 'file fault+' edit good.toml none.json out.toml none/out.cert --explain
+reasoned none/out.cert
+run 3 - 'file fault+' certify good.toml none.json good.toml folder
+reasoned folder
 run 3 - 'file fault+' get '' a
 
 # An empty file.

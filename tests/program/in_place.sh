@@ -83,6 +83,7 @@ untouched 3 - 'file fault+' set -i place/none.toml port 1 --certificate kept.cer
 absent kept.cert
 cp limit.toml place/limit.toml
 untouched 1 - 'refused 102 16777216+' set -i place/limit.toml a 1
+if grep -q '^place/limit.toml: .*the edits make a longer one$' err; then pass; else fail 'the edited text is too long, and not FILE'; fi
 rm place/limit.toml
 only f.toml
 
@@ -96,23 +97,45 @@ mode place/f.toml 640
 printf 'a longer text than the certificate, which is cut\n' >place/kept.cert
 run 0 - - apply -i place/f.toml none.json --certificate=place/kept.cert
 holds place/kept.cert 'kept 1\n0 0\n2 2\n'
-for path in none/kept.cert folder /dev/full; do
-  untouched 3 - 'file fault*' set -i place/f.toml port 1 --certificate "$path"
-  untouched 3 - 'file fault*' set -i place/f.toml port 0x1F --certificate "$path"
-  untouched 3 - 'file fault*' set place/f.toml port 1 --certificate "$path"
+for path in none/kept.cert folder; do
+  untouched 3 - 'file fault+' set -i place/f.toml port 1 --certificate "$path"
+  reasoned "$path"
+  untouched 3 - 'file fault+' set -i place/f.toml port 0x1F --certificate "$path"
+  reasoned "$path"
+  untouched 3 - 'file fault+' set place/f.toml port 1 --certificate "$path"
+  reasoned "$path"
 done
+untouched 3 - 'file fault+' set -i place/f.toml port 1 --certificate /dev/full
+untouched 3 - 'file fault' set -i place/f.toml port 0x1F --certificate /dev/full
+untouched 3 - 'file fault' set place/f.toml port 1 --certificate /dev/full
 
-# It may not take FILE's place, by whatever name.
+# It may not take the place of FILE or of EDITS, by whatever name, in place or not. Then nothing is printed.
 ln -s f.toml place/link.toml
 ln place/f.toml place/hard.toml
+cp edits.json place/list.json
+ln -s list.json place/list.link
+ln place/list.json place/list.hard
 for path in place/f.toml ./place/f.toml place/link.toml place/hard.toml; do
-  untouched 3 - 'file fault*' set -i place/f.toml port 1 --certificate "$path"
-  untouched 3 - 'file fault*' set -i place/f.toml port 0x1F --certificate "$path"
-  untouched 3 - 'file fault*' set -i place/link.toml port 1 --certificate "$path"
+  untouched 3 - 'file fault+' set -i place/f.toml port 1 --certificate "$path"
+  untouched 3 - 'file fault+' set -i place/f.toml port 0x1F --certificate "$path"
+  untouched 3 - 'file fault+' set -i place/link.toml port 1 --certificate "$path"
+  untouched 3 - 'file fault+' set place/f.toml port 1 --certificate "$path"
+  untouched 3 - 'file fault+' set place/link.toml port 1 --certificate "$path"
+  untouched 3 - 'file fault+' apply place/f.toml place/list.json --certificate "$path"
+  reasoned "$path"
 done
-# Without -i it is one more file that is written, when FILE is read.
-run 0 'port = 1 # keep' - set place/f.toml port 1 --certificate place/f.toml
-holds place/f.toml 'kept 1\n1 1\n2 2\n'
+for path in place/list.json place/list.link place/list.hard; do
+  untouched 3 - 'file fault+' apply place/f.toml place/list.json --certificate "$path"
+  untouched 3 - 'file fault+' apply -i place/f.toml place/list.json --certificate "$path"
+  reasoned "$path"
+  untouched 3 - 'file fault+' apply - place/list.json --certificate "$path" <place/f.toml
+done
+untouched 3 - 'file fault+' apply place/f.toml - --certificate place/f.toml <place/list.json
+# Standard input is no file of a name, and of `edit` both outputs may be FILE.
+run 0 'a = 2' - set - a 2 --certificate place/kept.cert <good.toml
+holds place/kept.cert 'kept 1\n1 1\n'
+cp place/f.toml place/out.toml
+run 0 ok - edit place/out.toml none.json place/out.toml place/out.cert
 
 # Permissions are kept, whatever new files get.
 for bits in 640 600 444 751 666 0; do

@@ -1,8 +1,8 @@
 -- What is seen of a list of edits tells which units it names, and where it carries them.
-use Rattle.std.proofs.Common.{◌≡◌, ℕ, ◌+◌, ◌-◌, ◌<◌, ◌≤◌, ◌^◌, List, [], ◌∷◌, length, Option, Some, None, is_some, Bool, true, false, refl, sym, ap, ◌∙◌, arith}
+use Rattle.std.proofs.Common.{◌≡◌, ℕ, ◌+◌, ◌-◌, ◌<◌, ◌^◌, List, [], ◌∷◌, length, Option, Some, None, is_some, Bool, true, false, refl, sym, ap, ◌∙◌, arith}
 use Rattle.std.proofs.Math.Logic.{∥∥₁_elim, ∥∥₁_map}
 use Rattle.std.proofs.Props.{props}
-use Rattle.std.specs.Prelude.{not, ◌&&◌, ◌||◌, IfOk, IfSome, Result, Ok, Err, option_map, option_and_then}
+use Rattle.std.specs.Prelude.{not, ◌&&◌, IfOk, IfSome, Result, Ok, Err, option_map, option_and_then}
 use Rattle.toml_names.specs.model.Addresses.{Address}
 use Rattle.toml_names.specs.model.Indices.{IsLow}
 use Rattle.toml_edits.specs.declared.side.Side.{Side}
@@ -14,7 +14,6 @@ use Rattle.toml_edits.specs.Fitting.{FitsOne, takes_away}
 use Rattle.toml_edits.specs.Lists.{carried}
 use Rattle.toml_edits.specs.Notes.{noted, seen, sort, untouched}
 use Rattle.toml_edits.specs.Sides.{side}
-use Rattle.toml_edits.specs.Told as told
 use Rattle.toml_edits.specs.Told.{IsTrace, Sees}
 use Rattle.toml_edits.specs.Trees.{Seen}
 use Rattle.toml_edits.proofs.Proved.{living, seen_is_carried, stays_low}

@@ -112,7 +112,8 @@ pub fn explain_reason(
     judged: Judged<'_>,
     reason: Reason,
 ) -> Result<String, AllocError>
-    ensures { IfOk result (λ text. OpensInFile (told_of judged.entry reason).word.now (told_of judged.entry reason).bytes.now (string_bytes text)) }
+    ensures { let told = told_of judged.entry.before judged.entry.after reason in
+        IfOk result (λ text. OpensInFile told.word.now told.bytes.now (string_bytes text)) }
 {
     match reason {
         Reason::BeforeRefused => plain(alloc, judged.before, "this is no document"),

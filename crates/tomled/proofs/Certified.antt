@@ -60,9 +60,9 @@ module _ (profile : Profile) (before edits after : List ℕ) where
   written certificate e = record {
     changes = e.changes;
     listed = e.listed;
-    pairs = e.pairs;
-    shown = record { certified = e.edited.certified; outermost = e.edited.outer };
-    written = e.written;
+    pairs = e.made.pairs;
+    shown = record { certified = e.made.edited.certified; outermost = e.made.edited.outer };
+    written = e.made.written;
   }
 
   gives : (certificate : List ℕ) → ((cs : List Change) → IsEditList edits cs → length cs < 2 ^ 63) → AreEdited Plain profile before edits after certificate → (o : Outcome) → Certifies profile before edits after o

@@ -29,6 +29,7 @@ use Rattle.tomled.specs.declared.ending.Ending.{Ending}
 use Rattle.tomled.specs.declared.ending.Ending.TheVariants as ends
 use Rattle.tomled.specs.declared.outcome.Answer.{Answer}
 use Rattle.tomled.specs.declared.outcome.Outcome.{Outcome}
+use Rattle.tomled.specs.declared.refusal.Refusal.{Refusal}
 
 -- ---- a text has at most one line more than bytes
 
@@ -103,12 +104,26 @@ module _ (layout : Layout) (profile : Profile) (before edits : List ℕ) where
 module _ (profile : Profile) (before edits : List ℕ) where
   pub edited : (cs : List Change) (text : List ℕ) (pairs : List (ℕ × ℕ)) (a : Answer) → IsEditList edits cs → editor.IsEditedWith layouts.Plain profile before cs text pairs → a.out.items ≡ codes "ok\n" → texts_of a.files.items ≡ text ∷ certificate_of pairs ∷ []
       → IsEditing profile before edits a
-  edited cs text pairs a listed is printed written = (printed, text, certificate_of pairs, written, record { changes = cs; listed = listed; pairs = pairs; edited = is; written = refl })
+  edited cs text pairs a listed is printed written = (printed, text, certificate_of pairs, written, record { changes = cs; listed = listed; made = record { pairs = pairs; edited = is; written = refl } })
+
+  told : (r : Refusal) → IsUnedited profile before edits r → (o : Outcome) → Tells r o → Edits profile before edits o
+  told r (inl bad) o tells = inl (r, bad, tells)
+  told r (inr is) o tells = inr (is.changes, is.listed, inr (r, is.unmade, tells))
 
   -- what the command comes to
   pub comes : (answer : Result Answer Ending) (result : Result Outcome AllocError) → IfOk answer (IsEditing profile before edits) → IfErr answer (Ends (IsUnedited layouts.Plain profile before edits)) → IfOk result (Answers answer) → IfOk result (Edits profile before edits)
   comes (Ok a) result good bad =
       IfOk-weaker result (Gives a.out.items (texts_of a.files.items)) (Edits profile before edits)
-      (λ o gives. inl (good.1, good.2, good.4, subst (λ (out : List ℕ). Gives out (good.1 ∷ good.2 ∷ []) o) good.0 (subst (λ (files : List (List ℕ)). Gives a.out.items files o) good.3 gives)))
-  comes (Err (ends.Refused r)) result good bad = IfOk-weaker result (Tells r) (Edits profile before edits) (λ o tells. inr (r, bad, tells))
+      (λ o gives. inr (
+        good.4.changes,
+        good.4.listed,
+        inl (
+          good.1,
+          good.2,
+          good.4.made,
+          subst (λ (out : List ℕ). Gives out (good.1 ∷ good.2 ∷ []) o) good.0
+              (subst (λ (files : List (List ℕ)). Gives a.out.items files o) good.3 gives),
+        ),
+      ))
+  comes (Err (ends.Refused r)) result good bad = IfOk-weaker result (Tells r) (Edits profile before edits) (told r bad)
   comes (Err ends.NoMemory) result good bad = IfOk-weaker result (λ o. ⊥) (Edits profile before edits) (λ o none. absurd none)

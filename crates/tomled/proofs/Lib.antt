@@ -6,9 +6,10 @@ pub mod Listed
 pub mod Verified
 pub mod Certified
 pub mod Edited
-pub mod Coming
 pub mod Applied
 pub mod Asked
+pub mod Said
+pub mod Settled
 pub mod Wishing
 mod PlainPrinted
 pub mod Delivered

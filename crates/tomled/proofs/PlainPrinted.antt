@@ -50,14 +50,16 @@ module _ (profile : Profile) (before list : List ℕ) (cs : List Change) (after 
 
   printed : (o : Outcome) → Edits profile before list o
       → (certificate : List ℕ) × AreEdited Plain profile before list after certificate × Gives (codes "ok\n") (after ∷ certificate ∷ []) o
-  printed o (inl (text, certificate, edited, gives)) =
-      let same : edited.changes ≡ cs = one_edit_list list edited.changes cs edited.listed listed in
-      let is = text_is text edited.pairs (subst (λ ds. editor.IsEdited profile before ds text edited.pairs) same edited.edited) in (
+  printed o (inl (r, bad, tells)) = absurd (no_refusal r (inl bad))
+  printed o (inr (ds, also, inl (text, certificate, made, gives))) =
+      let same : ds ≡ cs = one_edit_list list ds cs also listed in
+      let is = text_is text made.pairs (subst (λ es. editor.IsEdited profile before es text made.pairs) same made.edited) in
+      let edited : AreEdited Plain profile before list text certificate = record { changes = ds; listed = also; made = made } in (
         certificate,
         subst (λ t. AreEdited Plain profile before list t certificate) is edited,
         subst (λ t. Gives (codes "ok\n") (t ∷ certificate ∷ []) o) is gives,
       )
-  printed o (inr (r, unedited, tells)) = absurd (no_refusal r unedited)
+  printed o (inr (ds, also, inr (r, unmade, tells))) = absurd (no_refusal r (inr (record { changes = ds; listed = also; unmade = unmade })))
 
 pub plain_is_printed : PlainIsPrinted
 plain_is_printed profile before edits cs after now listed so_far short o = printed profile before edits cs after now listed so_far short o

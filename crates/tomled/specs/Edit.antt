@@ -25,14 +25,17 @@ use Rattle.tomled.specs.declared.outcome.Answer.{Answer}
 use Rattle.tomled.specs.declared.outcome.Outcome.{Outcome}
 use Rattle.tomled.specs.declared.refusal.Refusal.{Refusal}
 
--- the bytes are the list of some edits, and the files are a text and a certificate which shows that the text is what these
--- edits make, in the layout, of the one before
-pub record AreEdited (layout : Layout) (profile : Profile) (before edits text certificate : List ℕ) : Type 0 where
-  pub changes : List Change
-  pub listed : IsEditList edits changes
+-- a text, and a certificate which shows that the text is what these edits make, in the layout, of the one before
+pub record IsMade (layout : Layout) (profile : Profile) (before : List ℕ) (changes : List Change) (text certificate : List ℕ) : Type 0 where
   pub pairs : List (ℕ × ℕ)
   pub edited : editor.IsEditedWith layout profile before changes text pairs
   pub written : certificate ≡ certificate_of pairs
+
+-- so of the edits whose list the bytes are
+pub record AreEdited (layout : Layout) (profile : Profile) (before edits text certificate : List ℕ) : Type 0 where
+  pub changes : List Change
+  pub listed : IsEditList edits changes
+  pub made : IsMade layout profile before changes text certificate
 
 -- the code of a fault of an edit; want of memory has none
 abbrev pub edit_code : EditFault → Option ℕ
@@ -100,10 +103,25 @@ IsUnedited layout profile before edits r = IsListRefusal edits r ⊎ IsEditorRef
 abbrev pub IsEditing : Profile → List ℕ → List ℕ → Answer → Type 0
 IsEditing profile before edits a = (a.out.items ≡ codes "ok\n") × (text : List ℕ) × (certificate : List ℕ) × (texts_of a.files.items ≡ text ∷ certificate ∷ []) × AreEdited Plain profile before edits text certificate
 
--- `ok` and LF and two files, an edited text and its certificate; or a refusal, and no file
+-- What is said of some edits of a document, whichever command makes them: a text that they make of it and its certificate are handed out,
+-- in the command's own way, or the refusal is told that stands for what the editor tells.
+abbrev pub Says : (List ℕ → List ℕ → Outcome → Type 0) → Layout → Profile → List ℕ → List Change → Outcome → Type 0
+Says HandsOut layout profile before changes o =
+    ((text : List ℕ) × (certificate : List ℕ) × IsMade layout profile before changes text certificate × HandsOut text certificate o)
+    ⊎ ((r : Refusal) × IsUnmade layout profile before changes r × Tells r o)
+
+-- So of a list of edits, which is judged first.
+abbrev pub SaysOfList : (List ℕ → List ℕ → Outcome → Type 0) → Layout → Profile → List ℕ → List ℕ → Outcome → Type 0
+SaysOfList HandsOut layout profile before edits o =
+    ((r : Refusal) × IsListRefusal edits r × Tells r o) ⊎ ((changes : List Change) × IsEditList edits changes × Says HandsOut layout profile before changes o)
+
+-- `edit`: `ok` and LF, and two files
 abbrev pub Edits : Profile → List ℕ → List ℕ → Outcome → Type 0
-Edits profile before edits o =
-    ((text : List ℕ) × (certificate : List ℕ) × AreEdited Plain profile before edits text certificate × Gives (codes "ok\n") (text ∷ certificate ∷ []) o) ⊎ ((r : Refusal) × IsUnedited Plain profile before edits r × Tells r o)
+Edits = SaysOfList (λ text certificate. Gives (codes "ok\n") (text ∷ certificate ∷ [])) Plain
+
+-- the commands that print an edited text: it, and its certificate as the one file
+abbrev pub PrintsText : List ℕ → List ℕ → Outcome → Type 0
+PrintsText text certificate = Gives text (certificate ∷ [])
 
 -- Law: where all edits of a list are defined on the data so far and plain on a document, and the text that they write is within the
 -- limit, the answer is `ok`, with that text as the first file.

@@ -17,3 +17,4 @@ pub mod RunFaults
 pub mod Delivery
 pub mod Answering
 pub mod Explaining
+pub mod Finishing

@@ -6,15 +6,13 @@ use Rattle.toml_names.specs.mentions.Mentions.{named}
 use Rattle.toml_names.specs.model.Data.{IsDataOf, Kinds}
 use Rattle.toml_names.specs.reader.Texts.{GoodText}
 use Rattle.toml_edits.specs.Edits.{Change}
-use Rattle.toml_units.specs.Certificates.{certificate_of}
-use Rattle.toml_editor.specs.Edited as editor
 use Rattle.toml_editor.specs.declared.layout.Layout.{Layout}
 use Rattle.toml_places.specs.declared.place.PlaceStep.{PlaceStep}
 use Rattle.toml_places.specs.Reads.{IsPlace}
 use Rattle.toml_one.specs.Wishes.{AreEditsAt, Wished, to_set, to_insert, to_rename, to_remove}
 use Rattle.toml_words.specs.Request.{AskedEdit, AskedValue, set, insert, rename, remove}
-use Rattle.tomled.specs.Edit.{IsUnmade}
-use Rattle.tomled.specs.Outcomes.{GivesOrTells, IsRefused}
+use Rattle.tomled.specs.Edit.{IsMade, IsUnmade, PrintsText, Says}
+use Rattle.tomled.specs.Outcomes.{IsRefused, Tells}
 use Rattle.tomled.specs.Get.{IsBadPlace}
 use Rattle.tomled.specs.declared.outcome.Outcome.{Outcome}
 use Rattle.tomled.specs.declared.refusal.Refusal.{Refusal}
@@ -44,9 +42,9 @@ pub record IsMadeAt (layout : Layout) (profile : Profile) (before place : List �
   pub spelled : IsPlace place steps
   pub changes : List Change
   pub wished : AreWished profile before steps wish changes
-  pub pairs : List (ℕ × ℕ)
-  pub edited : editor.IsEditedWith layout profile before changes text pairs
-  pub files : written ≡ certificate_of pairs ∷ []
+  pub certificate : List ℕ
+  pub made : IsMade layout profile before changes text certificate
+  pub files : written ≡ certificate ∷ []
 
 -- PLACE is a place, and the edits that stand for the wish there are refused
 pub record IsRefusedAt (layout : Layout) (profile : Profile) (before place : List ℕ) (wish : Wished) (r : Refusal) : Type 0 where
@@ -61,6 +59,14 @@ abbrev pub IsUnmadeAt : Layout → Profile → List ℕ → List ℕ → Wished 
 IsUnmadeAt layout profile before place wish r =
     IsBadPlace place r ⊎ (((steps : List PlaceStep) × IsPlace place steps × IsRefused profile before r) ⊎ IsRefusedAt layout profile before place wish r)
 
--- the edited text and its certificate, or a refusal
+-- The document is judged, and of the edits that stand for the wish at the steps is said what `edit` says of them, word for word, but for
+-- the way in which a text is handed out.
+abbrev pub MakesAt : Layout → Profile → List ℕ → List PlaceStep → Wished → Outcome → Type 0
+MakesAt layout profile before steps wish o =
+    ((r : Refusal) × IsRefused profile before r × Tells r o)
+    ⊎ ((changes : List Change) × AreWished profile before steps wish changes × Says PrintsText layout profile before changes o)
+
+-- PLACE is judged first
 abbrev pub MakesWish : Layout → Profile → List ℕ → List ℕ → Wished → Outcome → Type 0
-MakesWish layout profile before place wish = GivesOrTells (IsMadeAt layout profile before place wish) (IsUnmadeAt layout profile before place wish)
+MakesWish layout profile before place wish o =
+    ((r : Refusal) × IsBadPlace place r × Tells r o) ⊎ ((steps : List PlaceStep) × IsPlace place steps × MakesAt layout profile before steps wish o)

@@ -66,11 +66,7 @@ IsRefused profile bytes r = (¬ IsDocumentIn profile bytes) × IsRefusalOf profi
 abbrev pub Refuses : Profile → List ℕ → Outcome → Type 0
 Refuses profile bytes o = (r : Refusal) × IsRefused profile bytes r × Tells r o
 
--- status 0 with a text and files that are good, or a refusal that is true, and no file
-abbrev pub GivesOrTells : (List ℕ → List (List ℕ) → Type 0) → (Refusal → Type 0) → Outcome → Type 0
-GivesOrTells Good Bad o = ((text : List ℕ) × (written : List (List ℕ)) × Good text written × Gives text written o) ⊎ ((r : Refusal) × Bad r × Tells r o)
-
--- so an answer
+-- an answer with a text and files that are good
 abbrev pub IsGood : (List ℕ → List (List ℕ) → Type 0) → Answer → Type 0
 IsGood Good a = Good a.out.items (texts_of a.files.items)
 

@@ -1,28 +1,35 @@
 //! What is said of a refusal behind its line: where it is, and why.
-ghost use Rattle.std.specs.Prelude.{IfOk};
-ghost use Rattle.tomled.specs.Explaining.{IsExplained};
+ghost use Rattle.std.specs.Prelude.{◌≡◌, ◌≢◌, ◌<◌, ◌≤◌, ◌⊎◌, ◌↔◌, IfOk, IsTrue, string_bytes};
+ghost use Rattle.toml_explain.specs.Documents.{OpensAs};
+ghost use Rattle.toml_explain.specs.Openings.{OpensBare, OpensInFile, OpensPlace};
+ghost use Rattle.toml_words.specs.Request.{asked_by};
+ghost use Rattle.tomled.specs.Explaining.{HasSaid, IsExplained, IsExplainedText, IsSaid, bytes_at, explains};
 
+use crate::judging::{JudgedWords, of_judged};
 use crate::one::edits_of_words;
 use crate::outcome::Outcome;
 use crate::refusal::Refusal;
 use crate::verify::reason_of;
 use std::alloc::{AllocError, Global};
-use toml_edits::{Edit, EditsFault, read_edits};
+use toml_checker::Reason;
+use toml_edits::{Edit, EditsFault, place, read_edits};
 use toml_explain::{
-    Input, Judged, explain_absent, explain_document, explain_edit, explain_list, explain_place,
-    explain_reason,
+    Input, explain_absent, explain_document, explain_edit, explain_list, explain_place,
+    explain_unverified,
 };
+use toml_names::Step;
 use toml_tree::Profile;
-use toml_units::{Certificate, CertificateFault, read_certificate};
 use toml_words::{OneEdit, Request};
 
 /// Whether refusals of the request are explained.
-pub fn explains(request: &Request<'_>) -> bool {
+pub fn explains(request: &Request<'_>) -> bool
+    ensures { result ≡ explains (asked_by request.now) }
+{
     match *request {
-        Request::Show { explain, .. }
-        | Request::Check { explain, .. }
-        | Request::Edit { explain, .. }
-        | Request::Verify { explain, .. } => explain,
+        Request::Show { explain, .. } => explain,
+        Request::Check { explain, .. } => explain,
+        Request::Edit { explain, .. } => explain,
+        Request::Verify { explain, .. } => explain,
         _ => true,
     }
 }
@@ -34,7 +41,7 @@ pub fn explained(
     inputs: &[Vec<u8>],
     outcome: Outcome,
 ) -> Result<Outcome, AllocError>
-    ensures { IfOk result (IsExplained outcome) }
+    ensures { IfOk result (IsExplained request.now inputs.now outcome) }
 {
     let Some(refusal) = outcome.refusal else {
         return Ok(outcome);
@@ -54,7 +61,7 @@ pub fn explained_check(
     profile: Profile,
     outcome: Outcome,
 ) -> Result<Outcome, AllocError>
-    ensures { IfOk result (IsExplained outcome) }
+    ensures { IfOk result (IsExplainedText profile word.now bytes.now outcome) }
 {
     let Some(refusal) = outcome.refusal else {
         return Ok(outcome);
@@ -71,7 +78,7 @@ pub fn explained_check(
 
 /// The outcome with a text behind what it tells.
 fn with_text(outcome: Outcome, text: &str) -> Result<Outcome, AllocError>
-    ensures { IfOk result (IsExplained outcome) }
+    ensures { IfOk result (HasSaid text.now outcome) }
 {
     let mut outcome = outcome;
     outcome.err.extend_from_slice(text.as_bytes())?;
@@ -84,10 +91,15 @@ fn explanation(
     request: &Request<'_>,
     inputs: &[Vec<u8>],
     refusal: Refusal,
-) -> Result<String, AllocError> {
+) -> Result<String, AllocError>
+    ensures { IfOk result (λ text. IsSaid request.now inputs.now refusal (string_bytes text)) }
+{
     match *request {
-        Request::Show { file, profile, .. } | Request::Check { file, profile, .. } => {
-            of_document(alloc, file, inputs, profile, refusal)
+        Request::Show { file, profile, .. } => {
+            of_document(alloc, input(file, inputs, 0), profile, refusal)
+        }
+        Request::Check { file, profile, .. } => {
+            of_document(alloc, input(file, inputs, 0), profile, refusal)
         }
         Request::Get {
             file,
@@ -107,25 +119,59 @@ fn explanation(
             edits,
             profile,
             ..
+        } => {
+            let list = input(edits, inputs, 1);
+            of_list(alloc, input(file, inputs, 0), list, profile, refusal)
         }
-        | Request::Apply {
+        Request::Apply {
             file,
             edits,
             profile,
             ..
         } => {
-            let file = input(file, inputs, 0);
-            of_list(alloc, file, input(edits, inputs, 1), profile, refusal)
+            let list = input(edits, inputs, 1);
+            of_list(alloc, input(file, inputs, 0), list, profile, refusal)
         }
-        Request::Verify { .. } | Request::Certify { .. } => {
-            of_judged(alloc, request, inputs, refusal)
+        Request::Verify {
+            before,
+            edits,
+            after,
+            cert,
+            profile,
+            ..
+        } => {
+            let words = JudgedWords {
+                before,
+                edits,
+                after,
+                cert: Some(cert),
+            };
+            of_judged(alloc, words, inputs, profile, refusal)
+        }
+        Request::Certify {
+            before,
+            edits,
+            after,
+            profile,
+            ..
+        } => {
+            let words = JudgedWords {
+                before,
+                edits,
+                after,
+                cert: None,
+            };
+            of_judged(alloc, words, inputs, profile, refusal)
         }
         Request::Validate { .. } => Ok(String::new(alloc)),
     }
 }
 
 /// What was read by its word, with the word.
-fn input<'i>(word: &'i str, inputs: &'i [Vec<u8>], at: usize) -> Input<'i> {
+pub fn input<'i>(word: &'i str, inputs: &'i [Vec<u8>], at: usize) -> Input<'i>
+    ensures word { result.word.now ≡ word.entry.now }
+    ensures bytes { result.bytes.now ≡ bytes_at inputs.entry.now at }
+{
     let bytes: &'i [u8] = match inputs.get(at) {
         Some(bytes) => bytes,
         None => &[],
@@ -134,20 +180,15 @@ fn input<'i>(word: &'i str, inputs: &'i [Vec<u8>], at: usize) -> Input<'i> {
 }
 
 /// Of a file that is no document.
-fn of_document(
+pub fn of_document(
     alloc: Global,
-    word: &str,
-    inputs: &[Vec<u8>],
+    file: Input<'_>,
     profile: Profile,
     refusal: Refusal,
-) -> Result<String, AllocError> {
-    explain_document(
-        alloc,
-        input(word, inputs, 0),
-        profile,
-        refusal.code,
-        refusal.place,
-    )
+) -> Result<String, AllocError>
+    ensures { IfOk result (λ text. OpensAs profile file.entry.word.now file.entry.bytes.now refusal.code refusal.place (string_bytes text)) }
+{
+    explain_document(alloc, file, profile, refusal.code, refusal.place)
 }
 
 /// Of `get`.
@@ -157,16 +198,24 @@ fn of_get(
     place: &str,
     profile: Profile,
     refusal: Refusal,
-) -> Result<String, AllocError> {
-    match refusal.code {
-        340 => explain_place(alloc, place.as_bytes(), refusal.place),
-        301 | 307 => explain_absent(alloc, file, place.as_bytes(), refusal.code, profile),
-        _ => explain_document(alloc, file, profile, refusal.code, refusal.place),
+) -> Result<String, AllocError>
+    ensures no_place { refusal.code ≡ 340 → IfOk result (λ text. OpensPlace place.now refusal.place (string_bytes text)) }
+    ensures no_document { refusal.code < 300 → IfOk result (λ text. OpensAs profile file.entry.word.now file.entry.bytes.now refusal.code refusal.place (string_bytes text)) }
+    ensures in_file { 300 ≤ refusal.code → refusal.code ≢ 340 → IfOk result (λ text. OpensInFile file.entry.word.now file.entry.bytes.now (string_bytes text)) }
+{
+    if refusal.code == 340 {
+        return explain_place(alloc, place, refusal.place);
     }
+    if is_of_document(refusal.code) {
+        return of_document(alloc, file, profile, refusal);
+    }
+    explain_absent(alloc, file, place, refusal.code, profile)
 }
 
 /// Whether the code is one of a text that is no document.
-fn is_of_document(code: u16) -> bool {
+fn is_of_document(code: u16) -> bool
+    ensures yes { IsTrue result ↔ (code < 300) }
+{
     code < 300
 }
 
@@ -178,15 +227,45 @@ fn of_one(
     edit: OneEdit<'_>,
     profile: Profile,
     refusal: Refusal,
-) -> Result<String, AllocError> {
+) -> Result<String, AllocError>
+    ensures no_place { refusal.code ≡ 340 → IfOk result (λ text. OpensPlace place.now refusal.place (string_bytes text)) }
+    ensures no_document { refusal.code < 300 → IfOk result (λ text. OpensAs profile file.entry.word.now file.entry.bytes.now refusal.code refusal.place (string_bytes text)) }
+    ensures in_file { 300 ≤ refusal.code → refusal.code ≢ 340 → IfOk result (λ text. OpensInFile file.entry.word.now file.entry.bytes.now (string_bytes text)) }
+{
     if refusal.code == 340 {
-        return explain_place(alloc, place.as_bytes(), refusal.place);
+        return explain_place(alloc, place, refusal.place);
     }
     if is_of_document(refusal.code) {
-        return explain_document(alloc, file, profile, refusal.code, refusal.place);
+        return of_document(alloc, file, profile, refusal);
+    }
+    if refusal.code == 309 {
+        return unverified(alloc, file, refusal);
     }
     let edits = edits_of_words(alloc, file.bytes, place, edit, profile)?;
+    if refusal.code == 301 && leads_nowhere(&edits, refusal.place) {
+        return explain_absent(alloc, file, place, refusal.code, profile);
+    }
     explain_edit(alloc, file, &edits, refusal.place, refusal.code, profile)
+}
+
+/// Whether the edit with the index is at an address at which nothing can stand, as the root has no element: its place leads to none.
+fn leads_nowhere(edits: &[Edit], index: usize) -> bool {
+    match edits.get(index) {
+        Some(edit) => matches!(place(edit).steps().first(), Some(Step::Index(_))),
+        None => false,
+    }
+}
+
+/// Of a text that the judge refuses.
+fn unverified(alloc: Global, file: Input<'_>, refusal: Refusal) -> Result<String, AllocError>
+    ensures { IfOk result (λ text. OpensInFile file.entry.word.now file.entry.bytes.now (string_bytes text)) }
+{
+    explain_unverified(alloc, file, reason_told(refusal.place))
+}
+
+/// The reason of the judge with the number, if it is that of one.
+fn reason_told(number: usize) -> Option<Reason> {
+    reason_of(u16::try_from(number).ok()?)
 }
 
 /// Of an edit list and a document.
@@ -196,78 +275,29 @@ fn of_list(
     list: Input<'_>,
     profile: Profile,
     refusal: Refusal,
-) -> Result<String, AllocError> {
+) -> Result<String, AllocError>
+    ensures no_list { (refusal.code ≡ 320) ⊎ (refusal.code ≡ 321) → IfOk result (λ text. OpensBare list.entry.word.now (string_bytes text)) }
+    ensures no_document { refusal.code < 300 → IfOk result (λ text. OpensAs profile file.entry.word.now file.entry.bytes.now refusal.code refusal.place (string_bytes text)) }
+    ensures in_file { 300 ≤ refusal.code → refusal.code ≢ 320 → refusal.code ≢ 321 → IfOk result (λ text. OpensInFile file.entry.word.now file.entry.bytes.now (string_bytes text)) }
+{
     if refusal.code == 320 || refusal.code == 321 {
         return explain_list(alloc, list.word, refusal.code, refusal.place);
     }
     if is_of_document(refusal.code) {
-        return explain_document(alloc, file, profile, refusal.code, refusal.place);
+        return of_document(alloc, file, profile, refusal);
+    }
+    if refusal.code == 309 {
+        return unverified(alloc, file, refusal);
     }
     let edits = edits_listed(alloc, list.bytes)?;
     explain_edit(alloc, file, &edits, refusal.place, refusal.code, profile)
 }
 
 /// The edits of a list; none where it is no list.
-fn edits_listed(alloc: Global, bytes: &[u8]) -> Result<Vec<Edit>, AllocError> {
+pub fn edits_listed(alloc: Global, bytes: &[u8]) -> Result<Vec<Edit>, AllocError> {
     match read_edits(alloc, bytes) {
         Ok(edits) => Ok(edits),
         Err(EditsFault::NoMemory) => Err(AllocError),
         Err(_) => Ok(Vec::new(alloc)),
-    }
-}
-
-/// Of a text that is judged.
-fn of_judged(
-    alloc: Global,
-    request: &Request<'_>,
-    inputs: &[Vec<u8>],
-    refusal: Refusal,
-) -> Result<String, AllocError> {
-    let (before, edits, after, cert, profile) = match *request {
-        Request::Verify {
-            before,
-            edits,
-            after,
-            cert,
-            profile,
-            ..
-        } => (before, edits, after, Some(cert), profile),
-        Request::Certify {
-            before,
-            edits,
-            after,
-            profile,
-            ..
-        } => (before, edits, after, None, profile),
-        _ => return Ok(String::new(alloc)),
-    };
-    let word = match (refusal.code, cert) {
-        (330, Some(cert)) => cert,
-        _ => edits,
-    };
-    let Some(reason) = reason_of(refusal.code) else {
-        return explain_list(alloc, word, refusal.code, refusal.place);
-    };
-    let list = edits_listed(alloc, input(edits, inputs, 1).bytes)?;
-    let certificate = match cert {
-        Some(cert) => certificate_given(alloc, input(cert, inputs, 3).bytes)?,
-        None => None,
-    };
-    let judged = Judged {
-        before: input(before, inputs, 0),
-        edits: &list,
-        after: input(after, inputs, 2),
-        certificate: certificate.as_ref(),
-        profile,
-    };
-    explain_reason(alloc, judged, reason)
-}
-
-/// The certificate that the bytes are, if they are one.
-fn certificate_given(alloc: Global, bytes: &[u8]) -> Result<Option<Certificate>, AllocError> {
-    match read_certificate(alloc, bytes) {
-        Ok(certificate) => Ok(Some(certificate)),
-        Err(CertificateFault::BadCertificate) => Ok(None),
-        Err(CertificateFault::NoMemory) => Err(AllocError),
     }
 }

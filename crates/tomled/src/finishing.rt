@@ -1,18 +1,22 @@
 //! What is done with an outcome: files written, a file replaced, both outputs printed.
-ghost use Rattle.std.specs.Prelude.{◌≡◌, IfOk, length};
+ghost use Rattle.std.specs.Prelude.{◌≡◌, ◌↔◌, IfOk, IsTrue, length};
+ghost use Rattle.toml_replace.specs.Calls.{Made};
+ghost use Rattle.toml_replace.specs.Replacement.{pair_of};
+ghost use Rattle.tomled.specs.Finishing.{HasNamed, IsCompared, IsEdited, IsFileFault, IsFirst, IsReplaced, IsSettled, IsPlaced, all_compared, certificate_at, compared, words_compared, written};
 
 use crate::counting::Counting;
 use crate::delivery::deliver;
+use crate::explaining::explains;
 use crate::fault::RunFault;
 use crate::outcome::Outcome;
-use crate::reading::closed;
+use crate::reading::{FileFault, file_fault};
 use std::alloc::Global;
 use std::fs::File;
 use std::io;
 use std::io::Write;
 use std::rt::Files;
-use toml_replace::{Disk, RealDisk, ReplaceFault, replace};
-use toml_words::Request;
+use toml_replace::{Disk, RealDisk, ReplaceFault, refuse_same, replace};
+use toml_words::{Destination, Request, is_input};
 
 /// Writes what the outcome has for files, then prints it, and gives the status. Where the file is changed in place, it is replaced
 /// whole or not at all, and nothing is printed.
@@ -24,139 +28,258 @@ pub fn finish<R: Files + AllocGlobal, O: Write, E: Write>(
     out: &mut Counting<O>,
     err: &mut Counting<E>,
 ) -> Result<u8, RunFault> {
-    let outcome = settled(rt, request, inputs, outcome)?;
-    let mut files = outputs(rt, request, &outcome)?;
-    Ok(deliver(files.as_mut_slice(), out, err, &outcome))
+    let alloc = rt.alloc();
+    let outcome = settled(alloc, &mut RealDisk::new(rt), request, inputs, outcome)?;
+    match outputs(rt, request, &outcome) {
+        Ok(mut files) => Ok(deliver(files.as_mut_slice(), out, err, &outcome)),
+        Err(FileFault::Failed { word, error }) => {
+            let outcome = failed(alloc, explains(request), word, error)?;
+            Ok(print(rt, outcome, out, err))
+        }
+        Err(FileFault::NoMemory) => Err(RunFault::Memory),
+    }
+}
+
+/// Prints an outcome, and writes no file.
+pub fn print<R: Files + AllocGlobal, O: Write, E: Write>(
+    rt: &R,
+    outcome: Outcome,
+    out: &mut Counting<O>,
+    err: &mut Counting<E>,
+) -> u8 {
+    let outcome = outcome.without_files(rt.alloc());
+    let mut none: Vec<Counting<R::File>> = Vec::new(rt.alloc());
+    deliver(none.as_mut_slice(), out, err, &outcome)
 }
 
 /// The outcome with the files alone that the words name; of a change in place what is left to print once it is made.
-fn settled<R: Files + AllocGlobal>(
-    rt: &R,
+fn settled<D: Disk>(
+    alloc: Global,
+    disk: &mut D,
     request: &Request<'_>,
     inputs: &[Vec<u8>],
     outcome: Outcome,
-) -> Result<Outcome, RunFault> {
-    let alloc = rt.alloc();
+) -> Result<Outcome, RunFault>
+    ensures { Made (D.calls disk.old) (D.calls disk.new) (IsSettled request.now inputs.now outcome result) }
+{
     match *request {
-        Request::Certify { cert: None, .. } => Ok(outcome.without_files(alloc)),
+        Request::Certify { cert, .. } => Ok(with_named(alloc, cert, outcome)),
         Request::One {
             file,
             destination,
             ..
-        }
-        | Request::Apply {
+        } => edited(alloc, disk, file, None, destination, inputs, outcome),
+        Request::Apply {
             file,
+            edits,
             destination,
             ..
-        } => {
-            if outcome.status != 0 {
-                return Ok(outcome);
-            }
-            if destination.in_place {
-                return replaced(rt, file, destination.certificate, inputs, outcome);
-            }
-            match destination.certificate {
-                Some(_) => Ok(outcome),
-                None => Ok(outcome.without_files(alloc)),
-            }
-        }
+        } => edited(alloc, disk, file, Some(edits), destination, inputs, outcome),
         _ => Ok(outcome),
     }
 }
 
-/// Puts the text of the outcome in the place of the file, and leaves what is then to be printed: nothing. Where the file has that text
-/// already, it stays as it is, and a certificate is left to be written.
-fn replaced<R: Files + AllocGlobal>(
-    rt: &R,
+/// The outcome, without its files where the words name none.
+fn with_named(alloc: Global, path: Option<&str>, outcome: Outcome) -> Outcome
+    ensures { HasNamed path.entry outcome result }
+{
+    match path {
+        Some(_) => outcome,
+        None => outcome.without_files(alloc),
+    }
+}
+
+/// What is left to print and to write of an edited text, once a change in place is made. A certificate may not take the place of what
+/// was read, the file and the edit list if there is one: then nothing is written. A file that has the text already stays as it is.
+fn edited<D: Disk>(
+    alloc: Global,
+    disk: &mut D,
     file: &str,
-    certificate: Option<&str>,
+    list: Option<&str>,
+    destination: Destination<'_>,
     inputs: &[Vec<u8>],
     outcome: Outcome,
-) -> Result<Outcome, RunFault> {
-    let alloc = rt.alloc();
-    let is_same = match inputs {
-        [old, ..] => old.as_slice() == outcome.out.as_slice(),
-        [] => false,
-    };
-    if is_same {
-        return unchanged(rt, file, certificate, outcome.without_text(alloc));
+) -> Result<Outcome, RunFault>
+    ensures { Made (D.calls disk.old) (D.calls disk.new) (IsEdited file.now list.entry destination.entry inputs.now outcome result) }
+{
+    if outcome.status != 0 {
+        return Ok(outcome);
     }
-    let shown = match (certificate, outcome.files.as_slice()) {
-        (Some(path), [bytes, ..]) => Some((path, bytes.as_slice())),
-        _ => None,
-    };
-    let mut disk = RealDisk::new(rt);
-    match replace(alloc, &mut disk, file, &outcome.out, shown) {
-        Ok(()) => Ok(outcome.without_text(alloc).without_files(alloc)),
-        Err(ReplaceFault::File(error)) => unwritten(alloc, file, error),
-        Err(ReplaceFault::Certificate(error)) => {
-            unwritten(alloc, certificate.unwrap_or(file), error)
-        }
+    if let Err(error) = refuse_read(disk, destination.certificate, file, list) {
+        let word = destination.certificate.unwrap_or(file);
+        return failed(alloc, true, word, error);
+    }
+    placed(alloc, disk, file, destination, inputs, outcome)
+}
+
+/// The same of a good outcome, once the path of the certificate is good.
+fn placed<D: Disk>(
+    alloc: Global,
+    disk: &mut D,
+    file: &str,
+    destination: Destination<'_>,
+    inputs: &[Vec<u8>],
+    outcome: Outcome,
+) -> Result<Outcome, RunFault>
+    ensures { Made (D.calls disk.old) (D.calls disk.new) (IsPlaced file.now destination.entry inputs.now outcome result) }
+{
+    let certificate = destination.certificate;
+    if !destination.in_place {
+        return Ok(with_named(alloc, certificate, outcome));
+    }
+    if is_first(inputs, &outcome.out) {
+        return Ok(with_named(alloc, certificate, outcome.without_text(alloc)));
+    }
+    replaced(alloc, disk, file, certificate, outcome)
+}
+
+/// Whether what was read first is the text.
+fn is_first(inputs: &[Vec<u8>], text: &[u8]) -> bool
+    ensures { IsTrue result ↔ IsFirst inputs.now text.now }
+{
+    match inputs {
+        [old, ..] => old.as_slice() == text,
+        [] => false,
     }
 }
 
-/// What is left of an outcome whose file stays as it is: the certificate, if there is one, and if its path does not lead to the file.
-fn unchanged<R: Files + AllocGlobal>(
-    rt: &R,
+/// Refuses a path of the certificate that leads to something that was read.
+fn refuse_read<D: Disk>(
+    disk: &mut D,
+    certificate: Option<&str>,
+    file: &str,
+    list: Option<&str>,
+) -> io::Result<()>
+    ensures { Made (D.calls disk.old) (D.calls disk.new) (IsCompared (all_compared certificate.entry file.now list.entry) result) }
+{
+    match certificate {
+        Some(path) => refuse_words(disk, path, file, list),
+        None => Ok(()),
+    }
+}
+
+/// Refuses a path that leads to the file of one of the words.
+fn refuse_words<D: Disk>(disk: &mut D, path: &str, file: &str, list: Option<&str>) -> io::Result<()>
+    ensures { Made (D.calls disk.old) (D.calls disk.new) (IsCompared (words_compared path.now file.now list.entry) result) }
+{
+    refuse_word(disk, path, file)?;
+    match list {
+        Some(list) => refuse_word(disk, path, list),
+        None => Ok(()),
+    }
+}
+
+/// Refuses a path that leads to the file of a word that was read. Standard input is no such file.
+fn refuse_word<D: Disk>(disk: &mut D, path: &str, read: &str) -> io::Result<()>
+    ensures { Made (D.calls disk.old) (D.calls disk.new) (IsCompared (compared path.now read.now) result) }
+{
+    if is_input(read) {
+        return Ok(());
+    }
+    refuse_same(disk, path, read)
+}
+
+/// Puts the text of the outcome in the place of the file, and leaves what is then to be printed: nothing.
+fn replaced<D: Disk>(
+    alloc: Global,
+    disk: &mut D,
     file: &str,
     certificate: Option<&str>,
     outcome: Outcome,
-) -> Result<Outcome, RunFault> {
-    let alloc = rt.alloc();
-    let Some(path) = certificate else {
-        return Ok(outcome.without_files(alloc));
-    };
-    match RealDisk::new(rt).is_same(path, file) {
-        Ok(false) => Ok(outcome),
-        Ok(true) => {
-            let message = "the certificate may not take the place of the text";
-            unwritten(
-                alloc,
-                path,
-                io::Error::new(io::ErrorKind::InvalidInput, message),
-            )
-        }
-        Err(error) => unwritten(alloc, path, error),
+) -> Result<Outcome, RunFault>
+    ensures { Made (D.calls disk.old) (D.calls disk.new) (IsReplaced file.now certificate.entry outcome result) }
+{
+    let shown = certificate_at(certificate, &outcome.files);
+    match replace(alloc, disk, file, &outcome.out, shown) {
+        Ok(()) => Ok(outcome.without_text(alloc).without_files(alloc)),
+        Err(fault) => unreplaced(alloc, file, certificate, fault),
     }
 }
 
-/// What a file that could not be written comes to.
-fn unwritten(alloc: Global, word: &str, error: io::Error) -> Result<Outcome, RunFault> {
-    closed(word, error).outcome(alloc, true)
+/// The certificate's path and bytes, where the words name a path.
+fn certificate_at<'a>(path: Option<&'a str>, files: &'a [Vec<u8>]) -> Option<(&'a str, &'a [u8])>
+    ensures { pair_of result ≡ certificate_at path.entry files.entry.now }
+{
+    match (path, files) {
+        (Some(path), [bytes, ..]) => Some((path, bytes.as_slice())),
+        _ => None,
+    }
+}
+
+/// What a file that did not get its text comes to.
+fn unreplaced(
+    alloc: Global,
+    file: &str,
+    certificate: Option<&str>,
+    fault: ReplaceFault,
+) -> Result<Outcome, RunFault>
+    ensures { IsFileFault result }
+{
+    let (word, error) = match fault {
+        ReplaceFault::File(error) => (file, error),
+        ReplaceFault::Certificate(error) => (certificate.unwrap_or(file), error),
+    };
+    failed(alloc, true, word, error)
+}
+
+/// What a file that could not be written comes to: a file fault, whatever the system's reason, since another one may be written or
+/// emptied by then. The reason is told where that is wished and there is memory for it.
+fn failed(alloc: Global, explains: bool, word: &str, error: io::Error) -> Result<Outcome, RunFault>
+    ensures { IsFileFault result }
+{
+    match file_fault(alloc, explains, word, &error) {
+        Ok(outcome) => Ok(outcome),
+        Err(_) => Err(RunFault::File),
+    }
 }
 
 /// The files that the outcome has bytes for, made or emptied. None of them is opened for a refusal. Their memory is taken
-/// before the first is opened; one that can't be opened is a file fault, whatever the reason, since the one before it is
-/// emptied by then.
-fn outputs<R: Files + AllocGlobal>(
+/// before the first is opened.
+fn outputs<'a, R: Files + AllocGlobal>(
     rt: &R,
-    request: &Request<'_>,
+    request: &Request<'a>,
     outcome: &Outcome,
-) -> Result<Vec<Counting<R::File>>, RunFault>
+) -> Result<Vec<Counting<R::File>>, FileFault<'a>>
     ensures { IfOk result (λ files. length files.items ≡ length outcome.now.files.items) }
 {
-    let mut files = Vec::with_capacity(rt.alloc(), outcome.files.len())?;
+    let Ok(mut files) = Vec::with_capacity(rt.alloc(), outcome.files.len()) else {
+        return Err(FileFault::NoMemory);
+    };
     for (path, _) in written(request).iter().flatten().zip(&outcome.files) {
-        let Ok(file) = File::create(rt, *path) else {
-            return Err(RunFault::File);
-        };
-        files.push(Counting::new(file))?;
+        let word = *path;
+        match File::create(rt, word) {
+            Ok(file) => {
+                if files.push(Counting::new(file)).is_err() {
+                    return Err(FileFault::NoMemory);
+                }
+            }
+            Err(error) => return Err(FileFault::Failed { word, error }),
+        }
     }
-    // No outcome has a file that the words do not name.
     if files.len() != outcome.files.len() {
-        return Err(RunFault::File);
+        return Err(unnamed());
     }
     Ok(files)
 }
 
+/// The fault of an outcome with a file that the words do not name. There is none.
+fn unnamed() -> FileFault<'static> {
+    let message = "the words name no file for it";
+    FileFault::Failed {
+        word: "output",
+        error: io::Error::new(io::ErrorKind::InvalidInput, message),
+    }
+}
+
 /// The files that the words name for what is written.
-fn written<'a>(request: &Request<'a>) -> [Option<&'a str>; 2] {
+fn written<'a>(request: &Request<'a>) -> [Option<&'a str>; 2]
+    ensures { result ≡ written request.now }
+{
     match *request {
         Request::Edit { out, cert, .. } => [Some(out), Some(cert)],
         Request::Certify { cert, .. } => [cert, None],
-        Request::One { destination, .. } | Request::Apply { destination, .. } => {
-            [destination.certificate, None]
-        }
+        Request::One { destination, .. } => [destination.certificate, None],
+        Request::Apply { destination, .. } => [destination.certificate, None],
         _ => [None, None],
     }
 }

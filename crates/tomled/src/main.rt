@@ -22,12 +22,14 @@ mod fault;
 mod finishing;
 mod get;
 mod input;
+mod judging;
 pub mod laws;
 mod list;
 mod one;
 mod outcome;
 mod output;
 mod reading;
+mod reasoned;
 mod refusal;
 mod show;
 mod validate;
@@ -37,10 +39,10 @@ mod without_profile_tests;
 
 use answering::{answer, sources};
 use counting::Counting;
-use delivery::{deliver, tell};
+use delivery::tell;
 use explaining::{explained, explains};
 use fault::RunFault;
-use finishing::finish;
+use finishing::{finish, print};
 use outcome::Outcome;
 use reading::read_all;
 use std::alloc::Global;
@@ -101,8 +103,8 @@ fn serve<R: Files + Input + AllocGlobal, O: Write, E: Write>(
     }
     let inputs = match read_all(rt, &sources(alloc, request)?) {
         Ok(inputs) => inputs,
-        Err(unread) => {
-            let outcome = unread.outcome(alloc, explains(request))?;
+        Err(fault) => {
+            let outcome = fault.outcome(alloc, explains(request))?;
             return Ok(print(rt, outcome, out, err));
         }
     };
@@ -111,18 +113,6 @@ fn serve<R: Files + Input + AllocGlobal, O: Write, E: Write>(
     };
     let outcome = explained(alloc, request, &inputs, outcome)?;
     finish(rt, request, &inputs, outcome, out, err)
-}
-
-/// Prints an outcome, and writes no file.
-fn print<R: Files + AllocGlobal, O: Write, E: Write>(
-    rt: &R,
-    outcome: Outcome,
-    out: &mut Counting<O>,
-    err: &mut Counting<E>,
-) -> u8 {
-    let outcome = outcome.without_files(rt.alloc());
-    let mut none: Vec<Counting<R::File>> = Vec::new(rt.alloc());
-    deliver(none.as_mut_slice(), out, err, &outcome)
 }
 
 /// What words come to that make no request: the parser's text, as help or as a mistake.

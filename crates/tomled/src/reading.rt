@@ -1,57 +1,76 @@
 //! Reading what the words name.
+ghost use Rattle.std.specs.Prelude.{IfOk};
+ghost use Rattle.tomled.specs.Finishing.{TellsFault};
 
 use crate::answering::Source;
 use crate::counting::Counting;
 use crate::fault::RunFault;
 use crate::input::{TakeFault, take};
 use crate::outcome::Outcome;
+use crate::reasoned::Reasoned;
 use std::alloc::{AllocError, Global};
 use std::fs::File;
 use std::io;
-use std::io::Input;
+use std::io::{Input, Read};
 use std::rt::Files;
-use toml_words::STANDARD_INPUT;
+use toml_words::is_input;
 
-/// Why something was not read.
+/// Why a file was not read, or not opened to be written.
 #[derive(Drop)]
-pub enum Unread<'a> {
-    /// A file could not be opened.
-    Closed { word: &'a str, error: io::Error },
-    /// Reading failed.
-    Broken { word: &'a str },
+pub enum FileFault<'a> {
+    /// The system says why.
+    Failed { word: &'a str, error: io::Error },
     /// There was no memory.
     NoMemory,
 }
 
-impl<'a> Unread<'a> {
+impl<'a> FileFault<'a> {
+    /// Why a file was not read: an error of the system for want of memory is that.
+    fn of(word: &'a str, error: io::Error) -> FileFault<'a> {
+        match RunFault::of_kind(error.kind()) {
+            RunFault::Memory => FileFault::NoMemory,
+            _ => FileFault::Failed { word, error },
+        }
+    }
+
     /// What the run then comes to: `file fault`, and where it is explained the word and the system's reason.
     pub fn outcome(self, alloc: Global, explains: bool) -> Result<Outcome, RunFault> {
-        let reason = match self {
-            Unread::Closed { word, error } => format!(in alloc; "{word}: {error}\n")?,
-            Unread::Broken { word } => format!(in alloc; "{word}: it can't be read\n")?,
-            Unread::NoMemory => return Err(RunFault::Memory),
-        };
-        let mut text = RunFault::File.text().to_string(alloc)?;
-        if explains {
-            text.push_str(reason.as_str())?;
+        match self {
+            FileFault::Failed { word, error } => { Ok(file_fault(alloc, explains, word, &error)?) }
+            FileFault::NoMemory => Err(RunFault::Memory),
         }
-        Ok(Outcome::failed(alloc, RunFault::File.status(), text.into_bytes()))
     }
+}
+
+/// What is told of a file that failed: `file fault`, and where it is explained the word and the system's reason.
+pub fn file_fault(
+    alloc: Global,
+    explains: bool,
+    word: &str,
+    error: &io::Error,
+) -> Result<Outcome, AllocError>
+    ensures { IfOk result TellsFault }
+{
+    let mut text = RunFault::File.text().to_string(alloc)?;
+    if explains {
+        text.push_str(format!(in alloc; "{word}: {error}\n")?.as_str())?;
+    }
+    Ok(Outcome::failed(alloc, RunFault::File.status(), text.into_bytes()))
 }
 
 /// The bytes of all, in their order.
 pub fn read_all<'a, R: Files + Input + AllocGlobal>(
     rt: &R,
     sources: &[Source<'a>],
-) -> Result<Vec<Vec<u8>>, Unread<'a>> {
+) -> Result<Vec<Vec<u8>>, FileFault<'a>> {
     let mut inputs = match Vec::with_capacity(rt.alloc(), sources.len()) {
         Ok(inputs) => inputs,
-        Err(_) => return Err(Unread::NoMemory),
+        Err(_) => return Err(FileFault::NoMemory),
     };
     for source in sources {
         let bytes = read(rt, *source)?;
         if inputs.push(bytes).is_err() {
-            return Err(Unread::NoMemory);
+            return Err(FileFault::NoMemory);
         }
     }
     Ok(inputs)
@@ -61,28 +80,30 @@ pub fn read_all<'a, R: Files + Input + AllocGlobal>(
 pub fn read<'a, R: Files + Input + AllocGlobal>(
     rt: &R,
     source: Source<'a>,
-) -> Result<Vec<u8>, Unread<'a>> {
+) -> Result<Vec<u8>, FileFault<'a>> {
     let word = source.word;
-    let taken = if source.may_be_input && word == STANDARD_INPUT {
-        let mut input = Counting::new(rt.reader());
-        take(rt.alloc(), &mut input, source.limit)
-    } else {
-        match File::open(rt, word) {
-            Ok(file) => take(rt.alloc(), &mut Counting::new(file), source.limit),
-            Err(error) => return Err(closed(word, error)),
-        }
-    };
-    match taken {
-        Ok(bytes) => Ok(bytes),
-        Err(TakeFault::Device) => Err(Unread::Broken { word }),
-        Err(TakeFault::NoMemory) => Err(Unread::NoMemory),
+    if source.may_be_input && is_input(word) {
+        return read_from(rt.alloc(), rt.reader(), source);
+    }
+    match File::open(rt, word) {
+        Ok(file) => read_from(rt.alloc(), file, source),
+        Err(error) => Err(FileFault::of(word, error)),
     }
 }
 
-/// Why a file could not be opened.
-pub fn closed<'a>(word: &'a str, error: io::Error) -> Unread<'a> {
-    match RunFault::of_kind(error.kind()) {
-        RunFault::Memory => Unread::NoMemory,
-        _ => Unread::Closed { word, error },
+/// The bytes that a reader gives of a source.
+fn read_from<'a, R: Read + Drop>(
+    alloc: Global,
+    reader: R,
+    source: Source<'a>,
+) -> Result<Vec<u8>, FileFault<'a>> {
+    let mut reader = Reasoned::new(reader);
+    match take(alloc, &mut Counting::new(&mut reader), source.limit) {
+        Ok(bytes) => Ok(bytes),
+        Err(TakeFault::Device) => Err(FileFault::Failed {
+            word: source.word,
+            error: reader.into_reason(),
+        }),
+        Err(TakeFault::NoMemory) => Err(FileFault::NoMemory),
     }
 }

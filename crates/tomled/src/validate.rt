@@ -1,4 +1,6 @@
 //! `validate`: which of some files are no documents, and why.
+ghost use Rattle.std.specs.Prelude.{IfOk};
+ghost use Rattle.tomled.specs.Explaining.{IsValidated};
 
 use crate::answering::{MOST, Source};
 use crate::check::run_check_in;
@@ -6,6 +8,7 @@ use crate::explaining::explained_check;
 use crate::fault::RunFault;
 use crate::outcome::Outcome;
 use crate::reading::read;
+use std::alloc::{AllocError, Global};
 use std::io::Input;
 use std::rt::Files;
 use toml_tree::Profile;
@@ -39,10 +42,20 @@ fn validated_file<R: Files + Input + AllocGlobal>(
         may_be_input: true,
     };
     match read(rt, source) {
-        Ok(bytes) => {
-            let outcome = run_check_in(rt.alloc(), &bytes, profile)?;
-            Ok(explained_check(rt.alloc(), file, &bytes, profile, outcome)?)
-        }
-        Err(unread) => unread.outcome(rt.alloc(), true),
+        Ok(bytes) => Ok(validated_bytes(rt.alloc(), file, &bytes, profile)?),
+        Err(fault) => fault.outcome(rt.alloc(), true),
     }
+}
+
+/// What a file comes to that has these bytes: what `check` answers, with what is said of a refusal.
+fn validated_bytes(
+    alloc: Global,
+    file: &str,
+    bytes: &[u8],
+    profile: Profile,
+) -> Result<Outcome, AllocError>
+    ensures { IfOk result (IsValidated profile file.now bytes.now) }
+{
+    let outcome = run_check_in(alloc, bytes, profile)?;
+    explained_check(alloc, file, bytes, profile, outcome)
 }

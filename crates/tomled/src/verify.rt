@@ -1,6 +1,7 @@
 //! `verify`: whether a text is what edits make of another, and keeps all else.
-ghost use Rattle.std.specs.Prelude.{◌≡◌, codes, IfErr, IfOk};
+ghost use Rattle.std.specs.Prelude.{◌≡◌, ◌≢◌, codes, IfErr, IfOk, MatchOption};
 ghost use Rattle.toml_tree.specs.declared.profile.Profile.TheVariants.{One};
+ghost use Rattle.toml_checker.specs.declared.verdict.Reason.{Reason};
 ghost use Rattle.toml_units.specs.Certificates.{IsCertificate};
 ghost use Rattle.tomled.specs.Outcomes.{Ends};
 ghost use Rattle.tomled.specs.Verify.{IsCertificateRefusal, IsReasonRefusal, IsVerified, IsUnverified, Verifies, reason_code};
@@ -106,7 +107,9 @@ pub fn reason_code(reason: Reason) -> u16
 }
 
 /// The reason that has the code, if one has.
-pub fn reason_of(code: u16) -> Option<Reason> {
+pub fn reason_of(code: u16) -> Option<Reason>
+    ensures { MatchOption result ((reason : Reason) → reason_code reason ≢ code) (λ reason. reason_code reason ≡ code) }
+{
     match code {
         401 => Some(Reason::BeforeRefused),
         402 => Some(Reason::AfterRefused),

@@ -1,4 +1,4 @@
-use Rattle.std.proofs.Common.{Some, refl, sym, ◌∙◌}
+use Rattle.std.proofs.Common.{refl, sym, ◌∙◌}
 use Rattle.toml_edits.specs.Lists.{carried}
 use Rattle.toml_checker.specs.EditLists.{changes}
 use Rattle.toml_checker.proofs.CarriedSoFar.{arrived}

@@ -1,5 +1,4 @@
-use Rattle.std.proofs.Common.{◌≡◌, rules, true, false, Some, subst}
-use Rattle.std.specs.Prelude.{not}
+use Rattle.std.proofs.Common.{rules, Some, subst}
 use Rattle.toml_checker.specs.Sights.{HasSight}
 use Rattle.toml_checker.proofs.Sighted.{somewhere_stays}
 use Rattle.toml_checker.proofs.arriving.stays.Goals as goal

@@ -1,4 +1,3 @@
-use Rattle.std.proofs.Common.{sym}
 use Rattle.toml_checker.proofs.Owing.{long_more, tree_more}
 use Rattle.toml_checker.proofs.debts.with_debt.Goals as goal
 

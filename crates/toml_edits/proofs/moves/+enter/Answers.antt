@@ -1,4 +1,4 @@
-use Rattle.std.proofs.Common.{rules, ◌≡◌, Some, refl, sym}
+use Rattle.std.proofs.Common.{rules, Some, refl, sym}
 use Rattle.std.proofs.lemmas.Map.Text.{btree_map_updates_text}
 use Rattle.toml_edits.proofs.Entering.{element_entered, element_put, opened_entered}
 use Rattle.toml_edits.proofs.Telling.{if_told}

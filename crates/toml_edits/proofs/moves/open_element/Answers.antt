@@ -1,4 +1,4 @@
-use Rattle.std.proofs.Common.{rules, refl}
+use Rattle.std.proofs.Common.{refl}
 use Rattle.toml_edits.proofs.Entering.{element_opened, element_put, element_was_put}
 use Rattle.toml_edits.proofs.moves.open_element.Goals as goal
 

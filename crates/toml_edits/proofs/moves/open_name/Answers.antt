@@ -1,4 +1,4 @@
-use Rattle.std.proofs.Common.{rules, Some, cond, bytes_eq, string_bytes, ap, refl, ◌∙◌, subst}
+use Rattle.std.proofs.Common.{Some, cond, bytes_eq, string_bytes, ap, refl, ◌∙◌, subst}
 use Rattle.std.specs.BTreeMap.{get_by_text}
 use Rattle.std.proofs.lemmas.Map.Text.{btree_map_updates_text}
 use Rattle.toml_edits.proofs.Entering.{name_opened, name_put}

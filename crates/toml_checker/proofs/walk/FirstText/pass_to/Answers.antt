@@ -1,7 +1,7 @@
-use Rattle.std.proofs.Common.{◌≡◌, ◌++◌, false, List, Ok, map, refl, ap, subst, sym, ◌∙◌}
-use Rattle.toml_edits.specs.Edits.{Change, change}
+use Rattle.std.proofs.Common.{◌++◌, List, refl, sym, ◌∙◌}
+use Rattle.toml_edits.specs.Edits.{Change}
 use Rattle.toml_checker.specs.EditLists.{changes}
-use Rattle.toml_checker.specs.Walking.{HasPassed, Passing}
+use Rattle.toml_checker.specs.Walking.{HasPassed}
 use Rattle.toml_checker.proofs.Going.{gone_none, gone_one, gone_end, gone_to}
 use Rattle.toml_checker.proofs.Ahead.{none_ahead, one_ahead}
 use Rattle.toml_checker.proofs.walk.FirstText.pass_to.Goals as goal

@@ -1,6 +1,6 @@
-use Rattle.std.proofs.Common.{◌≡◌, ◌++◌, true, List, Some, Ok, map, ap, subst, ◌∙◌}
+use Rattle.std.proofs.Common.{◌≡◌, ◌++◌, true, List, Some, Ok, ap, subst}
 use Rattle.std.specs.Prelude.{is_some}
-use Rattle.toml_edits.specs.Edits.{Change, change}
+use Rattle.toml_edits.specs.Edits.{Change}
 use Rattle.toml_checker.specs.EditLists.{changes}
 use Rattle.toml_checker.specs.Walking.{IsOn, Passing, PassingTo, TellsPair}
 use Rattle.toml_checker.proofs.Pairing.{pair_fits, pair_misfits}

@@ -1,0 +1,112 @@
+-- What is done with the files of an outcome before it is printed, by the request and by the bytes that were read: what a disk is asked, and
+-- what is left to print and to write.
+use Rattle.std.specs.Prelude.{◌≡◌, ◌≢◌, ◌⊎◌, ℕ, true, false, List, [], ◌∷◌, ◌++◌, Option, Some, None, Result, Ok, Err, Vec, if◌then◌else◌}
+use Rattle.std.specs.Borrow.{Bor}
+use Rattle.std.specs.declared.alloc.Global.{Global}
+use Rattle.std.specs.declared.io.Error.{Error}
+use Rattle.toml_replace.specs.Calls.{Call, compares}
+use Rattle.toml_replace.specs.Replacement.{IsCutShort, IsReplacement}
+use Rattle.toml_replace.specs.declared.fault.ReplaceFault.{ReplaceFault}
+use Rattle.toml_words.specs.Request.{is_input}
+use Rattle.toml_words.specs.declared.request.Destination.{Destination}
+use Rattle.toml_words.specs.declared.request.Request.{Request}
+use Rattle.toml_words.specs.declared.request.Request.TheVariants as requests
+use Rattle.tomled.specs.declared.fault.RunFault.{RunFault}
+use Rattle.tomled.specs.declared.fault.RunFault.TheVariants.{File}
+use Rattle.tomled.specs.declared.outcome.Outcome.{Outcome}
+
+-- a path of the words
+abbrev pub Path : Type 0
+Path = Bor (List ℕ)
+
+-- the outcome, without its files where the words name no path for them
+abbrev pub HasNamed : Option Path → Outcome → Outcome → Type 0
+HasNamed (Some path) old new = new ≡ old
+HasNamed None old new = (new.files.items ≡ []) × (new ≡ record old { files = new.files })
+
+-- the outcome, with nothing on standard output
+abbrev pub HasNoText : Outcome → Outcome → Type 0
+HasNoText old new = (new.out.items ≡ []) × (new ≡ record old { out = new.out })
+
+-- and with no file
+abbrev pub HasNothing : Outcome → Outcome → Type 0
+HasNothing old new = (between : Outcome) × HasNoText old between × HasNamed None between new
+
+-- a file fault: status 3, nothing on standard output, and no file
+pub record TellsFault (new : Outcome) : Type 0 where
+  pub status : new.status ≡ 3
+  pub out : new.out.items ≡ []
+  pub files : new.files.items ≡ []
+
+abbrev pub IsFileFault : Result Outcome RunFault → Type 0
+IsFileFault (Ok new) = TellsFault new
+IsFileFault (Err fault) = fault ≡ File
+
+-- the disk is asked whether the path leads to the file of a word that was read, and answers no; standard input is no such file
+abbrev pub compared : List ℕ → List ℕ → List Call
+compared path word = if is_input word then [] else compares path word (Ok false) ∷ []
+
+-- so of the file, and of the edit list where one was read
+abbrev pub words_compared : List ℕ → List ℕ → Option Path → List Call
+words_compared path file None = compared path file
+words_compared path file (Some list) = compared path file ++ compared path list.now
+
+-- so of the certificate's path, if there is one
+abbrev pub all_compared : Option Path → List ℕ → Option Path → List Call
+all_compared None file list = []
+all_compared (Some path) file list = words_compared path.now file list
+
+-- these were the answers, or it was stopped at another one
+abbrev pub IsCompared : List Call → Result (Unit {0}) Error → List Call → Type 0
+IsCompared plan (Ok done) calls = calls ≡ plan
+IsCompared plan (Err fault) calls = IsCutShort plan calls
+
+-- the certificate, where the words name its path
+abbrev pub certificate_at : Option Path → List (Vec ℕ Global) → Option (List ℕ × List ℕ)
+certificate_at (Some path) (bytes ∷ files) = Some (path.now, bytes.items)
+certificate_at _ _ = None
+
+-- what is left of a replacement: nothing is to be printed or written, or a file fault
+abbrev pub IsLeft : Outcome → Result (Unit {0}) ReplaceFault → Result Outcome RunFault → Type 0
+IsLeft old (Ok done) result = (new : Outcome) × (result ≡ Ok new) × HasNothing old new
+IsLeft old (Err fault) result = IsFileFault result
+
+-- the file gets the text of the outcome, and the certificate's path its first file
+abbrev pub IsReplaced : List ℕ → Option Path → Outcome → Result Outcome RunFault → List Call → Type 0
+IsReplaced file path old result calls =
+    (done : Result (Unit {0}) ReplaceFault) × IsReplacement file old.out.items (certificate_at path old.files.items) done calls × IsLeft old done result
+
+-- the first of what was read is this text
+abbrev pub IsFirst : List (Vec ℕ Global) → List ℕ → Type 0
+IsFirst [] text = ⊥
+IsFirst (bytes ∷ inputs) text = bytes.items ≡ text
+
+-- A good outcome of an edit, behind the comparisons: printed; left alone, as the file has the text; or put in the file's place.
+abbrev pub IsPlaced : List ℕ → Destination → List (Vec ℕ Global) → Outcome → Result Outcome RunFault → List Call → Type 0
+IsPlaced file d inputs old result calls =
+    ((d.in_place ≡ false) × (calls ≡ []) × (new : Outcome) × (result ≡ Ok new) × HasNamed d.certificate old new)
+    ⊎ (((d.in_place ≡ true) × IsFirst inputs old.out.items × (calls ≡ []) × (between new : Outcome) × (result ≡ Ok new) × HasNoText old between
+    × HasNamed d.certificate between new)
+    ⊎ ((d.in_place ≡ true) × (¬ IsFirst inputs old.out.items) × IsReplaced file d.certificate old result calls))
+
+-- An outcome of an edit of FILE, by a list of edits or without one. A refusal is left alone.
+abbrev pub IsEdited : List ℕ → Option Path → Destination → List (Vec ℕ Global) → Outcome → Result Outcome RunFault → List Call → Type 0
+IsEdited file list d inputs old result calls =
+    ((old.status ≢ 0) × (calls ≡ []) × (result ≡ Ok old))
+    ⊎ (((old.status ≡ 0) × IsCutShort (all_compared d.certificate file list) calls × IsFileFault result)
+    ⊎ ((old.status ≡ 0) × (more : List Call) × (calls ≡ all_compared d.certificate file list ++ more) × IsPlaced file d inputs old result more))
+
+-- An outcome of a request.
+abbrev pub IsSettled : Request → List (Vec ℕ Global) → Outcome → Result Outcome RunFault → List Call → Type 0
+IsSettled (requests.Certify before edits after cert profile) inputs old result calls = (calls ≡ []) × (new : Outcome) × (result ≡ Ok new) × HasNamed cert old new
+IsSettled (requests.One file place e d profile) inputs old result calls = IsEdited file.now None d inputs old result calls
+IsSettled (requests.Apply file edits d profile) inputs old result calls = IsEdited file.now (Some edits) d inputs old result calls
+IsSettled _ inputs old result calls = (calls ≡ []) × (result ≡ Ok old)
+
+-- the paths of the files that a request has written, in their order
+abbrev pub written : Request → List (Option Path)
+written (requests.Edit file edits out cert explain profile) = Some out ∷ Some cert ∷ []
+written (requests.Certify before edits after cert profile) = cert ∷ None ∷ []
+written (requests.One file place e d profile) = d.certificate ∷ None ∷ []
+written (requests.Apply file edits d profile) = d.certificate ∷ None ∷ []
+written _ = None ∷ None ∷ []
