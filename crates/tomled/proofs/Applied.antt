@@ -8,7 +8,7 @@ use Rattle.toml_edits.specs.EditList.{IsEditList}
 use Rattle.toml_edits.specs.Edits.{Change}
 use Rattle.toml_units.specs.Certificates.{certificate_of}
 use Rattle.toml_editor.specs.Edited.{IsEditedWith}
-use Rattle.toml_editor.specs.declared.layout.Layout.{Layout}
+use Rattle.toml_working.specs.declared.layout.Layout.{Layout}
 use Rattle.tomled.specs.Apply.{Applies, IsApplied}
 use Rattle.tomled.specs.Edit.{IsUnedited}
 use Rattle.tomled.specs.Outcomes.{Answers, Ends, Gives, IsGood, Tells, texts_of}

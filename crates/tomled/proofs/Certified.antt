@@ -11,7 +11,7 @@ use Rattle.toml_units.specs.Certificates.{certificate_of}
 use Rattle.toml_checker.specs.Findings.{IsCertificate, IsFirstUnmet}
 use Rattle.toml_checker.proofs.Proved.{found_is_met, one_certificate}
 use Rattle.tomled.specs.Certify.{Certifies, EditedIsCertified, LacksCertificate, IsCertified, IsCertifying, IsUncertified}
-use Rattle.toml_editor.specs.declared.layout.Layout.TheVariants.{Plain}
+use Rattle.toml_working.specs.declared.layout.Layout.TheVariants.{Plain}
 use Rattle.tomled.specs.Edit.{AreEdited}
 use Rattle.tomled.specs.EditLists.{IsListRefusal}
 use Rattle.tomled.specs.Outcomes.{Answers, Ends, Gives, Tells, texts_of}

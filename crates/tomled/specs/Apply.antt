@@ -1,7 +1,7 @@
 -- What `apply` answers.
 use Rattle.std.specs.Prelude.{◌≡◌, ℕ, List, [], ◌∷◌}
 use Rattle.toml_tree.specs.declared.profile.Profile.{Profile}
-use Rattle.toml_editor.specs.declared.layout.Layout.{Layout}
+use Rattle.toml_working.specs.declared.layout.Layout.{Layout}
 use Rattle.tomled.specs.Edit.{AreEdited, PrintsText, SaysOfList}
 use Rattle.tomled.specs.declared.outcome.Outcome.{Outcome}
 
