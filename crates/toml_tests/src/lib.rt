@@ -33,6 +33,8 @@ mod tree;
 #[cfg(test)]
 mod units;
 #[cfg(test)]
+mod words;
+#[cfg(test)]
 mod worked;
 #[cfg(test)]
 mod written;

@@ -7,8 +7,6 @@ mod command_line;
 mod commands;
 mod marking;
 mod request;
-#[cfg(test)]
-mod tests;
 mod told;
 mod values;
 

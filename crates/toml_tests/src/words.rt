@@ -1,7 +1,9 @@
-use super::{WordsFault, marked_words, parser_text, read_words};
+//! What the words of command lines ask for.
+
 use std::alloc::{AllocError, Global};
 use std::process::Abort;
 use std::test::Fail;
+use toml_words::{WordsFault, marked_words, parser_text, read_words};
 
 /// What the words of a line ask for, or why they ask for nothing. Between two spaces stands a word of no characters.
 fn asked(alloc: Global, line: &str) -> Result<String, AllocError> {
