@@ -20,4 +20,4 @@ returns-in_ok-run_get_in-in-Get c =
 pub returns-in_ok-run_one_in-in-One : goal.returns-in_ok-run_one_in-in-One
 returns-in_ok-run_one_in-in-One c =
     makes_wish c.args.request.now c.in-One.profile c.args.file.now c.in_ok-run_one_in-in-One.field-0 c.in-One.file c.in-One.place c.in-One.edit c.in-One.destination c.in-One.layout c.in-One.is
-    c.as_bytes.result.now c.as_bytes.ensures.value c.text_layout-layout.result c.text_layout-layout.ensures c.in_ok-run_one_in-in-One.ensures
+    c.as_bytes-place-in-One.result.now c.as_bytes-place-in-One.ensures.value c.text_layout-layout.result c.text_layout-layout.ensures c.in_ok-run_one_in-in-One.ensures
