@@ -22,16 +22,19 @@ step_other s t = by (same_step s t) (same_step t s) refl refl
 pub minus_some : (n m : ℕ) → m ≤ n → minus n m ≡ Some (n - m)
 minus_some n m h = let e : nat_lt n m ≡ false = grind (arith, nat_tests) in ap (λ b. cond b None (Some (n - m))) e
 
+still_off : (c a b : Bool) → (a ≡ false → b ≡ false) → (c && a) ≡ false → (c && b) ≡ false
+still_off true a b later off = later off
+still_off false a b later off = refl
+
+nothing_above : (a : Address) → is_above a [] ≡ false
+nothing_above [] = refl
+nothing_above (s ∷ a) = refl
+
 pub above_more : (a b p : Address) → is_above a p ≡ false → is_above (a ++ b) p ≡ false
-above_more [] [] [] off = refl
-above_more [] (s ∷ b) [] off = refl
+above_more [] b [] off = nothing_above b
 above_more [] b (t ∷ p) off = absurd (true≢false off)
 above_more (s ∷ a) b [] off = refl
-above_more (s ∷ a) b (t ∷ p) off = still (same_step s t) off
-  where
-    still : (c : Bool) → (c && is_above a p) ≡ false → (c && is_above (a ++ b) p) ≡ false
-    still true h = above_more a b p h
-    still false h = refl
+above_more (s ∷ a) b (t ∷ p) off = still_off (same_step s t) (is_above a p) (is_above (a ++ b) p) (above_more a b p) off
 
 -- what follows the same steps
 pub above_behind : (at a b : Address) → is_above (at ++ a) (at ++ b) ≡ is_above a b
