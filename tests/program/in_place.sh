@@ -41,7 +41,7 @@ holds place/f.toml 'port = 9090 # keep\n'
 run 0 - - insert place/f.toml host '"a"' --in-place
 run 0 - - rename -i place/f.toml host 'my host'
 run 0 - - set -i --string place/f.toml '"my host"' b
-run 0 - - set -i --parents place/f.toml s.t.u 1
+run 0 - - set -i --parents --layout plain place/f.toml s.t.u 1
 holds place/f.toml 'port = 9090 # keep\n"my host" = "b"\n[s]\n[s.t]\nu = 1\n'
 run 0 - - remove -i place/f.toml s
 run 0 - - apply --in-place place/f.toml edits.json

@@ -32,7 +32,8 @@ is_form_option name =
 
 -- what the commands that edit take
 abbrev pub is_edit_option : Word → Bool
-is_edit_option name = bytes_eq name (codes "-i") || (bytes_eq name (codes "--in-place") || bytes_eq name (codes "--certificate"))
+is_edit_option name =
+    bytes_eq name (codes "-i") || (bytes_eq name (codes "--in-place") || (bytes_eq name (codes "--certificate") || bytes_eq name (codes "--layout")))
 
 -- what those with a value take beside these
 abbrev pub is_value_option : Word → Bool

@@ -161,6 +161,7 @@ fn is_edit_option(name: &[u8]) -> bool
     name == b"-i".as_slice()
         || name == b"--in-place".as_slice()
         || name == b"--certificate".as_slice()
+        || name == b"--layout".as_slice()
 }
 
 /// One that those take of them that have a value.
