@@ -316,6 +316,8 @@ def one_fault(runs, one, root, before, after):
         return
     for step in at[:-1]:
         above = above[step]
+    if isinstance(above, Tables):
+        return
     if one['op'] == 'insert' and above and added_line(before, after):
         back, refusal = runs.apply('follow', [one, {'op': 'remove', 'at': at}])
         if '\n' not in one['value'] and back != before:
