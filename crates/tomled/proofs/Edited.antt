@@ -106,7 +106,7 @@ module _ (profile : Profile) (before edits : List ℕ) where
       → IsEditing profile before edits a
   edited cs text pairs a listed is printed written = (printed, text, certificate_of pairs, written, record { changes = cs; listed = listed; made = record { pairs = pairs; edited = is; written = refl } })
 
-  told : (r : Refusal) → IsUnedited profile before edits r → (o : Outcome) → Tells r o → Edits profile before edits o
+  told : (r : Refusal) → IsUnedited layouts.Plain profile before edits r → (o : Outcome) → Tells r o → Edits profile before edits o
   told r (inl bad) o tells = inl (r, bad, tells)
   told r (inr is) o tells = inr (is.changes, is.listed, inr (r, is.unmade, tells))
 

@@ -12,6 +12,7 @@ use Rattle.toml_explain.specs.Reasons.{told_of}
 use Rattle.toml_explain.specs.declared.input.Input.{Input}
 use Rattle.toml_words.specs.declared.request.Destination.{Destination}
 use Rattle.toml_words.specs.declared.request.Form.{Form}
+use Rattle.toml_words.specs.declared.request.Layout.{Layout}
 use Rattle.toml_words.specs.declared.request.OneEdit.{OneEdit}
 use Rattle.toml_words.specs.declared.request.Request.{Request}
 use Rattle.toml_words.specs.declared.request.Request.TheVariants as requests
@@ -130,8 +131,8 @@ module _ {S E : Type 0} (f : S → List ℕ) (t : Result S E) (request : Request
       pub of_get : (form : Form) (default : Option (Bor (List ℕ))) → request ≡ requests.Get file place form default profile → IfOk t (λ x. IsSaid request inputs r (f x))
       of_get form default is = by_request (requests.Get file place form default profile) is said
 
-      pub of_one : (e : OneEdit) (destination : Destination) → request ≡ requests.One file place e destination profile → IfOk t (λ x. IsSaid request inputs r (f x))
-      of_one e destination is = by_request (requests.One file place e destination profile) is said
+      pub of_one : (e : OneEdit) (destination : Destination) (layout : Layout) → request ≡ requests.One file place e destination layout profile → IfOk t (λ x. IsSaid request inputs r (f x))
+      of_one e destination layout is = by_request (requests.One file place e destination layout profile) is said
 
     module _ (list : Bor (List ℕ)) (l : List ℕ) (list_is : l ≡ list.now) (no_list : (r.code ≡ 320) ⊎ (r.code ≡ 321) → IfOk t (λ x. OpensBare l (f x)))
         (no_document : r.code < 300 → IfOk t (λ x. OpensAs profile w b r.code r.place (f x)))
@@ -144,5 +145,5 @@ module _ {S E : Type 0} (f : S → List ℕ) (t : Result S E) (request : Request
       pub of_edit : (out cert : Bor (List ℕ)) (explain : Bool) → request ≡ requests.Edit file list out cert explain profile → IfOk t (λ x. IsSaid request inputs r (f x))
       of_edit out cert explain is = by_request (requests.Edit file list out cert explain profile) is listed_said
 
-      pub of_apply : (destination : Destination) → request ≡ requests.Apply file list destination profile → IfOk t (λ x. IsSaid request inputs r (f x))
-      of_apply destination is = by_request (requests.Apply file list destination profile) is listed_said
+      pub of_apply : (destination : Destination) (layout : Layout) → request ≡ requests.Apply file list destination layout profile → IfOk t (λ x. IsSaid request inputs r (f x))
+      of_apply destination layout is = by_request (requests.Apply file list destination layout profile) is listed_said

@@ -91,9 +91,9 @@ abbrev pub IsSaid : Request → List (Vec ℕ Global) → Refusal → List ℕ �
 IsSaid (requests.Show file listed explain profile) inputs r text = OpensAs profile file.now (bytes_at inputs 0) r.code r.place text
 IsSaid (requests.Check file explain profile) inputs r text = OpensAs profile file.now (bytes_at inputs 0) r.code r.place text
 IsSaid (requests.Get file place form default profile) inputs r text = IsSaidAtPlace profile file.now (bytes_at inputs 0) place.now r text
-IsSaid (requests.One file place e destination profile) inputs r text = IsSaidAtPlace profile file.now (bytes_at inputs 0) place.now r text
+IsSaid (requests.One file place e destination layout profile) inputs r text = IsSaidAtPlace profile file.now (bytes_at inputs 0) place.now r text
 IsSaid (requests.Edit file edits out cert explain profile) inputs r text = IsSaidOfList profile file.now (bytes_at inputs 0) edits.now r text
-IsSaid (requests.Apply file edits destination profile) inputs r text = IsSaidOfList profile file.now (bytes_at inputs 0) edits.now r text
+IsSaid (requests.Apply file edits destination layout profile) inputs r text = IsSaidOfList profile file.now (bytes_at inputs 0) edits.now r text
 IsSaid (requests.Verify before edits after cert explain profile) inputs r text =
     IsSaidOfJudged profile (record { before = before; edits = edits; after = after; cert = Some cert }) inputs r text
 IsSaid (requests.Certify before edits after cert profile) inputs r text =

@@ -99,14 +99,14 @@ IsEdited file list d inputs old result calls =
 -- An outcome of a request.
 abbrev pub IsSettled : Request → List (Vec ℕ Global) → Outcome → Result Outcome RunFault → List Call → Type 0
 IsSettled (requests.Certify before edits after cert profile) inputs old result calls = (calls ≡ []) × (new : Outcome) × (result ≡ Ok new) × HasNamed cert old new
-IsSettled (requests.One file place e d profile) inputs old result calls = IsEdited file.now None d inputs old result calls
-IsSettled (requests.Apply file edits d profile) inputs old result calls = IsEdited file.now (Some edits) d inputs old result calls
+IsSettled (requests.One file place e d layout profile) inputs old result calls = IsEdited file.now None d inputs old result calls
+IsSettled (requests.Apply file edits d layout profile) inputs old result calls = IsEdited file.now (Some edits) d inputs old result calls
 IsSettled _ inputs old result calls = (calls ≡ []) × (result ≡ Ok old)
 
 -- the paths of the files that a request has written, in their order
 abbrev pub written : Request → List (Option Path)
 written (requests.Edit file edits out cert explain profile) = Some out ∷ Some cert ∷ []
 written (requests.Certify before edits after cert profile) = cert ∷ None ∷ []
-written (requests.One file place e d profile) = d.certificate ∷ None ∷ []
-written (requests.Apply file edits d profile) = d.certificate ∷ None ∷ []
+written (requests.One file place e d layout profile) = d.certificate ∷ None ∷ []
+written (requests.Apply file edits d layout profile) = d.certificate ∷ None ∷ []
 written _ = None ∷ None ∷ []

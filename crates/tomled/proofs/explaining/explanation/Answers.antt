@@ -27,7 +27,7 @@ returns-in-One c =
     let file = c.input-in-One in
     let told = c.of_one.ensures in
     of_one string_bytes c.of_one.result c.args.request.now c.args.inputs.now c.args.refusal c.in-One.profile c.in-One.file
-    file.result.word.now file.result.bytes.now file.ensures.word file.ensures.bytes c.in-One.place told.no_place told.no_document told.in_file c.in-One.edit c.in-One.destination c.in-One.is
+    file.result.word.now file.result.bytes.now file.ensures.word file.ensures.bytes c.in-One.place told.no_place told.no_document told.in_file c.in-One.edit c.in-One.destination c.in-One.layout c.in-One.is
 
 pub returns-in-Edit : goal.returns-in-Edit
 returns-in-Edit c =
@@ -45,7 +45,7 @@ returns-in-Apply c =
     let told = c.of_list-in-Apply.ensures in
     of_apply string_bytes c.of_list-in-Apply.result c.args.request.now c.args.inputs.now c.args.refusal c.in-Apply.profile c.in-Apply.file
     file.result.word.now file.result.bytes.now file.ensures.word file.ensures.bytes c.in-Apply.edits list.result.word.now list.ensures.word told.no_list told.no_document told.in_file
-    c.in-Apply.destination c.in-Apply.is
+    c.in-Apply.destination c.in-Apply.layout c.in-Apply.is
 
 pub returns-in-Verify : goal.returns-in-Verify
 returns-in-Verify c =

@@ -13,10 +13,10 @@ returns-in-Certify g c =
 
 pub returns-in-One : goal.returns-in-One
 returns-in-One g c =
-    by_request c.args.request.now (requests.One c.in-One.file c.in-One.place c.in-One.edit c.in-One.destination c.in-One.profile) c.in-One.is c.args.inputs.now
+    by_request c.args.request.now (requests.One c.in-One.file c.in-One.place c.in-One.edit c.in-One.destination c.in-One.layout c.in-One.profile) c.in-One.is c.args.inputs.now
     c.args.outcome c.edited.result _ _ c.edited.ensures
 
 pub returns-in-Apply : goal.returns-in-Apply
 returns-in-Apply g c =
-    by_request c.args.request.now (requests.Apply c.in-Apply.file c.in-Apply.edits c.in-Apply.destination c.in-Apply.profile) c.in-Apply.is c.args.inputs.now
+    by_request c.args.request.now (requests.Apply c.in-Apply.file c.in-Apply.edits c.in-Apply.destination c.in-Apply.layout c.in-Apply.profile) c.in-Apply.is c.args.inputs.now
     c.args.outcome c.edited-in-Apply.result _ _ c.edited-in-Apply.ensures
