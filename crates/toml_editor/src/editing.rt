@@ -26,9 +26,7 @@ use toml_names::{AddressSet, ReadFault};
 use toml_text::{MAX_LEN, Source};
 use toml_tree::{Profile, mark};
 use toml_units::{Certificate, Piece, TakenLines, UnitCursor, join};
-use toml_working::{
-    Before, Layout, LineFacts, ReadDocument, Texts, Tree, let_go, read_document,
-};
+use toml_working::{Before, Layout, LineFacts, ReadDocument, Texts, Tree, let_go, read_document};
 
 /// What the edits make, not judged yet: the pieces of the edited text, and the text.
 #[derive(Drop)]

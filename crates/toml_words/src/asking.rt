@@ -11,8 +11,8 @@ use crate::command_line::command;
 use crate::marking::is_marked;
 use crate::request::{Destination, Form, NewValue, OneEdit, Request};
 use crate::values::{
-    all_values, are_both_input, first_value, is_given, is_input, layout_given, profile_given, value,
-    word,
+    all_values, are_both_input, first_value, is_given, is_input, layout_given, profile_given,
+    value, word,
 };
 use clap::ArgMatches;
 use clap::error::ErrorKind;

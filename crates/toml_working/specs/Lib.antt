@@ -39,5 +39,6 @@ pub mod Inserting
 pub mod Removing
 pub mod Renaming
 pub mod Written
+
 -- what it does to the units
 -- that the code writes it

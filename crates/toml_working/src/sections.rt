@@ -211,10 +211,7 @@ fn names_key<'t>(
 }
 
 /// The element at the address, or the innermost one above it.
-pub fn innermost_element(
-    alloc: Global,
-    at: &Address,
-) -> Result<Option<Address>, AllocError> {
+pub fn innermost_element(alloc: Global, at: &Address) -> Result<Option<Address>, AllocError> {
     let count = steps_to_index(at.steps());
     if count == 0 {
         return Ok(None);
@@ -236,11 +233,7 @@ fn steps_to_index(steps: &[Step]) -> usize {
 }
 
 /// Whether what stands right above the address is the value of a line of the document, or stands in one.
-pub fn is_right_in_value(
-    alloc: Global,
-    names: &LineNames,
-    at: &Address,
-) -> Result<bool, AllocError>
+pub fn is_right_in_value(alloc: Global, names: &LineNames, at: &Address) -> Result<bool, AllocError>
     requires { Stand names.now }
     ensures { (lines : List Lined) → StandFor names.now lines → IfOk result (λ yes. IsTrue yes → IsRightInValue (places_of lines) at.now) }
 {

@@ -19,11 +19,7 @@ use toml_tree::Piece;
 
 impl<'t> Tree<'t> {
     /// The pieces of the text, behind the mark of the document.
-    pub fn pieces(
-        &self,
-        source: Source<'t>,
-        mark: Piece<'t>,
-    ) -> Result<Pieces<'t>, AllocError>
+    pub fn pieces(&self, source: Source<'t>, mark: Piece<'t>) -> Result<Pieces<'t>, AllocError>
         ensures before { IfOk result (λ pieces. pieces.before ≡ text_of source.entry) }
         ensures written { IfOk result (λ pieces. WritesOut (text_of source.entry) mark.entry.text.now self.now.slots.items pieces.out) }
     {
