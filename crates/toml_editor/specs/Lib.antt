@@ -3,9 +3,8 @@ pub mod Edited
 -- words of the code's own contracts
 pub mod Making
 pub mod Editing
--- what the working tree stands for
 pub mod SpelledEdits
--- what a plain edit writes, and the laws of it
+-- the laws of what a plain edit writes
 pub mod Held
 pub mod SetLaws
 pub mod Blocks

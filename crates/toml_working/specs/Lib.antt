@@ -32,13 +32,10 @@ pub mod Putting
 pub mod Changing
 pub mod RemoveStanding
 pub mod RemovingIn
--- what a plain edit writes, and the laws of it
+-- what a plain edit writes
 pub mod Lines
 pub mod Setting
 pub mod Inserting
 pub mod Removing
 pub mod Renaming
 pub mod Written
-
--- what it does to the units
--- that the code writes it
