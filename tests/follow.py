@@ -9,7 +9,7 @@ one line, with comments, CRLF and tabs, sections, arrays of tables and dotted ke
 - `apply` in both layouts answers the same refusal, or a text; never 309.
 - `certify` and `verify` say yes of the text and its certificate.
 - An item put in beside others, on a line of its own, and taken out again leaves the text as it was.
-- No element and no pair that is taken out leaves a line of blanks.
+- No element that is taken out alone leaves a line of blanks.
 
 The last line is 'N passed, M failed'.
 """

@@ -6,7 +6,7 @@ use crate::inserting::Insertion;
 use crate::steps::begins;
 use crate::working::{Before, Position, Tree};
 use std::alloc::AllocError;
-use toml_names::Step;
+use toml_names::{Address, Step};
 
 impl<'x> Tree<'x> {
     /// The last line with a key and a value from a place in the section of a table on, before the next header. The guess is
@@ -31,6 +31,23 @@ impl<'x> Tree<'x> {
         match (line.base, line.address) {
             (Some(base), Some(own)) => base == table.len() && begins(table, own.steps()),
             _ => false,
+        }
+    }
+
+    /// The line from which the last one strictly below an address is looked for, in the section of a table: the guess, where its line
+    /// stands so there, else the other.
+    pub(crate) fn start_below(
+        &self,
+        before: Before<'_, 'x>,
+        line: Position,
+        table: &[Step],
+        address: &Address,
+    ) -> Position {
+        let guess = self.section_end;
+        if self.is_of_section(before, guess, table) && self.is_strictly_below(before, guess, address) {
+            guess
+        } else {
+            line
         }
     }
 

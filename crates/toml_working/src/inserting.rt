@@ -100,7 +100,10 @@ impl<'x> Tree<'x> {
     ) -> Position {
         match self.texts.layout {
             Layout::Plain => self.last_of_section(before, line, section).unwrap_or(line),
-            Layout::Follow => self.last_below(before, line, table),
+            Layout::Follow => {
+                let from = self.start_below(before, line, section, table);
+                self.last_below(before, from, table)
+            }
         }
     }
 

@@ -254,7 +254,12 @@ impl<'x> Tree<'x> {
     }
 
     /// Whether the line at a place stands strictly below the address.
-    fn is_strictly_below(&self, before: Before<'_, 'x>, at: Position, address: &Address) -> bool {
+    pub(crate) fn is_strictly_below(
+        &self,
+        before: Before<'_, 'x>,
+        at: Position,
+        address: &Address,
+    ) -> bool {
         match self.seen(before, at) {
             Some(line) => line.is_below(address) && line.steps() > address.steps().len(),
             None => false,

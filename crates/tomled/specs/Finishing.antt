@@ -11,6 +11,7 @@ use Rattle.toml_words.specs.Request.{is_input}
 use Rattle.toml_words.specs.declared.request.Destination.{Destination}
 use Rattle.toml_words.specs.declared.request.Request.{Request}
 use Rattle.toml_words.specs.declared.request.Request.TheVariants as requests
+use Rattle.tomled.specs.RunFaults.{told}
 use Rattle.tomled.specs.declared.fault.RunFault.{RunFault}
 use Rattle.tomled.specs.declared.fault.RunFault.TheVariants.{File}
 use Rattle.tomled.specs.declared.outcome.Outcome.{Outcome}
@@ -32,10 +33,12 @@ HasNoText old new = (new.out.items ≡ []) × (new ≡ record old { out = new.ou
 abbrev pub HasNothing : Outcome → Outcome → Type 0
 HasNothing old new = (between : Outcome) × HasNoText old between × HasNamed None between new
 
--- a file fault: status 3, nothing on standard output, and no file
+-- a file fault: status 3, its line first on standard error, nothing on standard output, no refusal, and no file
 pub record TellsFault (new : Outcome) : Type 0 where
   pub status : new.status ≡ 3
+  pub err : (said : List ℕ) × (new.err.items ≡ told File ++ said)
   pub out : new.out.items ≡ []
+  pub refusal : new.refusal ≡ None
   pub files : new.files.items ≡ []
 
 abbrev pub IsFileFault : Result Outcome RunFault → Type 0

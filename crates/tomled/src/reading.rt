@@ -51,10 +51,13 @@ pub fn file_fault(
 ) -> Result<Outcome, AllocError>
     ensures { IfOk result TellsFault }
 {
+    let said = if explains {
+        format!(in alloc; "{word}: {error}\n")?
+    } else {
+        String::new(alloc)
+    };
     let mut text = RunFault::File.text().to_string(alloc)?;
-    if explains {
-        text.push_str(format!(in alloc; "{word}: {error}\n")?.as_str())?;
-    }
+    text.push_str(said.as_str())?;
     Ok(Outcome::failed(alloc, RunFault::File.status(), text.into_bytes()))
 }
 
