@@ -44,7 +44,9 @@ impl<'x> Tree<'x> {
         address: &Address,
     ) -> Position {
         let guess = self.section_end;
-        if self.is_of_section(before, guess, table) && self.is_strictly_below(before, guess, address) {
+        if self.is_of_section(before, guess, table)
+            && self.is_strictly_below(before, guess, address)
+        {
             guess
         } else {
             line
