@@ -58,7 +58,7 @@ impl PlaceTree {
     }
 }
 
-/// The same of a tree that may not be there.
+/// Whether a tree that may not be there meets the address; where there is none it does not.
 pub(crate) fn meets(tree: Option<&PlaceTree>, at: &[Step]) -> bool
     ensures { result ≡ meets (option_copied tree.entry) at.now }
 {
@@ -110,7 +110,7 @@ fn enter(tree: &mut PlaceTree, way: &[Step], whole: bool) -> Result<(), AllocErr
     }
 }
 
-/// The same behind a name, which may be new.
+/// Puts in what is left of an address behind a name, which may be new.
 #[cycle(enter)]
 fn enter_name(
     alloc: Global,
@@ -128,7 +128,7 @@ fn enter_name(
     }
 }
 
-/// The same behind an index, which may be new.
+/// Puts in what is left of an address behind an index, which may be new.
 #[cycle(enter)]
 fn enter_element(
     alloc: Global,
@@ -164,7 +164,7 @@ fn open_name(
     Ok(())
 }
 
-/// The same for an index.
+/// Puts a tree in for an index that has none, apart from `enter` too.
 #[inline(never)]
 fn open_element(
     alloc: Global,

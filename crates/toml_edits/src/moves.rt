@@ -252,7 +252,7 @@ fn open_name(
     Ok(())
 }
 
-/// The same for an element.
+/// Puts a tree in for an element that has none, apart from `enter` too.
 #[inline(never)]
 fn open_element(
     alloc: Global,

@@ -71,7 +71,7 @@ pub fn explain_document(
     document_text(alloc, file, profile, code, place)
 }
 
-/// The same, code by code.
+/// What is said of a text that is no document, code by code.
 fn document_text(
     alloc: Global,
     file: Input<'_>,

@@ -127,7 +127,7 @@ impl<'t> Entries<'t> {
         }
     }
 
-    /// The same on a line of its own: behind the first newline of the gap in which it is to stand. Where that has none, its own
+    /// Makes room on a line of its own: behind the first newline of the gap in which it is to stand. Where that has none, its own
     /// newline stands before it.
     fn room_on_line(
         &mut self,
@@ -155,7 +155,7 @@ impl<'t> Entries<'t> {
         }
     }
 
-    /// The same between brackets where no entry stands. Where a newline does, the new one gets a line of its own before the last
+    /// Makes room between brackets where no entry stands. Where a newline does, the new one gets a line of its own before the last
     /// of them; in an array else it has the whitespace there on both sides, and in an inline table one space.
     fn room_alone(
         &mut self,

@@ -218,7 +218,7 @@ impl<'x> Tree<'x> {
         Ok(self.put(before, next, line)? && self.put_header(before, next, header)?)
     }
 
-    /// The same by layout `Follow`: before the comment lines above the other line, and as that one begins.
+    /// Puts both lines in by layout `Follow`: before the comment lines above the other line, and as that one begins.
     fn put_both(
         &mut self,
         before: Before<'_, 'x>,

@@ -200,7 +200,7 @@ impl<'a, 't> Around<'a, 't> {
         without_piece(alloc, &own.parts, behind, self.is_last)
     }
 
-    /// The same, where it was the last one and had no comma: then the one before it goes.
+    /// What it leaves where it was the last one and had no comma: then the one before it goes.
     fn without_comma(self, alloc: Global, own: Gap<'t>) -> Result<Left<'t>, AllocError> {
         match (self.behind, self.above) {
             (None, Some(above)) => Ok(Left {

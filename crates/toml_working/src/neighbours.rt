@@ -281,7 +281,7 @@ impl<'x> Tree<'x> {
         }
     }
 
-    /// The same of the first line with a key and a value of a section whose header line stands at a place, or is to, and begins
+    /// How the first line with a key and a value begins in a section whose header line stands at a place, or is to, and begins
     /// with this whitespace.
     pub(crate) fn beginning_below(
         &self,

@@ -64,7 +64,7 @@ impl<'t> Texts<'t> {
 }
 
 impl<'t> Leaf<'t> {
-    /// The same text, written anew.
+    /// Its text, written anew.
     pub(crate) fn anew(self) -> Leaf<'t> {
         Leaf::New(self.text())
     }
@@ -91,7 +91,7 @@ impl<'t> GapPart<'t> {
         }
     }
 
-    /// The same part, written anew.
+    /// This part, written anew.
     pub(crate) fn anew(self) -> GapPart<'t> {
         match self {
             GapPart::Ws(leaf) => GapPart::Ws(leaf.anew()),
