@@ -1,13 +1,15 @@
 -- What is said of a refusal: it stands behind the refusal's line, and is of this text and that place, by the request and by the bytes that
 -- were read.
-use Rattle.std.specs.Prelude.{◌≡◌, ◌≢◌, ◌≤◌, ◌<◌, ◌⊎◌, ◌++◌, ◌==◌, ℕ, Bool, true, false, List, [], Some, None, Vec, if◌then◌else◌, slice_get}
+use Rattle.std.specs.Prelude.{◌≡◌, ◌≢◌, ◌≤◌, ◌<◌, ◌⊎◌, ◌++◌, ◌==◌, ℕ, Bool, true, false, List, [], Some, None, Result, String, Vec, IfOk, if◌then◌else◌, slice_get, string_bytes}
 use Rattle.std.specs.Borrow.{Bor}
 use Rattle.std.specs.Option.{option_map_or}
+use Rattle.std.specs.declared.alloc.AllocError.{AllocError}
 use Rattle.std.specs.declared.alloc.Global.{Global}
 use Rattle.toml_tree.specs.declared.profile.Profile.{Profile}
 use Rattle.toml_checker.specs.declared.verdict.Reason.{Reason}
 use Rattle.toml_checker.specs.declared.verdict.Reason.TheVariants.{BeforeRefused, AfterRefused, EditsRefused, OtherData, BadPair, Lost, Unasked, NewComment, NotTheSame}
 use Rattle.toml_explain.specs.Documents.{OpensAs}
+use Rattle.toml_explain.specs.declared.input.Input.{Input}
 use Rattle.toml_explain.specs.Openings.{OpensBare, OpensInFile, OpensPlace}
 use Rattle.toml_names.specs.model.Documents.{IsDocumentIn}
 use Rattle.toml_words.specs.Request.{Asked, show, check, edit, verify, certify, get, edit_one, apply, validate, asked_by}
@@ -41,6 +43,22 @@ explains _ = true
 -- what was read by the word with the number; nothing where there is none
 abbrev pub bytes_at : List (Vec ℕ Global) → ℕ → List ℕ
 bytes_at inputs n = option_map_or (λ (v : Vec ℕ Global). v.items) (slice_get inputs n) []
+
+-- What is told of a refusal, want of memory aside: of PLACE, where that is none,
+abbrev pub ExplainsPlace : List ℕ → Refusal → Result (String Global) AllocError → Type 0
+ExplainsPlace place r told = r.code ≡ 340 → IfOk told (λ text. OpensPlace place r.place (string_bytes text))
+
+-- of EDITS, where that is no list,
+abbrev pub ExplainsList : Input → Refusal → Result (String Global) AllocError → Type 0
+ExplainsList list r told = (r.code ≡ 320) ⊎ (r.code ≡ 321) → IfOk told (λ text. OpensBare list.word.now (string_bytes text))
+
+-- of FILE as the refusal of a document asks,
+abbrev pub ExplainsDocument : Profile → Input → Refusal → Result (String Global) AllocError → Type 0
+ExplainsDocument profile file r told = r.code < 300 → IfOk told (λ text. OpensAs profile file.word.now file.bytes.now r.code r.place (string_bytes text))
+
+-- or of FILE
+abbrev pub ExplainsFile : Input → Result (String Global) AllocError → Type 0
+ExplainsFile file told = IfOk told (λ text. OpensInFile file.word.now file.bytes.now (string_bytes text))
 
 -- of a command with a PLACE: of that, of FILE as the refusal of a document asks, or else of FILE
 pub record IsSaidAtPlace (profile : Profile) (word bytes place : List ℕ) (r : Refusal) (text : List ℕ) : Type 0 where

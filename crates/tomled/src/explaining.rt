@@ -1,8 +1,8 @@
 //! What is said of a refusal behind its line: where it is, and why.
-ghost use Rattle.std.specs.Prelude.{◌≡◌, ◌≢◌, ◌<◌, ◌≤◌, ◌⊎◌, ◌↔◌, IfOk, IsTrue, string_bytes};
+ghost use Rattle.std.specs.Prelude.{◌≡◌, ◌≢◌, ◌<◌, ◌≤◌, ◌↔◌, IfOk, IsTrue, string_bytes};
 ghost use Rattle.toml_explain.specs.Documents.{OpensAs};
-ghost use Rattle.toml_explain.specs.Openings.{OpensBare, OpensInFile, OpensPlace};
 ghost use Rattle.toml_words.specs.Request.{asked_by};
+ghost use Rattle.tomled.specs.Explaining.{ExplainsDocument, ExplainsFile, ExplainsList, ExplainsPlace};
 ghost use Rattle.tomled.specs.Explaining.{HasSaid, IsExplained, IsExplainedText, IsSaid, bytes_at, explains};
 
 use crate::judging::{JudgedWords, of_judged};
@@ -199,9 +199,9 @@ fn of_get(
     profile: Profile,
     refusal: Refusal,
 ) -> Result<String, AllocError>
-    ensures no_place { refusal.code ≡ 340 → IfOk result (λ text. OpensPlace place.now refusal.place (string_bytes text)) }
-    ensures no_document { refusal.code < 300 → IfOk result (λ text. OpensAs profile file.entry.word.now file.entry.bytes.now refusal.code refusal.place (string_bytes text)) }
-    ensures in_file { 300 ≤ refusal.code → refusal.code ≢ 340 → IfOk result (λ text. OpensInFile file.entry.word.now file.entry.bytes.now (string_bytes text)) }
+    ensures no_place { ExplainsPlace place.now refusal result }
+    ensures no_document { ExplainsDocument profile file.entry refusal result }
+    ensures in_file { 300 ≤ refusal.code → refusal.code ≢ 340 → ExplainsFile file.entry result }
 {
     if refusal.code == 340 {
         return explain_place(alloc, place, refusal.place);
@@ -228,9 +228,9 @@ fn of_one(
     profile: Profile,
     refusal: Refusal,
 ) -> Result<String, AllocError>
-    ensures no_place { refusal.code ≡ 340 → IfOk result (λ text. OpensPlace place.now refusal.place (string_bytes text)) }
-    ensures no_document { refusal.code < 300 → IfOk result (λ text. OpensAs profile file.entry.word.now file.entry.bytes.now refusal.code refusal.place (string_bytes text)) }
-    ensures in_file { 300 ≤ refusal.code → refusal.code ≢ 340 → IfOk result (λ text. OpensInFile file.entry.word.now file.entry.bytes.now (string_bytes text)) }
+    ensures no_place { ExplainsPlace place.now refusal result }
+    ensures no_document { ExplainsDocument profile file.entry refusal result }
+    ensures in_file { 300 ≤ refusal.code → refusal.code ≢ 340 → ExplainsFile file.entry result }
 {
     if refusal.code == 340 {
         return explain_place(alloc, place, refusal.place);
@@ -258,7 +258,7 @@ fn leads_nowhere(edits: &[Edit], index: usize) -> bool {
 
 /// Of a text that the judge refuses.
 fn unverified(alloc: Global, file: Input<'_>, refusal: Refusal) -> Result<String, AllocError>
-    ensures { IfOk result (λ text. OpensInFile file.entry.word.now file.entry.bytes.now (string_bytes text)) }
+    ensures { ExplainsFile file.entry result }
 {
     explain_unverified(alloc, file, reason_told(refusal.place))
 }
@@ -276,9 +276,9 @@ fn of_list(
     profile: Profile,
     refusal: Refusal,
 ) -> Result<String, AllocError>
-    ensures no_list { (refusal.code ≡ 320) ⊎ (refusal.code ≡ 321) → IfOk result (λ text. OpensBare list.entry.word.now (string_bytes text)) }
-    ensures no_document { refusal.code < 300 → IfOk result (λ text. OpensAs profile file.entry.word.now file.entry.bytes.now refusal.code refusal.place (string_bytes text)) }
-    ensures in_file { 300 ≤ refusal.code → refusal.code ≢ 320 → refusal.code ≢ 321 → IfOk result (λ text. OpensInFile file.entry.word.now file.entry.bytes.now (string_bytes text)) }
+    ensures no_list { ExplainsList list.entry refusal result }
+    ensures no_document { ExplainsDocument profile file.entry refusal result }
+    ensures in_file { 300 ≤ refusal.code → refusal.code ≢ 320 → refusal.code ≢ 321 → ExplainsFile file.entry result }
 {
     if refusal.code == 320 || refusal.code == 321 {
         return explain_list(alloc, list.word, refusal.code, refusal.place);

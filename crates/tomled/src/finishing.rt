@@ -112,7 +112,7 @@ fn edited<D: Disk>(
     placed(alloc, disk, file, destination, inputs, outcome)
 }
 
-/// The same of a good outcome, once the path of the certificate is good.
+/// Replaces FILE by the text of a good outcome, or leaves what is to be printed, once the path of the certificate is good.
 fn placed<D: Disk>(
     alloc: Global,
     disk: &mut D,

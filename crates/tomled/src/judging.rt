@@ -54,7 +54,7 @@ pub fn of_judged(
     }
 }
 
-/// The same by the judge's reason.
+/// Of a text that the judge refuses, by its reason.
 fn of_reason(
     alloc: Global,
     words: JudgedWords<'_>,
@@ -71,7 +71,7 @@ fn of_reason(
     }
 }
 
-/// The same where both texts are documents.
+/// Of two documents, by the judge's reason.
 fn of_texts(
     alloc: Global,
     words: JudgedWords<'_>,
