@@ -147,10 +147,19 @@ holds other.cert 'kept 1\n1 1\n2 2\n'
 run 3 - 'file fault+' certify before.toml edits.json other.toml none/other.cert
 run 3 - 'file fault+' certify before.toml edits.json other.toml .
 run 3 - 'file fault' certify before.toml edits.json other.toml /dev/full
-# All three are read before CERT is opened.
+# CERT may not take the place of what is read, whatever leads to it. A refusal does not ask where it leads.
 cp other.toml over.toml
-run 0 yes - certify before.toml edits.json over.toml over.toml
-holds over.toml 'kept 1\n1 1\n2 2\n'
+ln -s before.toml link.toml
+ln edits.json hard.json
+for cert in before.toml edits.json over.toml ./over.toml link.toml hard.json; do
+  run 3 - 'file fault+' certify before.toml edits.json over.toml "$cert"
+  run 1 - 'refused 406 0+' certify before.toml edits.json lost.toml "$cert"
+done
+run 3 - 'file fault+' certify - edits.json over.toml over.toml <before.toml
+same over.toml other.toml
+holds before.toml 'port = 1_000 # keep\n'
+holds edits.json '[{"op":"set","at":["port"],"value":"0x1F"}]'
+rm link.toml hard.json
 
 # One of its three texts may be standard input, of which there is one. A file may have that name too.
 run 0 yes - certify - edits.json other.toml piped.cert <before.toml

@@ -7,7 +7,7 @@ ghost use Rattle.toml_checker.specs.After.{GivesData, Makes, TellsMade};
 
 use std::alloc::{AllocError, Global};
 use std::mem;
-use toml_edits::{Edit, EditFault, apply_in, near_addresses};
+use toml_edits::{Draft, Edit, EditFault, near_addresses};
 use toml_names::{AddressSet, Data, LineNames};
 use toml_tree::Profile;
 
@@ -20,14 +20,14 @@ pub(crate) fn data_after(
 ) -> Result<Option<Data>, AllocError>
     ensures { IfOk result (GivesData profile (map change edits.now) old) }
 {
-    let mut data = old;
+    let mut draft = Draft::of(old);
     for edit in edits {
-        if let Err(fault) = apply_in(alloc, &mut data, edit, profile) {
+        if let Err(fault) = draft.apply(alloc, edit, profile) {
             told(fault)?;
             return Ok(None);
         }
     }
-    Ok(Some(data))
+    Ok(Some(draft.into_data()?))
 }
 
 /// Passes on that there was no memory.

@@ -23,13 +23,9 @@ use Rattle.toml_names.specs.reader.Texts as texts
 use Rattle.toml_names.proofs.Proved.{refused_text}
 use Rattle.toml_edits.specs.Edits.{Change}
 use Rattle.toml_editor.specs.PlainTexts.{IsNoPlainEdit, NoSpreadSet}
-use Rattle.toml_units.specs.declared.piece.Piece.{Piece}
-use Rattle.toml_editor.specs.Edited.{IsEditedWith, RefusesText, Tells, TellsOfData, TellsWith}
-use Rattle.toml_editor.specs.Editing.{IsEditedText, TellsIn}
+use Rattle.toml_editor.specs.Edited.{RefusesText, TellsWith}
 use Rattle.toml_editor.specs.Exact.{OfNoPlaceAt, OfNumber}
-use Rattle.toml_working.specs.Layouts.{AreSaid}
 use Rattle.toml_working.specs.declared.layout.Layout.{Layout}
-use Rattle.toml_working.specs.declared.layout.Layout.TheVariants as layouts
 use Rattle.toml_editor.specs.Making.{TellsAny}
 use Rattle.toml_editor.specs.declared.fault.EditorFault.{EditorFault}
 use Rattle.toml_editor.specs.declared.fault.EditorFault.TheVariants as faults
@@ -66,42 +62,27 @@ names_told profile text (names.LongAddress line) is h =
 names_told profile text names.NoMemory is h = tt
 
 -- what is told of the data of a text is told of the text
-pub any_tells : (profile : Profile) (before : List ℕ) (cs : List Change) (d : Doc) (old : Kinds) (fault : EditorFault) → IsDocumentIn profile before
+pub any_tells : (layout : Layout) (profile : Profile) (before : List ℕ) (cs : List Change) (d : Doc) (old : Kinds) (fault : EditorFault) → IsDocumentIn profile before
     → Spells d before → IsDataOf (named d.lines) old → TellsAny profile (place (named d.lines)) cs old fault
-    → OfNumber (NoSpreadSet profile before cs) fault → OfNoPlaceAt (IsNoPlainEdit profile before cs) fault → Tells profile before cs fault
-any_tells profile before cs d old (faults.Edit i f) document spelled facts h passed not = (document, (d, spelled, old, facts, h), passed)
-any_tells profile before cs d old (faults.Spread i) document spelled facts h passed not =
+    → OfNumber (NoSpreadSet layout profile before cs) fault → OfNoPlaceAt (IsNoPlainEdit layout profile before cs) fault → TellsWith layout profile before cs fault
+any_tells layout profile before cs d old (faults.Edit i f) document spelled facts h passed not = (document, (d, spelled, old, facts, h), passed)
+any_tells layout profile before cs d old (faults.Spread i) document spelled facts h passed not =
     (document, (d, spelled, (d, spelled, old, facts, h)), not, passed)
-any_tells profile before cs d old (faults.LastElement i) document spelled facts h passed not = (document, (d, spelled, old, facts, h), not, passed)
-any_tells profile before cs d old faults.NoMemory document spelled facts h passed not = tt
-any_tells profile before cs d old (faults.Text f) document spelled facts h passed not = absurd h
-any_tells profile before cs d old (faults.Syntax f) document spelled facts h passed not = absurd h
-any_tells profile before cs d old (faults.Names f) document spelled facts h passed not = absurd h
-any_tells profile before cs d old faults.TooLong document spelled facts h passed not = absurd h
-any_tells profile before cs d old (faults.Unverified r) document spelled facts h passed not = absurd h
+any_tells layout profile before cs d old (faults.LastElement i) document spelled facts h passed not = (document, (d, spelled, old, facts, h), not, passed)
+any_tells layout profile before cs d old faults.NoMemory document spelled facts h passed not = tt
+any_tells layout profile before cs d old (faults.Text f) document spelled facts h passed not = absurd h
+any_tells layout profile before cs d old (faults.Syntax f) document spelled facts h passed not = absurd h
+any_tells layout profile before cs d old (faults.Names f) document spelled facts h passed not = absurd h
+any_tells layout profile before cs d old faults.TooLong document spelled facts h passed not = absurd h
+any_tells layout profile before cs d old (faults.Unverified r) document spelled facts h passed not = absurd h
 
--- so it is of the data alone
-pub any_tells_of_data : (profile : Profile) (before : List ℕ) (cs : List Change) (d : Doc) (old : Kinds) (fault : EditorFault) → IsDocumentIn profile before
-    → Spells d before → IsDataOf (named d.lines) old → TellsAny profile (place (named d.lines)) cs old fault → TellsOfData profile before cs fault
-any_tells_of_data profile before cs d old (faults.Edit i f) document spelled facts h = (document, (d, spelled, old, facts, h))
-any_tells_of_data profile before cs d old (faults.Spread i) document spelled facts h = (document, (d, spelled, (d, spelled, old, facts, h)))
-any_tells_of_data profile before cs d old (faults.LastElement i) document spelled facts h = (document, (d, spelled, old, facts, h))
-any_tells_of_data profile before cs d old faults.NoMemory document spelled facts h = tt
-any_tells_of_data profile before cs d old (faults.Text f) document spelled facts h = absurd h
-any_tells_of_data profile before cs d old (faults.Syntax f) document spelled facts h = absurd h
-any_tells_of_data profile before cs d old (faults.Names f) document spelled facts h = absurd h
-any_tells_of_data profile before cs d old faults.TooLong document spelled facts h = absurd h
-any_tells_of_data profile before cs d old (faults.Unverified r) document spelled facts h = absurd h
-
--- ---- layouts
-
--- why a text is no document is told in each
+-- why a text is no document is told in each layout
 pub refused_tells : (layout : Layout) (profile : Profile) (before : List ℕ) (cs : List Change) (fault : EditorFault) → RefusesText profile before fault
-    → TellsIn layout profile before cs fault
-refused_tells layout profile before cs (faults.Text f) h = record { of_data = h; said = λ said. h }
-refused_tells layout profile before cs (faults.Syntax f) h = record { of_data = h; said = λ said. h }
-refused_tells layout profile before cs (faults.Names f) h = record { of_data = h; said = λ said. h }
-refused_tells layout profile before cs faults.NoMemory h = record { of_data = tt; said = λ said. tt }
+    → TellsWith layout profile before cs fault
+refused_tells layout profile before cs (faults.Text f) h = h
+refused_tells layout profile before cs (faults.Syntax f) h = h
+refused_tells layout profile before cs (faults.Names f) h = h
+refused_tells layout profile before cs faults.NoMemory h = tt
 refused_tells layout profile before cs (faults.Edit i f) h = absurd h
 refused_tells layout profile before cs (faults.Spread i) h = absurd h
 refused_tells layout profile before cs (faults.LastElement i) h = absurd h
@@ -109,24 +90,5 @@ refused_tells layout profile before cs faults.TooLong h = absurd h
 refused_tells layout profile before cs (faults.Unverified r) h = absurd h
 
 pub memory_tells : (layout : Layout) (profile : Profile) (before : List ℕ) (cs : List Change) (fault : EditorFault) → fault ≡ faults.NoMemory
-    → TellsIn layout profile before cs fault
-memory_tells layout profile before cs fault is = subst (TellsIn layout profile before cs) (sym is) (record { of_data = tt; said = λ said. tt })
-
--- in `Plain` it is said of all edits what they write
-pub plain_is_said : (cs : List Change) → AreSaid layouts.Plain cs
-plain_is_said [] = tt
-plain_is_said (c ∷ cs) = (tt, plain_is_said cs)
-
-pub tells_with : (layout : Layout) (profile : Profile) (before : List ℕ) (cs : List Change) (fault : EditorFault) → TellsIn layout profile before cs fault
     → TellsWith layout profile before cs fault
-tells_with layouts.Plain profile before cs fault h = h.said (plain_is_said cs)
-tells_with layouts.Follow profile before cs fault h = record { of_data = h.of_data; said = h.said }
-
-pub plain_tells : (profile : Profile) (before : List ℕ) (cs : List Change) (fault : EditorFault) → TellsIn layouts.Plain profile before cs fault
-    → Tells profile before cs fault
-plain_tells profile before cs fault h = h.said (plain_is_said cs)
-
-pub edited_with : (layout : Layout) (profile : Profile) (before after : List ℕ) (cs : List Change) (list : List Piece) (ps : List (ℕ × ℕ))
-    → IsEditedText layout profile before cs after list ps → IsEditedWith layout profile before cs after ps
-edited_with layouts.Plain profile before after cs list ps h = h.said (plain_is_said cs)
-edited_with layouts.Follow profile before after cs list ps h = record { certified = h.certified; outer = h.outer; said = h.said }
+memory_tells layout profile before cs fault is = subst (TellsWith layout profile before cs) (sym is) tt

@@ -8,6 +8,7 @@ pub mod PlainAnswers
 mod PlainJudged
 pub mod NearFaults
 mod SpelledOne
+mod SourceKept
 mod RenameWritten
 mod EditWritten
 mod WrittenOut

@@ -4,23 +4,31 @@ use Rattle.std.proofs.Math.Path.{fun_ext}
 use Rattle.std.proofs.lemmas.List.{take_more}
 use Rattle.std.specs.Prelude.{slice_get}
 use Rattle.toml_tree.specs.declared.profile.Profile.{Profile}
-use Rattle.toml_names.specs.declared.model.datum.Datum.{Datum}
-use Rattle.toml_names.specs.model.Data.{Kinds, kind_at}
+use Rattle.toml_names.specs.model.Data.{Kinds}
 use Rattle.toml_edits.specs.declared.edit.Edit.{Edit as Given}
+use Rattle.toml_edits.specs.declared.draft.Draft.{Draft}
 use Rattle.toml_edits.specs.After.{IsAfter}
+use Rattle.toml_edits.specs.Applied.{IsApplied}
+use Rattle.toml_edits.specs.Drafts.{drafted}
 use Rattle.toml_edits.specs.Edits.{Change, change}
 use Rattle.toml_edits.specs.Faults.{IsFault}
 use Rattle.toml_edits.specs.Lists.{Lead}
+use Rattle.toml_names.specs.model.Addresses.{Address}
+use Rattle.toml_working.specs.Starting.{read_of}
+use Rattle.toml_working.specs.declared.working.Tree.{Tree}
+use Rattle.toml_editor.specs.Exact.{DoneOne}
+use Rattle.toml_editor.specs.Made.{MakesEdit, RefusesEdit, places_in}
+use Rattle.toml_editor.specs.declared.making.Read.{Read}
 use Rattle.toml_editor.specs.Edited.{SoFar, OfDefined, MayBeSpread, TakesLastElement}
 use Rattle.toml_working.specs.InValues.{Places}
 use Rattle.toml_editor.specs.Making.{IsMade, TellsOne, TellsAny}
 use Rattle.toml_editor.specs.declared.fault.EditorFault.{EditorFault}
 use Rattle.toml_editor.specs.declared.fault.EditorFault.TheVariants as faults
 
-lead_more : (profile : Profile) (cs : List Change) (c : Change) (old : Kinds) (mid new : Datum) → Lead profile cs old (kind_at mid) → IsMade profile c mid new → Lead profile (cs ++ c ∷ []) old (kind_at new)
+lead_more : (profile : Profile) (cs : List Change) (c : Change) (old : Kinds) (mid new : Draft) → Lead profile cs old (drafted mid) → IsMade profile c mid new → Lead profile (cs ++ c ∷ []) old (drafted new)
 lead_more profile [] c old mid new lead made =
-    let is : kind_at mid ≡ old = sym (fun_ext lead) in
-    (subst (λ k. IsFault profile c k None) is made.0, kind_at new, subst (λ k. IsAfter profile c k (kind_at new)) is made.1, (λ a. refl))
+    let is : drafted mid ≡ old = sym (fun_ext lead) in
+    (subst (λ k. IsFault profile c k None) is made.0, drafted new, subst (λ k. IsAfter profile c k (drafted new)) is made.1, (λ a. refl))
 lead_more profile (d ∷ cs) c old mid new lead made = (lead.0, lead.1, lead.2, lead_more profile cs c lead.1 mid new lead.3 made)
 
 map_push : (xs ys : List Given) → map change (xs ++ ys) ≡ map change xs ++ map change ys
@@ -31,9 +39,9 @@ map_push (x ∷ xs) ys = ap (λ zs. change x ∷ zs) (map_push xs ys)
 pub taken_on : (es : List Given) (i : ℕ) (e : Given) → i < length es → e ≡ get_or es i e → map change (take (i + 1) es) ≡ map change (take i es) ++ change e ∷ []
 taken_on es i e low is = ap (map change) (take_more es i e low ∙ ap (λ x. take i es ++ x ∷ []) (sym is)) ∙ map_push (take i es) (e ∷ [])
 
-pub led_on : (profile : Profile) (es : List Given) (i : ℕ) (e : Given) (old : Kinds) (mid new : Datum) → i < length es → e ≡ get_or es i e → Lead profile (map change (take i es)) old (kind_at mid) → IsMade profile (change e) mid new → Lead profile (map change (take (i + 1) es)) old (kind_at new)
+pub led_on : (profile : Profile) (es : List Given) (i : ℕ) (e : Given) (old : Kinds) (mid new : Draft) → i < length es → e ≡ get_or es i e → Lead profile (map change (take i es)) old (drafted mid) → IsMade profile (change e) mid new → Lead profile (map change (take (i + 1) es)) old (drafted new)
 led_on profile es i e old mid new low is lead made =
-    subst (λ cs. Lead profile cs old (kind_at new)) (sym (taken_on es i e low is)) (lead_more profile (map change (take i es)) (change e) old mid new lead made)
+    subst (λ cs. Lead profile cs old (drafted new)) (sym (taken_on es i e low is)) (lead_more profile (map change (take i es)) (change e) old mid new lead made)
 
 pub take_map : (n : ℕ) (es : List Given) → take n (map change es) ≡ map change (take n es)
 take_map zero es = refl
@@ -59,3 +67,19 @@ any_of_one profile places es i e old mid (faults.Syntax f) low is lead h = absur
 any_of_one profile places es i e old mid (faults.Names f) low is lead h = absurd h
 any_of_one profile places es i e old mid faults.TooLong low is lead h = absurd h
 any_of_one profile places es i e old mid (faults.Unverified r) low is lead h = absurd h
+
+-- ---- data that were turned to an edit are the same
+
+pub turned_made : (read : Read) (c : Change) (old mid new : Draft) (before after : Tree) → ((at : Address) → drafted mid at ≡ drafted old at) → MakesEdit read c mid new before after
+    → MakesEdit read c old new before after
+turned_made read c old mid new before after same made = record {
+  applied = subst (λ k. IsApplied read.profile c k (drafted new)) (fun_ext same) made.applied;
+  done = subst (λ k. DoneOne read.profile (read_of read.before) k c before after) (fun_ext same) made.done;
+}
+
+pub turned_told : (read : Read) (i : ℕ) (c : Change) (old mid : Draft) (tree : Tree) (fault : EditorFault) → ((at : Address) → drafted mid at ≡ drafted old at) → RefusesEdit read i c mid tree fault
+    → RefusesEdit read i c old tree fault
+turned_told read i c old mid tree fault same refuses = record {
+  told = subst (λ k. TellsOne read.profile (places_in read) i c k fault) (fun_ext same) refuses.told;
+  not_plain = refuses.not_plain;
+}

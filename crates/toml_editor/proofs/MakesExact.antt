@@ -15,25 +15,22 @@ use Rattle.toml_edits.specs.Edits.{Change, place, set, insert, rename, remove, n
 use Rattle.toml_edits.specs.Lists.{Lead}
 use Rattle.toml_editor.specs.declared.fault.EditorFault.{EditorFault}
 use Rattle.toml_editor.specs.declared.fault.EditorFault.TheVariants as faults
-use Rattle.toml_working.specs.declared.layout.Layout.{Layout}
-use Rattle.toml_working.specs.declared.layout.Layout.TheVariants as layouts
-use Rattle.toml_working.specs.declared.texts.Texts.{Texts}
 use Rattle.toml_working.specs.declared.working.Tree.{Tree}
 use Rattle.toml_editor.specs.CertifiedLists.{ArePlain}
 use Rattle.toml_editor.specs.Edited.{MayBeSpread, TakesLastElement}
 use Rattle.toml_working.specs.InValues.{Places}
-use Rattle.toml_editor.specs.Exact.{Follows, IsAt, IsNotPlain, IsNotPlainAt, IsSpreadOn, MakesAll, MakesOne, OfPlain, OfNoPlaceAt, PassesAll, PassesAt, PassesOne, SetsMany, Stops, WritesEdit, style}
-use Rattle.toml_working.specs.Layouts.{IsPlainLayout, IsSaid}
+use Rattle.toml_editor.specs.Exact.{Follows, IsAt, IsNotPlain, IsNotPlainAt, IsSpreadOn, MakesAll, MakesOne, OfPlain, OfNoPlaceAt, PassesAll, PassesAt, PassesOne, SetsMany, Stops, WritesEdit}
+use Rattle.toml_working.specs.Putting.{manner}
 use Rattle.toml_editor.specs.Making.{TellsOne}
 use Rattle.toml_editor.specs.PlainTexts.{IsPlainOn}
 use Rattle.toml_working.specs.Standing.{Read}
 use Rattle.toml_editor.specs.Steps.{AreWritten}
 use Rattle.toml_working.specs.Written.{IsWritten}
-use Rattle.toml_editor.proofs.Each.{each_back, each_front}
 use Rattle.toml_editor.proofs.written.Follow.{remove_follows, set_follows, set_is_there}
 use Rattle.toml_editor.proofs.written.InsertFollow.{insert_follows}
 use Rattle.toml_editor.proofs.written.RenameFollow.{rename_follows}
 use Rattle.toml_editor.proofs.written.Steps.{one_list_written}
+use Rattle.toml_working.specs.Manners.{Manner}
 
 -- a `set` that is plain is made, and what is written of it on the working tree is what it writes
 set_made : (profile : Profile) (read : Read) (p : Address) (value : List ℕ) (old new : Tree) (done : Bool) → WritesEdit profile read (set p value) old new done
@@ -45,27 +42,22 @@ set_made profile read p value old new done writes text kinds now at none is_afte
     set_follows profile read old new p value text kinds now at none is_after (plain at.good.tree at.good.spelled) rest (none RootNamed)
     given.tree given.is_value done (sets given.within given.tree given.is_value)
 
--- what an `insert` writes is said in layout `Plain` alone
-no_insert_is_said : (layout : Layout) (p : Address) (value : List ℕ) → IsSaid layout (insert p value) → IsPlainLayout layout
-no_insert_is_said layouts.Plain p value said = refl
-no_insert_is_said layouts.Follow p value said = absurd said
-
 -- what is written of an edit on the working tree is what the edit writes
 pub makes_one : (profile : Profile) (read : Read) (c : Change) (old new : Tree) (done : Bool) → WritesEdit profile read c old new done
     → MakesOne profile read c old new
-makes_one profile read (set p value) old new done writes text kinds now at none is_after said plain =
+makes_one profile read (set p value) old new done writes text kinds now at none is_after plain =
     (set_made profile read p value old new done writes text kinds now at none is_after plain).1
-makes_one profile read (insert p value) old new done writes text kinds now at none is_after said plain =
+makes_one profile read (insert p value) old new done writes text kinds now at none is_after plain =
     let (steps, rest, spelled, inserts) = writes at.whole in
     let given = is_after.1.value in
     insert_follows profile read old new p value text kinds now at none is_after (plain at.good.tree at.good.spelled) rest
-    given.tree given.is_value steps spelled (inserts given.within given.tree given.is_value (no_insert_is_said old.texts.layout p value said))
-makes_one profile read (rename p to) old new done writes text kinds now at none is_after said plain =
+    given.tree given.is_value steps spelled (inserts given.within given.tree given.is_value)
+makes_one profile read (rename p to) old new done writes text kinds now at none is_after plain =
     rename_follows profile read old new p to text kinds now at none is_after (writes at.whole)
-makes_one profile read (remove p) old new done writes text kinds now at none is_after said plain =
+makes_one profile read (remove p) old new done writes text kinds now at none is_after plain =
     remove_follows profile read old new p text kinds now at none is_after (plain at.good.tree at.good.spelled) (writes at.whole)
-makes_one profile read (new_section p) old new done writes text kinds now at none is_after said plain = absurd (plain at.good.tree at.good.spelled)
-makes_one profile read (new_element p) old new done writes text kinds now at none is_after said plain = absurd (plain at.good.tree at.good.spelled)
+makes_one profile read (new_section p) old new done writes text kinds now at none is_after plain = absurd (plain at.good.tree at.good.spelled)
+makes_one profile read (new_element p) old new done writes text kinds now at none is_after plain = absurd (plain at.good.tree at.good.spelled)
 
 -- ---- edits that are not made
 
@@ -114,11 +106,11 @@ passes_one profile read near (new_element p) old new done writes either text kin
 
 -- ---- lists
 
-written_more : (profile : Profile) (cs : List Change) (c : Change) (style before mid after : List ℕ) → AreWritten profile cs style before mid
-    → IsWritten profile c style mid after → AreWritten profile (cs ++ c ∷ []) style before after
-written_more profile [] c style before mid after is written = (after, subst (λ t. IsWritten profile c style t after) (sym is) written, refl)
-written_more profile (d ∷ cs) c style before mid after (between, first, rest) written =
-    (between, first, written_more profile cs c style between mid after rest written)
+written_more : (profile : Profile) (cs : List Change) (c : Change) (manner : Manner) (before mid after : List ℕ) → AreWritten profile cs manner before mid
+    → IsWritten profile c manner mid after → AreWritten profile (cs ++ c ∷ []) manner before after
+written_more profile [] c manner before mid after is written = (after, subst (λ t. IsWritten profile c manner t after) (sym is) written, refl)
+written_more profile (d ∷ cs) c manner before mid after (between, first, rest) written =
+    (between, first, written_more profile cs c manner between mid after rest written)
 
 -- the last of them, on the data to which those before it lead
 lead_parted : (profile : Profile) (cs : List Change) (c : Change) (old now : Kinds) → Lead profile (cs ++ c ∷ []) old now
@@ -128,38 +120,37 @@ lead_parted profile (d ∷ cs) c old now (none, mid, is_after, lead) =
     let last = lead_parted profile cs c mid now lead in (last.0, (none, mid, is_after, last.1), last.2, last.3)
 
 -- and on the text that they write
-plain_parted : (profile : Profile) (cs : List Change) (c : Change) (style text : List ℕ) → ArePlain profile (cs ++ c ∷ []) style text
-    → ArePlain profile cs style text × ((between : List ℕ) → AreWritten profile cs style text between → IsPlainOn profile between c)
-plain_parted profile [] c style text plain = (tt, λ between is. subst (λ t. IsPlainOn profile t c) is plain.0)
-plain_parted profile (d ∷ cs) c style text plain = (
-  (plain.0, λ first is. (plain_parted profile cs c style first (plain.1 first is)).0),
-  λ between written. (plain_parted profile cs c style written.0 (plain.1 written.0 written.1)).1 between written.2,
+plain_parted : (profile : Profile) (cs : List Change) (c : Change) (manner : Manner) (text : List ℕ) → ArePlain profile (cs ++ c ∷ []) manner text
+    → ArePlain profile cs manner text × ((between : List ℕ) → AreWritten profile cs manner text between → IsPlainOn profile between c)
+plain_parted profile [] c manner text plain = (tt, λ between is. subst (λ t. IsPlainOn profile t c) is plain.0)
+plain_parted profile (d ∷ cs) c manner text plain = (
+  (plain.0, λ first is. (plain_parted profile cs c manner first (plain.1 first is)).0),
+  λ between written. (plain_parted profile cs c manner written.0 (plain.1 written.0 written.1)).1 between written.2,
 )
 
 -- none is made yet
 pub none_made : (profile : Profile) (read : Read) (tree : Tree) → MakesAll profile read [] tree tree
-none_made profile read tree text kinds now at lead said plain = record {
+none_made profile read tree text kinds now at lead plain = record {
   after = text;
   written = refl;
   at = subst (IsAt profile read tree text) (fun_ext lead) at;
-  source = record { texts = refl; style = refl };
+  source = record { texts = refl; mannered = refl };
 }
 
 -- one more is made
 pub more_made : (profile : Profile) (read : Read) (cs : List Change) (c : Change) (old tree new : Tree)
     → MakesAll profile read cs old tree → MakesOne profile read c tree new → MakesAll profile read (cs ++ c ∷ []) old new
-more_made profile read cs c old tree new all makes text kinds now at lead said plain =
+more_made profile read cs c old tree new all makes text kinds now at lead plain =
     let (mid, first, none, is_after) = lead_parted profile cs c kinds now lead in
-    let (plain_all, plain_one) = plain_parted profile cs c (style old) text plain in
-    let here = all text kinds mid at first (each_front (IsSaid old.texts.layout) cs (c ∷ []) said) plain_all in
-    let said_one = subst (λ (t : Texts). IsSaid t.layout c) (sym here.source.texts) (each_back (IsSaid old.texts.layout) cs (c ∷ []) said).0 in
-    let one = makes here.after mid now here.at none is_after said_one (plain_one here.after here.written) in
+    let (plain_all, plain_one) = plain_parted profile cs c (manner old) text plain in
+    let here = all text kinds mid at first plain_all in
+    let one = makes here.after mid now here.at none is_after (plain_one here.after here.written) in
     record {
       after = one.after;
-      written = written_more profile cs c (style old) text here.after one.after here.written
-          (subst (λ s. IsWritten profile c s here.after one.after) here.source.style one.written);
+      written = written_more profile cs c (manner old) text here.after one.after here.written
+          (subst (λ m. IsWritten profile c m here.after one.after) here.source.mannered one.written);
       at = one.at;
-      source = record { texts = one.source.texts ∙ here.source.texts; style = one.source.style ∙ here.source.style };
+      source = record { texts = one.source.texts ∙ here.source.texts; mannered = one.source.mannered ∙ here.source.mannered };
     }
 
 -- ---- what holds of one edit, where those before it are made
@@ -171,10 +162,10 @@ OfOne profile read c tree P = (text : List ℕ) (kinds now : Kinds) → IsAt pro
 
 of_plain_made : (profile : Profile) (read : Read) (cs : List Change) (i : ℕ) (c : Change) (old tree : Tree) (P : Change → List ℕ → Kinds → Type 0)
     → MakesAll profile read (take i cs) old tree → slice_get cs i ≡ Some c → OfOne profile read c tree P → OfPlain profile read cs old i P
-of_plain_made profile read cs i c old tree P makes here one d there text kinds mid now at lead none is_after said plain between written =
-    let all = makes text kinds mid at lead said plain in
+of_plain_made profile read cs i c old tree P makes here one d there text kinds mid now at lead none is_after plain between written =
+    let all = makes text kinds mid at lead plain in
     let same : c ≡ d = same_Some c d (sym here ∙ there) in
-    let text_is : all.after ≡ between = one_list_written profile (take i cs) (style old) text all.after between all.written written in
+    let text_is : all.after ≡ between = one_list_written profile (take i cs) (manner old) text all.after between all.written written in
     subst₂ (λ e t. P e t mid) same text_is
     (one all.after mid now all.at (subst (λ e. IsFault profile e mid None) (sym same) none) (subst (λ e. IsAfter profile e mid now) (sym same) is_after))
 

@@ -24,15 +24,16 @@ use Rattle.toml_editor.specs.declared.fault.EditorFault.{EditorFault}
 use Rattle.toml_editor.specs.declared.fault.EditorFault.TheVariants as faults
 use Rattle.toml_working.specs.declared.working.Tree.{Tree}
 use Rattle.toml_editor.specs.CertifiedLists.{ArePlain}
-use Rattle.toml_editor.specs.Exact.{IsAt, IsNotPlainAt, IsSpreadOn, OfNumber, OfPlain, OfNoPlaceAt, PassesAll, PassesAt, Stops, style}
-use Rattle.toml_working.specs.Layouts.{AreSaid, IsSaid}
+use Rattle.toml_editor.specs.Exact.{IsAt, IsNotPlainAt, IsSpreadOn, OfNumber, OfPlain, OfNoPlaceAt, PassesAll, PassesAt, Stops}
+use Rattle.toml_working.specs.declared.layout.Layout.{Layout}
+use Rattle.toml_working.specs.Manners.{Manner}
+use Rattle.toml_working.specs.Putting.{manner}
 use Rattle.toml_editor.specs.PlainTexts.{AfterPlain, IsNoPlainEdit, IsPlainOn, IsSpreadSet, NoSpreadSet}
 use Rattle.toml_working.specs.Standing.{Read, standing}
 use Rattle.toml_working.specs.Stands.{Stands}
 use Rattle.toml_working.specs.Starting.{NoneIsGone}
 use Rattle.toml_editor.specs.Steps.{AreWritten, IsGoodText}
-use Rattle.toml_working.specs.Written.{style_of}
-use Rattle.toml_editor.proofs.Each.{each_taken}
+use Rattle.toml_working.specs.Written.{manner_of, style_of}
 use Rattle.toml_editor.proofs.NearFaults.{near_front, near_one, place_shown}
 use Rattle.toml_editor.proofs.written.Elsewhere.{style_is_newline}
 use Rattle.toml_editor.proofs.written.ScalarsLone.{sets_many}
@@ -40,7 +41,7 @@ use Rattle.toml_editor.proofs.written.Steps.{plain_steps}
 
 module _ (profile : Profile) (read : Read) (d : Doc) (before : List ℕ) (tree : Tree) (document : IsDocumentIn profile before)
     (spelled : Spells d before) (stands : Stands before read tree.slots.items (standing d.lines)) (texts : text_of tree.texts.source ≡ before)
-    (whole : NoneIsGone tree.elements) (styled : style tree ≡ style_of d.lines) where
+    (whole : NoneIsGone tree.elements) (layout : Layout) (mannered : manner tree ≡ manner_of layout d.lines) where
   abbrev same : document.1 ≡ d
   same = one_tree document.1 d before document.2 spelled
 
@@ -61,62 +62,62 @@ module _ (profile : Profile) (read : Read) (d : Doc) (before : List ℕ) (tree :
     good = good_at old facts;
     stands = subst (λ t. Stands t read tree.slots.items (standing d.lines)) (sym texts) stands;
     whole = whole;
-    newline = subst IsNewline (sym styled) newline;
+    newline = subst (λ (m : Manner). IsNewline m.newline) (sym mannered) newline;
   }
 
   -- what is so of the texts for which the tree stands is so of the text
   after_plain : (cs : List Change) (k : ℕ) (P : Change → List ℕ → Kinds → Type 0) → OfPlain profile read cs tree k P
       → (c : Change) → slice_get cs k ≡ Some c → (old mid now : Kinds) → IsDataOf (named d.lines) old
       → Lead profile (take k cs) old mid → IsFault profile c mid None → IsAfter profile c mid now
-      → AreSaid tree.texts.layout cs → ArePlain profile (take k cs) (style_of d.lines) before
-      → (between : List ℕ) → AreWritten profile (take k cs) (style_of d.lines) before between → P c between mid
-  after_plain cs k P holds c is old mid now facts lead none is_after said plain between written =
-      holds c is before old mid now (at old facts) lead none is_after (each_taken (IsSaid tree.texts.layout) k cs said)
-      (subst (λ s. ArePlain profile (take k cs) s before) (sym styled) plain) between
-      (subst (λ s. AreWritten profile (take k cs) s before between) (sym styled) written)
+      → ArePlain profile (take k cs) (manner_of layout d.lines) before
+      → (between : List ℕ) → AreWritten profile (take k cs) (manner_of layout d.lines) before between → P c between mid
+  after_plain cs k P holds c is old mid now facts lead none is_after plain between written =
+      holds c is before old mid now (at old facts) lead none is_after
+      (subst (λ s. ArePlain profile (take k cs) s before) (sym mannered) plain) between
+      (subst (λ s. AreWritten profile (take k cs) s before between) (sym mannered) written)
 
   -- ---- an edit that is not plain
 
-  pub no_plain_edit : (cs : List Change) → AreSaid tree.texts.layout cs → (j : ℕ) → IsNotPlainAt profile read cs j tree
-      → IsNoPlainEdit profile before cs j
-  no_plain_edit cs said j not = (
+  pub no_plain_edit : (cs : List Change) (j : ℕ) → IsNotPlainAt profile read cs j tree
+      → IsNoPlainEdit layout profile before cs j
+  no_plain_edit cs j not = (
     d,
     spelled,
     (λ c is old mid now facts lead none is_after plain between written.
-        after_plain cs j (λ c text kinds. ¬ IsPlainOn profile text c) not c is old mid now facts lead none is_after said plain between written),
+        after_plain cs j (λ c text kinds. ¬ IsPlainOn profile text c) not c is old mid now facts lead none is_after plain between written),
   )
 
-  pub no_plain_edit_of : (cs : List Change) → AreSaid tree.texts.layout cs → (fault : EditorFault) → OfNoPlaceAt (λ j. IsNotPlainAt profile read cs j tree) fault
-      → OfNoPlaceAt (IsNoPlainEdit profile before cs) fault
-  no_plain_edit_of cs said (faults.Spread j) not = no_plain_edit cs said j not
-  no_plain_edit_of cs said (faults.LastElement j) not = no_plain_edit cs said j not
-  no_plain_edit_of cs said (faults.Text f) not = tt
-  no_plain_edit_of cs said (faults.Syntax f) not = tt
-  no_plain_edit_of cs said (faults.Names f) not = tt
-  no_plain_edit_of cs said (faults.Edit i f) not = tt
-  no_plain_edit_of cs said faults.TooLong not = tt
-  no_plain_edit_of cs said (faults.Unverified r) not = tt
-  no_plain_edit_of cs said faults.NoMemory not = tt
+  pub no_plain_edit_of : (cs : List Change) (fault : EditorFault) → OfNoPlaceAt (λ j. IsNotPlainAt profile read cs j tree) fault
+      → OfNoPlaceAt (IsNoPlainEdit layout profile before cs) fault
+  no_plain_edit_of cs (faults.Spread j) not = no_plain_edit cs j not
+  no_plain_edit_of cs (faults.LastElement j) not = no_plain_edit cs j not
+  no_plain_edit_of cs (faults.Text f) not = tt
+  no_plain_edit_of cs (faults.Syntax f) not = tt
+  no_plain_edit_of cs (faults.Names f) not = tt
+  no_plain_edit_of cs (faults.Edit i f) not = tt
+  no_plain_edit_of cs faults.TooLong not = tt
+  no_plain_edit_of cs (faults.Unverified r) not = tt
+  no_plain_edit_of cs faults.NoMemory not = tt
 
   -- ---- edits that set nothing that is spread
 
   module _ (hidden : Cover) (cs : List Change) (are : AreNear hidden cs) (old : Kinds) (facts : IsDataOf (named d.lines) old) (part : Kinds)
-      (of : (a : _) → part a ≡ near hidden old a) (said : AreSaid tree.texts.layout cs) where
-    passes_text : (k : ℕ) → PassesAt profile read cs part tree k → AfterPlain profile before cs d k (λ c text. ¬ IsSpreadSet profile text c)
+      (of : (a : _) → part a ≡ near hidden old a) where
+    passes_text : (k : ℕ) → PassesAt profile read cs part tree k → AfterPlain layout profile before cs d k (λ c text. ¬ IsSpreadSet profile text c)
     passes_text k (near_k, led, holds) c is other mid now other_facts lead none is_after plain between written spread =
         let same_old : other ≡ old = fun_ext (one_data (named d.lines) other old other_facts facts) in
         let all = leads_beside profile hidden (take k cs) old part near_k (near_front hidden k cs are) of led in
         let mid_is : mid (place c) ≡ beside hidden old near_k (place c) =
         one_lead profile (take k cs) old mid (beside hidden old near_k) (subst (λ o. Lead profile (take k cs) o mid) same_old lead) all (place c) in
-        let good = plain_steps profile (take k cs) (style_of d.lines) before between other mid newline (good_at other other_facts) lead written in
+        let good = plain_steps profile (take k cs) (manner_of layout d.lines) before between other mid newline (good_at other other_facts) lead written in
         after_plain cs k (λ e text kinds. near_k (place e) ≡ kinds (place e) → ¬ IsSpreadOn profile text e kinds) holds c is other mid now other_facts lead
-        none is_after said plain between written (place_shown hidden c old near_k (near_one hidden k cs c is are) ∙ sym mid_is)
+        none is_after plain between written (place_shown hidden c old near_k (near_one hidden k cs c is are) ∙ sym mid_is)
         (sets_many profile between mid c good.0 none spread, spread)
 
-    pub no_spread_set : (n : ℕ) → PassesAll profile read cs part n tree → NoSpreadSet profile before cs n
+    pub no_spread_set : (n : ℕ) → PassesAll profile read cs part n tree → NoSpreadSet layout profile before cs n
     no_spread_set n passes = (d, spelled, (λ k low. passes_text k (passes k low)))
 
-    pub no_spread_set_of : (fault : EditorFault) → OfNumber (λ n. PassesAll profile read cs part n tree) fault → OfNumber (NoSpreadSet profile before cs) fault
+    pub no_spread_set_of : (fault : EditorFault) → OfNumber (λ n. PassesAll profile read cs part n tree) fault → OfNumber (NoSpreadSet layout profile before cs) fault
     no_spread_set_of (faults.Edit n f) passes = no_spread_set n passes
     no_spread_set_of (faults.Spread n) passes = no_spread_set n passes
     no_spread_set_of (faults.LastElement n) passes = no_spread_set n passes
@@ -129,5 +130,5 @@ module _ (profile : Profile) (read : Read) (d : Doc) (before : List ℕ) (tree :
 
     -- both, of the fault with which the edits end
     pub stops_told : (fault : EditorFault) → Stops profile read cs part tree fault
-        → OfNumber (NoSpreadSet profile before cs) fault × OfNoPlaceAt (IsNoPlainEdit profile before cs) fault
-    stops_told fault stops = (no_spread_set_of fault stops.passed, no_plain_edit_of cs said fault stops.spread)
+        → OfNumber (NoSpreadSet layout profile before cs) fault × OfNoPlaceAt (IsNoPlainEdit layout profile before cs) fault
+    stops_told fault stops = (no_spread_set_of fault stops.passed, no_plain_edit_of cs fault stops.spread)

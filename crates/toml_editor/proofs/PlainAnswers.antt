@@ -22,15 +22,17 @@ use Rattle.toml_edits.specs.Lists.{Lead, IsFirstFault}
 use Rattle.toml_edits.proofs.Proved.{fault_or_lead, one_first_fault, one_lead}
 use Rattle.toml_checker.specs.Documents.{OfTree, OfData, AreDefined}
 use Rattle.toml_editor.specs.CertifiedLists.{ArePlain}
-use Rattle.toml_editor.specs.Edited.{MayBeSpread, OfDefined, OnDataSoFar, SoFar, Tells, TakesLastElement}
+use Rattle.toml_editor.specs.Edited.{MayBeSpread, OfDefined, OnDataSoFar, SoFar, TellsWith, TakesLastElement}
 use Rattle.toml_editor.specs.PlainAnswers.{FirstFaultIsAnswered, FirstSpreadIsAnswered, IsAnswer, IsFaultOrMemory, LongIsAnswered, PlainIsAnswered, PlainSoFar}
 use Rattle.toml_editor.specs.PlainTexts.{AfterPlain, IsNoPlainEdit, IsNoPlainList, IsPlainOn, IsSpreadSet, NoSpreadSet, WritesPlain}
 use Rattle.toml_editor.specs.Steps.{AreWritten}
-use Rattle.toml_working.specs.Written.{style_of}
+use Rattle.toml_working.specs.declared.layout.Layout.{Layout}
+use Rattle.toml_working.specs.Written.{manner_of}
 use Rattle.toml_editor.specs.declared.fault.EditorFault.{EditorFault}
 use Rattle.toml_editor.specs.declared.fault.EditorFault.TheVariants as faults
 use Rattle.toml_editor.proofs.written.WayComments.{le_or}
 use Rattle.toml_editor.proofs.written.Steps.{one_list_written, one_written}
+use Rattle.toml_working.specs.Manners.{Manner}
 
 compare : (a b : ℕ) → (a < b) ⊎ (a ≡ b) ⊎ (b < a)
 compare a b = elim (le_or a b) [
@@ -84,38 +86,38 @@ module _ (profile : Profile) where
       record { mid = at.mid; next = at.next; lead = (none, next, is_after, at.lead); none = at.none; is_after = at.is_after }
 
   -- the text at an edit, on which it is plain
-  pub record PlainAt (cs : List Change) (j : ℕ) (style before : List ℕ) (c : Change) : Type 0 where
+  pub record PlainAt (cs : List Change) (j : ℕ) (manner : Manner) (before : List ℕ) (c : Change) : Type 0 where
     pub between : List ℕ
-    pub written : AreWritten profile (take j cs) style before between
-    pub plain : ArePlain profile (take j cs) style before
+    pub written : AreWritten profile (take j cs) manner before between
+    pub plain : ArePlain profile (take j cs) manner before
     pub here : IsPlainOn profile between c
 
-  plain_at : (cs : List Change) (n j : ℕ) (style before after : List ℕ) (c : Change) → ArePlain profile (take n cs) style before
-      → AreWritten profile (take n cs) style before after → j < n → slice_get cs j ≡ Some c → PlainAt cs j style before c
-  plain_at [] n j style before after c plain written low is = cc
-  plain_at (x ∷ cs) zero j style before after c plain written low is = absurd (omega (arith, low))
-  plain_at (x ∷ cs) (suc n) zero style before after c (one, rest) written low is =
-      subst (PlainAt (x ∷ cs) zero style before) (same_Some x c is) (record { between = before; written = refl; plain = tt; here = one })
-  plain_at (x ∷ cs) (suc n) (suc j) style before after c (one, rest) (mid, first, others) low is =
-      let at = plain_at cs n j style mid after c (rest mid first) others (omega (arith, low)) is in
+  plain_at : (cs : List Change) (n j : ℕ) (manner : Manner) (before after : List ℕ) (c : Change) → ArePlain profile (take n cs) manner before
+      → AreWritten profile (take n cs) manner before after → j < n → slice_get cs j ≡ Some c → PlainAt cs j manner before c
+  plain_at [] n j manner before after c plain written low is = cc
+  plain_at (x ∷ cs) zero j manner before after c plain written low is = absurd (omega (arith, low))
+  plain_at (x ∷ cs) (suc n) zero manner before after c (one, rest) written low is =
+      subst (PlainAt (x ∷ cs) zero manner before) (same_Some x c is) (record { between = before; written = refl; plain = tt; here = one })
+  plain_at (x ∷ cs) (suc n) (suc j) manner before after c (one, rest) (mid, first, others) low is =
+      let at = plain_at cs n j manner mid after c (rest mid first) others (omega (arith, low)) is in
       record {
         between = at.between;
         written = (mid, first, at.written);
-        plain = (one, (λ m w. subst (ArePlain profile (take j cs) style) (one_written profile x style before mid m first w) at.plain));
+        plain = (one, (λ m w. subst (ArePlain profile (take j cs) manner) (one_written profile x manner before mid m first w) at.plain));
         here = at.here;
       }
 
 -- ---- where so many edits are plain
 
-module _ (profile : Profile) (before : List ℕ) (cs : List Change) (n : ℕ) (after : List ℕ) (now : Kinds) (so_far : PlainSoFar profile before cs n after now) where
+module _ (layout : Layout) (profile : Profile) (before : List ℕ) (cs : List Change) (n : ℕ) (after : List ℕ) (now : Kinds) (so_far : PlainSoFar layout profile before cs n after now) where
   abbrev d : Doc
   d = so_far.document.1
 
   abbrev spelled : Spells d before
   spelled = so_far.document.2
 
-  abbrev style : List ℕ
-  style = style_of d.lines
+  abbrev manner : Manner
+  manner = manner_of layout d.lines
 
   of_tree : (P : Doc → Type 0) → OfTree before P → P d
   of_tree P (e, e_spelled, holds) = subst P (one_tree e d before e_spelled spelled) holds
@@ -133,11 +135,11 @@ module _ (profile : Profile) (before : List ℕ) (cs : List Change) (n : ℕ) (a
       let (fault, h) = faulty c mid holds in
       no_fault profile cs n j so_far.old now mid c fault so_far.lead low lead is h
 
-  no_spread_before : (j : ℕ) (c : Change) → slice_get cs j ≡ Some c → j < n → IsNoPlainEdit profile before cs j → ⊥
+  no_spread_before : (j : ℕ) (c : Change) → slice_get cs j ≡ Some c → j < n → IsNoPlainEdit layout profile before cs j → ⊥
   no_spread_before j c is low not_plain =
       let at = defined_at profile cs n j so_far.old now c so_far.lead low is in
-      let text = plain_at profile cs n j style before after c so_far.plain so_far.written low is in
-      of_tree (λ x. AfterPlain profile before cs x j (λ c text. ¬ IsPlainOn profile text c)) not_plain c is so_far.old at.mid at.next so_far.facts at.lead at.none
+      let text = plain_at profile cs n j manner before after c so_far.plain so_far.written low is in
+      of_tree (λ x. AfterPlain layout profile before cs x j (λ c text. ¬ IsPlainOn profile text c)) not_plain c is so_far.old at.mid at.next so_far.facts at.lead at.none
       at.is_after text.plain text.between text.written text.here
 
 -- what stands of an edit of a list
@@ -147,53 +149,53 @@ edit_at profile before cs j P (e, e_spelled, kinds, facts, so) = (so.2, so.3)
 
 -- ---- all edits are plain
 
-module _ (profile : Profile) (before : List ℕ) (cs : List Change) (after : List ℕ) (now : Kinds) (so_far : PlainSoFar profile before cs (length cs) after now) where
+module _ (layout : Layout) (profile : Profile) (before : List ℕ) (cs : List Change) (after : List ℕ) (now : Kinds) (so_far : PlainSoFar layout profile before cs (length cs) after now) where
   abbrev tree : Doc
   tree = so_far.document.1
 
   whole : take (length cs) cs ≡ cs
   whole = take_all (length cs) cs (omega arith)
 
-  all_plain : ArePlain profile cs (style_of tree.lines) before
-  all_plain = subst (λ ds. ArePlain profile ds (style_of tree.lines) before) whole so_far.plain
+  all_plain : ArePlain profile cs (manner_of layout tree.lines) before
+  all_plain = subst (λ ds. ArePlain profile ds (manner_of layout tree.lines) before) whole so_far.plain
 
-  all_written : AreWritten profile cs (style_of tree.lines) before after
-  all_written = subst (λ ds. AreWritten profile ds (style_of tree.lines) before after) whole so_far.written
+  all_written : AreWritten profile cs (manner_of layout tree.lines) before after
+  all_written = subst (λ ds. AreWritten profile ds (manner_of layout tree.lines) before after) whole so_far.written
 
   all_lead : Lead profile cs so_far.old now
   all_lead = subst (λ ds. Lead profile ds so_far.old now) whole so_far.lead
 
   -- the text that is written of plain edits is this one
-  is_text : (text : List ℕ) → WritesPlain profile before cs text → text ≡ after
+  is_text : (text : List ℕ) → WritesPlain layout profile before cs text → text ≡ after
   is_text text writes =
-      one_list_written profile cs (style_of tree.lines) before text after
-      (of_tree profile before cs (length cs) after now so_far
-      (λ x. ArePlain profile cs (style_of x.lines) before → AreWritten profile cs (style_of x.lines) before text) writes all_plain) all_written
+      one_list_written profile cs (manner_of layout tree.lines) before text after
+      (of_tree layout profile before cs (length cs) after now so_far
+      (λ x. ArePlain profile cs (manner_of layout x.lines) before → AreWritten profile cs (manner_of layout x.lines) before text) writes all_plain) all_written
 
-  no_list : IsNoPlainList profile before cs → ⊥
+  no_list : IsNoPlainList layout profile before cs → ⊥
   no_list not_plain =
-      of_tree profile before cs (length cs) after now so_far
-      (λ x. (old new : Kinds) → IsDataOf (named x.lines) old → Lead profile cs old new → ¬ ArePlain profile cs (style_of x.lines) before) not_plain
+      of_tree layout profile before cs (length cs) after now so_far
+      (λ x. (old new : Kinds) → IsDataOf (named x.lines) old → Lead profile cs old new → ¬ ArePlain profile cs (manner_of layout x.lines) before) not_plain
       so_far.old now so_far.facts all_lead all_plain
 
   low : (j : ℕ) (c : Change) → slice_get cs j ≡ Some c → j < length cs
   low j c is = slice_get_within cs j c is
 
   -- no fault but of memory, and of a text that is too long
-  only : (fault : EditorFault) → Tells profile before cs fault → (fault ≡ faults.NoMemory) ⊎ ((fault ≡ faults.TooLong) × (max_len < length after))
+  only : (fault : EditorFault) → TellsWith layout profile before cs fault → (fault ≡ faults.NoMemory) ⊎ ((fault ≡ faults.TooLong) × (max_len < length after))
   only (faults.Text f) told = absurd (told.0 so_far.document)
   only (faults.Syntax f) told = absurd (told.0 so_far.document)
   only (faults.Names f) told = absurd (told.0 so_far.document)
   only (faults.Edit j f) told =
       let (c, is) = edit_at profile before cs j (λ c kinds. IsFault profile c kinds (Some f)) told.1 in
-      absurd (no_fault_before profile before cs (length cs) after now so_far j (λ c kinds. IsFault profile c kinds (Some f)) (λ c kinds h. (f, h)) (low j c is) told.1)
+      absurd (no_fault_before layout profile before cs (length cs) after now so_far j (λ c kinds. IsFault profile c kinds (Some f)) (λ c kinds h. (f, h)) (low j c is) told.1)
   only (faults.Spread j) told =
       let places = place (named told.1.0.lines) in
       let (c, is) = edit_at profile before cs j (OfDefined profile (MayBeSpread places j)) told.1.2 in
-      absurd (no_spread_before profile before cs (length cs) after now so_far j c is (low j c is) told.2)
+      absurd (no_spread_before layout profile before cs (length cs) after now so_far j c is (low j c is) told.2)
   only (faults.LastElement j) told =
       let (c, is) = edit_at profile before cs j (OfDefined profile TakesLastElement) told.1 in
-      absurd (no_spread_before profile before cs (length cs) after now so_far j c is (low j c is) told.2)
+      absurd (no_spread_before layout profile before cs (length cs) after now so_far j c is (low j c is) told.2)
   only faults.TooLong told =
       let (text, writes, long) = told.1 in
       inr (refl, subst (λ t. max_len < length t) (is_text text writes) long)
@@ -201,28 +203,28 @@ module _ (profile : Profile) (before : List ℕ) (cs : List Change) (after : Lis
   only faults.NoMemory told = inl refl
 
 pub plain_is_answered : PlainIsAnswered
-plain_is_answered profile before cs after now so_far short (Ok (text, pairs)) is =
-    inl (pairs, ap (λ t. Ok (t, pairs)) (is_text profile before cs after now so_far text is.plain))
-plain_is_answered profile before cs after now so_far short (Err fault) is =
-    elim (only profile before cs after now so_far fault is) [
+plain_is_answered layout profile before cs after now so_far short (Ok (text, pairs)) is =
+    inl (pairs, ap (λ t. Ok (t, pairs)) (is_text layout profile before cs after now so_far text is.plain))
+plain_is_answered layout profile before cs after now so_far short (Err fault) is =
+    elim (only layout profile before cs after now so_far fault is) [
       | inl memory ↦ inr (ap Err memory)
       | inr long ↦ absurd (omega (arith, short, long.1))
     ]
 
 pub long_is_answered : LongIsAnswered
-long_is_answered profile before cs after now so_far long (Ok (text, pairs)) is =
+long_is_answered layout profile before cs after now so_far long (Ok (text, pairs)) is =
     let fits : length text ≤ max_len = is.certified.new.0.fits in
-    let same = ap length (is_text profile before cs after now so_far text is.plain) in
+    let same = ap length (is_text layout profile before cs after now so_far text is.plain) in
     absurd (omega (arith, long, fits, same))
-long_is_answered profile before cs after now so_far long (Err fault) is =
-    elim (only profile before cs after now so_far fault is) [
+long_is_answered layout profile before cs after now so_far long (Err fault) is =
+    elim (only layout profile before cs after now so_far fault is) [
       | inl memory ↦ inr (ap Err memory)
       | inr too_long ↦ inl (ap Err too_long.0)
     ]
 
 -- ---- the edit behind is not
 
-module _ (profile : Profile) (before : List ℕ) (cs : List Change) (n : ℕ) (between : List ℕ) (mid : Kinds) (so_far : PlainSoFar profile before cs n between mid)
+module _ (layout : Layout) (profile : Profile) (before : List ℕ) (cs : List Change) (n : ℕ) (between : List ℕ) (mid : Kinds) (so_far : PlainSoFar layout profile before cs n between mid)
     (c : Change) (is : slice_get cs n ≡ Some c) where
   abbrev old : Kinds
   old = so_far.old
@@ -230,20 +232,20 @@ module _ (profile : Profile) (before : List ℕ) (cs : List Change) (n : ℕ) (b
   -- edits that are all defined have no fault
   not_defined : (fault : EditFault) → IsFault profile c mid (Some fault) → OfData before (AreDefined profile cs) → ⊥
   not_defined fault h defined =
-      let (new, lead) = of_data profile before cs n between mid so_far (AreDefined profile cs) defined in
+      let (new, lead) = of_data layout profile before cs n between mid so_far (AreDefined profile cs) defined in
       fault_or_lead profile cs old new n fault (first_of profile cs n old mid c fault so_far.lead is h) lead
 
   -- a fault that is told of one edit is that of this one
   same_fault : (fault : EditFault) → IsFault profile c mid (Some fault) → (j : ℕ) (other : EditFault)
       → OnDataSoFar profile before cs j (λ x kinds. IsFault profile x kinds (Some other)) → (n ≡ j) × (fault ≡ other)
   same_fault fault h j other on =
-      let (there, lead, x, x_is, f) = of_data profile before cs n between mid so_far (λ k. SoFar profile cs k j (λ x kinds. IsFault profile x kinds (Some other))) on in
+      let (there, lead, x, x_is, f) = of_data layout profile before cs n between mid so_far (λ k. SoFar profile cs k j (λ x kinds. IsFault profile x kinds (Some other))) on in
       one_first_fault profile cs old n j fault other (first_of profile cs n old mid c fault so_far.lead is h) (first_of profile cs j old there x other lead x_is f)
 
   -- what is so of this edit on the data so far
   here : (P : Change → Kinds → Type 0) → OnDataSoFar profile before cs n P → P c mid
   here P on =
-      let (there, lead, x, x_is, holds) = of_data profile before cs n between mid so_far (λ k. SoFar profile cs k n P) on in
+      let (there, lead, x, x_is, holds) = of_data layout profile before cs n between mid so_far (λ k. SoFar profile cs k n P) on in
       subst (λ k. P c k) (fun_ext (one_lead profile (take n cs) old there mid lead so_far.lead))
       (subst (λ y. P y there) (same_Some x c (sym x_is ∙ is)) holds)
 
@@ -256,11 +258,11 @@ module _ (profile : Profile) (before : List ℕ) (cs : List Change) (n : ℕ) (b
       by (inl less) = less
       by (inr (inl same)) = absurd ((here (OfDefined profile P) (subst (λ k. OnDataSoFar profile before cs k (OfDefined profile P)) same on)).0 fault h.0)
       by (inr (inr high)) =
-          let (there, lead, x, x_is, defined) = of_data profile before cs n between mid so_far (λ k. SoFar profile cs k j (OfDefined profile P)) on in
+          let (there, lead, x, x_is, defined) = of_data layout profile before cs n between mid so_far (λ k. SoFar profile cs k j (OfDefined profile P)) on in
           absurd (no_fault profile cs j n old there mid c fault lead high so_far.lead is h)
 
   faulty_is_answered : (fault : EditFault) → IsFault profile c mid (Some fault) → (answer : Result (List ℕ × List (ℕ × ℕ)) EditorFault)
-      → IsAnswer profile before cs answer → IsFaultOrMemory (faults.Edit n fault) answer
+      → IsAnswer layout profile before cs answer → IsFaultOrMemory (faults.Edit n fault) answer
   faulty_is_answered fault h (Ok (text, pairs)) told = absurd (not_defined fault h told.certified.defined)
   faulty_is_answered fault h (Err (faults.Text f)) told = absurd (told.0 so_far.document)
   faulty_is_answered fault h (Err (faults.Syntax f)) told = absurd (told.0 so_far.document)
@@ -271,31 +273,31 @@ module _ (profile : Profile) (before : List ℕ) (cs : List Change) (n : ℕ) (b
   faulty_is_answered fault h (Err (faults.Spread j)) told =
       let P = MayBeSpread (place (named told.1.0.lines)) j in
       let (x, x_is) = edit_at profile before cs j (OfDefined profile P) told.1.2 in
-      absurd (no_spread_before profile before cs n between mid so_far j x x_is (is_before fault h j P told.1.2) told.2)
+      absurd (no_spread_before layout profile before cs n between mid so_far j x x_is (is_before fault h j P told.1.2) told.2)
   faulty_is_answered fault h (Err (faults.LastElement j)) told =
       let (x, x_is) = edit_at profile before cs j (OfDefined profile TakesLastElement) told.1 in
-      absurd (no_spread_before profile before cs n between mid so_far j x x_is (is_before fault h j TakesLastElement told.1) told.2)
+      absurd (no_spread_before layout profile before cs n between mid so_far j x x_is (is_before fault h j TakesLastElement told.1) told.2)
   faulty_is_answered fault h (Err faults.TooLong) told = absurd (not_defined fault h told.0.1)
   faulty_is_answered fault h (Err (faults.Unverified r)) told = absurd (not_defined fault h told.0.1)
   faulty_is_answered fault h (Err faults.NoMemory) told = inr refl
 
   module _ (none : IsFault profile c mid None) (spread : IsSpreadSet profile between c) where
     -- where the edits up to a later one lead on, it is told that none sets what is spread
-    passed : (m : ℕ) (there : Kinds) → Lead profile (take m cs) old there → n < m → NoSpreadSet profile before cs m → ⊥
+    passed : (m : ℕ) (there : Kinds) → Lead profile (take m cs) old there → n < m → NoSpreadSet layout profile before cs m → ⊥
     passed m there lead less none_spread =
         let at = defined_at profile cs m n old there c lead less is in
-        of_tree profile before cs n between mid so_far
-        (λ x. (k : ℕ) → k < m → AfterPlain profile before cs x k (λ y text. ¬ IsSpreadSet profile text y)) none_spread n less c is old at.mid at.next so_far.facts
+        of_tree layout profile before cs n between mid so_far
+        (λ x. (k : ℕ) → k < m → AfterPlain layout profile before cs x k (λ y text. ¬ IsSpreadSet profile text y)) none_spread n less c is old at.mid at.next so_far.facts
         at.lead at.none at.is_after so_far.plain between so_far.written spread
 
-    passed_all : OfData before (AreDefined profile cs) → NoSpreadSet profile before cs (length cs) → ⊥
+    passed_all : OfData before (AreDefined profile cs) → NoSpreadSet layout profile before cs (length cs) → ⊥
     passed_all defined =
-        let (new, lead) = of_data profile before cs n between mid so_far (AreDefined profile cs) defined in
+        let (new, lead) = of_data layout profile before cs n between mid so_far (AreDefined profile cs) defined in
         passed (length cs) new (subst (λ ds. Lead profile ds old new) (sym (take_all (length cs) cs (omega arith))) lead) (slice_get_within cs n c is)
 
-    passed_at : (j : ℕ) (P : Change → Kinds → Type 0) → OnDataSoFar profile before cs j P → n < j → NoSpreadSet profile before cs j → ⊥
+    passed_at : (j : ℕ) (P : Change → Kinds → Type 0) → OnDataSoFar profile before cs j P → n < j → NoSpreadSet layout profile before cs j → ⊥
     passed_at j P on =
-        let (there, lead, x, x_is, holds) = of_data profile before cs n between mid so_far (λ k. SoFar profile cs k j P) on in
+        let (there, lead, x, x_is, holds) = of_data layout profile before cs n between mid so_far (λ k. SoFar profile cs k j P) on in
         passed j there lead
 
     -- an edit that sets takes no last element
@@ -307,7 +309,7 @@ module _ (profile : Profile) (before : List ℕ) (cs : List Change) (n : ℕ) (b
     takes_none (edits.new_section p) sets takes = sets
     takes_none (edits.new_element p) sets takes = sets
 
-    spread_is_answered : (answer : Result (List ℕ × List (ℕ × ℕ)) EditorFault) → IsAnswer profile before cs answer
+    spread_is_answered : (answer : Result (List ℕ × List (ℕ × ℕ)) EditorFault) → IsAnswer layout profile before cs answer
         → IsFaultOrMemory (faults.Spread n) answer
     spread_is_answered (Ok (text, pairs)) told = absurd (passed_all told.certified.defined told.passed)
     spread_is_answered (Err (faults.Text f)) told = absurd (told.0 so_far.document)
@@ -319,7 +321,7 @@ module _ (profile : Profile) (before : List ℕ) (cs : List Change) (n : ℕ) (b
         P x kinds = IsFault profile x kinds (Some f)
 
         by : (j < n) ⊎ (j ≡ n) ⊎ (n < j) → IsFaultOrMemory (faults.Spread n) (Err (faults.Edit j f))
-        by (inl low) = absurd (no_fault_before profile before cs n between mid so_far j (λ x kinds. IsFault profile x kinds (Some f)) (λ x kinds h. (f, h)) low told.1)
+        by (inl low) = absurd (no_fault_before layout profile before cs n between mid so_far j (λ x kinds. IsFault profile x kinds (Some f)) (λ x kinds h. (f, h)) low told.1)
         by (inr (inl same)) =
             let h = here (λ x kinds. IsFault profile x kinds (Some f))
             (subst (λ k. OnDataSoFar profile before cs k (λ x kinds. IsFault profile x kinds (Some f))) same told.1) in
@@ -330,7 +332,7 @@ module _ (profile : Profile) (before : List ℕ) (cs : List Change) (n : ℕ) (b
         by : (j < n) ⊎ (j ≡ n) ⊎ (n < j) → IsFaultOrMemory (faults.Spread n) (Err (faults.Spread j))
         by (inl low) =
             let (x, x_is) = edit_at profile before cs j (OfDefined profile (MayBeSpread (place (named told.1.0.lines)) j)) told.1.2 in
-            absurd (no_spread_before profile before cs n between mid so_far j x x_is low told.2)
+            absurd (no_spread_before layout profile before cs n between mid so_far j x x_is low told.2)
         by (inr (inl same)) = inl (ap (λ k. Err (faults.Spread k)) same)
         by (inr (inr high)) = absurd (passed_at j (OfDefined profile (MayBeSpread (place (named told.1.0.lines)) j)) told.1.2 high told.3)
     spread_is_answered (Err (faults.LastElement j)) told = by (compare j n)
@@ -338,7 +340,7 @@ module _ (profile : Profile) (before : List ℕ) (cs : List Change) (n : ℕ) (b
         by : (j < n) ⊎ (j ≡ n) ⊎ (n < j) → IsFaultOrMemory (faults.Spread n) (Err (faults.LastElement j))
         by (inl low) =
             let (x, x_is) = edit_at profile before cs j (OfDefined profile TakesLastElement) told.1 in
-            absurd (no_spread_before profile before cs n between mid so_far j x x_is low told.2)
+            absurd (no_spread_before layout profile before cs n between mid so_far j x x_is low told.2)
         by (inr (inl same)) =
             let takes = here (OfDefined profile TakesLastElement) (subst (λ k. OnDataSoFar profile before cs k (OfDefined profile TakesLastElement)) same told.1) in
             absurd (takes_none c spread takes.1)
@@ -348,8 +350,8 @@ module _ (profile : Profile) (before : List ℕ) (cs : List Change) (n : ℕ) (b
     spread_is_answered (Err faults.NoMemory) told = inr refl
 
 pub first_fault_is_answered : FirstFaultIsAnswered
-first_fault_is_answered profile before cs n between mid so_far c is fault h = faulty_is_answered profile before cs n between mid so_far c is fault h
+first_fault_is_answered layout profile before cs n between mid so_far c is fault h = faulty_is_answered layout profile before cs n between mid so_far c is fault h
 
 pub first_spread_is_answered : FirstSpreadIsAnswered
-first_spread_is_answered profile before cs n between mid so_far c is none spread =
-    spread_is_answered profile before cs n between mid so_far c is none spread
+first_spread_is_answered layout profile before cs n between mid so_far c is none spread =
+    spread_is_answered layout profile before cs n between mid so_far c is none spread

@@ -16,22 +16,24 @@ use Rattle.toml_edits.specs.Lists.{Lead}
 use Rattle.toml_working.specs.declared.texts.Texts.{Texts}
 use Rattle.toml_working.specs.declared.working.Tree.{Tree}
 use Rattle.toml_editor.specs.CertifiedLists.{ArePlain}
-use Rattle.toml_editor.specs.Exact.{FollowAll, IsAt, MakesAll, style}
-use Rattle.toml_working.specs.Layouts.{AreSaid}
+use Rattle.toml_editor.specs.Exact.{FollowAll, IsAt, MakesAll}
+use Rattle.toml_working.specs.declared.layout.Layout.{Layout}
+use Rattle.toml_working.specs.Manners.{Manner}
+use Rattle.toml_working.specs.Putting.{manner}
 use Rattle.toml_editor.specs.PlainTexts.{WritesPlain}
 use Rattle.toml_working.specs.Standing.{Read, standing}
 use Rattle.toml_working.specs.Stands.{Stands}
 use Rattle.toml_working.specs.Starting.{NoneIsGone}
 use Rattle.toml_editor.specs.Steps.{AreWritten}
 use Rattle.toml_working.specs.Writing.{WritesOut}
-use Rattle.toml_working.specs.Written.{style_of}
+use Rattle.toml_working.specs.Written.{manner_of}
 use Rattle.toml_editor.proofs.WrittenOut.{lines_are_written}
 use Rattle.toml_editor.proofs.written.Elsewhere.{style_is_newline}
 use Rattle.toml_editor.proofs.written.Steps.{plain_steps}
 
 module _ (profile : Profile) (read : Read) (d : Doc) (before : List ℕ) (tree : Tree) (document : IsDocumentIn profile before)
     (spelled : Spells d before) (stands : Stands before read tree.slots.items (standing d.lines)) (texts : text_of tree.texts.source ≡ before)
-    (whole : NoneIsGone tree.elements) (styled : style tree ≡ style_of d.lines) where
+    (whole : NoneIsGone tree.elements) (layout : Layout) (mannered : manner tree ≡ manner_of layout d.lines) where
   abbrev same : document.1 ≡ d
   same = one_tree document.1 d before document.2 spelled
 
@@ -46,34 +48,33 @@ module _ (profile : Profile) (read : Read) (d : Doc) (before : List ℕ) (tree :
     };
     stands = subst (λ t. Stands t read tree.slots.items (standing d.lines)) (sym texts) stands;
     whole = whole;
-    newline = subst IsNewline (sym styled) (style_is_newline d.lines spelled.lines.forms);
+    newline = subst (λ (m : Manner). IsNewline m.newline) (sym mannered) (style_is_newline d.lines spelled.lines.forms);
   }
 
-  module _ (cs : List Change) (old now : Kinds) (new : Tree) (out : List ℕ) (facts : IsDataOf (named d.lines) old) (lead : Lead profile cs old now)
-      (said : AreSaid tree.texts.layout cs) where
+  module _ (cs : List Change) (old now : Kinds) (new : Tree) (out : List ℕ) (facts : IsDataOf (named d.lines) old) (lead : Lead profile cs old now) where
     -- once plain edits are made, the tree stands for the text that they write,
-    all_follow : MakesAll profile read cs tree new → ArePlain profile cs (style_of d.lines) before → FollowAll profile read cs tree new before now
-    all_follow makes plain = makes before old now (at old facts) lead said (subst (λ s. ArePlain profile cs s before) (sym styled) plain)
+    all_follow : MakesAll profile read cs tree new → ArePlain profile cs (manner_of layout d.lines) before → FollowAll profile read cs tree new before now
+    all_follow makes plain = makes before old now (at old facts) lead (subst (λ m. ArePlain profile cs m before) (sym mannered) plain)
 
     -- and that is what is written of it
     out_is : (makes : MakesAll profile read cs tree new) → WritesOut before d.mark.text new.slots.items out
-        → (plain : ArePlain profile cs (style_of d.lines) before) → out ≡ (all_follow makes plain).after
+        → (plain : ArePlain profile cs (manner_of layout d.lines) before) → out ≡ (all_follow makes plain).after
     out_is makes writes plain =
         let first = at old facts in
         let all = all_follow makes plain in
         let last = all.at.good.tree in
-        let steps = plain_steps profile cs (style tree) before all.after old now first.newline first.good lead all.written in
+        let steps = plain_steps profile cs (manner tree) before all.after old now first.newline first.good lead all.written in
         let tree_is : steps.0.tree ≡ last = one_tree steps.0.tree last all.after steps.0.spelled.0 all.at.good.spelled.0 in
         let mark : d.mark ≡ last.mark = sym steps.1 ∙ ap (λ (e : Doc). e.mark) tree_is in
         let there = subst (λ t. Stands t read new.slots.items (standing last.lines)) (ap (λ (s : Texts). text_of s.source) all.source.texts ∙ texts) all.at.stands in
         lines_are_written before d.mark.text read new.slots.items last.lines out writes there
         ∙ ap (λ (m : Piece). m.text ++ joined (lines_parts last.lines)) mark ∙ text_is_spelled last all.after all.at.good.spelled.0
 
-    pub plain_written : MakesAll profile read cs tree new → WritesOut before d.mark.text new.slots.items out → WritesPlain profile before cs out
+    pub plain_written : MakesAll profile read cs tree new → WritesOut before d.mark.text new.slots.items out → WritesPlain layout profile before cs out
     plain_written makes writes = (d, spelled, (λ plain. by plain))
       where
-        by : ArePlain profile cs (style_of d.lines) before → AreWritten profile cs (style_of d.lines) before out
+        by : ArePlain profile cs (manner_of layout d.lines) before → AreWritten profile cs (manner_of layout d.lines) before out
         by plain =
             let all = all_follow makes plain in
-            subst (AreWritten profile cs (style_of d.lines) before) (sym (out_is makes writes plain))
-            (subst (λ s. AreWritten profile cs s before all.after) styled all.written)
+            subst (AreWritten profile cs (manner_of layout d.lines) before) (sym (out_is makes writes plain))
+            (subst (λ m. AreWritten profile cs m before all.after) mannered all.written)

@@ -1,4 +1,4 @@
--- What data have where they are seen to be a table, or an array of one element.
+-- What data have where they are seen to be a table or an array.
 use Rattle.std.proofs.Common.{◌≡◌, ◌⊎◌, ◌&&◌, inl, inr, ℕ, Bool, true, false, List, [], ◌∷◌, length, Some, None, IsSome, refl, sym, ap, subst, ◌∙◌, arith}
 use Rattle.std.proofs.lemmas.Bool.Decides.{nat_tests}
 use Rattle.std.proofs.lemmas.Option.{same_Some}
@@ -12,7 +12,7 @@ use Rattle.toml_names.specs.mentions.Mentions.{Kind, a_scalar, a_table, an_array
 use Rattle.toml_names.specs.model.Data.{Kinds, kind_in}
 use Rattle.toml_names.specs.model.Levels.{Elements, Members}
 use Rattle.toml_names.proofs.Proved.{array-here, array-item, has_kind, kind_at-scalar, table-here}
-use Rattle.toml_editor.specs.Making.{HasOne, IsMany}
+use Rattle.toml_editor.specs.Making.{IsMany}
 
 pub many_table : (m : Members) → IsMany (Some (Table m))
 many_table m = inl (table-here m)
@@ -30,17 +30,6 @@ scalar_is_one s (inr is) = let e = a_scalar_is_one s an_array is in cc
 pub none_is_one : ¬ IsMany None
 none_is_one (inl is) = cc
 none_is_one (inr is) = cc
-
-one_in : (xs : List Datum) → length xs ≡ 1 → IsSome (kind_in (slice_get xs 0) []) × (kind_in (slice_get xs 1) [] ≡ None)
-one_in [] e = absurd (omega (arith, e))
-one_in (x ∷ []) e = (has_kind x, refl)
-one_in (x ∷ y ∷ xs) e = absurd (omega (arith, e))
-
-pub one_array : (v : Elements) (n : ℕ) → n ≡ vec_len v → IsTrue (nat_eq n 1) → HasOne (Some (Array v))
-one_array v n is one =
-    let e : length v.items ≡ 1 = (let same : n ≡ 1 = grind (arith, nat_tests) in omega (arith, is, same)) in
-    let w = one_in v.items e in
-    (subst IsSome (sym (array-item v 0 [])) w.0, array-item v 1 [] ∙ w.1)
 
 -- what an answer whether an edit may be refused for not being made says of both
 pub not_made_is : (done may : Bool) (r : Bool) → r ≡ (not done && may) → r ≡ true → (done ≡ false) × (may ≡ true)

@@ -20,6 +20,7 @@ pub mod InsertFollow
 pub mod InsertFormed
 pub mod InsertKept
 pub mod InsertNamed
+pub mod InsertPlace
 pub mod InsertStands
 pub mod Inside
 pub mod KeptApart

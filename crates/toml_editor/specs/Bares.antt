@@ -4,6 +4,7 @@ use Rattle.toml_tree.specs.Bare.{bare_value, bare_lines}
 use Rattle.toml_tree.specs.Tree.{Value, Line}
 use Rattle.toml_names.specs.model.Addresses.{Address}
 use Rattle.toml_working.specs.Inserting.{insert_lines}
+use Rattle.toml_working.specs.Manners.{Manner}
 use Rattle.toml_working.specs.Removing.{remove_lines}
 use Rattle.toml_working.specs.Renaming.{rename_lines}
 use Rattle.toml_working.specs.Setting.{set_lines}
@@ -15,8 +16,8 @@ SetBares = (p : Address) (new : Value) (lines : List Line)
     → bare_lines (set_lines p new lines) ≡ set_lines p (bare_value new) (bare_lines lines)
 
 abbrev pub InsertBares : Type 0
-InsertBares = (name : List ℕ) (v : Value) (style : List ℕ) (lines : List Line)
-    → bare_lines (insert_lines name v style lines) ≡ insert_lines name (bare_value v) style (bare_lines lines)
+InsertBares = (name : List ℕ) (v : Value) (manner : Manner) (lines : List Line)
+    → bare_lines (insert_lines name v manner lines) ≡ insert_lines name (bare_value v) manner (bare_lines lines)
 
 abbrev pub RemoveBares : Type 0
 RemoveBares = (p : Address) (lines : List Line) → bare_lines (remove_lines p lines) ≡ remove_lines p (bare_lines lines)

@@ -7,10 +7,11 @@ use Rattle.toml_edits.specs.Edits.{Change}
 use Rattle.toml_edits.specs.Lists.{Lead}
 use Rattle.toml_editor.specs.CarriedUnits.{ArePartners}
 use Rattle.toml_editor.specs.Steps.{IsGoodText, AreWritten}
+use Rattle.toml_working.specs.Manners.{Manner}
 
 -- Law: a good text and what a list of plain edits without a fault writes of it have pairs of partners.
 abbrev pub ListIsCarried : Type 0
-ListIsCarried = (cs : List Change) (profile : Profile) (style before after : List ℕ) (old now : Kinds) → IsNewline style
+ListIsCarried = (cs : List Change) (profile : Profile) (manner : Manner) (before after : List ℕ) (old now : Kinds) → IsNewline manner.newline
     → (good : IsGoodText profile before old)
-    → Lead profile cs old now → AreWritten profile cs style before after → (new : IsGoodText profile after now)
+    → Lead profile cs old now → AreWritten profile cs manner before after → (new : IsGoodText profile after now)
     → (ps : List (ℕ × ℕ)) × ArePartners cs good.tree new.tree ps

@@ -14,6 +14,7 @@ use Rattle.toml_checker.specs.Pairs.{PairsFit, IsFirst}
 use Rattle.toml_checker.specs.Protected.{IsProtected}
 use Rattle.toml_editor.specs.Steps.{IsGoodText}
 use Rattle.toml_working.specs.Written.{IsWritten}
+use Rattle.toml_working.specs.Manners.{Manner}
 
 -- The pairs name just the protected units of the first tree; they fit, and the second tree has no line and no comment that is unasked.
 pub record ArePartners (cs : List Change) (d e : Doc) (ps : List (ℕ × ℕ)) : Type 0 where
@@ -24,6 +25,6 @@ pub record ArePartners (cs : List Change) (d e : Doc) (ps : List (ℕ × ℕ)) :
 
 -- Law: a good text and what a plain edit without a fault writes of it have pairs of partners.
 abbrev pub PlainIsCarried : Type 0
-PlainIsCarried = (c : Change) (profile : Profile) (style before after : List ℕ) (old now : Kinds) → IsNewline style → (good : IsGoodText profile before old)
-    → IsFault profile c old None → IsAfter profile c old now → IsWritten profile c style before after → (new : IsGoodText profile after now)
+PlainIsCarried = (c : Change) (profile : Profile) (manner : Manner) (before after : List ℕ) (old now : Kinds) → IsNewline manner.newline → (good : IsGoodText profile before old)
+    → IsFault profile c old None → IsAfter profile c old now → IsWritten profile c manner before after → (new : IsGoodText profile after now)
     → (ps : List (ℕ × ℕ)) × ArePartners (c ∷ []) good.tree new.tree ps

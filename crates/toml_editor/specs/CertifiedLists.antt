@@ -16,12 +16,13 @@ use Rattle.toml_checker.specs.Pairs.{IsFirst}
 use Rattle.toml_editor.specs.CarriedUnits.{ArePartners}
 use Rattle.toml_editor.specs.Steps.{IsGoodText, IsPlain, AreWritten}
 use Rattle.toml_working.specs.Written.{IsWritten}
+use Rattle.toml_working.specs.Manners.{Manner}
 
 -- Law: pairs of partners certify the text that a list of plain edits without a fault writes of a document.
 abbrev pub PartnersCertify : Type 0
-PartnersCertify = (cs : List Change) (profile : Profile) (style before after : List ℕ) (old now : Kinds) → IsNewline style → IsText before
+PartnersCertify = (cs : List Change) (profile : Profile) (manner : Manner) (before after : List ℕ) (old now : Kinds) → IsNewline manner.newline → IsText before
     → IsText after → (good : IsGoodText profile before old)
-    → Lead profile cs old now → AreWritten profile cs style before after → (new : IsGoodText profile after now)
+    → Lead profile cs old now → AreWritten profile cs manner before after → (new : IsGoodText profile after now)
     → (ps : List (ℕ × ℕ)) → ArePartners cs good.tree new.tree ps → Certified profile before cs after ps
 
 -- of the pairs those whose first unit is protected and lies in no other protected one, in order
@@ -43,17 +44,17 @@ OuterAreNamed =
 
 -- and they suffice.
 abbrev pub OuterPartnersCertify : Type 0
-OuterPartnersCertify = (cs : List Change) (profile : Profile) (style before after : List ℕ) (old now : Kinds) → IsNewline style
+OuterPartnersCertify = (cs : List Change) (profile : Profile) (manner : Manner) (before after : List ℕ) (old now : Kinds) → IsNewline manner.newline
     → IsText before → IsText after → (good : IsGoodText profile before old)
-    → Lead profile cs old now → AreWritten profile cs style before after → (new : IsGoodText profile after now)
+    → Lead profile cs old now → AreWritten profile cs manner before after → (new : IsGoodText profile after now)
     → (os : List (ℕ × ℕ)) → AreOuterPartners cs good.tree new.tree os → Certified profile before cs after os
 
 -- each edit is plain on the text written so far
-abbrev pub ArePlain : Profile → List Change → List ℕ → List ℕ → Type 0
-ArePlain profile [] style before = Unit {0}
-ArePlain profile (c ∷ cs) style before =
+abbrev pub ArePlain : Profile → List Change → Manner → List ℕ → Type 0
+ArePlain profile [] manner before = Unit {0}
+ArePlain profile (c ∷ cs) manner before =
     ((d : Doc) → SpellsIn profile d before → IsPlain d.lines c)
-    × ((between : List ℕ) → IsWritten profile c style before between → ArePlain profile cs style between)
+    × ((between : List ℕ) → IsWritten profile c manner before between → ArePlain profile cs manner between)
 
 -- the text is good and has outer partners with the first one; within the limit of a text the verdict is yes by any such
 pub record IsCertifiedText (profile : Profile) (before : List ℕ) (old now : Kinds) (cs : List Change) (good : IsGoodText profile before old)
@@ -65,7 +66,7 @@ pub record IsCertifiedText (profile : Profile) (before : List ℕ) (old now : Ki
 
 -- Law: a list of plain edits, each without a fault on the data so far, writes a text, and within the limit of a text that is certified.
 abbrev pub PlainListIsCertified : Type 0
-PlainListIsCertified = (cs : List Change) (profile : Profile) (style before : List ℕ) (old now : Kinds) → IsNewline style → IsText before
+PlainListIsCertified = (cs : List Change) (profile : Profile) (manner : Manner) (before : List ℕ) (old now : Kinds) → IsNewline manner.newline → IsText before
     → (good : IsGoodText profile before old)
-    → Lead profile cs old now → ArePlain profile cs style before
-    → (after : List ℕ) × AreWritten profile cs style before after × IsCertifiedText profile before old now cs good after
+    → Lead profile cs old now → ArePlain profile cs manner before
+    → (after : List ℕ) × AreWritten profile cs manner before after × IsCertifiedText profile before old now cs good after

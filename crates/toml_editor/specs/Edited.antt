@@ -4,7 +4,6 @@ use Rattle.toml_text.specs.Limit.{IsText, max_len}
 use Rattle.toml_text.specs.Source.{IsFaultOf}
 use Rattle.toml_tree.specs.Profiles.{IsOfProfile}
 use Rattle.toml_tree.specs.Document.{Refuses}
-use Rattle.toml_tree.specs.Spells.{EachIs}
 use Rattle.toml_tree.specs.declared.profile.Profile.{Profile}
 use Rattle.toml_names.specs.declared.model.address.Step.{Step}
 use Rattle.toml_names.specs.declared.model.place.Place.{Place}
@@ -26,7 +25,6 @@ use Rattle.toml_checker.specs.Documents.{AreDefined, OfTree, OfData}
 use Rattle.toml_checker.specs.Findings.{IsFirstUnmet}
 use Rattle.toml_checker.specs.Outer.{IsOuter}
 use Rattle.toml_checker.specs.Pairs.{IsFirst}
-use Rattle.toml_working.specs.Layouts.{PutsNothingIn}
 use Rattle.toml_editor.specs.PlainTexts.{IsNoPlainEdit, IsNoPlainList, NoSpreadSet, WritesPlain}
 use Rattle.toml_working.specs.InValues.{Places, IsElementInValue, IsRightInValue}
 use Rattle.toml_working.specs.Tidy.{ArePieces}
@@ -40,22 +38,17 @@ abbrev pub NamesOuter : List ℕ → List Change → List (ℕ × ℕ) → Type 
 NamesOuter before cs ps = OfTree before (λ d. (i : ℕ) → IsFirst ps i ↔ IsOuter cs (units d.lines) i)
 
 -- The text is certified to be what the edits make of the first one, by pairs that name the outer protected units. Of plain edits it is
--- the one that they write, and none of the edits, where those before it are plain, sets what is spread.
-pub record IsEdited (profile : Profile) (before : List ℕ) (cs : List Change) (after : List ℕ) (ps : List (ℕ × ℕ)) : Type 0 where
-  pub certified : Certified profile before cs after ps
-  pub outer : NamesOuter before cs ps
-  pub plain : WritesPlain profile before cs after
-  pub passed : NoSpreadSet profile before cs (length cs)
+-- the one that they write in the layout, and none of the edits, where those before it are plain, sets what is spread.
+pub record IsEditedWith (layout : Layout) (profile : Profile) (before : List ℕ) (cs : List Change) (after : List ℕ) (ps : List (ℕ × ℕ)) : Type 0
+  where
+    pub certified : Certified profile before cs after ps
+    pub outer : NamesOuter before cs ps
+    pub plain : WritesPlain layout profile before cs after
+    pub passed : NoSpreadSet layout profile before cs (length cs)
 
--- The same in a layout. In `Follow` it is said of lists without an `insert` what they write: as in `Plain`.
-pub record IsEditedBeside (profile : Profile) (before : List ℕ) (cs : List Change) (after : List ℕ) (ps : List (ℕ × ℕ)) : Type 0 where
-  pub certified : Certified profile before cs after ps
-  pub outer : NamesOuter before cs ps
-  pub said : EachIs PutsNothingIn cs → IsEdited profile before cs after ps
-
-abbrev pub IsEditedWith : Layout → Profile → List ℕ → List Change → List ℕ → List (ℕ × ℕ) → Type 0
-IsEditedWith layouts.Plain = IsEdited
-IsEditedWith layouts.Follow = IsEditedBeside
+-- in layout `Plain`
+abbrev pub IsEdited : Profile → List ℕ → List Change → List ℕ → List (ℕ × ℕ) → Type 0
+IsEdited = IsEditedWith layouts.Plain
 
 -- the same as pieces, which are tidy
 pub record IsEditedInPieces (profile : Profile) (before : List ℕ) (cs : List Change) (list : List Piece) (ps : List (ℕ × ℕ)) : Type 0 where
@@ -102,51 +95,31 @@ RefusesText profile before _ = ⊥
 abbrev pub AreDefinedOn : Profile → List ℕ → List Change → Type 0
 AreDefinedOn profile before cs = IsDocumentIn profile before × OfData before (AreDefined profile cs)
 
--- What a fault of the editor tells. Of an edit: that the text is a document, and the fault is the edit's on the data so far. That its
+-- What a fault of the editor tells in a layout. Of an edit: that the text is a document, and the fault is the edit's on the data so far. That its
 -- place is spread, or that it takes a last element: that it is defined on these data, and not plain if those before it are. That the result
 -- is too long: all edits are defined, and where they are plain, what they write is too long. That the judge refuses it: all edits are
 -- defined, the list is not one of plain edits, and the reason is the first demand that no certificate meets of some text. That this is the
 -- text which was made says `certify` alone: here `AfterRefused` can always be told, by the text `=`. And each time that no edit before, or
 -- of the list, sets what is spread, if those before it are plain. Of want of memory: nothing.
-abbrev pub Tells : Profile → List ℕ → List Change → EditorFault → Type 0
-Tells profile before cs (Edit index fault) =
-    IsDocumentIn profile before × OnDataSoFar profile before cs index (λ c kinds. IsFault profile c kinds (Some fault))
-    × NoSpreadSet profile before cs index
-Tells profile before cs (Spread index) =
-    IsDocumentIn profile before
-    × OfTree before (λ d. OnDataSoFar profile before cs index (OfDefined profile (MayBeSpread (place (named d.lines)) index)))
-    × IsNoPlainEdit profile before cs index × NoSpreadSet profile before cs index
-Tells profile before cs (LastElement index) =
-    IsDocumentIn profile before × OnDataSoFar profile before cs index (OfDefined profile TakesLastElement)
-    × IsNoPlainEdit profile before cs index × NoSpreadSet profile before cs index
-Tells profile before cs TooLong =
-    AreDefinedOn profile before cs × ((after : List ℕ) × WritesPlain profile before cs after × (max_len < length after))
-    × NoSpreadSet profile before cs (length cs)
-Tells profile before cs (Unverified reason) =
-    AreDefinedOn profile before cs × IsNoPlainList profile before cs × NoSpreadSet profile before cs (length cs)
-    × ((after : List ℕ) × IsText after × IsFirstUnmet profile before cs after reason)
-Tells profile before cs fault = RefusesText profile before fault
-
--- What each fault tells of the data in every layout. That the result is too long: that all edits are defined. That the judge refuses it: so
--- too, and the reason is the first demand that no certificate meets of some text.
-abbrev pub TellsOfData : Profile → List ℕ → List Change → EditorFault → Type 0
-TellsOfData profile before cs (Edit index fault) =
-    IsDocumentIn profile before × OnDataSoFar profile before cs index (λ c kinds. IsFault profile c kinds (Some fault))
-TellsOfData profile before cs (Spread index) =
-    IsDocumentIn profile before
-    × OfTree before (λ d. OnDataSoFar profile before cs index (OfDefined profile (MayBeSpread (place (named d.lines)) index)))
-TellsOfData profile before cs (LastElement index) =
-    IsDocumentIn profile before × OnDataSoFar profile before cs index (OfDefined profile TakesLastElement)
-TellsOfData profile before cs TooLong = AreDefinedOn profile before cs
-TellsOfData profile before cs (Unverified reason) =
-    AreDefinedOn profile before cs × ((after : List ℕ) × IsText after × IsFirstUnmet profile before cs after reason)
-TellsOfData profile before cs fault = RefusesText profile before fault
-
--- What a fault tells in a layout: in `Follow` of lists without an `insert` all that it tells in `Plain`.
-pub record TellsBeside (profile : Profile) (before : List ℕ) (cs : List Change) (fault : EditorFault) : Type 0 where
-  pub of_data : TellsOfData profile before cs fault
-  pub said : EachIs PutsNothingIn cs → Tells profile before cs fault
-
 abbrev pub TellsWith : Layout → Profile → List ℕ → List Change → EditorFault → Type 0
-TellsWith layouts.Plain = Tells
-TellsWith layouts.Follow = TellsBeside
+TellsWith layout profile before cs (Edit index fault) =
+    IsDocumentIn profile before × OnDataSoFar profile before cs index (λ c kinds. IsFault profile c kinds (Some fault))
+    × NoSpreadSet layout profile before cs index
+TellsWith layout profile before cs (Spread index) =
+    IsDocumentIn profile before
+    × OfTree before (λ d. OnDataSoFar profile before cs index (OfDefined profile (MayBeSpread (place (named d.lines)) index)))
+    × IsNoPlainEdit layout profile before cs index × NoSpreadSet layout profile before cs index
+TellsWith layout profile before cs (LastElement index) =
+    IsDocumentIn profile before × OnDataSoFar profile before cs index (OfDefined profile TakesLastElement)
+    × IsNoPlainEdit layout profile before cs index × NoSpreadSet layout profile before cs index
+TellsWith layout profile before cs TooLong =
+    AreDefinedOn profile before cs × ((after : List ℕ) × WritesPlain layout profile before cs after × (max_len < length after))
+    × NoSpreadSet layout profile before cs (length cs)
+TellsWith layout profile before cs (Unverified reason) =
+    AreDefinedOn profile before cs × IsNoPlainList layout profile before cs × NoSpreadSet layout profile before cs (length cs)
+    × ((after : List ℕ) × IsText after × IsFirstUnmet profile before cs after reason)
+TellsWith layout profile before cs fault = RefusesText profile before fault
+
+-- in layout `Plain`
+abbrev pub Tells : Profile → List ℕ → List Change → EditorFault → Type 0
+Tells = TellsWith layouts.Plain

@@ -8,9 +8,7 @@ use Rattle.toml_units.specs.declared.piece.Piece.{Piece}
 use Rattle.toml_units.specs.Plain.{plain_units}
 use Rattle.toml_units.specs.View.{all_units}
 use Rattle.toml_checker.specs.Findings.{IsFirstUnmet}
-use Rattle.toml_checker.specs.Demands.{Certified}
-use Rattle.toml_editor.specs.Edited.{AreDefinedOn, IsEdited, NamesOuter, Tells, TellsOfData}
-use Rattle.toml_working.specs.Layouts.{AreSaid}
+use Rattle.toml_editor.specs.Edited.{AreDefinedOn, IsEditedWith}
 use Rattle.toml_working.specs.Tidy.{ArePieces}
 use Rattle.toml_editor.specs.PlainTexts.{NoSpreadSet, WritesPlain}
 use Rattle.toml_editor.specs.declared.editing.Edited.{Edited}
@@ -31,12 +29,12 @@ pub record IsReadFrom (text : List ℕ) (read : Read) (known : List LineFacts) :
   pub units : all_units read.before.units.now ≡ plain_units (read_of read.before).lines
   pub facts : AreFacts read.before known
 
--- The edits are defined on the data of the first text, and the pieces of that text are the second one. Of plain edits of which the layout
--- says what they write that is the one that they write, and none of the edits sets what is spread.
+-- The edits are defined on the data of the first text, and the pieces of that text are the second one. Of plain edits that is the one
+-- that they write in the layout, and none of the edits sets what is spread.
 pub record IsMadeText (layout : Layout) (profile : Profile) (before : List ℕ) (cs : List Change) (after : List ℕ) (list : List Piece) : Type 0 where
   pub are_defined : AreDefinedOn profile before cs
-  pub plain : AreSaid layout cs → WritesPlain profile before cs after
-  pub passed : AreSaid layout cs → NoSpreadSet profile before cs (length cs)
+  pub plain : WritesPlain layout profile before cs after
+  pub passed : NoSpreadSet layout profile before cs (length cs)
   pub pieces : ArePieces before after list
 
 -- the same of what the code hands on: its text, and its pieces
@@ -51,17 +49,10 @@ IsJudged profile before cs after _ = Unit {0}
 -- the text is certified to be what the edits make of the first one, and the pieces of that one are it
 pub record IsEditedText (layout : Layout) (profile : Profile) (before : List ℕ) (cs : List Change) (after : List ℕ) (list : List Piece)
     (ps : List (ℕ × ℕ)) : Type 0 where
-  pub certified : Certified profile before cs after ps
-  pub outer : NamesOuter before cs ps
-  pub said : AreSaid layout cs → IsEdited profile before cs after ps
+  pub edited : IsEditedWith layout profile before cs after ps
   pub pieces : ArePieces before after list
 
 -- and its pairs
 abbrev pub IsEditedAs : Layout → Profile → List ℕ → List Change → Edited → Type 0
 IsEditedAs layout profile before cs e =
     IsEditedText layout profile before cs (string_bytes e.text) e.pieces.items e.certificate.pairs.items
-
--- what a fault tells of the data, and where the layout says of the edits what they write all that it tells in `Plain`
-pub record TellsIn (layout : Layout) (profile : Profile) (before : List ℕ) (cs : List Change) (fault : EditorFault) : Type 0 where
-  pub of_data : TellsOfData profile before cs fault
-  pub said : AreSaid layout cs → Tells profile before cs fault

@@ -21,10 +21,9 @@ use Rattle.toml_editor.specs.declared.fault.EditorFault.TheVariants.{Edit, LastE
 use Rattle.toml_working.specs.declared.working.Tree.{Tree}
 use Rattle.toml_working.specs.Becoming.{TreeRenames}
 use Rattle.toml_editor.specs.CertifiedLists.{ArePlain}
-use Rattle.toml_working.specs.Layouts.{AreSaid, IsSaid}
 use Rattle.toml_working.specs.OpenOutlines.{leaf_text}
 use Rattle.toml_editor.specs.PlainTexts.{IsPlainOn, IsSpreadSet}
-use Rattle.toml_working.specs.Putting.{TreeInserts}
+use Rattle.toml_working.specs.Putting.{TreeInserts, manner}
 use Rattle.toml_working.specs.RemovingIn.{RemovesLines}
 use Rattle.toml_editor.specs.SpelledEdits.{AreSteps}
 use Rattle.toml_working.specs.Standing.{Read, standing}
@@ -34,45 +33,41 @@ use Rattle.toml_editor.specs.Steps.{IsGoodText, AreWritten}
 use Rattle.toml_working.specs.TreeOutlines.{value_outline}
 use Rattle.toml_working.specs.Written.{IsWritten}
 
--- the newline of new lines is that of the text before all edits
-abbrev pub style : Tree → List ℕ
-style tree = leaf_text tree.style
-
 -- the working tree stands for a text with these data, and no element of an array of tables is gone
 pub record IsAt (profile : Profile) (read : Read) (tree : Tree) (text : List ℕ) (kinds : Kinds) : Type 0 where
   pub good : IsGoodText profile text kinds
   pub stands : Stands (text_of tree.texts.source) read tree.slots.items (standing good.tree.lines)
   pub whole : NoneIsGone tree.elements
-  pub newline : IsNewline (style tree)
+  pub newline : IsNewline (leaf_text tree.style)
 
--- the second tree has the first one's texts and newline of new lines
+-- the second tree has the first one's texts, and what is written by
 pub record KeepsSource (old new : Tree) : Type 0 where
   pub texts : new.texts ≡ old.texts
-  pub style : style new ≡ style old
+  pub mannered : manner new ≡ manner old
 
 -- the tree now stands for the text that the edit writes of the one for which it stood
 pub record Follows (profile : Profile) (read : Read) (c : Change) (old new : Tree) (text : List ℕ) (now : Kinds) : Type 0 where
   pub after : List ℕ
-  pub written : IsWritten profile c (style old) text after
+  pub written : IsWritten profile c (manner old) text after
   pub at : IsAt profile read new after now
   pub source : KeepsSource old new
 
--- so it does where it is said of the edit what it writes, and this is plain
+-- so it does where the edit is plain
 abbrev pub MakesOne : Profile → Read → Change → Tree → Tree → Type 0
 MakesOne profile read c old new = (text : List ℕ) (kinds now : Kinds) → IsAt profile read old text kinds
-    → IsFault profile c kinds None → IsAfter profile c kinds now → IsSaid old.texts.layout c → IsPlainOn profile text c
+    → IsFault profile c kinds None → IsAfter profile c kinds now → IsPlainOn profile text c
     → Follows profile read c old new text now
 
 -- the same of edits one after the other
 pub record FollowAll (profile : Profile) (read : Read) (cs : List Change) (old new : Tree) (text : List ℕ) (now : Kinds) : Type 0 where
   pub after : List ℕ
-  pub written : AreWritten profile cs (style old) text after
+  pub written : AreWritten profile cs (manner old) text after
   pub at : IsAt profile read new after now
   pub source : KeepsSource old new
 
 abbrev pub MakesAll : Profile → Read → List Change → Tree → Tree → Type 0
 MakesAll profile read cs old new = (text : List ℕ) (kinds now : Kinds) → IsAt profile read old text kinds
-    → Lead profile cs kinds now → AreSaid old.texts.layout cs → ArePlain profile cs (style old) text → FollowAll profile read cs old new text now
+    → Lead profile cs kinds now → ArePlain profile cs (manner old) text → FollowAll profile read cs old new text now
 
 -- a `set` of a value's text
 abbrev pub WritesSet : Profile → Read → Address → List ℕ → Tree → Tree → Bool → Type 0
@@ -126,8 +121,8 @@ PassesOne profile read near c tree = (text : List ℕ) (kinds now : Kinds) → I
 abbrev pub OfPlain : Profile → Read → List Change → Tree → ℕ → (Change → List ℕ → Kinds → Type 0) → Type 0
 OfPlain profile read cs tree k P = (c : Change) → slice_get cs k ≡ Some c → (text : List ℕ) (kinds mid now : Kinds)
     → IsAt profile read tree text kinds → Lead profile (take k cs) kinds mid → IsFault profile c mid None → IsAfter profile c mid now
-    → AreSaid tree.texts.layout (take k cs) → ArePlain profile (take k cs) (style tree) text
-    → (between : List ℕ) → AreWritten profile (take k cs) (style tree) text between → P c between mid
+    → ArePlain profile (take k cs) (manner tree) text
+    → (between : List ℕ) → AreWritten profile (take k cs) (manner tree) text between → P c between mid
 
 -- the edit with this number, where those before it are plain, sets nothing that is spread; of the data those are known that are near
 abbrev pub PassesAt : Profile → Read → List Change → Kinds → Tree → ℕ → Type 0

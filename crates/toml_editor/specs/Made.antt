@@ -1,7 +1,7 @@
 -- What it is to make edits, and to refuse one, by what was read of the document: on the data and on the working tree together.
 use Rattle.std.specs.Prelude.{ℕ, List}
-use Rattle.toml_names.specs.declared.model.datum.Data.{Data}
-use Rattle.toml_names.specs.model.Data.{kind_at}
+use Rattle.toml_edits.specs.declared.draft.Draft.{Draft}
+use Rattle.toml_edits.specs.Drafts.{drafted}
 use Rattle.toml_edits.specs.Edits.{Change}
 use Rattle.toml_edits.specs.Lists.{Lead}
 use Rattle.toml_editor.specs.declared.fault.EditorFault.{EditorFault}
@@ -18,23 +18,23 @@ abbrev pub places_in : Read → Places
 places_in read = places_of (read_of read.before).lines
 
 -- the edit is made on the data, and where it is plain on the working tree; it sets nothing that is spread over lines
-pub record MakesEdit (read : Read) (c : Change) (old new : Data) (before after : Tree) : Type 0 where
-  pub applied : IsMade read.profile c old.root new.root
-  pub done : DoneOne read.profile (read_of read.before) (kind_at old.root) c before after
+pub record MakesEdit (read : Read) (c : Change) (old new : Draft) (before after : Tree) : Type 0 where
+  pub applied : IsMade read.profile c old new
+  pub done : DoneOne read.profile (read_of read.before) (drafted old) c before after
 
 -- the edit with this number has the fault on the data; where that is of its place, or of a last element, the edit is not plain
-pub record RefusesEdit (read : Read) (index : ℕ) (c : Change) (old : Data) (tree : Tree) (fault : EditorFault) : Type 0 where
-  pub told : TellsOne read.profile (places_in read) index c (kind_at old.root) fault
+pub record RefusesEdit (read : Read) (index : ℕ) (c : Change) (old : Draft) (tree : Tree) (fault : EditorFault) : Type 0 where
+  pub told : TellsOne read.profile (places_in read) index c (drafted old) fault
   pub not_plain : OfNoPlaceAt (λ at. IsNotPlain read.profile (read_of read.before) c tree) fault
 
 -- the edits are made one after the other: they lead from the one data to the other, and where they are plain so they do on the working
 -- tree; none whose forerunners are plain sets anything that is spread over lines
-pub record MakesEdits (read : Read) (cs : List Change) (old new : Data) (before after : Tree) : Type 0 where
-  pub lead : Lead read.profile cs (kind_at old.root) (kind_at new.root)
-  pub done : DoneAll read.profile (read_of read.before) (kind_at old.root) cs before after
+pub record MakesEdits (read : Read) (cs : List Change) (old new : Draft) (before after : Tree) : Type 0 where
+  pub lead : Lead read.profile cs (drafted old) (drafted new)
+  pub done : DoneAll read.profile (read_of read.before) (drafted old) cs before after
 
 -- Some edit has the fault on the data to which those before it lead. Where these are plain, they set nothing that is spread over lines,
 -- and where the fault is of its place, or of a last element, the edit is not plain.
-pub record RefusesEdits (read : Read) (cs : List Change) (old : Data) (tree : Tree) (fault : EditorFault) : Type 0 where
-  pub told : TellsAny read.profile (places_in read) cs (kind_at old.root) fault
-  pub stops : Stops read.profile (read_of read.before) cs (kind_at old.root) tree fault
+pub record RefusesEdits (read : Read) (cs : List Change) (old : Draft) (tree : Tree) (fault : EditorFault) : Type 0 where
+  pub told : TellsAny read.profile (places_in read) cs (drafted old) fault
+  pub stops : Stops read.profile (read_of read.before) cs (drafted old) tree fault

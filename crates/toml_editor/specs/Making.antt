@@ -4,15 +4,16 @@ use Rattle.toml_tree.specs.declared.profile.Profile.{Profile}
 use Rattle.toml_names.specs.declared.model.datum.Datum.{Datum}
 use Rattle.toml_names.specs.declared.model.address.Step.{Step}
 use Rattle.toml_names.specs.model.Addresses.{Address}
-use Rattle.toml_names.specs.model.Data.{Kinds, kind_at, kind_in}
+use Rattle.toml_names.specs.model.Data.{Kinds, kind_in}
 use Rattle.toml_names.specs.model.Places.{place}
 use Rattle.toml_names.specs.mentions.Mentions.{a_table, an_array, named}
 use Rattle.toml_names.specs.reader.LineNames.{StandFor}
 use Rattle.toml_tree.specs.Tree.{Line}
 use Rattle.toml_editor.specs.declared.making.Read.{Read}
 use Rattle.toml_working.specs.Starting.{read_of}
-use Rattle.toml_names.specs.declared.model.address.Step.TheVariants.{Index}
+use Rattle.toml_edits.specs.declared.draft.Draft.{Draft}
 use Rattle.toml_edits.specs.Applied.{IsApplied}
+use Rattle.toml_edits.specs.Drafts.{drafted}
 use Rattle.toml_edits.specs.Edits.{Change}
 use Rattle.toml_edits.specs.Faults.{IsFault}
 use Rattle.toml_working.specs.InValues.{Places, places_of}
@@ -22,16 +23,12 @@ use Rattle.toml_editor.specs.declared.fault.EditorFault.{EditorFault}
 use Rattle.toml_editor.specs.declared.fault.EditorFault.TheVariants.{Edit, Spread, LastElement, NoMemory}
 
 -- the edit has no fault on the one data, and makes the other of them
-abbrev pub IsMade : Profile → Change → Datum → Datum → Type 0
-IsMade profile c old new = IsApplied profile c (kind_at old) (kind_at new)
+abbrev pub IsMade : Profile → Change → Draft → Draft → Type 0
+IsMade profile c old new = IsApplied profile c (drafted old) (drafted new)
 
 -- what was found is a table or an array
 abbrev pub IsMany : Option Datum → Type 0
 IsMany found = (kind_in found [] ≡ Some a_table) ⊎ (kind_in found [] ≡ Some an_array)
-
--- what was found has a first element, and no second one
-abbrev pub HasOne : Option Datum → Type 0
-HasOne found = IsSome (kind_in found (Index 0 ∷ [])) × (kind_in found (Index 1 ∷ []) ≡ None)
 
 -- the names are those of the lines of the document
 abbrev pub HasNames : Read → Type 0

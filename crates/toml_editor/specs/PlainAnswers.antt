@@ -10,28 +10,29 @@ use Rattle.toml_edits.specs.Edits.{Change}
 use Rattle.toml_edits.specs.Faults.{IsFault}
 use Rattle.toml_edits.specs.Lists.{Lead}
 use Rattle.toml_editor.specs.CertifiedLists.{ArePlain}
-use Rattle.toml_editor.specs.Edited.{IsEdited, Tells}
+use Rattle.toml_editor.specs.Edited.{IsEditedWith, TellsWith}
 use Rattle.toml_editor.specs.PlainTexts.{IsSpreadSet}
 use Rattle.toml_editor.specs.Steps.{AreWritten}
-use Rattle.toml_working.specs.Written.{style_of}
+use Rattle.toml_working.specs.declared.layout.Layout.{Layout}
+use Rattle.toml_working.specs.Written.{manner_of}
 use Rattle.toml_editor.specs.declared.fault.EditorFault.{EditorFault}
 use Rattle.toml_editor.specs.declared.fault.EditorFault.TheVariants.{Edit, Spread, TooLong, NoMemory}
 
 -- So many edits of a list, from the first on, have no fault on a document and are plain, each on the text written so far; this is the
 -- text that they write, and these are its data. There is such a text (`PlainListIsCertified`), and no other (`OneListWritten`). The
 -- first field of `document` is the tree of the document.
-pub record PlainSoFar (profile : Profile) (before : List ℕ) (cs : List Change) (n : ℕ) (after : List ℕ) (now : Kinds) : Type 0 where
+pub record PlainSoFar (layout : Layout) (profile : Profile) (before : List ℕ) (cs : List Change) (n : ℕ) (after : List ℕ) (now : Kinds) : Type 0 where
   pub document : IsDocumentIn profile before
   pub old : Kinds
   pub facts : IsDataOf (named document.1.lines) old
   pub lead : Lead profile (take n cs) old now
-  pub plain : ArePlain profile (take n cs) (style_of document.1.lines) before
-  pub written : AreWritten profile (take n cs) (style_of document.1.lines) before after
+  pub plain : ArePlain profile (take n cs) (manner_of layout document.1.lines) before
+  pub written : AreWritten profile (take n cs) (manner_of layout document.1.lines) before after
 
 -- a text with its pairs, or a fault, of which the editor's contract holds
-abbrev pub IsAnswer : Profile → List ℕ → List Change → Result (List ℕ × List (ℕ × ℕ)) EditorFault → Type 0
-IsAnswer profile before cs (Ok (text, pairs)) = IsEdited profile before cs text pairs
-IsAnswer profile before cs (Err fault) = Tells profile before cs fault
+abbrev pub IsAnswer : Layout → Profile → List ℕ → List Change → Result (List ℕ × List (ℕ × ℕ)) EditorFault → Type 0
+IsAnswer layout profile before cs (Ok (text, pairs)) = IsEditedWith layout profile before cs text pairs
+IsAnswer layout profile before cs (Err fault) = TellsWith layout profile before cs fault
 
 -- the answer is this fault, or want of memory
 abbrev pub IsFaultOrMemory : EditorFault → Result (List ℕ × List (ℕ × ℕ)) EditorFault → Type 0
@@ -40,28 +41,28 @@ IsFaultOrMemory fault answer = (answer ≡ Err fault) ⊎ (answer ≡ Err NoMemo
 -- Laws, want of memory aside. Where all edits are defined on the data so far and plain, the answer is the text that they write, if it is
 -- within the limit;
 abbrev pub PlainIsAnswered : Type 0
-PlainIsAnswered = (profile : Profile) (before : List ℕ) (cs : List Change) (after : List ℕ) (now : Kinds)
-    → PlainSoFar profile before cs (length cs) after now → length after ≤ max_len
-    → (answer : Result (List ℕ × List (ℕ × ℕ)) EditorFault) → IsAnswer profile before cs answer
+PlainIsAnswered = (layout : Layout) (profile : Profile) (before : List ℕ) (cs : List Change) (after : List ℕ) (now : Kinds)
+    → PlainSoFar layout profile before cs (length cs) after now → length after ≤ max_len
+    → (answer : Result (List ℕ × List (ℕ × ℕ)) EditorFault) → IsAnswer layout profile before cs answer
     → ((pairs : List (ℕ × ℕ)) × (answer ≡ Ok (after, pairs))) ⊎ (answer ≡ Err NoMemory)
 
 -- else that it is too long.
 abbrev pub LongIsAnswered : Type 0
-LongIsAnswered = (profile : Profile) (before : List ℕ) (cs : List Change) (after : List ℕ) (now : Kinds)
-    → PlainSoFar profile before cs (length cs) after now → max_len < length after → (answer : Result (List ℕ × List (ℕ × ℕ)) EditorFault)
-    → IsAnswer profile before cs answer → IsFaultOrMemory TooLong answer
+LongIsAnswered = (layout : Layout) (profile : Profile) (before : List ℕ) (cs : List Change) (after : List ℕ) (now : Kinds)
+    → PlainSoFar layout profile before cs (length cs) after now → max_len < length after → (answer : Result (List ℕ × List (ℕ × ℕ)) EditorFault)
+    → IsAnswer layout profile before cs answer → IsFaultOrMemory TooLong answer
 
 -- Where the edits before one are so, and it has a fault on the data so far, that is the answer, with its number;
 abbrev pub FirstFaultIsAnswered : Type 0
-FirstFaultIsAnswered = (profile : Profile) (before : List ℕ) (cs : List Change) (n : ℕ) (between : List ℕ) (mid : Kinds)
-    → PlainSoFar profile before cs n between mid → (c : Change) → slice_get cs n ≡ Some c → (fault : EditFault)
-    → IsFault profile c mid (Some fault) → (answer : Result (List ℕ × List (ℕ × ℕ)) EditorFault) → IsAnswer profile before cs answer
+FirstFaultIsAnswered = (layout : Layout) (profile : Profile) (before : List ℕ) (cs : List Change) (n : ℕ) (between : List ℕ) (mid : Kinds)
+    → PlainSoFar layout profile before cs n between mid → (c : Change) → slice_get cs n ≡ Some c → (fault : EditFault)
+    → IsFault profile c mid (Some fault) → (answer : Result (List ℕ × List (ℕ × ℕ)) EditorFault) → IsAnswer layout profile before cs answer
     → IsFaultOrMemory (Edit n fault) answer
 
 -- and where it has none and is a `set` of an address where the text so far has no one value, the answer is that its place is spread,
 -- with its number.
 abbrev pub FirstSpreadIsAnswered : Type 0
-FirstSpreadIsAnswered = (profile : Profile) (before : List ℕ) (cs : List Change) (n : ℕ) (between : List ℕ) (mid : Kinds)
-    → PlainSoFar profile before cs n between mid → (c : Change) → slice_get cs n ≡ Some c → IsFault profile c mid None
-    → IsSpreadSet profile between c → (answer : Result (List ℕ × List (ℕ × ℕ)) EditorFault) → IsAnswer profile before cs answer
+FirstSpreadIsAnswered = (layout : Layout) (profile : Profile) (before : List ℕ) (cs : List Change) (n : ℕ) (between : List ℕ) (mid : Kinds)
+    → PlainSoFar layout profile before cs n between mid → (c : Change) → slice_get cs n ≡ Some c → IsFault profile c mid None
+    → IsSpreadSet profile between c → (answer : Result (List ℕ × List (ℕ × ℕ)) EditorFault) → IsAnswer layout profile before cs answer
     → IsFaultOrMemory (Spread n) answer

@@ -1,4 +1,4 @@
--- The text that is handed out of plain edits: the one that they write, byte for byte.
+-- The text that is handed out of plain edits in a layout: the one that they write, byte for byte.
 use Rattle.std.specs.Prelude.{◌≡◌, ◌<◌, ℕ, List, take, Some, None, slice_get}
 use Rattle.toml_tree.specs.Profiles.{SpellsIn}
 use Rattle.toml_tree.specs.Tree.{Doc}
@@ -12,18 +12,19 @@ use Rattle.toml_edits.specs.Faults.{IsFault}
 use Rattle.toml_edits.specs.Lists.{Lead}
 use Rattle.toml_editor.specs.CertifiedLists.{ArePlain}
 use Rattle.toml_editor.specs.Steps.{AreWritten, IsPlain}
-use Rattle.toml_working.specs.Written.{HasValue, style_of}
+use Rattle.toml_working.specs.declared.layout.Layout.{Layout}
+use Rattle.toml_working.specs.Written.{HasValue, manner_of}
 
 -- where each edit is plain on the text written so far, the text is the one that they write of the first
-abbrev pub WritesPlain : Profile → List ℕ → List Change → List ℕ → Type 0
-WritesPlain profile before cs after =
-    OfTree before (λ d. ArePlain profile cs (style_of d.lines) before → AreWritten profile cs (style_of d.lines) before after)
+abbrev pub WritesPlain : Layout → Profile → List ℕ → List Change → List ℕ → Type 0
+WritesPlain layout profile before cs after =
+    OfTree before (λ d. ArePlain profile cs (manner_of layout d.lines) before → AreWritten profile cs (manner_of layout d.lines) before after)
 
 -- an edit has a fault on the data of the text so far, or one is not plain
-abbrev pub IsNoPlainList : Profile → List ℕ → List Change → Type 0
-IsNoPlainList profile before cs =
+abbrev pub IsNoPlainList : Layout → Profile → List ℕ → List Change → Type 0
+IsNoPlainList layout profile before cs =
     OfTree before (λ d. (old now : Kinds) → IsDataOf (named d.lines) old → Lead profile cs old now
-    → ¬ ArePlain profile cs (style_of d.lines) before)
+    → ¬ ArePlain profile cs (manner_of layout d.lines) before)
 
 -- the edit is plain on the lines of the text
 abbrev pub IsPlainOn : Profile → List ℕ → Change → Type 0
@@ -35,17 +36,17 @@ IsSpreadSet profile text (set p value) = (d : Doc) → SpellsIn profile d text �
 IsSpreadSet profile text _ = ⊥
 
 -- `P` holds of the edit with this number and of the text before it, if the edit is defined and those before it are defined and plain.
-abbrev pub AfterPlain : Profile → List ℕ → List Change → Doc → ℕ → (Change → List ℕ → Type 0) → Type 0
-AfterPlain profile before cs d k P = (c : Change) → slice_get cs k ≡ Some c → (old mid now : Kinds) → IsDataOf (named d.lines) old
+abbrev pub AfterPlain : Layout → Profile → List ℕ → List Change → Doc → ℕ → (Change → List ℕ → Type 0) → Type 0
+AfterPlain layout profile before cs d k P = (c : Change) → slice_get cs k ≡ Some c → (old mid now : Kinds) → IsDataOf (named d.lines) old
     → Lead profile (take k cs) old mid → IsFault profile c mid None → IsAfter profile c mid now
-    → ArePlain profile (take k cs) (style_of d.lines) before
-    → (between : List ℕ) → AreWritten profile (take k cs) (style_of d.lines) before between → P c between
+    → ArePlain profile (take k cs) (manner_of layout d.lines) before
+    → (between : List ℕ) → AreWritten profile (take k cs) (manner_of layout d.lines) before between → P c between
 
 -- of the first so many edits none, where those before it are plain, sets what is spread
-abbrev pub NoSpreadSet : Profile → List ℕ → List Change → ℕ → Type 0
-NoSpreadSet profile before cs n =
-    OfTree before (λ d. (k : ℕ) → k < n → AfterPlain profile before cs d k (λ c text. ¬ IsSpreadSet profile text c))
+abbrev pub NoSpreadSet : Layout → Profile → List ℕ → List Change → ℕ → Type 0
+NoSpreadSet layout profile before cs n =
+    OfTree before (λ d. (k : ℕ) → k < n → AfterPlain layout profile before cs d k (λ c text. ¬ IsSpreadSet profile text c))
 
 -- the edit with this number, where those before it are plain, is not
-abbrev pub IsNoPlainEdit : Profile → List ℕ → List Change → ℕ → Type 0
-IsNoPlainEdit profile before cs j = OfTree before (λ d. AfterPlain profile before cs d j (λ c text. ¬ IsPlainOn profile text c))
+abbrev pub IsNoPlainEdit : Layout → Profile → List ℕ → List Change → ℕ → Type 0
+IsNoPlainEdit layout profile before cs j = OfTree before (λ d. AfterPlain layout profile before cs d j (λ c text. ¬ IsPlainOn profile text c))

@@ -14,6 +14,7 @@ use Rattle.toml_working.specs.RenameStanding.{rename_standing}
 use Rattle.toml_working.specs.Renaming.{rename_lines}
 use Rattle.toml_working.specs.InsertStanding.{AreRooted, insert_standing}
 use Rattle.toml_working.specs.Inserting.{insert_lines}
+use Rattle.toml_working.specs.Manners.{Manner}
 use Rattle.toml_working.specs.RemoveStanding.{is_pair, remove_standing}
 use Rattle.toml_working.specs.Removing.{remove_lines}
 use Rattle.toml_working.specs.Setting.{set_lines}
@@ -54,8 +55,8 @@ abbrev pub RootComesFirst : Type 0
 RootComesFirst = (lines : List Line) → AreLines lines → AreRooted (standing lines)
 
 abbrev pub InsertStands : Type 0
-InsertStands = (name : List ℕ) (new : Value) (style : List ℕ) (lines : List Line) → AreLines lines
-    → standing (insert_lines name new style lines) ≡ insert_standing name (value_outline new) style (standing lines)
+InsertStands = (name : List ℕ) (new : Value) (manner : Manner) (lines : List Line) → AreLines lines
+    → standing (insert_lines name new manner lines) ≡ insert_standing name (value_outline new) manner (standing lines)
 
 -- Laws: the value of a name at the root stands on one of the lines, if a key has it,
 abbrev pub PairStands : Type 0

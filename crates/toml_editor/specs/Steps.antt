@@ -16,6 +16,7 @@ use Rattle.toml_edits.specs.Edits.{Change, set, insert, rename, remove}
 use Rattle.toml_edits.specs.Faults.{IsFault}
 use Rattle.toml_edits.specs.Lists.{Lead}
 use Rattle.toml_working.specs.Written.{HasValue, HasPair, IsWritten, style_of}
+use Rattle.toml_working.specs.Manners.{Manner}
 
 -- a text that a good tree of the profile spells, and its data
 pub record IsGoodText (profile : Profile) (text : List ℕ) (kinds : Kinds) : Type 0 where
@@ -40,39 +41,39 @@ IsPlain lines _ = ⊥
 
 -- Law: a plain edit that makes something of the data writes a text.
 abbrev pub PlainIsWritten : Type 0
-PlainIsWritten = (profile : Profile) (c : Change) (style before : List ℕ) (old now : Kinds) (good : IsGoodText profile before old)
-    → IsAfter profile c old now → IsPlain good.tree.lines c → (after : List ℕ) × IsWritten profile c style before after
+PlainIsWritten = (profile : Profile) (c : Change) (manner : Manner) (before : List ℕ) (old now : Kinds) (good : IsGoodText profile before old)
+    → IsAfter profile c old now → IsPlain good.tree.lines c → (after : List ℕ) × IsWritten profile c manner before after
 
 -- Law: what a plain edit without a fault writes of a good text is a good text, its data are what the edit makes of the data before, and
 -- the mark is kept.
 abbrev pub PlainStep : Type 0
-PlainStep = (profile : Profile) (c : Change) (style before after : List ℕ) (old now : Kinds) → IsNewline style
+PlainStep = (profile : Profile) (c : Change) (manner : Manner) (before after : List ℕ) (old now : Kinds) → IsNewline manner.newline
     → (good : IsGoodText profile before old) → IsFault profile c old None → IsAfter profile c old now
-    → IsWritten profile c style before after
+    → IsWritten profile c manner before after
     → (new : IsGoodText profile after now) × (new.tree.mark ≡ good.tree.mark)
 
 -- the edits one after the other, each on the text written so far
-abbrev pub AreWritten : Profile → List Change → List ℕ → List ℕ → List ℕ → Type 0
-AreWritten profile [] style before after = before ≡ after
-AreWritten profile (c ∷ cs) style before after =
-    (between : List ℕ) × IsWritten profile c style before between × AreWritten profile cs style between after
+abbrev pub AreWritten : Profile → List Change → Manner → List ℕ → List ℕ → Type 0
+AreWritten profile [] manner before after = before ≡ after
+AreWritten profile (c ∷ cs) manner before after =
+    (between : List ℕ) × IsWritten profile c manner before between × AreWritten profile cs manner between after
 
 -- Law: so it is of a list of plain edits that leads from the data before to other data.
 abbrev pub PlainSteps : Type 0
-PlainSteps = (profile : Profile) (cs : List Change) (style before after : List ℕ) (old now : Kinds) → IsNewline style
-    → (good : IsGoodText profile before old) → Lead profile cs old now → AreWritten profile cs style before after
+PlainSteps = (profile : Profile) (cs : List Change) (manner : Manner) (before after : List ℕ) (old now : Kinds) → IsNewline manner.newline
+    → (good : IsGoodText profile before old) → Lead profile cs old now → AreWritten profile cs manner before after
     → (new : IsGoodText profile after now) × (new.tree.mark ≡ good.tree.mark)
 
 -- Law: an edit writes one text,
 abbrev pub OneWritten : Type 0
-OneWritten = (profile : Profile) (c : Change) (style before one two : List ℕ)
-    → IsWritten profile c style before one → IsWritten profile c style before two → one ≡ two
+OneWritten = (profile : Profile) (c : Change) (manner : Manner) (before one two : List ℕ)
+    → IsWritten profile c manner before one → IsWritten profile c manner before two → one ≡ two
 
 -- and so do edits one after the other.
 abbrev pub OneListWritten : Type 0
-OneListWritten = (profile : Profile) (cs : List Change) (style before one two : List ℕ)
-    → AreWritten profile cs style before one → AreWritten profile cs style before two → one ≡ two
+OneListWritten = (profile : Profile) (cs : List Change) (manner : Manner) (before one two : List ℕ)
+    → AreWritten profile cs manner before one → AreWritten profile cs manner before two → one ≡ two
 
--- Law: the style of lines in the forms is a newline.
+-- Law: the newline of new lines is one, of lines in the forms.
 abbrev pub StyleIsNewline : Type 0
 StyleIsNewline = (lines : List Line) → AreLines lines → IsNewline (style_of lines)

@@ -10,8 +10,11 @@ use Rattle.toml_names.specs.mentions.Mentions.{named}
 use Rattle.toml_names.specs.mentions.Rules.{KeepsRules}
 use Rattle.toml_units.specs.declared.unit.UnitKind.TheVariants as kinds
 use Rattle.toml_units.specs.Units.{TextUnit, inside, comment_units, units}
+use Rattle.toml_working.specs.declared.layout.Layout.TheVariants as layouts
 use Rattle.toml_working.specs.Inserting.{insert_lines}
+use Rattle.toml_working.specs.Manners.{Manner}
 use Rattle.toml_working.specs.Removing.{remove_lines}
+use Rattle.toml_working.specs.Spacings.{Spacing, plain_spacing}
 use Rattle.toml_working.specs.Written.{HasPair}
 
 -- a keyval line of a name in the root: itself, what lies in its value, and its comment
@@ -50,14 +53,16 @@ pub record IsBlockTaken (old block new : List TextUnit) : Type 0 where
   pub after : new ≡ front ++ (left_of back ++ back)
   pub next : BeginWithLine back
 
--- the bytes of a new line, but for its newline
-abbrev pub pair_text : List ℕ → Value → List ℕ
-pair_text name v = spelled name ++ 0x20 ∷ 0x3D ∷ 0x20 ∷ joined (value_parts v)
+-- the bytes of a new line with this whitespace, but for its newline
+abbrev pub pair_text : Spacing → List ℕ → Value → List ℕ
+pair_text s name v = s.ws ++ (spelled name ++ (s.before_equals ++ 0x3D ∷ (s.after_equals ++ joined (value_parts v))))
 
--- Law: the units of the new lines are those of the old ones and those of the new line.
+-- Law: the units of the new lines are those of the old ones and those of the new line, which has some whitespace, in layout `Plain` that of
+-- ` = `.
 abbrev pub InsertUnits : Type 0
-InsertUnits = (name : List ℕ) (v : Value) (style : List ℕ) (lines : List Line)
-    → IsBlockPut (units lines) (root_line (fresh (pair_text name v)) name v None) (units (insert_lines name v style lines))
+InsertUnits = (name : List ℕ) (v : Value) (manner : Manner) (lines : List Line)
+    → (s : Spacing) × (manner.layout ≡ layouts.Plain → s ≡ plain_spacing)
+    × IsBlockPut (units lines) (root_line (fresh (pair_text s name v)) name v None) (units (insert_lines name v manner lines))
 
 -- Law: the units of the new lines are those of the old ones without those of the name's line.
 abbrev pub RemoveUnits : Type 0

@@ -10,7 +10,7 @@ ghost use Rattle.toml_units.specs.Cursors.{StandsBefore, Walks};
 ghost use Rattle.toml_units.specs.declared.cursor.UnitCursor.{UnitCursor};
 ghost use Rattle.toml_editor.specs.Edited.{IsEdited, IsEditedWith, IsEditedInPieces, RefusesText, Tells, TellsWith};
 ghost use Rattle.toml_working.specs.Tidy.{ArePieces};
-ghost use Rattle.toml_editor.specs.Editing.{IsEditedAs, IsJudged, IsMadeAs, IsReadFrom, TellsIn};
+ghost use Rattle.toml_editor.specs.Editing.{IsEditedAs, IsJudged, IsMadeAs, IsReadFrom};
 ghost use Rattle.toml_editor.specs.declared.fault.EditorFault.TheVariants.{NoMemory};
 ghost use Rattle.toml_working.specs.Reading.{IsReadAs};
 ghost use Rattle.toml_editor.specs.SpelledEdits.{AreSpelled};
@@ -21,7 +21,7 @@ use crate::making::{Read, make_all};
 use crate::spelled::{Spelled, spell_all};
 use std::alloc::Global;
 use toml_checker::{Afterwards, Finding, find_walked};
-use toml_edits::{Edit, near_addresses};
+use toml_edits::{Draft, Edit, near_addresses};
 use toml_names::{AddressSet, ReadFault};
 use toml_text::{MAX_LEN, Source};
 use toml_tree::{Profile, mark};
@@ -91,8 +91,7 @@ pub fn edit_at_exit(
 
 /// What `edit_in` makes, in a layout. By `Layout::Plain` it is that. By `Layout::Follow` new text is written as its neighbours
 /// are: the text differs from that of `Layout::Plain` in whitespace, newlines and commas on lines that the edits name or write, in
-/// where a new line or pair stands, and in one blank line.
-#[tactic(auto, using(crate::proofs::Judgements::tells_with))]
+/// where a new line or pair stands, and in one blank line. Of plain edits it is in each layout the text of their definition.
 pub fn edit_with(
     alloc: Global,
     before: &[u8],
@@ -108,7 +107,6 @@ pub fn edit_with(
 }
 
 /// What `edit_with` makes, for a program that ends with it, as `edit_at_exit`.
-#[tactic(auto, using(crate::proofs::Judgements::tells_with))]
 pub fn edit_with_at_exit(
     alloc: Global,
     before: &[u8],
@@ -141,7 +139,6 @@ pub fn edit_pieces(
 
 /// What `edit_in` makes, certified in the same way, in pieces: kept spans of the text before the edits, which rise and do not overlap, and
 /// new texts. No piece is empty; new texts that meet are one, and so are kept spans that touch.
-#[tactic(auto, using(crate::proofs::Judgements::plain_tells))]
 pub fn edit_pieces_in(
     alloc: Global,
     before: &[u8],
@@ -173,7 +170,7 @@ fn edit_document(
     afterwards: Afterwards,
 ) -> Result<Edited, EditorFault>
     ensures edited { IfOk result (IsEditedAs layout profile before.now (map change edits.now)) }
-    ensures told { IfErr result (TellsIn layout profile before.now (map change edits.now)) }
+    ensures told { IfErr result (TellsWith layout profile before.now (map change edits.now)) }
 {
     let spelled = spell_all(alloc, edits)?;
     edit_spelled(alloc, before, edits, &spelled, profile, layout, afterwards)
@@ -192,7 +189,7 @@ fn edit_spelled<'x>(
 ) -> Result<Edited, EditorFault>
     requires spelled { AreSpelled (map change edits.now) spelled.now }
     ensures edited { IfOk result (IsEditedAs layout profile before.now (map change edits.now)) }
-    ensures told { IfErr result (TellsIn layout profile before.now (map change edits.now)) }
+    ensures told { IfErr result (TellsWith layout profile before.now (map change edits.now)) }
 {
     let touched = near_addresses(alloc, edits)?;
     match read(alloc, before, profile, &touched) {
@@ -221,7 +218,7 @@ fn edit_read<'x>(
     requires spelled { AreSpelled (map change edits.now) spelled.now }
     requires touched { AreNear (is_hidden touched) (map change edits.now) }
     ensures edited { IfOk result (IsEditedAs layout profile before.now (map change edits.now)) }
-    ensures told { IfErr result (TellsIn layout profile before.now (map change edits.now)) }
+    ensures told { IfErr result (TellsWith layout profile before.now (map change edits.now)) }
 {
     let ReadDocument {
         lines,
@@ -263,7 +260,7 @@ fn certify<'x>(
     requires walks { (cursor : UnitCursor) → StandsBefore taken cursor → Walks profile before.now cursor [] }
     requires made { IsMadeAs layout profile before.now (map change edits.now) made }
     ensures edited { IfOk result (IsEditedAs layout profile before.now (map change edits.now)) }
-    ensures told { IfErr result (TellsIn layout profile before.now (map change edits.now)) }
+    ensures told { IfErr result (TellsWith layout profile before.now (map change edits.now)) }
     ensures judged { IfErr result (IsJudged profile before.now (map change edits.now) (string_bytes made.text)) }
 {
     if made.text.len() > MAX_LEN {
@@ -299,7 +296,7 @@ fn make_text<'x>(
     requires spelled { AreSpelled (map change edits.now) spelled.now }
     requires touched { AreNear (is_hidden touched.now) (map change edits.now) }
     ensures made { IfOk result (IsMadeAs layout read.entry.profile (text_of source.entry) (map change edits.now)) }
-    ensures told { IfErr result (TellsIn layout read.entry.profile (text_of source.entry) (map change edits.now)) }
+    ensures told { IfErr result (TellsWith layout read.entry.profile (text_of source.entry) (map change edits.now)) }
 {
     let texts = Texts {
         alloc,
@@ -312,8 +309,9 @@ fn make_text<'x>(
         Ok(tree) => tree,
         Err(error) => return Err(EditorFault::from(error)),
     };
-    let mut data = read.names.data_near(touched)?;
-    match make_all(alloc, &mut tree, read, &mut data, edits, spelled) {
+    let near = read.names.data_near(touched)?;
+    let mut draft = Draft::of(near);
+    match make_all(alloc, &mut tree, read, &mut draft, edits, spelled) {
         Ok(()) => write_out(alloc, source, &tree),
         Err(fault) => Err(fault),
     }

@@ -1,4 +1,4 @@
-//! Laws over the definitions of what plain edits write: nothing is run.
+//! Laws over the definitions of what plain edits write, in each layout: nothing is run.
 ghost use Rattle.toml_editor.specs.Bares.{SetBares, InsertBares, RemoveBares, RenameBares};
 ghost use Rattle.toml_editor.specs.CarriedUnits.{PlainIsCarried};
 ghost use Rattle.toml_editor.specs.CarriedLists.{ListIsCarried};
@@ -102,11 +102,12 @@ pub fn bares()
 {}
 
 /// The units of edited lines. After an `insert` at the root they are those of before, and between two lines those of the new
-/// line; after a `remove` of a line at the root they are those of before without its own, where a last line leaves one of no
-/// bytes. After a `rename` to a name that is free they are those of before, one by one, of the same kind and base, at the
-/// carried address, with the same text unless the edit changes the unit. After a `set` what lay in the old value is gone, the
-/// unit that has the value has the new one, what is in that comes behind it, and all others are as after a `rename`, where
-/// they were; one that the edit changes has the new value in the place of one that stood at the address.
+/// line, which has some whitespace, in layout `Plain` that of ` = `; after a `remove` of a line at the root they are those of
+/// before without its own, where a last line leaves one of no bytes. After a `rename` to a name that is free they are those of
+/// before, one by one, of the same kind and base, at the carried address, with the same text unless the edit changes the unit.
+/// After a `set` what lay in the old value is gone, the unit that has the value has the new one, what is in that comes behind it,
+/// and all others are as after a `rename`, where they were; one that the edit changes has the new value in the place of one that
+/// stood at the address.
 pub fn units()
     ensures insert { InsertUnits }
     ensures remove { RemoveUnits }
@@ -193,7 +194,7 @@ pub fn standing_removed()
     ensures remove { RemoveStands }
 {}
 
-/// What the editor answers, want of memory aside. Where all edits of a list are defined on the data so far and plain, it is the
+/// What the editor answers in a layout, want of memory aside. Where all edits of a list are defined on the data so far and plain, it is the
 /// text that they write, if it is within the limit of a text, and else that it is too long. Where the edits before one are so,
 /// and it is not defined, it is that edit's fault with its number; where it is a defined `set` of an address where the text so
 /// far has no one value, it is that its place is spread, with its number.

@@ -1,12 +1,12 @@
 //! One edit after the other, on the data and on the working tree.
-ghost use Rattle.std.specs.Prelude.{◌≡◌, IfErr, IfOk, IsTrue, OnOk, Some, false, map, option_copied, ◌&&◌, not};
-ghost use Rattle.toml_names.specs.model.Data.{kind_at};
+ghost use Rattle.std.specs.Prelude.{◌≡◌, IfErr, IfOk, IsTrue, OnOk, false, map, option_copied, ◌&&◌, not};
 ghost use Rattle.toml_scalar.specs.Spelling.{spelled};
-ghost use Rattle.toml_edits.specs.Edits.{change, remove};
+ghost use Rattle.toml_edits.specs.Drafts.{drafted};
+ghost use Rattle.toml_edits.specs.Edits.{change};
 ghost use Rattle.toml_editor.specs.Edited.{MayBeSpread, TakesLastElement};
 ghost use Rattle.toml_editor.specs.Exact.{SetsMany, WritesEdit, WritesInsert, WritesRename, WritesSet};
 ghost use Rattle.toml_editor.specs.Made.{MakesEdit, MakesEdits, RefusesEdit, RefusesEdits, places_in};
-ghost use Rattle.toml_editor.specs.Making.{HasNames, HasOne, IsMade, IsMany, TellsRow};
+ghost use Rattle.toml_editor.specs.Making.{HasNames, IsMade, IsMany, TellsRow};
 ghost use Rattle.toml_editor.specs.SpelledEdits.{AreSpelled, IsSpelled};
 ghost use Rattle.toml_working.specs.Starting.{NoneIsGone, read_of};
 ghost use Rattle.toml_working.specs.Stands.{KeepsRest};
@@ -14,12 +14,12 @@ ghost use Rattle.toml_working.specs.Stands.{KeepsRest};
 use crate::fault::EditorFault;
 use crate::spelled::Spelled;
 use std::alloc::{AllocError, Global};
-use toml_edits::{Edit, EditFault, apply_in, place};
-use toml_names::{Address, Data, Datum, LineNames, Name, Step};
+use toml_edits::{Draft, Edit, EditFault, place};
+use toml_names::{Address, Datum, LineNames, Name, Step};
 use toml_tree::Profile;
 use toml_working::{
-    Above, Before, Brackets, NewHeader, Tree, innermost_element, is_element_in_value,
-    is_right_in_value, open_value, parent_of, removes_flat,
+    Above, Before, Brackets, NewHeader, Tree, innermost_element, is_element_in_value, is_flat,
+    is_right_in_value, open_value, parent_of,
 };
 
 /// What was read of the document, in the profile, by which the edits are made on its working tree.
@@ -38,42 +38,61 @@ pub(crate) fn make_all<'x>(
     alloc: Global,
     tree: &mut Tree<'x>,
     read: Read<'_, 'x>,
-    data: &mut Data,
+    draft: &mut Draft,
     edits: &'x [Edit],
     spelled: &'x [Spelled],
 ) -> Result<(), EditorFault>
     requires names { HasNames read }
     requires spelled { AreSpelled (map change edits.now) spelled.now }
-    ensures made { OnOk result (MakesEdits read.entry (map change edits.now) «data».old «data».new tree.old tree.new) }
-    ensures told { IfErr result (RefusesEdits read.entry (map change edits.now) «data».old tree.old) }
+    ensures made { OnOk result (MakesEdits read.entry (map change edits.now) draft.old draft.new tree.old tree.new) }
+    ensures told { IfErr result (RefusesEdits read.entry (map change edits.now) draft.old tree.old) }
 {
     for (index, edit) in edits.iter().enumerate() {
-        if let Err(fault) = make(alloc, tree, read, data, edit, &spelled[index], index) {
+        if let Err(fault) = make(alloc, tree, read, draft, edit, &spelled[index], index) {
             return Err(fault);
         }
     }
     Ok(())
 }
 
-/// Makes the edit with this number, on the data first.
+/// Makes the edit with this number.
 fn make<'x>(
     alloc: Global,
     tree: &mut Tree<'x>,
     read: Read<'_, 'x>,
-    data: &mut Data,
+    draft: &mut Draft,
     edit: &'x Edit,
     spelled: &'x Spelled,
     index: usize,
 ) -> Result<(), EditorFault>
     requires names { HasNames read }
     requires spelled { IsSpelled (change edit.now) spelled.now }
-    ensures made { OnOk result (MakesEdit read.entry (change edit.now) «data».old «data».new tree.old tree.new) }
-    ensures told { IfErr result (RefusesEdit read.entry index (change edit.now) «data».old tree.old) }
+    ensures made { OnOk result (MakesEdit read.entry (change edit.now) draft.old draft.new tree.old tree.new) }
+    ensures told { IfErr result (RefusesEdit read.entry index (change edit.now) draft.old tree.old) }
 {
-    let spread = may_be_spread(alloc, data, read, edit, index)?;
-    let only = is_only_element(data, edit);
-    let flat = removes_flat(data, edit);
-    applied(alloc, data, edit, index, read.profile)?;
+    draft.turn_to(alloc, edit)?;
+    make_here(alloc, tree, read, draft, edit, spelled, index)
+}
+
+/// Makes the edit with this number, on the data first, which were turned to it.
+fn make_here<'x>(
+    alloc: Global,
+    tree: &mut Tree<'x>,
+    read: Read<'_, 'x>,
+    draft: &mut Draft,
+    edit: &'x Edit,
+    spelled: &'x Spelled,
+    index: usize,
+) -> Result<(), EditorFault>
+    requires names { HasNames read }
+    requires spelled { IsSpelled (change edit.now) spelled.now }
+    ensures made { OnOk result (MakesEdit read.entry (change edit.now) draft.old draft.new tree.old tree.new) }
+    ensures told { IfErr result (RefusesEdit read.entry index (change edit.now) draft.old tree.old) }
+{
+    let spread = may_be_spread(alloc, draft, read, edit, index)?;
+    let only = is_only_element(draft, edit);
+    let flat = removes_flat(draft, edit);
+    applied(alloc, draft, edit, index, read.profile)?;
     let done = write_edit(alloc, tree, read, edit, spelled, flat)?;
     let is_spread = not_made(done, spread);
     if is_spread {
@@ -96,15 +115,15 @@ fn not_made(done: bool, may: bool) -> bool
 /// Makes the edit on the data.
 fn applied(
     alloc: Global,
-    data: &mut Data,
+    draft: &mut Draft,
     edit: &Edit,
     index: usize,
     profile: Profile,
 ) -> Result<(), EditorFault>
-    ensures ok { OnOk result (IsMade profile (change edit.now) «data».old.root «data».new.root) }
-    ensures told { IfErr result (TellsRow profile index (change edit.now) (kind_at «data».old.root)) }
+    ensures ok { OnOk result (IsMade profile (change edit.now) draft.old draft.new) }
+    ensures told { IfErr result (TellsRow profile index (change edit.now) (drafted draft.old)) }
 {
-    match apply_in(alloc, data, edit, profile) {
+    match draft.apply(alloc, edit, profile) {
         Ok(()) => Ok(()),
         Err(EditFault::NoMemory) => Err(EditorFault::NoMemory),
         Err(fault) => Err(EditorFault::Edit { index, fault }),
@@ -239,17 +258,17 @@ fn write_header<'x>(
 /// Whether the place of the edit with this number may be spread over several expressions.
 fn may_be_spread(
     alloc: Global,
-    data: &Data,
+    draft: &Draft,
     read: Read,
     edit: &Edit,
     index: usize,
 ) -> Result<bool, AllocError>
     requires { HasNames read }
-    ensures yes { IfOk result (λ spread. IsTrue spread → MayBeSpread (places_in read.entry) index (change edit.now) (kind_at «data».now.root)) }
-    ensures no { IfOk result (λ spread. spread ≡ false → ¬ SetsMany (change edit.now) (kind_at «data».now.root)) }
+    ensures yes { IfOk result (λ spread. IsTrue spread → MayBeSpread (places_in read.entry) index (change edit.now) (drafted draft.now)) }
+    ensures no { IfOk result (λ spread. spread ≡ false → ¬ SetsMany (change edit.now) (drafted draft.now)) }
 {
     Ok(match edit {
-        Edit::Set { at, .. } => is_many(data.root.at(at)),
+        Edit::Set { at, .. } => is_many(draft.found(at)),
         Edit::Insert { at, .. } => matches!(at.steps().last(), Some(Step::Index(_))),
         Edit::Section { at } => index > 0 || is_right_in_value(alloc, read.names, at)?,
         Edit::Element { at } => index > 0 || is_element_in_value(alloc, read.names, at)?,
@@ -271,41 +290,19 @@ fn is_many(found: Option<&Datum>) -> bool
 }
 
 /// Whether the edit removes the only element of an array.
-fn is_only_element(data: &Data, edit: &Edit) -> bool
-    ensures { IsTrue result → TakesLastElement (change edit.now) (kind_at «data».now.root) }
+fn is_only_element(draft: &Draft, edit: &Edit) -> bool
+    ensures { IsTrue result → TakesLastElement (change edit.now) (drafted draft.now) }
 {
     match edit {
-        Edit::Remove { at } => is_only(data, at),
+        Edit::Remove { at } => draft.is_only(at),
         _ => false,
     }
 }
 
-/// Whether the address is that of the only element of an array.
-fn is_only(data: &Data, at: &Address) -> bool
-    ensures { IsTrue result → TakesLastElement (remove at.now) (kind_at «data».now.root) }
-{
-    match at.steps().split_last() {
-        Some((Step::Index(index), above)) => *index == 0 && has_one(data.root.part(above)),
+/// Whether the edit removes a table in which no table stands.
+fn removes_flat(draft: &Draft, edit: &Edit) -> bool {
+    match edit {
+        Edit::Remove { at } => is_flat(draft.found(at)),
         _ => false,
-    }
-}
-
-/// Whether it is an array of one element.
-fn has_one(found: Option<&Datum>) -> bool
-    ensures { IsTrue result → HasOne (option_copied found.entry) }
-{
-    match found {
-        Some(datum) => is_single(datum),
-        None => false,
-    }
-}
-
-/// Whether the datum is an array of one element.
-fn is_single(datum: &Datum) -> bool
-    ensures { IsTrue result → HasOne (Some datum.now) }
-{
-    match datum {
-        Datum::Array(items) => items.len() == 1,
-        Datum::Scalar(_) | Datum::Table(_) => false,
     }
 }

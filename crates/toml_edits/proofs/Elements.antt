@@ -18,18 +18,18 @@ one_of false o r at = refl
 
 -- ---- an element more
 
-get_below : {X : Type 0} (xs : List X) (i j : ℕ) (x : X) → j < i → i ≤ length xs → slice_get (inserted xs i x) j ≡ slice_get xs j
+pub get_below : {X : Type 0} (xs : List X) (i j : ℕ) (x : X) → j < i → i ≤ length xs → slice_get (inserted xs i x) j ≡ slice_get xs j
 get_below [] i j x h l = absurd (omega arith)
 get_below (y ∷ xs) zero j x h l = absurd (omega arith)
 get_below (y ∷ xs) (suc i) zero x h l = refl
 get_below (y ∷ xs) (suc i) (suc j) x h l = get_below xs i j x (omega arith) (omega arith)
 
-get_at : {X : Type 0} (xs : List X) (i : ℕ) (x : X) → i ≤ length xs → slice_get (inserted xs i x) i ≡ Some x
+pub get_at : {X : Type 0} (xs : List X) (i : ℕ) (x : X) → i ≤ length xs → slice_get (inserted xs i x) i ≡ Some x
 get_at xs zero x l = refl
 get_at [] (suc i) x l = absurd (omega arith)
 get_at (y ∷ xs) (suc i) x l = get_at xs i x (omega arith)
 
-get_above : {X : Type 0} (xs : List X) (i j : ℕ) (x : X) → i ≤ j → i ≤ length xs → slice_get (inserted xs i x) (suc j) ≡ slice_get xs j
+pub get_above : {X : Type 0} (xs : List X) (i j : ℕ) (x : X) → i ≤ j → i ≤ length xs → slice_get (inserted xs i x) (suc j) ≡ slice_get xs j
 get_above xs zero j x h l = refl
 get_above [] (suc i) j x h l = absurd (omega arith)
 get_above (y ∷ xs) (suc i) zero x h l = absurd (omega arith)
@@ -55,13 +55,13 @@ at_empty : {X : Type 0} (i j : ℕ) → slice_get (removed {X = X} [] i) j ≡ N
 at_empty zero j = refl
 at_empty (suc i) j = refl
 
-get_kept : {X : Type 0} (xs : List X) (i j : ℕ) → j < i → slice_get (removed xs i) j ≡ slice_get xs j
+pub get_kept : {X : Type 0} (xs : List X) (i j : ℕ) → j < i → slice_get (removed xs i) j ≡ slice_get xs j
 get_kept [] i j h = at_empty i j
 get_kept (y ∷ xs) zero j h = absurd (omega arith)
 get_kept (y ∷ xs) (suc i) zero h = refl
 get_kept (y ∷ xs) (suc i) (suc j) h = get_kept xs i j (omega arith)
 
-get_down : {X : Type 0} (xs : List X) (i j : ℕ) → i ≤ j → slice_get (removed xs i) j ≡ slice_get xs (suc j)
+pub get_down : {X : Type 0} (xs : List X) (i j : ℕ) → i ≤ j → slice_get (removed xs i) j ≡ slice_get xs (suc j)
 get_down [] i j h = at_empty i j
 get_down (y ∷ xs) zero j h = refl
 get_down (y ∷ xs) (suc i) zero h = absurd (omega arith)

@@ -38,7 +38,7 @@ comes_so c p r f at k (inr w) = no_kind k w.2
 moves_wherever : (c : Carrier) (p r : Address) (f g : Kinds) → Moves c p nothing f g → Moves c r nothing f g
 moves_wherever c p r f g m = record { carried = m.carried; placed = λ at k is. no_kind k is; no_other = λ at k have. comes_so c p r f at k (m.no_other at k have) }
 
-moves_nothing : (c e : Carrier) (p : Address) (f h g : Kinds) → c ≡ e → ((at : Address) → g at ≡ h at) → Moves e p nothing f h → Moves c [] nothing f g
+pub moves_nothing : (c e : Carrier) (p : Address) (f h g : Kinds) → c ≡ e → ((at : Address) → g at ≡ h at) → Moves e p nothing f h → Moves c [] nothing f g
 moves_nothing c e p f h g same made m = moves_as c e [] [] nothing f h g same refl made (moves_wherever e p [] f h m)
 
 -- ---- what stands below a part

@@ -27,3 +27,4 @@ pub mod Courses
 pub mod Reach
 pub mod Judged
 pub mod Making
+pub mod Drafts

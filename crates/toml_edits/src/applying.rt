@@ -237,7 +237,7 @@ pub(crate) fn step_fault(parent: &Datum, step: &Step) -> Option<EditFault>
 }
 
 /// The data of what was read, if no address in them is too long below the steps.
-fn fitting(at: &[Step], reading: Reading) -> Result<Datum, EditFault>
+pub(crate) fn fitting(at: &[Step], reading: Reading) -> Result<Datum, EditFault>
     ensures { (profile : Profile) (text : List ℕ) → IsReading profile text reading → IsFitting profile at.now text result }
 {
     match reading {

@@ -32,7 +32,7 @@ pub(crate) enum DatumChange<'n> {
 }
 
 /// What stands for a part that was taken out. It takes no memory.
-fn hole() -> Datum
+pub(crate) fn hole() -> Datum
     ensures { IsSome (kind_at result []) }
 {
     Datum::Scalar(Scalar::Bool(false))

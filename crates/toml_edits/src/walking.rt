@@ -141,7 +141,7 @@ fn have_room(steps: &[Step]) -> bool
 }
 
 /// Puts copies of the steps behind others.
-fn push_copies(to: &mut Vec<Step>, steps: &[Step]) -> Result<(), AllocError>
+pub(crate) fn push_copies(to: &mut Vec<Step>, steps: &[Step]) -> Result<(), AllocError>
     ensures { OnOk result (to.new.items ≡ to.old.items ++ steps.now) }
 {
     for step in steps {

@@ -1,3 +1,4 @@
+pub mod Held
 pub mod Lines
 pub mod Opened
 pub mod Members

@@ -15,11 +15,13 @@ use Rattle.toml_tree.specs.Inner.{ExprSpellsItself}
 use Rattle.toml_tree.specs.Pieces.{expr_start}
 use Rattle.toml_tree.specs.Profiles.{SpelledByNone}
 use Rattle.toml_tree.specs.Spells.{EachIs, expr_parts, joined, mark_of}
-use Rattle.toml_tree.specs.Tree.{Doc, Line}
+use Rattle.toml_tree.specs.Tree.{Doc, Line, Piece}
 use Rattle.toml_tree.specs.declared.profile.Profile.{Profile}
 use Rattle.toml_tree.proofs.Proved.{lines_inside, one_tree_in}
 use Rattle.toml_units.specs.Ends.{expr_end}
 use Rattle.toml_units.proofs.Proved.{line_ends}
+use Rattle.toml_mentions.specs.Mentioned.{mention_pieces}
+use Rattle.toml_explain.proofs.Held.{part_within}
 use Rattle.toml_explain.specs.Documents.{AreSpansOf, Finds, HasLine}
 use Rattle.toml_explain.specs.declared.spans.LineSpans.{LineSpans}
 
@@ -55,12 +57,22 @@ each_at P [] n l h is = absurd (none-some l is)
 each_at P (m ∷ ls) zero l h is = let same : m ≡ l = cc in subst P same h.0
 each_at P (m ∷ ls) (suc n) l h is = each_at P ls n l h.1 is
 
+-- the expression of a line spells itself
+spells_itself : (profile : Profile) (bytes : List ℕ) (n : ℕ) (l : Line) → HasLine profile bytes n l → ExprSpellsItself l.expr
+spells_itself profile bytes n l has =
+    let each : EachIs (λ m. ExprSpellsItself m.expr) has.lines =
+    lines_inside has.lines (length (mark_of bytes)) (drop (length (mark_of bytes)) bytes) has.are.spelled.0.lines in
+    each_at (λ m. ExprSpellsItself m.expr) has.lines n l each has.here
+
+-- and its key parts stand in it
+pub part_held : (profile : Profile) (bytes : List ℕ) (n : ℕ) (l : Line) → HasLine profile bytes n l → (k : ℕ) (p : Piece) → slice_get (mention_pieces l.expr) k ≡ Some p
+    → (expr_start l.expr ≤ p.start) × (p.start ≤ expr_end l.expr)
+part_held profile bytes n l has k p is = part_within l.expr (spells_itself profile bytes n l has) k p is
+
 -- an expression ends behind its start
 pub ends_behind : (profile : Profile) (bytes : List ℕ) (n : ℕ) (l : Line) → HasLine profile bytes n l → expr_start l.expr ≤ expr_end l.expr
 ends_behind profile bytes n l has =
-    let each : EachIs (λ m. ExprSpellsItself m.expr) has.lines =
-    lines_inside has.lines (length (mark_of bytes)) (drop (length (mark_of bytes)) bytes) has.are.spelled.0.lines in
-    let itself : ExprSpellsItself l.expr = each_at (λ m. ExprSpellsItself m.expr) has.lines n l each has.here in
+    let itself = spells_itself profile bytes n l has in
     let ends : expr_start l.expr + length (joined (expr_parts l.expr)) ≡ expr_end l.expr =
     line_ends l.expr (expr_start l.expr) (joined (expr_parts l.expr)) [] itself in
     omega arith

@@ -1,13 +1,15 @@
 -- How what is told begins.
-use Rattle.std.proofs.Common.{◌≡◌, ◌≢◌, ◌-◌, ℕ, List, ◌++◌, length, inl, inr, subst, arith}
+use Rattle.std.proofs.Common.{◌≡◌, ◌≢◌, ◌-◌, ℕ, List, ◌++◌, length, Option, Some, inl, inr, subst, arith}
 use Rattle.std.specs.Prelude.{Result, Ok, Err, IfOk, max, min}
 use Rattle.toml_text.specs.declared.span.Position.{Position}
 use Rattle.toml_text.specs.Positions.{IsPosition}
+use Rattle.toml_tree.specs.Tree.{Piece}
 use Rattle.toml_tree.specs.declared.profile.Profile.{Profile}
-use Rattle.toml_explain.specs.Documents.{AreSpansAt, AreSpansOf, OpensAs, OpensAtKey, OpensInLine}
+use Rattle.toml_mentions.specs.Mentioned.{StandsForOffence}
+use Rattle.toml_explain.specs.Documents.{AreSpansAt, AreSpansOf, HasLine, OpensAs, OpensAtKey, OpensAtOffence, OpensInLine, OpensTwice}
 use Rattle.toml_explain.specs.Openings.{OpensAt, OpensBare, OpensInFile, opening, bare_opening}
 use Rattle.toml_explain.specs.declared.spans.LineSpans.{LineSpans}
-use Rattle.toml_explain.proofs.Lines.{ends_behind}
+use Rattle.toml_explain.proofs.Lines.{ends_behind, part_held}
 
 module _ {S E : Type 0} (f : S → List ℕ) (word rest : List ℕ) where
   pub opens_at : (bytes : List ℕ) (at : ℕ) (p : Position) (r : Result S E) → IsPosition bytes (min at (length bytes)) p → IfOk r (λ t. f t ≡ opening word p ++ rest) → IfOk r (λ t. OpensAt word bytes at (f t))
@@ -31,7 +33,7 @@ module _ {S E : Type 0} (f : S → List ℕ) (word bytes : List ℕ) where
   -- by the code of a refusal
   pub opens_as : (profile : Profile) (code place : ℕ) (r : Result S E) → IfOk r (λ t. OpensInFile word bytes (f t))
       → (code ≢ 102 → code ≢ 201 → code ≢ 203 → IfOk r (λ t. OpensAt word bytes place (f t))) → (code ≡ 102 → IfOk r (λ t. OpensBare word (f t)))
-      → (code ≡ 201 → IfOk r (λ t. OpensInLine profile word bytes (place - 1) (f t))) → (code ≡ 203 → IfOk r (λ t. OpensAtKey profile word bytes (place - 1) (f t)))
+      → (code ≡ 201 → IfOk r (λ t. OpensTwice profile word bytes (place - 1) (f t))) → (code ≡ 203 → IfOk r (λ t. OpensAtKey profile word bytes (place - 1) (f t)))
       → IfOk r (λ t. OpensAs profile word bytes code place (f t))
   opens_as profile code place (Ok t) file byte long twice key = record { file = file; byte = byte; long = long; twice = twice; key = key }
   opens_as profile code place (Err d) file byte long twice key = tt
@@ -63,3 +65,23 @@ pub opens_in_line : {S E : Type 0} (f : S → List ℕ) (profile : Profile) (wor
     → (r : Result S E) → at ≡ max (min again s.whole.end) s.whole.start → IfOk r (λ t. OpensAt word bytes at (f t)) → IfOk r (λ t. OpensInLine profile word bytes number (f t))
 opens_in_line f profile word bytes number s are again at (Ok t) is opens = held_in profile word bytes number s are again at (f t) is opens
 opens_in_line f profile word bytes number s are again at (Err d) is opens = tt
+
+-- at the key part that stands for what may not be
+module _ (profile : Profile) (word bytes : List ℕ) (number : ℕ) (s : LineSpans) (are : AreSpansAt profile bytes number s) where
+  offence_in : (found : Option ℕ) (again at : ℕ) (text : List ℕ) → ((p : Piece) → StandsForOffence profile bytes number p → found ≡ Some p.start) → ((n : ℕ) → found ≡ Some n → again ≡ n)
+      → at ≡ max (min again s.whole.end) s.whole.start → OpensAt word bytes at text → OpensAtOffence profile word bytes number text
+  offence_in found again at text finds given is opens p h =
+      let has : HasLine profile bytes number h.line = record { text = h.text; lines = h.lines; are = h.are; here = h.here } in
+      let spans : AreSpansOf h.line.expr s = are h.line has in
+      let start = spans.start in
+      let stop = spans.stop in
+      let held = part_held profile bytes number h.line has _ p h.stands in
+      let there : again ≡ p.start = given p.start (finds p h) in
+      let same : at ≡ p.start = omega (arith, start, stop, held.0, held.1, there, is) in
+      subst (λ n. OpensAt word bytes n text) same opens
+
+pub opens_at_offence : {S E : Type 0} (f : S → List ℕ) (profile : Profile) (word bytes : List ℕ) (number : ℕ) (s : LineSpans) → AreSpansAt profile bytes number s → (found : Option ℕ) (again at : ℕ)
+    → ((p : Piece) → StandsForOffence profile bytes number p → found ≡ Some p.start) → ((n : ℕ) → found ≡ Some n → again ≡ n)
+    → (r : Result S E) → at ≡ max (min again s.whole.end) s.whole.start → IfOk r (λ t. OpensAt word bytes at (f t)) → IfOk r (λ t. OpensAtOffence profile word bytes number (f t))
+opens_at_offence f profile word bytes number s are found again at finds given (Ok t) is opens = offence_in profile word bytes number s are found again at (f t) finds given is opens
+opens_at_offence f profile word bytes number s are found again at finds given (Err d) is opens = tt

@@ -4,10 +4,11 @@ use Rattle.toml_text.specs.Limit.{IsText}
 use Rattle.toml_tree.specs.HandedOut.{AreLinesIn, HandsOut, left}
 use Rattle.toml_tree.specs.Pieces.{expr_start}
 use Rattle.toml_tree.specs.Profiles.{SpelledByNone}
-use Rattle.toml_tree.specs.Tree.{Expr, BlankLine, KeyValLine, TableLine, ArrayTableLine, Line}
+use Rattle.toml_tree.specs.Tree.{Piece, Expr, BlankLine, KeyValLine, TableLine, ArrayTableLine, Line}
 use Rattle.toml_tree.specs.declared.line_reader.LineReader.{LineReader}
 use Rattle.toml_tree.specs.declared.profile.Profile.{Profile}
 use Rattle.toml_names.specs.reader.Texts.{AreLeft, more_left}
+use Rattle.toml_mentions.specs.Mentioned.{StandsForOffence}
 use Rattle.toml_units.specs.Ends.{expr_end}
 use Rattle.toml_explain.specs.declared.spans.LineSpans.{LineSpans}
 use Rattle.toml_explain.specs.Openings.{OpensAt, OpensBare, OpensInFile}
@@ -40,14 +41,21 @@ pub record OpensIn (word bytes : List ℕ) (e : Expr) (text : List ℕ) : Type 0
 abbrev pub OpensInLine : Profile → List ℕ → List ℕ → ℕ → List ℕ → Type 0
 OpensInLine profile word bytes number text = (l : Line) → HasLine profile bytes number l → OpensIn word bytes l.expr text
 
+-- It begins with the line and the column of the key part that stands for the first mention of that line which breaks the table rules.
+abbrev pub OpensAtOffence : Profile → List ℕ → List ℕ → ℕ → List ℕ → Type 0
+OpensAtOffence profile word bytes number text = (p : Piece) → StandsForOffence profile bytes number p → OpensAt word bytes p.start text
+
+abbrev pub OpensTwice : Profile → List ℕ → List ℕ → ℕ → List ℕ → Type 0
+OpensTwice profile word bytes number text = OpensInLine profile word bytes number text × OpensAtOffence profile word bytes number text
+
 -- The text begins as the code and the place of a refusal ask: with the line and the column of the byte; with the word alone, of a text that
--- is too long; with those of a place in the line, of a name that is defined again; with those of the line's key, of a long address. Lines
--- are counted from 1 here.
+-- is too long; with those of the key part whose mention breaks the rules, in the line, of a name that is defined again; with those of the
+-- line's key, of a long address. Lines are counted from 1 here.
 pub record OpensAs (profile : Profile) (word bytes : List ℕ) (code place : ℕ) (text : List ℕ) : Type 0 where
   pub file : OpensInFile word bytes text
   pub byte : code ≢ 102 → code ≢ 201 → code ≢ 203 → OpensAt word bytes place text
   pub long : code ≡ 102 → OpensBare word text
-  pub twice : code ≡ 201 → OpensInLine profile word bytes (place - 1) text
+  pub twice : code ≡ 201 → OpensTwice profile word bytes (place - 1) text
   pub key : code ≡ 203 → OpensAtKey profile word bytes (place - 1) text
 
 -- the spans of an expression

@@ -9,7 +9,7 @@ use crate::standing::quoted;
 use crate::telling::told_at;
 use std::alloc::{AllocError, Global};
 use std::collections::BTreeMap;
-use toml_edits::{Edit, EditFault, apply_in};
+use toml_edits::{Draft, Edit, EditFault};
 use toml_names::{Address, Data, Datum, Name, Step};
 use toml_scalar::{Scalar, is_same};
 use toml_tree::Profile;
@@ -193,15 +193,15 @@ fn edited(
     edits: &[Edit],
     profile: Profile,
 ) -> Result<Option<Data>, AllocError> {
-    let mut data = old;
+    let mut draft = Draft::of(old);
     for edit in edits {
-        match apply_in(alloc, &mut data, edit, profile) {
+        match draft.apply(alloc, edit, profile) {
             Ok(()) => {}
             Err(EditFault::NoMemory) => return Err(AllocError),
             Err(_) => return Ok(None),
         }
     }
-    Ok(Some(data))
+    Ok(Some(draft.into_data()?))
 }
 
 /// The data that the edits give, and those of the text after; none where one of the texts is no document, or an edit is not defined.

@@ -1,6 +1,6 @@
 //! Why bytes are no document.
 ghost use Rattle.std.specs.Prelude.{◌≡◌, ◌≢◌, ◌-◌, IfOk, string_bytes};
-ghost use Rattle.toml_explain.specs.Documents.{OpensAs, OpensAtKey, OpensInLine};
+ghost use Rattle.toml_explain.specs.Documents.{OpensAs, OpensAtKey, OpensTwice};
 ghost use Rattle.toml_explain.specs.Openings.{OpensAt, OpensBare, OpensInFile};
 
 use crate::excerpt::{Excerpt, line_number};
@@ -82,7 +82,7 @@ fn document_text(
     ensures file { IfOk result (λ text. OpensInFile file.entry.word.now file.entry.bytes.now (string_bytes text)) }
     ensures byte { code ≢ 102 → code ≢ 201 → code ≢ 203 → IfOk result (λ text. OpensAt file.entry.word.now file.entry.bytes.now place (string_bytes text)) }
     ensures length { code ≡ 102 → IfOk result (λ text. OpensBare file.entry.word.now (string_bytes text)) }
-    ensures twice { code ≡ 201 → IfOk result (λ text. OpensInLine profile file.entry.word.now file.entry.bytes.now (place - 1) (string_bytes text)) }
+    ensures twice { code ≡ 201 → IfOk result (λ text. OpensTwice profile file.entry.word.now file.entry.bytes.now (place - 1) (string_bytes text)) }
     ensures key { code ≡ 203 → IfOk result (λ text. OpensAtKey profile file.entry.word.now file.entry.bytes.now (place - 1) (string_bytes text)) }
 {
     match code {

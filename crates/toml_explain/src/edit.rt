@@ -5,10 +5,11 @@ ghost use Rattle.toml_explain.specs.Openings.{OpensInFile};
 use crate::input::Input;
 use crate::origin::origin;
 use crate::standing::{front_of, suggestion};
-use crate::telling::{excerpt_at, spot_of, told, told_at};
+use crate::telling::{excerpt_at, told, told_at};
 use crate::value::flaw_of;
 use std::alloc::{AllocError, Global};
 use toml_edits::{Edit, place};
+use toml_mentions::find_spot;
 use toml_names::{Address, Step, names_of_text};
 use toml_places::spell_place;
 use toml_text::{Source, Span};
@@ -112,7 +113,7 @@ pub(crate) fn look_up(
     let reached = front_of(&names, steps)?;
     let question = suggestion(alloc, &names, reached, steps)?;
     let spot = if all <= reached.depth.saturating_add(1) {
-        spot_of(
+        find_spot(
             alloc,
             source,
             profile,

@@ -12,7 +12,7 @@ use crate::lost::explain_lost;
 use crate::telling::told_at;
 use std::alloc::{AllocError, Global};
 use toml_checker::Reason;
-use toml_edits::{Edit, EditFault, apply_in};
+use toml_edits::{Draft, Edit, EditFault};
 use toml_tree::Profile;
 use toml_units::Certificate;
 
@@ -56,11 +56,12 @@ fn first_refused(
     edits: &[Edit],
     profile: Profile,
 ) -> Result<Option<(usize, u16)>, AllocError> {
-    let Some(mut data) = data_of(alloc, bytes, profile)? else {
+    let Some(data) = data_of(alloc, bytes, profile)? else {
         return Ok(None);
     };
+    let mut draft = Draft::of(data);
     for (index, edit) in edits.iter().enumerate() {
-        if let Err(fault) = apply_in(alloc, &mut data, edit, profile) {
+        if let Err(fault) = draft.apply(alloc, edit, profile) {
             return Ok(Some((index, code_of_edit(fault)?)));
         }
     }

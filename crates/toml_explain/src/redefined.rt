@@ -1,19 +1,18 @@
 //! Names that are defined twice (201), and addresses that are too long (203).
 ghost use Rattle.std.specs.Prelude.{◌≡◌, ◌≤◌, ◌-◌, IfOk, max, min, string_bytes};
-ghost use Rattle.toml_explain.specs.Documents.{OpensAtKey, OpensInLine};
+ghost use Rattle.toml_explain.specs.Documents.{OpensAtKey, OpensAtOffence, OpensInLine};
 ghost use Rattle.toml_explain.specs.Openings.{OpensInFile};
 
 use crate::excerpt::{Excerpt, line_number};
 use crate::input::Input;
 use crate::opening::opened;
-use crate::role::rule;
-use crate::seeker::{Clash, Sought, seek};
+use crate::rule::rule;
 use crate::spans::spans_at;
 use crate::words::with_lines;
 use std::alloc::{AllocError, Global};
-use toml_names::{Address, NameFault, ReadFault, judge_text};
+use toml_mentions::{Clash, Redefined, find_redefined};
 use toml_places::spell_place;
-use toml_text::{Source, Span};
+use toml_text::Span;
 use toml_tree::Profile;
 
 /// Why a line is refused whose address has too many steps (203): its key is shown. Lines are counted from 1.
@@ -44,38 +43,6 @@ fn held(place: usize, span: Span) -> usize
     ensures { result ≡ max (min place span.end) span.start }
 {
     place.min(span.end).max(span.start)
-}
-
-/// Two mentions of which the one forbids the other, and the address that they both name.
-#[derive(Drop)]
-pub(crate) struct Redefined {
-    address: Address,
-    pub clash: Option<Clash>,
-}
-
-/// Which address is defined twice in bytes of which the names are refused for that.
-pub(crate) fn find_redefined(
-    alloc: Global,
-    bytes: &[u8],
-    profile: Profile,
-) -> Result<Option<Redefined>, AllocError> {
-    let Ok(source) = Source::new(bytes) else {
-        return Ok(None);
-    };
-    let fault = match judge_text(alloc, source, profile) {
-        Ok(()) => return Ok(None),
-        Err(fault) => fault,
-    };
-    match fault {
-        ReadFault::Names(NameFault::Redefined { address, .. }) => {
-            let clash = seek(alloc, source, profile, address.steps(), Sought::Clash)?.clash;
-            Ok(Some(Redefined { address, clash }))
-        }
-        other => {
-            other.told()?;
-            Ok(None)
-        }
-    }
 }
 
 /// The sentence of what is defined twice: its address, and the rule.
@@ -127,11 +94,6 @@ fn redefined_lines(
     with_lines(sentence, excerpt)
 }
 
-/// Where the mention stands that may not be, if there is one.
-fn again_at(redefined: &Option<Redefined>) -> Option<usize> {
-    Some(redefined.as_ref()?.clash?.again.span.start)
-}
-
 /// Why a line is refused that breaks the table rules (201): the key part whose mention does is shown, and the earliest mention that
 /// forbids it. Lines are counted from 1.
 pub(crate) fn explain_redefined(
@@ -142,10 +104,11 @@ pub(crate) fn explain_redefined(
 ) -> Result<String, AllocError>
     ensures file { IfOk result (λ text. OpensInFile file.entry.word.now file.entry.bytes.now (string_bytes text)) }
     ensures line { IfOk result (λ text. OpensInLine profile file.entry.word.now file.entry.bytes.now (line - 1) (string_bytes text)) }
+    ensures offence { IfOk result (λ text. OpensAtOffence profile file.entry.word.now file.entry.bytes.now (line - 1) (string_bytes text)) }
 {
     let spans = spans_at(alloc, file.bytes, profile, line.saturating_sub(1))?;
     let redefined = find_redefined(alloc, file.bytes, profile)?;
-    let again = again_at(&redefined).unwrap_or(spans.key.start);
+    let again = Redefined::again_start(&redefined).unwrap_or(spans.key.start);
     let at = held(again, spans.whole);
     let lines = redefined_lines(alloc, file.bytes, &redefined, spans.whole)?;
     opened(alloc, file, at, lines.as_str())

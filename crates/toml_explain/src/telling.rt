@@ -5,22 +5,11 @@ ghost use Rattle.toml_explain.specs.Openings.{OpensInFile};
 use crate::excerpt::{Excerpt, line_number};
 use crate::input::Input;
 use crate::opening::{bare_opened, opened};
-use crate::seeker::{Sought, seek};
 use crate::words::with_lines;
 use std::alloc::{AllocError, Global};
 use toml_names::Step;
 use toml_text::{Source, Span};
 use toml_tree::Profile;
-
-/// Where what stands at steps is named or stands first in a text; the root is not.
-pub(crate) fn spot_of(
-    alloc: Global,
-    source: Source<'_>,
-    profile: Profile,
-    steps: &[Step],
-) -> Result<Option<Span>, AllocError> {
-    Ok(seek(alloc, source, profile, steps, Sought::Spot)?.spot)
-}
 
 /// No line, with room for the number of the line in which a span of the bytes begins.
 pub(crate) fn excerpt_at(

@@ -1,9 +1,9 @@
 //! Values of edits that are none (306).
 
-use crate::redefined::find_redefined;
 use crate::sentence::{byte_sentence, meant_at};
 use crate::standing::quoted;
 use std::alloc::{AllocError, Global};
+use toml_mentions::find_redefined;
 use toml_text::{Source, Span};
 use toml_tree::{Profile, SyntaxFault, parse_value_in};
 

@@ -7,6 +7,8 @@ mod ample;
 #[cfg(test)]
 mod checker;
 #[cfg(test)]
+mod commands;
+#[cfg(test)]
 mod editor;
 #[cfg(test)]
 mod edits;

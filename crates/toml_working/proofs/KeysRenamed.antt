@@ -1,21 +1,20 @@
 -- Parts of keys that are written, one after the other.
-use Rattle.std.proofs.Common.{◌≡◌, ◌∙◌, ◌+◌, ◌-◌, ◌<◌, ◌≤◌, ℕ, zero, suc, List, [], ◌∷◌, length, map, set, Option, Some, None, refl, ap, sym, arith}
-use Rattle.std.proofs.lemmas.Option.{none-some, same_Some, slice_get_past}
-use Rattle.std.specs.Global.{Global}
+use Rattle.std.proofs.Common.{◌≡◌, ◌∙◌, ◌+◌, ◌-◌, ◌<◌, ◌≤◌, ◌++◌, ℕ, zero, suc, List, [], ◌∷◌, drop, length, map, reverse, set, take, Option, Some, None, refl, ap, ap₂, sym, arith}
+use Rattle.std.proofs.lemmas.List.{length-append, length-drop, length-map, length-take-le}
+use Rattle.std.proofs.lemmas.Option.{none-some, same_Some}
 use Rattle.std.specs.Prelude.{option_map, slice_get}
-use Rattle.std.specs.declared.collections.VecDeque.{VecDeque}
+use Rattle.toml_lists.specs.Gaps.{items}
+use Rattle.toml_lists.specs.declared.gap_list.GapList.{GapList}
 use Rattle.toml_names.specs.model.Addresses.{Address}
 use Rattle.toml_working.specs.declared.tree.Dotted.{Dotted}
 use Rattle.toml_working.specs.declared.tree.Entries.{Entries}
 use Rattle.toml_working.specs.declared.tree.Entry.{Entry}
-use Rattle.toml_working.specs.declared.tree.Value.TheViews.{out-Entries, out-Entry, roll-Entries}
-use Rattle.toml_working.specs.Leading.{value_in}
-use Rattle.toml_working.specs.OpenOutlines.{Enclosed, EntryOutline, dotted, entries, entries_of, entry, gap_text, leaf_text, value}
+use Rattle.toml_working.specs.declared.tree.Value.TheViews.{out-Entries, roll-Entries}
+use Rattle.toml_working.specs.OpenOutlines.{Enclosed, EntryOutline, dotted, entries, entries_of, entry, gap_text, leaf_text}
 use Rattle.toml_working.specs.Outlines.{DottedOutline, EntriesOutline, End}
 use Rattle.toml_working.specs.Outlines as outline
 use Rattle.toml_working.specs.RenamingIn.{KeysRenamed, dotted_with, key_with, pair_with, pairs_with, rest_with}
-use Rattle.toml_working.proofs.OpenEntries.{value_at}
-use Rattle.toml_working.proofs.Outlined.{entries_is, entries_made}
+use Rattle.toml_working.proofs.Outlined.{entries_is, entries_made, items_mapped}
 
 -- ---- a key
 
@@ -47,73 +46,60 @@ rest_past ds number text some past = part_past ds (number - 1) text past ∙ sym
 
 -- ---- pairs
 
+abbrev first_or : EntryOutline → List EntryOutline → EntryOutline
+first_or d [] = d
+first_or d (x ∷ xs) = x
+
+abbrev rest_of : List EntryOutline → List EntryOutline
+rest_of [] = []
+rest_of (x ∷ xs) = xs
+
 module _ (steps : Address) (text : List ℕ) where
-  -- the pair with the index has its key changed, or so many pairs have
-  abbrev key_at_with : ℕ → EntriesOutline → EntriesOutline
-  key_at_with i (End gap) = End gap
-  key_at_with zero (outline.Entry before a v after es) = outline.Entry before (option_map (key_with steps text) a) v after es
-  key_at_with (suc i) (outline.Entry before a v after es) = outline.Entry before a v after (key_at_with i es)
+  pairs_written : (es : List EntryOutline) (end : Option (List ℕ)) → entries_of (map (pair_with steps text) es) end ≡ pairs_with steps text (entries_of es end)
+  pairs_written [] end = refl
+  pairs_written (e ∷ es) end = ap (outline.Entry e.before (option_map (key_with steps text) e.assign) e.value e.after) (pairs_written es end)
 
-  abbrev pub keys_with : ℕ → EntriesOutline → EntriesOutline
-  keys_with zero es = es
-  keys_with (suc i) (End gap) = End gap
-  keys_with (suc i) (outline.Entry before a v after es) = outline.Entry before (option_map (key_with steps text) a) v after (keys_with i es)
+  -- on each side of the gap
+  pub keys_written : (old : Entries) (list : GapList Entry)
+      → map entry list.before.items ≡ map (pair_with steps text) (map entry (out-Entries old).list.before.items)
+      → map entry list.behind.items ≡ map (pair_with steps text) (map entry (out-Entries old).list.behind.items)
+      → KeysRenamed steps text (entries old) (entries (roll-Entries (record { opening = (out-Entries old).opening; list = list; end = (out-Entries old).end })))
+  keys_written old list before behind =
+      let all = (out-Entries old).list in
+      let end = option_map gap_text (out-Entries old).end in
+      let opening = leaf_text (out-Entries old).opening in
+      let same : map entry (items list) ≡ map (pair_with steps text) (map entry (items all)) =
+      sym (items_mapped entry list.before.items list.behind.items)
+      ∙ ap₂ (λ (xs ys : List EntryOutline). xs ++ reverse ys) before behind
+      ∙ items_mapped (pair_with steps text) (map entry all.before.items) (map entry all.behind.items)
+      ∙ ap (map (pair_with steps text)) (items_mapped entry all.before.items all.behind.items) in
+      entries_made (record { opening = (out-Entries old).opening; list = list; end = (out-Entries old).end })
+      ∙ ap (λ es. record { opening = opening; entries = entries_of es end }) same
+      ∙ ap (λ es. record { opening = opening; entries = es }) (pairs_written (map entry (items all)) end)
+      ∙ ap (λ (o : Enclosed). record { opening = o.opening; entries = pairs_with steps text o.entries }) (sym (entries_is old))
 
-  abbrev pub SoFar : ℕ → Enclosed → Enclosed → Type 0
-  SoFar i old now = now ≡ record { opening = old.opening; entries = keys_with i old.entries }
+  -- one pair more
+  pub pair_written : (es : List Entry) (i : ℕ) (e n : Entry) (os : List EntryOutline) → slice_get es i ≡ Some e → entry n ≡ pair_with steps text (entry e)
+      → map entry es ≡ map (pair_with steps text) (take i os) ++ drop i os → i < length os
+      → map entry (set es i n) ≡ map (pair_with steps text) (take (suc i) os) ++ drop (suc i) os
+  pair_written [] i e n os is made so_far low = absurd (none-some e is)
+  pair_written (x ∷ es) i e n [] is made so_far low = absurd (omega (arith, low))
+  pair_written (x ∷ es) zero e n (o ∷ os) is made so_far low =
+      let first : entry x ≡ o = ap (first_or o) so_far in
+      let rest : map entry es ≡ os = ap rest_of so_far in
+      ap₂ (λ y ys. y ∷ ys) (made ∙ ap (pair_with steps text) (ap entry (sym (same_Some x e is)) ∙ first)) rest
+  pair_written (x ∷ es) (suc i) e n (o ∷ os) is made so_far low =
+      let first : entry x ≡ pair_with steps text o = ap (first_or o) so_far in
+      let rest : map entry es ≡ map (pair_with steps text) (take i os) ++ drop i os = ap rest_of so_far in
+      ap₂ (λ y ys. y ∷ ys) first (pair_written es i e n os is made rest (omega (arith, low)))
 
-  one_more : (i : ℕ) (es : EntriesOutline) → key_at_with i (keys_with i es) ≡ keys_with (suc i) es
-  one_more zero (End gap) = refl
-  one_more zero (outline.Entry before a v after es) = refl
-  one_more (suc i) (End gap) = refl
-  one_more (suc i) (outline.Entry before a v after es) = ap (outline.Entry before (option_map (key_with steps text) a) v after) (one_more i es)
-
-  none_there : (i : ℕ) (es : EntriesOutline) → value_in es i ≡ None → key_at_with i es ≡ es
-  none_there i (End gap) none = refl
-  none_there zero (outline.Entry before a v after es) none = absurd (none-some v (sym none))
-  none_there (suc i) (outline.Entry before a v after es) none = ap (outline.Entry before a v after) (none_there i es none)
-
-  all_there : (i : ℕ) (es : EntriesOutline) → value_in es i ≡ None → keys_with i es ≡ pairs_with steps text es
-  all_there zero (End gap) none = refl
-  all_there zero (outline.Entry before a v after es) none = absurd (none-some v (sym none))
-  all_there (suc i) (End gap) none = refl
-  all_there (suc i) (outline.Entry before a v after es) none = ap (outline.Entry before (option_map (key_with steps text) a) v after) (all_there i es none)
-
-  one_written : (es : List Entry) (end : Option (List ℕ)) (i : ℕ) (e n : Entry) → slice_get es i ≡ Some e → entry n ≡ pair_with steps text (entry e)
-      → entries_of (map entry (set es i n)) end ≡ key_at_with i (entries_of (map entry es) end)
-  one_written [] end i e n is made = absurd (none-some e is)
-  one_written (x ∷ es) end zero e n is made =
-      ap (λ (o : EntryOutline). outline.Entry o.before o.assign o.value o.after (entries_of (map entry es) end))
-      (made ∙ ap (λ o. pair_with steps text (entry o)) (sym (same_Some x e is)))
-  one_written (x ∷ es) end (suc i) e n is made =
-      ap (outline.Entry (entry x).before (entry x).assign (entry x).value (entry x).after) (one_written es end i e n is made)
-
-  abbrev enclosed : List ℕ → EntriesOutline → Enclosed
-  enclosed opening es = record { opening = opening; entries = es }
-
-  -- so far, and one more
-  pub key_written : (old : Enclosed) (now : Entries) (list : VecDeque Entry Global) (i : ℕ) (e n : Entry) → slice_get (out-Entries now).list.items i ≡ Some e
-      → list.items ≡ set (out-Entries now).list.items i n → entry n ≡ pair_with steps text (entry e) → SoFar i old (entries now)
-      → SoFar (i + 1) old (entries (roll-Entries (record { opening = (out-Entries now).opening; list = list; end = (out-Entries now).end })))
-  key_written old now list i e n is written made so_far =
-      let items = (out-Entries now).list.items in
-      let end = option_map gap_text (out-Entries now).end in
-      let opening = leaf_text (out-Entries now).opening in
-      entries_made (record { opening = (out-Entries now).opening; list = list; end = (out-Entries now).end })
-      ∙ ap (enclosed opening) (ap (λ es. entries_of (map entry es) end) written ∙ one_written items end i e n is made)
-      ∙ ap (λ (o : Enclosed). enclosed o.opening (key_at_with i o.entries)) (sym (entries_is now) ∙ so_far)
-      ∙ ap (enclosed old.opening) (one_more i old.entries ∙ ap (λ k. keys_with k old.entries) (let e : suc i ≡ i + 1 = omega arith in e))
-
-  pub key_missing : (old : Enclosed) (now : Entries) (i : ℕ) → length (out-Entries now).list.items ≤ i → SoFar i old (entries now)
-      → SoFar (i + 1) old (entries (roll-Entries (record { opening = (out-Entries now).opening; list = (out-Entries now).list; end = (out-Entries now).end })))
-  key_missing old now i past so_far =
-      let none : value_in (entries now).entries i ≡ None = value_at now i ∙ ap (option_map (λ o. value (out-Entry o).value)) (slice_get_past (out-Entries now).list.items i past) in
-      entries_made (record { opening = (out-Entries now).opening; list = (out-Entries now).list; end = (out-Entries now).end }) ∙ sym (entries_is now)
-      ∙ ap (enclosed (entries now).opening) (sym (none_there i (entries now).entries none))
-      ∙ ap (λ (o : Enclosed). enclosed o.opening (key_at_with i o.entries)) so_far
-      ∙ ap (enclosed old.opening) (one_more i old.entries ∙ ap (λ k. keys_with k old.entries) (let e : suc i ≡ i + 1 = omega arith in e))
-
-  pub keys_written : (old : Entries) (now : Enclosed) (i : ℕ) → length (out-Entries old).list.items ≤ i → SoFar i (entries old) now → KeysRenamed steps text (entries old) now
-  keys_written old now i past so_far =
-      let none : value_in (entries old).entries i ≡ None = value_at old i ∙ ap (option_map (λ o. value (out-Entry o).value)) (slice_get_past (out-Entries old).list.items i past) in
-      so_far ∙ ap (enclosed (entries old).opening) (all_there i (entries old).entries none)
+  -- there are as many as before
+  pub as_many : (es : List Entry) (os : List EntryOutline) (i : ℕ) → map entry es ≡ map (pair_with steps text) (take i os) ++ drop i os → i < length os → length es ≡ length os
+  as_many es os i is low =
+      let all = ap length is in
+      let front = length-map (take i os) (pair_with steps text) in
+      let taken = length-take-le i os (omega (arith, low)) in
+      let both = length-append (map (pair_with steps text) (take i os)) (drop i os) in
+      let left = length-drop i os in
+      let own = length-map es entry in
+      omega (arith, low, all, front, taken, both, left, own)

@@ -7,7 +7,10 @@ mod Past
 mod Beginning
 mod Sought
 mod Placed
+mod Looked
+mod Commented
 mod Put
+mod PutRoot
 mod Alone
 mod Turned
 mod Changed

@@ -1,10 +1,14 @@
 -- The entries of the working tree by index, and those of their outline.
-use Rattle.std.proofs.Common.{◌≡◌, ◌∙◌, ◌&&◌, ◌<◌, ◌≤◌, ℕ, Box, nat_eq, zero, suc, Bool, true, false, cond, List, [], ◌∷◌, length, get_or, map, set, Option, Some, None, refl, ap, ap₂, sym, subst, arith}
+use Rattle.std.proofs.Common.{◌≡◌, ◌∙◌, ◌&&◌, ◌<◌, ◌≤◌, ◌^◌, ◌++◌, ℕ, Box, Vec, nat_eq, zero, suc, Bool, true, false, cond, List, [], ◌∷◌, length, map, reverse, set, Option, Some, None, refl, ap, ap₂, sym, subst, arith}
 use Rattle.std.proofs.Math.Dec.{eqb-suc-suc, eqb-zero-suc}
-use Rattle.std.proofs.lemmas.Option.{none-some, same_Some, slice_get_past, slice_get_read}
+use Rattle.std.proofs.lemmas.List.{length-append, length-reverse}
+use Rattle.std.proofs.lemmas.Option.{none-some, same_Some, slice_get_past}
 use Rattle.std.specs.Prelude.{option_and_then, option_map, slice_get}
 use Rattle.std.specs.Global.{Global}
-use Rattle.std.specs.declared.collections.VecDeque.{VecDeque}
+use Rattle.toml_lists.specs.Gaps.{LiesAt, items}
+use Rattle.toml_lists.specs.declared.gap_list.GapList.{GapList}
+use Rattle.toml_lists.specs.declared.gap_list.Side.TheVariants.{Before, Behind}
+use Rattle.toml_lists.proofs.Proved.{before_get, before_set, behind_get, behind_set, some_at}
 use Rattle.toml_names.specs.declared.model.address.Step.TheVariants.{Name}
 use Rattle.toml_names.specs.mentions.Keys as names
 use Rattle.toml_names.specs.model.Addresses.{Address, same_step}
@@ -13,7 +17,7 @@ use Rattle.toml_working.specs.declared.tree.Entries.{Entries}
 use Rattle.toml_working.specs.declared.tree.Entry.{Entry}
 use Rattle.toml_working.specs.declared.tree.Value.{Value}
 use Rattle.toml_working.specs.declared.tree.Value.TheViews.{out-Entries, out-Entry, roll-Entries, roll-Entry}
-use Rattle.toml_working.specs.Leading.{in_common, key_in, leads, led_by, open_names, pair_key, ChangesEntry, value_in, with_value}
+use Rattle.toml_working.specs.Leading.{in_common, key_in, leads, led_by, open_names, pair_key, ChangesAt, ChangesEntry, value_in, with_value}
 use Rattle.toml_working.specs.OpenOutlines.{Enclosed, EntryOutline, assign, entries, entries_of, entry, gap_text, leaf_text, value}
 use Rattle.toml_working.specs.SetOutlines.{outlined_names}
 use Rattle.toml_working.specs.Outlines as outline
@@ -69,11 +73,11 @@ keys_are [] end i = refl
 keys_are (e ∷ es) end zero = key_is e
 keys_are (e ∷ es) end (suc i) = keys_are es end i
 
-pub key_at : (e : Entries) (i : ℕ) → key_in (entries e).entries i ≡ option_and_then pair_key (slice_get (out-Entries e).list.items i)
-key_at e i = ap (λ o. key_in o.entries i) (entries_is e) ∙ keys_are (out-Entries e).list.items (option_map gap_text (out-Entries e).end) i
+pub key_at : (e : Entries) (i : ℕ) → key_in (entries e).entries i ≡ option_and_then pair_key (slice_get (items (out-Entries e).list) i)
+key_at e i = ap (λ o. key_in o.entries i) (entries_is e) ∙ keys_are (items (out-Entries e).list) (option_map gap_text (out-Entries e).end) i
 
-pub no_key_past : (e : Entries) (steps : Address) (i : ℕ) → length (out-Entries e).list.items ≤ i → led_by (key_in (entries e).entries i) steps ≡ None
-no_key_past e steps i past = ap (λ o. led_by o steps) (key_at e i ∙ ap (option_and_then pair_key) (slice_get_past (out-Entries e).list.items i past))
+pub no_key_past : (e : Entries) (steps : Address) (i : ℕ) → length (items (out-Entries e).list) ≤ i → led_by (key_in (entries e).entries i) steps ≡ None
+no_key_past e steps i past = ap (λ o. led_by o steps) (key_at e i ∙ ap (option_and_then pair_key) (slice_get_past (items (out-Entries e).list) i past))
 
 -- ---- values
 
@@ -82,8 +86,8 @@ values_are [] end i = refl
 values_are (e ∷ es) end zero = ap (λ (o : EntryOutline). Some o.value) (entry_is e)
 values_are (e ∷ es) end (suc i) = values_are es end i
 
-pub value_at : (e : Entries) (i : ℕ) → value_in (entries e).entries i ≡ option_map (λ o. value (out-Entry o).value) (slice_get (out-Entries e).list.items i)
-value_at e i = ap (λ o. value_in o.entries i) (entries_is e) ∙ values_are (out-Entries e).list.items (option_map gap_text (out-Entries e).end) i
+pub value_at : (e : Entries) (i : ℕ) → value_in (entries e).entries i ≡ option_map (λ o. value (out-Entry o).value) (slice_get (items (out-Entries e).list) i)
+value_at e i = ap (λ o. value_in o.entries i) (entries_is e) ∙ values_are (items (out-Entries e).list) (option_map gap_text (out-Entries e).end) i
 
 -- an entry with another value
 with_one : (es : List Entry) (end : Option (List ℕ)) (i : ℕ) (old new : Entry) (w : outline.ValueOutline) → slice_get es i ≡ Some old
@@ -97,14 +101,13 @@ with_one (e ∷ es) end (suc i) old new w is made =
     ap (outline.Entry (entry e).before (entry e).assign (entry e).value (entry e).after) (with_one es end i old new w is made)
 
 -- another value is written into the entry with the index
-pub entry_changed : (P : outline.ValueOutline → outline.ValueOutline → Type 0) (Q : Type 0) (old : Entries) (list : VecDeque Entry Global) (i : ℕ) (e n : Entry) (w : outline.ValueOutline)
-    → i < (out-Entries old).list.len → e ≡ get_or (out-Entries old).list.items i e → list.items ≡ set (out-Entries old).list.items i n
+pub entry_changed : (P : outline.ValueOutline → outline.ValueOutline → Type 0) (Q : Type 0) (old : Entries) (list : GapList Entry) (i : ℕ) (e n : Entry) (w : outline.ValueOutline)
+    → slice_get (items (out-Entries old).list) i ≡ Some e → items list ≡ set (items (out-Entries old).list) i n
     → entry n ≡ record { before = (entry e).before; assign = (entry e).assign; value = w; after = (entry e).after }
     → P (value (out-Entry e).value) w
     → ChangesEntry P Q i (entries old) (entries (roll-Entries (record { opening = (out-Entries old).opening; list = list; end = (out-Entries old).end })))
-entry_changed P Q old list i e n w low here written made holds =
-    let items = (out-Entries old).list.items in
-    let is = slice_get_read items (out-Entries old).list.len i e (out-Entries old).list.ok.0 low here in
+entry_changed P Q old list i e n w is written made holds =
+    let all = items (out-Entries old).list in
     let end = option_map gap_text (out-Entries old).end in
     let opening = leaf_text (out-Entries old).opening in
     let there : value_in (entries old).entries i ≡ Some (value (out-Entry e).value) = value_at old i ∙ ap (option_map (λ o. value (out-Entry o).value)) is in
@@ -113,7 +116,7 @@ entry_changed P Q old list i e n w low here written made holds =
         w,
         subst (λ x. P x w) (same_Some (value (out-Entry e).value) v (sym there ∙ has)) holds,
         entries_made (record { opening = (out-Entries old).opening; list = list; end = (out-Entries old).end })
-            ∙ ap (enclosed opening) (ap (λ es. entries_of (map entry es) end) written ∙ with_one items end i e n w is made)
+            ∙ ap (enclosed opening) (ap (λ es. entries_of (map entry es) end) written ∙ with_one all end i e n w is made)
             ∙ ap (λ (o : Enclosed). enclosed o.opening (with_value o.entries i w)) (sym (entries_is old)),
       );
       missing = λ none. absurd (none-some (value (out-Entry e).value) (sym none ∙ there));
@@ -122,16 +125,53 @@ entry_changed P Q old list i e n w low here written made holds =
     enclosed : List ℕ → outline.EntriesOutline → Enclosed
     enclosed opening es = record { opening = opening; entries = es }
 
+-- the entry lies before the gap,
+pub changed_before : (P : outline.ValueOutline → outline.ValueOutline → Type 0) (Q : Type 0) (old : Entries) (now : Vec Entry Global) (last i place : ℕ)
+    → LiesAt (out-Entries old).list i (Before place) → ChangesAt P place (out-Entries old).list.before.items now.items
+    → ChangesEntry P Q i (entries old)
+    (entries (roll-Entries (record { opening = (out-Entries old).opening; list = record { before = now; behind = (out-Entries old).list.behind; last = last }; end = (out-Entries old).end })))
+changed_before P Q old now last i place lies changes =
+    let list = (out-Entries old).list in
+    let (e, here) = some_at list.before.items place (omega (arith, lies.0, lies.1)) in
+    let (n, w, written, made, holds) = changes e here in
+    entry_changed P Q old (record { before = now; behind = list.behind; last = last }) i e n w (before_get list i place lies ∙ here)
+    (ap (λ es. es ++ reverse list.behind.items) written ∙ before_set list i place lies n) made holds
+
+-- or behind it
+pub changed_behind : (P : outline.ValueOutline → outline.ValueOutline → Type 0) (Q : Type 0) (old : Entries) (now : Vec Entry Global) (last i place : ℕ)
+    → LiesAt (out-Entries old).list i (Behind place) → ChangesAt P place (out-Entries old).list.behind.items now.items
+    → ChangesEntry P Q i (entries old)
+    (entries (roll-Entries (record { opening = (out-Entries old).opening; list = record { before = (out-Entries old).list.before; behind = now; last = last }; end = (out-Entries old).end })))
+changed_behind P Q old now last i place lies changes =
+    let list = (out-Entries old).list in
+    let (e, here) = some_at list.behind.items place lies.0 in
+    let (n, w, written, made, holds) = changes e here in
+    entry_changed P Q old (record { before = list.before; behind = now; last = last }) i e n w (behind_get list i place lies ∙ here)
+    (ap (λ es. list.before.items ++ reverse es) written ∙ behind_set list i place lies n) made holds
+
 -- nothing is written where there is none
-pub entry_missing : (P : outline.ValueOutline → outline.ValueOutline → Type 0) (Q : Type 0) (old : Entries) (i : ℕ) → slice_get (out-Entries old).list.items i ≡ None → Q
-    → ChangesEntry P Q i (entries old) (entries (roll-Entries (record { opening = (out-Entries old).opening; list = (out-Entries old).list; end = (out-Entries old).end })))
-entry_missing P Q old i is holds =
-    let none : value_in (entries old).entries i ≡ None = value_at old i ∙ ap (option_map (λ o. value (out-Entry o).value)) is in
+pub entry_missing : (P : outline.ValueOutline → outline.ValueOutline → Type 0) (Q : Type 0) (old : Entries) (i : ℕ) → length (items (out-Entries old).list) ≤ i → Q
+    → ChangesEntry P Q i (entries old) (entries old)
+entry_missing P Q old i past holds =
+    let none : value_in (entries old).entries i ≡ None = value_at old i ∙ ap (option_map (λ o. value (out-Entry o).value)) (slice_get_past (items (out-Entries old).list) i past) in
     record {
       found = λ v here. absurd (none-some v (sym none ∙ here));
-      missing = λ none.
-          (entries_made (record { opening = (out-Entries old).opening; list = (out-Entries old).list; end = (out-Entries old).end }) ∙ sym (entries_is old), holds);
+      missing = λ none. (refl, holds);
     }
+
+-- ---- how many there are
+
+short : (v : Vec Entry Global) → length v.items < 2 ^ 63
+short v = let ok = v.ok.0 in let small = v.small in omega arith
+
+pub few : (e : Entries) → length (items (out-Entries e).list) < 2 ^ 64
+few e =
+    let list = (out-Entries e).list in
+    let all = length-append list.before.items (reverse list.behind.items) in
+    let far = length-reverse list.behind.items in
+    let one = short list.before in
+    let two = short list.behind in
+    omega (arith, all, far, one, two)
 
 -- an entry with another value
 pub entry_with : (e : Entry) (v : Value) → entry (roll-Entry (record { before = (out-Entry e).before; assign = (out-Entry e).assign; value = v; after = (out-Entry e).after }))
@@ -139,3 +179,14 @@ pub entry_with : (e : Entry) (v : Value) → entry (roll-Entry (record { before 
 entry_with e v =
     entry_made (record { before = (out-Entry e).before; assign = (out-Entry e).assign; value = v; after = (out-Entry e).after })
     ∙ ap (λ (o : EntryOutline). record { before = o.before; assign = o.assign; value = value v; after = o.after }) (sym (entry_is e))
+
+-- another value is written into the entry at the place
+pub changed_at : (P : outline.ValueOutline → outline.ValueOutline → Type 0) (list : List Entry) (place : ℕ) (x : Entry) (v : Value) → slice_get list place ≡ Some x
+    → P (value (out-Entry x).value) (value v)
+    → ChangesAt P place list (set list place (roll-Entry (record { before = (out-Entry x).before; assign = (out-Entry x).assign; value = v; after = (out-Entry x).after })))
+changed_at P list place x v is holds e here =
+    let new = roll-Entry (record { before = (out-Entry x).before; assign = (out-Entry x).assign; value = v; after = (out-Entry x).after }) in
+    subst (λ (y : Entry). (n : Entry) × (w : outline.ValueOutline) × (set list place new ≡ set list place n)
+    × (entry n ≡ record { before = (entry y).before; assign = (entry y).assign; value = w; after = (entry y).after })
+    × P (value (out-Entry y).value) w)
+    (same_Some x e (sym is ∙ here)) (new, value v, refl, entry_with x v, holds)

@@ -1,7 +1,10 @@
 -- The text of entries, one after the other.
-use Rattle.std.proofs.Common.{◌≡◌, ◌∙◌, ℕ, Bool, true, false, List, [], ◌∷◌, ◌++◌, map, Option, Some, None, ap, sym, append_assoc, append-nil, Box}
+use Rattle.std.proofs.Common.{◌≡◌, ◌∙◌, ℕ, zero, suc, Bool, true, false, List, [], ◌∷◌, ◌++◌, drop, map, reverse, Option, Some, None, refl, ap, sym, append_assoc, append-nil, Box}
+use Rattle.std.proofs.lemmas.List.{map-append, reverse-append}
 use Rattle.std.specs.Global.{Global}
-use Rattle.std.specs.Prelude.{option_map}
+use Rattle.toml_lists.specs.Gaps.{items}
+use Rattle.std.proofs.lemmas.Option.{same_Some}
+use Rattle.std.specs.Prelude.{option_map, slice_get}
 use Rattle.toml_working.specs.declared.tree.Entries.{Entries}
 use Rattle.toml_working.specs.declared.tree.Entry.{Entry}
 use Rattle.toml_working.specs.declared.tree.Leaf.{Leaf}
@@ -53,12 +56,33 @@ entries_closed behind rest es end last old out mid new none some comma here so_f
     here ∙ ap (λ r. r ++ last) comma ∙ append_assoc out (comma_if behind) last
     ∙ ap (λ e. out ++ entries_outlined behind (End e)) (sym some) ∙ ap (λ r. out ++ entries_outlined behind (entries_of r end)) (sym none) ∙ so_far
 
+-- ---- a list with a gap
+
+pub map_reverse : {X Y : Type 0} (f : X → Y) (xs : List X) → map f (reverse xs) ≡ reverse (map f xs)
+map_reverse f [] = refl
+map_reverse f (x ∷ xs) =
+    ap (map f) (reverse-append (x ∷ []) xs) ∙ map-append f (reverse xs) (x ∷ [])
+    ∙ ap (λ r. r ++ f x ∷ []) (map_reverse f xs) ∙ sym (reverse-append (f x ∷ []) (map f xs))
+
+-- an item, and those behind it
+pub drop_got : {X : Type 0} (xs : List X) (i : ℕ) (x : X) → slice_get xs i ≡ Some x → drop i xs ≡ x ∷ drop (suc i) xs
+drop_got [] i x is = cc
+drop_got (y ∷ ys) zero x is = ap (λ z. z ∷ ys) (same_Some y x is)
+drop_got (y ∷ ys) (suc i) x is = drop_got ys i x is
+
+-- each item on its side
+pub items_mapped : {X Y : Type 0} (f : X → Y) (xs ys : List X) → map f xs ++ reverse (map f ys) ≡ map f (xs ++ reverse ys)
+items_mapped f xs ys = sym (map-append f xs (reverse ys) ∙ ap (λ r. map f xs ++ r) (map_reverse f ys))
+
 -- what stands between brackets or braces, by what the working tree has there
 pub entries_is : (e : Entries) → entries e ≡ record {
   opening = leaf_text (out-Entries e).opening;
-  entries = entries_of (map entry (out-Entries e).list.items) (option_map gap_text (out-Entries e).end);
+  entries = entries_of (map entry (items (out-Entries e).list)) (option_map gap_text (out-Entries e).end);
 }
-entries_is = fold_out-Entries ValueOutline Enclosed EntryOutline value_step entries_step entry_step
+entries_is e =
+    fold_out-Entries ValueOutline Enclosed EntryOutline value_step entries_step entry_step e
+    ∙ ap (λ es. record { opening = leaf_text (out-Entries e).opening; entries = entries_of es (option_map gap_text (out-Entries e).end) })
+    (items_mapped entry (out-Entries e).list.before.items (out-Entries e).list.behind.items)
 
 -- an entry, by what the working tree has there
 pub entry_is : (e : Entry) → entry e ≡ record {
@@ -70,7 +94,7 @@ pub entry_is : (e : Entry) → entry e ≡ record {
 entry_is = fold_out-Entry ValueOutline Enclosed EntryOutline value_step entries_step entry_step
 
 -- so it is with all of them
-pub entries_whole : (e : Entries) (all : List Entry) (old : List ℕ) → all ≡ (out-Entries e).list.items
+pub entries_whole : (e : Entries) (all : List Entry) (old : List ℕ) → all ≡ items (out-Entries e).list
     → old ++ entries_outlined false (entries_of (map entry all) (option_map gap_text (out-Entries e).end)) ≡ old ++ entries_outlined false (entries e).entries
 entries_whole e all old is =
     ap (λ es. old ++ entries_outlined false (entries_of (map entry es) (option_map gap_text (out-Entries e).end))) is
@@ -88,8 +112,11 @@ inline_made b = ap value (sym (rolls-Inline b)) ∙ fold-roll-Value ValueOutline
 
 -- entries that are made of these
 pub entries_made : (e : Entries-F Value Entries Entry)
-    → entries (roll-Entries e) ≡ record { opening = leaf_text e.opening; entries = entries_of (map entry e.list.items) (option_map gap_text e.end) }
-entries_made = fold-roll-Entries ValueOutline Enclosed EntryOutline value_step entries_step entry_step
+    → entries (roll-Entries e) ≡ record { opening = leaf_text e.opening; entries = entries_of (map entry (items e.list)) (option_map gap_text e.end) }
+entries_made e =
+    fold-roll-Entries ValueOutline Enclosed EntryOutline value_step entries_step entry_step e
+    ∙ ap (λ es. record { opening = leaf_text e.opening; entries = entries_of es (option_map gap_text e.end) })
+    (items_mapped entry e.list.before.items e.list.behind.items)
 
 -- an entry that is made of these
 pub entry_made : (e : Entry-F Value Entries Entry)

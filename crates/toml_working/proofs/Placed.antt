@@ -178,14 +178,14 @@ module _ (read : Read) (slots : List Slot) (k : ℕ) (slot : Slot) (there : slic
       by (Some s) some e = absurd (none-some (found s) (ap (option_map seen) (sym is) ∙ e))
 
   -- one is, with this base and address
-  record IsSeen (base : Option ℕ) (own : Option Address) : Type 0 where
-    line : Standing
-    from : lines_from read slots k i ≡ line ∷ lines_from read slots k (i + 1)
-    stands : line_at read slots (record { slot = k; index = i }) ≡ Some line
-    base_is : line.base ≡ base
-    own_is : line.address ≡ own
+  pub record IsSeen (base : Option ℕ) (own : Option Address) : Type 0 where
+    pub line : Standing
+    pub from : lines_from read slots k i ≡ line ∷ lines_from read slots k (i + 1)
+    pub stands : line_at read slots (record { slot = k; index = i }) ≡ Some line
+    pub base_is : line.base ≡ base
+    pub own_is : line.address ≡ own
 
-  one_seen : (r : Option Seen) (x : Seen) → option_map seen r ≡ option_map found (slice_get (slot_standing read slot) i) → r ≡ Some x
+  pub one_seen : (r : Option Seen) (x : Seen) → option_map seen r ≡ option_map found (slice_get (slot_standing read slot) i) → r ≡ Some x
       → IsSeen (seen x).base (seen x).address
   one_seen r x same is = by (slice_get (slot_standing read slot) i) refl same
     where

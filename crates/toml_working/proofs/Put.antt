@@ -2,14 +2,10 @@
 use Rattle.std.proofs.Common.{◌≡◌, ◌∙◌, ℕ, zero, suc, ◌+◌, ◌^◌, ◌<◌, ◌≤◌, Bool, true, false, cond, List, [], ◌∷◌, ◌++◌, length, take, drop, get_or, map, set, Option, Some, None, refl, ap, ap₂, sym, subst, arith, append_assoc, true≢false}
 use Rattle.std.proofs.Math.ListN.{length-set}
 use Rattle.std.specs.declared.alloc.Global.{Global}
-use Rattle.std.specs.declared.string.String.{String}
 use Rattle.std.specs.declared.vec.Vec.{Vec}
-use Rattle.std.specs.Prelude.{option_map, slice_get, string_bytes}
-use Rattle.std.proofs.lemmas.List.{append_cancel_right, drop-set-lt, take_more, take_more_set}
+use Rattle.std.specs.Prelude.{option_map, slice_get}
+use Rattle.std.proofs.lemmas.List.{drop-set-lt, take_more, take_more_set}
 use Rattle.std.proofs.lemmas.Option.{get_or_from_slice_get, none-some, same_Some, slice_get-map, slice_get_past, slice_get_within}
-use Rattle.toml_names.specs.declared.model.address.Step.TheVariants.{Name}
-use Rattle.toml_names.specs.model.Addresses.{Address}
-use Rattle.toml_scalar.specs.Spelling.{spelled}
 use Rattle.toml_text.specs.Source.{text_of}
 use Rattle.toml_tree.specs.Spells.{EachIs}
 use Rattle.toml_tree.specs.Tree as tree
@@ -19,22 +15,20 @@ use Rattle.toml_working.specs.declared.lines.Line.{Line}
 use Rattle.toml_working.specs.declared.lines.Slot.{Slot}
 use Rattle.toml_working.specs.declared.lines.Slot.TheVariants as slots
 use Rattle.toml_working.specs.declared.texts.Texts.{Texts}
-use Rattle.toml_working.specs.declared.tree.Assign.{Assign}
 use Rattle.toml_working.specs.declared.working.Position.{Position}
 use Rattle.toml_working.specs.Becoming.{LineBecomes}
-use Rattle.toml_working.specs.InsertStanding.{RootIsFirst, end_in, has_pair, insert_behind, insert_standing, line_behind, new_outline, new_standing, pair_or}
-use Rattle.toml_working.specs.OpeningLines.{EndsIn, HasOutline, OpensBody, OpensToEndIn, alone}
-use Rattle.toml_working.specs.OpenOutlines.{assign, line}
-use Rattle.toml_working.specs.Outlines.{LineOutline, Pair, ValueOutline}
-use Rattle.toml_working.specs.Placing.{IsLastPair, IsNoHeader, IsPair, is_header, lines_before, lines_from}
-use Rattle.toml_working.specs.Putting.{AssignsOne, Becomes, EndsBefore, EndsSlot, EndsSlots, InsertsLines, IsLastAt, IsRootLine, LineIsLast, PutsBehind, PutsSlot, PutsSlots, SlotIsLast, TellsLast, ended_before, newline_behind}
+use Rattle.toml_working.specs.InsertStanding.{end_in}
+use Rattle.toml_working.specs.OpeningLines.{EndsIn, OpensBody, OpensToEndIn}
+use Rattle.toml_working.specs.OpenOutlines.{line}
+use Rattle.toml_working.specs.Outlines.{LineOutline}
+use Rattle.toml_working.specs.Placing.{lines_before, lines_from}
+use Rattle.toml_working.specs.Putting.{Becomes, EndsBefore, EndsSlot, EndsSlots, IsLastAt, LineIsLast, PutsSlot, PutsSlots, SlotIsLast, TellsLast, ended_before, newline_behind}
 use Rattle.toml_working.specs.Seeing.{line_at}
 use Rattle.toml_working.specs.Standing.{Standing, Read, body_outline, line_standing, slot_standing, slots_standing}
-use Rattle.toml_working.specs.Stands.{BodyKept, OpensSlot, SlotKept, Stands}
+use Rattle.toml_working.specs.Stands.{BodyKept, OpensSlot, SlotKept}
 use Rattle.toml_working.proofs.AtPlace.{line_in, no_line, slot_replaced, slot_of}
 use Rattle.toml_working.proofs.Changed.{never_kept, opened_outline}
 use Rattle.toml_working.proofs.Each.{each_get}
-use Rattle.toml_working.proofs.Placed.{behind_line, split_at}
 use Rattle.toml_working.proofs.Turned.{opened_kept, opened_standing}
 
 -- ---- the last line
@@ -199,114 +193,3 @@ ends_last style texts read at old now b last is ends kept = ((ends kept).0, λ s
         → Becomes read at old now (ended_before style s newline) × ([] ≡ newline_behind style newline)
     by s e [] none = ((ends kept).1 s e, refl)
     by s e (x ∷ xs) some = let none : s.outline.newline ≡ [] = (last (text_of texts.source) read kept s e).0 is in cc
-
-line_behind_is : (name : List ℕ) (v : ValueOutline) (style : List ℕ) (s : Standing) (newline : List ℕ)
-    → line_behind name v style s newline ≡ ended_before style s newline ∷ new_standing name v (newline_behind style newline) ∷ []
-line_behind_is name v style s [] = refl
-line_behind_is name v style s (x ∷ xs) = refl
-
-slot_there : (read : Read) (old : List Slot) (at : Position) (s : Standing) → line_at read old at ≡ Some s → at.slot < length old
-slot_there read old at s e = let (slot, there, own) = slot_of read old at s e in slice_get_within old at.slot slot there
-
-pub puts_behind : (own : Address) (base : ℕ) (steps : List (String Global)) (v : ValueOutline) (style : List ℕ) (texts : Texts) (read : Read) (place next : Position)
-    (old mid now : List Slot) (newline : List ℕ) (l : Line) → EndsBefore style texts read place old mid newline → IsRootLine own base steps v newline l
-    → next.slot ≡ place.slot → (place.index + 1 < 2 ^ 64 → next.index ≡ place.index + 1) → PutsSlots read next l mid now
-    → PutsBehind own base steps v style texts read place old now
-puts_behind own base steps v style texts read place next old mid now newline l ends is_line slot index puts at_base name root low kept s e =
-    let text = text_of texts.source in
-    let (kept_mid, ended) = ends kept in
-    let (becomes, newline_is) = ended s e in
-    let (kept_line, stands) = is_line at_base name root text read in
-    let within : next.slot < length mid = subst (λ k. k < length mid) (sym slot) (subst (λ n. place.slot < n) (sym becomes.count) (slot_there read old place s e)) in
-    let (kept_now, are) = puts within text kept_mid kept_line in
-    let before : lines_before read mid next.slot next.index ≡ lines_before read old place.slot place.index ++ ended_before style s s.outline.newline ∷ [] =
-    ap₂ (lines_before read mid) slot (index low) ∙ becomes.before in
-    let behind : lines_from read mid next.slot next.index ≡ lines_from read old place.slot (place.index + 1) = ap₂ (lines_from read mid) slot (index low) ∙ becomes.behind in
-    let new : line_standing read l ≡ new_standing name v (newline_behind style s.outline.newline) = stands ∙ ap (new_standing name v) newline_is in (
-      kept_now,
-      are ∙ ap₂ (λ x y. x ++ line_standing read l ∷ y) before behind
-          ∙ append_assoc (lines_before read old place.slot place.index) (ended_before style s s.outline.newline ∷ []) (line_standing read l ∷ lines_from read old place.slot (place.index + 1))
-          ∙ ap (λ x. lines_before read old place.slot place.index ++ (ended_before style s s.outline.newline ∷ x ∷ lines_from read old place.slot (place.index + 1))) new
-          ∙ ap (λ x. lines_before read old place.slot place.index ++ (x ++ lines_from read old place.slot (place.index + 1))) (sym (line_behind_is name v style s s.outline.newline)),
-    )
-
--- ---- the root
-
--- the line of a name there
-pub root_line : (own : Address) (base : ℕ) (steps parts : List (String Global)) (v : ValueOutline) (newline : List ℕ) (a : Assign) (l : Line)
-    → (base ≡ 0 → parts ≡ steps) → AssignsOne parts a → l.address ≡ Some own → l.base ≡ Some base → HasOutline (alone (Pair (assign a) v) newline) l.body
-    → IsRootLine own base steps v newline l
-root_line own base steps parts v newline a l same assigns address base_is (n, is, outlined) at_base name root text read =
-    let assigned = assigns (spelled name) (ap (map string_bytes) (same at_base) ∙ root.steps_is) in
-    let outline : body_outline read l.body ≡ new_outline name v newline = ap (body_outline read) is ∙ outlined ∙ ap (λ x. alone (Pair x v) newline) assigned in (
-      subst (BodyKept text read) (sym is) tt,
-      ap₂ (λ x y. record { address = x; base = y; outline = body_outline read l.body }) (address ∙ ap Some root.at_is) (base_is ∙ ap Some at_base)
-          ∙ ap (λ o. record { address = Some (Name name ∷ []); base = Some 0; outline = o }) outline,
-    )
-
-module _ (name : List ℕ) (v : ValueOutline) (style : List ℕ) (s : Standing) (back : List Standing) (pair : IsPair s) (none : has_pair back ≡ false) where
-  pair_is : has_pair (s ∷ back) ≡ true
-  pair_is = ap (λ b. pair_or b s.address (has_pair back)) pair.1
-
-  no_header_or : (base : Option ℕ) (own : Option Address) → is_header base own ≡ false → pair_or base own true ≡ true
-  no_header_or (Some n) own h = refl
-  no_header_or None None h = refl
-  no_header_or None (Some a) h = cc
-
-  has_front : (front : List Standing) → EachIs IsNoHeader front → has_pair (front ++ s ∷ back) ≡ true
-  has_front [] heads = pair_is
-  has_front (x ∷ front) heads = ap (pair_or x.base x.address) (has_front front heads.1) ∙ no_header_or x.base x.address heads.0
-
-  behind_put : (front : List Standing) → EachIs IsNoHeader front → insert_behind name v style (front ++ s ∷ back) ≡ front ++ (line_behind name v style s s.outline.newline ++ back)
-  behind_put [] heads = ap (λ b. cond b (s ∷ insert_behind name v style back) (line_behind name v style s s.outline.newline ++ back)) none
-  behind_put (x ∷ front) heads =
-      ap (λ b. cond b (x ∷ insert_behind name v style (front ++ s ∷ back)) (line_behind name v style x x.outline.newline ++ (front ++ s ∷ back))) (has_front front heads.1)
-      ∙ ap (λ r. x ∷ r) (behind_put front heads.1)
-
-  pub root_put : (front : List Standing) → EachIs IsNoHeader front → insert_standing name v style (front ++ s ∷ back) ≡ front ++ (line_behind name v style s s.outline.newline ++ back)
-  root_put front heads =
-      ap (λ b. cond b (insert_behind name v style (front ++ s ∷ back)) (new_standing name v style ∷ (front ++ s ∷ back))) (has_front front heads) ∙ behind_put front heads
-
--- the line is put in behind the last one of the root
-pub behind_root : (own : Address) (steps : List (String Global)) (v : ValueOutline) (style : List ℕ) (texts : Texts) (read : Read) (place : Position) (old now : List Slot)
-    → (RootIsFirst (slots_standing read old) → IsLastPair read old (slots_standing read old) place)
-    → PutsBehind own 0 steps v style texts read place old now → InsertsLines own steps v style (text_of texts.source) read old now
-behind_root own steps v style texts read place old now finds puts name root ss stands rooted =
-    let last = finds (subst RootIsFirst (sym stands.are) rooted.first) in
-    let (kept_now, are) = puts refl name root last.next stands.kept last.line last.there in
-    let back : last.back ≡ lines_from read old place.slot (place.index + 1) = behind_line read old place last.line last.back last.there last.from in
-    let split : slots_standing read old ≡ lines_before read old place.slot place.index ++ last.line ∷ last.back =
-    split_at read old place.slot place.index ∙ ap (λ r. lines_before read old place.slot place.index ++ r) last.from in
-    let front : lines_before read old place.slot place.index ≡ last.front = append_cancel_right _ _ (last.line ∷ last.back) (sym split ∙ last.is) in
-    record {
-      kept = kept_now;
-      are =
-          are ∙ ap₂ (λ x y. x ++ (line_behind name v style last.line last.line.outline.newline ++ y)) front (sym back)
-          ∙ sym (root_put name v style last.line last.back last.pair last.none last.front last.heads)
-          ∙ ap (insert_standing name v style) (sym last.is ∙ stands.are);
-    }
-
--- or as the first line, where the root has none
-pub first_of_root : (own : Address) (steps : List (String Global)) (v : ValueOutline) (style text : List ℕ) (read : Read) (old now : List Slot) (l : Line)
-    → (RootIsFirst (slots_standing read old) → has_pair (slots_standing read old) ≡ false)
-    → IsRootLine own 0 steps v style l → PutsSlots read (record { slot = 0; index = 0 }) l old now → InsertsLines own steps v style text read old now
-first_of_root own steps v style text read old now l none is_line puts name root ss stands rooted = by old none puts stands
-  where
-    by : (xs : List Slot) → (RootIsFirst (slots_standing read xs) → has_pair (slots_standing read xs) ≡ false) → PutsSlots read (record { slot = 0; index = 0 }) l xs now
-        → Stands text read xs ss → Stands text read now (insert_standing name v style ss)
-    by [] none puts stands = absurd (rooted.some (sym stands.are))
-    by (x ∷ xs) none puts stands =
-        let (kept_line, is) = is_line refl name root text read in
-        let (kept_now, are) = puts (omega arith) text stands.kept kept_line in
-        let no_pair : has_pair ss ≡ false = subst (λ r. has_pair r ≡ false) stands.are (none (subst RootIsFirst (sym stands.are) rooted.first)) in
-        record {
-          kept = kept_now;
-          are =
-              are ∙ ap₂ (λ n r. n ∷ r) is stands.are
-              ∙ sym (ap (λ b. cond b (insert_behind name v style ss) (new_standing name v style ∷ ss)) no_pair);
-        }
-
--- no name at the root is put in elsewhere
-pub elsewhere : (own : Address) (steps : List (String Global)) (v : ValueOutline) (style text : List ℕ) (read : Read) (old now : List Slot)
-    → ((name : List ℕ) → ¬ (own ≡ Name name ∷ [])) → InsertsLines own steps v style text read old now
-elsewhere own steps v style text read old now other name root = absurd (other name root.at_is)

@@ -1,26 +1,50 @@
 -- `insert` of a name at the root, on lines by what finds them.
-use Rattle.std.specs.Prelude.{◌≡◌, ℕ, Bool, true, false, List, [], ◌∷◌, ◌++◌, Option, Some, None, if◌then◌else◌}
+use Rattle.std.specs.Prelude.{◌≡◌, ℕ, Bool, true, false, ◌&&◌, not, is_some, List, [], ◌∷◌, ◌++◌, Option, Some, None, if◌then◌else◌}
 use Rattle.std.specs.List.{list_any}
 use Rattle.toml_scalar.specs.Spelling.{spelled}
 use Rattle.toml_names.specs.declared.model.address.Step.TheVariants.{Name}
 use Rattle.toml_names.specs.model.Addresses.{Address}
 use Rattle.toml_tree.specs.Spells.{EachIs}
-use Rattle.toml_working.specs.Outlines.{AssignOutline, LineOutline, Pair, ValueOutline}
+use Rattle.toml_working.specs.declared.layout.Layout.{Layout}
+use Rattle.toml_working.specs.declared.layout.Layout.TheVariants as layouts
+use Rattle.toml_working.specs.Manners.{Manner}
+use Rattle.toml_working.specs.Outlines as outline
+use Rattle.toml_working.specs.Outlines.{AssignOutline, ExprOutline, LineOutline, Pair, ValueOutline}
+use Rattle.toml_working.specs.Spacings.{Spacing, laid_out, plain_spacing, spaced_as}
 use Rattle.toml_working.specs.Standing.{Standing, holds}
 
--- the name, ` = ` and the value, without indentation
-abbrev pub new_assign : List ℕ → AssignOutline
-new_assign name = record { first = spelled name; rest = []; before_equals = 0x20 ∷ []; after_equals = 0x20 ∷ [] }
+-- the name, `=` and the value, with this whitespace
+abbrev pub new_assign : Spacing → List ℕ → AssignOutline
+new_assign s name = record { first = spelled name; rest = []; before_equals = s.before_equals; after_equals = s.after_equals }
 
-abbrev pub new_outline : List ℕ → ValueOutline → List ℕ → LineOutline
-new_outline name v newline = record { ws = []; expr = Pair (new_assign name) v; tail = []; comment = None; newline = newline }
+abbrev pub new_outline : Spacing → List ℕ → ValueOutline → List ℕ → LineOutline
+new_outline s name v newline = record { ws = s.ws; expr = Pair (new_assign s name) v; tail = []; comment = None; newline = newline }
 
-abbrev pub new_standing : List ℕ → ValueOutline → List ℕ → Standing
-new_standing name v newline = record { address = Some (Name name ∷ []); base = Some 0; outline = new_outline name v newline }
+abbrev pub new_standing : Spacing → List ℕ → ValueOutline → List ℕ → Standing
+new_standing s name v newline = record { address = Some (Name name ∷ []); base = Some 0; outline = new_outline s name v newline }
 
 -- the line in another newline
 abbrev pub end_in : List ℕ → Standing → Standing
 end_in newline s = record s { outline = record (s.outline) { newline = newline } }
+
+-- what stands around the `=` of a line, if it has one
+abbrev pub equals_in : ExprOutline → Option (List ℕ × List ℕ)
+equals_in outline.Nothing = None
+equals_in (outline.Pair a v) = Some (a.before_equals, a.after_equals)
+equals_in (outline.Header opening before first rest after closing) = None
+
+-- as far in as this, and around its `=` as it is there
+abbrev pub spaced_by : List ℕ → Option (List ℕ × List ℕ) → Spacing
+spaced_by ws None = record { ws = ws; before_equals = 0x20 ∷ []; after_equals = 0x20 ∷ [] }
+spaced_by ws (Some (before, after)) = spaced_as ws before after
+
+-- the whitespace of a line behind one of this base and outline: that of this one, where it has a key and a value
+abbrev pub spacing_of : Option ℕ → LineOutline → Spacing
+spacing_of None l = plain_spacing
+spacing_of (Some n) l = spaced_by l.ws (equals_in l.expr)
+
+abbrev pub spacing_behind : Manner → Standing → Spacing
+spacing_behind manner s = laid_out manner.layout (spacing_of s.base s.outline)
 
 -- Whether a line of this base and address has a key and a value, or one of the lines behind has, before the first header: a header has
 -- an address without a base, and a blank line has neither.
@@ -34,21 +58,54 @@ abbrev pub has_pair : List Standing → Bool
 has_pair [] = false
 has_pair (s ∷ ss) = pair_or s.base s.address (has_pair ss)
 
--- A line, by its newline, and the new one behind it. What has no newline is a former last line: it gets the style's, and the new one
--- has none.
-abbrev pub line_behind : List ℕ → ValueOutline → List ℕ → Standing → List ℕ → List Standing
-line_behind name v style s [] = end_in style s ∷ new_standing name v [] ∷ []
-line_behind name v style s (b ∷ bs) = s ∷ new_standing name v style ∷ []
+-- whether a line of this base and address has neither a key nor a header
+abbrev pub is_bare : Option ℕ → Option Address → Bool
+is_bare (Some n) own = false
+is_bare None None = true
+is_bare None (Some a) = false
 
--- behind the last line with a key and a value
-abbrev pub insert_behind : List ℕ → ValueOutline → List ℕ → List Standing → List Standing
-insert_behind name v style [] = []
-insert_behind name v style (s ∷ ss) =
-    if has_pair ss then s ∷ insert_behind name v style ss else line_behind name v style s s.outline.newline ++ ss
+-- whether a comment stands on a line alone, and whether nothing does
+abbrev pub is_comment : Standing → Bool
+is_comment s = is_bare s.base s.address && is_some s.outline.comment
 
--- or first, where there is none
-abbrev pub insert_standing : List ℕ → ValueOutline → List ℕ → List Standing → List Standing
-insert_standing name v style ss = if has_pair ss then insert_behind name v style ss else new_standing name v style ∷ ss
+abbrev pub is_blank : Standing → Bool
+is_blank s = is_bare s.base s.address && not (is_some s.outline.comment)
+
+-- whether lines begin with a comment line
+abbrev pub has_comment : List Standing → Bool
+has_comment [] = false
+has_comment (s ∷ ss) = is_comment s
+
+-- whether a blank line, or the end, follows the comment lines with which lines begin
+abbrev pub comments_end : List Standing → Bool
+comments_end [] = true
+comments_end (s ∷ ss) = if is_comment s then comments_end ss else is_blank s
+
+-- whether the first line of the root goes below the comment lines with which the text begins
+abbrev pub goes_below : Layout → List Standing → Bool
+goes_below layouts.Plain ss = false
+goes_below layouts.Follow ss = has_comment ss && comments_end ss
+
+-- A line, by its newline, and the new one behind it. What has no newline is a former last line: it gets that of new lines, and the new
+-- one has none.
+abbrev pub line_behind : List ℕ → ValueOutline → Manner → Standing → List ℕ → List Standing
+line_behind name v manner s [] = end_in manner.newline s ∷ new_standing (spacing_behind manner s) name v [] ∷ []
+line_behind name v manner s (b ∷ bs) = s ∷ new_standing (spacing_behind manner s) name v manner.newline ∷ []
+
+-- behind the last one of some lines; `more` tells of the lines behind one whether another of them follows
+abbrev pub insert_behind : (List Standing → Bool) → List ℕ → ValueOutline → Manner → List Standing → List Standing
+insert_behind more name v manner [] = []
+insert_behind more name v manner (s ∷ ss) =
+    if more ss then s ∷ insert_behind more name v manner ss else line_behind name v manner s s.outline.newline ++ ss
+
+-- the first line of the root: below the comment lines with which the text begins, or before all lines
+abbrev pub insert_first : List ℕ → ValueOutline → Manner → List Standing → List Standing
+insert_first name v manner ss =
+    if goes_below manner.layout ss then insert_behind has_comment name v manner ss else new_standing plain_spacing name v manner.newline ∷ ss
+
+-- behind the last line with a key and a value, or as the first line of the root
+abbrev pub insert_standing : List ℕ → ValueOutline → Manner → List Standing → List Standing
+insert_standing name v manner ss = if has_pair ss then insert_behind has_pair name v manner ss else insert_first name v manner ss
 
 -- the lines behind a header stand in other tables than the root
 abbrev pub LeavesRoot : Option ℕ → Option Address → List Standing → Type 0

@@ -1,34 +1,82 @@
 -- `insert` of a name at the root: a new line.
-use Rattle.std.specs.Prelude.{ℕ, Bool, true, false, List, [], ◌∷◌, if◌then◌else◌, None}
+use Rattle.std.specs.Prelude.{ℕ, Bool, true, false, ◌&&◌, not, is_some, List, [], ◌∷◌, if◌then◌else◌, None}
 use Rattle.toml_scalar.specs.Spelling.{spelled}
 use Rattle.toml_tree.specs.Bare.{fresh}
 use Rattle.toml_tree.specs.Tree.{Assign, Value, Expr, BlankLine, KeyValLine, TableLine, ArrayTableLine, Line}
+use Rattle.toml_working.specs.declared.layout.Layout.{Layout}
+use Rattle.toml_working.specs.declared.layout.Layout.TheVariants as layouts
+use Rattle.toml_working.specs.Manners.{Manner}
+use Rattle.toml_working.specs.Spacings.{Spacing, laid_out, plain_spacing, spaced_as}
 
--- the name, ` = ` and the value, without indentation
-abbrev pub new_assign : List ℕ → Assign
-new_assign name = record { key = record { first = fresh (spelled name); rest = [] }; before_equals = fresh (0x20 ∷ []); after_equals = fresh (0x20 ∷ []) }
+-- the name, `=` and the value, with this whitespace
+abbrev pub new_assign : Spacing → List ℕ → Assign
+new_assign s name = record { key = record { first = fresh (spelled name); rest = [] }; before_equals = fresh s.before_equals; after_equals = fresh s.after_equals }
 
-abbrev pub new_expr : List ℕ → Value → Expr
-new_expr name v = KeyValLine (fresh []) (record { assign = new_assign name; value = v }) (record { ws = fresh []; comment = None })
+abbrev pub new_expr : Spacing → List ℕ → Value → Expr
+new_expr s name v = KeyValLine (fresh s.ws) (record { assign = new_assign s name; value = v }) (record { ws = fresh []; comment = None })
 
-abbrev pub new_line : List ℕ → Value → List ℕ → Line
-new_line name v newline = record { expr = new_expr name v; newline = fresh newline }
+abbrev pub new_line : Spacing → List ℕ → Value → List ℕ → Line
+new_line s name v newline = record { expr = new_expr s name v; newline = fresh newline }
 
--- behind a line: a former last line gets the style's newline, and the new one ends without
-abbrev pub line_behind : List ℕ → Value → List ℕ → Line → List Line → List Line
-line_behind name v style l [] = record { expr = l.expr; newline = fresh style } ∷ new_line name v [] ∷ []
-line_behind name v style l (m ∷ ms) = l ∷ new_line name v style ∷ m ∷ ms
+-- the whitespace of a line behind another one: that of this one, where it has a key and a value
+abbrev pub spacing_of : Expr → Spacing
+spacing_of (BlankLine b) = plain_spacing
+spacing_of (KeyValLine ws pair tail) = spaced_as ws.text pair.assign.before_equals.text pair.assign.after_equals.text
+spacing_of (TableLine ws header tail) = plain_spacing
+spacing_of (ArrayTableLine ws header tail) = plain_spacing
+
+abbrev pub spacing_behind : Manner → Line → Spacing
+spacing_behind manner l = laid_out manner.layout (spacing_of l.expr)
+
+-- behind a line: a former last line gets the newline of new lines, and the new one ends without
+abbrev pub line_behind : List ℕ → Value → Manner → Line → List Line → List Line
+line_behind name v manner l [] = record { expr = l.expr; newline = fresh manner.newline } ∷ new_line (spacing_behind manner l) name v [] ∷ []
+line_behind name v manner l (m ∷ ms) = l ∷ new_line (spacing_behind manner l) name v manner.newline ∷ m ∷ ms
+
+-- behind the last one of some lines; `more` tells of the lines behind one whether another of them follows
+abbrev pub insert_behind : (List Line → Bool) → List ℕ → Value → Manner → List Line → List Line
+insert_behind more name v manner [] = []
+insert_behind more name v manner (l ∷ ls) =
+    if more ls then l ∷ insert_behind more name v manner ls else line_behind name v manner l ls
 
 -- whether a keyval line stands before the first header
 abbrev pub has_pair : List Line → Bool
 has_pair [] = false
 has_pair (l ∷ ls) = elim l.expr [ BlankLine b ↦ has_pair ls | KeyValLine ws pair tail ↦ true | TableLine ws header tail ↦ false | ArrayTableLine ws header tail ↦ false ]
 
--- behind the last of them
-abbrev pub insert_behind : List ℕ → Value → List ℕ → List Line → List Line
-insert_behind name v style [] = []
-insert_behind name v style (l ∷ ls) = if has_pair ls then l ∷ insert_behind name v style ls else line_behind name v style l ls
+-- whether a comment stands on a line alone, and whether nothing does
+abbrev pub is_comment : Expr → Bool
+is_comment (BlankLine b) = is_some b.comment
+is_comment (KeyValLine ws pair tail) = false
+is_comment (TableLine ws header tail) = false
+is_comment (ArrayTableLine ws header tail) = false
 
--- or first, where there is none
-abbrev pub insert_lines : List ℕ → Value → List ℕ → List Line → List Line
-insert_lines name v style lines = if has_pair lines then insert_behind name v style lines else new_line name v style ∷ lines
+abbrev pub is_blank : Expr → Bool
+is_blank (BlankLine b) = not (is_some b.comment)
+is_blank (KeyValLine ws pair tail) = false
+is_blank (TableLine ws header tail) = false
+is_blank (ArrayTableLine ws header tail) = false
+
+-- whether lines begin with a comment line
+abbrev pub has_comment : List Line → Bool
+has_comment [] = false
+has_comment (l ∷ ls) = is_comment l.expr
+
+-- whether a blank line, or the end, follows the comment lines with which lines begin
+abbrev pub comments_end : List Line → Bool
+comments_end [] = true
+comments_end (l ∷ ls) = if is_comment l.expr then comments_end ls else is_blank l.expr
+
+-- whether the first line of the root goes below the comment lines with which the text begins
+abbrev pub goes_below : Layout → List Line → Bool
+goes_below layouts.Plain lines = false
+goes_below layouts.Follow lines = has_comment lines && comments_end lines
+
+-- the first line of the root: below these, or before all lines
+abbrev pub insert_first : List ℕ → Value → Manner → List Line → List Line
+insert_first name v manner lines =
+    if goes_below manner.layout lines then insert_behind has_comment name v manner lines else new_line plain_spacing name v manner.newline ∷ lines
+
+-- behind the last keyval line before the first header, or as the first line of the root
+abbrev pub insert_lines : List ℕ → Value → Manner → List Line → List Line
+insert_lines name v manner lines = if has_pair lines then insert_behind has_pair name v manner lines else insert_first name v manner lines

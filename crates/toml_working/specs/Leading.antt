@@ -1,5 +1,5 @@
 -- How the steps of an address lead into a value of the working tree: by an element's index, or by all names of a pair's key.
-use Rattle.std.specs.Prelude.{◌≡◌, ℕ, zero, suc, Bool, false, if◌then◌else◌, List, [], ◌∷◌, map, length, Option, Some, None, option_map}
+use Rattle.std.specs.Prelude.{◌≡◌, ℕ, zero, suc, Bool, false, if◌then◌else◌, List, [], ◌∷◌, map, length, set, Option, Some, None, option_map, slice_get}
 use Rattle.toml_names.specs.declared.model.address.Step.{Step}
 use Rattle.toml_names.specs.declared.model.address.Step.TheVariants.{Name, Index}
 use Rattle.toml_names.specs.mentions.Keys as names
@@ -9,7 +9,7 @@ use Rattle.toml_working.specs.declared.tree.Dotted.{Dotted}
 use Rattle.toml_working.specs.declared.tree.Entry.{Entry}
 use Rattle.toml_working.specs.declared.tree.Key.{Key}
 use Rattle.toml_working.specs.declared.tree.Value.TheViews.{out-Entry}
-use Rattle.toml_working.specs.OpenOutlines.{leaf_text, dotted, Enclosed}
+use Rattle.toml_working.specs.OpenOutlines.{leaf_text, dotted, entry, value, Enclosed}
 use Rattle.toml_working.specs.Outlines as outline
 use Rattle.toml_working.specs.Outlines.{DottedOutline, ValueOutline, EntriesOutline}
 use Rattle.toml_working.specs.SetOutlines.{outlined_names}
@@ -84,3 +84,10 @@ pub record ChangesEntry (P : ValueOutline → ValueOutline → Type 0) (Q : Type
 -- a `set` in the value of the entry with the index, if there is one
 abbrev pub SetsEntry : ℕ → Address → ValueOutline → Enclosed → Enclosed → Bool → Type 0
 SetsEntry i steps new old now done = ChangesEntry (λ v w. SetsIn steps new v w done) (done ≡ false) i old now
+
+-- the value of the entry at the place in a list has become another one that is so, and nothing else
+abbrev pub ChangesAt : (ValueOutline → ValueOutline → Type 0) → ℕ → List Entry → List Entry → Type 0
+ChangesAt P place old now = (e : Entry) → slice_get old place ≡ Some e
+    → (n : Entry) × (w : ValueOutline) × (now ≡ set old place n)
+    × (entry n ≡ record { before = (entry e).before; assign = (entry e).assign; value = w; after = (entry e).after })
+    × P (value (out-Entry e).value) w

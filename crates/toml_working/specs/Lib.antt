@@ -4,6 +4,9 @@ pub mod InValues
 -- words of the code's own contracts
 pub mod KnownLines
 pub mod Reading
+-- how new text is written
+pub mod Manners
+pub mod Spacings
 -- what the working tree stands for
 pub mod Outlines
 pub mod OpenOutlines
@@ -19,7 +22,8 @@ pub mod Stands
 pub mod Starting
 pub mod Writing
 pub mod OpeningLines
-pub mod Layouts
+pub mod Looking
+pub mod OpeningComments
 pub mod Gaps
 pub mod Leading
 pub mod RenamingIn

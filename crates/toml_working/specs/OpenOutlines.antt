@@ -1,5 +1,6 @@
 -- The outlines of what stands in the working tree.
 use Rattle.std.specs.Prelude.{ℕ, List, [], ◌∷◌, ◌++◌, map, Option, option_map}
+use Rattle.toml_lists.specs.Gaps.{items}
 use Rattle.toml_working.specs.declared.tree.Leaf.{Leaf}
 use Rattle.toml_working.specs.declared.tree.Leaf.TheVariants as leaves
 use Rattle.toml_working.specs.declared.tree.Blank.{Blank}
@@ -87,7 +88,7 @@ value_step (layer.Array entries) = outline.Listed entries.value.opening entries.
 value_step (layer.Inline entries) = outline.Braced entries.value.opening entries.value.entries
 
 abbrev pub entries_step : Entries-F ValueOutline Enclosed EntryOutline → Enclosed
-entries_step e = record { opening = leaf_text e.opening; entries = entries_of e.list.items (option_map gap_text e.end) }
+entries_step e = record { opening = leaf_text e.opening; entries = entries_of (items e.list) (option_map gap_text e.end) }
 
 abbrev pub entry_step : Entry-F ValueOutline Enclosed EntryOutline → EntryOutline
 entry_step e = record {

@@ -1,5 +1,5 @@
 -- A line that gets another newline, and one that is put in, by what then stands on the lines.
-use Rattle.std.specs.Prelude.{◌≡◌, ◌<◌, ◌+◌, ◌^◌, ◌↔◌, ℕ, Bool, List, [], ◌∷◌, ◌++◌, IsTrue, Some, length, slice_get, take, drop, map, string_bytes}
+use Rattle.std.specs.Prelude.{◌≡◌, ◌<◌, ◌+◌, ◌^◌, ◌↔◌, ℕ, Bool, false, List, [], ◌∷◌, ◌++◌, IsTrue, Some, length, slice_get, take, drop, map, string_bytes}
 use Rattle.std.specs.declared.alloc.Global.{Global}
 use Rattle.std.specs.declared.string.String.{String}
 use Rattle.toml_scalar.specs.Spelling.{spelled}
@@ -16,12 +16,14 @@ use Rattle.toml_working.specs.declared.tree.Key.{Key}
 use Rattle.toml_working.specs.declared.working.Position.{Position}
 use Rattle.toml_working.specs.declared.working.Tree.{Tree}
 use Rattle.toml_working.specs.Becoming.{LineBecomes}
-use Rattle.toml_working.specs.InsertStanding.{AreRooted, end_in, insert_standing, line_behind, new_standing}
-use Rattle.toml_working.specs.Layouts.{IsPlainLayout}
+use Rattle.toml_working.specs.InsertStanding.{AreRooted, end_in, has_pair, insert_first, insert_standing, line_behind, new_outline}
+use Rattle.toml_working.specs.Manners.{Manner}
+use Rattle.toml_working.specs.OpeningLines.{HasOutline}
 use Rattle.toml_working.specs.OpenOutlines.{assign, leaf_text}
 use Rattle.toml_working.specs.Outlines.{ValueOutline}
-use Rattle.toml_working.specs.Placing.{lines_before, lines_from}
+use Rattle.toml_working.specs.Placing.{IsNoHeader, lines_before, lines_from}
 use Rattle.toml_working.specs.Seeing.{line_at}
+use Rattle.toml_working.specs.Spacings.{plain_spacing}
 use Rattle.toml_working.specs.Standing.{Standing, Read, line_standing, slot_standing, slots_standing}
 use Rattle.toml_working.specs.Stands.{BodyKept, SlotKept, Stands}
 use Rattle.toml_working.specs.Turning.{OneTurns, SlotTurns}
@@ -107,31 +109,46 @@ pub record IsRootName (name : List ℕ) (at : Address) (steps : List (String Glo
   pub at_is : at ≡ Name name ∷ []
   pub steps_is : map string_bytes steps ≡ spelled name ∷ []
 
--- the line of a name at the root
-abbrev pub IsRootLine : Address → ℕ → List (String Global) → ValueOutline → List ℕ → Line → Type 0
-IsRootLine at base steps v newline l = base ≡ 0 → (name : List ℕ) → IsRootName name at steps → (text : List ℕ) (read : Read)
-    → BodyKept text read l.body × (line_standing read l ≡ new_standing name v newline)
+-- what is written by on a tree
+abbrev pub manner : Tree → Manner
+manner tree = record { newline = leaf_text tree.style; layout = tree.texts.layout }
 
--- it is put in behind the line at the place
-abbrev pub PutsBehind : Address → ℕ → List (String Global) → ValueOutline → List ℕ → Texts → Read → Position → List Slot → List Slot
+-- the line of a name at the root, in the plain layout
+abbrev pub IsRootLine : Address → ℕ → List (String Global) → ValueOutline → List ℕ → Line → Type 0
+IsRootLine at base steps v newline l = base ≡ 0 → (name : List ℕ) → IsRootName name at steps
+    → (l.address ≡ Some (Name name ∷ [])) × (l.base ≡ Some 0) × HasOutline (new_outline plain_spacing name v newline) l.body
+
+-- it is put in behind the line at the place, if that is no header
+abbrev pub PutsBehind : Address → ℕ → List (String Global) → ValueOutline → Manner → Texts → Read → Position → List Slot → List Slot
     → Type 0
-PutsBehind at base steps v style texts read place old now = base ≡ 0 → (name : List ℕ) → IsRootName name at steps
-    → place.index + 1 < 2 ^ 64 → EachIs (SlotKept (text_of texts.source) read) old → (s : Standing) → line_at read old place ≡ Some s
+PutsBehind at base steps v manner texts read place old now = base ≡ 0 → (name : List ℕ) → IsRootName name at steps
+    → place.index + 1 < 2 ^ 64 → EachIs (SlotKept (text_of texts.source) read) old
+    → (s : Standing) → line_at read old place ≡ Some s → IsNoHeader s
     → EachIs (SlotKept (text_of texts.source) read) now
     × (slots_standing read now ≡ lines_before read old place.slot place.index
-    ++ (line_behind name v style s s.outline.newline ++ lines_from read old place.slot (place.index + 1)))
+    ++ (line_behind name v manner s s.outline.newline ++ lines_from read old place.slot (place.index + 1)))
 
--- so it is of the lines of a tree, in layout `Plain`
+-- so it is of the lines of a tree
 abbrev pub TreePutsBehind : Address → ℕ → List (String Global) → ValueOutline → Read → Position → Tree → Tree → Type 0
-TreePutsBehind at base steps v read place old now = IsPlainLayout old.texts.layout
-    → PutsBehind at base steps v (leaf_text old.style) old.texts read place old.slots.items now.slots.items
+TreePutsBehind at base steps v read place old now =
+    PutsBehind at base steps v (manner old) old.texts read place old.slots.items now.slots.items
 
--- behind the last line of the root, or as the first line
-abbrev pub InsertsLines : Address → List (String Global) → ValueOutline → List ℕ → List ℕ → Read → List Slot → List Slot → Type 0
-InsertsLines at steps v style text read old now = (name : List ℕ) → IsRootName name at steps → (ss : List Standing)
-    → Stands text read old ss → AreRooted ss → Stands text read now (insert_standing name v style ss)
+-- behind the last line of the root, or as its first one
+abbrev pub InsertsLines : Address → List (String Global) → ValueOutline → Manner → List ℕ → Read → List Slot → List Slot → Type 0
+InsertsLines at steps v manner text read old now = (name : List ℕ) → IsRootName name at steps → (ss : List Standing)
+    → Stands text read old ss → AreRooted ss → Stands text read now (insert_standing name v manner ss)
 
--- so it is of the lines of a tree, in layout `Plain`
+-- so it is of the lines of a tree
 abbrev pub TreeInserts : Address → List (String Global) → ValueOutline → Read → Tree → Tree → Type 0
-TreeInserts at steps v read old now = IsPlainLayout old.texts.layout
-    → InsertsLines at steps v (leaf_text old.style) (text_of old.texts.source) read old.slots.items now.slots.items
+TreeInserts at steps v read old now =
+    InsertsLines at steps v (manner old) (text_of old.texts.source) read old.slots.items now.slots.items
+
+-- where the root has no line with a key and a value, its first one is put in
+abbrev pub InsertsFirst : Address → List (String Global) → ValueOutline → Manner → List ℕ → Read → List Slot → List Slot → Type 0
+InsertsFirst at steps v manner text read old now = (name : List ℕ) → IsRootName name at steps → (ss : List Standing)
+    → Stands text read old ss → AreRooted ss → has_pair ss ≡ false → Stands text read now (insert_first name v manner ss)
+
+-- so it is of the lines of a tree
+abbrev pub TreeInsertsFirst : Address → List (String Global) → ValueOutline → Read → Tree → Tree → Type 0
+TreeInsertsFirst at steps v read old now =
+    InsertsFirst at steps v (manner old) (text_of old.texts.source) read old.slots.items now.slots.items

@@ -1,12 +1,14 @@
 -- `rename` in a value of the working tree, by the steps below the value.
-use Rattle.std.specs.Prelude.{◌≡◌, ℕ, zero, suc, ◌-◌, Bool, List, [], ◌∷◌, ◌++◌, length, option_map, if◌then◌else◌}
+use Rattle.std.specs.Prelude.{◌≡◌, ℕ, zero, suc, ◌-◌, Bool, List, [], ◌∷◌, ◌++◌, length, map, option_map, if◌then◌else◌}
 use Rattle.toml_names.specs.declared.model.address.Step.TheVariants.{Name}
 use Rattle.toml_names.specs.mentions.Keys.{Key}
 use Rattle.toml_names.specs.model.Addresses.{Address, same_step}
 use Rattle.toml_working.specs.Apart.{HasKeysApart}
 use Rattle.toml_working.specs.Beginnings.{begins_by}
 use Rattle.toml_working.specs.Leading.{ChangesEntry}
-use Rattle.toml_working.specs.OpenOutlines.{Enclosed, EntryOutline}
+use Rattle.toml_lists.specs.declared.gap_list.GapList.{GapList}
+use Rattle.toml_working.specs.declared.tree.Entry.{Entry as OpenEntry}
+use Rattle.toml_working.specs.OpenOutlines.{Enclosed, EntryOutline, entry}
 use Rattle.toml_working.specs.Outlines.{DottedOutline, AssignOutline, ValueOutline, EntriesOutline, End, Entry}
 use Rattle.toml_working.specs.RenameOutlines.{rename_outline}
 use Rattle.toml_working.specs.SetOutlines.{outlined_names}
@@ -50,6 +52,11 @@ pairs_with steps text (Entry before a v after es) = Entry before (option_map (ke
 
 abbrev pub KeysRenamed : Address → List ℕ → Enclosed → Enclosed → Type 0
 KeysRenamed steps text old now = now ≡ record { opening = old.opening; entries = pairs_with steps text old.entries }
+
+-- so it is with the pairs of a list, on both sides of its gap
+pub record AreRenamed (steps : Address) (text : List ℕ) (old now : GapList OpenEntry) : Type 0 where
+  pub before : map entry now.before.items ≡ map (pair_with steps text) (map entry old.before.items)
+  pub behind : map entry now.behind.items ≡ map (pair_with steps text) (map entry old.behind.items)
 
 -- a `rename` in a value, and in that of the entry with the index
 abbrev pub RenamesIn : Address → List ℕ → ValueOutline → ValueOutline → Type 0

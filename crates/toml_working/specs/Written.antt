@@ -10,6 +10,8 @@ use Rattle.toml_names.specs.mentions.Mentions.{named}
 use Rattle.toml_names.specs.declared.model.address.Step.TheVariants.{Name}
 use Rattle.toml_names.specs.declared.mentions.mention.Role.TheVariants.{Valued}
 use Rattle.toml_edits.specs.Edits.{Change, set, insert, rename, remove}
+use Rattle.toml_working.specs.declared.layout.Layout.{Layout}
+use Rattle.toml_working.specs.Manners.{Manner}
 use Rattle.toml_working.specs.Setting.{set_lines}
 use Rattle.toml_working.specs.Inserting.{insert_lines}
 use Rattle.toml_working.specs.Removing.{remove_lines}
@@ -20,6 +22,10 @@ abbrev pub style_of : List Line → List ℕ
 style_of [] = 0x0A ∷ []
 style_of (l ∷ ls) = if length l.newline.text == 0 then 0x0A ∷ [] else l.newline.text
 
+-- what is written by where a text has these lines
+abbrev pub manner_of : Layout → List Line → Manner
+manner_of layout lines = record { newline = style_of lines; layout = layout }
+
 -- a value stands at the address: a key's, or an element of an array in a value
 abbrev pub HasValue : List Line → Address → Type 0
 HasValue lines p = Any (λ m. (m.address ≡ p) × (is_lone m.role ≡ true)) (named lines)
@@ -28,17 +34,17 @@ HasValue lines p = Any (λ m. (m.address ≡ p) × (is_lone m.role ≡ true)) (n
 abbrev pub HasPair : List Line → Address → Type 0
 HasPair lines p = Any (λ m. (m.address ≡ p) × (m.role ≡ Valued)) (named lines)
 
--- the lines after a plain edit; `style` is that of the text before all edits
-abbrev pub AreEdited : Profile → Change → List ℕ → List Line → List Line → Type 0
-AreEdited profile (set p text) style old new = (v : Value) × IsValueIn profile v text × HasValue old p × (new ≡ set_lines p v old)
-AreEdited profile (insert p text) style old new =
-    (v : Value) × IsValueIn profile v text × (name : List ℕ) × (p ≡ Name name ∷ []) × (new ≡ insert_lines name v style old)
-AreEdited profile (rename p to) style old new = new ≡ rename_lines p to old
-AreEdited profile (remove p) style old new = (name : List ℕ) × (p ≡ Name name ∷ []) × HasPair old p × (new ≡ remove_lines p old)
-AreEdited profile _ style old new = ⊥
+-- the lines after a plain edit; the manner is that of the text before all edits
+abbrev pub AreEdited : Profile → Change → Manner → List Line → List Line → Type 0
+AreEdited profile (set p text) manner old new = (v : Value) × IsValueIn profile v text × HasValue old p × (new ≡ set_lines p v old)
+AreEdited profile (insert p text) manner old new =
+    (v : Value) × IsValueIn profile v text × (name : List ℕ) × (p ≡ Name name ∷ []) × (new ≡ insert_lines name v manner old)
+AreEdited profile (rename p to) manner old new = new ≡ rename_lines p to old
+AreEdited profile (remove p) manner old new = (name : List ℕ) × (p ≡ Name name ∷ []) × HasPair old p × (new ≡ remove_lines p old)
+AreEdited profile _ manner old new = ⊥
 
 -- the text after it, the mark kept
-abbrev pub IsWritten : Profile → Change → List ℕ → List ℕ → List ℕ → Type 0
-IsWritten profile c style before after =
-    (d : Doc) × SpellsIn profile d before × (new : List Line) × AreEdited profile c style d.lines new
+abbrev pub IsWritten : Profile → Change → Manner → List ℕ → List ℕ → Type 0
+IsWritten profile c manner before after =
+    (d : Doc) × SpellsIn profile d before × (new : List Line) × AreEdited profile c manner d.lines new
     × (after ≡ d.mark.text ++ joined (lines_parts new))

@@ -3,15 +3,15 @@ use crate::layout::Layout;
 use crate::texts::Texts;
 use crate::tree::{Assign, Entries, Entry, Gap, Leaf, Value};
 use std::alloc::{AllocError, Global};
-use std::collections::VecDeque;
 use std::mem;
+use toml_lists::GapList;
 
 impl<'t> Entries<'t> {
     /// A new inline table with nothing in it.
     pub(crate) fn none(alloc: Global) -> Entries<'t> {
         Entries {
             opening: Leaf::New("{"),
-            list: VecDeque::new(alloc),
+            list: GapList::none(alloc),
             end: Some(Gap::empty(alloc)),
         }
     }
@@ -37,12 +37,11 @@ impl<'t> Entries<'t> {
             value,
             after,
         };
-        if index < self.list.len() {
-            self.list.insert(index, entry)?;
+        if self.list.takes(index) {
+            self.list.insert(index, entry)
         } else {
-            self.list.push_back(entry)?;
+            self.list.push(entry)
         }
-        Ok(())
     }
 
     /// Makes room for an entry before the one with the index, or behind the last one, and answers the gaps around it; behind the
@@ -58,7 +57,7 @@ impl<'t> Entries<'t> {
             let before = mem::replace(&mut other.before, space);
             return Ok((before, Gap::empty(alloc)));
         }
-        if let Some(last) = self.list.back_mut() {
+        if let Some(last) = self.last_mut() {
             let after = mem::replace(&mut last.after, Gap::empty(alloc));
             return Ok((space, after));
         }
@@ -90,35 +89,24 @@ impl<'t> Entries<'t> {
     /// where none follows the one before it. If nothing but whitespace stands between that comma and the next thing on its
     /// far side, that whitespace goes too. All comments and newlines stay.
     fn take_out(&mut self, alloc: Global, marks: &[bool]) -> Result<(), AllocError> {
-        let count = self.list.len();
-        let mut left = None;
-        for index in 0..count {
-            let Some(mut entry) = self.list.pop_front() else {
-                return Ok(());
-            };
-            if let Some(gap) = left.take() {
-                entry.stand_behind(alloc, gap)?;
-            }
-            if !marks.get(index).copied().unwrap_or(false) {
-                self.list.push_back(entry)?;
-            } else if self.end.is_some() || index + 1 < count {
-                left = Some(left_by(entry)?);
+        let mut index = 0usize;
+        for is_marked in marks {
+            if *is_marked {
+                self.take_one(alloc, index)?;
             } else {
-                self.close(entry)?;
+                index = index.saturating_add(1);
             }
         }
-        match left {
-            Some(gap) => self.end_behind(gap),
-            None => Ok(()),
-        }
+        Ok(())
     }
 
     /// Takes out the entry with the index in the same way. The others are not gone through.
     fn take_one(&mut self, alloc: Global, index: usize) -> Result<(), AllocError> {
-        let Some(entry) = self.list.remove(index) else {
+        if !self.list.has(index) {
             return Ok(());
-        };
-        if index >= self.list.len() && self.end.is_none() {
+        }
+        let entry = self.list.remove(index);
+        if self.end.is_none() && !self.list.has(index) {
             return self.close(entry);
         }
         let left = left_by(entry)?;
@@ -126,6 +114,12 @@ impl<'t> Entries<'t> {
             Some(next) => next.stand_behind(alloc, left),
             None => self.end_behind(left),
         }
+    }
+
+    /// The last entry, to be changed.
+    pub(crate) fn last_mut(&mut self) -> Option<&mut Entry<'t>> {
+        let last = self.list.len().checked_sub(1)?;
+        self.list.get_mut(last)
     }
 
     /// Puts what the last entry has left before what stands behind the last comma.
@@ -145,7 +139,7 @@ impl<'t> Entries<'t> {
             value: _,
             after,
         } = entry;
-        if let Some(last) = self.list.back_mut() {
+        if let Some(last) = self.last_mut() {
             if !before.is_ws() {
                 last.after.join(before)?;
             }

@@ -1,20 +1,11 @@
 //! Tables in which no table stands: all their lines stand in one section.
 use crate::lines::Slot;
 use crate::working::{Before, TablePlace, Tree};
-use toml_edits::Edit;
-use toml_names::{Address, Data, Datum, Place};
+use toml_names::{Address, Datum, Place};
 use toml_units::Unit;
 
-/// Whether the edit removes a table in which no table stands.
-pub fn removes_flat(data: &Data, edit: &Edit) -> bool {
-    match edit {
-        Edit::Remove { at } => is_flat(data.root.at(at)),
-        _ => false,
-    }
-}
-
-/// Whether it is a table of scalars and arrays of scalars.
-fn is_flat(found: Option<&Datum>) -> bool {
+/// Whether it is a table in which no table stands: one of scalars and arrays of scalars.
+pub fn is_flat(found: Option<&Datum>) -> bool {
     let Some(Datum::Table(members)) = found else {
         return false;
     };

@@ -1,11 +1,16 @@
 //! The gaps around an entry that is put in, by layout `Follow`.
+ghost use Rattle.std.specs.Prelude.{◌≡◌};
+ghost use Rattle.toml_working.specs.Looking.{respaced};
+ghost use Rattle.toml_working.specs.OpenOutlines.{assign, leaf_text};
+ghost use Rattle.toml_working.specs.Spacings.{is_narrow};
+
 use crate::layout::Layout;
 use crate::parts::{are_ws, past_first_newline, past_last_newline};
 use crate::texts::Texts;
 use crate::tree::{Assign, Entries, Entry, Gap, GapPart, Leaf};
 use std::alloc::{AllocError, Global};
-use std::collections::VecDeque;
 use std::mem;
+use toml_lists::GapList;
 use toml_names::Step;
 
 /// The parts up to a newline and with it, and those behind.
@@ -146,7 +151,7 @@ impl<'t> Entries<'t> {
             self.end = Some(behind);
             return Ok((before, none));
         }
-        match self.list.back_mut() {
+        match self.last_mut() {
             Some(last) => {
                 let after = mem::replace(&mut last.after, none);
                 texts.line_in(&after, margin)
@@ -248,9 +253,11 @@ impl<'t> Texts<'t> {
         if parent.is_empty() {
             return Ok(index);
         }
-        for (at, pair) in pairs.list.iter().enumerate() {
-            if self.is_pair_below(pair.assign.as_deref(), parent)? {
-                index = at.saturating_add(1);
+        for at in 0..pairs.list.len() {
+            if let Some(pair) = pairs.list.get(at) {
+                if self.is_pair_below(pair.assign.as_deref(), parent)? {
+                    index = at.saturating_add(1);
+                }
             }
         }
         Ok(index)
@@ -273,13 +280,15 @@ impl<'t> Texts<'t> {
 }
 
 /// The key of the pair before the index, and what stands around its `=`.
-fn pair_before<'a, 't>(pairs: &'a VecDeque<Entry<'t>>, index: usize) -> Option<&'a Assign<'t>> {
+fn pair_before<'a, 't>(pairs: &'a GapList<Entry<'t>>, index: usize) -> Option<&'a Assign<'t>> {
     pairs.get(index.checked_sub(1)?)?.assign.as_deref()
 }
 
 impl<'t> Assign<'t> {
     /// Gives it around its `=` what stands around another's, where that is nothing or one space on each side.
-    pub(crate) fn space_as(&mut self, before_equals: Leaf<'t>, after_equals: Leaf<'t>) {
+    pub(crate) fn space_as(&mut self, before_equals: Leaf<'t>, after_equals: Leaf<'t>)
+        ensures { assign self.new ≡ respaced (leaf_text before_equals.entry) (leaf_text after_equals.entry) (assign self.old) }
+    {
         if is_narrow(before_equals) && is_narrow(after_equals) {
             self.before_equals = before_equals.anew();
             self.after_equals = after_equals.anew();
@@ -288,6 +297,8 @@ impl<'t> Assign<'t> {
 }
 
 /// Whether nothing stands there, or one space.
-fn is_narrow(ws: Leaf<'_>) -> bool {
-    ws.is_empty() || ws.text() == " "
+fn is_narrow(ws: Leaf<'_>) -> bool
+    ensures { result ≡ is_narrow (leaf_text ws.entry) }
+{
+    ws.text() == "" || ws.text() == " "
 }

@@ -1,10 +1,9 @@
 //! `insert`: an element of an array, a pair of an inline table, or a line with a key and a value.
-ghost use Rattle.std.specs.Prelude.{◌≡◌, ◌++◌, ◌∷◌, IfOk, None, OnOk, drop, false, take};
+ghost use Rattle.std.specs.Prelude.{◌≡◌, ◌++◌, ◌∷◌, IfOk, OnOk, drop, false, take};
 ghost use Rattle.toml_working.specs.KnownLines.{lines_known};
-ghost use Rattle.toml_working.specs.Layouts.{IsPlainLayout};
 ghost use Rattle.toml_working.specs.OpenOutlines.{leaf_text, value};
 ghost use Rattle.toml_working.specs.Putting.{EndsOne, EndsSlot, EndsSlots, IsElsewhere, IsRootLine};
-ghost use Rattle.toml_working.specs.Putting.{PutsSlot, PutsSlots, TreeEndsBefore, TreeInserts, TreePutsBehind};
+ghost use Rattle.toml_working.specs.Putting.{PutsSlot, PutsSlots, TreeEndsBefore, TreeInserts, TreeInsertsFirst, TreePutsBehind};
 ghost use Rattle.toml_working.specs.Starting.{read_of};
 ghost use Rattle.toml_working.specs.Stands.{KeepsRest};
 
@@ -107,8 +106,7 @@ impl<'x> Tree<'x> {
         }
     }
 
-    /// Puts a line in behind the last one with a key and a value before the first header, or as the first line. By layout
-    /// `Follow` it goes behind the comment lines with which the text begins, where these do not belong to what follows.
+    /// Puts a line in behind the last one with a key and a value before the first header, or as the first one of the root.
     fn insert_at_root(
         &mut self,
         before: Before<'_, 'x>,
@@ -123,45 +121,31 @@ impl<'x> Tree<'x> {
                 self.root_end = behind;
                 self.insert_behind(before, behind, 0, insertion)
             }
-            None => match self.comments_end(before) {
-                Some(behind) => self.insert_behind(before, behind, 0, insertion),
-                None => {
-                    let line = self.pair_line(0, insertion, self.style)?;
-                    self.put(before, Position { slot: 0, index: 0 }, line)
-                }
-            },
+            None => self.insert_first(before, insertion),
         }
     }
 
-    /// By layout `Follow` the last of the comment lines behind which the first line of the root goes, if there are some.
-    fn comments_end(&self, before: Before<'_, 'x>) -> Option<Position>
-        ensures { IsPlainLayout self.now.texts.layout → result ≡ None }
-    {
-        match self.texts.layout {
-            Layout::Plain => None,
-            Layout::Follow => self.first_comments(before),
-        }
-    }
-
-    /// The line as it is; by layout `Follow` it begins as its neighbours do, behind one of which it is put in.
-    fn laid_out(
-        &self,
+    /// Puts the first line of the root in: below the comment lines with which the text begins, where these do not belong to what
+    /// follows, or before all lines.
+    fn insert_first(
+        &mut self,
         before: Before<'_, 'x>,
-        behind: Position,
-        line: Line<'x>,
-    ) -> Result<Line<'x>, AllocError>
-        ensures { IfOk result (λ l. IsPlainLayout self.now.texts.layout → l ≡ line.entry) }
+        insertion: Insertion<'_, 'x>,
+    ) -> Result<bool, AllocError>
+        ensures rest { OnOk result (KeepsRest self.old self.new) }
+        ensures first { let it = insertion.entry in
+            OnOk result (TreeInsertsFirst it.at.now it.spelled.now (value it.new) (read_of before.entry) self.old self.new) }
     {
-        match self.texts.layout {
-            Layout::Plain => Ok(line),
-            Layout::Follow => {
-                let (ws, equals) = self.beginning(before, behind)?;
-                Ok(line.beginning_as(ws, equals))
+        match self.comments_end(before)? {
+            Some(behind) => self.insert_behind(before, behind, 0, insertion),
+            None => {
+                let line = self.pair_line(0, insertion, self.style)?;
+                self.put(before, Position { slot: 0, index: 0 }, line)
             }
         }
     }
 
-    /// Puts a line in behind another; its table's address has `base` steps.
+    /// Puts a line in behind another, laid out as the tree has it; its table's address has `base` steps.
     pub(crate) fn insert_behind(
         &mut self,
         before: Before<'_, 'x>,
@@ -173,10 +157,10 @@ impl<'x> Tree<'x> {
         ensures put { let it = insertion.entry in
             OnOk result (TreePutsBehind it.at.now base it.spelled.now (value it.new) (read_of before.entry) behind self.old self.new) }
     {
+        let (ws, equals) = self.laid_out(before, behind)?;
         let newline = self.newline_behind(before, behind)?;
         let line = self.pair_line(base, insertion, newline)?;
-        let laid = self.laid_out(before, behind, line)?;
-        self.put(before, behind.next(), laid)
+        self.put(before, behind.next(), line.beginning_as(ws, equals))
     }
 
     /// The newline of a line that is put in behind another. Where this one was the last line of the text, it gets the newline

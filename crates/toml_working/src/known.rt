@@ -3,9 +3,11 @@ ghost use Rattle.std.specs.Prelude.{◌≡◌, IfOk};
 ghost use Rattle.toml_tree.specs.HandedOut.{line_ahead};
 ghost use Rattle.toml_tree.specs.Lines.{line as tree_line};
 ghost use Rattle.toml_working.specs.KnownLines.{known_line};
+ghost use Rattle.toml_working.specs.Looking.{LooksAs};
 ghost use Rattle.toml_working.specs.Opening.{OpensLine};
+ghost use Rattle.toml_working.specs.TreeOutlines.{line_outline};
 
-use crate::neighbours::Equals;
+use crate::looks::{Equals, Look};
 use crate::opening::Opener;
 use crate::texts::Texts;
 use crate::tree::{Leaf, OpenLine};
@@ -52,11 +54,13 @@ impl<'x> KnownLine<'x> {
         }
     }
 
-    /// What stands around its `=`, if it has one.
-    pub(crate) fn equals(&self, alloc: Global) -> Result<Option<Equals<'x>>, AllocError> {
+    /// How it looks.
+    pub(crate) fn look(&self, alloc: Global) -> Result<Look<'x>, AllocError>
+        ensures { IfOk result (λ look. LooksAs look (line_outline (known_line self.now))) }
+    {
         match self {
-            KnownLine::Held(line) => Ok(equals_of(line)),
-            KnownLine::Place(reader) => Ok(equals_of(&read_again(alloc, *reader)?)),
+            KnownLine::Held(line) => Ok(look_of(line)),
+            KnownLine::Place(reader) => Ok(look_of(&read_again(alloc, *reader)?)),
         }
     }
 
@@ -71,14 +75,29 @@ impl<'x> KnownLine<'x> {
     }
 }
 
-/// What stands around the `=` of a line of the document, if it has one.
-fn equals_of<'x>(line: &Line<'x>) -> Option<Equals<'x>> {
+/// How a line of the document looks.
+fn look_of<'x>(line: &Line<'x>) -> Look<'x>
+    ensures { LooksAs result (line_outline (tree_line line.now)) }
+{
     match line.expr() {
-        Expr::KeyVal { keyval, .. } => Some(Equals {
-            before: Leaf::New(keyval.assign.before_equals.text),
-            after: Leaf::New(keyval.assign.after_equals.text),
-        }),
-        _ => None,
+        Expr::Blank(tail) => Look {
+            ws: Leaf::EMPTY,
+            equals: None,
+            has_comment: tail.comment.is_some(),
+        },
+        Expr::KeyVal { ws, keyval, tail } => Look {
+            ws: Leaf::New(ws.text),
+            equals: Some(Equals {
+                before: Leaf::New(keyval.assign.before_equals.text),
+                after: Leaf::New(keyval.assign.after_equals.text),
+            }),
+            has_comment: tail.comment.is_some(),
+        },
+        Expr::Std { ws, tail, .. } | Expr::Array { ws, tail, .. } => Look {
+            ws: Leaf::New(ws.text),
+            equals: None,
+            has_comment: tail.comment.is_some(),
+        },
     }
 }
 

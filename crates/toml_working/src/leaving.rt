@@ -224,20 +224,12 @@ impl<'t> Entries<'t> {
     /// Takes out the entries with these marks, one after the other in text order, each with what the layout of its neighbours
     /// does not need.
     pub(crate) fn close_all(&mut self, texts: Texts<'t>, marks: &[bool]) -> Result<(), AllocError> {
-        let count = self.list.len();
-        let mut is_first = true;
-        for index in 0..count {
-            let Some(entry) = self.list.pop_front() else {
-                return Ok(());
-            };
-            if marks.get(index).copied().unwrap_or(false) {
-                let last = self.list.len().checked_sub(1);
-                let above = if is_first { None } else { last };
-                let next = if index + 1 < count { Some(0) } else { None };
-                self.close_up(texts, entry, above, next)?;
+        let mut index = 0usize;
+        for is_marked in marks {
+            if *is_marked {
+                self.close_one(texts, index)?;
             } else {
-                self.list.push_back(entry)?;
-                is_first = false;
+                index = index.saturating_add(1);
             }
         }
         Ok(())
@@ -245,10 +237,11 @@ impl<'t> Entries<'t> {
 
     /// Takes out the entry with the index in the same way. The others are not gone through.
     pub(crate) fn close_one(&mut self, texts: Texts<'t>, index: usize) -> Result<(), AllocError> {
-        let Some(entry) = self.list.remove(index) else {
+        if !self.list.has(index) {
             return Ok(());
-        };
-        let next = if index < self.list.len() {
+        }
+        let entry = self.list.remove(index);
+        let next = if self.list.has(index) {
             Some(index)
         } else {
             None

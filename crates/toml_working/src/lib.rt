@@ -2,6 +2,7 @@
 //! and the pieces of the text that then stands there. No judge is known here.
 #![tactic(auto)]
 
+mod comments;
 mod elements;
 mod entries;
 mod flat;
@@ -15,6 +16,7 @@ pub mod laws;
 mod layout;
 mod leaving;
 mod lines;
+mod looks;
 mod neighbours;
 mod opening;
 mod parts;
@@ -34,7 +36,7 @@ mod working;
 mod writing;
 
 pub use elements::Elements;
-pub use flat::removes_flat;
+pub use flat::is_flat;
 pub use known::KnownLine;
 pub use layout::Layout;
 pub use opening::open_value;

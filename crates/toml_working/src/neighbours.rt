@@ -1,10 +1,15 @@
 //! What stands beside a line, by layout `Follow`: where a line with a key and a value goes, and how it begins.
-use crate::known::KnownLine;
+ghost use Rattle.std.specs.Prelude.{IfOk};
+ghost use Rattle.toml_working.specs.Looking.{BeginsBehind, LaysOut};
+ghost use Rattle.toml_working.specs.Starting.{read_of};
+
+use crate::layout::Layout;
 use crate::lines::{Body, Kept, Line, Slot};
+use crate::looks::Equals;
 use crate::texts::Texts;
-use crate::tree::{Expr, Leaf, OpenLine};
+use crate::tree::{Expr, Leaf};
 use crate::working::{Before, Position, Tree};
-use std::alloc::{AllocError, Global};
+use std::alloc::AllocError;
 use toml_names::Address;
 use toml_text::ws_len;
 
@@ -15,13 +20,6 @@ pub(crate) enum Sort {
     Comment,
     Pair,
     Header,
-}
-
-/// What stands around the `=` of a line.
-#[derive(Clone, Copy)]
-pub(crate) struct Equals<'x> {
-    pub(crate) before: Leaf<'x>,
-    pub(crate) after: Leaf<'x>,
 }
 
 impl<'x> Kept {
@@ -59,62 +57,6 @@ impl<'x> Line<'x> {
         match &self.body {
             Body::Kept(kept) => kept.is_comment(texts),
             Body::Open(open) => { matches!(open.expr, Expr::Blank) && open.tail.comment.is_some() }
-        }
-    }
-
-    /// What stands around its `=`, if it has one.
-    fn equals(
-        &self,
-        alloc: Global,
-        known: &[KnownLine<'x>],
-    ) -> Result<Option<Equals<'x>>, AllocError> {
-        match &self.body {
-            Body::Kept(kept) => kept.equals(alloc, known),
-            Body::Open(open) => Ok(open.equals()),
-        }
-    }
-
-    /// The line with this whitespace to begin with, and around its `=` what stands around another's, where that is nothing or one
-    /// space on each side.
-    pub(crate) fn beginning_as(self, ws: Leaf<'x>, equals: Option<Equals<'x>>) -> Line<'x> {
-        let mut line = self;
-        if let Some(open) = line.opened() {
-            open.begin_as(ws, equals);
-        }
-        line
-    }
-}
-
-impl Kept {
-    /// What stands around its `=`, if it has one.
-    fn equals<'x>(
-        self,
-        alloc: Global,
-        known: &[KnownLine<'x>],
-    ) -> Result<Option<Equals<'x>>, AllocError> {
-        match known.get(self.line) {
-            Some(line) => line.equals(alloc),
-            None => Ok(None),
-        }
-    }
-}
-
-impl<'x> OpenLine<'x> {
-    fn begin_as(&mut self, ws: Leaf<'x>, equals: Option<Equals<'x>>) {
-        self.ws = Leaf::New(ws.text());
-        if let (Expr::Pair(pair), Some(other)) = (&mut self.expr, equals) {
-            pair.assign.space_as(other.before, other.after);
-        }
-    }
-
-    /// What stands around its `=`, if it has one.
-    fn equals(&self) -> Option<Equals<'x>> {
-        match &self.expr {
-            Expr::Pair(pair) => Some(Equals {
-                before: pair.assign.before_equals,
-                after: pair.assign.after_equals,
-            }),
-            Expr::Blank | Expr::Header(_) => None,
         }
     }
 }
@@ -181,40 +123,6 @@ impl<'x> Tree<'x> {
         }
     }
 
-    /// What stands around the `=` of the line at a place, if it has one.
-    fn equals_at(
-        &self,
-        before: Before<'_, 'x>,
-        at: Position,
-    ) -> Result<Option<Equals<'x>>, AllocError> {
-        match self.slots.get(at.slot) {
-            Some(Slot::Kept(kept)) => kept.equals(self.alloc(), before.known),
-            Some(Slot::Lines(lines)) => match lines.get(at.index) {
-                Some(line) => line.equals(self.alloc(), before.known),
-                None => Ok(None),
-            },
-            None => Ok(None),
-        }
-    }
-
-    /// The last of the comment lines with which the text begins, where they are followed by a blank line or by none.
-    pub(crate) fn first_comments(&self, before: Before<'_, 'x>) -> Option<Position> {
-        let mut last = None;
-        let mut at = self.line_from(Position { slot: 0, index: 0 });
-        for _ in 0..usize::MAX {
-            let Some(line) = at else {
-                return last;
-            };
-            match self.sort(before, line) {
-                Some(Sort::Comment) => last = Some(line),
-                Some(Sort::Blank) | None => return last,
-                Some(Sort::Pair) | Some(Sort::Header) => return None,
-            }
-            at = self.line_from(line.next());
-        }
-        None
-    }
-
     /// The place of the first of the comment lines that stand directly above a line, or its own.
     pub(crate) fn above_comments(&self, before: Before<'_, 'x>, at: Position) -> Position {
         let mut first = at;
@@ -266,19 +174,42 @@ impl<'x> Tree<'x> {
         }
     }
 
-    /// How a line with a key and a value begins that is put in behind another: as that one, where it has a key and a value; behind
-    /// a header line as the last such line above in a section whose header begins with the same whitespace, else as the
-    /// header.
-    pub(crate) fn beginning(
+    /// How a line begins that is put in behind another, in the layout of the tree.
+    pub(crate) fn laid_out(
         &self,
         before: Before<'_, 'x>,
         behind: Position,
-    ) -> Result<(Leaf<'x>, Option<Equals<'x>>), AllocError> {
-        match self.sort(before, behind) {
-            Some(Sort::Pair) => Ok((self.ws_at(behind), self.equals_at(before, behind)?)),
-            Some(Sort::Header) => self.beginning_below(before, behind, self.ws_at(behind)),
-            _ => Ok((Leaf::EMPTY, None)),
+    ) -> Result<(Leaf<'x>, Option<Equals<'x>>), AllocError>
+        ensures { let layout = self.now.texts.layout in
+            IfOk result (λ r. LaysOut layout (read_of before.entry) self.now.slots.items behind r.0 r.1) }
+    {
+        match self.texts.layout {
+            Layout::Plain => Ok((Leaf::EMPTY, None)),
+            Layout::Follow => self.beginning(before, behind),
         }
+    }
+
+    /// How a line with a key and a value begins that is put in behind another: as that one, where it has a key and a value; behind
+    /// a header line as the last such line above in a section whose header begins with the same whitespace, else as the
+    /// header.
+    fn beginning(
+        &self,
+        before: Before<'_, 'x>,
+        behind: Position,
+    ) -> Result<(Leaf<'x>, Option<Equals<'x>>), AllocError>
+        ensures { IfOk result (λ r. BeginsBehind (read_of before.entry) self.now.slots.items behind r.0 r.1) }
+    {
+        let Some(line) = self.seen(before, behind) else {
+            return Ok((Leaf::EMPTY, None));
+        };
+        if line.is_header() {
+            return self.beginning_below(before, behind, self.ws_at(behind));
+        }
+        if line.base.is_none() {
+            return Ok((Leaf::EMPTY, None));
+        }
+        let look = self.look_at(before, behind)?;
+        Ok((look.ws, look.equals))
     }
 
     /// How the first line with a key and a value begins in a section whose header line stands at a place, or is to, and begins
@@ -290,7 +221,10 @@ impl<'x> Tree<'x> {
         ws: Leaf<'x>,
     ) -> Result<(Leaf<'x>, Option<Equals<'x>>), AllocError> {
         match self.like_pair(before, header, ws) {
-            Some(pair) => Ok((self.ws_at(pair), self.equals_at(before, pair)?)),
+            Some(pair) => {
+                let look = self.look_at(before, pair)?;
+                Ok((look.ws, look.equals))
+            }
             None => Ok((ws, None)),
         }
     }

@@ -19,7 +19,7 @@ use crate::tree::{
     OpenLine, Value,
 };
 use std::alloc::{AllocError, Global};
-use std::collections::VecDeque;
+use toml_lists::GapList;
 use toml_scalar::SyntaxFault;
 use toml_text::{Source, Span};
 use toml_tree::{Line, Piece, Profile, parse_value_in};
@@ -207,7 +207,7 @@ impl<'t> Opener<'t> {
         };
         Ok(Entries {
             opening: self.opening(array.whole, "["),
-            list: VecDeque::from_vec(list),
+            list: GapList::of(self.texts.alloc, list),
             end,
         })
     }
@@ -234,7 +234,7 @@ impl<'t> Opener<'t> {
         };
         Ok(Entries {
             opening: self.opening(table.whole, "{"),
-            list: VecDeque::from_vec(list),
+            list: GapList::of(self.texts.alloc, list),
             end,
         })
     }

@@ -1,6 +1,7 @@
 //! The parts of gaps: whitespace, newlines and comments.
 ghost use Rattle.std.specs.Prelude.{◌≡◌, ◌++◌, MatchOption, OnOk, false};
 ghost use Rattle.toml_working.specs.Gaps.{SplitsFirst, SplitsLast, are_blank, are_ws, begins_line, is_newline, is_ws, trimmed, without_ws};
+ghost use Rattle.toml_working.specs.OpenOutlines.{leaf_text};
 
 use crate::texts::Texts;
 use crate::tree::{Gap, GapPart, Leaf};
@@ -65,7 +66,9 @@ impl<'t> Texts<'t> {
 
 impl<'t> Leaf<'t> {
     /// Its text, written anew.
-    pub(crate) fn anew(self) -> Leaf<'t> {
+    pub(crate) fn anew(self) -> Leaf<'t>
+        ensures { leaf_text result ≡ leaf_text self.entry }
+    {
         Leaf::New(self.text())
     }
 }

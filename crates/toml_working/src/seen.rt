@@ -1,6 +1,7 @@
 //! A line by what finds it: what it is to an address.
 ghost use Rattle.std.specs.Prelude.{◌≡◌};
 ghost use Rattle.toml_names.specs.model.Addresses.{lent};
+ghost use Rattle.toml_working.specs.InsertStanding.{is_bare};
 ghost use Rattle.toml_working.specs.Placing.{is_header, pair_at};
 ghost use Rattle.toml_working.specs.RenameStanding.{part_number};
 ghost use Rattle.toml_working.specs.Seeing.{heads, heads_below, is_dotted, is_sought, seen, steps_to};
@@ -27,6 +28,13 @@ impl Seen<'_> {
         ensures { result ≡ is_header self.entry.base (lent self.entry.address) }
     {
         matches!((self.base, self.address), (None, Some(_)))
+    }
+
+    /// Whether it has neither a key nor a header.
+    pub(crate) fn is_bare(self) -> bool
+        ensures { result ≡ is_bare self.entry.base (lent self.entry.address) }
+    {
+        matches!((self.base, self.address), (None, None))
     }
 
     /// Its place, if it has a key and a value, or the last one of those before it.

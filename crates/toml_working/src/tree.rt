@@ -4,7 +4,7 @@ ghost use Rattle.std.specs.Prelude.{◌≡◌, ◌↔◌, ◌++◌, [], IfOk, On
 ghost use Rattle.toml_working.specs.OpenOutlines.{leaf_text, gap_part_text, gap_text};
 
 use std::alloc::{AllocError, Global};
-use std::collections::VecDeque;
+use toml_lists::GapList;
 
 /// A piece of the working text.
 #[derive(Clone, Copy)]
@@ -71,8 +71,8 @@ pub struct Entries<'t> {
     /// The bracket or the brace with which it begins. What stands before an element may be new or taken out, so this tells
     /// where the element is kept from.
     pub opening: Leaf<'t>,
-    /// A queue, since elements put in or taken out at the front then move no others.
-    pub list: VecDeque<Entry<'t>>,
+    /// A list with a gap, since elements that are put in or taken out near one another then move few others.
+    pub list: GapList<Entry<'t>>,
     /// What stands behind the last comma, where one follows the last entry; without an entry all that stands there.
     pub end: Option<Gap<'t>>,
 }

@@ -1,17 +1,18 @@
 //! The four edits inside a value.
-ghost use Rattle.std.specs.Prelude.{◌≡◌, IfOk, OnOk, option_and_then, option_map, slice_get};
+ghost use Rattle.std.specs.Prelude.{◌≡◌, ◌<◌, IfOk, OnOk, map, option_and_then, option_map, slice_get, vec_len};
+ghost use Rattle.toml_lists.specs.Gaps.{items};
 ghost use Rattle.toml_working.specs.Putting.{AssignsOne};
-ghost use Rattle.toml_working.specs.Leading.{LeadsOn, SetsEntry, key_in, leads, led_by, open_names, pair_key};
+ghost use Rattle.toml_working.specs.Leading.{ChangesAt, LeadsOn, SetsEntry, key_in, leads, led_by, open_names, pair_key};
 ghost use Rattle.toml_working.specs.OpenOutlines.{assign as assign_outline, entries as entries_outline};
 ghost use Rattle.toml_working.specs.OpenOutlines.{entry as entry_outline, value as value_outline};
-ghost use Rattle.toml_working.specs.RenamingIn.{KeysRenamed, RenamesEntry, RenamesIn, key_with, pair_with, reaches};
+ghost use Rattle.toml_working.specs.RenamingIn.{AreRenamed, KeysRenamed, RenamesEntry, RenamesIn, key_with, pair_with, reaches};
 ghost use Rattle.toml_working.specs.Stands.{SetsIn};
 
 use crate::steps::{behind, index_first};
 use crate::texts::Texts;
 use crate::tree::{Assign, Entries, Entry, Key, Leaf, Value};
 use std::alloc::AllocError;
-use std::collections::VecDeque;
+use toml_lists::{GapList, Side};
 use toml_names::Step;
 
 impl<'t> Texts<'t> {
@@ -47,8 +48,15 @@ impl<'t> Texts<'t> {
             Value::Scalar(_) => return Ok(None),
             Value::Array(entries) | Value::Inline(entries) => entries,
         };
-        match entries.list.get_mut(index) {
-            Some(entry) => self.holder(&mut entry.value, behind(steps, used)),
+        match entries.list.side(index) {
+            Some(Side::Before(place)) => match entries.list.before.get_mut(place) {
+                Some(entry) => self.holder(&mut entry.value, behind(steps, used)),
+                None => Ok(None),
+            },
+            Some(Side::Behind(place)) => match entries.list.behind.get_mut(place) {
+                Some(entry) => self.holder(&mut entry.value, behind(steps, used)),
+                None => Ok(None),
+            },
             None => Ok(None),
         }
     }
@@ -100,13 +108,34 @@ impl<'t> Texts<'t> {
         ensures { let new = value_outline new.entry in
             IfOk result (λ done. SetsEntry index steps.now new (entries_outline entries.old) (entries_outline entries.new) done) }
     {
-        match entries.list.get_mut(index) {
-            Some(entry) => {
-                let done = self.set_in(&mut entry.value, steps, new)?;
+        match entries.list.side(index) {
+            Some(Side::Before(place)) => {
+                let done = self.set_at(&mut entries.list.before, place, steps, new)?;
+                Ok(done)
+            }
+            Some(Side::Behind(place)) => {
+                let done = self.set_at(&mut entries.list.behind, place, steps, new)?;
                 Ok(done)
             }
             None => Ok(false),
         }
+    }
+
+    /// Sets what stands at the steps in the value of the entry at the place.
+    #[cycle(setting)]
+    fn set_at(
+        self,
+        list: &mut Vec<Entry<'t>>,
+        place: usize,
+        steps: &[Step],
+        new: Value<'t>,
+    ) -> Result<bool, AllocError>
+        requires { place < vec_len list.old }
+        ensures { let new = value_outline new.entry in
+            IfOk result (λ done. ChangesAt (λ v w. SetsIn steps.now new v w done) place list.old.items list.new.items) }
+    {
+        let done = self.set_in(&mut list[place].value, steps, new)?;
+        Ok(done)
     }
 
     /// A pair whose value is what the steps name, or holds it: its index, and how many parts its key has.
@@ -238,13 +267,33 @@ impl<'t> Texts<'t> {
     ) -> Result<(), AllocError>
         ensures { OnOk result (RenamesEntry index steps.now to.now (entries_outline entries.old) (entries_outline entries.new)) }
     {
-        match entries.list.get_mut(index) {
-            Some(entry) => {
-                self.rename_in(&mut entry.value, steps, to)?;
+        match entries.list.side(index) {
+            Some(Side::Before(place)) => {
+                self.rename_at(&mut entries.list.before, place, steps, to)?;
+                Ok(())
+            }
+            Some(Side::Behind(place)) => {
+                self.rename_at(&mut entries.list.behind, place, steps, to)?;
                 Ok(())
             }
             None => Ok(()),
         }
+    }
+
+    /// Renames what the steps name in the value of the entry at the place.
+    #[cycle(renaming)]
+    fn rename_at(
+        self,
+        list: &mut Vec<Entry<'t>>,
+        place: usize,
+        steps: &[Step],
+        to: &'t str,
+    ) -> Result<(), AllocError>
+        requires { place < vec_len list.old }
+        ensures { OnOk result (ChangesAt (RenamesIn steps.now to.now) place list.old.items list.new.items) }
+    {
+        self.rename_in(&mut list[place].value, steps, to)?;
+        Ok(())
     }
 
     /// Writes another part in the keys of the pairs, wherever one stands for the steps.
@@ -256,10 +305,33 @@ impl<'t> Texts<'t> {
     ) -> Result<(), AllocError>
         ensures { OnOk result (KeysRenamed steps.now to.now (entries_outline pairs.old) (entries_outline pairs.new)) }
     {
-        for index in 0..pairs.list.len() {
-            if let Some(pair) = pairs.list.get_mut(index) {
-                self.rename_pair(pair, steps, to)?;
-            }
+        self.rename_list(&mut pairs.list, steps, to)
+    }
+
+    /// Writes another part in the keys of the pairs on both sides of the gap.
+    fn rename_list(
+        self,
+        pairs: &mut GapList<Entry<'t>>,
+        steps: &[Step],
+        to: &'t str,
+    ) -> Result<(), AllocError>
+        ensures { OnOk result (AreRenamed steps.now to.now pairs.old pairs.new) }
+    {
+        self.rename_all(&mut pairs.before, steps, to)?;
+        self.rename_all(&mut pairs.behind, steps, to)
+    }
+
+    /// Writes another part in the keys of these pairs, wherever one stands for the steps.
+    fn rename_all(
+        self,
+        pairs: &mut Vec<Entry<'t>>,
+        steps: &[Step],
+        to: &'t str,
+    ) -> Result<(), AllocError>
+        ensures { OnOk result (map entry_outline pairs.new.items ≡ map (pair_with steps.now to.now) (map entry_outline pairs.old.items)) }
+    {
+        for index in 0..pairs.len() {
+            self.rename_pair(&mut pairs[index], steps, to)?;
         }
         Ok(())
     }
@@ -323,8 +395,8 @@ impl<'t> Texts<'t> {
         let parent = steps.len().saturating_sub(1);
         let mut marks = Vec::with_capacity(self.alloc, entries.list.len())?;
         let mut stays = parent == 0;
-        for pair in &entries.list {
-            let common = self.common_of(pair, steps)?;
+        for index in 0..entries.list.len() {
+            let common = self.common_at(entries, index, steps)?;
             marks.push(common == steps.len())?;
             stays = stays || (common == parent && common < steps.len());
         }
@@ -334,10 +406,15 @@ impl<'t> Texts<'t> {
         entries.remove_marked(self, &marks)
     }
 
-    /// How many parts a pair's key has in common with the steps.
-    fn common_of(self, pair: &Entry<'t>, steps: &[Step]) -> Result<usize, AllocError> {
-        match &pair.assign {
-            Some(assign) => self.common(&assign.key, steps),
+    /// How many parts the key of the pair with the index has in common with the steps.
+    fn common_at(
+        self,
+        pairs: &Entries<'t>,
+        index: usize,
+        steps: &[Step],
+    ) -> Result<usize, AllocError> {
+        match key_at(&pairs.list, index) {
+            Some(key) => self.common(key, steps),
             None => Ok(0),
         }
     }
@@ -350,10 +427,13 @@ impl<'t> Texts<'t> {
         marks: &mut [bool],
         parts: usize,
     ) -> Result<(), AllocError> {
-        for (pair, mark) in entries.list.iter_mut().zip(marks.iter_mut()) {
+        for (index, mark) in marks.iter_mut().enumerate() {
             if *mark {
                 *mark = false;
-                return self.empty_pair(pair, parts);
+                return match entries.list.get_mut(index) {
+                    Some(pair) => self.empty_pair(pair, parts),
+                    None => Ok(()),
+                };
             }
         }
         Ok(())
@@ -375,8 +455,8 @@ impl<'t> Texts<'t> {
 }
 
 /// The key of the pair with the index.
-fn key_at<'a, 't>(pairs: &'a VecDeque<Entry<'t>>, index: usize) -> Option<&'a Key<'t>>
-    ensures { option_map (λ k. open_names k.now) result ≡ option_and_then pair_key (slice_get pairs.now.items index) }
+fn key_at<'a, 't>(pairs: &'a GapList<Entry<'t>>, index: usize) -> Option<&'a Key<'t>>
+    ensures { option_map (λ k. open_names k.now) result ≡ option_and_then pair_key (slice_get (items pairs.now) index) }
 {
     Some(&pairs.get(index)?.assign.as_ref()?.key)
 }

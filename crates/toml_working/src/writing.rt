@@ -150,12 +150,14 @@ impl<'t> Pieces<'t> {
         ensures { Writes (entries_outlined false (entries_outline entries.now).entries) self.old self.new result }
     {
         let mut is_behind = false;
-        for entry in entries.list.iter() {
-            if is_behind {
-                self.symbol(",")?;
+        for index in 0..entries.list.len() {
+            if let Some(entry) = entries.list.get(index) {
+                if is_behind {
+                    self.symbol(",")?;
+                }
+                is_behind = true;
+                self.entry(entry)?;
             }
-            is_behind = true;
-            self.entry(entry)?;
         }
         if let Some(end) = &entries.end {
             if is_behind {

@@ -1,15 +1,5 @@
-pub mod Appended
-pub mod Judged
-pub mod Unique
-pub mod Gotten
-pub mod Listed
-pub mod Verified
-pub mod Certified
-pub mod Edited
-pub mod Applied
-pub mod Asked
-pub mod Said
+pub mod Asking
+pub mod AllRead
+pub mod Opened
 pub mod Settled
-pub mod Wishing
-mod PlainPrinted
-pub mod Delivered
+pub mod Validated

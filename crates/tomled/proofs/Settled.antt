@@ -1,5 +1,5 @@
 -- What a disk is asked before an outcome is printed, one thing behind the other.
-use Rattle.std.proofs.Common.{◌≡◌, ◌≢◌, ◌⊎◌, ℕ, Bool, true, false, List, [], ◌∷◌, ◌++◌, Option, Some, None, Vec, Bor, Result, Ok, Err, inl, inr, refl, sym, ap, ◌∙◌, subst, append_assoc, append-nil}
+use Rattle.std.proofs.Common.{◌≡◌, ◌≢◌, ◌⊎◌, ℕ, Bool, true, false, List, [], ◌∷◌, ◌++◌, Option, Some, None, Vec, Result, Ok, Err, inl, inr, refl, sym, ap, ◌∙◌, subst, append_assoc, append-nil}
 use Rattle.std.specs.Prelude.{if◌then◌else◌}
 use Rattle.std.specs.declared.alloc.Global.{Global}
 use Rattle.std.specs.declared.io.Error.{Error}
@@ -10,9 +10,9 @@ use Rattle.toml_replace.specs.declared.fault.ReplaceFault.{ReplaceFault}
 use Rattle.toml_words.specs.Request.{is_input}
 use Rattle.toml_words.specs.declared.request.Destination.{Destination}
 use Rattle.toml_words.specs.declared.request.Request.{Request}
-use Rattle.tomled.specs.Finishing.{HasNamed, HasNoText, HasNothing, IsCompared, IsEdited, IsFileFault, IsFirst, IsLeft, IsPlaced, IsReplaced, IsSettled, Path, all_compared, certificate_at, compared, words_compared}
-use Rattle.tomled.specs.declared.fault.RunFault.{RunFault}
-use Rattle.tomled.specs.declared.outcome.Outcome.{Outcome}
+use Rattle.tomled.specs.Finishing.{HasNamed, IsCertified, IsCompared, IsEdited, IsFileFault, IsFirst, IsLeft, IsPlaced, IsReplaced, IsSettled, Path, all_compared, certificate_at, compared, judged_compared, words_compared}
+use Rattle.toml_delivery.specs.declared.fault.RunFault.{RunFault}
+use Rattle.toml_delivery.specs.declared.outcome.Outcome.{Outcome}
 
 abbrev Calls : Type 0
 Calls = List Call
@@ -64,6 +64,18 @@ cut_behind front plan calls cut = record {
   are = ap (λ l. front ++ l) cut.are ∙ sym (append_assoc front cut.done (cut.failed ∷ []));
 }
 
+-- a plan is asked, or its front fails; then more is asked
+pub front_refused : (plan more : Calls) (e : Error) (a b : Option Calls) → Made a b (IsCompared plan (Err e)) → Made a b (IsCompared (plan ++ more) (Err e))
+front_refused plan more e a b asked = so_asked (IsCutShort plan) (IsCutShort (plan ++ more)) a b asked (cut_before plan more)
+
+pub rest_asked : (plan more : Calls) (r : Result (Unit {0}) Error) (a b c : Option Calls) → Made a b (IsCompared plan (Ok tt)) → Made b c (IsCompared more r)
+    → Made a c (IsCompared (plan ++ more) r)
+rest_asked plan more (Ok u) a b c first second =
+    both_asked (λ xs. xs ≡ plan) (λ ys. ys ≡ more) (λ zs. zs ≡ plan ++ more) a b c first second (λ xs ys p q. ap (λ l. l ++ ys) p ∙ ap (λ l. plan ++ l) q)
+rest_asked plan more (Err e) a b c first second =
+    both_asked (λ xs. xs ≡ plan) (IsCutShort more) (IsCutShort (plan ++ more)) a b c first second
+    (λ xs ys p q. subst (λ l. IsCutShort (plan ++ more) (l ++ ys)) (sym p) (cut_behind plan more ys q))
+
 refusal : (same : Result Bool Error) (e : Error) → (same ≡ Err e) ⊎ (same ≡ Ok true) → IsRefusal same
 refusal same e (inl is) = subst IsRefusal (sym is) tt
 refusal same e (inr is) = subst IsRefusal (sym is) tt
@@ -105,12 +117,7 @@ module _ (path file : List ℕ) where
 
   second_asked : (list : Path) (r : Result (Unit {0}) Error) (a b c : Option Calls) → Made a b (IsCompared (compared path file) (Ok tt))
       → Made b c (IsCompared (compared path list.now) r) → Made a c (IsCompared (words_compared path file (Some list)) r)
-  second_asked list (Ok u) a b c first second =
-      both_asked (λ xs. xs ≡ compared path file) (λ ys. ys ≡ compared path list.now) (λ zs. zs ≡ words_compared path file (Some list)) a b c first second
-      (λ xs ys p q. ap (λ l. l ++ ys) p ∙ ap (λ l. compared path file ++ l) q)
-  second_asked list (Err e) a b c first second =
-      both_asked (λ xs. xs ≡ compared path file) (IsCutShort (compared path list.now)) (IsCutShort (words_compared path file (Some list))) a b c first second
-      (λ xs ys p q. subst (λ l. IsCutShort (words_compared path file (Some list)) (l ++ ys)) (sym p) (cut_behind (compared path file) (compared path list.now) ys q))
+  second_asked list = rest_asked (compared path file) (compared path list.now)
 
   pub second_given : (given : Option Path) (list : Path) → given ≡ Some list → (r : Result (Unit {0}) Error) (a b c : Option Calls)
       → Made a b (IsCompared (compared path file) (Ok tt)) → Made b c (IsCompared (compared path list.now) r)
@@ -136,6 +143,31 @@ module _ (file : List ℕ) (list : Option Path) (d : Destination) (inputs : List
       → Made a b (IsReplaced file d.certificate old r) → Made a b (IsPlaced file d inputs old r)
   is_replaced there other r a b asked =
       so_asked (IsReplaced file d.certificate old r) (IsPlaced file d inputs old r) a b asked (λ xs h. inr (inr (there, other, h)))
+
+-- what is left of an outcome of `certify`
+module _ (before edits after : List ℕ) (given : Option Path) (path : Path) (is : given ≡ Some path) (old : Outcome) where
+  at_path : (r : Result Outcome RunFault) (xs : Calls) → IsCertified before edits after (Some path) old r xs → IsCertified before edits after given old r xs
+  at_path r xs h = subst (λ p. IsCertified before edits after p old r xs) (sym is) h
+
+  pub left_alone : old.status ≢ 0 → (a : Option Calls) → Made a a (IsCertified before edits after given old (Ok old))
+  left_alone bad a = nothing_asked (IsCertified before edits after given old (Ok old)) a (at_path (Ok old) [] (inl (bad, refl, refl)))
+
+  pub not_certified : old.status ≡ 0 → (e : Error) (r : Result Outcome RunFault) → IsFileFault r → (a b : Option Calls)
+      → Made a b (IsCompared (judged_compared path.now before edits after) (Err e)) → Made a b (IsCertified before edits after given old r)
+  not_certified good e r fault a b asked =
+      so_asked (IsCutShort (judged_compared path.now before edits after)) (IsCertified before edits after given old r) a b asked
+      (λ xs cut. at_path r xs (inr (inl (good, cut, fault))))
+
+  pub is_certified : old.status ≡ 0 → (a b : Option Calls) → Made a b (IsCompared (judged_compared path.now before edits after) (Ok tt))
+      → Made a b (IsCertified before edits after given old (Ok old))
+  is_certified good a b asked =
+      so_asked (λ xs. xs ≡ judged_compared path.now before edits after) (IsCertified before edits after given old (Ok old)) a b asked
+      (λ xs h. at_path (Ok old) xs (inr (inr (good, h, refl))))
+
+pub without_path : (before edits after : List ℕ) (given : Option Path) → given ≡ None → (old new : Outcome) → HasNamed None old new → (a : Option Calls)
+    → Made a a (IsCertified before edits after given old (Ok new))
+without_path before edits after given is old new h a =
+    nothing_asked (IsCertified before edits after given old (Ok new)) a (subst (λ p. IsCertified before edits after p old (Ok new) []) (sym is) (refl, new, refl, h))
 
 -- a replacement
 pub was_replaced : (file : List ℕ) (path : Option Path) (old : Outcome) (text : List ℕ) (pair : Option (List ℕ × List ℕ)) → text ≡ old.out.items → pair ≡ certificate_at path old.files.items

@@ -2,6 +2,7 @@
 -- what is left to print and to write.
 use Rattle.std.specs.Prelude.{◌≡◌, ◌≢◌, ◌⊎◌, ℕ, true, false, List, [], ◌∷◌, ◌++◌, Option, Some, None, Result, Ok, Err, Vec, if◌then◌else◌}
 use Rattle.std.specs.Borrow.{Bor}
+use Rattle.std.specs.Option.{option_to_list}
 use Rattle.std.specs.declared.alloc.Global.{Global}
 use Rattle.std.specs.declared.io.Error.{Error}
 use Rattle.toml_replace.specs.Calls.{Call, compares}
@@ -11,10 +12,10 @@ use Rattle.toml_words.specs.Request.{is_input}
 use Rattle.toml_words.specs.declared.request.Destination.{Destination}
 use Rattle.toml_words.specs.declared.request.Request.{Request}
 use Rattle.toml_words.specs.declared.request.Request.TheVariants as requests
-use Rattle.tomled.specs.RunFaults.{told}
-use Rattle.tomled.specs.declared.fault.RunFault.{RunFault}
-use Rattle.tomled.specs.declared.fault.RunFault.TheVariants.{File}
-use Rattle.tomled.specs.declared.outcome.Outcome.{Outcome}
+use Rattle.toml_delivery.specs.RunFaults.{told}
+use Rattle.toml_delivery.specs.declared.fault.RunFault.{RunFault}
+use Rattle.toml_delivery.specs.declared.fault.RunFault.TheVariants.{File}
+use Rattle.toml_delivery.specs.declared.outcome.Outcome.{Outcome}
 
 -- a path of the words
 abbrev pub Path : Type 0
@@ -59,6 +60,10 @@ abbrev pub all_compared : Option Path → List ℕ → Option Path → List Call
 all_compared None file list = []
 all_compared (Some path) file list = words_compared path.now file list
 
+-- so of the three words that `certify` reads
+abbrev pub judged_compared : List ℕ → List ℕ → List ℕ → List ℕ → List Call
+judged_compared path before edits after = compared path before ++ (compared path edits ++ compared path after)
+
 -- these were the answers, or it was stopped at another one
 abbrev pub IsCompared : List Call → Result (Unit {0}) Error → List Call → Type 0
 IsCompared plan (Ok done) calls = calls ≡ plan
@@ -99,17 +104,25 @@ IsEdited file list d inputs old result calls =
     ⊎ (((old.status ≡ 0) × IsCutShort (all_compared d.certificate file list) calls × IsFileFault result)
     ⊎ ((old.status ≡ 0) × (more : List Call) × (calls ≡ all_compared d.certificate file list ++ more) × IsPlaced file d inputs old result more))
 
+-- An outcome of `certify`. Without a path there is no file; a refusal is left alone; else the path may lead to none of the three.
+abbrev pub IsCertified : List ℕ → List ℕ → List ℕ → Option Path → Outcome → Result Outcome RunFault → List Call → Type 0
+IsCertified before edits after None old result calls = (calls ≡ []) × (new : Outcome) × (result ≡ Ok new) × HasNamed None old new
+IsCertified before edits after (Some path) old result calls =
+    ((old.status ≢ 0) × (calls ≡ []) × (result ≡ Ok old))
+    ⊎ (((old.status ≡ 0) × IsCutShort (judged_compared path.now before edits after) calls × IsFileFault result)
+    ⊎ ((old.status ≡ 0) × (calls ≡ judged_compared path.now before edits after) × (result ≡ Ok old)))
+
 -- An outcome of a request.
 abbrev pub IsSettled : Request → List (Vec ℕ Global) → Outcome → Result Outcome RunFault → List Call → Type 0
-IsSettled (requests.Certify before edits after cert profile) inputs old result calls = (calls ≡ []) × (new : Outcome) × (result ≡ Ok new) × HasNamed cert old new
+IsSettled (requests.Certify before edits after cert profile) inputs old result calls = IsCertified before.now edits.now after.now cert old result calls
 IsSettled (requests.One file place e d layout profile) inputs old result calls = IsEdited file.now None d inputs old result calls
 IsSettled (requests.Apply file edits d layout profile) inputs old result calls = IsEdited file.now (Some edits) d inputs old result calls
 IsSettled _ inputs old result calls = (calls ≡ []) × (result ≡ Ok old)
 
 -- the paths of the files that a request has written, in their order
-abbrev pub written : Request → List (Option Path)
-written (requests.Edit file edits out cert explain profile) = Some out ∷ Some cert ∷ []
-written (requests.Certify before edits after cert profile) = cert ∷ None ∷ []
-written (requests.One file place e d layout profile) = d.certificate ∷ None ∷ []
-written (requests.Apply file edits d layout profile) = d.certificate ∷ None ∷ []
-written _ = None ∷ None ∷ []
+abbrev pub written : Request → List Path
+written (requests.Edit file edits out cert explain profile) = out ∷ cert ∷ []
+written (requests.Certify before edits after cert profile) = option_to_list cert
+written (requests.One file place e d layout profile) = option_to_list d.certificate
+written (requests.Apply file edits d layout profile) = option_to_list d.certificate
+written _ = []

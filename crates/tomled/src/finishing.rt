@@ -1,20 +1,18 @@
 //! What is done with an outcome: files written, a file replaced, both outputs printed.
-ghost use Rattle.std.specs.Prelude.{◌≡◌, ◌↔◌, IfOk, IsTrue, length};
+ghost use Rattle.std.specs.Prelude.{◌≡◌, ◌↔◌, IsTrue};
 ghost use Rattle.toml_replace.specs.Calls.{Made};
 ghost use Rattle.toml_replace.specs.Replacement.{pair_of};
-ghost use Rattle.tomled.specs.Finishing.{HasNamed, IsCompared, IsEdited, IsFileFault, IsFirst, IsReplaced, IsSettled, IsPlaced, all_compared, certificate_at, compared, words_compared, written};
+ghost use Rattle.tomled.specs.Finishing.{HasNamed, IsCertified, IsCompared, IsEdited, IsFileFault, IsFirst, IsReplaced, IsSettled, IsPlaced};
+ghost use Rattle.tomled.specs.Finishing.{all_compared, certificate_at, compared, judged_compared, words_compared};
 
-use crate::counting::Counting;
-use crate::delivery::deliver;
-use crate::explaining::explains;
-use crate::fault::RunFault;
-use crate::outcome::Outcome;
+use crate::opening::{RealOpener, written_out};
 use crate::reading::{FileFault, file_fault};
 use std::alloc::Global;
-use std::fs::File;
 use std::io;
 use std::io::Write;
 use std::rt::Files;
+use toml_commands::explains;
+use toml_delivery::{Counting, Outcome, RunFault, deliver};
 use toml_replace::{Disk, RealDisk, ReplaceFault, refuse_same, replace};
 use toml_words::{Destination, Request, is_input};
 
@@ -30,8 +28,8 @@ pub fn finish<R: Files + AllocGlobal, O: Write, E: Write>(
 ) -> Result<u8, RunFault> {
     let alloc = rt.alloc();
     let outcome = settled(alloc, &mut RealDisk::new(rt), request, inputs, outcome)?;
-    match outputs(rt, request, &outcome) {
-        Ok(mut files) => Ok(deliver(files.as_mut_slice(), out, err, &outcome)),
+    match written_out(alloc, &mut RealOpener::new(rt), request, &outcome, out, err) {
+        Ok((status, _files)) => Ok(status),
         Err(FileFault::Failed { word, error }) => {
             let outcome = failed(alloc, explains(request), word, error)?;
             Ok(print(rt, outcome, out, err))
@@ -63,7 +61,13 @@ fn settled<D: Disk>(
     ensures { Made (D.calls disk.old) (D.calls disk.new) (IsSettled request.now inputs.now outcome result) }
 {
     match *request {
-        Request::Certify { cert, .. } => Ok(with_named(alloc, cert, outcome)),
+        Request::Certify {
+            before,
+            edits,
+            after,
+            cert,
+            ..
+        } => certified(alloc, disk, before, edits, after, cert, outcome),
         Request::One {
             file,
             destination,
@@ -77,6 +81,44 @@ fn settled<D: Disk>(
         } => edited(alloc, disk, file, Some(edits), destination, inputs, outcome),
         _ => Ok(outcome),
     }
+}
+
+/// What is left of an outcome of `certify`. Its certificate may not take the place of what was read: then nothing is written.
+fn certified<D: Disk>(
+    alloc: Global,
+    disk: &mut D,
+    before: &str,
+    edits: &str,
+    after: &str,
+    cert: Option<&str>,
+    outcome: Outcome,
+) -> Result<Outcome, RunFault>
+    ensures { Made (D.calls disk.old) (D.calls disk.new) (IsCertified before.now edits.now after.now cert.entry outcome result) }
+{
+    let Some(path) = cert else {
+        return Ok(outcome.without_files(alloc));
+    };
+    if outcome.status != 0 {
+        return Ok(outcome);
+    }
+    match refuse_judged(disk, path, before, edits, after) {
+        Ok(()) => Ok(outcome),
+        Err(error) => failed(alloc, true, path, error),
+    }
+}
+
+/// Refuses a path that leads to the file of one of the words that `certify` reads.
+fn refuse_judged<D: Disk>(
+    disk: &mut D,
+    path: &str,
+    before: &str,
+    edits: &str,
+    after: &str,
+) -> io::Result<()>
+    ensures { Made (D.calls disk.old) (D.calls disk.new) (IsCompared (judged_compared path.now before.now edits.now after.now) result) }
+{
+    refuse_word(disk, path, before)?;
+    refuse_words(disk, path, edits, Some(after))
 }
 
 /// The outcome, without its files where the words name none.
@@ -230,56 +272,5 @@ fn failed(alloc: Global, explains: bool, word: &str, error: io::Error) -> Result
     match file_fault(alloc, explains, word, &error) {
         Ok(outcome) => Ok(outcome),
         Err(_) => Err(RunFault::File),
-    }
-}
-
-/// The files that the outcome has bytes for, made or emptied. None of them is opened for a refusal. Their memory is taken
-/// before the first is opened.
-fn outputs<'a, R: Files + AllocGlobal>(
-    rt: &R,
-    request: &Request<'a>,
-    outcome: &Outcome,
-) -> Result<Vec<Counting<R::File>>, FileFault<'a>>
-    ensures { IfOk result (λ files. length files.items ≡ length outcome.now.files.items) }
-{
-    let Ok(mut files) = Vec::with_capacity(rt.alloc(), outcome.files.len()) else {
-        return Err(FileFault::NoMemory);
-    };
-    for (path, _) in written(request).iter().flatten().zip(&outcome.files) {
-        let word = *path;
-        match File::create(rt, word) {
-            Ok(file) => {
-                if files.push(Counting::new(file)).is_err() {
-                    return Err(FileFault::NoMemory);
-                }
-            }
-            Err(error) => return Err(FileFault::Failed { word, error }),
-        }
-    }
-    if files.len() != outcome.files.len() {
-        return Err(unnamed());
-    }
-    Ok(files)
-}
-
-/// The fault of an outcome with a file that the words do not name. There is none.
-fn unnamed() -> FileFault<'static> {
-    let message = "the words name no file for it";
-    FileFault::Failed {
-        word: "output",
-        error: io::Error::new(io::ErrorKind::InvalidInput, message),
-    }
-}
-
-/// The files that the words name for what is written.
-fn written<'a>(request: &Request<'a>) -> [Option<&'a str>; 2]
-    ensures { result ≡ written request.now }
-{
-    match *request {
-        Request::Edit { out, cert, .. } => [Some(out), Some(cert)],
-        Request::Certify { cert, .. } => [cert, None],
-        Request::One { destination, .. } => [destination.certificate, None],
-        Request::Apply { destination, .. } => [destination.certificate, None],
-        _ => [None, None],
     }
 }

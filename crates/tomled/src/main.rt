@@ -1,49 +1,15 @@
 //! `tomled`: reads and edits TOML documents, and keeps their layout.
 #![tactic(auto)]
 
-ghost use Rattle.std.specs.Prelude.{◌≡◌, IfOk, length};
-
-mod answering;
-mod apply;
-mod certify;
-mod check;
-mod counting;
-mod delivery;
-#[cfg(test)]
-mod delivery_tests;
-#[cfg(test)]
-mod devices;
-mod document;
-mod edit;
-mod edit_list;
-mod ending;
-mod explaining;
-mod fault;
 mod finishing;
-mod get;
-mod input;
-mod judging;
-pub mod laws;
-mod list;
-mod one;
-mod outcome;
-mod output;
+mod inputs;
+mod opening;
 mod reading;
 mod reasoned;
-mod refusal;
-mod show;
 mod validate;
-mod verify;
-#[cfg(test)]
-mod without_profile_tests;
 
-use answering::{answer, sources};
-use counting::Counting;
-use delivery::tell;
-use explaining::{explained, explains};
-use fault::RunFault;
 use finishing::{finish, print};
-use outcome::Outcome;
+use inputs::RealInputs;
 use reading::read_all;
 use std::alloc::Global;
 use std::fs::File;
@@ -51,6 +17,8 @@ use std::io::{Input, Write};
 use std::process::ExitCode;
 use std::rt::{Env, Files};
 use std::{env, io};
+use toml_commands::{answer, explained, explains, sources};
+use toml_delivery::{Counting, Outcome, RunFault, tell};
 use toml_words::{Request, WordsFault, marked_words, parser_text, read_words};
 use validate::validated;
 
@@ -98,10 +66,12 @@ fn serve<R: Files + Input + AllocGlobal, O: Write, E: Write>(
     err: &mut Counting<E>,
 ) -> Result<u8, RunFault> {
     let alloc = rt.alloc();
+    let mut reads = RealInputs::new(rt);
     if let Request::Validate { files, profile } = request {
-        return Ok(print(rt, validated(rt, files, *profile)?, out, err));
+        let outcome = validated(alloc, &mut reads, files, *profile)?;
+        return Ok(print(rt, outcome, out, err));
     }
-    let inputs = match read_all(rt, &sources(alloc, request)?) {
+    let inputs = match read_all(alloc, &mut reads, &sources(alloc, request)?) {
         Ok(inputs) => inputs,
         Err(fault) => {
             let outcome = fault.outcome(alloc, explains(request))?;

@@ -1,18 +1,19 @@
 //! Reading what the words name.
 ghost use Rattle.std.specs.Prelude.{IfOk};
+ghost use Rattle.tomled.specs.Asking.{Asked};
 ghost use Rattle.tomled.specs.Finishing.{TellsFault};
+ghost use Rattle.tomled.specs.Reads.{AreBytesOf, AreRead};
+ghost use Rattle.tomled.specs.Validating.{IsOutcomeOf};
 
-use crate::answering::Source;
-use crate::counting::Counting;
-use crate::fault::RunFault;
-use crate::input::{TakeFault, take};
-use crate::outcome::Outcome;
+use crate::inputs::Inputs;
 use crate::reasoned::Reasoned;
 use std::alloc::{AllocError, Global};
 use std::fs::File;
 use std::io;
 use std::io::{Input, Read};
 use std::rt::Files;
+use toml_commands::Source;
+use toml_delivery::{Counting, Outcome, RunFault, TakeFault, take};
 use toml_words::is_input;
 
 /// Why a file was not read, or not opened to be written.
@@ -34,7 +35,9 @@ impl<'a> FileFault<'a> {
     }
 
     /// What the run then comes to: `file fault`, and where it is explained the word and the system's reason.
-    pub fn outcome(self, alloc: Global, explains: bool) -> Result<Outcome, RunFault> {
+    pub fn outcome(self, alloc: Global, explains: bool) -> Result<Outcome, RunFault>
+        ensures { IsOutcomeOf self.entry result }
+    {
         match self {
             FileFault::Failed { word, error } => { Ok(file_fault(alloc, explains, word, &error)?) }
             FileFault::NoMemory => Err(RunFault::Memory),
@@ -61,22 +64,25 @@ pub fn file_fault(
     Ok(Outcome::failed(alloc, RunFault::File.status(), text.into_bytes()))
 }
 
-/// The bytes of all, in their order.
-pub fn read_all<'a, R: Files + Input + AllocGlobal>(
-    rt: &R,
+/// The bytes of all, in their order. It stops at the first that can't be read.
+pub fn read_all<'a, I: Inputs>(
+    alloc: Global,
+    inputs: &mut I,
     sources: &[Source<'a>],
-) -> Result<Vec<Vec<u8>>, FileFault<'a>> {
-    let mut inputs = match Vec::with_capacity(rt.alloc(), sources.len()) {
-        Ok(inputs) => inputs,
+) -> Result<Vec<Vec<u8>>, FileFault<'a>>
+    ensures { Asked (I.reads inputs.old) (I.reads inputs.new) (AreRead sources.now result) }
+{
+    let mut list = match Vec::with_capacity(alloc, sources.len()) {
+        Ok(list) => list,
         Err(_) => return Err(FileFault::NoMemory),
     };
     for source in sources {
-        let bytes = read(rt, *source)?;
-        if inputs.push(bytes).is_err() {
+        let bytes = inputs.read(alloc, *source)?;
+        let Ok(()) = list.push(bytes) else {
             return Err(FileFault::NoMemory);
-        }
+        };
     }
-    Ok(inputs)
+    Ok(list)
 }
 
 /// The bytes of a source, and of a longer one the first as many as its limit.
@@ -99,8 +105,10 @@ fn read_from<'a, R: Read + Drop>(
     alloc: Global,
     reader: R,
     source: Source<'a>,
-) -> Result<Vec<u8>, FileFault<'a>> {
-    let mut reader = Reasoned::new(reader);
+) -> Result<Vec<u8>, FileFault<'a>>
+    ensures { AreBytesOf source.entry.limit (R.remaining reader) result }
+{
+    let mut reader = Reasoned::of(reader);
     match take(alloc, &mut Counting::new(&mut reader), source.limit) {
         Ok(bytes) => Ok(bytes),
         Err(TakeFault::Device) => Err(FileFault::Failed {

@@ -1,4 +1,6 @@
 //! A reader that keeps why a read failed.
+ghost use Rattle.std.specs.Prelude.{◌≡◌};
+
 use std::io;
 use std::io::Read;
 
@@ -11,7 +13,9 @@ pub struct Reasoned<R> {
 
 impl<R> Reasoned<R> {
     /// A reader of which nothing has failed yet.
-    pub fn new(reader: R) -> Self {
+    pub fn of(reader: R) -> Self
+        ensures { result.reader ≡ reader }
+    {
         Reasoned {
             reader,
             reason: None,

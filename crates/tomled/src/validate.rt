@@ -1,49 +1,52 @@
 //! `validate`: which of some files are no documents, and why.
 ghost use Rattle.std.specs.Prelude.{IfOk};
-ghost use Rattle.tomled.specs.Explaining.{IsValidated};
+ghost use Rattle.toml_commands.specs.Explaining.{IsValidated};
+ghost use Rattle.tomled.specs.Asking.{Asked};
+ghost use Rattle.tomled.specs.Validating.{IsOneTold, IsValidation, words_of};
 
-use crate::answering::{MOST, Source};
-use crate::check::run_check_in;
-use crate::explaining::explained_check;
-use crate::fault::RunFault;
-use crate::outcome::Outcome;
-use crate::reading::read;
+use crate::inputs::Inputs;
 use std::alloc::{AllocError, Global};
-use std::io::Input;
-use std::rt::Files;
+use toml_commands::{MOST, Source, explained_check, run_check_in};
+use toml_delivery::{Outcome, RunFault};
 use toml_tree::Profile;
 
 /// Reads one file after the other, and tells of each that is no document of the profile why, or that it can't be read. The status is 3
 /// where one can't be read, else 1 where one is no document.
-pub fn validated<R: Files + Input + AllocGlobal>(
-    rt: &R,
+pub fn validated<I: Inputs>(
+    alloc: Global,
+    inputs: &mut I,
     files: &[&str],
     profile: Profile,
-) -> Result<Outcome, RunFault> {
+) -> Result<Outcome, RunFault>
+    ensures { Asked (I.reads inputs.old) (I.reads inputs.new) (IsValidation profile (words_of files.now) result) }
+{
     let mut status = 0;
-    let mut text = Vec::new(rt.alloc());
+    let mut text = Vec::new(alloc);
     for file in files {
-        let outcome = validated_file(rt, *file, profile)?;
+        let outcome = validated_file(alloc, inputs, *file, profile)?;
         status = outcome.status.max(status);
         text.extend_from_slice(&outcome.err)?;
     }
-    Ok(Outcome::failed(rt.alloc(), status, text))
+    Ok(Outcome::failed(alloc, status, text))
 }
 
 /// What one file comes to.
-fn validated_file<R: Files + Input + AllocGlobal>(
-    rt: &R,
+fn validated_file<I: Inputs>(
+    alloc: Global,
+    inputs: &mut I,
     file: &str,
     profile: Profile,
-) -> Result<Outcome, RunFault> {
+) -> Result<Outcome, RunFault>
+    ensures { Asked (I.reads inputs.old) (I.reads inputs.new) (IsOneTold profile file.now result) }
+{
     let source = Source {
         word: file,
         limit: MOST,
         may_be_input: true,
     };
-    match read(rt, source) {
-        Ok(bytes) => Ok(validated_bytes(rt.alloc(), file, &bytes, profile)?),
-        Err(fault) => fault.outcome(rt.alloc(), true),
+    match inputs.read(alloc, source) {
+        Ok(bytes) => Ok(validated_bytes(alloc, file, &bytes, profile)?),
+        Err(fault) => fault.outcome(alloc, true),
     }
 }
 

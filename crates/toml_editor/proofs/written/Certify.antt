@@ -19,18 +19,19 @@ use Rattle.toml_editor.specs.Steps.{IsGoodText, AreWritten}
 use Rattle.toml_editor.proofs.written.OuterPairs.{outer_of, outer_pairs_fit, outer_kept, outer_lines, outer_comments}
 use Rattle.toml_editor.proofs.written.Steps.{good_texts_are_documents, plain_is_written, plain_step, plain_steps}
 use Rattle.toml_editor.proofs.written.UnitsListed.{list_is_carried}
+use Rattle.toml_working.specs.Manners.{Manner}
 
 -- the demands that are not of pairs
-module _ (cs : List Change) (profile : Profile) (style before after : List ℕ) (old now : Kinds) (newline : IsNewline style)
+module _ (cs : List Change) (profile : Profile) (manner : Manner) (before after : List ℕ) (old now : Kinds) (newline : IsNewline manner.newline)
     (within : IsText before) (still : IsText after) (good : IsGoodText profile before old)
-    (lead : Lead profile cs old now) (written : AreWritten profile cs style before after) (new : IsGoodText profile after now) where
-  same_text : (cs : List Change) → AreWritten profile cs style before after → cs ≡ [] → before ≡ after
+    (lead : Lead profile cs old now) (written : AreWritten profile cs manner before after) (new : IsGoodText profile after now) where
+  same_text : (cs : List Change) → AreWritten profile cs manner before after → cs ≡ [] → before ≡ after
   same_text [] is none = is
   same_text (c ∷ cs) is none = cc
 
   marks : mark_of before ≡ mark_of after
   marks =
-      let made = plain_steps profile cs style before after old now newline good lead written in
+      let made = plain_steps profile cs manner before after old now newline good lead written in
       ap (λ (x : Piece). x.text) (sym good.spelled.0.mark) ∙ ap (λ (x : Piece). x.text) (sym made.1)
       ∙ ap (λ (x : Piece). x.text) made.0.spelled.0.mark
 
@@ -49,13 +50,13 @@ module _ (cs : List Change) (profile : Profile) (style before after : List ℕ) 
   }
 
 pub partners_certify : PartnersCertify
-partners_certify cs profile style before after old now newline within still good lead written new ps are =
-    certified_by cs profile style before after old now newline within still good lead written new ps are.fit
+partners_certify cs profile manner before after old now newline within still good lead written new ps are =
+    certified_by cs profile manner before after old now newline within still good lead written new ps are.fit
     (λ i here. inl ((are.named i).1 here)) are.lines are.comments
 
 pub outer_partners_certify : OuterPartnersCertify
-outer_partners_certify cs profile style before after old now newline within still good lead written new os outer =
-    certified_by cs profile style before after old now newline within still good lead written new os
+outer_partners_certify cs profile manner before after old now newline within still good lead written new os outer =
+    certified_by cs profile manner before after old now newline within still good lead written new os
     (outer_pairs_fit cs good.tree new.tree before after good.spelled.0 new.spelled.0 new.good.0 outer.all outer.are os outer.outer)
     (outer_kept cs good.tree new.tree before after good.spelled.0 new.spelled.0 new.good.0 outer.all outer.are os outer.outer)
     (outer_lines cs good.tree new.tree before after good.spelled.0 new.spelled.0 new.good.0 outer.all outer.are os outer.outer)
@@ -63,30 +64,30 @@ outer_partners_certify cs profile style before after old now newline within stil
 
 -- ---- the text
 
-pub list_is_written : (cs : List Change) (profile : Profile) (style before : List ℕ) (old now : Kinds) → IsNewline style
-    → IsGoodText profile before old → Lead profile cs old now → ArePlain profile cs style before
-    → (after : List ℕ) × AreWritten profile cs style before after
-list_is_written [] profile style before old now newline good lead plain = (before, refl)
-list_is_written (c ∷ cs) profile style before old now newline good (none, mid, is_after, lead) plain =
-    let first = plain_is_written profile c style before old mid good is_after (plain.0 good.tree good.spelled) in
-    let step = plain_step profile c style before first.0 old mid newline good none is_after first.1 in
-    let others = list_is_written cs profile style first.0 mid now newline step.0 lead (plain.1 first.0 first.1) in
+pub list_is_written : (cs : List Change) (profile : Profile) (manner : Manner) (before : List ℕ) (old now : Kinds) → IsNewline manner.newline
+    → IsGoodText profile before old → Lead profile cs old now → ArePlain profile cs manner before
+    → (after : List ℕ) × AreWritten profile cs manner before after
+list_is_written [] profile manner before old now newline good lead plain = (before, refl)
+list_is_written (c ∷ cs) profile manner before old now newline good (none, mid, is_after, lead) plain =
+    let first = plain_is_written profile c manner before old mid good is_after (plain.0 good.tree good.spelled) in
+    let step = plain_step profile c manner before first.0 old mid newline good none is_after first.1 in
+    let others = list_is_written cs profile manner first.0 mid now newline step.0 lead (plain.1 first.0 first.1) in
     (others.0, (first.0, first.1, others.1))
 
 -- what they write is a good text, and has outer partners with the first one
-pub outer_partners : (cs : List Change) (profile : Profile) (style before after : List ℕ) (old now : Kinds) → IsNewline style
-    → (good : IsGoodText profile before old) → Lead profile cs old now → AreWritten profile cs style before after
+pub outer_partners : (cs : List Change) (profile : Profile) (manner : Manner) (before after : List ℕ) (old now : Kinds) → IsNewline manner.newline
+    → (good : IsGoodText profile before old) → Lead profile cs old now → AreWritten profile cs manner before after
     → (new : IsGoodText profile after now) × (os : List (ℕ × ℕ)) × AreOuterPartners cs good.tree new.tree os
-outer_partners cs profile style before after old now newline good lead written =
-    let new = (plain_steps profile cs style before after old now newline good lead written).0 in
-    let all = list_is_carried cs profile style before after old now newline good lead written new in
+outer_partners cs profile manner before after old now newline good lead written =
+    let new = (plain_steps profile cs manner before after old now newline good lead written).0 in
+    let all = list_is_carried cs profile manner before after old now newline good lead written new in
     let outer = outer_of cs (units good.tree.lines) all.0 in
     (new, outer.0, record { all = all.0; are = all.1; outer = outer.1 })
 
 pub plain_list_is_certified : PlainListIsCertified
-plain_list_is_certified cs profile style before old now newline within good lead plain =
-    let text = list_is_written cs profile style before old now newline good lead plain in
-    let (new, pairs, partners) = outer_partners cs profile style before text.0 old now newline good lead text.1 in (
+plain_list_is_certified cs profile manner before old now newline within good lead plain =
+    let text = list_is_written cs profile manner before old now newline good lead plain in
+    let (new, pairs, partners) = outer_partners cs profile manner before text.0 old now newline good lead text.1 in (
       text.0,
       text.1,
       record {
@@ -94,6 +95,6 @@ plain_list_is_certified cs profile style before old now newline within good lead
         pairs = pairs;
         partners = partners;
         verdict = λ still os are.
-            outer_partners_certify cs profile style before text.0 old now newline within still good lead text.1 new os are;
+            outer_partners_certify cs profile manner before text.0 old now newline within still good lead text.1 new os are;
       },
     )

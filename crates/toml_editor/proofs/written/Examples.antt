@@ -20,7 +20,9 @@ use Rattle.toml_working.specs.Lines.{array_of, inline_of}
 use Rattle.toml_working.specs.Removing.{remove_lines}
 use Rattle.toml_working.specs.Renaming.{rename_lines}
 use Rattle.toml_working.specs.Setting.{set_lines}
-use Rattle.toml_working.specs.Written.{style_of}
+use Rattle.toml_working.specs.Written.{manner_of, style_of}
+use Rattle.toml_working.specs.declared.layout.Layout.TheVariants as layouts
+use Rattle.toml_working.specs.Manners.{Manner}
 
 -- ---- trees
 
@@ -167,20 +169,67 @@ set_over_lines = refl
 
 -- ---- insert
 
+abbrev plain : List ℕ → Manner
+plain newline = record { newline = newline; layout = layouts.Plain }
+
 -- behind the last keyval line before the first header, with the newline of the style: `"z z" = 9`, CR, LF
-inserted : text (insert_lines (0x7A ∷ 0x20 ∷ 0x7A ∷ []) nine (0x0D ∷ 0x0A ∷ []) document) ≡ first ++ (0x22 ∷ 0x7A ∷ 0x20 ∷ 0x7A ∷ 0x22 ∷ 0x20 ∷ 0x3D ∷ 0x20 ∷ 0x39 ∷ 0x0D ∷ 0x0A ∷ []) ++ table ++ third ++ array ++ fourth ++ last
+inserted : text (insert_lines (0x7A ∷ 0x20 ∷ 0x7A ∷ []) nine (plain (0x0D ∷ 0x0A ∷ [])) document) ≡ first ++ (0x22 ∷ 0x7A ∷ 0x20 ∷ 0x7A ∷ 0x22 ∷ 0x20 ∷ 0x3D ∷ 0x20 ∷ 0x39 ∷ 0x0D ∷ 0x0A ∷ []) ++ table ++ third ++ array ++ fourth ++ last
 unfolding name_of
 inserted = refl
 
 -- behind the last line, which gets the newline
-inserted_last : text (insert_lines (0x66 ∷ []) nine (0x0D ∷ 0x0A ∷ []) pairs) ≡ 0x64 ∷ 0x20 ∷ 0x3D ∷ 0x20 ∷ 0x31 ∷ 0x0A ∷ 0x65 ∷ 0x20 ∷ 0x3D ∷ 0x20 ∷ 0x32 ∷ 0x0D ∷ 0x0A ∷ 0x66 ∷ 0x20 ∷ 0x3D ∷ 0x20 ∷ 0x39 ∷ []
+inserted_last : text (insert_lines (0x66 ∷ []) nine (plain (0x0D ∷ 0x0A ∷ [])) pairs) ≡ 0x64 ∷ 0x20 ∷ 0x3D ∷ 0x20 ∷ 0x31 ∷ 0x0A ∷ 0x65 ∷ 0x20 ∷ 0x3D ∷ 0x20 ∷ 0x32 ∷ 0x0D ∷ 0x0A ∷ 0x66 ∷ 0x20 ∷ 0x3D ∷ 0x20 ∷ 0x39 ∷ []
 unfolding name_of
 inserted_last = refl
 
 -- before the first line, where no keyval line stands before a header
-inserted_first : text (insert_lines (0x66 ∷ []) nine (0x0A ∷ []) (record { expr = TableLine empty (header (key 0x74)) no_tail; newline = empty } ∷ [])) ≡ 0x66 ∷ 0x20 ∷ 0x3D ∷ 0x20 ∷ 0x39 ∷ 0x0A ∷ 0x5B ∷ 0x74 ∷ 0x5D ∷ []
+inserted_first : text (insert_lines (0x66 ∷ []) nine (plain (0x0A ∷ [])) (record { expr = TableLine empty (header (key 0x74)) no_tail; newline = empty } ∷ [])) ≡ 0x66 ∷ 0x20 ∷ 0x3D ∷ 0x20 ∷ 0x39 ∷ 0x0A ∷ 0x5B ∷ 0x74 ∷ 0x5D ∷ []
 unfolding name_of
 inserted_first = refl
+
+-- ---- insert as the neighbours are written
+
+abbrev follow : Manner
+follow = record { newline = 0x0A ∷ []; layout = layouts.Follow }
+
+-- a key line with this whitespace before it and before its `=`, and behind that: `d`, `=`, `1`
+abbrev spaced_pair : List ℕ → List ℕ → List ℕ → Line
+spaced_pair ws before after =
+    ended (KeyValLine (fresh ws) (record { assign = record { key = key 0x64; before_equals = fresh before; after_equals = fresh after }; value = digit 0x31 }) no_tail)
+
+abbrev remark_line : List ℕ → Line
+remark_line newline = record { expr = BlankLine (record { ws = empty; comment = Some (fresh (0x23 ∷ 0x63 ∷ [])) }); newline = fresh newline }
+
+abbrev blank_line : Line
+blank_line = ended (BlankLine no_tail)
+
+abbrev last_header : Line
+last_header = record { expr = TableLine empty (header (key 0x74)) no_tail; newline = empty }
+
+-- as far in as the last keyval line, and nothing around `=` as there: `  d=1`, `  f=9`
+followed_narrow : text (insert_lines (0x66 ∷ []) nine follow (spaced_pair (0x20 ∷ 0x20 ∷ []) [] [] ∷ last_header ∷ [])) ≡ 0x20 ∷ 0x20 ∷ 0x64 ∷ 0x3D ∷ 0x31 ∷ 0x0A ∷ 0x20 ∷ 0x20 ∷ 0x66 ∷ 0x3D ∷ 0x39 ∷ 0x0A ∷ 0x5B ∷ 0x74 ∷ 0x5D ∷ []
+unfolding name_of
+followed_narrow = refl
+
+-- more than one space on one side: one space on each: `d  =1`, `f = 9`
+followed_wide : text (insert_lines (0x66 ∷ []) nine follow (spaced_pair [] (0x20 ∷ 0x20 ∷ []) [] ∷ last_header ∷ [])) ≡ 0x64 ∷ 0x20 ∷ 0x20 ∷ 0x3D ∷ 0x31 ∷ 0x0A ∷ 0x66 ∷ 0x20 ∷ 0x3D ∷ 0x20 ∷ 0x39 ∷ 0x0A ∷ 0x5B ∷ 0x74 ∷ 0x5D ∷ []
+unfolding name_of
+followed_wide = refl
+
+-- no keyval line: below the comment line that a blank line follows: `#c`, `f = 9`
+followed_comment : text (insert_lines (0x66 ∷ []) nine follow (remark_line (0x0A ∷ []) ∷ blank_line ∷ last_header ∷ [])) ≡ 0x23 ∷ 0x63 ∷ 0x0A ∷ 0x66 ∷ 0x20 ∷ 0x3D ∷ 0x20 ∷ 0x39 ∷ 0x0A ∷ 0x0A ∷ 0x5B ∷ 0x74 ∷ 0x5D ∷ []
+unfolding name_of
+followed_comment = refl
+
+-- or that is the last line
+followed_last : text (insert_lines (0x66 ∷ []) nine follow (remark_line [] ∷ [])) ≡ 0x23 ∷ 0x63 ∷ 0x0A ∷ 0x66 ∷ 0x20 ∷ 0x3D ∷ 0x20 ∷ 0x39 ∷ []
+unfolding name_of
+followed_last = refl
+
+-- above one that a header follows
+followed_above : text (insert_lines (0x66 ∷ []) nine follow (remark_line (0x0A ∷ []) ∷ last_header ∷ [])) ≡ 0x66 ∷ 0x20 ∷ 0x3D ∷ 0x20 ∷ 0x39 ∷ 0x0A ∷ 0x23 ∷ 0x63 ∷ 0x0A ∷ 0x5B ∷ 0x74 ∷ 0x5D ∷ []
+unfolding name_of
+followed_above = refl
 
 -- ---- remove
 
@@ -314,7 +363,7 @@ unfolding name_of
 whitespace_set_dotted = refl
 
 -- `insert` behind the last line before the headers: `n = 9`
-whitespace_insert : text (insert_lines (0x6E ∷ []) nine (style_of whitespace) whitespace) ≡ line_one ++ line_two ++ line_three ++ line_four ++ (0x6E ∷ 0x20 ∷ 0x3D ∷ 0x20 ∷ 0x39 ∷ 0x0D ∷ 0x0A ∷ []) ++ line_five ++ line_array ++ line_six
+whitespace_insert : text (insert_lines (0x6E ∷ []) nine (manner_of layouts.Plain whitespace) whitespace) ≡ line_one ++ line_two ++ line_three ++ line_four ++ (0x6E ∷ 0x20 ∷ 0x3D ∷ 0x20 ∷ 0x39 ∷ 0x0D ∷ 0x0A ∷ []) ++ line_five ++ line_array ++ line_six
 unfolding name_of
 whitespace_insert = refl
 

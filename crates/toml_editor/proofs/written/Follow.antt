@@ -15,8 +15,10 @@ use Rattle.toml_edits.specs.Edits.{Change, set, remove}
 use Rattle.toml_edits.specs.Faults.{IsFault}
 use Rattle.toml_working.specs.declared.texts.Texts.{Texts}
 use Rattle.toml_working.specs.declared.working.Tree.{Tree}
-use Rattle.toml_editor.specs.Exact.{Follows, IsAt, KeepsSource, style}
+use Rattle.toml_editor.specs.Exact.{Follows, IsAt, KeepsSource}
 use Rattle.toml_working.specs.OpenOutlines.{leaf_text}
+use Rattle.toml_working.specs.Manners.{Manner}
+use Rattle.toml_working.specs.Putting.{manner}
 use Rattle.toml_working.specs.RemoveStanding.{is_pair}
 use Rattle.toml_working.specs.Removing.{remove_lines}
 use Rattle.toml_working.specs.RemovingIn.{RemovesLines}
@@ -27,6 +29,7 @@ use Rattle.toml_working.specs.Starting.{NoneIsGone}
 use Rattle.toml_editor.specs.Steps.{IsGoodText, IsPlain}
 use Rattle.toml_working.specs.TreeOutlines.{value_outline}
 use Rattle.toml_working.specs.Written.{AreEdited, HasPair, HasValue, IsWritten}
+use Rattle.toml_editor.proofs.SourceKept.{source_kept}
 use Rattle.toml_editor.proofs.written.RemoveStanding.{pair_stands, remove_stands}
 use Rattle.toml_editor.proofs.written.Steps.{plain_step, step_lines}
 use Rattle.toml_editor.proofs.written.SetStanding.{set_stands}
@@ -36,17 +39,17 @@ use Rattle.toml_editor.proofs.written.StandingThere.{standing_is_value}
 use Rattle.toml_editor.proofs.written.StandingOrder.{rules_order}
 
 -- edited lines, for which the tree stands
-pub follows : (profile : Profile) (read : Read) (c : Change) (old new : Tree) (text : List ℕ) (kinds now : Kinds) (edited : List Line) → IsNewline (style old)
+pub follows : (profile : Profile) (read : Read) (c : Change) (old new : Tree) (text : List ℕ) (kinds now : Kinds) (edited : List Line) → IsNewline (leaf_text old.style)
     → (good : IsGoodText profile text kinds) → IsFault profile c kinds None → IsAfter profile c kinds now
-    → AreEdited profile c (style old) good.tree.lines edited
+    → AreEdited profile c (manner old) good.tree.lines edited
     → Stands (text_of new.texts.source) read new.slots.items (standing edited) → NoneIsGone new.elements → KeepsSource old new
     → Follows profile read c old new text now
 follows profile read c old new text kinds now edited newline good none is_after are stands whole source =
     let after = good.tree.mark.text ++ joined (lines_parts edited) in
-    let written : IsWritten profile c (style old) text after = (good.tree, good.spelled, edited, are, refl) in
-    let step = plain_step profile c (style old) text after kinds now newline good none is_after written in
+    let written : IsWritten profile c (manner old) text after = (good.tree, good.spelled, edited, are, refl) in
+    let step = plain_step profile c (manner old) text after kinds now newline good none is_after written in
     let same : bare_lines step.0.tree.lines ≡ bare_lines edited =
-    step_lines profile c (style old) text after kinds now newline good none is_after written in
+    step_lines profile c (manner old) text after kinds now newline good none is_after written in
     record {
       after = after;
       written = written;
@@ -54,7 +57,7 @@ follows profile read c old new text kinds now edited newline good none is_after 
         good = step.0;
         stands = subst (Stands (text_of new.texts.source) read new.slots.items) (sym (places_do_not_stand step.0.tree.lines edited same)) stands;
         whole = whole;
-        newline = subst IsNewline (sym source.style) newline;
+        newline = subst (λ (m : Manner). IsNewline m.newline) (sym source.mannered) newline;
       };
       source = source;
     }
@@ -75,7 +78,7 @@ module _ (profile : Profile) (read : Read) (old new : Tree) (p : Address) (value
       subst₂ (λ (s : Texts) ls. Stands (text_of s.source) read new.slots.items ls) (sym rest.texts) (sym (set_stands p v lines apart there rules)) made.0 in (
         made.1 ∙ value_stands p lines apart there,
         follows profile read (set p value) old new text kinds now edited at.newline at.good none is_after (v, is, there, refl) stands
-            (subst NoneIsGone (sym rest.elements) at.whole) (record { texts = rest.texts; style = ap leaf_text rest.style }),
+            (subst NoneIsGone (sym rest.elements) at.whole) (source_kept old new rest.texts rest.style),
       )
 
 -- a `set` that is made is one of a value that is there
@@ -100,4 +103,4 @@ remove_follows profile read old new p text kinds now at none is_after (name, is,
     let stands : Stands (text_of new.texts.source) read new.slots.items (standing edited) =
     subst₂ (λ (s : Texts) ls. Stands (text_of s.source) read new.slots.items ls) (sym rest.texts) (sym (remove_stands p lines)) made in
     follows profile read (remove p) old new text kinds now edited at.newline at.good none is_after (name, is, there, refl) stands
-    (subst NoneIsGone (sym rest.elements) at.whole) (record { texts = rest.texts; style = ap leaf_text rest.style })
+    (subst NoneIsGone (sym rest.elements) at.whole) (source_kept old new rest.texts rest.style)

@@ -13,16 +13,16 @@ use Rattle.toml_edits.specs.Edits.{insert}
 use Rattle.toml_edits.specs.Faults.{IsFault}
 use Rattle.toml_working.specs.declared.texts.Texts.{Texts}
 use Rattle.toml_working.specs.declared.working.Tree.{Tree}
-use Rattle.toml_editor.specs.Exact.{Follows, IsAt, style}
+use Rattle.toml_editor.specs.Exact.{Follows, IsAt}
 use Rattle.toml_working.specs.Inserting.{insert_lines}
-use Rattle.toml_working.specs.OpenOutlines.{leaf_text}
-use Rattle.toml_working.specs.Putting.{InsertsLines, IsRootName}
+use Rattle.toml_working.specs.Putting.{InsertsLines, IsRootName, manner}
 use Rattle.toml_editor.specs.SpelledEdits.{AreSteps, step_spelled}
 use Rattle.toml_working.specs.Standing.{Read, standing}
 use Rattle.toml_working.specs.Stands.{KeepsRest, Stands}
 use Rattle.toml_working.specs.Starting.{NoneIsGone}
 use Rattle.toml_editor.specs.Steps.{IsPlain}
 use Rattle.toml_working.specs.TreeOutlines.{value_outline}
+use Rattle.toml_editor.proofs.SourceKept.{source_kept}
 use Rattle.toml_editor.proofs.written.Follow.{follows}
 use Rattle.toml_editor.proofs.written.InsertStands.{insert_stands, root_comes_first}
 
@@ -30,7 +30,7 @@ module _ (profile : Profile) (read : Read) (old new : Tree) (p : Address) (value
     (at : IsAt profile read old text kinds) (none : IsFault profile (insert p value) kinds None)
     (is_after : IsAfter profile (insert p value) kinds now) (plain : IsPlain at.good.tree.lines (insert p value)) (rest : KeepsRest old new) where
   pub insert_follows : (v : Value) → IsValueIn profile v value → (steps : List (String Global)) → AreSteps p steps
-      → InsertsLines p steps (value_outline v) (style old) (text_of old.texts.source) read old.slots.items new.slots.items
+      → InsertsLines p steps (value_outline v) (manner old) (text_of old.texts.source) read old.slots.items new.slots.items
       → Follows profile read (insert p value) old new text now
   insert_follows v is steps spelled inserts =
       let (name, own) = plain in
@@ -38,8 +38,8 @@ module _ (profile : Profile) (read : Read) (old new : Tree) (p : Address) (value
       let forms = at.good.spelled.0.lines.forms in
       let root : IsRootName name p steps = record { at_is = own; steps_is = spelled ∙ ap (map step_spelled) own } in
       let made = inserts name root (standing lines) at.stands (root_comes_first lines forms) in
-      let edited = insert_lines name v (style old) lines in
+      let edited = insert_lines name v (manner old) lines in
       let stands : Stands (text_of new.texts.source) read new.slots.items (standing edited) =
-      subst₂ (λ (s : Texts) ls. Stands (text_of s.source) read new.slots.items ls) (sym rest.texts) (sym (insert_stands name v (style old) lines forms)) made in
+      subst₂ (λ (s : Texts) ls. Stands (text_of s.source) read new.slots.items ls) (sym rest.texts) (sym (insert_stands name v (manner old) lines forms)) made in
       follows profile read (insert p value) old new text kinds now edited at.newline at.good none is_after (v, is, name, own, refl) stands
-      (subst NoneIsGone (sym rest.elements) at.whole) (record { texts = rest.texts; style = ap leaf_text rest.style })
+      (subst NoneIsGone (sym rest.elements) at.whole) (source_kept old new rest.texts rest.style)

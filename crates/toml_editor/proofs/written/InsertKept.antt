@@ -30,10 +30,10 @@ abbrev IsBeside : List ℕ → Value → Named → Type 0
 IsBeside name v m = EachIs (λ b. ¬ (m.address ≡ b.address)) (root_pair name v)
 
 pub insert_rules : InsertRules
-insert_rules name v style lines free keeps good =
+insert_rules name v manner lines free keeps good =
     let p = Name name ∷ [] in
-    let lines' = insert_lines name v style lines in
-    let put = insert_names name v style lines in
+    let lines' = insert_lines name v manner lines in
+    let put = insert_names name v manner lines in
     let clear = each_plain lines (λ m. IsClear p m.address) (not_named_is_clear lines p keeps free) in
     let beside : (m : Named) → IsClear p m.address → IsBeside name v m =
     λ m c. each_weaker (λ b. IsUnder p b.address) (λ b. ¬ (m.address ≡ b.address)) (λ b under same. clear_under p m.address c (subst (IsUnder p) (sym same) under)) (root_pair name v) (block_under p v 0) in
@@ -43,16 +43,16 @@ insert_rules name v style lines free keeps good =
     (subst (EachIs (IsBeside name v)) put.before (each_weaker (λ m. IsClear p m.address) (IsBeside name v) beside (named_plain lines) clear))))
 
 pub insert_short : InsertShort
-insert_short name v style lines short low =
-    plain_short (insert_lines name v style lines)
-    (each_put (named_plain lines) (root_pair name v) (named_plain (insert_lines name v style lines)) (insert_names name v style lines) _
+insert_short name v manner lines short low =
+    plain_short (insert_lines name v manner lines)
+    (each_put (named_plain lines) (root_pair name v) (named_plain (insert_lines name v manner lines)) (insert_names name v manner lines) _
     (short_plain lines short) (block_short (Name name ∷ []) v 0 Valued (each_of_all _ (value_facts v) low)))
 
 pub insert_data : InsertData
-insert_data profile name text new style lines v old after value good is is' =
+insert_data profile name text new manner lines v old after value good is is' =
     let p = Name name ∷ [] in
-    let lines' = insert_lines name new style lines in
-    let put = insert_names name new style lines in
+    let lines' = insert_lines name new manner lines in
+    let put = insert_names name new manner lines in
     let same : good.value.tree ≡ new = one_value good.value.tree new 0 text good.value.is_value.0 value.0 in
     let facts : IsDataOf (value_facts new) v = subst (λ t. IsDataOf (value_facts t) v) same good.facts in
     let shown : (a : Address) (k : Kind) → Has (F p new a k) (named_plain lines') → after a ≡ Some k = λ a k h. (is' a k).1 (any_of_has _ (named lines') (plain_has lines' (F p new a k) h)) in (

@@ -1,6 +1,7 @@
 -- The lines after an `insert` at the root, by what finds them.
-use Rattle.std.proofs.Common.{◌≡◌, ℕ, ◌+◌, Bool, true, false, ◌||◌, cond, Option, Some, inl, inr, List, [], ◌∷◌, ◌++◌, length, refl, sym, ap, ap₂, ◌∙◌, subst, true≢false, append-nil}
+use Rattle.std.proofs.Common.{◌≡◌, ℕ, ◌+◌, Bool, true, false, ◌||◌, ◌&&◌, not, cond, Option, Some, None, inl, inr, List, [], ◌∷◌, ◌++◌, length, refl, sym, ap, ap₂, ◌∙◌, subst, true≢false, append-nil}
 use Rattle.std.specs.List.{list_any}
+use Rattle.std.specs.Prelude.{is_some, option_map}
 use Rattle.toml_scalar.specs.Spelling.{spelled}
 use Rattle.toml_tree.specs.Bare.{fresh}
 use Rattle.toml_tree.specs.Spells.{EachIs, AreLines}
@@ -15,12 +16,17 @@ use Rattle.toml_names.specs.mentions.Mentions.{Named, named_by, root, section, s
 use Rattle.toml_names.specs.reader.Names.{own_address}
 use Rattle.toml_units.specs.Units.{line_base}
 use Rattle.toml_working.specs.Inserting as lines
-use Rattle.toml_working.specs.InsertStanding.{LeavesRoot, RootIsFirst, has_pair, insert_behind, line_behind, new_standing, new_outline, pair_or}
+use Rattle.toml_working.specs.declared.layout.Layout.{Layout}
+use Rattle.toml_working.specs.declared.layout.Layout.TheVariants as layouts
+use Rattle.toml_working.specs.InsertStanding.{LeavesRoot, RootIsFirst, comments_end, goes_below, has_comment, has_pair, insert_behind, insert_first, is_blank, is_comment, line_behind, new_standing, new_outline, pair_or, spacing_behind, spacing_of}
+use Rattle.toml_working.specs.Manners.{Manner}
+use Rattle.toml_working.specs.Spacings.{Spacing, laid_out, plain_spacing}
 use Rattle.toml_working.specs.Standing.{Standing, holds, leads_to, line_stands, standing_from, standing}
 use Rattle.toml_editor.specs.StandingLaws.{InsertStands, RootComesFirst}
 use Rattle.toml_working.specs.TreeOutlines.{line_outline, value_outline}
 use Rattle.toml_editor.proofs.written.Alike.{alike_self, alike_pair, section_pair}
 use Rattle.toml_editor.proofs.written.InsertNamed.{spelled_again, stays}
+use Rattle.toml_editor.proofs.written.InsertPlace.{IsNoHeader, below_has, comment_heads, pair_heads}
 use Rattle.toml_editor.proofs.written.UnitsAlike.{base_alike, own_alike, step_alike}
 
 -- ---- what was named before
@@ -59,69 +65,134 @@ ends_same (KeyValLine ws pair tail) newline other = refl
 ends_same (TableLine ws header tail) newline other = refl
 ends_same (ArrayTableLine ws header tail) newline other = refl
 
-module _ (name : List ℕ) (v : Value) (style : List ℕ) where
-  new_stands : (xs : List Named) (newline : List ℕ) → section xs ≡ [] → line_stands xs (lines.new_line name v newline) ≡ new_standing name (value_outline v) newline
-  new_stands xs newline at_root =
-      ap (λ s. record { address = Some (s ++ Name (spelled_name (spelled name)) ∷ []); base = Some (length s); outline = new_outline name (value_outline v) newline }) at_root
-      ∙ ap (λ m. record { address = Some (Name m ∷ []); base = Some 0; outline = new_outline name (value_outline v) newline }) (spelled_again name)
+-- a comment line, and one on which nothing stands
+some_same : (c : Option Piece) → is_some (option_map (λ (p : Piece). p.text) c) ≡ is_some c
+some_same None = refl
+some_same (Some p) = refl
 
-  new_first : (xs : List Named) (n m : ℕ) (newline : List ℕ) (ls : List Line) → section xs ≡ []
-      → standing_from xs m (lines.new_line name v newline ∷ ls) ≡ new_standing name (value_outline v) newline ∷ standing_from xs n ls
-  new_first xs n m newline ls at_root =
-      ap₂ (λ s t. s ∷ t) (new_stands xs newline at_root)
-      (sym (stand_alike ls xs (xs ++ named_by xs m (lines.new_expr name v)) n (m + 1) (alike_pair xs xs (alike_self xs) m (section xs) (lines.new_assign name) v)))
+comment_same : (xs : List Named) (l : Line) → is_comment (line_stands xs l) ≡ lines.is_comment l.expr
+comment_same xs l = by l.expr
+  where
+    by : (e : Expr) → is_comment (line_stands xs (record { expr = e; newline = l.newline })) ≡ lines.is_comment e
+    by (BlankLine t) = some_same t.comment
+    by (KeyValLine ws pair tail) = refl
+    by (TableLine ws header tail) = refl
+    by (ArrayTableLine ws header tail) = refl
 
-  behind_full : (s : Standing) (newline : List ℕ) → IsNewline newline → line_behind name (value_outline v) style s newline ≡ s ∷ new_standing name (value_outline v) style ∷ []
-  behind_full s newline (inl is) = ap (line_behind name (value_outline v) style s) is
-  behind_full s newline (inr is) = ap (line_behind name (value_outline v) style s) is
+blank_same : (xs : List Named) (l : Line) → is_blank (line_stands xs l) ≡ lines.is_blank l.expr
+blank_same xs l = by l.expr
+  where
+    by : (e : Expr) → is_blank (line_stands xs (record { expr = e; newline = l.newline })) ≡ lines.is_blank e
+    by (BlankLine t) = ap not (some_same t.comment)
+    by (KeyValLine ws pair tail) = refl
+    by (TableLine ws header tail) = refl
+    by (ArrayTableLine ws header tail) = refl
 
-  line_put : (xs : List Named) (n : ℕ) (l : Line) (ls : List Line) → AreLines (l ∷ ls) → section (xs ++ named_by xs n l.expr) ≡ []
-      → standing_from xs n (lines.line_behind name v style l ls)
-      ≡ line_behind name (value_outline v) style (line_stands xs l) (line_outline l).newline ++ standing_from (xs ++ named_by xs n l.expr) (n + 1) ls
-  line_put xs n l [] are at_root =
-      ap₂ (λ o t. record { address = own_address xs l.expr; base = line_base xs l.expr; outline = o } ∷ t) (ends_same l.expr l.newline (fresh style))
-      (new_first (xs ++ named_by xs n l.expr) 0 (n + 1) [] [] at_root)
-      ∙ ap (λ t. line_behind name (value_outline v) style (line_stands xs l) t ++ []) (sym (newline_same l.expr l.newline ∙ are.1))
-  line_put xs n l (m ∷ ms) are at_root =
-      ap (λ t. line_stands xs l ∷ t) (new_first (xs ++ named_by xs n l.expr) (n + 1) (n + 1) style (m ∷ ms) at_root)
-      ∙ ap (λ t. t ++ standing_from (xs ++ named_by xs n l.expr) (n + 1) (m ∷ ms))
-      (sym (behind_full (line_stands xs l) (line_outline l).newline (subst IsNewline (sym (newline_same l.expr l.newline)) are.1)))
+comments_same : (ls : List Line) (xs : List Named) (n : ℕ) → has_comment (standing_from xs n ls) ≡ lines.has_comment ls
+comments_same [] xs n = refl
+comments_same (l ∷ ls) xs n = comment_same xs l
 
-  more_lines : (l : Line) (ls : List Line) → AreLines (l ∷ ls) → lines.has_pair ls ≡ true → AreLines ls
-  more_lines l [] are has = absurd (true≢false (sym has))
-  more_lines l (m ∷ ms) are has = are.2
+end_same : (ls : List Line) (xs : List Named) (n : ℕ) → comments_end (standing_from xs n ls) ≡ lines.comments_end ls
+end_same [] xs n = refl
+end_same (l ∷ ls) xs n =
+    ap₂ (λ c b. cond c (comments_end (standing_from (xs ++ named_by xs n l.expr) (n + 1) ls)) b) (comment_same xs l) (blank_same xs l)
+    ∙ ap (λ e. cond (lines.is_comment l.expr) e (lines.is_blank l.expr)) (end_same ls (xs ++ named_by xs n l.expr) (n + 1))
 
-  last_put : (ls : List Line) (xs : List Named) (n : ℕ) → section xs ≡ [] → lines.has_pair ls ≡ true → AreLines ls
-      → standing_from xs n (lines.insert_behind name v style ls) ≡ insert_behind name (value_outline v) style (standing_from xs n ls)
-  last_put [] xs n at_root has are = refl
-  last_put (l ∷ ls) xs n at_root has are =
-      by (lines.has_pair ls) refl (λ h. last_put ls (xs ++ named_by xs n l.expr) (n + 1) here h (more_lines l ls are h))
-      ∙ ap (λ b. cond b (line_stands xs l ∷ insert_behind name (value_outline v) style rest) (line_behind name (value_outline v) style (line_stands xs l) (line_outline l).newline ++ rest))
-      (sym (has_same ls (xs ++ named_by xs n l.expr) (n + 1)))
-    where
-      here : section (xs ++ named_by xs n l.expr) ≡ []
-      here = stays name v style xs n l.expr at_root (lines.has_pair ls) has
+below_same : (layout : Layout) (ls : List Line) → goes_below layout (standing ls) ≡ lines.goes_below layout ls
+below_same layouts.Plain ls = refl
+below_same layouts.Follow ls = ap₂ (λ a b. a && b) (comments_same ls (root ∷ []) 0) (end_same ls (root ∷ []) 0)
 
-      rest : List Standing
-      rest = standing_from (xs ++ named_by xs n l.expr) (n + 1) ls
+-- the whitespace of a line behind one
+spacing_same : (manner : Manner) (xs : List Named) (l : Line) → spacing_behind manner (line_stands xs l) ≡ lines.spacing_behind manner l
+spacing_same manner xs l = ap (laid_out manner.layout) (by l.expr)
+  where
+    by : (e : Expr) → spacing_of (line_base xs e) (line_outline (record { expr = e; newline = l.newline })) ≡ lines.spacing_of e
+    by (BlankLine t) = refl
+    by (KeyValLine ws pair tail) = refl
+    by (TableLine ws header tail) = refl
+    by (ArrayTableLine ws header tail) = refl
 
-      by : (b : Bool) → lines.has_pair ls ≡ b
-          → (lines.has_pair ls ≡ true → standing_from (xs ++ named_by xs n l.expr) (n + 1) (lines.insert_behind name v style ls) ≡ insert_behind name (value_outline v) style (standing_from (xs ++ named_by xs n l.expr) (n + 1) ls))
-          → standing_from xs n (cond b (l ∷ lines.insert_behind name v style ls) (lines.line_behind name v style l ls))
-          ≡ cond b (line_stands xs l ∷ insert_behind name (value_outline v) style (standing_from (xs ++ named_by xs n l.expr) (n + 1) ls)) (line_behind name (value_outline v) style (line_stands xs l) (line_outline l).newline ++ standing_from (xs ++ named_by xs n l.expr) (n + 1) ls)
-      by true is more = ap (λ t. line_stands xs l ∷ t) (more is)
-      by false is more = line_put xs n l ls are here
+module _ (name : List ℕ) (v : Value) where
+  new_stands : (s : Spacing) (xs : List Named) (newline : List ℕ) → section xs ≡ [] → line_stands xs (lines.new_line s name v newline) ≡ new_standing s name (value_outline v) newline
+  new_stands s xs newline at_root =
+      ap (λ at. record { address = Some (at ++ Name (spelled_name (spelled name)) ∷ []); base = Some (length at); outline = new_outline s name (value_outline v) newline }) at_root
+      ∙ ap (λ m. record { address = Some (Name m ∷ []); base = Some 0; outline = new_outline s name (value_outline v) newline }) (spelled_again name)
+
+  new_first : (s t : Spacing) → t ≡ s → (xs : List Named) (n m : ℕ) (newline : List ℕ) (ls : List Line) → section xs ≡ []
+      → standing_from xs m (lines.new_line s name v newline ∷ ls) ≡ new_standing t name (value_outline v) newline ∷ standing_from xs n ls
+  new_first s t same xs n m newline ls at_root =
+      ap₂ (λ x y. x ∷ y) (new_stands s xs newline at_root ∙ ap (λ x. new_standing x name (value_outline v) newline) (sym same))
+      (sym (stand_alike ls xs (xs ++ named_by xs m (lines.new_expr s name v)) n (m + 1) (alike_pair xs xs (alike_self xs) m (section xs) (lines.new_assign s name) v)))
+
+  module _ (manner : Manner) where
+    behind_full : (s : Standing) (newline : List ℕ) → IsNewline newline
+        → line_behind name (value_outline v) manner s newline ≡ s ∷ new_standing (spacing_behind manner s) name (value_outline v) manner.newline ∷ []
+    behind_full s newline (inl is) = ap (line_behind name (value_outline v) manner s) is
+    behind_full s newline (inr is) = ap (line_behind name (value_outline v) manner s) is
+
+    line_put : (xs : List Named) (n : ℕ) (l : Line) (ls : List Line) → AreLines (l ∷ ls) → section (xs ++ named_by xs n l.expr) ≡ []
+        → standing_from xs n (lines.line_behind name v manner l ls)
+        ≡ line_behind name (value_outline v) manner (line_stands xs l) (line_outline l).newline ++ standing_from (xs ++ named_by xs n l.expr) (n + 1) ls
+    line_put xs n l [] are at_root =
+        ap₂ (λ o t. record { address = own_address xs l.expr; base = line_base xs l.expr; outline = o } ∷ t) (ends_same l.expr l.newline (fresh manner.newline))
+        (new_first (lines.spacing_behind manner l) (spacing_behind manner (line_stands xs l)) (spacing_same manner xs l) (xs ++ named_by xs n l.expr) 0 (n + 1) [] [] at_root)
+        ∙ ap (λ t. line_behind name (value_outline v) manner (line_stands xs l) t ++ []) (sym (newline_same l.expr l.newline ∙ are.1))
+    line_put xs n l (m ∷ ms) are at_root =
+        ap (λ t. line_stands xs l ∷ t)
+        (new_first (lines.spacing_behind manner l) (spacing_behind manner (line_stands xs l)) (spacing_same manner xs l) (xs ++ named_by xs n l.expr) (n + 1) (n + 1) manner.newline (m ∷ ms) at_root)
+        ∙ ap (λ t. t ++ standing_from (xs ++ named_by xs n l.expr) (n + 1) (m ∷ ms))
+        (sym (behind_full (line_stands xs l) (line_outline l).newline (subst IsNewline (sym (newline_same l.expr l.newline)) are.1)))
+
+    -- behind the last of some lines
+    module _ (more : List Line → Bool) (more_so : List Standing → Bool) (same : (ls : List Line) (xs : List Named) (n : ℕ) → more_so (standing_from xs n ls) ≡ more ls)
+        (none : more [] ≡ false) (heads : (l : Line) (ls : List Line) → more (l ∷ ls) ≡ true → IsNoHeader l.expr) where
+      more_lines : (l : Line) (ls : List Line) → AreLines (l ∷ ls) → more ls ≡ true → AreLines ls
+      more_lines l [] are has = absurd (true≢false (sym has ∙ none))
+      more_lines l (m ∷ ms) are has = are.2
+
+      last_put : (ls : List Line) (xs : List Named) (n : ℕ) → section xs ≡ [] → more ls ≡ true → AreLines ls
+          → standing_from xs n (lines.insert_behind more name v manner ls) ≡ insert_behind more_so name (value_outline v) manner (standing_from xs n ls)
+      last_put [] xs n at_root has are = refl
+      last_put (l ∷ ls) xs n at_root has are =
+          by (more ls) refl (λ h. last_put ls (xs ++ named_by xs n l.expr) (n + 1) here h (more_lines l ls are h))
+          ∙ ap (λ b. cond b (line_stands xs l ∷ insert_behind more_so name (value_outline v) manner rest) (line_behind name (value_outline v) manner (line_stands xs l) (line_outline l).newline ++ rest))
+          (sym (same ls (xs ++ named_by xs n l.expr) (n + 1)))
+        where
+          here : section (xs ++ named_by xs n l.expr) ≡ []
+          here = stays xs n l.expr at_root (heads l ls has)
+
+          rest : List Standing
+          rest = standing_from (xs ++ named_by xs n l.expr) (n + 1) ls
+
+          by : (b : Bool) → more ls ≡ b
+              → (more ls ≡ true → standing_from (xs ++ named_by xs n l.expr) (n + 1) (lines.insert_behind more name v manner ls) ≡ insert_behind more_so name (value_outline v) manner (standing_from (xs ++ named_by xs n l.expr) (n + 1) ls))
+              → standing_from xs n (cond b (l ∷ lines.insert_behind more name v manner ls) (lines.line_behind name v manner l ls))
+              ≡ cond b (line_stands xs l ∷ insert_behind more_so name (value_outline v) manner (standing_from (xs ++ named_by xs n l.expr) (n + 1) ls)) (line_behind name (value_outline v) manner (line_stands xs l) (line_outline l).newline ++ standing_from (xs ++ named_by xs n l.expr) (n + 1) ls)
+          by true is others = ap (λ t. line_stands xs l ∷ t) (others is)
+          by false is others = line_put xs n l ls are here
+
+    first_stands : (ls : List Line) → AreLines ls → standing (lines.insert_first name v manner ls) ≡ insert_first name (value_outline v) manner (standing ls)
+    first_stands ls are =
+        by (lines.goes_below manner.layout ls) refl
+        ∙ ap (λ b. cond b (insert_behind has_comment name (value_outline v) manner (standing ls)) (new_standing plain_spacing name (value_outline v) manner.newline ∷ standing ls))
+        (sym (below_same manner.layout ls))
+      where
+        by : (b : Bool) → lines.goes_below manner.layout ls ≡ b
+            → standing (cond b (lines.insert_behind lines.has_comment name v manner ls) (lines.new_line plain_spacing name v manner.newline ∷ ls))
+            ≡ cond b (insert_behind has_comment name (value_outline v) manner (standing ls)) (new_standing plain_spacing name (value_outline v) manner.newline ∷ standing ls)
+        by true is = last_put lines.has_comment has_comment comments_same refl comment_heads ls (root ∷ []) 0 refl (below_has manner.layout ls is) are
+        by false is = new_first plain_spacing plain_spacing refl (root ∷ []) 0 0 manner.newline ls refl
 
 pub insert_stands : InsertStands
-insert_stands name v style ls are =
+insert_stands name v manner ls are =
     by (lines.has_pair ls) refl
-    ∙ ap (λ b. cond b (insert_behind name (value_outline v) style (standing ls)) (new_standing name (value_outline v) style ∷ standing ls)) (sym (has_same ls (root ∷ []) 0))
+    ∙ ap (λ b. cond b (insert_behind has_pair name (value_outline v) manner (standing ls)) (insert_first name (value_outline v) manner (standing ls))) (sym (has_same ls (root ∷ []) 0))
   where
     by : (b : Bool) → lines.has_pair ls ≡ b
-        → standing (cond b (lines.insert_behind name v style ls) (lines.new_line name v style ∷ ls))
-        ≡ cond b (insert_behind name (value_outline v) style (standing ls)) (new_standing name (value_outline v) style ∷ standing ls)
-    by true is = last_put name v style ls (root ∷ []) 0 refl is are
-    by false is = new_first name v style (root ∷ []) 0 0 style ls refl
+        → standing (cond b (lines.insert_behind lines.has_pair name v manner ls) (lines.insert_first name v manner ls))
+        ≡ cond b (insert_behind has_pair name (value_outline v) manner (standing ls)) (insert_first name (value_outline v) manner (standing ls))
+    by true is = last_put name v manner lines.has_pair has_pair has_same refl pair_heads ls (root ∷ []) 0 refl is are
+    by false is = first_stands name v manner ls are
 
 -- ---- lines of the root come first
 

@@ -1,6 +1,8 @@
 -- That a last line has a byte.
-use Rattle.std.proofs.Common.{◌≡◌, inr, ◌<◌, ◌+◌, Bool, true, false, Option, Some, None, List, [], ◌∷◌, ◌++◌, length, length-append, refl, sym, ap, ◌∙◌, true≢false, arith}
-use Rattle.toml_tree.specs.Spells.{EachIs, Part, joined, equals_parts, assign_parts, key_parts, value_parts, keyval_parts, blank_parts, expr_parts}
+use Rattle.std.proofs.Common.{◌≡◌, inr, ℕ, ◌<◌, ◌+◌, Bool, true, false, Option, Some, None, List, [], ◌∷◌, ◌++◌, length, length-append, refl, sym, ap, ◌∙◌, true≢false, arith}
+use Rattle.std.specs.Prelude.{is_some}
+use Rattle.toml_text.specs.Forms.{IsComment}
+use Rattle.toml_tree.specs.Spells.{EachIs, IsCommentOrNone, IsExpr, Part, joined, equals_parts, assign_parts, comment_parts, key_parts, value_parts, keyval_parts, blank_parts, expr_parts}
 use Rattle.toml_tree.specs.Tree.{Piece, Blank, KeyVal, Expr, BlankLine, KeyValLine, TableLine, ArrayTableLine}
 use Rattle.toml_tree.proofs.Proved.{parts_join}
 use Rattle.toml_names.specs.mentions.Keys.{key_names}
@@ -12,6 +14,7 @@ use Rattle.toml_units.specs.declared.unit.UnitKind.{UnitKind}
 use Rattle.toml_units.specs.declared.unit.UnitKind.TheVariants as kinds
 use Rattle.toml_editor.specs.ChangedUnits.{is_inner, LiesInValue}
 use Rattle.toml_editor.proofs.Each.{each_append}
+use Rattle.toml_editor.proofs.written.InsertPlace.{IsFull}
 use Rattle.toml_editor.proofs.written.UnitsGone.{inner_line, value_in}
 use Rattle.toml_editor.proofs.written.WayBlock.{lines_append}
 use Rattle.toml_editor.proofs.written.WayZip.{lines_in}
@@ -60,18 +63,30 @@ pair_long ws k b =
     let some = equals_long k.assign.before_equals k.assign.after_equals in
     omega (arith, all, line, pair, assign, some)
 
-abbrev pub has_key : Expr → Bool
-has_key (KeyValLine ws k b) = true
-has_key _ = false
+-- and one with a comment has that
+comment_long : (ws : List ℕ) (c : Option Piece) → is_some c ≡ true → IsCommentOrNone c → 0 < length (ws ++ joined (comment_parts c))
+comment_long ws None some is = absurd (true≢false (sym some))
+comment_long ws (Some p) some is =
+    let all = length-append ws (p.text ++ []) in
+    let own = length-append p.text [] in
+    let one = text_long p.text is in
+    omega (arith, all, own, one)
+  where
+    text_long : (text : List ℕ) → IsComment text → 0 < length text
+    text_long [] is = absurd is
+    text_long (b ∷ bs) is = omega arith
 
-pub full_line : (xs : List Named) (e : Expr) → has_key e ≡ true → LastIsFull (line_units xs e)
-full_line xs (KeyValLine ws k b) is =
+pub full_line : (xs : List Named) (e : Expr) → IsFull e → IsExpr e → LastIsFull (line_units xs e)
+full_line xs (KeyValLine ws k b) full form =
     let at = below (section xs) (key_names k.assign.key) in (
       (λ line none empty. let some = pair_long ws k b in let zero = ap length empty in let e : ⊥ = omega (arith, some, zero) in absurd e),
       full_inner (inside at k.value ++ comment_units kinds.TailComment (Some at) b.comment)
           (each_append _ (inside at k.value) (comment_units kinds.TailComment (Some at) b.comment)
           (no_lines at (inside at k.value) (value_in at k.value at (inr refl))) (tail_no_line (Some at) b.comment)),
     )
-full_line xs (BlankLine b) is = absurd (true≢false (sym is))
-full_line xs (TableLine ws h b) is = absurd (true≢false (sym is))
-full_line xs (ArrayTableLine ws h b) is = absurd (true≢false (sym is))
+full_line xs (BlankLine b) full form = (
+  (λ line none empty. let some = comment_long b.ws.text b.comment full form.1 in let zero = ap length empty in let e : ⊥ = omega (arith, some, zero) in absurd e),
+  full_inner (comment_units kinds.TailComment None b.comment) (tail_no_line None b.comment),
+)
+full_line xs (TableLine ws h b) full form = absurd full
+full_line xs (ArrayTableLine ws h b) full form = absurd full

@@ -8,7 +8,8 @@ use Rattle.toml_names.specs.mentions.Keys.{key_names}
 use Rattle.toml_names.specs.mentions.Mentions.{Named, named_by, root, section}
 use Rattle.toml_names.specs.model.Addresses.{Address, same_address, element, below}
 use Rattle.toml_editor.specs.InsertLaws.{InsertOfProfile}
-use Rattle.toml_working.specs.Inserting.{new_line, line_behind, has_pair, insert_behind, insert_lines}
+use Rattle.toml_working.specs.Inserting.{line_behind, insert_lines}
+use Rattle.toml_working.specs.Manners.{Manner}
 use Rattle.toml_working.specs.Lines.{lines_from}
 use Rattle.toml_editor.specs.RemoveLaws.{RemoveOfProfile}
 use Rattle.toml_working.specs.Removing.{remove_line, left_behind, empty_line}
@@ -17,6 +18,7 @@ use Rattle.toml_working.specs.Renaming.{rename_value, rename_items, rename_pairs
 use Rattle.toml_editor.specs.SetLaws.{SetOfProfile}
 use Rattle.toml_working.specs.Setting.{set_within, set_items, set_pairs, set_expr, set_line}
 use Rattle.toml_editor.proofs.Each.{each_append}
+use Rattle.toml_editor.proofs.written.InsertPlace.{insert_place}
 use Rattle.toml_editor.proofs.written.RemoveKept.{two_ways}
 
 abbrev ArePlain : List Line → Type 0
@@ -77,29 +79,24 @@ set_of_profile Two p new lines is good = tt
 
 -- ---- insert
 
-module _ (name : List ℕ) (v : Value) (style : List ℕ) (plain : HasPlainTables v) where
-  behind_plain : (l : Line) (ls : List Line) → ArePlain (l ∷ ls) → ArePlain (line_behind name v style l ls)
+module _ (name : List ℕ) (v : Value) (manner : Manner) (plain : HasPlainTables v) where
+  behind_plain : (l : Line) (ls : List Line) → ArePlain (l ∷ ls) → ArePlain (line_behind name v manner l ls)
   behind_plain l [] is = (is.0, (plain, tt))
   behind_plain l (m ∷ ms) is = (is.0, (plain, is.1))
 
-  last_plain : (ls : List Line) → ArePlain ls → ArePlain (insert_behind name v style ls)
-  last_plain [] is = tt
-  last_plain (l ∷ ls) is = by (has_pair ls) (last_plain ls is.1)
-    where
-      by : (b : Bool) → ArePlain (insert_behind name v style ls) → ArePlain (cond b (l ∷ insert_behind name v style ls) (line_behind name v style l ls))
-      by true more = (is.0, more)
-      by false more = behind_plain l ls is
+  at_plain : (front back : List Line) (l : Line) → ArePlain (front ++ l ∷ back) → ArePlain (front ++ line_behind name v manner l back)
+  at_plain [] back l is = behind_plain l back is
+  at_plain (m ∷ front) back l is = (is.0, at_plain front back l is.1)
 
-  insert_plain : (ls : List Line) → ArePlain ls → ArePlain (insert_lines name v style ls)
-  insert_plain ls is = by (has_pair ls)
-    where
-      by : (b : Bool) → ArePlain (cond b (insert_behind name v style ls) (new_line name v style ∷ ls))
-      by true = last_plain ls is
-      by false = (plain, is)
+  insert_plain : (ls : List Line) → ArePlain ls → ArePlain (insert_lines name v manner ls)
+  insert_plain ls is = elim (insert_place name v manner ls) [
+    | inl first ↦ subst ArePlain (sym first) (plain, is)
+    | inr found ↦ subst ArePlain (sym found.after) (at_plain found.front found.back found.line (subst ArePlain found.before is))
+  ]
 
 pub insert_of_profile : InsertOfProfile
-insert_of_profile One name v style lines is good = insert_plain name v style good lines is
-insert_of_profile Two name v style lines is good = tt
+insert_of_profile One name v manner lines is good = insert_plain name v manner good lines is
+insert_of_profile Two name v manner lines is good = tt
 
 -- ---- remove
 

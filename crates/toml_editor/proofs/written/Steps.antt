@@ -38,6 +38,7 @@ use Rattle.toml_editor.proofs.written.RenameFormed.{rename_forms}
 use Rattle.toml_editor.proofs.written.RenameKept.{rename_good, rename_data}
 use Rattle.toml_editor.proofs.written.SetFormed.{set_forms}
 use Rattle.toml_editor.proofs.written.SetKept.{set_rules, set_short, set_data}
+use Rattle.toml_working.specs.Manners.{Manner}
 
 pub good_texts_are_documents : GoodTextsAreDocuments
 good_texts_are_documents profile text within = (
@@ -45,17 +46,17 @@ good_texts_are_documents profile text within = (
   (λ d. (fact_at (named d.1.lines), record { tree = d.1; spelled = (d.2, d.4); good = d.3; facts = lines_have_data d.1.lines d.3.0 })),
 )
 
-edited_lines : (profile : Profile) (c : Change) (style : List ℕ) (lines : List Line) (old now : Kinds) → IsAfter profile c old now → IsPlain lines c → (new : List Line) × AreEdited profile c style lines new
-edited_lines profile (set p text) style lines old now after there = let v = after.1.value.tree in (set_lines p v lines, (v, after.1.value.is_value, there, refl))
-edited_lines profile (insert p text) style lines old now after (name, at) = let v = after.1.value.tree in (insert_lines name v style lines, (v, after.1.value.is_value, name, at, refl))
-edited_lines profile (rename p to) style lines old now after plain = (rename_lines p to lines, refl)
-edited_lines profile (remove p) style lines old now after (name, at, there) = (remove_lines p lines, (name, at, there, refl))
-edited_lines profile (new_section p) style lines old now after plain = absurd plain
-edited_lines profile (new_element p) style lines old now after plain = absurd plain
+edited_lines : (profile : Profile) (c : Change) (manner : Manner) (lines : List Line) (old now : Kinds) → IsAfter profile c old now → IsPlain lines c → (new : List Line) × AreEdited profile c manner lines new
+edited_lines profile (set p text) manner lines old now after there = let v = after.1.value.tree in (set_lines p v lines, (v, after.1.value.is_value, there, refl))
+edited_lines profile (insert p text) manner lines old now after (name, at) = let v = after.1.value.tree in (insert_lines name v manner lines, (v, after.1.value.is_value, name, at, refl))
+edited_lines profile (rename p to) manner lines old now after plain = (rename_lines p to lines, refl)
+edited_lines profile (remove p) manner lines old now after (name, at, there) = (remove_lines p lines, (name, at, there, refl))
+edited_lines profile (new_section p) manner lines old now after plain = absurd plain
+edited_lines profile (new_element p) manner lines old now after plain = absurd plain
 
 pub plain_is_written : PlainIsWritten
-plain_is_written profile c style before old now good after plain =
-    let new = edited_lines profile c style good.tree.lines old now after plain in
+plain_is_written profile c manner before old now good after plain =
+    let new = edited_lines profile c manner good.tree.lines old now after plain in
     (good.tree.mark.text ++ joined (lines_parts new.0), (good.tree, good.spelled, new.0, new.1, refl))
 
 -- what is known of the new lines
@@ -65,8 +66,8 @@ record AreNew (profile : Profile) (c : Change) (old : Kinds) (new : List Line) :
   good : AreGood new
   after : (kinds : Kinds) → IsDataOf (named new) kinds → IsAfter profile c old kinds
 
-module _ (profile : Profile) (style : List ℕ) (newline : IsNewline style) (lines : List Line) (old : Kinds) (forms : AreLines lines) (profiled : AreLinesOfProfile profile lines) (good : AreGood lines) (is : IsDataOf (named lines) old) where
-  edited : (c : Change) (now : Kinds) (new : List Line) → IsFault profile c old None → IsAfter profile c old now → AreEdited profile c style lines new → AreNew profile c old new
+module _ (profile : Profile) (manner : Manner) (newline : IsNewline manner.newline) (lines : List Line) (old : Kinds) (forms : AreLines lines) (profiled : AreLinesOfProfile profile lines) (good : AreGood lines) (is : IsDataOf (named lines) old) where
+  edited : (c : Change) (now : Kinds) (new : List Line) → IsFault profile c old None → IsAfter profile c old now → AreEdited profile c manner lines new → AreNew profile c old new
   edited (set p text) now new none after (v, value, there, made) =
       let apart : ¬ (p ≡ []) = none RootNamed in
       let fit = all_fit profile text v after.0 value after.1 p (λ r some low. none AddressLength (inr (after.0, after.1, r, some, low))) in
@@ -81,10 +82,10 @@ module _ (profile : Profile) (style : List ℕ) (newline : IsNewline style) (lin
       let fit = all_fit profile text v after.0 value after.1 (Name name ∷ []) (λ r some low. none AddressLength (inr (after.0, after.1, r, some, subst (λ x. max_steps < length x + length r) (sym at) low))) in
       let free : ¬ IsNamed (named lines) (Name name ∷ []) = unnamed lines old (Name name ∷ []) is (λ some. none AlreadyThere ([], name, at, subst (λ x. IsSome (old x)) (sym at) some)) in
       subst (AreNew profile (insert p text) old) (sym made) (record {
-        forms = insert_forms name v style lines forms newline value.0.form value.0.shallow;
-        profiled = insert_of_profile profile name v style lines profiled value.1;
-        good = (insert_rules name v style lines free good.0 (keeps_value profile text v after.0 value after.1), insert_short name v style lines good.1 fit);
-        after = λ kinds is'. subst (λ x. IsAfter profile (insert x text) old kinds) (sym at) (insert_data profile name text v style lines after.0 old kinds value after.1 is is');
+        forms = insert_forms name v manner lines forms newline value.0.form value.0.shallow;
+        profiled = insert_of_profile profile name v manner lines profiled value.1;
+        good = (insert_rules name v manner lines free good.0 (keeps_value profile text v after.0 value after.1), insert_short name v manner lines good.1 fit);
+        after = λ kinds is'. subst (λ x. IsAfter profile (insert x text) old kinds) (sym at) (insert_data profile name text v manner lines after.0 old kinds value after.1 is is');
       })
   edited (rename p to) now new none after made = by (last_step p)
     where
@@ -115,10 +116,10 @@ same_data : (ms : List Named) (f g : Kinds) → IsDataOf ms f → ((a : Address)
 same_data ms f g is same a k = subst (λ o. (o ≡ Some k) ↔ IsFact ms a k) (same a) (is a k)
 
 pub plain_step : PlainStep
-plain_step profile c style before after old now newline good none is_after (d, spells, new, made, text) =
+plain_step profile c manner before after old now newline good none is_after (d, spells, new, made, text) =
     let same : d ≡ good.tree = one_tree d good.tree before spells.0 good.spelled.0 in
-    let made' : AreEdited profile c style good.tree.lines new = subst (λ (x : Doc). AreEdited profile c style x.lines new) same made in
-    let known = edited profile style newline good.tree.lines old good.spelled.0.lines.forms good.spelled.1 good.good good.facts c now new none is_after made' in
+    let made' : AreEdited profile c manner good.tree.lines new = subst (λ (x : Doc). AreEdited profile c manner x.lines new) same made in
+    let known = edited profile manner newline good.tree.lines old good.spelled.0.lines.forms good.spelled.1 good.good good.facts c now new none is_after made' in
     let mark : good.tree.mark ≡ record { start = 0; text = mark_of before } = good.spelled.0.mark in
     let at = length (mark_of before) in
     let whole : mark_of before ++ joined (lines_parts new) ≡ after = sym (text ∙ ap (λ (x : Doc). x.mark.text ++ joined (lines_parts new)) same ∙ ap (λ (x : Piece). x.text ++ joined (lines_parts new)) mark) in
@@ -135,15 +136,15 @@ plain_step profile c style before after old now newline good none is_after (d, s
     )
 
 -- the lines of the text that is written are the edited ones, but for places
-pub step_lines : (profile : Profile) (c : Change) (style before after : List ℕ) (old now : Kinds) (newline : IsNewline style)
+pub step_lines : (profile : Profile) (c : Change) (manner : Manner) (before after : List ℕ) (old now : Kinds) (newline : IsNewline manner.newline)
     (good : IsGoodText profile before old) (none : IsFault profile c old None) (is_after : IsAfter profile c old now)
-    (written : IsWritten profile c style before after)
-    → bare_lines (plain_step profile c style before after old now newline good none is_after written).0.tree.lines ≡ bare_lines written.2
+    (written : IsWritten profile c manner before after)
+    → bare_lines (plain_step profile c manner before after old now newline good none is_after written).0.tree.lines ≡ bare_lines written.2
 unfolding plain_step
-step_lines profile c style before after old now newline good none is_after (d, spells, new, made, text) = put_lines_same new (length (mark_of before))
+step_lines profile c manner before after old now newline good none is_after (d, spells, new, made, text) = put_lines_same new (length (mark_of before))
 
 pub plain_steps : PlainSteps
-plain_steps profile [] style before after old now newline good lead written = (
+plain_steps profile [] manner before after old now newline good lead written = (
   record {
     tree = good.tree;
     spelled = subst (SpellsIn profile good.tree) written good.spelled;
@@ -152,9 +153,9 @@ plain_steps profile [] style before after old now newline good lead written = (
   },
   refl,
 )
-plain_steps profile (c ∷ cs) style before after old now newline good lead written =
-    let one = plain_step profile c style before written.0 old lead.1 newline good lead.0 lead.2 written.1 in
-    let more = plain_steps profile cs style written.0 after lead.1 now newline one.0 lead.3 written.2 in
+plain_steps profile (c ∷ cs) manner before after old now newline good lead written =
+    let one = plain_step profile c manner before written.0 old lead.1 newline good lead.0 lead.2 written.1 in
+    let more = plain_steps profile cs manner written.0 after lead.1 now newline one.0 lead.3 written.2 in
     (more.0, more.1 ∙ one.1)
 
 -- ---- one text
@@ -162,22 +163,22 @@ plain_steps profile (c ∷ cs) style before after old now newline good lead writ
 first_name : (m n : List ℕ) (p : Address) → p ≡ Name m ∷ [] → p ≡ Name n ∷ [] → m ≡ n
 first_name m n p a b = let e : Name m ∷ [] ≡ Name n ∷ [] = sym a ∙ b in cc
 
-one_edited : (profile : Profile) (c : Change) (style : List ℕ) (old one two : List Line) → AreEdited profile c style old one → AreEdited profile c style old two → one ≡ two
-one_edited profile (set p text) style old one two (v, value, there, is) (w, value', there', is') = is ∙ ap (λ x. set_lines p x old) (one_value v w 0 text value.0 value'.0) ∙ sym is'
-one_edited profile (insert p text) style old one two (v, value, m, at, is) (w, value', n, at', is') = is ∙ ap₂ (λ x k. insert_lines k x style old) (one_value v w 0 text value.0 value'.0) (first_name m n p at at') ∙ sym is'
-one_edited profile (rename p to) style old one two is is' = is ∙ sym is'
-one_edited profile (remove p) style old one two (m, at, there, is) (n, at', there', is') = is ∙ sym is'
-one_edited profile (new_section p) style old one two is is' = absurd is
-one_edited profile (new_element p) style old one two is is' = absurd is
+one_edited : (profile : Profile) (c : Change) (manner : Manner) (old one two : List Line) → AreEdited profile c manner old one → AreEdited profile c manner old two → one ≡ two
+one_edited profile (set p text) manner old one two (v, value, there, is) (w, value', there', is') = is ∙ ap (λ x. set_lines p x old) (one_value v w 0 text value.0 value'.0) ∙ sym is'
+one_edited profile (insert p text) manner old one two (v, value, m, at, is) (w, value', n, at', is') = is ∙ ap₂ (λ x k. insert_lines k x manner old) (one_value v w 0 text value.0 value'.0) (first_name m n p at at') ∙ sym is'
+one_edited profile (rename p to) manner old one two is is' = is ∙ sym is'
+one_edited profile (remove p) manner old one two (m, at, there, is) (n, at', there', is') = is ∙ sym is'
+one_edited profile (new_section p) manner old one two is is' = absurd is
+one_edited profile (new_element p) manner old one two is is' = absurd is
 
 pub one_written : OneWritten
-one_written profile c style before one two (d, spells, new, made, text) (e, spells', new', made', text') =
+one_written profile c manner before one two (d, spells, new, made, text) (e, spells', new', made', text') =
     let same : d ≡ e = one_tree d e before spells.0 spells'.0 in
-    let lines : new ≡ new' = one_edited profile c style e.lines new new' (subst (λ (x : Doc). AreEdited profile c style x.lines new) same made) made' in
+    let lines : new ≡ new' = one_edited profile c manner e.lines new new' (subst (λ (x : Doc). AreEdited profile c manner x.lines new) same made) made' in
     text ∙ ap₂ (λ (x : Doc) ls. x.mark.text ++ joined (lines_parts ls)) same lines ∙ sym text'
 
 pub one_list_written : OneListWritten
-one_list_written profile [] style before one two is is' = sym is ∙ is'
-one_list_written profile (c ∷ cs) style before one two (between, is, more) (between', is', more') =
-    let same : between ≡ between' = one_written profile c style before between between' is is' in
-    one_list_written profile cs style between' one two (subst (λ b. AreWritten profile cs style b one) same more) more'
+one_list_written profile [] manner before one two is is' = sym is ∙ is'
+one_list_written profile (c ∷ cs) manner before one two (between, is, more) (between', is', more') =
+    let same : between ≡ between' = one_written profile c manner before between between' is is' in
+    one_list_written profile cs manner between' one two (subst (λ b. AreWritten profile cs manner b one) same more) more'

@@ -44,6 +44,7 @@ use Rattle.toml_editor.proofs.written.WaySet.{set_way}
 use Rattle.toml_editor.proofs.written.WayPut.{insert_way}
 use Rattle.toml_editor.proofs.written.WayRenamed.{rename_way}
 use Rattle.toml_editor.proofs.written.WayWhole.{HasWay, partners, same_seen, same_newlines}
+use Rattle.toml_working.specs.Manners.{Manner}
 
 -- a way to lines that make the text
 pub record HasGone (c : Change) (d : Doc) (after : List ℕ) : Type 0 where
@@ -70,11 +71,11 @@ lines_again c profile before after old now good new gone =
 
 -- what is to be shown of an edit
 abbrev HaveWays : Change → Type 0
-HaveWays c = (profile : Profile) (style before after : List ℕ) (old now : Kinds) → IsNewline style → (good : IsGoodText profile before old)
-    → IsFault profile c old None → IsAfter profile c old now → IsWritten profile c style before after → HasGone c good.tree after
+HaveWays c = (profile : Profile) (manner : Manner) (before after : List ℕ) (old now : Kinds) → IsNewline manner.newline → (good : IsGoodText profile before old)
+    → IsFault profile c old None → IsAfter profile c old now → IsWritten profile c manner before after → HasGone c good.tree after
 
 rename_goes : (p : Address) (to : List ℕ) → HaveWays (rename p to)
-rename_goes p to profile style before after old now newline good none is_after (d, spells, edited, made, text) = by (last_step p)
+rename_goes p to profile manner before after old now newline good none is_after (d, spells, edited, made, text) = by (last_step p)
   where
     same : d ≡ good.tree
     same = one_tree d good.tree before spells.0 good.spelled.0
@@ -101,24 +102,24 @@ rename_goes p to profile style before after old now newline good none is_after (
         }
 
 insert_goes : (p : Address) (value : List ℕ) → HaveWays (insert p value)
-insert_goes p value profile style before after old now newline good none is_after (d, spells, edited, (v, is_value, name, at, made), text) =
+insert_goes p value profile manner before after old now newline good none is_after (d, spells, edited, (v, is_value, name, at, made), text) =
     let same : d ≡ good.tree = one_tree d good.tree before spells.0 good.spelled.0 in
     let lines = good.tree.lines in
-    let lines_are : edited ≡ insert_lines name v style lines = made ∙ ap (λ (x : Doc). insert_lines name v style x.lines) same in
-    let text_is : after ≡ good.tree.mark.text ++ joined (lines_parts (insert_lines name v style lines)) =
+    let lines_are : edited ≡ insert_lines name v manner lines = made ∙ ap (λ (x : Doc). insert_lines name v manner x.lines) same in
+    let text_is : after ≡ good.tree.mark.text ++ joined (lines_parts (insert_lines name v manner lines)) =
     text ∙ ap (λ (x : Doc). x.mark.text ++ joined (lines_parts edited)) same ∙ ap (λ ls. good.tree.mark.text ++ joined (lines_parts ls)) lines_are in
     record {
       comments_in = texts (comments (inside [] v));
       comments_are = (v, is_value.0, refl);
-      edited = insert_lines name v style lines;
-      forms = insert_forms name v style lines good.spelled.0.lines.forms newline is_value.0.form is_value.0.shallow;
+      edited = insert_lines name v manner lines;
+      forms = insert_forms name v manner lines good.spelled.0.lines.forms newline is_value.0.form is_value.0.shallow;
       text = text_is;
-      way = subst (λ x. HasWay (insert x value ∷ []) (texts (comments (inside [] v)) ∷ []) lines (insert_lines name v style lines)) (sym at)
-          (insert_way name value v style lines);
+      way = subst (λ x. HasWay (insert x value ∷ []) (texts (comments (inside [] v)) ∷ []) lines (insert_lines name v manner lines)) (sym at)
+          (insert_way name value v manner lines good.spelled.0.lines.forms);
     }
 
 set_goes : (p : Address) (value : List ℕ) → HaveWays (set p value)
-set_goes p value profile style before after old now newline good none is_after (d, spells, edited, (v, is_value, there, made), text) =
+set_goes p value profile manner before after old now newline good none is_after (d, spells, edited, (v, is_value, there, made), text) =
     let same : d ≡ good.tree = one_tree d good.tree before spells.0 good.spelled.0 in
     let lines = good.tree.lines in
     let there' : HasValue lines p = subst (λ (x : Doc). HasValue x.lines p) same there in
@@ -166,7 +167,7 @@ address_clear p lines forms keeps clear =
         )
 
 remove_goes : (p : Address) → HaveWays (remove p)
-remove_goes p profile style before after old now newline good none is_after (d, spells, edited, (name, at, there, made), text) =
+remove_goes p profile manner before after old now newline good none is_after (d, spells, edited, (name, at, there, made), text) =
     let same : d ≡ good.tree = one_tree d good.tree before spells.0 good.spelled.0 in
     let lines = good.tree.lines in
     let there' : HasPair lines (Name name ∷ []) = subst₂ (λ (x : Doc) q. HasPair x.lines q) same at there in
@@ -189,12 +190,12 @@ plain_goes (set p value) = set_goes p value
 plain_goes (insert p value) = insert_goes p value
 plain_goes (rename p to) = rename_goes p to
 plain_goes (remove p) = remove_goes p
-plain_goes (new_section p) = λ profile style before after old now newline good none is_after written. absurd written.3
-plain_goes (new_element p) = λ profile style before after old now newline good none is_after written. absurd written.3
+plain_goes (new_section p) = λ profile manner before after old now newline good none is_after written. absurd written.3
+plain_goes (new_element p) = λ profile manner before after old now newline good none is_after written. absurd written.3
 
 pub plain_is_carried : PlainIsCarried
-plain_is_carried c profile style before after old now newline good none is_after written new =
-    let gone = plain_goes c profile style before after old now newline good none is_after written in
+plain_is_carried c profile manner before after old now newline good none is_after written new =
+    let gone = plain_goes c profile manner before after old now newline good none is_after written in
     let bares = lines_again c profile before after old now good new gone in
     partners (c ∷ []) (gone.comments_in ∷ []) good.tree new.tree gone.edited gone.way (gone.comments_are, tt)
     (same_seen new.tree.lines gone.edited bares) (same_newlines new.tree.lines gone.edited bares)

@@ -31,6 +31,7 @@ use Rattle.toml_editor.proofs.written.WayKeeps.{moved_site, Keeps, no_more, line
 use Rattle.toml_editor.proofs.written.WayKept.{same_way, same_olds, same_news, same_adds}
 use Rattle.toml_editor.proofs.written.WayOn.{goes_on}
 use Rattle.toml_editor.proofs.written.WayWhole.{HasWay, partners, same_newlines, as_many}
+use Rattle.toml_working.specs.Manners.{Manner}
 
 -- ---- no edit
 
@@ -140,11 +141,11 @@ pub record HasListWay (cs : List Change) (d e : Doc) : Type 0 where
   pub comments_are : written.AreWritten cs comments_in
   pub way : HasWay cs comments_in d.lines e.lines
 
-pub list_goes : (cs : List Change) (profile : Profile) (style before after : List ℕ) (old now : Kinds) → IsNewline style
+pub list_goes : (cs : List Change) (profile : Profile) (manner : Manner) (before after : List ℕ) (old now : Kinds) → IsNewline manner.newline
     → (good : IsGoodText profile before old)
-    → Lead profile cs old now → AreWritten profile cs style before after → (new : IsGoodText profile after now)
+    → Lead profile cs old now → AreWritten profile cs manner before after → (new : IsGoodText profile after now)
     → HasListWay cs good.tree new.tree
-list_goes [] profile style before after old now newline good lead is new =
+list_goes [] profile manner before after old now newline good lead is new =
     let same : good.tree ≡ new.tree = one_tree good.tree new.tree after (subst (Spells good.tree) is good.spelled.0) new.spelled.0 in
     record {
       comments_in = [];
@@ -152,10 +153,10 @@ list_goes [] profile style before after old now newline good lead is new =
       way = subst (λ (x : Doc). HasWay [] [] good.tree.lines x.lines) same
           (none_way good.tree.lines);
     }
-list_goes (c ∷ cs) profile style before after old now newline good (none, mid, is_after, lead) (between, is, more) new =
-    let one = plain_step profile c style before between old mid newline good none is_after is in
-    let gone = plain_goes c profile style before between old mid newline good none is_after is in
-    let others = list_goes cs profile style between after mid now newline one.0 lead more new in
+list_goes (c ∷ cs) profile manner before after old now newline good (none, mid, is_after, lead) (between, is, more) new =
+    let one = plain_step profile c manner before between old mid newline good none is_after is in
+    let gone = plain_goes c profile manner before between old mid newline good none is_after is in
+    let others = list_goes cs profile manner between after mid now newline one.0 lead more new in
     let again = lines_again c profile before between old mid good one.0 gone in
     record {
       comments_in = gone.comments_in ∷ others.comments_in;
@@ -166,6 +167,6 @@ list_goes (c ∷ cs) profile style before after old now newline good (none, mid,
     }
 
 pub list_is_carried : ListIsCarried
-list_is_carried cs profile style before after old now newline good lead is new =
-    let goes = list_goes cs profile style before after old now newline good lead is new in
+list_is_carried cs profile manner before after old now newline good lead is new =
+    let goes = list_goes cs profile manner before after old now newline good lead is new in
     partners cs goes.comments_in good.tree new.tree new.tree.lines goes.way goes.comments_are refl refl

@@ -1,15 +1,20 @@
 -- An edit of a tree without places is the edit, without its places.
-use Rattle.std.proofs.Common.{◌≡◌, ℕ, ◌+◌, ◌==◌, Bool, true, false, cond, List, [], ◌∷◌, ◌++◌, map, length, refl, sym, ap, ap₂, ◌∙◌}
+use Rattle.std.proofs.Common.{◌≡◌, ℕ, ◌+◌, ◌==◌, Bool, true, false, ◌&&◌, not, cond, Option, Some, None, List, [], ◌∷◌, ◌++◌, map, length, refl, sym, ap, ap₂, ◌∙◌}
 use Rattle.std.proofs.lemmas.List.{map-append}
+use Rattle.std.specs.Prelude.{is_some}
 use Rattle.toml_scalar.specs.Spelling.{spelled}
 use Rattle.toml_tree.specs.Tree.{Piece, Dotted, Key, Assign, Value, Scalar, Array, Inline, Items, Close, Last, More, Pairs, ClosePairs, LastPair, MorePairs, Header, Expr, BlankLine, KeyValLine, TableLine, ArrayTableLine, Line}
 use Rattle.toml_names.specs.model.Addresses.{Address, same_address, child, element, below}
 use Rattle.toml_names.specs.mentions.Keys.{part_name, key_names}
 use Rattle.toml_names.specs.mentions.Mentions.{Named, named_by, root, section, entered}
 use Rattle.toml_names.proofs.Proved.{key_places_are_not_named, line_places_are_not_named}
-use Rattle.toml_working.specs.Inserting.{new_line, line_behind, has_pair, insert_behind}
+use Rattle.toml_working.specs.declared.layout.Layout.{Layout}
+use Rattle.toml_working.specs.declared.layout.Layout.TheVariants as layouts
+use Rattle.toml_working.specs.Inserting.{comments_end, goes_below, has_comment, has_pair, insert_behind, insert_first, is_blank, is_comment, line_behind, new_line, spacing_of}
+use Rattle.toml_working.specs.Manners.{Manner}
+use Rattle.toml_working.specs.Spacings.{laid_out, plain_spacing}
 use Rattle.toml_working.specs.Lines.{array_of, inline_of, lines_from}
-use Rattle.toml_tree.specs.Bare.{fresh, bare, bare_blank, bare_dotted, bare_key, bare_assign, bare_gap, bare_value, bare_items, bare_pairs, bare_header, bare_expr, bare_line}
+use Rattle.toml_tree.specs.Bare.{fresh, bare, bare_blank, bare_comment, bare_dotted, bare_key, bare_assign, bare_gap, bare_value, bare_items, bare_pairs, bare_header, bare_expr, bare_line}
 use Rattle.toml_tree.proofs.Proved.{bare_items_text, bare_pairs_text}
 use Rattle.toml_editor.specs.Bares.{SetBares, InsertBares, RenameBares, RemoveBares}
 use Rattle.toml_working.specs.Removing.{remove_line, left_behind, empty_line}
@@ -80,38 +85,98 @@ set_bares p new lines = from_bared (set_line p new) (set_line p (bare_value new)
 
 -- ---- insert
 
-module _ (name : List ℕ) (v : Value) (style : List ℕ) where
-  behind_bared : (l : Line) (ls : List Line) → map bare_line (line_behind name v style l ls) ≡ line_behind name (bare_value v) style (bare_line l) (map bare_line ls)
-  behind_bared l [] = refl
-  behind_bared l (m ∷ ms) = refl
+spacing_bared : (e : Expr) → spacing_of (bare_expr e) ≡ spacing_of e
+spacing_bared (BlankLine b) = refl
+spacing_bared (KeyValLine ws k b) = refl
+spacing_bared (TableLine ws h b) = refl
+spacing_bared (ArrayTableLine ws h b) = refl
 
-  has_bared : (ls : List Line) → has_pair (map bare_line ls) ≡ has_pair ls
-  has_bared [] = refl
-  has_bared (l ∷ ls) = by l.expr (has_bared ls)
-    where
-      by : (e : Expr) → has_pair (map bare_line ls) ≡ has_pair ls
-          → ◌≡◌ {A = Bool} (elim (bare_expr e) [ BlankLine b ↦ has_pair (map bare_line ls) | KeyValLine ws pair tail ↦ true | TableLine ws header tail ↦ false | ArrayTableLine ws header tail ↦ false ])
-          (elim e [ BlankLine b ↦ has_pair ls | KeyValLine ws pair tail ↦ true | TableLine ws header tail ↦ false | ArrayTableLine ws header tail ↦ false ])
-      by (BlankLine b) same = same
-      by (KeyValLine ws k b) same = refl
-      by (TableLine ws h b) same = refl
-      by (ArrayTableLine ws h b) same = refl
+pair_bared : (ls : List Line) → has_pair (map bare_line ls) ≡ has_pair ls
+pair_bared [] = refl
+pair_bared (l ∷ ls) = by l.expr (pair_bared ls)
+  where
+    by : (e : Expr) → has_pair (map bare_line ls) ≡ has_pair ls
+        → ◌≡◌ {A = Bool} (elim (bare_expr e) [ BlankLine b ↦ has_pair (map bare_line ls) | KeyValLine ws pair tail ↦ true | TableLine ws header tail ↦ false | ArrayTableLine ws header tail ↦ false ])
+        (elim e [ BlankLine b ↦ has_pair ls | KeyValLine ws pair tail ↦ true | TableLine ws header tail ↦ false | ArrayTableLine ws header tail ↦ false ])
+    by (BlankLine b) same = same
+    by (KeyValLine ws k b) same = refl
+    by (TableLine ws h b) same = refl
+    by (ArrayTableLine ws h b) same = refl
 
-  last_bared : (ls : List Line) → map bare_line (insert_behind name v style ls) ≡ insert_behind name (bare_value v) style (map bare_line ls)
-  last_bared [] = refl
-  last_bared (l ∷ ls) = by (has_pair ls) (last_bared ls) ∙ ap (λ b. cond b (bare_line l ∷ insert_behind name (bare_value v) style (map bare_line ls)) (line_behind name (bare_value v) style (bare_line l) (map bare_line ls))) (sym (has_bared ls))
+some_bared : (c : Option Piece) → is_some (bare_comment c) ≡ is_some c
+some_bared None = refl
+some_bared (Some p) = refl
+
+comment_bared : (e : Expr) → is_comment (bare_expr e) ≡ is_comment e
+comment_bared (BlankLine b) = some_bared b.comment
+comment_bared (KeyValLine ws k b) = refl
+comment_bared (TableLine ws h b) = refl
+comment_bared (ArrayTableLine ws h b) = refl
+
+blank_line_bared : (e : Expr) → is_blank (bare_expr e) ≡ is_blank e
+blank_line_bared (BlankLine b) = ap not (some_bared b.comment)
+blank_line_bared (KeyValLine ws k b) = refl
+blank_line_bared (TableLine ws h b) = refl
+blank_line_bared (ArrayTableLine ws h b) = refl
+
+comments_bared : (ls : List Line) → has_comment (map bare_line ls) ≡ has_comment ls
+comments_bared [] = refl
+comments_bared (l ∷ ls) = comment_bared l.expr
+
+end_bared : (ls : List Line) → comments_end (map bare_line ls) ≡ comments_end ls
+end_bared [] = refl
+end_bared (l ∷ ls) =
+    ap₂ (λ c b. cond c (comments_end (map bare_line ls)) b) (comment_bared l.expr) (blank_line_bared l.expr)
+    ∙ ap (λ e. cond (is_comment l.expr) e (is_blank l.expr)) (end_bared ls)
+
+below_bared : (layout : Layout) (ls : List Line) → goes_below layout (map bare_line ls) ≡ goes_below layout ls
+below_bared layouts.Plain ls = refl
+below_bared layouts.Follow ls = ap₂ (λ a b. a && b) (comments_bared ls) (end_bared ls)
+
+module _ (name : List ℕ) (v : Value) (manner : Manner) where
+  behind_bared : (l : Line) (ls : List Line) → map bare_line (line_behind name v manner l ls) ≡ line_behind name (bare_value v) manner (bare_line l) (map bare_line ls)
+  behind_bared l [] =
+      ap (λ s. record { expr = bare_expr l.expr; newline = fresh manner.newline } ∷ new_line (laid_out manner.layout s) name (bare_value v) [] ∷ [])
+      (sym (spacing_bared l.expr))
+  behind_bared l (m ∷ ms) =
+      ap (λ s. bare_line l ∷ new_line (laid_out manner.layout s) name (bare_value v) manner.newline ∷ bare_line m ∷ map bare_line ms) (sym (spacing_bared l.expr))
+
+  module _ (more : List Line → Bool) (same : (ls : List Line) → more (map bare_line ls) ≡ more ls) where
+    last_bared : (ls : List Line) → map bare_line (insert_behind more name v manner ls) ≡ insert_behind more name (bare_value v) manner (map bare_line ls)
+    last_bared [] = refl
+    last_bared (l ∷ ls) =
+        by (more ls) (last_bared ls)
+        ∙ ap (λ b. cond b (bare_line l ∷ insert_behind more name (bare_value v) manner (map bare_line ls)) (line_behind name (bare_value v) manner (bare_line l) (map bare_line ls))) (sym (same ls))
+      where
+        by : (b : Bool) → map bare_line (insert_behind more name v manner ls) ≡ insert_behind more name (bare_value v) manner (map bare_line ls)
+            → map bare_line (cond b (l ∷ insert_behind more name v manner ls) (line_behind name v manner l ls))
+            ≡ cond b (bare_line l ∷ insert_behind more name (bare_value v) manner (map bare_line ls)) (line_behind name (bare_value v) manner (bare_line l) (map bare_line ls))
+        by true others = ap (λ r. bare_line l ∷ r) others
+        by false others = behind_bared l ls
+
+  first_bared : (lines : List Line) → map bare_line (insert_first name v manner lines) ≡ insert_first name (bare_value v) manner (map bare_line lines)
+  first_bared lines =
+      by (goes_below manner.layout lines)
+      ∙ ap (λ b. cond b (insert_behind has_comment name (bare_value v) manner (map bare_line lines)) (new_line plain_spacing name (bare_value v) manner.newline ∷ map bare_line lines))
+      (sym (below_bared manner.layout lines))
     where
-      by : (b : Bool) → map bare_line (insert_behind name v style ls) ≡ insert_behind name (bare_value v) style (map bare_line ls)
-          → map bare_line (cond b (l ∷ insert_behind name v style ls) (line_behind name v style l ls)) ≡ cond b (bare_line l ∷ insert_behind name (bare_value v) style (map bare_line ls)) (line_behind name (bare_value v) style (bare_line l) (map bare_line ls))
-      by true more = ap (λ r. bare_line l ∷ r) more
-      by false more = behind_bared l ls
+      by : (b : Bool)
+          → map bare_line (cond b (insert_behind has_comment name v manner lines) (new_line plain_spacing name v manner.newline ∷ lines))
+          ≡ cond b (insert_behind has_comment name (bare_value v) manner (map bare_line lines)) (new_line plain_spacing name (bare_value v) manner.newline ∷ map bare_line lines)
+      by true = last_bared has_comment comments_bared lines
+      by false = refl
 
 pub insert_bares : InsertBares
-insert_bares name v style lines = by (has_pair lines) ∙ ap (λ b. cond b (insert_behind name (bare_value v) style (map bare_line lines)) (new_line name (bare_value v) style ∷ map bare_line lines)) (sym (has_bared name v style lines))
+insert_bares name v manner lines =
+    by (has_pair lines)
+    ∙ ap (λ b. cond b (insert_behind has_pair name (bare_value v) manner (map bare_line lines)) (insert_first name (bare_value v) manner (map bare_line lines)))
+    (sym (pair_bared lines))
   where
-    by : (b : Bool) → map bare_line (cond b (insert_behind name v style lines) (new_line name v style ∷ lines)) ≡ cond b (insert_behind name (bare_value v) style (map bare_line lines)) (new_line name (bare_value v) style ∷ map bare_line lines)
-    by true = last_bared name v style lines
-    by false = refl
+    by : (b : Bool)
+        → map bare_line (cond b (insert_behind has_pair name v manner lines) (insert_first name v manner lines))
+        ≡ cond b (insert_behind has_pair name (bare_value v) manner (map bare_line lines)) (insert_first name (bare_value v) manner (map bare_line lines))
+    by true = last_bared name v manner has_pair pair_bared lines
+    by false = first_bared name v manner lines
 
 -- ---- rename
 

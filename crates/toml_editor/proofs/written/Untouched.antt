@@ -12,13 +12,13 @@ use Rattle.toml_names.specs.mentions.Keys.{part_name, key_names, rest_names}
 use Rattle.toml_names.specs.mentions.Mentions.{Named, named, named_by, named_from, root, section, entered}
 use Rattle.toml_names.specs.model.Addresses.{Address, IsAbove, child, element, below}
 use Rattle.toml_editor.specs.InsertLaws.{InsertKeepsLines}
-use Rattle.toml_working.specs.Inserting.{new_line, line_behind, has_pair, insert_behind, insert_lines}
 use Rattle.toml_working.specs.Lines.{array_of, inline_of, lines_from}
 use Rattle.toml_editor.specs.RenameLaws.{HasNoPart, IsBesideKeys, RenameKeepsLine}
 use Rattle.toml_working.specs.Renaming.{rename_part, rename_rest, rename_key, rename_assign, rename_value, rename_items, rename_pairs, rename_header, rename_expr}
 use Rattle.toml_editor.specs.SetLaws.{IsBesideValue, SetKeepsLine}
 use Rattle.toml_working.specs.Setting.{set_value, set_expr}
 use Rattle.toml_editor.proofs.written.Clear.{differ}
+use Rattle.toml_editor.proofs.written.InsertPlace.{insert_place}
 use Rattle.toml_editor.proofs.written.Elsewhere.{beyond, set_within_kept}
 use Rattle.toml_editor.proofs.written.Unplaced.{array_bared, inline_bared, set_bared}
 
@@ -127,26 +127,8 @@ rename_keeps_line p to front back l is beside =
 
 -- ---- insert
 
-module _ (name : List ℕ) (v : Value) (style : List ℕ) where
-  -- behind one of the lines
-  abbrev Behind : List Line → List Line → Type 0
-  Behind old new = (front : List Line) × (l : Line) × (back : List Line) × (old ≡ front ++ l ∷ back) × (new ≡ front ++ line_behind name v style l back)
-
-  behind_one : (ls : List Line) → has_pair ls ≡ true → Behind ls (insert_behind name v style ls)
-  behind_one [] is = absurd (true≢false (sym is))
-  behind_one (l ∷ ls) is = by (has_pair ls) refl (behind_one ls)
-    where
-      by : (b : Bool) → has_pair ls ≡ b → (has_pair ls ≡ true → Behind ls (insert_behind name v style ls)) → Behind (l ∷ ls) (insert_behind name v style (l ∷ ls))
-      by true is more =
-          let found = more is in
-          (l ∷ found.0, found.1, found.2, ap (λ r. l ∷ r) found.3, cond-true _ _ _ is ∙ ap (λ r. l ∷ r) found.4)
-      by false is more = ([], l, ls, refl, cond-false _ _ _ is)
-
 pub insert_keeps_lines : InsertKeepsLines
-insert_keeps_lines name v style lines = by (has_pair lines) refl
-  where
-    by : (b : Bool) → has_pair lines ≡ b → (insert_lines name v style lines ≡ new_line name v style ∷ lines) ⊎ Behind name v style lines (insert_lines name v style lines)
-    by true is =
-        let found = behind_one name v style lines is in
-        inr (found.0, found.1, found.2, found.3, cond-true _ _ _ is ∙ found.4)
-    by false is = inl (cond-false _ _ _ is)
+insert_keeps_lines name v manner lines = elim (insert_place name v manner lines) [
+  | inl first ↦ inl first
+  | inr found ↦ inr (found.front, found.line, found.back, found.before, found.after)
+]

@@ -2,19 +2,21 @@
 use Rattle.std.proofs.Common.{◌≡◌, ◌⊎◌, inl, inr, ◌<◌, ◌+◌, ℕ, suc, Option, Some, None, List, [], ◌∷◌, ◌++◌, map, length, refl, sym, ap, ap₂, ◌∙◌, subst, subst₂, true≢false, arith, append-nil}
 use Rattle.std.specs.Prelude.{slice_get, option_and_then}
 use Rattle.toml_tree.specs.Bare.{fresh}
-use Rattle.toml_tree.specs.Spells.{EachIs}
+use Rattle.toml_tree.specs.Spells.{AreLines, EachIs}
 use Rattle.toml_tree.specs.Tree.{Value, Line}
 use Rattle.toml_names.specs.declared.model.address.Step.TheVariants.{Name}
 use Rattle.toml_names.specs.model.Addresses.{Address}
 use Rattle.toml_edits.specs.Carry.{carry}
 use Rattle.toml_edits.specs.Edits.{Change, insert}
 use Rattle.toml_units.specs.declared.unit.UnitKind.TheVariants as kinds
-use Rattle.toml_units.specs.Units.{TextUnit, inside}
+use Rattle.toml_units.specs.Units.{TextUnit, inside, units}
 use Rattle.toml_checker.specs.CarriedTo.{At}
 use Rattle.toml_checker.specs.Comments.{texts}
 use Rattle.toml_checker.specs.Owed.{IsOwed}
 use Rattle.toml_checker.specs.Plain.{Site}
 use Rattle.toml_working.specs.Inserting.{insert_lines}
+use Rattle.toml_working.specs.Manners.{Manner}
+use Rattle.toml_working.specs.Spacings.{Spacing}
 use Rattle.toml_working.specs.Together.{GoTogether}
 use Rattle.toml_editor.specs.UnitBlocks.{BeginWithLine, root_line, pair_text}
 use Rattle.toml_editor.proofs.Each.{each_append}
@@ -35,7 +37,7 @@ pub all_same : (us : List TextUnit) → GoTogether (λ u w. u ≡ w) us us
 all_same [] = tt
 all_same (u ∷ us) = (refl, all_same us)
 
-module _ (name text : List ℕ) (v : Value) where
+module _ (name text : List ℕ) (v : Value) (s : Spacing) where
   abbrev p : Address
   p = Name name ∷ []
 
@@ -69,7 +71,7 @@ module _ (name text : List ℕ) (v : Value) where
       stays (Some x) = refl
 
   abbrev block : List TextUnit
-  block = root_line (fresh (pair_text name v)) name v None
+  block = root_line (fresh (pair_text s name v)) name v None
 
   block_asked : (before after : List (List ℕ)) → EachIs (λ w. (k : ℕ) → IsAsked (c ∷ []) (ts ∷ []) before after k w) block
   block_asked before after = (
@@ -92,10 +94,10 @@ module _ (name text : List ℕ) (v : Value) where
   some_lines [] line = inl refl
   some_lines (u ∷ us) line = let e : one_line u.kind ≡ 1 = ap one_line line in inr (omega (arith, e))
 
-  put_keeps : {before after : List (List ℕ)} {us ws : List TextUnit} (well : IsPutWell us block ws before after)
+  put_keeps : {Formed : Type 0} {before after : List (List ℕ)} {us ws : List TextUnit} (formed : Formed) (well : IsPutWell Formed us block ws before after)
       → lines_in us ≡ length before → lines_in ws ≡ length after
       → Keeps (c ∷ []) before after None None 0 0 (zip well.put.front well.put.front ++ (map new block ++ zip well.put.back well.put.back))
-  put_keeps {before} {after} well old_count new_count =
+  put_keeps {Formed} {before} {after} formed well old_count new_count =
       let front = well.put.front in
       let back = well.put.back in
       let n = lines_in front in
@@ -116,7 +118,7 @@ module _ (name text : List ℕ) (v : Value) where
         last = λ h. let f : ⊥ = omega (arith, low, h, new_total) in absurd f;
       })
       (elim (some_lines back well.put.next) [
-        | inl none ↦ inr (well.full none, omega (arith, old_total))
+        | inl none ↦ inr (well.full formed none, omega (arith, old_total))
         | inr some ↦ inl (λ x low h. let f : ⊥ = omega (arith, some, low, h, old_total) in absurd f)
       ]))
       (keeps_append c before after (map new block) (same_way back) (line_after None (same_way front)) (next_after None (same_way front))
@@ -146,13 +148,13 @@ module _ (name text : List ℕ) (v : Value) where
         each_append _ (inside p v) [] (inner_blank c before after p (inside p v) (value_in p v p (inr refl))) tt,
       )
 
-  pub insert_way : (style : List ℕ) (lines : List Line) → HasWay (c ∷ []) (ts ∷ []) lines (insert_lines name v style lines)
-  insert_way style lines =
-      let well = put_lines name v style lines in
+  put_way : (lines edited : List Line) → AreLines lines
+      → IsPutWell (AreLines lines) (units lines) block (units edited) (newlines lines) (newlines edited) → HasWay (c ∷ []) (ts ∷ []) lines edited
+  put_way lines edited formed well =
       let front = well.put.front in
       let back = well.put.back in
       let before = newlines lines in
-      let after = newlines (insert_lines name v style lines) in
+      let after = newlines edited in
       let head = zip front front in
       let tail = zip back back in
       let olds_head = zip_olds (λ u w. u ≡ w) front front (all_same front) in
@@ -175,13 +177,18 @@ module _ (name text : List ℕ) (v : Value) where
             ∙ well.back_ends x
             ∙ ap (slice_get after) (let e = ap lines_in news_head in let f = ap lines_in (new_news block) in
             let g : lines_in front + suc x ≡ ((0 + lines_in (news head)) + lines_in (news (map new block))) + x = omega (arith, e, f, block_lines) in g)))));
-        keeps = put_keeps well (count_lines lines (root ∷ []) 0) (count_lines (insert_lines name v style lines) (root ∷ []) 0);
+        keeps = put_keeps formed well (count_lines lines (root ∷ []) 0) (count_lines edited (root ∷ []) 0);
         comments_few = λ t. as_many t (texts (comments (added (head ++ (map new block ++ tail))))) (ts ++ []) (
             ap (λ us. texts (comments us)) (added_append head (map new block ++ tail) ∙ ap₂ (λ x y. x ++ y) (zip_adds front front) (added_append (map new block) tail ∙ ap₂ (λ x y. x ++ y) (new_adds block) (zip_adds back back)) ∙ append-nil block)
             ∙ ap (λ us. texts (comments us)) (append-nil (inside p v)) ∙ same_comments p v ∙ sym (append-nil ts));
       }
     where
-      front_same : {before after : List (List ℕ)} {us ws : List TextUnit} (well : IsPutWell us block ws before after) (x : ℕ) → x < lines_in well.put.front → SameNewline (c ∷ []) (ts ∷ []) before after (0 + x) (0 + x)
-      front_same {before} {after} well x low =
+      front_same : {Formed : Type 0} {before after : List (List ℕ)} {us ws : List TextUnit} (well : IsPutWell Formed us block ws before after) (x : ℕ) → x < lines_in well.put.front → SameNewline (c ∷ []) (ts ∷ []) before after (0 + x) (0 + x)
+      front_same {Formed} {before} {after} well x low =
           let e : x ≡ 0 + x = omega arith in
           subst (λ n. SameNewline (c ∷ []) (ts ∷ []) before after n n) e (elim (well.front_ends x low) [ inl is ↦ inl is | inr last ↦ inr (inl last) ])
+
+pub insert_way : (name text : List ℕ) (v : Value) (manner : Manner) (lines : List Line) → AreLines lines
+    → HasWay (insert (Name name ∷ []) text ∷ []) (texts (comments (inside [] v)) ∷ []) lines (insert_lines name v manner lines)
+insert_way name text v manner lines formed =
+    let (s, plain, well) = put_lines name v manner lines in put_way name text v s lines (insert_lines name v manner lines) formed well

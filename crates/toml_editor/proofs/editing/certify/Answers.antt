@@ -12,26 +12,21 @@ returns-in-Found-clause-edited c =
     let answer = subst (IsAnswer c.args.profile c.args.before.now cs c.as_bytes-after.result.now) c.in-Found.is c.in_ok-certificate.ensures.answer in
     let found = subst (λ t. IsCertificate c.args.profile c.args.before.now cs t pairs) c.as_bytes-after.ensures.value answer in
     record {
-      certified = found.certified;
-      outer = found.outermost;
-      said = λ said. record {
+      edited = record {
         certified = found.certified;
         outer = found.outermost;
-        plain = c.requires.made.plain said;
-        passed = c.requires.made.passed said;
+        plain = c.requires.made.plain;
+        passed = c.requires.made.passed;
       };
       pieces = c.requires.made.pieces;
     }
 
 pub returns-then-len-gt-MAX_LEN-clause-told : goal.returns-then-len-gt-MAX_LEN-clause-told
-returns-then-len-gt-MAX_LEN-clause-told c = record {
-  of_data = c.requires.made.are_defined;
-  said = λ said. (
-    c.requires.made.are_defined,
-    (string_bytes c.args.made.text, c.requires.made.plain said, omega (arith, c.len.ensures, c.if-len-gt-MAX_LEN.true)),
-    c.requires.made.passed said,
-  );
-}
+returns-then-len-gt-MAX_LEN-clause-told c = (
+  c.requires.made.are_defined,
+  (string_bytes c.args.made.text, c.requires.made.plain, omega (arith, c.len.ensures, c.if-len-gt-MAX_LEN.true)),
+  c.requires.made.passed,
+)
 
 pub returns-in-No-clause-told : goal.returns-in-No-clause-told
 returns-in-No-clause-told c =
@@ -41,16 +36,12 @@ returns-in-No-clause-told c =
     let within = within_limit c.args.made.text (omega (arith, c.len.ensures, c.if-len-gt-MAX_LEN.false)) in
     let answer = subst (IsAnswer c.args.profile before cs c.as_bytes-after.result.now) c.in-No.is c.in_ok-certificate.ensures.answer in
     let unmet : IsFirstUnmet c.args.profile before cs after c.in-No.reason =
-    subst (λ t. IsFirstUnmet c.args.profile before cs t c.in-No.reason) c.as_bytes-after.ensures.value answer in
-    record {
-      of_data = (c.requires.made.are_defined, (after, within, unmet));
-      said = λ said. (
-        c.requires.made.are_defined,
-        no_is_not_plain c.args.profile before after cs c.requires.made.are_defined.0 within (c.requires.made.plain said) c.in-No.reason unmet,
-        c.requires.made.passed said,
-        (after, within, unmet),
-      );
-    }
+    subst (λ t. IsFirstUnmet c.args.profile before cs t c.in-No.reason) c.as_bytes-after.ensures.value answer in (
+      c.requires.made.are_defined,
+      no_is_not_plain c.args.layout c.args.profile before after cs c.requires.made.are_defined.0 within c.requires.made.plain c.in-No.reason unmet,
+      c.requires.made.passed,
+      (after, within, unmet),
+    )
 
 pub returns-in-No-clause-judged : goal.returns-in-No-clause-judged
 returns-in-No-clause-judged c =

@@ -1,6 +1,7 @@
 use Rattle.std.proofs.Common.{map, refl, string_bytes, subst, sym}
 use Rattle.toml_edits.specs.Edits.{change}
-use Rattle.toml_editor.specs.Editing.{IsMadeText, IsReadFrom, TellsIn}
+use Rattle.toml_editor.specs.Edited.{TellsWith}
+use Rattle.toml_editor.specs.Editing.{IsMadeText, IsReadFrom}
 use Rattle.toml_editor.specs.declared.making.Read.{Read}
 use Rattle.toml_editor.proofs.ReadDocuments.{read_from}
 use Rattle.toml_editor.proofs.editing.edit_read.Goals as goal
@@ -25,4 +26,4 @@ certify-requires-clause-made c =
 
 pub returns-in-Err-clause-told : goal.returns-in-Err-clause-told
 returns-in-Err-clause-told c =
-    subst (λ t. TellsIn c.args.layout c.args.profile t (map change c.args.edits.now) c.in-Err.fault) c.requires.read.text_is c.in-Err.ensures.told
+    subst (λ t. TellsWith c.args.layout c.args.profile t (map change c.args.edits.now) c.in-Err.fault) c.requires.read.text_is c.in-Err.ensures.told

@@ -1,18 +1,21 @@
-use Rattle.std.proofs.Common.{ap, length, map, string_bytes, subst, sym}
+use Rattle.std.proofs.Common.{ap, length, refl, map, string_bytes, subst, sym}
+use mathlib.Core.Path.{fun_ext}
 use Rattle.toml_text.specs.Source.{text_of}
 use Rattle.toml_names.specs.model.AddressSets.{is_hidden}
-use Rattle.toml_names.specs.model.Data.{fact_at, kind_at}
+use Rattle.toml_names.specs.model.Data.{fact_at}
 use Rattle.toml_names.specs.model.Hidden.{beside}
 use Rattle.toml_names.specs.model.Places.{place}
 use Rattle.toml_names.specs.mentions.Mentions.{named}
+use Rattle.toml_names.specs.reader.LineNames.{AreDataNear}
+use Rattle.toml_edits.specs.Drafts.{drafted}
 use Rattle.toml_edits.specs.Edits.{change}
 use Rattle.toml_edits.proofs.Proved.{leads_beside}
 use Rattle.toml_working.specs.declared.texts.Texts.{Texts}
-use Rattle.toml_working.specs.Layouts.{AreSaid}
 use Rattle.toml_working.specs.Starting.{read_of}
 use Rattle.toml_editor.proofs.Answered.{if_ok_two}
-use Rattle.toml_editor.proofs.Judgements.{any_tells, any_tells_of_data}
+use Rattle.toml_editor.proofs.Judgements.{any_tells}
 use Rattle.toml_editor.proofs.NearFaults.{any_of_all, has_data}
+use Rattle.toml_editor.proofs.SourceKept.{as_read}
 use Rattle.toml_editor.proofs.PassedSpread.{no_spread_set, stops_told}
 use Rattle.toml_editor.proofs.ReadDocuments.{is_document, is_read_of, spelled, tree}
 use Rattle.toml_editor.proofs.PlainMade.{plain_written}
@@ -29,21 +32,17 @@ returns-clause-told c =
     let cs = map change c.args.edits.now in
     let old = fact_at (named d.lines) in
     let facts = has_data profile text d document spells in
-    let near = c.in_ok-data.ensures d.lines is.names old facts in
-    let part = kind_at c.in_ok-data.«data».root in
+    let part = drafted c.of-draft.result in
+    let near = subst (λ k. AreDataNear c.args.read.names.now (is_hidden c.args.touched.now) k) (sym (fun_ext c.of-draft.ensures)) c.in_ok-near.ensures d.lines is.names old facts in
     let told = c.in-Err-make_all.ensures.told in
     let opened = c.in-Ok.ensures in
     let fault = c.in-Err-make_all.fault in
     let any = any_of_all profile (place (named d.lines)) (is_hidden c.args.touched.now) old cs c.requires.touched part near fault told.told in
-    record {
-      of_data = any_tells_of_data profile text cs d old fault document spells facts any;
-      said = λ said.
-          let here = subst (λ (t : Texts). AreSaid t.layout cs) (sym opened.texts_are) said in
-          let both = stops_told profile (read_of c.args.read.before) d text c.in-Ok.tree document
-          spells opened.stands (ap (λ (t : Texts). text_of t.source) opened.texts_are) opened.elements opened.style
-          (is_hidden c.args.touched.now) cs c.requires.touched old facts part near here fault told.stops in
-          any_tells profile text cs d old fault document spells facts any both.0 both.1;
-    }
+    let both = stops_told profile (read_of c.args.read.before) d text c.in-Ok.tree document
+    spells opened.stands (ap (λ (t : Texts). text_of t.source) opened.texts_are) opened.elements c.args.layout
+    (as_read c.args.layout _ c.in-Ok.tree d.lines opened.texts_are refl opened.style)
+    (is_hidden c.args.touched.now) cs c.requires.touched old facts part near fault told.stops in
+    any_tells c.args.layout profile text cs d old fault document spells facts any both.0 both.1
 
 pub returns-in-Ok-make_all-clause-made : goal.returns-in-Ok-make_all-clause-made
 returns-in-Ok-make_all-clause-made c =
@@ -56,23 +55,25 @@ returns-in-Ok-make_all-clause-made c =
     let cs = map change c.args.edits.now in
     let old = fact_at (named d.lines) in
     let facts = has_data profile text d document spells in
-    let near = c.in_ok-data.ensures d.lines is.names old facts in
-    let new = kind_at c.make_all.new.«data».root in
-    let leads = leads_beside profile (is_hidden c.args.touched.now) cs old (kind_at c.in_ok-data.«data».root) new
+    let part = drafted c.of-draft.result in
+    let near = subst (λ k. AreDataNear c.args.read.names.now (is_hidden c.args.touched.now) k) (sym (fun_ext c.of-draft.ensures)) c.in_ok-near.ensures d.lines is.names old facts in
+    let new = drafted c.make_all.new.draft in
+    let leads = leads_beside profile (is_hidden c.args.touched.now) cs old part new
     c.requires.touched near c.in-Ok-make_all.ensures.made.lead in
     let opened = c.in-Ok.ensures in
+    let mannered = as_read c.args.layout _ c.in-Ok.tree d.lines opened.texts_are refl opened.style in
     if_ok_two _ _ _ c.write_out.result
     (λ made pieces written. record {
-      plain = λ said.
+      plain =
           plain_written profile (read_of c.args.read.before) d text c.in-Ok.tree document
-          spells opened.stands (ap (λ (t : Texts). text_of t.source) opened.texts_are) opened.elements opened.style cs old
+          spells opened.stands (ap (λ (t : Texts). text_of t.source) opened.texts_are) opened.elements c.args.layout mannered cs old
           (beside (is_hidden c.args.touched.now) old new) c.make_all.new.tree (string_bytes made.text) facts leads
-          (subst (λ (t : Texts). AreSaid t.layout cs) (sym opened.texts_are) said) c.in-Ok-make_all.ensures.made.done.makes written;
-      passed = λ said.
+          c.in-Ok-make_all.ensures.made.done.makes written;
+      passed =
           no_spread_set profile (read_of c.args.read.before) d text c.in-Ok.tree document
-          spells opened.stands (ap (λ (t : Texts). text_of t.source) opened.texts_are) opened.elements opened.style
-          (is_hidden c.args.touched.now) cs c.requires.touched old facts (kind_at c.in_ok-data.«data».root) near
-          (subst (λ (t : Texts). AreSaid t.layout cs) (sym opened.texts_are) said) (length cs) c.in-Ok-make_all.ensures.made.done.passes;
+          spells opened.stands (ap (λ (t : Texts). text_of t.source) opened.texts_are) opened.elements c.args.layout mannered
+          (is_hidden c.args.touched.now) cs c.requires.touched old facts part near
+          (length cs) c.in-Ok-make_all.ensures.made.done.passes;
       are_defined = (document, (d, spells, old, facts, (beside (is_hidden c.args.touched.now) old new, leads)));
       pieces = pieces;
     }) c.write_out.ensures.pieces c.write_out.ensures.written

@@ -1,6 +1,6 @@
 use Rattle.std.proofs.Common.{arith, map, refl, subst, sym, take}
 use Rattle.std.proofs.lemmas.List.{length-map, take_all}
-use Rattle.toml_names.specs.model.Data.{kind_at}
+use Rattle.toml_edits.specs.Drafts.{drafted}
 use Rattle.toml_edits.specs.Edits.{change}
 use Rattle.toml_edits.specs.Lists.{Lead}
 use Rattle.toml_editor.specs.Exact.{MakesAll}
@@ -24,7 +24,7 @@ loop-index-init c =
     let profile = c.args.read.profile in
     let read = read_of c.args.read.before in
     let tree = c.args.tree.now in
-    ((λ a. refl), none_made profile read tree, none_passed profile read (map change c.args.edits.now) (kind_at c.args.data.now.root) tree)
+    ((λ a. refl), none_made profile read tree, none_passed profile read (map change c.args.edits.now) (drafted c.args.draft.now) tree)
 
 pub loop-index-preserved : goal.loop-index-preserved
 loop-index-preserved c =
@@ -35,10 +35,10 @@ loop-index-preserved c =
     let read = read_of c.args.read.before in
     let made = map change (take here.index edits) in
     let old = c.args.tree.now in
-    let near = kind_at c.args.data.now.root in
-    let part = kind_at here.«data».root in
+    let near = drafted c.args.draft.now in
+    let part = drafted here.draft in
     let taken = sym (take_map here.index edits) in (
-      led_on profile edits here.index edit near here.«data».root c.make.new.«data».root (omega arith) c.index-edits-index.is here.invariant.0 c.in_default.ensures.made.applied,
+      led_on profile edits here.index edit near here.draft c.make.new.draft (omega arith) c.index-edits-index.is here.invariant.0 c.in_default.ensures.made.applied,
       subst (λ ds. MakesAll profile read ds old c.make.new.tree) (sym (taken_on edits here.index edit (omega arith) c.index-edits-index.is))
           (more_made profile read made (change edit) old here.tree c.make.new.tree here.invariant.1 c.in_default.ensures.made.done.makes),
       more_passed profile read (map change edits) near part here.index (change edit) old here.tree here.invariant.2
@@ -56,8 +56,8 @@ returns-in-Err-clause-told c =
     let places = places_in c.args.read in
     let says = c.in-Err.ensures.told in
     let old = c.args.tree.now in
-    let near = kind_at c.args.data.now.root in
-    let part = kind_at here.«data».root in
+    let near = drafted c.args.draft.now in
+    let part = drafted here.draft in
     record {
       told = any_of_one profile places edits here.index edit near part c.in-Err.fault (omega arith) c.index-edits-index.is here.invariant.0 says.told;
       stops = stops_at profile read places (map change edits) near part here.index (change edit) old here.tree c.in-Err.fault here.invariant.2
@@ -72,7 +72,7 @@ returns-clause-made c =
     let profile = c.args.read.profile in
     let all = take_all here.index edits c.loop-index-test.false in
     record {
-      lead = subst (λ es. Lead profile (map change es) (kind_at c.args.data.now.root) (kind_at here.«data».root)) all here.invariant.0;
+      lead = subst (λ es. Lead profile (map change es) (drafted c.args.draft.now) (drafted here.draft)) all here.invariant.0;
       done = record {
         makes = subst (λ es. MakesAll profile (read_of c.args.read.before) (map change es) c.args.tree.now here.tree) all here.invariant.1;
         passes = λ k low. here.invariant.2 k (omega (arith, low, length-map edits change));

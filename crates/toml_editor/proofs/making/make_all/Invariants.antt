@@ -1,5 +1,5 @@
 use Rattle.std.proofs.Common.{map, take}
-use Rattle.toml_names.specs.model.Data.{kind_at}
+use Rattle.toml_edits.specs.Drafts.{drafted}
 use Rattle.toml_edits.specs.Edits.{change}
 use Rattle.toml_edits.specs.Lists.{Lead}
 use Rattle.toml_editor.specs.Exact.{MakesAll, PassesAll}
@@ -8,6 +8,6 @@ use Rattle.toml_editor.proofs.making.make_all.Given as goal
 
 abbrev pub invariant-loop-index : goal.invariant-loop-index
 invariant-loop-index l =
-    Lead l.read.profile (map change (take l.index l.edits)) (kind_at l.initial.«data».root) (kind_at l.«data».root)
+    Lead l.read.profile (map change (take l.index l.edits)) (drafted l.initial.draft) (drafted l.draft)
     × MakesAll l.read.profile (read_of l.read.before) (map change (take l.index l.edits)) l.initial.tree l.tree
-    × PassesAll l.read.profile (read_of l.read.before) (map change l.edits) (kind_at l.initial.«data».root) l.index l.initial.tree
+    × PassesAll l.read.profile (read_of l.read.before) (map change l.edits) (drafted l.initial.draft) l.index l.initial.tree

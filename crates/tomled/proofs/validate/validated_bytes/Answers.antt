@@ -1,5 +1,5 @@
 use Rattle.std.proofs.lemmas.Result.{IfOk-weaker}
-use Rattle.tomled.specs.Explaining.{IsExplainedText, IsValidated}
+use Rattle.toml_commands.specs.Explaining.{IsExplainedText, IsValidated}
 use Rattle.tomled.proofs.validate.validated_bytes.Goals as goal
 
 pub returns : goal.returns

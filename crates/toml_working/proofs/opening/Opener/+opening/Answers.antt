@@ -1,5 +1,6 @@
 use Rattle.std.proofs.Common.{◌≡◌, ◌∙◌, ap, sym, subst, map, arith}
 use Rattle.std.specs.Prelude.{option_map}
+use Rattle.toml_lists.specs.Gaps.{items}
 use Rattle.toml_text.specs.Source.{text_of}
 use Rattle.toml_tree.specs.Spells.{EachIs}
 use Rattle.toml_tree.specs.View.{piece, gap, element, member}
@@ -37,14 +38,14 @@ array-returns t c lies =
     let text = text_of c.args.self.texts.source in
     let here = c.loop-item in
     let all = all_opened (ElementLies text) element_outline element c.deref-item-items.result.now _ here.item-index (omega (arith, c.loop-item-test.false))
-    c.deref-item-items.ensures.value here.list.items _ c.from_vec.ensures.items (here.invariant lies) in
+    c.deref-item-items.ensures.value here.list.items _ c.of.ensures (here.invariant lies) in
     let end : EndLies text a.end → option_map gap_text c.match-array.end ≡ option_map (λ g. gap_spelled (gap g)) a.end = elim c.match-array.branch [
       | array-in-Some+in_ok-gap-in-Some w ↦
           end_opened text a.end w.in-Some.gap c.match-array.end w.in_ok-gap-in-Some.field-0 w.in-Some.is w.end-is w.in_ok-gap-in-Some.ensures
       | array-in-None w ↦ λ e. ap (option_map gap_text) w.end-is ∙ ap (option_map (λ g. gap_spelled (gap g))) (sym w.in-None.is)
     ] in
-    ap (λ e. outline.Listed e.opening e.entries) (entries_made (record { opening = c.opening.result; list = c.from_vec.result; end = c.match-array.end }))
-    ∙ array_opened text (piece a.whole) (map element a.items.items) a.end (leaf_text c.opening.result) c.from_vec.result.items c.match-array.end
+    ap (λ e. outline.Listed e.opening e.entries) (entries_made (record { opening = c.opening.result; list = c.of.result; end = c.match-array.end }))
+    ∙ array_opened text (piece a.whole) (map element a.items.items) a.end (leaf_text c.opening.result) (items c.of.result) c.match-array.end
     c.opening.ensures all end lies
 
 pub inline-loop-pair-init : goal.inline-loop-pair-init
@@ -71,14 +72,14 @@ inline-returns t c lies =
     let text = text_of c.args.self.texts.source in
     let here = c.loop-pair in
     let all = all_opened (MemberLies text) member_outline member c.deref-pair-items.result.now _ here.pair-index (omega (arith, c.loop-pair-test.false))
-    c.deref-pair-items.ensures.value here.list.items _ c.from_vec.ensures.items (here.invariant lies) in
+    c.deref-pair-items.ensures.value here.list.items _ c.of.ensures (here.invariant lies) in
     let end : EndLies text a.end → option_map gap_text c.match-table.end ≡ option_map (λ g. gap_spelled (gap g)) a.end = elim c.match-table.branch [
       | inline-in-Some+in_ok-gap-in-Some w ↦
           end_opened text a.end w.in-Some.gap c.match-table.end w.in_ok-gap-in-Some.field-0 w.in-Some.is w.end-is w.in_ok-gap-in-Some.ensures
       | inline-in-None w ↦ λ e. ap (option_map gap_text) w.end-is ∙ ap (option_map (λ g. gap_spelled (gap g))) (sym w.in-None.is)
     ] in
-    ap (λ e. outline.Braced e.opening e.entries) (entries_made (record { opening = c.opening.result; list = c.from_vec.result; end = c.match-table.end }))
-    ∙ inline_opened text (piece a.whole) (map member a.pairs.items) a.end (leaf_text c.opening.result) c.from_vec.result.items c.match-table.end
+    ap (λ e. outline.Braced e.opening e.entries) (entries_made (record { opening = c.opening.result; list = c.of.result; end = c.match-table.end }))
+    ∙ inline_opened text (piece a.whole) (map member a.pairs.items) a.end (leaf_text c.opening.result) (items c.of.result) c.match-table.end
     c.opening.ensures all end lies
 
 pub keyval-returns : goal.keyval-returns

@@ -1,5 +1,7 @@
-use Rattle.std.proofs.Common.{◌≡◌, ℕ, List, ◌∙◌, ap, refl, subst, subst₂, sym, Some}
+use Rattle.std.proofs.Common.{◌≡◌, ◌<◌, ℕ, List, ◌∙◌, ap, refl, rules, subst, subst₂, sym, Some}
+use Rattle.std.proofs.lemmas.Option.{slice_get_read}
 use Rattle.std.specs.Box.{with_value}
+use Rattle.toml_lists.specs.Gaps.{LiesAt}
 use Rattle.std.specs.Global.{Box}
 use Rattle.toml_names.specs.model.Addresses.{Address}
 use Rattle.toml_working.specs.declared.tree.Entries.{Entries}
@@ -10,8 +12,7 @@ use Rattle.toml_working.specs.Leading.{first_index, LeadsOn}
 use Rattle.toml_working.specs.OpenOutlines.{entries, value}
 use Rattle.toml_working.specs.Outlines.{Listed, Braced}
 use Rattle.toml_working.specs.RenamingIn.{KeysRenamed, RenamesEntry, RenamesIn}
-use Rattle.toml_working.proofs.OpenEntries.{entry_changed, entry_missing, entry_with}
-use Rattle.toml_working.proofs.Past.{none_past}
+use Rattle.toml_working.proofs.OpenEntries.{changed_at, changed_before, changed_behind, entry_missing}
 use Rattle.toml_working.proofs.Outlined.{array_made, inline_made}
 use Rattle.toml_working.proofs.RenameInside.{list_kept, list_renamed, no_step, no_step_renamed, table_keys_renamed, table_renamed}
 use Rattle.toml_working.proofs.texts.Texts.+renaming.Goals as goal
@@ -26,19 +27,29 @@ braced_renamed steps to own pairs now is renames =
     (subst (λ v. RenamesIn steps to (Braced (entries pairs.value).opening (entries pairs.value).entries) v)
     (sym (inline_made (with_value pairs now))) renames)
 
-pub rename_entry-returns-in_ok-rename_in-in-Some : goal.rename_entry-returns-in_ok-rename_in-in-Some
-rename_entry-returns-in_ok-rename_in-in-Some t c =
-    let old = c.args.entries.now in
-    let e = c.in-Some.entry.now in
-    entry_changed (RenamesIn c.args.steps.now c.args.to.now) (Unit {0}) old _ c.args.index e _ (value c.rename_in.new.own)
-    (c.in-Some.ensures.variant.0 refl)
-    c.in-Some.ensures.value refl (entry_with e c.rename_in.new.own) c.in_ok-rename_in-in-Some.ensures
+pub rename_at-returns : goal.rename_at-returns
+rename_at-returns t c =
+    let list = c.args.list.now in
+    let low : c.args.place < list.len = search rules in
+    changed_at (RenamesIn c.args.steps.now c.args.to.now) list.items c.args.place c.index_mut.result.now c.rename_in.new.own
+    (slice_get_read list.items list.len c.args.place c.index_mut.result.now list.ok.0 low c.index_mut.ensures.value) c.in_ok-rename_in.ensures
+
+pub rename_entry-returns-in_ok-rename_at-in-Some-Before : goal.rename_entry-returns-in_ok-rename_at-in-Some-Before
+rename_entry-returns-in_ok-rename_at-in-Some-Before t c =
+    let list = (out-Entries c.args.entries.now).list in
+    changed_before (RenamesIn c.args.steps.now c.args.to.now) (Unit {0}) c.args.entries.now c.rename_at.new.list list.last c.args.index
+    c.in-Some-Before.place (subst (LiesAt list c.args.index) c.in-Some-Before.field-0-is c.in-Some-Before.ensures)
+    c.in_ok-rename_at-in-Some-Before.ensures
+
+pub rename_entry-returns-in_ok-rename_at-in-Some-Behind : goal.rename_entry-returns-in_ok-rename_at-in-Some-Behind
+rename_entry-returns-in_ok-rename_at-in-Some-Behind t c =
+    let list = (out-Entries c.args.entries.now).list in
+    changed_behind (RenamesIn c.args.steps.now c.args.to.now) (Unit {0}) c.args.entries.now c.rename_at-in-Some-Behind.new.list list.last c.args.index
+    c.in-Some-Behind.place (subst (LiesAt list c.args.index) c.in-Some-Behind.field-0-is c.in-Some-Behind.ensures)
+    c.in_ok-rename_at-in-Some-Behind.ensures
 
 pub rename_entry-returns-in-None : goal.rename_entry-returns-in-None
-rename_entry-returns-in-None t c =
-    let list = (out-Entries c.args.entries.now).list in
-    entry_missing (RenamesIn c.args.steps.now c.args.to.now) (Unit {0}) c.args.entries.now c.args.index
-    (none_past list.items list.len c.args.index list.ok.0 c.in-None.ensures.variant.1) tt
+rename_entry-returns-in-None t c = entry_missing (RenamesIn c.args.steps.now c.args.to.now) (Unit {0}) c.args.entries.now c.args.index c.in-None.ensures tt
 
 pub rename_in-returns-in_default : goal.rename_in-returns-in_default
 rename_in-returns-in_default t c =

@@ -1,31 +1,42 @@
 use Rattle.std.proofs.Common.{◌≡◌, ◌∙◌, ap, refl, subst, subst₂, sym, true, false, Some}
+use Rattle.std.proofs.lemmas.Option.{slice_get_read}
 use Rattle.std.specs.Box.{with_value}
+use Rattle.toml_lists.specs.Gaps.{LiesAt}
 use Rattle.toml_working.specs.declared.tree.Value.TheVariants.{Array, Inline}
 use Rattle.toml_working.specs.declared.tree.Value.TheViews.{out-Entries}
 use Rattle.toml_working.specs.Leading.{first_index, LeadsOn, SetsEntry}
 use Rattle.toml_working.specs.OpenOutlines.{entries, leaf_text, value}
 use Rattle.toml_working.specs.Outlines.{Listed, Braced}
 use Rattle.toml_working.specs.Stands.{SetsIn}
-use Rattle.toml_working.proofs.OpenEntries.{entry_changed, entry_missing, entry_with}
-use Rattle.toml_working.proofs.Past.{none_past}
+use Rattle.toml_working.proofs.OpenEntries.{changed_at, changed_before, changed_behind, entry_missing}
 use Rattle.toml_working.proofs.Outlined.{array_made, inline_made, scalar_made}
 use Rattle.toml_working.proofs.SetInside.{empty_if, some_if, set_here, token_kept, list_kept, list_set, table_kept, table_set}
 use Rattle.toml_working.proofs.texts.Texts.+setting.Goals as goal
 
-pub set_entry-returns-in_ok-done-in-Some : goal.set_entry-returns-in_ok-done-in-Some
-set_entry-returns-in_ok-done-in-Some t c =
-    let old = c.args.entries.now in
-    let e = c.in-Some.entry.now in
-    let done = c.in_ok-done-in-Some.done in
-    entry_changed (λ v w. SetsIn c.args.steps.now (value c.args.new) v w done) (done ≡ false) old _ c.args.index e _
-    (value c.set_in.new.own)
-    (c.in-Some.ensures.variant.0 refl) c.in-Some.ensures.value refl (entry_with e c.set_in.new.own) c.in_ok-done-in-Some.ensures
+pub set_at-returns : goal.set_at-returns
+set_at-returns t c =
+    let list = c.args.list.now in
+    changed_at (λ v w. SetsIn c.args.steps.now (value c.args.new) v w c.in_ok-done.done) list.items c.args.place c.index_mut.result.now c.set_in.new.own
+    (slice_get_read list.items list.len c.args.place c.index_mut.result.now list.ok.0 c.requires c.index_mut.ensures.value) c.in_ok-done.ensures
+
+pub set_entry-returns-in_ok-done-in-Some-Before : goal.set_entry-returns-in_ok-done-in-Some-Before
+set_entry-returns-in_ok-done-in-Some-Before t c =
+    let list = (out-Entries c.args.entries.now).list in
+    let done = c.in_ok-done-in-Some-Before.done in
+    changed_before (λ v w. SetsIn c.args.steps.now (value c.args.new) v w done) (done ≡ false) c.args.entries.now c.set_at.new.list list.last c.args.index
+    c.in-Some-Before.place (subst (LiesAt list c.args.index) c.in-Some-Before.field-0-is c.in-Some-Before.ensures) c.in_ok-done-in-Some-Before.ensures
+
+pub set_entry-returns-in_ok-done-in-Some-Behind : goal.set_entry-returns-in_ok-done-in-Some-Behind
+set_entry-returns-in_ok-done-in-Some-Behind t c =
+    let list = (out-Entries c.args.entries.now).list in
+    let done = c.in_ok-done-in-Some-Behind.done in
+    changed_behind (λ v w. SetsIn c.args.steps.now (value c.args.new) v w done) (done ≡ false) c.args.entries.now c.set_at-in-Some-Behind.new.list list.last
+    c.args.index c.in-Some-Behind.place (subst (LiesAt list c.args.index) c.in-Some-Behind.field-0-is c.in-Some-Behind.ensures)
+    c.in_ok-done-in-Some-Behind.ensures
 
 pub set_entry-returns-in-None : goal.set_entry-returns-in-None
 set_entry-returns-in-None t c =
-    let list = (out-Entries c.args.entries.now).list in
-    entry_missing (λ v w. SetsIn c.args.steps.now (value c.args.new) v w false) (false ≡ false) c.args.entries.now c.args.index
-    (none_past list.items list.len c.args.index list.ok.0 c.in-None.ensures.variant.1) refl
+    entry_missing (λ v w. SetsIn c.args.steps.now (value c.args.new) v w false) (false ≡ false) c.args.entries.now c.args.index c.in-None.ensures refl
 
 pub set_in-returns-then-is_empty : goal.set_in-returns-then-is_empty
 set_in-returns-then-is_empty t c =

@@ -1,0 +1,150 @@
+-- What is said of a refusal, by what the words name.
+use Rattle.std.proofs.Common.{◌≡◌, ◌≢◌, ◌≤◌, ◌<◌, ◌⊎◌, ℕ, Bool, List, Option, Some, None, Vec, Bor, Result, Ok, Err, inl, inr, refl, sym, subst, arith}
+use Rattle.std.specs.Prelude.{IfOk}
+use Rattle.std.specs.declared.alloc.Global.{Global}
+use Rattle.toml_tree.specs.declared.profile.Profile.{Profile}
+use Rattle.toml_names.specs.model.Documents.{IsDocumentIn}
+use Rattle.toml_checker.specs.declared.verdict.Reason.{Reason}
+use Rattle.toml_checker.specs.declared.verdict.Reason.TheVariants.{BeforeRefused, AfterRefused, EditsRefused, OtherData, BadPair, Lost, Unasked, NewComment, NotTheSame}
+use Rattle.toml_explain.specs.Documents.{OpensAs}
+use Rattle.toml_explain.specs.Openings.{OpensBare, OpensInFile, OpensPlace}
+use Rattle.toml_explain.specs.Reasons.{told_of}
+use Rattle.toml_explain.specs.declared.input.Input.{Input}
+use Rattle.toml_words.specs.declared.request.Destination.{Destination}
+use Rattle.toml_words.specs.declared.request.Form.{Form}
+use Rattle.toml_words.specs.declared.request.Layout.{Layout}
+use Rattle.toml_words.specs.declared.request.OneEdit.{OneEdit}
+use Rattle.toml_words.specs.declared.request.Request.{Request}
+use Rattle.toml_words.specs.declared.request.Request.TheVariants as requests
+use Rattle.toml_commands.specs.Explaining.{IsSaid, IsSaidAtPlace, IsSaidOfEnding, IsSaidOfJudged, IsSaidOfList, IsSaidOfReason, IsSaidOfText, bytes_at, list_word}
+use Rattle.toml_delivery.specs.Outcomes.{Ends}
+use Rattle.toml_commands.specs.Refusals.{IsRefused}
+use Rattle.toml_commands.specs.Verify.{reason_code}
+use Rattle.toml_delivery.specs.declared.ending.Ending.{Ending}
+use Rattle.toml_delivery.specs.declared.ending.Ending.TheVariants.{Refused, NoMemory}
+use Rattle.toml_commands.specs.declared.judging.JudgedWords.{JudgedWords}
+use Rattle.toml_delivery.specs.declared.refusal.Refusal.{Refusal}
+
+-- the codes of reasons are near to one another
+pub code_bounds : (reason : Reason) → (401 ≤ reason_code reason) × (reason_code reason ≤ 409)
+code_bounds BeforeRefused = (omega arith, omega arith)
+code_bounds AfterRefused = (omega arith, omega arith)
+code_bounds EditsRefused = (omega arith, omega arith)
+code_bounds OtherData = (omega arith, omega arith)
+code_bounds BadPair = (omega arith, omega arith)
+code_bounds Lost = (omega arith, omega arith)
+code_bounds Unasked = (omega arith, omega arith)
+code_bounds NewComment = (omega arith, omega arith)
+code_bounds NotTheSame = (omega arith, omega arith)
+
+module _ {S E : Type 0} (f : S → List ℕ) (inputs : List (Vec ℕ Global)) (profile : Profile) where
+  module _ (r : Refusal) (word bytes : List ℕ) where
+    pub at_place : (place : List ℕ) (t : Result S E) → (r.code ≡ 340 → IfOk t (λ x. OpensPlace place r.place (f x)))
+        → (r.code < 300 → IfOk t (λ x. OpensAs profile word bytes r.code r.place (f x)))
+        → (300 ≤ r.code → r.code ≢ 340 → IfOk t (λ x. OpensInFile word bytes (f x))) → IfOk t (λ x. IsSaidAtPlace profile word bytes place r (f x))
+    at_place place (Ok x) p q s = record { no_place = p; no_document = q; in_file = s }
+    at_place place (Err e) p q s = tt
+
+    pub of_list : (list : List ℕ) (t : Result S E) → ((r.code ≡ 320) ⊎ (r.code ≡ 321) → IfOk t (λ x. OpensBare list (f x)))
+        → (r.code < 300 → IfOk t (λ x. OpensAs profile word bytes r.code r.place (f x)))
+        → (300 ≤ r.code → r.code ≢ 320 → r.code ≢ 321 → IfOk t (λ x. OpensInFile word bytes (f x))) → IfOk t (λ x. IsSaidOfList profile word bytes list r (f x))
+    of_list list (Ok x) p q s = record { no_list = p; no_document = q; in_file = s }
+    of_list list (Err e) p q s = tt
+
+  -- by the judge's reason
+  module _ (words : JudgedWords) where
+    of_input : (file : Input) (word : Bor (List ℕ)) (n : ℕ) → file.word.now ≡ word.now → file.bytes.now ≡ bytes_at inputs n → (t : Result S E)
+        → IfOk t (λ x. OpensInFile file.word.now file.bytes.now (f x)) → IfOk t (λ x. OpensInFile word.now (bytes_at inputs n) (f x))
+    of_input file word n p q t h =
+        subst (λ w. IfOk t (λ x. OpensInFile w (bytes_at inputs n) (f x))) p (subst (λ b. IfOk t (λ x. OpensInFile file.word.now b (f x))) q h)
+
+    pub of_texts : (reason : Reason) (before after : Input) → before.word.now ≡ words.before.now → before.bytes.now ≡ bytes_at inputs 0
+        → after.word.now ≡ words.after.now → after.bytes.now ≡ bytes_at inputs 2 → (t : Result S E)
+        → IfOk t (λ x. OpensInFile (told_of before after reason).word.now (told_of before after reason).bytes.now (f x)) → reason ≢ BeforeRefused
+        → reason ≢ AfterRefused → IfOk t (λ x. IsSaidOfReason profile words inputs reason (f x))
+    of_texts BeforeRefused before after p q u v t h not_before not_after = absurd (not_before refl)
+    of_texts AfterRefused before after p q u v t h not_before not_after = absurd (not_after refl)
+    of_texts EditsRefused before after p q u v t h not_before not_after = of_input before words.before 0 p q t h
+    of_texts Lost before after p q u v t h not_before not_after = of_input before words.before 0 p q t h
+    of_texts OtherData before after p q u v t h not_before not_after = of_input after words.after 2 u v t h
+    of_texts BadPair before after p q u v t h not_before not_after = of_input after words.after 2 u v t h
+    of_texts Unasked before after p q u v t h not_before not_after = of_input after words.after 2 u v t h
+    of_texts NewComment before after p q u v t h not_before not_after = of_input after words.after 2 u v t h
+    of_texts NotTheSame before after p q u v t h not_before not_after = of_input after words.after 2 u v t h
+
+    pub of_before_refused : (reason : Reason) → reason ≡ BeforeRefused → (w b : List ℕ) → w ≡ words.before.now → b ≡ bytes_at inputs 0 → (t : Result S E)
+        → IfOk t (λ x. IsSaidOfText profile w b (f x)) → IfOk t (λ x. IsSaidOfReason profile words inputs reason (f x))
+    of_before_refused reason is w b p q t h =
+        subst (λ y. IfOk t (λ x. IsSaidOfReason profile words inputs y (f x))) (sym is)
+        (subst (λ v. IfOk t (λ x. IsSaidOfText profile v (bytes_at inputs 0) (f x))) p (subst (λ v. IfOk t (λ x. IsSaidOfText profile w v (f x))) q h))
+
+    pub of_after_refused : (reason : Reason) → reason ≡ AfterRefused → (w b : List ℕ) → w ≡ words.after.now → b ≡ bytes_at inputs 2 → (t : Result S E)
+        → IfOk t (λ x. IsSaidOfText profile w b (f x)) → IfOk t (λ x. IsSaidOfReason profile words inputs reason (f x))
+    of_after_refused reason is w b p q t h =
+        subst (λ y. IfOk t (λ x. IsSaidOfReason profile words inputs y (f x))) (sym is)
+        (subst (λ v. IfOk t (λ x. IsSaidOfText profile v (bytes_at inputs 2) (f x))) p (subst (λ v. IfOk t (λ x. IsSaidOfText profile w v (f x))) q h))
+
+    pub by_reason : (r : Refusal) (reason : Reason) → reason_code reason ≡ r.code → (t : Result S E) → IfOk t (λ x. IsSaidOfReason profile words inputs reason (f x))
+        → IfOk t (λ x. IsSaidOfJudged profile words inputs r (f x))
+    by_reason r reason is (Ok x) h = inl (reason, is, h)
+    by_reason r reason is (Err e) h = tt
+
+    pub by_none : (r : Refusal) → ((reason : Reason) → reason_code reason ≢ r.code) → (word : List ℕ) → word ≡ list_word words r.code → (t : Result S E)
+        → IfOk t (λ x. OpensBare word (f x)) → IfOk t (λ x. IsSaidOfJudged profile words inputs r (f x))
+    by_none r none word is (Ok x) h = inr (none, subst (λ w. OpensBare w (f x)) is h)
+    by_none r none word is (Err e) h = tt
+
+-- of a text that is to be a document
+module _ {S E : Type 0} (f : S → List ℕ) (profile : Profile) (word bytes : List ℕ) where
+  pub text_is_good : (t : Result S E) → IsDocumentIn profile bytes → IfOk t (λ x. OpensBare word (f x)) → IfOk t (λ x. IsSaidOfText profile word bytes (f x))
+  text_is_good (Ok x) good h = inl (good, h)
+  text_is_good (Err e) good h = tt
+
+  pub text_is_bad : (t : Result S E) (ending : Ending) → Ends (IsRefused profile bytes) ending → IfOk t (λ x. IsSaidOfEnding profile word bytes ending (f x))
+      → IfOk t (λ x. IsSaidOfText profile word bytes (f x))
+  text_is_bad (Ok x) (Refused r) bad h = inr (r, bad, h)
+  text_is_bad (Ok x) NoMemory bad h = absurd h
+  text_is_bad (Err e) ending bad h = tt
+
+-- by the request
+module _ {S E : Type 0} (f : S → List ℕ) (t : Result S E) (request : Request) (inputs : List (Vec ℕ Global)) (r : Refusal) (profile : Profile) where
+  pub by_request : (other : Request) → request ≡ other → IfOk t (λ x. IsSaid other inputs r (f x)) → IfOk t (λ x. IsSaid request inputs r (f x))
+  by_request other is h = subst (λ q. IfOk t (λ x. IsSaid q inputs r (f x))) (sym is) h
+
+  module _ (file : Bor (List ℕ)) (w b : List ℕ) (word_is : w ≡ file.now) (bytes_is : b ≡ bytes_at inputs 0) where
+    moved : (P : List ℕ → List ℕ → S → Type 0) → IfOk t (P w b) → IfOk t (P file.now (bytes_at inputs 0))
+    moved P h = subst (λ v. IfOk t (P v (bytes_at inputs 0))) word_is (subst (λ v. IfOk t (P w v)) bytes_is h)
+
+    pub of_show : (listed explain : Bool) → request ≡ requests.Show file listed explain profile → IfOk t (λ x. OpensAs profile w b r.code r.place (f x))
+        → IfOk t (λ x. IsSaid request inputs r (f x))
+    of_show listed explain is h = by_request (requests.Show file listed explain profile) is (moved (λ v c x. OpensAs profile v c r.code r.place (f x)) h)
+
+    pub of_check : (explain : Bool) → request ≡ requests.Check file explain profile → IfOk t (λ x. OpensAs profile w b r.code r.place (f x))
+        → IfOk t (λ x. IsSaid request inputs r (f x))
+    of_check explain is h = by_request (requests.Check file explain profile) is (moved (λ v c x. OpensAs profile v c r.code r.place (f x)) h)
+
+    module _ (place : Bor (List ℕ)) (no_place : r.code ≡ 340 → IfOk t (λ x. OpensPlace place.now r.place (f x)))
+        (no_document : r.code < 300 → IfOk t (λ x. OpensAs profile w b r.code r.place (f x)))
+        (in_file : 300 ≤ r.code → r.code ≢ 340 → IfOk t (λ x. OpensInFile w b (f x))) where
+      said : IfOk t (λ x. IsSaidAtPlace profile file.now (bytes_at inputs 0) place.now r (f x))
+      said = moved (λ v c x. IsSaidAtPlace profile v c place.now r (f x)) (at_place f inputs profile r w b place.now t no_place no_document in_file)
+
+      pub of_get : (form : Form) (default : Option (Bor (List ℕ))) → request ≡ requests.Get file place form default profile → IfOk t (λ x. IsSaid request inputs r (f x))
+      of_get form default is = by_request (requests.Get file place form default profile) is said
+
+      pub of_one : (e : OneEdit) (destination : Destination) (layout : Layout) → request ≡ requests.One file place e destination layout profile → IfOk t (λ x. IsSaid request inputs r (f x))
+      of_one e destination layout is = by_request (requests.One file place e destination layout profile) is said
+
+    module _ (list : Bor (List ℕ)) (l : List ℕ) (list_is : l ≡ list.now) (no_list : (r.code ≡ 320) ⊎ (r.code ≡ 321) → IfOk t (λ x. OpensBare l (f x)))
+        (no_document : r.code < 300 → IfOk t (λ x. OpensAs profile w b r.code r.place (f x)))
+        (in_file : 300 ≤ r.code → r.code ≢ 320 → r.code ≢ 321 → IfOk t (λ x. OpensInFile w b (f x))) where
+      listed_said : IfOk t (λ x. IsSaidOfList profile file.now (bytes_at inputs 0) list.now r (f x))
+      listed_said =
+          subst (λ k. IfOk t (λ x. IsSaidOfList profile file.now (bytes_at inputs 0) k r (f x))) list_is
+          (moved (λ v c x. IsSaidOfList profile v c l r (f x)) (of_list f inputs profile r w b l t no_list no_document in_file))
+
+      pub of_edit : (out cert : Bor (List ℕ)) (explain : Bool) → request ≡ requests.Edit file list out cert explain profile → IfOk t (λ x. IsSaid request inputs r (f x))
+      of_edit out cert explain is = by_request (requests.Edit file list out cert explain profile) is listed_said
+
+      pub of_apply : (destination : Destination) (layout : Layout) → request ≡ requests.Apply file list destination layout profile → IfOk t (λ x. IsSaid request inputs r (f x))
+      of_apply destination layout is = by_request (requests.Apply file list destination layout profile) is listed_said

@@ -1,0 +1,14 @@
+pub mod Refusals
+pub mod Reading
+pub mod Check
+pub mod Show
+pub mod Get
+pub mod Listing
+pub mod EditLists
+pub mod Verify
+pub mod Edit
+pub mod Apply
+pub mod One
+pub mod Certify
+pub mod Answering
+pub mod Explaining

@@ -1,0 +1,10 @@
+pub mod Ways
+pub mod Sights
+pub mod Keys
+pub mod Insides
+pub mod Stood
+pub mod Judged
+pub mod Parted
+pub mod Clashes
+pub mod Found
+pub mod Taken

@@ -1,0 +1,37 @@
+-- What is found of a name that is defined again.
+use Rattle.std.specs.Prelude.{◌≡◌, ℕ, List, Option, Some, None, option_map}
+use Rattle.toml_tree.specs.HandedOut.{AreLinesIn}
+use Rattle.toml_tree.specs.Tree.{Piece, Line}
+use Rattle.toml_tree.specs.declared.profile.Profile.{Profile}
+use Rattle.toml_names.specs.declared.fault.NameFault.TheVariants as names
+use Rattle.toml_names.specs.declared.fault.ReadFault.{ReadFault}
+use Rattle.toml_names.specs.declared.fault.ReadFault.TheVariants as faults
+use Rattle.toml_names.specs.model.Addresses.{Address}
+use Rattle.toml_names.specs.reader.Names.{IsRedefined}
+use Rattle.toml_mentions.specs.Mentioned.{StandsForOffence}
+use Rattle.toml_mentions.specs.Sought.{SoughtIn, all_parts, first_clash, seen_clash, sights}
+use Rattle.toml_mentions.specs.declared.redefined.Redefined.{Redefined}
+use Rattle.toml_mentions.specs.declared.seeker.Clash.{Clash}
+
+-- where the key part begins of the mention that may not be, if one was found
+abbrev pub again_start : Option Redefined → Option ℕ
+again_start None = None
+again_start (Some r) = option_map (λ (c : Clash). c.again.span.start) r.clash
+
+-- it is the start of the key part that stands for the first mention which breaks the rules
+abbrev pub FindsOffence : Profile → List ℕ → Option Redefined → Type 0
+FindsOffence profile bytes found = (number : ℕ) (p : Piece) → StandsForOffence profile bytes number p → again_start found ≡ Some p.start
+
+-- the two mentions are the first that may not follow an earlier one, and the earliest that forbids it
+abbrev pub FindsClash : Profile → List ℕ → Option Redefined → Type 0
+FindsClash profile bytes None = Unit {0}
+FindsClash profile bytes (Some r) = (lines : List Line) → AreLinesIn profile bytes lines → seen_clash r.clash ≡ first_clash (sights r.address (all_parts lines))
+
+-- the address that is defined again in the text, if one is
+abbrev pub JudgedAt : Profile → List ℕ → Option Address → Type 0
+JudgedAt profile text found = (lines : List Line) (number : ℕ) (at : Address) → AreLinesIn profile text lines → IsRedefined lines number at → found ≡ Some at
+
+-- the address that a fault tells
+abbrev pub address_told : ReadFault → Option Address
+address_told (faults.Names (names.Redefined line at)) = Some at
+address_told _ = None

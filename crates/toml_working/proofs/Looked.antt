@@ -1,0 +1,80 @@
+-- How lines look, and lines that begin as others do.
+use Rattle.std.proofs.Common.{◌≡◌, ◌∙◌, ℕ, Bool, true, false, ◌&&◌, cond, List, [], ◌∷◌, map, Option, Some, None, refl, ap, ap₂, sym, subst, zero, suc, true≢false}
+use Rattle.std.specs.Global.{Box}
+use Rattle.std.proofs.lemmas.Option.{none-some, same_Some, slice_get-map}
+use Rattle.std.specs.declared.vec.Vec.{Vec}
+use Rattle.std.specs.declared.alloc.Global.{Global}
+use Rattle.std.specs.Prelude.{is_some, option_map, slice_get}
+use Rattle.toml_scalar.specs.Spelling.{spelled}
+use Rattle.toml_tree.specs.Tree as tree
+use Rattle.toml_tree.specs.Tree.{BlankLine, KeyValLine, TableLine, ArrayTableLine}
+use Rattle.toml_working.specs.declared.known.KnownLine.{KnownLine}
+use Rattle.toml_working.specs.declared.lines.Body.{Body}
+use Rattle.toml_working.specs.declared.lines.Body.TheVariants as bodies
+use Rattle.toml_working.specs.declared.lines.Kept.{Kept}
+use Rattle.toml_working.specs.declared.lines.Line.{Line}
+use Rattle.toml_working.specs.declared.lines.Slot.{Slot}
+use Rattle.toml_working.specs.declared.lines.Slot.TheVariants as slots
+use Rattle.toml_working.specs.declared.layout.Layout.{Layout}
+use Rattle.toml_working.specs.declared.layout.Layout.TheVariants as layouts
+use Rattle.toml_working.specs.declared.lines.Seen.{Seen}
+use Rattle.toml_working.specs.declared.looks.Equals.{Equals}
+use Rattle.toml_working.specs.declared.looks.Look.{Look}
+use Rattle.toml_working.specs.declared.tree.Leaf.{Leaf}
+use Rattle.toml_working.specs.declared.tree.OpenLine.{OpenLine}
+use Rattle.toml_working.specs.declared.working.Position.{Position}
+use Rattle.toml_working.specs.InsertStanding.{new_assign, new_outline, spaced_by, spacing_of}
+use Rattle.toml_working.specs.KnownLines.{known_line}
+use Rattle.toml_working.specs.Looking.{BeginsBehind, BodyBegins, BodyLooks, KeptLooks, LaysOut, LooksAs, LooksAt, SlotLooks, around, begun_as}
+use Rattle.toml_working.specs.OpeningLines.{HasOutline}
+use Rattle.toml_working.specs.Placing.{is_header}
+use Rattle.toml_working.specs.OpenOutlines.{leaf_text, line}
+use Rattle.toml_working.specs.Outlines.{AssignOutline, LineOutline, Pair, ValueOutline}
+use Rattle.toml_working.specs.Seeing.{Found, found, line_at, read_by, seen}
+use Rattle.toml_working.specs.Spacings.{is_narrow, laid_out, plain_spacing}
+use Rattle.toml_working.specs.Standing.{Standing, Read, kept_standing, line_standing, no_line, outline_of, slot_standing}
+use Rattle.toml_working.specs.TreeOutlines.{line_outline}
+use Rattle.toml_working.proofs.AtPlace.{line_in, no_line as no_place}
+
+-- ---- how lines look
+
+-- the line at a place
+pub place_looks : (read : Read) (all : List Slot) (at : Position) (slot : Slot) (look : Look) → slice_get all at.slot ≡ Some slot
+    → SlotLooks read.lines slot at.index look → LooksAt read all at look
+place_looks read all at slot look there looks s e = looks read.units s (line_in read all at slot s there e)
+
+pub no_place_looks : (read : Read) (all : List Slot) (at : Position) (look : Look) → slice_get all at.slot ≡ None → LooksAt read all at look
+no_place_looks read all at look none s e = absurd (no_place read all at s none e)
+
+-- in layout `Follow`
+pub follow_lays : (layout : Layout) (read : Read) (all : List Slot) (at : Position) (ws : Leaf) (equals : Option Equals) → layout ≡ layouts.Follow
+    → BeginsBehind read all at ws equals → LaysOut layout read all at ws equals
+follow_lays layout read all at ws equals is begins s e head = begins s e head ∙ sym (ap (λ l. laid_out l (spacing_of s.base s.outline)) is)
+
+-- ---- lines that begin as others do
+
+kept_open : (k : Kept) (o : Box OpenLine) → bodies.Kept k ≡ bodies.Open o → ⊥
+kept_open k o is = cc
+
+-- what stands on a line
+pub body_begun : (ws : List ℕ) (equals : Option (List ℕ × List ℕ)) (old now : Body) (o : LineOutline) → HasOutline o old → BodyBegins ws equals old now
+    → HasOutline (begun_as ws equals o) now
+body_begun ws equals (bodies.Open n) now o (opened, is, outlined) (m, now_is, line_is) =
+    let same : n ≡ opened = cc in
+    (m, now_is, line_is ∙ ap (begun_as ws equals) (ap (λ (x : Box OpenLine). line x.value) same ∙ outlined))
+body_begun ws equals (bodies.Kept k) now o (opened, is, outlined) begins = absurd (kept_open k opened is)
+
+-- a new line of the root
+pub begun_new : (ws : List ℕ) (equals : Option (List ℕ × List ℕ)) (name : List ℕ) (v : ValueOutline) (newline : List ℕ)
+    → begun_as ws equals (new_outline plain_spacing name v newline) ≡ new_outline (spaced_by ws equals) name v newline
+begun_new ws None name v newline = refl
+begun_new ws (Some (before, after)) name v newline = by (is_narrow before && is_narrow after)
+  where
+    with_assign : AssignOutline → LineOutline
+    with_assign a = record { ws = ws; expr = Pair a v; tail = []; comment = None; newline = newline }
+
+    by : (b : Bool)
+        → with_assign (cond b (record { first = spelled name; rest = []; before_equals = before; after_equals = after }) (new_assign plain_spacing name))
+        ≡ new_outline (cond b (record { ws = ws; before_equals = before; after_equals = after }) (record { ws = ws; before_equals = 0x20 ∷ []; after_equals = 0x20 ∷ [] })) name v newline
+    by true = refl
+    by false = refl

@@ -1,0 +1,19 @@
+use Rattle.std.proofs.Common.{ap, sym}
+use Rattle.std.proofs.lemmas.Result.{IfOk-weaker}
+use Rattle.toml_working.specs.declared.layout.Layout.{Layout}
+use Rattle.toml_working.specs.InsertStanding.{spacing_of}
+use Rattle.toml_working.specs.Looking.{BeginsBehind, LaysOut}
+use Rattle.toml_working.specs.Spacings.{laid_out}
+use Rattle.toml_working.specs.Starting.{read_of}
+use Rattle.toml_working.proofs.Looked.{follow_lays}
+use Rattle.toml_working.proofs.working.Tree.laid_out.Goals as goal
+
+pub returns-in-Plain : goal.returns-in-Plain
+returns-in-Plain c s e head = sym (ap (λ (l : Layout). laid_out l (spacing_of s.base s.outline)) c.in-Plain.is)
+
+pub returns-in-Follow : goal.returns-in-Follow
+returns-in-Follow c =
+    let tree = c.args.self.now in
+    let read = read_of c.args.before in
+    IfOk-weaker c.beginning.result (λ r. BeginsBehind read tree.slots.items c.args.behind r.0 r.1) (λ r. LaysOut tree.texts.layout read tree.slots.items c.args.behind r.0 r.1)
+    (λ r. follow_lays tree.texts.layout read tree.slots.items c.args.behind r.0 r.1 c.in-Follow.is) c.beginning.ensures

@@ -1,7 +1,0 @@
-use Rattle.std.proofs.Common.{◌≡◌, map, take}
-use Rattle.serde_json.specs.View.{view}
-use Rattle.tomled.specs.Listing.{step_json}
-use Rattle.tomled.proofs.list.address_json.Given as goal
-
-abbrev pub invariant-loop-step : goal.invariant-loop-step
-invariant-loop-step l = map view l.list.items ≡ map step_json (take l.step-index l.steps)

@@ -1,6 +1,0 @@
-use Rattle.std.proofs.Common.{◌≡◌, take}
-use Rattle.tomled.specs.Listing.{lines_of}
-use Rattle.tomled.proofs.list.lines.Given as goal
-
-abbrev pub invariant-loop-address : goal.invariant-loop-address
-invariant-loop-address l = l.text.items ≡ lines_of (take l.address-index l.addresses)
