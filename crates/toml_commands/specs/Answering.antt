@@ -1,5 +1,6 @@
 -- What each request asks of what it reads.
-use Rattle.std.specs.Prelude.{◌≡◌, ◌⊎◌, ℕ, length, Bool, true, false, List, [], ◌∷◌, Option, Some, None}
+use Rattle.std.specs.Prelude.{◌≡◌, ◌⊎◌, ◌+◌, ◌-◌, ◌^◌, ℕ, length, Bool, true, false, List, [], ◌∷◌, Option, Some, None}
+use Rattle.toml_text.specs.Limit.{max_len}
 use Rattle.toml_tree.specs.declared.profile.Profile.{Profile}
 use Rattle.toml_print.specs.declared.form.Form.TheVariants as printed
 use Rattle.toml_words.specs.Request.{Asked, show, check, edit, verify, certify, get, edit_one, apply, validate}
@@ -23,19 +24,35 @@ use Rattle.toml_commands.specs.declared.get.GetForm.{GetForm}
 use Rattle.toml_commands.specs.declared.get.GetForm.TheVariants as forms
 use Rattle.toml_delivery.specs.declared.outcome.Outcome.{Outcome}
 
-abbrev pub source_word : Source → List ℕ
-source_word s = s.word.now
+-- what is read of a word: how many of its bytes at most, and whether `-` is standard input, and no file of that name
+pub record Sought : Type 0 where
+  pub word : List ℕ
+  pub limit : ℕ
+  pub may_be_input : Bool
 
--- the words of what a request reads, in their order; `validate` reads one file after the other
-abbrev pub words_read : Asked → List (List ℕ)
-words_read (show file listed explain profile) = file ∷ []
-words_read (check file explain profile) = file ∷ []
-words_read (edit file edits out cert explain profile) = file ∷ edits ∷ []
-words_read (verify before edits after cert explain profile) = before ∷ edits ∷ after ∷ cert ∷ []
-words_read (certify before edits after cert profile) = before ∷ edits ∷ after ∷ []
-words_read (get file place form default profile) = file ∷ []
-words_read (edit_one file place e destination layout profile) = file ∷ []
-words_read (apply file edits destination layout profile) = file ∷ edits ∷ []
+abbrev pub sought : Source → Sought
+sought s = record { word = s.word.now; limit = s.limit; may_be_input = s.may_be_input }
+
+-- a document: one byte more than the longest has, so that a longer one is refused for its length
+abbrev pub document_at : Bool → List ℕ → Sought
+document_at input word = record { word = word; limit = max_len + 1; may_be_input = input }
+
+-- an edit list or a certificate: all of it
+abbrev pub list_at : Bool → List ℕ → Sought
+list_at input word = record { word = word; limit = 2 ^ 64 - 1; may_be_input = input }
+
+-- What a request reads, in the order of its words; `validate` reads one file after the other. `-` is standard input to `get`, the commands
+-- of one edit, `apply` and `certify`.
+abbrev pub words_read : Asked → List Sought
+words_read (show file listed explain profile) = document_at false file ∷ []
+words_read (check file explain profile) = document_at false file ∷ []
+words_read (edit file edits out cert explain profile) = document_at false file ∷ list_at false edits ∷ []
+words_read (verify before edits after cert explain profile) =
+    document_at false before ∷ list_at false edits ∷ document_at false after ∷ list_at false cert ∷ []
+words_read (certify before edits after cert profile) = document_at true before ∷ list_at true edits ∷ document_at true after ∷ []
+words_read (get file place form default profile) = document_at true file ∷ []
+words_read (edit_one file place e destination layout profile) = document_at true file ∷ []
+words_read (apply file edits destination layout profile) = document_at true file ∷ list_at true edits ∷ []
 words_read (validate files profile) = []
 
 -- the form in which `get` prints

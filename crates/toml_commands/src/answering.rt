@@ -1,7 +1,7 @@
 //! What a request comes to, by the bytes of what it reads.
 ghost use Rattle.std.specs.Prelude.{◌≡◌, IfOk, map, option_map};
 ghost use Rattle.toml_words.specs.Request.{asked_by};
-ghost use Rattle.toml_commands.specs.Answering.{Answers, AnswersOfFile, IsShown, get_form, source_word, text_layout, words_read};
+ghost use Rattle.toml_commands.specs.Answering.{Answers, AnswersOfFile, IsShown, document_at, get_form, list_at, sought, text_layout, words_read};
 ghost use Rattle.toml_delivery.specs.Outcomes.{texts_of};
 
 use crate::apply::run_apply_in;
@@ -36,7 +36,7 @@ pub struct Source<'a> {
 
 /// What the request reads, in the order of its words. Of `validate`, which reads one file after the other, nothing.
 pub fn sources<'a>(alloc: Global, request: &Request<'a>) -> Result<Vec<Source<'a>>, AllocError>
-    ensures { IfOk result (λ list. map source_word list.items ≡ words_read (asked_by request.now)) }
+    ensures { IfOk result (λ list. map sought list.items ≡ words_read (asked_by request.now)) }
 {
     Ok(match *request {
         Request::Show { file, .. } | Request::Check { file, .. } => {
@@ -81,7 +81,7 @@ pub fn sources<'a>(alloc: Global, request: &Request<'a>) -> Result<Vec<Source<'a
 
 /// A document: a longer one is refused for its length.
 fn document<'a>(word: &'a str, may_be_input: bool) -> Source<'a>
-    ensures { source_word result ≡ word.entry.now }
+    ensures { sought result ≡ document_at may_be_input word.entry.now }
 {
     Source {
         word,
@@ -92,7 +92,7 @@ fn document<'a>(word: &'a str, may_be_input: bool) -> Source<'a>
 
 /// An edit list or a certificate, which may be as long as it is.
 fn list<'a>(word: &'a str, may_be_input: bool) -> Source<'a>
-    ensures { source_word result ≡ word.entry.now }
+    ensures { sought result ≡ list_at may_be_input word.entry.now }
 {
     Source {
         word,
