@@ -3,12 +3,14 @@
 
   bench/edits.py --binary crates/tomled/out/tomled
   bench/edits.py --binary crates/tomled/out/tomled --other OLD --peer peer-toml-edit --texts 'flat keys,array'
+  bench/edits.py --binary crates/tomled/out/tomled --layout follow
 
 Each row is one text and one kind of edit. For one, a hundred, a thousand and ten thousand edits it prints the best processor
 time of some runs, in seconds, and how many times that of one edit the last took. `verify` is given the certificate that `edit`
 wrote. OLD is another build of the program, PEER a program that is called as `PEER edit FILE EDITS OUT`: these are run by turns
 with the program, and must write the same text (PEER's text is not compared). A run is stopped after LIMIT seconds, and those
-with more edits are left out. No test rests on these numbers.
+with more edits are left out. With `--layout` there is a column more: `apply` in that layout, as `apply` in `plain` beside it.
+No test rests on these numbers.
 """
 import argparse
 import json
@@ -171,6 +173,9 @@ def measure(given, folder, name, text, kind, edits_of):
     columns = [Column('edit', edit(given.binary, '')), Column('verify', verify(given.binary))]
     if given.other:
         columns += [Column('edit, old', edit(given.other, '2')), Column('verify, old', verify(given.other))]
+    if given.layout:
+        applied = lambda layout: [given.binary, 'apply', '--layout', layout, paths['before'], paths['edits']]
+        columns += [Column('apply, plain', applied('plain')), Column('apply, ' + given.layout, applied(given.layout))]
     if given.peer:
         columns.append(Column('peer', [given.peer, 'edit', paths['before'], paths['edits'], paths['after3']]))
     for index, count in enumerate(COUNTS):
@@ -194,6 +199,7 @@ def main():
     words.add_argument('--binary', required=True)
     words.add_argument('--other')
     words.add_argument('--peer')
+    words.add_argument('--layout', choices=('plain', 'follow'))
     words.add_argument('--runs', type=int, default=3)
     words.add_argument('--texts', help='those of these names alone, parted by commas')
     words.add_argument('--kinds', help='those kinds of edits alone whose names begin with one of these, parted by commas')

@@ -5,6 +5,8 @@
 
 - Lists of 10,000 edits on texts that this script makes. The text that one edit after the other would give is told by a model:
   a list of lines, or of elements. `edit` must write that text, `verify` must say yes, and `certify` must find its certificate.
+- Such a list takes at most 40 times what its first edit takes, in `edit` and in `verify`. It takes some ten times that where each
+  line asks the tree of what the list does, and hundreds of times where each line asks each edit.
 - COUNT lists, 40 where it is not given, of 50 random edits on random documents: `edit` must write what 50 runs of one edit
   write, and `verify` must say yes.
 
@@ -26,6 +28,7 @@ COUNT = 40
 LENGTH = 50
 TRIES = 400
 SECONDS = 100
+TIMES = 40
 
 
 class Keys:
@@ -119,6 +122,10 @@ def middle(rng, done):
     return LINES // 2 + done % 7
 
 
+def each(rng, done):
+    return done
+
+
 def cases():
     """The name of each long list, what makes its text, the command's layout, its kinds of edits, and where they are."""
     mixed = ['set', 'insert', 'rename', 'remove']
@@ -194,6 +201,44 @@ def long_list(program, case):
         return f'{name}: {fault}' if fault else None
 
 
+def seconds(runs, *words):
+    """The processor time of a run, the better one of two, in seconds."""
+    took = []
+    for _ in range(2):
+        child = subprocess.Popen([runs.program, *words], cwd=runs.folder, stdout=subprocess.DEVNULL, stdin=subprocess.DEVNULL)
+        _, status, used = os.wait4(child.pid, 0)
+        child.returncode = os.waitstatus_to_exitcode(status)
+        took.append(used.ru_utime + used.ru_stime if child.returncode == 0 else float('inf'))
+    return min(took)
+
+
+def slow_list(program, case):
+    """Why a list of 10,000 edits takes too long, if it does."""
+    name, made, kinds, where = case
+    rng, model = random.Random(name), made()
+    before = model.text()
+    edits = [model.edit(rng.choice(kinds), where(rng, done)) for done in range(MANY)]
+    took = {'edit': [], 'verify': []}
+    with tempfile.TemporaryDirectory() as folder:
+        runs = Runs(program, folder)
+        runs.put('F', before)
+        for count in (1, MANY):
+            runs.put('E', json.dumps(edits[:count]))
+            for command, times in took.items():
+                times.append(seconds(runs, command, 'F', 'E', 'A', 'C'))
+    slow = [f'{command}: {times[1]:.2f} s, one {times[0]:.3f} s' for command, times in took.items() if not times[1] <= TIMES * times[0]]
+    return f'{name}: {"; ".join(slow)}' if slow else None
+
+
+def timed_cases():
+    """The name of each list that is timed, what makes its text, its kinds of edits, and where they are."""
+    for kind in ('set', 'insert', 'rename', 'remove'):
+        yield f'time of keys, {kind}', lambda: Keys([], LINES), [kind], each
+        yield f'time of tables, {kind}', lambda: Tables(False, LINES // 4), [kind], each
+    yield 'time of elements, front', lambda: Elements(True, LINES), ['insert', 'remove', 'insert'], front
+    yield 'time of elements, middle', lambda: Elements(True, LINES), ['insert', 'remove', 'insert'], middle
+
+
 def one_by_one(program, seed):
     """What is wrong with a list of 50 edits beside 50 runs of one."""
     rng = random.Random(seed)
@@ -231,7 +276,8 @@ def main(words):
         print('0 passed, 1 failed')
         return 1
     with concurrent.futures.ThreadPoolExecutor(os.cpu_count()) as pool:
-        told = [pool.submit(long_list, program, case) for case in cases()]
+        told = [pool.submit(slow_list, program, case) for case in timed_cases()]
+        told += [pool.submit(long_list, program, case) for case in cases()]
         told += [pool.submit(one_by_one, program, seed) for seed in range(count)]
         faults = [one.result() for one in told]
     for fault in faults:

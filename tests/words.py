@@ -204,12 +204,16 @@ def zsh_words(name):
 
 def fish_words(name):
     said = collections.defaultdict(set)
-    for line in text_of(name).splitlines():
+    text = text_of(name)
+    # the options whose next word is their value, and no word of the command's own
+    followed, passed = set(), set(re.search(r'contains -- \$word (.*)', text)[1].split())
+    for line in text.splitlines():
         if not line.startswith('complete '):
             continue
         given, rest = getopt.getopt(shlex.split(line)[1:], 'c:n:s:l:a:d:fFrx')
         given = dict(given)
         options = {dash + given[flag] for flag, dash in (('-s', '-'), ('-l', '--')) if flag in given}
+        followed |= options & {'--' + given['-l']} if {'-r', '-x'} & set(given) and '-l' in given else set()
         values = given.get('-a', '').split()
         words = options | ({f'{it} {value}' for it in options for value in values} if options else set(values))
         inside = re.fullmatch(r'__tomled_in ([\w -]+)', given.get('-n', ''))
@@ -217,6 +221,8 @@ def fish_words(name):
             raise Fault(f'no such line is known: {line}')
         for command in inside[1].split() if inside else [TOP]:
             said[command] |= words
+    if followed != passed:
+        raise Fault(f'the word behind an option is its value: {", ".join(sorted(followed ^ passed))}')
     return said
 
 

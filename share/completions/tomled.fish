@@ -17,7 +17,7 @@ function __tomled_below -d 'Fewer than so many words that are no options stand b
     for word in $words
         if test $is_value -eq 1
             set is_value 0
-        else if contains -- $word --certificate --default --profile
+        else if contains -- $word --certificate --default --layout --profile
             set is_value 1
         else if not string match -q -- '-?*' $word
             set given (math $given + 1)
