@@ -10,6 +10,7 @@ pub mod Apart
 -- what is opened
 pub mod Opening
 pub mod KnownLines
+pub mod OpenKinds
 -- how new text is laid out
 pub mod Spacings
 pub mod Looks
@@ -21,3 +22,4 @@ pub mod SettingIn
 pub mod RenamingIn
 pub mod RenamedPairs
 pub mod ChangingIn
+pub mod Emptying

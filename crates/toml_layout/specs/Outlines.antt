@@ -43,6 +43,10 @@ pub record LineOutline : Type 0 where
   pub comment : Option (List ℕ)
   pub newline : List ℕ
 
+-- a line without anything on it
+abbrev pub no_line : LineOutline
+no_line = record { ws = []; expr = Nothing; tail = []; comment = None; newline = [] }
+
 -- the text of an outline
 abbrev pub dotted_outlined : List DottedOutline → List ℕ
 dotted_outlined [] = []

@@ -1,4 +1,8 @@
 //! What stands in arrays and inline tables: entries put in and taken out, with their commas.
+ghost use Rattle.std.specs.Prelude.{◌≡◌, ◌∷◌, []};
+ghost use Rattle.toml_layout.specs.Emptying.{no_entries};
+ghost use Rattle.toml_layout.specs.OpenOutlines.{entries};
+
 use crate::layout::Layout;
 use crate::texts::Texts;
 use crate::tree::{Assign, Entries, Entry, Gap, Leaf, Value};
@@ -8,7 +12,9 @@ use toml_lists::GapList;
 
 impl<'t> Entries<'t> {
     /// A new inline table with nothing in it.
-    pub(crate) fn none(alloc: Global) -> Entries<'t> {
+    pub(crate) fn none(alloc: Global) -> Entries<'t>
+        ensures { entries result ≡ record { opening = 0x7B ∷ []; entries = no_entries } }
+    {
         Entries {
             opening: Leaf::New("{"),
             list: GapList::none(alloc),

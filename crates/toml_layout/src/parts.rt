@@ -1,5 +1,6 @@
 //! The parts of gaps: whitespace, newlines and comments.
-ghost use Rattle.std.specs.Prelude.{◌≡◌, ◌++◌, MatchOption, OnOk, false};
+ghost use Rattle.std.specs.Prelude.{◌≡◌, ◌++◌, IfSome, MatchOption, OnOk, false, slice_range};
+ghost use Rattle.toml_text.specs.Source.{text_of};
 ghost use Rattle.toml_layout.specs.Gaps.{SplitsFirst, SplitsLast, are_blank, are_ws, begins_line, is_newline, is_ws, trimmed, without_ws};
 ghost use Rattle.toml_layout.specs.OpenOutlines.{leaf_text};
 
@@ -54,7 +55,9 @@ impl<'t> Texts<'t> {
     }
 
     /// What stands in the document between these places, if anything does.
-    pub fn kept(self, start: usize, end: usize) -> Option<Leaf<'t>> {
+    pub fn kept(self, start: usize, end: usize) -> Option<Leaf<'t>>
+        ensures { let text = text_of self.entry.source in IfSome result (λ l. leaf_text l ≡ slice_range text start end) }
+    {
         let span = Span { start, end };
         if start == end || !self.source.holds(span) {
             return None;

@@ -1,10 +1,10 @@
 //! The texts of key parts, and how keys lie to addresses.
-ghost use Rattle.std.specs.Prelude.{◌≡◌, ◌+◌, IfOk, OnOk, length, map, option_map, vec_len};
+ghost use Rattle.std.specs.Prelude.{◌≡◌, ◌+◌, ◌++◌, ◌∷◌, [], IfOk, OnOk, false, length, map, option_map, true, vec_len};
 ghost use Rattle.std.specs.Str.{bytes_eq};
 ghost use Rattle.toml_names.specs.mentions.Keys.{spelled_name};
 ghost use Rattle.toml_layout.specs.Leading.{in_common, is_named, open_names};
 ghost use Rattle.toml_layout.specs.OpenOutlines.{dotted, leaf_text, line as line_outlined};
-ghost use Rattle.toml_layout.specs.NewKeys.{IsOnePart};
+ghost use Rattle.toml_layout.specs.NewKeys.{IsKey, IsOnePart, bare_part};
 ghost use Rattle.toml_layout.specs.RenamedPairs.{line_part_with};
 ghost use Rattle.toml_layout.specs.RenamingIn.{first_with, rest_with};
 
@@ -70,7 +70,9 @@ impl<'t> Key<'t> {
     }
 
     /// The key of no name, to which parts are added.
-    pub fn none(alloc: Global) -> Key<'t> {
+    pub fn none(alloc: Global) -> Key<'t>
+        ensures { IsKey [] [] result }
+    {
         Key {
             first: Leaf::EMPTY,
             rest: Vec::new(alloc),
@@ -78,7 +80,11 @@ impl<'t> Key<'t> {
     }
 
     /// Puts a part behind it, without whitespace, or as the first one.
-    pub fn push(&mut self, first: bool, part: &'t str) -> Result<(), AllocError> {
+    pub fn push(&mut self, first: bool, part: &'t str) -> Result<(), AllocError>
+        ensures begun { OnOk result (first ≡ true → IsKey part.now (map dotted self.old.rest.items) self.new) }
+        ensures added { let more = map dotted self.old.rest.items ++ bare_part part.now ∷ [] in
+            OnOk result (first ≡ false → IsKey (leaf_text self.old.first) more self.new) }
+    {
         if first {
             self.first = Leaf::New(part);
             return Ok(());
@@ -90,6 +96,7 @@ impl<'t> Key<'t> {
     fn add(&mut self, part: &'t str) -> Result<(), AllocError>
         ensures first { OnOk result (self.new.first ≡ self.old.first) }
         ensures count { OnOk result (vec_len self.new.rest ≡ vec_len self.old.rest + 1) }
+        ensures part { OnOk result (map dotted self.new.rest.items ≡ map dotted self.old.rest.items ++ bare_part part.now ∷ []) }
     {
         self.rest.push(Dotted {
             before_dot: Leaf::EMPTY,

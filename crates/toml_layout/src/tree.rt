@@ -1,7 +1,9 @@
 //! The working tree: the lines of the text as the edits made so far have left them. It has the shapes of the tree of a
 //! document, but its pieces are kept or new.
-ghost use Rattle.std.specs.Prelude.{◌≡◌, ◌↔◌, ◌++◌, [], IfOk, OnOk, IsTrue};
-ghost use Rattle.toml_layout.specs.OpenOutlines.{leaf_text, gap_part_text, gap_text};
+ghost use Rattle.std.specs.Prelude.{◌≡◌, ◌↔◌, ◌++◌, [], IfOk, OnOk, IsTrue, None, option_map};
+ghost use Rattle.toml_layout.specs.OpenKinds.{is_tables};
+ghost use Rattle.toml_layout.specs.OpenOutlines.{leaf_text, gap_part_text, gap_text, line as outlined};
+ghost use Rattle.toml_layout.specs.Outlines.{no_line};
 
 use std::alloc::{AllocError, Global};
 use toml_lists::GapList;
@@ -176,7 +178,9 @@ impl<'t> GapPart<'t> {
 
 impl OpenLine<'_> {
     /// Whether it has no bytes, and ends in no newline.
-    pub fn has_no_bytes(&self) -> bool {
+    pub fn has_no_bytes(&self) -> bool
+        ensures { IsTrue result ↔ (outlined self.now ≡ no_line) }
+    {
         matches!(self.expr, Expr::Blank)
             && self.ws.is_empty()
             && self.tail.has_no_bytes()
@@ -186,7 +190,9 @@ impl OpenLine<'_> {
 
 impl Blank<'_> {
     /// Whether nothing stands there.
-    fn has_no_bytes(&self) -> bool {
+    fn has_no_bytes(&self) -> bool
+        ensures { IsTrue result ↔ ((leaf_text self.now.ws ≡ []) × (option_map leaf_text self.now.comment ≡ None)) }
+    {
         self.ws.is_empty() && self.comment.is_none()
     }
 }
@@ -251,7 +257,9 @@ impl<'t> Gap<'t> {
 
 impl Expr<'_> {
     /// Whether it is the header of an array of tables.
-    pub fn is_tables(&self) -> bool {
+    pub fn is_tables(&self) -> bool
+        ensures { result ≡ is_tables self.now }
+    {
         match self {
             Expr::Header(header) => matches!(header.brackets, Brackets::Two),
             Expr::Blank | Expr::Pair(_) => false,

@@ -33,7 +33,7 @@ use Rattle.toml_layout.specs.OpenOutlines.{leaf_text, line}
 use Rattle.toml_layout.specs.Outlines.{AssignOutline, LineOutline, Pair, ValueOutline}
 use Rattle.toml_working.specs.Seeing.{Found, found, line_at, read_by, seen}
 use Rattle.toml_layout.specs.Spacings.{is_narrow, laid_out, plain_spacing}
-use Rattle.toml_working.specs.Standing.{Standing, Read, kept_standing, line_standing, no_line, outline_of, slot_standing}
+use Rattle.toml_working.specs.Standing.{Standing, Read, kept_standing, line_standing, outline_of, slot_standing}
 use Rattle.toml_layout.specs.TreeOutlines.{line_outline}
 use Rattle.toml_working.proofs.AtPlace.{line_in, no_line as no_place}
 

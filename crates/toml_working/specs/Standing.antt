@@ -15,7 +15,7 @@ use Rattle.toml_working.specs.declared.lines.Slot.TheVariants as slots
 use Rattle.toml_layout.specs.Apart.{HasKeysApart}
 use Rattle.toml_layout.specs.OpenOutlines.{line}
 use Rattle.toml_layout.specs.Outlines as outline
-use Rattle.toml_layout.specs.Outlines.{ValueOutline, ExprOutline, LineOutline}
+use Rattle.toml_layout.specs.Outlines.{ValueOutline, ExprOutline, LineOutline, no_line}
 use Rattle.toml_layout.specs.SetOutlines.{set_outline, has_outline}
 use Rattle.toml_layout.specs.TreeOutlines.{line_outline}
 
@@ -42,10 +42,7 @@ pub record Read : Type 0 where
   pub units : List ReadUnit
   pub lines : List tree.Line
 
--- a line without anything on it, which stands for one that the document does not have
-abbrev pub no_line : LineOutline
-no_line = record { ws = []; expr = outline.Nothing; tail = []; comment = None; newline = [] }
-
+-- for a line that the document does not have stands one without anything on it
 abbrev pub outline_of : Option tree.Line → LineOutline
 outline_of None = no_line
 outline_of (Some l) = line_outline l

@@ -11,7 +11,9 @@ use crate::lines::{Body, Line, Slot};
 use crate::pieces::Pieces;
 use crate::working::Tree;
 use std::alloc::AllocError;
-use toml_layout::{Assign, Blank, Brackets, Entries, Entry, Expr, Gap, Header, Key, OpenLine, Value};
+use toml_layout::{
+    Assign, Blank, Brackets, Entries, Entry, Expr, Gap, Header, Key, OpenLine, Value,
+};
 use toml_text::Source;
 use toml_tree::Piece;
 
