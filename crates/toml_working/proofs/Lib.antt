@@ -24,23 +24,9 @@ mod RemovedOne
 mod Tidy
 mod Out
 mod StandingOut
-mod Outlined
-mod TreeOutlined
-mod OpenEntries
-mod SetInside
-mod KeysRenamed
-mod RenameInside
-mod RenameAway
-mod Lying
 mod LinesLie
 mod Started
-mod Opened
-mod OpenedEach
-mod OpenedGap
-mod OpenedLine
 mod OpenedBody
 mod Got
-mod GapParts
-mod Clear
 mod Pairwise
-pub mod Proved
+mod EntriesOut
