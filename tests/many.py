@@ -122,10 +122,6 @@ def middle(rng, done):
     return LINES // 2 + done % 7
 
 
-def each(rng, done):
-    return done
-
-
 def cases():
     """The name of each long list, what makes its text, the command's layout, its kinds of edits, and where they are."""
     mixed = ['set', 'insert', 'rename', 'remove']
@@ -232,9 +228,11 @@ def slow_list(program, case):
 
 def timed_cases():
     """The name of each list that is timed, what makes its text, its kinds of edits, and where they are."""
-    for kind in ('set', 'insert', 'rename', 'remove'):
-        yield f'time of keys, {kind}', lambda: Keys([], LINES), [kind], each
-        yield f'time of tables, {kind}', lambda: Tables(False, LINES // 4), [kind], each
+    mixed = ['set', 'insert', 'rename', 'remove']
+    for kinds in [[one] for one in mixed] + [mixed]:
+        yield f'time of keys, {", ".join(kinds)}', lambda: Keys([], LINES), kinds, anywhere
+        yield f'time of tables, {", ".join(kinds)}', lambda: Tables(False, LINES // 4), kinds, anywhere
+    yield 'time of array tables, mixed', lambda: Tables(True, LINES // 4), mixed, anywhere
     yield 'time of elements, front', lambda: Elements(True, LINES), ['insert', 'remove', 'insert'], front
     yield 'time of elements, middle', lambda: Elements(True, LINES), ['insert', 'remove', 'insert'], middle
 
