@@ -13,4 +13,5 @@ mod OpenedGap
 mod OpenedLine
 mod GapParts
 mod Clear
+mod Emptied
 pub mod Proved
