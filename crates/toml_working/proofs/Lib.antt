@@ -41,6 +41,10 @@ mod OpenedLine
 mod OpenedBody
 mod Got
 mod GapParts
+mod TextParts
+mod MarginParts
+mod LeftParts
+mod ItemGaps
 mod Clear
 mod Pairwise
 pub mod Proved

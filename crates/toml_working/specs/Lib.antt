@@ -25,6 +25,12 @@ pub mod OpeningLines
 pub mod Looking
 pub mod OpeningComments
 pub mod Gaps
+pub mod PartOutlines
+pub mod Margins
+pub mod Leaving
+pub mod Items
+pub mod Rooms
+pub mod Takings
 pub mod Leading
 pub mod RenamingIn
 pub mod RenameStanding
