@@ -8,7 +8,7 @@ use Rattle.toml_edits.specs.EditList.{IsEditList}
 use Rattle.toml_edits.specs.Edits.{Change}
 use Rattle.toml_units.specs.Certificates.{certificate_of}
 use Rattle.toml_editor.specs.Edited.{IsEditedWith}
-use Rattle.toml_working.specs.declared.layout.Layout.{Layout}
+use Rattle.toml_layout.specs.declared.layout.Layout.{Layout}
 use Rattle.toml_commands.specs.Apply.{Applies, IsApplied}
 use Rattle.toml_commands.specs.Edit.{IsUnedited}
 use Rattle.toml_delivery.specs.Outcomes.{Answers, Ends, Gives, IsGood, Tells, texts_of}

@@ -4,7 +4,7 @@ use Rattle.std.specs.declared.alloc.Global.{Global}
 use Rattle.std.proofs.Math.ListN.{get_or}
 use Rattle.std.specs.Option.{option_copied}
 use Rattle.toml_tree.specs.declared.profile.Profile.{Profile}
-use Rattle.toml_working.specs.declared.layout.Layout as editor
+use Rattle.toml_layout.specs.declared.layout.Layout as editor
 use Rattle.toml_words.specs.Request.{asked_by, asked_edit}
 use Rattle.toml_words.specs.declared.request.Destination.{Destination}
 use Rattle.toml_words.specs.declared.request.Form.{Form}

@@ -11,7 +11,7 @@ use Rattle.toml_units.specs.Certificates.{certificate_of}
 use Rattle.toml_checker.specs.Findings.{IsCertificate, IsFirstUnmet}
 use Rattle.toml_checker.proofs.Proved.{found_is_met, one_certificate}
 use Rattle.toml_commands.specs.Certify.{CertifiedMeans, Certifies, EditedIsCertified, FoundMeans, LacksCertificate, IsCertified, IsCertifying, IsUncertified}
-use Rattle.toml_working.specs.declared.layout.Layout.TheVariants.{Plain}
+use Rattle.toml_layout.specs.declared.layout.Layout.TheVariants.{Plain}
 use Rattle.toml_commands.specs.Edit.{AreEdited}
 use Rattle.toml_commands.specs.EditLists.{IsListRefusal}
 use Rattle.toml_delivery.specs.Outcomes.{Answers, Ends, Gives, Tells, texts_of}

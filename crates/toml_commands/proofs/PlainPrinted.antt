@@ -9,7 +9,7 @@ use Rattle.toml_edits.specs.Edits.{Change}
 use Rattle.toml_edits.proofs.Proved.{one_edit_list, bad_list_is_none}
 use Rattle.toml_editor.specs.Edited as editor
 use Rattle.toml_editor.specs.PlainAnswers.{PlainSoFar}
-use Rattle.toml_working.specs.declared.layout.Layout.TheVariants.{Plain}
+use Rattle.toml_layout.specs.declared.layout.Layout.TheVariants.{Plain}
 use Rattle.toml_editor.specs.declared.fault.EditorFault.{EditorFault}
 use Rattle.toml_editor.specs.declared.fault.EditorFault.TheVariants as faults
 use Rattle.toml_editor.proofs.Proved.{plain_is_answered}

@@ -7,7 +7,7 @@ use Rattle.toml_tree.specs.declared.profile.Profile.{Profile}
 use Rattle.toml_edits.specs.Edits.{Change}
 use Rattle.toml_units.specs.Certificates.{certificate_of}
 use Rattle.toml_editor.specs.Edited.{IsEditedWith}
-use Rattle.toml_working.specs.declared.layout.Layout.{Layout}
+use Rattle.toml_layout.specs.declared.layout.Layout.{Layout}
 use Rattle.toml_places.specs.declared.place.PlaceStep.{PlaceStep}
 use Rattle.toml_places.specs.Reads.{IsPlace}
 use Rattle.toml_one.specs.Wishes.{Wished}

@@ -3,8 +3,8 @@ use Rattle.std.specs.Prelude.{◌≡◌, ◌⊎◌, ℕ, length, Bool, true, fal
 use Rattle.toml_tree.specs.declared.profile.Profile.{Profile}
 use Rattle.toml_print.specs.declared.form.Form.TheVariants as printed
 use Rattle.toml_words.specs.Request.{Asked, show, check, edit, verify, certify, get, edit_one, apply, validate}
-use Rattle.toml_working.specs.declared.layout.Layout as editor
-use Rattle.toml_working.specs.declared.layout.Layout.TheVariants as layouts
+use Rattle.toml_layout.specs.declared.layout.Layout as editor
+use Rattle.toml_layout.specs.declared.layout.Layout.TheVariants as layouts
 use Rattle.toml_words.specs.declared.request.Layout.{Layout}
 use Rattle.toml_words.specs.declared.request.Layout.TheVariants as words
 use Rattle.toml_words.specs.declared.request.Form.{Form}

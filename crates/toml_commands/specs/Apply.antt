@@ -1,7 +1,7 @@
 -- What `apply` answers.
 use Rattle.std.specs.Prelude.{◌≡◌, ℕ, List, [], ◌∷◌}
 use Rattle.toml_tree.specs.declared.profile.Profile.{Profile}
-use Rattle.toml_working.specs.declared.layout.Layout.{Layout}
+use Rattle.toml_layout.specs.declared.layout.Layout.{Layout}
 use Rattle.toml_commands.specs.Edit.{AreEdited, PrintsText, SaysOfList}
 use Rattle.toml_delivery.specs.declared.outcome.Outcome.{Outcome}
 

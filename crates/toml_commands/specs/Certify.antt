@@ -6,7 +6,7 @@ use Rattle.toml_edits.specs.Edits.{Change}
 use Rattle.toml_units.specs.Certificates.{certificate_of}
 use Rattle.toml_checker.specs.Findings.{IsCertificate, IsFirstUnmet}
 use Rattle.toml_checker.specs.declared.verdict.Reason.{Reason}
-use Rattle.toml_working.specs.declared.layout.Layout.TheVariants.{Plain}
+use Rattle.toml_layout.specs.declared.layout.Layout.TheVariants.{Plain}
 use Rattle.toml_commands.specs.Edit.{AreEdited}
 use Rattle.toml_commands.specs.EditLists.{IsListRefusal}
 use Rattle.toml_delivery.specs.Outcomes.{Gives, Tells, texts_of}

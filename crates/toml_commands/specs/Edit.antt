@@ -11,8 +11,8 @@ use Rattle.toml_units.specs.Certificates.{certificate_of}
 use Rattle.toml_names.specs.model.Data.{Kinds}
 use Rattle.toml_editor.specs.Edited as editor
 use Rattle.toml_editor.specs.PlainAnswers.{PlainSoFar}
-use Rattle.toml_working.specs.declared.layout.Layout.{Layout}
-use Rattle.toml_working.specs.declared.layout.Layout.TheVariants.{Plain}
+use Rattle.toml_layout.specs.declared.layout.Layout.{Layout}
+use Rattle.toml_layout.specs.declared.layout.Layout.TheVariants.{Plain}
 use Rattle.toml_editor.specs.declared.fault.EditorFault.{EditorFault}
 use Rattle.toml_editor.specs.declared.fault.EditorFault.TheVariants as faults
 use Rattle.toml_commands.specs.EditLists.{IsListRefusal}

@@ -6,7 +6,7 @@ use Rattle.toml_names.specs.mentions.Mentions.{named}
 use Rattle.toml_names.specs.model.Data.{IsDataOf, Kinds}
 use Rattle.toml_names.specs.reader.Texts.{GoodText}
 use Rattle.toml_edits.specs.Edits.{Change}
-use Rattle.toml_working.specs.declared.layout.Layout.{Layout}
+use Rattle.toml_layout.specs.declared.layout.Layout.{Layout}
 use Rattle.toml_places.specs.declared.place.PlaceStep.{PlaceStep}
 use Rattle.toml_places.specs.Reads.{IsPlace}
 use Rattle.toml_one.specs.Wishes.{AreEditsAt, Wished, to_set, to_insert, to_rename, to_remove}

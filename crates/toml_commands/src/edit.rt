@@ -2,7 +2,7 @@
 ghost use Rattle.std.specs.Prelude.{◌≡◌, [], ◌∷◌, codes, map, string_bytes, IfErr, IfOk};
 ghost use Rattle.toml_edits.specs.Edits.{change};
 ghost use Rattle.toml_editor.specs.Edited.{IsEditedWith};
-ghost use Rattle.toml_working.specs.declared.layout.Layout.TheVariants.{Plain};
+ghost use Rattle.toml_layout.specs.declared.layout.Layout.TheVariants.{Plain};
 ghost use Rattle.toml_tree.specs.declared.profile.Profile.TheVariants.{One};
 ghost use Rattle.toml_units.specs.Certificates.{certificate_of};
 ghost use Rattle.toml_commands.specs.Edit.{Edits, IsEditEnding, IsEditing, IsEditorEnding, IsUnedited, IsUnmade, TellsNumber};

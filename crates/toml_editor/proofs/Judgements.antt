@@ -25,7 +25,7 @@ use Rattle.toml_edits.specs.Edits.{Change}
 use Rattle.toml_editor.specs.PlainTexts.{IsNoPlainEdit, NoSpreadSet}
 use Rattle.toml_editor.specs.Edited.{RefusesText, TellsWith}
 use Rattle.toml_editor.specs.Exact.{OfNoPlaceAt, OfNumber}
-use Rattle.toml_working.specs.declared.layout.Layout.{Layout}
+use Rattle.toml_layout.specs.declared.layout.Layout.{Layout}
 use Rattle.toml_editor.specs.Making.{TellsAny}
 use Rattle.toml_editor.specs.declared.fault.EditorFault.{EditorFault}
 use Rattle.toml_editor.specs.declared.fault.EditorFault.TheVariants as faults

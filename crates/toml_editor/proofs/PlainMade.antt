@@ -13,11 +13,11 @@ use Rattle.toml_names.specs.model.Documents.{IsDocumentIn}
 use Rattle.toml_names.specs.reader.Names.{AreGood}
 use Rattle.toml_edits.specs.Edits.{Change}
 use Rattle.toml_edits.specs.Lists.{Lead}
-use Rattle.toml_working.specs.declared.texts.Texts.{Texts}
+use Rattle.toml_layout.specs.declared.texts.Texts.{Texts}
 use Rattle.toml_working.specs.declared.working.Tree.{Tree}
 use Rattle.toml_editor.specs.CertifiedLists.{ArePlain}
 use Rattle.toml_editor.specs.Exact.{FollowAll, IsAt, MakesAll}
-use Rattle.toml_working.specs.declared.layout.Layout.{Layout}
+use Rattle.toml_layout.specs.declared.layout.Layout.{Layout}
 use Rattle.toml_working.specs.Manners.{Manner}
 use Rattle.toml_working.specs.Putting.{manner}
 use Rattle.toml_editor.specs.PlainTexts.{WritesPlain}

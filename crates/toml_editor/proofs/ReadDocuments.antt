@@ -1,7 +1,7 @@
 -- Documents that were read line by line.
 use Rattle.std.proofs.Common.{◌≡◌, ◌<◌, ◌∷◌, ◌++◌, ◌∙◌, [], ℕ, List, Option, Some, Ok, ap, map, sym, subst, subst₂}
 use Rattle.toml_tree.specs.HandedOut.{AreLinesIn, tree_of}
-use Rattle.toml_working.specs.KnownLines.{lines_known}
+use Rattle.toml_layout.specs.KnownLines.{lines_known}
 use Rattle.toml_tree.specs.Spells.{Spells}
 use Rattle.toml_tree.specs.Tree.{Doc}
 use Rattle.toml_tree.specs.declared.line.Line as declared

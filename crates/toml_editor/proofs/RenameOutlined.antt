@@ -5,11 +5,12 @@ use Rattle.toml_tree.specs.Bare.{fresh}
 use Rattle.toml_tree.specs.Tree.{Piece, Dotted, Assign, Value, Scalar, Array, Inline, Items, Close, Last, More, Pairs, ClosePairs, LastPair, MorePairs}
 use Rattle.toml_names.specs.mentions.Keys.{key_names, part_name}
 use Rattle.toml_names.specs.model.Addresses.{Address, same_address, child, element, below}
-use Rattle.toml_working.specs.Outlines as outline
-use Rattle.toml_working.specs.RenameOutlines.{RenameIsOutlined, rename_text, rename_dotted, rename_outlined, rename_outline, rename_listed, rename_braced}
+use Rattle.toml_layout.specs.Outlines as outline
+use Rattle.toml_working.specs.Renaming.{RenameIsOutlined}
+use Rattle.toml_layout.specs.RenameOutlines.{rename_text, rename_dotted, rename_outlined, rename_outline, rename_listed, rename_braced}
 use Rattle.toml_working.specs.Renaming.{rename_part, rename_rest, rename_assign, rename_value, rename_items, rename_pairs}
-use Rattle.toml_working.specs.SetOutlines.{outlined_names}
-use Rattle.toml_working.specs.TreeOutlines.{gap_spelled, dotted_outline, assign_outline, value_outline, items_outline, pairs_outline}
+use Rattle.toml_layout.specs.SetOutlines.{outlined_names}
+use Rattle.toml_layout.specs.TreeOutlines.{gap_spelled, dotted_outline, assign_outline, value_outline, items_outline, pairs_outline}
 use Rattle.toml_editor.proofs.SetOutlined.{names_outlined}
 
 module _ (p : Address) (to : List ℕ) where

@@ -3,10 +3,10 @@ use Rattle.std.proofs.Common.{◌≡◌, ℕ, ◌+◌, Bool, true, false, cond, 
 use Rattle.toml_tree.specs.Tree.{Dotted, Assign, Value, Scalar, Array, Inline, Items, Close, Last, More, Pairs, ClosePairs, LastPair, MorePairs}
 use Rattle.toml_names.specs.mentions.Keys.{key_names, part_name, rest_names, spelled_name}
 use Rattle.toml_names.specs.model.Addresses.{Address, same_address, element, below}
-use Rattle.toml_working.specs.Outlines as outline
-use Rattle.toml_working.specs.Setting.{set_value, set_within, set_items, set_pairs}
-use Rattle.toml_working.specs.SetOutlines.{SetIsOutlined, outlined_names, set_outline, set_outline_within, set_listed, set_braced}
-use Rattle.toml_working.specs.TreeOutlines.{gap_spelled, dotted_outline, assign_outline, value_outline, items_outline, pairs_outline}
+use Rattle.toml_layout.specs.Outlines as outline
+use Rattle.toml_working.specs.Setting.{set_value, set_within, set_items, set_pairs, SetIsOutlined}
+use Rattle.toml_layout.specs.SetOutlines.{outlined_names, set_outline, set_outline_within, set_listed, set_braced}
+use Rattle.toml_layout.specs.TreeOutlines.{gap_spelled, dotted_outline, assign_outline, value_outline, items_outline, pairs_outline}
 
 rest_outlined : (ds : List Dotted) → map (λ (d : outline.DottedOutline). spelled_name d.part) (map dotted_outline ds) ≡ rest_names ds
 rest_outlined [] = refl

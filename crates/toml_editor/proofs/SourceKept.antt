@@ -1,11 +1,11 @@
 -- What is written by stays with the texts and the newline of new lines.
 use Rattle.std.proofs.Common.{◌≡◌, ◌∙◌, List, ap, ap₂}
 use Rattle.toml_tree.specs.Tree.{Line}
-use Rattle.toml_working.specs.declared.layout.Layout.{Layout}
-use Rattle.toml_working.specs.declared.texts.Texts.{Texts}
-use Rattle.toml_working.specs.declared.tree.Leaf.{Leaf}
+use Rattle.toml_layout.specs.declared.layout.Layout.{Layout}
+use Rattle.toml_layout.specs.declared.texts.Texts.{Texts}
+use Rattle.toml_layout.specs.declared.tree.Leaf.{Leaf}
 use Rattle.toml_working.specs.declared.working.Tree.{Tree}
-use Rattle.toml_working.specs.OpenOutlines.{leaf_text}
+use Rattle.toml_layout.specs.OpenOutlines.{leaf_text}
 use Rattle.toml_working.specs.Putting.{manner}
 use Rattle.toml_working.specs.Written.{manner_of, style_of}
 use Rattle.toml_editor.specs.Exact.{KeepsSource}

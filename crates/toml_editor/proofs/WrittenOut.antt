@@ -3,10 +3,10 @@ use Rattle.std.proofs.Common.{◌≡◌, ◌∙◌, ◌+◌, ℕ, List, [], ◌�
 use Rattle.toml_names.specs.mentions.Mentions.{Named, named_by, root}
 use Rattle.toml_tree.specs.Tree.{Line}
 use Rattle.toml_tree.proofs.Proved.{text_is_spelled}
-use Rattle.toml_working.proofs.Proved.{lines_outlined_are}
-use Rattle.toml_working.specs.Outlines.{line_outlined, lines_outlined}
+use Rattle.toml_layout.proofs.Proved.{lines_outlined_are}
+use Rattle.toml_layout.specs.Outlines.{line_outlined, lines_outlined}
 use Rattle.toml_working.specs.Standing.{Standing, standing, standing_from}
-use Rattle.toml_working.specs.TreeOutlines.{line_outline}
+use Rattle.toml_layout.specs.TreeOutlines.{line_outline}
 use Rattle.toml_working.specs.Writing.{LinesAreWritten, TextIsWritten}
 
 -- the texts of lines, one behind the other

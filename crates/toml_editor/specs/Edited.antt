@@ -28,8 +28,8 @@ use Rattle.toml_checker.specs.Pairs.{IsFirst}
 use Rattle.toml_editor.specs.PlainTexts.{IsNoPlainEdit, IsNoPlainList, NoSpreadSet, WritesPlain}
 use Rattle.toml_working.specs.InValues.{Places, IsElementInValue, IsRightInValue}
 use Rattle.toml_working.specs.Tidy.{ArePieces}
-use Rattle.toml_working.specs.declared.layout.Layout.{Layout}
-use Rattle.toml_working.specs.declared.layout.Layout.TheVariants as layouts
+use Rattle.toml_layout.specs.declared.layout.Layout.{Layout}
+use Rattle.toml_layout.specs.declared.layout.Layout.TheVariants as layouts
 use Rattle.toml_editor.specs.declared.fault.EditorFault.{EditorFault}
 use Rattle.toml_editor.specs.declared.fault.EditorFault.TheVariants.{Text, Syntax, Names, Edit, Spread, LastElement, TooLong, Unverified, NoMemory}
 

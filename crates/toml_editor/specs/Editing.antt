@@ -15,7 +15,7 @@ use Rattle.toml_editor.specs.declared.editing.Edited.{Edited}
 use Rattle.toml_editor.specs.declared.editing.Unjudged.{Unjudged}
 use Rattle.toml_editor.specs.declared.fault.EditorFault.{EditorFault}
 use Rattle.toml_editor.specs.declared.fault.EditorFault.TheVariants.{Unverified}
-use Rattle.toml_working.specs.declared.layout.Layout.{Layout}
+use Rattle.toml_layout.specs.declared.layout.Layout.{Layout}
 use Rattle.toml_editor.specs.declared.making.Read.{Read}
 use Rattle.toml_working.specs.declared.reading.LineFacts.{LineFacts}
 use Rattle.toml_editor.specs.Making.{HasNames}

@@ -21,7 +21,7 @@ use Rattle.toml_editor.specs.declared.fault.EditorFault.TheVariants.{Edit, LastE
 use Rattle.toml_working.specs.declared.working.Tree.{Tree}
 use Rattle.toml_working.specs.Becoming.{TreeRenames}
 use Rattle.toml_editor.specs.CertifiedLists.{ArePlain}
-use Rattle.toml_working.specs.OpenOutlines.{leaf_text}
+use Rattle.toml_layout.specs.OpenOutlines.{leaf_text}
 use Rattle.toml_editor.specs.PlainTexts.{IsPlainOn, IsSpreadSet}
 use Rattle.toml_working.specs.Putting.{TreeInserts, manner}
 use Rattle.toml_working.specs.RemovingIn.{RemovesLines}
@@ -30,7 +30,7 @@ use Rattle.toml_working.specs.Standing.{Read, standing}
 use Rattle.toml_working.specs.Stands.{KeepsRest, Stands, TreeSets}
 use Rattle.toml_working.specs.Starting.{NoneIsGone}
 use Rattle.toml_editor.specs.Steps.{IsGoodText, AreWritten}
-use Rattle.toml_working.specs.TreeOutlines.{value_outline}
+use Rattle.toml_layout.specs.TreeOutlines.{value_outline}
 use Rattle.toml_working.specs.Written.{IsWritten}
 
 -- the working tree stands for a text with these data, and no element of an array of tables is gone

@@ -16,7 +16,7 @@ use Rattle.toml_edits.specs.ValueTexts.{IsGoodValue}
 use Rattle.toml_editor.specs.Blocks.{IsPut, root_pair, named_plain}
 use Rattle.toml_working.specs.Inserting.{new_line, line_behind, insert_lines}
 use Rattle.toml_working.specs.Manners.{Manner}
-use Rattle.toml_working.specs.Spacings.{plain_spacing}
+use Rattle.toml_layout.specs.Spacings.{plain_spacing}
 
 -- Law: the new lines name what the old ones did, and the name's value in the root.
 abbrev pub InsertNames : Type 0

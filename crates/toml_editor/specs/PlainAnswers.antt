@@ -13,7 +13,7 @@ use Rattle.toml_editor.specs.CertifiedLists.{ArePlain}
 use Rattle.toml_editor.specs.Edited.{IsEditedWith, TellsWith}
 use Rattle.toml_editor.specs.PlainTexts.{IsSpreadSet}
 use Rattle.toml_editor.specs.Steps.{AreWritten}
-use Rattle.toml_working.specs.declared.layout.Layout.{Layout}
+use Rattle.toml_layout.specs.declared.layout.Layout.{Layout}
 use Rattle.toml_working.specs.Written.{manner_of}
 use Rattle.toml_editor.specs.declared.fault.EditorFault.{EditorFault}
 use Rattle.toml_editor.specs.declared.fault.EditorFault.TheVariants.{Edit, Spread, TooLong, NoMemory}

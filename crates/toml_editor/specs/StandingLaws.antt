@@ -19,7 +19,7 @@ use Rattle.toml_working.specs.RemoveStanding.{is_pair, remove_standing}
 use Rattle.toml_working.specs.Removing.{remove_lines}
 use Rattle.toml_working.specs.Setting.{set_lines}
 use Rattle.toml_working.specs.Standing.{AreOrdered, standing, set_standing, has}
-use Rattle.toml_working.specs.TreeOutlines.{value_outline}
+use Rattle.toml_layout.specs.TreeOutlines.{value_outline}
 use Rattle.toml_working.specs.Written.{HasPair, HasValue}
 
 -- Law: places do not count.

@@ -10,11 +10,11 @@ use Rattle.toml_names.specs.mentions.Mentions.{named}
 use Rattle.toml_names.specs.mentions.Rules.{KeepsRules}
 use Rattle.toml_units.specs.declared.unit.UnitKind.TheVariants as kinds
 use Rattle.toml_units.specs.Units.{TextUnit, inside, comment_units, units}
-use Rattle.toml_working.specs.declared.layout.Layout.TheVariants as layouts
+use Rattle.toml_layout.specs.declared.layout.Layout.TheVariants as layouts
 use Rattle.toml_working.specs.Inserting.{insert_lines}
 use Rattle.toml_working.specs.Manners.{Manner}
 use Rattle.toml_working.specs.Removing.{remove_lines}
-use Rattle.toml_working.specs.Spacings.{Spacing, plain_spacing}
+use Rattle.toml_layout.specs.Spacings.{Spacing, plain_spacing}
 use Rattle.toml_working.specs.Written.{HasPair}
 
 -- a keyval line of a name in the root: itself, what lies in its value, and its comment

@@ -22,11 +22,12 @@ use crate::spelled::{Spelled, spell_all};
 use std::alloc::Global;
 use toml_checker::{Afterwards, Finding, find_walked};
 use toml_edits::{Draft, Edit, near_addresses};
+use toml_layout::{Layout, Texts};
 use toml_names::{AddressSet, ReadFault};
 use toml_text::{MAX_LEN, Source};
 use toml_tree::{Profile, mark};
 use toml_units::{Certificate, Piece, TakenLines, UnitCursor, join};
-use toml_working::{Before, Layout, LineFacts, ReadDocument, Texts, Tree, let_go, read_document};
+use toml_working::{Before, LineFacts, ReadDocument, Tree, let_go, read_document};
 
 /// What the edits make, not judged yet: the pieces of the edited text, and the text.
 #[derive(Drop)]

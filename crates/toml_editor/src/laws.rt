@@ -12,9 +12,9 @@ ghost use Rattle.toml_editor.specs.RenamedHeaders.{RenameAlong, RenameAlongEleme
 ghost use Rattle.toml_editor.specs.RenamedUnits.{RenameUnits};
 ghost use Rattle.toml_editor.specs.StandingLaws.{InsertStands, PairStands, PlacesDoNotStand, RemoveStands, RenameStands, RootComesFirst};
 ghost use Rattle.toml_editor.specs.StandingLaws.{RulesOrder, SetStands, StandingIsValue, ValueStands};
-ghost use Rattle.toml_working.specs.RenameOutlines.{RenameIsOutlined};
+ghost use Rattle.toml_working.specs.Renaming.{RenameIsOutlined};
 ghost use Rattle.toml_editor.specs.SetLaws.{SetNames, SetRules, SetShort, SetData, SetForms, SetOfProfile, SetWithin, SetElsewhere, SetKeepsLine};
-ghost use Rattle.toml_working.specs.SetOutlines.{SetIsOutlined};
+ghost use Rattle.toml_working.specs.Setting.{SetIsOutlined};
 ghost use Rattle.toml_editor.specs.UnitBlocks.{InsertUnits, RemoveUnits};
 ghost use Rattle.toml_editor.specs.Steps.{GoodTextsAreDocuments, PlainIsWritten, PlainStep, PlainSteps, OneWritten, OneListWritten, StyleIsNewline};
 ghost use Rattle.toml_working.specs.Writing.{LinesAreWritten, TextIsWritten};

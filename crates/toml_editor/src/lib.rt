@@ -12,4 +12,4 @@ pub use editing::{
     edit, edit_at_exit, edit_in, edit_pieces, edit_pieces_in, edit_with, edit_with_at_exit,
 };
 pub use fault::EditorFault;
-pub use toml_working::Layout;
+pub use toml_layout::Layout;

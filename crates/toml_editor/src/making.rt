@@ -15,11 +15,12 @@ use crate::fault::EditorFault;
 use crate::spelled::Spelled;
 use std::alloc::{AllocError, Global};
 use toml_edits::{Draft, Edit, EditFault, place};
+use toml_layout::{Brackets, open_value};
 use toml_names::{Address, Datum, LineNames, Name, Step};
 use toml_tree::Profile;
 use toml_working::{
-    Above, Before, Brackets, NewHeader, Tree, innermost_element, is_element_in_value, is_flat,
-    is_right_in_value, open_value, parent_of,
+    Above, Before, NewHeader, Tree, innermost_element, is_element_in_value, is_flat,
+    is_right_in_value, parent_of,
 };
 
 /// What was read of the document, in the profile, by which the edits are made on its working tree.

@@ -7,23 +7,24 @@ use Rattle.toml_names.proofs.Proved.{same_step-equal}
 use Rattle.toml_names.specs.model.Addresses.{Address, same_step}
 use Rattle.toml_text.specs.Source.{text_of}
 use Rattle.toml_tree.specs.Tree as tree
-use Rattle.toml_working.specs.declared.inside.Inside.{Inside}
-use Rattle.toml_working.specs.declared.inside.Inside.TheVariants as changes
+use Rattle.toml_layout.specs.declared.changing.Inside.{Inside}
+use Rattle.toml_layout.specs.declared.changing.Inside.TheVariants as changes
 use Rattle.toml_working.specs.declared.lines.Body.{Body}
 use Rattle.toml_working.specs.declared.lines.Body.TheVariants as bodies
 use Rattle.toml_working.specs.declared.lines.Kept.{Kept}
 use Rattle.toml_working.specs.declared.lines.Line.{Line}
 use Rattle.toml_working.specs.declared.lines.Slot.{Slot}
-use Rattle.toml_working.specs.declared.texts.Texts.{Texts}
-use Rattle.toml_working.specs.declared.tree.OpenLine.{OpenLine}
+use Rattle.toml_layout.specs.declared.texts.Texts.{Texts}
+use Rattle.toml_layout.specs.declared.tree.OpenLine.{OpenLine}
 use Rattle.toml_working.specs.declared.working.Position.{Position}
 use Rattle.toml_working.specs.Changing.{ChangesBody, ChangesOpen, RenamesOpen, SetsOpen, ChangesAs, ChangesStanding, ChangesLine, ChangesSlot, ChangesSlots}
 use Rattle.toml_working.specs.OpeningLines.{OpensBody, IsOpened}
-use Rattle.toml_working.specs.OpenOutlines.{line, value}
-use Rattle.toml_working.specs.Outlines.{ValueOutline, LineOutline}
+use Rattle.toml_layout.specs.OpenOutlines.{line, value}
+use Rattle.toml_layout.specs.Outlines.{ValueOutline, LineOutline}
 use Rattle.toml_working.specs.RenameStanding.{rename_line_outline, rename_outline_of}
 use Rattle.toml_working.specs.Seeing.{steps_to}
-use Rattle.toml_working.specs.Standing.{Read, IsApart, begins, leads_to, expr_has, outline_has, outline_of, body_outline, line_standing, set_line_outline, set_outline_of, slot_standing, slots_standing}
+use Rattle.toml_working.specs.Standing.{Read, IsApart, leads_to, expr_has, outline_has, outline_of, body_outline, line_standing, set_line_outline, set_outline_of, slot_standing, slots_standing}
+use Rattle.toml_layout.specs.Beginnings.{begins}
 use Rattle.toml_working.specs.Stands.{BodyKept, SlotKept}
 use Rattle.toml_working.proofs.Alone.{and_parts, item_split, slot_split, split_within}
 use Rattle.toml_working.proofs.AtPlace.{line_in, no_line, slot_replaced}

@@ -2,11 +2,11 @@
 use Rattle.std.proofs.Common.{◌≡◌, ◌∙◌, ℕ, ◌+◌, ◌^◌, ◌<◌, Bool, true, false, ◌&&◌, cond, not, List, [], ◌∷◌, ◌++◌, Option, Some, None, refl, ap, ap₂, sym, subst, append_assoc}
 use Rattle.std.specs.Prelude.{is_some, option_map, slice_get}
 use Rattle.toml_tree.specs.Spells.{EachIs}
-use Rattle.toml_working.specs.declared.layout.Layout.{Layout}
-use Rattle.toml_working.specs.declared.layout.Layout.TheVariants as layouts
+use Rattle.toml_layout.specs.declared.layout.Layout.{Layout}
+use Rattle.toml_layout.specs.declared.layout.Layout.TheVariants as layouts
 use Rattle.toml_working.specs.declared.lines.Seen.{Seen}
 use Rattle.toml_working.specs.declared.lines.Slot.{Slot}
-use Rattle.toml_working.specs.declared.looks.Look.{Look}
+use Rattle.toml_layout.specs.declared.looks.Look.{Look}
 use Rattle.toml_working.specs.declared.working.Position.{Position}
 use Rattle.toml_working.specs.InsertStanding.{comments_end, goes_below, has_comment, is_bare, is_blank, is_comment}
 use Rattle.toml_working.specs.Looking.{SlotLooks}

@@ -10,10 +10,9 @@ use Rattle.toml_tree.proofs.Proved.{expr_starts, mark_ends_at_char, placed_front
 use Rattle.toml_tree.specs.Parts.{size}
 use Rattle.toml_tree.specs.Spells.{AreLines, EachIs, Spells, expr_parts, joined, line_parts, lines_parts, mark_of, piece}
 use Rattle.toml_tree.specs.Tree.{Doc, Line}
-use Rattle.toml_working.proofs.Lying.{lie_front, lie_back, lie_slice}
-use Rattle.toml_working.proofs.TreeOutlined.{line_outlined_is}
+use Rattle.toml_layout.proofs.Proved.{lie_front, lie_back, lie_slice, line_outlined_is}
 use Rattle.toml_working.specs.declared.lines.Kept.{Kept}
-use Rattle.toml_working.specs.Opening.{LieAt}
+use Rattle.toml_layout.specs.Opening.{LieAt}
 use Rattle.toml_working.specs.Standing.{Read}
 use Rattle.toml_working.specs.Stands.{IsKept}
 use Rattle.toml_working.specs.Starting.{IsKeptOf}

@@ -6,18 +6,18 @@ use Rattle.std.specs.Slice.{IsGetResult}
 use Rattle.std.specs.Prelude.{option_map, slice_get, MatchOption}
 use Rattle.std.proofs.lemmas.Option.{slice_get-map, slice_get_past, slice_get-get_or}
 use Rattle.toml_text.specs.Source.{text_of}
-use Rattle.toml_working.specs.KnownLines.{known_line, lines_known}
-use Rattle.toml_working.specs.declared.known.KnownLine.{KnownLine}
+use Rattle.toml_layout.specs.KnownLines.{known_line, lines_known}
+use Rattle.toml_layout.specs.declared.known.KnownLine.{KnownLine}
 use Rattle.toml_tree.specs.Spells.{line_parts}
 use Rattle.toml_working.specs.declared.lines.Body.{Body}
 use Rattle.toml_working.specs.declared.lines.Body.TheVariants as bodies
 use Rattle.toml_working.specs.declared.lines.Kept.{Kept}
-use Rattle.toml_working.specs.declared.texts.Texts.{Texts}
-use Rattle.toml_working.specs.declared.tree.OpenLine.{OpenLine}
-use Rattle.toml_working.specs.Opening.{Lie}
+use Rattle.toml_layout.specs.declared.texts.Texts.{Texts}
+use Rattle.toml_layout.specs.declared.tree.OpenLine.{OpenLine}
+use Rattle.toml_layout.specs.Opening.{Lie}
 use Rattle.toml_working.specs.OpeningLines.{OpensBody, IsOpened}
-use Rattle.toml_working.specs.OpenOutlines.{line}
-use Rattle.toml_working.specs.TreeOutlines.{line_outline}
+use Rattle.toml_layout.specs.OpenOutlines.{line}
+use Rattle.toml_layout.specs.TreeOutlines.{line_outline}
 
 -- what `get` of a slice answers
 pub item_got : {X : Type 0} (xs : List X) (i : ℕ) (r : Option (Bor X)) → IsGetResult xs i i r → option_copied r ≡ slice_get xs i

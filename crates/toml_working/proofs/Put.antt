@@ -14,13 +14,13 @@ use Rattle.toml_working.specs.declared.lines.Body.TheVariants as bodies
 use Rattle.toml_working.specs.declared.lines.Line.{Line}
 use Rattle.toml_working.specs.declared.lines.Slot.{Slot}
 use Rattle.toml_working.specs.declared.lines.Slot.TheVariants as slots
-use Rattle.toml_working.specs.declared.texts.Texts.{Texts}
+use Rattle.toml_layout.specs.declared.texts.Texts.{Texts}
 use Rattle.toml_working.specs.declared.working.Position.{Position}
 use Rattle.toml_working.specs.Becoming.{LineBecomes}
 use Rattle.toml_working.specs.InsertStanding.{end_in}
 use Rattle.toml_working.specs.OpeningLines.{EndsIn, OpensBody, OpensToEndIn}
-use Rattle.toml_working.specs.OpenOutlines.{line}
-use Rattle.toml_working.specs.Outlines.{LineOutline}
+use Rattle.toml_layout.specs.OpenOutlines.{line}
+use Rattle.toml_layout.specs.Outlines.{LineOutline}
 use Rattle.toml_working.specs.Placing.{lines_before, lines_from}
 use Rattle.toml_working.specs.Putting.{Becomes, EndsBefore, EndsSlot, EndsSlots, IsLastAt, LineIsLast, PutsSlot, PutsSlots, SlotIsLast, TellsLast, ended_before, newline_behind}
 use Rattle.toml_working.specs.Seeing.{line_at}

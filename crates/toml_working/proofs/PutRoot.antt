@@ -10,26 +10,28 @@ use Rattle.toml_names.specs.model.Addresses.{Address}
 use Rattle.toml_scalar.specs.Spelling.{spelled}
 use Rattle.toml_text.specs.Source.{text_of}
 use Rattle.toml_tree.specs.Spells.{EachIs}
-use Rattle.toml_working.specs.declared.layout.Layout.TheVariants as layouts
+use Rattle.toml_layout.specs.declared.layout.Layout.TheVariants as layouts
 use Rattle.toml_working.specs.declared.lines.Body.{Body}
 use Rattle.toml_working.specs.declared.lines.Line.{Line}
 use Rattle.toml_working.specs.declared.lines.Slot.{Slot}
-use Rattle.toml_working.specs.declared.looks.Equals.{Equals}
-use Rattle.toml_working.specs.declared.texts.Texts.{Texts}
-use Rattle.toml_working.specs.declared.tree.Assign.{Assign}
-use Rattle.toml_working.specs.declared.tree.Leaf.{Leaf}
+use Rattle.toml_layout.specs.declared.looks.Equals.{Equals}
+use Rattle.toml_layout.specs.declared.texts.Texts.{Texts}
+use Rattle.toml_layout.specs.declared.tree.Assign.{Assign}
+use Rattle.toml_layout.specs.declared.tree.Leaf.{Leaf}
 use Rattle.toml_working.specs.declared.working.Position.{Position}
 use Rattle.toml_working.specs.InsertStanding.{RootIsFirst, goes_below, has_comment, has_pair, insert_behind, insert_first, insert_standing, is_bare, line_behind, new_outline, new_standing, pair_or, spacing_behind}
-use Rattle.toml_working.specs.Looking.{BodyBegins, LaysOut, around, begun_as}
+use Rattle.toml_working.specs.Looking.{BodyBegins, LaysOut}
+use Rattle.toml_layout.specs.Looks.{around, begun_as}
 use Rattle.toml_working.specs.Manners.{Manner}
 use Rattle.toml_working.specs.OpeningComments.{IsComment, IsCommentsEnd}
 use Rattle.toml_working.specs.OpeningLines.{HasOutline, alone}
-use Rattle.toml_working.specs.OpenOutlines.{assign, leaf_text}
-use Rattle.toml_working.specs.Outlines.{LineOutline, Pair, ValueOutline}
+use Rattle.toml_layout.specs.OpenOutlines.{assign, leaf_text}
+use Rattle.toml_layout.specs.Outlines.{LineOutline, Pair, ValueOutline}
 use Rattle.toml_working.specs.Placing.{IsLastPair, IsNoHeader, IsPair, is_header, lines_before, lines_from}
-use Rattle.toml_working.specs.Putting.{AssignsOne, EndsBefore, InsertsFirst, InsertsLines, IsRootLine, PutsBehind, PutsSlots, ended_before, newline_behind}
+use Rattle.toml_layout.specs.NewKeys.{AssignsOne}
+use Rattle.toml_working.specs.Putting.{EndsBefore, InsertsFirst, InsertsLines, IsRootLine, PutsBehind, PutsSlots, ended_before, newline_behind}
 use Rattle.toml_working.specs.Seeing.{line_at}
-use Rattle.toml_working.specs.Spacings.{plain_spacing}
+use Rattle.toml_layout.specs.Spacings.{plain_spacing}
 use Rattle.toml_working.specs.Standing.{Standing, Read, body_outline, line_standing, slots_standing}
 use Rattle.toml_working.specs.Stands.{BodyKept, SlotKept, Stands}
 use Rattle.toml_working.proofs.AtPlace.{slot_of}

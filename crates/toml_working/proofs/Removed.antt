@@ -10,7 +10,7 @@ use Rattle.toml_working.specs.declared.lines.Line.{Line}
 use Rattle.toml_working.specs.declared.lines.Slot.{Slot}
 use Rattle.toml_working.specs.declared.lines.Slot.TheVariants as slots
 use Rattle.toml_working.specs.OpeningLines.{HasOutline, alone}
-use Rattle.toml_working.specs.Outlines.{Nothing}
+use Rattle.toml_layout.specs.Outlines.{Nothing}
 use Rattle.toml_working.specs.Putting.{LineIsLast}
 use Rattle.toml_working.specs.RemoveStanding.{empty_standing, left_standing, without, without_one}
 use Rattle.toml_working.specs.RemovingIn.{LeavesBehind, LeavesLines, LeavesOf, LeavesSlot, lines_of}

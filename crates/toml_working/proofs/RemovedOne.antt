@@ -14,7 +14,8 @@ use Rattle.toml_working.specs.declared.working.Tree.{Tree}
 use Rattle.toml_working.specs.RemoveStanding.{is_pair, is_value_at, left_standing, remove_standing, without}
 use Rattle.toml_working.specs.RemovingIn.{LeavesSlot, LeavesSlots, RemovesLines}
 use Rattle.toml_working.specs.Seeing.{HoldsNone, IsSoughtAt, line_at, steps_of, steps_to}
-use Rattle.toml_working.specs.Standing.{Standing, Read, StandAlone, begins, covers, covers_at, holds, is_below, leads_to, lies_below, slot_standing, slots_standing}
+use Rattle.toml_working.specs.Standing.{Standing, Read, StandAlone, covers, covers_at, holds, is_below, leads_to, lies_below, slot_standing, slots_standing}
+use Rattle.toml_layout.specs.Beginnings.{begins}
 use Rattle.toml_working.specs.Stands.{KeepsRest, SlotKept}
 use Rattle.toml_working.proofs.Beginning.{begins_self}
 use Rattle.toml_working.proofs.Alone.{item_split, slot_split, split_within}

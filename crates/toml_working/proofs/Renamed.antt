@@ -14,10 +14,11 @@ use Rattle.toml_tree.specs.Tree as tree
 use Rattle.toml_working.specs.declared.lines.Line.{Line}
 use Rattle.toml_working.specs.declared.lines.Slot.{Slot}
 use Rattle.toml_working.specs.declared.lines.Slot.TheVariants as slots
-use Rattle.toml_working.specs.declared.texts.Texts.{Texts}
+use Rattle.toml_layout.specs.declared.texts.Texts.{Texts}
 use Rattle.toml_working.specs.Becoming.{BodyBecomes, LineBecomes, LinesBecome, SlotBecomes}
-use Rattle.toml_working.specs.Outlines.{LineOutline}
-use Rattle.toml_working.specs.RenameStanding.{names_in, line_part_with, part_number, rename_below, rename_own, renamed_address}
+use Rattle.toml_layout.specs.Outlines.{LineOutline}
+use Rattle.toml_working.specs.RenameStanding.{names_in, part_number, rename_below, rename_own, renamed_address}
+use Rattle.toml_layout.specs.RenamedPairs.{line_part_with}
 use Rattle.toml_working.specs.Standing.{Standing, Read, body_outline, is_below, lies_below, line_standing, slot_standing}
 use Rattle.toml_working.specs.Stands.{BodyKept, OpensSlot}
 use Rattle.toml_working.proofs.Turned.{opened_kept, opened_standing}

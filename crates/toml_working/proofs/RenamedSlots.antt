@@ -8,25 +8,26 @@ use Rattle.std.specs.Borrow.{Bor}
 use Rattle.toml_names.specs.model.Addresses.{Address, same_step, is_above}
 use Rattle.toml_text.specs.Source.{text_of}
 use Rattle.toml_tree.specs.Spells.{EachIs}
-use Rattle.toml_working.specs.declared.inside.Inside.TheVariants as changes
+use Rattle.toml_layout.specs.declared.changing.Inside.TheVariants as changes
 use Rattle.toml_working.specs.declared.lines.Slot.{Slot}
-use Rattle.toml_working.specs.declared.texts.Texts.{Texts}
+use Rattle.toml_layout.specs.declared.texts.Texts.{Texts}
 use Rattle.toml_working.specs.declared.working.Position.{Position}
 use Rattle.toml_working.specs.Becoming.{RenamesLines, SlotAtBecomes, SlotBecomes, SlotsBecome}
 use Rattle.toml_working.specs.Changing.{ChangesSlots}
-use Rattle.toml_working.specs.Outlines as outline
-use Rattle.toml_working.specs.Outlines.{ExprOutline, LineOutline}
+use Rattle.toml_layout.specs.Outlines as outline
+use Rattle.toml_layout.specs.Outlines.{ExprOutline, LineOutline}
 use Rattle.toml_working.specs.RenameStanding.{rename_below, rename_inside, rename_outline_of, rename_own, rename_standing}
-use Rattle.toml_working.specs.RenameOutlines.{rename_outline}
+use Rattle.toml_layout.specs.RenameOutlines.{rename_outline}
 use Rattle.toml_working.specs.Seeing.{HoldsNone, line_at, steps_of, steps_to}
-use Rattle.toml_working.specs.Standing.{Standing, Read, IsApart, StandAlone, begins, covers, covers_at, holds, is_below, leads_to, lies_below, slot_standing, slots_standing, with_value_outline}
+use Rattle.toml_working.specs.Standing.{Standing, Read, IsApart, StandAlone, covers, covers_at, holds, is_below, leads_to, lies_below, slot_standing, slots_standing, with_value_outline}
+use Rattle.toml_layout.specs.Beginnings.{begins}
 use Rattle.toml_working.specs.Stands.{SlotKept}
 use Rattle.std.proofs.lemmas.Bool.{and_parts}
 use Rattle.toml_working.proofs.Alone.{above_begins, begins_through, item_split, slot_split, split_within}
 use Rattle.toml_working.proofs.AtPlace.{holder_at}
 use Rattle.toml_working.proofs.Each.{each_back, each_front, each_get, each_set, each_weaker}
-use Rattle.toml_working.proofs.RenameAway.{step_other}
-use Rattle.toml_working.proofs.RenameInside.{value_kept}
+use Rattle.toml_layout.proofs.Proved.{rename_aside}
+use Rattle.toml_working.proofs.Beginning.{step_other}
 use Rattle.toml_working.proofs.SetAway.{one_is_apart, others_before}
 use Rattle.toml_working.proofs.Turned.{one_turned}
 use Rattle.toml_working.proofs.Pairwise.{PairsAre, pairs_of_all}
@@ -58,7 +59,7 @@ module _ (p : Address) (to spelled : List ℕ) where
   -- a line that does not hold what stands at the address, or not strictly above it
   expr_stays : (at : Address) (e : ExprOutline) → is_above at p ≡ false → with_value_outline (rename_outline p spelled at) e ≡ e
   expr_stays at outline.Nothing h = refl
-  expr_stays at (outline.Pair a v) h = ap (outline.Pair a) (value_kept p spelled v at h)
+  expr_stays at (outline.Pair a v) h = ap (outline.Pair a) (rename_aside p spelled at v h)
   expr_stays at (outline.Header opening before first rest after closing) h = refl
 
   not_above : (at : Address) → begins at p ≡ false → is_above at p ≡ false

@@ -8,19 +8,20 @@ use Rattle.std.proofs.lemmas.List.Folds.{list_any-append}
 use Rattle.toml_names.proofs.Proved.{same_step-equal}
 use Rattle.toml_names.specs.model.Addresses.{Address, same_step}
 use Rattle.toml_tree.specs.Spells.{EachIs}
-use Rattle.toml_working.specs.Outlines as outline
-use Rattle.toml_working.specs.Outlines.{ValueOutline, ExprOutline, LineOutline}
-use Rattle.toml_working.specs.SetOutlines.{set_outline}
-use Rattle.toml_working.specs.Standing.{Standing, StandAlone, IsApart, begins, leads_to, covers_at, covers, lies_below, holds, with_value_outline, set_outline_of, set_standing, expr_has, outline_has, has}
+use Rattle.toml_layout.specs.Outlines as outline
+use Rattle.toml_layout.specs.Outlines.{ValueOutline, ExprOutline, LineOutline}
+use Rattle.toml_layout.specs.SetOutlines.{set_outline}
+use Rattle.toml_working.specs.Standing.{Standing, StandAlone, IsApart, leads_to, covers_at, covers, lies_below, holds, with_value_outline, set_outline_of, set_standing, expr_has, outline_has, has}
+use Rattle.toml_layout.specs.Beginnings.{begins}
 use Rattle.toml_working.proofs.Each.{each_back}
-use Rattle.toml_working.proofs.SetInside.{aside}
+use Rattle.toml_layout.proofs.Proved.{set_aside}
 use Rattle.toml_working.proofs.Pairwise.{PairsAre, pairs_of_all, each_of_all}
 
 -- a line that does not hold what stands there
 away_expr : (p : Address) (new : ValueOutline) (at : Address) (e : ExprOutline) → begins at p ≡ false
     → (with_value_outline (set_outline p new at) e ≡ e) × (expr_has p at e ≡ false)
 away_expr p new at outline.Nothing h = (refl, refl)
-away_expr p new at (outline.Pair a v) h = let (sets, has) = aside p new v at h in (ap (outline.Pair a) (sym sets), sym has)
+away_expr p new at (outline.Pair a v) h = let (sets, has) = set_aside p new at v h in (ap (outline.Pair a) sets, has)
 away_expr p new at (outline.Header opening before first rest after closing) h = (refl, refl)
 
 away_line : (p : Address) (new : ValueOutline) (base : Option ℕ) (own : Option Address) (l : LineOutline) → leads_to p base own ≡ false

@@ -4,14 +4,14 @@ use Rattle.std.specs.Prelude.{option_map}
 use Rattle.std.specs.List.{list_any}
 use Rattle.toml_names.specs.model.Addresses.{Address}
 use Rattle.toml_text.specs.Source.{text_of}
-use Rattle.toml_working.specs.declared.inside.Inside.TheVariants as changes
+use Rattle.toml_layout.specs.declared.changing.Inside.TheVariants as changes
 use Rattle.toml_working.specs.declared.lines.Slot.{Slot}
-use Rattle.toml_working.specs.declared.texts.Texts.{Texts}
-use Rattle.toml_working.specs.declared.tree.Value.{Value}
+use Rattle.toml_layout.specs.declared.texts.Texts.{Texts}
+use Rattle.toml_layout.specs.declared.tree.Value.{Value}
 use Rattle.toml_working.specs.declared.working.Position.{Position}
 use Rattle.toml_working.specs.Changing.{ChangesSlots}
-use Rattle.toml_working.specs.OpenOutlines.{value}
-use Rattle.toml_working.specs.Outlines.{ValueOutline}
+use Rattle.toml_layout.specs.OpenOutlines.{value}
+use Rattle.toml_layout.specs.Outlines.{ValueOutline}
 use Rattle.toml_working.specs.Seeing.{HoldsNone, line_at}
 use Rattle.toml_working.specs.Standing.{Standing, Read, IsApart, StandAlone, holds, has, set_standing}
 use Rattle.toml_working.specs.Stands.{SetsLines, Stands}

@@ -8,7 +8,7 @@ use Rattle.toml_working.specs.declared.lines.Kept.{Kept}
 use Rattle.toml_working.specs.declared.lines.Line.{Line}
 use Rattle.toml_working.specs.declared.lines.Slot.{Slot}
 use Rattle.toml_working.specs.declared.lines.Slot.TheVariants as slots
-use Rattle.toml_working.specs.Outlines.{line_outlined, lines_outlined}
+use Rattle.toml_layout.specs.Outlines.{line_outlined, lines_outlined}
 use Rattle.toml_working.specs.Standing.{Read, Standing, kept_outline, body_outline, line_standing, outline_of, slot_standing, slots_standing}
 use Rattle.toml_working.specs.Stands.{BodyKept, IsKept, SlotKept}
 use Rattle.toml_working.specs.Writing.{SpellAll, SpellsKept, SpellsLine, SpellsSlot}

@@ -21,7 +21,7 @@ use Rattle.toml_working.proofs.LinesLie.{LineLies, line_kept}
 use Rattle.toml_working.specs.declared.lines.Kept.{Kept}
 use Rattle.toml_working.specs.declared.lines.Slot.{Slot}
 use Rattle.toml_working.specs.declared.lines.Slot.TheVariants as slots
-use Rattle.toml_working.specs.Outlines.{LineOutline}
+use Rattle.toml_layout.specs.Outlines.{LineOutline}
 use Rattle.toml_working.specs.Standing.{Read, Standing, kept_standing, line_stands, outline_of, slot_standing, slots_standing, standing, standing_from}
 use Rattle.toml_working.specs.Stands.{SlotKept, Stands}
 use Rattle.toml_working.specs.Starting.{IsKeptOf, KeepsLine}

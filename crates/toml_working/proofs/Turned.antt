@@ -11,7 +11,7 @@ use Rattle.toml_tree.specs.Spells.{EachIs}
 use Rattle.toml_working.specs.declared.lines.Line.{Line}
 use Rattle.toml_working.specs.declared.lines.Slot.{Slot}
 use Rattle.toml_working.specs.declared.lines.Slot.TheVariants as slots
-use Rattle.toml_working.specs.declared.texts.Texts.{Texts}
+use Rattle.toml_layout.specs.declared.texts.Texts.{Texts}
 use Rattle.toml_working.specs.Standing.{Standing, Read, line_standing, slot_standing}
 use Rattle.toml_working.specs.Stands.{BodyKept, OpensSlot, SlotKept}
 use Rattle.toml_working.specs.Turning.{LineTurns, OneTurns, SlotTurns}

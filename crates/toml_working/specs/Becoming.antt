@@ -9,12 +9,13 @@ use Rattle.toml_working.specs.declared.lines.Body.TheVariants as bodies
 use Rattle.toml_working.specs.declared.lines.Line.{Line}
 use Rattle.toml_working.specs.declared.lines.Slot.{Slot}
 use Rattle.toml_working.specs.declared.renaming.Renaming.{Renaming}
-use Rattle.toml_working.specs.declared.texts.Texts.{Texts}
-use Rattle.toml_working.specs.declared.tree.OpenLine.{OpenLine}
+use Rattle.toml_layout.specs.declared.texts.Texts.{Texts}
+use Rattle.toml_layout.specs.declared.tree.OpenLine.{OpenLine}
 use Rattle.toml_working.specs.declared.working.Tree.{Tree}
-use Rattle.toml_working.specs.OpenOutlines.{line}
-use Rattle.toml_working.specs.Outlines.{LineOutline}
-use Rattle.toml_working.specs.RenameStanding.{line_part_with, rename_below, rename_own, rename_standing}
+use Rattle.toml_layout.specs.OpenOutlines.{line}
+use Rattle.toml_layout.specs.Outlines.{LineOutline}
+use Rattle.toml_layout.specs.RenamedPairs.{line_part_with}
+use Rattle.toml_working.specs.RenameStanding.{rename_below, rename_own, rename_standing}
 use Rattle.toml_working.specs.Together.{GoTogether}
 use Rattle.toml_working.specs.Standing.{Standing, Read, AreOrdered, body_outline, slot_standing}
 use Rattle.toml_working.specs.Stands.{BodyKept, SlotKept, Stands}

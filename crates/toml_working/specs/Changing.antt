@@ -5,35 +5,22 @@ use Rattle.toml_names.specs.model.Addresses.{Address}
 use Rattle.toml_text.specs.Source.{text_of}
 use Rattle.toml_tree.specs.Spells.{EachIs}
 use Rattle.toml_tree.specs.Tree as tree
-use Rattle.toml_working.specs.declared.inside.Inside.{Inside}
-use Rattle.toml_working.specs.declared.inside.Inside.TheVariants as changes
+use Rattle.toml_layout.specs.declared.changing.Inside.{Inside}
 use Rattle.toml_working.specs.declared.lines.Body.{Body}
 use Rattle.toml_working.specs.declared.lines.Body.TheVariants as bodies
 use Rattle.toml_working.specs.declared.lines.Line.{Line}
 use Rattle.toml_working.specs.declared.lines.Slot.{Slot}
-use Rattle.toml_working.specs.declared.texts.Texts.{Texts}
-use Rattle.toml_working.specs.declared.tree.OpenLine.{OpenLine}
+use Rattle.toml_layout.specs.declared.texts.Texts.{Texts}
+use Rattle.toml_layout.specs.declared.tree.OpenLine.{OpenLine}
 use Rattle.toml_working.specs.declared.working.Position.{Position}
 use Rattle.toml_working.specs.declared.working.Tree.{Tree}
-use Rattle.toml_working.specs.OpenOutlines.{line, value}
-use Rattle.toml_working.specs.Outlines.{ValueOutline, LineOutline}
+use Rattle.toml_layout.specs.OpenOutlines.{line, value}
+use Rattle.toml_layout.specs.Outlines.{ValueOutline, LineOutline}
 use Rattle.toml_working.specs.RenameStanding.{rename_inside, rename_line_outline}
-use Rattle.toml_working.specs.RenamingIn.{RenamesIn}
 use Rattle.toml_working.specs.Seeing.{found, line_at}
 use Rattle.toml_working.specs.Standing.{Standing, Read, IsApart, expr_has, has, holds, set_line_outline, set_standing, slots_standing}
-use Rattle.toml_working.specs.Stands.{SetsIn, SlotKept}
+use Rattle.toml_working.specs.Stands.{SlotKept}
 use Rattle.toml_working.specs.Turning.{LineTurns, OneTurns, SlotTurns}
-
--- Of a `set` and a `rename` it is said what they write, by these words; of the other changes only that the line stays where it is.
-abbrev pub Changes : {A : Type 0} → (ValueOutline → A → A → Bool → Type 0) → (List ℕ → A → A → Type 0) → Inside → A → A → Bool → Type 0
-Changes Sets Renames (changes.Set new) old now done = Sets (value new) old now done
-Changes Sets Renames (changes.Insert spelled new) old now done = Unit {0}
-Changes Sets Renames (changes.Rename to) old now done = Renames to.now old now
-Changes Sets Renames changes.Remove old now done = Unit {0}
-
--- in a value
-abbrev pub ChangesIn : Address → Inside → ValueOutline → ValueOutline → Bool → Type 0
-ChangesIn steps = Changes (SetsIn steps) (RenamesIn steps)
 
 -- in the value of a line
 abbrev pub SetsOpen : Address → ValueOutline → LineOutline → LineOutline → Bool → Type 0

@@ -5,12 +5,12 @@ use Rattle.toml_scalar.specs.Spelling.{spelled}
 use Rattle.toml_names.specs.declared.model.address.Step.TheVariants.{Name}
 use Rattle.toml_names.specs.model.Addresses.{Address}
 use Rattle.toml_tree.specs.Spells.{EachIs}
-use Rattle.toml_working.specs.declared.layout.Layout.{Layout}
-use Rattle.toml_working.specs.declared.layout.Layout.TheVariants as layouts
+use Rattle.toml_layout.specs.declared.layout.Layout.{Layout}
+use Rattle.toml_layout.specs.declared.layout.Layout.TheVariants as layouts
 use Rattle.toml_working.specs.Manners.{Manner}
-use Rattle.toml_working.specs.Outlines as outline
-use Rattle.toml_working.specs.Outlines.{AssignOutline, ExprOutline, LineOutline, Pair, ValueOutline}
-use Rattle.toml_working.specs.Spacings.{Spacing, laid_out, plain_spacing, spaced_as}
+use Rattle.toml_layout.specs.Outlines as outline
+use Rattle.toml_layout.specs.Outlines.{AssignOutline, LineOutline, Pair, ValueOutline}
+use Rattle.toml_layout.specs.Spacings.{Spacing, laid_out, plain_spacing, spaced_as}
 use Rattle.toml_working.specs.Standing.{Standing, holds}
 
 -- the name, `=` and the value, with this whitespace
@@ -26,12 +26,6 @@ new_standing s name v newline = record { address = Some (Name name ∷ []); base
 -- the line in another newline
 abbrev pub end_in : List ℕ → Standing → Standing
 end_in newline s = record s { outline = record (s.outline) { newline = newline } }
-
--- what stands around the `=` of a line, if it has one
-abbrev pub equals_in : ExprOutline → Option (List ℕ × List ℕ)
-equals_in outline.Nothing = None
-equals_in (outline.Pair a v) = Some (a.before_equals, a.after_equals)
-equals_in (outline.Header opening before first rest after closing) = None
 
 -- as far in as this, and around its `=` as it is there
 abbrev pub spaced_by : List ℕ → Option (List ℕ × List ℕ) → Spacing

@@ -2,20 +2,10 @@ pub mod Tidy
 pub mod Together
 pub mod InValues
 -- words of the code's own contracts
-pub mod KnownLines
 pub mod Reading
 -- how new text is written
 pub mod Manners
-pub mod Spacings
 -- what the working tree stands for
-pub mod Outlines
-pub mod OpenOutlines
-pub mod TreeOutlines
-pub mod SetOutlines
-pub mod RenameOutlines
-pub mod Beginnings
-pub mod Apart
-pub mod Opening
 pub mod Standing
 pub mod InsertStanding
 pub mod Stands
@@ -24,15 +14,6 @@ pub mod Writing
 pub mod OpeningLines
 pub mod Looking
 pub mod OpeningComments
-pub mod Gaps
-pub mod PartOutlines
-pub mod Margins
-pub mod Leaving
-pub mod Items
-pub mod Rooms
-pub mod Takings
-pub mod Leading
-pub mod RenamingIn
 pub mod RenameStanding
 pub mod Turning
 pub mod Becoming

@@ -1,37 +1,25 @@
 -- How lines of the working tree look: what a new line takes of them.
-use Rattle.std.specs.Prelude.{◌≡◌, ◌&&◌, ℕ, is_some, List, Option, Some, None, option_map, slice_get, if◌then◌else◌}
+use Rattle.std.specs.Prelude.{◌≡◌, ℕ, List, Option, Some, slice_get}
 use Rattle.toml_tree.specs.Tree as tree
 use Rattle.toml_units.specs.declared.unit.Unit.{Unit as ReadUnit}
-use Rattle.toml_working.specs.declared.layout.Layout.{Layout}
+use Rattle.toml_layout.specs.declared.layout.Layout.{Layout}
 use Rattle.toml_working.specs.declared.lines.Body.{Body}
 use Rattle.toml_working.specs.declared.lines.Body.TheVariants as bodies
 use Rattle.toml_working.specs.declared.lines.Kept.{Kept}
 use Rattle.toml_working.specs.declared.lines.Slot.{Slot}
-use Rattle.toml_working.specs.declared.looks.Equals.{Equals}
-use Rattle.toml_working.specs.declared.looks.Look.{Look}
-use Rattle.toml_working.specs.declared.tree.Leaf.{Leaf}
+use Rattle.toml_layout.specs.declared.looks.Equals.{Equals}
+use Rattle.toml_layout.specs.declared.looks.Look.{Look}
+use Rattle.toml_layout.specs.declared.tree.Leaf.{Leaf}
 use Rattle.toml_working.specs.declared.working.Position.{Position}
-use Rattle.toml_working.specs.InsertStanding.{equals_in, spaced_by, spacing_of}
+use Rattle.toml_working.specs.InsertStanding.{spaced_by, spacing_of}
 use Rattle.toml_working.specs.OpeningLines.{HasOutline}
-use Rattle.toml_working.specs.OpenOutlines.{leaf_text, line}
-use Rattle.toml_working.specs.Outlines as outline
-use Rattle.toml_working.specs.Outlines.{AssignOutline, ExprOutline, LineOutline}
+use Rattle.toml_layout.specs.OpenOutlines.{leaf_text, line}
 use Rattle.toml_working.specs.Placing.{IsNoHeader}
 use Rattle.toml_working.specs.Seeing.{line_at, read_by}
-use Rattle.toml_working.specs.Spacings.{is_narrow, laid_out}
+use Rattle.toml_layout.specs.Spacings.{laid_out}
 use Rattle.toml_working.specs.Standing.{Standing, Read, body_outline, outline_of, slot_standing}
 
--- what stands around an `=`, if there is one
-abbrev pub around : Option Equals → Option (List ℕ × List ℕ)
-around = option_map (λ e. (leaf_text e.before, leaf_text e.after))
-
--- a line of this outline looks so
-pub record LooksAs (look : Look) (l : LineOutline) : Type 0 where
-  pub ws : leaf_text look.ws ≡ l.ws
-  pub equals : around look.equals ≡ equals_in l.expr
-  pub comment : look.has_comment ≡ is_some l.comment
-
--- so does a line of the document, if there is one, what stands on a line, the line of a slot with the index, and one at a place
+-- so a line of the document looks, if there is one, what stands on a line, the line of a slot with the index, and one at a place
 abbrev pub KeptLooks : List tree.Line → Kept → Look → Type 0
 KeptLooks lines kept look = LooksAs look (outline_of (slice_get lines kept.line))
 
@@ -55,20 +43,7 @@ abbrev pub LaysOut : Layout → Read → List Slot → Position → Leaf → Opt
 LaysOut layout read slots at ws equals = (s : Standing) → line_at read slots at ≡ Some s → IsNoHeader s
     → spaced_by (leaf_text ws) (around equals) ≡ laid_out layout (spacing_of s.base s.outline)
 
--- a key with this around its `=`, where that is nothing or one space on each side
-abbrev pub respaced : List ℕ → List ℕ → AssignOutline → AssignOutline
-respaced before after a = if is_narrow before && is_narrow after then record a { before_equals = before; after_equals = after } else a
-
-abbrev pub spaced_expr : Option (List ℕ × List ℕ) → ExprOutline → ExprOutline
-spaced_expr None e = e
-spaced_expr (Some (before, after)) outline.Nothing = outline.Nothing
-spaced_expr (Some (before, after)) (outline.Pair a v) = outline.Pair (respaced before after a) v
-spaced_expr (Some (before, after)) (outline.Header opening gap first rest behind closing) = outline.Header opening gap first rest behind closing
-
--- a line that begins so
-abbrev pub begun_as : List ℕ → Option (List ℕ × List ℕ) → LineOutline → LineOutline
-begun_as ws equals l = record l { ws = ws; expr = spaced_expr equals l.expr }
-
+-- what stands on a line begins so, if it is opened
 abbrev pub BodyBegins : List ℕ → Option (List ℕ × List ℕ) → Body → Body → Type 0
 BodyBegins ws equals (bodies.Open opened) new = HasOutline (begun_as ws equals (line opened.value)) new
 BodyBegins ws equals (bodies.Kept kept) new = new ≡ bodies.Kept kept

@@ -1,8 +1,8 @@
 -- The comment lines with which lines begin, as they are gone through.
 use Rattle.std.specs.Prelude.{◌≡◌, ◌<◌, ◌+◌, ◌^◌, ℕ, Bool, true, false, List, ◌∷◌, ◌++◌, Option, Some, MatchOption}
 use Rattle.toml_tree.specs.Spells.{EachIs}
-use Rattle.toml_working.specs.declared.layout.Layout.{Layout}
-use Rattle.toml_working.specs.declared.layout.Layout.TheVariants as layouts
+use Rattle.toml_layout.specs.declared.layout.Layout.{Layout}
+use Rattle.toml_layout.specs.declared.layout.Layout.TheVariants as layouts
 use Rattle.toml_working.specs.declared.lines.Slot.{Slot}
 use Rattle.toml_working.specs.declared.working.Position.{Position}
 use Rattle.toml_working.specs.InsertStanding.{comments_end, goes_below, has_comment, is_comment}

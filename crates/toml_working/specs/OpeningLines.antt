@@ -6,12 +6,12 @@ use Rattle.toml_tree.specs.Spells.{line_parts}
 use Rattle.toml_tree.specs.Tree as tree
 use Rattle.toml_working.specs.declared.lines.Body.{Body}
 use Rattle.toml_working.specs.declared.lines.Body.TheVariants as bodies
-use Rattle.toml_working.specs.declared.texts.Texts.{Texts}
-use Rattle.toml_working.specs.declared.tree.OpenLine.{OpenLine}
-use Rattle.toml_working.specs.Opening.{Lie}
-use Rattle.toml_working.specs.OpenOutlines.{line}
-use Rattle.toml_working.specs.Outlines.{ExprOutline, LineOutline}
-use Rattle.toml_working.specs.TreeOutlines.{line_outline}
+use Rattle.toml_layout.specs.declared.texts.Texts.{Texts}
+use Rattle.toml_layout.specs.declared.tree.OpenLine.{OpenLine}
+use Rattle.toml_layout.specs.Opening.{Lie}
+use Rattle.toml_layout.specs.OpenOutlines.{line}
+use Rattle.toml_layout.specs.Outlines.{ExprOutline, LineOutline}
+use Rattle.toml_layout.specs.TreeOutlines.{line_outline}
 
 -- it is a line with its pieces, of which the outline is this
 abbrev pub HasOutline : LineOutline → Body → Type 0

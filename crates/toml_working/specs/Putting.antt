@@ -10,20 +10,18 @@ use Rattle.toml_tree.specs.Spells.{EachIs}
 use Rattle.toml_tree.specs.Tree as tree
 use Rattle.toml_working.specs.declared.lines.Line.{Line}
 use Rattle.toml_working.specs.declared.lines.Slot.{Slot}
-use Rattle.toml_working.specs.declared.texts.Texts.{Texts}
-use Rattle.toml_working.specs.declared.tree.Assign.{Assign}
-use Rattle.toml_working.specs.declared.tree.Key.{Key}
+use Rattle.toml_layout.specs.declared.texts.Texts.{Texts}
 use Rattle.toml_working.specs.declared.working.Position.{Position}
 use Rattle.toml_working.specs.declared.working.Tree.{Tree}
 use Rattle.toml_working.specs.Becoming.{LineBecomes}
 use Rattle.toml_working.specs.InsertStanding.{AreRooted, end_in, has_pair, insert_first, insert_standing, line_behind, new_outline}
 use Rattle.toml_working.specs.Manners.{Manner}
 use Rattle.toml_working.specs.OpeningLines.{HasOutline}
-use Rattle.toml_working.specs.OpenOutlines.{assign, leaf_text}
-use Rattle.toml_working.specs.Outlines.{ValueOutline}
+use Rattle.toml_layout.specs.OpenOutlines.{leaf_text}
+use Rattle.toml_layout.specs.Outlines.{ValueOutline}
 use Rattle.toml_working.specs.Placing.{IsNoHeader, lines_before, lines_from}
 use Rattle.toml_working.specs.Seeing.{line_at}
-use Rattle.toml_working.specs.Spacings.{plain_spacing}
+use Rattle.toml_layout.specs.Spacings.{plain_spacing}
 use Rattle.toml_working.specs.Standing.{Standing, Read, line_standing, slot_standing, slots_standing}
 use Rattle.toml_working.specs.Stands.{BodyKept, SlotKept, Stands}
 use Rattle.toml_working.specs.Turning.{OneTurns, SlotTurns}
@@ -91,14 +89,6 @@ abbrev pub PutsSlots : Read → Position → Line → List Slot → List Slot �
 PutsSlots read at line old now = at.slot < length old → (text : List ℕ) → EachIs (SlotKept text read) old → BodyKept text read line.body
     → EachIs (SlotKept text read) now
     × (slots_standing read now ≡ lines_before read old at.slot at.index ++ line_standing read line ∷ lines_from read old at.slot at.index)
-
--- the key is one part of this text, and a key behind which ` = ` stands
-abbrev pub IsOnePart : List (String Global) → Key → Type 0
-IsOnePart parts key = (part : List ℕ) → map string_bytes parts ≡ part ∷ [] → (leaf_text key.first ≡ part) × (key.rest.items ≡ [])
-
-abbrev pub AssignsOne : List (String Global) → Assign → Type 0
-AssignsOne parts a = (part : List ℕ) → map string_bytes parts ≡ part ∷ []
-    → assign a ≡ record { first = part; rest = []; before_equals = 0x20 ∷ []; after_equals = 0x20 ∷ [] }
 
 -- the address of a name at the root is not this one
 abbrev pub IsElsewhere : Address → Type 0

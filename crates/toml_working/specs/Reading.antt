@@ -10,7 +10,7 @@ use Rattle.toml_names.specs.reader.Names.{RefusesNames}
 use Rattle.toml_units.specs.Taken.{HasTaken}
 use Rattle.toml_working.specs.declared.reading.LineFacts.{LineFacts}
 use Rattle.toml_working.specs.declared.reading.ReadDocument.{ReadDocument}
-use Rattle.toml_working.specs.KnownLines.{lines_known}
+use Rattle.toml_layout.specs.KnownLines.{lines_known}
 use Rattle.toml_working.specs.Stands.{heads_tables}
 
 -- what the working tree knows of a line: where it stands with its newline, and what it is

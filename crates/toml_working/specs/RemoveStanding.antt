@@ -1,7 +1,8 @@
 -- `remove` on lines by what finds them: the line whose value stands at the address goes; a last line leaves one of no bytes.
 use Rattle.std.specs.Prelude.{ℕ, Bool, false, List, [], ◌∷◌, ◌++◌, length, ◌==◌, if◌then◌else◌, Option, Some, None}
 use Rattle.toml_names.specs.model.Addresses.{Address, same_address}
-use Rattle.toml_working.specs.Standing.{Standing, no_line}
+use Rattle.toml_layout.specs.Outlines.{no_line}
+use Rattle.toml_working.specs.Standing.{Standing}
 
 -- a line of no bytes
 abbrev pub empty_standing : Standing

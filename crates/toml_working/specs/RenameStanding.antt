@@ -1,15 +1,12 @@
 -- `rename` on lines, by what finds them: a line at the address or below it gets the new name in its own address and, where a part of its
 -- key stands for the address, the new spelling there; on the line whose value holds what stands at the address that part of a key in
 -- the value gets it.
-use Rattle.std.specs.Prelude.{◌≡◌, ℕ, suc, ◌+◌, ◌-◌, List, [], ◌∷◌, length, set, Option, Some, None, option_map, if◌then◌else◌}
-use Rattle.std.specs.Bool.{nat_lt}
+use Rattle.std.specs.Prelude.{ℕ, suc, ◌+◌, ◌-◌, List, [], ◌∷◌, length, set, Option, Some, None, option_map, if◌then◌else◌}
 use Rattle.toml_names.specs.declared.model.address.Step.TheVariants.{Name, Index}
-use Rattle.toml_names.specs.model.Addresses.{Address, below}
-use Rattle.toml_working.specs.Outlines.{AssignOutline, ExprOutline, LineOutline, ValueOutline, Nothing, Pair, Header}
-use Rattle.toml_working.specs.RenameOutlines.{rename_outline, rename_outlined}
-use Rattle.toml_working.specs.RenamingIn.{first_with, rest_with, part_with}
-use Rattle.toml_working.specs.SetOutlines.{outlined_names}
-use Rattle.toml_working.specs.Standing.{Standing, begins, is_below, with_value_outline}
+use Rattle.toml_names.specs.model.Addresses.{Address}
+use Rattle.toml_layout.specs.Outlines.{LineOutline}
+use Rattle.toml_layout.specs.RenameOutlines.{rename_outline}
+use Rattle.toml_working.specs.Standing.{Standing, is_below, with_value_outline}
 
 -- how many of the steps are names
 abbrev pub names_in : Address → ℕ
@@ -19,31 +16,9 @@ names_in (Index i ∷ steps) = names_in steps
 
 -- which part of a key stands for an address at its own or above it, from 0 on, if one does: of a line with a base the names of its key are
 -- the steps behind the base, and of a header the names of its own address
-abbrev pub minus : ℕ → ℕ → Option ℕ
-minus n m = if nat_lt n m then None else Some (n - m)
-
 abbrev pub part_number : Address → Option ℕ → Option ℕ
 part_number p None = minus (names_in p) 1
 part_number p (Some base) = minus (length p) (base + 1)
-
--- the part of the key with this number has the text
-abbrev pub key_part_with : ℕ → List ℕ → ExprOutline → ExprOutline
-key_part_with i text Nothing = Nothing
-key_part_with i text (Pair a v) = Pair (part_with i text a) v
-key_part_with i text (Header opening before first rest after closing) =
-    Header opening before (first_with i text first) (rest_with i text rest) after closing
-
-abbrev pub own_part_with : Option ℕ → List ℕ → ExprOutline → ExprOutline
-own_part_with None text e = e
-own_part_with (Some i) text e = key_part_with i text e
-
--- Law: a pair whose key stands in the table at the second address, its key and its value renamed, is the pair with one part of its key
--- renamed where the first address is at its own or above it, else with its value renamed alone.
-abbrev pub PairIsRenamed : Type 0
-PairIsRenamed = (p at : Address) (text : List ℕ) (a : AssignOutline) (v : ValueOutline)
-    → Pair (rename_outlined p text at a) (rename_outline p text (below at (outlined_names a)) v)
-    ≡ (if begins p (below at (outlined_names a)) then own_part_with (minus (length p) (length at + 1)) text (Pair a v)
-    else Pair a (rename_outline p text (below at (outlined_names a)) v))
 
 -- the address with the last name of the first another one
 abbrev pub renamed_address : Address → List ℕ → Address → Address
@@ -77,7 +52,3 @@ rename_standing p to text s = if is_below p s then rename_own p to text s else r
 -- a line at the address or below it alone
 abbrev pub rename_below : Address → List ℕ → List ℕ → Standing → Standing
 rename_below p to text s = if is_below p s then rename_own p to text s else s
-
--- a line with another text in a part of its key
-abbrev pub line_part_with : Option ℕ → List ℕ → LineOutline → LineOutline
-line_part_with number text l = record l { expr = own_part_with number text l.expr }

@@ -1,12 +1,14 @@
 -- `rename`: every key part that stands for the address gets the new spelling. A part stands for the address that its key reaches
 -- with it, before an element's index is put on.
-use Rattle.std.specs.Prelude.{ℕ, ◌+◌, List, [], ◌∷◌, if◌then◌else◌}
+use Rattle.std.specs.Prelude.{◌≡◌, ℕ, ◌+◌, List, [], ◌∷◌, if◌then◌else◌}
 use Rattle.toml_scalar.specs.Spelling.{spelled}
 use Rattle.toml_tree.specs.Bare.{fresh}
 use Rattle.toml_tree.specs.Tree.{Piece, Dotted, Key, Assign, Value, Scalar, Array, Inline, Items, Close, Last, More, Pairs, ClosePairs, LastPair, MorePairs, Header, Expr, BlankLine, KeyValLine, TableLine, ArrayTableLine, Line}
 use Rattle.toml_names.specs.model.Addresses.{Address, same_address, child, element, below}
 use Rattle.toml_names.specs.mentions.Keys.{part_name, key_names}
 use Rattle.toml_names.specs.mentions.Mentions.{Named, section, entered}
+use Rattle.toml_layout.specs.RenameOutlines.{rename_outline}
+use Rattle.toml_layout.specs.TreeOutlines.{value_outline}
 use Rattle.toml_working.specs.Lines.{array_of, inline_of, each_line}
 
 -- a part that stands for `here`
@@ -60,3 +62,8 @@ rename_line p to earlier l = record { expr = rename_expr p to earlier l.expr; ne
 
 abbrev pub rename_lines : Address → List ℕ → List Line → List Line
 rename_lines p to = each_line (rename_line p to)
+
+-- Law: the outline of the tree after a `rename` is what the `rename` makes of the outline.
+abbrev pub RenameIsOutlined : Type 0
+RenameIsOutlined = (p : Address) (to : List ℕ) (at : Address) (v : Value)
+    → value_outline (rename_value p to at v) ≡ rename_outline p (spelled to) at (value_outline v)

@@ -1,9 +1,11 @@
 -- `set`: the value at the address becomes the new one.
-use Rattle.std.specs.Prelude.{ℕ, ◌+◌, List, [], ◌∷◌, if◌then◌else◌}
+use Rattle.std.specs.Prelude.{◌≡◌, ℕ, ◌+◌, List, [], ◌∷◌, if◌then◌else◌}
 use Rattle.toml_tree.specs.Tree.{Value, Scalar, Array, Inline, Items, Close, Last, More, Pairs, ClosePairs, LastPair, MorePairs, Expr, BlankLine, KeyValLine, TableLine, ArrayTableLine, Line}
 use Rattle.toml_names.specs.model.Addresses.{Address, same_address, element, below}
 use Rattle.toml_names.specs.mentions.Keys.{key_names}
 use Rattle.toml_names.specs.mentions.Mentions.{Named, section}
+use Rattle.toml_layout.specs.SetOutlines.{set_outline}
+use Rattle.toml_layout.specs.TreeOutlines.{value_outline}
 use Rattle.toml_working.specs.Lines.{array_of, inline_of, each_line}
 
 -- a value that stands at `at`, or the new one where that is `p`
@@ -42,3 +44,8 @@ set_line p new earlier l = record { expr = set_expr p new (section earlier) l.ex
 
 abbrev pub set_lines : Address → Value → List Line → List Line
 set_lines p new = each_line (set_line p new)
+
+-- Law: the outline of the tree after a `set` is what the `set` makes of the outline.
+abbrev pub SetIsOutlined : Type 0
+SetIsOutlined = (p : Address) (new : Value) (at : Address) (v : Value)
+    → value_outline (set_value p new at v) ≡ set_outline p (value_outline new) at (value_outline v)

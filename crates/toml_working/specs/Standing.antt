@@ -1,6 +1,6 @@
 -- What stands on lines, by what finds it: its address, and its outline. So lines of the working tree are what lines of a text are.
 use Rattle.std.specs.Prelude.{◌≡◌, ℕ, ◌+◌, Bool, false, List, [], ◌∷◌, ◌++◌, map, All, AllPairs, Option, Some, None, option_and_then, slice_get}
-use Rattle.toml_names.specs.model.Addresses.{Address, same_step}
+use Rattle.toml_names.specs.model.Addresses.{Address}
 use Rattle.toml_names.specs.mentions.Mentions.{Named, root, named_by}
 use Rattle.toml_names.specs.reader.Names.{own_address}
 use Rattle.toml_tree.specs.Tree as tree
@@ -12,13 +12,12 @@ use Rattle.toml_working.specs.declared.lines.Kept.{Kept}
 use Rattle.toml_working.specs.declared.lines.Line.{Line}
 use Rattle.toml_working.specs.declared.lines.Slot.{Slot}
 use Rattle.toml_working.specs.declared.lines.Slot.TheVariants as slots
-use Rattle.toml_working.specs.Apart.{HasKeysApart}
-use Rattle.toml_working.specs.Beginnings.{begins_by}
-use Rattle.toml_working.specs.OpenOutlines.{line}
-use Rattle.toml_working.specs.Outlines as outline
-use Rattle.toml_working.specs.Outlines.{ValueOutline, ExprOutline, LineOutline}
-use Rattle.toml_working.specs.SetOutlines.{set_outline, has_outline}
-use Rattle.toml_working.specs.TreeOutlines.{line_outline}
+use Rattle.toml_layout.specs.Apart.{HasKeysApart}
+use Rattle.toml_layout.specs.OpenOutlines.{line}
+use Rattle.toml_layout.specs.Outlines as outline
+use Rattle.toml_layout.specs.Outlines.{ValueOutline, ExprOutline, LineOutline, no_line}
+use Rattle.toml_layout.specs.SetOutlines.{set_outline, has_outline}
+use Rattle.toml_layout.specs.TreeOutlines.{line_outline}
 
 -- A line: where its value, table or element stands, how many steps lead to the table in which a line with a key and a value stands,
 -- and its texts.
@@ -43,10 +42,7 @@ pub record Read : Type 0 where
   pub units : List ReadUnit
   pub lines : List tree.Line
 
--- a line without anything on it, which stands for one that the document does not have
-abbrev pub no_line : LineOutline
-no_line = record { ws = []; expr = outline.Nothing; tail = []; comment = None; newline = [] }
-
+-- for a line that the document does not have stands one without anything on it
 abbrev pub outline_of : Option tree.Line → LineOutline
 outline_of None = no_line
 outline_of (Some l) = line_outline l
@@ -76,10 +72,6 @@ slot_standing read (slots.Lines lines) = map (line_standing read) lines.items
 abbrev pub slots_standing : Read → List Slot → List Standing
 slots_standing read [] = []
 slots_standing read (s ∷ ss) = slot_standing read s ++ slots_standing read ss
-
--- whether the first address is a beginning of the second, or all of it
-abbrev pub begins : Address → Address → Bool
-begins = begins_by same_step
 
 -- whether a line with this address stands at the other or below it
 abbrev pub lies_below : Address → Option Address → Bool

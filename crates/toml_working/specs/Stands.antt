@@ -1,5 +1,5 @@
 -- The working tree stands for lines.
-use Rattle.std.specs.Prelude.{◌≡◌, ◌↔◌, ℕ, Bool, true, false, List, [], ◌∷◌, ◌++◌, Some, IsTrue, map, slice_get, slice_range}
+use Rattle.std.specs.Prelude.{◌≡◌, ◌↔◌, ℕ, Bool, true, false, List, [], ◌∷◌, Some, IsTrue, map, slice_get, slice_range}
 use Rattle.std.specs.List.{list_any}
 use Rattle.toml_text.specs.Source.{IsHeld, text_of}
 use Rattle.std.specs.declared.vec.Vec.{Vec}
@@ -16,13 +16,11 @@ use Rattle.toml_working.specs.declared.lines.Line.{Line}
 use Rattle.toml_working.specs.declared.lines.Slot.{Slot}
 use Rattle.toml_working.specs.declared.lines.Slot.TheVariants as slots
 use Rattle.toml_working.specs.declared.working.Tree.{Tree}
-use Rattle.toml_working.specs.Apart.{HasKeysApart}
-use Rattle.toml_working.specs.Opening.{Lie}
-use Rattle.toml_working.specs.Outlines.{ValueOutline, line_outlined}
+use Rattle.toml_layout.specs.Opening.{Lie}
+use Rattle.toml_layout.specs.Outlines.{ValueOutline, line_outlined}
 use Rattle.toml_working.specs.Seeing.{kept_found}
-use Rattle.toml_working.specs.SetOutlines.{set_outline, has_outline}
 use Rattle.toml_working.specs.Standing.{Standing, Read, AreOrdered, slots_standing, set_standing, has}
-use Rattle.toml_working.specs.TreeOutlines.{line_outline}
+use Rattle.toml_layout.specs.TreeOutlines.{line_outline}
 
 -- whether a line is the header of an array of tables
 abbrev pub heads_tables : Expr → Bool
@@ -69,11 +67,6 @@ pub record KeepsRest (old new : Tree) : Type 0 where
   pub texts : new.texts ≡ old.texts
   pub elements : new.elements ≡ old.elements
   pub style : new.style ≡ old.style
-
--- a `set` in a value: at the steps below it the new one stands where one stood, and it tells whether one did
-abbrev pub SetsIn : Address → ValueOutline → ValueOutline → ValueOutline → Bool → Type 0
-SetsIn steps new old now done =
-    HasKeysApart old → (at : Address) → (now ≡ set_outline (at ++ steps) new at old) × (done ≡ has_outline (at ++ steps) at old)
 
 -- a `set` on lines, below the root
 abbrev pub SetsLines : Address → ValueOutline → List ℕ → Read → List Slot → List Slot → Bool → Type 0

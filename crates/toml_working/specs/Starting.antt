@@ -3,7 +3,7 @@ use Rattle.std.specs.Prelude.{◌≡◌, ◌↔◌, ◌⊎◌, ◌+◌, ℕ, tru
 use Rattle.toml_text.specs.Limit.{IsText}
 use Rattle.toml_text.specs.Source.{text_of}
 use Rattle.toml_tree.specs.HandedOut.{tree_of}
-use Rattle.toml_working.specs.KnownLines.{lines_known}
+use Rattle.toml_layout.specs.KnownLines.{lines_known}
 use Rattle.toml_tree.specs.Pieces.{expr_start}
 use Rattle.toml_tree.specs.Spells.{Spells}
 use Rattle.toml_tree.specs.Tree.{Line}
@@ -16,10 +16,10 @@ use Rattle.toml_working.specs.declared.elements.Elements.{Elements}
 use Rattle.toml_working.specs.declared.lines.Kept.{Kept}
 use Rattle.toml_working.specs.declared.lines.Slot.{Slot}
 use Rattle.toml_working.specs.declared.reading.LineFacts.{LineFacts}
-use Rattle.toml_working.specs.declared.texts.Texts.{Texts}
+use Rattle.toml_layout.specs.declared.texts.Texts.{Texts}
 use Rattle.toml_working.specs.declared.working.Before.{Before}
 use Rattle.toml_working.specs.declared.working.Tree.{Tree}
-use Rattle.toml_working.specs.OpenOutlines.{leaf_text}
+use Rattle.toml_layout.specs.OpenOutlines.{leaf_text}
 use Rattle.toml_working.specs.Reading.{fact_of}
 use Rattle.toml_working.specs.Standing.{Read, standing}
 use Rattle.toml_working.specs.Stands.{Stands, heads_tables}

@@ -4,7 +4,7 @@ use Rattle.toml_text.specs.Source.{text_of}
 use Rattle.toml_tree.specs.Tree as tree
 use Rattle.toml_working.specs.declared.lines.Line.{Line}
 use Rattle.toml_working.specs.declared.lines.Slot.{Slot}
-use Rattle.toml_working.specs.declared.texts.Texts.{Texts}
+use Rattle.toml_layout.specs.declared.texts.Texts.{Texts}
 use Rattle.toml_working.specs.Standing.{Standing, Read, line_standing, slot_standing}
 use Rattle.toml_working.specs.Stands.{BodyKept, SlotKept}
 

@@ -9,8 +9,8 @@ use Rattle.toml_working.specs.declared.lines.Kept.{Kept}
 use Rattle.toml_working.specs.declared.lines.Line.{Line}
 use Rattle.toml_working.specs.declared.lines.Slot.{Slot}
 use Rattle.toml_working.specs.declared.lines.Slot.TheVariants as slots
-use Rattle.toml_working.specs.OpenOutlines.{line}
-use Rattle.toml_working.specs.Outlines.{line_outlined, lines_outlined}
+use Rattle.toml_layout.specs.OpenOutlines.{line}
+use Rattle.toml_layout.specs.Outlines.{line_outlined, lines_outlined}
 use Rattle.toml_working.specs.Standing.{Read, Standing, standing}
 use Rattle.toml_working.specs.Stands.{Stands}
 

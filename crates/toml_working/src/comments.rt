@@ -3,9 +3,9 @@ ghost use Rattle.std.specs.Prelude.{IfOk};
 ghost use Rattle.toml_working.specs.OpeningComments.{FindsAbove, FindsComments, PassesComments};
 ghost use Rattle.toml_working.specs.Starting.{read_of};
 
-use crate::layout::Layout;
 use crate::working::{Before, Position, Tree};
 use std::alloc::AllocError;
+use toml_layout::Layout;
 
 impl<'x> Tree<'x> {
     /// The line below which the first one of the root goes, if that does not go before all lines: by layout `Follow` the last of

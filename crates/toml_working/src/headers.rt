@@ -4,9 +4,9 @@ use crate::neighbours::Sort;
 use crate::removing::parent_of;
 use crate::sections::{Above, NewHeader};
 use crate::steps::{is_element, names_in};
-use crate::tree::{Expr, Leaf};
 use crate::working::{Before, Position, Tree};
 use std::alloc::AllocError;
+use toml_layout::{Expr, Leaf};
 use toml_names::Address;
 
 /// A line that is sought above a place.

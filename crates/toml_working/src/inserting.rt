@@ -1,21 +1,17 @@
 //! `insert`: an element of an array, a pair of an inline table, or a line with a key and a value.
 ghost use Rattle.std.specs.Prelude.{◌≡◌, ◌++◌, ◌∷◌, IfOk, OnOk, drop, false, take};
-ghost use Rattle.toml_working.specs.KnownLines.{lines_known};
-ghost use Rattle.toml_working.specs.OpenOutlines.{leaf_text, value};
+ghost use Rattle.toml_layout.specs.KnownLines.{lines_known};
+ghost use Rattle.toml_layout.specs.OpenOutlines.{leaf_text, value};
 ghost use Rattle.toml_working.specs.Putting.{EndsOne, EndsSlot, EndsSlots, IsElsewhere, IsRootLine};
 ghost use Rattle.toml_working.specs.Putting.{PutsSlot, PutsSlots, TreeEndsBefore, TreeInserts, TreeInsertsFirst, TreePutsBehind};
 ghost use Rattle.toml_working.specs.Starting.{read_of};
 ghost use Rattle.toml_working.specs.Stands.{KeepsRest};
 
-use crate::inside::Inside;
-use crate::known::KnownLine;
-use crate::layout::Layout;
 use crate::lines::{Line, Slot};
 use crate::sections::NewHeader;
-use crate::texts::Texts;
-use crate::tree::{Brackets, Expr, KeyVal, Leaf, Value};
 use crate::working::{Before, Position, TablePlace, Tree};
 use std::alloc::{AllocError, Global};
+use toml_layout::{Brackets, Expr, Inside, KeyVal, KnownLine, Layout, Leaf, Texts, Value};
 use toml_names::{Address, Place, Step};
 use toml_units::Unit;
 

@@ -1,21 +1,19 @@
 //! The lines of the working tree: kept as they stand in the document until an edit changes something on them.
 ghost use Rattle.std.specs.Prelude.{◌≡◌, IfOk, List, OnOk, None, [], length};
 ghost use Rattle.std.specs.List.{list_any};
-ghost use Rattle.toml_working.specs.KnownLines.{lines_known};
+ghost use Rattle.toml_layout.specs.KnownLines.{lines_known};
 ghost use Rattle.toml_tree.specs.Tree.{Line as ReadLine};
 ghost use Rattle.toml_working.specs.declared.lines.Line.{Line as WorkingLine};
-ghost use Rattle.toml_working.specs.OpenOutlines.{expr as expr_outlined, leaf_text};
+ghost use Rattle.toml_layout.specs.OpenOutlines.{expr as expr_outlined, leaf_text};
 ghost use Rattle.toml_working.specs.OpeningLines.{HasOutline, OpensBody, OpensToEndIn, alone};
-ghost use Rattle.toml_working.specs.Outlines.{Nothing};
+ghost use Rattle.toml_layout.specs.Outlines.{Nothing};
 ghost use Rattle.toml_working.specs.Seeing.{FindsIn, SeesLine, kept_found, line_found, read_by, seen};
 ghost use Rattle.toml_working.specs.Putting.{LineIsLast, SlotIsLast};
 ghost use Rattle.toml_working.specs.Stands.{OpensSlot, kept_line};
 ghost use Rattle.toml_working.specs.Standing.{Read, is_below, lies_below, slot_standing};
 
-use crate::known::KnownLine;
-use crate::texts::Texts;
-use crate::tree::{Blank, Brackets, Expr, Leaf, OpenLine};
 use std::alloc::{AllocError, Global};
+use toml_layout::{Blank, Expr, KnownLine, Leaf, OpenLine, Texts};
 use toml_names::Address;
 use toml_text::Span;
 use toml_units::Unit;
@@ -240,16 +238,6 @@ impl<'t> Line<'t> {
         ensures { IfOk result (λ l. (l.address ≡ None) × (l.base ≡ None) × HasOutline (alone Nothing []) l.body) }
     {
         Line::new(alloc, None, None, Expr::Blank, Leaf::EMPTY)
-    }
-}
-
-impl Expr<'_> {
-    /// Whether it is the header of an array of tables.
-    fn is_tables(&self) -> bool {
-        match self {
-            Expr::Header(header) => matches!(header.brackets, Brackets::Two),
-            Expr::Blank | Expr::Pair(_) => false,
-        }
     }
 }
 

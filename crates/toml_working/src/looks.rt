@@ -1,71 +1,15 @@
-//! How a line looks: what a new line takes of it.
+//! How the lines of the working tree look.
 ghost use Rattle.std.specs.Prelude.{◌≡◌, IfOk};
-ghost use Rattle.toml_working.specs.KnownLines.{lines_known};
-ghost use Rattle.toml_working.specs.Looking.{BodyBegins, BodyLooks, KeptLooks, LooksAs, LooksAt, SlotLooks, around, begun_as};
-ghost use Rattle.toml_working.specs.OpenOutlines.{leaf_text, line as outlined};
+ghost use Rattle.toml_layout.specs.KnownLines.{lines_known};
+ghost use Rattle.toml_working.specs.Looking.{BodyBegins, BodyLooks, KeptLooks, LooksAt, SlotLooks};
+ghost use Rattle.toml_layout.specs.Looks.{around};
+ghost use Rattle.toml_layout.specs.OpenOutlines.{leaf_text};
 ghost use Rattle.toml_working.specs.Starting.{read_of};
 
-use crate::known::KnownLine;
 use crate::lines::{Body, Kept, Line, Slot};
-use crate::tree::{Expr, Leaf, OpenLine};
 use crate::working::{Before, Position, Tree};
 use std::alloc::{AllocError, Global};
-
-/// What stands around the `=` of a line.
-#[derive(Clone, Copy)]
-pub(crate) struct Equals<'x> {
-    pub(crate) before: Leaf<'x>,
-    pub(crate) after: Leaf<'x>,
-}
-
-/// How a line looks: the whitespace before its key or its header, what stands around its `=`, if it has one, and whether a
-/// comment stands on it.
-#[derive(Clone, Copy)]
-pub(crate) struct Look<'x> {
-    pub(crate) ws: Leaf<'x>,
-    pub(crate) equals: Option<Equals<'x>>,
-    pub(crate) has_comment: bool,
-}
-
-impl Look<'_> {
-    /// That of a line on which nothing stands.
-    pub(crate) const NONE: Look<'static> = Look {
-        ws: Leaf::EMPTY,
-        equals: None,
-        has_comment: false,
-    };
-}
-
-impl<'x> OpenLine<'x> {
-    /// How it looks.
-    fn look(&self) -> Look<'x>
-        ensures { LooksAs result (outlined self.now) }
-    {
-        let equals = match &self.expr {
-            Expr::Pair(pair) => Some(Equals {
-                before: pair.assign.before_equals,
-                after: pair.assign.after_equals,
-            }),
-            Expr::Blank | Expr::Header(_) => None,
-        };
-        Look {
-            ws: self.ws,
-            equals,
-            has_comment: self.tail.comment.is_some(),
-        }
-    }
-
-    /// Gives it this whitespace to begin with, and around its `=` what stands around another's, where that is nothing or one
-    /// space on each side.
-    fn begin_as(&mut self, ws: Leaf<'x>, equals: Option<Equals<'x>>)
-        ensures { outlined self.new ≡ begun_as (leaf_text ws.entry) (around equals.entry) (outlined self.old) }
-    {
-        self.ws = ws.anew();
-        if let (Expr::Pair(pair), Some(other)) = (&mut self.expr, equals) {
-            pair.assign.space_as(other.before, other.after);
-        }
-    }
-}
+use toml_layout::{Equals, KnownLine, Leaf, Look};
 
 impl Kept {
     /// How the line of the document looks.

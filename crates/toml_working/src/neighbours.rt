@@ -3,13 +3,10 @@ ghost use Rattle.std.specs.Prelude.{IfOk};
 ghost use Rattle.toml_working.specs.Looking.{BeginsBehind, LaysOut};
 ghost use Rattle.toml_working.specs.Starting.{read_of};
 
-use crate::layout::Layout;
 use crate::lines::{Body, Kept, Line, Slot};
-use crate::looks::Equals;
-use crate::texts::Texts;
-use crate::tree::{Expr, Leaf};
 use crate::working::{Before, Position, Tree};
 use std::alloc::AllocError;
+use toml_layout::{Equals, Expr, Layout, Leaf, Texts};
 use toml_names::Address;
 use toml_text::ws_len;
 

@@ -2,13 +2,13 @@
 ghost use Rattle.std.specs.Prelude.{◌≡◌, ◌↔◌, [], IsTrue, slice_range};
 ghost use Rattle.toml_text.specs.Source.{IsHeld, text_of};
 ghost use Rattle.toml_working.specs.Tidy.{ArePieces};
-ghost use Rattle.toml_working.specs.OpenOutlines.{leaf_text};
+ghost use Rattle.toml_layout.specs.OpenOutlines.{leaf_text};
 ghost use Rattle.toml_working.specs.Tidy.{IsKeptTo, IsNew, EndsWith, TakesKept, TakesNew};
 ghost use Rattle.toml_working.specs.Writing.{Writes};
 
-use crate::tree::Leaf;
 use std::alloc::{AllocError, Global};
 use std::marker::Model;
+use toml_layout::Leaf;
 use toml_text::{Source, Span};
 use toml_units::Piece;
 

@@ -10,8 +10,8 @@ ghost use Rattle.toml_names.specs.reader.Texts.{RefusesText};
 ghost use Rattle.toml_working.specs.Reading.{HasRead, IsReadText, ReadsLine, fact_of};
 ghost use Rattle.toml_working.specs.Stands.{heads_tables};
 
-use crate::known::KnownLine;
 use std::alloc::{AllocError, Global};
+use toml_layout::KnownLine;
 use toml_names::{AddressSet, NameFault, ReadFault, refuse_names};
 use toml_text::{Source, Span};
 use toml_tree::{Expr, Line, LineReader, Profile};

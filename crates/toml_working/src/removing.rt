@@ -7,15 +7,12 @@ ghost use Rattle.toml_working.specs.declared.lines.Sought.TheVariants.{Holder};
 ghost use Rattle.toml_working.specs.Starting.{read_of};
 ghost use Rattle.toml_working.specs.Stands.{KeepsRest};
 
-use crate::inside::Inside;
-use crate::known::KnownLine;
 use crate::lines::{Line, Slot};
 use crate::steps::{is_element, names_in};
-use crate::texts::Texts;
-use crate::tree::{Blank, Brackets, Expr, Header, Leaf, OpenLine};
 use crate::working::{Before, Position, Tree};
 use std::alloc::{AllocError, Global};
 use std::mem;
+use toml_layout::{Inside, KnownLine, Texts};
 use toml_names::{Address, Place, Step};
 use toml_units::Unit;
 
@@ -347,36 +344,6 @@ impl<'t> Line<'t> {
         }
         self.address = Some(parent.copy(texts.alloc)?);
         Ok(())
-    }
-}
-
-impl<'t> OpenLine<'t> {
-    /// Makes it a line of an empty table, whose key has so many parts of this one's.
-    fn empty(&mut self, texts: Texts<'t>, parts: usize) -> Result<(), AllocError> {
-        self.is_new = true;
-        self.tail = Blank {
-            ws: Leaf::EMPTY,
-            comment: None,
-        };
-        match &mut self.expr {
-            Expr::Blank => {}
-            Expr::Pair(pair) => {
-                pair.assign.cut(parts);
-                pair.value = texts.empty_table()?;
-            }
-            Expr::Header(header) => header.cut(parts),
-        }
-        Ok(())
-    }
-}
-
-impl Header<'_> {
-    /// Leaves so many parts of its key, between single brackets.
-    fn cut(&mut self, parts: usize) {
-        self.brackets = Brackets::One;
-        self.before = Leaf::EMPTY;
-        self.key.cut(parts);
-        self.after = Leaf::EMPTY;
     }
 }
 

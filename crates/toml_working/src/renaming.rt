@@ -1,21 +1,19 @@
 //! `rename`: each key part that stands for the address, in headers, keys of lines and keys of pairs, becomes the spelling of
 //! the new name.
 ghost use Rattle.std.specs.Prelude.{◌≡◌, OnOk, Option, Some, option_map};
-ghost use Rattle.toml_working.specs.KnownLines.{lines_known};
+ghost use Rattle.toml_layout.specs.KnownLines.{lines_known};
 ghost use Rattle.toml_working.specs.Becoming.{LineBecomes, LinesBecome, OpenBecomes, PartBecomes, SlotAtBecomes, SlotBecomes};
 ghost use Rattle.toml_working.specs.Becoming.{SlotsBecome, TreeBecomes, TreeRenames, renamed_below, renamed_own};
-ghost use Rattle.toml_working.specs.OpenOutlines.{leaf_text, line as line_outlined};
-ghost use Rattle.toml_working.specs.RenameStanding.{line_part_with, part_number, renamed_address};
+ghost use Rattle.toml_layout.specs.OpenOutlines.{leaf_text};
+ghost use Rattle.toml_layout.specs.RenamedPairs.{line_part_with};
+ghost use Rattle.toml_working.specs.RenameStanding.{part_number, renamed_address};
 ghost use Rattle.toml_working.specs.Starting.{NoneIsGone, read_of};
 
-use crate::inside::Inside;
-use crate::known::KnownLine;
 use crate::lines::{Body, Line, Slot};
 use crate::steps::changed;
-use crate::texts::Texts;
-use crate::tree::{Expr, Leaf, OpenLine};
 use crate::working::{Before, Tree};
 use std::alloc::AllocError;
+use toml_layout::{Inside, KnownLine, Leaf, Texts};
 use toml_names::{Address, Name, Place, Step};
 
 /// A new name for what stands at an address, and its spelling.
@@ -243,19 +241,6 @@ impl<'t> Body<'t> {
         match self {
             Body::Open(open) => open.set_part(part, leaf),
             Body::Kept(_) => {}
-        }
-    }
-}
-
-impl<'t> OpenLine<'t> {
-    /// Changes a part of its key.
-    fn set_part(&mut self, part: usize, leaf: Leaf<'t>)
-        ensures { line_outlined self.new ≡ line_part_with (Some part) (leaf_text leaf.entry) (line_outlined self.old) }
-    {
-        match &mut self.expr {
-            Expr::Blank => {}
-            Expr::Pair(pair) => pair.assign.key.set_part(part, leaf),
-            Expr::Header(header) => header.key.set_part(part, leaf),
         }
     }
 }

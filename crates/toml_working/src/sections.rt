@@ -6,12 +6,11 @@ ghost use Rattle.toml_names.specs.reader.LineNames.{Stand, StandFor};
 ghost use Rattle.toml_working.specs.InValues.{places_of};
 ghost use Rattle.toml_working.specs.Stands.{KeepsRest};
 
-use crate::layout::Layout;
 use crate::lines::{Line, Seen, Slot};
 use crate::removing::parent_of;
-use crate::tree::{Brackets, Expr, Header, Key, Leaf, OpenLine};
 use crate::working::{Before, Position, Tree};
 use std::alloc::{AllocError, Global};
+use toml_layout::{Brackets, Expr, Header, Key, Layout, Leaf};
 use toml_names::{Address, LineNames, Place, Step};
 use toml_units::Unit;
 

@@ -1,13 +1,12 @@
 //! `set`: the bytes of the value at the address become those of the edit's value.
 ghost use Rattle.std.specs.Prelude.{IfOk, OnOk};
 ghost use Rattle.toml_working.specs.Starting.{read_of};
-ghost use Rattle.toml_working.specs.OpenOutlines.{value};
+ghost use Rattle.toml_layout.specs.OpenOutlines.{value};
 ghost use Rattle.toml_working.specs.Stands.{KeepsRest, TreeSets};
 
-use crate::inside::Inside;
-use crate::tree::Value;
 use crate::working::{Before, Tree};
 use std::alloc::AllocError;
+use toml_layout::{Inside, Value};
 use toml_names::{Address, Place};
 
 impl<'x> Tree<'x> {

@@ -1,17 +1,16 @@
 //! How the working tree begins: with the lines as they stand in the document.
 ghost use Rattle.std.specs.Prelude.{◌≡◌, IfOk, List, map};
-ghost use Rattle.toml_working.specs.KnownLines.{lines_known};
+ghost use Rattle.toml_layout.specs.KnownLines.{lines_known};
 ghost use Rattle.toml_tree.specs.Tree.{Line as Lined};
-ghost use Rattle.toml_working.specs.OpenOutlines.{leaf_text};
+ghost use Rattle.toml_layout.specs.OpenOutlines.{leaf_text};
 ghost use Rattle.toml_working.specs.Reading.{fact_of};
 ghost use Rattle.toml_working.specs.Starting.{StandForUnits, TakesLine};
 ghost use Rattle.toml_working.specs.Written.{style_of as newline_style};
 
-use crate::known::KnownLine;
 use crate::lines::{Kept, Slot};
 use crate::reading::LineFacts;
-use crate::tree::Leaf;
 use std::alloc::{AllocError, Global};
+use toml_layout::{KnownLine, Leaf};
 use toml_units::{Unit, UnitKind};
 
 /// A slot for each line of the document, which is as it was.

@@ -1,9 +1,9 @@
 //! The steps of addresses.
 ghost use Rattle.std.specs.Prelude.{◌≡◌, ◌≤◌, ◌∷◌, [], drop, set};
-ghost use Rattle.toml_working.specs.Leading.{first_index};
 ghost use Rattle.toml_working.specs.RenameStanding.{names_in};
-ghost use Rattle.toml_working.specs.Standing.{begins};
+ghost use Rattle.toml_layout.specs.Beginnings.{begins};
 
+use toml_layout::behind;
 use toml_names::{Address, Step};
 
 /// The steps of the address behind the first so many.
@@ -76,22 +76,4 @@ fn names_of(step: &Step) -> usize
         Step::Name(_) => 1,
         Step::Index(_) => 0,
     }
-}
-
-/// The index with which the steps begin, if they begin with one.
-pub(crate) fn index_first(steps: &[Step]) -> Option<usize>
-    ensures { result ≡ first_index steps.now }
-{
-    match steps.first() {
-        Some(Step::Index(index)) => Some(*index as usize),
-        _ => None,
-    }
-}
-
-/// The steps behind the first so many.
-pub(crate) fn behind(steps: &[Step], used: usize) -> &[Step]
-    ensures { result.now ≡ drop used steps.now }
-{
-    let (_, rest) = steps.split_at(used.min(steps.len()));
-    rest
 }

@@ -7,13 +7,11 @@ ghost use Rattle.toml_working.specs.Placing.{FindsLast, FindsRootEnd, IsOfRoot, 
 ghost use Rattle.toml_working.specs.Seeing.{CountsSteps, FindsAny, FindsHolder, FindsLine, FindsTable, FindsValue, HoldsNone, SeesAt};
 
 use crate::elements::Elements;
-use crate::known::KnownLine;
 use crate::lines::{Line, Seen, Slot, Sought};
 use crate::reading::LineFacts;
 use crate::starting::{kept_slots, style_of};
-use crate::texts::Texts;
-use crate::tree::Leaf;
 use std::alloc::{AllocError, Global};
+use toml_layout::{KnownLine, Leaf, Texts};
 use toml_names::{Address, Place};
 use toml_units::Unit;
 

@@ -1,19 +1,19 @@
 //! The working tree written as pieces.
 ghost use Rattle.std.specs.Prelude.{◌≡◌, ℕ, List, IfOk, false};
 ghost use Rattle.toml_text.specs.Source.{text_of};
-ghost use Rattle.toml_working.specs.OpenOutlines.{assign as assign_outline, blank_text, entries as entries_outline, entry as entry_outline};
-ghost use Rattle.toml_working.specs.OpenOutlines.{entry_outlined, gap_text, header as header_outline, key_text, line as line_outline};
-ghost use Rattle.toml_working.specs.OpenOutlines.{value as value_outline};
-ghost use Rattle.toml_working.specs.Outlines.{assign_outlined, entries_outlined, expr_outlined, line_outlined, value_outlined};
+ghost use Rattle.toml_layout.specs.OpenOutlines.{assign as assign_outline, blank_text, entries as entries_outline, entry as entry_outline};
+ghost use Rattle.toml_layout.specs.OpenOutlines.{entry_outlined, gap_text, header as header_outline, key_text, line as line_outline};
+ghost use Rattle.toml_layout.specs.OpenOutlines.{value as value_outline};
+ghost use Rattle.toml_layout.specs.Outlines.{assign_outlined, entries_outlined, expr_outlined, line_outlined, value_outlined};
 ghost use Rattle.toml_working.specs.Writing.{SpellAll, SpellsLine, SpellsSlot, Writes, WritesOut};
 
 use crate::lines::{Body, Line, Slot};
 use crate::pieces::Pieces;
-use crate::tree::{
-    Assign, Blank, Brackets, Entries, Entry, Expr, Gap, GapPart, Header, Key, OpenLine, Value,
-};
 use crate::working::Tree;
 use std::alloc::AllocError;
+use toml_layout::{
+    Assign, Blank, Brackets, Entries, Entry, Expr, Gap, Header, Key, OpenLine, Value,
+};
 use toml_text::Source;
 use toml_tree::Piece;
 

@@ -7,7 +7,7 @@ use Rattle.toml_names.specs.declared.model.address.Step.{Step}
 use Rattle.toml_names.specs.declared.model.address.Step.TheVariants.{Name}
 use Rattle.toml_names.specs.model.Addresses.{Address, same_step, same_address, is_above, child}
 use Rattle.toml_names.proofs.Proved.{same_step-equal, same_step-self}
-use Rattle.toml_working.specs.RenameStanding.{minus}
+use Rattle.toml_layout.specs.RenamedPairs.{minus}
 use Rattle.toml_editor.proofs.written.Clear.{above_true, differ}
 
 pub step_other : (s t : Step) → same_step s t ≡ same_step t s

@@ -13,10 +13,10 @@ use Rattle.toml_names.specs.model.Data.{Kinds}
 use Rattle.toml_edits.specs.After.{IsAfter}
 use Rattle.toml_edits.specs.Edits.{Change, set, remove}
 use Rattle.toml_edits.specs.Faults.{IsFault}
-use Rattle.toml_working.specs.declared.texts.Texts.{Texts}
+use Rattle.toml_layout.specs.declared.texts.Texts.{Texts}
 use Rattle.toml_working.specs.declared.working.Tree.{Tree}
 use Rattle.toml_editor.specs.Exact.{Follows, IsAt, KeepsSource}
-use Rattle.toml_working.specs.OpenOutlines.{leaf_text}
+use Rattle.toml_layout.specs.OpenOutlines.{leaf_text}
 use Rattle.toml_working.specs.Manners.{Manner}
 use Rattle.toml_working.specs.Putting.{manner}
 use Rattle.toml_working.specs.RemoveStanding.{is_pair}
@@ -27,7 +27,7 @@ use Rattle.toml_working.specs.Standing.{Read, standing}
 use Rattle.toml_working.specs.Stands.{KeepsRest, SetsLines, Stands}
 use Rattle.toml_working.specs.Starting.{NoneIsGone}
 use Rattle.toml_editor.specs.Steps.{IsGoodText, IsPlain}
-use Rattle.toml_working.specs.TreeOutlines.{value_outline}
+use Rattle.toml_layout.specs.TreeOutlines.{value_outline}
 use Rattle.toml_working.specs.Written.{AreEdited, HasPair, HasValue, IsWritten}
 use Rattle.toml_editor.proofs.SourceKept.{source_kept}
 use Rattle.toml_editor.proofs.written.RemoveStanding.{pair_stands, remove_stands}

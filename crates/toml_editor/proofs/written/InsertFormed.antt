@@ -4,11 +4,11 @@ use Rattle.toml_text.specs.Forms.{IsNewline, IsWs}
 use Rattle.toml_scalar.proofs.Proved.{spelled_names}
 use Rattle.toml_tree.specs.Spells.{IsValue, IsExpr, AreLines, depth, max_depth}
 use Rattle.toml_tree.specs.Tree.{Piece, Value, Expr, BlankLine, KeyValLine, TableLine, ArrayTableLine, Line}
-use Rattle.toml_working.specs.declared.layout.Layout.{Layout}
-use Rattle.toml_working.specs.declared.layout.Layout.TheVariants as layouts
+use Rattle.toml_layout.specs.declared.layout.Layout.{Layout}
+use Rattle.toml_layout.specs.declared.layout.Layout.TheVariants as layouts
 use Rattle.toml_working.specs.Inserting.{new_expr, new_line, line_behind, insert_lines, spacing_behind, spacing_of}
 use Rattle.toml_working.specs.Manners.{Manner}
-use Rattle.toml_working.specs.Spacings.{Spacing, is_narrow, laid_out, plain_spacing, spaced_as}
+use Rattle.toml_layout.specs.Spacings.{Spacing, is_narrow, laid_out, plain_spacing, spaced_as}
 use Rattle.toml_editor.specs.InsertLaws.{InsertForms}
 use Rattle.toml_editor.proofs.written.Formed.{line_before}
 use Rattle.toml_editor.proofs.written.InsertPlace.{insert_place}

@@ -10,7 +10,7 @@ use Rattle.toml_names.specs.mentions.Keys.{spelled_name, name_or_empty}
 use Rattle.toml_names.specs.mentions.Mentions.{Named, named_by, root, pair_named, section, value_named, inside}
 use Rattle.toml_working.specs.Inserting.{new_assign, new_expr, line_behind, insert_lines, spacing_behind}
 use Rattle.toml_working.specs.Manners.{Manner}
-use Rattle.toml_working.specs.Spacings.{Spacing, plain_spacing}
+use Rattle.toml_layout.specs.Spacings.{Spacing, plain_spacing}
 use Rattle.toml_editor.specs.Blocks.{IsPut, root_pair}
 use Rattle.toml_editor.specs.InsertLaws.{InsertNames}
 use Rattle.toml_editor.proofs.written.Alike.{alike_self, alike_pair, section_pair}

@@ -16,14 +16,14 @@ use Rattle.toml_names.specs.mentions.Mentions.{Named, named_by, root, section, s
 use Rattle.toml_names.specs.reader.Names.{own_address}
 use Rattle.toml_units.specs.Units.{line_base}
 use Rattle.toml_working.specs.Inserting as lines
-use Rattle.toml_working.specs.declared.layout.Layout.{Layout}
-use Rattle.toml_working.specs.declared.layout.Layout.TheVariants as layouts
+use Rattle.toml_layout.specs.declared.layout.Layout.{Layout}
+use Rattle.toml_layout.specs.declared.layout.Layout.TheVariants as layouts
 use Rattle.toml_working.specs.InsertStanding.{LeavesRoot, RootIsFirst, comments_end, goes_below, has_comment, has_pair, insert_behind, insert_first, is_blank, is_comment, line_behind, new_standing, new_outline, pair_or, spacing_behind, spacing_of}
 use Rattle.toml_working.specs.Manners.{Manner}
-use Rattle.toml_working.specs.Spacings.{Spacing, laid_out, plain_spacing}
+use Rattle.toml_layout.specs.Spacings.{Spacing, laid_out, plain_spacing}
 use Rattle.toml_working.specs.Standing.{Standing, holds, leads_to, line_stands, standing_from, standing}
 use Rattle.toml_editor.specs.StandingLaws.{InsertStands, RootComesFirst}
-use Rattle.toml_working.specs.TreeOutlines.{line_outline, value_outline}
+use Rattle.toml_layout.specs.TreeOutlines.{line_outline, value_outline}
 use Rattle.toml_editor.proofs.written.Alike.{alike_self, alike_pair, section_pair}
 use Rattle.toml_editor.proofs.written.InsertNamed.{spelled_again, stays}
 use Rattle.toml_editor.proofs.written.InsertPlace.{IsNoHeader, below_has, comment_heads, pair_heads}

@@ -11,10 +11,10 @@ use Rattle.toml_names.specs.mentions.Mentions.{Named, named, named_by, named_fro
 use Rattle.toml_names.specs.mentions.Rules.{KeepsRules, may_follow}
 use Rattle.toml_names.specs.model.Addresses.{Address, child, element, below}
 use Rattle.toml_names.proofs.Proved.{same_step-equal}
-use Rattle.toml_working.specs.Apart.{HasKeysApart, EachApart, KeysApart, begins_key, keys_of}
-use Rattle.toml_working.specs.SetOutlines.{outlined_names}
+use Rattle.toml_layout.specs.Apart.{HasKeysApart, EachApart, KeysApart, begins_key, keys_of}
+use Rattle.toml_layout.specs.SetOutlines.{outlined_names}
 use Rattle.toml_working.specs.Standing.{Standing, IsApart, standing, standing_from}
-use Rattle.toml_working.specs.TreeOutlines.{assign_outline, value_outline, items_outline, pairs_outline, line_outline}
+use Rattle.toml_layout.specs.TreeOutlines.{assign_outline, value_outline, items_outline, pairs_outline, line_outline}
 use Rattle.toml_editor.proofs.Each.{each_front, each_back, each_weaker}
 use Rattle.toml_editor.proofs.SetOutlined.{names_outlined}
 use Rattle.toml_editor.proofs.written.Alike.{pairs_from}

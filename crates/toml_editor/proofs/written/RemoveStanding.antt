@@ -14,7 +14,7 @@ use Rattle.toml_working.specs.RemoveStanding.{empty_standing, is_pair, left_stan
 use Rattle.toml_working.specs.Removing.{empty_line, left_behind, remove_line}
 use Rattle.toml_working.specs.Standing.{line_stands, standing_from}
 use Rattle.toml_editor.specs.StandingLaws.{PairStands, RemoveStands}
-use Rattle.toml_working.specs.TreeOutlines.{line_outline}
+use Rattle.toml_layout.specs.TreeOutlines.{line_outline}
 use Rattle.toml_editor.proofs.written.Alike.{alike_self, alike_trans}
 use Rattle.toml_editor.proofs.written.Clear.{self}
 use Rattle.toml_editor.proofs.written.RemoveNamed.{remove_keeps_lines}

@@ -14,7 +14,7 @@ use Rattle.toml_edits.specs.declared.fault.EditFault.TheVariants.{AlreadyThere, 
 use Rattle.toml_edits.specs.After.{IsAfter}
 use Rattle.toml_edits.specs.Edits.{rename}
 use Rattle.toml_edits.specs.Faults.{IsFault}
-use Rattle.toml_working.specs.declared.texts.Texts.{Texts}
+use Rattle.toml_layout.specs.declared.texts.Texts.{Texts}
 use Rattle.toml_working.specs.declared.working.Tree.{Tree}
 use Rattle.toml_editor.specs.Exact.{Follows, IsAt, WritesRename}
 use Rattle.toml_working.specs.RenameStanding.{rename_standing}

@@ -18,19 +18,21 @@ use Rattle.toml_edits.specs.Carry.{carry}
 use Rattle.toml_edits.specs.Edits.{rename}
 use Rattle.toml_units.specs.Units.{line_base}
 use Rattle.toml_working.specs.Lines.{lines_from}
-use Rattle.toml_working.specs.Outlines as outline
-use Rattle.toml_working.specs.Outlines.{DottedOutline, ExprOutline}
+use Rattle.toml_layout.specs.Outlines as outline
+use Rattle.toml_layout.specs.Outlines.{DottedOutline, ExprOutline}
 use Rattle.toml_editor.specs.RenameLaws.{moved, moved_one}
-use Rattle.toml_working.specs.RenameStanding.{names_in, minus, part_number, own_part_with, rename_inside, rename_own, renamed_address, rename_standing}
+use Rattle.toml_working.specs.RenameStanding.{names_in, part_number, rename_inside, rename_own, renamed_address, rename_standing}
+use Rattle.toml_layout.specs.RenamedPairs.{minus, own_part_with}
 use Rattle.toml_editor.specs.RenamedHeaders.{rename_along, rename_rest_along}
-use Rattle.toml_working.specs.RenamingIn.{dotted_with}
-use Rattle.toml_working.specs.RenameOutlines.{rename_outline, rename_outlined}
+use Rattle.toml_layout.specs.RenamingIn.{dotted_with}
+use Rattle.toml_layout.specs.RenameOutlines.{rename_outline, rename_outlined}
 use Rattle.toml_working.specs.Renaming.{rename_expr, rename_header, rename_key, rename_line, rename_lines}
-use Rattle.toml_working.specs.Standing.{Standing, begins, line_stands, standing_from}
+use Rattle.toml_working.specs.Standing.{Standing, line_stands, standing_from}
+use Rattle.toml_layout.specs.Beginnings.{begins}
 use Rattle.toml_editor.specs.StandingLaws.{RenameStands}
-use Rattle.toml_working.specs.TreeOutlines.{assign_outline, dotted_outline, header_outline, line_of, value_outline}
+use Rattle.toml_layout.specs.TreeOutlines.{assign_outline, dotted_outline, header_outline, line_of, value_outline}
 use Rattle.toml_editor.proofs.Each.{each_front, each_back}
-use Rattle.toml_working.proofs.Proved.{pair_renamed}
+use Rattle.toml_layout.proofs.Proved.{pair_renamed}
 use Rattle.toml_editor.proofs.written.AddressTests.{above_behind, above_more, child_apart, minus_some, same_behind, step_other}
 use Rattle.toml_editor.proofs.RenameOutlined.{assign_renamed, part_renamed, value_renamed}
 use Rattle.toml_editor.proofs.SetOutlined.{names_outlined}

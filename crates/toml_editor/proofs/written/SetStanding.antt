@@ -8,11 +8,11 @@ use Rattle.toml_names.specs.mentions.Mentions.{Named, named_by, named_from, root
 use Rattle.toml_names.specs.model.Addresses.{Address, below}
 use Rattle.toml_names.proofs.Proved.{clear_of_root}
 use Rattle.toml_working.specs.Lines.{lines_from}
-use Rattle.toml_working.specs.Outlines as outline
+use Rattle.toml_layout.specs.Outlines as outline
 use Rattle.toml_working.specs.Setting.{set_expr, set_line}
 use Rattle.toml_working.specs.Standing.{Standing, line_stands, standing_from, set_standing}
 use Rattle.toml_editor.specs.StandingLaws.{SetStands}
-use Rattle.toml_working.specs.TreeOutlines.{assign_outline, line_of, line_outline, value_outline}
+use Rattle.toml_layout.specs.TreeOutlines.{assign_outline, line_of, line_outline, value_outline}
 use Rattle.toml_editor.proofs.SetOutlined.{set_is_outlined}
 use Rattle.toml_editor.proofs.written.Alike.{alike_self, each_from}
 use Rattle.toml_editor.proofs.written.SetKept.{values_at}

@@ -9,11 +9,11 @@ use Rattle.toml_names.specs.model.Addresses.{Address, element, below}
 use Rattle.toml_names.specs.reader.Names.{header_end, own_address}
 use Rattle.toml_names.proofs.Proved.{key_places_are_not_named, line_places_are_not_named}
 use Rattle.toml_units.specs.Units.{line_base}
-use Rattle.toml_working.specs.Outlines as outline
-use Rattle.toml_working.specs.Outlines.{AssignOutline, EntriesOutline, ExprOutline}
+use Rattle.toml_layout.specs.Outlines as outline
+use Rattle.toml_layout.specs.Outlines.{AssignOutline, EntriesOutline, ExprOutline}
 use Rattle.toml_working.specs.Standing.{line_stands, standing_from, standing}
 use Rattle.toml_editor.specs.StandingLaws.{PlacesDoNotStand}
-use Rattle.toml_working.specs.TreeOutlines.{gap_spelled, dotted_outline, assign_outline, value_outline, items_outline, pairs_outline, header_outline, line_of, line_outline}
+use Rattle.toml_layout.specs.TreeOutlines.{gap_spelled, dotted_outline, assign_outline, value_outline, items_outline, pairs_outline, header_outline, line_of, line_outline}
 
 -- ---- outlines
 

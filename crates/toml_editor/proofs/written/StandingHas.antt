@@ -8,10 +8,10 @@ use Rattle.toml_names.specs.mentions.Joining.{is_lone}
 use Rattle.toml_names.specs.mentions.Keys.{Key, key_names}
 use Rattle.toml_names.specs.mentions.Mentions.{Named, named, named_by, named_from, root, section, entered, followed, fronts, ends_table, ends_tables, value_named, inside, elements, members}
 use Rattle.toml_names.specs.model.Addresses.{Address, same_address, child, element, below}
-use Rattle.toml_working.specs.SetOutlines.{outlined_names, has_outline, has_within, has_listed, has_braced}
+use Rattle.toml_layout.specs.SetOutlines.{outlined_names, has_outline, has_within, has_listed, has_braced}
 use Rattle.toml_working.specs.Standing.{line_stands, standing_from, has}
 use Rattle.toml_editor.specs.StandingLaws.{ValueStands}
-use Rattle.toml_working.specs.TreeOutlines.{assign_outline, value_outline, items_outline, pairs_outline}
+use Rattle.toml_layout.specs.TreeOutlines.{assign_outline, value_outline, items_outline, pairs_outline}
 use Rattle.toml_editor.proofs.SetOutlined.{names_outlined}
 use Rattle.toml_editor.proofs.written.Clear.{self}
 use Rattle.toml_editor.proofs.written.Pairwise.{Has, has_of_any, has_parts}

@@ -14,7 +14,8 @@ use Rattle.toml_names.specs.model.Addresses.{Address, IsAbove, same_step, child,
 use Rattle.toml_names.specs.reader.Names.{header_end, own_address}
 use Rattle.toml_names.proofs.Proved.{clear_of_root, headers_are_clear, line_values_stand_alone, same_step-equal}
 use Rattle.toml_units.specs.Units.{line_base}
-use Rattle.toml_working.specs.Standing.{Standing, StandAlone, begins, covers, covers_at, lies_below, line_stands, standing_from, standing}
+use Rattle.toml_working.specs.Standing.{Standing, StandAlone, covers, covers_at, lies_below, line_stands, standing_from, standing}
+use Rattle.toml_layout.specs.Beginnings.{begins}
 use Rattle.toml_editor.specs.StandingLaws.{RulesOrder}
 use Rattle.toml_editor.proofs.Each.{each_front, each_back, each_weaker}
 use Rattle.toml_editor.proofs.written.Alike.{alike_self, each_from}

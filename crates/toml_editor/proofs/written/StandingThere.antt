@@ -8,10 +8,10 @@ use Rattle.toml_names.specs.mentions.Joining.{is_lone}
 use Rattle.toml_names.specs.mentions.Keys.{key_names}
 use Rattle.toml_names.specs.mentions.Mentions.{Named, named, named_by, named_from, root, section, fronts, value_named, inside, elements, members}
 use Rattle.toml_names.specs.model.Addresses.{Address, same_address, element, below}
-use Rattle.toml_working.specs.SetOutlines.{outlined_names, has_outline, has_within, has_listed, has_braced}
+use Rattle.toml_layout.specs.SetOutlines.{outlined_names, has_outline, has_within, has_listed, has_braced}
 use Rattle.toml_working.specs.Standing.{line_stands, standing_from, has}
 use Rattle.toml_editor.specs.StandingLaws.{StandingIsValue}
-use Rattle.toml_working.specs.TreeOutlines.{assign_outline, value_outline, items_outline, pairs_outline}
+use Rattle.toml_layout.specs.TreeOutlines.{assign_outline, value_outline, items_outline, pairs_outline}
 use Rattle.toml_editor.proofs.SetOutlined.{names_outlined}
 use Rattle.toml_editor.proofs.written.Clear.{same_is}
 use Rattle.toml_editor.proofs.written.Pairwise.{Has, any_of_has, has_append_left, has_append_right}

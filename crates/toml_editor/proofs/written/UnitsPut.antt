@@ -14,9 +14,9 @@ use Rattle.toml_names.specs.mentions.Mentions.{Named, named_by, root, section}
 use Rattle.toml_units.specs.Units.{TextUnit, line_units, inside, comment_units, units_from, units}
 use Rattle.toml_units.specs.declared.unit.UnitKind.TheVariants as kinds
 use Rattle.toml_working.specs.Inserting.{new_assign, new_expr, line_behind, insert_lines, spacing_behind, spacing_of}
-use Rattle.toml_working.specs.declared.layout.Layout.TheVariants as layouts
+use Rattle.toml_layout.specs.declared.layout.Layout.TheVariants as layouts
 use Rattle.toml_working.specs.Manners.{Manner}
-use Rattle.toml_working.specs.Spacings.{Spacing, laid_out, plain_spacing}
+use Rattle.toml_layout.specs.Spacings.{Spacing, laid_out, plain_spacing}
 use Rattle.toml_editor.specs.UnitBlocks.{BeginWithLine, IsBlockPut, root_line, pair_text, InsertUnits}
 use Rattle.toml_editor.proofs.written.Alike.{alike_self, alike_pair}
 use Rattle.toml_editor.proofs.written.InsertFormed.{line_formed}

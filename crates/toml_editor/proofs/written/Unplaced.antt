@@ -8,11 +8,11 @@ use Rattle.toml_names.specs.model.Addresses.{Address, same_address, child, eleme
 use Rattle.toml_names.specs.mentions.Keys.{part_name, key_names}
 use Rattle.toml_names.specs.mentions.Mentions.{Named, named_by, root, section, entered}
 use Rattle.toml_names.proofs.Proved.{key_places_are_not_named, line_places_are_not_named}
-use Rattle.toml_working.specs.declared.layout.Layout.{Layout}
-use Rattle.toml_working.specs.declared.layout.Layout.TheVariants as layouts
+use Rattle.toml_layout.specs.declared.layout.Layout.{Layout}
+use Rattle.toml_layout.specs.declared.layout.Layout.TheVariants as layouts
 use Rattle.toml_working.specs.Inserting.{comments_end, goes_below, has_comment, has_pair, insert_behind, insert_first, is_blank, is_comment, line_behind, new_line, spacing_of}
 use Rattle.toml_working.specs.Manners.{Manner}
-use Rattle.toml_working.specs.Spacings.{laid_out, plain_spacing}
+use Rattle.toml_layout.specs.Spacings.{laid_out, plain_spacing}
 use Rattle.toml_working.specs.Lines.{array_of, inline_of, lines_from}
 use Rattle.toml_tree.specs.Bare.{fresh, bare, bare_blank, bare_comment, bare_dotted, bare_key, bare_assign, bare_gap, bare_value, bare_items, bare_pairs, bare_header, bare_expr, bare_line}
 use Rattle.toml_tree.proofs.Proved.{bare_items_text, bare_pairs_text}

@@ -16,7 +16,7 @@ use Rattle.toml_checker.specs.Owed.{IsOwed}
 use Rattle.toml_checker.specs.Plain.{Site}
 use Rattle.toml_working.specs.Inserting.{insert_lines}
 use Rattle.toml_working.specs.Manners.{Manner}
-use Rattle.toml_working.specs.Spacings.{Spacing}
+use Rattle.toml_layout.specs.Spacings.{Spacing}
 use Rattle.toml_working.specs.Together.{GoTogether}
 use Rattle.toml_editor.specs.UnitBlocks.{BeginWithLine, root_line, pair_text}
 use Rattle.toml_editor.proofs.Each.{each_append}

@@ -10,7 +10,7 @@ use Rattle.toml_names.specs.reader.LineNames.{AreDataNear}
 use Rattle.toml_edits.specs.Drafts.{drafted}
 use Rattle.toml_edits.specs.Edits.{change}
 use Rattle.toml_edits.proofs.Proved.{leads_beside}
-use Rattle.toml_working.specs.declared.texts.Texts.{Texts}
+use Rattle.toml_layout.specs.declared.texts.Texts.{Texts}
 use Rattle.toml_working.specs.Starting.{read_of}
 use Rattle.toml_editor.proofs.Answered.{if_ok_two}
 use Rattle.toml_editor.proofs.Judgements.{any_tells}

@@ -2,10 +2,10 @@ use Rattle.std.proofs.Common.{ap, ◌∙◌, subst}
 use Rattle.std.proofs.lemmas.Result.{on_ok_weaker}
 use Rattle.toml_tree.proofs.Proved.{one_value}
 use Rattle.toml_text.specs.Source.{text_of}
-use Rattle.toml_working.specs.Opening.{OpensText}
+use Rattle.toml_layout.specs.Opening.{OpensText}
 use Rattle.toml_working.specs.Putting.{InsertsLines, manner}
 use Rattle.toml_working.specs.Starting.{read_of}
-use Rattle.toml_working.specs.TreeOutlines.{value_outline}
+use Rattle.toml_layout.specs.TreeOutlines.{value_outline}
 use Rattle.toml_editor.proofs.making.write_insert.Goals as goal
 
 pub returns-in_ok-parent-in-Some-clause-insert : goal.returns-in_ok-parent-in-Some-clause-insert

@@ -2,10 +2,10 @@ use Rattle.std.proofs.Common.{ap, ◌∙◌, subst}
 use Rattle.std.proofs.lemmas.Result.{IfOk-weaker}
 use Rattle.toml_tree.proofs.Proved.{one_value}
 use Rattle.toml_text.specs.Source.{text_of}
-use Rattle.toml_working.specs.Opening.{OpensText}
+use Rattle.toml_layout.specs.Opening.{OpensText}
 use Rattle.toml_working.specs.Starting.{read_of}
 use Rattle.toml_working.specs.Stands.{SetsLines}
-use Rattle.toml_working.specs.TreeOutlines.{value_outline}
+use Rattle.toml_layout.specs.TreeOutlines.{value_outline}
 use Rattle.toml_editor.proofs.making.write_set.Goals as goal
 
 pub returns-in-Some-clause-set : goal.returns-in-Some-clause-set

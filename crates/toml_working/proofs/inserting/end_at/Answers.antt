@@ -1,6 +1,6 @@
 use Rattle.std.proofs.Common.{refl}
 use Rattle.std.proofs.lemmas.Result.{on_ok_weaker}
-use Rattle.toml_working.specs.OpenOutlines.{leaf_text}
+use Rattle.toml_layout.specs.OpenOutlines.{leaf_text}
 use Rattle.toml_working.specs.Starting.{read_of}
 use Rattle.toml_working.proofs.Put.{at_ended, no_slot_ended}
 use Rattle.toml_working.proofs.inserting.end_at.Goals as goal

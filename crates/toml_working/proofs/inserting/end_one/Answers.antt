@@ -1,6 +1,6 @@
 use Rattle.std.proofs.lemmas.Result.{on_ok_weaker}
-use Rattle.toml_working.specs.KnownLines.{lines_known}
-use Rattle.toml_working.specs.OpenOutlines.{leaf_text}
+use Rattle.toml_layout.specs.KnownLines.{lines_known}
+use Rattle.toml_layout.specs.OpenOutlines.{leaf_text}
 use Rattle.toml_working.proofs.Put.{line_ended}
 use Rattle.toml_working.proofs.Turned.{if_one_turns, none_turns}
 use Rattle.toml_working.proofs.inserting.end_one.Goals as goal

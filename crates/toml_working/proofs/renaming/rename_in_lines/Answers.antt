@@ -1,7 +1,7 @@
 use Rattle.std.proofs.Common.{arith, ◌+◌, sym, subst}
 use Rattle.std.specs.declared.alloc.Global.{Global}
 use Rattle.std.specs.declared.vec.Vec.{Vec}
-use Rattle.toml_working.specs.KnownLines.{lines_known}
+use Rattle.toml_layout.specs.KnownLines.{lines_known}
 use Rattle.toml_working.specs.declared.lines.Line.{Line}
 use Rattle.toml_working.specs.Becoming.{LineBecomes, renamed_below}
 use Rattle.toml_working.proofs.OneByOne.{SoFar, all_done, none_there, one_more}

@@ -1,4 +1,4 @@
-use Rattle.toml_working.specs.KnownLines.{lines_known}
+use Rattle.toml_layout.specs.KnownLines.{lines_known}
 use Rattle.toml_working.specs.Becoming.{LineBecomes, renamed_below}
 use Rattle.toml_working.proofs.OneByOne.{SoFar}
 use Rattle.toml_working.proofs.renaming.rename_in_lines.Given as goal

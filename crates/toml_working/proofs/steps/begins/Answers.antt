@@ -1,6 +1,6 @@
 use Rattle.std.proofs.Common.{◌∙◌, ◌+◌, ◌-◌, ◌&&◌, drop, ap, sym, arith}
 use Rattle.toml_working.proofs.Beginning.{begins_short, begins_at, begins_apart}
-use Rattle.toml_working.specs.Standing.{begins}
+use Rattle.toml_layout.specs.Beginnings.{begins}
 use Rattle.toml_working.proofs.steps.begins.Goals as goal
 
 pub returns-then-steps-above : goal.returns-then-steps-above

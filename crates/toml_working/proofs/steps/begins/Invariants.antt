@@ -1,5 +1,5 @@
 use Rattle.std.proofs.Common.{◌≡◌, true, drop}
-use Rattle.toml_working.specs.Standing.{begins}
+use Rattle.toml_layout.specs.Beginnings.{begins}
 use Rattle.toml_working.proofs.steps.begins.Given as goal
 
 abbrev pub invariant-loop-place : goal.invariant-loop-place

@@ -1,6 +1,6 @@
 use Rattle.std.proofs.Common.{◌∙◌, ap, refl, drop}
 use Rattle.std.proofs.lemmas.Result.{IfOk-weaker}
-use Rattle.toml_working.specs.KnownLines.{lines_known}
+use Rattle.toml_layout.specs.KnownLines.{lines_known}
 use Rattle.toml_working.specs.Seeing.{Found, steps_to}
 use Rattle.toml_working.proofs.Changed.{line_changed}
 use Rattle.toml_working.proofs.lines.Line.change.Goals as goal

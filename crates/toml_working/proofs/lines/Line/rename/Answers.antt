@@ -1,5 +1,5 @@
 use Rattle.std.proofs.lemmas.Result.{IfOk-weaker}
-use Rattle.toml_working.specs.KnownLines.{lines_known}
+use Rattle.toml_layout.specs.KnownLines.{lines_known}
 use Rattle.toml_working.proofs.Renamed.{line_renamed}
 use Rattle.toml_working.proofs.lines.Line.rename.Goals as goal
 

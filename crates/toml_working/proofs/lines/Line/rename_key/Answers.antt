@@ -1,8 +1,9 @@
 use Rattle.std.proofs.Common.{◌∙◌, ap, sym, subst, Option, ℕ}
 use Rattle.std.specs.Prelude.{OnOk}
-use Rattle.toml_working.specs.KnownLines.{lines_known}
+use Rattle.toml_layout.specs.KnownLines.{lines_known}
 use Rattle.toml_working.specs.Becoming.{BodyBecomes}
-use Rattle.toml_working.specs.RenameStanding.{line_part_with, part_number}
+use Rattle.toml_layout.specs.RenamedPairs.{line_part_with}
+use Rattle.toml_working.specs.RenameStanding.{part_number}
 use Rattle.toml_working.specs.Seeing.{Found}
 use Rattle.toml_working.proofs.lines.Line.rename_key.Goals as goal
 

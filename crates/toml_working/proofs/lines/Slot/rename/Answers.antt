@@ -1,6 +1,6 @@
 use Rattle.std.proofs.Common.{◌∙◌, sym}
 use Rattle.std.proofs.lemmas.Result.{IfOk-weaker}
-use Rattle.toml_working.specs.KnownLines.{lines_known}
+use Rattle.toml_layout.specs.KnownLines.{lines_known}
 use Rattle.toml_working.specs.Becoming.{renamed_below}
 use Rattle.toml_working.specs.Starting.{read_of}
 use Rattle.toml_working.proofs.Renamed.{slot_becomes, slot_not_below}

@@ -4,11 +4,10 @@ use Rattle.std.proofs.lemmas.Option.{none-some}
 use Rattle.std.specs.Prelude.{option_copied, option_map, slice_get}
 use Rattle.toml_lists.specs.Gaps.{items}
 use Rattle.toml_lists.proofs.Proved.{some_at}
-use Rattle.toml_working.specs.declared.tree.Value.TheViews.{out-Entries}
-use Rattle.toml_working.specs.OpenOutlines.{entry, gap_text}
-use Rattle.toml_working.specs.Outlines.{comma_if}
-use Rattle.toml_working.proofs.OpenEntries.{few}
-use Rattle.toml_working.proofs.Outlined.{drop_got, entry_passed, entries_ended, entries_closed, entries_whole}
+use Rattle.toml_layout.specs.declared.tree.Value.TheViews.{out-Entries}
+use Rattle.toml_layout.specs.OpenOutlines.{entry, gap_text}
+use Rattle.toml_layout.specs.Outlines.{comma_if}
+use Rattle.toml_working.proofs.EntriesOut.{drop_got, entry_passed, entries_ended, entries_closed, entries_whole, few}
 use Rattle.toml_working.proofs.pieces.Pieces.+writing.Goals as goal
 use Rattle.toml_working.proofs.pieces.Pieces.+writing.Goals.{entries-in-Some+in_ok-entry, entries-in_default, entries-then-is_behind+in_ok-symbol, entries-else-is_behind, entries-then-is_behind-2+in_ok-symbol-2, entries-else-is_behind-2}
 

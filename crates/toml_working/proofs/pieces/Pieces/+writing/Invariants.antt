@@ -1,9 +1,9 @@
 use Rattle.std.proofs.Common.{◌≡◌, ◌++◌, drop, map, false}
 use Rattle.std.specs.Prelude.{option_map}
 use Rattle.toml_lists.specs.Gaps.{items}
-use Rattle.toml_working.specs.declared.tree.Value.TheViews.{out-Entries}
-use Rattle.toml_working.specs.OpenOutlines.{entry, gap_text, entries_of}
-use Rattle.toml_working.specs.Outlines.{entries_outlined}
+use Rattle.toml_layout.specs.declared.tree.Value.TheViews.{out-Entries}
+use Rattle.toml_layout.specs.OpenOutlines.{entry, gap_text, entries_of}
+use Rattle.toml_layout.specs.Outlines.{entries_outlined}
 use Rattle.toml_working.proofs.pieces.Pieces.+writing.Given as goal
 
 abbrev pub invariant-entries-loop-index : goal.invariant-entries-loop-index

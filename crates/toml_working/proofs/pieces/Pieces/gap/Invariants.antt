@@ -1,5 +1,5 @@
 use Rattle.std.proofs.Common.{◌≡◌, ◌++◌, drop}
-use Rattle.toml_working.specs.OpenOutlines.{gap_parts_text}
+use Rattle.toml_layout.specs.OpenOutlines.{gap_parts_text}
 use Rattle.toml_working.proofs.pieces.Pieces.gap.Given as goal
 
 abbrev pub invariant-loop-part : goal.invariant-loop-part

@@ -1,6 +1,6 @@
 use Rattle.std.proofs.Common.{◌≡◌, ◌++◌, map, drop}
-use Rattle.toml_working.specs.OpenOutlines.{dotted}
-use Rattle.toml_working.specs.Outlines.{dotted_outlined}
+use Rattle.toml_layout.specs.OpenOutlines.{dotted}
+use Rattle.toml_layout.specs.Outlines.{dotted_outlined}
 use Rattle.toml_working.proofs.pieces.Pieces.key.Given as goal
 
 abbrev pub invariant-loop-dotted : goal.invariant-loop-dotted

@@ -3,7 +3,7 @@ use Rattle.std.proofs.lemmas.List.{map-append}
 use Rattle.std.proofs.lemmas.Result.{err_from_is_err_and}
 use Rattle.toml_tree.specs.Lines.{line as tree_line}
 use Rattle.toml_tree.specs.Tree.{Line}
-use Rattle.toml_working.specs.KnownLines.{known_line, lines_known}
+use Rattle.toml_layout.specs.KnownLines.{known_line, lines_known}
 use Rattle.toml_working.specs.Reading.{fact_of}
 use Rattle.toml_working.proofs.reading.ReadDocument.take.Goals as goal
 

@@ -1,7 +1,7 @@
 use Rattle.std.proofs.Common.{subst}
 use Rattle.std.proofs.lemmas.Result.{on_ok_weaker}
 use Rattle.toml_text.specs.Source.{text_of}
-use Rattle.toml_working.specs.OpenOutlines.{value}
+use Rattle.toml_layout.specs.OpenOutlines.{value}
 use Rattle.toml_working.specs.Placing.{FindsLastOf}
 use Rattle.toml_working.specs.Putting.{manner}
 use Rattle.toml_working.specs.Standing.{slots_standing}

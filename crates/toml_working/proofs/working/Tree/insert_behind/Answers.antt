@@ -1,5 +1,5 @@
 use Rattle.std.proofs.lemmas.Result.{on_ok_weaker}
-use Rattle.toml_working.specs.OpenOutlines.{leaf_text, value}
+use Rattle.toml_layout.specs.OpenOutlines.{leaf_text, value}
 use Rattle.toml_working.specs.Putting.{manner}
 use Rattle.toml_working.specs.Starting.{read_of}
 use Rattle.toml_working.proofs.PutRoot.{puts_behind}

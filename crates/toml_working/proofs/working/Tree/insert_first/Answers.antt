@@ -1,7 +1,7 @@
 use Rattle.std.proofs.Common.{subst}
 use Rattle.std.proofs.lemmas.Result.{on_ok_weaker}
 use Rattle.toml_text.specs.Source.{text_of}
-use Rattle.toml_working.specs.OpenOutlines.{value}
+use Rattle.toml_layout.specs.OpenOutlines.{value}
 use Rattle.toml_working.specs.OpeningComments.{FindsAbove}
 use Rattle.toml_working.specs.Putting.{manner}
 use Rattle.toml_working.specs.Starting.{read_of}

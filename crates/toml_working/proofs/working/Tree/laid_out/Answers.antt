@@ -1,9 +1,9 @@
 use Rattle.std.proofs.Common.{ap, sym}
 use Rattle.std.proofs.lemmas.Result.{IfOk-weaker}
-use Rattle.toml_working.specs.declared.layout.Layout.{Layout}
+use Rattle.toml_layout.specs.declared.layout.Layout.{Layout}
 use Rattle.toml_working.specs.InsertStanding.{spacing_of}
 use Rattle.toml_working.specs.Looking.{BeginsBehind, LaysOut}
-use Rattle.toml_working.specs.Spacings.{laid_out}
+use Rattle.toml_layout.specs.Spacings.{laid_out}
 use Rattle.toml_working.specs.Starting.{read_of}
 use Rattle.toml_working.proofs.Looked.{follow_lays}
 use Rattle.toml_working.proofs.working.Tree.laid_out.Goals as goal

@@ -1,4 +1,4 @@
-use Rattle.toml_working.specs.OpenOutlines.{leaf_text}
+use Rattle.toml_layout.specs.OpenOutlines.{leaf_text}
 use Rattle.toml_working.specs.Starting.{read_of}
 use Rattle.toml_working.proofs.Put.{ends_last, stays_full}
 use Rattle.toml_working.proofs.working.Tree.newline_behind.Goals as goal

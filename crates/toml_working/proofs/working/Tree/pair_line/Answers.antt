@@ -1,5 +1,5 @@
 use Rattle.std.proofs.Common.{◌≡◌, ◌∙◌, ℕ, Some, ap, arith, drop}
-use Rattle.toml_working.specs.OpenOutlines.{leaf_text, value}
+use Rattle.toml_layout.specs.OpenOutlines.{leaf_text, value}
 use Rattle.toml_working.proofs.Answered.{if_ok_three}
 use Rattle.toml_working.proofs.PutRoot.{root_line}
 use Rattle.toml_working.proofs.working.Tree.pair_line.Goals as goal

@@ -2,7 +2,7 @@ use Rattle.std.proofs.Common.{subst}
 use Rattle.std.proofs.lemmas.Result.{IfOk-weaker}
 use Rattle.toml_text.specs.Source.{text_of}
 use Rattle.toml_working.specs.Starting.{read_of}
-use Rattle.toml_working.specs.OpenOutlines.{value}
+use Rattle.toml_layout.specs.OpenOutlines.{value}
 use Rattle.toml_working.specs.Seeing.{FindsHolder}
 use Rattle.toml_working.proofs.SetStanding.{none_is_set, holder_is_set}
 use Rattle.toml_working.proofs.working.Tree.set.Goals as goal

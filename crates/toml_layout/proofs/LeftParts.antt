@@ -1,0 +1,54 @@
+-- What is left where an item goes.
+use Rattle.std.proofs.Common.{◌≡◌, ◌∙◌, ◌-◌, ℕ, suc, arith, length, take, Bool, true, false, cond, ◌||◌, List, [], ◌∷◌, ◌++◌, refl, ap, sym, subst}
+use Rattle.toml_layout.specs.declared.tree.GapPart.{GapPart}
+use Rattle.toml_layout.specs.Gaps.{SplitsLast, begins_line, is_comment, is_newline}
+use Rattle.toml_layout.specs.Leaving.{ends_in_comment, lines_of, without_last}
+
+pub without_last_is : (ps : List GapPart) (p : GapPart) → without_last (ps ++ p ∷ []) ≡ ps
+without_last_is [] p = refl
+without_last_is (q ∷ []) p = refl
+without_last_is (q ∷ r ∷ ps) p = ap (λ t. q ∷ t) (without_last_is (r ∷ ps) p)
+
+pub ends_is : (ps : List GapPart) (p : GapPart) → ends_in_comment (ps ++ p ∷ []) ≡ is_comment p
+ends_is [] p = refl
+ends_is (q ∷ []) p = refl
+ends_is (q ∷ r ∷ ps) p = ends_is (r ∷ ps) p
+
+-- a newline stands in it
+newline_in : (ps : List GapPart) (p : GapPart) (rest : List GapPart) → is_newline p ≡ true → begins_line ((ps ++ p ∷ []) ++ rest) ≡ true
+newline_in [] p rest one = ap (λ b. b || begins_line rest) one
+newline_in (q ∷ ps) p rest one = ap (λ b. is_newline q || b) (newline_in ps p rest one) ∙ by (is_newline q)
+  where
+    by : (b : Bool) → (b || true) ≡ true
+    by true = refl
+    by false = refl
+
+no_lines : (ps : List GapPart) → begins_line ps ≡ false → lines_of ps ≡ []
+no_lines [] none = refl
+no_lines (p ∷ ps) none = ap (λ b. cond b (p ∷ lines_of ps) []) none
+
+up_to : (ps : List GapPart) (p : GapPart) (rest : List GapPart) → is_newline p ≡ true → begins_line rest ≡ false → lines_of ((ps ++ p ∷ []) ++ rest) ≡ ps ++ p ∷ []
+up_to [] p rest one none =
+    ap (λ b. cond b (p ∷ lines_of rest) []) (ap (λ b. b || begins_line rest) one) ∙ ap (λ t. p ∷ t) (no_lines rest none)
+up_to (q ∷ ps) p rest one none =
+    ap (λ b. cond b (q ∷ lines_of ((ps ++ p ∷ []) ++ rest)) []) (newline_in (q ∷ ps) p rest one) ∙ ap (λ t. q ∷ t) (up_to ps p rest one none)
+
+pub lines_are : (all lines indent : List GapPart) → SplitsLast all lines indent → lines ≡ lines_of all
+lines_are all lines indent split =
+    split.ends
+    ∙ sym (ap lines_of (split.is ∙ ap (λ l. l ++ indent) split.ends) ∙ up_to split.more split.newline indent split.is_one split.last)
+
+pub begins_so : (all lines indent : List GapPart) → SplitsLast all lines indent → begins_line all ≡ true
+begins_so all lines indent split =
+    ap begins_line (split.is ∙ ap (λ l. l ++ indent) split.ends) ∙ newline_in split.more split.newline indent split.is_one
+
+pub without_last_cut : (ps : List GapPart) → take (length ps - 1) ps ≡ without_last ps
+without_last_cut [] = refl
+without_last_cut (p ∷ ps) = ap (λ n. take n (p ∷ ps)) (by (length ps)) ∙ cut p ps
+  where
+    by : (n : ℕ) → suc n - 1 ≡ n
+    by n = omega arith
+
+    cut : (p : GapPart) (ps : List GapPart) → take (length ps) (p ∷ ps) ≡ without_last (p ∷ ps)
+    cut p [] = refl
+    cut p (q ∷ ps) = ap (λ t. p ∷ t) (cut q ps)

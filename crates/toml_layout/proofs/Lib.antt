@@ -1,0 +1,20 @@
+mod Small
+mod Outlined
+mod TreeOutlined
+mod OpenEntries
+mod SetInside
+mod KeysRenamed
+mod RenameInside
+mod RenameAway
+mod Lying
+mod Opened
+mod OpenedEach
+mod OpenedGap
+mod OpenedLine
+mod GapParts
+mod TextParts
+mod MarginParts
+mod LeftParts
+mod ItemGaps
+mod Clear
+pub mod Proved

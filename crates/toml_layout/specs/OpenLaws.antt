@@ -1,0 +1,12 @@
+-- Laws: what stands between the brackets of an array, or the braces of an inline table, has the outline of its entries, whatever made it.
+use Rattle.std.specs.Prelude.{◌≡◌, map, option_map}
+use Rattle.toml_lists.specs.Gaps.{items}
+use Rattle.toml_layout.specs.declared.tree.Entries.{Entries}
+use Rattle.toml_layout.specs.declared.tree.Value.TheViews.{out-Entries}
+use Rattle.toml_layout.specs.OpenOutlines.{entry, entries, entries_of, gap_text, leaf_text}
+
+abbrev pub EntriesAreOutlined : Type 0
+EntriesAreOutlined = (e : Entries) → entries e ≡ record {
+  opening = leaf_text (out-Entries e).opening;
+  entries = entries_of (map entry (items (out-Entries e).list)) (option_map gap_text (out-Entries e).end);
+}

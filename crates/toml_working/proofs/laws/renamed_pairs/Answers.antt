@@ -1,5 +1,0 @@
-use Rattle.toml_working.proofs.RenameAway.{pair_renamed}
-use Rattle.toml_working.proofs.laws.renamed_pairs.Goals as goal
-
-pub returns : goal.returns
-returns c = pair_renamed

@@ -1,9 +1,0 @@
-use Rattle.std.proofs.Common.{◌≡◌, ◌++◌, map, drop}
-use Rattle.toml_tree.specs.View as tree
-use Rattle.toml_working.specs.OpenOutlines.{dotted}
-use Rattle.toml_working.specs.TreeOutlines.{dotted_outline}
-use Rattle.toml_working.proofs.opening.Opener.key.Given as goal
-
-abbrev pub invariant-loop-dotted : goal.invariant-loop-dotted
-invariant-loop-dotted l =
-    map dotted l.rest.items ++ map dotted_outline (map tree.dotted (drop l.dotted-index l.dotted-items)) ≡ map dotted_outline (map tree.dotted l.dotted-items)

@@ -1,6 +1,0 @@
-use Rattle.std.proofs.Common.{◌≡◌, true, take}
-use Rattle.toml_working.specs.Gaps.{are_ws}
-use Rattle.toml_working.proofs.parts.are_ws.Given as goal
-
-abbrev pub invariant-loop-part : goal.invariant-loop-part
-invariant-loop-part l = are_ws (take l.part-index l.parts) ≡ true

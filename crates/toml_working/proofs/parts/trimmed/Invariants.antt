@@ -1,6 +1,0 @@
-use Rattle.std.proofs.Common.{◌≡◌, true, drop}
-use Rattle.toml_working.specs.Gaps.{are_ws}
-use Rattle.toml_working.proofs.parts.trimmed.Given as goal
-
-abbrev pub invariant-loop-index : goal.invariant-loop-index
-invariant-loop-index l = are_ws (drop l.index l.parts) ≡ true
