@@ -1,8 +1,8 @@
 -- What is left where an item goes.
-use Rattle.std.proofs.Common.{◌≡◌, ◌∙◌, ◌-◌, ℕ, suc, arith, length, take, Bool, true, false, cond, ◌||◌, List, [], ◌∷◌, ◌++◌, refl, ap, sym, subst}
+use Rattle.std.proofs.Common.{◌≡◌, ◌∙◌, ◌-◌, ℕ, suc, arith, length, take, Bool, true, false, cond, ◌&&◌, ◌||◌, List, [], ◌∷◌, ◌++◌, refl, ap, sym, subst}
 use Rattle.toml_layout.specs.declared.tree.GapPart.{GapPart}
-use Rattle.toml_layout.specs.Gaps.{SplitsLast, begins_line, is_comment, is_newline}
-use Rattle.toml_layout.specs.Leaving.{ends_in_comment, lines_of, without_last}
+use Rattle.toml_layout.specs.Gaps.{Beside, SplitsLast, begins_line, ends_container, is_comment, is_newline}
+use Rattle.toml_layout.specs.Leaving.{ends_in_comment, left_of_last_line, left_with_comma, lines_of, own_left, without_last}
 
 pub without_last_is : (ps : List GapPart) (p : GapPart) → without_last (ps ++ p ∷ []) ≡ ps
 without_last_is [] p = refl
@@ -52,3 +52,23 @@ without_last_cut (p ∷ ps) = ap (λ n. take n (p ∷ ps)) (by (length ps)) ∙ 
     cut : (p : GapPart) (ps : List GapPart) → take (length ps) (p ∷ ps) ≡ without_last (p ∷ ps)
     cut p [] = refl
     cut p (q ∷ ps) = ap (λ t. p ∷ t) (cut q ps)
+
+-- ---- what an item leaves by itself
+
+and_false : (a b : Bool) → b ≡ false → (a && b) ≡ false
+and_false true b none = none
+and_false false b none = refl
+
+pub own_itself : (b : Beside) → ends_container b ≡ false → left_with_comma b ≡ own_left b
+own_itself b none =
+    sym (ap (λ t. cond t (left_of_last_line (lines_of b.before) b) (left_with_comma b)) (and_false (begins_line b.before) (ends_container b) none))
+
+pub own_no_line : (b : Beside) → begins_line b.before ≡ false → left_with_comma b ≡ own_left b
+own_no_line b none =
+    sym (ap (λ t. cond (t && ends_container b) (left_of_last_line (lines_of b.before) b) (left_with_comma b)) none)
+
+pub own_line : (b : Beside) (lines indent : List GapPart) → ends_container b ≡ true → SplitsLast b.before lines indent → left_of_last_line lines b ≡ own_left b
+own_line b lines indent ends split =
+    ap (λ l. left_of_last_line l b) (lines_are b.before lines indent split)
+    ∙ sym (ap (λ t. cond (t && ends_container b) (left_of_last_line (lines_of b.before) b) (left_with_comma b)) (begins_so b.before lines indent split)
+    ∙ ap (λ t. cond t (left_of_last_line (lines_of b.before) b) (left_with_comma b)) ends)

@@ -16,5 +16,6 @@ mod TextParts
 mod MarginParts
 mod LeftParts
 mod ItemGaps
+mod TakenParts
 mod Clear
 pub mod Proved

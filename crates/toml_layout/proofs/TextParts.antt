@@ -3,7 +3,8 @@ use Rattle.std.proofs.Common.{◌≡◌, ◌∙◌, ℕ, zero, suc, ◌+◌, ◌
 use Rattle.std.proofs.iter.AsciiBoundary.{after_IsAscii, before_ascii}
 use Rattle.std.proofs.lemmas.Bool.{or_parts, leb-false, ltb-true}
 use Rattle.std.proofs.lemmas.Bool.Decides.{nat_tests}
-use Rattle.std.proofs.lemmas.List.{length-drop, length-take-le, map-append, take-append-drop, take_all}
+use Rattle.std.proofs.lemmas.Str.{IsCharBoundary-end}
+use Rattle.std.proofs.lemmas.List.{length-drop, length-take-le, map-append, take-append-drop, take_all, take_more}
 use Rattle.std.specs.Prelude.{nat_lt}
 use Rattle.toml_text.specs.Bytes.{is_ws, is_comment}
 use Rattle.toml_text.specs.Forms.{Each, IsNewline}
@@ -12,7 +13,7 @@ use Rattle.toml_text.proofs.Proved.{run_piece, run_stop, newlines_piece}
 use Rattle.toml_layout.specs.declared.tree.GapPart.{GapPart}
 use Rattle.toml_layout.specs.declared.tree.GapPart.TheVariants as parts
 use Rattle.toml_layout.specs.OpenOutlines.{gap_part_text, gap_parts_text, leaf_text}
-use Rattle.toml_layout.specs.PartOutlines.{AreOwn, AreParts, IsParted, PartOutline, Ws, Comment, Newline, behind_first, first_part, outlined, part, part_text}
+use Rattle.toml_layout.specs.PartOutlines.{AddsParted, AreOwn, AreParts, IsParted, PartOutline, Ws, Comment, Newline, behind_first, first_part, outlined, part, part_text}
 
 -- ---- where a text may be cut
 
@@ -86,18 +87,22 @@ first_newline text w n w_is none is some =
     let found : nat_lt 0 (newline_len text) ≡ true = some_below _ (subst (λ k. 0 < k) is some) in
     rw (past, found) (ap (λ k. Newline (take k text)) (sym is))
 
--- the length of a comment, as it is cut
-abbrev comment_cut : ℕ → List ℕ → ℕ
-comment_cut n text = cond (nat_lt 0 n) n (length text)
+-- where a comment is cut off
+abbrev pub IsCommentCut : List ℕ → ℕ → ℕ → Type 0
+IsCommentCut text n cut = ((0 < n) × (cut ≡ n)) ⊎ ((n ≤ 0) × (cut ≡ length text))
+
+pub cut_fits : (text : List ℕ) (n cut : ℕ) → n ≡ run_len is_comment text → IsCommentCut text n cut → cut ≤ length text
+cut_fits text n cut is (inl (some, cut_is)) = let within = (run_piece is_comment text).0 in omega (arith, within, is, cut_is)
+cut_fits text n cut is (inr (none, cut_is)) = omega (arith, cut_is)
 
 pub first_comment : (text : List ℕ) (w l n cut : ℕ) → w ≡ run_len is_ws text → w ≤ 0 → l ≡ newline_len text → l ≤ 0 → n ≡ run_len is_comment text
-    → ((0 < n) × (cut ≡ n)) ⊎ ((n ≤ 0) × (cut ≡ length text)) → first_part text ≡ Comment (take cut text)
+    → IsCommentCut text n cut → first_part text ≡ Comment (take cut text)
 first_comment text w l n cut w_is no_ws l_is no_newline is cases =
     let past : nat_lt 0 (run_len is_ws text) ≡ false = none_below _ (subst (λ k. k ≤ 0) w_is no_ws) in
     let behind : nat_lt 0 (newline_len text) ≡ false = none_below _ (subst (λ k. k ≤ 0) l_is no_newline) in
     rw (past, behind) (by cases)
   where
-    by : ((0 < n) × (cut ≡ n)) ⊎ ((n ≤ 0) × (cut ≡ length text))
+    by : IsCommentCut text n cut
         → cond (nat_lt 0 (run_len is_comment text)) (Comment (take (run_len is_comment text) text)) (Comment text) ≡ Comment (take cut text)
     by (inl (some, cut_is)) =
         let found : nat_lt 0 (run_len is_comment text) ≡ true = some_below _ (subst (λ k. 0 < k) is some) in
@@ -183,3 +188,13 @@ pub parted_more : (ps all : List GapPart) (p : GapPart) (own : List GapPart) →
 parted_more [] all p own none is = (own, [], is, ap (λ t. t ++ own) none ∙ sym (append-nil own), refl)
 parted_more (q ∷ ps) all p own (first, rest, first_is, split, more) is =
     (first, rest ++ own, first_is, ap (λ t. t ++ own) split ∙ append_assoc first rest own, parted_more ps rest p own more is)
+
+pub end_bound : (text : List ℕ) (n : ℕ) → n ≡ length text → IsCharBoundary text n
+end_bound text n is = subst (IsCharBoundary text) (sym is) (IsCharBoundary-end text)
+
+-- one more part of a gap is taken apart
+pub parted_on : (ps : List GapPart) (i : ℕ) (d : GapPart) (all new : List GapPart) → i < length ps → IsParted (take i ps) all
+    → AddsParted (get_or ps i d) all new → IsParted (take (i + 1) ps) new
+parted_on ps i d all new low so_far (own, is_own, new_is) =
+    subst (λ t. IsParted t new) (sym (take_more ps i d low))
+    (subst (IsParted (take i ps ++ get_or ps i d ∷ [])) (sym new_is) (parted_more (take i ps) all (get_or ps i d) own so_far is_own))

@@ -1,5 +1,6 @@
 -- The entries of an array or an inline table as the rules of layouts see them: what each of them is, and the parts of the gaps beside it.
-use Rattle.std.specs.Prelude.{◌≡◌, ◌-◌, ◌++◌, ℕ, List, [], length, map, set, Option, Some, None, option_map, slice_get, unwrap_or}
+use Rattle.std.specs.Prelude.{◌≡◌, ◌-◌, ℕ, min, List, length, map, set, Option, Some, None, option_map, slice_get}
+use Rattle.std.specs.List.{insert}
 use Rattle.std.specs.Global.{Box}
 use Rattle.toml_lists.specs.Gaps.{items}
 use Rattle.toml_layout.specs.declared.tree.Assign.{Assign}
@@ -55,6 +56,10 @@ with_after m i it gap = record m { list = set m.list i (record it { after = gap 
 
 abbrev pub with_end : Items → Option (List GapPart) → Items
 with_end m end = record m { end = end }
+
+-- an item is put in before the one with the index, or behind the last one
+abbrev pub with_item : Items → ℕ → Item → Items
+with_item m i it = record m { list = insert m.list (min i (length m.list)) it }
 
 -- so the gap before the item with the index, or behind it, is changed, and this is the one that stood there
 pub record ChangesBefore (i : ℕ) (gap : List GapPart) (old new : Items) (was : List GapPart) : Type 0 where

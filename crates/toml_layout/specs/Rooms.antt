@@ -1,7 +1,6 @@
 -- How room is made for an item that is put in, by either layout.
 use Rattle.std.specs.Prelude.{◌≡◌, ◌-◌, ℕ, min, Bool, true, false, List, [], ◌∷◌, length, Option, Some, None, is_some, slice_get, unwrap_or}
 use Rattle.std.specs.Global.{Box}
-use Rattle.std.specs.List.{insert}
 use Rattle.toml_layout.specs.declared.layout.Layout.{Layout}
 use Rattle.toml_layout.specs.declared.layout.Layout.TheVariants as layouts
 use Rattle.toml_layout.specs.declared.tree.Assign.{Assign}
@@ -10,7 +9,7 @@ use Rattle.toml_layout.specs.declared.tree.Gap.{Gap}
 use Rattle.toml_layout.specs.declared.tree.GapPart.{GapPart}
 use Rattle.toml_layout.specs.declared.tree.Value.{Value}
 use Rattle.toml_layout.specs.Gaps.{SplitsLast, begins_line}
-use Rattle.toml_layout.specs.Items.{Item, Items, gap_parts, items_of, last_item, with_after, with_before, with_end}
+use Rattle.toml_layout.specs.Items.{Item, Items, gap_parts, items_of, last_item, with_after, with_before, with_end, with_item}
 use Rattle.toml_layout.specs.Margins.{IsMarginAlone, IsOnLine, PutsLine, margin, one_space, parting}
 use Rattle.toml_layout.specs.PartOutlines.{IsParted, PartOutline, outlined}
 
@@ -116,5 +115,4 @@ RoomFor layouts.Follow m i is_pair r = RoomBeside m i is_pair r
 pub record PutsItem (layout : Layout) (i : ℕ) (own : Option (Box Assign)) (value : Value) (old new : Items) : Type 0 where
   pub room : Room
   pub made : RoomFor layout old i (is_some own) room
-  pub list_is : new.list ≡ insert room.items.list (min i (length room.items.list)) (record { before = room.before; assign = own; value = value; after = room.after })
-  pub end_is : new.end ≡ room.items.end
+  pub now : new ≡ with_item room.items i (record { before = room.before; assign = own; value = value; after = room.after })

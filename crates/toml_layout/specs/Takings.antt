@@ -77,9 +77,9 @@ pub record StandsBeside (m : Items) (i : ℕ) (before after : List GapPart) (b :
 
 -- what is left is put behind the item before it, and before the next one or the closing bracket
 abbrev pub put_above : Items → ℕ → Option Item → Option (List GapPart) → Items
+put_above m i it None = m
+put_above m i None (Some gap) = m
 put_above m i (Some it) (Some gap) = with_after m (i - 1) it gap
-put_above m i (Some it) None = m
-put_above m i None gap = m
 
 abbrev pub put_behind : Items → ℕ → Option Item → Option (List GapPart) → Items
 put_behind m i None gap = with_end m gap
@@ -87,7 +87,7 @@ put_behind m i (Some next) None = m
 put_behind m i (Some next) (Some gap) = with_before m i next gap
 
 abbrev pub put_left : Items → ℕ → Remains → Items
-put_left m i left = let above = put_above m i (item_above m i) left.above in put_behind above i (slice_get m.list i) left.behind
+put_left m i left = let above = put_above m i (item_above m i) left.above in put_behind above i (slice_get above.list i) left.behind
 
 pub record ClosesUp (m : Items) (i : ℕ) (before after : List GapPart) (new : Items) : Type 0 where
   pub beside : Beside

@@ -1,7 +1,7 @@
 //! What stands in arrays and inline tables: entries put in and taken out, with their commas.
-ghost use Rattle.std.specs.Prelude.{◌≡◌, ◌++◌, ◌∷◌, ◌<◌, [], IfOk, OnOk, length, vec_len};
+ghost use Rattle.std.specs.Prelude.{◌≡◌, ◌++◌, ◌∷◌, ◌<◌, [], IfOk, None, OnOk, length, option_map, vec_len};
 ghost use Rattle.toml_layout.specs.Emptying.{no_entries};
-ghost use Rattle.toml_layout.specs.Items.{ChangesAfter, ChangesAfterAt, ChangesBefore, ChangesBeforeAt, gap_parts, item, items_of};
+ghost use Rattle.toml_layout.specs.Items.{ChangesAfter, ChangesAfterAt, ChangesBefore, ChangesBeforeAt, gap_parts, item, items_of, with_end, with_item};
 ghost use Rattle.toml_layout.specs.OpenOutlines.{entries};
 ghost use Rattle.toml_layout.specs.Rooms.{PutsItem, room, room_of};
 ghost use Rattle.toml_layout.specs.Takings.{TakesAll, TakesOne, all_taken, closed, followed, leaves_plain, taken};
@@ -35,7 +35,7 @@ impl<'t> Entries<'t> {
         assign: Option<Box<Assign<'t>>>,
         value: Value<'t>,
     ) -> Result<(), AllocError>
-        ensures { OnOk result (PutsItem texts.entry.layout index assign value (items_of self.old) (items_of self.new)) }
+        ensures { OnOk result (PutsItem texts.entry.layout index assign.entry value.entry (items_of self.old) (items_of self.new)) }
     {
         let (before, after) = match texts.layout {
             Layout::Plain => {
@@ -44,17 +44,27 @@ impl<'t> Entries<'t> {
             }
             Layout::Follow => self.room_beside(texts, index, assign.is_some())?,
         };
-        let entry = Entry {
-            before,
-            assign,
-            value,
-            after,
-        };
+        self.add(
+            index,
+            Entry {
+                before,
+                assign,
+                value,
+                after,
+            },
+        )
+    }
+
+    /// Puts an entry in before the one with the index, or behind the last one; the gaps beside it stay.
+    fn add(&mut self, index: usize, entry: Entry<'t>) -> Result<(), AllocError>
+        ensures { OnOk result (items_of self.new ≡ with_item (items_of self.old) index (item entry.entry)) }
+    {
         if self.list.takes(index) {
-            self.list.insert(index, entry)
+            self.list.insert(index, entry)?;
         } else {
-            self.list.push(entry)
+            self.list.push(entry)?;
         }
+        Ok(())
     }
 
     /// Makes room for an entry before the one with the index, or behind the last one, and answers the gaps around it; behind the
@@ -66,7 +76,7 @@ impl<'t> Entries<'t> {
         index: usize,
         space: Gap<'t>,
     ) -> Result<(Gap<'t>, Gap<'t>), AllocError>
-        ensures { IfOk result (λ r. room_of self.new r ≡ room (items_of self.old) index (gap_parts space)) }
+        ensures { IfOk result (λ r. room_of self.new r ≡ room (items_of self.old) index (gap_parts space.entry)) }
     {
         if self.list.has(index) {
             let before = self.change_before(index, space);
@@ -76,14 +86,29 @@ impl<'t> Entries<'t> {
             let after = self.change_after(last, Gap::empty(alloc));
             return Ok((space, after));
         }
-        let after = self.end.take().unwrap_or(Gap::empty(alloc));
+        let after = self.take_end().unwrap_or(Gap::empty(alloc));
         Ok((Gap::empty(alloc), after))
+    }
+
+    /// Takes what stands before the closing bracket behind the last comma, or where no entry stands.
+    pub(crate) fn take_end(&mut self) -> Option<Gap<'t>>
+        ensures now { items_of self.new ≡ with_end (items_of self.old) None }
+        ensures stood { option_map gap_parts result ≡ (items_of self.old).end }
+    {
+        self.end.take()
+    }
+
+    /// Puts this before the closing bracket.
+    pub(crate) fn put_end(&mut self, end: Option<Gap<'t>>)
+        ensures { items_of self.new ≡ with_end (items_of self.old) (option_map gap_parts end.entry) }
+    {
+        self.end = end;
     }
 
     /// Puts a gap before the entry with the index, and answers the one that stood there.
     pub(crate) fn change_before(&mut self, index: usize, gap: Gap<'t>) -> Gap<'t>
         requires { index < length (items_of self.old).list }
-        ensures { ChangesBefore index (gap_parts gap) (items_of self.old) (items_of self.new) (gap_parts result) }
+        ensures { ChangesBefore index (gap_parts gap.entry) (items_of self.old) (items_of self.new) (gap_parts result) }
     {
         match self.list.side(index) {
             Some(Side::Before(place)) => change_before(&mut self.list.before, place, gap),
@@ -95,7 +120,7 @@ impl<'t> Entries<'t> {
     /// Puts a gap behind the entry with the index, and answers the one that stood there.
     pub(crate) fn change_after(&mut self, index: usize, gap: Gap<'t>) -> Gap<'t>
         requires { index < length (items_of self.old).list }
-        ensures { ChangesAfter index (gap_parts gap) (items_of self.old) (items_of self.new) (gap_parts result) }
+        ensures { ChangesAfter index (gap_parts gap.entry) (items_of self.old) (items_of self.new) (gap_parts result) }
     {
         match self.list.side(index) {
             Some(Side::Before(place)) => change_after(&mut self.list.before, place, gap),
@@ -163,7 +188,7 @@ impl<'t> Entries<'t> {
         index: usize,
         entry: Entry<'t>,
     ) -> Result<(), AllocError>
-        ensures { OnOk result (items_of self.new ≡ leaves_plain (items_of self.old) index (item entry)) }
+        ensures { OnOk result (items_of self.new ≡ leaves_plain (items_of self.old) index (item entry.entry)) }
     {
         let Entry { before, after, .. } = entry;
         if self.list.has(index) {
@@ -172,12 +197,14 @@ impl<'t> Entries<'t> {
             let _empty = self.change_before(index, left);
             return Ok(());
         }
-        if let Some(end) = self.end.take() {
-            self.end = Some(followed(joined(before, after)?, end)?);
+        if let Some(end) = self.take_end() {
+            let left = followed(joined(before, after)?, end)?;
+            self.put_end(Some(left));
             return Ok(());
         }
         let Some(last) = self.list.len().checked_sub(1) else {
-            self.end = Some(joined(before, after)?);
+            let left = joined(before, after)?;
+            self.put_end(Some(left));
             return Ok(());
         };
         let above = self.change_after(last, Gap::empty(alloc));
@@ -190,7 +217,7 @@ impl<'t> Entries<'t> {
 /// Puts a gap before the entry at the place, and answers the one that stood there.
 fn change_before<'t>(list: &mut Vec<Entry<'t>>, place: usize, gap: Gap<'t>) -> Gap<'t>
     requires { place < vec_len list.old }
-    ensures { ChangesBeforeAt place (gap_parts gap) list.old.items list.new.items (gap_parts result) }
+    ensures { ChangesBeforeAt place (gap_parts gap.entry) list.old.items list.new.items (gap_parts result) }
 {
     mem::replace(&mut list[place].before, gap)
 }
@@ -198,14 +225,14 @@ fn change_before<'t>(list: &mut Vec<Entry<'t>>, place: usize, gap: Gap<'t>) -> G
 /// Puts a gap behind the entry at the place, and answers the one that stood there.
 fn change_after<'t>(list: &mut Vec<Entry<'t>>, place: usize, gap: Gap<'t>) -> Gap<'t>
     requires { place < vec_len list.old }
-    ensures { ChangesAfterAt place (gap_parts gap) list.old.items list.new.items (gap_parts result) }
+    ensures { ChangesAfterAt place (gap_parts gap.entry) list.old.items list.new.items (gap_parts result) }
 {
     mem::replace(&mut list[place].after, gap)
 }
 
 /// Both gaps, one behind the other.
 fn joined<'t>(one: Gap<'t>, other: Gap<'t>) -> Result<Gap<'t>, AllocError>
-    ensures { IfOk result (λ g. gap_parts g ≡ gap_parts one ++ gap_parts other) }
+    ensures { IfOk result (λ g. gap_parts g ≡ gap_parts one.entry ++ gap_parts other.entry) }
 {
     let mut both = one;
     both.join(other)?;
@@ -215,7 +242,7 @@ fn joined<'t>(one: Gap<'t>, other: Gap<'t>) -> Result<Gap<'t>, AllocError>
 /// What a removed entry left before a comma that went with it, and the gap behind that comma, unless this is whitespace
 /// alone.
 fn followed<'t>(left: Gap<'t>, behind: Gap<'t>) -> Result<Gap<'t>, AllocError>
-    ensures { IfOk result (λ g. gap_parts g ≡ followed (gap_parts left) (gap_parts behind)) }
+    ensures { IfOk result (λ g. gap_parts g ≡ followed (gap_parts left.entry) (gap_parts behind.entry)) }
 {
     if are_ws(&behind.parts) {
         Ok(left)
@@ -226,7 +253,7 @@ fn followed<'t>(left: Gap<'t>, behind: Gap<'t>) -> Result<Gap<'t>, AllocError>
 
 /// What the last entry leaves, which goes with the comma before it, behind the gap that stands before that comma.
 fn closed<'t>(above: Gap<'t>, before: Gap<'t>, after: Gap<'t>) -> Result<Gap<'t>, AllocError>
-    ensures { IfOk result (λ g. gap_parts g ≡ closed (gap_parts above) (gap_parts before) (gap_parts after)) }
+    ensures { IfOk result (λ g. gap_parts g ≡ closed (gap_parts above.entry) (gap_parts before.entry) (gap_parts after.entry)) }
 {
     if are_ws(&before.parts) {
         joined(above, after)

@@ -3,7 +3,7 @@ ghost use Rattle.std.specs.Prelude.{◌≡◌, IfOk, MatchOption, false, option_
 ghost use Rattle.toml_layout.specs.Items.{gap_parts, item, items_of};
 ghost use Rattle.toml_layout.specs.Looks.{respaced};
 ghost use Rattle.toml_layout.specs.Margins.{IndentsComment, IsMarginAlone, IsOnLine, PutsLine, are_tabs, has_own_comment, is_short};
-ghost use Rattle.toml_layout.specs.Margins.{is_tab_run, margin, one_space, parting};
+ghost use Rattle.toml_layout.specs.Margins.{is_tab_run, last_of, margin, one_space, parting};
 ghost use Rattle.toml_layout.specs.OpenOutlines.{assign, leaf_text};
 ghost use Rattle.toml_layout.specs.PartOutlines.{outlined};
 ghost use Rattle.toml_layout.specs.Rooms.{IsBetween, RoomAlone, RoomBeside, RoomOnLine, behind_comma, beside, room_of};
@@ -67,12 +67,20 @@ fn margin<'t>(
 ) -> Result<Gap<'t>, AllocError>
     ensures { IfOk result (λ g. outlined g.parts.items ≡ margin line.now indent.now) }
 {
-    let mut margin = Gap::empty(alloc);
-    if let Some(newline) = line.last() {
-        margin.parts.push(newline.anew())?;
-    }
+    let mut margin = last_anew(alloc, line)?;
     margin.add_anew(indent)?;
     Ok(margin)
+}
+
+/// The last part, if there is one, written anew.
+fn last_anew<'t>(alloc: Global, parts: &[GapPart<'t>]) -> Result<Gap<'t>, AllocError>
+    ensures { IfOk result (λ g. outlined g.parts.items ≡ outlined (last_of parts.now)) }
+{
+    let Some((last, _)) = parts.split_last() else {
+        return Ok(Gap::empty(alloc));
+    };
+    let gap = Gap::one(alloc, last.anew())?;
+    Ok(gap)
 }
 
 /// How an item begins its line that is put in between brackets where none stands: as far in as the first comment on a line of
@@ -86,7 +94,8 @@ fn margin_alone<'t>(
 {
     let (line, closing) = split;
     if let Some(indent) = comment_indent(parts) {
-        return margin(alloc, line, indent);
+        let margin = margin(alloc, line, indent)?;
+        return Ok(margin);
     }
     let mut margin = margin(alloc, line, closing)?;
     let step = if are_tabs(closing) { "\t" } else { "  " };
@@ -165,9 +174,9 @@ impl<'t> Entries<'t> {
             let _old = self.change_before(index, behind);
             return Ok((before, none));
         }
-        if let Some(end) = self.end.take() {
+        if let Some(end) = self.take_end() {
             let (before, behind) = texts.line_in(&end, margin)?;
-            self.end = Some(behind);
+            self.put_end(Some(behind));
             return Ok((before, none));
         }
         match self.list.len().checked_sub(1) {
@@ -189,12 +198,12 @@ impl<'t> Entries<'t> {
         ensures { IfOk result (λ r. RoomAlone (items_of self.old) is_pair (room_of self.new r)) }
     {
         let alloc = texts.alloc;
-        let end = self.end.take().unwrap_or(Gap::empty(alloc));
+        let end = self.take_end().unwrap_or(Gap::empty(alloc));
         let between = texts.parted(&end)?;
         if let Some(split) = past_last_newline(&between.parts) {
             let margin = margin_alone(alloc, &between.parts, split)?;
             let (before, behind) = on_line(alloc, split, &margin.parts)?;
-            self.end = Some(behind);
+            self.put_end(Some(behind));
             return Ok((before, Gap::empty(alloc)));
         }
         around(alloc, between, is_pair)
@@ -205,10 +214,12 @@ impl<'t> Entries<'t> {
     fn behind_comma(&self, alloc: Global) -> Result<Gap<'t>, AllocError>
         ensures { IfOk result (λ g. outlined g.parts.items ≡ behind_comma (items_of self.now).list) }
     {
-        match self.list.get(1) {
-            Some(second) => parting(alloc, &second.before.parts),
-            None => one_space(alloc),
-        }
+        let Some(second) = self.list.get(1) else {
+            let space = one_space(alloc)?;
+            return Ok(space);
+        };
+        let space = parting(alloc, &second.before.parts)?;
+        Ok(space)
     }
 }
 
@@ -218,7 +229,7 @@ fn around<'t>(
     between: Gap<'t>,
     is_pair: bool,
 ) -> Result<(Gap<'t>, Gap<'t>), AllocError>
-    ensures { IfOk result (λ r. IsBetween is_pair (gap_parts between) (gap_parts r.0) (gap_parts r.1)) }
+    ensures { IfOk result (λ r. IsBetween is_pair (gap_parts between.entry) (gap_parts r.0) (gap_parts r.1)) }
 {
     if is_pair {
         return Ok((one_space(alloc)?, one_space(alloc)?));

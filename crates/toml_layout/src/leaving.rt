@@ -52,6 +52,29 @@ fn is_blank_if_any(parts: Option<&[GapPart<'_>]>) -> bool
     }
 }
 
+/// A gap of these parts.
+fn copied<'t>(alloc: Global, parts: &[GapPart<'t>]) -> Result<Gap<'t>, AllocError>
+    ensures { IfOk result (λ g. g.parts.items ≡ parts.now) }
+{
+    let mut gap = Gap::empty(alloc);
+    gap.add(parts)?;
+    Ok(gap)
+}
+
+/// A gap of these parts, if there are some.
+fn copied_if_any<'t>(
+    alloc: Global,
+    parts: Option<&[GapPart<'t>]>,
+) -> Result<Option<Gap<'t>>, AllocError>
+    ensures { IfOk result (λ g. option_map gap_parts g ≡ option_map (λ p. p.now) parts.entry) }
+{
+    let Some(parts) = parts else {
+        return Ok(None);
+    };
+    let gap = copied(alloc, parts)?;
+    Ok(Some(gap))
+}
+
 /// A gap of parts, and others behind them.
 fn joined<'t>(
     alloc: Global,
@@ -94,6 +117,7 @@ fn without_piece<'t>(
 }
 
 /// The parts without the last one.
+#[tactic(auto, using(crate::proofs::LeftParts::without_last_cut))]
 fn without_last<'a, 't>(parts: &'a [GapPart<'t>]) -> &'a [GapPart<'t>]
     ensures { result.now ≡ without_last parts.now }
 {
@@ -102,6 +126,7 @@ fn without_last<'a, 't>(parts: &'a [GapPart<'t>]) -> &'a [GapPart<'t>]
 }
 
 /// Whether the last part is a comment.
+#[tactic(auto, using(crate::proofs::LeftParts::ends_is))]
 fn ends_in_comment(parts: &[GapPart<'_>]) -> bool
     ensures { result ≡ ends_in_comment parts.now }
 {
@@ -177,17 +202,13 @@ impl<'a, 't> Around<'a, 't> {
         if self.gives_way() {
             return Ok(Left {
                 above: None,
-                behind: Some(joined(alloc, self.before, &[])?),
+                behind: Some(copied(alloc, self.before)?),
             });
         }
         if self.goes_with_comma() {
-            let behind = match self.behind {
-                Some(parts) => Some(joined(alloc, parts, &[])?),
-                None => None,
-            };
             return Ok(Left {
-                above: Some(joined(alloc, self.after, &[])?),
-                behind,
+                above: Some(copied(alloc, self.after)?),
+                behind: copied_if_any(alloc, self.behind)?,
             });
         }
         let own = self.own_left(alloc)?;
@@ -195,13 +216,20 @@ impl<'a, 't> Around<'a, 't> {
     }
 
     /// What it leaves before the bracket or the next item, where it goes without another.
+    #[tactic(auto, using(crate::proofs::LeftParts::own_itself, crate::proofs::LeftParts::own_no_line, crate::proofs::LeftParts::own_line))]
     fn own_left(self, alloc: Global) -> Result<Gap<'t>, AllocError>
         ensures { IfOk result (λ g. g.parts.items ≡ own_left (around self.entry)) }
     {
-        match past_last_newline(self.before) {
-            Some((lines, _)) if self.ends_container() => self.without_last_line(alloc, lines),
-            _ => self.without_itself(alloc),
+        if !self.ends_container() {
+            let own = self.without_itself(alloc)?;
+            return Ok(own);
         }
+        let Some((lines, _)) = past_last_newline(self.before) else {
+            let own = self.without_itself(alloc)?;
+            return Ok(own);
+        };
+        let own = self.without_last_line(alloc, lines)?;
+        Ok(own)
     }
 
     /// What the last item leaves, which stands on a line of its own with the closing bracket: what stands up to its newline, and
@@ -211,9 +239,12 @@ impl<'a, 't> Around<'a, 't> {
     {
         let line = without_last(lines);
         if ends_in_comment(line) {
-            return joined(alloc, lines, &[]);
+            return copied(alloc, lines);
         }
-        joined(alloc, line, self.behind.unwrap_or(self.after))
+        match self.behind {
+            Some(behind) => joined(alloc, line, behind),
+            None => joined(alloc, line, self.after),
+        }
     }
 
     /// What it leaves with its comma: where more than whitespace stands between, the comma goes by itself.
@@ -232,7 +263,7 @@ impl<'a, 't> Around<'a, 't> {
 
     /// What it leaves where it was the last one and had no comma: then the one before it goes.
     fn without_comma(self, alloc: Global, own: Gap<'t>) -> Result<Left<'t>, AllocError>
-        ensures { IfOk result (λ l. remains l ≡ without_comma (around self.entry) own.parts.items) }
+        ensures { IfOk result (λ l. remains l ≡ without_comma (around self.entry) own.entry.parts.items) }
     {
         match (self.behind, self.above) {
             (None, Some(above)) => Ok(Left {
@@ -317,13 +348,14 @@ impl<'t> Entries<'t> {
         ensures { let above = item_above (items_of self.now) index in
             IfOk result (λ g. IsPartedIf (option_map (λ a. a.after) above) (option_map gap_parts g)) }
     {
-        let Some(above) = index.checked_sub(1) else {
+        if index == 0 {
+            return Ok(None);
+        }
+        let Some(entry) = self.list.get(index - 1) else {
             return Ok(None);
         };
-        match self.list.get(above) {
-            Some(entry) => Ok(Some(texts.parted(&entry.after)?)),
-            None => Ok(None),
-        }
+        let parted = texts.parted(&entry.after)?;
+        Ok(Some(parted))
     }
 
     /// What stands before the entry with the index, in its parts; without one what stands behind the last comma, if one does.
@@ -332,17 +364,19 @@ impl<'t> Entries<'t> {
             IfOk result (λ g. IsPartedIf (gap_behind (slice_get here.list index) here.end) (option_map gap_parts g)) }
     {
         if let Some(entry) = self.list.get(index) {
-            return Ok(Some(texts.parted(&entry.before)?));
+            let parted = texts.parted(&entry.before)?;
+            return Ok(Some(parted));
         }
-        match &self.end {
-            Some(gap) => Ok(Some(texts.parted(gap)?)),
-            None => Ok(None),
-        }
+        let Some(gap) = &self.end else {
+            return Ok(None);
+        };
+        let parted = texts.parted(gap)?;
+        Ok(Some(parted))
     }
 
     /// Puts what is left behind the entry before the index, and before the one with it or the closing bracket.
     fn leave(&mut self, index: usize, left: Left<'t>)
-        ensures { items_of self.new ≡ put_left (items_of self.old) index (remains left) }
+        ensures { items_of self.new ≡ put_left (items_of self.old) index (remains left.entry) }
     {
         let Left { above, behind } = left;
         self.leave_above(index, above);
@@ -352,24 +386,29 @@ impl<'t> Entries<'t> {
     /// Puts a gap behind the entry before the index, if there are both.
     fn leave_above(&mut self, index: usize, gap: Option<Gap<'t>>)
         ensures { let old = items_of self.old in
-            items_of self.new ≡ put_above old index (item_above old index) (option_map gap_parts gap) }
+            items_of self.new ≡ put_above old index (item_above old index) (option_map gap_parts gap.entry) }
     {
-        if let (Some(above), Some(gap)) = (index.checked_sub(1), gap) {
-            if self.list.has(above) {
-                let _old = self.change_after(above, gap);
-            }
+        let Some(gap) = gap else {
+            return;
+        };
+        if index == 0 || !self.list.has(index - 1) {
+            return;
         }
+        let _old = self.change_after(index - 1, gap);
     }
 
     /// Puts a gap before the entry with the index, and where there is none before the closing bracket.
     fn leave_behind(&mut self, index: usize, gap: Option<Gap<'t>>)
         ensures { let old = items_of self.old in
-            items_of self.new ≡ put_behind old index (slice_get old.list index) (option_map gap_parts gap) }
+            items_of self.new ≡ put_behind old index (slice_get old.list index) (option_map gap_parts gap.entry) }
     {
         if !self.list.has(index) {
-            self.end = gap;
-        } else if let Some(gap) = gap {
-            let _old = self.change_before(index, gap);
+            self.put_end(gap);
+            return;
         }
+        let Some(gap) = gap else {
+            return;
+        };
+        let _old = self.change_before(index, gap);
     }
 }

@@ -239,7 +239,7 @@ impl<'t> Gap<'t> {
 
     /// Puts another gap behind it.
     pub(crate) fn join(&mut self, other: Gap<'t>) -> Result<(), AllocError>
-        ensures { OnOk result (self.new.parts.items ≡ self.old.parts.items ++ other.parts.items) }
+        ensures { OnOk result (self.new.parts.items ≡ self.old.parts.items ++ other.entry.parts.items) }
     {
         self.parts.extend_from_slice(&other.parts)
     }

@@ -1,5 +1,5 @@
 //! Where steps lead in a value, and the two edits that change what is there: `set` and `rename`.
-ghost use Rattle.std.specs.Prelude.{◌≡◌, ◌<◌, IfOk, OnOk, map, option_and_then, option_map, slice_get, vec_len};
+ghost use Rattle.std.specs.Prelude.{◌≡◌, ◌<◌, IfOk, OnOk, drop, map, option_and_then, option_map, slice_get, vec_len};
 ghost use Rattle.toml_lists.specs.Gaps.{items};
 ghost use Rattle.toml_layout.specs.NewKeys.{AssignsOne};
 ghost use Rattle.toml_layout.specs.Leading.{ChangesAt, LeadsOn, first_index, key_in, leads, led_by, open_names, pair_key};
