@@ -151,12 +151,12 @@ entry_within e i low past = let count = item_count e in omega (arith, low, past,
 -- ---- which there are
 
 pub not_there : (e : Entries) (i : ℕ) (b : Bool) → IsTrue b ↔ (i < length (items (out-Entries e).list)) → b ≡ false → slice_get (items_of e).list i ≡ None
-not_there e i b has no = elim (cases_lt i (length (items (out-Entries e).list))) [
-  | inl low ↦ absurd (false≢true (sym no ∙ has.1 low))
+not_there e i b has off = elim (cases_lt i (length (items (out-Entries e).list))) [
+  | inl low ↦ absurd (false≢true (sym off ∙ has.1 low))
   | inr past ↦ slice_get_past (items_of e).list i (subst (λ n. n ≤ i) (sym (item_count e)) past)
 ]
 
 pub there : (e : Entries) (i : ℕ) (b : Bool) → IsTrue b ↔ (i < length (items (out-Entries e).list)) → b ≡ true → (it : Item) × (slice_get (items_of e).list i ≡ Some it)
-there e i b has yes =
-    let (x, is) = some_at (items (out-Entries e).list) i (has.0 yes) in
+there e i b has on =
+    let (x, is) = some_at (items (out-Entries e).list) i (has.0 on) in
     (item x, item_there e i x is)

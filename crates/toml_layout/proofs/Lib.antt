@@ -16,6 +16,7 @@ mod TextParts
 mod MarginParts
 mod LeftParts
 mod ItemGaps
+mod RoomParts
 mod TakenParts
 mod Clear
 pub mod Proved

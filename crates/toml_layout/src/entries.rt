@@ -3,7 +3,7 @@ ghost use Rattle.std.specs.Prelude.{◌≡◌, ◌++◌, ◌∷◌, ◌<◌, [],
 ghost use Rattle.toml_layout.specs.Emptying.{no_entries};
 ghost use Rattle.toml_layout.specs.Items.{ChangesAfter, ChangesAfterAt, ChangesBefore, ChangesBeforeAt, gap_parts, item, items_of, with_end, with_item};
 ghost use Rattle.toml_layout.specs.OpenOutlines.{entries};
-ghost use Rattle.toml_layout.specs.Rooms.{PutsItem, room, room_of};
+ghost use Rattle.toml_layout.specs.Rooms.{PutsItem, RoomFor, room, room_of};
 ghost use Rattle.toml_layout.specs.Takings.{TakesAll, TakesOne, all_taken, closed, followed, leaves_plain, taken};
 
 use crate::gaps::one_space;
@@ -37,13 +37,7 @@ impl<'t> Entries<'t> {
     ) -> Result<(), AllocError>
         ensures { OnOk result (PutsItem texts.entry.layout index assign.entry value.entry (items_of self.old) (items_of self.new)) }
     {
-        let (before, after) = match texts.layout {
-            Layout::Plain => {
-                let space = one_space(texts.alloc)?;
-                self.room(texts.alloc, index, space)?
-            }
-            Layout::Follow => self.room_beside(texts, index, assign.is_some())?,
-        };
+        let (before, after) = self.room_for(texts, index, assign.is_some())?;
         self.add(
             index,
             Entry {
@@ -52,7 +46,30 @@ impl<'t> Entries<'t> {
                 value,
                 after,
             },
-        )
+        )?;
+        Ok(())
+    }
+
+    /// Makes room for an entry before the one with the index, or behind the last one, in the layout of the texts.
+    fn room_for(
+        &mut self,
+        texts: Texts<'t>,
+        index: usize,
+        is_pair: bool,
+    ) -> Result<(Gap<'t>, Gap<'t>), AllocError>
+        ensures { IfOk result (λ r. RoomFor texts.entry.layout (items_of self.old) index is_pair (room_of self.new r)) }
+    {
+        match texts.layout {
+            Layout::Plain => {
+                let space = one_space(texts.alloc)?;
+                let around = self.room(texts.alloc, index, space)?;
+                Ok(around)
+            }
+            Layout::Follow => {
+                let beside = self.room_beside(texts, index, is_pair)?;
+                Ok(beside)
+            }
+        }
     }
 
     /// Puts an entry in before the one with the index, or behind the last one; the gaps beside it stay.
@@ -178,7 +195,8 @@ impl<'t> Entries<'t> {
             return Ok(());
         }
         let entry = self.list.remove(index);
-        self.leave_plain(alloc, index, entry)
+        self.leave_plain(alloc, index, entry)?;
+        Ok(())
     }
 
     /// Leaves what an entry leaves that is out of the list, before the one that has its index now or behind the last one.

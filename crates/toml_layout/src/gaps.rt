@@ -141,7 +141,8 @@ impl<'t> Entries<'t> {
         match past_last_newline(&before.parts) {
             Some((line, indent)) => {
                 let margin = margin(texts.alloc, line, indent)?;
-                self.room_on_line(texts, index, &margin)
+                let room = self.room_on_line(texts, index, &margin)?;
+                Ok(room)
             }
             None => {
                 let space = self.behind_comma(texts.alloc)?;

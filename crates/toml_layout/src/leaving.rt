@@ -313,7 +313,8 @@ impl<'t> Entries<'t> {
             return Ok(());
         }
         let entry = self.list.remove(index);
-        self.close_up(texts, index, &entry.before, &entry.after)
+        self.close_up(texts, index, &entry.before, &entry.after)?;
+        Ok(())
     }
 
     /// Leaves what an entry with these gaps leaves that is out of the list, before the one that has its index now or behind the

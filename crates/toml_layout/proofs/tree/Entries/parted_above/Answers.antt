@@ -5,4 +5,4 @@ use Rattle.toml_layout.proofs.tree.Entries.parted_above.Goals as goal
 
 pub returns : goal.returns
 returns c =
-    parted_above c.args.self.now c.args.index c.in-Some.entry.now (gap_parts c.in_ok-parted.parted) c.if-index-0.false (sym c.in-Some.ensures) c.in_ok-parted.ensures
+    parted_above c.args.self.now c.args.index c.in-Some.entry.now (gap_parts c.in_ok-parted.parted) c.if-index-eq0.false (sym c.in-Some.ensures) c.in_ok-parted.ensures
