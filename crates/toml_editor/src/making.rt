@@ -155,7 +155,10 @@ fn write_edit<'x>(
             write_rename(alloc, tree, read, &at, to.as_str(), spelled.to.as_str())?;
             Ok(true)
         }
-        Edit::Remove { .. } => tree.remove(read.before, read.names.place(&at), &at, flat),
+        Edit::Remove { .. } => {
+            let named = tree.guesses.named(alloc, read.names, &at)?;
+            tree.remove(read.before, named, &at, flat)
+        }
         Edit::Section { .. } => write_header(alloc, tree, read, &at, Brackets::One, spelled),
         Edit::Element { .. } => write_header(alloc, tree, read, &at, Brackets::Two, spelled),
     }
@@ -174,7 +177,10 @@ fn write_set<'x>(
     ensures set { IfOk result (WritesSet read.entry.profile (read_of read.entry.before) at.now value.now tree.old tree.new) }
 {
     match open_value(alloc, value, read.profile)? {
-        Some(new) => tree.set(read.before, read.names.place(at), at, new),
+        Some(new) => {
+            let named = tree.guesses.named(alloc, read.names, at)?;
+            tree.set(read.before, named, at, new)
+        }
         // The data have taken the value by now, so it is one of the profile.
         None => Ok(true),
     }
@@ -198,7 +204,7 @@ fn write_insert<'x>(
     match open_value(alloc, value, read.profile)? {
         Some(new) => {
             let parent = parent_of(alloc, at)?;
-            let named = read.names.place(&parent);
+            let named = tree.guesses.named(alloc, read.names, &parent)?;
             tree.insert(read.before, named, &parent, at, steps, new)
         }
         // The data have taken the value by now, so it is one of the profile.
@@ -220,7 +226,7 @@ fn write_rename<'x>(
     ensures { OnOk result (NoneIsGone tree.old.elements → WritesRename (read_of read.entry.before) at.now to.now tree.old tree.new) }
 {
     let name = Name::of(String::from_str(alloc, to)?)?;
-    let named = read.names.place(at);
+    let named = tree.guesses.named(alloc, read.names, at)?;
     tree.rename(read.before, named, at, &name, spelling)
 }
 
@@ -239,11 +245,11 @@ fn write_header<'x>(
     let parent = parent_of(alloc, at)?;
     let element = innermost_element(alloc, &parent)?;
     let near = match &element {
-        Some(element) => read.names.place(element),
+        Some(element) => tree.guesses.named(alloc, read.names, element)?,
         None => None,
     };
     let above = Above {
-        named: read.names.place(&parent),
+        named: tree.guesses.named(alloc, read.names, &parent)?,
         at: parent,
         element,
         near,

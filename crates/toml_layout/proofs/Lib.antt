@@ -19,4 +19,5 @@ mod ItemGaps
 mod RoomParts
 mod TakenParts
 mod Clear
+mod Emptied
 pub mod Proved

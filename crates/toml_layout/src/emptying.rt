@@ -19,6 +19,7 @@ impl Key<'_> {
 
 impl<'t> Assign<'t> {
     /// Leaves so many parts of the key, and ` = `.
+    #[tactic(auto, using(crate::proofs::Emptied::rest_left))]
     pub(crate) fn cut(&mut self, parts: usize)
         ensures { assign_outline self.new ≡ assign_cut parts (assign_outline self.old) }
     {
@@ -61,6 +62,7 @@ impl<'t> OpenLine<'t> {
 
 impl Header<'_> {
     /// Leaves so many parts of its key, between single brackets.
+    #[tactic(auto, using(crate::proofs::Emptied::rest_left))]
     fn cut(&mut self, parts: usize)
         ensures { header self.new ≡ expr_emptied parts (header self.old) }
     {

@@ -250,6 +250,7 @@ impl<'x> Tree<'x> {
             let now = self.new.slots.items in
             OnOk result (PutsSlots (read_of before.entry) at line.entry old now) }
     {
+        self.guesses.put(self.texts.alloc, at.slot, &line)?;
         put_at(&mut self.slots, self.texts.alloc, before, at, line)
     }
 }

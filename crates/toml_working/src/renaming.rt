@@ -40,6 +40,7 @@ impl<'x> Tree<'x> {
         ensures elements { OnOk result (NoneIsGone self.old.elements → NoneIsGone self.new.elements) }
     {
         let renaming = Renaming { at, name, spelled };
+        self.guesses.rename(self.texts.alloc, at, name)?;
         match self.value_line(before, named, at) {
             Some(place) if self.depth(before, place) < at.steps().len() => {
                 self.change_value(before, place, at, Inside::Rename(spelled))?;

@@ -8,6 +8,7 @@ ghost use Rattle.toml_working.specs.Seeing.{CountsSteps, FindsAny, FindsHolder, 
 
 use crate::elements::Elements;
 use crate::lines::{Line, Seen, Slot, Sought};
+use crate::placing::Guesses;
 use crate::reading::LineFacts;
 use crate::starting::{kept_slots, style_of};
 use std::alloc::{AllocError, Global};
@@ -71,6 +72,8 @@ pub struct Tree<'x> {
     pub section_end: Position,
     /// Whether a blank line was written before a header line at the end of the text.
     pub is_parted: bool,
+    /// Where to look for what was put in or renamed: guesses that are tested.
+    pub guesses: Guesses,
 }
 
 impl<'x> Tree<'x> {
@@ -92,6 +95,7 @@ impl<'x> Tree<'x> {
             root_end: Position { slot: 0, index: 0 },
             section_end: Position { slot: 0, index: 0 },
             is_parted: false,
+            guesses: Guesses::none(texts.alloc),
         })
     }
 
