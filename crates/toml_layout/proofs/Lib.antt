@@ -12,6 +12,12 @@ mod OpenedEach
 mod OpenedGap
 mod OpenedLine
 mod GapParts
+mod TextParts
+mod MarginParts
+mod LeftParts
+mod ItemGaps
+mod RoomParts
+mod TakenParts
 mod Clear
 mod Emptied
 pub mod Proved

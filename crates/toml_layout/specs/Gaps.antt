@@ -18,6 +18,12 @@ is_newline (parts.Comment comment) = false
 is_newline (parts.Newline newline) = true
 is_newline (parts.Lines lines) = false
 
+abbrev pub is_comment : GapPart → Bool
+is_comment (parts.Ws ws) = false
+is_comment (parts.Comment comment) = true
+is_comment (parts.Newline newline) = false
+is_comment (parts.Lines lines) = false
+
 abbrev pub is_blank : GapPart → Bool
 is_blank p = is_ws p || is_newline p
 

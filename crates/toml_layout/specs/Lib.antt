@@ -15,6 +15,12 @@ pub mod OpenKinds
 pub mod Spacings
 pub mod Looks
 pub mod Gaps
+pub mod PartOutlines
+pub mod Margins
+pub mod Leaving
+pub mod Items
+pub mod Rooms
+pub mod Takings
 -- what an edit changes in a value, and in the key before it
 pub mod NewKeys
 pub mod Leading

@@ -1,15 +1,19 @@
 //! The gaps around an entry that is put in, by layout `Follow`.
-ghost use Rattle.std.specs.Prelude.{◌≡◌};
+ghost use Rattle.std.specs.Prelude.{◌≡◌, IfOk, MatchOption, false, option_copied, option_map};
+ghost use Rattle.toml_layout.specs.Items.{gap_parts, item, items_of};
 ghost use Rattle.toml_layout.specs.Looks.{respaced};
+ghost use Rattle.toml_layout.specs.Margins.{IndentsComment, IsMarginAlone, IsOnLine, PutsLine, are_tabs, has_own_comment, is_short};
+ghost use Rattle.toml_layout.specs.Margins.{is_tab_run, last_of, margin, one_space, parting};
 ghost use Rattle.toml_layout.specs.OpenOutlines.{assign, leaf_text};
+ghost use Rattle.toml_layout.specs.PartOutlines.{outlined};
+ghost use Rattle.toml_layout.specs.Rooms.{IsBetween, RoomAlone, RoomBeside, RoomOnLine, behind_comma, beside, room_of};
 ghost use Rattle.toml_layout.specs.Spacings.{is_narrow};
 
 use crate::layout::Layout;
-use crate::parts::{are_ws, past_first_newline, past_last_newline};
+use crate::parts::{past_first_newline, past_last_newline};
 use crate::texts::Texts;
 use crate::tree::{Assign, Entries, Entry, Gap, GapPart, Leaf};
 use std::alloc::{AllocError, Global};
-use std::mem;
 use toml_lists::GapList;
 use toml_names::Step;
 
@@ -17,27 +21,24 @@ use toml_names::Step;
 type Split<'a, 't> = (&'a [GapPart<'t>], &'a [GapPart<'t>]);
 
 /// The whitespace before the first comment that stands on a line of its own.
-fn comment_indent<'a, 't>(parts: &'a [GapPart<'t>]) -> Option<&'a [GapPart<'t>]> {
-    let mut line = None;
+fn comment_indent<'a, 't>(parts: &'a [GapPart<'t>]) -> Option<&'a [GapPart<'t>]>
+    ensures { MatchOption result (has_own_comment parts.now ≡ false) (λ i. IndentsComment parts.now i.now) }
+{
     for (index, part) in parts.iter().enumerate() {
-        match (part, line) {
-            (GapPart::Newline(_), _) => line = Some(index + 1),
-            (GapPart::Comment(_), Some(start)) => return Some(range(parts, start, index)),
-            _ => {}
+        if part.is_comment() {
+            let (front, _) = parts.split_at(index);
+            if let Some((_, indent)) = past_last_newline(front) {
+                return Some(indent);
+            }
         }
     }
     None
 }
 
-/// The parts from an index on and before another.
-fn range<'a, 't>(parts: &'a [GapPart<'t>], start: usize, end: usize) -> &'a [GapPart<'t>] {
-    let (front, _) = parts.split_at(end.min(parts.len()));
-    let (_, own) = front.split_at(start.min(front.len()));
-    own
-}
-
 /// Whether tabs stand there, and nothing else.
-fn are_tabs(parts: &[GapPart<'_>]) -> bool {
+fn are_tabs(parts: &[GapPart<'_>]) -> bool
+    ensures { result ≡ are_tabs parts.now }
+{
     for part in parts {
         if !is_tab_run(part.leaf().text()) {
             return false;
@@ -47,7 +48,9 @@ fn are_tabs(parts: &[GapPart<'_>]) -> bool {
 }
 
 /// Whether the text is of tabs alone.
-fn is_tab_run(text: &str) -> bool {
+fn is_tab_run(text: &str) -> bool
+    ensures { result ≡ is_tab_run text.now }
+{
     for byte in text.as_bytes() {
         if *byte != b'\t' {
             return false;
@@ -61,13 +64,23 @@ fn margin<'t>(
     alloc: Global,
     line: &[GapPart<'t>],
     indent: &[GapPart<'t>],
-) -> Result<Gap<'t>, AllocError> {
-    let mut margin = Gap::empty(alloc);
-    if let Some(newline) = line.last() {
-        margin.parts.push(newline.anew())?;
-    }
+) -> Result<Gap<'t>, AllocError>
+    ensures { IfOk result (λ g. outlined g.parts.items ≡ margin line.now indent.now) }
+{
+    let mut margin = last_anew(alloc, line)?;
     margin.add_anew(indent)?;
     Ok(margin)
+}
+
+/// The last part, if there is one, written anew.
+fn last_anew<'t>(alloc: Global, parts: &[GapPart<'t>]) -> Result<Gap<'t>, AllocError>
+    ensures { IfOk result (λ g. outlined g.parts.items ≡ outlined (last_of parts.now)) }
+{
+    let Some((last, _)) = parts.split_last() else {
+        return Ok(Gap::empty(alloc));
+    };
+    let gap = Gap::one(alloc, last.anew())?;
+    Ok(gap)
 }
 
 /// How an item begins its line that is put in between brackets where none stands: as far in as the first comment on a line of
@@ -76,14 +89,17 @@ fn margin_alone<'t>(
     alloc: Global,
     parts: &[GapPart<'t>],
     split: Split<'_, 't>,
-) -> Result<Gap<'t>, AllocError> {
+) -> Result<Gap<'t>, AllocError>
+    ensures { IfOk result (λ g. IsMarginAlone parts.now split.entry.0.now split.entry.1.now (outlined g.parts.items)) }
+{
     let (line, closing) = split;
     if let Some(indent) = comment_indent(parts) {
-        return margin(alloc, line, indent);
+        let margin = margin(alloc, line, indent)?;
+        return Ok(margin);
     }
     let mut margin = margin(alloc, line, closing)?;
     let step = if are_tabs(closing) { "\t" } else { "  " };
-    margin.push_ws(Leaf::New(step))?;
+    margin.parts.push(GapPart::Ws(Leaf::New(step)))?;
     Ok(margin)
 }
 
@@ -93,7 +109,10 @@ fn on_line<'t>(
     alloc: Global,
     split: Split<'_, 't>,
     margin: &[GapPart<'t>],
-) -> Result<(Gap<'t>, Gap<'t>), AllocError> {
+) -> Result<(Gap<'t>, Gap<'t>), AllocError>
+    ensures { let line = split.entry.0.now in let rest = split.entry.1.now in
+        IfOk result (λ r. IsOnLine margin.now line rest r.0.parts.items r.1.parts.items) }
+{
     let (mut before, mut behind) = (Gap::empty(alloc), Gap::empty(alloc));
     before.add(split.0)?;
     if let Some((newline, indent)) = margin.split_first() {
@@ -112,24 +131,32 @@ impl<'t> Entries<'t> {
         texts: Texts<'t>,
         index: usize,
         is_pair: bool,
-    ) -> Result<(Gap<'t>, Gap<'t>), AllocError> {
-        let Some(last) = self.list.len().checked_sub(1) else {
-            return self.room_alone(texts, is_pair);
-        };
-        let Some(beside) = self.list.get(index.min(last)) else {
+    ) -> Result<(Gap<'t>, Gap<'t>), AllocError>
+        ensures { IfOk result (λ r. RoomBeside (items_of self.old) index is_pair (room_of self.new r)) }
+    {
+        let Some(beside) = self.beside(index) else {
             return self.room_alone(texts, is_pair);
         };
         let before = texts.parted(&beside.before)?;
         match past_last_newline(&before.parts) {
             Some((line, indent)) => {
                 let margin = margin(texts.alloc, line, indent)?;
-                self.room_on_line(texts, index, &margin)
+                let room = self.room_on_line(texts, index, &margin)?;
+                Ok(room)
             }
             None => {
                 let space = self.behind_comma(texts.alloc)?;
                 self.room(texts.alloc, index, space)
             }
         }
+    }
+
+    /// The entry with the index, or the last one, if there is one.
+    fn beside(&self, index: usize) -> Option<&Entry<'t>>
+        ensures { option_map item (option_copied result) ≡ beside (items_of self.now) index }
+    {
+        let last = self.list.len().checked_sub(1)?;
+        self.list.get(index.min(last))
     }
 
     /// Makes room on a line of its own: behind the first newline of the gap in which it is to stand. Where that has none, its own
@@ -139,21 +166,23 @@ impl<'t> Entries<'t> {
         texts: Texts<'t>,
         index: usize,
         margin: &Gap<'t>,
-    ) -> Result<(Gap<'t>, Gap<'t>), AllocError> {
+    ) -> Result<(Gap<'t>, Gap<'t>), AllocError>
+        ensures { IfOk result (λ r. RoomOnLine (items_of self.old) index (gap_parts margin.now) (room_of self.new r)) }
+    {
         let none = Gap::empty(texts.alloc);
-        if let Some(other) = self.list.get_mut(index) {
+        if let Some(other) = self.list.get(index) {
             let (before, behind) = texts.line_in(&other.before, margin)?;
-            other.before = behind;
+            let _old = self.change_before(index, behind);
             return Ok((before, none));
         }
-        if let Some(end) = self.end.take() {
+        if let Some(end) = self.take_end() {
             let (before, behind) = texts.line_in(&end, margin)?;
-            self.end = Some(behind);
+            self.put_end(Some(behind));
             return Ok((before, none));
         }
-        match self.last_mut() {
+        match self.list.len().checked_sub(1) {
             Some(last) => {
-                let after = mem::replace(&mut last.after, none);
+                let after = self.change_after(last, none);
                 texts.line_in(&after, margin)
             }
             None => Ok((none, Gap::empty(texts.alloc))),
@@ -166,60 +195,88 @@ impl<'t> Entries<'t> {
         &mut self,
         texts: Texts<'t>,
         is_pair: bool,
-    ) -> Result<(Gap<'t>, Gap<'t>), AllocError> {
+    ) -> Result<(Gap<'t>, Gap<'t>), AllocError>
+        ensures { IfOk result (λ r. RoomAlone (items_of self.old) is_pair (room_of self.new r)) }
+    {
         let alloc = texts.alloc;
-        let between = match self.end.take() {
-            Some(end) => texts.parted(&end)?,
-            None => Gap::empty(alloc),
-        };
+        let end = self.take_end().unwrap_or(Gap::empty(alloc));
+        let between = texts.parted(&end)?;
         if let Some(split) = past_last_newline(&between.parts) {
             let margin = margin_alone(alloc, &between.parts, split)?;
             let (before, behind) = on_line(alloc, split, &margin.parts)?;
-            self.end = Some(behind);
+            self.put_end(Some(behind));
             return Ok((before, Gap::empty(alloc)));
         }
-        if is_pair {
-            let space = Leaf::New(" ");
-            return Ok((Gap::space(alloc, space)?, Gap::space(alloc, space)?));
-        }
-        let mut after = Gap::empty(alloc);
-        after.add_anew(&between.parts)?;
-        Ok((between, after))
+        around(alloc, between, is_pair)
     }
 
     /// What stands behind the first comma that an entry follows, where that is nothing or one character of whitespace; else one
     /// space.
-    fn behind_comma(&self, alloc: Global) -> Result<Gap<'t>, AllocError> {
-        match self.list.get(1) {
-            Some(second) => parting(alloc, &second.before.parts),
-            None => Gap::space(alloc, Leaf::New(" ")),
-        }
+    fn behind_comma(&self, alloc: Global) -> Result<Gap<'t>, AllocError>
+        ensures { IfOk result (λ g. outlined g.parts.items ≡ behind_comma (items_of self.now).list) }
+    {
+        let Some(second) = self.list.get(1) else {
+            let space = one_space(alloc)?;
+            return Ok(space);
+        };
+        let space = parting(alloc, &second.before.parts)?;
+        Ok(space)
     }
+}
+
+/// The gaps around an entry that is put in between brackets where only this stands.
+fn around<'t>(
+    alloc: Global,
+    between: Gap<'t>,
+    is_pair: bool,
+) -> Result<(Gap<'t>, Gap<'t>), AllocError>
+    ensures { IfOk result (λ r. IsBetween is_pair (gap_parts between.entry) (gap_parts r.0) (gap_parts r.1)) }
+{
+    if is_pair {
+        return Ok((one_space(alloc)?, one_space(alloc)?));
+    }
+    let mut after = Gap::empty(alloc);
+    after.add_anew(&between.parts)?;
+    Ok((between, after))
+}
+
+/// A gap of one space.
+pub(crate) fn one_space<'t>(alloc: Global) -> Result<Gap<'t>, AllocError>
+    ensures { IfOk result (λ g. outlined g.parts.items ≡ one_space) }
+{
+    Gap::one(alloc, GapPart::Ws(Leaf::New(" ")))
 }
 
 /// These parts, written anew, where they are nothing or one character of whitespace; else one space.
-fn parting<'t>(alloc: Global, parts: &[GapPart<'t>]) -> Result<Gap<'t>, AllocError> {
-    let mut gap = Gap::empty(alloc);
-    if parts.len() <= 1 && are_ws(parts) && text_len(parts) <= 1 {
-        gap.add_anew(parts)?;
-    } else {
-        gap.push_ws(Leaf::New(" "))?;
+fn parting<'t>(alloc: Global, parts: &[GapPart<'t>]) -> Result<Gap<'t>, AllocError>
+    ensures { IfOk result (λ g. outlined g.parts.items ≡ parting parts.now) }
+{
+    if !is_short(parts) {
+        return one_space(alloc);
     }
+    let mut gap = Gap::empty(alloc);
+    gap.add_anew(parts)?;
     Ok(gap)
 }
 
-/// How long the text of the first part is.
-fn text_len(parts: &[GapPart<'_>]) -> usize {
-    match parts.first() {
-        Some(part) => part.leaf().text().len(),
-        None => 0,
+/// Whether they are nothing or one character of whitespace.
+fn is_short(parts: &[GapPart<'_>]) -> bool
+    ensures { result ≡ is_short parts.now }
+{
+    match parts {
+        [] => true,
+        [part] => part.is_ws() && part.leaf().text().len() <= 1,
+        _ => false,
     }
 }
 
 impl<'t> Texts<'t> {
     /// The gaps around an item that is put in on a line of its own in the gap: behind its first newline, and where it has none
     /// before it.
-    fn line_in(self, gap: &Gap<'t>, margin: &Gap<'t>) -> Result<(Gap<'t>, Gap<'t>), AllocError> {
+    fn line_in(self, gap: &Gap<'t>, margin: &Gap<'t>) -> Result<(Gap<'t>, Gap<'t>), AllocError>
+        ensures { let all = gap.now.parts.items in
+            IfOk result (λ r. PutsLine all margin.now.parts.items r.0.parts.items r.1.parts.items) }
+    {
         let gap = self.parted(gap)?;
         if let Some(split) = past_first_newline(&gap.parts) {
             return on_line(self.alloc, split, &margin.parts);

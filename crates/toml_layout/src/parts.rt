@@ -1,8 +1,10 @@
 //! The parts of gaps: whitespace, newlines and comments.
-ghost use Rattle.std.specs.Prelude.{◌≡◌, ◌++◌, IfSome, MatchOption, OnOk, false, slice_range};
+ghost use Rattle.std.specs.Prelude.{◌≡◌, ◌++◌, IfOk, IfSome, MatchOption, OnOk, drop, false, slice_range, take};
+ghost use Rattle.std.specs.Str.{IsCharBoundary};
 ghost use Rattle.toml_text.specs.Source.{text_of};
-ghost use Rattle.toml_layout.specs.Gaps.{SplitsFirst, SplitsLast, are_blank, are_ws, begins_line, is_newline, is_ws, trimmed, without_ws};
+ghost use Rattle.toml_layout.specs.Gaps.{SplitsFirst, SplitsLast, are_blank, are_ws, begins_line, is_comment, is_newline, is_ws, trimmed, without_ws};
 ghost use Rattle.toml_layout.specs.OpenOutlines.{leaf_text};
+ghost use Rattle.toml_layout.specs.PartOutlines.{AddsLines, AddsParted, IsParted, behind_first, first_part, outlined, part};
 
 use crate::texts::Texts;
 use crate::tree::{Gap, GapPart, Leaf};
@@ -11,47 +13,14 @@ use toml_text::{Span, newline_len, unmarked_len, ws_len};
 
 impl<'t> Texts<'t> {
     /// The gap in parts that are whitespace, a newline or a comment each.
-    pub(crate) fn parted(self, gap: &Gap<'t>) -> Result<Gap<'t>, AllocError> {
+    pub(crate) fn parted(self, gap: &Gap<'t>) -> Result<Gap<'t>, AllocError>
+        ensures { IfOk result (λ g. IsParted gap.now.parts.items g.parts.items) }
+    {
         let mut parted = Gap::empty(self.alloc);
         for part in &gap.parts {
-            match part {
-                GapPart::Lines(Leaf::Kept { start, text }) => {
-                    self.part(&mut parted, *start, start.saturating_add(text.len()))?;
-                }
-                other => parted.parts.push(*other)?,
-            }
+            parted.add_parted(*part)?;
         }
         Ok(parted)
-    }
-
-    /// Puts the parts of what stands in the document between these places behind the gap.
-    fn part(self, parted: &mut Gap<'t>, start: usize, end: usize) -> Result<(), AllocError> {
-        let mut at = start;
-        for _ in start..end {
-            let Some((part, len)) = self.part_at(at, end) else {
-                return Ok(());
-            };
-            parted.parts.push(part)?;
-            at = at.saturating_add(len);
-        }
-        Ok(())
-    }
-
-    /// The part of a gap that begins at a place of the document, and its length; none where the gap ends there.
-    fn part_at(self, at: usize, end: usize) -> Option<(GapPart<'t>, usize)> {
-        let rest = self.kept(at, end)?.text().as_bytes();
-        let ws = ws_len(rest);
-        if ws > 0 {
-            return Some((GapPart::Ws(self.kept(at, at.saturating_add(ws))?), ws));
-        }
-        let newline = newline_len(rest);
-        if newline > 0 {
-            let leaf = self.kept(at, at.saturating_add(newline))?;
-            return Some((GapPart::Newline(leaf), newline));
-        }
-        let comment = unmarked_len(rest, b'\n', b'\n');
-        let leaf = self.kept(at, at.saturating_add(comment))?;
-        Some((GapPart::Comment(leaf), comment))
     }
 
     /// What stands in the document between these places, if anything does.
@@ -74,11 +43,51 @@ impl<'t> Leaf<'t> {
     {
         Leaf::New(self.text())
     }
+
+    /// Its text cut in two.
+    fn split(self, at: usize) -> (Leaf<'t>, Leaf<'t>)
+        requires { IsCharBoundary (leaf_text self) at }
+        ensures front { leaf_text result.0 ≡ take at (leaf_text self.entry) }
+        ensures behind { leaf_text result.1 ≡ drop at (leaf_text self.entry) }
+    {
+        let (front, behind) = self.text().split_at(at);
+        match self {
+            Leaf::Kept { start, .. } => (
+                Leaf::Kept { start, text: front },
+                Leaf::Kept {
+                    start: start.saturating_add(at),
+                    text: behind,
+                },
+            ),
+            Leaf::New(_) => (Leaf::New(front), Leaf::New(behind)),
+        }
+    }
+
+    /// The first part of lines, and what stands behind it.
+    fn first_part(self) -> (GapPart<'t>, Leaf<'t>)
+        ensures front { part result.0 ≡ first_part (leaf_text self.entry) }
+        ensures behind { leaf_text result.1 ≡ behind_first (leaf_text self.entry) }
+    {
+        let text = self.text();
+        let ws = ws_len(text.as_bytes());
+        if ws > 0 {
+            let (own, behind) = self.split(ws);
+            return (GapPart::Ws(own), behind);
+        }
+        let newline = newline_len(text.as_bytes());
+        if newline > 0 {
+            let (own, behind) = self.split(newline);
+            return (GapPart::Newline(own), behind);
+        }
+        let comment = unmarked_len(text.as_bytes(), b'\n', b'\n');
+        let (own, behind) = self.split(if comment > 0 { comment } else { text.len() });
+        (GapPart::Comment(own), behind)
+    }
 }
 
 impl<'t> GapPart<'t> {
     /// Whether it is whitespace.
-    fn is_ws(self) -> bool
+    pub(crate) fn is_ws(self) -> bool
         ensures { result ≡ is_ws self.entry }
     {
         match self {
@@ -97,8 +106,20 @@ impl<'t> GapPart<'t> {
         }
     }
 
+    /// Whether it is a comment.
+    pub(crate) fn is_comment(self) -> bool
+        ensures { result ≡ is_comment self.entry }
+    {
+        match self {
+            GapPart::Comment(_) => true,
+            GapPart::Ws(_) | GapPart::Newline(_) | GapPart::Lines(_) => false,
+        }
+    }
+
     /// This part, written anew.
-    pub(crate) fn anew(self) -> GapPart<'t> {
+    pub(crate) fn anew(self) -> GapPart<'t>
+        ensures { part result ≡ part self.entry }
+    {
         match self {
             GapPart::Ws(leaf) => GapPart::Ws(leaf.anew()),
             GapPart::Comment(leaf) => GapPart::Comment(leaf.anew()),
@@ -116,8 +137,36 @@ impl<'t> Gap<'t> {
         self.parts.extend_from_slice(parts)
     }
 
+    /// Puts a part behind it, and in place of lines their parts.
+    fn add_parted(&mut self, part: GapPart<'t>) -> Result<(), AllocError>
+        ensures { OnOk result (AddsParted part.entry self.old.parts.items self.new.parts.items) }
+    {
+        match part {
+            GapPart::Lines(lines) => self.add_lines(lines),
+            other => {
+                self.parts.push(other)?;
+                Ok(())
+            }
+        }
+    }
+
+    /// Puts the parts of lines behind it.
+    fn add_lines(&mut self, lines: Leaf<'t>) -> Result<(), AllocError>
+        ensures { OnOk result (AddsLines (leaf_text lines.entry) self.old.parts.items self.new.parts.items) }
+    {
+        let mut rest = lines;
+        while !rest.is_empty() {
+            let (part, behind) = rest.first_part();
+            self.parts.push(part)?;
+            rest = behind;
+        }
+        Ok(())
+    }
+
     /// Puts the same parts behind it, written anew.
-    pub(crate) fn add_anew(&mut self, parts: &[GapPart<'t>]) -> Result<(), AllocError> {
+    pub(crate) fn add_anew(&mut self, parts: &[GapPart<'t>]) -> Result<(), AllocError>
+        ensures { OnOk result (outlined self.new.parts.items ≡ outlined self.old.parts.items ++ outlined parts.now) }
+    {
         for part in parts {
             self.parts.push(part.anew())?;
         }

@@ -1,6 +1,6 @@
 //! The working tree: the lines of the text as the edits made so far have left them. It has the shapes of the tree of a
 //! document, but its pieces are kept or new.
-ghost use Rattle.std.specs.Prelude.{◌≡◌, ◌↔◌, ◌++◌, [], IfOk, OnOk, IsTrue, None, option_map};
+ghost use Rattle.std.specs.Prelude.{◌≡◌, ◌↔◌, ◌++◌, ◌∷◌, [], IfOk, OnOk, IsTrue, None, option_map};
 ghost use Rattle.toml_layout.specs.OpenKinds.{is_tables};
 ghost use Rattle.toml_layout.specs.OpenOutlines.{leaf_text, gap_part_text, gap_text, line as outlined};
 ghost use Rattle.toml_layout.specs.Outlines.{no_line};
@@ -200,7 +200,7 @@ impl Blank<'_> {
 impl<'t> Gap<'t> {
     /// A gap of nothing.
     pub(crate) fn empty(alloc: Global) -> Gap<'t>
-        ensures { gap_text result ≡ [] }
+        ensures { result.parts.items ≡ [] }
     {
         Gap {
             parts: Vec::new(alloc),
@@ -209,7 +209,8 @@ impl<'t> Gap<'t> {
 
     /// A gap of this one part.
     pub(crate) fn one(alloc: Global, part: GapPart<'t>) -> Result<Gap<'t>, AllocError>
-        ensures { IfOk result (λ g. gap_text g ≡ gap_part_text part.entry) }
+        ensures parts { IfOk result (λ g. g.parts.items ≡ part.entry ∷ []) }
+        ensures text { IfOk result (λ g. gap_text g ≡ gap_part_text part.entry) }
     {
         let mut parts = Vec::with_capacity(alloc, 1)?;
         parts.push(part)?;
@@ -237,21 +238,10 @@ impl<'t> Gap<'t> {
     }
 
     /// Puts another gap behind it.
-    pub(crate) fn join(&mut self, other: Gap<'t>) -> Result<(), AllocError> {
-        for part in other.parts {
-            self.parts.push(part)?;
-        }
-        Ok(())
-    }
-
-    /// Whether nothing but whitespace stands in it.
-    pub(crate) fn is_ws(&self) -> bool {
-        for part in &self.parts {
-            if !matches!(part, GapPart::Ws(_)) {
-                return false;
-            }
-        }
-        true
+    pub(crate) fn join(&mut self, other: Gap<'t>) -> Result<(), AllocError>
+        ensures { OnOk result (self.new.parts.items ≡ self.old.parts.items ++ other.entry.parts.items) }
+    {
+        self.parts.extend_from_slice(&other.parts)
     }
 }
 

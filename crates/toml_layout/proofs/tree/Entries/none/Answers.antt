@@ -1,10 +1,10 @@
-use Rattle.std.proofs.Common.{◌≡◌, ◌∙◌, ℕ, List, [], ◌∷◌, map, Some, ap₂}
+use Rattle.std.proofs.Common.{◌≡◌, ◌∙◌, ℕ, List, [], ◌∷◌, map, Some, ap, ap₂}
 use Rattle.toml_layout.proofs.Outlined.{entries_made}
 use Rattle.toml_layout.proofs.tree.Entries.none.Goals as goal
 use Rattle.toml_layout.specs.declared.tree.Entry.{Entry}
-use Rattle.toml_layout.specs.OpenOutlines.{Enclosed, entries_of, entry}
+use Rattle.toml_layout.specs.OpenOutlines.{Enclosed, entries_of, entry, gap_parts_text}
 
 pub returns : goal.returns
 returns c =
     let enclosed : List Entry → List ℕ → Enclosed = λ es end. record { opening = 0x7B ∷ []; entries = entries_of (map entry es) (Some end) } in
-    entries_made _ ∙ ap₂ enclosed c.none.ensures c.empty.ensures
+    entries_made _ ∙ ap₂ enclosed c.none.ensures (ap gap_parts_text c.empty.ensures)

@@ -1,0 +1,95 @@
+-- The room that is made for an item.
+use Rattle.std.proofs.Common.{◌≡◌, ◌∙◌, ◌-◌, ℕ, Bool, List, [], ◌∷◌, length, map, Option, Some, None, refl, ap, sym, subst, subst₂, arith}
+use Rattle.std.proofs.lemmas.Option.{slice_get_past}
+use Rattle.std.specs.Prelude.{option_map, slice_get, unwrap_or}
+use Rattle.toml_layout.specs.declared.tree.Gap.{Gap}
+use Rattle.toml_layout.specs.declared.tree.GapPart.{GapPart}
+use Rattle.toml_layout.specs.Gaps.{SplitsLast, begins_line}
+use Rattle.toml_layout.specs.Items.{ChangesAfter, Item, Items, gap_parts, last_item, with_after, with_end}
+use Rattle.toml_layout.specs.Margins.{IsMarginAlone, IsOnLine, PutsLine, margin}
+use Rattle.toml_layout.specs.PartOutlines.{IsParted, outlined}
+use Rattle.toml_layout.specs.Rooms.{AloneBy, BesideBy, OnLineBy, Room, RoomAlone, RoomBeside, RoomBesideOf, RoomOnLine, beside}
+use Rattle.toml_layout.proofs.LeftParts.{begins_so}
+
+abbrev room_with : Items → List GapPart → List GapPart → Room
+room_with i before after = record { items = i; before = before; after = after }
+
+made : (a b : Items) (x y z w : List GapPart) → a ≡ b → x ≡ y → z ≡ w → ◌≡◌ {A = Room} (record { items = a; before = x; after = z }) (record { items = b; before = y; after = w })
+made a b x y z w same before after =
+    ap (λ (i : Items). room_with i x z) same ∙ ap (λ t. room_with b t z) before ∙ ap (λ t. room_with b y t) after
+
+pub unwrapped : (o : Option Gap) (d r : Gap) (end : Option (List GapPart)) → r ≡ unwrap_or o d → gap_parts d ≡ [] → option_map gap_parts o ≡ end
+    → gap_parts r ≡ unwrap_or end []
+unwrapped None d r end is none stood = ap gap_parts is ∙ none ∙ ap (λ (o : Option (List GapPart)). unwrap_or o []) stood
+unwrapped (Some g) d r end is none stood = ap gap_parts is ∙ ap (λ (o : Option (List GapPart)). unwrap_or o []) stood
+
+-- ---- on a line of its own
+
+module _ (m mid new : Items) (i : ℕ) (own before after : List GapPart) (past : slice_get m.list i ≡ None) (took : mid ≡ with_end m None) where
+  pub on_line_end : (end behind : List GapPart) → Some end ≡ m.end → PutsLine end own before behind → new ≡ with_end mid (Some behind) → after ≡ []
+      → RoomOnLine m i own (record { items = new; before = before; after = after })
+  on_line_end end behind is puts now none =
+      subst₂ (λ o e. OnLineBy m i own (record { items = new; before = before; after = after }) o e (last_item m)) (sym past) is
+      (behind, puts, now ∙ ap (λ (k : Items). with_end k (Some behind)) took, none)
+
+  pub on_line_last : (last : ℕ) (gap was : List GapPart) → None ≡ m.end → last ≡ length mid.list - 1 → gap ≡ [] → ChangesAfter last gap mid new was
+      → PutsLine was own before after → RoomOnLine m i own (record { items = new; before = before; after = after })
+  on_line_last last gap was is at none changes puts =
+      let same : mid ≡ m = took ∙ ap (with_end m) is in
+      let there : last ≡ length m.list - 1 = at ∙ ap (λ (k : Items). length k.list - 1) same in
+      let changed = subst (λ (k : Items). ChangesAfter last gap k new was) same changes in
+      let found : Some changed.item ≡ last_item m = sym changed.here ∙ ap (slice_get m.list) there in
+      subst₂ (λ o e. OnLineBy m i own (record { items = new; before = before; after = after }) o e (last_item m)) (sym past) is
+      (subst (λ l. OnLineBy m i own (record { items = new; before = before; after = after }) None None l) found (
+        subst (λ w. PutsLine w own before after) changed.stood puts,
+        changed.now ∙ ap (λ k. with_after m k changed.item gap) there ∙ ap (with_after m (length m.list - 1) changed.item) none,
+      ))
+
+  pub on_line_none : None ≡ m.end → length mid.list ≡ 0 → new ≡ mid → before ≡ [] → after ≡ []
+      → RoomOnLine m i own (record { items = new; before = before; after = after })
+  on_line_none is none now before_is after_is =
+      let same : mid ≡ m = took ∙ ap (with_end m) is in
+      let empty : length m.list ≡ 0 = sym (ap (λ (k : Items). length k.list) same) ∙ none in
+      subst₂ (λ o e. OnLineBy m i own (record { items = new; before = before; after = after }) o e (last_item m)) (sym past) is
+      (subst (λ l. OnLineBy m i own (record { items = new; before = before; after = after }) None None l)
+      (sym (slice_get_past m.list (length m.list - 1) (omega (arith, empty))))
+      (made new m before [] after [] (now ∙ same) before_is after_is))
+
+-- ---- between brackets where no item stands
+
+pub alone_on_line : (m mid new : Items) (is_pair : Bool) (end all lines closing own before behind after : List GapPart) → end ≡ unwrap_or m.end [] → IsParted end all
+    → SplitsLast all lines closing → IsMarginAlone all lines closing (outlined own) → IsOnLine own lines closing before behind → mid ≡ with_end m None
+    → new ≡ with_end mid (Some behind) → after ≡ [] → RoomAlone m is_pair (record { items = new; before = before; after = after })
+alone_on_line m mid new is_pair end all lines closing own before behind after end_is parted split begins around took now none = (
+  all,
+  subst (λ e. IsParted e all) end_is parted,
+  subst (λ b. AloneBy b m all is_pair (record { items = new; before = before; after = after })) (sym (begins_so all lines closing split)) (record {
+    lines = lines;
+    closing = closing;
+    split = split;
+    own = own;
+    begins = begins;
+    behind = behind;
+    around = around;
+    items_are = now ∙ ap (λ (k : Items). with_end k (Some behind)) took;
+    after_is = none;
+  }),
+)
+
+-- ---- as the item beside it is written
+
+pub beside_on_line : (m : Items) (i : ℕ) (is_pair : Bool) (r : Room) (it : Item) (all lines indent own : List GapPart) → Some it ≡ beside m i → IsParted it.before all
+    → SplitsLast all lines indent → outlined own ≡ margin lines indent → RoomOnLine m i own r → RoomBeside m i is_pair r
+beside_on_line m i is_pair r it all lines indent own is parted split begins made =
+    subst (RoomBesideOf m i is_pair r) is (
+      all,
+      parted,
+      subst (λ b. BesideBy b m i all r) (sym (begins_so all lines indent split)) (record {
+        lines = lines;
+        indent = indent;
+        split = split;
+        own = own;
+        begins = begins;
+        made = made;
+      }),
+    )
