@@ -6,6 +6,7 @@ use Rattle.toml_text.specs.Source.{text_of}
 use Rattle.toml_tree.specs.Spells.{EachIs}
 use Rattle.toml_tree.specs.Tree as tree
 use Rattle.toml_layout.specs.declared.changing.Inside.{Inside}
+use Rattle.toml_layout.specs.ChangingIn.{Changes}
 use Rattle.toml_working.specs.declared.lines.Body.{Body}
 use Rattle.toml_working.specs.declared.lines.Body.TheVariants as bodies
 use Rattle.toml_working.specs.declared.lines.Line.{Line}

@@ -6,6 +6,7 @@ use Rattle.toml_names.specs.declared.model.address.Step.TheVariants.{Name, Index
 use Rattle.toml_names.specs.model.Addresses.{Address}
 use Rattle.toml_layout.specs.Outlines.{LineOutline}
 use Rattle.toml_layout.specs.RenameOutlines.{rename_outline}
+use Rattle.toml_layout.specs.RenamedPairs.{minus, own_part_with}
 use Rattle.toml_working.specs.Standing.{Standing, is_below, with_value_outline}
 
 -- how many of the steps are names

@@ -6,6 +6,7 @@ use Rattle.toml_names.specs.reader.Names.{own_address}
 use Rattle.toml_tree.specs.Tree as tree
 use Rattle.toml_units.specs.declared.unit.Unit.{Unit as ReadUnit}
 use Rattle.toml_units.specs.Units.{line_base}
+use Rattle.toml_layout.specs.Beginnings.{begins}
 use Rattle.toml_working.specs.declared.lines.Body.{Body}
 use Rattle.toml_working.specs.declared.lines.Body.TheVariants as bodies
 use Rattle.toml_working.specs.declared.lines.Kept.{Kept}
