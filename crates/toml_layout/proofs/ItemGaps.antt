@@ -1,12 +1,11 @@
 -- The gaps beside the entries of the working tree, as they are changed one by one.
-use Rattle.std.proofs.Common.{◌≡◌, ◌∙◌, ◌<◌, ◌≤◌, ◌+◌, ◌++◌, ℕ, zero, suc, Vec, List, [], ◌∷◌, length, map, reverse, set, Option, Some, None, refl, ap, sym, subst, arith, inl, inr, Bool, true, false, IsTrue, ◌↔◌}
+use Rattle.std.proofs.Common.{◌≡◌, ◌∙◌, ◌<◌, ◌≤◌, ◌++◌, ℕ, Vec, List, length, map, reverse, set, Some, None, refl, ap, sym, subst, arith, inl, inr, Bool, true, false, IsTrue, ◌↔◌}
 use Rattle.std.proofs.lemmas.Bool.{cases_lt, false≢true}
 use Rattle.std.proofs.lemmas.List.{length-map, map-set}
-use Rattle.std.proofs.lemmas.Option.{none-some, same_Some, slice_get-map, slice_get_past}
+use Rattle.std.proofs.lemmas.Option.{slice_get-map, slice_get_past}
 use Rattle.std.specs.Prelude.{option_map, slice_get}
 use Rattle.std.specs.Global.{Global}
 use Rattle.toml_lists.specs.Gaps.{LiesAt, items}
-use Rattle.toml_lists.specs.declared.gap_list.GapList.{GapList}
 use Rattle.toml_lists.specs.declared.gap_list.Side.TheVariants.{Before, Behind}
 use Rattle.toml_lists.proofs.Proved.{before_get, before_set, behind_get, behind_set, some_at}
 use Rattle.toml_layout.specs.declared.tree.Entries.{Entries}
@@ -16,7 +15,7 @@ use Rattle.toml_layout.specs.declared.tree.GapPart.{GapPart}
 use Rattle.toml_layout.specs.declared.tree.Value.TheViews.{out-Entries, out-Entry, out-roll-Entries, roll-Entries, roll-Entry}
 use Rattle.toml_layout.specs.declared.tree.Value.{Value}
 use Rattle.toml_layout.specs.declared.tree.Value.TheOpen.{Entries-F}
-use Rattle.toml_layout.specs.Items.{ChangesAfter, ChangesAfterAt, ChangesBefore, ChangesBeforeAt, Item, Items, gap_parts, item, items_of, with_after, with_before}
+use Rattle.toml_layout.specs.Items.{ChangesAfter, ChangesAfterAt, ChangesBefore, ChangesBeforeAt, Item, Items, gap_parts, item, items_of}
 
 -- ---- items by index
 

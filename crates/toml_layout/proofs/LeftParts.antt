@@ -1,5 +1,5 @@
 -- What is left where an item goes.
-use Rattle.std.proofs.Common.{◌≡◌, ◌∙◌, ◌-◌, ℕ, suc, arith, length, take, Bool, true, false, cond, ◌&&◌, ◌||◌, List, [], ◌∷◌, ◌++◌, refl, ap, sym, subst}
+use Rattle.std.proofs.Common.{◌≡◌, ◌∙◌, ◌-◌, ℕ, suc, arith, length, take, Bool, true, false, cond, ◌&&◌, ◌||◌, List, [], ◌∷◌, ◌++◌, refl, ap, sym}
 use Rattle.toml_layout.specs.declared.tree.GapPart.{GapPart}
 use Rattle.toml_layout.specs.Gaps.{Beside, SplitsLast, begins_line, ends_container, is_comment, is_newline}
 use Rattle.toml_layout.specs.Leaving.{ends_in_comment, left_of_last_line, left_with_comma, lines_of, own_left, without_last}

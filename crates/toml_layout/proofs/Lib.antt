@@ -13,6 +13,7 @@ mod OpenedGap
 mod OpenedLine
 mod GapParts
 mod TextParts
+mod PartLaws
 mod MarginParts
 mod LeftParts
 mod ItemGaps

@@ -1,10 +1,10 @@
 -- The room that is made for an item.
-use Rattle.std.proofs.Common.{◌≡◌, ◌∙◌, ◌-◌, ℕ, Bool, List, [], ◌∷◌, length, map, Option, Some, None, refl, ap, sym, subst, subst₂, arith}
+use Rattle.std.proofs.Common.{◌≡◌, ◌∙◌, ◌-◌, ℕ, Bool, List, [], length, Option, Some, None, ap, sym, subst, subst₂, arith}
 use Rattle.std.proofs.lemmas.Option.{slice_get_past}
 use Rattle.std.specs.Prelude.{option_map, slice_get, unwrap_or}
 use Rattle.toml_layout.specs.declared.tree.Gap.{Gap}
 use Rattle.toml_layout.specs.declared.tree.GapPart.{GapPart}
-use Rattle.toml_layout.specs.Gaps.{SplitsLast, begins_line}
+use Rattle.toml_layout.specs.Gaps.{SplitsLast}
 use Rattle.toml_layout.specs.Items.{ChangesAfter, Item, Items, gap_parts, last_item, with_after, with_end}
 use Rattle.toml_layout.specs.Margins.{IsMarginAlone, IsOnLine, PutsLine, margin}
 use Rattle.toml_layout.specs.PartOutlines.{IsParted, outlined}

@@ -1,5 +1,5 @@
 -- The parts of a text, as it is cut into them.
-use Rattle.std.proofs.Common.{◌≡◌, ◌∙◌, ℕ, zero, suc, ◌+◌, ◌-◌, ◌<◌, ◌≤◌, Bool, true, false, cond, List, [], ◌∷◌, ◌++◌, length, take, drop, get_or, map, refl, ap, ap₂, sym, subst, arith, append_assoc, append-nil, IsUtf8, IsCharBoundary, ⊎_elim, inl, inr, ◌⊎◌, ◌≢◌}
+use Rattle.std.proofs.Common.{◌≡◌, ◌∙◌, ℕ, zero, suc, ◌+◌, ◌-◌, ◌<◌, ◌≤◌, Bool, true, false, cond, List, [], ◌∷◌, ◌++◌, length, take, drop, get_or, refl, ap, ap₂, sym, subst, arith, append_assoc, append-nil, IsUtf8, IsCharBoundary, ⊎_elim, inl, inr, ◌⊎◌, ◌≢◌}
 use Rattle.std.proofs.iter.AsciiBoundary.{after_IsAscii, before_ascii}
 use Rattle.std.proofs.lemmas.Bool.{or_parts, leb-false, ltb-true}
 use Rattle.std.proofs.lemmas.Bool.Decides.{nat_tests}
@@ -12,7 +12,7 @@ use Rattle.toml_text.specs.Runs.{run_len, newline_len}
 use Rattle.toml_text.proofs.Proved.{run_piece, run_stop, newlines_piece}
 use Rattle.toml_layout.specs.declared.tree.GapPart.{GapPart}
 use Rattle.toml_layout.specs.declared.tree.GapPart.TheVariants as parts
-use Rattle.toml_layout.specs.OpenOutlines.{gap_part_text, gap_parts_text, leaf_text}
+use Rattle.toml_layout.specs.OpenOutlines.{gap_part_text, gap_parts_text}
 use Rattle.toml_layout.specs.PartOutlines.{AddsParted, AreOwn, AreParts, IsParted, PartOutline, Ws, Comment, Newline, behind_first, first_part, outlined, part, part_text}
 
 -- ---- where a text may be cut

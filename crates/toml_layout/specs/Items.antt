@@ -1,5 +1,5 @@
 -- The entries of an array or an inline table as the rules of layouts see them: what each of them is, and the parts of the gaps beside it.
-use Rattle.std.specs.Prelude.{◌≡◌, ◌-◌, ℕ, min, List, length, map, set, Option, Some, None, option_map, slice_get}
+use Rattle.std.specs.Prelude.{◌≡◌, ◌-◌, ℕ, min, List, length, map, set, Option, Some, option_map, slice_get}
 use Rattle.std.specs.List.{insert}
 use Rattle.std.specs.Global.{Box}
 use Rattle.toml_lists.specs.Gaps.{items}

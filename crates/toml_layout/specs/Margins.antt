@@ -1,5 +1,5 @@
 -- How an item begins its line that is put in by layout `Follow`, and the gaps around it there.
-use Rattle.std.specs.Prelude.{◌≡◌, ◌&&◌, ◌||◌, ◌==◌, ◌⊎◌, ℕ, nat_le, Bool, true, false, not, List, [], ◌∷◌, ◌++◌, length, Option, Some, None, MatchOption, if◌then◌else◌}
+use Rattle.std.specs.Prelude.{◌≡◌, ◌&&◌, ◌||◌, ◌==◌, ◌⊎◌, ℕ, nat_le, Bool, true, false, List, [], ◌∷◌, ◌++◌, length, Option, Some, None, MatchOption, if◌then◌else◌}
 use Rattle.std.specs.List.{list_all}
 use Rattle.toml_layout.specs.declared.tree.GapPart.{GapPart}
 use Rattle.toml_layout.specs.Gaps.{SplitsFirst, SplitsLast, begins_line, is_comment, is_newline, is_ws}

@@ -1,10 +1,11 @@
 -- The parts of a gap by their texts, whether an edit keeps a part or writes it anew; and the parts of a text, of which there is one list.
-use Rattle.std.specs.Prelude.{◌≡◌, ◌≢◌, ℕ, nat_lt, if◌then◌else◌, List, [], ◌∷◌, ◌++◌, drop, length, map, take}
+use Rattle.std.specs.Prelude.{◌≡◌, ◌≢◌, ℕ, nat_lt, Bool, true, false, if◌then◌else◌, List, [], ◌∷◌, ◌++◌, drop, length, map, take}
+use Rattle.std.specs.List.{list_any}
 use Rattle.toml_text.specs.Bytes.{is_comment, is_ws}
 use Rattle.toml_text.specs.Runs.{newline_len, run_len}
 use Rattle.toml_layout.specs.declared.tree.GapPart.{GapPart}
 use Rattle.toml_layout.specs.declared.tree.GapPart.TheVariants as parts
-use Rattle.toml_layout.specs.OpenOutlines.{leaf_text}
+use Rattle.toml_layout.specs.OpenOutlines.{gap_parts_text, leaf_text}
 
 pub data PartOutline : Type 0 where
   Ws : List ℕ → PartOutline
@@ -63,3 +64,19 @@ AddsParted p old new = (own : List GapPart) × AreOwn p own × (new ≡ old ++ o
 abbrev pub IsParted : List GapPart → List GapPart → Type 0
 IsParted [] all = all ≡ []
 IsParted (p ∷ ps) all = (own : List GapPart) × (rest : List GapPart) × AreOwn p own × (all ≡ own ++ rest) × IsParted ps rest
+
+abbrev pub is_lines : PartOutline → Bool
+is_lines (Ws text) = false
+is_lines (Comment text) = false
+is_lines (Newline text) = false
+is_lines (Lines text) = true
+
+-- Laws: a text has one list of parts; those of a gap that is taken apart spell its text, and no lines are among them.
+abbrev pub PartsAreOne : Type 0
+PartsAreOne = (text : List ℕ) (ps qs : List PartOutline) → AreParts text ps → AreParts text qs → ps ≡ qs
+
+abbrev pub PartedSpells : Type 0
+PartedSpells = (gap all : List GapPart) → IsParted gap all → gap_parts_text all ≡ gap_parts_text gap
+
+abbrev pub NoLinesStay : Type 0
+NoLinesStay = (gap all : List GapPart) → IsParted gap all → list_any is_lines (outlined all) ≡ false

@@ -1,6 +1,7 @@
 //! Laws over the definitions of what is laid out: nothing is run.
 ghost use Rattle.toml_layout.specs.OpenLaws.{EntriesAreOutlined};
 ghost use Rattle.toml_layout.specs.Opening.{BackLies, FrontLies, TextIsTheirs};
+ghost use Rattle.toml_layout.specs.PartOutlines.{NoLinesStay, PartedSpells, PartsAreOne};
 ghost use Rattle.toml_layout.specs.RenamedPairs.{PairIsRenamed};
 ghost use Rattle.toml_layout.specs.RenameOutlines.{RenameStaysAside};
 ghost use Rattle.toml_layout.specs.SetOutlines.{SetStaysAside};
@@ -34,4 +35,11 @@ pub fn renamed_pairs()
 pub fn aside()
     ensures set { SetStaysAside }
     ensures rename { RenameStaysAside }
+{}
+
+/// A text has one list of parts; those of a gap that is taken apart spell its text, and no lines are among them.
+pub fn parts()
+    ensures one { PartsAreOne }
+    ensures text { PartedSpells }
+    ensures lines { NoLinesStay }
 {}

@@ -3,6 +3,7 @@
 #![tactic(auto)]
 
 mod changing;
+mod closing;
 mod emptying;
 mod entries;
 mod gaps;

@@ -1,8 +1,4 @@
-use Rattle.std.proofs.Common.{◌∙◌, ap, subst, subst₂, sym}
 use Rattle.toml_layout.specs.Items.{gap_parts, items_of}
-use Rattle.toml_layout.specs.Takings.{IsPartedIf, put_left}
-use Rattle.toml_layout.specs.PartOutlines.{IsParted}
-use Rattle.toml_layout.specs.Gaps.{around}
 use Rattle.toml_layout.proofs.TakenParts.{closes_up}
 use Rattle.toml_layout.proofs.tree.Entries.close_up.Goals as goal
 

@@ -1,4 +1,4 @@
-use Rattle.std.proofs.Common.{◌≡◌, ◌∙◌, ℕ, List, [], ◌∷◌, map, Some, ap, ap₂}
+use Rattle.std.proofs.Common.{◌∙◌, ℕ, List, [], ◌∷◌, map, Some, ap, ap₂}
 use Rattle.toml_layout.proofs.Outlined.{entries_made}
 use Rattle.toml_layout.proofs.tree.Entries.none.Goals as goal
 use Rattle.toml_layout.specs.declared.tree.Entry.{Entry}
