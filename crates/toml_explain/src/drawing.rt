@@ -1,4 +1,6 @@
 //! A line as it is shown, and the carets below what is meant in it.
+ghost use Rattle.std.specs.Prelude.{◌≢◌, IfOk, OnOk, string_bytes};
+ghost use Rattle.toml_explain.specs.Excerpts.{IsDrawn, IsOneLine};
 
 use crate::glyph::{Columns, Glyph, columns_of, glyph_of};
 use bstr::ByteSlice;
@@ -49,7 +51,9 @@ pub(crate) struct Drawing {
 }
 
 impl Drawing {
-    fn new(alloc: Global) -> Drawing {
+    fn new(alloc: Global) -> Drawing
+        ensures { IsDrawn result }
+    {
         Drawing {
             text: String::new(alloc),
             below: String::new(alloc),
@@ -58,7 +62,9 @@ impl Drawing {
     }
 
     /// Adds a character that is not meant: a tab stands below a tab, and nothing behind the last caret.
-    fn push_plain(&mut self, glyph: Glyph) -> Result<(), AllocError> {
+    fn push_plain(&mut self, glyph: Glyph) -> Result<(), AllocError>
+        ensures { OnOk result (glyph.shown ≢ 0x0A → IsDrawn self.old → IsDrawn self.new) }
+    {
         self.text.push(glyph.shown)?;
         if self.marked {
             return Ok(());
@@ -70,7 +76,9 @@ impl Drawing {
     }
 
     /// Adds a character that is meant: carets stand below it, below the first one at least one.
-    fn push_meant(&mut self, glyph: Glyph) -> Result<(), AllocError> {
+    fn push_meant(&mut self, glyph: Glyph) -> Result<(), AllocError>
+        ensures { OnOk result (glyph.shown ≢ 0x0A → IsDrawn self.old → IsDrawn self.new) }
+    {
         self.text.push(glyph.shown)?;
         let is_first = !self.marked;
         self.marked = true;
@@ -85,13 +93,17 @@ impl Drawing {
     }
 
     /// Adds what stands where the line was cut.
-    fn push_cut(&mut self) -> Result<(), AllocError> {
+    fn push_cut(&mut self) -> Result<(), AllocError>
+        ensures { OnOk result (IsDrawn self.old → IsDrawn self.new) }
+    {
         self.text.push_str(CUT)?;
         self.below.push_str(BELOW_CUT)
     }
 
     /// Adds a caret behind the line, where nothing in it is meant.
-    fn close(&mut self) -> Result<(), AllocError> {
+    fn close(&mut self) -> Result<(), AllocError>
+        ensures { OnOk result (IsDrawn self.old → IsDrawn self.new) }
+    {
         if self.marked {
             return Ok(());
         }
@@ -100,7 +112,9 @@ impl Drawing {
 }
 
 /// Adds a character so many times.
-fn push_times(text: &mut String, character: char, times: usize) -> Result<(), AllocError> {
+fn push_times(text: &mut String, character: char, times: usize) -> Result<(), AllocError>
+    ensures { OnOk result (character ≢ 0x0A → IsOneLine (string_bytes text.old) → IsOneLine (string_bytes text.new)) }
+{
     for _ in 0..times {
         text.push(character)?;
     }
@@ -109,7 +123,9 @@ fn push_times(text: &mut String, character: char, times: usize) -> Result<(), Al
 
 /// Draws a line of which the bytes of a span are meant, or one place where the span has none. What stands behind the line is
 /// meant by one caret.
-pub(crate) fn draw(alloc: Global, line: &[u8], meant: Span) -> Result<Drawing, AllocError> {
+pub(crate) fn draw(alloc: Global, line: &[u8], meant: Span) -> Result<Drawing, AllocError>
+    ensures { IfOk result IsDrawn }
+{
     let shown = window_of(columns_of(line, meant.start));
     let mut drawing = Drawing::new(alloc);
     if 0 < shown.first {

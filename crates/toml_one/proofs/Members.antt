@@ -34,19 +34,3 @@ member_puts kinds place found at r is other member = subst (λ f. IsTrue r ↔ P
     back : PutsIn kinds place (Some at) → IsTrue r
     back (inl behind) = absurd (false≢true (sym other ∙ behind))
     back (inr h) = member.1 h
-
--- the edits of a value behind those that make what is missing above
-pub with_parents_is : (parts : List Spot) (ms : List Named) (place : List PlaceStep) (value : List ℕ) (may_set : Bool) (made : Made) (new : List Edit) (edit : Edit)
-    → IsMadeAbove parts ms place made → new ≡ made.edits.items ++ edit ∷ []
-    → change edit ≡ put_at (may_set && is_some made.end.here.part) made.end.at value
-    → IsWithParents may_set (part_kinds parts 0) ms place value (map change new)
-with_parents_is parts ms place value may_set made new edit above grown is =
-    let old = made.edits.items in
-    let there : is_some made.end.here.part ≡ is_some (above.end.kinds []) = part_there parts made.end.here.part above.end.kinds above.reached.stands in
-    let put : change edit ≡ put_at (may_set && is_some (above.end.kinds [])) above.end.at value =
-    is ∙ ap (λ b. put_at (may_set && b) made.end.at value) there ∙ ap (λ a. put_at (may_set && is_some (above.end.kinds [])) a value) above.reached.at in (
-      map change old,
-      above.end,
-      above.makes,
-      ap (map change) grown ∙ map-append change old (edit ∷ []) ∙ ap (λ c. map change old ++ c ∷ []) put,
-    )
