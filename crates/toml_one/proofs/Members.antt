@@ -1,21 +1,15 @@
 -- Where a `set` puts a new value in, and what a value is put behind.
-use Rattle.std.proofs.Common.{◌≡◌, ℕ, Bool, true, false, not, List, [], ◌∷◌, ◌++◌, map, inl, inr, Option, Some, None, sym, refl, ap, ◌∙◌, subst}
-use Rattle.std.specs.Prelude.{IsTrue, ◌↔◌, ◌&&◌, is_some}
+use Rattle.std.proofs.Common.{◌≡◌, ℕ, Bool, true, false, not, List, [], ◌∷◌, inl, inr, Option, Some, None, sym, refl, ap, ◌∙◌, subst}
+use Rattle.std.specs.Prelude.{IsTrue, ◌↔◌, is_some}
 use Rattle.std.proofs.lemmas.Bool.{false≢true}
-use Rattle.std.proofs.lemmas.List.{map-append}
-use Rattle.toml_names.specs.mentions.Mentions.{Named}
 use Rattle.toml_names.specs.model.Addresses.{Address}
 use Rattle.toml_names.specs.model.Data.{Kinds}
-use Rattle.toml_names.specs.reader.Parts.{part_kinds}
 use Rattle.toml_names.specs.tree.Nodes.{Spot}
 use Rattle.toml_places.specs.declared.place.PlaceStep.{PlaceStep}
 use Rattle.toml_places.specs.Parts.{Stands}
-use Rattle.toml_edits.specs.Edits.{Change, change}
-use Rattle.toml_edits.specs.declared.edit.Edit.{Edit}
+use Rattle.toml_edits.specs.Edits.{Change}
 use Rattle.toml_one.specs.Steps.{ends_behind}
-use Rattle.toml_one.specs.Walking.{IsMadeAbove}
-use Rattle.toml_one.specs.Wishes.{IsNewMember, IsSet, IsWithParents, PutsIn, or_nowhere, put_at}
-use Rattle.toml_one.specs.declared.parents.Made.{Made}
+use Rattle.toml_one.specs.Wishes.{IsNewMember, IsSet, PutsIn, or_nowhere, put_at}
 use Rattle.toml_one.proofs.Standing.{part_there}
 
 -- where a part is something stands

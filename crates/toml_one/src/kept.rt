@@ -1,7 +1,7 @@
 //! Edits that are kept up to the first that is refused whatever the data are.
-ghost use Rattle.std.specs.Prelude.{◌≡◌, ◌<◌, ◌↔◌, ◌++◌, [], IsTrue, List, OnOk, length};
+ghost use Rattle.std.specs.Prelude.{◌≡◌, ◌++◌, [], List, OnOk};
 ghost use Rattle.toml_edits.specs.Edits.{Change};
-ghost use Rattle.toml_names.specs.mentions.Rules.{max_steps};
+ghost use Rattle.toml_one.specs.Kept.{is_too_long};
 ghost use Rattle.toml_one.specs.Walking.{IsKept, changes_by};
 
 use crate::missing::Missing;
@@ -53,7 +53,7 @@ impl Kept {
 
 /// Whether the address has more steps than one of a document.
 fn is_too_long(at: &Address) -> bool
-    ensures { IsTrue result ↔ (max_steps < length at.now) }
+    ensures { result ≡ is_too_long at.now }
 {
     at.steps().len() > MAX_STEPS
 }

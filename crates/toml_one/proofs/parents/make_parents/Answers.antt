@@ -1,4 +1,4 @@
-use Rattle.std.proofs.Common.{◌≡◌, ◌∷◌, ◌+◌, drop, sym, subst}
+use Rattle.std.proofs.Common.{◌≡◌, ◌∷◌, ◌+◌, drop, subst}
 use Rattle.toml_names.specs.mentions.Mentions.{named}
 use Rattle.toml_one.specs.Walking.{IsPassed}
 use Rattle.toml_one.proofs.Walked.{Walked, ends, left_is, left_none, rest_is, starts, walks_on}

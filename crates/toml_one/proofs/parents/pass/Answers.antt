@@ -6,5 +6,5 @@ use Rattle.toml_one.proofs.parents.pass.Goals as goal
 
 pub returns-clause-passed : goal.returns-clause-passed
 returns-clause-passed c = λ lines here tree reached.
-    passed c.args.names.now (named lines) c.args.front here reached c.args.step.now c.args.left.now c.args.kept.now c.add.new.kept c.in_ok-to.to c.in_ok-found.found
+    passed c.args.names.now (named lines) c.args.front here reached c.args.step.now c.args.left.now c.args.kept.now c.add.new.self c.in_ok-to.to c.in_ok-found.found
     (option_copied c.first.result) (changes_by c.in_ok-made.made c.in_ok-to.to.at) c.in_ok-found.ensures (c.in_ok-to.ensures.reached lines here tree reached) c.first.ensures.value (c.in_ok-made.ensures c.in_ok-to.to.at) c.in_ok-add.ensures
