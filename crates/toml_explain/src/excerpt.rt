@@ -69,7 +69,8 @@ impl Excerpt {
         push_spaces(&mut self.text, self.width.saturating_sub(label.len()))?;
         self.text.push_str(label)?;
         push_spaces(&mut self.text, self.width.min(1))?;
-        self.text.push_str("| ")
+        self.text.push_str("| ")?;
+        Ok(())
     }
 
     /// Adds a line, and below it the carets, and a word behind these.
@@ -79,8 +80,9 @@ impl Excerpt {
     {
         self.push_front(label)?;
         self.text.push_str(drawing.text.as_str())?;
-        self.text.push('\n')?;
-        self.push_below(drawing, note)
+        self.text.push_str("\n")?;
+        self.push_below(drawing, note)?;
+        Ok(())
     }
 
     /// Adds the carets below a line, and a word behind these.
@@ -90,7 +92,8 @@ impl Excerpt {
         self.push_front("")?;
         self.text.push_str(drawing.below.as_str())?;
         push_note(&mut self.text, note)?;
-        self.text.push('\n')
+        self.text.push_str("\n")?;
+        Ok(())
     }
 
     /// Adds a whole text as one line without a number, and carets below what is meant in it.
@@ -128,7 +131,7 @@ fn push_spaces(text: &mut String, count: usize) -> Result<(), AllocError>
     ensures { OnOk result (string_bytes text.new ≡ string_bytes text.old ++ replicate count 0x20) }
 {
     for i in 0..count {
-        text.push(' ')?;
+        text.push_str(" ")?;
     }
     Ok(())
 }
@@ -140,8 +143,9 @@ fn push_note(text: &mut String, note: &str) -> Result<(), AllocError>
     if note.is_empty() {
         return Ok(());
     }
-    text.push(' ')?;
-    text.push_str(note)
+    text.push_str(" ")?;
+    text.push_str(note)?;
+    Ok(())
 }
 
 /// Draws the line of a text in which a span begins.

@@ -9,7 +9,7 @@ pub(crate) fn with_lines(sentence: String, excerpt: Excerpt) -> Result<String, A
     ensures { IfOk result (λ text. string_bytes text ≡ string_bytes sentence ++ 0x0A ∷ string_bytes excerpt.text) }
 {
     let mut text = sentence;
-    text.push('\n')?;
+    text.push_str("\n")?;
     text.push_str(excerpt.into_text().as_str())?;
     Ok(text)
 }

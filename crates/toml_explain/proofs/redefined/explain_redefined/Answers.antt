@@ -23,4 +23,4 @@ returns-clause-offence c =
 pub returns-clause-clash : goal.returns-clause-clash
 returns-clause-clash c =
     shows_clash string_bytes c.args.profile c.args.file.bytes.now (c.args.line - 1) c.in_ok-redefined.redefined c.in_ok-redefined.ensures.both
-    (string_bytes c.in_ok-lines.lines) c.as_str.result.now c.as_str.ensures c.in_ok-lines.ensures c.opened.result c.opened.ensures.behind
+    (string_bytes c.in_ok-lines.lines) c.as_str.result.now c.as_str.ensures.value c.in_ok-lines.ensures c.opened.result c.opened.ensures.behind
