@@ -1,5 +1,5 @@
 -- The lines that an excerpt shows.
-use Rattle.std.proofs.Common.{◌≡◌, ◌≢◌, ℕ, ◌-◌, ◌==◌, Bool, true, false, List, [], ◌∷◌, ◌++◌, length, Option, Some, None, refl, sym, ap, ◌∙◌, subst, append_assoc, arith}
+use Rattle.std.proofs.Common.{◌≡◌, ℕ, ◌-◌, ◌==◌, true, false, List, [], ◌∷◌, ◌++◌, length, Option, Some, None, refl, sym, ap, ◌∙◌, subst, append_assoc}
 use Rattle.std.specs.Prelude.{IfOk, OnOk, Ok, Err, Result, codes, decimal, min, replicate, string_bytes}
 use Rattle.std.proofs.lemmas.Bool.{cond-false, cond-true, eqb-false, eqb-true}
 use Rattle.std.proofs.lemmas.Option.{none-some}
@@ -9,7 +9,7 @@ use Rattle.toml_mentions.specs.Sought.{Sight, seen_clash, seen_of}
 use Rattle.toml_mentions.specs.declared.redefined.Redefined.{Redefined}
 use Rattle.toml_mentions.specs.declared.seeker.Clash.{Clash}
 use Rattle.toml_explain.specs.Documents.{EndsInFound, ShowsClash}
-use Rattle.toml_explain.specs.Excerpts.{Drawn, EndsInBoth, Gains, GainsCarets, GainsLine, IsDrawn, ShowsBoth, below_line, both_lines, first_defined, labelled, line_number, margin, noted, space_behind}
+use Rattle.toml_explain.specs.Excerpts.{Drawn, EndsInBoth, Gains, GainsCarets, GainsLine, IsDrawn, ShowsBoth, below_line, first_defined, labelled, line_number, margin, noted, space_behind}
 use Rattle.toml_explain.specs.Openings.{EndsIn}
 use Rattle.toml_explain.specs.declared.drawing.Drawing.{Drawing}
 use Rattle.toml_explain.specs.declared.excerpt.Excerpt.{Excerpt}
@@ -81,7 +81,7 @@ module _ (bytes : List ℕ) (first again : ℕ) (start one done : Excerpt) (empt
         gains.0,
         c,
         more.text ∙ (λ i. shown i ++ below_line (width i) c.carets first_defined)
-        ∙ ap (λ l. labelled (length (decimal (line_number bytes again))) (decimal (line_number bytes again)) gains.0.line gains.0.carets [] ++ l) (sym (cond-true _ _ _ same)),
+            ∙ ap (λ l. labelled (length (decimal (line_number bytes again))) (decimal (line_number bytes again)) gains.0.line gains.0.carets [] ++ l) (sym (cond-true _ _ _ same)),
       )
 
   pub both_in_two : GainsLine start one bytes again [] → GainsLine one done bytes first first_defined → (line_number bytes first == line_number bytes again) ≡ false → ShowsBoth bytes first again (string_bytes done.text)
@@ -91,7 +91,7 @@ module _ (bytes : List ℕ) (first again : ℕ) (start one done : Excerpt) (empt
         gains.0,
         c,
         more.text ∙ (λ i. shown i ++ labelled (width i) (decimal (line_number bytes first)) c.line c.carets first_defined)
-        ∙ ap (λ l. labelled (length (decimal (line_number bytes again))) (decimal (line_number bytes again)) gains.0.line gains.0.carets [] ++ l) (sym (cond-false _ _ _ other)),
+            ∙ ap (λ l. labelled (length (decimal (line_number bytes again))) (decimal (line_number bytes again)) gains.0.line gains.0.carets [] ++ l) (sym (cond-false _ _ _ other)),
       )
 
 -- behind a sentence

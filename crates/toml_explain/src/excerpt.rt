@@ -108,7 +108,11 @@ impl Excerpt {
     {
         let mut digits = Buffer::new();
         let drawing = line_drawing(self.alloc, bytes, meant)?;
-        self.push(digits.format(line_number(bytes, meant.start)), &drawing, note)
+        self.push(
+            digits.format(line_number(bytes, meant.start)),
+            &drawing,
+            note,
+        )
     }
 
     /// Adds the line of a text without its number.

@@ -1,3 +1,4 @@
+use Rattle.std.proofs.Common.{arith}
 use Rattle.std.specs.Prelude.{string_bytes}
 use Rattle.toml_explain.proofs.Opened.{byte_as, key_as, length_as, twice_as}
 use Rattle.toml_explain.proofs.document.explain_document.Goals as goal
@@ -19,5 +20,5 @@ returns-in-203 c =
 
 pub returns-in_default : goal.returns-in_default
 returns-in_default c =
-    byte_as string_bytes c.args.file.word.now c.args.file.bytes.now c.args.profile c.args.code c.args.place c.explain_byte.result c.in_default.not-102 c.in_default.not-201 c.in_default.not-203
+    byte_as string_bytes c.args.file.word.now c.args.file.bytes.now c.args.profile c.args.code c.args.place c.explain_byte.result (λ e. omega (arith, e)) (λ e. omega (arith, e)) (λ e. omega (arith, e))
     c.explain_byte.ensures.file c.explain_byte.ensures.byte

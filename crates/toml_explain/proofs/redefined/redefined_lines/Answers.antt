@@ -10,7 +10,7 @@ returns-in_default c = nothing_found string_bytes c.args.bytes.now c.args.redefi
 
 pub returns-in_default-clash : goal.returns-in_default-clash
 returns-in_default-clash c =
-    nothing_found string_bytes c.args.bytes.now c.args.redefined.now c.line_alone.result (ap found_clash c.in-Some.is ∙ ap seen_clash c.in_default-clash.is)
+    nothing_found string_bytes c.args.bytes.now c.args.redefined.now c.line_alone-in_default-clash.result (ap found_clash c.in-Some.is ∙ ap seen_clash c.in_default-clash.is)
 
 pub returns : goal.returns
 returns c =

@@ -1,4 +1,3 @@
-use Rattle.std.specs.Prelude.{string_bytes}
 use Rattle.toml_explain.proofs.ShownLines.{gains_line}
 use Rattle.toml_explain.proofs.excerpt.Excerpt.push_line.Goals as goal
 

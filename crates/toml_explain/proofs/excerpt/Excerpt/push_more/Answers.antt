@@ -1,4 +1,3 @@
-use Rattle.std.specs.Prelude.{string_bytes}
 use Rattle.toml_explain.proofs.ShownLines.{gains_carets}
 use Rattle.toml_explain.proofs.excerpt.Excerpt.push_more.Goals as goal
 
