@@ -1,14 +1,11 @@
 -- Key parts stand in the expression of their line.
-use Rattle.std.proofs.Common.{◌≡◌, ◌⊎◌, inl, inr, ◌≤◌, ◌+◌, ℕ, zero, suc, List, [], ◌∷◌, ◌++◌, length, drop, Option, Some, refl, sym, ap, ◌∙◌, subst, arith, length-append}
+use Rattle.std.proofs.Common.{◌≡◌, ◌⊎◌, inl, inr, ◌≤◌, ◌+◌, ℕ, zero, suc, List, [], ◌∷◌, ◌++◌, length, Some, refl, subst, arith, length-append}
 use Rattle.std.specs.Prelude.{slice_get}
 use Rattle.std.proofs.lemmas.Option.{none-some}
-use Rattle.toml_tree.specs.HandedOut.{AreLinesIn}
 use Rattle.toml_tree.specs.Inner.{ExprSpellsItself}
 use Rattle.toml_tree.specs.Pieces.{expr_start}
-use Rattle.toml_tree.specs.Spells.{EachIs, Part, Placed, StartsAt, all_parts, array_header_parts, assign_parts, blank_parts, dotted_parts, equals_parts, expr_parts, gap_parts, header_parts, items_parts, joined, key_parts, keyval_parts, mark_of, pairs_parts, part_text, piece, symbol, value_parts}
-use Rattle.toml_tree.specs.Tree.{Piece, Dotted, Key, Assign, Value, Scalar, Array, Inline, Items, Close, Last, More, Pairs, ClosePairs, LastPair, MorePairs, Header, Expr, BlankLine, KeyValLine, TableLine, ArrayTableLine, Line}
-use Rattle.toml_tree.specs.declared.profile.Profile.{Profile}
-use Rattle.toml_tree.proofs.Proved.{lines_inside}
+use Rattle.toml_tree.specs.Spells.{EachIs, Part, Placed, StartsAt, all_parts, array_header_parts, assign_parts, blank_parts, dotted_parts, equals_parts, expr_parts, gap_parts, header_parts, items_parts, joined, key_parts, keyval_parts, pairs_parts, part_text, piece, symbol, value_parts}
+use Rattle.toml_tree.specs.Tree.{Piece, Dotted, Key, Assign, Value, Scalar, Array, Inline, Items, Close, Last, More, Pairs, ClosePairs, LastPair, MorePairs, Header, Expr, BlankLine, KeyValLine, TableLine, ArrayTableLine}
 use Rattle.toml_units.specs.Ends.{expr_end}
 use Rattle.toml_units.proofs.Proved.{line_ends}
 use Rattle.toml_mentions.specs.Mentioned.{item_pieces, key_pieces, last_part, mention_pieces, pair_pieces, parts_behind, value_pieces}

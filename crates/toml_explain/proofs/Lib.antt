@@ -3,3 +3,5 @@ pub mod Lines
 pub mod Opened
 pub mod Members
 pub mod Shown
+pub mod OneLine
+pub mod ShownLines

@@ -6,8 +6,8 @@ use Rattle.toml_text.specs.Positions.{IsPosition}
 use Rattle.toml_tree.specs.Tree.{Piece}
 use Rattle.toml_tree.specs.declared.profile.Profile.{Profile}
 use Rattle.toml_mentions.specs.Mentioned.{StandsForOffence}
-use Rattle.toml_explain.specs.Documents.{AreSpansAt, AreSpansOf, HasLine, OpensAs, OpensAtKey, OpensAtOffence, OpensInLine, OpensTwice}
-use Rattle.toml_explain.specs.Openings.{OpensAt, OpensBare, OpensInFile, opening, bare_opening}
+use Rattle.toml_explain.specs.Documents.{AreSpansAt, AreSpansOf, HasLine, OpensAs, OpensAtKey, OpensAtOffence, OpensInLine, ShowsClash}
+use Rattle.toml_explain.specs.Openings.{EndsIn, OpensAt, OpensBare, OpensInFile, opening, bare_opening}
 use Rattle.toml_explain.specs.declared.spans.LineSpans.{LineSpans}
 use Rattle.toml_explain.proofs.Lines.{ends_behind, part_held}
 
@@ -15,6 +15,10 @@ module _ {S E : Type 0} (f : S → List ℕ) (word rest : List ℕ) where
   pub opens_at : (bytes : List ℕ) (at : ℕ) (p : Position) (r : Result S E) → IsPosition bytes (min at (length bytes)) p → IfOk r (λ t. f t ≡ opening word p ++ rest) → IfOk r (λ t. OpensAt word bytes at (f t))
   opens_at bytes at p (Ok t) is e = record { position = p; exact = is; rest = rest; begins = e }
   opens_at bytes at p (Err d) is e = tt
+
+  pub ends_in : (p : Position) (r : Result S E) → IfOk r (λ t. f t ≡ opening word p ++ rest) → IfOk r (λ t. EndsIn rest (f t))
+  ends_in p (Ok t) e = (opening word p, e)
+  ends_in p (Err d) e = tt
 
   pub bare_opens : (r : Result S E) → IfOk r (λ t. f t ≡ bare_opening word ++ rest) → IfOk r (λ t. OpensBare word (f t))
   bare_opens (Ok t) e = record { rest = rest; begins = e }
@@ -31,12 +35,47 @@ module _ {S E : Type 0} (f : S → List ℕ) (word bytes : List ℕ) where
   bare_in_file (Err d) opens = tt
 
   -- by the code of a refusal
-  pub opens_as : (profile : Profile) (code place : ℕ) (r : Result S E) → IfOk r (λ t. OpensInFile word bytes (f t))
-      → (code ≢ 102 → code ≢ 201 → code ≢ 203 → IfOk r (λ t. OpensAt word bytes place (f t))) → (code ≡ 102 → IfOk r (λ t. OpensBare word (f t)))
-      → (code ≡ 201 → IfOk r (λ t. OpensTwice profile word bytes (place - 1) (f t))) → (code ≡ 203 → IfOk r (λ t. OpensAtKey profile word bytes (place - 1) (f t)))
-      → IfOk r (λ t. OpensAs profile word bytes code place (f t))
-  opens_as profile code place (Ok t) file byte long twice key = record { file = file; byte = byte; long = long; twice = twice; key = key }
-  opens_as profile code place (Err d) file byte long twice key = tt
+  module _ (profile : Profile) (code place : ℕ) where
+    pub length_as : (r : Result S E) → code ≡ 102 → IfOk r (λ t. OpensInFile word bytes (f t)) → IfOk r (λ t. OpensBare word (f t)) → IfOk r (λ t. OpensAs profile word bytes code place (f t))
+    length_as (Ok t) is file bare = record {
+      file = file;
+      byte = λ other _ _. absurd (other is);
+      long = λ _. bare;
+      twice = λ e. let no : ⊥ = omega (arith, is, e) in absurd no;
+      key = λ e. let no : ⊥ = omega (arith, is, e) in absurd no;
+    }
+    length_as (Err d) is file bare = tt
+
+    pub twice_as : (r : Result S E) → code ≡ 201 → IfOk r (λ t. OpensInFile word bytes (f t)) → IfOk r (λ t. OpensInLine profile word bytes (place - 1) (f t))
+        → IfOk r (λ t. OpensAtOffence profile word bytes (place - 1) (f t)) → IfOk r (λ t. ShowsClash profile bytes (place - 1) (f t)) → IfOk r (λ t. OpensAs profile word bytes code place (f t))
+    twice_as (Ok t) is file inside offence clash = record {
+      file = file;
+      byte = λ _ other _. absurd (other is);
+      long = λ e. let no : ⊥ = omega (arith, is, e) in absurd no;
+      twice = λ _. record { inside = inside; offence = offence; clash = clash };
+      key = λ e. let no : ⊥ = omega (arith, is, e) in absurd no;
+    }
+    twice_as (Err d) is file inside offence clash = tt
+
+    pub key_as : (r : Result S E) → code ≡ 203 → IfOk r (λ t. OpensInFile word bytes (f t)) → IfOk r (λ t. OpensAtKey profile word bytes (place - 1) (f t)) → IfOk r (λ t. OpensAs profile word bytes code place (f t))
+    key_as (Ok t) is file key = record {
+      file = file;
+      byte = λ _ _ other. absurd (other is);
+      long = λ e. let no : ⊥ = omega (arith, is, e) in absurd no;
+      twice = λ e. let no : ⊥ = omega (arith, is, e) in absurd no;
+      key = λ _. key;
+    }
+    key_as (Err d) is file key = tt
+
+    pub byte_as : (r : Result S E) → code ≢ 102 → code ≢ 201 → code ≢ 203 → IfOk r (λ t. OpensInFile word bytes (f t)) → IfOk r (λ t. OpensAt word bytes place (f t)) → IfOk r (λ t. OpensAs profile word bytes code place (f t))
+    byte_as (Ok t) long twice key file opens = record {
+      file = file;
+      byte = λ _ _ _. opens;
+      long = λ e. absurd (long e);
+      twice = λ e. absurd (twice e);
+      key = λ e. absurd (key e);
+    }
+    byte_as (Err d) long twice key file opens = tt
 
 -- at the key of a line, and in a line
 module _ (profile : Profile) (word bytes : List ℕ) (number : ℕ) (s : LineSpans) (are : AreSpansAt profile bytes number s) where

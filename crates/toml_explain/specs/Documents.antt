@@ -9,8 +9,12 @@ use Rattle.toml_tree.specs.declared.line_reader.LineReader.{LineReader}
 use Rattle.toml_tree.specs.declared.profile.Profile.{Profile}
 use Rattle.toml_names.specs.reader.Texts.{AreLeft, more_left}
 use Rattle.toml_mentions.specs.Mentioned.{StandsForOffence}
+use Rattle.toml_mentions.specs.Redefined.{AreClashing, found_clash}
+use Rattle.toml_mentions.specs.Sought.{Sight}
+use Rattle.toml_mentions.specs.declared.redefined.Redefined.{Redefined}
 use Rattle.toml_units.specs.Ends.{expr_end}
 use Rattle.toml_explain.specs.declared.spans.LineSpans.{LineSpans}
+use Rattle.toml_explain.specs.Excerpts.{EndsInBoth}
 use Rattle.toml_explain.specs.Openings.{OpensAt, OpensBare, OpensInFile}
 
 -- the line of a text of the profile that has the number, from 0
@@ -45,8 +49,19 @@ OpensInLine profile word bytes number text = (l : Line) → HasLine profile byte
 abbrev pub OpensAtOffence : Profile → List ℕ → List ℕ → ℕ → List ℕ → Type 0
 OpensAtOffence profile word bytes number text = (p : Piece) → StandsForOffence profile bytes number p → OpensAt word bytes p.start text
 
-abbrev pub OpensTwice : Profile → List ℕ → List ℕ → ℕ → List ℕ → Type 0
-OpensTwice profile word bytes number text = OpensInLine profile word bytes number text × OpensAtOffence profile word bytes number text
+-- It ends in the line of that mention, and in that of the earliest mention which forbids it, below which that is said.
+abbrev pub ShowsClash : Profile → List ℕ → ℕ → List ℕ → Type 0
+ShowsClash profile bytes number text = (first again : Sight) → AreClashing profile bytes number first again → EndsInBoth bytes first.span.start again.span.start text
+
+-- the same of the two mentions that were found
+abbrev pub EndsInFound : List ℕ → Option Redefined → List ℕ → Type 0
+EndsInFound bytes found text = (first again : Sight) → found_clash found ≡ Some (first, again) → EndsInBoth bytes first.span.start again.span.start text
+
+-- what is told of a name that is defined again in that line
+pub record OpensTwice (profile : Profile) (word bytes : List ℕ) (number : ℕ) (text : List ℕ) : Type 0 where
+  pub inside : OpensInLine profile word bytes number text
+  pub offence : OpensAtOffence profile word bytes number text
+  pub clash : ShowsClash profile bytes number text
 
 -- The text begins as the code and the place of a refusal ask: with the line and the column of the byte; with the word alone, of a text that
 -- is too long; with those of the key part whose mention breaks the rules, in the line, of a name that is defined again; with those of the

@@ -1,3 +1,4 @@
 pub mod Openings
+pub mod Excerpts
 pub mod Documents
 pub mod Reasons

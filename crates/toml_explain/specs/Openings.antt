@@ -28,6 +28,10 @@ pub record OpensBare (word text : List ℕ) : Type 0 where
   pub rest : List ℕ
   pub begins : text ≡ bare_opening word ++ rest
 
+-- the text ends with these bytes
+abbrev pub EndsIn : List ℕ → List ℕ → Type 0
+EndsIn rest text = (front : List ℕ) × (text ≡ front ++ rest)
+
 -- a character as it is shown in front of a line: `?` for U+FEFF and a control character that is no tab
 abbrev pub shown_character : ℕ → ℕ
 shown_character c =

@@ -1,6 +1,6 @@
 //! Why bytes are no document.
-ghost use Rattle.std.specs.Prelude.{◌≡◌, ◌≢◌, ◌-◌, IfOk, string_bytes};
-ghost use Rattle.toml_explain.specs.Documents.{OpensAs, OpensAtKey, OpensTwice};
+ghost use Rattle.std.specs.Prelude.{IfOk, string_bytes};
+ghost use Rattle.toml_explain.specs.Documents.{OpensAs};
 ghost use Rattle.toml_explain.specs.Openings.{OpensAt, OpensBare, OpensInFile};
 
 use crate::excerpt::{Excerpt, line_number};
@@ -15,7 +15,7 @@ use toml_tree::Profile;
 
 /// The sentence of a refusal whose place is a byte, and the line.
 fn byte_lines(alloc: Global, bytes: &[u8], code: u16, at: usize) -> Result<String, AllocError> {
-    let mut excerpt = Excerpt::new(alloc, line_number(bytes, at))?;
+    let mut excerpt = Excerpt::new(alloc, line_number(bytes, at));
     excerpt.push_line(bytes, meant_at(bytes, code, at), "")?;
     with_lines(byte_sentence(alloc, bytes, code, at)?, excerpt)
 }
@@ -67,23 +67,6 @@ pub fn explain_document(
     place: usize,
 ) -> Result<String, AllocError>
     ensures { IfOk result (λ text. OpensAs profile file.entry.word.now file.entry.bytes.now code place (string_bytes text)) }
-{
-    document_text(alloc, file, profile, code, place)
-}
-
-/// What is said of a text that is no document, code by code.
-fn document_text(
-    alloc: Global,
-    file: Input<'_>,
-    profile: Profile,
-    code: u16,
-    place: usize,
-) -> Result<String, AllocError>
-    ensures file { IfOk result (λ text. OpensInFile file.entry.word.now file.entry.bytes.now (string_bytes text)) }
-    ensures byte { code ≢ 102 → code ≢ 201 → code ≢ 203 → IfOk result (λ text. OpensAt file.entry.word.now file.entry.bytes.now place (string_bytes text)) }
-    ensures length { code ≡ 102 → IfOk result (λ text. OpensBare file.entry.word.now (string_bytes text)) }
-    ensures twice { code ≡ 201 → IfOk result (λ text. OpensTwice profile file.entry.word.now file.entry.bytes.now (place - 1) (string_bytes text)) }
-    ensures key { code ≡ 203 → IfOk result (λ text. OpensAtKey profile file.entry.word.now file.entry.bytes.now (place - 1) (string_bytes text)) }
 {
     match code {
         102 => explain_length(alloc, file),

@@ -170,7 +170,7 @@ fn explain_value(
     ensures { IfOk result (λ text. OpensInFile file.entry.word.now file.entry.bytes.now (string_bytes text)) }
 {
     let flaw = flaw_of(alloc, value, profile)?;
-    let mut excerpt = excerpt_at(alloc, file.bytes, spot)?;
+    let mut excerpt = excerpt_at(alloc, file.bytes, spot);
     if let Some(span) = spot {
         excerpt.push_line(file.bytes, span, "")?;
     }

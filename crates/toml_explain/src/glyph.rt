@@ -1,4 +1,5 @@
 //! What the characters of a line are shown as, and how many columns they take.
+ghost use Rattle.std.specs.Prelude.{◌≢◌};
 
 use bstr::ByteSlice;
 use unicode_width::UnicodeWidthChar;
@@ -36,7 +37,9 @@ pub(crate) fn glyph_of(
     end: usize,
     character: char,
     column: usize,
-) -> Glyph {
+) -> Glyph
+    ensures { result.shown ≢ 0x0A }
+{
     if character == '\t' {
         return Glyph {
             shown: character,

@@ -1,6 +1,6 @@
 //! With what an explanation begins.
 ghost use Rattle.std.specs.Prelude.{◌≡◌, ◌++◌, IfOk, string_bytes};
-ghost use Rattle.toml_explain.specs.Openings.{OpensAt, OpensBare, OpensInFile, bare_opening, opening, place_opening};
+ghost use Rattle.toml_explain.specs.Openings.{EndsIn, OpensAt, OpensBare, OpensInFile, bare_opening, opening, place_opening};
 
 use crate::input::Input;
 use itoa::Buffer;
@@ -31,6 +31,7 @@ pub(crate) fn opened(
 ) -> Result<String, AllocError>
     ensures file { IfOk result (λ text. OpensInFile file.entry.word.now file.entry.bytes.now (string_bytes text)) }
     ensures position { IfOk result (λ text. OpensAt file.entry.word.now file.entry.bytes.now at (string_bytes text)) }
+    ensures behind { IfOk result (λ text. EndsIn rest.now (string_bytes text)) }
 {
     let place = position(file.bytes, at.min(file.bytes.len()));
     positioned(alloc, file.word, place, rest)

@@ -1,6 +1,7 @@
 //! Names that are defined twice (201), and addresses that are too long (203).
 ghost use Rattle.std.specs.Prelude.{◌≡◌, ◌≤◌, ◌-◌, IfOk, max, min, string_bytes};
-ghost use Rattle.toml_explain.specs.Documents.{OpensAtKey, OpensAtOffence, OpensInLine};
+ghost use Rattle.toml_explain.specs.Documents.{EndsInFound, OpensAtKey, OpensAtOffence, OpensInLine, ShowsClash};
+ghost use Rattle.toml_explain.specs.Excerpts.{ShowsBoth};
 ghost use Rattle.toml_explain.specs.Openings.{OpensInFile};
 
 use crate::excerpt::{Excerpt, line_number};
@@ -32,7 +33,7 @@ pub(crate) fn explain_long(
 
 /// The sentence of an address of too many steps, and the line of its key.
 fn long_lines(alloc: Global, bytes: &[u8], key: Span) -> Result<String, AllocError> {
-    let mut excerpt = Excerpt::new(alloc, line_number(bytes, key.start))?;
+    let mut excerpt = Excerpt::new(alloc, line_number(bytes, key.start));
     excerpt.push_line(bytes, key, "")?;
     let sentence = "an address has at most 100 steps, and this line makes a longer one";
     with_lines(String::from_str(alloc, sentence)?, excerpt)
@@ -62,16 +63,18 @@ fn redefined_sentence(
 const FIRST: &str = "first defined here";
 
 /// The line of the mention that may not be, and that of the earliest mention that forbids it.
-fn clash_lines(alloc: Global, bytes: &[u8], clash: Clash) -> Result<Excerpt, AllocError> {
+fn clash_lines(alloc: Global, bytes: &[u8], clash: Clash) -> Result<Excerpt, AllocError>
+    ensures { IfOk result (λ e. ShowsBoth bytes.now clash.first.span.start clash.again.span.start (string_bytes e.text)) }
+{
     let (first, again) = (clash.first.span, clash.again.span);
     let number = line_number(bytes, again.start);
-    let mut excerpt = Excerpt::new(alloc, number)?;
+    let mut excerpt = Excerpt::new(alloc, number);
     excerpt.push_line(bytes, again, "")?;
     if line_number(bytes, first.start) == number {
         excerpt.push_more(bytes, first, FIRST)?;
-    } else {
-        excerpt.push_line(bytes, first, FIRST)?;
+        return Ok(excerpt);
     }
+    excerpt.push_line(bytes, first, FIRST)?;
     Ok(excerpt)
 }
 
@@ -81,14 +84,22 @@ fn redefined_lines(
     bytes: &[u8],
     redefined: &Option<Redefined>,
     line: Span,
-) -> Result<String, AllocError> {
-    if let Some(twice) = redefined {
-        if let Some(clash) = twice.clash {
-            let sentence = redefined_sentence(alloc, twice, clash)?;
-            return with_lines(sentence, clash_lines(alloc, bytes, clash)?);
-        }
-    }
-    let mut excerpt = Excerpt::new(alloc, line_number(bytes, line.start))?;
+) -> Result<String, AllocError>
+    ensures { IfOk result (λ text. EndsInFound bytes.now redefined.now (string_bytes text)) }
+{
+    let Some(twice) = redefined else {
+        return line_alone(alloc, bytes, line);
+    };
+    let Some(clash) = twice.clash else {
+        return line_alone(alloc, bytes, line);
+    };
+    let sentence = redefined_sentence(alloc, twice, clash)?;
+    with_lines(sentence, clash_lines(alloc, bytes, clash)?)
+}
+
+/// What is said of a line in which something is defined twice, wherever that is.
+fn line_alone(alloc: Global, bytes: &[u8], line: Span) -> Result<String, AllocError> {
+    let mut excerpt = Excerpt::new(alloc, line_number(bytes, line.start));
     excerpt.push_line(bytes, line, "")?;
     let sentence = String::from_str(alloc, "a name in this line is defined already")?;
     with_lines(sentence, excerpt)
@@ -105,6 +116,7 @@ pub(crate) fn explain_redefined(
     ensures file { IfOk result (λ text. OpensInFile file.entry.word.now file.entry.bytes.now (string_bytes text)) }
     ensures line { IfOk result (λ text. OpensInLine profile file.entry.word.now file.entry.bytes.now (line - 1) (string_bytes text)) }
     ensures offence { IfOk result (λ text. OpensAtOffence profile file.entry.word.now file.entry.bytes.now (line - 1) (string_bytes text)) }
+    ensures clash { IfOk result (λ text. ShowsClash profile file.entry.bytes.now (line - 1) (string_bytes text)) }
 {
     let spans = spans_at(alloc, file.bytes, profile, line.saturating_sub(1))?;
     let redefined = find_redefined(alloc, file.bytes, profile)?;

@@ -12,14 +12,10 @@ use toml_text::{Source, Span};
 use toml_tree::Profile;
 
 /// No line, with room for the number of the line in which a span of the bytes begins.
-pub(crate) fn excerpt_at(
-    alloc: Global,
-    bytes: &[u8],
-    spot: Option<Span>,
-) -> Result<Excerpt, AllocError> {
+pub(crate) fn excerpt_at(alloc: Global, bytes: &[u8], spot: Option<Span>) -> Excerpt {
     match spot {
         Some(span) => Excerpt::new(alloc, line_number(bytes, span.start)),
-        None => Ok(Excerpt::unnumbered(alloc)),
+        None => Excerpt::unnumbered(alloc),
     }
 }
 
@@ -49,7 +45,7 @@ pub(crate) fn told_at(
 ) -> Result<String, AllocError>
     ensures { IfOk result (λ text. OpensInFile file.entry.word.now file.entry.bytes.now (string_bytes text)) }
 {
-    let mut excerpt = excerpt_at(alloc, file.bytes, spot)?;
+    let mut excerpt = excerpt_at(alloc, file.bytes, spot);
     if let Some(span) = spot {
         excerpt.push_line(file.bytes, span, "")?;
     }

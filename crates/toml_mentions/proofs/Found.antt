@@ -12,7 +12,7 @@ use Rattle.toml_tree.specs.Tree.{Piece, Line}
 use Rattle.toml_tree.specs.declared.profile.Profile.{Profile}
 use Rattle.toml_names.specs.model.Addresses.{Address}
 use Rattle.toml_mentions.specs.Mentioned.{StandsForOffence}
-use Rattle.toml_mentions.specs.Redefined.{JudgedAt}
+use Rattle.toml_mentions.specs.Redefined.{AreClashing, JudgedAt}
 use Rattle.toml_mentions.specs.Sought.{Sight, all_parts, first_clash, seen_clash, sights}
 use Rattle.toml_mentions.specs.declared.seeker.Clash.{Clash}
 use Rattle.toml_mentions.proofs.Clashes.{offence_is_clash}
@@ -39,4 +39,18 @@ finds profile bytes text is found judged address address_is clash sought number 
 
 pub finds_none : (profile : Profile) (bytes text : List ℕ) → text ≡ bytes → JudgedAt profile text None → (number : ℕ) (p : Piece) → StandsForOffence profile bytes number p → ⊥
 finds_none profile bytes text is judged number p h =
+    none-some h.at (judged h.lines number h.at (subst (λ t. AreLinesIn profile t h.lines) (sym is) h.are) h.redefined)
+
+-- the two mentions of which the second is refused
+pub finds_both : (profile : Profile) (bytes text : List ℕ) → text ≡ bytes → (found : Option Address) → JudgedAt profile text found → (address : Address) → found ≡ Some address → (clash : Option Clash)
+    → ((lines : List Line) → AreLinesIn profile text lines → seen_clash clash ≡ first_clash (sights address (all_parts lines)))
+    → (number : ℕ) (first again : Sight) → AreClashing profile bytes number first again → seen_clash clash ≡ Some (first, again)
+finds_both profile bytes text is found judged address address_is clash sought number first again h =
+    let are : AreLinesIn profile text h.lines = subst (λ t. AreLinesIn profile t h.lines) (sym is) h.are in
+    let at_is : Some address ≡ Some h.at = sym address_is ∙ judged h.lines number h.at are h.redefined in
+    let same : address ≡ h.at = cc in
+    sought h.lines are ∙ (ap (λ a. first_clash (sights a (all_parts h.lines))) same ∙ h.clash)
+
+pub none_clash : (profile : Profile) (bytes text : List ℕ) → text ≡ bytes → JudgedAt profile text None → (number : ℕ) (first again : Sight) → AreClashing profile bytes number first again → ⊥
+none_clash profile bytes text is judged number first again h =
     none-some h.at (judged h.lines number h.at (subst (λ t. AreLinesIn profile t h.lines) (sym is) h.are) h.redefined)

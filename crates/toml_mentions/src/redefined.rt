@@ -1,7 +1,7 @@
 //! Names that are defined again.
 ghost use Rattle.std.specs.Prelude.{◌≡◌, IfOk, OnOk};
 ghost use Rattle.toml_text.specs.Source.{text_of};
-ghost use Rattle.toml_mentions.specs.Redefined.{FindsClash, FindsOffence, JudgedAt, address_told, again_start};
+ghost use Rattle.toml_mentions.specs.Redefined.{FindsBoth, FindsClash, FindsOffence, JudgedAt, address_told, again_start};
 ghost use Rattle.toml_names.specs.reader.Texts.{IsOfMemory};
 
 use crate::seeker::Clash;
@@ -37,6 +37,7 @@ pub fn find_redefined(
 ) -> Result<Option<Redefined>, AllocError>
     ensures offence { IfOk result (FindsOffence profile bytes.now) }
     ensures clash { IfOk result (FindsClash profile bytes.now) }
+    ensures both { IfOk result (FindsBoth profile bytes.now) }
 {
     let Ok(source) = Source::new(bytes) else {
         return Ok(None);

@@ -1,4 +1,5 @@
 pub mod Steps
+pub mod Kept
 pub mod Parents
 pub mod Walking
 pub mod Wishes
