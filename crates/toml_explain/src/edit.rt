@@ -59,6 +59,15 @@ fn outside(edit: &Edit) -> &'static str {
     }
 }
 
+/// The text has no one place for the edit.
+fn spread(edit: &Edit) -> &'static str {
+    match edit {
+        Edit::Insert { .. } => "headers make the elements of the array, and no values",
+        Edit::Section { .. } | Edit::Element { .. } => "no header can stand in a value",
+        _ => "headers or dotted keys make what stands there, and no single value",
+    }
+}
+
 /// The rule that an edit breaks, by the code.
 fn edit_rule(edit: &Edit, code: u16) -> &'static str {
     match code {
@@ -71,7 +80,7 @@ fn edit_rule(edit: &Edit, code: u16) -> &'static str {
         304 => outside(edit),
         305 => "an element of an array has no name",
         306 => "the value is none of TOML",
-        307 => "headers or dotted keys make what stands there, and no single value",
+        307 => spread(edit),
         308 => "it is the only element of an array of tables, which would vanish",
         310 => "the root itself can't be edited",
         312 => "an address has at most 100 steps, and the result would have a longer one",
