@@ -8,8 +8,8 @@ use Rattle.toml_working.specs.Starting.{read_of}
 use Rattle.toml_layout.specs.TreeOutlines.{value_outline}
 use Rattle.toml_editor.proofs.making.write_insert.Goals as goal
 
-pub returns-in_ok-parent-in-Some-clause-insert : goal.returns-in_ok-parent-in-Some-clause-insert
-returns-in_ok-parent-in-Some-clause-insert c =
+pub returns-in_ok-named-in-Some-clause-insert : goal.returns-in_ok-named-in-Some-clause-insert
+returns-in_ok-named-in-Some-clause-insert c =
     let old = c.args.tree.now in
     let (w, of_text, outlined) = subst (OpensText c.args.read.profile c.args.value.now) c.in-Some.is c.in_ok-new.ensures in
     on_ok_weaker c.insert.result

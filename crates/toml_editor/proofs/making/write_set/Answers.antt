@@ -8,8 +8,8 @@ use Rattle.toml_working.specs.Stands.{SetsLines}
 use Rattle.toml_layout.specs.TreeOutlines.{value_outline}
 use Rattle.toml_editor.proofs.making.write_set.Goals as goal
 
-pub returns-in-Some-clause-set : goal.returns-in-Some-clause-set
-returns-in-Some-clause-set c =
+pub returns-in_ok-named-in-Some-clause-set : goal.returns-in_ok-named-in-Some-clause-set
+returns-in_ok-named-in-Some-clause-set c =
     let old = c.args.tree.now in
     let (w, of_text, outlined) = subst (OpensText c.args.read.profile c.args.value.now) c.in-Some.is c.in_ok-new.ensures in
     IfOk-weaker c.set.result _ _
