@@ -8,6 +8,5 @@ pub mod Edited
 pub mod Applied
 pub mod Asked
 pub mod Said
-pub mod FirstEdits
 pub mod Wishing
 mod PlainPrinted

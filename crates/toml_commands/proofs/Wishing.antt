@@ -6,18 +6,16 @@ use Rattle.std.specs.declared.alloc.AllocError.{AllocError}
 use Rattle.toml_tree.specs.declared.profile.Profile.{Profile}
 use Rattle.toml_edits.specs.Edits.{Change}
 use Rattle.toml_units.specs.Certificates.{certificate_of}
-use Rattle.toml_editor.specs.Edited.{IsEditedWith, TellsWith}
+use Rattle.toml_editor.specs.Edited.{IsEditedWith}
 use Rattle.toml_layout.specs.declared.layout.Layout.{Layout}
 use Rattle.toml_places.specs.declared.place.PlaceStep.{PlaceStep}
 use Rattle.toml_places.specs.Reads.{IsPlace}
-use Rattle.toml_one.specs.Kept.{Keeps}
 use Rattle.toml_one.specs.Wishes.{Wished}
 use Rattle.toml_commands.specs.Edit.{IsUnmade}
 use Rattle.toml_commands.specs.One.{AreWished, IsMadeAt, IsUnmadeAt, MakesWish}
 use Rattle.toml_delivery.specs.Outcomes.{Answers, Ends, Gives, IsGood, Tells, texts_of}
 use Rattle.toml_commands.specs.Refusals.{IsRefused}
 use Rattle.toml_commands.specs.Get.{IsBadPlace}
-use Rattle.toml_commands.proofs.FirstEdits.{kept_made, kept_tell}
 use Rattle.toml_delivery.specs.declared.ending.Ending.{Ending}
 use Rattle.toml_delivery.specs.declared.ending.Ending.TheVariants.{Refused, NoMemory}
 use Rattle.toml_delivery.specs.declared.outcome.Answer.{Answer}
@@ -34,16 +32,9 @@ module _ (layout : Layout) (profile : Profile) (before place : List ℕ) (wish :
     no_document (Refused r) is = inr (inl (steps, spelled, is))
     no_document NoMemory is = tt
 
-    module _ (cs : List Change) (wished : Keeps (AreWished profile before steps wish) cs) where
-      tells_all : (r : Refusal) → IsUnmade layout profile before cs r → IsUnmade layout profile before wished.0 r
-      tells_all r is = record {
-        fault = is.fault;
-        told = kept_tell layout profile before wished.0 is.fault (subst (λ ds. TellsWith layout profile before ds is.fault) wished.2 is.told);
-        stands = is.stands;
-      }
-
+    module _ (cs : List Change) (wished : AreWished profile before steps wish cs) where
       pub unmade_at : (e : Ending) → Ends (IsUnmade layout profile before cs) e → Ends (IsUnmadeAt layout profile before place wish) e
-      unmade_at (Refused r) is = inr (inr (record { steps = steps; spelled = spelled; changes = wished.0; wished = wished.1; unmade = tells_all r is }))
+      unmade_at (Refused r) is = inr (inr (record { steps = steps; spelled = spelled; changes = cs; wished = wished; unmade = is }))
       unmade_at NoMemory is = tt
 
       pub made_at : (text : List ℕ) (pairs : List (ℕ × ℕ)) (a : Answer) → IsEditedWith layout profile before cs text pairs → a.out.items ≡ text
@@ -53,10 +44,10 @@ module _ (layout : Layout) (profile : Profile) (before place : List ℕ) (wish :
           (record {
             steps = steps;
             spelled = spelled;
-            changes = wished.0;
-            wished = wished.1;
+            changes = cs;
+            wished = wished;
             certificate = certificate_of pairs;
-            made = record { pairs = pairs; edited = kept_made layout profile before wished.0 text pairs (subst (λ ds. IsEditedWith layout profile before ds text pairs) wished.2 is); written = refl };
+            made = record { pairs = pairs; edited = is; written = refl };
             files = written;
           })
 

@@ -1,7 +1,6 @@
 //! `set`, `insert`, `rename` and `remove`: one edit at a place.
 ghost use Rattle.std.specs.Prelude.{◌≡◌, IfErr, IfOk, map, string_bytes};
 ghost use Rattle.toml_edits.specs.Edits.{change};
-ghost use Rattle.toml_one.specs.Kept.{Keeps};
 ghost use Rattle.toml_one.specs.Wishes.{wished};
 ghost use Rattle.toml_words.specs.Request.{asked_edit, asked_value};
 ghost use Rattle.toml_commands.specs.One.{AreWished, IsMadeAt, IsUnmadeAt, MakesWish, value_text, wished_by};
@@ -117,8 +116,7 @@ fn made_at(
     Ok(text_answer(alloc, text, &certificate)?)
 }
 
-/// The edits that stand for the wish in the document, none behind the first that is refused whatever the data are. Its names stay in
-/// memory.
+/// The edits that stand for the wish in the document. Its names stay in memory.
 pub fn edits_of(
     alloc: Global,
     file: &[u8],
@@ -126,7 +124,7 @@ pub fn edits_of(
     wish: Wish<'_>,
     profile: Profile,
 ) -> Result<Vec<Edit>, Ending>
-    ensures wished { IfOk result (λ edits. Keeps (AreWished profile file.now place.now (wished wish.entry)) (map change edits.items)) }
+    ensures wished { IfOk result (λ edits. AreWished profile file.now place.now (wished wish.entry) (map change edits.items)) }
     ensures refused { IfErr result (Ends (IsRefused profile file.now)) }
 {
     let names = read_data(alloc, file, profile)?;

@@ -1,15 +1,21 @@
 -- Where a `set` puts a new value in, and what a value is put behind.
-use Rattle.std.proofs.Common.{◌≡◌, ℕ, Bool, true, false, not, List, [], ◌∷◌, inl, inr, Option, Some, None, sym, refl, ap, ◌∙◌, subst}
-use Rattle.std.specs.Prelude.{IsTrue, ◌↔◌, is_some}
+use Rattle.std.proofs.Common.{◌≡◌, ℕ, Bool, true, false, not, List, [], ◌∷◌, ◌++◌, map, inl, inr, Option, Some, None, sym, refl, ap, ◌∙◌, subst}
+use Rattle.std.specs.Prelude.{IsTrue, ◌↔◌, ◌&&◌, is_some}
 use Rattle.std.proofs.lemmas.Bool.{false≢true}
+use Rattle.std.proofs.lemmas.List.{map-append}
+use Rattle.toml_names.specs.mentions.Mentions.{Named}
 use Rattle.toml_names.specs.model.Addresses.{Address}
 use Rattle.toml_names.specs.model.Data.{Kinds}
+use Rattle.toml_names.specs.reader.Parts.{part_kinds}
 use Rattle.toml_names.specs.tree.Nodes.{Spot}
 use Rattle.toml_places.specs.declared.place.PlaceStep.{PlaceStep}
 use Rattle.toml_places.specs.Parts.{Stands}
-use Rattle.toml_edits.specs.Edits.{Change}
+use Rattle.toml_edits.specs.Edits.{Change, change}
+use Rattle.toml_edits.specs.declared.edit.Edit.{Edit}
 use Rattle.toml_one.specs.Steps.{ends_behind}
-use Rattle.toml_one.specs.Wishes.{IsNewMember, IsSet, PutsIn, or_nowhere, put_at}
+use Rattle.toml_one.specs.Walking.{IsMadeAbove}
+use Rattle.toml_one.specs.Wishes.{IsNewMember, IsSet, IsWithParents, PutsIn, or_nowhere, put_at}
+use Rattle.toml_one.specs.declared.parents.Made.{Made}
 use Rattle.toml_one.proofs.Standing.{part_there}
 
 -- where a part is something stands
@@ -28,3 +34,19 @@ member_puts kinds place found at r is other member = subst (λ f. IsTrue r ↔ P
     back : PutsIn kinds place (Some at) → IsTrue r
     back (inl behind) = absurd (false≢true (sym other ∙ behind))
     back (inr h) = member.1 h
+
+-- the edits of a value behind those that make what is missing above
+pub with_parents_is : (parts : List Spot) (ms : List Named) (place : List PlaceStep) (value : List ℕ) (may_set : Bool) (made : Made) (new : List Edit) (edit : Edit)
+    → IsMadeAbove parts ms place made → new ≡ made.edits.items ++ edit ∷ []
+    → change edit ≡ put_at (may_set && is_some made.end.here.part) made.end.at value
+    → IsWithParents may_set (part_kinds parts 0) ms place value (map change new)
+with_parents_is parts ms place value may_set made new edit above grown is =
+    let old = made.edits.items in
+    let there : is_some made.end.here.part ≡ is_some (above.end.kinds []) = part_there parts made.end.here.part above.end.kinds above.reached.stands in
+    let put : change edit ≡ put_at (may_set && is_some (above.end.kinds [])) above.end.at value =
+    is ∙ ap (λ b. put_at (may_set && b) made.end.at value) there ∙ ap (λ a. put_at (may_set && is_some (above.end.kinds [])) a value) above.reached.at in (
+      map change old,
+      above.end,
+      above.makes,
+      ap (map change) grown ∙ map-append change old (edit ∷ []) ∙ ap (λ c. map change old ++ c ∷ []) put,
+    )

@@ -1,5 +1,5 @@
 -- The walk of a place, front by front.
-use Rattle.std.proofs.Common.{◌≡◌, ℕ, suc, ◌+◌, ◌<◌, ◌≤◌, Bool, false, List, [], ◌∷◌, ◌++◌, length, Option, Some, None, sym, refl, ap, ◌∙◌, subst, arith, append_assoc, append-nil, drop, drop-cons, get_or, length-drop, take, ◌-◌}
+use Rattle.std.proofs.Common.{◌≡◌, ℕ, suc, ◌+◌, ◌<◌, ◌≤◌, Bool, false, List, [], ◌∷◌, ◌++◌, length, map, Option, Some, None, sym, refl, ap, ◌∙◌, subst, arith, append_assoc, append-nil, drop, drop-cons, get_or, length-drop, take, ◌-◌}
 use Rattle.std.proofs.lemmas.List.{take_all}
 use Rattle.std.proofs.Math.ListN.{drop_of_length-le}
 use Rattle.std.specs.Prelude.{IfSome, is_some, slice_get}
@@ -13,10 +13,10 @@ use Rattle.toml_names.specs.tree.Nodes.{Spot}
 use Rattle.toml_places.specs.declared.place.PlaceStep.{PlaceStep}
 use Rattle.toml_places.specs.Leading.{below_step}
 use Rattle.toml_places.specs.Parts.{Stands, kinds_in}
-use Rattle.toml_edits.specs.Edits.{Change}
+use Rattle.toml_edits.specs.Edits.{Change, change}
+use Rattle.toml_edits.specs.declared.edit.Edit.{Edit}
 use Rattle.toml_one.specs.Parents.{Front, IsNewStepOf, Makes, MakesAt, further, nowhere, root, stands_in_value}
-use Rattle.toml_one.specs.Walking.{IsKept, IsMadeAbove, IsPassed, IsReached}
-use Rattle.toml_one.specs.declared.kept.Kept.{Kept}
+use Rattle.toml_one.specs.Walking.{IsMadeAbove, IsPassed, IsReached}
 use Rattle.toml_one.specs.declared.parents.Made.{Made}
 use Rattle.toml_one.specs.declared.parents.Reached.{Reached}
 use Rattle.toml_one.proofs.Standing.{made_is, new_step_is, next_stands, part_there}
@@ -41,10 +41,10 @@ module _ (parts : List Spot) (ms : List Named) (front : Reached) (here : Front) 
   pub reached_nowhere : (at : Address) → at ≡ nowhere → IsReached parts (record { at = at; here = record { part = None; in_value = front.here.in_value } }) (further ms here None)
   reached_nowhere at is = record { at = is; stands = refl; in_value = reached.in_value }
 
-  pub passed : (s : PlaceStep) (left : List PlaceStep) (old new : Kept) (to : Reached) (found : Option Step) (next : Option PlaceStep) (cs : List Change)
+  pub passed : (s : PlaceStep) (left : List PlaceStep) (old new : List Edit) (to : Reached) (found : Option Step) (next : Option PlaceStep) (cs : List Change)
       → IsNewStepOf (kinds_in parts front.here.part) s found → IsReached parts to (further ms here found)
       → next ≡ slice_get left 0 → MakesAt (is_some to.here.part) front.here.in_value next (kinds_in parts front.here.part) found to.at cs
-      → ((all : List Change) → IsKept old all → IsKept new (all ++ cs))
+      → map change new ≡ map change old ++ cs
       → IsPassed parts ms here s left old new to
   passed s left old new to found next cs is go follows makes edits =
       let there = further ms here found in
@@ -62,45 +62,38 @@ module _ (parts : List Spot) (ms : List Named) (front : Reached) (here : Front) 
         edits = edits;
       }
 
--- the fronts that were reached go on to the whole, and the edits of it so far were kept
-pub record Goes (ms : List Named) (parts : List Spot) (place left : List PlaceStep) (kept : Kept) (to : Reached) : Type 0 where
+-- the fronts that were reached go on to the whole
+pub record Goes (ms : List Named) (parts : List Spot) (place left : List PlaceStep) (cs : List Change) (to : Reached) : Type 0 where
   pub here : Front
-  pub all : List Change
   pub reached : IsReached parts to here
-  pub is_kept : IsKept kept all
-  pub on : (more : List Change) (end : Front) → Makes ms here left more end → Makes ms (root (part_kinds parts 0)) place (all ++ more) end
+  pub on : (more : List Change) (end : Front) → Makes ms here left more end → Makes ms (root (part_kinds parts 0)) place (cs ++ more) end
 
 -- so over whichever lines these names are of
-pub record Walked (parts : List Spot) (place left : List PlaceStep) (kept : Kept) (to : Reached) : Type 0 where
+pub record Walked (parts : List Spot) (place left : List PlaceStep) (edits : List Edit) (to : Reached) : Type 0 where
   pub part : IfSome to.here.part (IsPart parts)
-  pub goes : (lines : List spelled.Line) → IsTreeOf parts (named lines) → Goes (named lines) parts place left kept to
+  pub goes : (lines : List spelled.Line) → IsTreeOf parts (named lines) → Goes (named lines) parts place left (map change edits) to
 
-pub starts : (parts : List Spot) (place : List PlaceStep) (kept : Kept) (to : Reached) → IsKept kept [] → to.at ≡ [] → to.here.part ≡ Some 0 → IfSome to.here.part (IsPart parts) → to.here.in_value ≡ false
-    → Walked parts place place kept to
-starts parts place kept to none at part is in_value = record {
+pub starts : (parts : List Spot) (place : List PlaceStep) (to : Reached) → to.at ≡ [] → to.here.part ≡ Some 0 → IfSome to.here.part (IsPart parts) → to.here.in_value ≡ false → Walked parts place place [] to
+starts parts place to at part is in_value = record {
   part = is;
   goes = λ lines tree. record {
     here = root (part_kinds parts 0);
-    all = [];
     reached = record {
       at = at;
       stands = subst (λ o. Stands parts o (part_kinds parts 0)) (sym part) (subst (λ o. IfSome o (IsPart parts)) part is, λ rest. refl);
       in_value = in_value;
     };
-    is_kept = none;
     on = λ more end makes. makes;
   };
 }
 
-module _ (parts : List Spot) (place left : List PlaceStep) (old new : Kept) (front to : Reached) (s : PlaceStep) where
-  pub goes_on : (ms : List Named) (goes : Goes ms parts place (s ∷ left) old front) → IsPassed parts ms goes.here s left old new to → Goes ms parts place left new to
+module _ (parts : List Spot) (place left : List PlaceStep) (old new : List Edit) (front to : Reached) (s : PlaceStep) where
+  pub goes_on : (ms : List Named) (goes : Goes ms parts place (s ∷ left) (map change old) front) → IsPassed parts ms goes.here s left old new to → Goes ms parts place left (map change new) to
   goes_on ms goes p = record {
     here = further ms goes.here p.step;
-    all = goes.all ++ p.made;
     reached = p.reached;
-    is_kept = p.edits goes.all goes.is_kept;
     on = λ more end makes.
-        subst (λ l. Makes ms (root (part_kinds parts 0)) place l end) (sym (append_assoc goes.all p.made more))
+        subst (λ l. Makes ms (root (part_kinds parts 0)) place l end) (sym (append_assoc (map change old) p.made more) ∙ ap (λ l. l ++ more) (sym p.edits))
         (goes.on (p.made ++ more) end (p.step, p.made, more, p.is, p.makes, makes, refl));
   }
 
@@ -112,14 +105,12 @@ module _ (parts : List Spot) (place left : List PlaceStep) (old new : Kept) (fro
     goes = λ lines tree. let goes = walked.goes lines tree in goes_on (named lines) goes (passed lines goes.here tree goes.reached);
   }
 
-pub ends : (parts : List Spot) (place : List PlaceStep) (made : Made) → Walked parts place [] made.kept made.end → (lines : List spelled.Line) → IsTreeOf parts (named lines) → IsMadeAbove parts (named lines) place made
+pub ends : (parts : List Spot) (place : List PlaceStep) (made : Made) → Walked parts place [] made.edits.items made.end → (lines : List spelled.Line) → IsTreeOf parts (named lines) → IsMadeAbove parts (named lines) place made
 ends parts place made walked lines tree =
     let goes = walked.goes lines tree in
     record {
       end = goes.here;
-      all = goes.all;
-      makes = subst (λ l. Makes (named lines) (root (part_kinds parts 0)) place l goes.here) (append-nil goes.all) (goes.on [] goes.here (refl, refl));
-      kept = goes.is_kept;
+      makes = subst (λ l. Makes (named lines) (root (part_kinds parts 0)) place l goes.here) (append-nil (map change made.edits.items)) (goes.on [] goes.here (refl, refl));
       reached = goes.reached;
     }
 

@@ -1,15 +1,11 @@
--- Laws: one line of words stands for one list of edits; where something stands at a place, nothing is made above it; behind which edits none
--- is looked at.
-use Rattle.std.specs.Prelude.{◌≡◌, ℕ, true, List, [], ◌∷◌, IsSome, None}
-use Rattle.toml_tree.specs.declared.profile.Profile.{Profile}
+-- Laws: one line of words stands for one list of edits; where something stands at a place, nothing is made above it.
+use Rattle.std.specs.Prelude.{◌≡◌, ℕ, true, List, [], ◌∷◌, IsSome}
 use Rattle.toml_names.specs.mentions.Mentions.{Named}
 use Rattle.toml_names.specs.model.Addresses.{Address}
 use Rattle.toml_names.specs.model.Data.{Kinds}
 use Rattle.toml_places.specs.declared.place.PlaceStep.{PlaceStep}
 use Rattle.toml_places.specs.Leading.{LeadsTo, below_steps}
 use Rattle.toml_edits.specs.Edits.{Change, set}
-use Rattle.toml_edits.specs.Faults.{IsFault}
-use Rattle.toml_one.specs.Kept.{puts_too_deep}
 use Rattle.toml_one.specs.Wishes.{AreEditsAt, IsWithParents, Wished}
 
 -- a wish at a place stands for one list of edits
@@ -21,7 +17,3 @@ OneEditList = (kinds : Kinds) (ms : List Named) (place : List PlaceStep) (wish :
 abbrev pub SetsWhatStands : Type 0
 SetsWhatStands = (kinds : Kinds) (ms : List Named) (place : List PlaceStep) (value : List ℕ) (at : Address) (cs : List Change)
     → LeadsTo kinds place at → IsSome (below_steps at kinds []) → IsWithParents true kinds ms place value cs → cs ≡ set at value ∷ []
-
--- an edit that puts something at an address of more steps than one of a document is refused, whatever the data are
-abbrev pub RefusedTooDeep : Type 0
-RefusedTooDeep = (profile : Profile) (c : Change) (kinds : Kinds) → puts_too_deep c ≡ true → ¬ IsFault profile c kinds None

@@ -1,5 +1,4 @@
 pub mod Steps
-pub mod Kept
 pub mod Parents
 pub mod Walking
 pub mod Wishes

@@ -1,9 +1,7 @@
 //! The edits that one line of words stands for: an edit at a place, and what is made above it.
 #![tactic(auto)]
 
-mod kept;
 pub mod laws;
-mod missing;
 mod parents;
 mod steps;
 mod wish;

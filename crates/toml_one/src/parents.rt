@@ -1,21 +1,20 @@
 //! What is made above a place at which nothing stands yet.
-ghost use Rattle.std.specs.Prelude.{◌≡◌, ◌↔◌, ◌∷◌, ◌++◌, [], IfOk, IfSome, IsTrue, List, Some, false, is_some};
+ghost use Rattle.std.specs.Prelude.{◌≡◌, ◌↔◌, ◌∷◌, ◌++◌, [], IfOk, IfSome, IsTrue, List, OnOk, Some, false, is_some, map};
 ghost use Rattle.std.specs.Option.{option_copied};
+ghost use Rattle.std.specs.String.{string_bytes};
 ghost use Rattle.toml_tree.specs.Tree as spelled;
-ghost use Rattle.toml_edits.specs.Edits.{insert};
+ghost use Rattle.toml_edits.specs.Edits.{change};
 ghost use Rattle.toml_names.specs.mentions.Mentions.{named};
-ghost use Rattle.toml_names.specs.model.Addresses.{Address as Steps};
 ghost use Rattle.toml_names.specs.reader.Parts.{IsPart};
 ghost use Rattle.toml_names.specs.tree.NameTree.{IsTreeOf};
 ghost use Rattle.toml_places.specs.Parts.{kinds_in};
 ghost use Rattle.toml_one.specs.Parents.{Front, IsNewStepOf, IsNextElement, MakesAt, MakesMissing, MakesTable, empty_value, further, is_in_value, nowhere, stands_in_value};
 ghost use Rattle.toml_one.specs.Steps.{is_index};
-ghost use Rattle.toml_one.specs.Walking.{IsMadeAbove, IsPassed, IsReached, changes_by};
+ghost use Rattle.toml_one.specs.Walking.{IsMadeAbove, IsPassed, IsReached, changes_of};
 
-use crate::kept::Kept;
-use crate::missing::Missing;
 use crate::steps::{is_behind, is_index};
 use std::alloc::{AllocError, Global};
+use toml_edits::Edit;
 use toml_names::{Address, Name, NamedText, Place, Step};
 use toml_places::{PlaceStep, part_in, step_in};
 
@@ -36,7 +35,7 @@ pub(crate) struct Reached {
 /// The edits that make what is missing above a place, and the end of the place.
 #[derive(Drop)]
 pub(crate) struct Made {
-    pub kept: Kept,
+    pub edits: Vec<Edit>,
     pub end: Reached,
 }
 
@@ -49,12 +48,12 @@ pub(crate) fn make_parents(
     ensures { (lines : List spelled.Line) → IsTreeOf names.now (named lines)
         → IfOk result (λ made. IsMadeAbove names.now (named lines) place.now made) }
 {
-    let mut kept = Kept::new(alloc);
+    let mut edits = Vec::new(alloc);
     let mut front = root(alloc, names);
     for (i, step) in place.iter().enumerate() {
-        front = pass(alloc, names, &mut kept, front, step, &place[i + 1..])?;
+        front = pass(alloc, names, &mut edits, front, step, &place[i + 1..])?;
     }
-    Ok(Made { kept, end: front })
+    Ok(Made { edits, end: front })
 }
 
 /// The front that has no steps.
@@ -77,7 +76,7 @@ fn root(alloc: Global, names: &NamedText<'_>) -> Reached
 fn pass(
     alloc: Global,
     names: &NamedText<'_>,
-    kept: &mut Kept,
+    edits: &mut Vec<Edit>,
     front: Reached,
     step: &PlaceStep,
     left: &[PlaceStep],
@@ -85,14 +84,24 @@ fn pass(
     requires { IfSome front.here.part (IsPart names.now) }
     ensures part { IfOk result (λ to. IfSome to.here.part (IsPart names.now)) }
     ensures passed { (lines : List spelled.Line) (here : Front) → IsTreeOf names.now (named lines) → IsReached names.now front here
-        → IfOk result (λ to. IsPassed names.now (named lines) here step.now left.now kept.old kept.new to) }
+        → IfOk result (λ to. IsPassed names.now (named lines) here step.now left.now edits.old.items edits.new.items to) }
 {
     let above = front.here;
     let found = new_step(names, above.part, step)?;
     let to = go_on(alloc, names, front, &found)?;
-    let made = made_at(names, above, &found, to.here, left.first())?;
-    kept.add(alloc, made, &to.at)?;
+    let made = made_at(alloc, names, above, &found, &to, left.first())?;
+    push_made(edits, made)?;
     Ok(to)
+}
+
+/// Adds the edit, if there is one.
+fn push_made(edits: &mut Vec<Edit>, made: Option<Edit>) -> Result<(), AllocError>
+    ensures { OnOk result (map change edits.new.items ≡ map change edits.old.items ++ changes_of made) }
+{
+    if let Some(edit) = made {
+        edits.push(edit)?;
+    }
+    Ok(())
 }
 
 /// The step of an address that a step of a place is: where nothing stands `[+]` is the first element.
@@ -177,78 +186,91 @@ fn is_in_value(place: Option<Place>) -> bool
     }
 }
 
-/// What is made at a front below another, where `next` follows; nothing at the end of the place.
+/// The edit that makes what is missing at a front below another, where `next` follows; none at the end of the place.
 fn made_at(
+    alloc: Global,
     names: &NamedText<'_>,
     above: Here,
     found: &Option<Step>,
-    here: Here,
+    to: &Reached,
     next: Option<&PlaceStep>,
-) -> Result<Option<Missing>, AllocError>
+) -> Result<Option<Edit>, AllocError>
     requires { IfSome above.part (IsPart names.now) }
-    ensures { (at : Steps) → IfOk result (λ made.
-        MakesAt (is_some here.part) above.in_value (option_copied next.entry) (kinds_in names.now above.part) found.now at (changes_by made at)) }
+    ensures { IfOk result (λ made.
+        MakesAt (is_some to.now.here.part) above.in_value (option_copied next.entry) (kinds_in names.now above.part) found.now to.now.at (changes_of made)) }
 {
     let Some(next) = next else {
         return Ok(None);
     };
-    if here.part.is_some() {
+    if to.here.part.is_some() {
         return Ok(None);
     }
-    made_missing(names, above, found, next)
+    made_missing(alloc, names, above, found, &to.at, next)
 }
 
-/// What is made at a front at which nothing stands.
+/// The edit that makes what is missing at a front at which nothing stands.
 fn made_missing(
+    alloc: Global,
     names: &NamedText<'_>,
     above: Here,
     found: &Option<Step>,
+    at: &Address,
     next: &PlaceStep,
-) -> Result<Option<Missing>, AllocError>
+) -> Result<Option<Edit>, AllocError>
     requires { IfSome above.part (IsPart names.now) }
-    ensures { (at : Steps) → IfOk result (λ made.
-        MakesMissing above.in_value (is_index next.now) next.now (kinds_in names.now above.part) found.now at (changes_by made at)) }
+    ensures { IfOk result (λ made.
+        MakesMissing above.in_value (is_index next.now) next.now (kinds_in names.now above.part) found.now at.now (changes_of made)) }
 {
     if above.in_value {
-        return Ok(Some(empty_value(next)));
+        let at = at.copy(alloc)?;
+        let value = empty_value(alloc, next)?;
+        return Ok(Some(Edit::Insert { at, value }));
     }
     if is_index(next) {
         return Ok(None);
     }
-    made_table(names, above.part, found)
+    made_table(alloc, names, above.part, found, at)
 }
 
 /// The section or the element that is made.
 fn made_table(
+    alloc: Global,
     names: &NamedText<'_>,
     above: Option<usize>,
     found: &Option<Step>,
-) -> Result<Option<Missing>, AllocError>
+    at: &Address,
+) -> Result<Option<Edit>, AllocError>
     requires { IfSome above (IsPart names.now) }
-    ensures { (at : Steps) → IfOk result (λ made. MakesTable (kinds_in names.now above) found.now at (changes_by made at)) }
+    ensures { IfOk result (λ made. MakesTable (kinds_in names.now above) found.now at.now (changes_of made)) }
 {
     match found {
-        Some(step) => table_at(names, above, step),
+        Some(step) => table_at(alloc, names, above, step, at),
         None => Ok(None),
     }
 }
 
 /// The section or the element that is made at this step.
 fn table_at(
+    alloc: Global,
     names: &NamedText<'_>,
     above: Option<usize>,
     step: &Step,
-) -> Result<Option<Missing>, AllocError>
+    at: &Address,
+) -> Result<Option<Edit>, AllocError>
     requires { IfSome above (IsPart names.now) }
-    ensures { (at : Steps) → IfOk result (λ made. MakesTable (kinds_in names.now above) (Some step.now) at (changes_by made at)) }
+    ensures { IfOk result (λ made. MakesTable (kinds_in names.now above) (Some step.now) at.now (changes_of made)) }
 {
     match step {
-        Step::Name(_) => Ok(Some(Missing::Section)),
+        Step::Name(_) => {
+            let at = at.copy(alloc)?;
+            Ok(Some(Edit::Section { at }))
+        }
         Step::Index(index) => {
             if !is_next_element(names, above, *index)? {
                 return Ok(None);
             }
-            Ok(Some(Missing::Element))
+            let at = at.copy(alloc)?;
+            Ok(Some(Edit::Element { at }))
         }
     }
 }
@@ -272,13 +294,13 @@ fn is_next_element(
     }
 }
 
-/// An empty array where an index follows, else an empty table.
-fn empty_value(next: &PlaceStep) -> Missing
-    ensures { (at : Steps) → changes_by (Some result) at ≡ insert at (empty_value next.now) ∷ [] }
+/// The text of an empty array where an index follows, else of an empty table.
+fn empty_value(alloc: Global, next: &PlaceStep) -> Result<String, AllocError>
+    ensures { IfOk result (λ text. string_bytes text ≡ empty_value next.now) }
 {
     if is_index(next) {
-        Missing::EmptyArray
+        String::from_str(alloc, "[]")
     } else {
-        Missing::EmptyTable
+        String::from_str(alloc, "{}")
     }
 }

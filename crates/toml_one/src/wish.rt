@@ -6,7 +6,6 @@ ghost use Rattle.toml_names.specs.reader.Parts.{part_kinds, shape_kind};
 ghost use Rattle.toml_names.specs.tree.NameTree.{IsTreeOf};
 ghost use Rattle.toml_edits.specs.Edits.{change, insert, remove, rename};
 ghost use Rattle.toml_places.specs.Leading.{below_steps};
-ghost use Rattle.toml_one.specs.Kept.{Keeps};
 ghost use Rattle.toml_one.specs.Steps.{ends_in_name};
 ghost use Rattle.toml_one.specs.Wishes.{AreEditsAt, IsFree, IsInserted, IsNewMember, IsOne, IsSetAlone, IsSetAt, IsWithParents, PutsIn, or_nowhere, put_at, wished};
 
@@ -43,8 +42,7 @@ pub enum Wish<'a> {
     Remove,
 }
 
-/// The edits that stand for the wish, in the data of a document and by where its names stand; none behind the first that puts
-/// something at an address of more steps than one of a document, since that one is refused.
+/// The edits that stand for the wish, in the data of a document and by where its names stand.
 ///
 /// A place that leads to no address stands for one at which nothing is. `Set` is a `set`; it is an `insert` where the place ends in
 /// `[+]`, or where nothing stands there, it ends in a name, and a table stands at its parent. With `parents`, where the place ends in
@@ -57,7 +55,7 @@ pub fn edits_at(
     wish: Wish<'_>,
 ) -> Result<Vec<Edit>, AllocError>
     ensures { (lines : List spelled.Line) → IsTreeOf names.now (named lines)
-        → IfOk result (λ edits. Keeps (AreEditsAt (part_kinds names.now 0) (named lines) place.now (wished wish.entry)) (map change edits.items)) }
+        → IfOk result (λ edits. AreEditsAt (part_kinds names.now 0) (named lines) place.now (wished wish.entry) (map change edits.items)) }
 {
     match wish {
         Wish::Set { value, parents } => set_at(alloc, names, place, value, parents),
@@ -77,7 +75,7 @@ fn set_at(
 ) -> Result<Vec<Edit>, AllocError>
     ensures { (lines : List spelled.Line) → IsTreeOf names.now (named lines)
         → IfOk result (λ edits.
-        Keeps (IsSetAt (parents && ends_in_name place.now) (part_kinds names.now 0) (named lines) place.now value.now) (map change edits.items)) }
+        IsSetAt (parents && ends_in_name place.now) (part_kinds names.now 0) (named lines) place.now value.now (map change edits.items)) }
 {
     if makes_parents(place, parents) {
         with_parents(alloc, names, place, value, true)
@@ -96,7 +94,7 @@ fn insert_at(
 ) -> Result<Vec<Edit>, AllocError>
     ensures { (lines : List spelled.Line) → IsTreeOf names.now (named lines)
         → IfOk result (λ edits.
-        Keeps (IsInserted (parents && ends_in_name place.now) (part_kinds names.now 0) (named lines) place.now value.now) (map change edits.items)) }
+        IsInserted (parents && ends_in_name place.now) (part_kinds names.now 0) (named lines) place.now value.now (map change edits.items)) }
 {
     if makes_parents(place, parents) {
         with_parents(alloc, names, place, value, false)
@@ -250,14 +248,10 @@ fn with_parents(
     may_set: bool,
 ) -> Result<Vec<Edit>, AllocError>
     ensures { (lines : List spelled.Line) → IsTreeOf names.now (named lines)
-        → IfOk result (λ edits. Keeps (IsWithParents may_set (part_kinds names.now 0) (named lines) place.now value.now) (map change edits.items)) }
+        → IfOk result (λ edits. IsWithParents may_set (part_kinds names.now 0) (named lines) place.now value.now (map change edits.items)) }
 {
-    let Made { kept, end } = make_parents(alloc, names, place.steps())?;
-    if kept.is_cut {
-        return Ok(kept.edits);
-    }
+    let Made { mut edits, end } = make_parents(alloc, names, place.steps())?;
     let sets = sets_at(may_set, end.here);
-    let mut edits = kept.edits;
     edits.push(put(alloc, sets, end.at, value)?)?;
     Ok(edits)
 }

@@ -4,5 +4,4 @@ use Rattle.toml_commands.proofs.one.edits_of.Goals as goal
 pub returns-clause-wished : goal.returns-clause-wished
 returns-clause-wished c =
     let names = c.in_ok-names.ensures.names in
-    let kept = c.in_ok-edits.ensures names.it.lines names.names in
-    (kept.0, record { it = names.it; kinds = _; facts = names.kinds; edits = kept.1 }, kept.2)
+    record { it = names.it; kinds = _; facts = names.kinds; edits = c.in_ok-edits.ensures names.it.lines names.names }
