@@ -36,7 +36,7 @@ impl<'a> FileFault<'a> {
 
     /// What the run then comes to: `file fault`, and where it is explained the word and the system's reason.
     pub fn outcome(self, alloc: Global, explains: bool) -> Result<Outcome, RunFault>
-        ensures { IsOutcomeOf explains self.entry result }
+        ensures { IsOutcomeOf self.entry result }
     {
         match self {
             FileFault::Failed { word, error } => { Ok(file_fault(alloc, explains, word, &error)?) }
@@ -52,15 +52,15 @@ pub fn file_fault(
     word: &str,
     error: &io::Error,
 ) -> Result<Outcome, AllocError>
-    ensures { IfOk result (TellsFault explains word.now) }
+    ensures { IfOk result TellsFault }
 {
+    let said = if explains {
+        format!(in alloc; "{word}: {error}\n")?
+    } else {
+        String::new(alloc)
+    };
     let mut text = RunFault::File.text().to_string(alloc)?;
-    if explains {
-        let reason = format!(in alloc; "{error}\n")?;
-        text.push_str(word)?;
-        text.push_str(": ")?;
-        text.push_str(reason.as_str())?;
-    }
+    text.push_str(said.as_str())?;
     Ok(Outcome::failed(alloc, RunFault::File.status(), text.into_bytes()))
 }
 
