@@ -3,3 +3,4 @@ pub mod AllRead
 pub mod Opened
 pub mod Settled
 pub mod Validated
+pub mod Reasons

@@ -10,7 +10,7 @@ use Rattle.toml_replace.specs.declared.fault.ReplaceFault.{ReplaceFault}
 use Rattle.toml_words.specs.Request.{is_input}
 use Rattle.toml_words.specs.declared.request.Destination.{Destination}
 use Rattle.toml_words.specs.declared.request.Request.{Request}
-use Rattle.tomled.specs.Finishing.{HasNamed, IsCertified, IsCompared, IsEdited, IsFileFault, IsFirst, IsLeft, IsPlaced, IsReplaced, IsSettled, Path, all_compared, certificate_at, compared, judged_compared, words_compared}
+use Rattle.tomled.specs.Finishing.{HasNamed, IsCertified, IsCompared, IsEdited, IsFileFault, IsFirst, IsLeft, IsPlaced, IsReplaced, IsSettled, Path, all_compared, certificate_at, compared, judged_compared, path_or, words_compared}
 use Rattle.toml_delivery.specs.declared.fault.RunFault.{RunFault}
 use Rattle.toml_delivery.specs.declared.outcome.Outcome.{Outcome}
 
@@ -127,7 +127,7 @@ module _ (path file : List ℕ) where
 
 -- what is left of an outcome
 module _ (file : List ℕ) (list : Option Path) (d : Destination) (inputs : List (Vec ℕ Global)) (old : Outcome) where
-  pub is_refused : old.status ≡ 0 → (e : Error) (r : Result Outcome RunFault) → IsFileFault r → (a b : Option Calls)
+  pub is_refused : old.status ≡ 0 → (e : Error) (r : Result Outcome RunFault) → IsFileFault true (path_or d.certificate file) r → (a b : Option Calls)
       → Made a b (IsCompared (all_compared d.certificate file list) (Err e)) → Made a b (IsEdited file list d inputs old r)
   is_refused good e r fault a b asked =
       so_asked (IsCutShort (all_compared d.certificate file list)) (IsEdited file list d inputs old r) a b asked (λ xs cut. inr (inl (good, cut, fault)))
@@ -152,7 +152,7 @@ module _ (before edits after : List ℕ) (given : Option Path) (path : Path) (is
   pub left_alone : old.status ≢ 0 → (a : Option Calls) → Made a a (IsCertified before edits after given old (Ok old))
   left_alone bad a = nothing_asked (IsCertified before edits after given old (Ok old)) a (at_path (Ok old) [] (inl (bad, refl, refl)))
 
-  pub not_certified : old.status ≡ 0 → (e : Error) (r : Result Outcome RunFault) → IsFileFault r → (a b : Option Calls)
+  pub not_certified : old.status ≡ 0 → (e : Error) (r : Result Outcome RunFault) → IsFileFault true path.now r → (a b : Option Calls)
       → Made a b (IsCompared (judged_compared path.now before edits after) (Err e)) → Made a b (IsCertified before edits after given old r)
   not_certified good e r fault a b asked =
       so_asked (IsCutShort (judged_compared path.now before edits after)) (IsCertified before edits after given old r) a b asked
@@ -171,7 +171,7 @@ without_path before edits after given is old new h a =
 
 -- a replacement
 pub was_replaced : (file : List ℕ) (path : Option Path) (old : Outcome) (text : List ℕ) (pair : Option (List ℕ × List ℕ)) → text ≡ old.out.items → pair ≡ certificate_at path old.files.items
-    → (done : Result (Unit {0}) ReplaceFault) (r : Result Outcome RunFault) → IsLeft old done r → (a b : Option Calls)
+    → (done : Result (Unit {0}) ReplaceFault) (r : Result Outcome RunFault) → IsLeft file path old done r → (a b : Option Calls)
     → Made a b (IsReplacement file text pair done) → Made a b (IsReplaced file path old r)
 was_replaced file path old text pair text_is pair_is done r left a b asked =
     so_asked (IsReplacement file text pair done) (IsReplaced file path old r) a b asked

@@ -1,9 +1,10 @@
 -- What is told of files, one behind the other, and the status.
-use Rattle.std.proofs.Common.{◌≡◌, ◌<◌, ◌≤◌, ◌+◌, ℕ, List, [], ◌∷◌, ◌++◌, map, length, take, get_or, Result, Ok, Err, Bor, inl, inr, refl, sym, ap, ◌∙◌, subst, arith}
+use Rattle.std.proofs.Common.{◌≡◌, ◌<◌, ◌≤◌, ◌+◌, ℕ, true, List, [], ◌∷◌, ◌++◌, map, length, take, get_or, Result, Ok, Err, Bor, inl, inr, refl, sym, ap, ◌∙◌, subst, arith}
 use Rattle.std.specs.Prelude.{max}
 use Rattle.std.specs.List.{AllByRecursion}
 use Rattle.std.proofs.lemmas.List.{map-append, take_all, take_more, take-map, flat_map_more}
 use Rattle.toml_tree.specs.declared.profile.Profile.{Profile}
+use Rattle.toml_commands.specs.Answering.{document_at, sought}
 use Rattle.toml_commands.specs.Explaining.{IsExplainedText, IsValidated}
 use Rattle.toml_commands.specs.declared.answering.Source.{Source}
 use Rattle.toml_delivery.specs.Outcomes.{Fails}
@@ -64,7 +65,7 @@ case_of_given profile r (Err (Failed word error)) o is h = unread (Failed word e
 case_of_given profile r (Err NoMemory) o is h = absurd h
 
 pub case_of : (profile : Profile) (r : Read) (o : Outcome) → TellsRead profile r o → Case profile r o
-case_of profile r o h = case_of_given profile r r.gave o refl h
+case_of profile r o h = case_of_given profile r r.gave o refl h.1
 
 -- the status behind one file more
 module _ (profile : Profile) (reads : List Read) (r : Read) (n m : ℕ) where
@@ -141,12 +142,12 @@ one_more_told profile files i d status text reads r o low before word h =
     }
 
 -- what could not be read
-pub told_fault : (profile : Profile) (source : Source) (fault : FileFault) (result : Result Outcome RunFault) → IsOutcomeOf fault result
-    → IsOneTold profile source.word.now result (record { source = source; gave = Err fault } ∷ [])
-told_fault profile source (Failed word error) (Ok o) h = (record { source = source; gave = Err (Failed word error) }, refl, refl, h)
-told_fault profile source NoMemory (Ok o) h = absurd h
-told_fault profile source (Failed word error) (Err f) h = h
-told_fault profile source NoMemory (Err f) h = h
+pub told_fault : (profile : Profile) (source : Source) → sought source ≡ document_at true source.word.now → (fault : FileFault) (result : Result Outcome RunFault)
+    → IsOutcomeOf true fault result → IsOneTold profile source.word.now result (record { source = source; gave = Err fault } ∷ [])
+told_fault profile source sought_as (Failed word error) (Ok o) h = (record { source = source; gave = Err (Failed word error) }, refl, refl, (sought_as, h))
+told_fault profile source sought_as NoMemory (Ok o) h = absurd h
+told_fault profile source sought_as (Failed word error) (Err f) h = h
+told_fault profile source sought_as NoMemory (Err f) h = h
 
 -- one file behind the others
 pub more_told : (profile : Profile) (files : List (Bor (List ℕ))) (i : ℕ) (d : Bor (List ℕ)) (status : ℕ) (text : List ℕ) (o : Outcome) → i < length files

@@ -1,6 +1,6 @@
 -- What is done with the files of an outcome before it is printed, by the request and by the bytes that were read: what a disk is asked, and
 -- what is left to print and to write.
-use Rattle.std.specs.Prelude.{◌≡◌, ◌≢◌, ◌⊎◌, ℕ, true, false, List, [], ◌∷◌, ◌++◌, Option, Some, None, Result, Ok, Err, Vec, if◌then◌else◌}
+use Rattle.std.specs.Prelude.{◌≡◌, ◌≢◌, ◌⊎◌, ℕ, Bool, true, false, List, [], ◌∷◌, ◌++◌, Option, Some, None, Result, Ok, Err, Vec, if◌then◌else◌}
 use Rattle.std.specs.Borrow.{Bor}
 use Rattle.std.specs.Option.{option_to_list}
 use Rattle.std.specs.declared.alloc.Global.{Global}
@@ -8,6 +8,7 @@ use Rattle.std.specs.declared.io.Error.{Error}
 use Rattle.toml_replace.specs.Calls.{Call, compares}
 use Rattle.toml_replace.specs.Replacement.{IsCutShort, IsReplacement}
 use Rattle.toml_replace.specs.declared.fault.ReplaceFault.{ReplaceFault}
+use Rattle.toml_replace.specs.declared.fault.ReplaceFault.TheVariants as faults
 use Rattle.toml_words.specs.Request.{is_input}
 use Rattle.toml_words.specs.declared.request.Destination.{Destination}
 use Rattle.toml_words.specs.declared.request.Request.{Request}
@@ -34,17 +35,36 @@ HasNoText old new = (new.out.items ≡ []) × (new ≡ record old { out = new.ou
 abbrev pub HasNothing : Outcome → Outcome → Type 0
 HasNothing old new = (between : Outcome) × HasNoText old between × HasNamed None between new
 
--- a file fault: status 3, its line first on standard error, nothing on standard output, no refusal, and no file
-pub record TellsFault (new : Outcome) : Type 0 where
+-- the text, and behind it the word, a colon, a space and what the system says
+abbrev pub HasReason : List ℕ → List ℕ → List ℕ → Type 0
+HasReason text word lines = (reason : List ℕ) × (lines ≡ text ++ (word ++ (0x3A ∷ 0x20 ∷ reason)))
+
+-- the line of a file fault, and nothing else; or, where it is explained, behind it the word, a colon, and what the system says
+abbrev pub IsFaultLines : Bool → List ℕ → List ℕ → Type 0
+IsFaultLines false word err = err ≡ told File
+IsFaultLines true word err = HasReason (told File) word err
+
+-- a file fault: status 3, its lines on standard error, nothing on standard output, no refusal, and no file
+pub record TellsFault (explains : Bool) (word : List ℕ) (new : Outcome) : Type 0 where
   pub status : new.status ≡ 3
-  pub err : (said : List ℕ) × (new.err.items ≡ told File ++ said)
+  pub err : IsFaultLines explains word new.err.items
   pub out : new.out.items ≡ []
   pub refusal : new.refusal ≡ None
   pub files : new.files.items ≡ []
 
-abbrev pub IsFileFault : Result Outcome RunFault → Type 0
-IsFileFault (Ok new) = TellsFault new
-IsFileFault (Err fault) = fault ≡ File
+abbrev pub IsFileFault : Bool → List ℕ → Result Outcome RunFault → Type 0
+IsFileFault explains word (Ok new) = TellsFault explains word new
+IsFileFault explains word (Err fault) = fault ≡ File
+
+-- the path, or the word where there is none
+abbrev pub path_or : Option Path → List ℕ → List ℕ
+path_or (Some path) word = path.now
+path_or None word = word
+
+-- a file fault of the file that is to be replaced, or of the certificate
+abbrev pub IsUnreplaced : List ℕ → Option Path → ReplaceFault → Result Outcome RunFault → Type 0
+IsUnreplaced file path (faults.File error) result = IsFileFault true file result
+IsUnreplaced file path (faults.Certificate error) result = IsFileFault true (path_or path file) result
 
 -- the disk is asked whether the path leads to the file of a word that was read, and answers no; standard input is no such file
 abbrev pub compared : List ℕ → List ℕ → List Call
@@ -75,14 +95,14 @@ certificate_at (Some path) (bytes ∷ files) = Some (path.now, bytes.items)
 certificate_at _ _ = None
 
 -- what is left of a replacement: nothing is to be printed or written, or a file fault
-abbrev pub IsLeft : Outcome → Result (Unit {0}) ReplaceFault → Result Outcome RunFault → Type 0
-IsLeft old (Ok done) result = (new : Outcome) × (result ≡ Ok new) × HasNothing old new
-IsLeft old (Err fault) result = IsFileFault result
+abbrev pub IsLeft : List ℕ → Option Path → Outcome → Result (Unit {0}) ReplaceFault → Result Outcome RunFault → Type 0
+IsLeft file path old (Ok done) result = (new : Outcome) × (result ≡ Ok new) × HasNothing old new
+IsLeft file path old (Err fault) result = IsUnreplaced file path fault result
 
 -- the file gets the text of the outcome, and the certificate's path its first file
 abbrev pub IsReplaced : List ℕ → Option Path → Outcome → Result Outcome RunFault → List Call → Type 0
 IsReplaced file path old result calls =
-    (done : Result (Unit {0}) ReplaceFault) × IsReplacement file old.out.items (certificate_at path old.files.items) done calls × IsLeft old done result
+    (done : Result (Unit {0}) ReplaceFault) × IsReplacement file old.out.items (certificate_at path old.files.items) done calls × IsLeft file path old done result
 
 -- the first of what was read is this text
 abbrev pub IsFirst : List (Vec ℕ Global) → List ℕ → Type 0
@@ -101,7 +121,7 @@ IsPlaced file d inputs old result calls =
 abbrev pub IsEdited : List ℕ → Option Path → Destination → List (Vec ℕ Global) → Outcome → Result Outcome RunFault → List Call → Type 0
 IsEdited file list d inputs old result calls =
     ((old.status ≢ 0) × (calls ≡ []) × (result ≡ Ok old))
-    ⊎ (((old.status ≡ 0) × IsCutShort (all_compared d.certificate file list) calls × IsFileFault result)
+    ⊎ (((old.status ≡ 0) × IsCutShort (all_compared d.certificate file list) calls × IsFileFault true (path_or d.certificate file) result)
     ⊎ ((old.status ≡ 0) × (more : List Call) × (calls ≡ all_compared d.certificate file list ++ more) × IsPlaced file d inputs old result more))
 
 -- An outcome of `certify`. Without a path there is no file; a refusal is left alone; else the path may lead to none of the three.
@@ -109,7 +129,7 @@ abbrev pub IsCertified : List ℕ → List ℕ → List ℕ → Option Path → 
 IsCertified before edits after None old result calls = (calls ≡ []) × (new : Outcome) × (result ≡ Ok new) × HasNamed None old new
 IsCertified before edits after (Some path) old result calls =
     ((old.status ≢ 0) × (calls ≡ []) × (result ≡ Ok old))
-    ⊎ (((old.status ≡ 0) × IsCutShort (judged_compared path.now before edits after) calls × IsFileFault result)
+    ⊎ (((old.status ≡ 0) × IsCutShort (judged_compared path.now before edits after) calls × IsFileFault true path.now result)
     ⊎ ((old.status ≡ 0) × (calls ≡ judged_compared path.now before edits after) × (result ≡ Ok old)))
 
 -- An outcome of a request.

@@ -1,9 +1,10 @@
 -- What `validate` comes to, by what its reads gave.
-use Rattle.std.specs.Prelude.{◌≡◌, ◌⊎◌, ℕ, List, [], ◌∷◌, map, None, Result, Ok, Err, ⊤}
+use Rattle.std.specs.Prelude.{◌≡◌, ◌⊎◌, ℕ, Bool, true, List, [], ◌∷◌, map, None, Result, Ok, Err, ⊤}
 use Rattle.std.specs.Borrow.{Bor}
 use Rattle.std.specs.List.{AllByRecursion, flat_map}
 use Rattle.toml_tree.specs.declared.profile.Profile.{Profile}
 use Rattle.toml_names.specs.model.Documents.{IsDocumentIn}
+use Rattle.toml_commands.specs.Answering.{document_at, sought}
 use Rattle.toml_commands.specs.Explaining.{IsValidated}
 use Rattle.toml_delivery.specs.declared.fault.RunFault.{RunFault}
 use Rattle.toml_delivery.specs.declared.fault.RunFault.TheVariants.{Memory}
@@ -14,19 +15,20 @@ use Rattle.tomled.specs.declared.reading.FileFault.{FileFault}
 use Rattle.tomled.specs.declared.reading.FileFault.TheVariants.{Failed, NoMemory}
 
 -- a file fault, or want of memory
-abbrev pub IsOutcomeOf : FileFault → Result Outcome RunFault → Type 0
-IsOutcomeOf (Failed word error) (Ok o) = TellsFault o
-IsOutcomeOf NoMemory (Ok o) = ⊥
-IsOutcomeOf fault (Err f) = f ≡ Memory
+abbrev pub IsOutcomeOf : Bool → FileFault → Result Outcome RunFault → Type 0
+IsOutcomeOf explains (Failed word error) (Ok o) = TellsFault explains word.now o
+IsOutcomeOf explains NoMemory (Ok o) = ⊥
+IsOutcomeOf explains fault (Err f) = f ≡ Memory
 
 -- what a file comes to: what is told of its bytes, or that it could not be read
 abbrev pub TellsGiven : Profile → List ℕ → Result (List ℕ) FileFault → Outcome → Type 0
 TellsGiven profile word (Ok bytes) o = IsValidated profile word bytes o
-TellsGiven profile word (Err (Failed path error)) o = TellsFault o
+TellsGiven profile word (Err (Failed path error)) o = TellsFault true path.now o
 TellsGiven profile word (Err NoMemory) o = ⊥
 
+-- It was read as a document, standard input where its word is `-`; and that is told of it.
 abbrev pub TellsRead : Profile → Read → Outcome → Type 0
-TellsRead profile r o = TellsGiven profile r.source.word.now r.gave o
+TellsRead profile r o = (sought r.source ≡ document_at true r.source.word.now) × TellsGiven profile r.source.word.now r.gave o
 
 -- so of each, in their order
 abbrev pub TellEach : Profile → List Read → List Outcome → Type 0

@@ -2,8 +2,8 @@
 ghost use Rattle.std.specs.Prelude.{◌≡◌, ◌↔◌, IsTrue};
 ghost use Rattle.toml_replace.specs.Calls.{Made};
 ghost use Rattle.toml_replace.specs.Replacement.{pair_of};
-ghost use Rattle.tomled.specs.Finishing.{HasNamed, IsCertified, IsCompared, IsEdited, IsFileFault, IsFirst, IsReplaced, IsSettled, IsPlaced};
-ghost use Rattle.tomled.specs.Finishing.{all_compared, certificate_at, compared, judged_compared, words_compared};
+ghost use Rattle.tomled.specs.Finishing.{HasNamed, IsCertified, IsCompared, IsEdited, IsFileFault, IsFirst, IsReplaced, IsSettled, IsPlaced, IsUnreplaced};
+ghost use Rattle.tomled.specs.Finishing.{all_compared, certificate_at, compared, judged_compared, path_or, words_compared};
 
 use crate::opening::{RealOpener, written_out};
 use crate::reading::{FileFault, file_fault};
@@ -148,8 +148,7 @@ fn edited<D: Disk>(
         return Ok(outcome);
     }
     if let Err(error) = refuse_read(disk, destination.certificate, file, list) {
-        let word = destination.certificate.unwrap_or(file);
-        return failed(alloc, true, word, error);
+        return failed(alloc, true, path_or(destination.certificate, file), error);
     }
     placed(alloc, disk, file, destination, inputs, outcome)
 }
@@ -255,19 +254,30 @@ fn unreplaced(
     certificate: Option<&str>,
     fault: ReplaceFault,
 ) -> Result<Outcome, RunFault>
-    ensures { IsFileFault result }
+    ensures { IsUnreplaced file.now certificate.entry fault result }
 {
-    let (word, error) = match fault {
-        ReplaceFault::File(error) => (file, error),
-        ReplaceFault::Certificate(error) => (certificate.unwrap_or(file), error),
-    };
-    failed(alloc, true, word, error)
+    match fault {
+        ReplaceFault::File(error) => failed(alloc, true, file, error),
+        ReplaceFault::Certificate(error) => {
+            failed(alloc, true, path_or(certificate, file), error)
+        }
+    }
+}
+
+/// The path, or the word where there is none.
+fn path_or<'a>(path: Option<&'a str>, word: &'a str) -> &'a str
+    ensures { result.now ≡ path_or path.entry word.entry.now }
+{
+    match path {
+        Some(path) => path,
+        None => word,
+    }
 }
 
 /// What a file that could not be written comes to: a file fault, whatever the system's reason, since another one may be written or
 /// emptied by then. The reason is told where that is wished and there is memory for it.
 fn failed(alloc: Global, explains: bool, word: &str, error: io::Error) -> Result<Outcome, RunFault>
-    ensures { IsFileFault result }
+    ensures { IsFileFault explains word.now result }
 {
     match file_fault(alloc, explains, word, &error) {
         Ok(outcome) => Ok(outcome),

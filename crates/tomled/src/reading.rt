@@ -1,7 +1,7 @@
 //! Reading what the words name.
-ghost use Rattle.std.specs.Prelude.{IfOk};
+ghost use Rattle.std.specs.Prelude.{IfOk, string_bytes};
 ghost use Rattle.tomled.specs.Asking.{Asked};
-ghost use Rattle.tomled.specs.Finishing.{TellsFault};
+ghost use Rattle.tomled.specs.Finishing.{HasReason, TellsFault};
 ghost use Rattle.tomled.specs.Reads.{AreBytesOf, AreRead};
 ghost use Rattle.tomled.specs.Validating.{IsOutcomeOf};
 
@@ -36,7 +36,7 @@ impl<'a> FileFault<'a> {
 
     /// What the run then comes to: `file fault`, and where it is explained the word and the system's reason.
     pub fn outcome(self, alloc: Global, explains: bool) -> Result<Outcome, RunFault>
-        ensures { IsOutcomeOf self.entry result }
+        ensures { IsOutcomeOf explains self.entry result }
     {
         match self {
             FileFault::Failed { word, error } => { Ok(file_fault(alloc, explains, word, &error)?) }
@@ -52,16 +52,31 @@ pub fn file_fault(
     word: &str,
     error: &io::Error,
 ) -> Result<Outcome, AllocError>
-    ensures { IfOk result TellsFault }
+    ensures { IfOk result (TellsFault explains word.now) }
 {
-    let said = if explains {
-        format!(in alloc; "{word}: {error}\n")?
-    } else {
-        String::new(alloc)
-    };
-    let mut text = RunFault::File.text().to_string(alloc)?;
-    text.push_str(said.as_str())?;
-    Ok(Outcome::failed(alloc, RunFault::File.status(), text.into_bytes()))
+    let line = RunFault::File.text().to_string(alloc)?;
+    if !explains {
+        return Ok(Outcome::failed(alloc, RunFault::File.status(), line.into_bytes()));
+    }
+    let lines = with_reason(alloc, line, word, error)?;
+    Ok(Outcome::failed(alloc, RunFault::File.status(), lines.into_bytes()))
+}
+
+/// The text, and behind it the word, a colon and what the system says.
+fn with_reason(
+    alloc: Global,
+    text: String,
+    word: &str,
+    error: &io::Error,
+) -> Result<String, AllocError>
+    ensures { IfOk result (λ lines. HasReason (string_bytes text) word.now (string_bytes lines)) }
+{
+    let reason = format!(in alloc; "{error}\n")?;
+    let mut lines = text;
+    lines.push_str(word)?;
+    lines.push_str(": ")?;
+    lines.push_str(reason.as_str())?;
+    Ok(lines)
 }
 
 /// The bytes of all, in their order. It stops at the first that can't be read.

@@ -19,9 +19,9 @@ returns-in_ok-validated_bytes-in-Ok g c =
       _,
       refl,
       refl,
-      subst (λ bytes. IsValidated c.args.profile c.args.file.now bytes o) c.deref.ensures.value c.in_ok-validated_bytes-in-Ok.ensures,
+      (refl, subst (λ bytes. IsValidated c.args.profile c.args.file.now bytes o) c.deref.ensures.value c.in_ok-validated_bytes-in-Ok.ensures),
     )
 
 pub returns-in-Err : goal.returns-in-Err
 returns-in-Err g c =
-    one (IsOneTold c.args.profile c.args.file.now c.outcome.result) _ _ _ c.in-Err.ensures (told_fault c.args.profile _ c.in-Err.fault c.outcome.result c.outcome.ensures)
+    one (IsOneTold c.args.profile c.args.file.now c.outcome.result) _ _ _ c.in-Err.ensures (told_fault c.args.profile _ refl c.in-Err.fault c.outcome.result c.outcome.ensures)
