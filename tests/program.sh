@@ -64,6 +64,10 @@ run 2 - 'bad words' check "$(printf '\377')"
 run 3 - 'file fault' check missing.toml
 run 3 - 'file fault' check .
 run 0 'Reads and edits TOML documents*' - --help
+run 0 'tomled 1.0.0' - --version
+run 0 'tomled 1.0.0' - -V
+run 2 - 'error:*' show good.toml twice.toml
+run 2 - 'error:*' check --version
 run 0 'Prints the data of a TOML document*' - show --help
 run 0 'Says whether a file is a TOML document*' - check --help
 run 0 'Edits a TOML document*' - edit --help

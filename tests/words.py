@@ -149,9 +149,11 @@ def page_arguments(usage):
 
 def page_words(name):
     text = text_of(name)
-    everywhere = page_options(page_section(text, 'SYNOPSIS'))
+    synopsis = page_section(text, 'SYNOPSIS')
+    # a usage of the synopsis in which a command may stand is one of each command
+    everywhere = set().union(*(page_options(it) for it in synopsis.split('.Nm\n') if '.Op Ar COMMAND\n' in it))
     usages = re.findall(r'^\.It Xo\n\.Cm (\S+)\n(.*?)^\.Xc$', page_section(text, 'COMMANDS'), re.MULTILINE | re.DOTALL)
-    said = {TOP: everywhere | {command for command, _ in usages}}
+    said = {TOP: page_options(synopsis) | {command for command, _ in usages}}
     for command, usage in usages:
         common = set() if command == HELP else everywhere
         said[command] = page_options(usage) | {page_arguments(usage)} - {''} | common

@@ -28,7 +28,7 @@ _tomled() {
   fi
   COMPREPLY=()
   if [ "$COMP_CWORD" -eq 1 ]; then
-    mapfile -t COMPREPLY < <(compgen -W "$commands -h --help" -- "$current")
+    mapfile -t COMPREPLY < <(compgen -W "$commands -h --help -V --version" -- "$current")
     return
   fi
 

@@ -43,6 +43,7 @@ complete -c tomled -n __tomled_first -a help -d 'Print the help of a command'
 complete -c tomled -n '__tomled_in help' -a 'get validate check show set insert rename remove apply edit verify certify help'
 
 complete -c tomled -n __tomled_first -s h -l help -d 'Print help'
+complete -c tomled -n __tomled_first -s V -l version -d 'Print version'
 complete -c tomled -n '__tomled_in get validate check show set insert rename remove apply edit verify certify' -s h -l help -d 'Print help'
 complete -c tomled -n '__tomled_in get validate check show set insert rename remove apply edit verify certify' -l profile -x -a '1 2' -d 'Which texts are TOML'
 complete -c tomled -n '__tomled_in check show edit verify' -l explain -d 'Say of a refusal where and why'

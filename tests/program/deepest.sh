@@ -73,7 +73,11 @@ run 5 - 'refused 301 0+' get good.toml "a$(deep 20000 .a)"
 run 5 - 'refused 301 0+' get good.toml "a$(deep 20000 '[0]')"
 run 1 - 'refused 340 40002+' get good.toml "a$(deep 20000 .a)."
 : >blank.toml
-run 1 - 'refused 312 100+' set --parents blank.toml "a$(deep 2000 .a)" 1
+# Each of these edits would have an address of its own: memory goes with the place's length alone.
+by=(prlimit --as=400000000)
+run 1 - 'refused 312 100+' set --parents blank.toml "a$(deep 50000 .a)" 1
+run 1 - 'refused 312 100+' insert --parents blank.toml "a$(deep 50000 .a)" 1
+by=()
 
 # What is told of them.
 { printf 'a = '; deep 101 '['; } >arrays.over

@@ -1,4 +1,5 @@
 pub mod Refused
+pub mod Reaching
 pub mod Leading
 pub mod Edits
 pub mod CarriedSoFar
@@ -76,4 +77,3 @@ pub mod Ended
 pub mod Sought
 pub mod SearchWalking
 pub mod Proved
-pub mod PlaceTrees

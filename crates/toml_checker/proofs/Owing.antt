@@ -3,17 +3,17 @@ use Rattle.std.proofs.Common.{◌≡◌, ℕ, ◌+◌, ◌<◌, ◌↔◌, ◌�
 use Rattle.std.specs.Prelude.{option_map}
 use Rattle.std.proofs.lemmas.List.{drop_more}
 use Rattle.toml_names.specs.declared.model.address.Step.{Step}
+use Rattle.toml_names.specs.declared.model.address_set.AddressSet.{AddressSet}
 use Rattle.toml_names.specs.model.Addresses.{Address}
+use Rattle.toml_names.specs.model.AddressSets.{reaches, reaches_in}
 use Rattle.toml_edits.specs.Carry.{parted}
 use Rattle.toml_edits.specs.Edits.{Change}
 use Rattle.toml_edits.proofs.Proved.{parted_at_last}
 use Rattle.toml_checker.specs.declared.debts.Debt.{Debt}
 use Rattle.toml_checker.specs.declared.debts.Debts.{Debts}
-use Rattle.toml_checker.specs.declared.place_tree.PlaceTree.{PlaceTree}
-use Rattle.toml_checker.specs.Debts.{AnyCovers, Covers, CoversMore, IsCovered, IsOwedBy, MayCover}
+use Rattle.toml_checker.specs.Debts.{AnyCovers, Covers, CoversMore, IsCovered, IsOwedBy, MayCover, ReachesWith}
 use Rattle.toml_checker.specs.Owed.{IsOwed}
-use Rattle.toml_checker.specs.PlaceTrees.{MeetsMore, meets}
-use Rattle.toml_checker.proofs.PlaceTrees.{more_met, now_met, still_met}
+use Rattle.toml_checker.proofs.Reaching.{more_reached, now_reached, still_reached}
 
 abbrev Parts : Type 0
 Parts = Address × Step
@@ -50,41 +50,41 @@ pushed (x ∷ ds) d a = parts (pushed ds d a)
         back (inr (inl h)) = inl h
         back (inr (inr h)) = inr (w.1 (inr h))
 
--- what the debts cover with one more: of the tree, or of the others
-pub long_more : (tree : Option PlaceTree) (long more : List Debt) (d : Debt) (a : Address) → more ≡ long ++ d ∷ [] → ((meets tree a ≡ true) ⊎ AnyCovers more a) ↔ (Covers d a ⊎ ((meets tree a ≡ true) ⊎ AnyCovers long a))
-long_more tree long more d a is = (there, back)
+-- what the debts cover with one more: of the set, or of the others
+pub long_more : (short : Option AddressSet) (long more : List Debt) (d : Debt) (a : Address) → more ≡ long ++ d ∷ [] → ((reaches_in short a ≡ true) ⊎ AnyCovers more a) ↔ (Covers d a ⊎ ((reaches_in short a ≡ true) ⊎ AnyCovers long a))
+long_more short long more d a is = (there, back)
   where
-    there : (meets tree a ≡ true) ⊎ AnyCovers more a → Covers d a ⊎ ((meets tree a ≡ true) ⊎ AnyCovers long a)
+    there : (reaches_in short a ≡ true) ⊎ AnyCovers more a → Covers d a ⊎ ((reaches_in short a ≡ true) ⊎ AnyCovers long a)
     there (inl h) = inr (inl h)
     there (inr h) = by ((pushed long d a).0 (subst (λ ds. AnyCovers ds a) is h))
       where
-        by : Covers d a ⊎ AnyCovers long a → Covers d a ⊎ ((meets tree a ≡ true) ⊎ AnyCovers long a)
+        by : Covers d a ⊎ AnyCovers long a → Covers d a ⊎ ((reaches_in short a ≡ true) ⊎ AnyCovers long a)
         by (inl k) = inl k
         by (inr k) = inr (inr k)
 
-    back : Covers d a ⊎ ((meets tree a ≡ true) ⊎ AnyCovers long a) → (meets tree a ≡ true) ⊎ AnyCovers more a
+    back : Covers d a ⊎ ((reaches_in short a ≡ true) ⊎ AnyCovers long a) → (reaches_in short a ≡ true) ⊎ AnyCovers more a
     back (inl h) = inr (subst (λ ds. AnyCovers ds a) (sym is) ((pushed long d a).1 (inl h)))
     back (inr (inl h)) = inl h
     back (inr (inr h)) = inr (subst (λ ds. AnyCovers ds a) (sym is) ((pushed long d a).1 (inr h)))
 
-pub tree_more : (old : Option PlaceTree) (new : PlaceTree) (long : List Debt) (d : Debt) (way : Address) (a : Address) → way ≡ d.at → MeetsMore old (Some new) d.below way
-    → ((meets (Some new) a ≡ true) ⊎ AnyCovers long a) ↔ (Covers d a ⊎ ((meets old a ≡ true) ⊎ AnyCovers long a))
-tree_more old new long d way a is more = (there, back)
+pub short_more : (old : Option AddressSet) (new : AddressSet) (long : List Debt) (d : Debt) (way : Address) (a : Address) → way ≡ d.at → ReachesWith old new d.below way
+    → ((reaches new a ≡ true) ⊎ AnyCovers long a) ↔ (Covers d a ⊎ ((reaches_in old a ≡ true) ⊎ AnyCovers long a))
+short_more old new long d way a is more = (there, back)
   where
-    own : MeetsMore old (Some new) d.below d.at
-    own = subst (MeetsMore old (Some new) d.below) is more
+    own : ReachesWith old new d.below d.at
+    own = subst (ReachesWith old new d.below) is more
 
-    there : (meets (Some new) a ≡ true) ⊎ AnyCovers long a → Covers d a ⊎ ((meets old a ≡ true) ⊎ AnyCovers long a)
-    there (inl h) = by (more_met old (Some new) d.below d.at a own h)
+    there : (reaches new a ≡ true) ⊎ AnyCovers long a → Covers d a ⊎ ((reaches_in old a ≡ true) ⊎ AnyCovers long a)
+    there (inl h) = by (more_reached old new d.below d.at a own h)
       where
-        by : Covers d a ⊎ (meets old a ≡ true) → Covers d a ⊎ ((meets old a ≡ true) ⊎ AnyCovers long a)
+        by : Covers d a ⊎ (reaches_in old a ≡ true) → Covers d a ⊎ ((reaches_in old a ≡ true) ⊎ AnyCovers long a)
         by (inl k) = inl k
         by (inr k) = inr (inl k)
     there (inr h) = inr (inr h)
 
-    back : Covers d a ⊎ ((meets old a ≡ true) ⊎ AnyCovers long a) → (meets (Some new) a ≡ true) ⊎ AnyCovers long a
-    back (inl h) = inl (now_met old (Some new) d.below d.at a own h)
-    back (inr (inl h)) = inl (still_met old (Some new) d.below d.at a own h)
+    back : Covers d a ⊎ ((reaches_in old a ≡ true) ⊎ AnyCovers long a) → (reaches new a ≡ true) ⊎ AnyCovers long a
+    back (inl h) = inl (now_reached old new d.below d.at a own h)
+    back (inr (inl h)) = inl (still_reached old new d.below d.at a own h)
     back (inr (inr h)) = inr h
 
 pub none_owed : (P : Type 0) → P ↔ (⊥ ⊎ P)

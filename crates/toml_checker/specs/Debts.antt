@@ -1,6 +1,8 @@
 -- What edits owe, as the code holds it.
-use Rattle.std.specs.Prelude.{◌≡◌, ◌↔◌, ◌⊎◌, Bool, true, List, [], ◌∷◌, Option, Some, MatchOption}
+use Rattle.std.specs.Prelude.{◌≡◌, ◌↔◌, ◌⊎◌, ◌||◌, Bool, true, List, [], ◌∷◌, Option, Some, None, MatchOption}
+use Rattle.toml_names.specs.declared.model.address_set.AddressSet.{AddressSet}
 use Rattle.toml_names.specs.model.Addresses.{Address}
+use Rattle.toml_names.specs.model.AddressSets.{IsRootAlone, reaches, reaches_in, reaches_one}
 use Rattle.toml_edits.specs.Edits.{Change}
 use Rattle.toml_edits.specs.Lists.{carried}
 use Rattle.toml_units.specs.Plain.{Spanned}
@@ -8,7 +10,6 @@ use Rattle.toml_checker.specs.declared.debts.Debt.{Debt}
 use Rattle.toml_checker.specs.declared.debts.Debts.{Debts}
 use Rattle.toml_checker.specs.CarriedTo.{IsAtOrAbove, At}
 use Rattle.toml_checker.specs.Owed.{result, Owes}
-use Rattle.toml_checker.specs.PlaceTrees.{meets}
 
 -- the address is at or above that of the debt, or below it where all below it is owed
 abbrev pub Covers : Debt → Address → Type 0
@@ -21,9 +22,18 @@ AnyCovers (d ∷ ds) a = Covers d a ⊎ AnyCovers ds a
 abbrev pub MayCover : Option Debt → Address → Type 0
 MayCover o a = MatchOption o ⊥ (λ d. Covers d a)
 
--- the tree meets it, or one of the others covers it
+-- the set reaches it, or one of the others covers it
 abbrev pub IsCovered : Debts → Address → Type 0
-IsCovered ds a = (meets ds.tree a ≡ true) ⊎ AnyCovers ds.long.items a
+IsCovered ds a = (reaches_in ds.short a ≡ true) ⊎ AnyCovers ds.long.items a
+
+-- the set that is there, or one of no addresses
+abbrev pub IsKept : Option AddressSet → AddressSet → Type 0
+IsKept None set = IsRootAlone set
+IsKept (Some old) set = old ≡ set
+
+-- a set, or none, with one address more: all below it too, or it alone
+abbrev pub ReachesWith : Option AddressSet → AddressSet → Bool → Address → Type 0
+ReachesWith old new whole at = (a : Address) → reaches new a ≡ (reaches_in old a || reaches_one whole at a)
 
 abbrev pub IsNothingOwed : Debts → Type 0
 IsNothingOwed ds = (a : Address) → ¬ IsCovered ds a

@@ -33,4 +33,3 @@ pub mod Findings
 pub mod SearchTraces
 pub mod SearchWalking
 pub mod Answers
-pub mod PlaceTrees

@@ -1,18 +1,18 @@
 //! What edits owe.
-ghost use Rattle.std.specs.Prelude.{◌≡◌, ◌↔◌, ◌⊎◌, IsTrue, IfOk, option_map};
-ghost use Rattle.toml_checker.specs.Debts.{AnyCovers, Covers, CoversMore, IsCovered, IsNothingOwed, MayCover, IsOwedBy};
+ghost use Rattle.std.specs.Prelude.{◌≡◌, ◌↔◌, ◌⊎◌, IsTrue, IfOk, option_copied, option_map};
+ghost use Rattle.toml_checker.specs.Debts.{AnyCovers, Covers, CoversMore, IsCovered, IsKept, IsNothingOwed, IsOwedBy, MayCover, ReachesWith};
 ghost use Rattle.toml_checker.specs.EditLists.{changes};
 ghost use Rattle.toml_checker.specs.Owed as owed;
 ghost use Rattle.toml_edits.specs.Edits.{change};
 ghost use Rattle.toml_edits.specs.Carry.{parted};
 ghost use Rattle.toml_names.specs.model.Addresses.{Address as Steps, child};
+ghost use Rattle.toml_names.specs.model.AddressSets.{reaches_in};
 
 use crate::above::is_at_or_above;
 use crate::edit_list::EditList;
-use crate::place_tree::{PlaceTree, meets, with_place};
 use std::alloc::{AllocError, Global};
 use toml_edits::Edit;
-use toml_names::{Address, MAX_STEPS, Name, Step};
+use toml_names::{Address, AddressSet, MAX_STEPS, Name, Step};
 
 /// What an edit owes: all at or above an address, and all below it, unless it is a removal.
 #[derive(Drop)]
@@ -21,10 +21,12 @@ pub(crate) struct Debt {
     pub(crate) below: bool,
 }
 
-/// What edits owe: the debts at addresses that are no longer than those of things can be, as a tree, and the others.
+/// What edits owe: the debts at addresses that are no longer than those of things can be, as a set that one walk asks, and the
+/// others.
 #[derive(Drop)]
 pub(crate) struct Debts {
-    tree: Option<PlaceTree>,
+    // none where nothing is owed: a set reaches the root always
+    short: Option<AddressSet>,
     long: Vec<Debt>,
 }
 
@@ -99,25 +101,59 @@ pub(crate) fn no_debts(alloc: Global) -> Debts
     ensures { IsNothingOwed result }
 {
     Debts {
-        tree: None,
+        short: None,
         long: Vec::new(alloc),
     }
+}
+
+/// The set, or one of no addresses.
+fn kept(alloc: Global, set: Option<AddressSet>) -> AddressSet
+    ensures { IsKept set result }
+{
+    match set {
+        Some(set) => set,
+        None => AddressSet::new(alloc),
+    }
+}
+
+/// The set with one address more, and all below that, where it is meant.
+fn with_place(
+    alloc: Global,
+    set: Option<AddressSet>,
+    at: &[Step],
+    with_all_below: bool,
+) -> Result<AddressSet, AllocError>
+    ensures { IfOk result (λ new. ReachesWith set new with_all_below at.now) }
+{
+    let mut set = kept(alloc, set);
+    set.add_place(at, with_all_below)?;
+    Ok(set)
 }
 
 /// What is owed with one debt more.
 fn with_debt(alloc: Global, debts: Debts, debt: Debt) -> Result<Debts, AllocError>
     ensures { IfOk result (λ new. (a : Steps) → CoversMore (Covers debt) debts new a) }
 {
-    let Debts { tree, mut long } = debts;
+    let Debts { short, mut long } = debts;
     if debt.at.steps().len() > MAX_STEPS + 1 {
         long.push(debt)?;
-        return Ok(Debts { tree, long });
+        return Ok(Debts { short, long });
     }
-    let tree = with_place(alloc, tree, debt.at.steps(), debt.below)?;
+    let short = with_place(alloc, short, debt.at.steps(), debt.below)?;
     Ok(Debts {
-        tree: Some(tree),
+        short: Some(short),
         long,
     })
+}
+
+/// Whether a set that may not be there reaches the address.
+fn is_reached(set: Option<&AddressSet>, at: &[Step]) -> bool
+    ensures { result ≡ reaches_in (option_copied set.entry) at.now }
+{
+    match set {
+        Some(set) => set.reaches(at),
+        None => false,
+    }
 }
 
 /// What is owed with what an edit owes, if anything.
@@ -139,7 +175,7 @@ impl Debts {
     pub(crate) fn cover(&self, at: &Address) -> bool
         ensures { IsTrue result ↔ IsCovered self.now at.now }
     {
-        meets(self.tree.as_ref(), at.steps()) || any_covers(&self.long, at)
+        is_reached(self.short.as_ref(), at.steps()) || any_covers(&self.long, at)
     }
 }
 

@@ -18,7 +18,6 @@ pub mod laws;
 mod marks;
 mod outer;
 mod pairs;
-mod place_tree;
 mod protection;
 mod search;
 mod sight;

@@ -1,5 +1,5 @@
 -- What `get` answers of what is found.
-use Rattle.std.proofs.Common.{◌≡◌, ℕ, List, Option, Some, None, Result, Ok, Err, inl, inr, sym, subst}
+use Rattle.std.proofs.Common.{◌≡◌, ℕ, List, Option, Err, inl, inr, sym, subst}
 use Rattle.toml_tree.specs.HandedOut.{AreLinesIn}
 use Rattle.toml_tree.specs.Tree.{Line}
 use Rattle.toml_tree.specs.declared.profile.Profile.{Profile}
@@ -10,7 +10,7 @@ use Rattle.toml_places.specs.Reads.{IsPlace}
 use Rattle.toml_places.specs.declared.place.PlaceStep.{PlaceStep}
 use Rattle.toml_print.specs.declared.form.Form.{Form}
 use Rattle.toml_commands.specs.Get.{Comes, Finds, FindsForm, FindsSpelled, Gets, IsBadPlace}
-use Rattle.toml_delivery.specs.Outcomes.{ComesTo, Ends, Tells}
+use Rattle.toml_delivery.specs.Outcomes.{ComesTo, Ends}
 use Rattle.toml_commands.specs.Refusals.{IsRefused}
 use Rattle.toml_commands.specs.Reading.{IsGoodTextWith}
 use Rattle.toml_delivery.specs.declared.ending.Ending.{Ending}

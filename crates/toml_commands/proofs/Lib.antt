@@ -8,5 +8,7 @@ pub mod Edited
 pub mod Applied
 pub mod Asked
 pub mod Said
+pub mod FirstEdits
+pub mod NoEdits
 pub mod Wishing
 mod PlainPrinted

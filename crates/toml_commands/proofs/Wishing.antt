@@ -6,10 +6,11 @@ use Rattle.std.specs.declared.alloc.AllocError.{AllocError}
 use Rattle.toml_tree.specs.declared.profile.Profile.{Profile}
 use Rattle.toml_edits.specs.Edits.{Change}
 use Rattle.toml_units.specs.Certificates.{certificate_of}
-use Rattle.toml_editor.specs.Edited.{IsEditedWith}
+use Rattle.toml_editor.specs.Edited.{IsEditedWith, TellsWith}
 use Rattle.toml_layout.specs.declared.layout.Layout.{Layout}
 use Rattle.toml_places.specs.declared.place.PlaceStep.{PlaceStep}
 use Rattle.toml_places.specs.Reads.{IsPlace}
+use Rattle.toml_one.specs.Kept.{Keeps}
 use Rattle.toml_one.specs.Wishes.{Wished}
 use Rattle.toml_commands.specs.Edit.{IsUnmade}
 use Rattle.toml_commands.specs.One.{AreWished, IsMadeAt, IsUnmadeAt, MakesWish}
@@ -21,6 +22,7 @@ use Rattle.toml_delivery.specs.declared.ending.Ending.TheVariants.{Refused, NoMe
 use Rattle.toml_delivery.specs.declared.outcome.Answer.{Answer}
 use Rattle.toml_delivery.specs.declared.outcome.Outcome.{Outcome}
 use Rattle.toml_delivery.specs.declared.refusal.Refusal.{Refusal}
+use Rattle.toml_commands.proofs.FirstEdits.{kept_makes, kept_tells}
 
 module _ (layout : Layout) (profile : Profile) (before place : List ℕ) (wish : Wished) where
   pub no_place : (e : Ending) → Ends (IsBadPlace place) e → Ends (IsUnmadeAt layout profile before place wish) e
@@ -32,24 +34,34 @@ module _ (layout : Layout) (profile : Profile) (before place : List ℕ) (wish :
     no_document (Refused r) is = inr (inl (steps, spelled, is))
     no_document NoMemory is = tt
 
-    module _ (cs : List Change) (wished : AreWished profile before steps wish cs) where
+    module _ (cs : List Change) (kept : Keeps (AreWished profile before steps wish) cs) where
+      refused : (r : Refusal) → (stands : IsUnmade layout profile before cs r)
+          → ((all : List Change) × AreWished profile before steps wish all × TellsWith layout profile before all stands.fault) → IsUnmadeAt layout profile before place wish r
+      refused r is (all, wished, told) =
+          inr (inr (record { steps = steps; spelled = spelled; changes = all; wished = wished; unmade = record { fault = is.fault; told = told; stands = is.stands } }))
+
       pub unmade_at : (e : Ending) → Ends (IsUnmade layout profile before cs) e → Ends (IsUnmadeAt layout profile before place wish) e
-      unmade_at (Refused r) is = inr (inr (record { steps = steps; spelled = spelled; changes = cs; wished = wished; unmade = is }))
+      unmade_at (Refused r) is = refused r is (kept_tells layout profile before (AreWished profile before steps wish) cs kept is.fault is.told)
       unmade_at NoMemory is = tt
+
+      module _ (text : List ℕ) (pairs : List (ℕ × ℕ)) (a : Answer) (out : a.out.items ≡ text) (written : texts_of a.files.items ≡ certificate_of pairs ∷ []) where
+        made : ((all : List Change) × AreWished profile before steps wish all × IsEditedWith layout profile before all text pairs) → IsGood (IsMadeAt layout profile before place wish) a
+        made (all, wished, is) =
+            subst (λ t. IsMadeAt layout profile before place wish t (texts_of a.files.items)) (sym out)
+            (record {
+              steps = steps;
+              spelled = spelled;
+              changes = all;
+              wished = wished;
+              certificate = certificate_of pairs;
+              made = record { pairs = pairs; edited = is; written = refl };
+              files = written;
+            })
 
       pub made_at : (text : List ℕ) (pairs : List (ℕ × ℕ)) (a : Answer) → IsEditedWith layout profile before cs text pairs → a.out.items ≡ text
           → texts_of a.files.items ≡ certificate_of pairs ∷ [] → IsGood (IsMadeAt layout profile before place wish) a
-      made_at text pairs a is printed written =
-          subst (λ t. IsMadeAt layout profile before place wish t (texts_of a.files.items)) (sym printed)
-          (record {
-            steps = steps;
-            spelled = spelled;
-            changes = cs;
-            wished = wished;
-            certificate = certificate_of pairs;
-            made = record { pairs = pairs; edited = is; written = refl };
-            files = written;
-          })
+      made_at text pairs a is out written =
+          made text pairs a out written (kept_makes layout profile before (AreWished profile before steps wish) cs kept text pairs is)
 
   printed : (a : Answer) → IsGood (IsMadeAt layout profile before place wish) a → (o : Outcome) → Gives a.out.items (texts_of a.files.items) o
       → MakesWish layout profile before place wish o

@@ -12,7 +12,7 @@ use Rattle.toml_explain.specs.Documents.{OpensAs}
 use Rattle.toml_explain.specs.declared.input.Input.{Input}
 use Rattle.toml_explain.specs.Openings.{OpensBare, OpensInFile, OpensPlace}
 use Rattle.toml_names.specs.model.Documents.{IsDocumentIn}
-use Rattle.toml_words.specs.Request.{Asked, show, check, edit, verify, certify, get, edit_one, apply, validate, asked_by}
+use Rattle.toml_words.specs.Request.{Asked, show, check, edit, verify, asked_by}
 use Rattle.toml_words.specs.declared.request.Request.{Request}
 use Rattle.toml_words.specs.declared.request.Request.TheVariants as requests
 use Rattle.toml_commands.specs.Check.{Checks}

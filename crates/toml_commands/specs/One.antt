@@ -9,6 +9,7 @@ use Rattle.toml_edits.specs.Edits.{Change}
 use Rattle.toml_layout.specs.declared.layout.Layout.{Layout}
 use Rattle.toml_places.specs.declared.place.PlaceStep.{PlaceStep}
 use Rattle.toml_places.specs.Reads.{IsPlace}
+use Rattle.toml_one.specs.Kept.{Keeps}
 use Rattle.toml_one.specs.Wishes.{AreEditsAt, Wished, to_set, to_insert, to_rename, to_remove}
 use Rattle.toml_words.specs.Request.{AskedEdit, AskedValue, set, insert, rename, remove}
 use Rattle.toml_commands.specs.Edit.{IsMade, IsUnmade, PrintsText, Says}
@@ -35,6 +36,13 @@ pub record AreWished (profile : Profile) (before : List ℕ) (steps : List Place
   pub kinds : Kinds
   pub facts : IsDataOf (named it.lines) kinds
   pub edits : AreEditsAt kinds (named it.lines) steps wish changes
+
+-- PLACE is a place, and these are the edits that stand for the wish there, up to and with the first that puts something too deep; or PLACE
+-- or the document is refused, and there are none
+abbrev pub AreWishedOrNone : Profile → List ℕ → List ℕ → Wished → List Change → Type 0
+AreWishedOrNone profile before place wish cs =
+    ((steps : List PlaceStep) × IsPlace place steps × Keeps (AreWished profile before steps wish) cs)
+    ⊎ ((r : Refusal) × (IsBadPlace place r ⊎ IsRefused profile before r) × (cs ≡ []))
 
 -- PLACE is a place, the text is what the edits make of the document that stand for the wish there, and the one file the certificate which
 -- shows it

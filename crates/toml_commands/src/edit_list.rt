@@ -3,9 +3,9 @@ ghost use Rattle.std.specs.Prelude.{map, IfErr, IfOk};
 ghost use Rattle.toml_edits.specs.EditList.{IsEditList};
 ghost use Rattle.toml_edits.specs.Edits.{change};
 ghost use Rattle.toml_delivery.specs.Outcomes.{Ends};
-ghost use Rattle.toml_commands.specs.EditLists.{IsListRefusal};
+ghost use Rattle.toml_commands.specs.EditLists.{AreListedOrNone, IsListRefusal, IsRefusedList};
 
-use std::alloc::Global;
+use std::alloc::{AllocError, Global};
 use toml_delivery::{Ending, Refusal};
 use toml_edits::{Edit, EditsFault, read_edits};
 
@@ -26,5 +26,26 @@ pub fn edit_list(alloc: Global, bytes: &[u8]) -> Result<Vec<Edit>, Ending>
             place: index,
         })),
         Err(EditsFault::NoMemory) => Err(Ending::NoMemory),
+    }
+}
+
+/// The edits of a list; none where it is refused.
+#[tactic(auto, using(crate::proofs::NoEdits::none_listed))]
+pub fn edits_listed(alloc: Global, bytes: &[u8]) -> Result<Vec<Edit>, AllocError>
+    ensures { IfOk result (λ edits. AreListedOrNone bytes.now (map change edits.items)) }
+{
+    match edit_list(alloc, bytes) {
+        Ok(edits) => Ok(edits),
+        Err(ending) => no_edits(alloc, ending),
+    }
+}
+
+/// No edits, where something is refused.
+pub fn no_edits(alloc: Global, ending: Ending) -> Result<Vec<Edit>, AllocError>
+    ensures { IfOk result (λ edits. IsRefusedList ending (map change edits.items)) }
+{
+    match ending {
+        Ending::Refused(_) => Ok(Vec::new(alloc)),
+        Ending::NoMemory => Err(AllocError),
     }
 }

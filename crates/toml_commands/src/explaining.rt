@@ -5,13 +5,14 @@ ghost use Rattle.toml_words.specs.Request.{asked_by};
 ghost use Rattle.toml_commands.specs.Explaining.{ExplainsDocument, ExplainsFile, ExplainsList, ExplainsPlace};
 ghost use Rattle.toml_commands.specs.Explaining.{HasSaid, IsExplained, IsExplainedText, IsSaid, bytes_at, explains};
 
+use crate::edit_list::edits_listed;
 use crate::judging::{JudgedWords, of_judged};
 use crate::one::edits_of_words;
 use crate::verify::reason_of;
 use std::alloc::{AllocError, Global};
 use toml_checker::Reason;
 use toml_delivery::{Outcome, Refusal};
-use toml_edits::{Edit, EditsFault, place, read_edits};
+use toml_edits::{Edit, place};
 use toml_explain::{
     Input, explain_absent, explain_document, explain_edit, explain_list, explain_place,
     explain_unverified,
@@ -244,7 +245,37 @@ fn of_one(
     if refusal.code == 301 && leads_nowhere(&edits, refusal.place) {
         return explain_absent(alloc, file, place, refusal.code, profile);
     }
-    explain_edit(alloc, file, &edits, refusal.place, refusal.code, profile)
+    let hint = hint(edit, &edits);
+    explain_edit(
+        alloc,
+        file,
+        &edits,
+        refusal.place,
+        refusal.code,
+        hint,
+        profile,
+    )
+}
+
+/// What makes a parent that is missing, where the one edit has an address of names alone: else something may be missing that is not made.
+fn hint(wished: OneEdit<'_>, edits: &[Edit]) -> &'static str {
+    let alone = match wished {
+        OneEdit::Set { parents, .. } => !parents,
+        OneEdit::Insert { parents, .. } => !parents,
+        OneEdit::Rename { .. } => false,
+        OneEdit::Remove => false,
+    };
+    match edits {
+        [edit] if alone && has_names_alone(place(edit).steps()) => {
+            "; --parents makes what is missing above"
+        }
+        _ => "",
+    }
+}
+
+/// Whether each step is a name.
+fn has_names_alone(steps: &[Step]) -> bool {
+    steps.iter().all(|step| matches!(step, Step::Name(_)))
 }
 
 /// Whether the edit with the index is at an address at which nothing can stand, as the root has no element: its place leads to none.
@@ -289,14 +320,13 @@ fn of_list(
         return unverified(alloc, file, refusal);
     }
     let edits = edits_listed(alloc, list.bytes)?;
-    explain_edit(alloc, file, &edits, refusal.place, refusal.code, profile)
-}
-
-/// The edits of a list; none where it is no list.
-pub fn edits_listed(alloc: Global, bytes: &[u8]) -> Result<Vec<Edit>, AllocError> {
-    match read_edits(alloc, bytes) {
-        Ok(edits) => Ok(edits),
-        Err(EditsFault::NoMemory) => Err(AllocError),
-        Err(_) => Ok(Vec::new(alloc)),
-    }
+    explain_edit(
+        alloc,
+        file,
+        &edits,
+        refusal.place,
+        refusal.code,
+        "",
+        profile,
+    )
 }

@@ -4,7 +4,8 @@ ghost use Rattle.toml_checker.specs.declared.verdict.Reason.TheVariants.{BeforeR
 ghost use Rattle.toml_commands.specs.Explaining.{IsSaidOfEnding, IsSaidOfJudged, IsSaidOfReason, IsSaidOfText, list_word};
 
 use crate::document::judge;
-use crate::explaining::{edits_listed, input, of_document};
+use crate::edit_list::edits_listed;
+use crate::explaining::{input, of_document};
 use crate::verify::reason_of;
 use std::alloc::{AllocError, Global};
 use toml_checker::Reason;

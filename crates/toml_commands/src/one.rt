@@ -1,15 +1,17 @@
 //! `set`, `insert`, `rename` and `remove`: one edit at a place.
 ghost use Rattle.std.specs.Prelude.{◌≡◌, IfErr, IfOk, map, string_bytes};
 ghost use Rattle.toml_edits.specs.Edits.{change};
+ghost use Rattle.toml_one.specs.Kept.{Keeps};
 ghost use Rattle.toml_one.specs.Wishes.{wished};
 ghost use Rattle.toml_words.specs.Request.{asked_edit, asked_value};
-ghost use Rattle.toml_commands.specs.One.{AreWished, IsMadeAt, IsUnmadeAt, MakesWish, value_text, wished_by};
+ghost use Rattle.toml_commands.specs.One.{AreWished, AreWishedOrNone, IsMadeAt, IsUnmadeAt, MakesWish, value_text, wished_by};
 ghost use Rattle.toml_delivery.specs.Outcomes.{Ends, IsGood};
 ghost use Rattle.toml_commands.specs.Refusals.{IsRefused};
 
 use crate::apply::text_answer;
 use crate::document::read_data;
 use crate::edit::make;
+use crate::edit_list::no_edits;
 use crate::get::place_of;
 use std::alloc::{AllocError, Global};
 use std::mem;
@@ -116,7 +118,8 @@ fn made_at(
     Ok(text_answer(alloc, text, &certificate)?)
 }
 
-/// The edits that stand for the wish in the document. Its names stay in memory.
+/// The edits that stand for the wish in the document, up to and with the first that puts something at an address of more than 100 steps.
+/// Its names stay in memory.
 pub fn edits_of(
     alloc: Global,
     file: &[u8],
@@ -124,7 +127,7 @@ pub fn edits_of(
     wish: Wish<'_>,
     profile: Profile,
 ) -> Result<Vec<Edit>, Ending>
-    ensures wished { IfOk result (λ edits. AreWished profile file.now place.now (wished wish.entry) (map change edits.items)) }
+    ensures wished { IfOk result (λ edits. Keeps (AreWished profile file.now place.now (wished wish.entry)) (map change edits.items)) }
     ensures refused { IfErr result (Ends (IsRefused profile file.now)) }
 {
     let names = read_data(alloc, file, profile)?;
@@ -133,49 +136,51 @@ pub fn edits_of(
     Ok(edits)
 }
 
-/// The edits that stand for an edit of words at a place, for who explains why they are refused; none where the place or the document is
-/// refused.
+/// The edits that stand for an edit of words at a place, as `edits_of`, for who explains why they are refused; none where the place or the
+/// document is refused.
 pub fn edits_of_words(
     alloc: Global,
     file: &[u8],
     place: &str,
     edit: OneEdit<'_>,
     profile: Profile,
-) -> Result<Vec<Edit>, AllocError> {
-    let place = match place_of(alloc, place.as_bytes()) {
-        Ok(place) => place,
-        Err(ending) => return no_edits(alloc, ending),
-    };
-    let made = match edit {
+) -> Result<Vec<Edit>, AllocError>
+    ensures { IfOk result (λ edits.
+        AreWishedOrNone profile file.now place.now (wished_by (asked_edit edit.entry)) (map change edits.items)) }
+{
+    match edit {
         OneEdit::Set { value, parents } => {
             let text = value_text(alloc, value)?;
             let value = text.as_str();
-            edits_of(alloc, file, &place, Wish::Set { value, parents }, profile)
+            wished_or_none(alloc, file, place, Wish::Set { value, parents }, profile)
         }
         OneEdit::Insert { value, parents } => {
             let text = value_text(alloc, value)?;
             let value = text.as_str();
-            edits_of(
-                alloc,
-                file,
-                &place,
-                Wish::Insert { value, parents },
-                profile,
-            )
+            wished_or_none(alloc, file, place, Wish::Insert { value, parents }, profile)
         }
-        OneEdit::Rename { to } => edits_of(alloc, file, &place, Wish::Rename { to }, profile),
-        OneEdit::Remove => edits_of(alloc, file, &place, Wish::Remove, profile),
-    };
-    match made {
-        Ok(edits) => Ok(edits),
-        Err(ending) => no_edits(alloc, ending),
+        OneEdit::Rename { to } => wished_or_none(alloc, file, place, Wish::Rename { to }, profile),
+        OneEdit::Remove => wished_or_none(alloc, file, place, Wish::Remove, profile),
     }
 }
 
-/// No edits, where something is refused.
-fn no_edits(alloc: Global, ending: Ending) -> Result<Vec<Edit>, AllocError> {
-    match ending {
-        Ending::Refused(_) => Ok(Vec::new(alloc)),
-        Ending::NoMemory => Err(AllocError),
+/// The edits that stand for a wish at a place, or none.
+#[tactic(auto, using(crate::proofs::NoEdits::none_of_place, crate::proofs::NoEdits::none_of_document, crate::proofs::NoEdits::some_wished))]
+fn wished_or_none(
+    alloc: Global,
+    file: &[u8],
+    place: &str,
+    wish: Wish<'_>,
+    profile: Profile,
+) -> Result<Vec<Edit>, AllocError>
+    ensures { IfOk result (λ edits. AreWishedOrNone profile file.now place.now (wished wish.entry) (map change edits.items)) }
+{
+    let place = match place_of(alloc, place.as_bytes()) {
+        Ok(place) => place,
+        Err(ending) => return no_edits(alloc, ending),
+    };
+    match edits_of(alloc, file, &place, wish, profile) {
+        Ok(edits) => Ok(edits),
+        Err(ending) => no_edits(alloc, ending),
     }
 }

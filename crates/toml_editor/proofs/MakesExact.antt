@@ -5,7 +5,7 @@ use Rattle.std.proofs.lemmas.Option.{same_Some}
 use Rattle.std.proofs.Math.Path.{fun_ext}
 use Rattle.std.specs.Prelude.{slice_get}
 use Rattle.toml_tree.specs.declared.profile.Profile.{Profile}
-use Rattle.toml_names.specs.declared.model.address.Step.TheVariants.{Name}
+use Rattle.toml_names.specs.declared.model.address.Step.TheVariants.{Index, Name}
 use Rattle.toml_names.specs.model.Addresses.{Address, element}
 use Rattle.toml_names.specs.model.Data.{Kinds}
 use Rattle.toml_edits.specs.After.{IsAfter}
@@ -19,16 +19,20 @@ use Rattle.toml_working.specs.declared.working.Tree.{Tree}
 use Rattle.toml_editor.specs.CertifiedLists.{ArePlain}
 use Rattle.toml_editor.specs.Edited.{MayBeSpread, TakesLastElement}
 use Rattle.toml_working.specs.InValues.{Places}
-use Rattle.toml_editor.specs.Exact.{Follows, IsAt, IsNotPlain, IsNotPlainAt, IsSpreadOn, MakesAll, MakesOne, OfPlain, OfNoPlaceAt, PassesAll, PassesAt, PassesOne, SetsMany, Stops, WritesEdit}
+use Rattle.toml_editor.specs.ElementTexts.{PutsValue}
+use Rattle.toml_editor.specs.Exact.{Follows, IsAt, IsNotPlain, IsNotPlainAt, IsOnePlace, IsSpreadOn, MakesAll, MakesOne, OfPlain, OfNoPlaceAt, PassesAll, PassesAt, PassesOne, PutsLone, PutsOne, Stops, WritesEdit}
 use Rattle.toml_working.specs.Putting.{manner}
 use Rattle.toml_editor.specs.Making.{TellsOne}
 use Rattle.toml_editor.specs.PlainTexts.{IsPlainOn}
-use Rattle.toml_working.specs.Standing.{Read}
+use Rattle.toml_text.specs.Source.{text_of}
+use Rattle.toml_working.specs.Standing.{Read, Standing, standing}
+use Rattle.toml_working.specs.Stands.{Stands}
 use Rattle.toml_editor.specs.Steps.{AreWritten}
 use Rattle.toml_working.specs.Written.{IsWritten}
 use Rattle.toml_editor.proofs.written.Follow.{remove_follows, set_follows, set_is_there}
 use Rattle.toml_editor.proofs.written.InsertFollow.{insert_follows}
 use Rattle.toml_editor.proofs.written.RenameFollow.{rename_follows}
+use Rattle.toml_editor.proofs.written.StandingOrder.{rules_order}
 use Rattle.toml_editor.proofs.written.Steps.{one_list_written}
 use Rattle.toml_working.specs.Manners.{Manner}
 
@@ -48,7 +52,7 @@ pub makes_one : (profile : Profile) (read : Read) (c : Change) (old new : Tree) 
 makes_one profile read (set p value) old new done writes text kinds now at none is_after plain =
     (set_made profile read p value old new done writes text kinds now at none is_after plain).1
 makes_one profile read (insert p value) old new done writes text kinds now at none is_after plain =
-    let (steps, rest, spelled, inserts) = writes at.whole in
+    let (steps, rest, spelled, inserts, inside) = writes at.whole in
     let given = is_after.1.value in
     insert_follows profile read old new p value text kinds now at none is_after (plain at.good.tree at.good.spelled) rest
     given.tree given.is_value steps spelled (inserts given.within given.tree given.is_value)
@@ -58,6 +62,38 @@ makes_one profile read (remove p) old new done writes text kinds now at none is_
     remove_follows profile read old new p text kinds now at none is_after (plain at.good.tree at.good.spelled) (writes at.whole)
 makes_one profile read (new_section p) old new done writes text kinds now at none is_after plain = absurd (plain at.good.tree at.good.spelled)
 makes_one profile read (new_element p) old new done writes text kinds now at none is_after plain = absurd (plain at.good.tree at.good.spelled)
+
+-- an element that is put in
+pub puts_one : (profile : Profile) (read : Read) (near : Kinds) (c : Change) (old new : Tree) (done : Bool) → WritesEdit profile read c old new done
+    → (done ≡ true) ⊎ IsOnePlace c near → PutsOne profile read c old new
+puts_one profile read near c old new done writes either text kinds now at is_after q i given is apart there =
+    by (subst (λ e. WritesEdit profile read e old new done) is writes) (subst (λ e. IsAfter profile e kinds now) is is_after)
+    (elim either [
+      | inl made ↦ made
+      | inr one ↦ absurd (subst (λ e. IsOnePlace e near) is one q i refl)
+    ])
+  where
+    by : WritesEdit profile read (insert (element q i) given) old new done → IsAfter profile (insert (element q i) given) kinds now → done ≡ true
+        → (ts : List Standing) × Stands (text_of old.texts.source) read new.slots.items ts
+        × PutsValue old.texts.layout profile (element q i) given (standing at.good.tree.lines) ts
+    by writes_it after made =
+        let (steps, rest, spelled, inserts, inside) = writes_it at.whole in
+        let value = after.1.value in
+        let lines = at.good.tree.lines in
+        let (opened, outlined, holds_it) = inside value.within value.tree value.is_value in
+        let (ts, stands, held) = holds_it q (Index i) refl apart (standing lines) at.stands (rules_order lines at.good.good.0) there made in (
+          ts,
+          stands,
+          record {
+            steps = steps;
+            spelled = spelled;
+            tree = value.tree;
+            is_value = value.is_value;
+            new = opened;
+            outlined = outlined;
+            put = held;
+          },
+        )
 
 -- ---- edits that are not made
 
@@ -90,7 +126,7 @@ not_last profile read seen (new_element p) old takes text kinds now at none is_a
 
 -- one that is made, or whose place is not spread, sets nothing that is spread
 pub passes_one : (profile : Profile) (read : Read) (near : Kinds) (c : Change) (old new : Tree) (done : Bool) → WritesEdit profile read c old new done
-    → (done ≡ true) ⊎ ¬ SetsMany c near → PassesOne profile read near c old
+    → (done ≡ true) ⊎ IsOnePlace c near → PassesOne profile read near c old
 passes_one profile read near (set p value) old new done writes (inl is) text kinds now at none is_after same spread =
     let (rest, sets) = writes at.whole in
     let given = is_after.1.value in
@@ -105,6 +141,28 @@ passes_one profile read near (new_section p) old new done writes either text kin
 passes_one profile read near (new_element p) old new done writes either text kinds now at none is_after same spread = spread.0
 
 -- ---- lists
+
+no_edit : {A : Type 0} (xs : List A) (x : A) → ¬ (xs ++ x ∷ [] ≡ [])
+no_edit [] x e = cc
+no_edit (y ∷ xs) x e = cc
+
+lone_first : {A : Type 0} (xs : List A) (x y : A) → xs ++ x ∷ [] ≡ y ∷ [] → (xs ≡ []) × (x ≡ y)
+lone_first [] x y e = (refl, cc)
+lone_first (z ∷ xs) x y e = let rest : xs ++ x ∷ [] ≡ [] = cc in absurd (no_edit xs x rest)
+
+-- no edit is made yet
+pub none_put : (profile : Profile) (read : Read) (tree : Tree) → PutsLone profile read [] tree tree
+none_put profile read tree c is = absurd (no_edit [] c (sym is))
+
+-- one more is
+pub lone_put : (profile : Profile) (read : Read) (cs : List Change) (c : Change) (old mid new : Tree) → (cs ≡ [] → mid ≡ old) → PutsOne profile read c mid new
+    → PutsLone profile read (cs ++ c ∷ []) old new
+lone_put profile read cs c old mid new first puts d is =
+    let (none, same) = lone_first cs c d is in
+    subst (λ t. PutsOne profile read d t new) (first none) (subst (λ e. PutsOne profile read e mid new) same puts)
+
+pub not_first : {A : Type 0} (cs : List Change) (c : Change) (old new : A) → cs ++ c ∷ [] ≡ [] → new ≡ old
+not_first cs c old new none = absurd (no_edit cs c none)
 
 written_more : (profile : Profile) (cs : List Change) (c : Change) (manner : Manner) (before mid after : List ℕ) → AreWritten profile cs manner before mid
     → IsWritten profile c manner mid after → AreWritten profile (cs ++ c ∷ []) manner before after

@@ -1,5 +1,6 @@
 -- The text that is written of the working tree, once plain edits are made on it, is the one that they write.
-use Rattle.std.proofs.Common.{◌≡◌, ℕ, List, ◌++◌, sym, ap, ◌∙◌, subst}
+use Rattle.std.proofs.Common.{◌≡◌, ℕ, true, List, [], ◌∷◌, ◌++◌, refl, sym, ap, ◌∙◌, subst}
+use Rattle.std.specs.List.{list_any}
 use Rattle.toml_text.specs.Forms.{IsNewline}
 use Rattle.toml_text.specs.Source.{text_of}
 use Rattle.toml_tree.specs.Profiles.{IsOfProfile}
@@ -8,20 +9,22 @@ use Rattle.toml_tree.specs.Tree.{Piece, Doc}
 use Rattle.toml_tree.specs.declared.profile.Profile.{Profile}
 use Rattle.toml_tree.proofs.Proved.{one_tree, text_is_spelled}
 use Rattle.toml_names.specs.mentions.Mentions.{named}
+use Rattle.toml_names.specs.model.Addresses.{Address, element}
 use Rattle.toml_names.specs.model.Data.{IsDataOf, Kinds}
 use Rattle.toml_names.specs.model.Documents.{IsDocumentIn}
 use Rattle.toml_names.specs.reader.Names.{AreGood}
-use Rattle.toml_edits.specs.Edits.{Change}
+use Rattle.toml_edits.specs.Edits.{Change, insert}
 use Rattle.toml_edits.specs.Lists.{Lead}
 use Rattle.toml_layout.specs.declared.texts.Texts.{Texts}
 use Rattle.toml_working.specs.declared.working.Tree.{Tree}
 use Rattle.toml_editor.specs.CertifiedLists.{ArePlain}
-use Rattle.toml_editor.specs.Exact.{FollowAll, IsAt, MakesAll}
+use Rattle.toml_editor.specs.ElementTexts.{PutsValue, WritesElement, standing_text}
+use Rattle.toml_editor.specs.Exact.{FollowAll, IsAt, MakesAll, PutsLone}
 use Rattle.toml_layout.specs.declared.layout.Layout.{Layout}
 use Rattle.toml_working.specs.Manners.{Manner}
 use Rattle.toml_working.specs.Putting.{manner}
 use Rattle.toml_editor.specs.PlainTexts.{WritesPlain}
-use Rattle.toml_working.specs.Standing.{Read, standing}
+use Rattle.toml_working.specs.Standing.{Read, Standing, holds, standing}
 use Rattle.toml_working.specs.Stands.{Stands}
 use Rattle.toml_working.specs.Starting.{NoneIsGone}
 use Rattle.toml_editor.specs.Steps.{AreWritten}
@@ -69,6 +72,20 @@ module _ (profile : Profile) (read : Read) (d : Doc) (before : List ℕ) (tree :
         let there = subst (λ t. Stands t read new.slots.items (standing last.lines)) (ap (λ (s : Texts). text_of s.source) all.source.texts ∙ texts) all.at.stands in
         lines_are_written before d.mark.text read new.slots.items last.lines out writes there
         ∙ ap (λ (m : Piece). m.text ++ joined (lines_parts last.lines)) mark ∙ text_is_spelled last all.after all.at.good.spelled.0
+
+    -- where the one edit puts in an element, it is the text of lines into which that was put
+    pub element_written : PutsLone profile read cs tree new → WritesOut before d.mark.text new.slots.items out → WritesElement layout profile before cs out
+    element_written puts writes = (d, spelled, by)
+      where
+        by : (q : Address) (i : ℕ) (text : List ℕ) → cs ≡ insert (element q i) text ∷ [] → ¬ (q ≡ []) → list_any (holds q) (standing d.lines) ≡ true
+            → (ts : List Standing) × PutsValue layout profile (element q i) text (standing d.lines) ts × (out ≡ d.mark.text ++ standing_text ts)
+        by q i text is apart there =
+            let lone = subst (λ es. Lead profile es old now) is lead in
+            let (ts, stand, put) = puts (insert (element q i) text) is before old lone.1 (at old facts) lone.2 q i text refl apart there in (
+              ts,
+              subst (λ l. PutsValue l profile (element q i) text (standing d.lines) ts) (ap (λ (m : Manner). m.layout) mannered) put,
+              writes read ts (subst (λ t. Stands t read new.slots.items ts) texts stand),
+            )
 
     pub plain_written : MakesAll profile read cs tree new → WritesOut before d.mark.text new.slots.items out → WritesPlain layout profile before cs out
     plain_written makes writes = (d, spelled, (λ plain. by plain))

@@ -1,10 +1,9 @@
 -- Documents that were read line by line.
-use Rattle.std.proofs.Common.{◌≡◌, ◌<◌, ◌∷◌, ◌++◌, ◌∙◌, [], ℕ, List, Option, Some, Ok, ap, map, sym, subst, subst₂}
+use Rattle.std.proofs.Common.{◌≡◌, ◌∙◌, ℕ, List, ap, map, sym, subst₂}
 use Rattle.toml_tree.specs.HandedOut.{AreLinesIn, tree_of}
 use Rattle.toml_layout.specs.KnownLines.{lines_known}
 use Rattle.toml_tree.specs.Spells.{Spells}
 use Rattle.toml_tree.specs.Tree.{Doc}
-use Rattle.toml_tree.specs.declared.line.Line as declared
 use Rattle.toml_tree.specs.declared.profile.Profile.{Profile}
 use Rattle.toml_names.specs.model.Documents.{IsDocumentIn}
 use Rattle.toml_names.specs.reader.LineNames.{StandFor}

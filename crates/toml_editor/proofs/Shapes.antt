@@ -1,17 +1,14 @@
 -- What data have where they are seen to be a table or an array.
-use Rattle.std.proofs.Common.{◌≡◌, ◌⊎◌, ◌&&◌, inl, inr, ℕ, Bool, true, false, List, [], ◌∷◌, length, Some, None, IsSome, refl, sym, ap, subst, ◌∙◌, arith}
-use Rattle.std.proofs.lemmas.Bool.Decides.{nat_tests}
+use Rattle.std.proofs.Common.{◌≡◌, ◌⊎◌, ◌&&◌, inl, inr, Bool, true, false, [], Some, None, refl, sym, ap, ◌∙◌}
 use Rattle.std.proofs.lemmas.Option.{same_Some}
-use Rattle.std.specs.Bool.{nat_eq}
-use Rattle.std.specs.Prelude.{IsTrue, not, slice_get, vec_len}
+use Rattle.std.specs.Prelude.{not}
 use Rattle.toml_scalar.specs.Values.{scalar_value}
 use Rattle.toml_scalar.specs.declared.scalar.Scalar.{Scalar as Token}
-use Rattle.toml_names.specs.declared.model.datum.Datum.{Datum}
 use Rattle.toml_names.specs.declared.model.datum.Datum.TheVariants.{Array, Scalar, Table}
 use Rattle.toml_names.specs.mentions.Mentions.{Kind, a_scalar, a_table, an_array}
 use Rattle.toml_names.specs.model.Data.{Kinds, kind_in}
 use Rattle.toml_names.specs.model.Levels.{Elements, Members}
-use Rattle.toml_names.proofs.Proved.{array-here, array-item, has_kind, kind_at-scalar, table-here}
+use Rattle.toml_names.proofs.Proved.{array-here, kind_at-scalar, table-here}
 use Rattle.toml_editor.specs.Making.{IsMany}
 
 pub many_table : (m : Members) → IsMany (Some (Table m))

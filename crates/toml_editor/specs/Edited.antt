@@ -1,13 +1,10 @@
 -- What the editor answers.
-use Rattle.std.specs.Prelude.{◌≡◌, ◌⊎◌, ◌↔◌, ◌<◌, ℕ, List, [], ◌∷◌, ◌++◌, length, take, Option, Some, None, IsSome, slice_get}
+use Rattle.std.specs.Prelude.{◌≡◌, ◌⊎◌, ◌↔◌, ◌<◌, ℕ, List, length, take, Some, None, IsSome, slice_get}
 use Rattle.toml_text.specs.Limit.{IsText, max_len}
 use Rattle.toml_text.specs.Source.{IsFaultOf}
 use Rattle.toml_tree.specs.Profiles.{IsOfProfile}
 use Rattle.toml_tree.specs.Document.{Refuses}
 use Rattle.toml_tree.specs.declared.profile.Profile.{Profile}
-use Rattle.toml_names.specs.declared.model.address.Step.{Step}
-use Rattle.toml_names.specs.declared.model.place.Place.{Place}
-use Rattle.toml_names.specs.declared.model.place.Place.TheVariants.{KeyVal, Inside}
 use Rattle.toml_names.specs.model.Addresses.{Address, element}
 use Rattle.toml_names.specs.model.Data.{Kinds}
 use Rattle.toml_names.specs.model.Documents.{IsDocumentIn}
@@ -18,13 +15,13 @@ use Rattle.toml_edits.specs.Edits.{Change, set, insert, remove, new_section, new
 use Rattle.toml_edits.specs.Faults.{IsFault}
 use Rattle.toml_edits.specs.Lists.{Lead}
 use Rattle.toml_units.specs.declared.piece.Piece.{Piece}
-use Rattle.toml_units.specs.Pieces.{joined_text}
 use Rattle.toml_units.specs.Units.{units}
 use Rattle.toml_checker.specs.Demands.{Certified}
 use Rattle.toml_checker.specs.Documents.{AreDefined, OfTree, OfData}
 use Rattle.toml_checker.specs.Findings.{IsFirstUnmet}
 use Rattle.toml_checker.specs.Outer.{IsOuter}
 use Rattle.toml_checker.specs.Pairs.{IsFirst}
+use Rattle.toml_editor.specs.ElementTexts.{WritesElement}
 use Rattle.toml_editor.specs.PlainTexts.{IsNoPlainEdit, IsNoPlainList, NoSpreadSet, WritesPlain}
 use Rattle.toml_working.specs.InValues.{Places, IsElementInValue, IsRightInValue}
 use Rattle.toml_working.specs.Tidy.{ArePieces}
@@ -38,13 +35,15 @@ abbrev pub NamesOuter : List ℕ → List Change → List (ℕ × ℕ) → Type 
 NamesOuter before cs ps = OfTree before (λ d. (i : ℕ) → IsFirst ps i ↔ IsOuter cs (units d.lines) i)
 
 -- The text is certified to be what the edits make of the first one, by pairs that name the outer protected units. Of plain edits it is
--- the one that they write in the layout, and none of the edits, where those before it are plain, sets what is spread.
+-- the one that they write in the layout, and none of the edits, where those before it are plain, sets what is spread. Of one edit that
+-- puts an element into an array in a value it is told what is written.
 pub record IsEditedWith (layout : Layout) (profile : Profile) (before : List ℕ) (cs : List Change) (after : List ℕ) (ps : List (ℕ × ℕ)) : Type 0
   where
     pub certified : Certified profile before cs after ps
     pub outer : NamesOuter before cs ps
     pub plain : WritesPlain layout profile before cs after
     pub passed : NoSpreadSet layout profile before cs (length cs)
+    pub element : WritesElement layout profile before cs after
 
 -- in layout `Plain`
 abbrev pub IsEdited : Profile → List ℕ → List Change → List ℕ → List (ℕ × ℕ) → Type 0

@@ -1,5 +1,6 @@
 -- What the making of plain edits gives: the working tree stands for the text that they write.
-use Rattle.std.specs.Prelude.{◌≡◌, ◌⊎◌, ◌<◌, ℕ, Bool, List, length, take, Some, None, slice_get}
+use Rattle.std.specs.Prelude.{◌≡◌, ◌⊎◌, ◌<◌, ℕ, Bool, true, List, [], ◌∷◌, ◌++◌, length, take, Some, None, slice_get}
+use Rattle.std.specs.List.{list_any}
 use Rattle.std.specs.declared.alloc.Global.{Global}
 use Rattle.std.specs.declared.string.String.{String}
 use Rattle.toml_text.specs.Forms.{IsNewline}
@@ -10,7 +11,8 @@ use Rattle.toml_tree.specs.Profiles.{IsValueIn}
 use Rattle.toml_tree.specs.Tree.{Value}
 use Rattle.toml_tree.specs.declared.profile.Profile.{Profile}
 use Rattle.toml_names.specs.mentions.Mentions.{a_table, an_array}
-use Rattle.toml_names.specs.model.Addresses.{Address}
+use Rattle.toml_names.specs.declared.model.address.Step.{Step}
+use Rattle.toml_names.specs.model.Addresses.{Address, element}
 use Rattle.toml_names.specs.model.Data.{Kinds}
 use Rattle.toml_edits.specs.After.{IsAfter}
 use Rattle.toml_edits.specs.Edits.{Change, insert, place, rename, set, remove}
@@ -21,12 +23,16 @@ use Rattle.toml_editor.specs.declared.fault.EditorFault.TheVariants.{Edit, LastE
 use Rattle.toml_working.specs.declared.working.Tree.{Tree}
 use Rattle.toml_working.specs.Becoming.{TreeRenames}
 use Rattle.toml_editor.specs.CertifiedLists.{ArePlain}
-use Rattle.toml_layout.specs.OpenOutlines.{leaf_text}
+use Rattle.toml_editor.specs.ElementTexts.{PutsValue}
+use Rattle.toml_layout.specs.declared.tree.Value.{Value as OpenValue}
+use Rattle.toml_layout.specs.Holding.{PutsHeld}
+use Rattle.toml_layout.specs.OpenOutlines.{leaf_text, value as open_outline}
+use Rattle.toml_working.specs.HeldLines.{HoldsLines}
 use Rattle.toml_editor.specs.PlainTexts.{IsPlainOn, IsSpreadSet}
 use Rattle.toml_working.specs.Putting.{TreeInserts, manner}
 use Rattle.toml_working.specs.RemovingIn.{RemovesLines}
 use Rattle.toml_editor.specs.SpelledEdits.{AreSteps}
-use Rattle.toml_working.specs.Standing.{Read, standing}
+use Rattle.toml_working.specs.Standing.{AreOrdered, Read, Standing, holds, standing}
 use Rattle.toml_working.specs.Stands.{KeepsRest, Stands, TreeSets}
 use Rattle.toml_working.specs.Starting.{NoneIsGone}
 use Rattle.toml_editor.specs.Steps.{IsGoodText, AreWritten}
@@ -79,6 +85,13 @@ abbrev pub WritesInsert : Profile → Read → Address → List ℕ → List (St
 WritesInsert profile read p text steps old new = IsText text → (v : Value) → IsValueIn profile v text
     → TreeInserts p steps (value_outline v) read old new
 
+-- of one into the value of a line, which is or holds the parent: if it is made
+abbrev pub WritesInside : Profile → Read → Address → List ℕ → List (String Global) → Tree → Tree → Bool → Type 0
+WritesInside profile read p text steps old new done = IsText text → (v : Value) → IsValueIn profile v text
+    → (made : OpenValue) × (open_outline made ≡ value_outline v) × ((q : Address) (last : Step) → p ≡ q ++ last ∷ [] → ¬ (q ≡ [])
+    → (ss : List Standing) → Stands (text_of old.texts.source) read old.slots.items ss → AreOrdered ss → list_any (holds q) ss ≡ true
+    → HoldsLines p (PutsHeld old.texts.layout steps made) (text_of old.texts.source) read old.slots.items new.slots.items ss done)
+
 -- a `rename` to a name
 pub record WritesRename (read : Read) (p : Address) (to : List ℕ) (old new : Tree) : Type 0 where
   pub lines : TreeRenames p to (spelled to) read old new
@@ -92,6 +105,7 @@ abbrev pub WritesEdit : Profile → Read → Change → Tree → Tree → Bool �
 WritesEdit profile read (set p text) old new done = NoneIsGone old.elements → KeepsRest old new × WritesSet profile read p text old new done
 WritesEdit profile read (insert p text) old new done = NoneIsGone old.elements
     → (steps : List (String Global)) × KeepsRest old new × AreSteps p steps × WritesInsert profile read p text steps old new
+    × WritesInside profile read p text steps old new done
 WritesEdit profile read (remove p) old new done = NoneIsGone old.elements → RemovesLines p read old new
 WritesEdit profile read (rename p to) old new done = NoneIsGone old.elements → WritesRename read p to old new
 WritesEdit profile read _ old new done = Unit {0}
@@ -133,14 +147,33 @@ PassesAt profile read cs near tree k = (part : Kinds) × Lead profile (take k cs
 abbrev pub PassesAll : Profile → Read → List Change → Kinds → ℕ → Tree → Type 0
 PassesAll profile read cs near n tree = (k : ℕ) → k < n → PassesAt profile read cs near tree k
 
+-- of an `insert` of an element into the value of a line: the tree then stands for lines in one value of which it was put in
+abbrev pub PutsOne : Profile → Read → Change → Tree → Tree → Type 0
+PutsOne profile read c old new = (text : List ℕ) (kinds now : Kinds) → (at : IsAt profile read old text kinds) → IsAfter profile c kinds now
+    → (q : Address) (i : ℕ) (given : List ℕ) → c ≡ insert (element q i) given → ¬ (q ≡ []) → list_any (holds q) (standing at.good.tree.lines) ≡ true
+    → (ts : List Standing) × Stands (text_of old.texts.source) read new.slots.items ts
+    × PutsValue old.texts.layout profile (element q i) given (standing at.good.tree.lines) ts
+
+-- the same of the one edit of a list
+abbrev pub PutsLone : Profile → Read → List Change → Tree → Tree → Type 0
+PutsLone profile read cs old new = (c : Change) → cs ≡ c ∷ [] → PutsOne profile read c old new
+
+-- the place of an edit is one: it sets no table and no array, and puts in no element
+abbrev pub IsOnePlace : Change → Kinds → Type 0
+IsOnePlace (set p value) kinds = ¬ SetsMany (set p value) kinds
+IsOnePlace (insert p value) kinds = (q : Address) (i : ℕ) → ¬ (p ≡ element q i)
+IsOnePlace _ kinds = Unit {0}
+
 -- Of an edit that is made: what it makes where it is plain, and that it sets nothing that is spread;
 pub record DoneOne (profile : Profile) (read : Read) (near : Kinds) (c : Change) (old new : Tree) : Type 0 where
   pub makes : MakesOne profile read c old new
+  pub puts : PutsOne profile read c old new
   pub passes : PassesOne profile read near c old
 
 -- of edits that are made one after the other.
 pub record DoneAll (profile : Profile) (read : Read) (near : Kinds) (cs : List Change) (old new : Tree) : Type 0 where
   pub makes : MakesAll profile read cs old new
+  pub puts : PutsLone profile read cs old new
   pub passes : PassesAll profile read cs near (length cs) old
 
 -- the edit with this number, where those before it are plain, is not

@@ -25,5 +25,6 @@ pub mod CertifiedLists
 pub mod StandingLaws
 pub mod PlainTexts
 pub mod PlainAnswers
+pub mod ElementTexts
 pub mod Exact
 pub mod Made

@@ -1,14 +1,10 @@
 -- What the making of edits tells, one after the other.
-use Rattle.std.specs.Prelude.{◌≡◌, ◌⊎◌, ℕ, List, [], ◌∷◌, ◌++◌, Option, Some, None, IsSome}
+use Rattle.std.specs.Prelude.{◌≡◌, ◌⊎◌, ℕ, List, [], Option, Some}
 use Rattle.toml_tree.specs.declared.profile.Profile.{Profile}
 use Rattle.toml_names.specs.declared.model.datum.Datum.{Datum}
-use Rattle.toml_names.specs.declared.model.address.Step.{Step}
-use Rattle.toml_names.specs.model.Addresses.{Address}
 use Rattle.toml_names.specs.model.Data.{Kinds, kind_in}
-use Rattle.toml_names.specs.model.Places.{place}
-use Rattle.toml_names.specs.mentions.Mentions.{a_table, an_array, named}
+use Rattle.toml_names.specs.mentions.Mentions.{a_table, an_array}
 use Rattle.toml_names.specs.reader.LineNames.{StandFor}
-use Rattle.toml_tree.specs.Tree.{Line}
 use Rattle.toml_editor.specs.declared.making.Read.{Read}
 use Rattle.toml_working.specs.Starting.{read_of}
 use Rattle.toml_edits.specs.declared.draft.Draft.{Draft}
@@ -16,7 +12,7 @@ use Rattle.toml_edits.specs.Applied.{IsApplied}
 use Rattle.toml_edits.specs.Drafts.{drafted}
 use Rattle.toml_edits.specs.Edits.{Change}
 use Rattle.toml_edits.specs.Faults.{IsFault}
-use Rattle.toml_working.specs.InValues.{Places, places_of}
+use Rattle.toml_working.specs.InValues.{Places}
 use Rattle.toml_editor.specs.Edited.{SoFar, OfDefined, MayBeSpread, TakesLastElement}
 use Rattle.toml_working.specs.InValues.{Places}
 use Rattle.toml_editor.specs.declared.fault.EditorFault.{EditorFault}

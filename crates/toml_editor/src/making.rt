@@ -4,7 +4,7 @@ ghost use Rattle.toml_scalar.specs.Spelling.{spelled};
 ghost use Rattle.toml_edits.specs.Drafts.{drafted};
 ghost use Rattle.toml_edits.specs.Edits.{change};
 ghost use Rattle.toml_editor.specs.Edited.{MayBeSpread, TakesLastElement};
-ghost use Rattle.toml_editor.specs.Exact.{SetsMany, WritesEdit, WritesInsert, WritesRename, WritesSet};
+ghost use Rattle.toml_editor.specs.Exact.{IsOnePlace, WritesEdit, WritesInsert, WritesInside, WritesRename, WritesSet};
 ghost use Rattle.toml_editor.specs.Made.{MakesEdit, MakesEdits, RefusesEdit, RefusesEdits, places_in};
 ghost use Rattle.toml_editor.specs.Making.{HasNames, IsMade, IsMany, TellsRow};
 ghost use Rattle.toml_editor.specs.SpelledEdits.{AreSpelled, IsSpelled};
@@ -200,6 +200,8 @@ fn write_insert<'x>(
     ensures rest { OnOk result (KeepsRest tree.old tree.new) }
     ensures insert { let read_here = read_of read.entry.before in
         OnOk result (WritesInsert read.entry.profile read_here at.now value.now steps.now tree.old tree.new) }
+    ensures inside { let read_here = read_of read.entry.before in
+        IfOk result (WritesInside read.entry.profile read_here at.now value.now steps.now tree.old tree.new) }
 {
     match open_value(alloc, value, read.profile)? {
         Some(new) => {
@@ -272,7 +274,7 @@ fn may_be_spread(
 ) -> Result<bool, AllocError>
     requires { HasNames read }
     ensures yes { IfOk result (λ spread. IsTrue spread → MayBeSpread (places_in read.entry) index (change edit.now) (drafted draft.now)) }
-    ensures no { IfOk result (λ spread. spread ≡ false → ¬ SetsMany (change edit.now) (drafted draft.now)) }
+    ensures no { IfOk result (λ spread. spread ≡ false → IsOnePlace (change edit.now) (drafted draft.now)) }
 {
     Ok(match edit {
         Edit::Set { at, .. } => is_many(draft.found(at)),

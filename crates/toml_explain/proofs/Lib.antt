@@ -1,7 +1,7 @@
 pub mod Held
 pub mod Lines
 pub mod Opened
-pub mod Members
+pub mod Fronts
 pub mod Shown
 pub mod OneLine
 pub mod ShownLines

@@ -6,7 +6,8 @@ use Rattle.toml_text.specs.Positions.{IsPosition}
 use Rattle.toml_tree.specs.Tree.{Piece}
 use Rattle.toml_tree.specs.declared.profile.Profile.{Profile}
 use Rattle.toml_mentions.specs.Mentioned.{StandsForOffence}
-use Rattle.toml_explain.specs.Documents.{AreSpansAt, AreSpansOf, HasLine, OpensAs, OpensAtKey, OpensAtOffence, OpensInLine, ShowsClash}
+use Rattle.toml_explain.specs.Documents.{AreSpansAt, AreSpansOf, HasLine, OpensAs, OpensAtKey, OpensAtOffence, OpensInLine, ShowsClash, ShowsInFile, ShowsKey}
+use Rattle.toml_explain.specs.Excerpts.{EndsInLine}
 use Rattle.toml_explain.specs.Openings.{EndsIn, OpensAt, OpensBare, OpensInFile, opening, bare_opening}
 use Rattle.toml_explain.specs.declared.spans.LineSpans.{LineSpans}
 use Rattle.toml_explain.proofs.Lines.{ends_behind, part_held}
@@ -34,15 +35,26 @@ module _ {S E : Type 0} (f : S → List ℕ) (word bytes : List ℕ) where
   bare_in_file (Ok t) opens = inr opens
   bare_in_file (Err d) opens = tt
 
+  -- with the line below
+  pub shows_at : (at : ℕ) (r : Result S E) → IfOk r (λ t. OpensAt word bytes at (f t)) → IfOk r (λ t. EndsInLine bytes at (f t)) → IfOk r (λ t. ShowsInFile word bytes (f t))
+  shows_at at (Ok t) opens below = inl (at, opens, below)
+  shows_at at (Err d) opens below = tt
+
+  pub bare_shows : (r : Result S E) → IfOk r (λ t. OpensBare word (f t)) → IfOk r (λ t. ShowsInFile word bytes (f t))
+  bare_shows (Ok t) opens = inr opens
+  bare_shows (Err d) opens = tt
+
   -- by the code of a refusal
   module _ (profile : Profile) (code place : ℕ) where
     pub length_as : (r : Result S E) → code ≡ 102 → IfOk r (λ t. OpensInFile word bytes (f t)) → IfOk r (λ t. OpensBare word (f t)) → IfOk r (λ t. OpensAs profile word bytes code place (f t))
     length_as (Ok t) is file bare = record {
       file = file;
       byte = λ other _ _. absurd (other is);
+      byte_below = λ other _ _. absurd (other is);
       long = λ _. bare;
       twice = λ e. let no : ⊥ = omega (arith, is, e) in absurd no;
       key = λ e. let no : ⊥ = omega (arith, is, e) in absurd no;
+      key_below = λ e. let no : ⊥ = omega (arith, is, e) in absurd no;
     }
     length_as (Err d) is file bare = tt
 
@@ -51,31 +63,39 @@ module _ {S E : Type 0} (f : S → List ℕ) (word bytes : List ℕ) where
     twice_as (Ok t) is file inside offence clash = record {
       file = file;
       byte = λ _ other _. absurd (other is);
+      byte_below = λ _ other _. absurd (other is);
       long = λ e. let no : ⊥ = omega (arith, is, e) in absurd no;
       twice = λ _. record { inside = inside; offence = offence; clash = clash };
       key = λ e. let no : ⊥ = omega (arith, is, e) in absurd no;
+      key_below = λ e. let no : ⊥ = omega (arith, is, e) in absurd no;
     }
     twice_as (Err d) is file inside offence clash = tt
 
-    pub key_as : (r : Result S E) → code ≡ 203 → IfOk r (λ t. OpensInFile word bytes (f t)) → IfOk r (λ t. OpensAtKey profile word bytes (place - 1) (f t)) → IfOk r (λ t. OpensAs profile word bytes code place (f t))
-    key_as (Ok t) is file key = record {
+    pub key_as : (r : Result S E) → code ≡ 203 → IfOk r (λ t. OpensInFile word bytes (f t)) → IfOk r (λ t. OpensAtKey profile word bytes (place - 1) (f t)) → IfOk r (λ t. ShowsKey profile bytes (place - 1) (f t))
+        → IfOk r (λ t. OpensAs profile word bytes code place (f t))
+    key_as (Ok t) is file key below = record {
       file = file;
       byte = λ _ _ other. absurd (other is);
+      byte_below = λ _ _ other. absurd (other is);
       long = λ e. let no : ⊥ = omega (arith, is, e) in absurd no;
       twice = λ e. let no : ⊥ = omega (arith, is, e) in absurd no;
       key = λ _. key;
+      key_below = λ _. below;
     }
-    key_as (Err d) is file key = tt
+    key_as (Err d) is file key below = tt
 
-    pub byte_as : (r : Result S E) → code ≢ 102 → code ≢ 201 → code ≢ 203 → IfOk r (λ t. OpensInFile word bytes (f t)) → IfOk r (λ t. OpensAt word bytes place (f t)) → IfOk r (λ t. OpensAs profile word bytes code place (f t))
-    byte_as (Ok t) long twice key file opens = record {
+    pub byte_as : (r : Result S E) → code ≢ 102 → code ≢ 201 → code ≢ 203 → IfOk r (λ t. OpensInFile word bytes (f t)) → IfOk r (λ t. OpensAt word bytes place (f t)) → IfOk r (λ t. EndsInLine bytes place (f t))
+        → IfOk r (λ t. OpensAs profile word bytes code place (f t))
+    byte_as (Ok t) long twice key file opens below = record {
       file = file;
       byte = λ _ _ _. opens;
+      byte_below = λ _ _ _. below;
       long = λ e. absurd (long e);
       twice = λ e. absurd (twice e);
       key = λ e. absurd (key e);
+      key_below = λ e. absurd (key e);
     }
-    byte_as (Err d) long twice key file opens = tt
+    byte_as (Err d) long twice key file opens below = tt
 
 -- at the key of a line, and in a line
 module _ (profile : Profile) (word bytes : List ℕ) (number : ℕ) (s : LineSpans) (are : AreSpansAt profile bytes number s) where
@@ -99,6 +119,11 @@ pub opens_at_key : {S E : Type 0} (f : S → List ℕ) (profile : Profile) (word
     → (r : Result S E) → IfOk r (λ t. OpensAt word bytes s.key.start (f t)) → IfOk r (λ t. OpensAtKey profile word bytes number (f t))
 opens_at_key f profile word bytes number s are (Ok t) opens = at_key profile word bytes number s are (f t) opens
 opens_at_key f profile word bytes number s are (Err d) opens = tt
+
+pub shows_key : {S E : Type 0} (f : S → List ℕ) (profile : Profile) (bytes : List ℕ) (number : ℕ) (s : LineSpans) → AreSpansAt profile bytes number s
+    → (r : Result S E) → IfOk r (λ t. EndsInLine bytes s.key.start (f t)) → IfOk r (λ t. ShowsKey profile bytes number (f t))
+shows_key f profile bytes number s are (Ok t) below = λ l has. subst (λ at. EndsInLine bytes at (f t)) (are l has).key below
+shows_key f profile bytes number s are (Err d) below = tt
 
 pub opens_in_line : {S E : Type 0} (f : S → List ℕ) (profile : Profile) (word bytes : List ℕ) (number : ℕ) (s : LineSpans) → AreSpansAt profile bytes number s → (again at : ℕ)
     → (r : Result S E) → at ≡ max (min again s.whole.end) s.whole.start → IfOk r (λ t. OpensAt word bytes at (f t)) → IfOk r (λ t. OpensInLine profile word bytes number (f t))

@@ -1,15 +1,16 @@
 -- The lines that an excerpt shows.
-use Rattle.std.proofs.Common.{◌≡◌, ℕ, ◌-◌, ◌==◌, true, false, List, [], ◌∷◌, ◌++◌, length, Option, Some, None, refl, sym, ap, ◌∙◌, subst, append_assoc}
-use Rattle.std.specs.Prelude.{IfOk, OnOk, Ok, Err, Result, codes, decimal, min, replicate, string_bytes}
+use Rattle.std.proofs.Common.{◌≡◌, ℕ, ◌+◌, ◌-◌, ◌==◌, true, false, List, [], ◌∷◌, ◌++◌, length, Option, Some, None, refl, sym, ap, ◌∙◌, subst, append_assoc, arith, take}
+use Rattle.std.specs.Prelude.{IfOk, OnOk, Ok, Err, Result, codes, count_by, decimal, min, replicate, string_bytes}
 use Rattle.std.proofs.lemmas.Bool.{cond-false, cond-true, eqb-false, eqb-true}
 use Rattle.std.proofs.lemmas.Option.{none-some}
+use Rattle.toml_text.specs.Positions.{is_lf}
 use Rattle.toml_tree.specs.declared.profile.Profile.{Profile}
 use Rattle.toml_mentions.specs.Redefined.{FindsBoth, found_clash}
 use Rattle.toml_mentions.specs.Sought.{Sight, seen_clash, seen_of}
 use Rattle.toml_mentions.specs.declared.redefined.Redefined.{Redefined}
 use Rattle.toml_mentions.specs.declared.seeker.Clash.{Clash}
 use Rattle.toml_explain.specs.Documents.{EndsInFound, ShowsClash}
-use Rattle.toml_explain.specs.Excerpts.{Drawn, EndsInBoth, Gains, GainsCarets, GainsLine, IsDrawn, ShowsBoth, below_line, first_defined, labelled, line_number, margin, noted, space_behind}
+use Rattle.toml_explain.specs.Excerpts.{Drawn, EndsInBoth, EndsInLine, EndsInNumbered, Gains, GainsCarets, GainsLine, IsDrawn, ShowsBoth, below_line, first_defined, labelled, line_number, margin, noted, space_behind}
 use Rattle.toml_explain.specs.Openings.{EndsIn}
 use Rattle.toml_explain.specs.declared.drawing.Drawing.{Drawing}
 use Rattle.toml_explain.specs.declared.excerpt.Excerpt.{Excerpt}
@@ -133,3 +134,26 @@ shows_clash f profile bytes number found finds lines rest same ends (Ok t) behin
       ends = behind.1 ∙ ap (λ l. behind.0 ++ l) (same ∙ e.ends) ∙ sym (append_assoc behind.0 e.front (0x0A ∷ e.shown));
     }
 shows_clash f profile bytes number found finds lines rest same ends (Err d) behind = tt
+
+-- one line, behind a sentence and behind an opening
+module _ {S E : Type 0} (f : S → List ℕ) where
+  pub line_below : (bytes : List ℕ) (at : ℕ) (start done : Excerpt) → string_bytes start.text ≡ [] → start.width ≡ length (decimal (line_number bytes at)) → GainsLine start done bytes at []
+      → (sentence : List ℕ) (r : Result S E) → IfOk r (λ t. f t ≡ sentence ++ 0x0A ∷ string_bytes done.text) → IfOk r (λ t. EndsInLine bytes at (f t))
+  line_below bytes at start done empty wide (d, gains) sentence (Ok t) e = record {
+    front = sentence;
+    shown = d;
+    ends = e ∙ ap (λ l. sentence ++ 0x0A ∷ l) (gains.text ∙ (λ i. empty i ++ labelled (wide i) (decimal (line_number bytes at)) d.line d.carets []));
+  }
+  line_below bytes at start done empty wide gains sentence (Err d) e = tt
+
+  pub line_behind : (number : ℕ) (lines rest : List ℕ) → rest ≡ lines → EndsInNumbered number lines → (r : Result S E) → IfOk r (λ t. EndsIn rest (f t)) → IfOk r (λ t. EndsInNumbered number (f t))
+  line_behind number lines rest same e (Ok t) behind = record {
+    front = behind.0 ++ e.front;
+    shown = e.shown;
+    ends = behind.1 ∙ ap (λ l. behind.0 ++ l) (same ∙ e.ends) ∙ sym (append_assoc behind.0 e.front _);
+  }
+  line_behind number lines rest same e (Err d) behind = tt
+
+-- the end stands in the line of each place behind it
+pub same_line : (bytes : List ℕ) (place at : ℕ) → at ≡ min place (length bytes) → line_number bytes at ≡ line_number bytes place
+same_line bytes place at is = let same : min at (length bytes) ≡ min place (length bytes) = omega (arith, is) in ap (λ n. count_by is_lf (take n bytes) + 1) same

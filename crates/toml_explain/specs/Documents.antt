@@ -1,5 +1,5 @@
 -- Where the explanation of a text that is no document begins.
-use Rattle.std.specs.Prelude.{◌≡◌, ◌≢◌, ◌<◌, ◌≤◌, ◌+◌, ◌-◌, ℕ, List, [], ◌∷◌, ◌++◌, Option, Some, None, slice_get}
+use Rattle.std.specs.Prelude.{◌≡◌, ◌≢◌, ◌⊎◌, ◌<◌, ◌≤◌, ◌+◌, ◌-◌, ℕ, List, [], ◌∷◌, ◌++◌, Option, Some, None, slice_get}
 use Rattle.toml_text.specs.Limit.{IsText}
 use Rattle.toml_tree.specs.HandedOut.{AreLinesIn, HandsOut, left}
 use Rattle.toml_tree.specs.Pieces.{expr_start}
@@ -14,8 +14,12 @@ use Rattle.toml_mentions.specs.Sought.{Sight}
 use Rattle.toml_mentions.specs.declared.redefined.Redefined.{Redefined}
 use Rattle.toml_units.specs.Ends.{expr_end}
 use Rattle.toml_explain.specs.declared.spans.LineSpans.{LineSpans}
-use Rattle.toml_explain.specs.Excerpts.{EndsInBoth}
+use Rattle.toml_explain.specs.Excerpts.{EndsInBoth, EndsInLine}
 use Rattle.toml_explain.specs.Openings.{OpensAt, OpensBare, OpensInFile}
+
+-- The text begins with the line and the column of a place of the bytes, and ends in the line of that place; or it begins with the word alone.
+abbrev pub ShowsInFile : List ℕ → List ℕ → List ℕ → Type 0
+ShowsInFile word bytes text = ((at : ℕ) × OpensAt word bytes at text × EndsInLine bytes at text) ⊎ OpensBare word text
 
 -- the line of a text of the profile that has the number, from 0
 pub record HasLine (profile : Profile) (bytes : List ℕ) (number : ℕ) (l : Line) : Type 0 where
@@ -34,6 +38,10 @@ key_start (ArrayTableLine ws h b) = h.key.first.start
 -- The text begins with the line and the column of the key of that line.
 abbrev pub OpensAtKey : Profile → List ℕ → List ℕ → ℕ → List ℕ → Type 0
 OpensAtKey profile word bytes number text = (l : Line) → HasLine profile bytes number l → OpensAt word bytes (key_start l.expr) text
+
+-- It ends in the line of that key.
+abbrev pub ShowsKey : Profile → List ℕ → ℕ → List ℕ → Type 0
+ShowsKey profile bytes number text = (l : Line) → HasLine profile bytes number l → EndsInLine bytes (key_start l.expr) text
 
 -- It begins with the line and the column of a place in the expression of that line, or directly behind it.
 pub record OpensIn (word bytes : List ℕ) (e : Expr) (text : List ℕ) : Type 0 where
@@ -65,13 +73,15 @@ pub record OpensTwice (profile : Profile) (word bytes : List ℕ) (number : ℕ)
 
 -- The text begins as the code and the place of a refusal ask: with the line and the column of the byte; with the word alone, of a text that
 -- is too long; with those of the key part whose mention breaks the rules, in the line, of a name that is defined again; with those of the
--- line's key, of a long address. Lines are counted from 1 here.
+-- line's key, of a long address. Below that stands the line of that byte or that key. Lines are counted from 1 here.
 pub record OpensAs (profile : Profile) (word bytes : List ℕ) (code place : ℕ) (text : List ℕ) : Type 0 where
   pub file : OpensInFile word bytes text
   pub byte : code ≢ 102 → code ≢ 201 → code ≢ 203 → OpensAt word bytes place text
+  pub byte_below : code ≢ 102 → code ≢ 201 → code ≢ 203 → EndsInLine bytes place text
   pub long : code ≡ 102 → OpensBare word text
   pub twice : code ≡ 201 → OpensTwice profile word bytes (place - 1) text
   pub key : code ≡ 203 → OpensAtKey profile word bytes (place - 1) text
+  pub key_below : code ≡ 203 → ShowsKey profile bytes (place - 1) text
 
 -- the spans of an expression
 pub record AreSpansOf (e : Expr) (s : LineSpans) : Type 0 where

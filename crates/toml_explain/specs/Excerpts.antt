@@ -66,6 +66,16 @@ pub record EndsInBoth (bytes : List ℕ) (first again : ℕ) (text : List ℕ) :
   pub lines : ShowsBoth bytes first again shown
   pub ends : text ≡ front ++ 0x0A ∷ shown
 
+-- the text ends in a line behind this number, and carets below it, behind a newline
+pub record EndsInNumbered (number : ℕ) (text : List ℕ) : Type 0 where
+  pub front : List ℕ
+  pub shown : Drawn
+  pub ends : text ≡ front ++ 0x0A ∷ labelled (length (decimal number)) (decimal number) shown.line shown.carets []
+
+-- it ends in the line in which the place of the bytes stands, by its number
+abbrev pub EndsInLine : List ℕ → ℕ → List ℕ → Type 0
+EndsInLine bytes at = EndsInNumbered (line_number bytes at)
+
 -- Words of the code's own contracts. A drawing is one line, and so are its carets.
 pub record IsDrawn (d : Drawing) : Type 0 where
   pub line : IsOneLine (string_bytes d.text)

@@ -2,3 +2,4 @@ pub mod Openings
 pub mod Excerpts
 pub mod Documents
 pub mod Reasons
+pub mod Standing

@@ -1,10 +1,12 @@
 //! Places of a document at which nothing stands that is asked for.
 ghost use Rattle.std.specs.Prelude.{IfOk, string_bytes};
+ghost use Rattle.toml_explain.specs.Documents.{ShowsInFile};
 ghost use Rattle.toml_explain.specs.Openings.{OpensInFile};
 
 use crate::edit::look_up;
 use crate::input::Input;
 use crate::place::shown_place;
+use crate::standing::question;
 use crate::telling::told_at;
 use std::alloc::{AllocError, Global};
 use toml_names::{Step, names_of_text};
@@ -69,7 +71,8 @@ pub fn explain_absent(
     code: u16,
     profile: Profile,
 ) -> Result<String, AllocError>
-    ensures { IfOk result (λ text. OpensInFile file.entry.word.now file.entry.bytes.now (string_bytes text)) }
+    ensures file { IfOk result (λ text. OpensInFile file.entry.word.now file.entry.bytes.now (string_bytes text)) }
+    ensures below { IfOk result (λ text. ShowsInFile file.entry.word.now file.entry.bytes.now (string_bytes text)) }
 {
     let shown = shown_place(alloc, place)?;
     let mut sentence = absent_sentence(alloc, shown.as_str(), code)?;
@@ -80,8 +83,10 @@ pub fn explain_absent(
     };
     let steps = steps_of(alloc, file.bytes, profile, &read)?;
     let found = look_up(alloc, file.bytes, profile, &steps, steps.len())?;
-    if code == 301 {
-        sentence.push_str(found.question.as_str())?;
+    if let Some(name) = &found.meant {
+        if code == 301 {
+            sentence.push_str(question(alloc, name)?.as_str())?;
+        }
     }
     told_at(alloc, file, found.spot, sentence)
 }

@@ -1,23 +1,24 @@
 //! Why bytes are no document.
 ghost use Rattle.std.specs.Prelude.{IfOk, string_bytes};
 ghost use Rattle.toml_explain.specs.Documents.{OpensAs};
+ghost use Rattle.toml_explain.specs.Excerpts.{EndsInLine};
 ghost use Rattle.toml_explain.specs.Openings.{OpensAt, OpensBare, OpensInFile};
 
-use crate::excerpt::{Excerpt, line_number};
 use crate::input::Input;
 use crate::opening::{bare_opened, opened};
 use crate::redefined::{explain_long, explain_redefined};
 use crate::sentence::{byte_sentence, meant_at};
-use crate::words::with_lines;
+use crate::words::with_line;
 use std::alloc::{AllocError, Global};
 use toml_text::MAX_LEN;
 use toml_tree::Profile;
 
 /// The sentence of a refusal whose place is a byte, and the line.
-fn byte_lines(alloc: Global, bytes: &[u8], code: u16, at: usize) -> Result<String, AllocError> {
-    let mut excerpt = Excerpt::new(alloc, line_number(bytes, at));
-    excerpt.push_line(bytes, meant_at(bytes, code, at), "")?;
-    with_lines(byte_sentence(alloc, bytes, code, at)?, excerpt)
+fn byte_lines(alloc: Global, bytes: &[u8], code: u16, at: usize) -> Result<String, AllocError>
+    ensures { IfOk result (λ text. EndsInLine bytes.now at (string_bytes text)) }
+{
+    let sentence = byte_sentence(alloc, bytes, code, at)?;
+    with_line(alloc, sentence, bytes, meant_at(bytes, code, at))
 }
 
 /// Why bytes are refused at a byte.
@@ -29,6 +30,7 @@ fn explain_byte(
 ) -> Result<String, AllocError>
     ensures file { IfOk result (λ text. OpensInFile file.entry.word.now file.entry.bytes.now (string_bytes text)) }
     ensures byte { IfOk result (λ text. OpensAt file.entry.word.now file.entry.bytes.now place (string_bytes text)) }
+    ensures below { IfOk result (λ text. EndsInLine file.entry.bytes.now place (string_bytes text)) }
 {
     let at = place.min(file.bytes.len());
     let lines = byte_lines(alloc, file.bytes, code, at)?;

@@ -1,16 +1,17 @@
 //! Edits that are refused.
-ghost use Rattle.std.specs.Prelude.{IfOk, string_bytes};
+ghost use Rattle.std.specs.Prelude.{◌≢◌, IfOk, string_bytes};
+ghost use Rattle.toml_explain.specs.Documents.{ShowsInFile};
 ghost use Rattle.toml_explain.specs.Openings.{OpensInFile};
 
 use crate::input::Input;
-use crate::origin::origin;
-use crate::standing::{front_of, suggestion};
+use crate::origin::{begins_with, origin};
+use crate::standing::{front_of, meant, question};
 use crate::telling::{excerpt_at, told, told_at};
 use crate::value::flaw_of;
 use std::alloc::{AllocError, Global};
-use toml_edits::{Edit, place};
+use toml_edits::{Edit, carry, place};
 use toml_mentions::find_spot;
-use toml_names::{Address, Step, names_of_text};
+use toml_names::{Address, MAX_STEPS, Name, Shape, Step, names_of_text};
 use toml_places::spell_place;
 use toml_text::{Source, Span};
 use toml_tree::Profile;
@@ -89,11 +90,22 @@ fn edit_rule(edit: &Edit, code: u16) -> &'static str {
     }
 }
 
-/// What is found in a file about the address of an edit: where that or its parent stands, and a question which name is meant.
+/// What is found in a file about the address of an edit: where that or its parent stands, how many of its steps lead somewhere, whether to
+/// a table, and the name that may be meant behind these.
 #[derive(Drop)]
 pub(crate) struct Found {
     pub spot: Option<Span>,
-    pub question: String,
+    pub depth: usize,
+    pub in_table: bool,
+    pub meant: Option<Name>,
+}
+
+impl Found {
+    /// Whether of an address of so many steps more than the last one is missing in a table, where tables can be made: an address has at
+    /// most 100 steps.
+    fn lacks_tables(&self, steps: usize) -> bool {
+        self.in_table && self.depth.saturating_add(1) < steps && steps <= MAX_STEPS
+    }
 }
 
 /// Where an address of a file, or its parent, stands, and which name may be meant where it does not. Of an address of so many steps these
@@ -107,7 +119,9 @@ pub(crate) fn look_up(
 ) -> Result<Found, AllocError> {
     let nowhere = Found {
         spot: None,
-        question: String::new(alloc),
+        depth: 0,
+        in_table: false,
+        meant: None,
     };
     let Ok(source) = Source::new(bytes) else {
         return Ok(nowhere);
@@ -120,7 +134,8 @@ pub(crate) fn look_up(
         }
     };
     let reached = front_of(&names, steps)?;
-    let question = suggestion(alloc, &names, reached, steps)?;
+    let meant = meant(alloc, &names, reached, steps)?;
+    let in_table = matches!(names.shape(reached.part)?, Shape::Table);
     let spot = if all <= reached.depth.saturating_add(1) {
         find_spot(
             alloc,
@@ -131,11 +146,16 @@ pub(crate) fn look_up(
     } else {
         None
     };
-    Ok(Found { spot, question })
+    Ok(Found {
+        spot,
+        depth: reached.depth,
+        in_table,
+        meant,
+    })
 }
 
 /// What is found in a file about the address of the edit with the index. The edits in front of it may have moved what stands there, or
-/// made it. No name is asked for where one of them took a name away.
+/// made it. A name that they took away, or that they moved elsewhere, is not meant.
 fn look_up_edit(
     alloc: Global,
     bytes: &[u8],
@@ -148,15 +168,49 @@ fn look_up_edit(
     let earlier = &edits[..index.min(edits.len())];
     let old = origin(alloc, earlier, steps)?;
     let mut found = look_up(alloc, bytes, profile, &old, steps.len())?;
-    if earlier.iter().any(takes_name) {
-        found.question = String::new(alloc);
+    if let Some(name) = &found.meant {
+        let front = &old[..found.depth.min(old.len())];
+        if !is_still_beside(alloc, earlier, front, name, steps)? {
+            found.meant = None;
+        }
     }
     Ok(found)
 }
 
-/// Whether an edit takes a name away.
-fn takes_name(edit: &Edit) -> bool {
-    matches!(edit, Edit::Rename { .. } | Edit::Remove { .. })
+/// Whether the member with the name of what stood at the front is, behind the edits, the one with this name beside what the steps lead to.
+fn is_still_beside(
+    alloc: Global,
+    edits: &[Edit],
+    front: &[Step],
+    name: &Name,
+    steps: &[Step],
+) -> Result<bool, AllocError> {
+    let mut at = member(alloc, front, name)?;
+    for edit in edits {
+        match carry(alloc, edit, &at)? {
+            Some(to) => at = to,
+            None => return Ok(false),
+        }
+    }
+    Ok(is_beside(at.steps(), name, steps))
+}
+
+/// The address of a name below others.
+fn member(alloc: Global, front: &[Step], name: &Name) -> Result<Address, AllocError> {
+    let mut steps = Vec::with_capacity(alloc, front.len().saturating_add(1))?;
+    for step in front {
+        steps.push(step.copy()?)?;
+    }
+    steps.push(Step::Name(name.copy()?))?;
+    Ok(Address::of(steps))
+}
+
+/// Whether it is the address of the name, and the steps begin with what is above it.
+fn is_beside(at: &[Step], name: &Name, steps: &[Step]) -> bool {
+    let Some((Step::Name(last), above)) = at.split_last() else {
+        return false;
+    };
+    last.as_str() == name.as_str() && begins_with(steps, above)
 }
 
 /// The value of an edit.
@@ -192,19 +246,37 @@ fn explain_value(
     told(alloc, file, spot, text, excerpt)
 }
 
+/// Adds what may help where nothing stands: the name that may be meant, else the hint where tables are missing above.
+fn push_advice(
+    alloc: Global,
+    sentence: &mut String,
+    found: &Found,
+    steps: &[Step],
+    hint: &str,
+) -> Result<(), AllocError> {
+    match &found.meant {
+        Some(name) => sentence.push_str(question(alloc, name)?.as_str()),
+        None if found.lacks_tables(steps.len()) => sentence.push_str(hint),
+        None => Ok(()),
+    }
+}
+
 /// Why an edit of a list is refused (301 to 308, 310, 312, 313): which edit it is, counted from 0 as in the refusal, what it does, and the
 /// rule. The file is one before all edits: below the sentence stands its line in which is named first what then stands at the address, or
-/// else at its parent, where that stood in the file already. A name that is missing (301) is told with one that is near. A value that is
-/// none (306) is shown with the place in it. It fails for want of memory alone.
+/// else at its parent, where that stood in the file already. A name that is missing (301) is told with one that is near. Where tables are
+/// missing above it the sentence ends in `hint`, which says how they are made. A value that is none (306) is shown with the place in it.
+/// It fails for want of memory alone.
 pub fn explain_edit(
     alloc: Global,
     file: Input<'_>,
     edits: &[Edit],
     index: usize,
     code: u16,
+    hint: &str,
     profile: Profile,
 ) -> Result<String, AllocError>
-    ensures { IfOk result (λ text. OpensInFile file.entry.word.now file.entry.bytes.now (string_bytes text)) }
+    ensures file { IfOk result (λ text. OpensInFile file.entry.word.now file.entry.bytes.now (string_bytes text)) }
+    ensures below { code ≢ 306 → IfOk result (λ text. ShowsInFile file.entry.word.now file.entry.bytes.now (string_bytes text)) }
 {
     let Some(edit) = edits.get(index) else {
         return told_at(
@@ -218,7 +290,7 @@ pub fn explain_edit(
     let mut sentence = edit_text(alloc, edit, index)?;
     sentence.push_str(edit_rule(edit, code))?;
     if code == 301 {
-        sentence.push_str(found.question.as_str())?;
+        push_advice(alloc, &mut sentence, &found, place(edit).steps(), hint)?;
     }
     match value_of(edit) {
         Some(value) if code == 306 => {

@@ -16,7 +16,9 @@ pub(crate) struct Excerpt {
 }
 
 /// The span of the one place.
-pub(crate) fn at_place(at: usize) -> Span {
+pub(crate) fn at_place(at: usize) -> Span
+    ensures { result.start ≡ at }
+{
     Span {
         start: at,
         end: at.saturating_add(1),

@@ -50,7 +50,7 @@ fn go_back(alloc: Global, front: &mut Vec<Step>, edit: &Edit) -> Result<(), Allo
 }
 
 /// Whether the steps begin with these.
-fn begins_with(steps: &[Step], front: &[Step]) -> bool {
+pub(crate) fn begins_with(steps: &[Step], front: &[Step]) -> bool {
     front.len() <= steps.len()
         && front
             .iter()

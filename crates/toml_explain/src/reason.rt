@@ -74,7 +74,7 @@ fn explain_edits(alloc: Global, judged: Judged<'_>) -> Result<String, AllocError
 {
     let (before, edits, profile) = (judged.before, judged.edits, judged.profile);
     match first_refused(alloc, before.bytes, edits, profile)? {
-        Some((index, code)) => explain_edit(alloc, before, edits, index, code, profile),
+        Some((index, code)) => explain_edit(alloc, before, edits, index, code, "", profile),
         None => plain(alloc, before, "the edits can't be made of this text"),
     }
 }

@@ -1,7 +1,7 @@
 //! Names that are defined twice (201), and addresses that are too long (203).
 ghost use Rattle.std.specs.Prelude.{◌≡◌, ◌≤◌, ◌-◌, IfOk, max, min, string_bytes};
-ghost use Rattle.toml_explain.specs.Documents.{EndsInFound, OpensAtKey, OpensAtOffence, OpensInLine, ShowsClash};
-ghost use Rattle.toml_explain.specs.Excerpts.{ShowsBoth};
+ghost use Rattle.toml_explain.specs.Documents.{EndsInFound, OpensAtKey, OpensAtOffence, OpensInLine, ShowsClash, ShowsKey};
+ghost use Rattle.toml_explain.specs.Excerpts.{EndsInLine, ShowsBoth};
 ghost use Rattle.toml_explain.specs.Openings.{OpensInFile};
 
 use crate::excerpt::{Excerpt, line_number};
@@ -9,7 +9,7 @@ use crate::input::Input;
 use crate::opening::opened;
 use crate::rule::rule;
 use crate::spans::spans_at;
-use crate::words::with_lines;
+use crate::words::{with_line, with_lines};
 use std::alloc::{AllocError, Global};
 use toml_mentions::{Clash, Redefined, find_redefined};
 use toml_places::spell_place;
@@ -25,6 +25,7 @@ pub(crate) fn explain_long(
 ) -> Result<String, AllocError>
     ensures file { IfOk result (λ text. OpensInFile file.entry.word.now file.entry.bytes.now (string_bytes text)) }
     ensures key { IfOk result (λ text. OpensAtKey profile file.entry.word.now file.entry.bytes.now (line - 1) (string_bytes text)) }
+    ensures below { IfOk result (λ text. ShowsKey profile file.entry.bytes.now (line - 1) (string_bytes text)) }
 {
     let spans = spans_at(alloc, file.bytes, profile, line.saturating_sub(1))?;
     let lines = long_lines(alloc, file.bytes, spans.key)?;
@@ -32,11 +33,11 @@ pub(crate) fn explain_long(
 }
 
 /// The sentence of an address of too many steps, and the line of its key.
-fn long_lines(alloc: Global, bytes: &[u8], key: Span) -> Result<String, AllocError> {
-    let mut excerpt = Excerpt::new(alloc, line_number(bytes, key.start));
-    excerpt.push_line(bytes, key, "")?;
+fn long_lines(alloc: Global, bytes: &[u8], key: Span) -> Result<String, AllocError>
+    ensures { IfOk result (λ text. EndsInLine bytes.now key.start (string_bytes text)) }
+{
     let sentence = "an address has at most 100 steps, and this line makes a longer one";
-    with_lines(String::from_str(alloc, sentence)?, excerpt)
+    with_line(alloc, String::from_str(alloc, sentence)?, bytes, key)
 }
 
 /// The place nearest to another, from the start of a span up to its end.
@@ -98,11 +99,11 @@ fn redefined_lines(
 }
 
 /// What is said of a line in which something is defined twice, wherever that is.
-fn line_alone(alloc: Global, bytes: &[u8], line: Span) -> Result<String, AllocError> {
-    let mut excerpt = Excerpt::new(alloc, line_number(bytes, line.start));
-    excerpt.push_line(bytes, line, "")?;
+fn line_alone(alloc: Global, bytes: &[u8], line: Span) -> Result<String, AllocError>
+    ensures { IfOk result (λ text. EndsInLine bytes.now line.start (string_bytes text)) }
+{
     let sentence = String::from_str(alloc, "a name in this line is defined already")?;
-    with_lines(sentence, excerpt)
+    with_line(alloc, sentence, bytes, line)
 }
 
 /// Why a line is refused that breaks the table rules (201): the key part whose mention does is shown, and the earliest mention that

@@ -1,4 +1,5 @@
 //! What is wrong where a byte is the place of a refusal.
+ghost use Rattle.std.specs.Prelude.{◌≡◌};
 
 use crate::excerpt::at_place;
 use crate::token::token_span;
@@ -105,7 +106,9 @@ pub(crate) fn byte_sentence(
 }
 
 /// What is meant where a byte is the place of a refusal: the whole number, date or time, else the one character.
-pub(crate) fn meant_at(bytes: &[u8], code: u16, at: usize) -> Span {
+pub(crate) fn meant_at(bytes: &[u8], code: u16, at: usize) -> Span
+    ensures { result.start ≡ at }
+{
     match code {
         106 | 107 | 108 => token_span(bytes, at),
         _ => at_place(at),

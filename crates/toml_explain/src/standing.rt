@@ -1,12 +1,12 @@
 //! What stands in the data of a text along the steps of an address.
-ghost use Rattle.std.specs.Prelude.{◌≡◌, IfOk, IfSome};
-ghost use Rattle.std.specs.Map.{lookup};
-ghost use Rattle.std.specs.Str.{bytes_eq};
-ghost use Rattle.toml_names.specs.reader.Parts.{IsPart, plain_members};
+ghost use Rattle.std.specs.Prelude.{IfOk, IfSome};
+ghost use Rattle.toml_names.specs.reader.Parts.{IsPart};
+ghost use Rattle.toml_explain.specs.Standing.{IsFrontOf, IsNameOf};
 
 use std::alloc::{AllocError, Global};
 use strsim::osa_distance;
-use toml_names::{NamedText, Step};
+use toml_names::{Name, NamedText, Step};
+use toml_places::part_in;
 use toml_scalar::spell_key;
 
 /// The deepest part that stands along steps, and how many of them lead to it.
@@ -16,53 +16,13 @@ pub(crate) struct Front {
     pub depth: usize,
 }
 
-/// The part of the first member with the name.
-fn find(members: &[(&str, usize)], name: &str) -> Option<usize>
-    ensures { result ≡ lookup (bytes_eq name.now) (plain_members members.now) }
-{
-    for (member, part) in members {
-        if name == *member {
-            return Some(*part);
-        }
-    }
-    None
-}
-
-/// The part at a name of a part.
-fn member(names: &NamedText<'_>, id: usize, name: &str) -> Result<Option<usize>, AllocError>
-    requires { IsPart names.now id }
-    ensures { IfOk result (λ part. IfSome part (IsPart names.now)) }
-{
-    let members = names.members(id)?;
-    Ok(find(&members, name))
-}
-
-/// The part at an index of a part.
-fn item(names: &NamedText<'_>, id: usize, index: u64) -> Option<usize>
-    requires { IsPart names.now id }
-    ensures { IfSome result (IsPart names.now) }
-{
-    names.items(id).get(index as usize).copied()
-}
-
-/// The part one step below a part.
-fn below(names: &NamedText<'_>, id: usize, step: &Step) -> Result<Option<usize>, AllocError>
-    requires { IsPart names.now id }
-    ensures { IfOk result (λ part. IfSome part (IsPart names.now)) }
-{
-    match step {
-        Step::Name(name) => member(names, id, name.as_str()),
-        Step::Index(index) => Ok(item(names, id, *index)),
-    }
-}
-
 /// How far steps lead in the data of a text.
 pub(crate) fn front_of(names: &NamedText<'_>, steps: &[Step]) -> Result<Front, AllocError>
-    ensures { IfOk result (λ front. IsPart names.now front.part) }
+    ensures { IfOk result (IsFrontOf names.now steps.now) }
 {
     let mut part = names.root();
     for (depth, step) in steps.iter().enumerate() {
-        match below(names, part, step)? {
+        match part_in(names, Some(part), step)? {
             Some(next) => part = next,
             None => return Ok(Front { part, depth }),
         }
@@ -99,7 +59,9 @@ fn nearest<'m>(
     alloc: Global,
     members: &[(&'m str, usize)],
     name: &str,
-) -> Result<Option<&'m str>, AllocError> {
+) -> Result<Option<&'m str>, AllocError>
+    ensures { IfOk result (λ near. IfSome near (IsNameOf members.now)) }
+{
     let mut best = None;
     let mut least = usize::MAX;
     for (member, _) in members {
@@ -122,24 +84,27 @@ pub(crate) fn quoted(alloc: Global, name: &str) -> Result<String, AllocError> {
     format!(in alloc; "\"{}\"", spelled.as_str())
 }
 
-/// A question behind a sentence: which name is meant, where the step behind a front is a name and one of its table is near.
-pub(crate) fn suggestion(
+/// The name that may be meant, where the step behind a front is a name and one of its table is near.
+pub(crate) fn meant(
     alloc: Global,
     names: &NamedText<'_>,
     front: Front,
     steps: &[Step],
-) -> Result<String, AllocError>
+) -> Result<Option<Name>, AllocError>
     requires { IsPart names.now front.part }
 {
     let Some(Step::Name(name)) = steps.get(front.depth) else {
-        return Ok(String::new(alloc));
+        return Ok(None);
     };
     let members = names.members(front.part)?;
     match nearest(alloc, &members, name.as_str())? {
-        Some(near) => {
-            let word = quoted(alloc, near)?;
-            format!(in alloc; "; did you mean {}?", word.as_str())
-        }
-        None => Ok(String::new(alloc)),
+        Some(near) => Ok(Some(Name::spelled(alloc, near)?)),
+        None => Ok(None),
     }
+}
+
+/// A question behind a sentence: whether this name is meant.
+pub(crate) fn question(alloc: Global, name: &Name) -> Result<String, AllocError> {
+    let word = quoted(alloc, name.as_str())?;
+    format!(in alloc; "; did you mean {}?", word.as_str())
 }

@@ -1,11 +1,12 @@
 //! A sentence at a place of a file, or at none.
 ghost use Rattle.std.specs.Prelude.{IfOk, string_bytes};
+ghost use Rattle.toml_explain.specs.Documents.{ShowsInFile};
 ghost use Rattle.toml_explain.specs.Openings.{OpensInFile};
 
 use crate::excerpt::{Excerpt, line_number};
 use crate::input::Input;
 use crate::opening::{bare_opened, opened};
-use crate::words::with_lines;
+use crate::words::{with_line, with_lines};
 use std::alloc::{AllocError, Global};
 use toml_names::Step;
 use toml_text::{Source, Span};
@@ -43,11 +44,17 @@ pub(crate) fn told_at(
     spot: Option<Span>,
     sentence: String,
 ) -> Result<String, AllocError>
-    ensures { IfOk result (λ text. OpensInFile file.entry.word.now file.entry.bytes.now (string_bytes text)) }
+    ensures file { IfOk result (λ text. OpensInFile file.entry.word.now file.entry.bytes.now (string_bytes text)) }
+    ensures below { IfOk result (λ text. ShowsInFile file.entry.word.now file.entry.bytes.now (string_bytes text)) }
 {
-    let mut excerpt = excerpt_at(alloc, file.bytes, spot);
-    if let Some(span) = spot {
-        excerpt.push_line(file.bytes, span, "")?;
+    match spot {
+        Some(span) => {
+            let lines = with_line(alloc, sentence, file.bytes, span)?;
+            opened(alloc, file, span.start, lines.as_str())
+        }
+        None => {
+            let lines = with_lines(sentence, Excerpt::unnumbered(alloc))?;
+            bare_opened(alloc, file.word, lines.as_str())
+        }
     }
-    told(alloc, file, spot, sentence, excerpt)
 }

@@ -1,6 +1,6 @@
 //! Where a number, a date or a time that is none ends.
 
-ghost use Rattle.std.specs.Prelude.{◌≤◌, length};
+ghost use Rattle.std.specs.Prelude.{◌≡◌, ◌≤◌, length};
 
 use toml_text::Span;
 
@@ -50,7 +50,9 @@ fn token_len(bytes: &[u8]) -> usize {
 }
 
 /// The span of the token that begins at the place, of one byte at least.
-pub(crate) fn token_span(bytes: &[u8], at: usize) -> Span {
+pub(crate) fn token_span(bytes: &[u8], at: usize) -> Span
+    ensures { result.start ≡ at }
+{
     let len = match bytes.get(at..) {
         Some(rest) => token_len(rest),
         None => 0,

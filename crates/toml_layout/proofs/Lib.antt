@@ -6,6 +6,8 @@ mod SetInside
 mod KeysRenamed
 mod RenameInside
 mod RenameAway
+mod HeldInside
+mod PairParts
 mod Lying
 mod Opened
 mod OpenedEach

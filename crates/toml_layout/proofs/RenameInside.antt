@@ -333,6 +333,14 @@ table_keys_renamed whole parent last text old now split none =
     subst (λ s. KeysRenamed s text old now → RenamesIn s text (Braced old.opening old.entries) (Braced now.opening now.entries)) (sym split)
     (keys_renamed parent last text old now none)
 
+-- what leads to steps leads to longer ones
+pub leads_longer : (k : Key) (parent : Address) (last : Step) → leads k parent ≡ true → leads k (parent ++ last ∷ []) ≡ true
+leads_longer [] parent last led = refl
+leads_longer (n ∷ k) [] last led = absurd (false≢true led)
+leads_longer (n ∷ k) (t ∷ parent) last led =
+    let (here, behind) = and_parts (same_step (Name n) t) (leads k parent) led in
+    and_from (same_step (Name n) t) (leads k (parent ++ last ∷ [])) here (leads_longer k parent last behind)
+
 entry_renamed : (parent : Address) (last : Step) (i used : ℕ) (text : List ℕ) (old now : Enclosed)
     → LeadsOn old.entries parent (Some (i, used))
     → RenamesEntry i (drop used (parent ++ last ∷ [])) text old now → RenamesIn (parent ++ last ∷ []) text (Braced old.opening old.entries) (Braced now.opening now.entries)
@@ -345,13 +353,6 @@ entry_renamed parent last i used text old now leading renames apart at =
     let way : below at k ++ drop used all ≡ at ++ all = append_assoc at (map Name k) (drop used all) ∙ ap (λ s. at ++ s) behind in
     let own = inner (apart_in old.entries i v apart.1 has) (below at k) ∙ ap (λ q. rename_outline q text (below at k) v) way in
     ap₂ Braced (ap (λ e. e.opening) same) (ap (λ e. e.entries) same ∙ sym (pair_renamed text at parent last k led old.entries i v w apart.0 key has own))
-  where
-    leads_longer : (k : Key) (parent : Address) (last : Step) → leads k parent ≡ true → leads k (parent ++ last ∷ []) ≡ true
-    leads_longer [] parent last led = refl
-    leads_longer (n ∷ k) [] last led = absurd (false≢true led)
-    leads_longer (n ∷ k) (t ∷ parent) last led =
-        let (here, behind) = and_parts (same_step (Name n) t) (leads k parent) led in
-        and_from (same_step (Name n) t) (leads k (parent ++ last ∷ [])) here (leads_longer k parent last behind)
 
 pub table_renamed : (whole parent : Address) (last : Step) (i used : ℕ) (text : List ℕ) (old now : Enclosed) → whole ≡ parent ++ last ∷ []
     → LeadsOn old.entries parent (Some (i, used)) → RenamesEntry i (drop used whole) text old now

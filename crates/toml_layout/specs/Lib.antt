@@ -27,5 +27,7 @@ pub mod Leading
 pub mod SettingIn
 pub mod RenamingIn
 pub mod RenamedPairs
+pub mod PairPlaces
+pub mod Holding
 pub mod ChangingIn
 pub mod Emptying

@@ -3,6 +3,7 @@ ghost use Rattle.std.specs.Prelude.{IfOk};
 ghost use Rattle.toml_layout.specs.ChangingIn.{ChangesIn};
 ghost use Rattle.toml_layout.specs.OpenOutlines.{value as value_outlined};
 
+use crate::members::Held;
 use crate::texts::Texts;
 use crate::tree::Value;
 use std::alloc::AllocError;
@@ -25,27 +26,26 @@ pub enum Inside<'t> {
 }
 
 impl<'t> Texts<'t> {
-    /// Changes what stands in the value at the steps. It answers `false` where nothing stands there to be set, or into which
-    /// to insert.
+    /// Changes what stands in the value at the steps. It answers `false` where nothing stands there to be set, or where no
+    /// array and no inline table holds it, or would hold it.
     pub fn change_in(
         self,
         own: &mut Value<'t>,
         steps: &[Step],
         change: Inside<'t>,
     ) -> Result<bool, AllocError>
-        ensures { IfOk result (λ done. ChangesIn steps.now change.entry (value_outlined own.old) (value_outlined own.new) done) }
+        ensures { IfOk result (ChangesIn self.entry.layout steps.now change.entry (value_outlined own.old) (value_outlined own.new)) }
     {
         match change {
             Inside::Set(new) => self.set_in(own, steps, new),
-            Inside::Insert { spelled, new } => self.insert_in(own, steps, spelled, new),
+            Inside::Insert { spelled, new } => {
+                self.change_held(own, steps, Held::Put { spelled, new })
+            }
             Inside::Rename(to) => {
                 self.rename_in(own, steps, to)?;
                 Ok(true)
             }
-            Inside::Remove => {
-                self.remove_in(own, steps)?;
-                Ok(true)
-            }
+            Inside::Remove => self.change_held(own, steps, Held::Out),
         }
     }
 }

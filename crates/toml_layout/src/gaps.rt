@@ -1,20 +1,22 @@
 //! The gaps around an entry that is put in, by layout `Follow`.
 ghost use Rattle.std.specs.Prelude.{◌≡◌, IfOk, MatchOption, false, option_copied, option_map};
 ghost use Rattle.toml_layout.specs.Items.{gap_parts, item, items_of};
-ghost use Rattle.toml_layout.specs.Looks.{respaced};
+ghost use Rattle.toml_layout.specs.Looks.{around as around_equals, respaced};
 ghost use Rattle.toml_layout.specs.Margins.{IndentsComment, IsMarginAlone, IsOnLine, PutsLine, are_tabs, has_own_comment, is_short};
 ghost use Rattle.toml_layout.specs.Margins.{is_tab_run, last_of, margin, one_space, parting};
-ghost use Rattle.toml_layout.specs.OpenOutlines.{assign, leaf_text};
+ghost use Rattle.toml_layout.specs.OpenOutlines.{assign as assign_outline, leaf_text};
+ghost use Rattle.toml_layout.specs.PairPlaces.{IsPairPlace, IsPlaceBelow, equals_above, goes_on_at, laid_key};
 ghost use Rattle.toml_layout.specs.PartOutlines.{outlined};
 ghost use Rattle.toml_layout.specs.Rooms.{IsBetween, RoomAlone, RoomBeside, RoomOnLine, behind_comma, beside, room_of};
 ghost use Rattle.toml_layout.specs.Spacings.{is_narrow};
 
 use crate::layout::Layout;
+use crate::looks::Equals;
 use crate::parts::{past_first_newline, past_last_newline};
 use crate::texts::Texts;
 use crate::tree::{Assign, Entries, Entry, Gap, GapPart, Leaf};
+use crate::values::key_at;
 use std::alloc::{AllocError, Global};
-use toml_lists::GapList;
 use toml_names::Step;
 
 /// The parts up to a newline and with it, and those behind.
@@ -286,65 +288,83 @@ impl<'t> Texts<'t> {
         Ok((before, gap))
     }
 
-    /// The index at which a pair is put in at the steps: behind the last one. By layout `Follow` it is behind the last one below
-    /// its table, and has around its `=` what that one has.
+    /// The index at which a pair is put in for the table at these steps: behind the last one. By layout `Follow` it is behind the
+    /// last one below that table, and has around its `=` what that one has.
     pub(crate) fn pair_index(
         self,
         pairs: &Entries<'t>,
-        steps: &[Step],
+        parent: &[Step],
         assign: &mut Assign<'t>,
-    ) -> Result<usize, AllocError> {
-        let (Layout::Follow, Some((_, parent))) = (self.layout, steps.split_last()) else {
-            return Ok(pairs.list.len());
-        };
-        let index = self.index_below(pairs, parent)?;
-        if let Some(other) = pair_before(&pairs.list, index) {
-            assign.space_as(other.before_equals, other.after_equals);
+    ) -> Result<usize, AllocError>
+        ensures place { IfOk result (IsPairPlace self.entry.layout parent.now (items_of pairs.now).list) }
+        ensures key { let m = items_of pairs.now in
+            IfOk result (λ i. assign_outline assign.new ≡ laid_key self.entry.layout m i (assign_outline assign.old)) }
+    {
+        match self.layout {
+            Layout::Plain => Ok(pairs.list.len()),
+            Layout::Follow => {
+                let index = self.index_below(pairs, parent)?;
+                if let Some(other) = pairs.equals_above(index) {
+                    assign.space_as(other.before, other.after);
+                }
+                Ok(index)
+            }
         }
-        Ok(index)
     }
 
     /// The index of a new pair in the table at these steps: behind the last pair below it.
-    fn index_below(self, pairs: &Entries<'t>, parent: &[Step]) -> Result<usize, AllocError> {
-        let mut index = pairs.list.len();
+    fn index_below(self, pairs: &Entries<'t>, parent: &[Step]) -> Result<usize, AllocError>
+        ensures { IfOk result (IsPlaceBelow parent.now (items_of pairs.now).list) }
+    {
+        let count = pairs.list.len();
         if parent.is_empty() {
-            return Ok(index);
+            return Ok(count);
         }
-        for at in 0..pairs.list.len() {
-            if let Some(pair) = pairs.list.get(at) {
-                if self.is_pair_below(pair.assign.as_deref(), parent)? {
-                    index = at.saturating_add(1);
-                }
+        let mut index = count;
+        while index > 0 {
+            if self.goes_on(pairs, index - 1, parent)? {
+                return Ok(index);
             }
+            index -= 1;
         }
-        Ok(index)
+        Ok(count)
     }
 
-    /// Whether the key of a pair goes on behind these steps.
-    fn is_pair_below(
-        self,
-        assign: Option<&Assign<'t>>,
-        parent: &[Step],
-    ) -> Result<bool, AllocError> {
-        match assign {
-            Some(assign) => Ok(
-                parent.len() < assign.key.parts()
-                    && self.common(&assign.key, parent)? == parent.len(),
-            ),
-            None => Ok(false),
-        }
+    /// Whether the key of the pair with the index goes on behind these steps.
+    fn goes_on(self, pairs: &Entries<'t>, at: usize, parent: &[Step]) -> Result<bool, AllocError>
+        ensures { IfOk result (λ on. on ≡ goes_on_at parent.now (items_of pairs.now).list at) }
+    {
+        let Some(key) = key_at(&pairs.list, at) else {
+            return Ok(false);
+        };
+        let common = self.common(key, parent)?;
+        Ok(parent.len() < key.parts() && common == parent.len())
     }
 }
 
-/// The key of the pair before the index, and what stands around its `=`.
-fn pair_before<'a, 't>(pairs: &'a GapList<Entry<'t>>, index: usize) -> Option<&'a Assign<'t>> {
-    pairs.get(index.checked_sub(1)?)?.assign.as_deref()
+impl<'t> Entries<'t> {
+    /// What stands around the `=` of the pair before the index, if there is one.
+    fn equals_above(&self, index: usize) -> Option<Equals<'t>>
+        ensures { around_equals result ≡ equals_above (items_of self.now) index }
+    {
+        if index == 0 {
+            return None;
+        }
+        let Some(entry) = self.list.get(index - 1) else {
+            return None;
+        };
+        let assign = entry.assign.as_ref()?;
+        Some(Equals {
+            before: assign.before_equals,
+            after: assign.after_equals,
+        })
+    }
 }
 
 impl<'t> Assign<'t> {
     /// Gives it around its `=` what stands around another's, where that is nothing or one space on each side.
     pub(crate) fn space_as(&mut self, before_equals: Leaf<'t>, after_equals: Leaf<'t>)
-        ensures { assign self.new ≡ respaced (leaf_text before_equals.entry) (leaf_text after_equals.entry) (assign self.old) }
+        ensures { assign_outline self.new ≡ respaced (leaf_text before_equals.entry) (leaf_text after_equals.entry) (assign_outline self.old) }
     {
         if is_narrow(before_equals) && is_narrow(after_equals) {
             self.before_equals = before_equals.anew();

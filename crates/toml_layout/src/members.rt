@@ -1,98 +1,163 @@
 //! Elements and pairs that are put into a value and taken out of it.
+ghost use Rattle.std.specs.Prelude.{◌<◌, IfOk, OnOk, map, string_bytes, vec_len};
+ghost use Rattle.toml_layout.specs.Holding.{ChangesElement, ChangesPairs, HoldsEntry, HoldsIn, MakesHeld};
+ghost use Rattle.toml_layout.specs.Items.{items_of};
+ghost use Rattle.toml_layout.specs.Leading.{ChangesAt};
+ghost use Rattle.toml_layout.specs.OpenOutlines.{entries as entries_outlined, value as value_outlined};
+ghost use Rattle.toml_layout.specs.PairPlaces.{PutsPair};
+
 use crate::texts::Texts;
 use crate::tree::{Entries, Entry, Value};
-use crate::values::{behind, key_at};
+use crate::values::{behind, index_first, key_at};
 use std::alloc::AllocError;
 use toml_lists::Side;
 use toml_names::Step;
 
+/// What becomes of what an array or an inline table holds.
+#[derive(Drop)]
+pub(crate) enum Held<'t> {
+    /// A value is put in; these are the spellings of its whole address.
+    Put {
+        spelled: &'t [String],
+        new: Value<'t>,
+    },
+    /// It is taken out.
+    Out,
+}
+
 impl<'t> Texts<'t> {
-    /// The entry that leads on to what the steps name, strictly below it, and how many steps lead to it.
-    fn further(
-        self,
-        value: &Value<'t>,
-        steps: &[Step],
-    ) -> Result<Option<(usize, usize)>, AllocError> {
-        match value {
-            Value::Scalar(_) => Ok(None),
-            Value::Array(_) => Ok(match steps {
-                [Step::Index(index), _, ..] => Some((*index as usize, 1)),
-                _ => None,
-            }),
-            Value::Inline(pairs) => match steps.split_last() {
-                Some((_, parent)) => self.pair_on(pairs, parent),
-                None => Ok(None),
-            },
-        }
-    }
-
-    /// The innermost value that holds what the steps name, or would hold it, and the steps that are left there.
-    fn holder<'v, 's>(
-        self,
-        value: &'v mut Value<'t>,
-        steps: &'s [Step],
-    ) -> Result<Option<(&'v mut Value<'t>, &'s [Step])>, AllocError> {
-        let Some((index, used)) = self.further(value, steps)? else {
-            return Ok(Some((value, steps)));
-        };
-        let entries = match value {
-            Value::Scalar(_) => return Ok(None),
-            Value::Array(entries) | Value::Inline(entries) => entries,
-        };
-        match entries.list.side(index) {
-            Some(Side::Before(place)) => match entries.list.before.get_mut(place) {
-                Some(entry) => self.holder(&mut entry.value, behind(steps, used)),
-                None => Ok(None),
-            },
-            Some(Side::Behind(place)) => match entries.list.behind.get_mut(place) {
-                Some(entry) => self.holder(&mut entry.value, behind(steps, used)),
-                None => Ok(None),
-            },
-            None => Ok(None),
-        }
-    }
-
-    /// Puts a value in at the steps: an element of an array, or a pair of the innermost inline table at or above the parent.
-    /// `spelled` are the spellings of the steps.
-    pub(crate) fn insert_in(
+    /// Changes what the steps name in the innermost array or inline table that holds it, or would hold it. It answers `false`
+    /// where there is none.
+    #[cycle(holding)]
+    pub(crate) fn change_held(
         self,
         own: &mut Value<'t>,
         steps: &[Step],
-        spelled: &'t [String],
-        new: Value<'t>,
-    ) -> Result<bool, AllocError> {
-        let Some((holder, rest)) = self.holder(own, steps)? else {
+        change: Held<'t>,
+    ) -> Result<bool, AllocError>
+        ensures { IfOk result (HoldsIn steps.now (MakesHeld self.entry.layout change.entry) (value_outlined own.old) (value_outlined own.new)) }
+    {
+        let Some((_, parent)) = steps.split_last() else {
             return Ok(false);
         };
-        match (holder, rest) {
-            (Value::Array(entries), [Step::Index(index)]) => {
-                entries.put(self, *index as usize, None, new)?;
-                Ok(true)
-            }
-            (Value::Inline(entries), _) => {
-                let used = spelled.len().saturating_sub(rest.len());
-                let (_, parts) = spelled.split_at(used);
-                let mut assign = Box::new(self.alloc, self.assign(parts)?)?;
-                let index = self.pair_index(entries, rest, &mut assign)?;
-                entries.put(self, index, Some(assign), new)?;
-                Ok(true)
-            }
-            _ => Ok(false),
+        match own {
+            Value::Scalar(_) => Ok(false),
+            Value::Array(elements) => match index_first(steps) {
+                None => Ok(false),
+                Some(index) => {
+                    if parent.is_empty() {
+                        self.change_element(elements, index, change)?;
+                        return Ok(true);
+                    }
+                    let done = self.held_entry(elements, index, behind(steps, 1), change)?;
+                    Ok(done)
+                }
+            },
+            Value::Inline(pairs) => match self.pair_on(pairs, parent)? {
+                Some((index, used)) => {
+                    let done = self.held_entry(pairs, index, behind(steps, used), change)?;
+                    Ok(done)
+                }
+                None => {
+                    self.change_pairs(pairs, parent, steps, change)?;
+                    Ok(true)
+                }
+            },
         }
     }
 
-    /// Takes out what stands at the steps: an element of an array, or all pairs at or below them.
-    pub(crate) fn remove_in(self, own: &mut Value<'t>, steps: &[Step]) -> Result<(), AllocError> {
-        let Some((holder, rest)) = self.holder(own, steps)? else {
-            return Ok(());
-        };
-        match (holder, rest) {
-            (Value::Array(entries), [Step::Index(index)]) => {
-                entries.remove_one(self, *index as usize)
+    /// Changes what the steps name in the value of the entry with the index, if there is one.
+    #[cycle(holding)]
+    fn held_entry(
+        self,
+        entries: &mut Entries<'t>,
+        index: usize,
+        steps: &[Step],
+        change: Held<'t>,
+    ) -> Result<bool, AllocError>
+        ensures { let old = entries_outlined entries.old in let now = entries_outlined entries.new in
+            IfOk result (HoldsEntry index steps.now (MakesHeld self.entry.layout change.entry) old now) }
+    {
+        match entries.list.side(index) {
+            Some(Side::Before(place)) => {
+                let done = self.held_at(&mut entries.list.before, place, steps, change)?;
+                Ok(done)
             }
-            (Value::Inline(entries), _) => self.remove_pairs(entries, rest),
-            _ => Ok(()),
+            Some(Side::Behind(place)) => {
+                let done = self.held_at(&mut entries.list.behind, place, steps, change)?;
+                Ok(done)
+            }
+            None => Ok(false),
         }
+    }
+
+    /// Changes what the steps name in the value of the entry at the place.
+    #[cycle(holding)]
+    fn held_at(
+        self,
+        list: &mut Vec<Entry<'t>>,
+        place: usize,
+        steps: &[Step],
+        change: Held<'t>,
+    ) -> Result<bool, AllocError>
+        requires { place < vec_len list.old }
+        ensures { let old = list.old.items in let now = list.new.items in
+            IfOk result (λ done. ChangesAt (λ v w. HoldsIn steps.now (MakesHeld self.entry.layout change.entry) v w done) place old now) }
+    {
+        let done = self.change_held(&mut list[place].value, steps, change)?;
+        Ok(done)
+    }
+
+    /// Changes the element with the index.
+    fn change_element(
+        self,
+        elements: &mut Entries<'t>,
+        index: usize,
+        change: Held<'t>,
+    ) -> Result<(), AllocError>
+        ensures { OnOk result (ChangesElement self.entry.layout change.entry index (items_of elements.old) (items_of elements.new)) }
+    {
+        match change {
+            Held::Put { new, .. } => elements.put(self, index, None, new),
+            Held::Out => elements.remove_one(self, index),
+        }
+    }
+
+    /// Changes the pairs that the steps name, in the table at the parent.
+    fn change_pairs(
+        self,
+        pairs: &mut Entries<'t>,
+        parent: &[Step],
+        steps: &[Step],
+        change: Held<'t>,
+    ) -> Result<(), AllocError>
+        ensures { let old = items_of pairs.old in
+            OnOk result (ChangesPairs self.entry.layout change.entry parent.now steps.now old (items_of pairs.new)) }
+    {
+        match change {
+            Held::Put { spelled, new } => {
+                let used = spelled.len().saturating_sub(steps.len());
+                let (_, parts) = spelled.split_at(used);
+                self.put_pair(pairs, parent, parts, new)
+            }
+            Held::Out => self.remove_pairs(pairs, steps),
+        }
+    }
+
+    /// Puts a pair in for the table at the parent, its key of these parts.
+    fn put_pair(
+        self,
+        pairs: &mut Entries<'t>,
+        parent: &[Step],
+        parts: &'t [String],
+        new: Value<'t>,
+    ) -> Result<(), AllocError>
+        ensures { let spelled = map string_bytes parts.now in
+            OnOk result (PutsPair self.entry.layout spelled new.entry parent.now (items_of pairs.old) (items_of pairs.new)) }
+    {
+        let mut assign = Box::new(self.alloc, self.assign(parts)?)?;
+        let index = self.pair_index(pairs, parent, &mut assign)?;
+        pairs.put(self, index, Some(assign), new)
     }
 
     /// Takes out all pairs at or below the steps. Where no other pair mentions the parent, which is a table of dotted keys,

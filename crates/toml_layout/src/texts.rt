@@ -1,10 +1,10 @@
 //! The texts of key parts, and how keys lie to addresses.
-ghost use Rattle.std.specs.Prelude.{◌≡◌, ◌+◌, ◌++◌, ◌∷◌, [], IfOk, OnOk, false, length, map, option_map, true, vec_len};
+ghost use Rattle.std.specs.Prelude.{◌≡◌, ◌+◌, ◌++◌, ◌∷◌, [], IfOk, OnOk, false, length, map, option_map, string_bytes, true, vec_len};
 ghost use Rattle.std.specs.Str.{bytes_eq};
 ghost use Rattle.toml_names.specs.mentions.Keys.{spelled_name};
 ghost use Rattle.toml_layout.specs.Leading.{in_common, is_named, open_names};
 ghost use Rattle.toml_layout.specs.OpenOutlines.{dotted, leaf_text, line as line_outlined};
-ghost use Rattle.toml_layout.specs.NewKeys.{IsKey, IsOnePart, bare_part};
+ghost use Rattle.toml_layout.specs.NewKeys.{HasParts, IsKey, bare_part};
 ghost use Rattle.toml_layout.specs.RenamedPairs.{line_part_with};
 ghost use Rattle.toml_layout.specs.RenamingIn.{first_with, rest_with};
 
@@ -108,7 +108,7 @@ impl<'t> Key<'t> {
 
     /// The key of these parts, without whitespace.
     pub(crate) fn of(alloc: Global, parts: &'t [String]) -> Result<Key<'t>, AllocError>
-        ensures { IfOk result (IsOnePart parts.now) }
+        ensures { IfOk result (HasParts (map string_bytes parts.now)) }
     {
         let Some((first, others)) = parts.split_first() else {
             return Ok(Key::none(alloc));

@@ -1,7 +1,7 @@
 //! Where steps lead in a value, and the two edits that change what is there: `set` and `rename`.
-ghost use Rattle.std.specs.Prelude.{◌≡◌, ◌<◌, IfOk, OnOk, drop, map, option_and_then, option_map, slice_get, vec_len};
+ghost use Rattle.std.specs.Prelude.{◌≡◌, ◌<◌, IfOk, OnOk, drop, map, option_and_then, option_map, slice_get, string_bytes, vec_len};
 ghost use Rattle.toml_lists.specs.Gaps.{items};
-ghost use Rattle.toml_layout.specs.NewKeys.{AssignsOne};
+ghost use Rattle.toml_layout.specs.NewKeys.{key_of};
 ghost use Rattle.toml_layout.specs.Leading.{ChangesAt, LeadsOn, first_index, key_in, leads, led_by, open_names, pair_key};
 ghost use Rattle.toml_layout.specs.SettingIn.{SetsEntry, SetsIn};
 ghost use Rattle.toml_layout.specs.OpenOutlines.{assign as assign_outline, entries as entries_outline};
@@ -137,7 +137,7 @@ impl<'t> Texts<'t> {
 
     /// The key of these parts, and ` = `.
     pub fn assign(self, parts: &'t [String]) -> Result<Assign<'t>, AllocError>
-        ensures { IfOk result (AssignsOne parts.now) }
+        ensures { IfOk result (λ a. assign_outline a ≡ key_of (map string_bytes parts.now)) }
     {
         Ok(Assign {
             key: Key::of(self.alloc, parts)?,
@@ -309,7 +309,7 @@ pub(crate) fn key_at<'a, 't>(pairs: &'a GapList<Entry<'t>>, index: usize) -> Opt
 }
 
 /// The index with which the steps begin, if they begin with one.
-fn index_first(steps: &[Step]) -> Option<usize>
+pub(crate) fn index_first(steps: &[Step]) -> Option<usize>
     ensures { result ≡ first_index steps.now }
 {
     match steps.first() {

@@ -1,5 +1,5 @@
 -- What crates above cite: an item by where it lies.
-use Rattle.std.proofs.Common.{◌≡◌, ◌++◌, ◌+◌, ◌<◌, ◌^◌, ℕ, List, length, reverse, set, Some, Vec, Global, sym, ap, ◌∙◌, refl, arith}
+use Rattle.std.proofs.Common.{◌≡◌, ◌++◌, ℕ, reverse, set, sym, ap, ◌∙◌}
 use Rattle.std.specs.Prelude.{slice_get}
 use Rattle.toml_lists.specs.Gaps.{LiesAt, items}
 use Rattle.toml_lists.specs.declared.gap_list.GapList.{GapList}

@@ -1,5 +1,5 @@
 -- The items of a list with a gap.
-use Rattle.std.specs.Prelude.{◌≡◌, ◌+◌, ◌-◌, ◌<◌, ℕ, List, ◌++◌, length, reverse}
+use Rattle.std.specs.Prelude.{◌≡◌, ◌+◌, ◌<◌, ℕ, List, ◌++◌, length, reverse}
 use Rattle.toml_lists.specs.declared.gap_list.GapList.{GapList}
 use Rattle.toml_lists.specs.declared.gap_list.Side.{Side}
 use Rattle.toml_lists.specs.declared.gap_list.Side.TheVariants.{Before, Behind}

@@ -1,7 +1,10 @@
 //! A list with a gap: items are put in and taken out there, so changes near one another move few items.
 ghost use Rattle.std.specs.List.{insert as inserted, remove as removed};
 ghost use Rattle.std.specs.Prelude.{◌≡◌, ◌↔◌, ◌<◌, ◌≤◌, ◌-◌, ◌^◌, ◌++◌, ◌∷◌, [], IfErr, IfOk, IsTrue, MatchOption, OnErr, OnOk, length, option_copied, slice_get, slice_index_or, vec_len};
+ghost use Rattle.std.specs.Borrow.{sem};
+ghost use Rattle.std.specs.Option.{option_copied_mut};
 ghost use Rattle.toml_lists.specs.Gaps.{LiesAt, items};
+ghost use Rattle.toml_lists.specs.Lending.{LendsItem};
 
 use std::alloc::{AllocError, Global};
 
@@ -60,8 +63,11 @@ impl<T: Drop> GapList<T> {
         Some(Side::Behind(rest - 1 - past))
     }
 
-    /// The item with the index, to be changed, if there is one. Contracts do not see what is written there.
-    pub fn get_mut(&mut self, index: usize) -> Option<&mut T> {
+    /// The item with the index, to be changed, if there is one.
+    pub fn get_mut(&mut self, index: usize) -> Option<&mut T>
+        ensures* writes { sem 𝓛 (LendsItem T.row self.entry index result) }
+        ensures item { option_copied_mut result ≡ slice_get (items self.old) index }
+    {
         match self.side(index) {
             Some(Side::Before(place)) => self.before.get_mut(place),
             Some(Side::Behind(place)) => self.behind.get_mut(place),

@@ -1,5 +1,10 @@
 pub mod Standing
 pub mod Walked
+pub mod Cutting
+pub mod OneMade
+pub mod TooDeep
+pub mod RestMade
+pub mod MadeAbove
 pub mod Members
 pub mod OneList
 pub mod StandsThere

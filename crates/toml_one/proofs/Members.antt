@@ -3,6 +3,8 @@ use Rattle.std.proofs.Common.{◌≡◌, ℕ, Bool, true, false, not, List, [], 
 use Rattle.std.specs.Prelude.{IsTrue, ◌↔◌, ◌&&◌, is_some}
 use Rattle.std.proofs.lemmas.Bool.{false≢true}
 use Rattle.std.proofs.lemmas.List.{map-append}
+use Rattle.std.specs.declared.alloc.Global.{Global}
+use Rattle.std.specs.declared.vec.Vec.{Vec}
 use Rattle.toml_names.specs.mentions.Mentions.{Named}
 use Rattle.toml_names.specs.model.Addresses.{Address}
 use Rattle.toml_names.specs.model.Data.{Kinds}
@@ -12,11 +14,13 @@ use Rattle.toml_places.specs.declared.place.PlaceStep.{PlaceStep}
 use Rattle.toml_places.specs.Parts.{Stands}
 use Rattle.toml_edits.specs.Edits.{Change, change}
 use Rattle.toml_edits.specs.declared.edit.Edit.{Edit}
+use Rattle.toml_one.specs.Kept.{Keeps}
 use Rattle.toml_one.specs.Steps.{ends_behind}
 use Rattle.toml_one.specs.Walking.{IsMadeAbove}
 use Rattle.toml_one.specs.Wishes.{IsNewMember, IsSet, IsWithParents, PutsIn, or_nowhere, put_at}
-use Rattle.toml_one.specs.declared.parents.Made.{Made}
+use Rattle.toml_one.specs.declared.parents.Reached.{Reached}
 use Rattle.toml_one.proofs.Standing.{part_there}
+use Rattle.toml_one.proofs.Cutting.{up_more, up_whole, up_with_last}
 
 -- where a part is something stands
 pub some_is_there : (parts : List Spot) (part : Option ℕ) (kinds : Kinds) → Stands parts part kinds → is_some part ≡ true → ¬ (kinds [] ≡ None)
@@ -35,18 +39,25 @@ member_puts kinds place found at r is other member = subst (λ f. IsTrue r ↔ P
     back (inl behind) = absurd (false≢true (sym other ∙ behind))
     back (inr h) = member.1 h
 
--- the edits of a value behind those that make what is missing above
-pub with_parents_is : (parts : List Spot) (ms : List Named) (place : List PlaceStep) (value : List ℕ) (may_set : Bool) (made : Made) (new : List Edit) (edit : Edit)
-    → IsMadeAbove parts ms place made → new ≡ made.edits.items ++ edit ∷ []
-    → change edit ≡ put_at (may_set && is_some made.end.here.part) made.end.at value
-    → IsWithParents may_set (part_kinds parts 0) ms place value (map change new)
-with_parents_is parts ms place value may_set made new edit above grown is =
-    let old = made.edits.items in
-    let there : is_some made.end.here.part ≡ is_some (above.end.kinds []) = part_there parts made.end.here.part above.end.kinds above.reached.stands in
-    let put : change edit ≡ put_at (may_set && is_some (above.end.kinds [])) above.end.at value =
-    is ∙ ap (λ b. put_at (may_set && b) made.end.at value) there ∙ ap (λ a. put_at (may_set && is_some (above.end.kinds [])) a value) above.reached.at in (
-      map change old,
-      above.end,
-      above.makes,
-      ap (map change) grown ∙ map-append change old (edit ∷ []) ∙ ap (λ c. map change old ++ c ∷ []) put,
-    )
+module _ (parts : List Spot) (ms : List Named) (place : List PlaceStep) (value : List ℕ) (may_set : Bool) (edits : Vec Edit Global) where
+  -- the edits of a value behind those that make what is missing above
+  pub with_parents_is : (end : Reached) (new : List Edit) (edit : Edit) → IsMadeAbove parts ms place (record { edits = edits; end = Some end }) → new ≡ edits.items ++ edit ∷ []
+      → change edit ≡ put_at (may_set && is_some end.here.part) end.at value
+      → Keeps (IsWithParents may_set (part_kinds parts 0) ms place value) (map change new)
+  with_parents_is end new edit above grown is =
+      let old = edits.items in
+      let none = above.reached.0 in
+      let reached = above.reached.1 in
+      let whole : map change old ≡ above.all = above.edits ∙ up_whole above.all none in
+      let there : is_some end.here.part ≡ is_some (above.end.kinds []) = part_there parts end.here.part above.end.kinds reached.stands in
+      let put : change edit ≡ put_at (may_set && is_some (above.end.kinds [])) above.end.at value =
+      is ∙ ap (λ b. put_at (may_set && b) end.at value) there ∙ ap (λ a. put_at (may_set && is_some (above.end.kinds [])) a value) reached.at in
+      let last = put_at (may_set && is_some (above.end.kinds [])) above.end.at value in
+      let is_all : map change new ≡ above.all ++ last ∷ [] = ap (map change) grown ∙ map-append change old (edit ∷ []) ∙ (λ i. whole i ++ put i ∷ []) in
+      record { all = above.all ++ last ∷ []; are = (above.all, above.end, above.makes, refl); kept = is_all ∙ sym (up_with_last above.all last none) }
+
+  -- and where they end too deep
+  pub cut_parents : IsMadeAbove parts ms place (record { edits = edits; end = None }) → Keeps (IsWithParents may_set (part_kinds parts 0) ms place value) (map change edits.items)
+  cut_parents above =
+      let last = put_at (may_set && is_some (above.end.kinds [])) above.end.at value ∷ [] in
+      record { all = above.all ++ last; are = (above.all, above.end, above.makes, refl); kept = above.edits ∙ sym (up_more above.all last above.reached) }

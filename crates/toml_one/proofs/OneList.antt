@@ -11,7 +11,8 @@ use Rattle.toml_places.specs.declared.place.PlaceStep.TheVariants.{Name, Index, 
 use Rattle.toml_places.specs.Leading.{IsAddressOf, IsStep}
 use Rattle.toml_places.proofs.Proved.{one_address}
 use Rattle.toml_edits.specs.Edits.{Change, insert, remove, rename}
-use Rattle.toml_one.specs.Laws.{OneEditList}
+use Rattle.toml_one.specs.Kept.{up_to_too_deep}
+use Rattle.toml_one.specs.Laws.{OneEditList, OneKeptList}
 use Rattle.toml_one.specs.Parents.{Front, IsNewStep, IsNewStepOf, Makes, MakesAt, MakesBelow, MakesElement, MakesMissing, MakesProper, MakesTable, further, root}
 use Rattle.toml_one.specs.Steps.{ends_in_name, is_index}
 use Rattle.toml_one.specs.Wishes.{IsInserted, IsOne, IsSet, IsSetAlone, IsSetAt, IsWithParents, or_nowhere, put_at, to_insert, to_remove, to_rename, to_set}
@@ -112,3 +113,6 @@ one_edit_list kinds ms place (to_set value parents) cs ds one two = one_set_at k
 one_edit_list kinds ms place (to_insert value parents) cs ds one two = one_inserted kinds ms place value cs ds (parents && ends_in_name place) one two
 one_edit_list kinds ms place (to_rename name) cs ds one two = one_edit kinds ms place [] cs ds (λ at. rename at name) one two
 one_edit_list kinds ms place to_remove cs ds one two = one_edit kinds ms place [] cs ds remove one two
+
+pub one_kept_list : OneKeptList
+one_kept_list kinds ms place wish one two kept other = kept.kept ∙ ap up_to_too_deep (one_edit_list kinds ms place wish kept.all other.all kept.are other.are) ∙ sym other.kept

@@ -31,7 +31,7 @@ some_there parts (Some id) is some = part_is_there parts id is
 the_same : (parts : List Spot) (id : ℕ) (here : Kinds) → Stands parts (Some id) here → kinds_in parts (Some id) ≡ here
 the_same parts id here stands = λ i at. sym (stands.1 at) i
 
-no_array : (kinds : Kinds) (len : ℕ) → kinds [] ≡ None → ¬ IsArrayOf kinds len
+pub no_array : (kinds : Kinds) (len : ℕ) → kinds [] ≡ None → ¬ IsArrayOf kinds len
 no_array kinds len none array = none-some an_array (sym none ∙ array.array)
 
 -- what a step is

@@ -1,7 +1,6 @@
 -- Where something stands at a place, nothing is made above it.
-use Rattle.std.proofs.Common.{◌≡◌, Bool, true, false, List, [], ◌∷◌, ◌++◌, Option, Some, None, sym, refl, ap, ◌∙◌, subst, append_assoc, append-nil}
+use Rattle.std.proofs.Common.{◌≡◌, List, [], ◌∷◌, ◌++◌, Option, Some, None, sym, refl, ap, ◌∙◌, subst, append_assoc, append-nil}
 use Rattle.std.specs.Prelude.{IsSome, is_some, option_and_then, slice_get}
-use Rattle.std.proofs.lemmas.Bool.{false≢true}
 use Rattle.toml_names.specs.declared.model.address.Step.{Step}
 use Rattle.toml_names.specs.mentions.Mentions.{Kind, Named}
 use Rattle.toml_names.specs.model.Addresses.{Address}
@@ -10,9 +9,10 @@ use Rattle.toml_places.specs.declared.place.PlaceStep.{PlaceStep}
 use Rattle.toml_places.specs.Leading.{LeadsTo, below_step, below_steps}
 use Rattle.toml_edits.specs.Edits.{Change}
 use Rattle.toml_one.specs.Laws.{SetsWhatStands}
-use Rattle.toml_one.specs.Parents.{Front, IsNewStep, IsNewStepOf, Makes, MakesAt, MakesBelow, further, root}
+use Rattle.toml_one.specs.Parents.{Front, IsNewStep, IsNewStepOf, Makes, MakesBelow, further, root}
 use Rattle.toml_one.specs.Wishes.{put_at}
 use Rattle.toml_one.proofs.OneList.{one_new_step}
+use Rattle.toml_one.proofs.OneMade.{nothing_made}
 use Rattle.toml_one.proofs.Standing.{step_on}
 
 -- above what stands something stands
@@ -31,11 +31,6 @@ stands_above (t ∷ at) kinds some = step_above kinds t (stands_above at (below_
 found_is : (kinds : Kinds) (s : PlaceStep) (t : Step) (found : Option Step) → IsNewStep kinds s t → IsNewStepOf kinds s found → found ≡ Some t
 found_is kinds s t None is never = absurd (never t is)
 found_is kinds s t (Some u) is so = ap Some (one_new_step kinds s u t so is)
-
-nothing_made : (there in_value : Bool) (next : Option PlaceStep) (above : Kinds) (t : Option Step) (at : Address) (cs : List Change) → there ≡ true → MakesAt there in_value next above t at cs → cs ≡ []
-nothing_made there in_value None above t at cs is makes = makes
-nothing_made true in_value (Some next) above t at cs is makes = makes
-nothing_made false in_value (Some next) above t at cs is makes = absurd (false≢true is)
 
 -- what was reached
 pub record Stood (at : Address) (cs : List Change) (end : Front) : Type 0 where

@@ -1,5 +1,5 @@
 -- The walk of a place, front by front.
-use Rattle.std.proofs.Common.{◌≡◌, ℕ, suc, ◌+◌, ◌<◌, ◌≤◌, Bool, false, List, [], ◌∷◌, ◌++◌, length, map, Option, Some, None, sym, refl, ap, ◌∙◌, subst, arith, append_assoc, append-nil, drop, drop-cons, get_or, length-drop, take, ◌-◌}
+use Rattle.std.proofs.Common.{◌≡◌, ℕ, suc, ◌+◌, ◌<◌, ◌≤◌, Bool, false, List, [], ◌∷◌, ◌++◌, length, map, Option, Some, None, sym, refl, ap, ◌∙◌, subst, arith, append_assoc, drop, drop-cons, get_or, length-drop, take, ◌-◌}
 use Rattle.std.proofs.lemmas.List.{take_all}
 use Rattle.std.proofs.Math.ListN.{drop_of_length-le}
 use Rattle.std.specs.Prelude.{IfSome, is_some, slice_get}
@@ -16,8 +16,7 @@ use Rattle.toml_places.specs.Parts.{Stands, kinds_in}
 use Rattle.toml_edits.specs.Edits.{Change, change}
 use Rattle.toml_edits.specs.declared.edit.Edit.{Edit}
 use Rattle.toml_one.specs.Parents.{Front, IsNewStepOf, Makes, MakesAt, further, nowhere, root, stands_in_value}
-use Rattle.toml_one.specs.Walking.{IsMadeAbove, IsPassed, IsReached}
-use Rattle.toml_one.specs.declared.parents.Made.{Made}
+use Rattle.toml_one.specs.Walking.{IsPassed, IsReached}
 use Rattle.toml_one.specs.declared.parents.Reached.{Reached}
 use Rattle.toml_one.proofs.Standing.{made_is, new_step_is, next_stands, part_there}
 
@@ -104,15 +103,6 @@ module _ (parts : List Spot) (place left : List PlaceStep) (old new : List Edit)
     part = part;
     goes = λ lines tree. let goes = walked.goes lines tree in goes_on (named lines) goes (passed lines goes.here tree goes.reached);
   }
-
-pub ends : (parts : List Spot) (place : List PlaceStep) (made : Made) → Walked parts place [] made.edits.items made.end → (lines : List spelled.Line) → IsTreeOf parts (named lines) → IsMadeAbove parts (named lines) place made
-ends parts place made walked lines tree =
-    let goes = walked.goes lines tree in
-    record {
-      end = goes.here;
-      makes = subst (λ l. Makes (named lines) (root (part_kinds parts 0)) place l goes.here) (append-nil (map change made.edits.items)) (goes.on [] goes.here (refl, refl));
-      reached = goes.reached;
-    }
 
 pub left_is : (place : List PlaceStep) (i : ℕ) (s d : PlaceStep) → i < length place → s ≡ get_or place i d → drop i place ≡ s ∷ drop (i + 1) place
 left_is place i s d low is =

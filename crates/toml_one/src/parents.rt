@@ -1,5 +1,5 @@
 //! What is made above a place at which nothing stands yet.
-ghost use Rattle.std.specs.Prelude.{◌≡◌, ◌↔◌, ◌∷◌, ◌++◌, [], IfOk, IfSome, IsTrue, List, OnOk, Some, false, is_some, map};
+ghost use Rattle.std.specs.Prelude.{◌≡◌, ◌↔◌, ◌∷◌, ◌++◌, [], IfOk, IfSome, IsTrue, List, OnOk, Some, false, is_some, length, map, nat_lt};
 ghost use Rattle.std.specs.Option.{option_copied};
 ghost use Rattle.std.specs.String.{string_bytes};
 ghost use Rattle.toml_tree.specs.Tree as spelled;
@@ -8,14 +8,16 @@ ghost use Rattle.toml_names.specs.mentions.Mentions.{named};
 ghost use Rattle.toml_names.specs.reader.Parts.{IsPart};
 ghost use Rattle.toml_names.specs.tree.NameTree.{IsTreeOf};
 ghost use Rattle.toml_places.specs.Parts.{kinds_in};
+ghost use Rattle.toml_names.specs.mentions.Rules.{max_steps};
+ghost use Rattle.toml_one.specs.Kept.{puts_too_deep};
 ghost use Rattle.toml_one.specs.Parents.{Front, IsNewStepOf, IsNextElement, MakesAt, MakesMissing, MakesTable, empty_value, further, is_in_value, nowhere, stands_in_value};
 ghost use Rattle.toml_one.specs.Steps.{is_index};
-ghost use Rattle.toml_one.specs.Walking.{IsMadeAbove, IsPassed, IsReached, changes_of};
+ghost use Rattle.toml_one.specs.Walking.{IsMadeAbove, IsPassed, IsReached, changes_of, ends_too_deep};
 
 use crate::steps::{is_behind, is_index};
 use std::alloc::{AllocError, Global};
 use toml_edits::Edit;
-use toml_names::{Address, Name, NamedText, Place, Step};
+use toml_names::{Address, MAX_STEPS, Name, NamedText, Place, Step};
 use toml_places::{PlaceStep, part_in, step_in};
 
 /// What stands at a front of a place: its part, None where nothing does, and whether it is a value or in one, or is made so.
@@ -32,11 +34,12 @@ pub(crate) struct Reached {
     pub here: Here,
 }
 
-/// The edits that make what is missing above a place, and the end of the place.
+/// The edits that make what is missing above a place, and the end of the place. The first that puts something too deep is the last,
+/// and the end was not reached: else the addresses of the edits would take memory with the square of the place's steps.
 #[derive(Drop)]
 pub(crate) struct Made {
     pub edits: Vec<Edit>,
-    pub end: Reached,
+    pub end: Option<Reached>,
 }
 
 /// Makes what is missing above the place, the shortest front first.
@@ -52,8 +55,43 @@ pub(crate) fn make_parents(
     let mut front = root(alloc, names);
     for (i, step) in place.iter().enumerate() {
         front = pass(alloc, names, &mut edits, front, step, &place[i + 1..])?;
+        if front.here.part.is_none() && ends_too_deep(&edits) {
+            return Ok(Made { edits, end: None });
+        }
     }
-    Ok(Made { edits, end: front })
+    let end = Some(front);
+    Ok(Made { edits, end })
+}
+
+/// Whether the last of the edits puts something too deep.
+fn ends_too_deep(edits: &[Edit]) -> bool
+    ensures { result ≡ ends_too_deep (map change edits.now) }
+{
+    match edits.split_last() {
+        Some((last, _)) => puts_too_deep(last),
+        None => false,
+    }
+}
+
+/// Whether the edit puts something at an address of more than 100 steps: it is refused, whatever the data.
+fn puts_too_deep(edit: &Edit) -> bool
+    ensures { result ≡ puts_too_deep (change edit.now) }
+{
+    match edit {
+        Edit::Insert { at, .. } => is_too_deep(at),
+        Edit::Section { at } => is_too_deep(at),
+        Edit::Element { at } => is_too_deep(at),
+        Edit::Set { .. } => false,
+        Edit::Rename { .. } => false,
+        Edit::Remove { .. } => false,
+    }
+}
+
+/// Whether the address has more than 100 steps.
+fn is_too_deep(at: &Address) -> bool
+    ensures { result ≡ nat_lt max_steps (length at.now) }
+{
+    at.steps().len() > MAX_STEPS
 }
 
 /// The front that has no steps.

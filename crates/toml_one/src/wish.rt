@@ -6,6 +6,7 @@ ghost use Rattle.toml_names.specs.reader.Parts.{part_kinds, shape_kind};
 ghost use Rattle.toml_names.specs.tree.NameTree.{IsTreeOf};
 ghost use Rattle.toml_edits.specs.Edits.{change, insert, remove, rename};
 ghost use Rattle.toml_places.specs.Leading.{below_steps};
+ghost use Rattle.toml_one.specs.Kept.{Keeps};
 ghost use Rattle.toml_one.specs.Steps.{ends_in_name};
 ghost use Rattle.toml_one.specs.Wishes.{AreEditsAt, IsFree, IsInserted, IsNewMember, IsOne, IsSetAlone, IsSetAt, IsWithParents, PutsIn, or_nowhere, put_at, wished};
 
@@ -47,7 +48,8 @@ pub enum Wish<'a> {
 /// A place that leads to no address stands for one at which nothing is. `Set` is a `set`; it is an `insert` where the place ends in
 /// `[+]`, or where nothing stands there, it ends in a name, and a table stands at its parent. With `parents`, where the place ends in
 /// a name and nothing stands there, it is an `insert` behind the edits that make what is missing above: in a value an empty value,
-/// else a section, or a new element of an array of tables; `[+]` of an array that is missing is then `[0]`.
+/// else a section, or a new element of an array of tables; `[+]` of an array that is missing is then `[0]`. An edit that puts something
+/// at an address of more than 100 steps is always refused: the list is handed out up to and with the first such edit, whole where none is.
 pub fn edits_at(
     alloc: Global,
     names: &NamedText<'_>,
@@ -55,7 +57,7 @@ pub fn edits_at(
     wish: Wish<'_>,
 ) -> Result<Vec<Edit>, AllocError>
     ensures { (lines : List spelled.Line) → IsTreeOf names.now (named lines)
-        → IfOk result (λ edits. AreEditsAt (part_kinds names.now 0) (named lines) place.now (wished wish.entry) (map change edits.items)) }
+        → IfOk result (λ edits. Keeps (AreEditsAt (part_kinds names.now 0) (named lines) place.now (wished wish.entry)) (map change edits.items)) }
 {
     match wish {
         Wish::Set { value, parents } => set_at(alloc, names, place, value, parents),
@@ -75,7 +77,7 @@ fn set_at(
 ) -> Result<Vec<Edit>, AllocError>
     ensures { (lines : List spelled.Line) → IsTreeOf names.now (named lines)
         → IfOk result (λ edits.
-        IsSetAt (parents && ends_in_name place.now) (part_kinds names.now 0) (named lines) place.now value.now (map change edits.items)) }
+        Keeps (IsSetAt (parents && ends_in_name place.now) (part_kinds names.now 0) (named lines) place.now value.now) (map change edits.items)) }
 {
     if makes_parents(place, parents) {
         with_parents(alloc, names, place, value, true)
@@ -94,7 +96,7 @@ fn insert_at(
 ) -> Result<Vec<Edit>, AllocError>
     ensures { (lines : List spelled.Line) → IsTreeOf names.now (named lines)
         → IfOk result (λ edits.
-        IsInserted (parents && ends_in_name place.now) (part_kinds names.now 0) (named lines) place.now value.now (map change edits.items)) }
+        Keeps (IsInserted (parents && ends_in_name place.now) (part_kinds names.now 0) (named lines) place.now value.now) (map change edits.items)) }
 {
     if makes_parents(place, parents) {
         with_parents(alloc, names, place, value, false)
@@ -248,9 +250,12 @@ fn with_parents(
     may_set: bool,
 ) -> Result<Vec<Edit>, AllocError>
     ensures { (lines : List spelled.Line) → IsTreeOf names.now (named lines)
-        → IfOk result (λ edits. IsWithParents may_set (part_kinds names.now 0) (named lines) place.now value.now (map change edits.items)) }
+        → IfOk result (λ edits. Keeps (IsWithParents may_set (part_kinds names.now 0) (named lines) place.now value.now) (map change edits.items)) }
 {
     let Made { mut edits, end } = make_parents(alloc, names, place.steps())?;
+    let Some(end) = end else {
+        return Ok(edits);
+    };
     let sets = sets_at(may_set, end.here);
     edits.push(put(alloc, sets, end.at, value)?)?;
     Ok(edits)

@@ -44,7 +44,7 @@ fn refusals_are_explained(rt: HostRuntime) -> Result<(), Fail> {
     assert_eq!(rt; absent.as_str().strip_prefix("F:1:2: "), Some(ABSENT));
     let list = r#"[{"op":"remove","at":["s","port"]}]"#;
     let edits = read_edits(alloc, list.as_bytes()).ok().ok_or("edits")?;
-    let edit = explain_edit(alloc, input(GOOD), &edits, 0, 307, one)?;
+    let edit = explain_edit(alloc, input(GOOD), &edits, 0, 307, "", one)?;
     assert!(rt; edit.as_str().starts_with("F:2:1: edit 0, removal of"));
     let judged = Judged {
         before: input(GOOD),

@@ -80,6 +80,8 @@ tomled validate a - --profile 2 b
 
 help
 tomled --help
+tomled --version
+tomled -V
 tomled get --help
 tomled set -h
 tomled help
@@ -96,12 +98,10 @@ tomled set F n 1 2
 tomled set --layout odd F n 1
 tomled rename F n --parents --string x
 tomled remove F n -1
-tomled apply F
 tomled validate
 tomled validate a --list
 tomled check --profile 3 a
 tomled check --profile 1 a --profile=1
-tomled show a b
 tomled edit a b c
 tomled verify a b c d e
 tomled certify a b

@@ -115,9 +115,9 @@ readers profiles = get profiles ∷ validate profiles ∷ check profiles ∷ sho
 unfoldable pub judges : Choices → List App
 judges profiles = edit profiles ∷ verify profiles ∷ certify profiles ∷ []
 
--- `tomled` before its subcommands are added: it wants one
+-- `tomled` before its subcommands are added: it wants one, and has a version
 abbrev pub root : App
-root = on_top (λ shape. record shape { subcommand_required = true }) (new_app (codes "tomled"))
+root = on_top (λ shape. record shape { subcommand_required = true; has_version = true }) (new_app (codes "tomled"))
 
 -- a command with these subcommands
 abbrev pub with_subcommands : App → List App → App

@@ -1,7 +1,6 @@
 -- Values that begin with a hyphen. The parser would take them for options, so they are marked by U+0000 before it reads them, which
 -- no word of a process has; what is read of them is unmarked.
-use Rattle.std.specs.Prelude.{ℕ, zero, suc, Bool, true, false, ◌==◌, ◌&&◌, ◌||◌, not, List, [], ◌∷◌, codes, nat_le, if◌then◌else◌, Option, Some, None}
-use Rattle.std.specs.List.{list_any}
+use Rattle.std.specs.Prelude.{ℕ, suc, Bool, true, false, ◌==◌, ◌&&◌, ◌||◌, not, List, [], ◌∷◌, codes, nat_le, if◌then◌else◌}
 use Rattle.std.specs.Str.{bytes_eq}
 
 abbrev pub Word : Type 0

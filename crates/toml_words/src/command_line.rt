@@ -9,6 +9,9 @@ use crate::commands::{
 use clap::Command;
 use std::alloc::{AllocError, Global};
 
+/// What `--version` prints behind the name.
+const VERSION: &str = "1.0.0";
+
 /// The command with all subcommands.
 pub(crate) fn command<'a>(
     alloc: Global,
@@ -34,6 +37,7 @@ fn root<'a>(alloc: Global) -> Result<Command<'a>, AllocError>
         Command::new(alloc, "tomled")
             .bin_name("tomled")?
             .about("Reads and edits TOML documents, and keeps their layout")
+            .version(VERSION)
             .subcommand_required(true),
     )
 }

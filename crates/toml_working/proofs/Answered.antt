@@ -6,6 +6,10 @@ pub on_ok_always : {X E : Type 0} (P : Type 0) (r : Result X E) → P → OnOk r
 on_ok_always P (Ok x) h = h
 on_ok_always P (Err e) h = tt
 
+pub if_ok_always : {X E : Type 0} (P : X → Type 0) (r : Result X E) → ((x : X) → P x) → IfOk r P
+if_ok_always P (Ok x) h = h x
+if_ok_always P (Err e) h = tt
+
 -- beside what is said of it
 pub if_ok_with : {X E : Type 0} (P : Type 0) (Q : X → Type 0) (r : Result X E) → OnOk r P → IfOk r Q → IfOk r (λ x. P × Q x)
 if_ok_with P Q (Ok x) p q = (p, q)

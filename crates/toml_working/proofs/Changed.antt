@@ -1,9 +1,9 @@
 -- What becomes of lines of the working tree in whose values something is changed.
-use Rattle.std.proofs.Common.{◌≡◌, ◌∙◌, ℕ, ◌<◌, ◌≤◌, Bool, true, List, [], ◌∷◌, ◌++◌, length, drop, get_or, set, Option, Some, None, refl, ap, ap₂, sym, subst}
+use Rattle.std.proofs.Common.{◌≡◌, ◌∙◌, ℕ, ◌<◌, ◌≤◌, Bool, true, ◌&&◌, List, [], ◌∷◌, ◌++◌, length, drop, get_or, set, Option, Some, None, refl, ap, ap₂, sym, subst, append_assoc}
 use Rattle.std.specs.Global.{Box}
 use Rattle.std.proofs.lemmas.Option.{slice_get_past}
 use Rattle.std.specs.Prelude.{slice_get, MatchOption}
-use Rattle.toml_names.proofs.Proved.{same_step-equal}
+use Rattle.toml_names.proofs.Proved.{same_step-equal, same_step-self}
 use Rattle.toml_names.specs.model.Addresses.{Address, same_step}
 use Rattle.toml_text.specs.Source.{text_of}
 use Rattle.toml_tree.specs.Tree as tree
@@ -17,13 +17,17 @@ use Rattle.toml_working.specs.declared.lines.Slot.{Slot}
 use Rattle.toml_layout.specs.declared.texts.Texts.{Texts}
 use Rattle.toml_layout.specs.declared.tree.OpenLine.{OpenLine}
 use Rattle.toml_working.specs.declared.working.Position.{Position}
-use Rattle.toml_working.specs.Changing.{ChangesBody, ChangesOpen, RenamesOpen, SetsOpen, ChangesAs, ChangesStanding, ChangesLine, ChangesSlot, ChangesSlots}
+use Rattle.toml_layout.specs.declared.layout.Layout.{Layout}
+use Rattle.toml_layout.specs.ChangingIn.{ChangesIn}
+use Rattle.toml_layout.specs.SettingIn.{SetsIn}
+use Rattle.toml_layout.specs.Holding.{HolderChange, ChangesHolder, HoldsBy, PutsHeld, TakesHeld}
+use Rattle.toml_working.specs.Changing.{ChangesBody, ChangesOpen, RenamesOpen, SetsOpen, SetsThere, HoldsStanding, ChangesAs, ChangesStanding, ChangesLine, ChangesSlot, ChangesSlots}
 use Rattle.toml_working.specs.OpeningLines.{OpensBody, IsOpened}
 use Rattle.toml_layout.specs.OpenOutlines.{line, value}
-use Rattle.toml_layout.specs.Outlines.{ValueOutline, LineOutline}
+use Rattle.toml_layout.specs.Outlines.{AssignOutline, ValueOutline, LineOutline, Pair}
 use Rattle.toml_working.specs.RenameStanding.{rename_line_outline, rename_outline_of}
 use Rattle.toml_working.specs.Seeing.{steps_to}
-use Rattle.toml_working.specs.Standing.{Read, IsApart, leads_to, expr_has, outline_has, outline_of, body_outline, line_standing, set_line_outline, set_outline_of, slot_standing, slots_standing}
+use Rattle.toml_working.specs.Standing.{Standing, Read, IsApart, leads_to, expr_has, outline_has, outline_of, body_outline, line_standing, set_line_outline, set_outline_of, slot_standing, slots_standing}
 use Rattle.toml_layout.specs.Beginnings.{begins}
 use Rattle.toml_working.specs.Stands.{BodyKept, SlotKept}
 use Rattle.toml_working.proofs.Alone.{and_parts, item_split, slot_split, split_within}
@@ -35,6 +39,13 @@ begins_rest (s ∷ a) [] h = cc
 begins_rest (s ∷ a) (t ∷ p) h =
     let parts = and_parts (same_step s t) (begins a p) h in
     ap₂ (λ x r. x ∷ r) (same_step-equal s t parts.0) (begins_rest a p parts.1)
+
+begins_front : (a b : Address) → begins a (a ++ b) ≡ true
+begins_front [] b = refl
+begins_front (s ∷ a) b = ap (λ c. c && begins a (a ++ b)) (same_step-self s) ∙ begins_front a b
+
+abbrev standing_on : ℕ → Address → LineOutline → Standing
+standing_on n a l = record { address = Some a; base = Some n; outline = l }
 
 -- the value of a line holds what stands at the address: a `set` at the steps below the line is one at the address
 sets_below : (p : Address) (new : ValueOutline) (base : Option ℕ) (own : Option Address) (old now : LineOutline) (done : Bool) → leads_to p base own ≡ true
@@ -71,38 +82,66 @@ never_kept texts read lines (bodies.Kept j) mid k are kept opens is =
     let e : bodies.Open b ≡ bodies.Kept k = sym made ∙ is in
     cc
 
-changes_as : (p : Address) (change : Inside) (base : Option ℕ) (own : Option Address) (old now old_open now_open : LineOutline) (done : Bool) → old ≡ old_open → now ≡ now_open
-    → ChangesOpen (drop (steps_to own) p) change old_open now_open done
-    → ChangesAs p change (record { address = own; base = base; outline = old }) (record { address = own; base = base; outline = now }) done
-changes_as p (changes.Set new) base own old now old_open now_open done was is sets = λ apart h.
+-- and so the array or the inline table is found that holds what stands there
+holder_below : (makes : HolderChange) (p : Address) (base : Option ℕ) (own : Option Address) (old now : LineOutline) → leads_to p base own ≡ true
+    → ChangesHolder SetsOpen makes (drop (steps_to own) p) old now
+    → ChangesHolder SetsThere makes p (record { address = own; base = base; outline = old }) (record { address = own; base = base; outline = now })
+holder_below makes p None own old now h held = cc
+holder_below makes p (Some n) None old now h held = cc
+holder_below makes p (Some n) (Some a) old now h held =
+    let there : begins a (a ++ held.to) ≡ true = begins_front a held.to in
+    record {
+      to = a ++ held.to;
+      rest = held.rest;
+      split = sym (begins_rest a p h) ∙ ap (λ s. a ++ s) held.split ∙ sym (append_assoc a held.to held.rest);
+      was = held.was;
+      other = held.other;
+      stood = (there, λ apart _. let sets = held.stood apart a in (ap (standing_on n a) sets.0, sets.1));
+      stands = (there, λ apart _. let sets = held.stands apart a in (ap (standing_on n a) sets.0, sets.1));
+      made = held.made;
+    }
+
+holds_below : (makes : HolderChange) (p : Address) (base : Option ℕ) (own : Option Address) (old now old_open now_open : LineOutline) (done : Bool) → old ≡ old_open → now ≡ now_open
+    → HoldsBy SetsOpen (drop (steps_to own) p) makes old_open now_open done
+    → HoldsStanding p makes (record { address = own; base = base; outline = old }) (record { address = own; base = base; outline = now }) done
+holds_below makes p base own old now old_open now_open done was is holder h made =
+    let at_old = subst (λ l. ChangesHolder SetsOpen makes (drop (steps_to own) p) l now_open) (sym was) (holder made) in
+    holder_below makes p base own old now h (subst (λ m. ChangesHolder SetsOpen makes (drop (steps_to own) p) old m) (sym is) at_old)
+
+changes_as : (layout : Layout) (p : Address) (change : Inside) (base : Option ℕ) (own : Option Address) (old now old_open now_open : LineOutline) (done : Bool) → old ≡ old_open → now ≡ now_open
+    → ChangesOpen layout (drop (steps_to own) p) change old_open now_open done
+    → ChangesAs layout p change (record { address = own; base = base; outline = old }) (record { address = own; base = base; outline = now }) done
+changes_as layout p (changes.Set new) base own old now old_open now_open done was is sets = λ apart h.
     let sets_old : SetsOpen (drop (steps_to own) p) (value new) old now done = subst (λ l. SetsOpen (drop (steps_to own) p) (value new) l now done) (sym was) (subst (λ m. SetsOpen (drop (steps_to own) p) (value new) old_open m done) (sym is) sets) in
     let (set_to, has_it) = sets_below p (value new) base own old now done h sets_old apart in
     (ap (λ l. record { address = own; base = base; outline = l }) set_to, has_it)
-changes_as p (changes.Insert spelled new) base own old now old_open now_open done was is sets = tt
-changes_as p (changes.Rename to) base own old now old_open now_open done was is renames = λ apart h.
+changes_as layout p (changes.Insert spelled new) base own old now old_open now_open done was is holder =
+    holds_below (PutsHeld layout spelled.now new) p base own old now old_open now_open done was is holder
+changes_as layout p (changes.Rename to) base own old now old_open now_open done was is renames = λ apart h.
     let renames_old : RenamesOpen (drop (steps_to own) p) to.now old now = subst (λ l. RenamesOpen (drop (steps_to own) p) to.now l now) (sym was) (subst (λ m. RenamesOpen (drop (steps_to own) p) to.now old_open m) (sym is) renames) in
     ap (λ l. record { address = own; base = base; outline = l }) (renames_below p to.now base own old now h renames_old apart)
-changes_as p changes.Remove base own old now old_open now_open done was is sets = tt
+changes_as layout p changes.Remove base own old now old_open now_open done was is holder =
+    holds_below (TakesHeld layout) p base own old now old_open now_open done was is holder
 
 pub line_changed : (texts : Texts) (lines : List tree.Line) (p steps : Address) (change : Inside) (old mid now : Line) (done : Bool) → mid.address ≡ old.address → mid.base ≡ old.base
     → OpensBody texts lines old.body mid.body → now.address ≡ mid.address → now.base ≡ mid.base → steps ≡ drop (steps_to mid.address) p
-    → ChangesBody steps change mid.body now.body done → ChangesLine texts lines p change old now done
+    → ChangesBody texts.layout steps change mid.body now.body done → ChangesLine texts lines p change old now done
 line_changed texts lines p steps change old mid now done mid_address mid_base opens address base left changed read are kept = by mid.body refl changed
   where
-    by : (body : Body) → mid.body ≡ body → ChangesBody steps change body now.body done
-        → BodyKept (text_of texts.source) read now.body × ChangesStanding p change (line_standing read old) (line_standing read now) done
+    by : (body : Body) → mid.body ≡ body → ChangesBody texts.layout steps change body now.body done
+        → BodyKept (text_of texts.source) read now.body × ChangesStanding texts.layout p change (line_standing read old) (line_standing read now) done
     by (bodies.Kept k) is unchanged = absurd (never_kept texts read lines old.body mid.body k are kept opens is)
     by (bodies.Open o) opened (n, is, changed_open) =
         let same_address = address ∙ mid_address in
         let same_base = base ∙ mid_base in
-        let as_is = changes_as p change old.base old.address (body_outline read old.body) (body_outline read now.body) (line o.value) (line n.value) done
+        let as_is = changes_as texts.layout p change old.base old.address (body_outline read old.body) (body_outline read now.body) (line o.value) (line n.value) done
         (opened_outline texts read lines old.body mid.body o are kept opens opened) (ap (body_outline read) is)
-        (subst (λ s. ChangesOpen s change (line o.value) (line n.value) done) (left ∙ ap (λ a. drop (steps_to a) p) mid_address) changed_open) in (
+        (subst (λ s. ChangesOpen texts.layout s change (line o.value) (line n.value) done) (left ∙ ap (λ a. drop (steps_to a) p) mid_address) changed_open) in (
           subst (BodyKept (text_of texts.source) read) (sym is) tt,
           (
             ap₂ (λ a b. record { address = a; base = b }) same_address same_base,
-            subst (λ a. ChangesAs p change (line_standing read old) (record { address = a; base = now.base; outline = body_outline read now.body }) done) (sym same_address)
-                (subst (λ b. ChangesAs p change (line_standing read old) (record { address = old.address; base = b; outline = body_outline read now.body }) done) (sym same_base) as_is),
+            subst (λ a. ChangesAs texts.layout p change (line_standing read old) (record { address = a; base = now.base; outline = body_outline read now.body }) done) (sym same_address)
+                (subst (λ b. ChangesAs texts.layout p change (line_standing read old) (record { address = old.address; base = b; outline = body_outline read now.body }) done) (sym same_base) as_is),
           ),
         )
 
@@ -132,3 +171,29 @@ at_changed texts read at p change old now slot new done low is put changed kept 
 pub no_slot_changed : (texts : Texts) (read : Read) (at : Position) (p : Address) (change : Inside) (old : List Slot) (done : Bool) → length old ≤ at.slot → ChangesSlots texts read at p change old old done
 no_slot_changed texts read at p change old done past kept =
     (kept, λ s e. absurd (no_line read old at s (slice_get_past old at.slot past) e))
+
+-- ---- the value of a line that is opened
+
+module _ (ws : List ℕ) (a : AssignOutline) (tail : List ℕ) (comment : Option (List ℕ)) (newline : List ℕ) where
+  abbrev with_pair : ValueOutline → LineOutline
+  with_pair v = record { ws = ws; expr = Pair a v; tail = tail; comment = comment; newline = newline }
+
+  pair_held : (makes : HolderChange) (steps : Address) (v w : ValueOutline) → ChangesHolder SetsIn makes steps v w
+      → ChangesHolder SetsOpen makes steps (with_pair v) (with_pair w)
+  pair_held makes steps v w held = record {
+    to = held.to;
+    rest = held.rest;
+    split = held.split;
+    was = held.was;
+    other = held.other;
+    stood = λ apart at. let sets = held.stood apart at in (ap with_pair sets.0, sets.1);
+    stands = λ apart at. let sets = held.stands apart at in (ap with_pair sets.0, sets.1);
+    made = held.made;
+  }
+
+  pub open_changed : (layout : Layout) (steps : Address) (change : Inside) (v w : ValueOutline) (done : Bool) → ChangesIn layout steps change v w done
+      → ChangesOpen layout steps change (with_pair v) (with_pair w) done
+  open_changed layout steps (changes.Set new) v w done sets = λ apart at. let made = sets apart at in (ap with_pair made.0, made.1)
+  open_changed layout steps (changes.Insert spelled new) v w done holds = λ made. pair_held (PutsHeld layout spelled.now new) steps v w (holds made)
+  open_changed layout steps (changes.Rename to) v w done renames = λ apart at. ap with_pair (renames apart at)
+  open_changed layout steps changes.Remove v w done holds = λ made. pair_held (TakesHeld layout) steps v w (holds made)

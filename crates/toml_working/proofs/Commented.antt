@@ -10,7 +10,7 @@ use Rattle.toml_layout.specs.declared.looks.Look.{Look}
 use Rattle.toml_working.specs.declared.working.Position.{Position}
 use Rattle.toml_working.specs.InsertStanding.{comments_end, goes_below, has_comment, is_bare, is_blank, is_comment}
 use Rattle.toml_working.specs.Looking.{SlotLooks}
-use Rattle.toml_working.specs.OpeningComments.{CommentsPassed, FindsAbove, FindsComments, FindsCommentsOf, IsComment, IsCommentsEnd, IsLastComment}
+use Rattle.toml_working.specs.OpeningComments.{CommentsPassed, FindsAbove, FindsComments, FindsCommentsOf, IsComment, IsLastComment}
 use Rattle.toml_working.specs.Placing.{lines_from}
 use Rattle.toml_working.specs.Seeing.{found, line_at, seen}
 use Rattle.toml_working.specs.Standing.{Standing, Read, slot_standing, slots_standing}

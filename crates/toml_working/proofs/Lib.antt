@@ -21,6 +21,7 @@ mod Renamed
 mod RenamedSlots
 mod Removed
 mod RemovedOne
+mod HeldLines
 mod Tidy
 mod Out
 mod StandingOut

@@ -1,40 +1,27 @@
 -- How lines look, and lines that begin as others do.
-use Rattle.std.proofs.Common.{◌≡◌, ◌∙◌, ℕ, Bool, true, false, ◌&&◌, cond, List, [], ◌∷◌, map, Option, Some, None, refl, ap, ap₂, sym, subst, zero, suc, true≢false}
+use Rattle.std.proofs.Common.{◌≡◌, ◌∙◌, ℕ, Bool, true, false, ◌&&◌, cond, List, [], ◌∷◌, Option, Some, None, refl, ap, sym}
 use Rattle.std.specs.Global.{Box}
-use Rattle.std.proofs.lemmas.Option.{none-some, same_Some, slice_get-map}
-use Rattle.std.specs.declared.vec.Vec.{Vec}
-use Rattle.std.specs.declared.alloc.Global.{Global}
-use Rattle.std.specs.Prelude.{is_some, option_map, slice_get}
+use Rattle.std.specs.Prelude.{slice_get}
 use Rattle.toml_scalar.specs.Spelling.{spelled}
-use Rattle.toml_tree.specs.Tree as tree
-use Rattle.toml_tree.specs.Tree.{BlankLine, KeyValLine, TableLine, ArrayTableLine}
-use Rattle.toml_layout.specs.declared.known.KnownLine.{KnownLine}
 use Rattle.toml_working.specs.declared.lines.Body.{Body}
 use Rattle.toml_working.specs.declared.lines.Body.TheVariants as bodies
 use Rattle.toml_working.specs.declared.lines.Kept.{Kept}
-use Rattle.toml_working.specs.declared.lines.Line.{Line}
 use Rattle.toml_working.specs.declared.lines.Slot.{Slot}
-use Rattle.toml_working.specs.declared.lines.Slot.TheVariants as slots
 use Rattle.toml_layout.specs.declared.layout.Layout.{Layout}
 use Rattle.toml_layout.specs.declared.layout.Layout.TheVariants as layouts
-use Rattle.toml_working.specs.declared.lines.Seen.{Seen}
 use Rattle.toml_layout.specs.declared.looks.Equals.{Equals}
 use Rattle.toml_layout.specs.declared.looks.Look.{Look}
 use Rattle.toml_layout.specs.declared.tree.Leaf.{Leaf}
 use Rattle.toml_layout.specs.declared.tree.OpenLine.{OpenLine}
 use Rattle.toml_working.specs.declared.working.Position.{Position}
 use Rattle.toml_working.specs.InsertStanding.{new_assign, new_outline, spaced_by, spacing_of}
-use Rattle.toml_layout.specs.KnownLines.{known_line}
-use Rattle.toml_working.specs.Looking.{BeginsBehind, BodyBegins, BodyLooks, KeptLooks, LaysOut, LooksAt, SlotLooks}
-use Rattle.toml_layout.specs.Looks.{LooksAs, around, begun_as}
+use Rattle.toml_working.specs.Looking.{BeginsBehind, BodyBegins, LaysOut, LooksAt, SlotLooks}
+use Rattle.toml_layout.specs.Looks.{begun_as}
 use Rattle.toml_working.specs.OpeningLines.{HasOutline}
-use Rattle.toml_working.specs.Placing.{is_header}
-use Rattle.toml_layout.specs.OpenOutlines.{leaf_text, line}
+use Rattle.toml_layout.specs.OpenOutlines.{line}
 use Rattle.toml_layout.specs.Outlines.{AssignOutline, LineOutline, Pair, ValueOutline}
-use Rattle.toml_working.specs.Seeing.{Found, found, line_at, read_by, seen}
 use Rattle.toml_layout.specs.Spacings.{is_narrow, laid_out, plain_spacing}
-use Rattle.toml_working.specs.Standing.{Standing, Read, kept_standing, line_standing, outline_of, slot_standing}
-use Rattle.toml_layout.specs.TreeOutlines.{line_outline}
+use Rattle.toml_working.specs.Standing.{Read}
 use Rattle.toml_working.proofs.AtPlace.{line_in, no_line as no_place}
 
 -- ---- how lines look

@@ -1,5 +1,5 @@
 -- What holds of every two, by recursion.
-use Rattle.std.proofs.Common.{◌≡◌, zero, suc, List, [], ◌∷◌, All, AllPairs, arith}
+use Rattle.std.proofs.Common.{zero, suc, List, [], ◌∷◌, All, AllPairs, arith}
 use Rattle.std.proofs.lemmas.List.Elements.{All-head, All-tail}
 use Rattle.toml_tree.specs.Spells.{EachIs}
 

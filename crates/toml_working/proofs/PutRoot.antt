@@ -2,12 +2,11 @@
 use Rattle.std.proofs.Common.{◌≡◌, ◌∙◌, ℕ, ◌+◌, ◌^◌, ◌<◌, Bool, true, false, ◌&&◌, cond, List, [], ◌∷◌, ◌++◌, length, map, Option, Some, None, refl, ap, ap₂, sym, subst, arith, append_assoc}
 use Rattle.std.specs.declared.alloc.Global.{Global}
 use Rattle.std.specs.declared.string.String.{String}
-use Rattle.std.specs.Prelude.{is_some, slice_get, string_bytes}
+use Rattle.std.specs.Prelude.{is_some, string_bytes}
 use Rattle.std.proofs.lemmas.List.{append_cancel_right}
 use Rattle.std.proofs.lemmas.Option.{slice_get_within}
 use Rattle.toml_names.specs.declared.model.address.Step.TheVariants.{Name}
 use Rattle.toml_names.specs.model.Addresses.{Address}
-use Rattle.toml_scalar.specs.Spelling.{spelled}
 use Rattle.toml_text.specs.Source.{text_of}
 use Rattle.toml_tree.specs.Spells.{EachIs}
 use Rattle.toml_layout.specs.declared.layout.Layout.TheVariants as layouts
@@ -19,7 +18,7 @@ use Rattle.toml_layout.specs.declared.texts.Texts.{Texts}
 use Rattle.toml_layout.specs.declared.tree.Assign.{Assign}
 use Rattle.toml_layout.specs.declared.tree.Leaf.{Leaf}
 use Rattle.toml_working.specs.declared.working.Position.{Position}
-use Rattle.toml_working.specs.InsertStanding.{RootIsFirst, goes_below, has_comment, has_pair, insert_behind, insert_first, insert_standing, is_bare, line_behind, new_outline, new_standing, pair_or, spacing_behind}
+use Rattle.toml_working.specs.InsertStanding.{RootIsFirst, goes_below, has_comment, has_pair, insert_behind, insert_first, is_bare, line_behind, new_outline, new_standing, pair_or, spacing_behind}
 use Rattle.toml_working.specs.Looking.{BodyBegins, LaysOut}
 use Rattle.toml_layout.specs.Looks.{around, begun_as}
 use Rattle.toml_working.specs.Manners.{Manner}
@@ -28,12 +27,12 @@ use Rattle.toml_working.specs.OpeningLines.{HasOutline, alone}
 use Rattle.toml_layout.specs.OpenOutlines.{assign, leaf_text}
 use Rattle.toml_layout.specs.Outlines.{LineOutline, Pair, ValueOutline}
 use Rattle.toml_working.specs.Placing.{IsLastPair, IsNoHeader, IsPair, is_header, lines_before, lines_from}
-use Rattle.toml_layout.specs.NewKeys.{AssignsOne}
+use Rattle.toml_layout.specs.NewKeys.{key_of}
 use Rattle.toml_working.specs.Putting.{EndsBefore, InsertsFirst, InsertsLines, IsRootLine, PutsBehind, PutsSlots, ended_before, newline_behind}
 use Rattle.toml_working.specs.Seeing.{line_at}
 use Rattle.toml_layout.specs.Spacings.{plain_spacing}
 use Rattle.toml_working.specs.Standing.{Standing, Read, body_outline, line_standing, slots_standing}
-use Rattle.toml_working.specs.Stands.{BodyKept, SlotKept, Stands}
+use Rattle.toml_working.specs.Stands.{BodyKept, Stands}
 use Rattle.toml_working.proofs.AtPlace.{slot_of}
 use Rattle.toml_working.proofs.Commented.{found_below}
 use Rattle.toml_working.proofs.Looked.{begun_new, body_begun}
@@ -88,10 +87,10 @@ puts_behind own base steps v manner texts read place next old mid now newline ws
 
 -- the line of a name at the root
 pub root_line : (own : Address) (base : ℕ) (steps parts : List (String Global)) (v : ValueOutline) (newline : List ℕ) (a : Assign) (l : Line)
-    → (base ≡ 0 → parts ≡ steps) → AssignsOne parts a → l.address ≡ Some own → l.base ≡ Some base → HasOutline (alone (Pair (assign a) v) newline) l.body
+    → (base ≡ 0 → parts ≡ steps) → assign a ≡ key_of (map string_bytes parts) → l.address ≡ Some own → l.base ≡ Some base → HasOutline (alone (Pair (assign a) v) newline) l.body
     → IsRootLine own base steps v newline l
 root_line own base steps parts v newline a l same assigns address base_is (n, is, outlined) at_base name root =
-    let assigned = assigns (spelled name) (ap (map string_bytes) (same at_base) ∙ root.steps_is) in (
+    let assigned = assigns ∙ ap key_of (ap (map string_bytes) (same at_base) ∙ root.steps_is) in (
       address ∙ ap Some root.at_is,
       base_is ∙ ap Some at_base,
       (n, is, outlined ∙ ap (λ x. alone (Pair x v) newline) assigned),

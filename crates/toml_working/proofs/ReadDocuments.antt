@@ -1,5 +1,5 @@
 -- Documents that were read line by line.
-use Rattle.std.proofs.Common.{◌≡◌, ◌<◌, ◌∷◌, ◌++◌, ◌∙◌, [], ℕ, List, Option, Some, Ok, ap, map, sym, subst, subst₂}
+use Rattle.std.proofs.Common.{◌≡◌, ◌<◌, ◌∷◌, ◌++◌, [], ℕ, List, Option, Some, Ok, sym, subst}
 use Rattle.toml_tree.specs.HandedOut.{AreLinesIn, HandsNext, HandsOut, left}
 use Rattle.toml_tree.specs.Lines.{line}
 use Rattle.toml_tree.specs.Tree.{Line}

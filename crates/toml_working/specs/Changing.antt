@@ -6,7 +6,9 @@ use Rattle.toml_text.specs.Source.{text_of}
 use Rattle.toml_tree.specs.Spells.{EachIs}
 use Rattle.toml_tree.specs.Tree as tree
 use Rattle.toml_layout.specs.declared.changing.Inside.{Inside}
+use Rattle.toml_layout.specs.declared.layout.Layout.{Layout}
 use Rattle.toml_layout.specs.ChangingIn.{Changes}
+use Rattle.toml_layout.specs.Holding.{HolderChange, HoldsBy}
 use Rattle.toml_working.specs.declared.lines.Body.{Body}
 use Rattle.toml_working.specs.declared.lines.Body.TheVariants as bodies
 use Rattle.toml_working.specs.declared.lines.Line.{Line}
@@ -15,7 +17,7 @@ use Rattle.toml_layout.specs.declared.texts.Texts.{Texts}
 use Rattle.toml_layout.specs.declared.tree.OpenLine.{OpenLine}
 use Rattle.toml_working.specs.declared.working.Position.{Position}
 use Rattle.toml_working.specs.declared.working.Tree.{Tree}
-use Rattle.toml_layout.specs.OpenOutlines.{line, value}
+use Rattle.toml_layout.specs.OpenOutlines.{line}
 use Rattle.toml_layout.specs.Outlines.{ValueOutline, LineOutline}
 use Rattle.toml_working.specs.RenameStanding.{rename_inside, rename_line_outline}
 use Rattle.toml_working.specs.Seeing.{found, line_at}
@@ -31,14 +33,14 @@ SetsOpen steps new old now done =
 abbrev pub RenamesOpen : Address → List ℕ → LineOutline → LineOutline → Type 0
 RenamesOpen steps text old now = IsApart old.expr → (at : Address) → now ≡ rename_line_outline (at ++ steps) text at old
 
-abbrev pub ChangesOpen : Address → Inside → LineOutline → LineOutline → Bool → Type 0
-ChangesOpen steps = Changes (SetsOpen steps) (RenamesOpen steps)
+abbrev pub ChangesOpen : Layout → Address → Inside → LineOutline → LineOutline → Bool → Type 0
+ChangesOpen layout steps = Changes layout (SetsOpen steps) (RenamesOpen steps) (HoldsBy SetsOpen steps)
 
 -- what is opened is changed, and no other
-abbrev pub ChangesBody : Address → Inside → Body → Body → Bool → Type 0
-ChangesBody steps change (bodies.Open old) now done =
-    (opened : Box OpenLine) × (now ≡ bodies.Open opened) × ChangesOpen steps change (line old.value) (line opened.value) done
-ChangesBody steps change (bodies.Kept kept) now done = now ≡ bodies.Kept kept
+abbrev pub ChangesBody : Layout → Address → Inside → Body → Body → Bool → Type 0
+ChangesBody layout steps change (bodies.Open old) now done =
+    (opened : Box OpenLine) × (now ≡ bodies.Open opened) × ChangesOpen layout steps change (line old.value) (line opened.value) done
+ChangesBody layout steps change (bodies.Kept kept) now done = now ≡ bodies.Kept kept
 
 -- by what stands on the line, where its value is what stands at the address, or holds it
 abbrev pub SetsStanding : Address → ValueOutline → Standing → Standing → Bool → Type 0
@@ -47,16 +49,22 @@ SetsStanding p new old now done = IsApart old.outline.expr → holds p old ≡ t
 abbrev pub RenamesStanding : Address → List ℕ → Standing → Standing → Type 0
 RenamesStanding p text old now = IsApart old.outline.expr → holds p old ≡ true → now ≡ rename_inside p text old
 
-abbrev pub ChangesAs : Address → Inside → Standing → Standing → Bool → Type 0
-ChangesAs p = Changes (SetsStanding p) (RenamesStanding p)
+abbrev pub SetsThere : Address → ValueOutline → Standing → Standing → Bool → Type 0
+SetsThere p new old now done = (holds p old ≡ true) × SetsStanding p new old now done
+
+abbrev pub HoldsStanding : Address → HolderChange → Standing → Standing → Bool → Type 0
+HoldsStanding p makes old now done = holds p old ≡ true → HoldsBy SetsThere p makes old now done
+
+abbrev pub ChangesAs : Layout → Address → Inside → Standing → Standing → Bool → Type 0
+ChangesAs layout p = Changes layout (SetsStanding p) (RenamesStanding p) (HoldsStanding p)
 
 -- it stays where it is
-abbrev pub ChangesStanding : Address → Inside → Standing → Standing → Bool → Type 0
-ChangesStanding p change old now done = (found now ≡ found old) × ChangesAs p change old now done
+abbrev pub ChangesStanding : Layout → Address → Inside → Standing → Standing → Bool → Type 0
+ChangesStanding layout p change old now done = (found now ≡ found old) × ChangesAs layout p change old now done
 
 -- a line that is kept as its document has it stays so, or is opened
 abbrev pub ChangesLine : Texts → List tree.Line → Address → Inside → Line → Line → Bool → Type 0
-ChangesLine texts lines p change old now done = LineTurns texts lines (λ s t. ChangesStanding p change s t done) old now
+ChangesLine texts lines p change old now done = LineTurns texts lines (λ s t. ChangesStanding texts.layout p change s t done) old now
 
 -- the line with the index is changed, and no other; or there is none
 abbrev pub ChangesOne : Texts → List tree.Line → ℕ → Address → Inside → List Line → List Line → Bool → Type 0
@@ -64,7 +72,7 @@ ChangesOne texts lines index p change old now done = OneTurns (λ l m. ChangesLi
 
 -- the line with the index is changed, and no other
 abbrev pub ChangesSlot : Texts → Read → ℕ → Address → Inside → Slot → Slot → Bool → Type 0
-ChangesSlot texts read index p change old now done = SlotTurns texts read (λ s t. ChangesStanding p change s t done) index old now
+ChangesSlot texts read index p change old now done = SlotTurns texts read (λ s t. ChangesStanding texts.layout p change s t done) index old now
 
 -- the line at the place is changed, and no other
 abbrev pub ChangesSlots : Texts → Read → Position → Address → Inside → List Slot → List Slot → Bool → Type 0
@@ -73,7 +81,7 @@ ChangesSlots texts read at p change old now done =
     → EachIs (SlotKept (text_of texts.source) read) now
     × ((s : Standing) → line_at read old at ≡ Some s
     → (front : List Standing) × (back : List Standing) × (t : Standing)
-    × (slots_standing read old ≡ front ++ s ∷ back) × (slots_standing read now ≡ front ++ t ∷ back) × ChangesStanding p change s t done)
+    × (slots_standing read old ≡ front ++ s ∷ back) × (slots_standing read now ≡ front ++ t ∷ back) × ChangesStanding texts.layout p change s t done)
 
 -- so it is of the lines of a tree
 abbrev pub TreeChanges : Read → Position → Address → Inside → Tree → Tree → Bool → Type 0

@@ -9,7 +9,6 @@ use Rattle.toml_layout.specs.declared.layout.Layout.{Layout}
 use Rattle.toml_layout.specs.declared.layout.Layout.TheVariants as layouts
 use Rattle.toml_layout.specs.Looks.{equals_in}
 use Rattle.toml_working.specs.Manners.{Manner}
-use Rattle.toml_layout.specs.Outlines as outline
 use Rattle.toml_layout.specs.Outlines.{AssignOutline, LineOutline, Pair, ValueOutline}
 use Rattle.toml_layout.specs.Spacings.{Spacing, laid_out, plain_spacing, spaced_as}
 use Rattle.toml_working.specs.Standing.{Standing, holds}

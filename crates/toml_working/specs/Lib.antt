@@ -21,6 +21,7 @@ pub mod Seeing
 pub mod Placing
 pub mod Putting
 pub mod Changing
+pub mod HeldLines
 pub mod RemoveStanding
 pub mod RemovingIn
 -- what a plain edit writes

@@ -1,9 +1,10 @@
 //! `insert`: an element of an array, a pair of an inline table, or a line with a key and a value.
-ghost use Rattle.std.specs.Prelude.{◌≡◌, ◌++◌, ◌∷◌, IfOk, OnOk, drop, false, take};
+ghost use Rattle.std.specs.Prelude.{◌≡◌, ◌++◌, ◌∷◌, IfOk, OnOk, drop, false, length, take, true};
 ghost use Rattle.toml_layout.specs.KnownLines.{lines_known};
 ghost use Rattle.toml_layout.specs.OpenOutlines.{leaf_text, value};
 ghost use Rattle.toml_working.specs.Putting.{EndsOne, EndsSlot, EndsSlots, IsElsewhere, IsRootLine};
 ghost use Rattle.toml_working.specs.Putting.{PutsSlot, PutsSlots, TreeEndsBefore, TreeInserts, TreeInsertsFirst, TreePutsBehind};
+ghost use Rattle.toml_working.specs.HeldLines.{PutsInValue};
 ghost use Rattle.toml_working.specs.Starting.{read_of};
 ghost use Rattle.toml_working.specs.Stands.{KeepsRest};
 
@@ -37,6 +38,8 @@ impl<'x> Tree<'x> {
     ) -> Result<bool, AllocError>
         ensures rest { OnOk result (KeepsRest self.old self.new) }
         ensures root { OnOk result (TreeInserts at.now spelled.now (value new.entry) (read_of before.entry) self.old self.new) }
+        ensures value { let read = read_of before.entry in
+            IfOk result (PutsInValue parent.now at.now spelled.now new.entry read self.old self.new) }
     {
         let insertion = Insertion { at, spelled, new };
         if is_at_root(at) {
@@ -54,15 +57,32 @@ impl<'x> Tree<'x> {
         parent: &Address,
         insertion: Insertion<'_, 'x>,
     ) -> Result<bool, AllocError>
+        ensures rest { OnOk result (KeepsRest self.old self.new) }
+        ensures value { let it = insertion.entry in
+            IfOk result (PutsInValue parent.now it.at.now it.spelled.now it.new (read_of before.entry) self.old self.new) }
+    {
+        match self.value_line(before, named, parent) {
+            Some(place) => {
+                let Insertion { at, spelled, new } = insertion;
+                self.change_value(before, place, at, Inside::Insert { spelled, new })
+            }
+            None => self.insert_line(before, named, parent, insertion),
+        }
+    }
+
+    /// Puts a line in for a name in a table that is no value of a line, and in none.
+    fn insert_line(
+        &mut self,
+        before: Before<'_, 'x>,
+        named: Option<Place>,
+        parent: &Address,
+        insertion: Insertion<'_, 'x>,
+    ) -> Result<bool, AllocError>
         ensures { OnOk result (KeepsRest self.old self.new) }
     {
         let Some((last, above)) = insertion.at.steps().split_last() else {
             return Ok(false);
         };
-        if let Some(place) = self.value_line(before, named, parent) {
-            let Insertion { at, spelled, new } = insertion;
-            return self.change_value(before, place, at, Inside::Insert { spelled, new });
-        }
         if matches!(last, Step::Index(_)) {
             return Ok(false);
         }
@@ -257,7 +277,8 @@ impl<'x> Tree<'x> {
 
 /// Whether the address is that of a name at the root.
 fn is_at_root(at: &Address) -> bool
-    ensures { result ≡ false → IsElsewhere at.now }
+    ensures no { result ≡ false → IsElsewhere at.now }
+    ensures yes { result ≡ true → length at.now ≡ 1 }
 {
     matches!(at.steps(), [Step::Name(_)])
 }

@@ -20,7 +20,7 @@ impl<'t> Body<'t> {
         steps: &[Step],
         change: Inside<'t>,
     ) -> Result<bool, AllocError>
-        ensures { IfOk result (λ done. ChangesBody steps.now change.entry self.old self.new done) }
+        ensures { IfOk result (λ done. ChangesBody texts.entry.layout steps.now change.entry self.old self.new done) }
     {
         match self {
             Body::Open(open) => match &mut open.expr {

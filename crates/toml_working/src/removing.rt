@@ -1,5 +1,6 @@
 //! `remove`: elements and pairs in a value, and lines.
 ghost use Rattle.std.specs.Prelude.{◌≡◌, IfOk, OnOk, length, true};
+ghost use Rattle.toml_working.specs.HeldLines.{TakesFromValue};
 ghost use Rattle.toml_working.specs.InValues.{IsParent};
 ghost use Rattle.toml_working.specs.RemovingIn.{LeavesBehind, LeavesLines, LeavesOf, LeavesSlot, LeavesSlots, RemovesLines};
 ghost use Rattle.toml_working.specs.Seeing.{IsSoughtAt};
@@ -25,8 +26,9 @@ struct Parent {
 }
 
 impl<'x> Tree<'x> {
-    /// Takes out what stands at the address. Where it is a table, `flat` says that no table stands in it. It answers `false`, and
-    /// changes nothing, at the only element of an array of tables: without its header there would be no array.
+    /// Takes out what stands at the address. Where it is a table, `flat` says that no table stands in it. It answers `false` at the
+    /// only element of an array of tables: without its header there would be no array; and where what stands in the value of a line
+    /// is not found there.
     pub fn remove(
         &mut self,
         before: Before<'_, 'x>,
@@ -34,13 +36,11 @@ impl<'x> Tree<'x> {
         at: &Address,
         flat: bool,
     ) -> Result<bool, AllocError>
-        ensures { OnOk result (RemovesLines at.now (read_of before.entry) self.old self.new) }
+        ensures root { OnOk result (RemovesLines at.now (read_of before.entry) self.old self.new) }
+        ensures value { IfOk result (TakesFromValue at.now (read_of before.entry) self.old self.new) }
     {
         match self.value_line(before, named, at) {
-            Some(place) => {
-                self.remove_value(before, place, at)?;
-                Ok(true)
-            }
+            Some(place) => self.remove_value(before, place, at),
             None => self.remove_table(before, named, at, flat),
         }
     }
@@ -51,15 +51,17 @@ impl<'x> Tree<'x> {
         before: Before<'_, 'x>,
         place: Position,
         at: &Address,
-    ) -> Result<(), AllocError>
-        ensures { let read = read_of before.entry in
+    ) -> Result<bool, AllocError>
+        ensures root { let read = read_of before.entry in
             OnOk result (IsSoughtAt Holder at.now read self.old.slots.items place → RemovesLines at.now read self.old self.new) }
+        ensures value { let read = read_of before.entry in
+            IfOk result (λ done. IsSoughtAt Holder at.now read self.old.slots.items place → TakesFromValue at.now read self.old self.new done) }
     {
         if self.depth(before, place) < at.steps().len() {
-            self.change_value(before, place, at, Inside::Remove)?;
-            Ok(())
+            self.change_value(before, place, at, Inside::Remove)
         } else {
-            self.remove_line(before, place, at)
+            self.remove_line(before, place, at)?;
+            Ok(true)
         }
     }
 

@@ -3,7 +3,7 @@ use Rattle.std.proofs.Common.{ℕ, ◌≤◌, ◌&&◌, Bool, true, false, cond,
 use Rattle.toml_text.specs.Forms.{IsNewline, IsWs}
 use Rattle.toml_scalar.proofs.Proved.{spelled_names}
 use Rattle.toml_tree.specs.Spells.{IsValue, IsExpr, AreLines, depth, max_depth}
-use Rattle.toml_tree.specs.Tree.{Piece, Value, Expr, BlankLine, KeyValLine, TableLine, ArrayTableLine, Line}
+use Rattle.toml_tree.specs.Tree.{Value, Expr, BlankLine, KeyValLine, TableLine, ArrayTableLine, Line}
 use Rattle.toml_layout.specs.declared.layout.Layout.{Layout}
 use Rattle.toml_layout.specs.declared.layout.Layout.TheVariants as layouts
 use Rattle.toml_working.specs.Inserting.{new_expr, new_line, line_behind, insert_lines, spacing_behind, spacing_of}

@@ -6,7 +6,7 @@ use Rattle.toml_tree.specs.Spells.{EachIs}
 use Rattle.toml_tree.specs.Tree.{Value, Expr, BlankLine, KeyValLine, TableLine, ArrayTableLine, Line}
 use Rattle.toml_layout.specs.declared.layout.Layout.{Layout}
 use Rattle.toml_layout.specs.declared.layout.Layout.TheVariants as layouts
-use Rattle.toml_working.specs.Inserting.{comments_end, goes_below, has_comment, has_pair, insert_behind, insert_first, insert_lines, is_comment, line_behind, new_line}
+use Rattle.toml_working.specs.Inserting.{comments_end, goes_below, has_comment, has_pair, insert_behind, insert_lines, is_comment, line_behind, new_line}
 use Rattle.toml_working.specs.Manners.{Manner}
 use Rattle.toml_layout.specs.Spacings.{plain_spacing}
 

@@ -1,5 +1,5 @@
 -- That a last line has a byte.
-use Rattle.std.proofs.Common.{◌≡◌, inr, ℕ, ◌<◌, ◌+◌, Bool, true, false, Option, Some, None, List, [], ◌∷◌, ◌++◌, length, length-append, refl, sym, ap, ◌∙◌, true≢false, arith}
+use Rattle.std.proofs.Common.{◌≡◌, inr, ℕ, ◌<◌, ◌+◌, true, Option, Some, None, List, [], ◌∷◌, ◌++◌, length, length-append, refl, sym, ap, ◌∙◌, true≢false, arith}
 use Rattle.std.specs.Prelude.{is_some}
 use Rattle.toml_text.specs.Forms.{IsComment}
 use Rattle.toml_tree.specs.Spells.{EachIs, IsCommentOrNone, IsExpr, Part, joined, equals_parts, assign_parts, comment_parts, key_parts, value_parts, keyval_parts, blank_parts, expr_parts}

@@ -1,5 +1,5 @@
 -- The units after an `insert` at the root.
-use Rattle.std.proofs.Common.{◌≡◌, ℕ, ◌+◌, Bool, true, false, cond, Some, None, List, [], ◌∷◌, ◌++◌, length, refl, sym, ap, ap₂, ◌∙◌, subst, subst₂, append_assoc, append-nil, ◌⊎◌, inl, inr, ◌<◌, zero, suc, arith, Option}
+use Rattle.std.proofs.Common.{◌≡◌, ℕ, ◌+◌, Some, None, List, [], ◌∷◌, ◌++◌, length, refl, sym, ap, ap₂, ◌∙◌, subst, subst₂, append_assoc, append-nil, ◌⊎◌, inl, inr, ◌<◌, zero, suc, arith, Option}
 use Rattle.std.specs.Prelude.{slice_get}
 use Rattle.toml_scalar.specs.Spelling.{spelled}
 use Rattle.toml_tree.specs.Bare.{fresh}

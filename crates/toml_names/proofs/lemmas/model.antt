@@ -7,3 +7,4 @@ pub mod Hidden
 pub mod Indices
 pub mod Levels
 pub mod Reached
+pub mod ReachedMore

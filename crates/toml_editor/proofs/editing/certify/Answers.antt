@@ -17,6 +17,7 @@ returns-in-Found-clause-edited c =
         outer = found.outermost;
         plain = c.requires.made.plain;
         passed = c.requires.made.passed;
+        element = c.requires.made.element;
       };
       pieces = c.requires.made.pieces;
     }

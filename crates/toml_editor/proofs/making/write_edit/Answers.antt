@@ -1,11 +1,11 @@
 use Rattle.std.proofs.Common.{◌∙◌, subst, subst₂}
 use Rattle.std.proofs.lemmas.Result.{IfOk-weaker, on_ok_weaker}
 use Rattle.toml_edits.specs.Edits.{change}
-use Rattle.toml_editor.specs.Exact.{WritesInsert, WritesSet}
+use Rattle.toml_editor.specs.Exact.{WritesInsert, WritesInside, WritesSet}
 use Rattle.toml_working.specs.RemovingIn.{RemovesLines}
 use Rattle.toml_editor.specs.SpelledEdits.{IsSpelled}
 use Rattle.toml_working.specs.Starting.{read_of}
-use Rattle.toml_editor.proofs.Answered.{if_ok_both, if_ok_with}
+use Rattle.toml_editor.proofs.Answered.{if_ok_with}
 use Rattle.toml_editor.proofs.EditWritten.{edit_written}
 use Rattle.toml_editor.proofs.making.write_edit.Goals as goal
 
@@ -29,7 +29,7 @@ returns-in-Remove c =
     edit_written c.remove.result c.args.read.profile read c.args.tree.now c.remove.new.self c.in_ok-at.at _ _ c.in-Remove.is
     (λ whole. c.in_ok-at.ensures whole ∙ c.place.ensures)
     (λ at. on_ok_weaker c.remove.result
-    (λ removes whole. subst (λ a. RemovesLines a read c.args.tree.now c.remove.new.self) (at whole) removes) c.remove.ensures)
+    (λ removes whole. subst (λ a. RemovesLines a read c.args.tree.now c.remove.new.self) (at whole) removes) c.remove.ensures.root)
 
 pub returns-in-Insert : goal.returns-in-Insert
 returns-in-Insert c =
@@ -41,12 +41,14 @@ returns-in-Insert c =
     let steps = c.args.spelled.now.steps.items in
     let spelled = subst (λ e. IsSpelled (change e) c.args.spelled.now) c.in-Insert.is c.requires.spelled in
     edit_written result profile read old new c.in_ok-at.at _ _ c.in-Insert.is (λ whole. c.in_ok-at.ensures whole ∙ c.place.ensures)
-    (λ at. if_ok_both _ _ _ result
-    (λ done rest writes whole. (
+    (λ at. IfOk-weaker result _ _
+    (λ done made whole. (
       steps,
-      rest,
+      made.0,
       spelled,
       subst₂ (λ a t. WritesInsert profile read a t steps old new) (at whole) c.as_str-in-Insert.ensures.value
-          (subst (λ ss. WritesInsert profile read c.in_ok-at.at c.as_str-in-Insert.result.now ss old new) c.deref.ensures.value writes),
+          (subst (λ ss. WritesInsert profile read c.in_ok-at.at c.as_str-in-Insert.result.now ss old new) c.deref.ensures.value made.1.0),
+      subst₂ (λ a t. WritesInside profile read a t steps old new done) (at whole) c.as_str-in-Insert.ensures.value
+          (subst (λ ss. WritesInside profile read c.in_ok-at.at c.as_str-in-Insert.result.now ss old new done) c.deref.ensures.value made.1.1),
     ))
-    c.write_insert.ensures.rest c.write_insert.ensures.insert)
+    (if_ok_with _ _ result c.write_insert.ensures.rest (if_ok_with _ _ result c.write_insert.ensures.insert c.write_insert.ensures.inside)))

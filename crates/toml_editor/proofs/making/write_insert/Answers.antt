@@ -1,8 +1,12 @@
-use Rattle.std.proofs.Common.{ap, ◌∙◌, subst}
-use Rattle.std.proofs.lemmas.Result.{on_ok_weaker}
+use Rattle.std.proofs.Common.{◌≡◌, [], ◌∷◌, ◌++◌, inl, inr, refl, sym, ap, ap₂, ◌∙◌, subst}
+use Rattle.std.proofs.lemmas.Result.{IfOk-weaker, on_ok_weaker}
+use Rattle.toml_names.specs.declared.model.address.Step.{Step}
+use Rattle.toml_names.specs.model.Addresses.{Address}
 use Rattle.toml_tree.proofs.Proved.{one_value}
 use Rattle.toml_text.specs.Source.{text_of}
 use Rattle.toml_layout.specs.Opening.{OpensText}
+use Rattle.toml_working.specs.HeldLines.{PutsInValue}
+use Rattle.toml_working.specs.InValues.{IsParent}
 use Rattle.toml_working.specs.Putting.{InsertsLines, manner}
 use Rattle.toml_working.specs.Starting.{read_of}
 use Rattle.toml_layout.specs.TreeOutlines.{value_outline}
@@ -20,3 +24,41 @@ returns-in_ok-named-in-Some-clause-insert c =
 
 pub returns-in-None-clause-insert : goal.returns-in-None-clause-insert
 returns-in-None-clause-insert c within v is = absurd (subst (OpensText c.args.read.profile c.args.value.now) c.in-None.is c.in_ok-new.ensures within v is)
+
+-- the address without its last step is one
+last_is : (q r : Address) (x y : Step) → q ++ x ∷ [] ≡ r ++ y ∷ [] → q ≡ r
+last_is [] [] x y e = refl
+last_is [] (s ∷ []) x y e = cc
+last_is [] (s ∷ t ∷ r) x y e = cc
+last_is (s ∷ []) [] x y e = cc
+last_is (s ∷ t ∷ q) [] x y e = cc
+last_is (s ∷ q) (t ∷ r) x y e =
+    let rest : q ++ x ∷ [] ≡ r ++ y ∷ [] = cc in
+    let same : s ≡ t = cc in
+    ap₂ (λ u v. u ∷ v) same (last_is q r x y rest)
+
+parent_is : (p q r : Address) (last : Step) → IsParent p r → p ≡ q ++ last ∷ [] → r ≡ q
+parent_is p q r last (inl none) is = absurd (no_steps q last (sym is ∙ none))
+  where
+    no_steps : (q : Address) (last : Step) → ¬ (q ++ last ∷ [] ≡ [])
+    no_steps [] last e = cc
+    no_steps (s ∷ q) last e = cc
+parent_is p q r last (inr (s, split)) is = last_is r q s last (sym split ∙ is)
+
+pub returns-in_ok-named-in-Some-clause-inside : goal.returns-in_ok-named-in-Some-clause-inside
+returns-in_ok-named-in-Some-clause-inside c =
+    let old = c.args.tree.now in
+    let p = c.args.at.now in
+    let read = read_of c.args.read.before in
+    let new = c.in-Some.new in
+    let (w, of_text, outlined) = subst (OpensText c.args.read.profile c.args.value.now) c.in-Some.is c.in_ok-new.ensures in
+    IfOk-weaker c.insert.result _ _
+    (λ done puts within v is. (
+      new,
+      outlined ∙ ap value_outline (one_value w v 0 c.args.value.now of_text.0 is.0),
+      λ q last split. (subst (λ r. PutsInValue r p c.args.steps.now new read old c.insert.new.self done) (parent_is p q c.in_ok-parent-in-Some.parent last c.in_ok-parent-in-Some.ensures split) puts) last split,
+    ))
+    c.insert.ensures.value
+
+pub returns-in-None-clause-inside : goal.returns-in-None-clause-inside
+returns-in-None-clause-inside c within v is = absurd (subst (OpensText c.args.read.profile c.args.value.now) c.in-None.is c.in_ok-new.ensures within v is)

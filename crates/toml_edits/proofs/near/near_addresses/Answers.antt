@@ -5,7 +5,7 @@ use Rattle.toml_edits.proofs.NearAddresses.{all_near, gathered_all, gathered_mor
 use Rattle.toml_edits.proofs.near.near_addresses.Goals as goal
 
 pub loop-edit-init : goal.loop-edit-init
-loop-edit-init c = none_gathered c.args.edits.now (is_hidden c.new-set.result) c.new-set.ensures
+loop-edit-init c = none_gathered c.args.edits.now (is_hidden c.new-set.result) c.new-set.ensures.hides
 
 pub loop-edit-preserved : goal.loop-edit-preserved
 loop-edit-preserved c =

@@ -17,8 +17,9 @@ returns-in-201 c =
 pub returns-in-203 : goal.returns-in-203
 returns-in-203 c =
     key_as string_bytes c.args.file.word.now c.args.file.bytes.now c.args.profile c.args.code c.args.place c.explain_long.result c.in-203.is c.explain_long.ensures.file c.explain_long.ensures.key
+    c.explain_long.ensures.below
 
 pub returns-in_default : goal.returns-in_default
 returns-in_default c =
     byte_as string_bytes c.args.file.word.now c.args.file.bytes.now c.args.profile c.args.code c.args.place c.explain_byte.result (λ e. omega (arith, e)) (λ e. omega (arith, e)) (λ e. omega (arith, e))
-    c.explain_byte.ensures.file c.explain_byte.ensures.byte
+    c.explain_byte.ensures.file c.explain_byte.ensures.byte c.explain_byte.ensures.below

@@ -1,7 +1,7 @@
 use Rattle.std.proofs.Common.{◌≡◌, [], ◌∷◌, map, codes, refl, subst, List}
 use Rattle.std.specs.Prelude.{IfOk}
 use Rattle.clap.specs.Words.{Rule, rule_of}
-use Rattle.toml_words.specs.CommandLine.{IsDefined, command, edit_options, flag, profile, required_argument}
+use Rattle.toml_words.specs.CommandLine.{IsDefined, command, flag, profile, required_argument}
 use Rattle.toml_words.proofs.commands.edit_command.Goals as goal
 
 pub returns : goal.returns

@@ -1,5 +1,5 @@
 use Rattle.std.proofs.Common.{◌≡◌, ◌∙◌, ◌+◌, ◌++◌, ◌<◌, ap, arith, drop, length, map, suc, take}
-use Rattle.std.proofs.lemmas.List.{drop_all, length-map, take_all, append-nil}
+use Rattle.std.proofs.lemmas.List.{length-map}
 use Rattle.std.proofs.lemmas.Option.{slice_get_read}
 use Rattle.toml_layout.specs.OpenOutlines.{entry}
 use Rattle.toml_layout.specs.RenamingIn.{pair_with}

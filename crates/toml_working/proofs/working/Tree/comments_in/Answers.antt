@@ -1,4 +1,4 @@
-use Rattle.std.proofs.Common.{◌≤◌, ◌+◌, ◌∙◌, length, sym, subst, arith}
+use Rattle.std.proofs.Common.{◌≤◌, ◌∙◌, length, sym, subst, arith}
 use Rattle.toml_working.specs.OpeningComments.{CommentsPassed}
 use Rattle.toml_working.specs.Placing.{lines_from}
 use Rattle.toml_working.specs.Standing.{slot_standing}
