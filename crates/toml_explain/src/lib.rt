@@ -3,6 +3,7 @@
 
 mod absent;
 mod added;
+mod carrying;
 mod data;
 mod differing;
 mod document;
