@@ -36,6 +36,7 @@ class Keys:
 
     def __init__(self, at, number):
         self.at, self.lines, self.fresh = at, [[f'key_{one}', str(one)] for one in range(number)], 0
+        self.freed = []
 
     def text(self):
         header = f'[{self.at[0]}]\n' if self.at else ''
@@ -46,6 +47,12 @@ class Keys:
         place %= len(self.lines)
         name, new = self.lines[place][0], f'new_{self.fresh}'
         self.fresh += 1
+        # again: what is new takes a name that an edit before has freed, where there is one
+        is_again, op = op.endswith(' again'), op.removesuffix(' again')
+        if is_again and self.freed:
+            new = self.freed.pop()
+        if op in ('remove', 'rename'):
+            self.freed.append(name)
         if op == 'insert':
             self.lines.append([new, '0x1F'])
             return {'op': op, 'at': self.at + [new], 'value': '0x1F'}
@@ -82,6 +89,49 @@ class Tables:
         made = keys.edit(op, place)
         keys.at = []
         return made
+
+
+class Renamed:
+    """Sections of three keys each, of tables that edits rename, and then name by their new names."""
+
+    def __init__(self, number):
+        self.tables = Keys([], number)
+        self.keys = {name: Keys([], 3) for name, _ in self.tables.lines}
+
+    def text(self):
+        return ''.join(f'[{name}]\n{self.keys[name].text()}' for name, _ in self.tables.lines)
+
+    def edit(self, op, place):
+        name = self.tables.lines[place % len(self.tables.lines)][0]
+        if op == 'set':
+            keys = self.keys[name]
+            keys.at = [name]
+            made = keys.edit(op, place)
+            keys.at = []
+            return made
+        made = self.tables.edit(op, place)
+        self.keys[made['to']] = self.keys.pop(name)
+        return made
+
+
+class Headers:
+    """Header lines put in at the end: of new tables, or of new elements of an array of tables."""
+
+    def __init__(self, number):
+        self.before = ''.join(f'[[a]]\nkey = {one}\n' for one in range(number))
+        self.count, self.behind = number, []
+
+    def text(self):
+        return self.before + ''.join(self.behind)
+
+    def edit(self, op, place):
+        if op == 'element':
+            self.count += 1
+            self.behind.append('[[a]]\n')
+            return {'op': op, 'at': ['a', self.count - 1]}
+        name = f'table_{len(self.behind)}'
+        self.behind.append(f'[{name}]\n')
+        return {'op': op, 'at': [name]}
 
 
 class Elements:
@@ -132,6 +182,10 @@ def cases():
         yield f'table, mixed, {layout}', lambda: Keys(['t'], LINES), layout, mixed, anywhere
         yield f'tables, mixed, {layout}', lambda: Tables(False, LINES // 4), layout, mixed, anywhere
         yield f'array tables, mixed, {layout}', lambda: Tables(True, LINES // 4), layout, mixed, anywhere
+    again = ['rename', 'remove', 'rename again', 'insert again', 'insert again']
+    yield 'keys, names taken again', lambda: Keys([], LINES), 'plain', again, anywhere
+    yield 'tables, renamed', lambda: Renamed(LINES // 4), 'plain', ['set', 'rename', 'rename again'], anywhere
+    yield 'header lines', lambda: Headers(LINES // 4), 'plain', ['section', 'element'], anywhere
     kinds = ['set', 'insert', 'remove', 'insert']
     for name, where in (('front', front), ('middle', middle), ('anywhere', anywhere)):
         yield f'elements, {name}, plain', lambda: Elements(False, LINES), 'plain', kinds, where
