@@ -10,6 +10,7 @@ mod document;
 mod drawing;
 mod edit;
 mod excerpt;
+mod expected;
 mod glyph;
 mod input;
 mod list;
