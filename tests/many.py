@@ -5,8 +5,9 @@
 
 - Lists of 10,000 edits on texts that this script makes. The text that one edit after the other would give is told by a model:
   a list of lines, or of elements. `edit` must write that text, `verify` must say yes, and `certify` must find its certificate.
-- Such a list takes at most 40 times what its first edit takes, in `edit` and in `verify`. It takes some ten times that where each
-  line asks the tree of what the list does, and hundreds of times where each line asks each edit.
+- Such a list takes at most 40 times what its first edit takes, in `edit` and in `verify`, and in `certify` of a text with a line
+  that no edit asks for. It takes a few times that where each line asks the tree of what the list does, and hundreds of times where
+  each line asks each edit.
 - COUNT lists, 40 where it is not given, of 50 random edits on random documents: `edit` must write what 50 runs of one edit
   write, and `verify` must say yes.
 
@@ -251,14 +252,15 @@ def long_list(program, case):
         return f'{name}: {fault}' if fault else None
 
 
-def seconds(runs, *words):
-    """The processor time of a run, the better one of two, in seconds."""
+def seconds(runs, wanted, *words):
+    """The processor time of a run that ends with the status, the better one of two, in seconds."""
     took = []
     for _ in range(2):
-        child = subprocess.Popen([runs.program, *words], cwd=runs.folder, stdout=subprocess.DEVNULL, stdin=subprocess.DEVNULL)
+        child = subprocess.Popen([runs.program, *words], cwd=runs.folder, stdout=subprocess.DEVNULL, stdin=subprocess.DEVNULL,
+                                 stderr=subprocess.DEVNULL)
         _, status, used = os.wait4(child.pid, 0)
         child.returncode = os.waitstatus_to_exitcode(status)
-        took.append(used.ru_utime + used.ru_stime if child.returncode == 0 else float('inf'))
+        took.append(used.ru_utime + used.ru_stime if child.returncode == wanted else float('inf'))
     return min(took)
 
 
@@ -268,14 +270,16 @@ def slow_list(program, case):
     rng, model = random.Random(name), made()
     before = model.text()
     edits = [model.edit(rng.choice(kinds), where(rng, done)) for done in range(MANY)]
-    took = {'edit': [], 'verify': []}
+    took = {'edit': [], 'verify': [], 'certify': []}
     with tempfile.TemporaryDirectory() as folder:
         runs = Runs(program, folder)
         runs.put('F', before)
         for count in (1, MANY):
             runs.put('E', json.dumps(edits[:count]))
-            for command, times in took.items():
-                times.append(seconds(runs, command, 'F', 'E', 'A', 'C'))
+            for command in ('edit', 'verify'):
+                took[command].append(seconds(runs, 0, command, 'F', 'E', 'A', 'C'))
+            runs.put('B', runs.bytes_of('A').decode() + '# unasked\n')
+            took['certify'].append(seconds(runs, 1, 'certify', 'F', 'E', 'B'))
     slow = [f'{command}: {times[1]:.2f} s, one {times[0]:.3f} s' for command, times in took.items() if not times[1] <= TIMES * times[0]]
     return f'{name}: {"; ".join(slow)}' if slow else None
 
