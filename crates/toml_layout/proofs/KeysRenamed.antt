@@ -10,7 +10,8 @@ use Rattle.toml_layout.specs.declared.tree.Dotted.{Dotted}
 use Rattle.toml_layout.specs.declared.tree.Entries.{Entries}
 use Rattle.toml_layout.specs.declared.tree.Entry.{Entry}
 use Rattle.toml_layout.specs.declared.tree.Value.TheViews.{out-Entries, roll-Entries}
-use Rattle.toml_layout.specs.OpenOutlines.{Enclosed, EntryOutline, dotted, entries, entries_of, entry, gap_text, leaf_text}
+use Rattle.toml_layout.specs.Parts.{PartOutline}
+use Rattle.toml_layout.specs.OpenOutlines.{Enclosed, EntryOutline, dotted, entries, entries_of, entry, gap_read, leaf_text}
 use Rattle.toml_layout.specs.Outlines.{DottedOutline, EntriesOutline, End}
 use Rattle.toml_layout.specs.Outlines as outline
 use Rattle.toml_layout.specs.RenamingIn.{KeysRenamed, dotted_with, key_with, pair_with, pairs_with, rest_with}
@@ -55,7 +56,7 @@ rest_of [] = []
 rest_of (x ∷ xs) = xs
 
 module _ (steps : Address) (text : List ℕ) where
-  pairs_written : (es : List EntryOutline) (end : Option (List ℕ)) → entries_of (map (pair_with steps text) es) end ≡ pairs_with steps text (entries_of es end)
+  pairs_written : (es : List EntryOutline) (end : Option (List PartOutline)) → entries_of (map (pair_with steps text) es) end ≡ pairs_with steps text (entries_of es end)
   pairs_written [] end = refl
   pairs_written (e ∷ es) end = ap (outline.Entry e.before (option_map (key_with steps text) e.assign) e.value e.after) (pairs_written es end)
 
@@ -66,7 +67,7 @@ module _ (steps : Address) (text : List ℕ) where
       → KeysRenamed steps text (entries old) (entries (roll-Entries (record { opening = (out-Entries old).opening; list = list; end = (out-Entries old).end })))
   keys_written old list before behind =
       let all = (out-Entries old).list in
-      let end = option_map gap_text (out-Entries old).end in
+      let end = option_map gap_read (out-Entries old).end in
       let opening = leaf_text (out-Entries old).opening in
       let same : map entry (items list) ≡ map (pair_with steps text) (map entry (items all)) =
       sym (items_mapped entry list.before.items list.behind.items)

@@ -6,11 +6,13 @@ mod SetInside
 mod KeysRenamed
 mod RenameInside
 mod RenameAway
+mod Holders
 mod HeldInside
 mod PairParts
 mod Lying
 mod Opened
 mod OpenedEach
+mod GapSpelled
 mod OpenedGap
 mod OpenedLine
 mod GapParts

@@ -18,7 +18,8 @@ use Rattle.toml_layout.specs.declared.tree.Entry.{Entry}
 use Rattle.toml_layout.specs.declared.tree.Value.{Value}
 use Rattle.toml_layout.specs.declared.tree.Value.TheViews.{out-Entries, out-Entry, roll-Entries, roll-Entry}
 use Rattle.toml_layout.specs.Leading.{in_common, key_in, leads, led_by, open_names, pair_key, ChangesAt, ChangesEntry, value_in, with_value}
-use Rattle.toml_layout.specs.OpenOutlines.{Enclosed, EntryOutline, assign, entries, entries_of, entry, gap_text, leaf_text, value}
+use Rattle.toml_layout.specs.Parts.{PartOutline}
+use Rattle.toml_layout.specs.OpenOutlines.{Enclosed, EntryOutline, assign, entries, entries_of, entry, gap_read, leaf_text, value}
 use Rattle.toml_layout.specs.SetOutlines.{outlined_names}
 use Rattle.toml_layout.specs.Outlines as outline
 use Rattle.toml_layout.specs.RenamingIn.{reaches}
@@ -68,29 +69,29 @@ key_is e = ap (λ (o : EntryOutline). option_map outlined_names o.assign) (entry
     by None = refl
     by (Some a) = refl
 
-keys_are : (es : List Entry) (end : Option (List ℕ)) (i : ℕ) → key_in (entries_of (map entry es) end) i ≡ option_and_then pair_key (slice_get es i)
+keys_are : (es : List Entry) (end : Option (List PartOutline)) (i : ℕ) → key_in (entries_of (map entry es) end) i ≡ option_and_then pair_key (slice_get es i)
 keys_are [] end i = refl
 keys_are (e ∷ es) end zero = key_is e
 keys_are (e ∷ es) end (suc i) = keys_are es end i
 
 pub key_at : (e : Entries) (i : ℕ) → key_in (entries e).entries i ≡ option_and_then pair_key (slice_get (items (out-Entries e).list) i)
-key_at e i = ap (λ o. key_in o.entries i) (entries_is e) ∙ keys_are (items (out-Entries e).list) (option_map gap_text (out-Entries e).end) i
+key_at e i = ap (λ o. key_in o.entries i) (entries_is e) ∙ keys_are (items (out-Entries e).list) (option_map gap_read (out-Entries e).end) i
 
 pub no_key_past : (e : Entries) (steps : Address) (i : ℕ) → length (items (out-Entries e).list) ≤ i → led_by (key_in (entries e).entries i) steps ≡ None
 no_key_past e steps i past = ap (λ o. led_by o steps) (key_at e i ∙ ap (option_and_then pair_key) (slice_get_past (items (out-Entries e).list) i past))
 
 -- ---- values
 
-values_are : (es : List Entry) (end : Option (List ℕ)) (i : ℕ) → value_in (entries_of (map entry es) end) i ≡ option_map (λ e. value (out-Entry e).value) (slice_get es i)
+values_are : (es : List Entry) (end : Option (List PartOutline)) (i : ℕ) → value_in (entries_of (map entry es) end) i ≡ option_map (λ e. value (out-Entry e).value) (slice_get es i)
 values_are [] end i = refl
 values_are (e ∷ es) end zero = ap (λ (o : EntryOutline). Some o.value) (entry_is e)
 values_are (e ∷ es) end (suc i) = values_are es end i
 
 pub value_at : (e : Entries) (i : ℕ) → value_in (entries e).entries i ≡ option_map (λ o. value (out-Entry o).value) (slice_get (items (out-Entries e).list) i)
-value_at e i = ap (λ o. value_in o.entries i) (entries_is e) ∙ values_are (items (out-Entries e).list) (option_map gap_text (out-Entries e).end) i
+value_at e i = ap (λ o. value_in o.entries i) (entries_is e) ∙ values_are (items (out-Entries e).list) (option_map gap_read (out-Entries e).end) i
 
 -- an entry with another value
-with_one : (es : List Entry) (end : Option (List ℕ)) (i : ℕ) (old new : Entry) (w : outline.ValueOutline) → slice_get es i ≡ Some old
+with_one : (es : List Entry) (end : Option (List PartOutline)) (i : ℕ) (old new : Entry) (w : outline.ValueOutline) → slice_get es i ≡ Some old
     → entry new ≡ record { before = (entry old).before; assign = (entry old).assign; value = w; after = (entry old).after }
     → entries_of (map entry (set es i new)) end ≡ with_value (entries_of (map entry es) end) i w
 with_one [] end i old new w is made = absurd (none-some old is)
@@ -108,7 +109,7 @@ pub entry_changed : (P : outline.ValueOutline → outline.ValueOutline → Type 
     → ChangesEntry P Q i (entries old) (entries (roll-Entries (record { opening = (out-Entries old).opening; list = list; end = (out-Entries old).end })))
 entry_changed P Q old list i e n w is written made holds =
     let all = items (out-Entries old).list in
-    let end = option_map gap_text (out-Entries old).end in
+    let end = option_map gap_read (out-Entries old).end in
     let opening = leaf_text (out-Entries old).opening in
     let there : value_in (entries old).entries i ≡ Some (value (out-Entry e).value) = value_at old i ∙ ap (option_map (λ o. value (out-Entry o).value)) is in
     record {

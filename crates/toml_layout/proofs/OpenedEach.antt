@@ -11,25 +11,26 @@ use Rattle.toml_tree.specs.declared.tree.Pair.{Pair}
 use Rattle.toml_tree.specs.declared.tree.Value.TheFolds.{fold_out-Item, fold_out-Pair}
 use Rattle.toml_tree.specs.declared.tree.Value.TheViews.{out-Item, out-KeyVal, out-Pair}
 use Rattle.toml_tree.specs.ReadingValues.{Element, Member}
-use Rattle.toml_tree.specs.Spells.{EachIs, assign_parts, gap_parts, keyval_parts, value_parts}
+use Rattle.toml_tree.specs.Spells.{EachIs, assign_parts, value_parts}
 use Rattle.toml_tree.specs.Tree as tree
 use Rattle.toml_tree.specs.Tree.{Piece, Array, Inline}
 use Rattle.toml_tree.specs.View as view
 use Rattle.toml_tree.specs.View.{gap, element, member, array_items, table_pairs, value_step, array_step, inline_step, item_step, keyval_step, pair_step}
 use Rattle.toml_layout.proofs.Lying.{lie_back}
 use Rattle.toml_layout.proofs.Small.{dropped}
-use Rattle.toml_layout.proofs.Opened.{ElementLies, MemberLies, EndLies, array_lies, inline_lies, element_outline, member_outline}
+use Rattle.toml_layout.proofs.Opened.{ElementStands, MemberStands, EndStands, array_stands, inline_stands, element_outline, member_outline}
 use Rattle.toml_layout.proofs.Outlined.{entry_made}
 use Rattle.toml_layout.specs.declared.tree.Assign.{Assign}
 use Rattle.toml_layout.specs.declared.tree.Entry.{Entry}
 use Rattle.toml_layout.specs.declared.tree.Gap.{Gap}
 use Rattle.toml_layout.specs.declared.tree.Value.{Value}
 use Rattle.toml_layout.specs.declared.tree.Value.TheViews.{roll-Entry}
-use Rattle.toml_layout.specs.Opening.{Lie}
-use Rattle.toml_layout.specs.OpenOutlines.{EntryOutline, entries_of, gap_text, assign, entry, value}
+use Rattle.toml_layout.specs.Opening.{GapStands, PairStands, ValueStands}
+use Rattle.toml_layout.specs.Parts.{PartOutline}
+use Rattle.toml_layout.specs.OpenOutlines.{EntryOutline, entries_of, gap_read, assign, entry, value}
 use Rattle.toml_layout.specs.Outlines as outline
 use Rattle.toml_layout.specs.Outlines.{AssignOutline, ValueOutline}
-use Rattle.toml_layout.specs.TreeOutlines.{gap_spelled, assign_outline, value_outline}
+use Rattle.toml_layout.specs.TreeOutlines.{gap_outline, assign_outline, value_outline}
 
 -- so far these are opened, and each of those that are left stands in the text
 abbrev pub OpenedSoFar : {A : Type 0} → (A → Type 0) → (A → EntryOutline) → List A → List A → List EntryOutline → Type 0
@@ -79,34 +80,34 @@ pair_is : (x : Pair) → member x ≡ record { before = gap (out-Pair x).before;
 pair_is = fold_out-Pair tree.Value tree.Value tree.Value Element tree.KeyVal Member value_step array_step inline_step item_step keyval_step pair_step
 
 -- an entry of these
-abbrev entry_of : List ℕ → Option AssignOutline → ValueOutline → List ℕ → EntryOutline
+abbrev entry_of : List PartOutline → Option AssignOutline → ValueOutline → List PartOutline → EntryOutline
 entry_of before a v after = record { before = before; assign = a; value = v; after = after }
 
-same_entry : (before before' after after' : List ℕ) (a a' : Option AssignOutline) (v v' : ValueOutline) → before ≡ before' → a ≡ a' → v ≡ v' → after ≡ after'
+same_entry : (before before' after after' : List PartOutline) (a a' : Option AssignOutline) (v v' : ValueOutline) → before ≡ before' → a ≡ a' → v ≡ v' → after ≡ after'
     → entry_of before a v after ≡ entry_of before' a' v' after'
 same_entry before before' after after' a a' v v' before_is a_is v_is after_is =
     ap₂ (λ b t. entry_of b t v after) before_is a_is ∙ ap₂ (λ w t. entry_of before' a' w t) v_is after_is
 
 -- an element is opened
 pub element_opened : (text : List ℕ) (x : Item) (before after : Gap) (v : Value)
-    → (Lie text (gap_parts (gap (out-Item x).before)) → gap_text before ≡ gap_spelled (gap (out-Item x).before))
-    → (Lie text (value_parts (view.value (out-Item x).value)) → value v ≡ value_outline (view.value (out-Item x).value))
-    → (Lie text (gap_parts (gap (out-Item x).after)) → gap_text after ≡ gap_spelled (gap (out-Item x).after))
-    → ElementLies text (element x) → entry (roll-Entry (record { before = before; assign = None; value = v; after = after })) ≡ element_outline (element x)
+    → (GapStands text (gap (out-Item x).before) → gap_read before ≡ gap_outline (gap (out-Item x).before))
+    → (ValueStands text (view.value (out-Item x).value) → value v ≡ value_outline (view.value (out-Item x).value))
+    → (GapStands text (gap (out-Item x).after) → gap_read after ≡ gap_outline (gap (out-Item x).after))
+    → ElementStands text (element x) → entry (roll-Entry (record { before = before; assign = None; value = v; after = after })) ≡ element_outline (element x)
 element_opened text x before after v opens_before opens_value opens_after lies =
-    let here = subst (ElementLies text) (item_is x) lies in
+    let here = subst (ElementStands text) (item_is x) lies in
     entry_made (record { before = before; assign = None; value = v; after = after })
     ∙ same_entry _ _ _ _ None None _ _ (opens_before here.0) refl (opens_value here.1) (opens_after here.2) ∙ sym (ap element_outline (item_is x))
 
 -- a pair is opened
 pub member_opened : (text : List ℕ) (x : Pair) (before after : Gap) (own : Assign) (b : Box Assign) (v : Value) → b.value ≡ own
-    → (Lie text (gap_parts (gap (out-Pair x).before)) → gap_text before ≡ gap_spelled (gap (out-Pair x).before))
-    → (Lie text (keyval_parts (view.keyval (out-Pair x).keyval))
+    → (GapStands text (gap (out-Pair x).before) → gap_read before ≡ gap_outline (gap (out-Pair x).before))
+    → (PairStands text (view.keyval (out-Pair x).keyval)
     → ◌≡◌ {A = AssignOutline × ValueOutline} (assign own, value v) (assign_outline (view.keyval (out-Pair x).keyval).assign, value_outline (view.keyval (out-Pair x).keyval).value))
-    → (Lie text (gap_parts (gap (out-Pair x).after)) → gap_text after ≡ gap_spelled (gap (out-Pair x).after))
-    → MemberLies text (member x) → entry (roll-Entry (record { before = before; assign = Some b; value = v; after = after })) ≡ member_outline (member x)
+    → (GapStands text (gap (out-Pair x).after) → gap_read after ≡ gap_outline (gap (out-Pair x).after))
+    → MemberStands text (member x) → entry (roll-Entry (record { before = before; assign = Some b; value = v; after = after })) ≡ member_outline (member x)
 member_opened text x before after own b v is opens_before opens_pair opens_after lies =
-    let here = subst (MemberLies text) (pair_is x) lies in
+    let here = subst (MemberStands text) (pair_is x) lies in
     let pair = opens_pair here.1 in
     entry_made (record { before = before; assign = Some b; value = v; after = after })
     ∙ same_entry _ _ _ _ _ _ _ _ (opens_before here.0) (ap (λ a. Some (assign a)) is ∙ ap (λ p. Some p.0) pair) (ap (λ p. p.1) pair) (opens_after here.2)
@@ -114,37 +115,37 @@ member_opened text x before after own b v is opens_before opens_pair opens_after
 
 -- what stands behind the last comma is opened
 pub end_opened : (text : List ℕ) (end : Option CodeGap) (g : CodeGap) (last : Option Gap) (opened : Gap) → end ≡ Some g → last ≡ Some opened
-    → (Lie text (gap_parts (gap g)) → gap_text opened ≡ gap_spelled (gap g)) → EndLies text end → option_map gap_text last ≡ option_map (λ g. gap_spelled (gap g)) end
+    → (GapStands text (gap g) → gap_read opened ≡ gap_outline (gap g)) → EndStands text end → option_map gap_read last ≡ option_map (λ g. gap_outline (gap g)) end
 end_opened text end g last opened is last_is opens lies =
-    ap (option_map gap_text) last_is ∙ ap Some (opens (subst (EndLies text) is lies)) ∙ ap (option_map (λ g. gap_spelled (gap g))) (sym is)
+    ap (option_map gap_read) last_is ∙ ap Some (opens (subst (EndStands text) is lies)) ∙ ap (option_map (λ g. gap_outline (gap g))) (sym is)
 
 -- all of an array is opened
 pub array_opened : (text : List ℕ) (whole : Piece) (es : List Element) (end : Option CodeGap) (opening : List ℕ) (opened : List Entry) (last : Option Gap) → opening ≡ 0x5B ∷ []
-    → map entry opened ≡ map element_outline es → (EndLies text end → option_map gap_text last ≡ option_map (λ g. gap_spelled (gap g)) end)
-    → Lie text (value_parts (Array whole (array_items es end)))
-    → outline.Listed opening (entries_of (map entry opened) (option_map gap_text last)) ≡ value_outline (Array whole (array_items es end))
+    → map entry opened ≡ map element_outline es → (EndStands text end → option_map gap_read last ≡ option_map (λ g. gap_outline (gap g)) end)
+    → ValueStands text (Array whole (array_items es end))
+    → outline.Listed opening (entries_of (map entry opened) (option_map gap_read last)) ≡ value_outline (Array whole (array_items es end))
 array_opened text whole es end opening opened last bracket are closes lies =
-    let inside = array_lies text whole es end lies in
+    let inside = array_stands text whole es end lies in
     ap₂ outline.Listed bracket (ap₂ entries_of are (closes inside.1) ∙ sym inside.2)
 
 -- all of an inline table is opened
 pub inline_opened : (text : List ℕ) (whole : Piece) (ms : List Member) (end : Option CodeGap) (opening : List ℕ) (opened : List Entry) (last : Option Gap) → opening ≡ 0x7B ∷ []
-    → map entry opened ≡ map member_outline ms → (EndLies text end → option_map gap_text last ≡ option_map (λ g. gap_spelled (gap g)) end)
-    → Lie text (value_parts (Inline whole (table_pairs ms end)))
-    → outline.Braced opening (entries_of (map entry opened) (option_map gap_text last)) ≡ value_outline (Inline whole (table_pairs ms end))
+    → map entry opened ≡ map member_outline ms → (EndStands text end → option_map gap_read last ≡ option_map (λ g. gap_outline (gap g)) end)
+    → ValueStands text (Inline whole (table_pairs ms end))
+    → outline.Braced opening (entries_of (map entry opened) (option_map gap_read last)) ≡ value_outline (Inline whole (table_pairs ms end))
 inline_opened text whole ms end opening opened last brace are closes lies =
-    let inside = inline_lies text whole ms end lies in
+    let inside = inline_stands text whole ms end lies in
     ap₂ outline.Braced brace (ap₂ entries_of are (closes inside.1) ∙ sym inside.2)
 
 -- a key and a value are opened
 pub keyval_opened : (text : List ℕ) (k : KeyVal) (own : AssignOutline) (v : ValueOutline) → own ≡ assign_outline (view.assign (out-KeyVal k).assign)
-    → (Lie text (value_parts (view.value (out-KeyVal k).value)) → v ≡ value_outline (view.value (out-KeyVal k).value)) → Lie text (keyval_parts (view.keyval k))
+    → (ValueStands text (view.value (out-KeyVal k).value) → v ≡ value_outline (view.value (out-KeyVal k).value)) → PairStands text (view.keyval k)
     → ◌≡◌ {A = AssignOutline × ValueOutline} (own, v) (assign_outline (view.keyval k).assign, value_outline (view.keyval k).value)
 keyval_opened text k own v own_is opens lies =
-    let here = subst (λ p. Lie text (keyval_parts p)) (keyval_is k) lies in
+    let (form, here) = subst (PairStands text) (keyval_is k) lies in
     let own_parts = assign_parts (view.assign (out-KeyVal k).assign) in
     let behind = lie_back text here.0 own_parts (value_parts (view.value (out-KeyVal k).value)) here.1 in
-    ap₂ both own_is (opens (_, behind)) ∙ ap (λ p. both (assign_outline p.assign) (value_outline p.value)) (sym (keyval_is k))
+    ap₂ both own_is (opens (form, (_, behind))) ∙ ap (λ p. both (assign_outline p.assign) (value_outline p.value)) (sym (keyval_is k))
   where
     both : AssignOutline → ValueOutline → AssignOutline × ValueOutline
     both a w = (a, w)

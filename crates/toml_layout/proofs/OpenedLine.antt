@@ -4,11 +4,11 @@ use Rattle.std.specs.Prelude.{option_map}
 use Rattle.toml_tree.specs.declared.piece.Blank.{Blank}
 use Rattle.toml_tree.specs.declared.piece.Piece.{Piece}
 use Rattle.toml_tree.specs.Spells as parts
-use Rattle.toml_tree.specs.Spells.{Part, blank_parts, expr_parts, keyval_parts, line_parts}
+use Rattle.toml_tree.specs.Spells.{IsExpr, Part, blank_parts, expr_parts, keyval_parts}
 use Rattle.toml_tree.specs.Tree as tree
 use Rattle.toml_tree.specs.View.{blank, piece}
 use Rattle.toml_layout.proofs.Lying.{lie_front, lie_next}
-use Rattle.toml_layout.specs.Opening.{Lie}
+use Rattle.toml_layout.specs.Opening.{Lie, LineStands, PairStands}
 use Rattle.toml_layout.specs.declared.tree.Leaf.{Leaf}
 use Rattle.toml_layout.specs.OpenOutlines.{leaf_text}
 use Rattle.toml_layout.specs.Outlines.{ExprOutline, LineOutline}
@@ -37,9 +37,10 @@ line_made l e ws own_ws x own tail blank_ws c newline is outlined ws_is x_is tai
     all_of t m n = record { ws = ws; expr = x; tail = t; comment = m; newline = n }
 
 -- the pair of a line that stands in the text stands there too
-pub pair_lies : (text : List ℕ) (l : tree.Line) (ws : tree.Piece) (k : tree.KeyVal) (tail : tree.Blank) → tree.KeyValLine ws k tail ≡ l.expr → Lie text (line_parts l) → Lie text (keyval_parts k)
-pair_lies text l ws k tail is lies =
+pub pair_stands : (text : List ℕ) (l : tree.Line) (ws : tree.Piece) (k : tree.KeyVal) (tail : tree.Blank) → tree.KeyValLine ws k tail ≡ l.expr → LineStands text l → PairStands text k
+pair_stands text l ws k tail is (form, lies) =
+    let own : IsExpr (tree.KeyValLine ws k tail) = subst IsExpr (sym is) form in
     let newline : List Part = parts.piece l.newline ∷ [] in
     let whole = subst (λ e. Lie text (expr_parts e ++ newline)) (sym is) lies in
     let first = lie_front text whole.0 (parts.piece ws ∷ (keyval_parts k ++ blank_parts tail)) newline whole.1 in
-    (_, lie_front text _ (keyval_parts k) (blank_parts tail) (lie_next text whole.0 (parts.piece ws) (keyval_parts k ++ blank_parts tail) first))
+    (own.1.1, (_, lie_front text _ (keyval_parts k) (blank_parts tail) (lie_next text whole.0 (parts.piece ws) (keyval_parts k ++ blank_parts tail) first)))

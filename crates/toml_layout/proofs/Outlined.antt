@@ -14,7 +14,7 @@ use Rattle.toml_layout.specs.declared.tree.Value.TheViews.{out-Entries, out-Entr
 use Rattle.toml_layout.specs.declared.tree.Value.TheFolds.{fold-roll-Value, fold_out-Entries, fold_out-Entry, fold-roll-Entries, fold-roll-Entry}
 use Rattle.toml_layout.specs.declared.tree.Value.TheVariants as variants
 use Rattle.toml_layout.specs.declared.tree.Value.TheVariants.{rolls-Scalar, rolls-Array, rolls-Inline}
-use Rattle.toml_layout.specs.OpenOutlines.{EntryOutline, Enclosed, entry, entries, entries_of, gap_text, leaf_text, assign, value, value_step, entries_step, entry_step}
+use Rattle.toml_layout.specs.OpenOutlines.{EntryOutline, Enclosed, entry, entries, entries_of, gap_read, leaf_text, assign, value, value_step, entries_step, entry_step}
 use Rattle.toml_layout.specs.Outlines.{Braced, Listed, Token, ValueOutline}
 
 -- ---- a list with a gap
@@ -32,19 +32,19 @@ items_mapped f xs ys = sym (map-append f xs (reverse ys) ∙ ap (λ r. map f xs 
 -- what stands between brackets or braces, by what the working tree has there
 pub entries_is : (e : Entries) → entries e ≡ record {
   opening = leaf_text (out-Entries e).opening;
-  entries = entries_of (map entry (items (out-Entries e).list)) (option_map gap_text (out-Entries e).end);
+  entries = entries_of (map entry (items (out-Entries e).list)) (option_map gap_read (out-Entries e).end);
 }
 entries_is e =
     fold_out-Entries ValueOutline Enclosed EntryOutline value_step entries_step entry_step e
-    ∙ ap (λ es. record { opening = leaf_text (out-Entries e).opening; entries = entries_of es (option_map gap_text (out-Entries e).end) })
+    ∙ ap (λ es. record { opening = leaf_text (out-Entries e).opening; entries = entries_of es (option_map gap_read (out-Entries e).end) })
     (items_mapped entry (out-Entries e).list.before.items (out-Entries e).list.behind.items)
 
 -- an entry, by what the working tree has there
 pub entry_is : (e : Entry) → entry e ≡ record {
-  before = gap_text (out-Entry e).before;
+  before = gap_read (out-Entry e).before;
   assign = option_map (λ a. assign a.value) (out-Entry e).assign;
   value = value (out-Entry e).value;
-  after = gap_text (out-Entry e).after;
+  after = gap_read (out-Entry e).after;
 }
 entry_is = fold_out-Entry ValueOutline Enclosed EntryOutline value_step entries_step entry_step
 
@@ -60,13 +60,13 @@ inline_made b = ap value (sym (rolls-Inline b)) ∙ fold-roll-Value ValueOutline
 
 -- entries that are made of these
 pub entries_made : (e : Entries-F Value Entries Entry)
-    → entries (roll-Entries e) ≡ record { opening = leaf_text e.opening; entries = entries_of (map entry (items e.list)) (option_map gap_text e.end) }
+    → entries (roll-Entries e) ≡ record { opening = leaf_text e.opening; entries = entries_of (map entry (items e.list)) (option_map gap_read e.end) }
 entries_made e =
     fold-roll-Entries ValueOutline Enclosed EntryOutline value_step entries_step entry_step e
-    ∙ ap (λ es. record { opening = leaf_text e.opening; entries = entries_of es (option_map gap_text e.end) })
+    ∙ ap (λ es. record { opening = leaf_text e.opening; entries = entries_of es (option_map gap_read e.end) })
     (items_mapped entry e.list.before.items e.list.behind.items)
 
 -- an entry that is made of these
 pub entry_made : (e : Entry-F Value Entries Entry)
-    → entry (roll-Entry e) ≡ record { before = gap_text e.before; assign = option_map (λ a. assign a.value) e.assign; value = value e.value; after = gap_text e.after }
+    → entry (roll-Entry e) ≡ record { before = gap_read e.before; assign = option_map (λ a. assign a.value) e.assign; value = value e.value; after = gap_read e.after }
 entry_made = fold-roll-Entry ValueOutline Enclosed EntryOutline value_step entries_step entry_step

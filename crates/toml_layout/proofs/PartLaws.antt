@@ -8,7 +8,8 @@ use Rattle.toml_text.specs.Runs.{run_len, newline_len}
 use Rattle.toml_layout.specs.declared.tree.GapPart.{GapPart}
 use Rattle.toml_layout.specs.declared.tree.GapPart.TheVariants as parts
 use Rattle.toml_layout.specs.OpenOutlines.{gap_part_text, gap_parts_text, leaf_text}
-use Rattle.toml_layout.specs.PartOutlines.{AreOwn, AreParts, NoLinesStay, PartOutline, PartedSpells, PartsAreOne, Comment, Newline, Ws, behind_first, first_part, is_lines, outlined, part}
+use Rattle.toml_layout.specs.PartOutlines.{AreOwn, NoLinesStay, PartedSpells, is_lines, outlined, part}
+use Rattle.toml_layout.specs.Parts.{AreParts, PartOutline, PartsAreOne, Comment, Newline, Ws, behind_first, first_part}
 use Rattle.toml_layout.proofs.TextParts.{parts_text}
 
 pub one_list : PartsAreOne

@@ -14,6 +14,7 @@ use Rattle.toml_layout.specs.Apart.{HasKeysApart, EachApart, KeysApart, begins_k
 use Rattle.toml_layout.specs.Leading.{LeadsOn, first_index, key_in, leads, led_by, value_in, with_value}
 use Rattle.toml_layout.specs.SettingIn.{SetsEntry, SetsIn}
 use Rattle.toml_layout.specs.OpenOutlines.{Enclosed}
+use Rattle.toml_layout.specs.Parts.{PartOutline}
 use Rattle.toml_layout.specs.Outlines.{AssignOutline, ValueOutline, Token, Listed, Braced, EntriesOutline, End, Entry}
 use Rattle.toml_layout.specs.SetOutlines.{SetStaysAside, outlined_names, set_outline, set_outline_within, set_listed, set_braced, has_outline, has_within, has_listed, has_braced}
 use Rattle.toml_layout.specs.Beginnings.{begins}
@@ -130,12 +131,12 @@ module _ (p : Address) (new : ValueOutline) where
   )
 
   -- an element, or a pair, and those behind it
-  element_first : (at : Address) (i : ℕ) (before : List ℕ) (a : Option AssignOutline) (v w : ValueOutline) (after : List ℕ) (es fs : EntriesOutline) (d e : Bool)
+  element_first : (at : Address) (i : ℕ) (before : List PartOutline) (a : Option AssignOutline) (v w : ValueOutline) (after : List PartOutline) (es fs : EntriesOutline) (d e : Bool)
       → Sets (element at i) v w d → SetsListed at (i + 1) es fs e → SetsListed at i (Entry before a v after es) (Entry before a w after fs) (d || e)
   element_first at i before a v w after es fs d e (sets, has) (rest, others) =
       (ap₂ (λ x y. Entry before a x after y) sets rest, ap₂ (λ x y. x || y) has others)
 
-  pair_first : (at : Address) (before : List ℕ) (a : AssignOutline) (v w : ValueOutline) (after : List ℕ) (es fs : EntriesOutline) (d e : Bool)
+  pair_first : (at : Address) (before : List PartOutline) (a : AssignOutline) (v w : ValueOutline) (after : List PartOutline) (es fs : EntriesOutline) (d e : Bool)
       → Sets (below at (outlined_names a)) v w d → SetsBraced at es fs e
       → SetsBraced at (Entry before (Some a) v after es) (Entry before (Some a) w after fs) (d || e)
   pair_first at before a v w after es fs d e (sets, has) (rest, others) =

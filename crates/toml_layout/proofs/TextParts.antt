@@ -13,7 +13,8 @@ use Rattle.toml_text.proofs.Proved.{run_piece, run_stop, newlines_piece}
 use Rattle.toml_layout.specs.declared.tree.GapPart.{GapPart}
 use Rattle.toml_layout.specs.declared.tree.GapPart.TheVariants as parts
 use Rattle.toml_layout.specs.OpenOutlines.{gap_part_text, gap_parts_text}
-use Rattle.toml_layout.specs.PartOutlines.{AddsParted, AreOwn, AreParts, IsParted, PartOutline, Ws, Comment, Newline, behind_first, first_part, outlined, part, part_text}
+use Rattle.toml_layout.specs.PartOutlines.{AddsParted, AreOwn, IsParted, outlined, part}
+use Rattle.toml_layout.specs.Parts.{AreParts, PartOutline, Ws, Comment, Newline, behind_first, first_part, part_text}
 
 -- ---- where a text may be cut
 
@@ -144,7 +145,7 @@ first_cut text =
     (comment_or text (run_len is_comment text) _ (run_piece is_comment text).0 refl))
 
 -- it stands in front of what is behind it
-first_joined : (text : List ℕ) → part_text (first_part text) ++ behind_first text ≡ text
+pub first_joined : (text : List ℕ) → part_text (first_part text) ++ behind_first text ≡ text
 first_joined text =
     let (n, fits, is, some) = first_cut text in
     ap₂ ◌++◌ is (sym (behind_cut text n fits is)) ∙ take-append-drop n text

@@ -5,7 +5,9 @@ use Rattle.toml_tree.proofs.Proved.{parts_join}
 use Rattle.toml_tree.specs.Spells.{Part, piece, symbol, joined, all_parts, gap_parts, dotted_parts, key_parts, equals_parts, assign_parts, value_parts, items_parts, pairs_parts, keyval_parts, blank_parts, comment_parts, header_parts, array_header_parts, expr_parts, line_parts, lines_parts}
 use Rattle.toml_tree.specs.Tree.{Piece, Blank, Dotted, Assign, Gap, Value, Scalar, Array, Inline, Items, Close, Last, More, Pairs, ClosePairs, LastPair, MorePairs, Header, Expr, BlankLine, KeyValLine, TableLine, ArrayTableLine}
 use Rattle.toml_layout.specs.Outlines.{comma_if, comment_outlined, dotted_outlined, assign_outlined, value_outlined, entries_outlined, line_outlined}
-use Rattle.toml_layout.specs.TreeOutlines.{gap_spelled, dotted_outline, assign_outline, value_outline, items_outline, pairs_outline, line_outline, ValueIsOutlined, LineIsOutlined, LinesAreOutlined}
+use Rattle.toml_layout.proofs.GapSpelled.{gap_spelled, gap_spelled_is}
+use Rattle.toml_layout.specs.Parts.{parts_outlined}
+use Rattle.toml_layout.specs.TreeOutlines.{gap_outline, dotted_outline, assign_outline, value_outline, items_outline, pairs_outline, line_outline, ValueIsOutlined, LineIsOutlined, LinesAreOutlined}
 
 -- texts one behind the other, where the first is that of some parts
 before : (ps qs : List Part) (text : List ℕ) → text ≡ joined qs → joined ps ++ text ≡ joined (ps ++ qs)
@@ -30,12 +32,13 @@ closed behind gap close = append_assoc (comma_if behind) gap (close ∷ [])
 -- an entry, with all that closes behind it
 entry_is : (behind : Bool) (g h : Gap) (a : List Part) (v : Value) (own rest : List ℕ) (tail : List Part) (close : ℕ) → own ≡ joined a → value_outlined (value_outline v) ≡ joined (value_parts v)
     → rest ++ close ∷ [] ≡ joined tail
-    → (comma_if behind ++ (gap_spelled g ++ (own ++ (value_outlined (value_outline v) ++ (gap_spelled h ++ rest))))) ++ close ∷ []
+    → (comma_if behind ++ (parts_outlined (gap_outline g) ++ (own ++ (value_outlined (value_outline v) ++ (parts_outlined (gap_outline h) ++ rest))))) ++ close ∷ []
     ≡ comma_if behind ++ joined (gap_parts g ++ (a ++ (value_parts v ++ (gap_parts h ++ tail))))
 entry_is behind g h a v own rest tail close own_is value_is tail_is =
     let text = value_outlined (value_outline v) in
     let closing = close ∷ [] in
-    append_assoc (comma_if behind) (gap_spelled g ++ (own ++ (text ++ (gap_spelled h ++ rest)))) closing
+    ap₂ (λ s t. (comma_if behind ++ (s ++ (own ++ (text ++ (t ++ rest))))) ++ closing) (gap_spelled_is g) (gap_spelled_is h)
+    ∙ append_assoc (comma_if behind) (gap_spelled g ++ (own ++ (text ++ (gap_spelled h ++ rest)))) closing
     ∙ ap (λ r. comma_if behind ++ r)
     (append_assoc (gap_spelled g) (own ++ (text ++ (gap_spelled h ++ rest))) closing
     ∙ before (gap_parts g) (a ++ (value_parts v ++ (gap_parts h ++ tail))) _
@@ -52,13 +55,13 @@ mutual
   value_outlined_is (Inline whole pairs) = ap (λ r. 0x7B ∷ r) (pairs_are false pairs)
 
   items_are : (behind : Bool) (is : Items) → entries_outlined behind (items_outline is) ++ 0x5D ∷ [] ≡ comma_if behind ++ joined (items_parts is)
-  items_are behind (Close g) = closed behind (gap_spelled g) 0x5D ∙ ap (λ r. comma_if behind ++ r) (before (gap_parts g) (symbol (0x5D ∷ []) ∷ []) (0x5D ∷ []) refl)
+  items_are behind (Close g) = ap (λ t. (comma_if behind ++ t) ++ 0x5D ∷ []) (gap_spelled_is g) ∙ closed behind (gap_spelled g) 0x5D ∙ ap (λ r. comma_if behind ++ r) (before (gap_parts g) (symbol (0x5D ∷ []) ∷ []) (0x5D ∷ []) refl)
   items_are behind (Last g v h) = entry_is behind g h [] v [] [] (symbol (0x5D ∷ []) ∷ []) 0x5D refl (value_outlined_is v) refl
   items_are behind (More g v h is) =
       entry_is behind g h [] v [] (entries_outlined true (items_outline is)) (symbol (0x2C ∷ []) ∷ items_parts is) 0x5D refl (value_outlined_is v) (items_are true is)
 
   pairs_are : (behind : Bool) (ps : Pairs) → entries_outlined behind (pairs_outline ps) ++ 0x7D ∷ [] ≡ comma_if behind ++ joined (pairs_parts ps)
-  pairs_are behind (ClosePairs g) = closed behind (gap_spelled g) 0x7D ∙ ap (λ r. comma_if behind ++ r) (before (gap_parts g) (symbol (0x7D ∷ []) ∷ []) (0x7D ∷ []) refl)
+  pairs_are behind (ClosePairs g) = ap (λ t. (comma_if behind ++ t) ++ 0x7D ∷ []) (gap_spelled_is g) ∙ closed behind (gap_spelled g) 0x7D ∙ ap (λ r. comma_if behind ++ r) (before (gap_parts g) (symbol (0x7D ∷ []) ∷ []) (0x7D ∷ []) refl)
   pairs_are behind (LastPair g a v h) =
       entry_is behind g h (assign_parts a) v (assign_outlined (assign_outline a)) [] (symbol (0x7D ∷ []) ∷ []) 0x7D (assign_is a) (value_outlined_is v) refl
   pairs_are behind (MorePairs g a v h ps) =

@@ -12,6 +12,8 @@ use Rattle.toml_layout.specs.declared.members.Held.TheVariants as held
 use Rattle.toml_layout.specs.declared.tree.Entries.{Entries}
 use Rattle.toml_layout.specs.declared.tree.Value.{Value}
 use Rattle.toml_layout.specs.declared.tree.Value.TheVariants as values
+use Rattle.toml_layout.specs.Apart.{HasKeysApart}
+use Rattle.toml_layout.specs.Holders.{has_holder}
 use Rattle.toml_layout.specs.Items.{Items, items_of}
 use Rattle.toml_layout.specs.Leading.{ChangesEntry, LeadsOn}
 use Rattle.toml_layout.specs.OpenOutlines.{Enclosed, entries, value}
@@ -43,9 +45,13 @@ pub record ChangesHolder {A : Type 0} (Sets : Address → ValueOutline → A →
 abbrev pub HoldsBy : {A : Type 0} → (Address → ValueOutline → A → A → Bool → Type 0) → Address → HolderChange → A → A → Bool → Type 0
 HoldsBy Sets steps makes old now done = done ≡ true → ChangesHolder Sets makes steps old now
 
--- in a value, and in that of the entry with the index, if there is one
-abbrev pub HoldsIn : Address → HolderChange → ValueOutline → ValueOutline → Bool → Type 0
-HoldsIn = HoldsBy SetsIn
+-- In a value: it is made where an array or an inline table holds what the steps name, if keys are apart; else nothing changes.
+pub record HoldsIn (steps : Address) (makes : HolderChange) (old now : ValueOutline) (done : Bool) : Type 0 where
+  pub made : HoldsBy SetsIn steps makes old now done
+  pub stays : done ≡ false → now ≡ old
+  pub tells : HasKeysApart old → done ≡ has_holder old steps
+
+-- in that of the entry with the index, if there is one
 
 abbrev pub HoldsEntry : ℕ → Address → HolderChange → Enclosed → Enclosed → Bool → Type 0
 HoldsEntry i steps makes old now done = ChangesEntry (λ v w. HoldsIn steps makes v w done) (done ≡ false) i old now

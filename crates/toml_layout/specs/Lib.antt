@@ -1,4 +1,5 @@
 -- outlines
+pub mod Parts
 pub mod Outlines
 pub mod OpenOutlines
 pub mod OpenLaws
@@ -24,6 +25,7 @@ pub mod Takings
 -- what an edit changes in a value, and in the key before it
 pub mod NewKeys
 pub mod Leading
+pub mod Holders
 pub mod SettingIn
 pub mod RenamingIn
 pub mod RenamedPairs

@@ -4,8 +4,9 @@ use Rattle.std.specs.List.{list_all}
 use Rattle.toml_layout.specs.declared.tree.GapPart.{GapPart}
 use Rattle.toml_layout.specs.Gaps.{SplitsFirst, SplitsLast, begins_line, is_comment, is_newline, is_ws}
 use Rattle.toml_layout.specs.OpenOutlines.{gap_part_text}
-use Rattle.toml_layout.specs.PartOutlines as outline
-use Rattle.toml_layout.specs.PartOutlines.{IsParted, PartOutline, outlined}
+use Rattle.toml_layout.specs.PartOutlines.{IsParted, outlined}
+use Rattle.toml_layout.specs.Parts as outline
+use Rattle.toml_layout.specs.Parts.{PartOutline}
 
 -- the last part, if there is one
 abbrev pub last_of : List GapPart → List GapPart

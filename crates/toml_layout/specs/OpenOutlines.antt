@@ -22,6 +22,7 @@ use Rattle.toml_layout.specs.declared.tree.Entry.{Entry}
 use Rattle.toml_layout.specs.declared.tree.Expr.{Expr}
 use Rattle.toml_layout.specs.declared.tree.Expr.TheVariants as exprs
 use Rattle.toml_layout.specs.declared.tree.OpenLine.{OpenLine}
+use Rattle.toml_layout.specs.Parts.{PartOutline, Ws, Comment, Newline, lines_apart, parts_outlined}
 use Rattle.toml_layout.specs.Outlines as outline
 use Rattle.toml_layout.specs.Outlines.{DottedOutline, AssignOutline, ValueOutline, EntriesOutline, ExprOutline, LineOutline, dotted_outlined, own_assign_outlined, comment_outlined, value_outlined}
 
@@ -40,8 +41,19 @@ abbrev pub gap_parts_text : List GapPart → List ℕ
 gap_parts_text [] = []
 gap_parts_text (p ∷ ps) = gap_part_text p ++ gap_parts_text ps
 
-abbrev pub gap_text : Gap → List ℕ
-gap_text g = gap_parts_text g.parts.items
+-- the parts of a gap as they read, whether or not an edit has taken its lines apart
+abbrev pub part_read : GapPart → List PartOutline
+part_read (parts.Ws ws) = Ws (leaf_text ws) ∷ []
+part_read (parts.Comment comment) = Comment (leaf_text comment) ∷ []
+part_read (parts.Newline newline) = Newline (leaf_text newline) ∷ []
+part_read (parts.Lines lines) = lines_apart (leaf_text lines)
+
+abbrev pub parts_read : List GapPart → List PartOutline
+parts_read [] = []
+parts_read (p ∷ ps) = part_read p ++ parts_read ps
+
+abbrev pub gap_read : Gap → List PartOutline
+gap_read g = parts_read g.parts.items
 
 abbrev pub dotted : Dotted → DottedOutline
 dotted d = record { before_dot = leaf_text d.before_dot; after_dot = leaf_text d.after_dot; part = leaf_text d.part }
@@ -60,19 +72,19 @@ comment_text c = comment_outlined (option_map leaf_text c)
 abbrev pub blank_text : Blank → List ℕ
 blank_text b = leaf_text b.ws ++ comment_text b.comment
 
--- an entry, and the texts around it
+-- an entry, and the parts of the gaps around it
 pub record EntryOutline : Type 0 where
-  pub before : List ℕ
+  pub before : List PartOutline
   pub assign : Option AssignOutline
   pub value : ValueOutline
-  pub after : List ℕ
+  pub after : List PartOutline
 
 -- its text
 abbrev pub entry_outlined : EntryOutline → List ℕ
-entry_outlined e = e.before ++ (own_assign_outlined e.assign ++ (value_outlined e.value ++ e.after))
+entry_outlined e = parts_outlined e.before ++ (own_assign_outlined e.assign ++ (value_outlined e.value ++ parts_outlined e.after))
 
 -- entries, and what stands behind the last comma
-abbrev pub entries_of : List EntryOutline → Option (List ℕ) → EntriesOutline
+abbrev pub entries_of : List EntryOutline → Option (List PartOutline) → EntriesOutline
 entries_of [] end = outline.End end
 entries_of (e ∷ es) end = outline.Entry e.before e.assign e.value e.after (entries_of es end)
 
@@ -88,14 +100,14 @@ value_step (layer.Array entries) = outline.Listed entries.value.opening entries.
 value_step (layer.Inline entries) = outline.Braced entries.value.opening entries.value.entries
 
 abbrev pub entries_step : Entries-F ValueOutline Enclosed EntryOutline → Enclosed
-entries_step e = record { opening = leaf_text e.opening; entries = entries_of (items e.list) (option_map gap_text e.end) }
+entries_step e = record { opening = leaf_text e.opening; entries = entries_of (items e.list) (option_map gap_read e.end) }
 
 abbrev pub entry_step : Entry-F ValueOutline Enclosed EntryOutline → EntryOutline
 entry_step e = record {
-  before = gap_text e.before;
+  before = gap_read e.before;
   assign = option_map (λ a. assign a.value) e.assign;
   value = e.value;
-  after = gap_text e.after;
+  after = gap_read e.after;
 }
 
 abbrev pub value : Value → ValueOutline

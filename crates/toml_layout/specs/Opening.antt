@@ -5,7 +5,7 @@ use Rattle.toml_text.specs.Source.{text_of}
 use Rattle.toml_text.specs.Limit.{IsText}
 use Rattle.toml_tree.specs.Parts.{size}
 use Rattle.toml_tree.specs.Profiles.{IsNoValue, IsValueIn}
-use Rattle.toml_tree.specs.Spells.{Part, Placed, joined, gap_parts, value_parts, keyval_parts, line_parts}
+use Rattle.toml_tree.specs.Spells.{Part, Placed, IsExpr, IsGap, IsValue, joined, gap_parts, value_parts, keyval_parts, line_parts}
 use Rattle.toml_tree.specs.Tree as tree
 use Rattle.toml_tree.specs.View.{piece, element, member, array_items, table_pairs}
 use Rattle.toml_tree.specs.declared.profile.Profile.{Profile}
@@ -19,10 +19,10 @@ use Rattle.toml_layout.specs.declared.tree.Key.{Key}
 use Rattle.toml_layout.specs.declared.tree.KeyVal.{KeyVal}
 use Rattle.toml_layout.specs.declared.tree.OpenLine.{OpenLine}
 use Rattle.toml_layout.specs.declared.tree.Value.{Value}
-use Rattle.toml_layout.specs.OpenOutlines.{leaf_text, gap_text, dotted, assign, value, entries, line}
+use Rattle.toml_layout.specs.OpenOutlines.{leaf_text, gap_read, dotted, assign, value, entries, line}
 use Rattle.toml_layout.specs.Outlines as outline
 use Rattle.toml_layout.specs.Outlines.{AssignOutline, ValueOutline}
-use Rattle.toml_layout.specs.TreeOutlines.{gap_spelled, dotted_outline, assign_outline, value_outline, line_outline}
+use Rattle.toml_layout.specs.TreeOutlines.{gap_outline, dotted_outline, assign_outline, value_outline, line_outline}
 
 -- the parts stand in the text, from the place on
 pub record LieAt (text : List ℕ) (at : ℕ) (ps : List Part) : Type 0 where
@@ -36,16 +36,28 @@ pub record LieAt (text : List ℕ) (at : ℕ) (ps : List Part) : Type 0 where
 abbrev pub Lie : List ℕ → List Part → Type 0
 Lie text ps = (at : ℕ) × LieAt text at ps
 
--- What is opened has the outline where the parts stand in the text: a gap with newlines and no comment is one piece,
--- read from the text itself.
-abbrev pub OpensAs : {A : Type 0} → {B : Type 0} → Texts → List Part → (A → B) → B → Result A AllocError → Type 0
-OpensAs texts ps outlined is result = IfOk result (λ a. Lie (text_of texts.source) ps → outlined a ≡ is)
+-- a gap, a value, a pair and a line stand so in it, in their forms
+abbrev pub GapStands : List ℕ → tree.Gap → Type 0
+GapStands text g = IsGap g × Lie text (gap_parts g)
+
+abbrev pub ValueStands : List ℕ → tree.Value → Type 0
+ValueStands text v = IsValue v × Lie text (value_parts v)
+
+abbrev pub PairStands : List ℕ → tree.KeyVal → Type 0
+PairStands text k = IsValue k.value × Lie text (keyval_parts k)
+
+abbrev pub LineStands : List ℕ → tree.Line → Type 0
+LineStands text l = IsExpr l.expr × Lie text (line_parts l)
+
+-- What is opened has the outline where it stands in the text: a gap with newlines is one piece, read from the text itself.
+abbrev pub OpensAs : {A : Type 0} → {B : Type 0} → Type 0 → (A → B) → B → Result A AllocError → Type 0
+OpensAs Stands outlined is result = IfOk result (λ a. Stands → outlined a ≡ is)
 
 abbrev pub OpensGap : Texts → tree.Gap → Result Gap AllocError → Type 0
-OpensGap texts g = OpensAs texts (gap_parts g) gap_text (gap_spelled g)
+OpensGap texts g = OpensAs (GapStands (text_of texts.source) g) gap_read (gap_outline g)
 
 abbrev pub OpensValue : Texts → tree.Value → Result Value AllocError → Type 0
-OpensValue texts v = OpensAs texts (value_parts v) value (value_outline v)
+OpensValue texts v = OpensAs (ValueStands (text_of texts.source) v) value (value_outline v)
 
 -- The text of a value that an edit brings: it is a value of the profile, and what is opened has its outline; within the limit of a text
 -- there is none only where it is no value of the profile.
@@ -57,19 +69,19 @@ OpensText profile text found =
 -- what stands between the brackets of an array, or the braces of an inline table
 abbrev pub OpensArray : Texts → tree.Value → Result Entries AllocError → Type 0
 OpensArray texts v =
-    OpensAs texts (value_parts v) (λ e. outline.Listed (entries e).opening (entries e).entries) (value_outline v)
+    OpensAs (ValueStands (text_of texts.source) v) (λ e. outline.Listed (entries e).opening (entries e).entries) (value_outline v)
 
 abbrev pub OpensInline : Texts → tree.Value → Result Entries AllocError → Type 0
 OpensInline texts v =
-    OpensAs texts (value_parts v) (λ e. outline.Braced (entries e).opening (entries e).entries) (value_outline v)
+    OpensAs (ValueStands (text_of texts.source) v) (λ e. outline.Braced (entries e).opening (entries e).entries) (value_outline v)
 
 abbrev pub OpensKeyVal : Texts → tree.KeyVal → Result KeyVal AllocError → Type 0
 OpensKeyVal texts k =
-    OpensAs {B = AssignOutline × ValueOutline} texts (keyval_parts k) (λ p. (assign p.assign, value p.value))
+    OpensAs {B = AssignOutline × ValueOutline} (PairStands (text_of texts.source) k) (λ p. (assign p.assign, value p.value))
     (assign_outline k.assign, value_outline k.value)
 
 abbrev pub OpensLine : Texts → tree.Line → Result OpenLine AllocError → Type 0
-OpensLine texts l = OpensAs texts (line_parts l) line (line_outline l)
+OpensLine texts l = OpensAs (LineStands (text_of texts.source) l) line (line_outline l)
 
 -- the parts of the key, and what stands between them
 abbrev pub IsKeyOpened : tree.Key → Key → Type 0

@@ -1,7 +1,8 @@
 -- Outlines: what stands on a line by its texts, in text order. An outline has neither places nor kinds of scalars, and what stands between
--- the values of an array or an inline table, but for the commas, is one text. A line of a tree has the outline of the line of the working
--- tree that is opened of it.
+-- the values of an array or an inline table, but for the commas, is a list of parts. A line of a tree has the outline of the line of the
+-- working tree that is opened of it.
 use Rattle.std.specs.Prelude.{ℕ, Bool, true, false, List, [], ◌∷◌, ◌++◌, Option, Some, None, if◌then◌else◌}
+use Rattle.toml_layout.specs.Parts.{PartOutline, parts_outlined}
 
 -- `.` between whitespace, and the key part behind it
 pub record DottedOutline : Type 0 where
@@ -26,8 +27,8 @@ mutual
   -- what stands behind the bracket or the brace: entries, each with what stands before and behind it, and what stands behind the last
   -- comma, where one follows the last entry; without an entry all that stands there
   pub data EntriesOutline : Type 0 where
-    End : Option (List ℕ) → EntriesOutline
-    Entry : List ℕ → Option AssignOutline → ValueOutline → List ℕ → EntriesOutline → EntriesOutline
+    End : Option (List PartOutline) → EntriesOutline
+    Entry : List PartOutline → Option AssignOutline → ValueOutline → List PartOutline → EntriesOutline → EntriesOutline
 
 -- what stands on a line behind the whitespace before it
 pub data ExprOutline : Type 0 where
@@ -71,9 +72,10 @@ abbrev mutual
 
   pub entries_outlined : Bool → EntriesOutline → List ℕ
   entries_outlined behind (End None) = []
-  entries_outlined behind (End (Some gap)) = comma_if behind ++ gap
+  entries_outlined behind (End (Some gap)) = comma_if behind ++ parts_outlined gap
   entries_outlined behind (Entry before a v after es) =
-      comma_if behind ++ (before ++ (own_assign_outlined a ++ (value_outlined v ++ (after ++ entries_outlined true es))))
+      comma_if behind
+      ++ (parts_outlined before ++ (own_assign_outlined a ++ (value_outlined v ++ (parts_outlined after ++ entries_outlined true es))))
 
 abbrev pub expr_outlined : ExprOutline → List ℕ
 expr_outlined Nothing = []

@@ -11,7 +11,8 @@ use Rattle.toml_layout.specs.declared.tree.Value.{Value}
 use Rattle.toml_layout.specs.Gaps.{SplitsLast, begins_line}
 use Rattle.toml_layout.specs.Items.{Item, Items, gap_parts, items_of, last_item, with_after, with_before, with_end, with_item}
 use Rattle.toml_layout.specs.Margins.{IsMarginAlone, IsOnLine, PutsLine, margin, one_space, parting}
-use Rattle.toml_layout.specs.PartOutlines.{IsParted, PartOutline, outlined}
+use Rattle.toml_layout.specs.PartOutlines.{IsParted, outlined}
+use Rattle.toml_layout.specs.Parts.{PartOutline}
 
 -- the items then, and the gaps around the new one
 pub record Room : Type 0 where

@@ -1,13 +1,27 @@
 -- The outlines of trees, and what they spell.
-use Rattle.std.specs.Prelude.{◌≡◌, ℕ, List, [], ◌∷◌, map, Some, None, option_map}
-use Rattle.toml_tree.specs.Spells.{joined, gap_parts, value_parts, line_parts, lines_parts}
-use Rattle.toml_tree.specs.Tree.{Piece, Blank, Dotted, Assign, Gap, Value, Scalar, Array, Inline, Items, Close, Last, More, Pairs, ClosePairs, LastPair, MorePairs, Header, BlankLine, KeyValLine, TableLine, ArrayTableLine, Line}
+use Rattle.std.specs.Prelude.{◌≡◌, ℕ, List, [], ◌∷◌, ◌++◌, map, Option, Some, None, option_map}
+use Rattle.toml_tree.specs.Spells.{joined, value_parts, line_parts, lines_parts}
+use Rattle.toml_tree.specs.Tree.{Piece, Blank, Dotted, Assign, GapLine, Gap, Value, Scalar, Array, Inline, Items, Close, Last, More, Pairs, ClosePairs, LastPair, MorePairs, Header, BlankLine, KeyValLine, TableLine, ArrayTableLine, Line}
+use Rattle.toml_layout.specs.Parts.{PartOutline, Ws, Comment, Newline}
 use Rattle.toml_layout.specs.Outlines as outline
 use Rattle.toml_layout.specs.Outlines.{DottedOutline, AssignOutline, ValueOutline, EntriesOutline, ExprOutline, LineOutline, value_outlined, line_outlined, lines_outlined}
 
--- all that a gap has, as one text
-abbrev pub gap_spelled : Gap → List ℕ
-gap_spelled g = joined (gap_parts g)
+-- whitespace that has a byte, and a comment, if there is one
+abbrev pub ws_part : List ℕ → List PartOutline
+ws_part [] = []
+ws_part (b ∷ bs) = Ws (b ∷ bs) ∷ []
+
+abbrev pub comment_part : Option Piece → List PartOutline
+comment_part None = []
+comment_part (Some p) = Comment p.text ∷ []
+
+-- the parts of a gap: those of its lines, and the whitespace behind them
+abbrev pub lines_with : List GapLine → List ℕ → List PartOutline
+lines_with [] ws = ws_part ws
+lines_with (l ∷ ls) ws = ws_part l.blank.ws.text ++ (comment_part l.blank.comment ++ Newline l.newline.text ∷ lines_with ls ws)
+
+abbrev pub gap_outline : Gap → List PartOutline
+gap_outline g = lines_with g.lines g.ws.text
 
 abbrev pub dotted_outline : Dotted → DottedOutline
 dotted_outline d = record { before_dot = d.before_dot.text; after_dot = d.after_dot.text; part = d.part.text }
@@ -27,16 +41,16 @@ abbrev mutual
   value_outline (Inline whole pairs) = outline.Braced (0x7B ∷ []) (pairs_outline pairs)
 
   pub items_outline : Items → EntriesOutline
-  items_outline (Close g) = outline.End (Some (gap_spelled g))
-  items_outline (Last g v h) = outline.Entry (gap_spelled g) None (value_outline v) (gap_spelled h) (outline.End None)
-  items_outline (More g v h is) = outline.Entry (gap_spelled g) None (value_outline v) (gap_spelled h) (items_outline is)
+  items_outline (Close g) = outline.End (Some (gap_outline g))
+  items_outline (Last g v h) = outline.Entry (gap_outline g) None (value_outline v) (gap_outline h) (outline.End None)
+  items_outline (More g v h is) = outline.Entry (gap_outline g) None (value_outline v) (gap_outline h) (items_outline is)
 
   pub pairs_outline : Pairs → EntriesOutline
-  pairs_outline (ClosePairs g) = outline.End (Some (gap_spelled g))
+  pairs_outline (ClosePairs g) = outline.End (Some (gap_outline g))
   pairs_outline (LastPair g a v h) =
-      outline.Entry (gap_spelled g) (Some (assign_outline a)) (value_outline v) (gap_spelled h) (outline.End None)
+      outline.Entry (gap_outline g) (Some (assign_outline a)) (value_outline v) (gap_outline h) (outline.End None)
   pairs_outline (MorePairs g a v h ps) =
-      outline.Entry (gap_spelled g) (Some (assign_outline a)) (value_outline v) (gap_spelled h) (pairs_outline ps)
+      outline.Entry (gap_outline g) (Some (assign_outline a)) (value_outline v) (gap_outline h) (pairs_outline ps)
 
 -- a header between so many brackets
 abbrev pub header_outline : List ℕ → List ℕ → Header → ExprOutline

@@ -1,7 +1,8 @@
 //! Laws over the definitions of what is laid out: nothing is run.
-ghost use Rattle.toml_layout.specs.OpenLaws.{EntriesAreOutlined};
+ghost use Rattle.toml_layout.specs.OpenLaws.{EntriesAreOutlined, GapsAreSpelled};
 ghost use Rattle.toml_layout.specs.Opening.{BackLies, FrontLies, TextIsTheirs};
-ghost use Rattle.toml_layout.specs.PartOutlines.{NoLinesStay, PartedSpells, PartsAreOne};
+ghost use Rattle.toml_layout.specs.PartOutlines.{NoLinesStay, PartedSpells};
+ghost use Rattle.toml_layout.specs.Parts.{PartsAreOne};
 ghost use Rattle.toml_layout.specs.RenamedPairs.{PairIsRenamed};
 ghost use Rattle.toml_layout.specs.RenameOutlines.{RenameStaysAside};
 ghost use Rattle.toml_layout.specs.SetOutlines.{SetStaysAside};
@@ -14,9 +15,10 @@ pub fn outlines()
     ensures lines { LinesAreOutlined }
 {}
 
-/// What stands between brackets or braces has the outline of its entries.
+/// What stands between brackets or braces has the outline of its entries, and the parts of a gap spell its text.
 pub fn entries()
-    ensures { EntriesAreOutlined }
+    ensures entries { EntriesAreOutlined }
+    ensures gaps { GapsAreSpelled }
 {}
 
 /// Of parts that stand in a text the first ones do, and those behind them; and the text there is theirs.

@@ -1,5 +1,7 @@
 //! Elements and pairs that are put into a value and taken out of it.
-ghost use Rattle.std.specs.Prelude.{◌<◌, IfOk, OnOk, map, string_bytes, vec_len};
+ghost use Rattle.std.specs.List.{list_all};
+ghost use Rattle.std.specs.Prelude.{◌≡◌, ◌<◌, IfOk, OnOk, map, string_bytes, vec_len};
+ghost use Rattle.toml_layout.specs.Holders.{is_name};
 ghost use Rattle.toml_layout.specs.Holding.{ChangesElement, ChangesPairs, HoldsEntry, HoldsIn, MakesHeld};
 ghost use Rattle.toml_layout.specs.Items.{items_of};
 ghost use Rattle.toml_layout.specs.Leading.{ChangesAt};
@@ -59,6 +61,9 @@ impl<'t> Texts<'t> {
                     Ok(done)
                 }
                 None => {
+                    if !are_names(steps) {
+                        return Ok(false);
+                    }
                     self.change_pairs(pairs, parent, steps, change)?;
                     Ok(true)
                 }
@@ -218,4 +223,16 @@ impl<'t> Texts<'t> {
         pair.value = self.empty_table()?;
         Ok(())
     }
+}
+
+/// Whether all steps are names.
+fn are_names(steps: &[Step]) -> bool
+    ensures { result ≡ list_all is_name steps.now }
+{
+    for step in steps {
+        if !matches!(step, Step::Name(_)) {
+            return false;
+        }
+    }
+    true
 }

@@ -2,15 +2,15 @@
 ghost use Rattle.std.specs.Prelude.{◌≡◌, IfOk, IfSome, option_map};
 ghost use Rattle.toml_text.specs.Source.{text_of};
 ghost use Rattle.toml_tree.specs.Lines.{line as tree_line};
-ghost use Rattle.toml_tree.specs.Spells.{gap_parts};
 ghost use Rattle.toml_tree.specs.View.{assign as tree_assign, gap as tree_gap, header as tree_header, key as tree_key};
 ghost use Rattle.toml_tree.specs.View.{keyval as tree_keyval, value as tree_value};
 ghost use Rattle.toml_layout.specs.OpenOutlines.{assign as assign_outlined, header as header_outlined, leaf_text};
 ghost use Rattle.toml_layout.specs.OpenOutlines.{opening_brackets, closing_brackets};
-ghost use Rattle.toml_layout.specs.Opening.{IsKeyOpened, Lie, OpensArray, OpensGap, OpensInline, OpensKeyVal, OpensLine};
+ghost use Rattle.toml_layout.specs.Opening.{GapStands, IsKeyOpened, OpensArray, OpensGap, OpensInline, OpensKeyVal, OpensLine};
 ghost use Rattle.toml_layout.specs.Opening.{OpensText, OpensValue};
 ghost use Rattle.toml_layout.specs.Opening.{array_tree, inline_tree};
-ghost use Rattle.toml_layout.specs.TreeOutlines.{assign_outline, gap_spelled, header_outline};
+ghost use Rattle.toml_layout.specs.Parts.{lines_apart};
+ghost use Rattle.toml_layout.specs.TreeOutlines.{assign_outline, gap_outline, header_outline};
 
 use crate::layout::Layout;
 use crate::texts::Texts;
@@ -121,7 +121,7 @@ impl<'t> Opener<'t> {
     /// A gap with lines of the document: it needs no parts.
     fn kept_lines(self, gap: &toml_tree::Gap<'t>) -> Option<Leaf<'t>>
         ensures { let all = tree_gap gap.now in
-            IfSome result (λ l. Lie (text_of self.entry.texts.source) (gap_parts all) → leaf_text l ≡ gap_spelled all) }
+            IfSome result (λ l. GapStands (text_of self.entry.texts.source) all → lines_apart (leaf_text l) ≡ gap_outline all) }
     {
         if !self.is_kept {
             return None;

@@ -4,7 +4,8 @@ ghost use Rattle.std.specs.Str.{IsCharBoundary};
 ghost use Rattle.toml_text.specs.Source.{text_of};
 ghost use Rattle.toml_layout.specs.Gaps.{SplitsFirst, SplitsLast, are_blank, are_ws, begins_line, is_comment, is_newline, is_ws, trimmed, without_ws};
 ghost use Rattle.toml_layout.specs.OpenOutlines.{leaf_text};
-ghost use Rattle.toml_layout.specs.PartOutlines.{AddsLines, AddsParted, IsParted, behind_first, first_part, outlined, part};
+ghost use Rattle.toml_layout.specs.PartOutlines.{AddsLines, AddsParted, IsParted, outlined, part};
+ghost use Rattle.toml_layout.specs.Parts.{behind_first, first_part};
 
 use crate::texts::Texts;
 use crate::tree::{Gap, GapPart, Leaf};

@@ -2,8 +2,9 @@
 //! document, but its pieces are kept or new.
 ghost use Rattle.std.specs.Prelude.{◌≡◌, ◌↔◌, ◌++◌, ◌∷◌, [], IfOk, OnOk, IsTrue, None, option_map};
 ghost use Rattle.toml_layout.specs.OpenKinds.{is_tables};
-ghost use Rattle.toml_layout.specs.OpenOutlines.{leaf_text, gap_part_text, gap_text, line as outlined};
+ghost use Rattle.toml_layout.specs.OpenOutlines.{leaf_text, gap_part_text, gap_read, line as outlined};
 ghost use Rattle.toml_layout.specs.Outlines.{no_line};
+ghost use Rattle.toml_layout.specs.TreeOutlines.{ws_part};
 
 use std::alloc::{AllocError, Global};
 use toml_lists::GapList;
@@ -209,8 +210,7 @@ impl<'t> Gap<'t> {
 
     /// A gap of this one part.
     pub(crate) fn one(alloc: Global, part: GapPart<'t>) -> Result<Gap<'t>, AllocError>
-        ensures parts { IfOk result (λ g. g.parts.items ≡ part.entry ∷ []) }
-        ensures text { IfOk result (λ g. gap_text g ≡ gap_part_text part.entry) }
+        ensures { IfOk result (λ g. g.parts.items ≡ part.entry ∷ []) }
     {
         let mut parts = Vec::with_capacity(alloc, 1)?;
         parts.push(part)?;
@@ -219,7 +219,7 @@ impl<'t> Gap<'t> {
 
     /// A gap of this whitespace.
     pub(crate) fn space(alloc: Global, ws: Leaf<'t>) -> Result<Gap<'t>, AllocError>
-        ensures { IfOk result (λ g. gap_text g ≡ leaf_text ws.entry) }
+        ensures { IfOk result (λ g. gap_read g ≡ ws_part (leaf_text ws.entry)) }
     {
         if ws.is_empty() {
             return Ok(Gap::empty(alloc));
@@ -229,7 +229,7 @@ impl<'t> Gap<'t> {
 
     /// Puts whitespace behind it, unless it has no bytes.
     pub(crate) fn push_ws(&mut self, ws: Leaf<'t>) -> Result<(), AllocError>
-        ensures { OnOk result (gap_text self.new ≡ gap_text self.old ++ leaf_text ws.entry) }
+        ensures { OnOk result (gap_read self.new ≡ gap_read self.old ++ ws_part (leaf_text ws.entry)) }
     {
         if !ws.is_empty() {
             self.parts.push(GapPart::Ws(ws))?;

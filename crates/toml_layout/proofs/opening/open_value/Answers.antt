@@ -20,4 +20,4 @@ returns-in_ok-value-in-Ok-parse_value_in c =
         begins = refl;
       },
     ) in
-    (v, (subst (SpellsValue v 0) (c.in-Ok.ensures.0 ∙ c.as_bytes.ensures.value) spelled, c.in-Ok-parse_value_in.ensures.of_profile), c.in_ok-value-in-Ok-parse_value_in.ensures lies)
+    (v, (subst (SpellsValue v 0) (c.in-Ok.ensures.0 ∙ c.as_bytes.ensures.value) spelled, c.in-Ok-parse_value_in.ensures.of_profile), c.in_ok-value-in-Ok-parse_value_in.ensures (spelled.form, lies))

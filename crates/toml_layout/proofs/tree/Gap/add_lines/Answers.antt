@@ -1,7 +1,7 @@
 use Rattle.std.proofs.Common.{◌∙◌, ◌++◌, ◌∷◌, [], ap, append_assoc, refl, subst}
 use Rattle.std.proofs.lemmas.Bool.{false≢true}
 use Rattle.toml_layout.specs.OpenOutlines.{leaf_text}
-use Rattle.toml_layout.specs.PartOutlines.{AreParts}
+use Rattle.toml_layout.specs.Parts.{AreParts}
 use Rattle.toml_layout.proofs.TextParts.{cut_all, cut_on}
 use Rattle.toml_layout.proofs.tree.Gap.add_lines.Goals as goal
 

@@ -1,7 +1,8 @@
 use Rattle.std.proofs.Common.{◌≡◌, ◌++◌, List, length}
 use Rattle.toml_layout.specs.declared.tree.GapPart.{GapPart}
 use Rattle.toml_layout.specs.OpenOutlines.{leaf_text}
-use Rattle.toml_layout.specs.PartOutlines.{AreParts, PartOutline, outlined}
+use Rattle.toml_layout.specs.PartOutlines.{outlined}
+use Rattle.toml_layout.specs.Parts.{AreParts, PartOutline}
 use Rattle.toml_layout.proofs.tree.Gap.add_lines.Given as goal
 
 abbrev pub invariant-loop-rest : goal.invariant-loop-rest

@@ -3,7 +3,7 @@ use Rattle.toml_text.proofs.Proved.{comment_unmarked}
 use Rattle.toml_text.specs.Bytes.{is_comment, is_ws}
 use Rattle.toml_text.specs.Runs.{newline_len, run_len}
 use Rattle.toml_layout.specs.OpenOutlines.{leaf_text}
-use Rattle.toml_layout.specs.PartOutlines.{Comment, part_text}
+use Rattle.toml_layout.specs.Parts.{Comment, part_text}
 use Rattle.toml_layout.proofs.TextParts.{IsCommentCut, behind_cut, comment_bound, cut_fits, end_bound, first_comment, newline_bound, ws_bound}
 use Rattle.toml_layout.proofs.tree.Leaf.first_part.Goals as goal
 use Rattle.toml_layout.proofs.tree.Leaf.first_part.Goals.{then-comment-gt0, else-comment-gt0}
