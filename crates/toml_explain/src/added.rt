@@ -60,11 +60,7 @@ fn debts(alloc: Global, edits: &[Edit]) -> Result<AddressSet, AllocError> {
 }
 
 /// Where the result of an edit stands in the end, if it does.
-fn owed_at(
-    alloc: Global,
-    edit: &Edit,
-    later: &Carrier<'_>,
-) -> Result<Option<Address>, AllocError> {
+fn owed_at(alloc: Global, edit: &Edit, later: &Carrier<'_>) -> Result<Option<Address>, AllocError> {
     let Some(made) = result_of(alloc, edit)? else {
         return Ok(None);
     };

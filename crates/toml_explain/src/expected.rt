@@ -37,7 +37,11 @@ fn is_key(alloc: Global, bytes: &[u8]) -> Result<bool, AllocError> {
 /// Where the line of a text begins, which may go on over several, that has the place on it. What profile 1 takes before the place is
 /// taken by profile 2.
 fn line_start(alloc: Global, bytes: &[u8], at: usize) -> Result<usize, AllocError> {
-    let mut start = if bytes.starts_with(MARK) { MARK.len() } else { 0 };
+    let mut start = if bytes.starts_with(MARK) {
+        MARK.len()
+    } else {
+        0
+    };
     let Ok(source) = Source::new(bytes) else {
         return Ok(start);
     };

@@ -42,7 +42,10 @@ fn as_string(alloc: Global, value: &str) -> Result<String, AllocError> {
     match value.as_bytes() {
         [b'"' | b'\'' | b'[' | b'{', ..] => Ok(String::new(alloc)),
         bytes if bytes.len() > MAX_SHOWN => {
-            String::from_str(alloc, "; `set` and `insert` take it as a string by --string")
+            String::from_str(
+                alloc,
+                "; `set` and `insert` take it as a string by --string",
+            )
         }
         _ => {
             let word = quoted(alloc, value)?;
