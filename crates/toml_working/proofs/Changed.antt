@@ -70,7 +70,7 @@ opened_outline texts read lines (bodies.Kept k) mid o are kept opens is =
     let there : slice_get lines k.line ≡ Some kept.line = subst (λ ls. slice_get ls k.line ≡ Some kept.line) are kept.is in
     let (b, made, outlined) = subst (λ r. MatchOption r (mid ≡ bodies.Kept k) (λ l. IsOpened texts l mid)) there opens in
     let e : bodies.Open b ≡ bodies.Open o = sym made ∙ is in
-    ap outline_of kept.is ∙ sym (outlined kept.lies) ∙ ap (body_outline read) e
+    ap outline_of kept.is ∙ sym (outlined kept.stands) ∙ ap (body_outline read) e
 
 -- what the document has is opened
 pub never_kept : (texts : Texts) (read : Read) (lines : List tree.Line) (old mid : Body) (k : Kept) → read.lines ≡ lines → BodyKept (text_of texts.source) read old
@@ -194,6 +194,6 @@ module _ (ws : List ℕ) (a : AssignOutline) (tail : List ℕ) (comment : Option
   pub open_changed : (layout : Layout) (steps : Address) (change : Inside) (v w : ValueOutline) (done : Bool) → ChangesIn layout steps change v w done
       → ChangesOpen layout steps change (with_pair v) (with_pair w) done
   open_changed layout steps (changes.Set new) v w done sets = λ apart at. let made = sets apart at in (ap with_pair made.0, made.1)
-  open_changed layout steps (changes.Insert spelled new) v w done holds = λ made. pair_held (PutsHeld layout spelled.now new) steps v w (holds made)
+  open_changed layout steps (changes.Insert spelled new) v w done holds = λ made. pair_held (PutsHeld layout spelled.now new) steps v w (holds.made made)
   open_changed layout steps (changes.Rename to) v w done renames = λ apart at. ap with_pair (renames apart at)
-  open_changed layout steps changes.Remove v w done holds = λ made. pair_held (TakesHeld layout) steps v w (holds made)
+  open_changed layout steps changes.Remove v w done holds = λ made. pair_held (TakesHeld layout) steps v w (holds.made made)

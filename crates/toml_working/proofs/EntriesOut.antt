@@ -9,20 +9,24 @@ use Rattle.toml_layout.proofs.Proved.{entries_is}
 use Rattle.toml_layout.specs.declared.tree.Entries.{Entries}
 use Rattle.toml_layout.specs.declared.tree.Entry.{Entry}
 use Rattle.toml_layout.specs.declared.tree.Value.TheViews.{out-Entries}
-use Rattle.toml_layout.specs.OpenOutlines.{EntryOutline, entry, entries, entry_outlined, entries_of, gap_text}
+use Rattle.toml_layout.specs.OpenOutlines.{EntryOutline, entry, entries, entry_outlined, entries_of, gap_read}
+use Rattle.toml_layout.specs.Parts.{PartOutline, parts_outlined}
 use Rattle.toml_layout.specs.Outlines.{End, comma_if, entries_outlined, own_assign_outlined, value_outlined}
 
 -- the first entry, with a comma where one stands before it, and all behind it
 entry_first : (behind : Bool) (e : EntryOutline) (rest : List ℕ)
-    → comma_if behind ++ (e.before ++ (own_assign_outlined e.assign ++ (value_outlined e.value ++ (e.after ++ rest)))) ≡ comma_if behind ++ (entry_outlined e ++ rest)
+    → comma_if behind ++ (parts_outlined e.before ++ (own_assign_outlined e.assign ++ (value_outlined e.value ++ (parts_outlined e.after ++ rest))))
+    ≡ comma_if behind ++ (entry_outlined e ++ rest)
 entry_first behind e rest =
     let v = value_outlined e.value in
     let a = own_assign_outlined e.assign in
-    ap (λ r. comma_if behind ++ r) (sym (append_assoc e.before (a ++ (v ++ e.after)) rest
-    ∙ ap (λ r. e.before ++ r) (append_assoc a (v ++ e.after) rest ∙ ap (λ r. a ++ r) (append_assoc v e.after rest))))
+    let before = parts_outlined e.before in
+    let after = parts_outlined e.after in
+    ap (λ r. comma_if behind ++ r) (sym (append_assoc before (a ++ (v ++ after)) rest
+    ∙ ap (λ r. before ++ r) (append_assoc a (v ++ after) rest ∙ ap (λ r. a ++ r) (append_assoc v after rest))))
 
 -- it is written, the others are left
-pub entry_written : (behind : Bool) (e : EntryOutline) (es : List EntryOutline) (end : Option (List ℕ)) (out mid new : List ℕ) → mid ≡ out ++ comma_if behind → new ≡ mid ++ entry_outlined e
+pub entry_written : (behind : Bool) (e : EntryOutline) (es : List EntryOutline) (end : Option (List PartOutline)) (out mid new : List ℕ) → mid ≡ out ++ comma_if behind → new ≡ mid ++ entry_outlined e
     → new ++ entries_outlined true (entries_of es end) ≡ out ++ entries_outlined behind (entries_of (e ∷ es) end)
 entry_written behind e es end out mid new comma here =
     let rest = entries_outlined true (entries_of es end) in
@@ -30,24 +34,24 @@ entry_written behind e es end out mid new comma here =
     ∙ append_assoc out (comma_if behind) (entry_outlined e ++ rest) ∙ ap (λ r. out ++ r) (sym (entry_first behind e rest))
 
 -- an entry is written: there was a comma to write or none
-pub entry_passed : (behind : Bool) (e : EntryOutline) (es : List EntryOutline) (end : Option (List ℕ)) (out mid new all : List ℕ) (rest : List EntryOutline)
+pub entry_passed : (behind : Bool) (e : EntryOutline) (es : List EntryOutline) (end : Option (List PartOutline)) (out mid new all : List ℕ) (rest : List EntryOutline)
     → rest ≡ e ∷ es → mid ≡ out ++ comma_if behind → new ≡ mid ++ entry_outlined e → out ++ entries_outlined behind (entries_of rest end) ≡ all
     → new ++ entries_outlined true (entries_of es end) ≡ all
 entry_passed behind e es end out mid new all rest is comma here so_far =
     entry_written behind e es end out mid new comma here ∙ ap (λ r. out ++ entries_outlined behind (entries_of r end)) (sym is) ∙ so_far
 
 -- all are written, and no comma stands behind the last
-pub entries_ended : (behind : Bool) (rest es : List EntryOutline) (end : Option (List ℕ)) (old out : List ℕ) → rest ≡ [] → end ≡ None
+pub entries_ended : (behind : Bool) (rest es : List EntryOutline) (end : Option (List PartOutline)) (old out : List ℕ) → rest ≡ [] → end ≡ None
     → out ++ entries_outlined behind (entries_of rest end) ≡ old ++ entries_outlined false (entries_of es end) → out ≡ old ++ entries_outlined false (entries_of es end)
 entries_ended behind rest es end old out none bare so_far =
     sym (append-nil out) ∙ ap (λ e. out ++ entries_outlined behind (End e)) (sym bare) ∙ ap (λ r. out ++ entries_outlined behind (entries_of r end)) (sym none) ∙ so_far
 
 -- all are written, and what stands behind the last comma
-pub entries_closed : (behind : Bool) (rest es : List EntryOutline) (end : Option (List ℕ)) (last : List ℕ) (old out mid new : List ℕ) → rest ≡ [] → end ≡ Some last
-    → mid ≡ out ++ comma_if behind → new ≡ mid ++ last
+pub entries_closed : (behind : Bool) (rest es : List EntryOutline) (end : Option (List PartOutline)) (last : List PartOutline) (old out mid new : List ℕ) → rest ≡ [] → end ≡ Some last
+    → mid ≡ out ++ comma_if behind → new ≡ mid ++ parts_outlined last
     → out ++ entries_outlined behind (entries_of rest end) ≡ old ++ entries_outlined false (entries_of es end) → new ≡ old ++ entries_outlined false (entries_of es end)
 entries_closed behind rest es end last old out mid new none some comma here so_far =
-    here ∙ ap (λ r. r ++ last) comma ∙ append_assoc out (comma_if behind) last
+    here ∙ ap (λ r. r ++ parts_outlined last) comma ∙ append_assoc out (comma_if behind) (parts_outlined last)
     ∙ ap (λ e. out ++ entries_outlined behind (End e)) (sym some) ∙ ap (λ r. out ++ entries_outlined behind (entries_of r end)) (sym none) ∙ so_far
 
 -- an item, and those behind it
@@ -58,9 +62,9 @@ drop_got (y ∷ ys) (suc i) x is = drop_got ys i x is
 
 -- what is written of all of them is the text of their outline
 pub entries_whole : (e : Entries) (all : List Entry) (old : List ℕ) → all ≡ items (out-Entries e).list
-    → old ++ entries_outlined false (entries_of (map entry all) (option_map gap_text (out-Entries e).end)) ≡ old ++ entries_outlined false (entries e).entries
+    → old ++ entries_outlined false (entries_of (map entry all) (option_map gap_read (out-Entries e).end)) ≡ old ++ entries_outlined false (entries e).entries
 entries_whole e all old is =
-    ap (λ es. old ++ entries_outlined false (entries_of (map entry es) (option_map gap_text (out-Entries e).end))) is
+    ap (λ es. old ++ entries_outlined false (entries_of (map entry es) (option_map gap_read (out-Entries e).end))) is
     ∙ ap (λ w. old ++ entries_outlined false w.entries) (sym (entries_is e))
 
 -- ---- how many there are

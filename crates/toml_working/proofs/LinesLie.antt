@@ -8,7 +8,7 @@ use Rattle.toml_text.specs.Forms.{IsNewline}
 use Rattle.toml_text.specs.Limit.{IsText}
 use Rattle.toml_tree.proofs.Proved.{expr_starts, mark_ends_at_char, placed_front, placed_back, sizes_add}
 use Rattle.toml_tree.specs.Parts.{size}
-use Rattle.toml_tree.specs.Spells.{AreLines, EachIs, Spells, expr_parts, joined, line_parts, lines_parts, mark_of, piece}
+use Rattle.toml_tree.specs.Spells.{AreLines, EachIs, IsExpr, Spells, expr_parts, joined, line_parts, lines_parts, mark_of, piece}
 use Rattle.toml_tree.specs.Tree.{Doc, Line}
 use Rattle.toml_layout.proofs.Proved.{lie_front, lie_back, lie_slice, line_outlined_is}
 use Rattle.toml_working.specs.declared.lines.Kept.{Kept}
@@ -19,6 +19,7 @@ use Rattle.toml_working.specs.Starting.{IsKeptOf}
 
 -- a line stands in the text, and begins and ends where that may be cut
 pub record LineLies (text : List ℕ) (l : Line) : Type 0 where
+  pub form : IsExpr l.expr
   pub at : ℕ
   pub lies : LieAt text at (line_parts l)
   pub start : IsCharBoundary text at
@@ -56,13 +57,13 @@ module _ (text : List ℕ) (utf8 : IsUtf8 text) where
   each_lies [] at forms lies ends start = tt
   each_lies (l ∷ []) at forms lies ends start =
       let last : at + size (line_parts l) ≡ length text = omega (arith, ends, sizes_add (line_parts l) []) in
-      (record { at = at; lies = lie_front text at (line_parts l) [] lies; start = start; end = subst (IsCharBoundary text) (sym last) (IsCharBoundary-end text) }, tt)
+      (record { form = forms.0; at = at; lies = lie_front text at (line_parts l) [] lies; start = start; end = subst (IsCharBoundary text) (sym last) (IsCharBoundary-end text) }, tt)
   each_lies (l ∷ m ∷ ls) at forms lies ends start =
       let here = lie_front text at (line_parts l) (lines_parts (m ∷ ls)) lies in
       let behind = lie_back text at (line_parts l) (lines_parts (m ∷ ls)) lies in
       let end = newline_cut l at here forms.1 in
       let later : at + size (line_parts l) + size (lines_parts (m ∷ ls)) ≡ length text = omega (arith, ends, sizes_add (line_parts l) (lines_parts (m ∷ ls))) in
-      (record { at = at; lies = here; start = start; end = end }, each_lies (m ∷ ls) (at + size (line_parts l)) forms.2 behind later end)
+      (record { form = forms.0; at = at; lies = here; start = start; end = end }, each_lies (m ∷ ls) (at + size (line_parts l)) forms.2 behind later end)
 
 pub lines_lie : (d : Doc) (text : List ℕ) → IsText text → Spells d text → EachIs (LineLies text) d.lines
 lines_lie d text within spelled =
@@ -97,7 +98,7 @@ module _ (text : List ℕ) (read : Read) (kept : Kept) (l : Line) (is : slice_ge
   line_kept = record {
     line = l;
     is = is;
-    lies = (line.at, line.lies);
+    stands = (line.form, (line.at, line.lies));
     held = record { order = omega (arith, starts, stops); start = subst (IsCharBoundary text) (sym starts) line.start; end = subst (IsCharBoundary text) (sym stops) line.end };
     spells = ap (λ n. slice_range text n kept.span.end) starts ∙ ap (slice_range text line.at) stops ∙ lie_slice text line.at (line_parts l) line.lies ∙ sym (line_outlined_is l);
     last = says.last;

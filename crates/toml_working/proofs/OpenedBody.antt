@@ -8,13 +8,12 @@ use Rattle.std.proofs.lemmas.Option.{slice_get-map, slice_get_past, slice_get-ge
 use Rattle.toml_text.specs.Source.{text_of}
 use Rattle.toml_layout.specs.KnownLines.{known_line, lines_known}
 use Rattle.toml_layout.specs.declared.known.KnownLine.{KnownLine}
-use Rattle.toml_tree.specs.Spells.{line_parts}
 use Rattle.toml_working.specs.declared.lines.Body.{Body}
 use Rattle.toml_working.specs.declared.lines.Body.TheVariants as bodies
 use Rattle.toml_working.specs.declared.lines.Kept.{Kept}
 use Rattle.toml_layout.specs.declared.texts.Texts.{Texts}
 use Rattle.toml_layout.specs.declared.tree.OpenLine.{OpenLine}
-use Rattle.toml_layout.specs.Opening.{Lie}
+use Rattle.toml_layout.specs.Opening.{LineStands}
 use Rattle.toml_working.specs.OpeningLines.{OpensBody, IsOpened}
 use Rattle.toml_layout.specs.OpenOutlines.{line}
 use Rattle.toml_layout.specs.TreeOutlines.{line_outline}
@@ -26,7 +25,7 @@ item_got xs i r h = search (rules, slice_get_past, slice_get-get_or)
 -- the document has the line
 pub body_opened : (texts : Texts) (known : List KnownLine) (old : Body) (kept : Kept) (k : KnownLine) (opened : OpenLine) (b : Box OpenLine)
     → old ≡ bodies.Kept kept → Some k ≡ slice_get known kept.line → b.value ≡ opened
-    → (Lie (text_of texts.source) (line_parts (known_line k)) → line opened ≡ line_outline (known_line k)) → OpensBody texts (lines_known known) old (bodies.Open b)
+    → (LineStands (text_of texts.source) (known_line k) → line opened ≡ line_outline (known_line k)) → OpensBody texts (lines_known known) old (bodies.Open b)
 body_opened texts known old kept k opened b is found made opens =
     let all = lines_known known in
     let there : Some (known_line k) ≡ slice_get all kept.line = ap (option_map known_line) found ∙ sym (slice_get-map known_line known kept.line) in

@@ -2,13 +2,12 @@
 use Rattle.std.specs.Prelude.{◌≡◌, ℕ, List, [], None, MatchOption, slice_get}
 use Rattle.std.specs.Global.{Box}
 use Rattle.toml_text.specs.Source.{text_of}
-use Rattle.toml_tree.specs.Spells.{line_parts}
 use Rattle.toml_tree.specs.Tree as tree
 use Rattle.toml_working.specs.declared.lines.Body.{Body}
 use Rattle.toml_working.specs.declared.lines.Body.TheVariants as bodies
 use Rattle.toml_layout.specs.declared.texts.Texts.{Texts}
 use Rattle.toml_layout.specs.declared.tree.OpenLine.{OpenLine}
-use Rattle.toml_layout.specs.Opening.{Lie}
+use Rattle.toml_layout.specs.Opening.{LineStands}
 use Rattle.toml_layout.specs.OpenOutlines.{line}
 use Rattle.toml_layout.specs.Outlines.{ExprOutline, LineOutline}
 use Rattle.toml_layout.specs.TreeOutlines.{line_outline}
@@ -20,7 +19,7 @@ HasOutline is body = (opened : Box OpenLine) × (body ≡ bodies.Open opened) ×
 -- a line of the document is opened: it has that line's outline where that stands in the text
 abbrev pub IsOpened : Texts → tree.Line → Body → Type 0
 IsOpened texts l body = (opened : Box OpenLine) × (body ≡ bodies.Open opened)
-    × (Lie (text_of texts.source) (line_parts l) → line opened.value ≡ line_outline l)
+    × (LineStands (text_of texts.source) l → line opened.value ≡ line_outline l)
 
 -- what was opened before stays as it was, and so does what the document does not have
 abbrev pub OpensBody : Texts → List tree.Line → Body → Body → Type 0

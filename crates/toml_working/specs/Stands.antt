@@ -5,7 +5,7 @@ use Rattle.toml_text.specs.Source.{IsHeld, text_of}
 use Rattle.std.specs.declared.vec.Vec.{Vec}
 use Rattle.std.specs.declared.alloc.Global.{Global}
 use Rattle.toml_names.specs.model.Addresses.{Address}
-use Rattle.toml_tree.specs.Spells.{EachIs, line_parts}
+use Rattle.toml_tree.specs.Spells.{EachIs}
 use Rattle.toml_tree.specs.Tree as tree
 use Rattle.toml_tree.specs.Tree.{Expr, BlankLine, KeyValLine, TableLine, ArrayTableLine}
 use Rattle.toml_units.specs.declared.unit.Unit.{Unit as ReadUnit}
@@ -16,7 +16,7 @@ use Rattle.toml_working.specs.declared.lines.Line.{Line}
 use Rattle.toml_working.specs.declared.lines.Slot.{Slot}
 use Rattle.toml_working.specs.declared.lines.Slot.TheVariants as slots
 use Rattle.toml_working.specs.declared.working.Tree.{Tree}
-use Rattle.toml_layout.specs.Opening.{Lie}
+use Rattle.toml_layout.specs.Opening.{LineStands}
 use Rattle.toml_layout.specs.Outlines.{ValueOutline, line_outlined}
 use Rattle.toml_working.specs.Seeing.{kept_found}
 use Rattle.toml_working.specs.Standing.{Standing, Read, AreOrdered, slots_standing, set_standing, has}
@@ -33,7 +33,7 @@ heads_tables (ArrayTableLine ws header tail) = true
 pub record IsKept (text : List ℕ) (read : Read) (kept : Kept) : Type 0 where
   pub line : tree.Line
   pub is : slice_get read.lines kept.line ≡ Some line
-  pub lies : Lie text (line_parts line)
+  pub stands : LineStands text line
   pub held : IsHeld text kept.span
   pub spells : slice_range text kept.span.start kept.span.end ≡ line_outlined (line_outline line)
   pub last : IsTrue kept.is_last ↔ (line.newline.text ≡ [])

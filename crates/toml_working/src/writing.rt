@@ -2,9 +2,10 @@
 ghost use Rattle.std.specs.Prelude.{◌≡◌, ℕ, List, IfOk, false};
 ghost use Rattle.toml_text.specs.Source.{text_of};
 ghost use Rattle.toml_layout.specs.OpenOutlines.{assign as assign_outline, blank_text, entries as entries_outline, entry as entry_outline};
-ghost use Rattle.toml_layout.specs.OpenOutlines.{entry_outlined, gap_text, header as header_outline, key_text, line as line_outline};
+ghost use Rattle.toml_layout.specs.OpenOutlines.{entry_outlined, gap_read, header as header_outline, key_text, line as line_outline};
 ghost use Rattle.toml_layout.specs.OpenOutlines.{value as value_outline};
 ghost use Rattle.toml_layout.specs.Outlines.{assign_outlined, entries_outlined, expr_outlined, line_outlined, value_outlined};
+ghost use Rattle.toml_layout.specs.Parts.{parts_outlined};
 ghost use Rattle.toml_working.specs.Writing.{SpellAll, SpellsLine, SpellsSlot, Writes, WritesOut};
 
 use crate::lines::{Body, Line, Slot};
@@ -181,7 +182,7 @@ impl<'t> Pieces<'t> {
     }
 
     fn gap(&mut self, gap: &Gap<'t>) -> Result<(), AllocError>
-        ensures { Writes (gap_text gap.now) self.old self.new result }
+        ensures { Writes (parts_outlined (gap_read gap.now)) self.old self.new result }
     {
         for part in &gap.parts {
             self.leaf(part.leaf())?;

@@ -5,7 +5,7 @@ use Rattle.std.specs.Prelude.{option_copied, option_map, slice_get}
 use Rattle.toml_lists.specs.Gaps.{items}
 use Rattle.toml_lists.proofs.Proved.{some_at}
 use Rattle.toml_layout.specs.declared.tree.Value.TheViews.{out-Entries}
-use Rattle.toml_layout.specs.OpenOutlines.{entry, gap_text}
+use Rattle.toml_layout.specs.OpenOutlines.{entry, gap_read}
 use Rattle.toml_layout.specs.Outlines.{comma_if}
 use Rattle.toml_working.proofs.EntriesOut.{drop_got, entry_passed, entries_ended, entries_closed, entries_whole, few}
 use Rattle.toml_working.proofs.pieces.Pieces.+writing.Goals as goal
@@ -15,7 +15,7 @@ pub entries-loop-index-preserved : goal.entries-loop-index-preserved
 entries-loop-index-preserved t c =
     let so_far = c.loop-index.invariant in
     let all = items (out-Entries c.args.entries.now).list in
-    let end = option_map gap_text (out-Entries c.args.entries.now).end in
+    let end = option_map gap_read (out-Entries c.args.entries.now).end in
     let i = c.loop-index.index in
     let low : i < length all = omega (arith, c.loop-index-test.true, c.len-index-end.ensures.within) in
     elim c.match-get.branch [
@@ -47,7 +47,7 @@ pub entries-returns-in_ok-gap : goal.entries-returns-in_ok-gap
 entries-returns-in_ok-gap t c =
     let so_far = c.loop-index.invariant in
     let all = items (out-Entries c.args.entries.now).list in
-    let end = option_map gap_text (out-Entries c.args.entries.now).end in
+    let end = option_map gap_read (out-Entries c.args.entries.now).end in
     let i = c.loop-index.index in
     let comma : c.if-is_behind-2.self.out ≡ c.loop-index.self.out ++ comma_if c.loop-index.is_behind = elim c.if-is_behind-2.branch [
       | entries-then-is_behind-2+in_ok-symbol-2 w ↦ rw (w.self-is, w.if-is_behind-2.true) w.in_ok-symbol-2.ensures.1
@@ -59,8 +59,8 @@ entries-returns-in_ok-gap t c =
     ] in
     let past : length all ≤ i = omega (arith, c.loop-index-test.false, c.len-index-end.ensures.exact (few c.args.entries.now)) in
     let none : map entry (drop i all) ≡ [] = ap (map entry) (drop_all i all past) in
-    let some = ap (option_map gap_text) c.in-Some-end.is in
-    let written = entries_closed c.loop-index.is_behind (map entry (drop i all)) (map entry all) end (gap_text c.in-Some-end.end)
+    let some = ap (option_map gap_read) c.in-Some-end.is in
+    let written = entries_closed c.loop-index.is_behind (map entry (drop i all)) (map entry all) end (gap_read c.in-Some-end.end)
     c.args.self.now.out c.loop-index.self.out c.if-is_behind-2.self.out c.gap.new.self.out none some comma c.in_ok-gap.ensures.1 so_far.1 in
     (c.in_ok-gap.ensures.0 ∙ before, written ∙ entries_whole c.args.entries.now all c.args.self.now.out refl)
 
@@ -68,10 +68,10 @@ pub entries-returns-in_default-end : goal.entries-returns-in_default-end
 entries-returns-in_default-end t c =
     let so_far = c.loop-index.invariant in
     let all = items (out-Entries c.args.entries.now).list in
-    let end = option_map gap_text (out-Entries c.args.entries.now).end in
+    let end = option_map gap_read (out-Entries c.args.entries.now).end in
     let i = c.loop-index.index in
     let past : length all ≤ i = omega (arith, c.loop-index-test.false, c.len-index-end.ensures.exact (few c.args.entries.now)) in
     let none : map entry (drop i all) ≡ [] = ap (map entry) (drop_all i all past) in
-    let bare : end ≡ None = ap (option_map gap_text) c.in_default-end.is in
+    let bare : end ≡ None = ap (option_map gap_read) c.in_default-end.is in
     let written = entries_ended c.loop-index.is_behind (map entry (drop i all)) (map entry all) end c.args.self.now.out c.loop-index.self.out none bare so_far.1 in
     (so_far.0, written ∙ entries_whole c.args.entries.now all c.args.self.now.out refl)
