@@ -18,14 +18,16 @@ fn is_digit(byte: Option<&u8>, mark: u8) -> bool {
 
 /// Whether a mark stands in a number anywhere but between two digits.
 fn stands_apart(run: &[u8], mark: u8) -> bool {
-    let mut before = None;
-    let mut left = run;
-    while let Some((byte, rest)) = left.split_first() {
-        if *byte == mark && !(is_digit(before, mark) && is_digit(rest.first(), mark)) {
+    for (at, byte) in run.iter().enumerate() {
+        let before = match at.checked_sub(1) {
+            Some(place) => run.get(place),
+            None => None,
+        };
+        if *byte == mark
+            && !(is_digit(before, mark) && is_digit(run.get(at.saturating_add(1)), mark))
+        {
             return true;
         }
-        before = Some(byte);
-        left = rest;
     }
     false
 }
