@@ -297,16 +297,21 @@ def opened_so(words, file, refusal, at):
     return [asked(words, file, Outcome(status_of(words, refusal), b'', wanted, {}))]
 
 
+def saying(said):
+    """These characters, the rest of their line where they do not end it, and lines behind it."""
+    return re.escape(said) + (b'' if said.endswith(b'\n') else rb'[^\n]*\n') + rb'([^\n]+\n)*'
+
+
 def told(words, file, refusal, said):
     """The explanation has these characters."""
-    wanted = shape(re.escape(refusal) + rb'\n[^\n]+: [\s\S]*' + re.escape(said) + rb'[\s\S]*\n')
+    wanted = shape(re.escape(refusal) + rb'\n[^\n]+: [\s\S]*' + saying(said))
     return [asked(words, file, Outcome(status_of(words, refusal), b'', wanted, {}))]
 
 
 def told_of_edits(file, edits, refusal, said):
     """So too of `edit`, where it explains."""
     files = {'FILE': file, 'EDITS': edits}
-    wanted = shape(re.escape(refusal) + rb'\nFILE:[^\n]*' + re.escape(said) + rb'[\s\S]*\n')
+    wanted = shape(re.escape(refusal) + rb'\nFILE:[^\n]*' + saying(said))
     return [Run(words.split(), files, Outcome(1, b'', wanted, {}))
             for words in ('apply FILE EDITS', 'edit FILE EDITS OUT CERT --explain')]
 

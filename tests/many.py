@@ -5,8 +5,9 @@
 
 - Lists of 10,000 edits on texts that this script makes. The text that one edit after the other would give is told by a model:
   a list of lines, or of elements. `edit` must write that text, `verify` must say yes, and `certify` must find its certificate.
-- Such a list takes at most 40 times what its first edit takes, in `edit` and in `verify`. It takes some ten times that where each
-  line asks the tree of what the list does, and hundreds of times where each line asks each edit.
+- Such a list takes at most 40 times what its first edit takes, in `edit` and in `verify`, and in `certify` of a text with a line
+  that no edit asks for. It takes a few times that where each line asks the tree of what the list does, and hundreds of times where
+  each line asks each edit.
 - COUNT lists, 40 where it is not given, of 50 random edits on random documents: `edit` must write what 50 runs of one edit
   write, and `verify` must say yes.
 
@@ -36,6 +37,7 @@ class Keys:
 
     def __init__(self, at, number):
         self.at, self.lines, self.fresh = at, [[f'key_{one}', str(one)] for one in range(number)], 0
+        self.freed = []
 
     def text(self):
         header = f'[{self.at[0]}]\n' if self.at else ''
@@ -46,6 +48,12 @@ class Keys:
         place %= len(self.lines)
         name, new = self.lines[place][0], f'new_{self.fresh}'
         self.fresh += 1
+        # again: what is new takes a name that an edit before has freed, where there is one
+        is_again, op = op.endswith(' again'), op.removesuffix(' again')
+        if is_again and self.freed:
+            new = self.freed.pop()
+        if op in ('remove', 'rename'):
+            self.freed.append(name)
         if op == 'insert':
             self.lines.append([new, '0x1F'])
             return {'op': op, 'at': self.at + [new], 'value': '0x1F'}
@@ -82,6 +90,49 @@ class Tables:
         made = keys.edit(op, place)
         keys.at = []
         return made
+
+
+class Renamed:
+    """Sections of three keys each, of tables that edits rename, and then name by their new names."""
+
+    def __init__(self, number):
+        self.tables = Keys([], number)
+        self.keys = {name: Keys([], 3) for name, _ in self.tables.lines}
+
+    def text(self):
+        return ''.join(f'[{name}]\n{self.keys[name].text()}' for name, _ in self.tables.lines)
+
+    def edit(self, op, place):
+        name = self.tables.lines[place % len(self.tables.lines)][0]
+        if op == 'set':
+            keys = self.keys[name]
+            keys.at = [name]
+            made = keys.edit(op, place)
+            keys.at = []
+            return made
+        made = self.tables.edit(op, place)
+        self.keys[made['to']] = self.keys.pop(name)
+        return made
+
+
+class Headers:
+    """Header lines put in at the end: of new tables, or of new elements of an array of tables."""
+
+    def __init__(self, number):
+        self.before = ''.join(f'[[a]]\nkey = {one}\n' for one in range(number))
+        self.count, self.behind = number, []
+
+    def text(self):
+        return self.before + ''.join(self.behind)
+
+    def edit(self, op, place):
+        if op == 'element':
+            self.count += 1
+            self.behind.append('[[a]]\n')
+            return {'op': op, 'at': ['a', self.count - 1]}
+        name = f'table_{len(self.behind)}'
+        self.behind.append(f'[{name}]\n')
+        return {'op': op, 'at': [name]}
 
 
 class Elements:
@@ -132,6 +183,10 @@ def cases():
         yield f'table, mixed, {layout}', lambda: Keys(['t'], LINES), layout, mixed, anywhere
         yield f'tables, mixed, {layout}', lambda: Tables(False, LINES // 4), layout, mixed, anywhere
         yield f'array tables, mixed, {layout}', lambda: Tables(True, LINES // 4), layout, mixed, anywhere
+    again = ['rename', 'remove', 'rename again', 'insert again', 'insert again']
+    yield 'keys, names taken again', lambda: Keys([], LINES), 'plain', again, anywhere
+    yield 'tables, renamed', lambda: Renamed(LINES // 4), 'plain', ['set', 'rename', 'rename again'], anywhere
+    yield 'header lines', lambda: Headers(LINES // 4), 'plain', ['section', 'element'], anywhere
     kinds = ['set', 'insert', 'remove', 'insert']
     for name, where in (('front', front), ('middle', middle), ('anywhere', anywhere)):
         yield f'elements, {name}, plain', lambda: Elements(False, LINES), 'plain', kinds, where
@@ -197,14 +252,15 @@ def long_list(program, case):
         return f'{name}: {fault}' if fault else None
 
 
-def seconds(runs, *words):
-    """The processor time of a run, the better one of two, in seconds."""
+def seconds(runs, wanted, *words):
+    """The processor time of a run that ends with the status, the better one of two, in seconds."""
     took = []
     for _ in range(2):
-        child = subprocess.Popen([runs.program, *words], cwd=runs.folder, stdout=subprocess.DEVNULL, stdin=subprocess.DEVNULL)
+        child = subprocess.Popen([runs.program, *words], cwd=runs.folder, stdout=subprocess.DEVNULL, stdin=subprocess.DEVNULL,
+                                 stderr=subprocess.DEVNULL)
         _, status, used = os.wait4(child.pid, 0)
         child.returncode = os.waitstatus_to_exitcode(status)
-        took.append(used.ru_utime + used.ru_stime if child.returncode == 0 else float('inf'))
+        took.append(used.ru_utime + used.ru_stime if child.returncode == wanted else float('inf'))
     return min(took)
 
 
@@ -214,14 +270,16 @@ def slow_list(program, case):
     rng, model = random.Random(name), made()
     before = model.text()
     edits = [model.edit(rng.choice(kinds), where(rng, done)) for done in range(MANY)]
-    took = {'edit': [], 'verify': []}
+    took = {'edit': [], 'verify': [], 'certify': []}
     with tempfile.TemporaryDirectory() as folder:
         runs = Runs(program, folder)
         runs.put('F', before)
         for count in (1, MANY):
             runs.put('E', json.dumps(edits[:count]))
-            for command, times in took.items():
-                times.append(seconds(runs, command, 'F', 'E', 'A', 'C'))
+            for command in ('edit', 'verify'):
+                took[command].append(seconds(runs, 0, command, 'F', 'E', 'A', 'C'))
+            runs.put('B', runs.bytes_of('A').decode() + '# unasked\n')
+            took['certify'].append(seconds(runs, 1, 'certify', 'F', 'E', 'B'))
     slow = [f'{command}: {times[1]:.2f} s, one {times[0]:.3f} s' for command, times in took.items() if not times[1] <= TIMES * times[0]]
     return f'{name}: {"; ".join(slow)}' if slow else None
 

@@ -1,8 +1,8 @@
 -- What stands in data of which an array is held open.
-use Rattle.std.proofs.Common.{◌≡◌, ◌∙◌, ◌-◌, ◌<◌, ◌⊎◌, inl, inr, ℕ, Bool, true, false, List, [], ◌∷◌, ◌++◌, append-nil, drop, length, nat_eq, vec_len, Option, Some, None, IsSome, IsTrue, Vec, Global, refl, sym, ap, subst, subst₂, true≢false, arith}
-use Rattle.std.proofs.lemmas.Bool.{cases_lt}
+use Rattle.std.proofs.Common.{◌≡◌, ◌∙◌, ◌-◌, ◌<◌, ℕ, Bool, true, false, List, [], ◌∷◌, ◌++◌, drop, length, nat_eq, vec_len, Option, Some, None, MatchOption, is_some, IsSome, IsTrue, Vec, Global, refl, sym, ap, append_assoc, subst, subst₂, true≢false, arith}
 use Rattle.std.proofs.lemmas.Bool.Decides.{nat_tests}
 use Rattle.std.proofs.lemmas.List.{drop_at, length-append}
+use Rattle.std.specs.Borrow.{Bor}
 use mathlib.Core.Path.{fun_ext}
 use Rattle.toml_lists.specs.Gaps.{items}
 use Rattle.toml_names.specs.declared.model.address.Step.{Step}
@@ -10,10 +10,12 @@ use Rattle.toml_names.specs.declared.model.address.Step.TheVariants.{Index}
 use Rattle.toml_names.specs.declared.model.datum.Datum.{Datum, Array}
 use Rattle.toml_names.specs.model.Addresses.{Address, IsAbove, element, is_above}
 use Rattle.toml_names.specs.model.Data.{Kinds, kind_at}
-use Rattle.toml_names.proofs.Proved.{above_is_above}
+use Rattle.toml_names.proofs.Proved.{above_is_above, has_kind}
+use Rattle.toml_edits.specs.declared.draft.Draft.{Draft}
 use Rattle.toml_edits.specs.declared.open_array.OpenArray.{OpenArray}
 use Rattle.toml_edits.specs.Changed.{below}
-use Rattle.toml_edits.specs.Drafts.{HasOne, IsOnlyElement, IsOpenFor, IsRefilled, StandAt, elements_at, filled, is_array, with_open}
+use Rattle.toml_edits.specs.Drafts.{HasOne, IsOnlyElement, IsOpenFor, IsReadyAt, IsRefilled, IsTurned, StandAt, change_there, elements_at, filled, is_array, with_open}
+use Rattle.toml_edits.specs.Edits.{place}
 use Rattle.toml_edits.proofs.LastStep.{same_parent}
 use Rattle.toml_edits.proofs.OpenElements.{array_has, past, refilled, stand_there, within}
 
@@ -33,11 +35,18 @@ behind_is q at steps s r is cut = cut ∙ ap (drop (length q)) is ∙ drop_at q 
 pub some_behind : (q at steps : Address) → IsAbove q at → steps ≡ drop (length q) at → 0 < length steps
 some_behind q at steps (s, r, is) cut = let all = ap length (behind_is q at steps s r is cut) in omega (arith, all)
 
-pub found_behind : (q at steps : Address) (ds : List Datum) (f : Kinds) → is_array (f q) ≡ true → IsAbove q at → steps ≡ drop (length q) at → elements_at ds (steps ++ []) ≡ filled q ds f at
-found_behind q at steps ds f there (s, r, is) cut =
-    ap (elements_at ds) (append-nil steps ∙ behind_is q at steps s r is cut) ∙ sym (ap (filled q ds f) is ∙ stand_there q ds f there (s ∷ r))
+pub found_behind : (q at steps : Address) (ds : List Datum) (f : Kinds) → is_array (f q) ≡ true → IsAbove q at → steps ≡ drop (length q) at → (rest : Address) → elements_at ds (steps ++ rest) ≡ filled q ds f (at ++ rest)
+found_behind q at steps ds f there (s, r, is) cut rest =
+    ap (λ (b : Address). elements_at ds (b ++ rest)) (behind_is q at steps s r is cut)
+    ∙ sym (ap (λ (b : Address). filled q ds f (b ++ rest)) is ∙ ap (filled q ds f) (append_assoc q (s ∷ r) rest) ∙ stand_there q ds f there (s ∷ (r ++ rest)))
 
 -- ---- arrays of one element
+
+-- one whose first element is there, and no second one
+just_one : (ds : List Datum) → HasOne (elements_at ds) → length ds ≡ 1
+just_one [] (first, none) = cc
+just_one (d ∷ []) (first, none) = refl
+just_one (d ∷ e ∷ ds) (first, none) = absurd (true≢false (sym (has_kind e) ∙ ap is_some none))
 
 pub one_array : (v : Vec Datum Global) (n : ℕ) → n ≡ vec_len v → IsTrue (nat_eq n 1) → HasOne (kind_at (Array v))
 one_array v n is one =
@@ -45,6 +54,12 @@ one_array v n is one =
       subst IsSome (sym (array_has v (Index 0 ∷ []))) (within v.items 0 (omega (arith, e))),
       array_has v (Index 1 ∷ []) ∙ past v.items 1 [] (omega (arith, e)),
     )
+
+pub array_one : (v : Vec Datum Global) (n : ℕ) → n ≡ vec_len v → HasOne (kind_at (Array v)) → IsTrue (nat_eq n 1)
+array_one v n is (first, none) =
+    let one : length v.items ≡ 1 = just_one v.items (subst IsSome (array_has v (Index 0 ∷ [])) first, sym (array_has v (Index 1 ∷ [])) ∙ none) in
+    let same : n ≡ 1 = (let ok = v.ok.0 in omega (arith, is, one, ok)) in
+    ap (λ k. nat_eq k 1) same
 
 pub only_open : (a : OpenArray) (root : Kinds) (at above : Address) → at ≡ element above 0 → IsOpenFor a root at → length (items a.elements) ≡ 1 → IsOnlyElement (with_open (Some a) root) at
 only_open a root at above is ((s, one), there) single =
@@ -56,6 +71,35 @@ only_open a root at above is ((s, one), there) single =
       subst IsSome (sym (ap (filled a.at ds root) here ∙ stand_there a.at ds root there (Index 0 ∷ []))) (within ds 0 (omega (arith, single))),
       stand_there a.at ds root there (Index 1 ∷ []) ∙ past ds 1 [] (omega (arith, single)),
     )
+
+pub open_only : (a : OpenArray) (root : Kinds) (at : Address) → IsOpenFor a root at → IsOnlyElement (with_open (Some a) root) at → length (items a.elements) ≡ 1
+open_only a root at ((s, one), there) (q, is, first, none) =
+    let ds = items a.elements in
+    let same : a.at ≡ q = same_parent a.at q s (Index 0) (sym one ∙ is) in
+    let here : at ≡ element a.at 0 = is ∙ ap (λ (p : Address). element p 0) (sym same) in
+    just_one ds (
+      subst IsSome (ap (filled a.at ds root) here ∙ stand_there a.at ds root there (Index 0 ∷ [])) first,
+      sym (stand_there a.at ds root there (Index 1 ∷ [])) ∙ ap (λ (p : Address). filled a.at ds root (element p 1)) same ∙ none,
+    )
+
+-- ---- ready for an edit
+
+pub ready_closed : (d : Draft) (at : Address) → d.array ≡ None → IsReadyAt d at
+ready_closed d at none = subst (λ o. MatchOption o (Unit {0}) (λ a. IsOpenFor a (kind_at d.«data».root) at)) (sym none) tt
+
+by_array : (o : Option OpenArray) (root : Kinds) (q at : Address) (i : ℕ) → at ≡ element q i → MatchOption o (Unit {0}) (λ a. (a.at ≡ q) × (is_array (root a.at) ≡ true)) → MatchOption o (Unit {0}) (λ a. IsOpenFor a root at)
+by_array None root q at i is turned = tt
+by_array (Some a) root q at i is (same, there) = ((Index i, is ∙ ap (λ (p : Address). element p i) (sym same)), there)
+
+pub ready_turned : (d : Draft) (q at : Address) (i : ℕ) → at ≡ element q i → IsTurned d q → IsReadyAt d at
+ready_turned d q at i is turned = by_array d.array (kind_at d.«data».root) q at i is turned
+
+pub ready_open : (d : Draft) (at : Address) (a : OpenArray) → d.array ≡ Some a → IsReadyAt d at → IsOpenFor a (kind_at d.«data».root) at
+ready_open d at a is ready = subst (λ o. MatchOption o (Unit {0}) (λ b. IsOpenFor b (kind_at d.«data».root) at)) is ready
+
+pub place_there : (at : Address) (value : Option (Bor (List ℕ))) → place (change_there at value) ≡ at
+place_there at None = refl
+place_there at (Some text) = refl
 
 -- ---- edits
 

@@ -1,15 +1,13 @@
 -- Edits of an open array.
-use Rattle.std.proofs.Common.{◌≡◌, ◌∙◌, ◌<◌, ◌≤◌, ℕ, List, [], ◌∷◌, ◌++◌, append-nil, length, insert, inr, remove, Option, Some, None, IsSome, is_some, Bool, true, false, refl, sym, ap, subst, arith}
+use Rattle.std.proofs.Common.{◌≡◌, ◌∙◌, ◌<◌, ◌≤◌, ℕ, List, [], ◌∷◌, ◌++◌, append-nil, length, insert, inr, remove, Some, None, IsSome, is_some, refl, sym, ap, subst, arith}
 use mathlib.Core.Path.{fun_ext}
 use Rattle.toml_lists.specs.Gaps.{items}
 use Rattle.toml_lists.specs.declared.gap_list.GapList.{GapList}
 use Rattle.toml_tree.specs.declared.profile.Profile.{Profile}
-use Rattle.toml_names.specs.declared.model.address.Step.{Step}
-use Rattle.toml_names.specs.declared.model.address.Step.TheVariants.{Name, Index}
+use Rattle.toml_names.specs.declared.model.address.Step.TheVariants.{Index}
 use Rattle.toml_names.specs.declared.model.datum.Datum.{Datum}
 use Rattle.toml_names.specs.model.Addresses.{Address, element}
-use Rattle.toml_names.specs.model.Data.{Kinds, kind_at, kind_in}
-use Rattle.toml_names.specs.mentions.Mentions.{an_array}
+use Rattle.toml_names.specs.model.Data.{Kinds, kind_at}
 use Rattle.toml_edits.specs.declared.fault.EditFault.TheVariants.{BadValue, IndexOutside, NoSuchPlace}
 use Rattle.toml_edits.specs.After.{IsAfter, Moves, nothing}
 use Rattle.toml_edits.specs.Carry.{carry_below, down_above, inserting, parted, removing, up_from}

@@ -73,6 +73,10 @@ IsOpenFor a root at = ((s : Step) × (at ≡ a.at ++ s ∷ [])) × (is_array (ro
 abbrev pub IsTurned : Draft → Address → Type 0
 IsTurned d q = MatchOption d.array (Unit {0}) (λ a. (a.at ≡ q) × (is_array (kind_at d.«data».root a.at) ≡ true))
 
+-- no array is open, or one of which the address is an element's, where the data have that array
+abbrev pub IsReadyAt : Draft → Address → Type 0
+IsReadyAt d at = MatchOption d.array (Unit {0}) (λ a. IsOpenFor a (kind_at d.«data».root) at)
+
 -- ---- arrays of one element
 
 -- there is a first element, and no second one

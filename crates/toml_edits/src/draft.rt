@@ -1,10 +1,10 @@
 //! Data while edits are made on them, one after the other.
-ghost use Rattle.std.specs.Prelude.{◌≡◌, [], ℕ, None, IfErr, IfOk, IsTrue, OnErr, OnOk, option_copied, true};
+ghost use Rattle.std.specs.Prelude.{◌≡◌, ◌↔◌, ◌++◌, [], ℕ, None, IfErr, IfOk, IsTrue, OnErr, OnOk, option_copied, true};
 ghost use Rattle.toml_names.specs.model.Addresses.{Address, element};
 ghost use Rattle.toml_names.specs.model.Data.{kind_at, kind_in};
 ghost use Rattle.toml_edits.specs.Applied.{IsApplied, IsRefused};
-ghost use Rattle.toml_edits.specs.Drafts.{HasOne, IsOfElement, IsOnlyElement, IsPlaced, IsTurned, drafted, is_array};
-ghost use Rattle.toml_edits.specs.Edits.{change};
+ghost use Rattle.toml_edits.specs.Drafts.{HasOne, IsOfElement, IsOnlyElement, IsPlaced, IsReadyAt, IsTurned, drafted, is_array};
+ghost use Rattle.toml_edits.specs.Edits.{change, place as place_of};
 
 use crate::applying::apply_in;
 use crate::edit::Edit;
@@ -63,7 +63,8 @@ impl Draft {
 
     /// Makes ready for an edit, so that what stands at its place can be looked at. The data stay the same.
     pub fn turn_to(&mut self, alloc: Global, edit: &Edit) -> Result<(), AllocError>
-        ensures { (at : Address) → drafted self.new at ≡ drafted self.old at }
+        ensures ready { OnOk result (IsReadyAt self.new (place_of (change edit.now))) }
+        ensures same { (at : Address) → drafted self.new at ≡ drafted self.old at }
     {
         match of_element(edit) {
             Some(element) => self.turn_to_element(alloc, element),
@@ -71,9 +72,11 @@ impl Draft {
         }
     }
 
-    /// What stands at the address. Of what an open array stands in, and of that array, this tells no more than what kind it is.
+    /// What stands at the address. Of what an open array stands in, and of that array, this tells no more than what kind it is;
+    /// whoever has turned to an edit there is told all.
     pub fn found(&self, at: &Address) -> Option<&Datum>
-        ensures { kind_in (option_copied result) [] ≡ drafted self.now at.now }
+        ensures kind { kind_in (option_copied result) [] ≡ drafted self.now at.now }
+        ensures part { IsReadyAt self.now at.now → (rest : Address) → kind_in (option_copied result) rest ≡ drafted self.now (at.now ++ rest) }
     {
         match &self.array {
             Some(array) => array.found(&self.data.root, at),
@@ -81,9 +84,10 @@ impl Draft {
         }
     }
 
-    /// Whether the address is that of the only element of an array.
+    /// Whether the address is seen to be that of the only element of an array. Whoever has turned to an edit there sees it.
     pub fn is_only(&self, at: &Address) -> bool
-        ensures { IsTrue result → IsOnlyElement (drafted self.now) at.now }
+        ensures yes { IsTrue result → IsOnlyElement (drafted self.now) at.now }
+        ensures seen { IsReadyAt self.now at.now → IsOnlyElement (drafted self.now) at.now → IsTrue result }
     {
         match at.steps().split_last() {
             Some((Step::Index(index), above)) => *index == 0 && self.has_one(at, above),
@@ -94,7 +98,8 @@ impl Draft {
     /// Whether the array at the steps, right above the address of its first element, has no other one.
     fn has_one(&self, at: &Address, above: &[Step]) -> bool
         requires { at.now ≡ element above.now 0 }
-        ensures { IsTrue result → IsOnlyElement (drafted self.now) at.now }
+        ensures yes { IsTrue result → IsOnlyElement (drafted self.now) at.now }
+        ensures seen { IsReadyAt self.now at.now → IsOnlyElement (drafted self.now) at.now → IsTrue result }
     {
         match &self.array {
             Some(array) => array.is_open_for(&self.data.root, at) && array.has_one(),
@@ -228,7 +233,7 @@ fn has_many(found: Option<&Datum>) -> bool
 
 /// Whether it is an array of one element.
 fn is_single(found: Option<&Datum>) -> bool
-    ensures { IsTrue result → HasOne (kind_in (option_copied found.entry)) }
+    ensures { IsTrue result ↔ HasOne (kind_in (option_copied found.entry)) }
 {
     match found {
         Some(datum) => has_one_element(datum),
@@ -238,7 +243,7 @@ fn is_single(found: Option<&Datum>) -> bool
 
 /// Whether the datum is an array of one element.
 fn has_one_element(datum: &Datum) -> bool
-    ensures { IsTrue result → HasOne (kind_at datum.now) }
+    ensures { IsTrue result ↔ HasOne (kind_at datum.now) }
 {
     match datum {
         Datum::Array(items) => items.len() == 1,

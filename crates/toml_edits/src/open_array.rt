@@ -1,5 +1,5 @@
 //! An array of which the edits put in or take out elements, one after the other.
-ghost use Rattle.std.specs.Prelude.{◌≡◌, ◌<◌, ◌≤◌, ◌++◌, ◌∷◌, [], IfErr, IfSome, IsTrue, OnErr, OnOk, drop, length, option_copied};
+ghost use Rattle.std.specs.Prelude.{◌≡◌, ◌↔◌, ◌<◌, ◌≤◌, ◌++◌, ◌∷◌, [], IfErr, IfSome, IsTrue, OnErr, OnOk, drop, length, option_copied};
 ghost use Rattle.toml_names.specs.model.Addresses.{Address, element};
 ghost use Rattle.toml_names.specs.declared.model.address.Step.{Step as AnyStep};
 ghost use Rattle.toml_names.specs.model.Data.{Kinds, kind_at, kind_in};
@@ -156,7 +156,8 @@ impl OpenArray {
     /// What stands at the address in data of which this is the root, the elements being put back. Of what the array stands in, and of
     /// the array, this tells no more than what kind it is.
     pub(crate) fn found<'a>(&'a self, root: &'a Datum, at: &Address) -> Option<&'a Datum>
-        ensures { kind_in (option_copied result) [] ≡ filled self.now.at (items self.now.elements) (kind_at root.now) at.now }
+        ensures kind { kind_in (option_copied result) [] ≡ filled self.now.at (items self.now.elements) (kind_at root.now) at.now }
+        ensures part { IsOpenFor self.now (kind_at root.now) at.now → (rest : Address) → kind_in (option_copied result) rest ≡ filled self.now.at (items self.now.elements) (kind_at root.now) (at.now ++ rest) }
     {
         if !has_array(root, self.at.steps()) {
             return root.at(at);
@@ -169,14 +170,14 @@ impl OpenArray {
 
     /// Whether the address is seen to be one step below the array, and that is in data of which this is the root.
     pub(crate) fn is_open_for(&self, root: &Datum, at: &Address) -> bool
-        ensures { IsTrue result → IsOpenFor self.now (kind_at root.now) at.now }
+        ensures { IsTrue result ↔ IsOpenFor self.now (kind_at root.now) at.now }
     {
         is_child_of(at, &self.at) && has_array(root, self.at.steps())
     }
 
     /// Whether it has one element.
     pub(crate) fn has_one(&self) -> bool
-        ensures { IsTrue result → length (items self.now.elements) ≡ 1 }
+        ensures { IsTrue result ↔ (length (items self.now.elements) ≡ 1) }
     {
         self.elements.has(0) && !self.elements.has(1)
     }
@@ -184,7 +185,7 @@ impl OpenArray {
 
 /// Whether the address is seen to be one step below the other.
 fn is_child_of(at: &Address, above: &Address) -> bool
-    ensures { IsTrue result → (s : AnyStep) × (at.now ≡ above.now ++ s ∷ []) }
+    ensures { IsTrue result ↔ ((s : AnyStep) × (at.now ≡ above.now ++ s ∷ [])) }
 {
     let fronts = at.steps().len().saturating_sub(1);
     fronts == above.steps().len() && above.is_above(at)

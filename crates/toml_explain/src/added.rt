@@ -2,24 +2,18 @@
 ghost use Rattle.std.specs.Prelude.{IfOk, string_bytes};
 ghost use Rattle.toml_explain.specs.Openings.{OpensInFile};
 
+use crate::carrying::Carrier;
 use crate::lost::unit_words;
-use crate::pairs::{Pairing, Side, bytes_of, carried, pair_units};
+use crate::pairs::{Pairing, Side, bytes_of, pair_units};
 use crate::reason::{Judged, plain};
 use crate::telling::told_at;
 use std::alloc::{AllocError, Global};
 use std::collections::BTreeMap;
 use toml_edits::{Edit, place};
-use toml_names::{Address, Name, Step};
+use toml_names::{Address, AddressSet, MAX_STEPS, Name, Step};
 use toml_text::{Source, Span};
 use toml_tree::{Profile, parse_value_in};
 use toml_units::{Unit, UnitKind, units_inside};
-
-/// What an edit owes: what stands at or above an address, and all below it unless it is a removal.
-#[derive(Drop)]
-struct Debt {
-    at: Address,
-    below: bool,
-}
 
 /// The address of the steps.
 fn address_of(alloc: Global, steps: &[Step]) -> Result<Address, AllocError> {
@@ -45,41 +39,50 @@ fn result_of(alloc: Global, edit: &Edit) -> Result<Option<Address>, AllocError> 
     }
 }
 
-/// What the edits owe, each result carried through the edits that follow.
-fn debts(alloc: Global, edits: &[Edit]) -> Result<Vec<Debt>, AllocError> {
-    let mut debts = Vec::new(alloc);
-    for (index, edit) in edits.iter().enumerate() {
-        if let Some(made) = result_of(alloc, edit)? {
-            if let Some(at) = carried(alloc, behind(edits, index), &made)? {
-                let below = !matches!(edit, Edit::Remove { .. });
-                debts.push(Debt { at, below })?;
+/// What the edits owe, each result carried through the edits that follow: all at it and above it, and all below it, unless the edit
+/// is a removal. Nothing stands deeper than `MAX_STEPS`.
+fn debts(alloc: Global, edits: &[Edit]) -> Result<AddressSet, AllocError> {
+    let mut debts = AddressSet::new(alloc);
+    let mut later = Carrier::none(alloc);
+    for index in (0..edits.len()).rev() {
+        let Some(left) = edits.get(index..) else {
+            return Ok(debts);
+        };
+        if let Some(edit) = left.first() {
+            if let Some(at) = owed_at(alloc, edit, &later)? {
+                let is_removal = matches!(edit, Edit::Remove { .. });
+                debts.add_place(at.steps(), !is_removal)?;
             }
         }
+        later = later.with_front(left)?;
     }
     Ok(debts)
 }
 
-/// The edits behind the one with the index.
-fn behind(edits: &[Edit], index: usize) -> &[Edit] {
-    match edits.get(index.saturating_add(1)..) {
-        Some(later) => later,
-        None => &[],
+/// Where the result of an edit stands in the end, if it does.
+fn owed_at(
+    alloc: Global,
+    edit: &Edit,
+    later: &Carrier<'_>,
+) -> Result<Option<Address>, AllocError> {
+    let Some(made) = result_of(alloc, edit)? else {
+        return Ok(None);
+    };
+    let at = later.carry(alloc, &made)?;
+    Ok(at.filter(|at| at.steps().len() <= MAX_STEPS))
+}
+
+/// Whether what edits owe covers an address.
+fn is_owed(debts: &AddressSet, at: &Option<Address>) -> bool {
+    match at {
+        Some(at) => debts.reaches(at.steps()),
+        None => false,
     }
 }
 
 /// Whether an address is the other, or above it.
 fn is_at_or_above(upper: &Address, lower: &Address) -> bool {
     upper.is_same(lower) || upper.is_above(lower)
-}
-
-/// Whether one of the debts covers an address.
-fn is_owed(debts: &[Debt], at: &Option<Address>) -> bool {
-    let Some(at) = at else {
-        return false;
-    };
-    debts.iter().any(|debt| {
-        is_at_or_above(at, &debt.at) || (debt.below && is_at_or_above(&debt.at, at))
-    })
 }
 
 /// The first line that is neither paired nor owed, nor the last one, of no bytes, behind an edit.
@@ -150,17 +153,40 @@ fn all_written<'e>(
 ) -> Result<(Vec<Written<'e>>, Budget<'e>), AllocError> {
     let mut all = Vec::new(alloc);
     let mut budget = BTreeMap::new(alloc);
-    for (index, edit) in edits.iter().enumerate() {
-        if let Some(value) = value_of(edit) {
-            add_comments(alloc, &mut budget, value, profile)?;
-            if let Some(at) = carried(alloc, behind(edits, index), place(edit))? {
-                let mut texts = BTreeMap::new(alloc);
-                add_comments(alloc, &mut texts, value, profile)?;
-                all.push(Written { at, texts })?;
+    let mut later = Carrier::none(alloc);
+    for index in (0..edits.len()).rev() {
+        let Some(left) = edits.get(index..) else {
+            return Ok((all, budget));
+        };
+        if let Some(edit) = left.first() {
+            if let Some(value) = value_of(edit) {
+                add_comments(alloc, &mut budget, value, profile)?;
+                push_written(alloc, &mut all, value, place(edit), &later, profile)?;
             }
         }
+        later = later.with_front(left)?;
     }
     Ok((all, budget))
+}
+
+/// Adds the comments of a value that stands at a place behind an edit, and is carried by the edits that follow.
+fn push_written<'e>(
+    alloc: Global,
+    all: &mut Vec<Written<'e>>,
+    value: &'e str,
+    made: &Address,
+    later: &Carrier<'_>,
+    profile: Profile,
+) -> Result<(), AllocError> {
+    let mut texts = BTreeMap::new(alloc);
+    add_comments(alloc, &mut texts, value, profile)?;
+    if texts.is_empty() {
+        return Ok(());
+    }
+    if let Some(at) = later.carry(alloc, made)? {
+        all.push(Written { at, texts })?;
+    }
+    Ok(())
 }
 
 /// Whether an edit writes a comment that stands in an array or an inline table.

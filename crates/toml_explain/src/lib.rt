@@ -3,12 +3,14 @@
 
 mod absent;
 mod added;
+mod carrying;
 mod data;
 mod differing;
 mod document;
 mod drawing;
 mod edit;
 mod excerpt;
+mod expected;
 mod glyph;
 mod input;
 mod list;

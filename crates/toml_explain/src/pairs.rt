@@ -1,11 +1,12 @@
 //! Which unit of one text goes with which of another.
 ghost use Rattle.std.specs.Prelude.{◌≡◌, IfOk};
 
+use crate::carrying::Carrier;
 use crate::data::{told_names, told_syntax};
 use crate::reason::Judged;
 use std::alloc::{AllocError, Global};
 use toml_checker::outermost;
-use toml_edits::{Edit, carry};
+use toml_edits::Edit;
 use toml_names::{Address, read_names};
 use toml_text::Source;
 use toml_tree::{Profile, parse_in};
@@ -42,22 +43,6 @@ pub(crate) fn bytes_of<'t>(bytes: &'t [u8], unit: &Unit) -> &'t [u8] {
         Some(text) => text,
         None => &[],
     }
-}
-
-/// Where the thing at an address stands behind all edits.
-pub(crate) fn carried(
-    alloc: Global,
-    edits: &[Edit],
-    at: &Address,
-) -> Result<Option<Address>, AllocError> {
-    let mut here = at.copy(alloc)?;
-    for edit in edits {
-        match carry(alloc, edit, &here)? {
-            Some(next) => here = next,
-            None => return Ok(None),
-        }
-    }
-    Ok(Some(here))
 }
 
 /// A text and its units.
@@ -109,9 +94,13 @@ fn is_pair(
 }
 
 /// The address of a unit behind all edits.
-fn carried_unit(alloc: Global, edits: &[Edit], unit: &Unit) -> Result<Option<Address>, AllocError> {
+fn carried_unit(
+    alloc: Global,
+    carrier: &Carrier<'_>,
+    unit: &Unit,
+) -> Result<Option<Address>, AllocError> {
     match &unit.address {
-        Some(at) => carried(alloc, edits, at),
+        Some(at) => carrier.carry(alloc, at),
         None => Ok(None),
     }
 }
@@ -186,12 +175,13 @@ fn searched(
     after: &Side<'_>,
     edits: &[Edit],
 ) -> Result<Pairing, AllocError> {
+    let carrier = Carrier::of(alloc, edits)?;
     let mut kept = no_marks(alloc, &after.units)?;
     let mut lost = None;
     let mut from = 0usize;
     for (place, unit) in before.units.iter().enumerate() {
         if lost.is_none() && outer.get(place) == Some(&true) {
-            let at = carried_unit(alloc, edits, unit)?;
+            let at = carried_unit(alloc, &carrier, unit)?;
             match next_pair(before, unit, &at, after, from) {
                 Some(found) => {
                     mark(&mut kept, found);

@@ -2,28 +2,32 @@
 ghost use Rattle.std.specs.Prelude.{◌≡◌};
 
 use crate::excerpt::at_place;
+use crate::expected::unexpected;
 use crate::token::token_span;
 use std::alloc::{AllocError, Global};
 use toml_text::Span;
 
-/// What a text says that a byte, or the end, may not be.
-fn unexpected(bytes: &[u8], at: usize) -> &'static str {
-    match bytes.get(at) {
-        None => "the text ends where something more is expected",
-        Some(b'\n' | b'\r') => "the line ends where something more is expected",
-        Some(b'A'..=b'Z' | b'a'..=b'z') if is_behind_equals(bytes, at) => {
-            "this is no value of TOML, and a string stands between quotation marks"
-        }
-        Some(_) => "something else is expected here",
+/// Whether a digit stands there, of a number with a prefix a hexadecimal one: an underscore may stand between these.
+fn is_digit(byte: Option<&u8>, mark: u8) -> bool {
+    match byte {
+        Some(byte) if mark == b'_' => byte.is_ascii_hexdigit(),
+        Some(byte) => byte.is_ascii_digit(),
+        None => false,
     }
 }
 
-/// Whether `=` stands before the place, and whitespace or none between.
-fn is_behind_equals(bytes: &[u8], at: usize) -> bool {
-    let Some(front) = bytes.get(..at) else {
-        return false;
-    };
-    front.trim_ascii_end().last() == Some(&b'=')
+/// Whether a mark stands in a number anywhere but between two digits.
+fn stands_apart(run: &[u8], mark: u8) -> bool {
+    let mut before = None;
+    let mut left = run;
+    while let Some((byte, rest)) = left.split_first() {
+        if *byte == mark && !(is_digit(before, mark) && is_digit(rest.first(), mark)) {
+            return true;
+        }
+        before = Some(byte);
+        left = rest;
+    }
+    false
 }
 
 /// What is wrong with a run that is no number.
@@ -37,11 +41,13 @@ fn bad_number(run: &[u8]) -> &'static str {
         [b'0', b'x' | b'o' | b'b', ..] if unsigned.len() != run.len() => {
             "a number with a prefix has no sign"
         }
-        _ if unsigned.contains(&b'_') => {
+        _ if stands_apart(unsigned, b'_') => {
             "this is no number: an underscore stands between two digits"
         }
-        _ if unsigned.contains(&b'.') => "this is no number: digits stand on both sides of a point",
-        _ => "this is no number",
+        _ if stands_apart(unsigned, b'.') => {
+            "this is no number: digits stand on both sides of a point"
+        }
+        _ => "this is no number, and a string stands between quotation marks",
     }
 }
 
@@ -65,13 +71,28 @@ fn bad_character(alloc: Global, bytes: &[u8], at: usize) -> Result<String, Alloc
     }
 }
 
-/// What is wrong with a string: the end of its line or of the text comes first, or else something in it is.
+/// Whether a string on one line, with a backslash for escapes, is closed: bytes behind its first mark.
+fn is_closed(bytes: &[u8]) -> bool {
+    let mut is_escaped = false;
+    for byte in bytes {
+        match byte {
+            b'\n' => return false,
+            b'"' if !is_escaped => return true,
+            _ => is_escaped = *byte == b'\\' && !is_escaped,
+        }
+    }
+    false
+}
+
+/// What is wrong with a string: the end of its line or of the text comes first, or an escape in it is none.
 fn bad_string(bytes: &[u8], at: usize) -> &'static str {
     match bytes.get(at..) {
-        Some([b'"', b'"', b'"', ..] | [b'\'', b'\'', b'\'', ..]) => {
-            "this string is not closed, or has what no string may have"
+        Some([b'"', b'"', b'"', ..]) => "this string is not closed, or has an escape that is none",
+        Some([b'\'', b'\'', b'\'', ..]) => "this string is not closed",
+        Some([b'"', rest @ ..]) if is_closed(rest) => {
+            "a backslash in this string begins no escape; between ' marks it stands for itself"
         }
-        _ => "this string is not closed in its line, or has what no string may have",
+        _ => "this string is not closed in its line",
     }
 }
 
@@ -94,7 +115,7 @@ pub(crate) fn byte_sentence(
     let fixed = match code {
         101 => "from here on the bytes are no UTF-8",
         103 => return bad_character(alloc, bytes, at),
-        104 => unexpected(bytes, at),
+        104 => unexpected(alloc, bytes, at)?,
         105 => bad_string(bytes, at),
         106 => bad_number(token(bytes, at)),
         107 => "an integer lies between -9223372036854775808 and 9223372036854775807",

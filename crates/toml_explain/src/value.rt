@@ -1,5 +1,6 @@
 //! Values of edits that are none (306).
 
+use crate::expected::unexpected_in_value;
 use crate::sentence::{byte_sentence, meant_at};
 use crate::standing::quoted;
 use std::alloc::{AllocError, Global};
@@ -41,12 +42,12 @@ fn as_string(alloc: Global, value: &str) -> Result<String, AllocError> {
     match value.as_bytes() {
         [b'"' | b'\'' | b'[' | b'{', ..] => Ok(String::new(alloc)),
         bytes if bytes.len() > MAX_SHOWN => {
-            String::from_str(alloc, "; --string takes it as a string")
+            String::from_str(alloc, "; `set` and `insert` take it as a string by --string")
         }
         _ => {
             let word = quoted(alloc, value)?;
             format!(in alloc;
-                "; as a string it is {}, or --string takes it so",
+                "; as a string it is {}, and `set` and `insert` take it so by --string",
                 word.as_str()
             )
         }
@@ -58,6 +59,7 @@ fn bad_syntax(alloc: Global, value: &str, fault: SyntaxFault) -> Result<Flaw, Al
     let (code, at) = code_of(fault)?;
     let mut sentence = match (code, at) {
         (104, 0) => String::from_str(alloc, "no value of TOML begins so")?,
+        (104, _) => String::from_str(alloc, unexpected_in_value(alloc, value.as_bytes(), at)?)?,
         _ => byte_sentence(alloc, value.as_bytes(), code, at)?,
     };
     sentence.push_str(as_string(alloc, value)?.as_str())?;

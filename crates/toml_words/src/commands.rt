@@ -122,7 +122,7 @@ pub(crate) fn set_command<'a>(
         flag(
             alloc,
             "parents",
-            "Make the tables that are missing above PLACE"
+            "Make the tables that are missing above PLACE, where it ends in a name"
         ),
         in_place(alloc),
         certificate(alloc),
@@ -152,7 +152,7 @@ pub(crate) fn insert_command<'a>(
         flag(
             alloc,
             "parents",
-            "Make the tables that are missing above PLACE"
+            "Make the tables that are missing above PLACE, where it ends in a name"
         ),
         in_place(alloc),
         certificate(alloc),

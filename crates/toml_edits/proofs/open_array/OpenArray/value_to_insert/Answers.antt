@@ -1,4 +1,4 @@
-use Rattle.std.proofs.Common.{◌≡◌, ◌<◌, ◌≤◌, false, inl, inr, length, rules, true}
+use Rattle.std.proofs.Common.{◌≡◌, ◌<◌, false, inl, inr, length, rules, true}
 use Rattle.std.proofs.lemmas.Bool.{cases_lt}
 use Rattle.toml_lists.specs.Gaps.{items}
 use Rattle.toml_names.specs.declared.model.address.Step.TheVariants.{Index}
