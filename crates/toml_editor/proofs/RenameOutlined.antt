@@ -10,7 +10,7 @@ use Rattle.toml_working.specs.Renaming.{RenameIsOutlined}
 use Rattle.toml_layout.specs.RenameOutlines.{rename_text, rename_dotted, rename_outlined, rename_outline, rename_listed, rename_braced}
 use Rattle.toml_working.specs.Renaming.{rename_part, rename_rest, rename_assign, rename_value, rename_items, rename_pairs}
 use Rattle.toml_layout.specs.SetOutlines.{outlined_names}
-use Rattle.toml_layout.specs.TreeOutlines.{gap_spelled, dotted_outline, assign_outline, value_outline, items_outline, pairs_outline}
+use Rattle.toml_layout.specs.TreeOutlines.{gap_outline, dotted_outline, assign_outline, value_outline, items_outline, pairs_outline}
 use Rattle.toml_editor.proofs.SetOutlined.{names_outlined}
 
 module _ (p : Address) (to : List ℕ) where
@@ -47,19 +47,19 @@ module _ (p : Address) (to : List ℕ) where
 
     items_renamed : (items : Items) (at : Address) (i : ℕ) → items_outline (rename_items p to at i items) ≡ rename_listed p (spelled to) at i (items_outline items)
     items_renamed (Close g) at i = refl
-    items_renamed (Last g v h) at i = ap (λ w. outline.Entry (gap_spelled g) None w (gap_spelled h) (outline.End None)) (value_renamed v (element at i))
+    items_renamed (Last g v h) at i = ap (λ w. outline.Entry (gap_outline g) None w (gap_outline h) (outline.End None)) (value_renamed v (element at i))
     items_renamed (More g v h is) at i =
-        ap₂ (λ w es. outline.Entry (gap_spelled g) None w (gap_spelled h) es) (value_renamed v (element at i)) (items_renamed is at (i + 1))
+        ap₂ (λ w es. outline.Entry (gap_outline g) None w (gap_outline h) es) (value_renamed v (element at i)) (items_renamed is at (i + 1))
 
     pairs_renamed : (pairs : Pairs) (at : Address) → pairs_outline (rename_pairs p to at pairs) ≡ rename_braced p (spelled to) at (pairs_outline pairs)
     pairs_renamed (ClosePairs g) at = refl
     pairs_renamed (LastPair g a v h) at =
-        ap₂ (λ b w. outline.Entry (gap_spelled g) (Some b) w (gap_spelled h) (outline.End None)) (assign_renamed a at)
+        ap₂ (λ b w. outline.Entry (gap_outline g) (Some b) w (gap_outline h) (outline.End None)) (assign_renamed a at)
         (value_renamed v (below at (key_names a.key)) ∙ by_names a v at)
     pairs_renamed (MorePairs g a v h ps) at =
-        ap₂ (λ b (r : outline.EntriesOutline). outline.Entry (gap_spelled g) (Some b) (value_outline (rename_value p to (below at (key_names a.key)) v)) (gap_spelled h) r)
+        ap₂ (λ b (r : outline.EntriesOutline). outline.Entry (gap_outline g) (Some b) (value_outline (rename_value p to (below at (key_names a.key)) v)) (gap_outline h) r)
         (assign_renamed a at) (pairs_renamed ps at)
-        ∙ ap (λ w. outline.Entry (gap_spelled g) (Some (rename_outlined p (spelled to) at (assign_outline a))) w (gap_spelled h) (rename_braced p (spelled to) at (pairs_outline ps)))
+        ∙ ap (λ w. outline.Entry (gap_outline g) (Some (rename_outlined p (spelled to) at (assign_outline a))) w (gap_outline h) (rename_braced p (spelled to) at (pairs_outline ps)))
         (value_renamed v (below at (key_names a.key)) ∙ by_names a v at)
 
 pub rename_is_outlined : RenameIsOutlined

@@ -6,7 +6,7 @@ use Rattle.toml_names.specs.model.Addresses.{Address, same_address, element, bel
 use Rattle.toml_layout.specs.Outlines as outline
 use Rattle.toml_working.specs.Setting.{set_value, set_within, set_items, set_pairs, SetIsOutlined}
 use Rattle.toml_layout.specs.SetOutlines.{outlined_names, set_outline, set_outline_within, set_listed, set_braced}
-use Rattle.toml_layout.specs.TreeOutlines.{gap_spelled, dotted_outline, assign_outline, value_outline, items_outline, pairs_outline}
+use Rattle.toml_layout.specs.TreeOutlines.{gap_outline, dotted_outline, assign_outline, value_outline, items_outline, pairs_outline}
 
 rest_outlined : (ds : List Dotted) → map (λ (d : outline.DottedOutline). spelled_name d.part) (map dotted_outline ds) ≡ rest_names ds
 rest_outlined [] = refl
@@ -44,17 +44,17 @@ module _ (p : Address) (new : Value) where
     items_set : (items : Items) (at : Address) (i : ℕ) → items_outline (set_items p new at i items) ≡ set_listed p (value_outline new) at i (items_outline items)
     items_set (Close g) at i = refl
     items_set (Last g v h) at i =
-        ap (λ w. outline.Entry (gap_spelled g) None w (gap_spelled h) (outline.End None)) (value_set v (element at i) (within_set v (element at i)))
+        ap (λ w. outline.Entry (gap_outline g) None w (gap_outline h) (outline.End None)) (value_set v (element at i) (within_set v (element at i)))
     items_set (More g v h is) at i =
-        ap₂ (λ w es. outline.Entry (gap_spelled g) None w (gap_spelled h) es) (value_set v (element at i) (within_set v (element at i))) (items_set is at (i + 1))
+        ap₂ (λ w es. outline.Entry (gap_outline g) None w (gap_outline h) es) (value_set v (element at i) (within_set v (element at i))) (items_set is at (i + 1))
 
     pairs_set : (pairs : Pairs) (at : Address) → pairs_outline (set_pairs p new at pairs) ≡ set_braced p (value_outline new) at (pairs_outline pairs)
     pairs_set (ClosePairs g) at = refl
     pairs_set (LastPair g a v h) at =
-        ap (λ w. outline.Entry (gap_spelled g) (Some (assign_outline a)) w (gap_spelled h) (outline.End None))
+        ap (λ w. outline.Entry (gap_outline g) (Some (assign_outline a)) w (gap_outline h) (outline.End None))
         (pair_set a v at (within_set v (below at (key_names a.key))))
     pairs_set (MorePairs g a v h ps) at =
-        ap₂ (λ w es. outline.Entry (gap_spelled g) (Some (assign_outline a)) w (gap_spelled h) es)
+        ap₂ (λ w es. outline.Entry (gap_outline g) (Some (assign_outline a)) w (gap_outline h) es)
         (pair_set a v at (within_set v (below at (key_names a.key)))) (pairs_set ps at)
 
 pub set_is_outlined : SetIsOutlined

@@ -2,34 +2,32 @@
 use Rattle.std.proofs.Common.{◌≡◌, ℕ, ◌+◌, Option, Some, None, List, [], ◌∷◌, ◌++◌, map, refl, sym, ap, ap₂, ◌∙◌}
 use Rattle.std.specs.Prelude.{option_map}
 use Rattle.toml_tree.specs.Bare.{bare, bare_blank, bare_comment, bare_dotted, bare_assign, bare_gap_line, bare_gap, bare_value, bare_items, bare_pairs, bare_header, bare_expr, bare_line, bare_lines}
-use Rattle.toml_tree.specs.Spells.{joined, gap_parts}
 use Rattle.toml_tree.specs.Tree.{Piece, Blank, Dotted, Assign, GapLine, Gap, Value, Scalar, Array, Inline, Items, Close, Last, More, Pairs, ClosePairs, LastPair, MorePairs, Header, Expr, BlankLine, KeyValLine, TableLine, ArrayTableLine, Line}
 use Rattle.toml_names.specs.mentions.Mentions.{Named, named_by, root, section, count_tables}
 use Rattle.toml_names.specs.model.Addresses.{Address, element, below}
 use Rattle.toml_names.specs.reader.Names.{header_end, own_address}
 use Rattle.toml_names.proofs.Proved.{key_places_are_not_named, line_places_are_not_named}
 use Rattle.toml_units.specs.Units.{line_base}
+use Rattle.toml_layout.specs.Parts.{Newline}
 use Rattle.toml_layout.specs.Outlines as outline
 use Rattle.toml_layout.specs.Outlines.{AssignOutline, EntriesOutline, ExprOutline}
 use Rattle.toml_working.specs.Standing.{line_stands, standing_from, standing}
 use Rattle.toml_editor.specs.StandingLaws.{PlacesDoNotStand}
-use Rattle.toml_layout.specs.TreeOutlines.{gap_spelled, dotted_outline, assign_outline, value_outline, items_outline, pairs_outline, header_outline, line_of, line_outline}
+use Rattle.toml_layout.specs.TreeOutlines.{comment_part, gap_outline, lines_with, ws_part, dotted_outline, assign_outline, value_outline, items_outline, pairs_outline, header_outline, line_of, line_outline}
 
 -- ---- outlines
 
-gap_lines_bare : (ls : List GapLine) (ws : Piece)
-    → joined (gap_parts (record { lines = map bare_gap_line ls; ws = bare ws })) ≡ joined (gap_parts (record { lines = ls; ws = ws }))
-gap_lines_bare [] ws = refl
-gap_lines_bare (l ∷ ls) ws = by l.blank.comment (gap_lines_bare ls ws)
-  where
-    by : (c : Option Piece) → joined (gap_parts (record { lines = map bare_gap_line ls; ws = bare ws })) ≡ joined (gap_parts (record { lines = ls; ws = ws }))
-        → joined (gap_parts (record { lines = bare_gap_line (record { blank = record { ws = l.blank.ws; comment = c }; newline = l.newline }) ∷ map bare_gap_line ls; ws = bare ws }))
-        ≡ joined (gap_parts (record { lines = record { blank = record { ws = l.blank.ws; comment = c }; newline = l.newline } ∷ ls; ws = ws }))
-    by None more = ap (λ r. l.blank.ws.text ++ (l.newline.text ++ r)) more
-    by (Some p) more = ap (λ r. l.blank.ws.text ++ (p.text ++ (l.newline.text ++ r))) more
+comment_part_bare : (c : Option Piece) → comment_part (bare_comment c) ≡ comment_part c
+comment_part_bare None = refl
+comment_part_bare (Some p) = refl
 
-gap_bare : (g : Gap) → gap_spelled (bare_gap g) ≡ gap_spelled g
-gap_bare g = gap_lines_bare g.lines g.ws
+gap_lines_bare : (ls : List GapLine) (ws : List ℕ) → lines_with (map bare_gap_line ls) ws ≡ lines_with ls ws
+gap_lines_bare [] ws = refl
+gap_lines_bare (l ∷ ls) ws =
+    ap₂ (λ c r. ws_part l.blank.ws.text ++ (c ++ Newline l.newline.text ∷ r)) (comment_part_bare l.blank.comment) (gap_lines_bare ls ws)
+
+gap_bare : (g : Gap) → gap_outline (bare_gap g) ≡ gap_outline g
+gap_bare g = gap_lines_bare g.lines g.ws.text
 
 rest_bare : (ds : List Dotted) → map dotted_outline (map bare_dotted ds) ≡ map dotted_outline ds
 rest_bare [] = refl
@@ -40,12 +38,12 @@ assign_bare a =
     ap (λ r. record { first = a.key.first.text; rest = r; before_equals = a.before_equals.text; after_equals = a.after_equals.text }) (rest_bare a.key.rest)
 
 entry_bare : (g : Gap) (a b : Option AssignOutline) (v : Value) (h : Gap) (es fs : EntriesOutline) → a ≡ b → value_outline (bare_value v) ≡ value_outline v → es ≡ fs
-    → outline.Entry (gap_spelled (bare_gap g)) a (value_outline (bare_value v)) (gap_spelled (bare_gap h)) es
-    ≡ outline.Entry (gap_spelled g) b (value_outline v) (gap_spelled h) fs
+    → outline.Entry (gap_outline (bare_gap g)) a (value_outline (bare_value v)) (gap_outline (bare_gap h)) es
+    ≡ outline.Entry (gap_outline g) b (value_outline v) (gap_outline h) fs
 entry_bare g a b v h es fs assign value rest =
     ap₂ (λ s t. outline.Entry s a (value_outline (bare_value v)) t es) (gap_bare g) (gap_bare h)
-    ∙ ap₂ (λ x w. outline.Entry (gap_spelled g) x w (gap_spelled h) es) assign value
-    ∙ ap (outline.Entry (gap_spelled g) b (value_outline v) (gap_spelled h)) rest
+    ∙ ap₂ (λ x w. outline.Entry (gap_outline g) x w (gap_outline h) es) assign value
+    ∙ ap (outline.Entry (gap_outline g) b (value_outline v) (gap_outline h)) rest
 
 mutual
   value_bare : (v : Value) → value_outline (bare_value v) ≡ value_outline v
