@@ -9,6 +9,7 @@ mod RenameAway
 mod Holders
 mod HeldInside
 mod PairParts
+mod PairMarks
 mod Lying
 mod Opened
 mod OpenedEach

@@ -19,6 +19,7 @@ use Rattle.toml_layout.specs.Leading.{ChangesEntry, LeadsOn}
 use Rattle.toml_layout.specs.OpenOutlines.{Enclosed, entries, value}
 use Rattle.toml_layout.specs.Outlines.{ValueOutline}
 use Rattle.toml_layout.specs.PairPlaces.{PutsPair, last_parts}
+use Rattle.toml_layout.specs.PairRemovals.{TakesPairs}
 use Rattle.toml_layout.specs.Rooms.{PutsItem}
 use Rattle.toml_layout.specs.SettingIn.{SetsIn}
 use Rattle.toml_layout.specs.Takings.{TakesOne}
@@ -87,7 +88,7 @@ ChangesElement layout held.Out i old now = TakesOne layout i old now
 
 abbrev pub ChangesPairs : Layout → Held → Address → Address → Items → Items → Type 0
 ChangesPairs layout (held.Put spelled new) parent steps old now = PutsPair layout (last_parts spelled.now steps) new parent old now
-ChangesPairs layout held.Out parent steps old now = Unit {0}
+ChangesPairs layout held.Out parent steps old now = TakesPairs layout parent steps old now
 
 abbrev pub MakesHeld : Layout → Held → HolderChange
 MakesHeld layout change steps was other = ChangesArray (ChangesElement layout change) steps was other ⊎ ChangesTable (ChangesPairs layout change) steps was other
@@ -98,6 +99,6 @@ PutsHeld layout spelled new steps was other =
     ChangesArray (λ i. PutsItem layout i None new) steps was other
     ⊎ ChangesTable (λ parent rest. PutsPair layout (last_parts spelled rest) new parent) steps was other
 
--- by a `remove`; of an inline table it is not said which pairs go
+-- by a `remove`
 abbrev pub TakesHeld : Layout → HolderChange
-TakesHeld layout steps was other = ChangesArray (TakesOne layout) steps was other ⊎ ChangesTable (λ parent rest old now. Unit {0}) steps was other
+TakesHeld layout steps was other = ChangesArray (TakesOne layout) steps was other ⊎ ChangesTable (TakesPairs layout) steps was other

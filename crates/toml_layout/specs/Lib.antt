@@ -30,6 +30,7 @@ pub mod SettingIn
 pub mod RenamingIn
 pub mod RenamedPairs
 pub mod PairPlaces
+pub mod PairRemovals
 pub mod Holding
 pub mod ChangingIn
 pub mod Emptying

@@ -1,12 +1,13 @@
 //! Elements and pairs that are put into a value and taken out of it.
-ghost use Rattle.std.specs.List.{list_all};
-ghost use Rattle.std.specs.Prelude.{◌≡◌, ◌<◌, IfOk, OnOk, map, string_bytes, vec_len};
+ghost use Rattle.std.specs.List.{list_all, list_any};
+ghost use Rattle.std.specs.Prelude.{◌≡◌, ◌<◌, IfOk, MatchOption, OnOk, false, map, string_bytes, vec_len};
 ghost use Rattle.toml_layout.specs.Holders.{is_name};
 ghost use Rattle.toml_layout.specs.Holding.{ChangesElement, ChangesPairs, HoldsEntry, HoldsIn, MakesHeld};
-ghost use Rattle.toml_layout.specs.Items.{items_of};
+ghost use Rattle.toml_layout.specs.Items.{item, items_of};
 ghost use Rattle.toml_layout.specs.Leading.{ChangesAt};
 ghost use Rattle.toml_layout.specs.OpenOutlines.{entries as entries_outlined, value as value_outlined};
 ghost use Rattle.toml_layout.specs.PairPlaces.{PutsPair};
+ghost use Rattle.toml_layout.specs.PairRemovals.{EmptiesEntry, EmptiesIf, IsEmptied, IsFirstMark, ReplacesFirst, TakesPairs, is_left, keeps_at, marks_at, reaches_at};
 
 use crate::texts::Texts;
 use crate::tree::{Entries, Entry, Value};
@@ -145,7 +146,7 @@ impl<'t> Texts<'t> {
                 let (_, parts) = spelled.split_at(used);
                 self.put_pair(pairs, parent, parts, new)
             }
-            Held::Out => self.remove_pairs(pairs, steps),
+            Held::Out => self.remove_pairs(pairs, parent, steps),
         }
     }
 
@@ -167,62 +168,153 @@ impl<'t> Texts<'t> {
 
     /// Takes out all pairs at or below the steps. Where no other pair mentions the parent, which is a table of dotted keys,
     /// the first of them becomes the parent as an empty inline table.
-    fn remove_pairs(self, entries: &mut Entries<'t>, steps: &[Step]) -> Result<(), AllocError> {
-        let parent = steps.len().saturating_sub(1);
-        let mut marks = Vec::with_capacity(self.alloc, entries.list.len())?;
-        let mut stays = parent == 0;
-        for index in 0..entries.list.len() {
-            let common = self.common_at(entries, index, steps)?;
-            marks.push(common == steps.len())?;
-            stays = stays || (common == parent && common < steps.len());
+    fn remove_pairs(
+        self,
+        pairs: &mut Entries<'t>,
+        parent: &[Step],
+        steps: &[Step],
+    ) -> Result<(), AllocError>
+        ensures { OnOk result (TakesPairs self.entry.layout parent.now steps.now (items_of pairs.old) (items_of pairs.new)) }
+    {
+        let mut marks = self.marks_at(pairs, steps)?;
+        if !self.is_left(pairs, parent, steps)? {
+            self.replace_first(pairs, &mut marks, parent.len())?;
         }
-        if !stays {
-            self.replace_first(entries, &mut marks, parent)?;
-        }
-        entries.remove_marked(self, &marks)
+        pairs.remove_marked(self, &marks)
     }
 
-    /// How many parts the key of the pair with the index has in common with the steps.
-    fn common_at(
+    /// Which pairs stand at the steps, or below.
+    fn marks_at(self, pairs: &Entries<'t>, steps: &[Step]) -> Result<Vec<bool>, AllocError>
+        ensures { IfOk result (λ marks. marks.items ≡ marks_at steps.now (items_of pairs.now).list) }
+    {
+        let mut marks = Vec::with_capacity(self.alloc, pairs.list.len())?;
+        for index in 0..pairs.list.len() {
+            marks.push(self.reaches_at(pairs, index, steps)?)?;
+        }
+        Ok(marks)
+    }
+
+    /// Whether the table at the parent is left: it is no table of dotted keys, or a pair that stays mentions it.
+    fn is_left(
+        self,
+        pairs: &Entries<'t>,
+        parent: &[Step],
+        steps: &[Step],
+    ) -> Result<bool, AllocError>
+        ensures { IfOk result (λ left. left ≡ is_left parent.now steps.now (items_of pairs.now).list) }
+    {
+        if parent.is_empty() {
+            return Ok(true);
+        }
+        for index in 0..pairs.list.len() {
+            if self.keeps_at(pairs, index, parent, steps)? {
+                return Ok(true);
+            }
+        }
+        Ok(false)
+    }
+
+    /// Whether the pair with the index stays, and mentions the parent.
+    fn keeps_at(
+        self,
+        pairs: &Entries<'t>,
+        index: usize,
+        parent: &[Step],
+        steps: &[Step],
+    ) -> Result<bool, AllocError>
+        ensures { IfOk result (λ keeps. keeps ≡ keeps_at parent.now steps.now (items_of pairs.now).list index) }
+    {
+        let mentions = self.reaches_at(pairs, index, parent)?;
+        let goes = self.reaches_at(pairs, index, steps)?;
+        Ok(mentions && !goes)
+    }
+
+    /// Whether the first parts of the key of the pair with the index are the steps.
+    fn reaches_at(
         self,
         pairs: &Entries<'t>,
         index: usize,
         steps: &[Step],
-    ) -> Result<usize, AllocError> {
+    ) -> Result<bool, AllocError>
+        ensures { IfOk result (λ all. all ≡ reaches_at steps.now (items_of pairs.now).list index) }
+    {
         match key_at(&pairs.list, index) {
-            Some(key) => self.common(key, steps),
-            None => Ok(0),
+            Some(key) => self.reaches(key, steps),
+            None => Ok(false),
         }
     }
 
-    /// Makes of the first marked pair one whose key has so many parts, and whose value is an empty inline table. Its mark
-    /// goes.
+    /// Makes of the first marked pair, if there is one, one whose key has so many parts, and whose value is an empty inline
+    /// table. Its mark goes.
     fn replace_first(
         self,
-        entries: &mut Entries<'t>,
+        pairs: &mut Entries<'t>,
         marks: &mut [bool],
         parts: usize,
-    ) -> Result<(), AllocError> {
-        for (index, mark) in marks.iter_mut().enumerate() {
-            if *mark {
-                *mark = false;
-                return match entries.list.get_mut(index) {
-                    Some(pair) => self.empty_pair(pair, parts),
-                    None => Ok(()),
-                };
+    ) -> Result<(), AllocError>
+        ensures { OnOk result (ReplacesFirst parts marks.old marks.new (items_of pairs.old) (items_of pairs.new)) }
+    {
+        let Some(index) = first_mark(marks) else {
+            return Ok(());
+        };
+        marks[index] = false;
+        self.empty_at(pairs, index, parts)
+    }
+
+    /// Makes of the pair with the index, if there is one, one whose key has so many parts, and whose value is an empty inline
+    /// table.
+    fn empty_at(self, pairs: &mut Entries<'t>, index: usize, parts: usize) -> Result<(), AllocError>
+        ensures { OnOk result (EmptiesIf parts index (items_of pairs.old) (items_of pairs.new)) }
+    {
+        match pairs.list.side(index) {
+            Some(Side::Before(place)) => {
+                self.empty_in(&mut pairs.list.before, place, parts)?;
+                Ok(())
             }
+            Some(Side::Behind(place)) => {
+                self.empty_in(&mut pairs.list.behind, place, parts)?;
+                Ok(())
+            }
+            None => Ok(()),
         }
+    }
+
+    /// Makes so of the pair at the place.
+    fn empty_in(
+        self,
+        list: &mut Vec<Entry<'t>>,
+        place: usize,
+        parts: usize,
+    ) -> Result<(), AllocError>
+        requires { place < vec_len list.old }
+        ensures { OnOk result (EmptiesEntry parts place list.old.items list.new.items) }
+    {
+        self.empty_pair(&mut list[place], parts)?;
         Ok(())
     }
 
     /// Cuts the key of a pair to so many parts, and makes its value an empty inline table.
-    fn empty_pair(self, pair: &mut Entry<'t>, parts: usize) -> Result<(), AllocError> {
+    fn empty_pair(self, pair: &mut Entry<'t>, parts: usize) -> Result<(), AllocError>
+        ensures { OnOk result (IsEmptied parts (item pair.old) (item pair.new)) }
+    {
         if let Some(assign) = &mut pair.assign {
             assign.cut(parts);
         }
         pair.value = self.empty_table()?;
         Ok(())
     }
+}
+
+/// The index of the first mark, if there is one.
+fn first_mark(marks: &[bool]) -> Option<usize>
+    ensures { MatchOption result (list_any (λ m. m) marks.now ≡ false) (IsFirstMark marks.now) }
+{
+    for (index, is_marked) in marks.iter().enumerate() {
+        if *is_marked {
+            return Some(index);
+        }
+    }
+    None
 }
 
 /// Whether all steps are names.

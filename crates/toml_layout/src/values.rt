@@ -294,7 +294,7 @@ impl<'t> Texts<'t> {
     }
 
     /// Whether the first parts of the key are the steps, each of them.
-    fn reaches(self, key: &Key<'t>, steps: &[Step]) -> Result<bool, AllocError>
+    pub(crate) fn reaches(self, key: &Key<'t>, steps: &[Step]) -> Result<bool, AllocError>
         ensures { IfOk result (λ all. all ≡ reaches (open_names key.now) steps.now) }
     {
         Ok(self.common(key, steps)? == steps.len())

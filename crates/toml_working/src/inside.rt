@@ -25,7 +25,8 @@ impl<'t> Body<'t> {
         match self {
             Body::Open(open) => match &mut open.expr {
                 Expr::Pair(pair) => texts.change_in(&mut pair.value, steps, change),
-                Expr::Blank | Expr::Header(_) => Ok(false),
+                Expr::Blank => Ok(false),
+                Expr::Header(_) => Ok(false),
             },
             Body::Kept(_) => Ok(false),
         }
