@@ -11,6 +11,7 @@ mod drawing;
 mod edit;
 mod excerpt;
 mod expected;
+mod front;
 mod glyph;
 mod input;
 mod list;
