@@ -1,0 +1,16 @@
+use Rattle.std.proofs.Common.{Err, inl, refl}
+use Rattle.std.proofs.lemmas.Result.{err_from_is_err_and}
+use Rattle.toml_delivery.specs.declared.fault.RunFault.TheVariants.{Memory}
+use Rattle.tomled.specs.Replies.{IsReplyFrom}
+use Rattle.tomled.proofs.Asking.{nothing, so}
+use Rattle.tomled.proofs.Replied.{all_read, one_unread}
+use Rattle.tomled.proofs.replying.reply_from.Goals as goal
+
+pub returns-in_err-sources : goal.returns-in_err-sources
+returns-in_err-sources g c =
+    let p = err_from_is_err_and c.from_residual.result c.from_residual.ensures.1 in
+    rw (p.1, p.2) (nothing (IsReplyFrom c.args.request.now (Err Memory)) (g.I.Inputs.reads c.args.inputs.now) (inl refl))
+
+pub returns-in-Ok : goal.returns-in-Ok
+returns-in-Ok g c =
+    all_read c.args.request.now c.deref.result.now ? c.in-Ok.read c.reply_by.result c.reply_by.ensures _ _ c.in-Ok.ensures
