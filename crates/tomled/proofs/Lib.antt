@@ -4,5 +4,3 @@ pub mod Opened
 pub mod Settled
 pub mod Validated
 pub mod Reasons
-pub mod Ended
-pub mod Replied

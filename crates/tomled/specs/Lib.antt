@@ -3,5 +3,3 @@ pub mod Reads
 pub mod Finishing
 pub mod Opening
 pub mod Validating
-pub mod Replies
-pub mod Ending
