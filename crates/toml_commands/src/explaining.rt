@@ -2,7 +2,7 @@
 ghost use Rattle.std.specs.Prelude.{◌≡◌, ◌≢◌, ◌<◌, ◌≤◌, ◌↔◌, IfOk, IsTrue, string_bytes};
 ghost use Rattle.toml_explain.specs.Documents.{OpensAs};
 ghost use Rattle.toml_words.specs.Request.{asked_by};
-ghost use Rattle.toml_commands.specs.Explaining.{ExplainsDocument, ExplainsFile, ExplainsList, ExplainsPlace, ExplainsValue};
+ghost use Rattle.toml_commands.specs.Explaining.{ExplainsDocument, ExplainsFile, ExplainsList, ExplainsPlace};
 ghost use Rattle.toml_commands.specs.Explaining.{HasSaid, IsExplained, IsExplainedText, IsSaid, bytes_at, explains};
 
 use crate::edit_list::edits_listed;
@@ -201,8 +201,7 @@ fn of_get(
 ) -> Result<String, AllocError>
     ensures no_place { ExplainsPlace place.now refusal result }
     ensures no_document { ExplainsDocument profile file.entry refusal result }
-    ensures value { ExplainsValue file.entry refusal result }
-    ensures in_file { 300 ≤ refusal.code → refusal.code ≢ 306 → refusal.code ≢ 340 → ExplainsFile file.entry result }
+    ensures in_file { 300 ≤ refusal.code → refusal.code ≢ 340 → ExplainsFile file.entry result }
 {
     if refusal.code == 340 {
         return explain_place(alloc, place, refusal.place);
@@ -231,8 +230,7 @@ fn of_one(
 ) -> Result<String, AllocError>
     ensures no_place { ExplainsPlace place.now refusal result }
     ensures no_document { ExplainsDocument profile file.entry refusal result }
-    ensures value { ExplainsValue file.entry refusal result }
-    ensures in_file { 300 ≤ refusal.code → refusal.code ≢ 306 → refusal.code ≢ 340 → ExplainsFile file.entry result }
+    ensures in_file { 300 ≤ refusal.code → refusal.code ≢ 340 → ExplainsFile file.entry result }
 {
     if refusal.code == 340 {
         return explain_place(alloc, place, refusal.place);
@@ -310,8 +308,7 @@ fn of_list(
 ) -> Result<String, AllocError>
     ensures no_list { ExplainsList list.entry refusal result }
     ensures no_document { ExplainsDocument profile file.entry refusal result }
-    ensures value { ExplainsValue file.entry refusal result }
-    ensures in_file { 300 ≤ refusal.code → refusal.code ≢ 306 → refusal.code ≢ 320 → refusal.code ≢ 321 → ExplainsFile file.entry result }
+    ensures in_file { 300 ≤ refusal.code → refusal.code ≢ 320 → refusal.code ≢ 321 → ExplainsFile file.entry result }
 {
     if refusal.code == 320 || refusal.code == 321 {
         return explain_list(alloc, list.word, refusal.code, refusal.place);

@@ -1,6 +1,5 @@
 pub mod Held
 pub mod Lines
-pub mod Glyphs
 pub mod Opened
 pub mod Fronts
 pub mod Shown

@@ -1,5 +1,4 @@
 pub mod Openings
-pub mod Shown
 pub mod Excerpts
 pub mod Documents
 pub mod Reasons

@@ -1,6 +1,7 @@
 //! Places of a document at which nothing stands that is asked for.
 ghost use Rattle.std.specs.Prelude.{IfOk, string_bytes};
 ghost use Rattle.toml_explain.specs.Documents.{ShowsInFile};
+ghost use Rattle.toml_explain.specs.Openings.{OpensInFile};
 
 use crate::edit::look_up;
 use crate::input::Input;
@@ -70,7 +71,8 @@ pub fn explain_absent(
     code: u16,
     profile: Profile,
 ) -> Result<String, AllocError>
-    ensures { IfOk result (λ text. ShowsInFile file.entry.word.now file.entry.bytes.now (string_bytes text)) }
+    ensures file { IfOk result (λ text. OpensInFile file.entry.word.now file.entry.bytes.now (string_bytes text)) }
+    ensures below { IfOk result (λ text. ShowsInFile file.entry.word.now file.entry.bytes.now (string_bytes text)) }
 {
     let shown = shown_place(alloc, place)?;
     let mut sentence = absent_sentence(alloc, shown.as_str(), code)?;

@@ -1,12 +1,13 @@
 //! Edits that are refused.
-ghost use Rattle.std.specs.Prelude.{◌≡◌, ◌≢◌, IfOk, string_bytes};
-ghost use Rattle.toml_explain.specs.Documents.{ShowsInFile, ShowsMoreInFile};
+ghost use Rattle.std.specs.Prelude.{◌≢◌, IfOk, string_bytes};
+ghost use Rattle.toml_explain.specs.Documents.{ShowsInFile};
+ghost use Rattle.toml_explain.specs.Openings.{OpensInFile};
 
 use crate::input::Input;
 use crate::origin::{begins_with, origin};
 use crate::standing::{front_of, meant, question};
-use crate::telling::told_at;
-use crate::value::explain_value;
+use crate::telling::{excerpt_at, told, told_at};
+use crate::value::flaw_of;
 use std::alloc::{AllocError, Global};
 use toml_edits::{Edit, carry, place};
 use toml_mentions::find_spot;
@@ -220,6 +221,31 @@ fn value_of(edit: &Edit) -> Option<&str> {
     }
 }
 
+/// Why the value of an edit is none (306): the line of its place in the file, and the value.
+fn explain_value(
+    alloc: Global,
+    file: Input<'_>,
+    sentence: String,
+    spot: Option<Span>,
+    value: &str,
+    profile: Profile,
+) -> Result<String, AllocError>
+    ensures { IfOk result (λ text. OpensInFile file.entry.word.now file.entry.bytes.now (string_bytes text)) }
+{
+    let flaw = flaw_of(alloc, value, profile)?;
+    let mut excerpt = excerpt_at(alloc, file.bytes, spot);
+    if let Some(span) = spot {
+        excerpt.push_line(file.bytes, span, "")?;
+    }
+    if let Some(meant) = flaw.meant {
+        excerpt.push_unnumbered(value.as_bytes(), meant)?;
+    }
+    let mut text = sentence;
+    text.push_str(": ")?;
+    text.push_str(flaw.sentence.as_str())?;
+    told(alloc, file, spot, text, excerpt)
+}
+
 /// Adds what may help where nothing stands: the name that may be meant, else the hint where tables are missing above.
 fn push_advice(
     alloc: Global,
@@ -249,7 +275,7 @@ pub fn explain_edit(
     hint: &str,
     profile: Profile,
 ) -> Result<String, AllocError>
-    ensures value { code ≡ 306 → IfOk result (λ text. ShowsMoreInFile file.entry.word.now file.entry.bytes.now (string_bytes text)) }
+    ensures file { IfOk result (λ text. OpensInFile file.entry.word.now file.entry.bytes.now (string_bytes text)) }
     ensures below { code ≢ 306 → IfOk result (λ text. ShowsInFile file.entry.word.now file.entry.bytes.now (string_bytes text)) }
 {
     let Some(edit) = edits.get(index) else {
