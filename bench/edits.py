@@ -84,7 +84,7 @@ def elements(op, index):
     def made(count, number):
         edits = []
         for done, one in enumerate(spread(count, number)):
-            length = number + done if op == 'insert' else number - done
+            length = number + {'set': 0, 'insert': done, 'remove': -done}[op]
             edit = {'op': op, 'at': ['a', index(length, one, op == 'insert')]}
             if op in ('insert', 'set'):
                 edit['value'] = '2'
@@ -111,10 +111,9 @@ def rows():
     for name, text, place in PLACES:
         for op in ('set', 'remove', 'insert', 'rename'):
             yield name, text, op, members(op, place)
-    for op in ('insert', 'remove'):
+    for op in ('set', 'insert', 'remove'):
         for end, index in ENDS.items():
             yield 'array', array, '%s, %s' % (op, end), elements(op, index)
-    yield 'array', array, 'set, all over', elements('set', ENDS['all over'])
 
 
 def limits():
