@@ -10,8 +10,7 @@ use crate::fault::NameFault;
 use crate::mentions::mention::{Kind, Role};
 use crate::model::address::Address;
 use crate::model::place::Place;
-use crate::tree::hash_key::key_of_text;
-use crate::tree::hashing::NameHashing;
+use crate::tree::hash_key::HashKey;
 use crate::tree::name_tree::NameTree;
 use std::alloc::{AllocError, Global};
 use toml_text::Source;
@@ -31,17 +30,16 @@ impl<'t> LineNames<'t> {
     pub fn new(alloc: Global, source: Source<'t>) -> Result<LineNames<'t>, AllocError>
         ensures { IfOk result (λ names. StandFor names []) }
     {
-        LineNames::keyed(alloc, key_of_text(source))
+        LineNames::keyed(alloc, HashKey::of_text(source))
     }
 
     /// The names of no line, which are hashed by this key.
-    pub(crate) fn keyed(alloc: Global, key: u64) -> Result<LineNames<'t>, AllocError>
+    pub(crate) fn keyed(alloc: Global, key: HashKey<'t>) -> Result<LineNames<'t>, AllocError>
         ensures stand { IfOk result (λ names. StandFor names []) }
         ensures lookups { IfOk result (λ names. names.tree.lookups ≡ 0) }
     {
-        let hashing = NameHashing::keyed(key);
         Ok(LineNames {
-            tree: NameTree::new(alloc, hashing, Role::Bare, Kind::Table)?,
+            tree: NameTree::new(alloc, key, Role::Bare, Kind::Table)?,
             section: 0,
             count: 0,
         })

@@ -11,6 +11,7 @@ ghost use Rattle.toml_names.specs.tree.Steps.{GoesOn, IsNode, RisesBy};
 use crate::fault::NameFault;
 use crate::line_names::LineNames;
 use crate::mentions::mention::{Kind, Role};
+use crate::tree::hash_key::HashKey;
 use crate::tree::hashing::NameHashing;
 use crate::tree::headers::Entered;
 use crate::tree::name_tree::{EnterFault, NameTree};
@@ -111,7 +112,7 @@ impl<'d, 't> NameReader<'d, 't> {
         ensures lookups { IfOk result (λ r. r.lookups ≡ 0) }
     {
         Ok(NameReader {
-            names: LineNames::keyed(alloc, key)?,
+            names: LineNames::keyed(alloc, HashKey::known(key))?,
             taken: Vec::new(alloc),
             own: Vec::new(alloc),
         })

@@ -10,8 +10,7 @@ use crate::fault::ValueFault;
 use crate::meaning::keys::kind_of;
 use crate::mentions::mention::Role;
 use crate::model::datum::Datum;
-use crate::tree::hash_key::key_in;
-use crate::tree::hashing::NameHashing;
+use crate::tree::hash_key::{HashKey, key_in};
 use crate::tree::name_tree::{EnterFault, NameTree};
 use std::alloc::Global;
 use toml_tree::Value;
@@ -35,8 +34,8 @@ fn enter_whole<'t>(alloc: Global, value: &Value<'t>) -> Result<NameTree<'t>, Val
     ensures stands { IfOk result (λ tree. IsTreeOf tree.nodes.items (value_facts (tree_value value.now))) }
     ensures refused { IfErr result (RefusesFacts (value_facts (tree_value value.now))) }
 {
-    let hashing = NameHashing::keyed(key_in(value));
-    let mut tree = NameTree::new(alloc, hashing, Role::Valued, kind_of(value))?;
+    let key = HashKey::known(key_in(value));
+    let mut tree = NameTree::new(alloc, key, Role::Valued, kind_of(value))?;
     match tree.enter_inside(0, value, 0) {
         Ok(()) => {}
         Err(EnterFault::Clash(_)) => return Err(ValueFault::Rules),

@@ -1,11 +1,45 @@
 //! The key for hashing the names of a document or a value: a hash of all its key parts, or of all bytes of a text whose
 //! lines are not kept. Names that collide would have to be found under a key that they make themselves.
+use crate::tree::hashing::NameHashing;
 use std::hash::{DefaultHasher, Hasher};
 use toml_text::{Source, Span};
 use toml_tree::{Doc, Expr, Key, KeyVal, Line, Piece, Value};
 
+/// The key for hashing names. One of a whole text is made when it is first asked for: most texts have no table with so many names
+/// that they are hashed, and a pass over all bytes is saved.
+#[derive(Drop)]
+pub struct HashKey<'t> {
+    key: u64,
+    // the text of which the key is still to be made
+    unread: Option<Source<'t>>,
+}
+
+impl<'t> HashKey<'t> {
+    /// This key.
+    pub(crate) fn known(key: u64) -> HashKey<'t> {
+        HashKey { key, unread: None }
+    }
+
+    /// The key that is made of all bytes of a text.
+    pub(crate) fn of_text(source: Source<'t>) -> HashKey<'t> {
+        HashKey {
+            key: 0,
+            unread: Some(source),
+        }
+    }
+
+    /// Hashing with the key.
+    pub(crate) fn hashing(&mut self) -> NameHashing {
+        if let Some(source) = self.unread {
+            self.key = key_of_text(source);
+            self.unread = None;
+        }
+        NameHashing::keyed(self.key)
+    }
+}
+
 /// A hash of all bytes of a text.
-pub(crate) fn key_of_text(source: Source<'_>) -> u64 {
+fn key_of_text(source: Source<'_>) -> u64 {
     let mut hasher = DefaultHasher::new();
     let all = Span {
         start: 0,

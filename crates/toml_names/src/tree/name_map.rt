@@ -7,6 +7,7 @@ ghost use Rattle.std.specs.Prelude.{◌∷◌, ◌++◌, ◌≡◌, ◌-◌, ◌
 ghost use Rattle.std.specs.Map.{lookup};
 ghost use Rattle.std.specs.Str.{bytes_eq};
 
+use crate::tree::hash_key::HashKey;
 use crate::tree::hashing::NameHashing;
 use indexmap::IndexMap;
 use std::alloc::{AllocError, Global};
@@ -99,7 +100,7 @@ impl<'t> NameMap<'t> {
     pub(crate) fn find_or_insert(
         &mut self,
         alloc: Global,
-        hashing: NameHashing,
+        key: &mut HashKey<'_>,
         name: CowStr<'t>,
         id: usize,
     ) -> Result<Option<usize>, AllocError>
@@ -117,7 +118,7 @@ impl<'t> NameMap<'t> {
         if self.few.len() < FEW {
             push_few(&mut self.few, name, id)?;
         } else {
-            self.rest = Some(one_behind(alloc, hashing, name, id)?);
+            self.rest = Some(one_behind(alloc, key.hashing(), name, id)?);
         }
         Ok(None)
     }

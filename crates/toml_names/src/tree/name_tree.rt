@@ -17,7 +17,7 @@ use crate::mentions::mention::{Kind, Role};
 use crate::mentions::rules::may_follow;
 use crate::model::address::Address;
 use crate::model::place::same_role;
-use crate::tree::hashing::NameHashing;
+use crate::tree::hash_key::HashKey;
 use crate::tree::node::{Node, Under};
 use std::alloc::{AllocError, Global};
 use toml_tree::Piece;
@@ -64,7 +64,8 @@ impl From<AllocError> for EnterFault {
 #[derive(Drop)]
 pub struct NameTree<'t> {
     pub(crate) alloc: Global,
-    pub(crate) hashing: NameHashing,
+    // for hashing names
+    pub(crate) key: HashKey<'t>,
     pub(crate) nodes: Vec<Node<'t>>,
     pub(crate) changes: Vec<Change>,
     pub(crate) lookups: u64,
@@ -74,7 +75,7 @@ impl<'t> NameTree<'t> {
     /// A tree of one node, the root: it is of this kind, and named in this role.
     pub(crate) fn new(
         alloc: Global,
-        hashing: NameHashing,
+        key: HashKey<'t>,
         role: Role,
         kind: Kind<'t>,
     ) -> Result<NameTree<'t>, AllocError>
@@ -88,7 +89,7 @@ impl<'t> NameTree<'t> {
         nodes.push(Node::leaf(Under::Root, 0, role, kind, 0))?;
         Ok(NameTree {
             alloc,
-            hashing,
+            key,
             nodes,
             changes: Vec::new(alloc),
             lookups: 0,
@@ -142,7 +143,7 @@ impl<'t> NameTree<'t> {
         let id = self.nodes.len();
         let node = &mut self.nodes[above];
         let depth = node.depth() + 1;
-        if let Some(known) = node.find_or_link(self.alloc, self.hashing, name, id)? {
+        if let Some(known) = node.find_or_link(self.alloc, &mut self.key, name, id)? {
             return Ok(Found::Known(known));
         }
         let under = Under::Name(above, part.text);

@@ -6,7 +6,7 @@ ghost use Rattle.std.specs.Str.{bytes_eq};
 ghost use Rattle.toml_names.specs.tree.Nodes.{elements_of};
 
 use crate::mentions::mention::{Kind, Role};
-use crate::tree::hashing::NameHashing;
+use crate::tree::hash_key::HashKey;
 use crate::tree::name_map::NameMap;
 use std::alloc::{AllocError, Global};
 use std::borrow::CowStr;
@@ -233,7 +233,7 @@ impl<'t> Node<'t> {
     pub(crate) fn find_or_link(
         &mut self,
         alloc: Global,
-        hashing: NameHashing,
+        key: &mut HashKey<'_>,
         name: CowStr<'t>,
         id: usize,
     ) -> Result<Option<usize>, AllocError>
@@ -243,10 +243,10 @@ impl<'t> Node<'t> {
         ensures unchanged { OnErr result (self.new ≡ self.old) }
     {
         match &mut self.below {
-            Some(below) => below.names.find_or_insert(alloc, hashing, name, id),
+            Some(below) => below.names.find_or_insert(alloc, key, name, id),
             None => {
                 let mut names = NameMap::new(alloc);
-                names.find_or_insert(alloc, hashing, name, id)?;
+                names.find_or_insert(alloc, key, name, id)?;
                 let elements = None;
                 self.below = Some(Box::new(alloc, Below { names, elements })?);
                 Ok(None)
