@@ -7,7 +7,7 @@ use Rattle.toml_text.specs.declared.span.Span.{Span}
 use Rattle.toml_names.specs.declared.mentions.mention.Role.{Role}
 use Rattle.toml_names.specs.model.Addresses.{Address, same_address}
 use Rattle.toml_names.specs.mentions.Rules.{may_follow}
-use Rattle.toml_mentions.specs.Sought.{ForbidAs, HasRole, IsSeen, Part, Sees, Sight, clash_from, first_clash, first_some, forbidden_by, forbidding, seen_clash, seen_of, sight_of, sights}
+use Rattle.toml_mentions.specs.Sought.{HasRole, IsSeen, Keeps, Part, Sees, Sight, clash_from, first_clash, first_sight, first_some, forbidden_by, forbidding, seen_clash, seen_of, sight_of, sights}
 use Rattle.toml_mentions.specs.declared.seeker.Clash.{Clash}
 use Rattle.toml_mentions.specs.declared.seeker.Mention.{Mention}
 use Rattle.toml_mentions.specs.declared.seeker.Seeker.{Seeker}
@@ -88,13 +88,19 @@ clash_snoc_from earlier (q ∷ ss) s =
 clash_snoc : (ss : List Sight) (s : Sight) → first_clash (ss ++ s ∷ []) ≡ first_some (first_clash ss) (forbidden_by (forbidding s.role ss) s)
 clash_snoc ss s = clash_snoc_from [] ss s
 
+-- the first, behind one sight more
+first_snoc : (ss : List Sight) (s : Sight) → first_sight (ss ++ s ∷ []) ≡ first_some (first_sight ss) (Some s)
+first_snoc [] s = refl
+first_snoc (q ∷ ss) s = refl
+
 -- one sight more is kept
 pub seen_more : (old new : List Mention) (before behind : Option Clash) (s : Sight)
     → seen_clash behind ≡ first_some (seen_clash before) (forbidden_by (forbidding s.role (map seen_of old)) s)
-    → ForbidAs (map seen_of new) (map seen_of old) s → (ss : List Sight) → IsSeen old before ss → IsSeen new behind (ss ++ s ∷ [])
-seen_more old new before behind s clash_is forbid ss h = record {
+    → Keeps (map seen_of new) (map seen_of old) s → (ss : List Sight) → IsSeen old before ss → IsSeen new behind (ss ++ s ∷ [])
+seen_more old new before behind s clash_is keeps ss h = record {
+  first = keeps.first ∙ (first_snoc (map seen_of old) s ∙ (ap (λ o. first_some o (Some s)) h.first ∙ sym (first_snoc ss s)));
   earliest = λ r.
-      forbid r ∙ (forbidding_snoc r (map seen_of old) s ∙ (ap (λ o. first_some o (forbidding r (s ∷ []))) (h.earliest r) ∙ sym (forbidding_snoc r ss s)));
+      keeps.forbid r ∙ (forbidding_snoc r (map seen_of old) s ∙ (ap (λ o. first_some o (forbidding r (s ∷ []))) (h.earliest r) ∙ sym (forbidding_snoc r ss s)));
   clash_is = clash_is
       ∙ (ap (λ o. first_some o (forbidden_by (forbidding s.role (map seen_of old)) s)) h.clash_is
       ∙ (ap (λ o. first_some (first_clash ss) (forbidden_by o s)) (h.earliest s.role) ∙ sym (clash_snoc ss s)));
@@ -116,11 +122,18 @@ there_by r ss s None has is =
     is ∙ sym (forbidding_snoc r ss s ∙ (ap (λ o. first_some o (forbidding r (s ∷ []))) is ∙ ap (λ b. if b then None else Some s) (allows r ss s has is)))
 there_by r ss s (Some f) has is = is ∙ sym (forbidding_snoc r ss s ∙ ap (λ o. first_some o (forbidding r (s ∷ []))) is)
 
-pub forbid_there : (ss : List Sight) (s : Sight) → HasRole s.role ss → ForbidAs ss ss s
-forbid_there ss s has r = there_by r ss s (forbidding r ss) has refl
+first_there : (ss : List Sight) (s : Sight) → HasRole s.role ss → first_sight ss ≡ first_sight (ss ++ s ∷ [])
+first_there [] s has = absurd has
+first_there (q ∷ ss) s has = refl
 
-pub forbid_added : (ms : List Mention) (m : Mention) → ForbidAs (map seen_of (ms ++ m ∷ [])) (map seen_of ms) (seen_of m)
-forbid_added ms m r = ap (forbidding r) (map-append seen_of ms (m ∷ []))
+pub keeps_there : (ss : List Sight) (s : Sight) → HasRole s.role ss → Keeps ss ss s
+keeps_there ss s has = record { forbid = λ r. there_by r ss s (forbidding r ss) has refl; first = first_there ss s has }
+
+pub keeps_added : (ms : List Mention) (m : Mention) → Keeps (map seen_of (ms ++ m ∷ [])) (map seen_of ms) (seen_of m)
+keeps_added ms m = record {
+  forbid = λ r. ap (forbidding r) (map-append seen_of ms (m ∷ []));
+  first = ap first_sight (map-append seen_of ms (m ∷ []));
+}
 
 -- a mention in the list is in its role
 pub has_role_at : (r : Role) (ms : List Mention) (i : ℕ) (d : Mention) → i < length ms → (seen_of (get_or ms i d)).role ≡ r → HasRole r (map seen_of ms)

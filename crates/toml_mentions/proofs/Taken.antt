@@ -11,7 +11,7 @@ use Rattle.toml_tree.specs.declared.profile.Profile.{Profile}
 use Rattle.toml_names.specs.mentions.Mentions.{named, named_by, root}
 use Rattle.toml_names.specs.model.Addresses.{Address}
 use Rattle.toml_names.specs.reader.Texts.{AreLeft, more_left}
-use Rattle.toml_mentions.specs.Sought.{AreSought, IsSeen, SeeksNext, SeeksOn, SoughtIn, Stands, TakesExpr, all_parts, first_clash, most_lines, parts_by, sights}
+use Rattle.toml_mentions.specs.Sought.{AreSought, IsSeen, SeeksNext, SeeksOn, SoughtIn, Stands, TakesExpr, all_parts, most_lines, parts_by, sights}
 use Rattle.toml_mentions.specs.declared.seeker.Seeker.{Seeker}
 use Rattle.toml_mentions.proofs.Judged.{same_lines}
 use Rattle.toml_mentions.proofs.Parted.{named_more, parts_more}
@@ -72,5 +72,5 @@ module _ (target : Address) (profile : Profile) (text : List ℕ) where
   all_sought left s none (inl h) lines are =
       let all : AreLinesIn profile text h.0 = subst (AreLeft profile text h.0) none h.1.are in
       let same : h.0 ≡ lines = same_lines profile text h.0 lines all are in
-      h.1.seen.clash_is ∙ ap (λ ls. first_clash (sights target (all_parts ls))) same
+      subst (λ ls. IsSeen s.firsts.items s.clash (sights target (all_parts ls))) same h.1.seen
   all_sought left s none (inr h) lines are = absurd (h.1 (tree_of text lines) are.spelled)

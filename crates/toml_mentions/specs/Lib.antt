@@ -1,3 +1,4 @@
 pub mod Mentioned
 pub mod Sought
 pub mod Redefined
+pub mod Spots

@@ -103,6 +103,11 @@ abbrev pub sights : Address → List Part → List Sight
 sights at [] = []
 sights at (p ∷ ps) = if same_address p.address at then sight_of p ∷ sights at ps else sights at ps
 
+-- the first of them
+abbrev pub first_sight : List Sight → Option Sight
+first_sight [] = None
+first_sight (s ∷ ss) = Some s
+
 -- the earliest of them that may not be followed by one in the role
 abbrev pub forbidding : Role → List Sight → Option Sight
 forbidding r [] = None
@@ -159,8 +164,14 @@ HasRole r (s ∷ ss) = (s.role ≡ r) ⊎ HasRole r ss
 abbrev pub ForbidAs : List Sight → List Sight → Sight → Type 0
 ForbidAs new old s = (r : Role) → forbidding r new ≡ forbidding r (old ++ s ∷ [])
 
--- what was kept of these sights: for each role the earliest that forbids it, and the first clash
+-- what is kept behind one sight more: it forbids as all do, and the first is the same
+pub record Keeps (new old : List Sight) (s : Sight) : Type 0 where
+  pub forbid : ForbidAs new old s
+  pub first : first_sight new ≡ first_sight (old ++ s ∷ [])
+
+-- what was kept of these sights: the first of all, for each role the earliest that forbids it, and the first clash
 pub record IsSeen (firsts : List Mention) (clash : Option Clash) (ss : List Sight) : Type 0 where
+  pub first : first_sight (map seen_of firsts) ≡ first_sight ss
   pub earliest : (r : Role) → forbidding r (map seen_of firsts) ≡ forbidding r ss
   pub clash_is : seen_clash clash ≡ first_clash ss
 
@@ -255,4 +266,4 @@ SeeksNext old reader new left = (target : Address) (profile : Profile) (text : L
 
 -- all lines were taken in, if the text has a tree
 abbrev pub SoughtIn : Address → Profile → List ℕ → Seeker → Type 0
-SoughtIn target profile text s = (lines : List Line) → AreLinesIn profile text lines → seen_clash s.clash ≡ first_clash (sights target (all_parts lines))
+SoughtIn target profile text s = (lines : List Line) → AreLinesIn profile text lines → IsSeen s.firsts.items s.clash (sights target (all_parts lines))

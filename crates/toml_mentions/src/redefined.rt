@@ -5,7 +5,7 @@ ghost use Rattle.toml_mentions.specs.Redefined.{FindsBoth, FindsClash, FindsOffe
 ghost use Rattle.toml_names.specs.reader.Texts.{IsOfMemory};
 
 use crate::seeker::Clash;
-use crate::seeking::{Sought, seek};
+use crate::seeking::seek;
 use std::alloc::{AllocError, Global};
 use toml_names::{Address, NameFault, ReadFault, judge_text};
 use toml_text::Source;
@@ -44,7 +44,7 @@ pub fn find_redefined(
     };
     match judged_at(alloc, source, profile)? {
         Some(address) => {
-            let clash = seek(alloc, source, profile, address.steps(), Sought::Clash)?.clash;
+            let clash = seek(alloc, source, profile, address.steps())?.clash;
             Ok(Some(Redefined { address, clash }))
         }
         None => Ok(None),

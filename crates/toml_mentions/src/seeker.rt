@@ -6,7 +6,7 @@ ghost use Rattle.toml_tree.specs.View.{piece};
 ghost use Rattle.toml_names.specs.mentions.Mentions.{Named, entered, root};
 ghost use Rattle.toml_names.specs.mentions.Rules.{may_follow};
 ghost use Rattle.toml_names.specs.model.Addresses.{Address};
-ghost use Rattle.toml_mentions.specs.Sought.{Counts, ForbidAs, HasRole, IsSeen, Sees, Stands, count_at, first_some, forbidden_by, forbidding, part_at, role_of, seen_clash, seen_of, set_at, sights, way_to};
+ghost use Rattle.toml_mentions.specs.Sought.{Counts, HasRole, IsSeen, Keeps, Sees, Stands, count_at, first_some, forbidden_by, forbidding, part_at, role_of, seen_clash, seen_of, set_at, sights, way_to};
 
 use crate::role::{Role, may_follow};
 use crate::way::indexed;
@@ -42,12 +42,12 @@ pub(crate) struct Seeker<'a> {
     pub(crate) tables: Vec<u64>,
     // how many steps of the target the table of the last header is; none, where it is off the way
     pub(crate) section: Option<usize>,
-    // the first mention in each role
+    // the first mention in each role, in text order
     pub(crate) firsts: Vec<Mention>,
     /// The first mention that may not follow an earlier one.
     pub clash: Option<Clash>,
-    /// Where the thing at the address is named or stands first.
-    pub spot: Option<Span>,
+    /// Where it stands first as an element of an array in a value.
+    pub stood: Option<Span>,
 }
 
 impl<'a> Seeker<'a> {
@@ -64,7 +64,7 @@ impl<'a> Seeker<'a> {
             section: Some(0),
             firsts: Vec::new(alloc),
             clash: None,
-            spot: None,
+            stood: None,
         })
     }
 
@@ -126,7 +126,6 @@ impl<'a> Seeker<'a> {
         ensures { OnOk result (Sees self.old self.new (seen_of again ∷ [])) }
     {
         self.clash = clash_after(self.clash, &self.firsts, again);
-        self.spot = self.spot.or(Some(again.span));
         add_first(&mut self.firsts, again)
     }
 }
@@ -143,7 +142,7 @@ fn clash_after(clash: Option<Clash>, firsts: &[Mention], again: Mention) -> Opti
 
 /// Adds the mention, where it is the first in its role.
 fn add_first(firsts: &mut Vec<Mention>, again: Mention) -> Result<(), AllocError>
-    ensures { OnOk result (ForbidAs (map seen_of firsts.new.items) (map seen_of firsts.old.items) (seen_of again)) }
+    ensures { OnOk result (Keeps (map seen_of firsts.new.items) (map seen_of firsts.old.items) (seen_of again)) }
 {
     if has_role(firsts, again.role) {
         return Ok(());

@@ -1,5 +1,5 @@
 //! A text gone through line by line: which part of which key names a sought address, in which role.
-ghost use Rattle.std.specs.Prelude.{◌≡◌, ◌≢◌, ◌<◌, [], IfOk, IsTrue, List, OnOk, Option, Some, map};
+ghost use Rattle.std.specs.Prelude.{◌≡◌, ◌<◌, [], IfOk, List, OnOk, Option, Some, map};
 ghost use Rattle.toml_text.specs.Source.{text_of};
 ghost use Rattle.toml_scalar.specs.declared.fault.SyntaxFault.TheVariants.{NoMemory};
 ghost use Rattle.toml_tree.specs.Lines.{line as tree_line};
@@ -8,11 +8,11 @@ ghost use Rattle.toml_tree.specs.View.{array_items, element as item_element, hea
 ghost use Rattle.toml_tree.specs.declared.piece.Gap.{Gap};
 ghost use Rattle.toml_names.specs.mentions.Mentions.{Named, count_tables};
 ghost use Rattle.toml_names.specs.model.Addresses.{Address};
-ghost use Rattle.toml_mentions.specs.declared.seeking.Sought.TheVariants.{Clash as SoughtClash};
-ghost use Rattle.toml_mentions.specs.Sought.{Counts, IsFrontOf, IsKeySeen, IsPassed, SeeksNext, Sees, SoughtIn, Stands, TakesElement, TakesExpr, element_parts, inside_parts, most_lines, pair_parts, sights, way_to};
+ghost use Rattle.toml_mentions.specs.Sought.{Counts, IsFrontOf, IsKeySeen, IsPassed, SeeksNext, Sees, Sight, SoughtIn, Stands, TakesElement, TakesExpr, element_parts, first_sight, inside_parts, most_lines, pair_parts, seen_of, sights, way_to};
+ghost use Rattle.toml_mentions.specs.Spots.{IsSpotOf};
 
 use crate::role::Role;
-use crate::seeker::Seeker;
+use crate::seeker::{Mention, Seeker};
 use crate::way::{indexed, named};
 use std::alloc::{AllocError, Global};
 use toml_names::Step;
@@ -165,8 +165,8 @@ impl Seeker<'_> {
     fn see_element(&mut self, depth: usize, span: Span)
         ensures { Sees self.old self.new [] }
     {
-        if depth == self.target.len() && self.spot.is_none() {
-            self.spot = Some(span);
+        if depth == self.target.len() && self.stood.is_none() {
+            self.stood = Some(span);
         }
     }
 
@@ -212,54 +212,43 @@ fn told(fault: SyntaxFault) -> Result<(), AllocError>
     }
 }
 
-/// What is looked for in a text.
-#[derive(Clone, Copy, PartialEq, Eq)]
-pub(crate) enum Sought {
-    /// The first mention that may not follow an earlier one.
-    Clash,
-    /// The first place at which the thing is named or stands.
-    Spot,
-}
-
-impl Seeker<'_> {
-    /// Whether no more of the text need be read.
-    fn has_found(&self, sought: Sought) -> bool
-        ensures { IsTrue result → sought ≢ SoughtClash }
-    {
-        match sought {
-            Sought::Clash => false,
-            Sought::Spot => self.spot.is_some(),
-        }
-    }
-}
-
-/// Looks for an address in a text, line by line: up to the first place that names it, or for a clash to the end.
+/// Looks for an address in a text, line by line up to its end.
 pub(crate) fn seek<'a>(
     alloc: Global,
     source: Source<'_>,
     profile: Profile,
     target: &'a [Step],
-    sought: Sought,
 ) -> Result<Seeker<'a>, AllocError>
-    ensures { sought ≡ SoughtClash → IfOk result (λ s. SoughtIn target.entry.now profile (text_of source.entry) s) }
+    ensures { IfOk result (SoughtIn target.entry.now profile (text_of source.entry)) }
 {
     let mut seeker = Seeker::new(alloc, target)?;
     let mut left = Some(LineReader::new(source, profile));
     while let Some(reader) = left {
         left = seeker.take_next(reader)?;
-        if seeker.has_found(sought) {
-            return Ok(seeker);
-        }
     }
     Ok(seeker)
 }
 
-/// The first place of a text at which what stands at steps is named or stands; the root is not.
+/// The first place of a text at which what stands at steps is named: the span of the key part. Of an element of an array in a value,
+/// which no key part names, it is where the element stands; the root has none. All of the text is read.
 pub fn find_spot(
     alloc: Global,
     source: Source<'_>,
     profile: Profile,
     steps: &[Step],
-) -> Result<Option<Span>, AllocError> {
-    Ok(seek(alloc, source, profile, steps, Sought::Spot)?.spot)
+) -> Result<Option<Span>, AllocError>
+    ensures { IfOk result (IsSpotOf profile (text_of source.entry) steps.entry.now) }
+{
+    let seeker = seek(alloc, source, profile, steps)?;
+    Ok(spot_of(&seeker.firsts, seeker.stood))
+}
+
+/// Where the first of the mentions stands, or else the element.
+fn spot_of(firsts: &[Mention], stood: Option<Span>) -> Option<Span>
+    ensures { (first : Sight) → first_sight (map seen_of firsts.now) ≡ Some first → result ≡ Some first.span }
+{
+    match firsts.first() {
+        Some(first) => Some(first.span),
+        None => stood,
+    }
 }

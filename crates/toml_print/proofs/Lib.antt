@@ -1,10 +1,11 @@
 pub mod Behind
 pub mod Built
-pub mod Escapes
+pub mod FloatNumbers
 pub mod Found
 pub mod FoundLines
 pub mod OneValue
 pub mod PartsPrinted
+pub mod PrintedTokens
 pub mod Proved
 pub mod Searched
 pub mod Tagging

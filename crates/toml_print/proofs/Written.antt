@@ -1,5 +1,5 @@
--- The turns of the loops that write JSON.
-use Rattle.std.proofs.Common.{◌≡◌, ◌<◌, ◌≤◌, ◌+◌, ◌-◌, ◌*◌, ℕ, suc, Bool, true, false, List, [], ◌∷◌, ◌++◌, length, get_or, take, map, Option, Some, None, Contains, option_map, slice_get, Bor, refl, sym, ap, ◌∙◌, subst, arith, append_assoc, nat_cmp}
+-- The turns of the loops that write the tokens of JSON.
+use Rattle.std.proofs.Common.{◌≡◌, ◌<◌, ◌≤◌, ◌+◌, ◌-◌, ◌*◌, ℕ, suc, List, [], ◌∷◌, ◌++◌, length, get_or, take, map, Option, Some, None, Ok, Contains, option_map, slice_get, Bor, refl, sym, ap, ◌∙◌, subst, arith, append_assoc, nat_cmp}
 use Rattle.std.proofs.Math.Path.{fun_ext}
 use Rattle.std.proofs.lemmas.List.{append-nil, map-append, take_all, take_more, length-map, get_or-map}
 use Rattle.std.proofs.lemmas.Map.Made.{keys_of-map_values}
@@ -7,8 +7,8 @@ use Rattle.std.proofs.lemmas.Option.{slice_get-map, slice_get-get_or}
 use Rattle.std.specs.Cmp.Lexicographic.{slice_cmp}
 use Rattle.std.specs.List.Sorted.{IsStrictlySortedBy}
 use Rattle.std.specs.Map.{keys_of}
-use Rattle.json.specs.Print.{quoted}
-use Rattle.serde_json.specs.Written.{comma_if}
+use Rattle.json.specs.Token.{Token, begin_array, begin_object, end_array, end_object, key}
+use Rattle.json.specs.Written.{Written, Writes}
 use Rattle.toml_scalar.specs.Values.{ScalarValue}
 use Rattle.toml_names.specs.declared.model.address.Step.TheVariants.{Name, Index}
 use Rattle.toml_names.specs.mentions.Mentions.{a_scalar, an_array, a_table}
@@ -18,14 +18,18 @@ use Rattle.toml_names.specs.tree.Held.{below_in}
 use Rattle.toml_names.specs.reader.Parts as parts
 use Rattle.toml_names.specs.reader.Parts.{IsPart, part_kinds, plain_members}
 use Rattle.toml_names.specs.tree.Nodes.{Spot}
-use Rattle.toml_print.specs.JsonTexts.{text_with, items_with, members_with}
 use Rattle.toml_print.specs.Tagged.{part}
 use Rattle.toml_print.specs.Trees.{Tree, scalar, array, table, Items, no_items, item, Members, no_members, member, names, IsTreeOf, AreItems, AreMembers}
-use Rattle.toml_print.specs.Writing.{Writes}
+use Rattle.toml_print.specs.Tokens.{WritesTokens, WritesTree, items_tokens, members_tokens, scalar_tokens, tree_tokens}
+use Rattle.toml_print.specs.declared.style.Style.{Style}
 
 -- a scalar
-pub scalar_done : (write : ScalarValue → List ℕ) (f : Kinds) (v : ScalarValue) (old new : List ℕ) → f [] ≡ Some (a_scalar v) → new ≡ old ++ write v → Writes write f old new
-scalar_done write f v old new here written = record { tree = scalar v; of_data = here; is = written }
+pub scalar_done : (style : Style) (f : Kinds) (v : ScalarValue) (old new : Written) → f [] ≡ Some (a_scalar v) → WritesTokens (scalar_tokens style v) old new → WritesTree style f old new
+scalar_done style f v old new here writes = record { tree = scalar v; of_data = here; writes = writes }
+
+-- a token that was written
+pub token_written : {E : Type 0} (old new : Written) (t : Token) (u : Unit {0}) → Writes {E = E} (Ok u) old new t → WritesTokens (t ∷ []) old new
+token_written old new t u w = (w.room.0, w.ok)
 
 -- trees one behind the other
 abbrev pub items_of : List Tree → Items
@@ -46,32 +50,30 @@ AreTrees-push [] (u ∷ ts) f t h is = absurd h
 AreTrees-push (e ∷ fs) [] f t h is = absurd h
 AreTrees-push (e ∷ fs) (u ∷ ts) f t h is = (h.0, AreTrees-push fs ts f t h.1 is)
 
--- a part behind a comma, and then the rest
-item_parts : (old mid new comma part rest : List ℕ) → mid ≡ old ++ comma → new ≡ mid ++ part → old ++ (comma ++ (part ++ rest)) ≡ new ++ rest
-item_parts old mid new comma part rest first second = rw (second, first) (simp append_assoc)
-
--- The items so far: whatever is to follow them, the bytes so far and the text of that are the text of all.
-pub record AreWritten (write : ScalarValue → List ℕ) (fs : List Kinds) (old new : List ℕ) (later : Bool) : Type 0 where
+-- The items so far: whatever is to follow them, the tokens so far and those of that are the tokens of all.
+pub record AreWritten (style : Style) (fs : List Kinds) (old new : Written) : Type 0 where
   pub items : List Tree
   pub trees : AreTrees fs items
-  pub text : (rest : List Tree) → old ++ text_with write (array (items_of (items ++ rest))) ≡ new ++ items_with write later (items_of rest)
+  pub before : new.before ≡ old.before
+  pub tokens : (rest : List Tree) → old.tokens ++ tree_tokens style (array (items_of (items ++ rest))) ≡ new.tokens ++ items_tokens style (items_of rest)
 
-pub items_start : (write : ScalarValue → List ℕ) (old new : List ℕ) → new ≡ old ++ 91 ∷ [] → AreWritten write [] old new false
-items_start write old new opened = record {
+pub items_start : (style : Style) (old new : Written) → WritesTokens (begin_array ∷ []) old new → AreWritten style [] old new
+items_start style old new opened = record {
   items = [];
   trees = tt;
-  text = λ rest. sym (append_assoc old (91 ∷ []) (items_with write false (items_of rest))) ∙ ap (λ s. s ++ items_with write false (items_of rest)) (sym opened);
+  before = opened.0;
+  tokens = λ rest. sym (append_assoc old.tokens (begin_array ∷ []) (items_tokens style (items_of rest))) ∙ ap (λ ts. ts ++ items_tokens style (items_of rest)) (sym opened.1);
 }
 
-item_more : (write : ScalarValue → List ℕ) (fs : List Kinds) (f : Kinds) (old now mid new : List ℕ) (later : Bool) → AreWritten write fs old now later → mid ≡ now ++ comma_if later → Writes write f mid new
-    → AreWritten write (fs ++ f ∷ []) old new true
-item_more write fs f old now mid new later t comma w =
+item_more : (style : Style) (fs : List Kinds) (f : Kinds) (old now new : Written) → AreWritten style fs old now → WritesTree style f now new → AreWritten style (fs ++ f ∷ []) old new
+item_more style fs f old now new t w =
     let j = w.tree in record {
       items = t.items ++ j ∷ [];
       trees = AreTrees-push fs t.items f j t.trees w.of_data;
-      text = λ rest.
-          ap (λ ts. old ++ text_with write (array (items_of ts))) (append_assoc t.items (j ∷ []) rest) ∙ t.text (j ∷ rest)
-          ∙ item_parts now mid new (comma_if later) (text_with write j) (items_with write true (items_of rest)) comma w.is;
+      before = w.writes.0 ∙ t.before;
+      tokens = λ rest.
+          ap (λ ts. old.tokens ++ tree_tokens style (array (items_of ts))) (append_assoc t.items (j ∷ []) rest) ∙ t.tokens (j ∷ rest)
+          ∙ sym (append_assoc now.tokens (tree_tokens style j) (items_tokens style (items_of rest))) ∙ ap (λ ts. ts ++ items_tokens style (items_of rest)) (sym w.writes.1);
     }
 
 -- from an index on, the items of a list, and nothing behind them
@@ -86,22 +88,22 @@ items_listed f (g ∷ gs) i (u ∷ ts) each t =
       items_listed f gs (i + 1) ts (λ k at. let next : (i + 1) + k ≡ i + suc k = omega arith in ap (λ m. f (Index m ∷ at)) next ∙ each (suc k) at) t.1,
     )
 
-module _ (write : ScalarValue → List ℕ) (nodes : List Spot) (id : ℕ) where
+module _ (style : Style) (nodes : List Spot) (id : ℕ) where
   within_is : (o : Option ℕ) (at : Address) → below_in nodes o at ≡ within (option_map (part_kinds nodes) o) at
   within_is None at = refl
   within_is (Some k) at = refl
 
-  pub items_more : (items : List ℕ) (i d : ℕ) (old now mid new : List ℕ) (later : Bool) → i < length items → AreWritten write (map (part_kinds nodes) (take i items)) old now later → mid ≡ now ++ comma_if later
-      → Writes write (part_kinds nodes (get_or items i d)) mid new → AreWritten write (map (part_kinds nodes) (take (i + 1) items)) old new true
-  items_more items i d old now mid new later at t comma w =
+  pub items_more : (items : List ℕ) (i d : ℕ) (old now new : Written) → i < length items → AreWritten style (map (part_kinds nodes) (take i items)) old now
+      → WritesTree style (part_kinds nodes (get_or items i d)) now new → AreWritten style (map (part_kinds nodes) (take (i + 1) items)) old new
+  items_more items i d old now new at t w =
       let e = get_or items i d in
       let kinds : map (part_kinds nodes) (take (i + 1) items) ≡ map (part_kinds nodes) (take i items) ++ part_kinds nodes e ∷ [] =
       ap (map (part_kinds nodes)) (take_more items i d at) ∙ map-append (part_kinds nodes) (take i items) (e ∷ []) in
-      subst (λ fs. AreWritten write fs old new true) (sym kinds) (item_more write (map (part_kinds nodes) (take i items)) (part_kinds nodes e) old now mid new later t comma w)
+      subst (λ fs. AreWritten style fs old new) (sym kinds) (item_more style (map (part_kinds nodes) (take i items)) (part_kinds nodes e) old now new t w)
 
-  pub items_done : (items : List ℕ) (i : ℕ) (old now new : List ℕ) (later : Bool) → part_kinds nodes id [] ≡ Some an_array → parts.AreItems nodes id items → length items ≤ i
-      → AreWritten write (map (part_kinds nodes) (take i items)) old now later → new ≡ now ++ 93 ∷ [] → Writes write (part_kinds nodes id) old new
-  items_done items i old now new later here are end t closed =
+  pub items_done : (items : List ℕ) (i : ℕ) (old now new : Written) → part_kinds nodes id [] ≡ Some an_array → parts.AreItems nodes id items → length items ≤ i
+      → AreWritten style (map (part_kinds nodes) (take i items)) old now → WritesTokens (end_array ∷ []) now new → WritesTree style (part_kinds nodes id) old new
+  items_done items i old now new here are end t closed =
       let all : AreTrees (map (part_kinds nodes) items) t.items = subst (λ front. AreTrees (map (part_kinds nodes) front) t.items) (take_all i items end) t.trees in
       record {
         tree = array (items_of t.items);
@@ -111,7 +113,10 @@ module _ (write : ScalarValue → List ℕ) (nodes : List Spot) (id : ℕ) where
               (λ j at. let same : 0 + j ≡ j = omega arith in
               ap (λ k. part_kinds nodes id (Index k ∷ at)) same ∙ are.each j at ∙ within_is (slice_get items j) at ∙ ap (λ (o : Option Kinds). within o at) (sym (slice_get-map (part_kinds nodes) items j))) all,
         );
-        is = closed ∙ (sym (t.text []) ∙ ap (λ ts. old ++ text_with write (array (items_of ts))) (append-nil t.items));
+        writes = (
+          closed.0 ∙ t.before,
+          closed.1 ∙ (sym (t.tokens []) ∙ ap (λ ts. old.tokens ++ tree_tokens style (array (items_of ts))) (append-nil t.items)),
+        );
       }
 
 -- names and what stands at them
@@ -141,31 +146,34 @@ AreNamed-push (f ∷ es) [] e t h is = absurd h
 AreNamed-push (f ∷ es) (m ∷ ms) e t h is = (h.0, h.1, AreNamed-push es ms e t h.2 is)
 
 -- The same of members.
-pub record MembersWritten (write : ScalarValue → List ℕ) (es : List Named) (old new : List ℕ) (later : Bool) : Type 0 where
+pub record MembersWritten (style : Style) (es : List Named) (old new : Written) : Type 0 where
   pub members : List Told
   pub trees : AreNamed es members
-  pub text : (rest : List Told) → old ++ text_with write (table (made (members ++ rest))) ≡ new ++ members_with write later (made rest)
+  pub before : new.before ≡ old.before
+  pub tokens : (rest : List Told) → old.tokens ++ tree_tokens style (table (made (members ++ rest))) ≡ new.tokens ++ members_tokens style (made rest)
 
-pub members_start : (write : ScalarValue → List ℕ) (old new : List ℕ) → new ≡ old ++ 123 ∷ [] → MembersWritten write [] old new false
-members_start write old new opened = record {
+pub members_start : (style : Style) (old new : Written) → WritesTokens (begin_object ∷ []) old new → MembersWritten style [] old new
+members_start style old new opened = record {
   members = [];
   trees = tt;
-  text = λ rest. sym (append_assoc old (123 ∷ []) (members_with write false (made rest))) ∙ ap (λ s. s ++ members_with write false (made rest)) (sym opened);
+  before = opened.0;
+  tokens = λ rest. sym (append_assoc old.tokens (begin_object ∷ []) (members_tokens style (made rest))) ∙ ap (λ ts. ts ++ members_tokens style (made rest)) (sym opened.1);
 }
 
--- a name, its colon and a part behind a comma, and then the rest
-member_parts : (old mid named new comma name part rest : List ℕ) → mid ≡ old ++ comma → named ≡ mid ++ (name ++ 58 ∷ []) → new ≡ named ++ part → old ++ (comma ++ (name ++ 58 ∷ (part ++ rest))) ≡ new ++ rest
-member_parts old mid named new comma name part rest first second third = rw (third, second, first) (simp append_assoc)
+-- a name and a part, and then the rest
+member_parts : (now named new : List Token) (t : Token) (part rest : List Token) → named ≡ now ++ t ∷ [] → new ≡ named ++ part → now ++ t ∷ (part ++ rest) ≡ new ++ rest
+member_parts now named new t part rest first second = rw (second, first) (simp append_assoc refl)
 
-member_more : (write : ScalarValue → List ℕ) (es : List Named) (e : Named) (old now mid named new : List ℕ) (later : Bool) → MembersWritten write es old now later → mid ≡ now ++ comma_if later → named ≡ mid ++ (quoted e.0 ++ 58 ∷ [])
-    → Writes write e.1 named new → MembersWritten write (es ++ e ∷ []) old new true
-member_more write es e old now mid named new later t comma name w =
+member_more : (style : Style) (es : List Named) (e : Named) (old now named new : Written) → MembersWritten style es old now → WritesTokens (key e.0 ∷ []) now named
+    → WritesTree style e.1 named new → MembersWritten style (es ++ e ∷ []) old new
+member_more style es e old now named new t name w =
     let j = w.tree in record {
       members = t.members ++ (e.0, j) ∷ [];
       trees = AreNamed-push es t.members e j t.trees w.of_data;
-      text = λ rest.
-          ap (λ ms. old ++ text_with write (table (made ms))) (append_assoc t.members ((e.0, j) ∷ []) rest) ∙ t.text ((e.0, j) ∷ rest)
-          ∙ member_parts now mid named new (comma_if later) (quoted e.0) (text_with write j) (members_with write true (made rest)) comma name w.is;
+      before = w.writes.0 ∙ name.0 ∙ t.before;
+      tokens = λ rest.
+          ap (λ ms. old.tokens ++ tree_tokens style (table (made ms))) (append_assoc t.members ((e.0, j) ∷ []) rest) ∙ t.tokens ((e.0, j) ∷ rest)
+          ∙ member_parts now.tokens named.tokens new.tokens (key e.0) (tree_tokens style j) (members_tokens style (made rest)) name.1 w.writes.1;
     }
 
 members_listed : (f : Kinds) (es : List Named) (ms : List Told) → ((i : ℕ) (e : Named) → slice_get es i ≡ Some e → (at : Address) → f (Name e.0 ∷ at) ≡ e.1 at) → AreNamed es ms → AreMembers f (made ms)
@@ -190,11 +198,11 @@ plain e = (e.0.now, e.1)
 abbrev pub named_kinds : List Spot → List (List ℕ × ℕ) → List Named
 named_kinds nodes = map (λ e. (e.0, part_kinds nodes e.1))
 
-module _ (write : ScalarValue → List ℕ) (nodes : List Spot) (id : ℕ) where
-  pub members_more : (members : List (Bor (List ℕ) × ℕ)) (i : ℕ) (d : Bor (List ℕ) × ℕ) (old now mid named new : List ℕ) (later : Bool) → i < length members
-      → MembersWritten write (named_kinds nodes (take i (plain_members members))) old now later → mid ≡ now ++ comma_if later → named ≡ mid ++ (quoted (get_or members i d).0.now ++ 58 ∷ [])
-      → Writes write (part_kinds nodes (get_or members i d).1) named new → MembersWritten write (named_kinds nodes (take (i + 1) (plain_members members))) old new true
-  members_more members i d old now mid named new later at t comma name w =
+module _ (style : Style) (nodes : List Spot) (id : ℕ) where
+  pub members_more : (members : List (Bor (List ℕ) × ℕ)) (i : ℕ) (d : Bor (List ℕ) × ℕ) (old now named new : Written) → i < length members
+      → MembersWritten style (named_kinds nodes (take i (plain_members members))) old now → WritesTokens (key (get_or members i d).0.now ∷ []) now named
+      → WritesTree style (part_kinds nodes (get_or members i d).1) named new → MembersWritten style (named_kinds nodes (take (i + 1) (plain_members members))) old new
+  members_more members i d old now named new at t name w =
       let e = get_or members i d in
       let all : List (List ℕ × ℕ) = plain_members members in
       let p : List ℕ × ℕ = (e.0.now, e.1) in
@@ -203,7 +211,7 @@ module _ (write : ScalarValue → List ℕ) (nodes : List Spot) (id : ℕ) where
       let front : take (i + 1) all ≡ take i all ++ p ∷ [] = take_more all i p low ∙ ap (λ x. take i all ++ x ∷ []) one in
       let kinds : named_kinds nodes (take (i + 1) all) ≡ named_kinds nodes (take i all) ++ (e.0.now, part_kinds nodes e.1) ∷ [] =
       ap (named_kinds nodes) front ∙ map-append (λ (x : List ℕ × ℕ). (x.0, part_kinds nodes x.1)) (take i all) (p ∷ []) in
-      subst (λ (es : List Named). MembersWritten write es old new true) (sym kinds) (member_more write (named_kinds nodes (take i all)) (e.0.now, part_kinds nodes e.1) old now mid named new later t comma name w)
+      subst (λ (es : List Named). MembersWritten style es old new) (sym kinds) (member_more style (named_kinds nodes (take i all)) (e.0.now, part_kinds nodes e.1) old now named new t name w)
 
   -- the part at a member may be written next
   pub member_may : (members : List (Bor (List ℕ) × ℕ)) (i : ℕ) (d : Bor (List ℕ) × ℕ) → parts.AreMembers nodes id (plain_members members) → i < length members
@@ -224,9 +232,9 @@ module _ (write : ScalarValue → List ℕ) (nodes : List Spot) (id : ℕ) where
           let same : ◌≡◌ {A = Named} (x.0, part_kinds nodes x.1) e = cc in
           λ at. subst (λ (y : Named). part_kinds nodes id (Name y.0 ∷ at) ≡ y.1 at) same (are.each i x there at)
 
-  pub members_done : (members : List (Bor (List ℕ) × ℕ)) (i : ℕ) (old now new : List ℕ) (later : Bool) → part_kinds nodes id [] ≡ Some a_table → parts.AreMembers nodes id (plain_members members)
-      → length members ≤ i → MembersWritten write (named_kinds nodes (take i (plain_members members))) old now later → new ≡ now ++ 125 ∷ [] → Writes write (part_kinds nodes id) old new
-  members_done members i old now new later here are end t closed =
+  pub members_done : (members : List (Bor (List ℕ) × ℕ)) (i : ℕ) (old now new : Written) → part_kinds nodes id [] ≡ Some a_table → parts.AreMembers nodes id (plain_members members)
+      → length members ≤ i → MembersWritten style (named_kinds nodes (take i (plain_members members))) old now → WritesTokens (end_object ∷ []) now new → WritesTree style (part_kinds nodes id) old new
+  members_done members i old now new here are end t closed =
       let all : List (List ℕ × ℕ) = plain_members members in
       let ms = t.members in
       let past : length all ≤ i = omega (arith, end, length-map members plain) in
@@ -242,5 +250,8 @@ module _ (write : ScalarValue → List ℕ) (nodes : List Spot) (id : ℕ) where
             ascending = subst (IsStrictlySortedBy (slice_cmp nat_cmp)) (sym same) are.ascending;
           },
         );
-        is = closed ∙ (sym (t.text []) ∙ ap (λ ms. old ++ text_with write (table (made ms))) (append-nil ms));
+        writes = (
+          closed.0 ∙ t.before,
+          closed.1 ∙ (sym (t.tokens []) ∙ ap (λ ms. old.tokens ++ tree_tokens style (table (made ms))) (append-nil ms)),
+        );
       }

@@ -1,8 +1,8 @@
 -- Data as the compact text of JSON, and as tagged JSON.
-use Rattle.std.specs.Prelude.{◌||◌, ℕ, Bool, true, false, if◌then◌else◌, List, ◌∷◌, ◌++◌, [], codes}
+use Rattle.std.specs.Prelude.{ℕ, Bool, true, false, if◌then◌else◌, List, ◌∷◌, ◌++◌, [], Option, Some, None, codes}
 use Rattle.std.specs.Fmt.{signed_decimal}
-use Rattle.std.specs.Str.{bytes_eq}
 use Rattle.json.specs.Print.{quoted}
+use Rattle.json.specs.Word.{after_number}
 use Rattle.serde_json.specs.Data as json
 use Rattle.serde_json.specs.Written.{comma_if, compact_text}
 use Rattle.toml_scalar.specs.Values.{ScalarValue, Text, Integer, Float, Boolean, Moment}
@@ -11,19 +11,25 @@ use Rattle.toml_print.specs.Trees.{Tree, scalar, array, table, Items, no_items, 
 use Rattle.toml_print.specs.declared.style.Style.{Style}
 use Rattle.toml_print.specs.declared.style.Style.TheVariants as styles
 
--- a float for which JSON has no number
-abbrev pub is_no_number : List ℕ → Bool
-is_no_number v = bytes_eq v (codes "inf") || (bytes_eq v (codes "-inf") || bytes_eq v (codes "nan"))
+-- whether something was read, and nothing is left behind it
+abbrev pub is_used_up : Option (List ℕ) → Bool
+is_used_up None = false
+is_used_up (Some []) = true
+is_used_up (Some (b ∷ bs)) = false
 
-abbrev pub float_text : List ℕ → List ℕ
-float_text v = if is_no_number v then quoted v else v
+-- whether JSON has this number: of the floats all but `inf`, `-inf` and `nan` (the law `FloatIsNumber`)
+abbrev pub is_json_number : List ℕ → Bool
+is_json_number v = is_used_up (after_number v)
+
+abbrev pub float_json : List ℕ → List ℕ
+float_json v = if is_json_number v then v else quoted v
 
 -- a scalar in JSON: a string, a date or a time as a string; an integer in decimal; a float by its text, as a string where JSON has
 -- no number for it; a boolean
 abbrev pub json_scalar : ScalarValue → List ℕ
 json_scalar (Text v) = quoted v
 json_scalar (Integer n) = signed_decimal n
-json_scalar (Float v) = float_text v
+json_scalar (Float v) = float_json v
 json_scalar (Boolean true) = codes "true"
 json_scalar (Boolean false) = codes "false"
 json_scalar (Moment kind v) = quoted v

@@ -3,6 +3,7 @@ pub mod TaggedText
 pub mod Trees
 pub mod JsonTexts
 pub mod Printed
+pub mod Tokens
 pub mod Writing
 pub mod ValueTexts
 pub mod Searching

@@ -1,17 +1,17 @@
 //! JSON as compact text, written straight from the names of a text: no data and no JSON stand in memory.
-ghost use Rattle.std.specs.Prelude.{◌≡◌, ◌++◌, [], ◌∷◌, Some, OnOk};
-ghost use Rattle.json.specs.Print.{quoted};
-ghost use Rattle.serde_json.specs.Written.{comma_if};
+ghost use Rattle.std.specs.Prelude.{◌≡◌, [], Some, OnOk};
 ghost use Rattle.toml_names.specs.mentions.Mentions.{a_table, an_array};
 ghost use Rattle.toml_names.specs.reader.Parts.{IsPart, part_kinds};
 ghost use Rattle.toml_print.specs.JsonTexts.{scalar_text};
 ghost use Rattle.toml_print.specs.TaggedText.{WritesTagged};
+ghost use Rattle.toml_print.specs.Tokens.{WritesTree};
 ghost use Rattle.toml_print.specs.Writing.{Writes};
 
 use crate::scalars::write_scalar;
-use crate::strings::write_text;
 use crate::style::Style;
+use json::Writer;
 use std::alloc::{AllocError, Global};
+use std::mem;
 use toml_names::{NamedText, Shape};
 
 /// Writes the tagged JSON of a text's data behind what `out` has. Of the data one scalar's value stands in memory at a
@@ -23,12 +23,11 @@ pub fn write_tagged(
 ) -> Result<(), AllocError>
     ensures { OnOk result (WritesTagged (part_kinds whole.now 0) out.old.items out.new.items) }
 {
-    write_part(alloc, out, whole, Style::Tagged, whole.root())
+    write_json(alloc, out, whole, Style::Tagged, whole.root())
 }
 
 /// Writes the JSON of a part behind what `out` has.
-#[cycle(write)]
-pub(crate) fn write_part(
+pub(crate) fn write_json(
     alloc: Global,
     out: &mut Vec<u8>,
     whole: &NamedText<'_>,
@@ -38,77 +37,67 @@ pub(crate) fn write_part(
     requires { IsPart whole.now id }
     ensures { OnOk result (Writes (scalar_text style) (part_kinds whole.now id) out.old.items out.new.items) }
 {
+    let mut writer = Writer::new(mem::replace(out, Vec::new(alloc)));
+    let written = write_part(&mut writer, whole, style, id);
+    *out = writer.into_inner();
+    written
+}
+
+/// Writes a part.
+#[cycle(write)]
+fn write_part(
+    writer: &mut Writer,
+    whole: &NamedText<'_>,
+    style: Style,
+    id: usize,
+) -> Result<(), AllocError>
+    requires { IsPart whole.now id }
+    ensures { OnOk result (WritesTree style (part_kinds whole.now id) writer.old writer.new) }
+{
     match whole.shape(id)? {
-        Shape::Scalar(scalar) => write_scalar(alloc, out, style, &scalar),
-        Shape::Array => write_items(alloc, out, whole, style, id),
-        Shape::Table => write_members(alloc, out, whole, style, id),
+        Shape::Scalar(scalar) => write_scalar(writer, style, &scalar),
+        Shape::Array => write_items(writer, whole, style, id),
+        Shape::Table => write_members(writer, whole, style, id),
     }
 }
 
 #[cycle(write)]
 fn write_items(
-    alloc: Global,
-    out: &mut Vec<u8>,
+    writer: &mut Writer,
     whole: &NamedText<'_>,
     style: Style,
     id: usize,
 ) -> Result<(), AllocError>
     requires part { IsPart whole.now id }
     requires array { part_kinds whole.now id [] ≡ Some an_array }
-    ensures { OnOk result (Writes (scalar_text style) (part_kinds whole.now id) out.old.items out.new.items) }
+    ensures { OnOk result (WritesTree style (part_kinds whole.now id) writer.old writer.new) }
 {
-    out.push(b'[')?;
-    let mut later = false;
+    writer.begin_array()?;
     for item in whole.items(id) {
-        write_comma(out, later)?;
-        write_part(alloc, out, whole, style, *item)?;
-        later = true;
+        write_part(writer, whole, style, *item)?;
     }
-    out.push(b']')?;
+    writer.end_array()?;
     Ok(())
 }
 
 /// The members are in the order of their names' bytes, which is that of an object's keys.
 #[cycle(write)]
 fn write_members(
-    alloc: Global,
-    out: &mut Vec<u8>,
+    writer: &mut Writer,
     whole: &NamedText<'_>,
     style: Style,
     id: usize,
 ) -> Result<(), AllocError>
     requires part { IsPart whole.now id }
     requires table { part_kinds whole.now id [] ≡ Some a_table }
-    ensures { OnOk result (Writes (scalar_text style) (part_kinds whole.now id) out.old.items out.new.items) }
+    ensures { OnOk result (WritesTree style (part_kinds whole.now id) writer.old writer.new) }
 {
     let members = whole.members(id)?;
-    out.push(b'{')?;
-    let mut later = false;
+    writer.begin_object()?;
     for (name, member) in &members {
-        write_comma(out, later)?;
-        write_key(out, name)?;
-        write_part(alloc, out, whole, style, *member)?;
-        later = true;
+        writer.key(name)?;
+        write_part(writer, whole, style, *member)?;
     }
-    out.push(b'}')?;
-    Ok(())
-}
-
-/// Writes a comma, where something stands before.
-fn write_comma(out: &mut Vec<u8>, later: bool) -> Result<(), AllocError>
-    ensures { OnOk result (out.new.items ≡ out.old.items ++ comma_if later) }
-{
-    if later {
-        out.push(b',')?;
-    }
-    Ok(())
-}
-
-/// Writes a name and its colon.
-fn write_key(out: &mut Vec<u8>, name: &str) -> Result<(), AllocError>
-    ensures { OnOk result (out.new.items ≡ out.old.items ++ (quoted name.now ++ 0x3A ∷ [])) }
-{
-    write_text(out, name)?;
-    out.push(b':')?;
+    writer.end_object()?;
     Ok(())
 }

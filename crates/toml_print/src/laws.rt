@@ -1,5 +1,5 @@
 //! Laws over the definitions: nothing is run.
-ghost use Rattle.toml_print.specs.Laws.{OnePrinted, OneTree, TreeIsTagged};
+ghost use Rattle.toml_print.specs.Laws.{FloatIsNumber, OnePrinted, OneTree, TreeIsTagged};
 ghost use Rattle.toml_print.specs.Tagged.{OneTagged};
 ghost use Rattle.toml_print.specs.ValueTexts.{OneValueAt};
 
@@ -14,4 +14,9 @@ pub fn printed()
 /// In good lines one value at most stands at an address.
 pub fn values()
     ensures { OneValueAt }
+{}
+
+/// JSON has a number for each float but `inf`, `-inf` and `nan`.
+pub fn numbers()
+    ensures { FloatIsNumber }
 {}

@@ -6,7 +6,6 @@ mod json_text;
 pub mod laws;
 mod printing;
 mod scalars;
-mod strings;
 mod style;
 mod tagged_json;
 mod value_at;

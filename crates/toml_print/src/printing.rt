@@ -8,7 +8,7 @@ ghost use Rattle.toml_print.specs.Writing.{PrintsBehind};
 ghost use Rattle.toml_print.specs.declared.form.Form.TheVariants.{Plain};
 
 use crate::form::Form;
-use crate::json_text::write_part;
+use crate::json_text::write_json;
 use crate::scalars::{tag_of, write_plain, write_scalar_text};
 use crate::style::Style;
 use std::alloc::{AllocError, Global};
@@ -69,8 +69,8 @@ fn write_form(
 {
     match form {
         Form::Plain => write_plainly(alloc, out, names, id),
-        Form::Json => write_part(alloc, out, names, Style::Plain, id),
-        Form::Tagged => write_part(alloc, out, names, Style::Tagged, id),
+        Form::Json => write_json(alloc, out, names, Style::Plain, id),
+        Form::Tagged => write_json(alloc, out, names, Style::Tagged, id),
         Form::TypeName => write_type(out, &names.shape(id)?),
     }
 }
@@ -87,7 +87,7 @@ fn write_plainly(
 {
     match names.shape(id)? {
         Shape::Scalar(scalar) => write_scalar_text(alloc, out, &scalar),
-        Shape::Array | Shape::Table => write_part(alloc, out, names, Style::Plain, id),
+        Shape::Array | Shape::Table => write_json(alloc, out, names, Style::Plain, id),
     }
 }
 

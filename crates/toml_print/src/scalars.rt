@@ -1,41 +1,76 @@
 //! Scalars, as JSON has them, with their types, and by their text alone.
-ghost use Rattle.std.specs.Prelude.{◌≡◌, ◌++◌, OnOk};
-ghost use Rattle.serde_json.specs.Data.{object};
-ghost use Rattle.serde_json.specs.Written.{compact_text};
+ghost use Rattle.std.specs.Prelude.{◌≡◌, ◌++◌, ◌∷◌, [], OnOk};
+ghost use Rattle.json.specs.Token.{string};
 ghost use Rattle.toml_scalar.specs.Values.{scalar_value};
-ghost use Rattle.toml_print.specs.JsonTexts.{float_text, is_no_number, json_scalar, scalar_text, tagged_scalar};
-ghost use Rattle.toml_print.specs.Tagged.{tag_of, text_of, told};
+ghost use Rattle.toml_print.specs.Tagged.{tag_of, text_of};
+ghost use Rattle.toml_print.specs.Tokens.{WritesTokens, float_token, json_token, scalar_tokens, told_tokens};
 
-use crate::strings::write_text;
 use crate::style::Style;
 use crate::tagged_json::moment_tag;
+use json::Writer;
 use std::alloc::{AllocError, Global};
 use toml_scalar::Scalar;
 
 /// Writes a scalar in a style.
 pub(crate) fn write_scalar(
-    alloc: Global,
-    out: &mut Vec<u8>,
+    writer: &mut Writer,
     style: Style,
     scalar: &Scalar,
 ) -> Result<(), AllocError>
-    ensures { OnOk result (out.new.items ≡ out.old.items ++ scalar_text style (scalar_value scalar.now)) }
+    ensures { OnOk result (WritesTokens (scalar_tokens style (scalar_value scalar.now)) writer.old writer.new) }
 {
     match style {
-        Style::Plain => write_json_scalar(alloc, out, scalar),
-        Style::Tagged => write_tagged_scalar(alloc, out, scalar),
+        Style::Plain => write_json_scalar(writer, scalar),
+        Style::Tagged => write_tagged_scalar(writer, scalar),
     }
 }
 
-fn write_json_scalar(alloc: Global, out: &mut Vec<u8>, scalar: &Scalar) -> Result<(), AllocError>
-    ensures { OnOk result (out.new.items ≡ out.old.items ++ json_scalar (scalar_value scalar.now)) }
+fn write_json_scalar(writer: &mut Writer, scalar: &Scalar) -> Result<(), AllocError>
+    ensures { OnOk result (WritesTokens (json_token (scalar_value scalar.now) ∷ []) writer.old writer.new) }
 {
     match scalar {
-        Scalar::Text(text) => write_text(out, text.as_str()),
-        Scalar::Integer(number) => write_plain(out, number.to_string(alloc)?.as_str()),
-        Scalar::Float(float) => write_float(out, float.text.as_str()),
-        Scalar::Bool(truth) => write_plain(out, if *truth { "true" } else { "false" }),
-        Scalar::Moment(moment) => write_text(out, moment.text.as_str()),
+        Scalar::Text(text) => writer.string(text.as_str()),
+        Scalar::Integer(number) => writer.i64(*number),
+        Scalar::Float(float) => write_float(writer, float.text.as_str()),
+        Scalar::Bool(truth) => writer.boolean(*truth),
+        Scalar::Moment(moment) => writer.string(moment.text.as_str()),
+    }
+}
+
+/// Writes a float's text, as a string where JSON has no number for it. The names of a text do not say that it is a float of TOML, so
+/// JSON is asked.
+fn write_float(writer: &mut Writer, text: &str) -> Result<(), AllocError>
+    ensures { OnOk result (WritesTokens (float_token text.now ∷ []) writer.old writer.new) }
+{
+    if json::is_number(text) {
+        return writer.number(text);
+    }
+    writer.string(text)
+}
+
+fn write_tagged_scalar(writer: &mut Writer, scalar: &Scalar) -> Result<(), AllocError>
+    ensures { OnOk result (WritesTokens
+        (told_tokens (tag_of (scalar_value scalar.now)) (text_of (scalar_value scalar.now))) writer.old writer.new) }
+{
+    writer.begin_object()?;
+    writer.key("type")?;
+    writer.string(tag_of(scalar))?;
+    writer.key("value")?;
+    write_text(writer, scalar)?;
+    writer.end_object()?;
+    Ok(())
+}
+
+/// Writes the text of a scalar as a string.
+fn write_text(writer: &mut Writer, scalar: &Scalar) -> Result<(), AllocError>
+    ensures { OnOk result (WritesTokens (string (text_of (scalar_value scalar.now)) ∷ []) writer.old writer.new) }
+{
+    match scalar {
+        Scalar::Text(text) => writer.string(text.as_str()),
+        Scalar::Integer(number) => writer.quoted_i64(*number),
+        Scalar::Float(float) => writer.string(float.text.as_str()),
+        Scalar::Bool(truth) => writer.string(if *truth { "true" } else { "false" }),
+        Scalar::Moment(moment) => writer.string(moment.text.as_str()),
     }
 }
 
@@ -44,47 +79,6 @@ pub(crate) fn write_plain(out: &mut Vec<u8>, text: &str) -> Result<(), AllocErro
     ensures { OnOk result (out.new.items ≡ out.old.items ++ text.now) }
 {
     out.extend_from_slice(text.as_bytes())?;
-    Ok(())
-}
-
-/// Whether JSON has no number for a float.
-fn is_no_number(text: &str) -> bool
-    ensures { result ≡ is_no_number text.now }
-{
-    text == "inf" || text == "-inf" || text == "nan"
-}
-
-/// Writes a float's text, between marks where JSON has no number for it.
-fn write_float(out: &mut Vec<u8>, text: &str) -> Result<(), AllocError>
-    ensures { OnOk result (out.new.items ≡ out.old.items ++ float_text text.now) }
-{
-    if is_no_number(text) {
-        return write_text(out, text);
-    }
-    write_plain(out, text)
-}
-
-fn write_tagged_scalar(alloc: Global, out: &mut Vec<u8>, scalar: &Scalar) -> Result<(), AllocError>
-    ensures { OnOk result (out.new.items ≡ out.old.items ++ tagged_scalar (scalar_value scalar.now)) }
-{
-    match scalar {
-        Scalar::Text(text) => write_told(out, "string", text.as_str()),
-        Scalar::Integer(number) => write_told(out, "integer", number.to_string(alloc)?.as_str()),
-        Scalar::Float(float) => write_told(out, "float", float.text.as_str()),
-        Scalar::Bool(truth) => write_told(out, "bool", if *truth { "true" } else { "false" }),
-        Scalar::Moment(moment) => write_told(out, moment_tag(moment.kind), moment.text.as_str()),
-    }
-}
-
-/// Writes a scalar's type and text.
-fn write_told(out: &mut Vec<u8>, tag: &str, text: &str) -> Result<(), AllocError>
-    ensures { OnOk result (out.new.items ≡ out.old.items ++ compact_text (object (told tag.now text.now))) }
-{
-    out.extend_from_slice(b"{\"type\":")?;
-    write_text(out, tag)?;
-    out.extend_from_slice(b",\"value\":")?;
-    write_text(out, text)?;
-    out.push(b'}')?;
     Ok(())
 }
 

@@ -11,8 +11,8 @@ returns-in_default-clause-offence c = λ number p h. absurd (no_text c.args.byte
 pub returns-in_ok-clash-in-Some-clause-offence : goal.returns-in_ok-clash-in-Some-clause-offence
 returns-in_ok-clash-in-Some-clause-offence c = λ number p h.
     let text = text_of c.in-Ok.source in
-    let sought = subst (λ a. SoughtIn a c.args.profile text c.in_ok-clash-in-Some.field-0) c.steps.ensures (c.in_ok-clash-in-Some.ensures refl) in
-    finds c.args.profile c.args.bytes.now text c.in-Ok.ensures.0 c.in_ok-address.field-0 c.in_ok-address.ensures c.in-Some.address c.in-Some.is c.in_ok-clash-in-Some.field-0.clash sought number p h
+    let sought = subst (λ a. SoughtIn a c.args.profile text c.in_ok-clash-in-Some.field-0) c.steps.ensures c.in_ok-clash-in-Some.ensures in
+    finds c.args.profile c.args.bytes.now text c.in-Ok.ensures.0 c.in_ok-address.field-0 c.in_ok-address.ensures c.in-Some.address c.in-Some.is c.in_ok-clash-in-Some.field-0.clash (λ lines are. (sought lines are).clash_is) number p h
 
 pub returns-in-None-clause-offence : goal.returns-in-None-clause-offence
 returns-in-None-clause-offence c = λ number p h.
@@ -24,8 +24,8 @@ returns-in_default-clause-both c = λ number first again h. absurd (no_text c.ar
 pub returns-in_ok-clash-in-Some-clause-both : goal.returns-in_ok-clash-in-Some-clause-both
 returns-in_ok-clash-in-Some-clause-both c = λ number first again h.
     let text = text_of c.in-Ok.source in
-    let sought = subst (λ a. SoughtIn a c.args.profile text c.in_ok-clash-in-Some.field-0) c.steps.ensures (c.in_ok-clash-in-Some.ensures refl) in
-    finds_both c.args.profile c.args.bytes.now text c.in-Ok.ensures.0 c.in_ok-address.field-0 c.in_ok-address.ensures c.in-Some.address c.in-Some.is c.in_ok-clash-in-Some.field-0.clash sought number first again h
+    let sought = subst (λ a. SoughtIn a c.args.profile text c.in_ok-clash-in-Some.field-0) c.steps.ensures c.in_ok-clash-in-Some.ensures in
+    finds_both c.args.profile c.args.bytes.now text c.in-Ok.ensures.0 c.in_ok-address.field-0 c.in_ok-address.ensures c.in-Some.address c.in-Some.is c.in_ok-clash-in-Some.field-0.clash (λ lines are. (sought lines are).clash_is) number first again h
 
 pub returns-in-None-clause-both : goal.returns-in-None-clause-both
 returns-in-None-clause-both c = λ number first again h.

@@ -13,4 +13,4 @@ loop-left-preserved c =
     c.loop-left.invariant c.in_ok-left.ensures).0
 
 pub returns : goal.returns
-returns c = λ is. all_sought c.args.target.now c.args.profile (text_of c.args.source) c.loop-left.left c.loop-left.seeker c.in_default.is c.loop-left.invariant
+returns c = all_sought c.args.target.now c.args.profile (text_of c.args.source) c.loop-left.left c.loop-left.seeker c.in_default.is c.loop-left.invariant

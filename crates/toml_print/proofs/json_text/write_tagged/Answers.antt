@@ -9,7 +9,7 @@ pub returns : goal.returns
 returns c =
     let parts = c.args.whole.now in
     let old = c.args.out.now.items in
-    let new = c.write_part.new.out.items in
-    on_ok_weaker c.write_part.result
+    let new = c.write_json.new.out.items in
+    on_ok_weaker c.write_json.result
     (λ w. subst (λ id. WritesTagged (part_kinds parts id) old new) c.root.ensures.root (writes_tagged (part_kinds parts c.root.result) old new w))
-    c.write_part.ensures
+    c.write_json.ensures

@@ -9,5 +9,5 @@ pub returns-in-Tagged : goal.returns-in-Tagged
 returns-in-Tagged c =
     let f = part_kinds c.args.names.now c.args.id in
     let old = c.args.out.now.items in
-    let new = c.write_part-in-Tagged.new.out.items in
-    on_ok_weaker c.write_part-in-Tagged.result (λ w. subst (λ form. PrintsBehind form f old new) (sym c.in-Tagged.is) (tagged_printed f old new w)) c.write_part-in-Tagged.ensures
+    let new = c.write_json-in-Tagged.new.out.items in
+    on_ok_weaker c.write_json-in-Tagged.result (λ w. subst (λ form. PrintsBehind form f old new) (sym c.in-Tagged.is) (tagged_printed f old new w)) c.write_json-in-Tagged.ensures

@@ -12,9 +12,9 @@ returns c =
     c.clash_after-self.ensures
     ∙ ap (λ l. first_some (seen_clash s.clash) (forbidden_by (forbidding (role_of m.role) (map seen_of l)) (seen_of m))) c.deref.ensures.value in
     on_ok_weaker c.add_first.result
-    (λ forbid. record {
+    (λ keeps. record {
       target = refl;
       tables = refl;
       section = refl;
-      seen = seen_more s.firsts.items c.add_first.new.firsts.items s.clash c.clash_after-self.result (seen_of m) clash forbid;
+      seen = seen_more s.firsts.items c.add_first.new.firsts.items s.clash c.clash_after-self.result (seen_of m) clash keeps;
     }) c.add_first.ensures
