@@ -24,6 +24,7 @@ mod LeftParts
 mod ItemGaps
 mod RoomParts
 mod TakenParts
+mod TakenMarks
 mod Clear
 mod Emptied
 pub mod Proved
