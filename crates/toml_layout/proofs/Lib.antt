@@ -25,6 +25,14 @@ mod ItemGaps
 mod RoomParts
 mod TakenParts
 mod TakenMarks
+mod SameParts
+mod SameLeft
+mod SameItems
+mod SameMargins
+mod SameEntries
+mod SameRooms
+mod SamePairs
+mod OneOutline
 mod Clear
 mod Emptied
 pub mod Proved
