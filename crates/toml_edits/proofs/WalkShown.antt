@@ -14,7 +14,7 @@ use Rattle.toml_edits.specs.Moves.{down_of, marks_of, moves}
 use Rattle.toml_edits.specs.Notes.{seen, untouched}
 use Rattle.toml_edits.specs.Told.{HasSight, Sees, TellsOf}
 use Rattle.toml_edits.specs.Trees.{Told, Tells, Seen, one_deeper, seen_above, seen_here, told_above, walk}
-use Rattle.toml_edits.specs.Walks.{IsHere, IsShown, Leads}
+use Rattle.toml_edits.specs.Walks.{IsDeeper, IsHere, IsShown, Leads}
 use Rattle.toml_edits.proofs.Noting.{step_on, walk_none}
 use Rattle.toml_edits.proofs.WalkSeen.{seen_is_carried}
 
@@ -46,15 +46,15 @@ or_right : (b d : Bool) → b || d ≡ false → d ≡ false
 or_right b d e = grind arith
 
 pub shown_on : (o : Option Moves) (t : Moves) (s u : Step) (below : Option Moves) (r a : Address) → o ≡ Some t → a ≡ s ∷ r → down_of t s ≡ Some (Some (record { to = u; tree = below })) → (one new : Trace) → IsShown (walk moves below r) r (sights.Somewhere one)
-    → (m : Bool) → (m ≡ false → u ≡ s) → (new.set ≡ one.set) × (new.below ≡ one.below) × (new.renamed ≡ one_deeper (marks_of t).renamed one.renamed) × (new.moved ≡ (m || one.moved)) → IsShown (walk moves o a) a (sights.Somewhere new)
-shown_on o t s u below r a is at e one new (n, w, h) m same fields = (
+    → (m : Bool) → (m ≡ false → u ≡ s) → IsDeeper (marks_of t).renamed m one new → IsShown (walk moves o a) a (sights.Somewhere new)
+shown_on o t s u below r a is at e one new (n, w, h) m same deeper = (
   seen_above u (marks_of t).renamed n,
   on_step o t s u below r a is at e ∙ ap (told_above u (marks_of t).renamed) w,
   record {
-    set = fields.0 ∙ h.set;
-    below = fields.1 ∙ h.below;
-    renamed = fields.2 ∙ ap (one_deeper (marks_of t).renamed) h.renamed;
-    stays = λ x. ap (λ y. y ∷ n.to) (same (or_left m one.moved (sym fields.3 ∙ x))) ∙ ap (λ y. s ∷ y) (h.stays (or_right m one.moved (sym fields.3 ∙ x))) ∙ sym at;
+    set = deeper.set ∙ h.set;
+    below = deeper.below ∙ h.below;
+    renamed = deeper.renamed ∙ ap (one_deeper (marks_of t).renamed) h.renamed;
+    stays = λ x. ap (λ y. y ∷ n.to) (same (or_left m one.moved (sym deeper.moved ∙ x))) ∙ ap (λ y. s ∷ y) (h.stays (or_right m one.moved (sym deeper.moved ∙ x))) ∙ sym at;
   },
 )
 

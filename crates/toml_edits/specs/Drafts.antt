@@ -1,5 +1,5 @@
 -- Data while edits are made on them, with one array held open.
-use Rattle.std.specs.Prelude.{◌≡◌, ℕ, List, [], ◌∷◌, ◌++◌, Bool, true, false, Option, Some, None, IsSome, MatchOption, if◌then◌else◌, slice_get}
+use Rattle.std.specs.Prelude.{◌≡◌, ℕ, List, [], ◌∷◌, ◌++◌, Bool, true, false, Option, Some, None, IsSome, MatchOption, Result, IfErr, OnOk, if◌then◌else◌, slice_get}
 use Rattle.std.specs.Borrow.{Bor}
 use Rattle.toml_names.specs.declared.model.address.Step.{Step}
 use Rattle.toml_names.specs.declared.model.address.Step.TheVariants.{Name, Index}
@@ -8,9 +8,12 @@ use Rattle.toml_names.specs.model.Addresses.{Address, element}
 use Rattle.toml_names.specs.model.Data.{Kinds, kind_at, kind_in}
 use Rattle.toml_names.specs.mentions.Mentions.{Kind, an_array}
 use Rattle.toml_lists.specs.Gaps.{items}
+use Rattle.toml_tree.specs.declared.profile.Profile.{Profile}
 use Rattle.toml_edits.specs.declared.draft.Draft.{Draft}
+use Rattle.toml_edits.specs.declared.fault.EditFault.{EditFault}
 use Rattle.toml_edits.specs.declared.open_array.OfElement.{OfElement}
 use Rattle.toml_edits.specs.declared.open_array.OpenArray.{OpenArray}
+use Rattle.toml_edits.specs.Applied.{IsApplied, IsRefused}
 use Rattle.toml_edits.specs.Changed.{below}
 use Rattle.toml_edits.specs.Edits.{Change, insert, remove}
 
@@ -68,6 +71,17 @@ IsRefilled a f g = (at : Address) → g at ≡ below a.at (λ part. elements_at 
 -- the address is one step below it, and the data have an array there
 abbrev pub IsOpenFor : OpenArray → Kinds → Address → Type 0
 IsOpenFor a root at = ((s : Step) × (at ≡ a.at ++ s ∷ [])) × (is_array (root a.at) ≡ true)
+
+-- At the address this is found in the data with the elements put back: it has the kind that stands there, and where the address is one
+-- step below the array, all that stands below it.
+pub record FindsOpen (a : OpenArray) (root : Kinds) (at : Address) (found : Option Datum) : Type 0 where
+  pub kind : kind_in found [] ≡ filled a.at (items a.elements) root at
+  pub part : IsOpenFor a root at → (rest : Address) → kind_in found rest ≡ filled a.at (items a.elements) root (at ++ rest)
+
+-- The edit is so answered, of whatever data in which the old elements stand: with its fault, or that it makes those with the new ones.
+pub record IsMadeIn {A : Type 0} (profile : Profile) (c : Change) (old new : OpenArray) (result : Result A EditFault) : Type 0 where
+  pub fault : (f : Kinds) → StandAt old f → IfErr result (IsRefused profile c f)
+  pub ok : (f g : Kinds) → StandAt old f → IsRefilled new f g → OnOk result (IsApplied profile c f g)
 
 -- no array is open, or that at the address, where the data have one
 abbrev pub IsTurned : Draft → Address → Type 0

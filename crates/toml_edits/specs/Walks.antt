@@ -1,5 +1,5 @@
 -- Walks down the code's tree.
-use Rattle.std.specs.Prelude.{◌≡◌, ◌≤◌, ℕ, List, ◌++◌, Option, Some, None, IfSome, option_copied}
+use Rattle.std.specs.Prelude.{◌≡◌, ◌≤◌, ◌||◌, ℕ, Bool, List, ◌++◌, Option, Some, None, IfSome, option_copied}
 use Rattle.toml_names.specs.declared.model.address.Step.{Step}
 use Rattle.toml_names.specs.declared.model.address.Step.TheVariants.{Name, Index}
 use Rattle.toml_names.specs.model.Addresses.{Address}
@@ -13,7 +13,7 @@ use Rattle.toml_edits.specs.declared.walking.To.TheVariants as tos
 use Rattle.toml_edits.specs.declared.walking.Trace.{Trace}
 use Rattle.toml_edits.specs.Moves.{marks_of}
 use Rattle.toml_edits.specs.Told.{IsTrace}
-use Rattle.toml_edits.specs.Trees.{Told, Down, Seen, depth_here}
+use Rattle.toml_edits.specs.Trees.{Told, Down, Seen, depth_here, one_deeper}
 
 abbrev pub step_by : To → Step → Step
 step_by tos.Same s = s
@@ -30,6 +30,13 @@ pub record IsHere (t : Moves) (trace : Trace) : Type 0 where
   pub set : trace.set ≡ (marks_of t).set
   pub below : trace.below ≡ (marks_of t).below
   pub renamed : trace.renamed ≡ depth_here (marks_of t).renamed
+
+-- the trace of a thing from one step further up, where an edit renames that step or not, and may move it or not
+pub record IsDeeper (renames moves : Bool) (old new : Trace) : Type 0 where
+  pub set : new.set ≡ old.set
+  pub below : new.below ≡ old.below
+  pub renamed : new.renamed ≡ one_deeper renames old.renamed
+  pub moved : new.moved ≡ (moves || old.moved)
 
 -- a walk by the steps shows what has this sight, if that is known
 abbrev pub IsShown : Told (Option Seen) → Address → Sight → Type 0

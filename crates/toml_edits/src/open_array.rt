@@ -1,11 +1,10 @@
 //! An array of which the edits put in or take out elements, one after the other.
-ghost use Rattle.std.specs.Prelude.{◌≡◌, ◌↔◌, ◌<◌, ◌≤◌, ◌++◌, ◌∷◌, [], IfErr, IfSome, IsTrue, OnErr, OnOk, drop, length, option_copied};
+ghost use Rattle.std.specs.Prelude.{◌≡◌, ◌↔◌, ◌<◌, ◌≤◌, ◌++◌, ◌∷◌, [], IfSome, IsTrue, OnErr, OnOk, drop, length, option_copied};
 ghost use Rattle.toml_names.specs.model.Addresses.{Address, element};
 ghost use Rattle.toml_names.specs.declared.model.address.Step.{Step as AnyStep};
 ghost use Rattle.toml_names.specs.model.Data.{Kinds, kind_at, kind_in};
 ghost use Rattle.toml_lists.specs.Gaps.{items};
-ghost use Rattle.toml_edits.specs.Applied.{IsApplied, IsRefused};
-ghost use Rattle.toml_edits.specs.Drafts.{IsOfElement, IsOpenFor, IsRefilled, StandAt, element_change, elements_at, filled};
+ghost use Rattle.toml_edits.specs.Drafts.{FindsOpen, IsMadeIn, IsOfElement, IsOpenFor, StandAt, element_change, elements_at};
 ghost use Rattle.toml_edits.specs.Edits.{change, insert, remove};
 ghost use Rattle.toml_edits.specs.Judged.{IsJudged};
 ghost use Rattle.toml_tree.specs.declared.profile.Profile.{Profile};
@@ -71,8 +70,7 @@ impl OpenArray {
     ) -> Result<(), EditFault>
         requires { edit.at.now ≡ element self.old.at edit.index }
         ensures at { self.new.at ≡ self.old.at }
-        ensures fault { (f : Kinds) → StandAt self.old f → IfErr result (IsRefused profile (element_change edit.entry) f) }
-        ensures ok { (f g : Kinds) → StandAt self.old f → IsRefilled self.new f g → OnOk result (IsApplied profile (element_change edit.entry) f g) }
+        ensures made { IsMadeIn profile (element_change edit.entry) self.old self.new result }
         ensures err { OnErr result (items self.new.elements ≡ items self.old.elements) }
     {
         match edit.value {
@@ -92,8 +90,7 @@ impl OpenArray {
     ) -> Result<(), EditFault>
         requires { at.now ≡ element self.old.at index }
         ensures at { self.new.at ≡ self.old.at }
-        ensures fault { (f : Kinds) → StandAt self.old f → IfErr result (IsRefused profile (insert at.now text.now) f) }
-        ensures ok { (f g : Kinds) → StandAt self.old f → IsRefilled self.new f g → OnOk result (IsApplied profile (insert at.now text.now) f g) }
+        ensures made { IsMadeIn profile (insert at.now text.now) self.old self.new result }
         ensures err { OnErr result (items self.new.elements ≡ items self.old.elements) }
     {
         let value = self.value_to_insert(alloc, at, index, text, profile)?;
@@ -130,8 +127,7 @@ impl OpenArray {
     fn remove(&mut self, at: &[Step], index: u64) -> Result<(), EditFault>
         requires { at.now ≡ element self.old.at index }
         ensures at { self.new.at ≡ self.old.at }
-        ensures fault { (profile : Profile) (f : Kinds) → StandAt self.old f → IfErr result (IsRefused profile (remove at.now) f) }
-        ensures ok { (profile : Profile) (f g : Kinds) → StandAt self.old f → IsRefilled self.new f g → OnOk result (IsApplied profile (remove at.now) f g) }
+        ensures made { (profile : Profile) → IsMadeIn profile (remove at.now) self.old self.new result }
         ensures err { OnErr result (items self.new.elements ≡ items self.old.elements) }
     {
         if !self.elements.has(index as usize) {
@@ -156,8 +152,7 @@ impl OpenArray {
     /// What stands at the address in data of which this is the root, the elements being put back. Of what the array stands in, and of
     /// the array, this tells no more than what kind it is.
     pub(crate) fn found<'a>(&'a self, root: &'a Datum, at: &Address) -> Option<&'a Datum>
-        ensures kind { kind_in (option_copied result) [] ≡ filled self.now.at (items self.now.elements) (kind_at root.now) at.now }
-        ensures part { IsOpenFor self.now (kind_at root.now) at.now → (rest : Address) → kind_in (option_copied result) rest ≡ filled self.now.at (items self.now.elements) (kind_at root.now) (at.now ++ rest) }
+        ensures { FindsOpen self.now (kind_at root.now) at.now (option_copied result) }
     {
         if !has_array(root, self.at.steps()) {
             return root.at(at);

@@ -1,6 +1,6 @@
 //! Walks down a tree of moves, by the steps that a thing has before the edits.
 ghost use Rattle.std.specs.BTreeMap.{get_by_text};
-ghost use Rattle.std.specs.Prelude.{◌≡◌, ◌<◌, ◌-◌, ◌^◌, ◌++◌, ◌||◌, List, Some, IfOk, IfSome, OnOk, false, true, length, option_copied};
+ghost use Rattle.std.specs.Prelude.{◌≡◌, ◌<◌, ◌-◌, ◌^◌, ◌++◌, List, Some, IfOk, IfSome, OnOk, false, true, length, option_copied};
 ghost use Rattle.toml_names.specs.declared.model.address.Step.TheVariants.{Name as ByName, Index as ByIndex};
 ghost use Rattle.toml_names.specs.model.Indices.{IsLow, IsLowStep};
 ghost use Rattle.toml_edits.specs.Edits.{Change};
@@ -8,8 +8,8 @@ ghost use Rattle.toml_edits.specs.Lists.{carried};
 ghost use Rattle.toml_edits.specs.Moves.{branch_of, element_in, down_of, moves};
 ghost use Rattle.toml_edits.specs.Runs.{index_in};
 ghost use Rattle.toml_edits.specs.Told.{HasSight, IsWhere, TellsOf};
-ghost use Rattle.toml_edits.specs.Trees.{one_deeper, walk};
-ghost use Rattle.toml_edits.specs.Walks.{IsHere, IsShown, IsWithin, Leads, next_by, step_by};
+ghost use Rattle.toml_edits.specs.Trees.{walk};
+ghost use Rattle.toml_edits.specs.Walks.{IsDeeper, IsHere, IsShown, IsWithin, Leads, next_by, step_by};
 ghost use Rattle.toml_edits.specs.declared.moves.Moves.TheViews.{out-Moves};
 
 use crate::moves::{Moves, Stand};
@@ -105,7 +105,7 @@ impl Trace {
     /// The trace from one step further up, where an edit renames the thing or not, and may move it or not.
     fn deeper(self, renamed: bool, moved: bool) -> Trace
         requires { IfSome self.renamed (λ n. n < 2 ^ 64 - 1) }
-        ensures { (result.set ≡ self.set) × (result.below ≡ self.below) × (result.renamed ≡ one_deeper renamed self.renamed) × (result.moved ≡ (moved || self.moved)) }
+        ensures { IsDeeper renamed moved self result }
     {
         Trace {
             renamed: match self.renamed {

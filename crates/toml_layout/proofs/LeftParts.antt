@@ -15,7 +15,7 @@ ends_is (q ∷ []) p = refl
 ends_is (q ∷ r ∷ ps) p = ends_is (r ∷ ps) p
 
 -- a newline stands in it
-newline_in : (ps : List GapPart) (p : GapPart) (rest : List GapPart) → is_newline p ≡ true → begins_line ((ps ++ p ∷ []) ++ rest) ≡ true
+pub newline_in : (ps : List GapPart) (p : GapPart) (rest : List GapPart) → is_newline p ≡ true → begins_line ((ps ++ p ∷ []) ++ rest) ≡ true
 newline_in [] p rest one = ap (λ b. b || begins_line rest) one
 newline_in (q ∷ ps) p rest one = ap (λ b. is_newline q || b) (newline_in ps p rest one) ∙ by (is_newline q)
   where

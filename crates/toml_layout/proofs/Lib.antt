@@ -24,6 +24,15 @@ mod LeftParts
 mod ItemGaps
 mod RoomParts
 mod TakenParts
+mod TakenMarks
+mod SameParts
+mod SameLeft
+mod SameItems
+mod SameMargins
+mod SameEntries
+mod SameRooms
+mod SamePairs
+mod OneOutline
 mod Clear
 mod Emptied
 pub mod Proved

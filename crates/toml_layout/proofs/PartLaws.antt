@@ -45,7 +45,7 @@ first_apart text = by (nat_lt 0 (run_len is_ws text)) (nat_lt 0 (newline_len tex
     by false false true x y z w = refl
     by false false false x y z w = refl
 
-parts_apart : (text : List ℕ) (ps : List PartOutline) → AreParts text ps → list_any is_lines ps ≡ false
+pub parts_apart : (text : List ℕ) (ps : List PartOutline) → AreParts text ps → list_any is_lines ps ≡ false
 parts_apart text [] none = refl
 parts_apart text (p ∷ ps) (some, is, rest) =
     ap (λ b. b || list_any is_lines ps) (ap is_lines is ∙ first_apart text) ∙ parts_apart (behind_first text) ps rest

@@ -164,7 +164,7 @@ plain_last m mid new i last own it was gap past is took at here stood now gap_is
 
 -- ---- one is put in
 
-inserted_mapped : {X Y : Type 0} (f : X → Y) (xs : List X) (i : ℕ) (x : X) → map f (insert xs i x) ≡ insert (map f xs) i (f x)
+pub inserted_mapped : {X Y : Type 0} (f : X → Y) (xs : List X) (i : ℕ) (x : X) → map f (insert xs i x) ≡ insert (map f xs) i (f x)
 inserted_mapped f xs i x = map-append f (take i xs) (x ∷ drop i xs) ∙ ap₂ (λ a b. a ++ f x ∷ b) (sym (take-map f i xs)) (drop_mapped f i xs)
 
 pub with_one_in : (old : Entries) (list : GapList Entry) (i : ℕ) (x : Entry) → i ≤ length (items (out-Entries old).list)

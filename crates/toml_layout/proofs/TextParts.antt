@@ -160,7 +160,7 @@ behind_less text any =
 
 -- ---- all parts
 
-text_of_part : (p : GapPart) → gap_part_text p ≡ part_text (part p)
+pub text_of_part : (p : GapPart) → gap_part_text p ≡ part_text (part p)
 text_of_part (parts.Ws ws) = refl
 text_of_part (parts.Comment comment) = refl
 text_of_part (parts.Newline newline) = refl

@@ -34,3 +34,5 @@ pub mod PairRemovals
 pub mod Holding
 pub mod ChangingIn
 pub mod Emptying
+-- of which there is one
+pub mod OneOutline

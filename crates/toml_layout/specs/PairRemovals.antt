@@ -1,5 +1,5 @@
 -- Which pairs of an inline table a `remove` takes out, and what comes to stand for a table that would vanish with them.
-use Rattle.std.specs.Prelude.{◌≡◌, ◌⊎◌, ◌&&◌, ℕ, Bool, true, false, not, List, [], ◌∷◌, length, map, set, take, Option, Some, None, option_and_then, option_map, slice_get}
+use Rattle.std.specs.Prelude.{◌≡◌, ◌⊎◌, ◌&&◌, ℕ, Bool, true, false, not, List, [], ◌∷◌, length, map, set, Option, Some, None, option_and_then, option_map, slice_get}
 use Rattle.std.specs.List.{list_any}
 use Rattle.toml_names.specs.mentions.Keys.{Key}
 use Rattle.toml_names.specs.model.Addresses.{Address}
@@ -10,7 +10,7 @@ use Rattle.toml_layout.specs.Items.{Item, Items, item}
 use Rattle.toml_layout.specs.OpenOutlines.{assign, value}
 use Rattle.toml_layout.specs.PairPlaces.{item_key}
 use Rattle.toml_layout.specs.RenamingIn.{reaches}
-use Rattle.toml_layout.specs.Takings.{TakesAll}
+use Rattle.toml_layout.specs.Takings.{IsFirstMark, TakesAll}
 
 -- whether all these steps are the first names of a key, if there is one
 abbrev pub key_reaches : Address → Option Key → Bool
@@ -61,11 +61,6 @@ pub record EmptiesEntry (parts place : ℕ) (old now : List Entry) : Type 0 wher
 
 abbrev pub EmptiesIf : ℕ → ℕ → Items → Items → Type 0
 EmptiesIf parts i old now = ((slice_get old.list i ≡ None) × (now ≡ old)) ⊎ EmptiesAt parts i old now
-
--- the index is that of the first mark
-pub record IsFirstMark (marks : List Bool) (i : ℕ) : Type 0 where
-  pub marked : slice_get marks i ≡ Some true
-  pub first : list_any (λ m. m) (take i marks) ≡ false
 
 -- the item with it comes to stand so, and the mark goes; or there is none
 abbrev pub ReplacesFirst : ℕ → List Bool → List Bool → Items → Items → Type 0

@@ -1,6 +1,6 @@
 -- What becomes of the items of an array or an inline table where one goes, by either layout.
-use Rattle.std.specs.Prelude.{◌≡◌, ◌+◌, ◌-◌, ℕ, zero, suc, Bool, true, false, List, [], ◌∷◌, ◌++◌, length, Option, Some, None, option_map, slice_get, if◌then◌else◌}
-use Rattle.std.specs.List.{remove}
+use Rattle.std.specs.Prelude.{◌≡◌, ◌-◌, ℕ, zero, suc, Bool, true, false, List, ◌++◌, length, take, Option, Some, None, option_map, slice_get, if◌then◌else◌}
+use Rattle.std.specs.List.{list_any, remove}
 use Rattle.toml_layout.specs.declared.layout.Layout.{Layout}
 use Rattle.toml_layout.specs.declared.layout.Layout.TheVariants as layouts
 use Rattle.toml_layout.specs.declared.tree.GapPart.{GapPart}
@@ -44,12 +44,6 @@ taken_if m i (Some it) = leaves_plain (without m i) i it
 
 abbrev pub taken : Items → ℕ → Items
 taken m i = taken_if m i (slice_get m.list i)
-
--- those with these marks go, one after the other
-abbrev pub all_taken : Items → ℕ → List Bool → Items
-all_taken m i [] = m
-all_taken m i (true ∷ marks) = all_taken (taken m i) i marks
-all_taken m i (false ∷ marks) = all_taken m (i + 1) marks
 
 -- ---- by layout `Follow`
 
@@ -101,17 +95,29 @@ ClosedIf old i new (Some it) = ClosesUp (without old i) i it.before it.after new
 abbrev pub ClosesOne : ℕ → Items → Items → Type 0
 ClosesOne i old new = ClosedIf old i new (slice_get old.list i)
 
-abbrev pub ClosesAll : ℕ → List Bool → Items → Items → Type 0
-ClosesAll i [] old new = new ≡ old
-ClosesAll i (true ∷ marks) old new = (m : Items) × ClosesOne i old m × ClosesAll i marks m new
-ClosesAll i (false ∷ marks) old new = ClosesAll (i + 1) marks old new
-
 -- ---- in a layout
 
 abbrev pub TakesOne : Layout → ℕ → Items → Items → Type 0
 TakesOne layouts.Plain i old new = new ≡ taken old i
 TakesOne layouts.Follow i old new = ClosesOne i old new
 
+-- the index is that of the first mark
+pub record IsFirstMark (marks : List Bool) (i : ℕ) : Type 0 where
+  pub marked : slice_get marks i ≡ Some true
+  pub first : list_any (λ m. m) (take i marks) ≡ false
+
+-- the first item that is marked goes, and these marks are left
+pub record TakesFirst (layout : Layout) (marks left : List Bool) (old new : Items) : Type 0 where
+  pub index : ℕ
+  pub first : IsFirstMark marks index
+  pub takes : TakesOne layout index old new
+  pub left_are : left ≡ remove marks index
+
+-- So many go, one after the other in text order, each from what the one before it left, until none is marked.
+abbrev pub TakesMany : Layout → ℕ → List Bool → Items → Items → Type 0
+TakesMany layout zero marks old new = (list_any (λ m. m) marks ≡ false) × (new ≡ old)
+TakesMany layout (suc n) marks old new = (left : List Bool) × (mid : Items) × TakesFirst layout marks left old mid × TakesMany layout n left mid new
+
+-- those with these marks go
 abbrev pub TakesAll : Layout → List Bool → Items → Items → Type 0
-TakesAll layouts.Plain marks old new = new ≡ all_taken old 0 marks
-TakesAll layouts.Follow marks old new = ClosesAll 0 marks old new
+TakesAll layout marks old new = (n : ℕ) × TakesMany layout n marks old new

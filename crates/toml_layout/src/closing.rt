@@ -2,7 +2,7 @@
 ghost use Rattle.std.specs.Prelude.{◌≡◌, IfOk, OnOk, option_map, slice_get};
 ghost use Rattle.toml_layout.specs.Items.{gap_parts, items_of};
 ghost use Rattle.toml_layout.specs.Leaving.{remains};
-ghost use Rattle.toml_layout.specs.Takings.{ClosesAll, ClosesOne, ClosesUp, IsPartedIf, gap_behind, item_above, put_above, put_behind, put_left};
+ghost use Rattle.toml_layout.specs.Takings.{ClosesOne, ClosesUp, IsPartedIf, gap_behind, item_above, put_above, put_behind, put_left};
 
 use crate::leaving::{Around, Left};
 use crate::texts::Texts;
@@ -20,23 +20,7 @@ fn parts_of<'a, 't>(gap: &'a Option<Gap<'t>>) -> Option<&'a [GapPart<'t>]>
 }
 
 impl<'t> Entries<'t> {
-    /// Takes out the entries with these marks, one after the other in text order, each with what the layout of its neighbours
-    /// does not need.
-    pub(crate) fn close_all(&mut self, texts: Texts<'t>, marks: &[bool]) -> Result<(), AllocError>
-        ensures { OnOk result (ClosesAll 0 marks.now (items_of self.old) (items_of self.new)) }
-    {
-        let mut index = 0usize;
-        for is_marked in marks {
-            if *is_marked {
-                self.close_one(texts, index)?;
-            } else {
-                index = index.saturating_add(1);
-            }
-        }
-        Ok(())
-    }
-
-    /// Takes out the entry with the index in the same way. The others are not gone through.
+    /// Takes out the entry with the index, with what the layout of its neighbours does not need. The others are not gone through.
     pub(crate) fn close_one(&mut self, texts: Texts<'t>, index: usize) -> Result<(), AllocError>
         ensures { OnOk result (ClosesOne index (items_of self.old) (items_of self.new)) }
     {

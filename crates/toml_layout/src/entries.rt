@@ -4,7 +4,7 @@ ghost use Rattle.toml_layout.specs.Emptying.{no_entries};
 ghost use Rattle.toml_layout.specs.Items.{ChangesAfter, ChangesAfterAt, ChangesBefore, ChangesBeforeAt, gap_parts, item, items_of, with_end, with_item};
 ghost use Rattle.toml_layout.specs.OpenOutlines.{entries};
 ghost use Rattle.toml_layout.specs.Rooms.{PutsItem, RoomFor, room, room_of};
-ghost use Rattle.toml_layout.specs.Takings.{TakesAll, TakesOne, all_taken, closed, followed, leaves_plain, taken};
+ghost use Rattle.toml_layout.specs.Takings.{TakesAll, TakesOne, closed, followed, leaves_plain, taken};
 
 use crate::gaps::one_space;
 use crate::layout::Layout;
@@ -154,10 +154,15 @@ impl<'t> Entries<'t> {
     ) -> Result<(), AllocError>
         ensures { OnOk result (TakesAll texts.entry.layout marks.now (items_of self.old) (items_of self.new)) }
     {
-        match texts.layout {
-            Layout::Plain => self.take_out(texts.alloc, marks),
-            Layout::Follow => self.close_all(texts, marks),
+        let mut index = 0usize;
+        for is_marked in marks {
+            if *is_marked {
+                self.remove_one(texts, index)?;
+            } else {
+                index = index.saturating_add(1);
+            }
         }
+        Ok(())
     }
 
     /// Takes out the entry with the index.
@@ -170,24 +175,9 @@ impl<'t> Entries<'t> {
         }
     }
 
-    /// Takes out the entries with these marks, one after the other in text order, each with a comma: the one behind it, or
-    /// where none follows the one before it. If nothing but whitespace stands between that comma and the next thing on its
-    /// far side, that whitespace goes too. All comments and newlines stay.
-    fn take_out(&mut self, alloc: Global, marks: &[bool]) -> Result<(), AllocError>
-        ensures { OnOk result (items_of self.new ≡ all_taken (items_of self.old) 0 marks.now) }
-    {
-        let mut index = 0usize;
-        for is_marked in marks {
-            if *is_marked {
-                self.take_one(alloc, index)?;
-            } else {
-                index = index.saturating_add(1);
-            }
-        }
-        Ok(())
-    }
-
-    /// Takes out the entry with the index in the same way. The others are not gone through.
+    /// Takes out the entry with the index, and a comma: the one behind it, or where none follows the one before it. If nothing but
+    /// whitespace stands between that comma and the next thing on its far side, that whitespace goes too. All comments and
+    /// newlines stay. The others are not gone through.
     fn take_one(&mut self, alloc: Global, index: usize) -> Result<(), AllocError>
         ensures { OnOk result (items_of self.new ≡ taken (items_of self.old) index) }
     {

@@ -1,5 +1,6 @@
 //! Laws over the definitions of what is laid out: nothing is run.
 ghost use Rattle.toml_layout.specs.OpenLaws.{EntriesAreOutlined, GapsAreSpelled};
+ghost use Rattle.toml_layout.specs.OneOutline.{PutIsOne, TakenIsOne};
 ghost use Rattle.toml_layout.specs.Opening.{BackLies, FrontLies, TextIsTheirs};
 ghost use Rattle.toml_layout.specs.PartOutlines.{NoLinesStay, PartedSpells};
 ghost use Rattle.toml_layout.specs.Parts.{PartsAreOne};
@@ -44,4 +45,11 @@ pub fn parts()
     ensures one { PartsAreOne }
     ensures text { PartedSpells }
     ensures lines { NoLinesStay }
+{}
+
+/// Where an `insert` or a `remove` changes an array or an inline table, what it makes of that has one outline in a layout, and so one
+/// text.
+pub fn one_outline()
+    ensures taken { TakenIsOne }
+    ensures put { PutIsOne }
 {}

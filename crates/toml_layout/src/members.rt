@@ -7,7 +7,8 @@ ghost use Rattle.toml_layout.specs.Items.{item, items_of};
 ghost use Rattle.toml_layout.specs.Leading.{ChangesAt};
 ghost use Rattle.toml_layout.specs.OpenOutlines.{entries as entries_outlined, value as value_outlined};
 ghost use Rattle.toml_layout.specs.PairPlaces.{PutsPair};
-ghost use Rattle.toml_layout.specs.PairRemovals.{EmptiesEntry, EmptiesIf, IsEmptied, IsFirstMark, ReplacesFirst, TakesPairs, is_left, keeps_at, marks_at, reaches_at};
+ghost use Rattle.toml_layout.specs.PairRemovals.{EmptiesEntry, EmptiesIf, IsEmptied, ReplacesFirst, TakesPairs, is_left, keeps_at, marks_at, reaches_at};
+ghost use Rattle.toml_layout.specs.Takings.{IsFirstMark};
 
 use crate::texts::Texts;
 use crate::tree::{Entries, Entry, Value};

@@ -35,9 +35,10 @@ impl AddressSet {
         }
     }
 
-    /// Puts an address in. Where that lacks memory, nothing is said of the set any more.
+    /// Puts an address in, with all below it. Where that lacks memory, nothing is said of the set any more.
     pub fn add(&mut self, at: &[Step]) -> Result<(), AllocError>
-        ensures { OnOk result (HidesLess self.old self.new at.now) }
+        ensures hides { OnOk result (HidesLess self.old self.new at.now) }
+        ensures reaches { OnOk result (ReachesMore self.old self.new true at.now) }
     {
         enter(self, at, None, true)
     }
@@ -50,10 +51,11 @@ impl AddressSet {
         enter(self, at, None, with_all_below)
     }
 
-    /// Puts in the address of a name in the table at an address. Where that lacks memory, nothing is said of the set any
-    /// more.
+    /// Puts in the address of a name in the table at an address, with all below it. Where that lacks memory, nothing is said of
+    /// the set any more.
     pub fn add_below(&mut self, parent: &[Step], name: &str) -> Result<(), AllocError>
-        ensures { OnOk result (HidesLess self.old self.new (child parent.now name.now)) }
+        ensures hides { OnOk result (HidesLess self.old self.new (child parent.now name.now)) }
+        ensures reaches { OnOk result (ReachesMore self.old self.new true (child parent.now name.now)) }
     {
         enter(self, parent, Some(name), true)
     }

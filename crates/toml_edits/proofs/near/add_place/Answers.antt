@@ -7,4 +7,4 @@ use Rattle.toml_edits.proofs.near.add_place.Goals as goal
 
 pub returns : goal.returns
 returns c =
-    on_ok_weaker c.add.result (place_opened c.args.at.now c.cut.result.now (is_hidden c.args.set.now) (is_hidden c.add.new.self) (c.cut.ensures ∙ ap way_to c.steps.ensures)) c.add.ensures
+    on_ok_weaker c.add.result (place_opened c.args.at.now c.cut.result.now (is_hidden c.args.set.now) (is_hidden c.add.new.self) (c.cut.ensures ∙ ap way_to c.steps.ensures)) c.add.ensures.hides

@@ -8,7 +8,7 @@ pub returns-in-Some-Index-default : goal.returns-in-Some-Index-default
 returns-in-Some-Index-default c =
     let w = c.in-Some-Index-default in
     let is = sym c.steps.ensures ∙ w.ensures.cases.0 ∙ ap (λ s. w.parent.now ++ s ∷ []) w.field-0-0-is in
-    on_ok_weaker c.add.result (array_opened c.args.at.now w.parent.now c.cut.result.now w.field-0-0-0 (is_hidden c.args.set.now) (is_hidden c.add.new.self) is c.cut.ensures) c.add.ensures
+    on_ok_weaker c.add.result (array_opened c.args.at.now w.parent.now c.cut.result.now w.field-0-0-0 (is_hidden c.args.set.now) (is_hidden c.add.new.self) is c.cut.ensures) c.add.ensures.hides
 
 pub returns-in-Some-Name-default : goal.returns-in-Some-Name-default
 returns-in-Some-Name-default c =

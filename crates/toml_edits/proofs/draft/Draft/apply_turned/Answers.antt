@@ -11,7 +11,7 @@ returns-in-Some-clause-fault c =
     let a = c.in-Some.array in
     let turned = subst (λ o. MatchOption o (Unit {0}) (λ b. (b.at ≡ c.args.element.array.now) × (is_array (root b.at) ≡ true))) c.in-Some.is c.requires.turned in
     subst₂ (λ d f. IfErr c.apply.result (IsRefused c.args.profile d f)) (sym c.requires.edit.0) (ap (λ o. with_open o root) (sym c.in-Some.is))
-    (c.apply.ensures.fault (with_open (Some a) root) (stands a root turned.1))
+    (c.apply.ensures.made.fault (with_open (Some a) root) (stands a root turned.1))
 
 pub returns-in-Some-clause-ok : goal.returns-in-Some-clause-ok
 returns-in-Some-clause-ok c =
@@ -20,4 +20,4 @@ returns-in-Some-clause-ok c =
     let new = with_open (Some c.apply.new.self) root in
     let turned = subst (λ o. MatchOption o (Unit {0}) (λ b. (b.at ≡ c.args.element.array.now) × (is_array (root b.at) ≡ true))) c.in-Some.is c.requires.turned in
     subst₂ (λ d f. OnOk c.apply.result (IsApplied c.args.profile d f new)) (sym c.requires.edit.0) (ap (λ o. with_open o root) (sym c.in-Some.is))
-    (c.apply.ensures.ok (with_open (Some a) root) new (stands a root turned.1) (stands_again a c.apply.new.self root c.apply.ensures.at turned.1))
+    (c.apply.ensures.made.ok (with_open (Some a) root) new (stands a root turned.1) (stands_again a c.apply.new.self root c.apply.ensures.at turned.1))
