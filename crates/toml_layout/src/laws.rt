@@ -47,8 +47,7 @@ pub fn parts()
     ensures lines { NoLinesStay }
 {}
 
-/// Where an `insert` or a `remove` changes an array or an inline table, what it makes of that has one outline in a layout, and so one
-/// text.
+/// What an `insert` and a `remove` make of a value whose keys are apart is one in a layout, and so it has one text.
 pub fn one_outline()
     ensures taken { TakenIsOne }
     ensures put { PutIsOne }
