@@ -11,6 +11,7 @@ use Rattle.toml_layout.specs.declared.tree.Value.{Value}
 use Rattle.toml_layout.specs.Apart.{HasKeysApart}
 use Rattle.toml_layout.specs.Holding.{ChangesHolder, HolderChange}
 use Rattle.toml_layout.specs.Leading.{LeadsOn, key_in, led_by, value_in, with_value}
+use Rattle.toml_layout.specs.OneOutline.{SetIsMade}
 use Rattle.toml_layout.specs.OpenOutlines.{Enclosed, value}
 use Rattle.toml_layout.specs.Outlines.{ValueOutline, Token, Listed, Braced, EntriesOutline, End, Entry}
 use Rattle.toml_layout.specs.SetOutlines.{outlined_names}
@@ -96,6 +97,9 @@ mutual
   can_set_in x (End gap) i v has to = absurd (none-some v has)
   can_set_in x (Entry before a u after es) zero v has to = subst (CanSet to x) (same_Some u v has) (can_set x u to)
   can_set_in x (Entry before a u after es) (suc i) v has to = can_set_in x es i v has to
+
+pub set_is_made : SetIsMade
+set_is_made to new old = can_set new old to
 
 -- ---- a holder is the value itself, or stands in one of its entries
 

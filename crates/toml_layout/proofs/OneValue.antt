@@ -1,5 +1,5 @@
 -- What an `insert` and a `remove` make of a value whose keys are apart is one: they lead to one array or inline table.
-use Rattle.std.proofs.Common.{◌≡◌, ◌∙◌, ◌⊎◌, ℕ, zero, suc, Bool, true, false, ◌&&◌, Some, None, List, [], ◌∷◌, ◌++◌, All, map, length, drop, inl, inr, refl, ap, ap₂, sym, subst, subst₂}
+use Rattle.std.proofs.Common.{◌≡◌, ◌∙◌, ◌⊎◌, ℕ, zero, suc, true, false, ◌&&◌, Some, None, List, [], ◌∷◌, ◌++◌, All, map, length, drop, inl, inr, refl, ap, ap₂, sym, subst, subst₂}
 use Rattle.std.proofs.lemmas.Bool.{true≢false}
 use Rattle.std.proofs.lemmas.Option.{none-some, same_Some}
 use Rattle.toml_names.specs.declared.model.address.Step.{Step}
@@ -9,7 +9,7 @@ use Rattle.toml_names.specs.model.Addresses.{Address, same_step}
 use Rattle.toml_names.proofs.Proved.{same_step-self}
 use Rattle.toml_layout.specs.declared.tree.Value.{Value}
 use Rattle.toml_layout.specs.Apart.{EachApart, HasKeysApart, KeysApart, begins_key, keys_of}
-use Rattle.toml_layout.specs.Holding.{ChangesHolder, HolderChange, HoldsIn}
+use Rattle.toml_layout.specs.Holding.{ChangesHolder, HolderChange}
 use Rattle.toml_layout.specs.Leading.{LeadsOn, key_in, leads, led_by, value_in}
 use Rattle.toml_layout.specs.OpenOutlines.{Enclosed, value}
 use Rattle.toml_layout.specs.Outlines.{ValueOutline, Token, Listed, Braced, EntriesOutline, End, Entry}
@@ -97,7 +97,7 @@ table_alone opening es steps rest i k (inr (o, fs, parent, last, is, at, leading
 
 module _ (makes twin : HolderChange) (holds : Holding makes) (too : Holding twin)
     (one : (steps : Address) (was other same more : Value) → makes steps was other → twin steps same more → value was ≡ value same → value other ≡ value more) where
-  abbrev AreOne : ValueOutline → Type 0
+  abbrev pub AreOne : ValueOutline → Type 0
   AreOne u = (steps : Address) (w z : ValueOutline) → ChangesHolder SetsIn makes steps u w → ChangesHolder SetsIn twin steps u z → w ≡ z
 
   both_here : (steps : Address) (v now new : ValueOutline) → IsHere makes steps v now → IsHere twin steps v new → now ≡ new
@@ -170,7 +170,7 @@ module _ (makes twin : HolderChange) (holds : Holding makes) (too : Holding twin
           (subst (λ a. SetsIn a (value h.was) (Token text) (Token text) true) is h.stood) (token_kept (s ∷ to) (value h.was) text (some_steps s to))).1)
 
   mutual
-    held_one : (v : ValueOutline) → HasKeysApart v → AreOne v
+    pub held_one : (v : ValueOutline) → HasKeysApart v → AreOne v
     held_one (Token text) apart = token_one text
     held_one (Listed opening es) apart = list_one opening es apart (each_one es apart)
     held_one (Braced opening es) apart = table_one opening es apart (each_one es apart.1)
@@ -179,14 +179,3 @@ module _ (makes twin : HolderChange) (holds : Holding makes) (too : Holding twin
     each_one (End gap) apart i u has = absurd (none-some u has)
     each_one (Entry before a v after es) apart zero u has = subst AreOne (same_Some v u has) (held_one v apart.0)
     each_one (Entry before a v after es) apart (suc i) u has = each_one es apart.1 i u has
-
-  pub holds_one : (steps : Address) (old now new : ValueOutline) (done told : Bool) → HasKeysApart old → HoldsIn steps makes old now done → HoldsIn steps twin old new told
-      → now ≡ new
-  holds_one steps old now new done told apart h g = by done refl
-    where
-      same : done ≡ told
-      same = h.tells apart ∙ sym (g.tells apart)
-
-      by : (d : Bool) → done ≡ d → now ≡ new
-      by true is = held_one old apart steps now new (h.made is) (g.made (sym same ∙ is))
-      by false is = h.stays is ∙ sym (g.stays (sym same ∙ is))
