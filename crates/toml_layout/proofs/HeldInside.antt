@@ -27,7 +27,7 @@ own_value (End gap) i v has = absurd (none-some v has)
 own_value (Entry before a u after es) zero v has = ap (λ w. Entry before a w after es) (sym (same_Some u v has))
 own_value (Entry before a u after es) (suc i) v has = ap (Entry before a u after) (own_value es i v has)
 
-abbrev with_entry : Enclosed → ℕ → ValueOutline → Enclosed
+abbrev pub with_entry : Enclosed → ℕ → ValueOutline → Enclosed
 with_entry old i w = record { opening = old.opening; entries = with_value old.entries i w }
 
 -- what is set in it is set in the entries
@@ -65,10 +65,10 @@ entry_stays old now i v w has same is = same ∙ ap (with_entry old i) is ∙ ap
 
 -- ---- elements
 
-abbrev listed : Enclosed → ValueOutline
+abbrev pub listed : Enclosed → ValueOutline
 listed e = Listed e.opening e.entries
 
-abbrev braced : Enclosed → ValueOutline
+abbrev pub braced : Enclosed → ValueOutline
 braced e = Braced e.opening e.entries
 
 pub list_holds : (makes : HolderChange) (steps : Address) (i : ℕ) (old now : Enclosed) (done : Bool) → steps ≡ Index i ∷ drop 1 steps → ¬ (drop 1 steps ≡ [])
@@ -93,11 +93,11 @@ list_holds makes steps i old now done led some changes = by (value_in old.entrie
 
 -- ---- pairs
 
-drop_front : (k : Key) (to : Address) → drop (length k) (map Name k ++ to) ≡ to
+pub drop_front : (k : Key) (to : Address) → drop (length k) (map Name k ++ to) ≡ to
 drop_front [] to = refl
 drop_front (n ∷ k) to = drop_front k to
 
-leads_front : (k : Key) (to : Address) → leads k (map Name k ++ to) ≡ true
+pub leads_front : (k : Key) (to : Address) → leads k (map Name k ++ to) ≡ true
 leads_front [] to = refl
 leads_front (n ∷ k) to = ap (λ b. b && leads k (map Name k ++ to)) (same_step-self (Name n)) ∙ leads_front k to
 

@@ -32,6 +32,8 @@ mod SameMargins
 mod SameEntries
 mod SameRooms
 mod SamePairs
+mod HeldEntries
+mod OneValue
 mod OneOutline
 mod Clear
 mod Emptied

@@ -1,17 +1,20 @@
 -- An array or an inline table of which an edit changes what it names has one outline then.
-use Rattle.std.proofs.Common.{◌≡◌, ◌∙◌, ℕ, List, [], ◌∷◌, Option, Some, None, Box, inl, inr, map, refl, ap, ap₂, sym, subst}
+use Rattle.std.proofs.Common.{◌≡◌, ◌∙◌, drop, length, ◌-◌, ℕ, List, [], ◌∷◌, Option, Some, None, Box, inl, inr, map, refl, ap, ap₂, sym, subst}
 use Rattle.std.specs.Global.{Global}
-use Rattle.std.specs.Prelude.{option_map}
+use Rattle.std.specs.declared.string.String.{String}
+use Rattle.std.proofs.lemmas.List.{length-map}
+use Rattle.std.specs.Prelude.{option_map, string_bytes}
 use Rattle.toml_lists.specs.Gaps.{items}
 use Rattle.toml_names.specs.declared.model.address.Step.TheVariants.{Index}
 use Rattle.toml_names.specs.model.Addresses.{Address}
+use Rattle.toml_layout.specs.declared.layout.Layout.{Layout}
 use Rattle.toml_layout.specs.declared.tree.Entries.{Entries}
 use Rattle.toml_layout.specs.declared.tree.Entry.{Entry}
 use Rattle.toml_layout.specs.declared.tree.Gap.{Gap}
 use Rattle.toml_layout.specs.declared.tree.Value.{Value}
 use Rattle.toml_layout.specs.declared.tree.Value.TheVariants as values
 use Rattle.toml_layout.specs.declared.tree.Value.TheViews.{out-Entries}
-use Rattle.toml_layout.specs.Holding.{ChangesArray, ChangesTable}
+use Rattle.toml_layout.specs.Holding.{ChangesArray, ChangesTable, PutsHeld, TakesHeld}
 use Rattle.toml_layout.specs.Items.{Items, gap_parts, item, items_of}
 use Rattle.toml_layout.specs.OneOutline.{PutIsOne, TakenIsOne}
 use Rattle.toml_layout.specs.OpenOutlines.{Enclosed, entries, entries_of, entry, gap_read, leaf_text, parts_read, value}
@@ -21,11 +24,13 @@ use Rattle.toml_layout.specs.PairRemovals.{TakesPairs}
 use Rattle.toml_layout.specs.Rooms.{PutsItem}
 use Rattle.toml_layout.specs.Takings.{TakesOne}
 use Rattle.toml_layout.proofs.Holders.{parent_is}
+use Rattle.toml_layout.proofs.OneValue.{Holding, IsHolder, held_one}
 use Rattle.toml_layout.proofs.Outlined.{array_made, entries_is, entry_is, inline_made}
 use Rattle.toml_layout.proofs.SameEntries.{entries_apart}
 use Rattle.toml_layout.proofs.SameItems.{SameItems, item_outline, taking_same}
 use Rattle.toml_layout.proofs.SamePairs.{pair_put_same, pairs_taken_same}
 use Rattle.toml_layout.proofs.SameRooms.{putting_same}
+use Rattle.toml_layout.proofs.TakenParts.{drop_mapped}
 
 -- ---- entries and items
 
@@ -126,24 +131,61 @@ not_alike : (P : ℕ → Items → Items → Type 0) (Q : Address → Address �
     → ChangesArray P steps was other → ChangesTable Q steps too more → value was ≡ value too → ⊥
 not_alike P Q steps was other too more one two same = no_array one.old two.old (ap value (sym one.was_is) ∙ same ∙ ap value two.was_is)
 
-pub taken_is_one : TakenIsOne
-taken_is_one layout steps was other too more (inl one) (inl two) same =
+taken_alike : (layout : Layout) (steps : Address) (was other too more : Value) → TakesHeld layout steps was other → TakesHeld layout steps too more
+    → value was ≡ value too → value other ≡ value more
+taken_alike layout steps was other too more (inl one) (inl two) same =
     array_changed (TakesOne layout) (TakesOne layout) (λ i a b c d old here there. taking_same layout i a b c d here there old) steps was other too more one two same
-taken_is_one layout steps was other too more (inr one) (inr two) same =
+taken_alike layout steps was other too more (inr one) (inr two) same =
     table_changed (TakesPairs layout) (TakesPairs layout) (pairs_taken_same layout) steps was other too more one two same
-taken_is_one layout steps was other too more (inl one) (inr two) same =
+taken_alike layout steps was other too more (inl one) (inr two) same =
     absurd (not_alike (TakesOne layout) (TakesPairs layout) steps was other too more one two same)
-taken_is_one layout steps was other too more (inr one) (inl two) same =
+taken_alike layout steps was other too more (inr one) (inl two) same =
     absurd (not_alike (TakesOne layout) (TakesPairs layout) steps too more was other two one (sym same))
 
+-- the last of the spellings are the same
+last_same : (spelled twin : List (String Global)) (steps : Address) → map string_bytes spelled ≡ map string_bytes twin → last_parts spelled steps ≡ last_parts twin steps
+last_same spelled twin steps same =
+    drop_mapped string_bytes (length spelled - length steps) spelled
+    ∙ ap₂ (λ n l. drop (n - length steps) l) (sym (length-map spelled string_bytes) ∙ ap length same ∙ length-map twin string_bytes) same
+    ∙ sym (drop_mapped string_bytes (length twin - length steps) twin)
+
+put_alike : (layout : Layout) (spelled twin : List (String Global)) (texts : map string_bytes spelled ≡ map string_bytes twin) (steps : Address)
+    (new same was other too more : Value) → PutsHeld layout spelled new steps was other
+    → PutsHeld layout twin same steps too more → value new ≡ value same → value was ≡ value too → value other ≡ value more
+put_alike layout spelled twin texts steps new same was other too more (inl one) (inl two) alike is =
+    array_changed (λ i. PutsItem layout i None new) (λ i. PutsItem layout i None same)
+    (λ i a b c d old here there. putting_same layout i None None new same a b c d here there refl alike old) steps was other too more one two is
+put_alike layout spelled twin texts steps new same was other too more (inr one) (inr two) alike is =
+    table_changed (λ parent rest. PutsPair layout (last_parts spelled rest) new parent) (λ parent rest. PutsPair layout (last_parts twin rest) same parent)
+    (λ parent rest a b c d old here there. pair_put_same layout (last_parts spelled rest) new same parent a b c d old alike here
+    (subst (λ l. PutsPair layout l same parent b d) (sym (last_same spelled twin rest texts)) there)) steps was other too more one two is
+put_alike layout spelled twin texts steps new same was other too more (inl one) (inr two) alike is =
+    absurd (not_alike (λ i. PutsItem layout i None new) (λ parent rest. PutsPair layout (last_parts twin rest) same parent) steps was other too more one two is)
+put_alike layout spelled twin texts steps new same was other too more (inr one) (inl two) alike is =
+    absurd (not_alike (λ i. PutsItem layout i None same) (λ parent rest. PutsPair layout (last_parts spelled rest) new parent) steps too more was other two one (sym is))
+
+-- ---- what holds it
+
+array_holds : (P : ℕ → Items → Items → Type 0) (steps : Address) (was other : Value) → ChangesArray P steps was other → IsHolder steps (value was)
+array_holds P steps was other one = inl ((entries one.old.value).opening, (entries one.old.value).entries, one.index, ap value one.was_is ∙ array_made one.old, one.named)
+
+table_holds : (P : Address → Address → Items → Items → Type 0) (steps : Address) (was other : Value) → ChangesTable P steps was other → IsHolder steps (value was)
+table_holds P steps was other one =
+    inr ((entries one.old.value).opening, (entries one.old.value).entries, one.parent, one.last, ap value one.was_is ∙ inline_made one.old, one.split, one.innermost)
+
+taken_holds : (layout : Layout) → Holding (TakesHeld layout)
+taken_holds layout steps was other (inl one) = array_holds (TakesOne layout) steps was other one
+taken_holds layout steps was other (inr one) = table_holds (TakesPairs layout) steps was other one
+
+put_holds : (layout : Layout) (spelled : List (String Global)) (new : Value) → Holding (PutsHeld layout spelled new)
+put_holds layout spelled new steps was other (inl one) = array_holds (λ i. PutsItem layout i None new) steps was other one
+put_holds layout spelled new steps was other (inr one) = table_holds (λ parent rest. PutsPair layout (last_parts spelled rest) new parent) steps was other one
+
+pub taken_is_one : TakenIsOne
+taken_is_one layout steps old now new apart one two =
+    held_one (TakesHeld layout) (TakesHeld layout) (taken_holds layout) (taken_holds layout) (taken_alike layout) old apart steps now new one two
+
 pub put_is_one : PutIsOne
-put_is_one layout spelled steps new twin was other too more (inl one) (inl two) alike same =
-    array_changed (λ i. PutsItem layout i None new) (λ i. PutsItem layout i None twin)
-    (λ i a b c d old here there. putting_same layout i None None new twin a b c d here there refl alike old) steps was other too more one two same
-put_is_one layout spelled steps new twin was other too more (inr one) (inr two) alike same =
-    table_changed (λ parent rest. PutsPair layout (last_parts spelled rest) new parent) (λ parent rest. PutsPair layout (last_parts spelled rest) twin parent)
-    (λ parent rest a b c d old here there. pair_put_same layout (last_parts spelled rest) new twin parent a b c d old alike here there) steps was other too more one two same
-put_is_one layout spelled steps new twin was other too more (inl one) (inr two) alike same =
-    absurd (not_alike (λ i. PutsItem layout i None new) (λ parent rest. PutsPair layout (last_parts spelled rest) twin parent) steps was other too more one two same)
-put_is_one layout spelled steps new twin was other too more (inr one) (inl two) alike same =
-    absurd (not_alike (λ i. PutsItem layout i None twin) (λ parent rest. PutsPair layout (last_parts spelled rest) new parent) steps too more was other two one (sym same))
+put_is_one layout spelled twin steps put same old now new apart texts alike one two =
+    held_one (PutsHeld layout spelled put) (PutsHeld layout twin same) (put_holds layout spelled put) (put_holds layout twin same)
+    (λ at was other too more here there is. put_alike layout spelled twin texts at put same was other too more here there alike is) old apart steps now new one two

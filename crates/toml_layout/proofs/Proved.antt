@@ -1,5 +1,6 @@
 -- The proofs of the laws of src/laws.rt, for the crates above.
 pub use Rattle.toml_layout.proofs.GapSpelled.{gaps_are_spelled}
+pub use Rattle.toml_layout.proofs.HeldEntries.{set_is_made}
 pub use Rattle.toml_layout.proofs.Lying.{lie_front, lie_back, lie_slice}
 pub use Rattle.toml_layout.proofs.OneOutline.{put_is_one, taken_is_one}
 pub use Rattle.toml_layout.proofs.Outlined.{entries_is}

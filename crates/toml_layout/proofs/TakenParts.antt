@@ -24,7 +24,7 @@ use Rattle.toml_layout.specs.Takings.{ClosedIf, ClosesOne, ClosesUp, IsPartedIf,
 
 -- ---- lists
 
-drop_mapped : {X Y : Type 0} (f : X → Y) (n : ℕ) (xs : List X) → map f (drop n xs) ≡ drop n (map f xs)
+pub drop_mapped : {X Y : Type 0} (f : X → Y) (n : ℕ) (xs : List X) → map f (drop n xs) ≡ drop n (map f xs)
 drop_mapped f zero xs = refl
 drop_mapped f (suc n) [] = refl
 drop_mapped f (suc n) (x ∷ xs) = drop_mapped f n xs

@@ -1,6 +1,6 @@
 //! Laws over the definitions of what is laid out: nothing is run.
 ghost use Rattle.toml_layout.specs.OpenLaws.{EntriesAreOutlined, GapsAreSpelled};
-ghost use Rattle.toml_layout.specs.OneOutline.{PutIsOne, TakenIsOne};
+ghost use Rattle.toml_layout.specs.OneOutline.{PutIsOne, SetIsMade, TakenIsOne};
 ghost use Rattle.toml_layout.specs.Opening.{BackLies, FrontLies, TextIsTheirs};
 ghost use Rattle.toml_layout.specs.PartOutlines.{NoLinesStay, PartedSpells};
 ghost use Rattle.toml_layout.specs.Parts.{PartsAreOne};
@@ -47,9 +47,10 @@ pub fn parts()
     ensures lines { NoLinesStay }
 {}
 
-/// Where an `insert` or a `remove` changes an array or an inline table, what it makes of that has one outline in a layout, and so one
-/// text.
+/// What an `insert` and a `remove` make of a value whose keys are apart is one in a layout, and so it has one text; and a `set` makes
+/// something of each value.
 pub fn one_outline()
     ensures taken { TakenIsOne }
     ensures put { PutIsOne }
+    ensures set { SetIsMade }
 {}
