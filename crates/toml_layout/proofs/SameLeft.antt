@@ -5,7 +5,7 @@ use Rattle.std.proofs.lemmas.Option.{none-some, same_Some}
 use Rattle.std.specs.Prelude.{option_map, unwrap_or}
 use Rattle.toml_layout.specs.declared.tree.GapPart.{GapPart}
 use Rattle.toml_layout.specs.declared.tree.GapPart.TheVariants as parts
-use Rattle.toml_layout.specs.Gaps.{Beside, are_blank, are_ws, begins_line, ends_container, ends_line, gives_way, goes_with_comma, if_any, is_alone, is_newline, is_none, is_ws, left_by, left_of_line, trimmed, without_ws}
+use Rattle.toml_layout.specs.Gaps.{Beside, are_blank, are_ws, begins_line, comes_next, ends_container, ends_line, gives_way, goes_with_comma, if_any, is_alone, is_newline, is_none, is_ws, left_by, left_of_line, trimmed, without_ws}
 use Rattle.toml_layout.specs.Leaving.{Remains, closed_by, ends_in_comment, left_of_last_line, left_with, left_with_comma, lines_of, own_left, what_is_left, without_last}
 use Rattle.toml_layout.specs.PartOutlines.{outlined, part}
 use Rattle.toml_layout.specs.Parts.{PartOutline}
@@ -154,9 +154,16 @@ closed_same None (Some q) a b own other behind above same = absurd (none-some (o
 closed_same (Some p) None a b own other behind above same = absurd (none-some (outlined p) (sym behind))
 closed_same (Some p) (Some q) a b own other behind above same = remains_same None (Some own) None (Some other) refl (ap Some same)
 
+next_same : (a b : List GapPart) (o p : Option (List GapPart)) → outlined a ≡ outlined b → option_map outlined o ≡ option_map outlined p → comes_next a o ≡ comes_next b p
+next_same a b None None after behind = ap not (all_ws_same a b after)
+next_same a b (Some x) (Some y) after behind =
+    ap₂ ◌&&◌ (all_ws_same a b after) (ap not (all_ws_same x y (same_Some (outlined x) (outlined y) behind)))
+next_same a b None (Some y) after behind = absurd (none-some (outlined y) behind)
+next_same a b (Some x) None after behind = absurd (none-some (outlined x) (sym behind))
+
 module _ (b c : Beside) (same : SameBeside b c) where
   line_ended : ends_line b ≡ ends_line c
-  line_ended = ap₂ ◌||◌ (ap not (all_ws_same b.after c.after same.after)) (ap not (any_same_if are_ws all_ws_same b.behind c.behind same.behind))
+  line_ended = next_same b.after c.after b.behind c.behind same.after same.behind
 
   container_ended : ends_container b ≡ ends_container c
   container_ended =

@@ -91,9 +91,15 @@ abbrev pub is_none : {A : Type 0} → Option A → Bool
 is_none None = true
 is_none (Some a) = false
 
--- it ends a line: behind it, or behind it and its comma, a newline or a comment comes first
+-- A newline or a comment comes next: directly behind an item that has no comma, else directly behind the comma, which stands on the
+-- item's own line.
+abbrev pub comes_next : List GapPart → Option (List GapPart) → Bool
+comes_next after None = not (are_ws after)
+comes_next after (Some behind) = are_ws after && not (are_ws behind)
+
+-- it ends a line
 abbrev pub ends_line : Beside → Bool
-ends_line b = not (are_ws b.after) || not (if_any are_ws b.behind)
+ends_line b = comes_next b.after b.behind
 
 -- it ends the container: so the closing bracket does
 abbrev pub ends_container : Beside → Bool

@@ -142,11 +142,14 @@ impl<'a, 't> Around<'a, 't> {
         begins_line(self.before)
     }
 
-    /// Whether behind it, or behind it and its comma, a newline or a comment comes first.
+    /// Whether a newline or a comment comes next: behind its comma, which stands on its own line, or behind it where it has none.
     fn ends_line(self) -> bool
         ensures { result ≡ ends_line (around self.entry) }
     {
-        !are_ws(self.after) || !is_ws_if_any(self.behind)
+        match self.behind {
+            Some(behind) => are_ws(self.after) && !are_ws(behind),
+            None => !are_ws(self.after),
+        }
     }
 
     /// Whether the closing bracket comes behind it and its comma.
