@@ -22,6 +22,7 @@ mod RenamedSlots
 mod Removed
 mod RemovedOne
 mod HeldLines
+mod OneLine
 mod Tidy
 mod Out
 mod StandingOut

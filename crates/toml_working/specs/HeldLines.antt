@@ -1,5 +1,5 @@
 -- Something is put into the value of a line, or taken out of one, by what then stands on the lines.
-use Rattle.std.specs.Prelude.{◌≡◌, ◌&&◌, ◌∷◌, ◌++◌, ℕ, Bool, true, List, [], map, length}
+use Rattle.std.specs.Prelude.{◌≡◌, ◌&&◌, ◌∷◌, ◌++◌, ℕ, Bool, true, List, [], map, length, string_bytes}
 use Rattle.std.specs.Bool.{nat_lt}
 use Rattle.std.specs.List.{list_any}
 use Rattle.std.specs.declared.alloc.Global.{Global}
@@ -7,8 +7,10 @@ use Rattle.std.specs.declared.string.String.{String}
 use Rattle.toml_names.specs.declared.model.address.Step.{Step}
 use Rattle.toml_names.specs.model.Addresses.{Address}
 use Rattle.toml_text.specs.Source.{text_of}
+use Rattle.toml_layout.specs.declared.layout.Layout.{Layout}
 use Rattle.toml_layout.specs.declared.tree.Value.{Value}
 use Rattle.toml_layout.specs.Holding.{HolderChange, ChangesHolder, PutsHeld, TakesHeld}
+use Rattle.toml_layout.specs.OpenOutlines.{value}
 use Rattle.toml_layout.specs.Outlines.{ValueOutline}
 use Rattle.toml_working.specs.declared.lines.Slot.{Slot}
 use Rattle.toml_working.specs.declared.working.Tree.{Tree}
@@ -42,3 +44,14 @@ TakesFromValue at read old now done =
     ¬ (at ≡ []) → (ss : List Standing) → Stands (text_of old.texts.source) read old.slots.items ss → AreOrdered ss
     → list_any (holds_inside at) ss ≡ true
     → HoldsLines at (TakesHeld old.texts.layout) (text_of old.texts.source) read old.slots.items now.slots.items ss done
+
+-- Laws: what an `insert` and a `remove` make of lines that are as the table rules have them is one in a layout.
+abbrev pub TakenLinesAreOne : Type 0
+TakenLinesAreOne = (layout : Layout) (p : Address) (ss now new : List Standing) → AreOrdered ss → ChangesHolder SetsEach (TakesHeld layout) p ss now
+    → ChangesHolder SetsEach (TakesHeld layout) p ss new → now ≡ new
+
+-- values of one outline are put in, the steps being spelled in one way
+abbrev pub PutLinesAreOne : Type 0
+PutLinesAreOne = (layout : Layout) (spelled twin : List (String Global)) (p : Address) (put same : Value) (ss now new : List Standing) → AreOrdered ss
+    → map string_bytes spelled ≡ map string_bytes twin → value put ≡ value same → ChangesHolder SetsEach (PutsHeld layout spelled put) p ss now
+    → ChangesHolder SetsEach (PutsHeld layout twin same) p ss new → now ≡ new

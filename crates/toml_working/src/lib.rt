@@ -9,6 +9,7 @@ mod guessing;
 mod headers;
 mod inserting;
 mod inside;
+pub mod laws;
 mod lines;
 mod looks;
 mod neighbours;
