@@ -4,3 +4,5 @@ pub mod Opened
 pub mod Settled
 pub mod Validated
 pub mod Reasons
+pub mod Ended
+pub mod Replied

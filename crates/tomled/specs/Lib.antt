@@ -3,3 +3,5 @@ pub mod Reads
 pub mod Finishing
 pub mod Opening
 pub mod Validating
+pub mod Replies
+pub mod Ending

@@ -2,56 +2,84 @@
 ghost use Rattle.std.specs.Prelude.{◌≡◌, ◌↔◌, IsTrue};
 ghost use Rattle.toml_replace.specs.Calls.{Made};
 ghost use Rattle.toml_replace.specs.Replacement.{pair_of};
+ghost use Rattle.tomled.specs.Asking.{Asked};
+ghost use Rattle.tomled.specs.Ending.{IsGivenOut, IsPrintedAlone, IsPrintedIfAny};
 ghost use Rattle.tomled.specs.Finishing.{HasNamed, IsCertified, IsCompared, IsEdited, IsFileFault, IsFirst, IsReplaced, IsSettled, IsPlaced, IsUnreplaced};
-ghost use Rattle.tomled.specs.Finishing.{all_compared, certificate_at, compared, judged_compared, path_or, words_compared};
+ghost use Rattle.tomled.specs.Finishing.{all_compared, certificate_at, compared, judged_compared, path_or, words_compared, written};
 
-use crate::opening::{RealOpener, written_out};
+use crate::opening::{Opener, written_out};
 use crate::reading::{FileFault, file_fault};
 use std::alloc::Global;
 use std::io;
 use std::io::Write;
-use std::rt::Files;
 use toml_commands::explains;
 use toml_delivery::{Counting, Outcome, RunFault, deliver};
-use toml_replace::{Disk, RealDisk, ReplaceFault, refuse_same, replace};
+use toml_replace::{Disk, ReplaceFault, refuse_same, replace};
 use toml_words::{Destination, Request, is_input};
 
-/// Writes what the outcome has for files, then prints it, and gives the status. Where the file is changed in place, it is replaced
-/// whole or not at all, and nothing is printed.
-pub fn finish<R: Files + AllocGlobal, O: Write, E: Write>(
-    rt: &R,
-    request: &Request<'_>,
-    inputs: &[Vec<u8>],
-    outcome: Outcome,
-    out: &mut Counting<O>,
-    err: &mut Counting<E>,
-) -> Result<u8, RunFault> {
-    let alloc = rt.alloc();
-    let outcome = settled(alloc, &mut RealDisk::new(rt), request, inputs, outcome)?;
-    match written_out(alloc, &mut RealOpener::new(rt), request, &outcome, out, err) {
-        Ok((status, _files)) => Ok(status),
+/// Both outputs.
+#[derive(Drop)]
+pub struct Streams<O, E> {
+    pub out: Counting<O>,
+    pub err: Counting<E>,
+}
+
+/// Opens the files of what is left of an outcome, writes them, and prints it. It gives the status, and the files, as they are then.
+pub fn given_out<'a, S: Opener<F>, F: Write + Drop, O: Write, E: Write>(
+    alloc: Global,
+    opener: &mut S,
+    request: &Request<'a>,
+    left: Outcome,
+    streams: &mut Streams<O, E>,
+) -> Result<(u8, Vec<Counting<F>>), RunFault>
+    ensures { Asked (S.opened opener.old) (S.opened opener.new)
+        (IsGivenOut F.contents O.contents E.contents streams.old streams.new request.now left result) }
+{
+    match written_out(alloc, opener, request, &left, streams) {
+        Ok(given) => Ok(given),
         Err(FileFault::Failed { word, error }) => {
-            let outcome = failed(alloc, explains(request), word, error)?;
-            Ok(print(rt, outcome, out, err))
+            let told = failed(alloc, explains(request), word, error);
+            printed_if_any(alloc, told, streams)
         }
         Err(FileFault::NoMemory) => Err(RunFault::Memory),
     }
 }
 
+/// Prints an outcome, where there is one, and writes no file. It gives the status, and no files.
+pub fn printed_if_any<F: Write + Drop, O: Write, E: Write>(
+    alloc: Global,
+    told: Result<Outcome, RunFault>,
+    streams: &mut Streams<O, E>,
+) -> Result<(u8, Vec<Counting<F>>), RunFault>
+    ensures { IsPrintedIfAny F.contents O.contents E.contents streams.old streams.new told result }
+{
+    match told {
+        Ok(outcome) => Ok(printed(alloc, outcome, streams)),
+        Err(fault) => Err(fault),
+    }
+}
+
 /// Prints an outcome, and writes no file.
-pub fn print<R: Files + AllocGlobal, O: Write, E: Write>(
-    rt: &R,
+fn printed<F: Write + Drop, O: Write, E: Write>(
+    alloc: Global,
     outcome: Outcome,
-    out: &mut Counting<O>,
-    err: &mut Counting<E>,
-) -> u8 {
-    let outcome = outcome.without_files(rt.alloc());
-    let mut none: Vec<Counting<R::File>> = Vec::new(rt.alloc());
-    deliver(none.as_mut_slice(), out, err, &outcome)
+    streams: &mut Streams<O, E>,
+) -> (u8, Vec<Counting<F>>)
+    ensures { IsPrintedAlone F.contents O.contents E.contents streams.old streams.new outcome result }
+{
+    let outcome = outcome.without_files(alloc);
+    let mut none: Vec<Counting<F>> = Vec::new(alloc);
+    let status = deliver(
+        none.as_mut_slice(),
+        &mut streams.out,
+        &mut streams.err,
+        &outcome,
+    );
+    (status, Vec::new(alloc))
 }
 
 /// The outcome with the files alone that the words name; of a change in place what is left to print once it is made.
-fn settled<D: Disk>(
+pub fn settled<D: Disk>(
     alloc: Global,
     disk: &mut D,
     request: &Request<'_>,

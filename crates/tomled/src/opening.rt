@@ -2,10 +2,12 @@
 ghost use Rattle.std.specs.Prelude.{◌≡◌, List, [], ◌∷◌, Option, IfOk, length, slice_get};
 ghost use Rattle.std.specs.Prelude.{option_to_list};
 ghost use Rattle.tomled.specs.Asking.{Adds, Asked};
+ghost use Rattle.tomled.specs.Ending.{IsWrittenOut};
 ghost use Rattle.tomled.specs.Finishing.{written};
 ghost use Rattle.tomled.specs.Opening.{AreOpened, IsCreated, Opening};
 ghost use Rattle.tomled.specs.Validating.{words_of};
 
+use crate::finishing::Streams;
 use crate::reading::FileFault;
 use std::alloc::Global;
 use std::fs::File;
@@ -55,11 +57,21 @@ pub fn written_out<'a, S: Opener<F>, F: Write + Drop, O: Write, E: Write>(
     opener: &mut S,
     request: &Request<'a>,
     outcome: &Outcome,
-    out: &mut Counting<O>,
-    err: &mut Counting<E>,
-) -> Result<(u8, Vec<Counting<F>>), FileFault<'a>> {
-    let mut files = outputs(alloc, opener, request, outcome)?;
-    let status = deliver(files.as_mut_slice(), out, err, outcome);
+    streams: &mut Streams<O, E>,
+) -> Result<(u8, Vec<Counting<F>>), FileFault<'a>>
+    ensures { Asked (S.opened opener.old) (S.opened opener.new)
+        (IsWrittenOut F.contents O.contents E.contents streams.old streams.new request.now outcome.now result) }
+{
+    let mut files = match outputs(alloc, opener, request, outcome) {
+        Ok(files) => files,
+        Err(fault) => return Err(fault),
+    };
+    let status = deliver(
+        files.as_mut_slice(),
+        &mut streams.out,
+        &mut streams.err,
+        outcome,
+    );
     Ok((status, files))
 }
 
