@@ -32,3 +32,4 @@ mod OpenedBody
 mod Got
 mod Pairwise
 mod EntriesOut
+pub mod Proved

@@ -1,0 +1,2 @@
+-- The proofs of the laws of src/laws.rt, for the crates above.
+pub use Rattle.toml_working.proofs.OneLine.{put_lines_are_one, taken_lines_are_one}
